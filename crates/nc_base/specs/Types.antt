@@ -1,0 +1,65 @@
+-- The type table, and numbers as big-endian bytes.
+use Rattle.std.specs.Prelude.{◌≡◌, ℕ, zero, suc, ◌+◌, ◌-◌, ◌*◌, ◌/◌, ◌^◌, ◌<◌, ◌≤◌, ◌≤ℤ◌, ◌<ℤ◌, ◌==◌, Bool, true, false, ℤ, pos, negsuc, neg_ℤ, List, [], ◌∷◌, length, take, drop, Option, Some, None, if◌then◌else◌, codes}
+use Rattle.std.specs.Int.{Width, w8, w16, w32, w64, to_be_bytes, from_be_bytes, cast_signed, cast_unsigned, byte_len}
+use mir.Val.{bits, hbits}
+use Rattle.nc_base.specs.declared.nc_type.NcType.{NcType}
+use Rattle.nc_base.specs.declared.nc_type.NcType.TheVariants.{Byte, Char, Short, Int, Ubyte, Ushort, Uint, Int64, Uint64}
+
+-- the code of a type in a file
+abbrev pub code_of : NcType → ℕ
+code_of Byte = 1
+code_of Char = 2
+code_of Short = 3
+code_of Int = 4
+code_of Ubyte = 7
+code_of Ushort = 8
+code_of Uint = 9
+code_of Int64 = 10
+code_of Uint64 = 11
+
+-- the type with this code: none for the floating types 5 and 6, and none for any other code
+abbrev pub type_of_code : ℕ → Option NcType
+type_of_code code =
+    if code == 1 then Some Byte else if code == 2 then Some Char else if code == 3 then Some Short else if code == 4 then Some Int
+    else if code == 7 then Some Ubyte else if code == 8 then Some Ushort else if code == 9 then Some Uint
+    else if code == 10 then Some Int64 else if code == 11 then Some Uint64 else None
+
+-- the width of a value
+abbrev pub width_of : NcType → Width
+width_of Byte = w8
+width_of Char = w8
+width_of Short = w16
+width_of Int = w32
+width_of Ubyte = w8
+width_of Ushort = w16
+width_of Uint = w32
+width_of Int64 = w64
+width_of Uint64 = w64
+
+-- the size of a value in bytes
+abbrev pub size_of : NcType → ℕ
+size_of ty = byte_len (width_of ty)
+
+-- its values have a sign
+abbrev pub is_signed : NcType → Bool
+is_signed Byte = true
+is_signed Char = false
+is_signed Short = true
+is_signed Int = true
+is_signed Ubyte = false
+is_signed Ushort = false
+is_signed Uint = false
+is_signed Int64 = true
+is_signed Uint64 = false
+
+-- the default fill value
+abbrev pub default_fill_of : NcType → ℤ
+default_fill_of Byte = neg_ℤ (pos 127)
+default_fill_of Char = pos 0
+default_fill_of Short = neg_ℤ (pos 32767)
+default_fill_of Int = neg_ℤ (pos 2147483647)
+default_fill_of Ubyte = pos 255
+default_fill_of Ushort = pos 65535
+default_fill_of Uint = pos 4294967295
+default_fill_of Int64 = neg_ℤ (pos 9223372036854775806)
+default_fill_of Uint64 = pos 18446744073709551614

@@ -1,0 +1,15 @@
+//! t
+#![tactic(auto)]
+mod fault;
+mod dataset;
+mod header;
+mod nc_type;
+mod sequence;
+mod version;
+
+pub use dataset::Dataset;
+pub use fault::FormatFault;
+pub use header::{Att, Dim, Header, NumRecs, Var};
+pub use nc_type::NcType;
+pub use sequence::Sequence;
+pub use version::Version;

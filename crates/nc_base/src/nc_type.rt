@@ -1,0 +1,94 @@
+//! The types of values.
+
+ghost use Rattle.std.specs.Prelude.{◌≡◌};
+
+/// A type of values (`nc_type` of the NetCDF Classic Format Specification), without the floating types.
+#[derive(Clone, Copy, Debug, PartialEq, Eq)]
+pub enum NcType {
+    /// `NC_BYTE`: a signed number of 8 bits.
+    Byte,
+    /// `NC_CHAR`: a character, which is a byte.
+    Char,
+    /// `NC_SHORT`: a signed number of 16 bits.
+    Short,
+    /// `NC_INT`: a signed number of 32 bits.
+    Int,
+    /// `NC_UBYTE`: a number of 8 bits without a sign, in CDF-5 alone.
+    Ubyte,
+    /// `NC_USHORT`: a number of 16 bits without a sign, in CDF-5 alone.
+    Ushort,
+    /// `NC_UINT`: a number of 32 bits without a sign, in CDF-5 alone.
+    Uint,
+    /// `NC_INT64`: a signed number of 64 bits, in CDF-5 alone.
+    Int64,
+    /// `NC_UINT64`: a number of 64 bits without a sign, in CDF-5 alone.
+    Uint64,
+}
+
+impl NcType {
+    ghost use Rattle.nc_base.specs.Types.{size_of, code_of, type_of_code, default_fill_of};
+
+    /// The size of a value in bytes: 1, 2, 4 or 8.
+    pub fn size(self) -> u64
+        ensures { result ≡ size_of self }
+    {
+        match self {
+            NcType::Byte | NcType::Char | NcType::Ubyte => 1,
+            NcType::Short | NcType::Ushort => 2,
+            NcType::Int | NcType::Uint => 4,
+            NcType::Int64 | NcType::Uint64 => 8,
+        }
+    }
+
+    /// The code of the type in a file.
+    pub fn code(self) -> u32
+        ensures { result ≡ code_of self }
+    {
+        match self {
+            NcType::Byte => 1,
+            NcType::Char => 2,
+            NcType::Short => 3,
+            NcType::Int => 4,
+            NcType::Ubyte => 7,
+            NcType::Ushort => 8,
+            NcType::Uint => 9,
+            NcType::Int64 => 10,
+            NcType::Uint64 => 11,
+        }
+    }
+
+    /// The type with this code; none for the floating types 5 and 6 and for a code that is no type's.
+    pub fn of_code(code: u32) -> Option<NcType>
+        ensures { result ≡ type_of_code code }
+    {
+        match code {
+            1 => Some(NcType::Byte),
+            2 => Some(NcType::Char),
+            3 => Some(NcType::Short),
+            4 => Some(NcType::Int),
+            7 => Some(NcType::Ubyte),
+            8 => Some(NcType::Ushort),
+            9 => Some(NcType::Uint),
+            10 => Some(NcType::Int64),
+            11 => Some(NcType::Uint64),
+            _ => None,
+        }
+    }
+
+    /// The default fill value of the type (`NC_FILL_BYTE` and its like in Unidata's `netcdf.h`).
+    pub fn default_fill(self) -> i128
+        ensures { result ≡ default_fill_of self }
+    {
+        match self {
+            NcType::Byte => -127,
+            NcType::Char => 0,
+            NcType::Short => -32767,
+            NcType::Int => -2147483647,
+            NcType::Ubyte => 255,
+            NcType::Ushort => 65535,
+            NcType::Uint => 4294967295,
+            NcType::Int64 => -9223372036854775806,
+            NcType::Uint64 => 18446744073709551614,
+        }
+    }
+}
