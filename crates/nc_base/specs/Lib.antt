@@ -1,1 +1,13 @@
+pub mod Bytes
 pub mod Types
+pub mod Numbers
+pub mod Versions
+pub mod Names
+pub mod Sizes
+pub mod Headers
+pub mod Grammar
+pub mod FirstFault
+pub mod Fill
+pub mod Escapes
+pub mod HeadText
+pub mod Dump

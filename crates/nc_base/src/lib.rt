@@ -1,6 +1,7 @@
 //! t
 #![tactic(auto)]
 mod fault;
+mod name;
 mod dataset;
 mod header;
 mod nc_type;
@@ -9,6 +10,7 @@ mod version;
 
 pub use dataset::Dataset;
 pub use fault::FormatFault;
+pub use name::check_name;
 pub use header::{Att, Dim, Header, NumRecs, Var};
 pub use nc_type::NcType;
 pub use sequence::Sequence;

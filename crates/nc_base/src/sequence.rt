@@ -76,4 +76,14 @@ impl<T> Sequence<T> {
         self.items.push(item)?;
         Ok(())
     }
+
+    /// Adds copies of these items at the end. Where memory is refused, the sequence stays as it was.
+    pub fn extend_from_slice(&mut self, items: &[T]) -> Result<(), AllocError>
+        where T: Copy
+        ensures ok { OnOk result (self.new ≡ self.old ++ items.now) }
+        ensures err { OnErr result (self.new ≡ self.old) }
+    {
+        self.items.extend_from_slice(items)?;
+        Ok(())
+    }
 }

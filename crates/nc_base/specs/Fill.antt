@@ -1,0 +1,41 @@
+-- Fill values, and which values print as `_`.
+use Rattle.std.specs.Prelude.{ℕ, ◌≡◌, ℤ, Bool, true, false, IsTrue, ◌==◌, ◌&&◌, List, length, find, Option, Some, None, is_some, if◌then◌else◌, codes}
+use Rattle.std.specs.Str.{bytes_eq}
+use Rattle.nc_base.specs.declared.header.Att.{Att}
+use Rattle.nc_base.specs.declared.header.Var.{Var}
+use Rattle.nc_base.specs.declared.nc_type.NcType.{NcType}
+use Rattle.nc_base.specs.declared.nc_type.NcType.TheVariants.{Byte, Char, Ubyte}
+use Rattle.nc_base.specs.Types.{code_of, size_of, default_fill_of}
+use Rattle.nc_base.specs.Numbers.{number_of}
+
+abbrev pub is_fill_att : Att → Bool
+is_fill_att att = bytes_eq att.name (codes "_FillValue")
+
+-- the attribute is one value of the type
+abbrev pub is_one_of_type : NcType → Att → Bool
+is_one_of_type ty att = (code_of att.ty == code_of ty) && (length att.vals == size_of ty)
+
+-- the fill value that the first attribute named `_FillValue` gives a variable of this type
+abbrev pub own_fill : NcType → Option Att → Option ℤ
+own_fill ty None = None
+own_fill ty (Some att) = if is_one_of_type ty att then Some (number_of ty att.vals) else None
+
+abbrev pub fill_or_default : NcType → Option ℤ → ℤ
+fill_or_default ty None = default_fill_of ty
+fill_or_default ty (Some fill) = fill
+
+-- a variable's fill value: its own, or else the default of its type
+unfoldable pub fill_value : Var → ℤ
+fill_value x = fill_or_default x.ty (own_fill x.ty (find is_fill_att x.atts))
+
+-- characters never print as blanks, and values of one byte only where the variable has a fill value of its own
+abbrev pub has_blanks : NcType → Bool → Bool
+has_blanks Char own = false
+has_blanks Byte own = own
+has_blanks Ubyte own = own
+has_blanks ty own = true
+
+-- the value prints as `_`
+pub record PrintsBlank (x : Var) (value : ℤ) : Type 0 where
+  pub is_fill : value ≡ fill_value x
+  pub may : has_blanks x.ty (is_some (own_fill x.ty (find is_fill_att x.atts))) ≡ true

@@ -1,0 +1,145 @@
+-- The text of a header in CDL, up to `data:`. Each line ends with a line feed; a tab stands before a dimension and a
+-- declaration, and two before an attribute.
+use Rattle.std.specs.Prelude.{ℕ, ◌-◌, ◌==◌, Bool, true, false, ℤ, not, if◌then◌else◌, List, [], ◌∷◌, ◌++◌, length, map, take, codes, decimal, slice_get, Option, Some, None}
+use Rattle.std.specs.Fmt.{signed_decimal}
+use Rattle.std.specs.List.{suffix_len}
+use Rattle.nc_base.specs.declared.header.Att.{Att}
+use Rattle.nc_base.specs.declared.header.Dim.{Dim}
+use Rattle.nc_base.specs.declared.header.Var.{Var}
+use Rattle.nc_base.specs.declared.header.Header.{Header}
+use Rattle.nc_base.specs.declared.nc_type.NcType.{NcType}
+use Rattle.nc_base.specs.declared.nc_type.NcType.TheVariants.{Byte, Char, Short, Int, Ubyte, Ushort, Uint, Int64, Uint64}
+use Rattle.nc_base.specs.Bytes.{text}
+use Rattle.nc_base.specs.Numbers.{numbers}
+use Rattle.nc_base.specs.Escapes.{escaped_name, escaped_in_string}
+
+-- ---- fixed words
+
+unfoldable pub dimensions_word : List ℕ
+dimensions_word = codes "dimensions:\n"
+
+unfoldable pub unlimited_word : List ℕ
+unlimited_word = codes "UNLIMITED ; // ("
+
+unfoldable pub currently_word : List ℕ
+currently_word = codes " currently)\n"
+
+unfoldable pub variables_word : List ℕ
+variables_word = codes "variables:\n"
+
+unfoldable pub global_word : List ℕ
+global_word = codes "\n// global attributes:\n"
+
+unfoldable pub netcdf_word : List ℕ
+netcdf_word = codes "netcdf "
+
+-- what ends a line inside a string: the string is closed, and another begins on the next line
+unfoldable pub string_break : List ℕ
+string_break = codes "\",\n\t\t\t\""
+
+-- ---- attributes
+
+-- the pieces with `, ` between each two
+abbrev pub joined : List (List ℕ) → List ℕ
+joined [] = []
+joined (x ∷ []) = x
+joined (x ∷ y ∷ xs) = x ++ (codes ", " ++ joined (y ∷ xs))
+
+-- the word of a type in CDL
+abbrev pub type_word : NcType → List ℕ
+type_word Byte = codes "byte"
+type_word Char = codes "char"
+type_word Short = codes "short"
+type_word Int = codes "int"
+type_word Ubyte = codes "ubyte"
+type_word Ushort = codes "ushort"
+type_word Uint = codes "uint"
+type_word Int64 = codes "int64"
+type_word Uint64 = codes "uint64"
+
+-- the suffix of a number of this type in an attribute
+abbrev pub number_suffix : NcType → List ℕ
+number_suffix Byte = codes "b"
+number_suffix Char = []
+number_suffix Short = codes "s"
+number_suffix Int = []
+number_suffix Ubyte = codes "UB"
+number_suffix Ushort = codes "US"
+number_suffix Uint = codes "U"
+number_suffix Int64 = codes "LL"
+number_suffix Uint64 = codes "ULL"
+
+-- the numbers of an attribute
+unfoldable pub number_values : NcType → List ℕ → List ℕ
+number_values ty vals = joined (map (λ (n : ℤ). signed_decimal n ++ number_suffix ty) (numbers ty vals))
+
+-- without the NULs at its end
+abbrev pub without_trailing_nuls : List ℕ → List ℕ
+without_trailing_nuls bytes = take (length bytes - suffix_len (λ b. b == 0) bytes) bytes
+
+-- the bytes of an attribute's strings: broken behind each line feed but the last byte
+abbrev pub broken_text : List ℕ → List ℕ
+broken_text [] = []
+broken_text (b ∷ []) = escaped_in_string b
+broken_text (b ∷ c ∷ bytes) = escaped_in_string b ++ ((if b == 10 then string_break else []) ++ broken_text (c ∷ bytes))
+
+-- the characters of an attribute
+unfoldable pub char_values : List ℕ → List ℕ
+char_values vals = text (codes "\"" ∷ broken_text (without_trailing_nuls vals) ∷ codes "\"" ∷ [])
+
+abbrev pub att_values : NcType → List ℕ → List ℕ
+att_values Char vals = char_values vals
+att_values ty vals = number_values ty vals
+
+-- an attribute of the variable with this name; of the whole dataset where the name is empty
+unfoldable pub att_line : List ℕ → Att → List ℕ
+att_line owner att = text (codes "\t\t" ∷ owner ∷ codes ":" ∷ escaped_name att.name ∷ codes " = " ∷ att_values att.ty att.vals ∷ codes " ;\n" ∷ [])
+
+unfoldable pub att_lines : List ℕ → List Att → List ℕ
+att_lines owner atts = text (map (att_line owner) atts)
+
+-- the length of a dimension: a number, or for the record dimension the number of records
+unfoldable pub dim_extent : ℕ → ℕ → List ℕ
+dim_extent records len =
+    if len == 0 then text (unlimited_word ∷ decimal records ∷ currently_word ∷ [])
+    else text (decimal len ∷ codes " ;\n" ∷ [])
+
+unfoldable pub dim_line : ℕ → Dim → List ℕ
+dim_line records dim = text (codes "\t" ∷ escaped_name dim.name ∷ codes " = " ∷ dim_extent records dim.len ∷ [])
+
+unfoldable pub dim_lines : ℕ → List Dim → List ℕ
+dim_lines records dims = text (map (dim_line records) dims)
+
+-- the dimensions, if there are any
+unfoldable pub dims_text : ℕ → List Dim → List ℕ
+dims_text records dims = if length dims == 0 then [] else text (dimensions_word ∷ dim_lines records dims ∷ [])
+
+-- the name of the dimension with this id
+abbrev pub name_or_none : Option Dim → List ℕ
+name_or_none None = []
+name_or_none (Some dim) = escaped_name dim.name
+
+abbrev pub dim_name : List Dim → ℕ → List ℕ
+dim_name dims id = name_or_none (slice_get dims id)
+
+-- the shape of a variable: nothing at rank 0
+unfoldable pub shape_text : List Dim → List ℕ → List ℕ
+shape_text dims ids = if length ids == 0 then [] else text (codes "(" ∷ joined (map (dim_name dims) ids) ∷ codes ")" ∷ [])
+
+-- a variable's declaration, and its attributes
+unfoldable pub var_lines : List Dim → Var → List ℕ
+var_lines dims x =
+    text (codes "\t" ∷ type_word x.ty ∷ codes " " ∷ escaped_name x.name ∷ shape_text dims x.dimids ∷ codes " ;\n" ∷ att_lines (escaped_name x.name) x.atts ∷ [])
+
+-- the variables, if there are any
+unfoldable pub vars_text : List Dim → List Var → List ℕ
+vars_text dims vars = if length vars == 0 then [] else text (variables_word ∷ text (map (var_lines dims) vars) ∷ [])
+
+-- the global attributes, if there are any
+unfoldable pub gatts_text : List Att → List ℕ
+gatts_text gatts = if length gatts == 0 then [] else text (global_word ∷ att_lines [] gatts ∷ [])
+
+-- the head of a dump, up to `data:`
+unfoldable pub head_text : List ℕ → Header → ℕ → List ℕ
+head_text name h records =
+    text (netcdf_word ∷ escaped_name name ∷ codes " {\n" ∷ dims_text records h.dims ∷ vars_text h.dims h.vars ∷ gatts_text h.gatts ∷ [])

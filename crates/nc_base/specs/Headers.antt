@@ -1,0 +1,110 @@
+-- Sound headers, bare headers and good datasets.
+use Rattle.std.specs.Prelude.{ℕ, ◌≡◌, ◌+◌, ◌*◌, ◌%◌, ◌<◌, ◌≤◌, Bool, true, false, IsTrue, ◌==◌, ◌||◌, if◌then◌else◌, List, [], ◌∷◌, ◌++◌, length, map, filter, sum, All, EachIndex, slice_index}
+use Rattle.nc_base.specs.declared.header.Att.{Att}
+use Rattle.nc_base.specs.declared.header.Dim.{Dim}
+use Rattle.nc_base.specs.declared.header.Var.{Var}
+use Rattle.nc_base.specs.declared.header.Header.{Header}
+use Rattle.nc_base.specs.declared.header.NumRecs.{NumRecs}
+use Rattle.nc_base.specs.declared.header.NumRecs.TheVariants.{Known, Streaming}
+use Rattle.nc_base.specs.declared.dataset.Dataset.{Dataset}
+use Rattle.nc_base.specs.declared.version.Version.{Version}
+use Rattle.nc_base.specs.Bytes.{AreBytes}
+use Rattle.nc_base.specs.Types.{size_of}
+use Rattle.nc_base.specs.Versions.{count_limit, has_type}
+use Rattle.nc_base.specs.Names.{IsName}
+use Rattle.nc_base.specs.Sizes.{is_record_dim, is_record_var, slab_size, slab_count, padded_size, record_vars, record_size, record_count, slab_limit, record_limit}
+
+-- one of the dimensions is the record dimension
+abbrev pub has_record_dim : List Dim → Bool
+has_record_dim [] = false
+has_record_dim (d ∷ ds) = (d.len == 0) || has_record_dim ds
+
+-- a dimension id: that of a dimension, and that of the record dimension in the first place alone
+pub record IsDimid (dims : List Dim) (before : List ℕ) (id : ℕ) : Type 0 where
+  pub known : id < length dims
+  pub record_first : IsTrue (is_record_dim dims id) → before ≡ []
+
+abbrev pub AreDimids : List Dim → List ℕ → List ℕ → Type 0
+AreDimids dims before [] = Unit {0}
+AreDimids dims before (id ∷ ids) = IsDimid dims before id × AreDimids dims (before ++ id ∷ []) ids
+
+-- an attribute of whole values that its version has and can count
+pub record IsSoundAtt (v : Version) (att : Att) : Type 0 where
+  pub name_len : length att.name < count_limit v
+  pub ty : IsTrue (has_type v att.ty)
+  pub count : ℕ
+  pub counted : count < count_limit v
+  pub whole : length att.vals ≡ count * size_of att.ty
+
+pub record IsSoundVar (v : Version) (dims : List Dim) (var : Var) : Type 0 where
+  pub name_len : length var.name < count_limit v
+  pub rank : length var.dimids < count_limit v
+  pub shape : AreDimids dims [] var.dimids
+  pub att_count : length var.atts < count_limit v
+  pub atts : All (IsSoundAtt v) var.atts
+  pub ty : IsTrue (has_type v var.ty)
+  pub slab : slab_size dims var ≤ slab_limit
+
+pub record IsSoundDim (v : Version) (dim : Dim) : Type 0 where
+  pub name_len : length dim.name < count_limit v
+  pub len : dim.len < count_limit v
+
+-- a number of records that the version can count, or the mark for an unknown one
+abbrev pub IsSoundNumRecs : Version → NumRecs → Type 0
+IsSoundNumRecs v (Known n) = n < count_limit v
+IsSoundNumRecs v Streaming = Unit {0}
+
+-- a header whose sizes and counts keep the format's limits and this project's
+pub record IsSound (h : Header) : Type 0 where
+  pub numrecs : IsSoundNumRecs h.version h.numrecs
+  pub dim_count : length h.dims < count_limit h.version
+  pub dims : All (IsSoundDim h.version) h.dims
+  pub one_record_dim : length (filter (λ (d : Dim). d.len == 0) h.dims) ≤ 1
+  pub gatt_count : length h.gatts < count_limit h.version
+  pub gatts : All (IsSoundAtt h.version) h.gatts
+  pub var_count : length h.vars < count_limit h.version
+  pub vars : All (IsSoundVar h.version h.dims) h.vars
+  pub record_size : record_size h ≤ record_limit
+
+-- each name is valid
+pub record HasValidNames (h : Header) : Type 0 where
+  pub dims : All (λ (d : Dim). IsName d.name) h.dims
+  pub gatts : All (λ (a : Att). IsName a.name) h.gatts
+  pub vars : All (λ (x : Var). IsName x.name × All (λ (a : Att). IsName a.name) x.atts) h.vars
+
+-- without offsets, and with n records
+abbrev pub bare_var : Var → Var
+bare_var x = record x { begin_at = 0 }
+
+abbrev pub bare : Header → ℕ → Header
+bare h n = record h { numrecs = Known n; vars = map bare_var h.vars }
+
+-- how many values a variable has over n records
+abbrev pub value_count : List Dim → Var → ℕ → ℕ
+value_count dims x n = slab_count dims x * (if is_record_var dims x then n else 1)
+
+-- a variable's values: as many as it has, each of its type, and in all no more than the greatest slab
+pub record IsArray (dims : List Dim) (records : ℕ) (x : Var) (array : List ℕ) : Type 0 where
+  pub bytes : AreBytes array
+  pub whole : length array ≡ value_count dims x records * size_of x.ty
+  pub small : length array ≤ slab_limit
+
+abbrev pub AreArrays : List Dim → ℕ → List Var → List (List ℕ) → Type 0
+AreArrays dims records [] [] = Unit {0}
+AreArrays dims records [] (array ∷ arrays) = ⊥
+AreArrays dims records (x ∷ vars) [] = ⊥
+AreArrays dims records (x ∷ vars) (array ∷ arrays) = IsArray dims records x array × AreArrays dims records vars arrays
+
+-- each attribute's value is of its type
+pub record HasValidValues (h : Header) : Type 0 where
+  pub gatts : All (λ (a : Att). AreBytes a.vals) h.gatts
+  pub vars : All (λ (x : Var). All (λ (a : Att). AreBytes a.vals) x.atts) h.vars
+
+-- a dataset that a file can hold. Any bytes are values of a type, so that bytes are asked of attributes and arrays alone.
+pub record IsGood (d : Dataset) : Type 0 where
+  pub records : ℕ
+  pub is_bare : d.header ≡ bare d.header records
+  pub is_sound : IsSound d.header
+  pub names : HasValidNames d.header
+  pub values : HasValidValues d.header
+  pub arrays : AreArrays d.header.dims records d.header.vars d.arrays

@@ -1,0 +1,50 @@
+-- What differs between the versions of the format, each thing once.
+use Rattle.std.specs.Prelude.{ℕ, ◌-◌, ◌^◌, ◌≡◌, Bool, true, false, Option, Some, None, if◌then◌else◌, ◌==◌}
+use Rattle.std.specs.Int.{Width, w32, w64}
+use mir.Val.{bits, hbits}
+use Rattle.nc_base.specs.declared.nc_type.NcType.{NcType}
+use Rattle.nc_base.specs.declared.nc_type.NcType.TheVariants.{Byte, Char, Short, Int, Ubyte, Ushort, Uint, Int64, Uint64}
+use Rattle.nc_base.specs.declared.version.Version.{Version}
+use Rattle.nc_base.specs.declared.version.Version.TheVariants.{Cdf1, Cdf2, Cdf5}
+
+-- the byte behind `CDF`
+abbrev pub version_byte : Version → ℕ
+version_byte Cdf1 = 1
+version_byte Cdf2 = 2
+version_byte Cdf5 = 5
+
+abbrev pub version_of_byte : ℕ → Option Version
+version_of_byte b = if b == 1 then Some Cdf1 else (if b == 2 then Some Cdf2 else (if b == 5 then Some Cdf5 else None))
+
+-- the width of NON_NEG: a count, a length, a dimension id, the number of records, and of a vsize
+abbrev pub count_width : Version → Width
+count_width Cdf1 = w32
+count_width Cdf2 = w32
+count_width Cdf5 = w64
+
+-- the width of OFFSET: a variable's begin
+abbrev pub offset_width : Version → Width
+offset_width Cdf1 = w32
+offset_width Cdf2 = w64
+offset_width Cdf5 = w64
+
+-- a NON_NEG is below this: its top bit is 0
+abbrev pub count_limit : Version → ℕ
+count_limit v = 2 ^ hbits (count_width v)
+
+-- an OFFSET is below this: its top bit is 0
+abbrev pub offset_limit : Version → ℕ
+offset_limit v = 2 ^ hbits (offset_width v)
+
+-- STREAMING, in place of a number of records: all bits are 1
+abbrev pub streaming_mark : Version → ℕ
+streaming_mark v = 2 ^ bits (count_width v) - 1
+
+-- files of the version may have values of the type
+abbrev pub has_type : Version → NcType → Bool
+has_type Cdf5 ty = true
+has_type v Byte = true
+has_type v Char = true
+has_type v Short = true
+has_type v Int = true
+has_type v ty = false

@@ -1,0 +1,56 @@
+//! The rule on names.
+
+ghost use Rattle.std.specs.Prelude.{◌≡◌, ◌<◌, length};
+ghost use Rattle.std.specs.List.{list_all};
+ghost use Rattle.std.specs.Str.{is_utf8};
+ghost use Rattle.nc_base.specs.Names.{is_name, has_name_bytes, ends_with_space, may_begin_name, may_follow_in_name};
+
+/// Says whether the bytes are a name that a dimension, a variable or an attribute may have: not empty, in UTF-8,
+/// beginning with a letter, a digit, `_` or a character beyond ASCII, going on with printing ASCII characters other
+/// than `/` or characters beyond ASCII, and without a space at the end (`name` of the NetCDF Classic Format
+/// Specification).
+pub fn check_name(name: &[u8]) -> bool
+    ensures { result ≡ is_name name.now }
+{
+    has_name_bytes(name) && !ends_with_space(name) && is_text(name)
+}
+
+fn has_name_bytes(name: &[u8]) -> bool
+    ensures { result ≡ has_name_bytes name.now }
+{
+    match name {
+        [] => false,
+        [first, others @ ..] => may_begin(*first) && may_go_on(others),
+    }
+}
+
+fn may_go_on(others: &[u8]) -> bool
+    ensures { result ≡ list_all may_follow_in_name others.now }
+{
+    others.iter().all(|b| may_follow(*b))
+}
+
+fn ends_with_space(name: &[u8]) -> bool
+    requires { 0 < length name.now }
+    ensures { result ≡ ends_with_space name.now }
+{
+    name[name.len() - 1] == b' '
+}
+
+fn is_text(bytes: &[u8]) -> bool
+    ensures { result ≡ is_utf8 bytes.now }
+{
+    str::from_utf8(bytes).is_ok()
+}
+
+fn may_begin(b: u8) -> bool
+    ensures { result ≡ may_begin_name b }
+{
+    b.is_ascii_alphabetic() || b.is_ascii_digit() || b == b'_' || b >= 0x80
+}
+
+fn may_follow(b: u8) -> bool
+    ensures { result ≡ may_follow_in_name b }
+{
+    (b >= b' ' && b <= b'~' && b != b'/') || b >= 0x80
+}
