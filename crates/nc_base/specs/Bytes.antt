@@ -1,9 +1,9 @@
 -- Lists of bytes.
-use Rattle.std.specs.Prelude.{ℕ, ◌<◌, ◌-◌, ◌%◌, List, [], ◌∷◌, ◌++◌, All}
+use Rattle.std.specs.Prelude.{ℕ, ◌<◌, ◌-◌, ◌%◌, List, [], ◌∷◌, ◌++◌, slice_index}
 
--- each number of the list is a byte
+-- each number of the list is a byte (behind the list's end `slice_index` is 0)
 abbrev pub AreBytes : List ℕ → Type 0
-AreBytes bytes = All (λ b. b < 256) bytes
+AreBytes bytes = (i : ℕ) → slice_index bytes i < 256
 
 -- how many bytes fill n bytes up to the next multiple of four
 abbrev pub padding_len : ℕ → ℕ

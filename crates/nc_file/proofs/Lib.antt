@@ -1,0 +1,4 @@
+pub mod Writes
+pub mod Parts
+pub mod Loops
+pub mod Chunks

@@ -1,0 +1,4 @@
+pub mod Sinks
+pub mod Sources
+pub mod Reading
+pub mod Window

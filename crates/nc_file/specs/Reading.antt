@@ -1,0 +1,284 @@
+-- Reading a header from left to right: the value at the front of a list of bytes, or the first fault that is met, and what
+-- is left behind. That it gives what the grammar says is proved in `proofs/Laws.antt`.
+use Rattle.std.specs.Prelude.{◌≡◌, ℕ, zero, suc, ◌+◌, ◌-◌, ◌*◌, ◌<◌, ◌≤◌, Bool, true, false, List, [], ◌∷◌, ◌++◌, length, Option, Some, None, Result, Ok, Err, nat_le, ◌==◌, ◌&&◌, ◌||◌, not, if◌then◌else◌, MatchBool}
+use Rattle.std.specs.Int.{w32, w64, from_be_bytes}
+use Rattle.std.specs.Bool.{OnTrue}
+use Rattle.std.proofs.Math.Nat.{le_refl, le_trans, le-suc}
+use Rattle.nc_base.specs.declared.fault.FormatFault.{FormatFault}
+use Rattle.nc_base.specs.declared.fault.FormatFault.TheVariants.{NotNetcdf, UnknownVersion, HeaderTruncated, BadTag, BadCount, BadName, FloatingType, BadType, TwoRecordDims}
+use Rattle.nc_base.specs.declared.header.Att.{Att}
+use Rattle.nc_base.specs.declared.header.Dim.{Dim}
+use Rattle.nc_base.specs.declared.header.Var.{Var}
+use Rattle.nc_base.specs.declared.header.Header.{Header}
+use Rattle.nc_base.specs.declared.header.NumRecs.{NumRecs}
+use Rattle.nc_base.specs.declared.header.NumRecs.TheVariants.{Known, Streaming}
+use Rattle.nc_base.specs.declared.nc_type.NcType.{NcType}
+use Rattle.nc_base.specs.declared.nc_type.NcType.TheVariants.{Char}
+use Rattle.nc_base.specs.declared.version.Version.{Version}
+use Rattle.nc_base.specs.declared.version.Version.TheVariants.{Cdf1, Cdf2, Cdf5}
+use Rattle.nc_base.specs.Bytes.{padding_len}
+use Rattle.nc_base.specs.Types.{type_of_code, code_of}
+use Rattle.nc_base.specs.Versions.{version_of_byte, count_limit, streaming_mark, has_type}
+use Rattle.nc_base.specs.Names.{is_name}
+use Rattle.nc_base.specs.Headers.{has_record_dim}
+use Rattle.nc_base.specs.Grammar.{dimension_tag, attribute_tag, variable_tag}
+use Rattle.nc_file.specs.Sources.{SourceView, HasFailed}
+use Rattle.nc_file.specs.declared.head_fault.HeadFault.{HeadFault}
+use Rattle.nc_file.specs.declared.head_fault.HeadFault.TheVariants.{OutOfMemory, ReadFailed, NotYet, Format}
+
+-- a value and what is left, or a fault and what is left
+abbrev pub Outcome : Type 0 → Type 0
+Outcome A = Result (A × List ℕ) (HeadFault × List ℕ)
+
+-- how many bytes are left behind the last field that was looked at
+unfoldable pub left_over : {A : Type 0} → Outcome A → ℕ
+left_over (Ok x) = length x.1
+left_over (Err e) = length e.1
+
+-- a part of a header: what it reads at the front of a list, and that it leaves no more than there was
+pub record Part (A : Type 0) : Type 0 where
+  pub run : List ℕ → Outcome A
+  pub shorter : (bytes : List ℕ) → left_over (run bytes) ≤ length bytes
+
+-- one part behind another
+abbrev pub next : {A B : Type 0} → Outcome A → (A → Part B) → Outcome B
+next (Ok x) f = (f x.0).run x.1
+next (Err e) f = Err e
+
+pub next-shorter : {A B : Type 0} (read : Outcome A) (f : A → Part B) → left_over (next read f) ≤ left_over read
+unfolding left_over
+next-shorter (Ok x) f = (f x.0).shorter x.1
+next-shorter (Err e) f = le_refl (length e.1)
+
+infixl 10 ◌>>=◌
+unfoldable pub ◌>>=◌ : {A B : Type 0} → Part A → (A → Part B) → Part B
+p >>= f = record { run = λ bytes. next (p.run bytes) f; shorter = λ bytes. le_trans (next-shorter (p.run bytes) f) (p.shorter bytes) }
+
+-- nothing more to read
+unfoldable pub done : {A : Type 0} → A → Part A
+unfolding left_over
+done x = record { run = λ bytes. Ok (x, bytes); shorter = λ bytes. le_refl (length bytes) }
+
+-- reading stops here
+unfoldable pub stop : {A : Type 0} → HeadFault → Part A
+unfolding left_over
+stop e = record { run = λ bytes. Err (e, bytes); shorter = λ bytes. le_refl (length bytes) }
+
+-- the field before is wrong
+abbrev pub wrong : {A : Type 0} → FormatFault → Part A
+wrong fault = stop (Format fault)
+
+-- ---- what a reader of the code has done
+
+-- the fault says something of the bytes
+abbrev pub is_of_bytes : HeadFault → Bool
+is_of_bytes OutOfMemory = false
+is_of_bytes ReadFailed = false
+is_of_bytes _ = true
+
+-- What a reader returned is what reading the bytes that were left gives, and what is left now. Where the device or memory
+-- failed, no more was read than that takes.
+abbrev pub Reads : {A : Type 0} → Bool → List ℕ → List ℕ → Part A → Result A HeadFault → Type 0
+Reads told old new part (Ok x) = OnTrue told (part.run old ≡ Ok (x, new))
+Reads told old new part (Err e) = OnTrue told (MatchBool (is_of_bytes e) (part.run old ≡ Err (e, new)) (left_over (part.run old) ≤ length new))
+
+-- the source has failed exactly where a reader says so
+abbrev pub Caused : {A : Type 0} → ℕ → SourceView → Result A HeadFault → Type 0
+Caused before now (Err ReadFailed) = HasFailed before now
+Caused before now _ = now.failures ≡ before
+
+-- ---- bytes and numbers
+
+-- one byte, or this fault at the end
+abbrev pub byte_run : FormatFault → List ℕ → Outcome ℕ
+byte_run fault [] = Err (Format fault, [])
+byte_run fault (b ∷ rest) = Ok (b, rest)
+
+pub byte_shorter : (fault : FormatFault) (bytes : List ℕ) → left_over (byte_run fault bytes) ≤ length bytes
+unfolding left_over
+byte_shorter fault [] = le_refl 0
+byte_shorter fault (b ∷ rest) = le-suc (length rest)
+
+unfoldable pub byte_or : FormatFault → Part ℕ
+byte_or fault = record { run = byte_run fault; shorter = byte_shorter fault }
+
+abbrev pub byte_at : Part ℕ
+byte_at = byte_or HeaderTruncated
+
+unfoldable pub u32_at : Part ℕ
+u32_at = do
+  a ← byte_at
+  b ← byte_at
+  c ← byte_at
+  d ← byte_at
+  done (from_be_bytes w32 (a ∷ b ∷ c ∷ d ∷ []))
+
+unfoldable pub u64_at : Part ℕ
+u64_at = do
+  a ← byte_at
+  b ← byte_at
+  c ← byte_at
+  d ← byte_at
+  e ← byte_at
+  f ← byte_at
+  g ← byte_at
+  h ← byte_at
+  done (from_be_bytes w64 (a ∷ b ∷ c ∷ d ∷ e ∷ f ∷ g ∷ h ∷ []))
+
+-- a number of the width of the version's counts
+abbrev pub number_at : Version → Part ℕ
+number_at Cdf1 = u32_at
+number_at Cdf2 = u32_at
+number_at Cdf5 = u64_at
+
+-- a number whose top bit is 0
+unfoldable pub count_at : Version → Part ℕ
+count_at v = do
+  n ← number_at v
+  if nat_le (count_limit v) n then wrong BadCount else done n
+
+-- n bytes, behind those that were read before
+unfoldable pub bytes_at : ℕ → List ℕ → Part (List ℕ)
+bytes_at zero front = done front
+bytes_at (suc n) front = do
+  b ← byte_at
+  bytes_at n (front ++ b ∷ [])
+
+-- n bytes that may be any
+unfoldable pub skip_at : ℕ → Part (Unit {0})
+skip_at zero = done tt
+skip_at (suc n) = do
+  b ← byte_at
+  skip_at n
+
+-- n bytes and their padding
+unfoldable pub padded_at : ℕ → Part (List ℕ)
+padded_at n = do
+  content ← bytes_at n []
+  padding ← skip_at (padding_len n)
+  done content
+
+-- ---- names, types, lists
+
+unfoldable pub name_at : Version → Part (List ℕ)
+name_at v = do
+  n ← count_at v
+  name ← bytes_at n []
+  if is_name name then (skip_at (padding_len n) >>= λ padding. done name) else wrong BadName
+
+abbrev pub type_or_none : Version → Option NcType → Part NcType
+type_or_none v None = wrong BadType
+type_or_none v (Some ty) = if has_type v ty then done ty else wrong BadType
+
+unfoldable pub type_at : Version → Part NcType
+type_at v = do
+  code ← u32_at
+  if (code == 5) || (code == 6) then wrong FloatingType else type_or_none v (type_of_code code)
+
+-- the number of elements of a list, behind its tag
+unfoldable pub list_len_at : Version → ℕ → Part ℕ
+list_len_at v tag = do
+  found ← u32_at
+  if not (found == 0) && not (found == tag) then wrong BadTag else (count_at v >>= λ n. if (found == 0) && not (n == 0) then wrong BadCount else done n)
+
+-- n elements, behind those that were read before
+unfoldable pub each_at : {A : Type 0} → (List A → Part A) → ℕ → List A → Part (List A)
+each_at element zero before = done before
+each_at element (suc n) before = do
+  x ← element before
+  each_at element n (before ++ x ∷ [])
+
+unfoldable pub list_at : {A : Type 0} → Version → ℕ → (List A → Part A) → Part (List A)
+list_at v tag element = do
+  n ← list_len_at v tag
+  each_at element n []
+
+-- ---- dimensions and attributes
+
+-- a dimension, where the record dimension stands before it or not
+unfoldable pub dim_at : Version → Bool → Part Dim
+dim_at v seen = do
+  name ← name_at v
+  len ← count_at v
+  if seen && (len == 0) then wrong TwoRecordDims else done (record { name = name; len = len })
+
+abbrev pub next_dim_at : Version → List Dim → Part Dim
+next_dim_at v before = dim_at v (has_record_dim before)
+
+unfoldable pub dims_at : Version → ℕ → List Dim → Part (List Dim)
+dims_at v n before = each_at (next_dim_at v) n before
+
+-- the characters of an attribute
+unfoldable pub char_att_at : Version → List ℕ → Part Att
+char_att_at v name = do
+  n ← count_at v
+  vals ← padded_at n
+  done (record { name = name; ty = Char; vals = vals })
+
+-- an attribute: for now of characters alone
+unfoldable pub att_at : Version → Part Att
+att_at v = do
+  name ← name_at v
+  ty ← type_at v
+  if code_of ty == 2 then char_att_at v name else stop NotYet
+
+unfoldable pub atts_at : Version → ℕ → List Att → Part (List Att)
+atts_at v n before = each_at (λ before. att_at v) n before
+
+-- a variable: none for now
+abbrev pub var_at : List Var → Part Var
+var_at before = stop NotYet
+
+unfoldable pub vars_at : ℕ → List Var → Part (List Var)
+vars_at n before = each_at var_at n before
+
+-- ---- the whole
+
+abbrev pub version_or : ℕ → Option Version → Part Version
+version_or b None = wrong (UnknownVersion b)
+version_or b (Some v) = done v
+
+unfoldable pub version_at : Part Version
+version_at = do
+  b ← byte_at
+  version_or b (version_of_byte b)
+
+-- a byte of `CDF`
+abbrev pub first_at : Part ℕ
+first_at = byte_or NotNetcdf
+
+unfoldable pub magic_at : Part Version
+magic_at = do
+  a ← first_at
+  b ← first_at
+  c ← first_at
+  if (a == 67) && (b == 68) && (c == 70) then version_at else wrong NotNetcdf
+
+unfoldable pub numrecs_at : Version → Part NumRecs
+numrecs_at v = do
+  n ← number_at v
+  if n == streaming_mark v then done Streaming else (if nat_le (count_limit v) n then wrong BadCount else done (Known n))
+
+unfoldable pub dim_list_at : Version → Part (List Dim)
+dim_list_at v = do
+  n ← list_len_at v dimension_tag
+  dims_at v n []
+
+unfoldable pub att_list_at : Version → Part (List Att)
+att_list_at v = do
+  n ← list_len_at v attribute_tag
+  atts_at v n []
+
+unfoldable pub var_list_at : Version → Part (List Var)
+var_list_at v = do
+  n ← list_len_at v variable_tag
+  vars_at n []
+
+unfoldable pub header_at : Part Header
+header_at = do
+  v ← magic_at
+  numrecs ← numrecs_at v
+  dims ← dim_list_at v
+  gatts ← att_list_at v
+  vars ← var_list_at v
+  done (record { version = v; numrecs = numrecs; dims = dims; gatts = gatts; vars = vars })

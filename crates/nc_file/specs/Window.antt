@@ -1,0 +1,72 @@
+-- A window on a source: what it holds, and what a reader through it has done.
+use Rattle.std.specs.Prelude.{◌≡◌, ℕ, ◌+◌, ◌<◌, ◌≤◌, Bool, List, [], ◌++◌, length, take, drop, MatchBool, Result, Ok, Err}
+use Rattle.std.specs.Bool.{OnTrue}
+use Rattle.nc_base.specs.declared.fault.FormatFault.TheVariants.{HeaderTruncated}
+use Rattle.nc_file.specs.Sources.{SourceView}
+use Rattle.nc_file.specs.declared.head_fault.HeadFault.{HeadFault}
+use Rattle.nc_file.specs.declared.head_fault.HeadFault.TheVariants.{ReadFailed, Format}
+use Rattle.nc_file.specs.Reading.{Part, Reads, Caused, is_of_bytes}
+use Rattle.nc_file.specs.declared.window.Window.{Window}
+
+-- a window as its contracts see it
+pub record State : Type 0 where
+  pub source : SourceView
+  pub buf : List ℕ
+  pub base : ℕ
+  pub filled : ℕ
+  pub pos : ℕ
+
+abbrev pub state : {S : Type 0} → (S → SourceView) → Window S → State
+state seen w = record { source = seen w.source.now; buf = w.buf.now; base = w.base; filled = w.filled; pos = w.pos }
+
+-- the buffer holds the source's bytes from base on
+pub record IsOpen (told : Bool) (w : State) : Type 0 where
+  pub used : w.pos ≤ w.filled
+  pub fits : w.filled ≤ length w.buf
+  pub room : 0 < length w.buf
+  pub within : w.base + w.filled ≤ length w.source.bytes
+  pub bytes : OnTrue told (take w.filled w.buf ≡ take w.filled (drop w.base w.source.bytes))
+
+-- the bytes that are still to be read
+abbrev pub left : State → List ℕ
+left w = drop (w.base + w.pos) w.source.bytes
+
+-- What reading keeps: each byte up to the end of what the window holds is handed over once.
+pub record Kept (told : Bool) (old new : State) : Type 0 where
+  pub is_open : IsOpen told new
+  pub bytes : new.source.bytes ≡ old.source.bytes
+  pub same_room : length new.buf ≡ length old.buf
+  pub handed : new.source.handed + (old.base + old.filled) ≡ old.source.handed + (new.base + new.filled)
+
+-- The window holds bytes again, or there are no more.
+abbrev pub Refilled : Bool → State → State → Result Bool HeadFault → Type 0
+Refilled told old new (Ok some) = (new.base + new.pos ≡ old.base + old.pos) × MatchBool some (new.pos < new.filled) (OnTrue told (length new.source.bytes ≤ new.base + new.pos))
+Refilled told old new (Err e) = (e ≡ ReadFailed) × (new.base + new.pos ≡ old.base + old.pos)
+
+-- a window that may be read from
+abbrev pub Opened : {S : Type 0} → Bool → (S → SourceView) → Window S → Type 0
+Opened told seen w = IsOpen told (state seen w)
+
+-- A reader's whole contract: what it keeps, why it fails, and that it reads what this part of a header reads.
+pub record Did {S A : Type 0} (told : Bool) (seen : S → SourceView) (old new : Window S) (part : Part A) (result : Result A HeadFault) : Type 0 where
+  pub same_source : new.source.ghost_name ≡ old.source.ghost_name
+  pub kept : Kept told (state seen old) (state seen new)
+  pub cause : Caused (seen old.source.now).failures (seen new.source.now) result
+  pub reads : Reads told (left (state seen old)) (left (state seen new)) part result
+
+-- There is a next byte in the window, or there is none at all.
+abbrev pub Filled : Bool → State → State → Result (Unit {0}) HeadFault → Type 0
+Filled told old new (Ok done) = (new.pos < new.filled) × (left new ≡ left old)
+Filled told old new (Err e) = OnTrue told (MatchBool (is_of_bytes e) ((e ≡ Format HeaderTruncated) × (left old ≡ []) × (left new ≡ [])) (left new ≡ left old))
+
+-- the next bytes, as many as the window has and no more than most
+pub record Ready (told : Bool) (w : State) (most : ℕ) (bytes : List ℕ) : Type 0 where
+  pub some : 0 < length bytes
+  pub within : length bytes ≤ most
+  pub in_window : w.pos + length bytes ≤ w.filled
+  pub same : OnTrue told (bytes ≡ take (length bytes) (left w))
+
+-- Some of the next bytes, as many as the window has, and at least one.
+abbrev pub Took : Bool → List ℕ → List ℕ → List ℕ → List ℕ → ℕ → Result ℕ HeadFault → Type 0
+Took told old new before out most (Ok k) = (0 < k) × (k ≤ most) × OnTrue told ((k ≤ length old) × (out ≡ before ++ take k old) × (new ≡ drop k old))
+Took told old new before out most (Err e) = OnTrue told (MatchBool (is_of_bytes e) ((e ≡ Format HeaderTruncated) × (old ≡ []) × (new ≡ [])) (new ≡ old))

@@ -1,0 +1,23 @@
+//! What can go wrong with a device.
+
+/// A source failed to hand over bytes.
+#[derive(Clone, Copy, Debug, PartialEq, Eq)]
+pub struct SourceFailed;
+
+/// A sink failed to take bytes.
+#[derive(Clone, Copy, Debug, PartialEq, Eq)]
+pub struct SinkFailed;
+
+/// A text was not written whole, since the sink failed.
+#[derive(Clone, Copy, Debug, PartialEq, Eq)]
+pub struct WriteFailed;
+
+/// A file could not be opened as a source.
+#[derive(Clone, Copy, Debug, PartialEq, Eq)]
+pub struct OpenFailed;
+
+impl From<SinkFailed> for WriteFailed {
+    fn from(_failure: SinkFailed) -> WriteFailed {
+        WriteFailed
+    }
+}

@@ -1,0 +1,144 @@
+//! Devices over the files and writers of the standard library.
+
+ghost use Rattle.std.specs.Prelude.{◌≡◌, ◌+◌, ◌^◌, ◌-◌, [], false, min, replicate, IfOk, IsErr, IsOk};
+ghost use Rattle.nc_file.specs.Sinks.{Wrote};
+
+use crate::{OpenFailed, Sink, SinkFailed, Source, SourceFailed};
+use std::fs::File;
+use std::io;
+use std::io::{ErrorKind, Write};
+use std::os::unix::fs::FileExt;
+
+/// A source over a file of the system, which does not tell its bytes.
+///
+/// Its length is the file's at the time when it was opened. Each read is one call of the system, which is
+/// not tried again where it fails.
+#[derive(Drop)]
+pub struct FileSource {
+    file: File,
+    len: u64,
+    failures: u128,
+    handed: u128,
+}
+
+impl FileSource {
+    /// Opens the regular file at the path, and takes its length.
+    ///
+    /// # Errors
+    ///
+    /// The path names nothing, nothing that may be read, or something other than a regular file.
+    pub fn open(rt: &HostRuntime, path: &str) -> Result<FileSource, OpenFailed>
+        ensures failures { IfOk result (λ source. (⟦<FileSource as Source>⟧.seen source).failures ≡ 0) }
+        ensures handed { IfOk result (λ source. (⟦<FileSource as Source>⟧.seen source).handed ≡ 0) }
+    {
+        let file = File::open(rt, path).map_err(|_| OpenFailed)?;
+        let metadata = file.metadata().map_err(|_| OpenFailed)?;
+        if !metadata.is_file() {
+            return Err(OpenFailed);
+        }
+        Ok(FileSource {
+            file,
+            len: metadata.len(),
+            failures: 0,
+            handed: 0,
+        })
+    }
+}
+
+impl Source for FileSource {
+    ghost told = { false };
+
+    ghost seen = { λ s. record { bytes = replicate s.len 0; failures = s.failures; handed = s.handed } };
+
+    fn len(&self) -> u64 {
+        self.len
+    }
+
+    #[tactic(auto, unfolding(crate::specs::Sources::HasFailed))]
+    fn read_at(&mut self, at: u64, into: &mut [u8]) -> Result<usize, SourceFailed> {
+        if u128::MAX - self.handed < into.len() as u128 {
+            return Err(SourceFailed);
+        }
+        match self.file.read_at(into, at) {
+            Ok(n) => {
+                self.handed += n as u128;
+                Ok(n)
+            }
+            Err(_) => {
+                self.failures = self.failures.saturating_add(1);
+                Err(SourceFailed)
+            }
+        }
+    }
+}
+
+/// A sink over a writer, which tells the bytes that the writer tells.
+///
+/// An error of the writer, of any kind, is a failure of the sink, and so is a write that takes no byte.
+#[derive(Drop)]
+pub struct IoSink<W: Write> {
+    writer: W,
+    failures: u128,
+}
+
+impl<W: Write> IoSink<W> {
+    /// A sink over the writer, which counts what the writer holds already as taken.
+    pub fn new(writer: W) -> IoSink<W>
+        ensures { ⟦<IoSink<W> as Sink>⟧.seen result ≡ record { taken = W.contents writer; failures = 0 } }
+    {
+        IoSink {
+            writer,
+            failures: 0,
+        }
+    }
+
+    /// Hands on what the writer holds back.
+    ///
+    /// # Errors
+    ///
+    /// The writer failed.
+    #[tactic(auto, using(crate::proofs::Writes::devices), unfolding(crate::specs::Sinks::append, crate::specs::Sinks::count, crate::specs::Sinks::IsCut, crate::specs::Sinks::told, crate::specs::Sinks::HasFailed))]
+    pub fn flush(&mut self) -> Result<(), SinkFailed>
+        ensures { Wrote (⟦<IoSink<W> as Sink>⟧.seen self.old) (⟦<IoSink<W> as Sink>⟧.seen self.new) [] result }
+    {
+        let answer = self.writer.flush();
+        counted(answer, &mut self.failures)
+    }
+
+    /// The writer.
+    pub fn into_inner(self) -> W
+        ensures { W.contents result ≡ (⟦<IoSink<W> as Sink>⟧.seen self).taken }
+    {
+        self.writer
+    }
+}
+
+impl<W: Write> Sink for IoSink<W> {
+    ghost seen = { λ s. record { taken = W.contents s.writer; failures = s.failures } };
+
+    #[tactic(auto, using(crate::proofs::Writes::devices), unfolding(crate::specs::Sinks::append, crate::specs::Sinks::count, crate::specs::Sinks::IsCut, crate::specs::Sinks::told, crate::specs::Sinks::HasFailed))]
+    fn write_some(&mut self, bytes: &[u8]) -> Result<usize, SinkFailed> {
+        if bytes.is_empty() {
+            return Ok(0);
+        }
+        let answer = match self.writer.write(bytes) {
+            Ok(0) => Err(ErrorKind::WriteZero.into()),
+            answer => answer,
+        };
+        counted(answer, &mut self.failures)
+    }
+}
+
+/// What a writer's answer is to a sink. An error is counted.
+fn counted<T>(answer: io::Result<T>, failures: &mut u128) -> Result<T, SinkFailed>
+    ensures ok { IfOk answer (λ value. (result ≡ Ok value) × (failures.new ≡ failures.old)) }
+    ensures err { IsErr answer → IsErr result × (failures.new ≡ min (failures.old + 1) (2 ^ 128 - 1)) }
+{
+    match answer {
+        Ok(value) => Ok(value),
+        Err(_) => {
+            *failures = failures.saturating_add(1);
+            Err(SinkFailed)
+        }
+    }
+}

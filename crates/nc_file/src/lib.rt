@@ -1,0 +1,25 @@
+//! The devices of netCDF files: what bytes are read from, and what they are written to.
+//!
+//! A [`Source`] hands over bytes from any place, and a [`Sink`] takes bytes one behind another. Each
+//! counts its failures and says nothing of their cause. [`MemSource`] and [`MemSink`] stand in memory,
+//! [`FileSource`] is a file of the system, and [`IoSink`] goes over any writer of the standard library.
+//! [`put`] writes all of the bytes that it is given.
+#![tactic(auto)]
+
+mod fault;
+mod file;
+mod head_fault;
+mod memory;
+mod sink;
+mod source;
+mod window;
+
+pub use fault::{OpenFailed, SinkFailed, SourceFailed, WriteFailed};
+pub use file::{FileSource, IoSink};
+pub use head_fault::HeadFault;
+pub use memory::{MemSink, MemSource};
+pub use sink::{Sink, put};
+pub use source::Source;
+
+#[cfg(test)]
+mod tests;

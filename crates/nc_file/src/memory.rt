@@ -1,0 +1,105 @@
+//! Devices in memory.
+
+ghost use Rattle.std.specs.Prelude.{◌≡◌, [], Some, true, length};
+ghost use Rattle.nc_base.specs.Bytes.{AreBytes};
+
+use crate::{Sink, SinkFailed, Source, SourceFailed};
+use std::alloc::Global;
+
+/// A source of the bytes of a slice, all of which it tells.
+///
+/// It fails only where a count would reach 2^128.
+#[derive(Drop)]
+pub struct MemSource<'a> {
+    bytes: &'a [u8],
+    failures: u128,
+    handed: u128,
+}
+
+impl<'a> MemSource<'a> {
+    /// A source of these bytes, which has handed over none of them.
+    pub fn new(bytes: &'a [u8]) -> MemSource<'a>
+        ensures { ⟦<MemSource<'static> as Source>⟧.seen result ≡ record { bytes = bytes.now; failures = 0; handed = 0 } }
+    {
+        MemSource {
+            bytes,
+            failures: 0,
+            handed: 0,
+        }
+    }
+}
+
+impl Source for MemSource<'_> {
+    ghost told = { true };
+
+    ghost seen = { λ s. record { bytes = s.bytes.now; failures = s.failures; handed = s.handed } };
+
+    fn len(&self) -> u64 {
+        length_of(self.bytes)
+    }
+
+    #[tactic(auto, unfolding(crate::specs::Sources::HasFailed))]
+    fn read_at(&mut self, at: u64, into: &mut [u8]) -> Result<usize, SourceFailed> {
+        let len = self.bytes.len();
+        let from = if at < len as u64 { at as usize } else { len };
+        let n = into.len().min(len - from);
+        if u128::MAX - self.handed < n as u128 {
+            return Err(SourceFailed);
+        }
+        into[..n].copy_from_slice(&self.bytes[from..from + n]);
+        self.handed += n as u128;
+        Ok(n)
+    }
+}
+
+/// The number of the bytes, each of which is below 256.
+fn length_of(bytes: &[u8]) -> u64
+    ensures length { result ≡ length bytes.now }
+    ensures bytes { AreBytes bytes.now }
+{
+    bytes.len() as u64
+}
+
+/// A sink that keeps all of its bytes in memory, and tells them.
+///
+/// It fails where no memory is left to keep more.
+#[derive(Drop)]
+pub struct MemSink {
+    bytes: Vec<u8>,
+    failures: u128,
+}
+
+impl MemSink {
+    /// An empty sink, which takes its memory from `alloc` as it grows.
+    pub fn new(alloc: Global) -> MemSink
+        ensures { ⟦<MemSink as Sink>⟧.seen result ≡ record { taken = Some []; failures = 0 } }
+    {
+        MemSink {
+            bytes: Vec::new(alloc),
+            failures: 0,
+        }
+    }
+
+    /// All the bytes that it took.
+    pub fn as_slice(&self) -> &[u8]
+        ensures { (⟦<MemSink as Sink>⟧.seen self.now).taken ≡ Some result.now }
+    {
+        self.bytes.as_slice()
+    }
+}
+
+impl Sink for MemSink {
+    ghost seen = { λ s. record { taken = Some s.bytes.items; failures = s.failures } };
+
+    #[tactic(auto, using(crate::proofs::Writes::devices), unfolding(crate::specs::Sinks::append, crate::specs::Sinks::count, crate::specs::Sinks::IsCut, crate::specs::Sinks::told, crate::specs::Sinks::HasFailed))]
+    fn write_some(&mut self, bytes: &[u8]) -> Result<usize, SinkFailed> {
+        if bytes.is_empty() {
+            return Ok(0);
+        }
+        if self.bytes.extend_from_slice(bytes).is_err() {
+            self.failures = self.failures.saturating_add(1);
+            return Err(SinkFailed);
+        }
+        Ok(bytes.len())
+    }
+}

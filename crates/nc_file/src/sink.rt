@@ -1,0 +1,40 @@
+//! Sinks of bytes, and the call that writes all of a text to one.
+
+ghost use Rattle.nc_file.specs.Sinks.{SinkView, Wrote, WroteSome};
+
+use crate::{SinkFailed, WriteFailed};
+
+/// A device that takes bytes, one behind another.
+///
+/// Contracts see a sink as the bytes that it took, where it tells them, and the number of its failures,
+/// which stops below 2^128.
+pub trait Sink {
+    // The sink as contracts see it.
+    ghost seen: { Self → SinkView };
+
+    /// Takes bytes from the front of `bytes`, and gives their number.
+    ///
+    /// It is at least 1, unless `bytes` is empty.
+    ///
+    /// # Errors
+    ///
+    /// The sink failed, and took none of the bytes. Empty `bytes` never fail.
+    fn write_some(&mut self, bytes: &[u8]) -> Result<usize, SinkFailed>
+        ensures { WroteSome (seen self.old) (seen self.new) bytes.now result };
+}
+
+/// Writes all of the bytes to the sink, by as many calls as it takes.
+///
+/// # Errors
+///
+/// The sink failed. It took some front of the bytes, and is not tried again.
+#[tactic(auto, using(crate::proofs::Writes::writes))]
+pub fn put<W: Sink>(sink: &mut W, bytes: &[u8]) -> Result<(), WriteFailed>
+    ensures { Wrote (W.seen sink.old) (W.seen sink.new) bytes.now result }
+{
+    let mut done = 0;
+    while done < bytes.len() {
+        done += sink.write_some(&bytes[done..])?;
+    }
+    Ok(())
+}

@@ -1,0 +1,169 @@
+ghost use Rattle.std.specs.Prelude.{None};
+
+use super::*;
+use std::io::{ErrorKind, Write};
+use std::test::*;
+use std::{fs, io};
+
+/// A writer that takes two bytes a call.
+#[derive(Drop)]
+struct TwoByTwo {
+    bytes: [u8; 8],
+    len: usize,
+    calls: u32,
+}
+
+impl Write for TwoByTwo {
+    fn write(&mut self, buf: &[u8]) -> io::Result<usize> {
+        let n = buf.len().min(2).min(8 - self.len.min(8));
+        for (i, &byte) in buf[..n].iter().enumerate() {
+            if let Some(place) = self.bytes.get_mut(self.len.saturating_add(i)) {
+                *place = byte;
+            }
+        }
+        self.len = self.len.saturating_add(n);
+        self.calls = self.calls.saturating_add(1);
+        Ok(n)
+    }
+
+    fn flush(&mut self) -> io::Result<()> {
+        Ok(())
+    }
+}
+
+/// A writer that counts the calls and refuses each.
+#[derive(Drop)]
+struct Refusing {
+    calls: u32,
+}
+
+impl Write for Refusing {
+    fn write(&mut self, _buf: &[u8]) -> io::Result<usize> {
+        self.calls = self.calls.saturating_add(1);
+        Err(ErrorKind::StorageFull.into())
+    }
+
+    fn flush(&mut self) -> io::Result<()> {
+        Err(ErrorKind::StorageFull.into())
+    }
+}
+
+/// A sink that counts its failures and does nothing else.
+#[derive(Drop)]
+struct Failing {
+    failures: u128,
+}
+
+impl Sink for Failing {
+    ghost seen = { λ s. record { taken = None; failures = s.failures } };
+
+    #[tactic(auto, unfolding(crate::specs::Sinks::told, crate::specs::Sinks::HasFailed))]
+    fn write_some(&mut self, bytes: &[u8]) -> Result<usize, SinkFailed> {
+        if bytes.is_empty() {
+            return Ok(0);
+        }
+        self.failures = self.failures.saturating_add(1);
+        Err(SinkFailed)
+    }
+}
+
+#[test]
+fn memory_hands_over_its_bytes(rt: HostRuntime) {
+    let mut source = MemSource::new(b"abcdefg");
+    assert_eq!(rt; source.len(), 7);
+    let rows: [(u64, &[u8]); 5] = [
+        (0, b"abcd"),
+        (2, b"cdef"),
+        (5, b"fg"),
+        (7, b""),
+        (u64::MAX, b""),
+    ];
+    for (at, want) in rows {
+        let mut into = [0u8; 4];
+        assert_eq!(rt; source.read_at(at, &mut into), Ok(want.len()), "at {at}");
+        assert!(rt; into.starts_with(want), "at {at}");
+    }
+    assert_eq!(rt; source.read_at(0, &mut []), Ok(0));
+}
+
+#[test]
+fn memory_takes_bytes(rt: HostRuntime) {
+    let mut sink = MemSink::new(rt.alloc());
+    assert_eq!(rt; sink.write_some(b"ab"), Ok(2));
+    assert_eq!(rt; sink.write_some(b""), Ok(0));
+    assert_eq!(rt; put(&mut sink, b"cdefg"), Ok(()));
+    assert_eq!(rt; sink.as_slice(), b"abcdefg".as_slice());
+}
+
+#[test]
+fn writer_takes_bytes(rt: HostRuntime) {
+    let mut sink = IoSink::new(Vec::new(rt.alloc()));
+    assert_eq!(rt; put(&mut sink, b"abcde"), Ok(()));
+    assert_eq!(rt; sink.flush(), Ok(()));
+    assert_eq!(rt; sink.into_inner().as_slice(), b"abcde".as_slice());
+}
+
+#[test]
+fn slow_writer_takes_all(rt: HostRuntime) {
+    let mut sink = IoSink::new(TwoByTwo {
+        bytes: [0; 8],
+        len: 0,
+        calls: 0,
+    });
+    assert_eq!(rt; put(&mut sink, b"abcde"), Ok(()));
+    let writer = sink.into_inner();
+    assert_eq!(rt; writer.bytes, *b"abcde\0\0\0");
+    assert_eq!(rt; writer.calls, 3);
+}
+
+#[test]
+fn full_writer_fails(rt: HostRuntime) {
+    let mut sink = IoSink::new(TwoByTwo {
+        bytes: [0; 8],
+        len: 0,
+        calls: 0,
+    });
+    assert_eq!(rt; put(&mut sink, b"abcdefghij"), Err(WriteFailed));
+    let writer = sink.into_inner();
+    assert_eq!(rt; writer.bytes, *b"abcdefgh");
+    assert_eq!(rt; writer.calls, 5);
+}
+
+#[test]
+fn failed_write_is_not_tried_again(rt: HostRuntime) {
+    let mut sink = IoSink::new(Refusing { calls: 0 });
+    assert_eq!(rt; put(&mut sink, b"abcde"), Err(WriteFailed));
+    assert_eq!(rt; sink.flush(), Err(SinkFailed));
+    assert_eq!(rt; sink.into_inner().calls, 1);
+}
+
+#[test]
+fn failed_write_is_counted(rt: HostRuntime) {
+    let mut sink = Failing { failures: 0 };
+    assert_eq!(rt; put(&mut sink, b"abcde"), Err(WriteFailed));
+    assert_eq!(rt; sink.failures, 1);
+    assert_eq!(rt; put(&mut sink, b""), Ok(()));
+}
+
+#[test]
+fn file_hands_over_its_bytes(rt: HostRuntime) -> Result<(), Fail> {
+    let path = "nc_file_source.bin";
+    fs::write(&rt, path, b"abcdefg".as_slice())?;
+    let mut source = FileSource::open(&rt, path).ok().ok_or("no source")?;
+    fs::remove_file(&rt, path)?;
+    let mut into = [0u8; 4];
+    assert_eq!(rt; source.len(), 7);
+    assert_eq!(rt; source.read_at(2, &mut into), Ok(4));
+    assert_eq!(rt; into, *b"cdef");
+    assert_eq!(rt; source.read_at(5, &mut into), Ok(2));
+    assert_eq!(rt; &into[..2], b"fg".as_slice());
+    assert_eq!(rt; source.read_at(7, &mut into), Ok(0));
+    assert_eq!(rt; source.read_at(u64::MAX, &mut into), Err(SourceFailed));
+    Ok(())
+}
+
+#[test]
+fn only_a_file_opens(rt: HostRuntime) {
+    assert!(rt; matches!(FileSource::open(&rt, "no_such_file.nc"), Err(OpenFailed)));
+    assert!(rt; matches!(FileSource::open(&rt, "."), Err(OpenFailed)));
+}

@@ -1,0 +1,245 @@
+//! A window on a source: bytes and numbers, one behind the other, through a lent buffer.
+
+ghost use Rattle.std.specs.Prelude.{◌≡◌, ◌<◌, []};
+ghost use Rattle.std.specs.Int.{w32, w64, from_be_bytes};
+ghost use Rattle.nc_base.specs.Bytes.{padding_len};
+ghost use Rattle.nc_file.specs.Reading.{Caused, byte_at, u32_at, u64_at, number_at, count_at, bytes_at, skip_at, padded_at};
+ghost use Rattle.nc_file.specs.Window.{state, left, Opened, Kept, Refilled, Did, Took, Filled, Ready};
+
+use crate::head_fault::HeadFault;
+use crate::source::Source;
+use byteorder::{BigEndian, ByteOrder};
+use nc_base::{FormatFault, Sequence, Version};
+use std::alloc::Global;
+
+/// A lent buffer with the bytes of a source from `base` on, of which `pos` have been used. It reads from the source only
+/// when all of them have been, from the next byte on.
+#[derive(Drop)]
+pub(crate) struct Window<'a, S> {
+    pub(crate) source: &'a mut S,
+    pub(crate) buf: &'a mut [u8],
+    pub(crate) base: u64,
+    pub(crate) filled: usize,
+    pub(crate) pos: usize,
+}
+
+impl<'a, S: Source> Window<'a, S> {
+    /// A window on the front of a source, which has read nothing yet.
+    pub(crate) fn new(source: &'a mut S, buf: &'a mut [u8]) -> Window<'a, S> {
+        Window {
+            source,
+            buf,
+            base: 0,
+            filled: 0,
+            pos: 0,
+        }
+    }
+}
+
+impl<S: Source> Window<'_, S> {
+    /// Fills an empty window, and says whether a byte has come.
+    fn refill(&mut self) -> Result<bool, HeadFault>
+        requires open { Opened S.told S.seen self.old }
+        requires empty { self.old.pos ≡ self.old.filled }
+        ensures same_source { self.new.source.ghost_name ≡ self.old.source.ghost_name }
+        ensures kept { Kept S.told (state S.seen self.old) (state S.seen self.new) }
+        ensures cause { Caused (S.seen self.old.source.now).failures (S.seen self.new.source.now) result }
+        ensures refilled { Refilled S.told (state S.seen self.old) (state S.seen self.new) result }
+    {
+        let len = self.source.len();
+        let at = self.base + self.filled as u64;
+        if len <= at {
+            return Ok(false);
+        }
+        let room = if len - at < self.buf.len() as u64 {
+            (len - at) as usize
+        } else {
+            self.buf.len()
+        };
+        self.base = at;
+        self.filled = 0;
+        self.pos = 0;
+        let n = match self.source.read_at(at, &mut self.buf[..room]) {
+            Ok(n) => n,
+            Err(_) => return Err(HeadFault::ReadFailed),
+        };
+        self.filled = n;
+        Ok(0 < n)
+    }
+
+    /// Makes sure that there is a next byte.
+    fn fill(&mut self) -> Result<(), HeadFault>
+        requires { Opened S.told S.seen self.old }
+        ensures same_source { self.new.source.ghost_name ≡ self.old.source.ghost_name }
+        ensures kept { Kept S.told (state S.seen self.old) (state S.seen self.new) }
+        ensures cause { Caused (S.seen self.old.source.now).failures (S.seen self.new.source.now) result }
+        ensures filled { Filled S.told (state S.seen self.old) (state S.seen self.new) result }
+    {
+        if self.pos == self.filled && !self.refill()? {
+            return Err(HeadFault::Format(FormatFault::HeaderTruncated));
+        }
+        Ok(())
+    }
+
+    /// One byte.
+    #[tactic(auto, using(crate::proofs::Parts::byte_shorter), unfolding(crate::specs::Reading::byte_or, crate::specs::Reading::left_over))]
+    pub(crate) fn byte(&mut self) -> Result<u8, HeadFault>
+        requires { Opened S.told S.seen self.old }
+        ensures { Did S.told S.seen self.old self.new byte_at result }
+    {
+        if self.pos == self.filled && !self.refill()? {
+            return Err(HeadFault::Format(FormatFault::HeaderTruncated));
+        }
+        let b = self.buf[self.pos];
+        self.pos += 1;
+        Ok(b)
+    }
+
+    #[tactic(auto, using(crate::proofs::Parts::parts), unfolding(crate::specs::Reading::u32_at))]
+    pub(crate) fn read_u32(&mut self) -> Result<u32, HeadFault>
+        requires { Opened S.told S.seen self.old }
+        ensures { Did S.told S.seen self.old self.new u32_at result }
+    {
+        let a = self.byte()?;
+        let b = self.byte()?;
+        let c = self.byte()?;
+        let d = self.byte()?;
+        Ok(u32_of([a, b, c, d]))
+    }
+
+    #[tactic(auto, using(crate::proofs::Parts::parts), unfolding(crate::specs::Reading::u64_at))]
+    fn read_u64(&mut self) -> Result<u64, HeadFault>
+        requires { Opened S.told S.seen self.old }
+        ensures { Did S.told S.seen self.old self.new u64_at result }
+    {
+        let a = self.byte()?;
+        let b = self.byte()?;
+        let c = self.byte()?;
+        let d = self.byte()?;
+        let e = self.byte()?;
+        let f = self.byte()?;
+        let g = self.byte()?;
+        let h = self.byte()?;
+        Ok(u64_of([a, b, c, d, e, f, g, h]))
+    }
+
+    /// A number of the width that counts have in the version.
+    pub(crate) fn number(&mut self, version: Version) -> Result<u64, HeadFault>
+        requires { Opened S.told S.seen self.old }
+        ensures { Did S.told S.seen self.old self.new (number_at version) result }
+    {
+        match version {
+            Version::Cdf1 | Version::Cdf2 => self.narrow_number(),
+            Version::Cdf5 => self.read_u64(),
+        }
+    }
+
+    fn narrow_number(&mut self) -> Result<u64, HeadFault>
+        requires { Opened S.told S.seen self.old }
+        ensures { Did S.told S.seen self.old self.new u32_at result }
+    {
+        match self.read_u32() {
+            Ok(n) => Ok(n as u64),
+            Err(e) => Err(e),
+        }
+    }
+
+    /// A count or a length.
+    #[tactic(auto, using(crate::proofs::Parts::parts), unfolding(crate::specs::Reading::count_at))]
+    pub(crate) fn count(&mut self, version: Version) -> Result<u64, HeadFault>
+        requires { Opened S.told S.seen self.old }
+        ensures { Did S.told S.seen self.old self.new (count_at version) result }
+    {
+        let n = self.number(version)?;
+        if version.count_limit() <= n {
+            return Err(HeadFault::Format(FormatFault::BadCount));
+        }
+        Ok(n)
+    }
+
+    /// The next bytes, as many as the window has and no more than `most`.
+    fn ready(&self, most: u128) -> &[u8]
+        requires open { Opened S.told S.seen self.now }
+        requires some { self.now.pos < self.now.filled }
+        requires most { 0 < most }
+        ensures { Ready S.told (state S.seen self.now) most result.now }
+    {
+        let ready = self.filled - self.pos;
+        let k = if (ready as u128) < most { ready } else { most as usize };
+        &self.buf[self.pos..self.pos + k]
+    }
+
+    /// Appends some of the next bytes, at least one and no more than `most`, and gives their number.
+    #[tactic(auto, using(crate::proofs::Chunks::drop_more))]
+    fn some(&mut self, out: &mut Sequence<u8>, most: u128) -> Result<usize, HeadFault>
+        requires open { Opened S.told S.seen self.old }
+        requires most { 0 < most }
+        ensures same_source { self.new.source.ghost_name ≡ self.old.source.ghost_name }
+        ensures kept { Kept S.told (state S.seen self.old) (state S.seen self.new) }
+        ensures cause { Caused (S.seen self.old.source.now).failures (S.seen self.new.source.now) result }
+        ensures took { Took S.told (left (state S.seen self.old)) (left (state S.seen self.new)) out.old out.new most result }
+    {
+        self.fill()?;
+        let piece = self.ready(most);
+        let k = piece.len();
+        out.extend_from_slice(piece)?;
+        self.pos += k;
+        Ok(k)
+    }
+
+    /// So many bytes.
+    #[tactic(auto, using(crate::proofs::Chunks::chunks))]
+    pub(crate) fn bytes(&mut self, alloc: Global, n: u128) -> Result<Sequence<u8>, HeadFault>
+        requires { Opened S.told S.seen self.old }
+        ensures { Did S.told S.seen self.old self.new (bytes_at n []) result }
+    {
+        let mut bytes = Sequence::new(alloc);
+        let mut missing = n;
+        while missing > 0 {
+            missing -= self.some(&mut bytes, missing)? as u128;
+        }
+        Ok(bytes)
+    }
+
+    /// Passes over so many bytes.
+    #[tactic(auto, using(crate::proofs::Loops::skip))]
+    pub(crate) fn skip(&mut self, n: u64) -> Result<(), HeadFault>
+        requires { Opened S.told S.seen self.old }
+        ensures { Did S.told S.seen self.old self.new (skip_at n) result }
+    {
+        for _ in 0..n {
+            self.byte()?;
+        }
+        Ok(())
+    }
+
+    /// So many bytes, and past their padding.
+    #[tactic(auto, using(crate::proofs::Parts::parts), unfolding(crate::specs::Reading::padded_at))]
+    pub(crate) fn padded(&mut self, alloc: Global, n: u128) -> Result<Sequence<u8>, HeadFault>
+        requires { Opened S.told S.seen self.old }
+        ensures { Did S.told S.seen self.old self.new (padded_at n) result }
+    {
+        let content = self.bytes(alloc, n)?;
+        self.skip(padding_len(n))?;
+        Ok(content)
+    }
+}
+
+/// How many bytes fill n bytes up to the next multiple of four.
+pub(crate) fn padding_len(n: u128) -> u64
+    ensures { result ≡ padding_len n }
+{
+    ((4 - n % 4) % 4) as u64
+}
+
+fn u32_of(bytes: [u8; 4]) -> u32
+    ensures { result ≡ from_be_bytes w32 bytes }
+{
+    BigEndian::read_u32(&bytes)
+}
+
+fn u64_of(bytes: [u8; 8]) -> u64
+    ensures { result ≡ from_be_bytes w64 bytes }
+{
+    BigEndian::read_u64(&bytes)
+}
