@@ -1,6 +1,6 @@
 -- How names and strings are written in CDL.
 use Rattle.std.specs.Prelude.{ℕ, ◌+◌, ◌/◌, ◌%◌, Bool, true, false, nat_lt, ◌==◌, ◌&&◌, ◌||◌, if◌then◌else◌, List, [], ◌∷◌, ◌++◌, codes}
-use Rattle.std.specs.Char.{is_ascii_alphanumeric, is_ascii_digit}
+use Rattle.std.specs.Char.{is_ascii_alphanumeric, is_ascii_control, is_ascii_digit}
 use Rattle.std.specs.List.{flat_map, list_any}
 use Rattle.std.specs.Str.{bytes_eq}
 use Rattle.nc_base.specs.Names.{is_beyond_ascii}
@@ -13,34 +13,34 @@ is_name_mark b = (b == 46) || (b == 64) || (b == 43) || (b == 45)
 abbrev pub is_plain : ℕ → Bool
 is_plain b = is_ascii_alphanumeric b || (b == 95) || is_name_mark b || is_beyond_ascii b
 
--- the words of CDL that name nothing
+-- the reserved words of CDL
 abbrev pub reserved_words : List (List ℕ)
 reserved_words =
     codes "netcdf" ∷ codes "dimensions" ∷ codes "variables" ∷ codes "data" ∷ codes "byte" ∷ codes "char" ∷ codes "short"
     ∷ codes "int" ∷ codes "long" ∷ codes "float" ∷ codes "real" ∷ codes "double" ∷ codes "ubyte" ∷ codes "ushort"
     ∷ codes "uint" ∷ codes "int64" ∷ codes "uint64" ∷ codes "string" ∷ codes "unlimited" ∷ codes "UNLIMITED" ∷ []
 
+-- the name is a reserved word
 unfoldable pub is_reserved : List ℕ → Bool
 is_reserved name = list_any (bytes_eq name) reserved_words
 
-abbrev pub begins_as_number : List ℕ → Bool
-begins_as_number [] = false
-begins_as_number (b ∷ bs) = is_ascii_digit b || is_name_mark b
+-- it could be read as a number
+abbrev pub begins_with_digit_or_mark : List ℕ → Bool
+begins_with_digit_or_mark [] = false
+begins_with_digit_or_mark (b ∷ bs) = is_ascii_digit b || is_name_mark b
 
+-- one byte of a name
 abbrev pub escaped_in_name : ℕ → List ℕ
 escaped_in_name b = if is_plain b then b ∷ [] else 92 ∷ b ∷ []
 
 -- A name: a backslash before each byte that isn't plain, and before the first one of a name that could be read as a
 -- number or a reserved word.
 unfoldable pub escaped_name : List ℕ → List ℕ
-escaped_name name = (if begins_as_number name || is_reserved name then 92 ∷ [] else []) ++ flat_map escaped_in_name name
+escaped_name name = (if begins_with_digit_or_mark name || is_reserved name then 92 ∷ [] else []) ++ flat_map escaped_in_name name
 
 -- a backslash and three octal digits
 abbrev pub octal_escape : ℕ → List ℕ
 octal_escape b = 92 ∷ (48 + b / 64) ∷ (48 + b / 8 % 8) ∷ (48 + b % 8) ∷ []
-
-abbrev pub is_control : ℕ → Bool
-is_control b = nat_lt b 32 || (b == 127)
 
 -- one byte of a string: \b \t \n \v \f \r \" \' \\, the other control characters in octal, and all others as they are
 abbrev pub escaped_in_string : ℕ → List ℕ
@@ -52,7 +52,7 @@ escaped_in_string b =
     else (if b == 12 then codes "\\f"
     else (if b == 13 then codes "\\r"
     else (if (b == 34) || (b == 39) || (b == 92) then 92 ∷ b ∷ []
-    else (if is_control b then octal_escape b else b ∷ [])))))))
+    else (if is_ascii_control b then octal_escape b else b ∷ [])))))))
 
 -- the bytes of a string, between its quotes
 unfoldable pub escaped_text : List ℕ → List ℕ

@@ -15,10 +15,14 @@ is_fill_att att = bytes_eq att.name (codes "_FillValue")
 abbrev pub is_one_of_type : NcType → Att → Bool
 is_one_of_type ty att = (code_of att.ty == code_of ty) && (length att.vals == size_of ty)
 
--- the fill value that the first attribute named `_FillValue` gives a variable of this type
-abbrev pub own_fill : NcType → Option Att → Option ℤ
-own_fill ty None = None
-own_fill ty (Some att) = if is_one_of_type ty att then Some (number_of ty att.vals) else None
+-- what an attribute gives a variable of this type
+abbrev pub fill_of_att : NcType → Option Att → Option ℤ
+fill_of_att ty None = None
+fill_of_att ty (Some att) = if is_one_of_type ty att then Some (number_of ty att.vals) else None
+
+-- a variable's own fill value: that of its first attribute named `_FillValue`
+abbrev pub own_fill : Var → Option ℤ
+own_fill var = fill_of_att var.ty (find is_fill_att var.atts)
 
 abbrev pub fill_or_default : NcType → Option ℤ → ℤ
 fill_or_default ty None = default_fill_of ty
@@ -26,16 +30,16 @@ fill_or_default ty (Some fill) = fill
 
 -- a variable's fill value: its own, or else the default of its type
 unfoldable pub fill_value : Var → ℤ
-fill_value x = fill_or_default x.ty (own_fill x.ty (find is_fill_att x.atts))
+fill_value var = fill_or_default var.ty (own_fill var)
 
--- characters never print as blanks, and values of one byte only where the variable has a fill value of its own
+-- characters never print as blanks, and numbers of one byte only where the variable has a fill value of its own
 abbrev pub has_blanks : NcType → Bool → Bool
-has_blanks Char own = false
-has_blanks Byte own = own
-has_blanks Ubyte own = own
-has_blanks ty own = true
+has_blanks Char has_own = false
+has_blanks Byte has_own = has_own
+has_blanks Ubyte has_own = has_own
+has_blanks ty has_own = true
 
 -- the value prints as `_`
-pub record PrintsBlank (x : Var) (value : ℤ) : Type 0 where
-  pub is_fill : value ≡ fill_value x
-  pub may : has_blanks x.ty (is_some (own_fill x.ty (find is_fill_att x.atts))) ≡ true
+pub record PrintsBlank (var : Var) (value : ℤ) : Type 0 where
+  pub is_fill : value ≡ fill_value var
+  pub blanks : has_blanks var.ty (is_some (own_fill var)) ≡ true

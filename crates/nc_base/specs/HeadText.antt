@@ -11,6 +11,7 @@ use Rattle.nc_base.specs.declared.nc_type.NcType.{NcType}
 use Rattle.nc_base.specs.declared.nc_type.NcType.TheVariants.{Byte, Char, Short, Int, Ubyte, Ushort, Uint, Int64, Uint64}
 use Rattle.nc_base.specs.Bytes.{text}
 use Rattle.nc_base.specs.Numbers.{numbers}
+use Rattle.nc_base.specs.Types.{type_word, number_suffix}
 use Rattle.nc_base.specs.Escapes.{escaped_name, escaped_in_string}
 
 -- ---- fixed words
@@ -37,37 +38,13 @@ netcdf_word = codes "netcdf "
 unfoldable pub string_break : List ℕ
 string_break = codes "\",\n\t\t\t\""
 
--- ---- attributes
+-- ---- values of attributes
 
 -- the pieces with `, ` between each two
 abbrev pub joined : List (List ℕ) → List ℕ
 joined [] = []
 joined (x ∷ []) = x
 joined (x ∷ y ∷ xs) = x ++ (codes ", " ++ joined (y ∷ xs))
-
--- the word of a type in CDL
-abbrev pub type_word : NcType → List ℕ
-type_word Byte = codes "byte"
-type_word Char = codes "char"
-type_word Short = codes "short"
-type_word Int = codes "int"
-type_word Ubyte = codes "ubyte"
-type_word Ushort = codes "ushort"
-type_word Uint = codes "uint"
-type_word Int64 = codes "int64"
-type_word Uint64 = codes "uint64"
-
--- the suffix of a number of this type in an attribute
-abbrev pub number_suffix : NcType → List ℕ
-number_suffix Byte = codes "b"
-number_suffix Char = []
-number_suffix Short = codes "s"
-number_suffix Int = []
-number_suffix Ubyte = codes "UB"
-number_suffix Ushort = codes "US"
-number_suffix Uint = codes "U"
-number_suffix Int64 = codes "LL"
-number_suffix Uint64 = codes "ULL"
 
 -- the numbers of an attribute
 unfoldable pub number_values : NcType → List ℕ → List ℕ
@@ -77,7 +54,7 @@ number_values ty vals = joined (map (λ (n : ℤ). signed_decimal n ++ number_su
 abbrev pub without_trailing_nuls : List ℕ → List ℕ
 without_trailing_nuls bytes = take (length bytes - suffix_len (λ b. b == 0) bytes) bytes
 
--- the bytes of an attribute's strings: broken behind each line feed but the last byte
+-- the bytes of an attribute's strings: broken behind each line feed that isn't the last byte
 abbrev pub broken_text : List ℕ → List ℕ
 broken_text [] = []
 broken_text (b ∷ []) = escaped_in_string b
@@ -91,12 +68,14 @@ abbrev pub att_values : NcType → List ℕ → List ℕ
 att_values Char vals = char_values vals
 att_values ty vals = number_values ty vals
 
--- an attribute of the variable with this name; of the whole dataset where the name is empty
+-- ---- lines
+
+-- an attribute of the variable with this name, which is escaped already; of the whole dataset where there is none
 unfoldable pub att_line : List ℕ → Att → List ℕ
-att_line owner att = text (codes "\t\t" ∷ owner ∷ codes ":" ∷ escaped_name att.name ∷ codes " = " ∷ att_values att.ty att.vals ∷ codes " ;\n" ∷ [])
+att_line escaped_owner att = text (codes "\t\t" ∷ escaped_owner ∷ codes ":" ∷ escaped_name att.name ∷ codes " = " ∷ att_values att.ty att.vals ∷ codes " ;\n" ∷ [])
 
 unfoldable pub att_lines : List ℕ → List Att → List ℕ
-att_lines owner atts = text (map (att_line owner) atts)
+att_lines escaped_owner atts = text (map (att_line escaped_owner) atts)
 
 -- the length of a dimension: a number, or for the record dimension the number of records
 unfoldable pub dim_extent : ℕ → ℕ → List ℕ
@@ -114,11 +93,11 @@ dim_lines records dims = text (map (dim_line records) dims)
 unfoldable pub dims_text : ℕ → List Dim → List ℕ
 dims_text records dims = if length dims == 0 then [] else text (dimensions_word ∷ dim_lines records dims ∷ [])
 
--- the name of the dimension with this id
 abbrev pub name_or_none : Option Dim → List ℕ
 name_or_none None = []
 name_or_none (Some dim) = escaped_name dim.name
 
+-- the name of the dimension with this id
 abbrev pub dim_name : List Dim → ℕ → List ℕ
 dim_name dims id = name_or_none (slice_get dims id)
 
@@ -128,8 +107,9 @@ shape_text dims ids = if length ids == 0 then [] else text (codes "(" ∷ joined
 
 -- a variable's declaration, and its attributes
 unfoldable pub var_lines : List Dim → Var → List ℕ
-var_lines dims x =
-    text (codes "\t" ∷ type_word x.ty ∷ codes " " ∷ escaped_name x.name ∷ shape_text dims x.dimids ∷ codes " ;\n" ∷ att_lines (escaped_name x.name) x.atts ∷ [])
+var_lines dims var =
+    text (codes "\t" ∷ type_word var.ty ∷ codes " " ∷ escaped_name var.name ∷ shape_text dims var.dimids ∷ codes " ;\n"
+    ∷ att_lines (escaped_name var.name) var.atts ∷ [])
 
 -- the variables, if there are any
 unfoldable pub vars_text : List Dim → List Var → List ℕ

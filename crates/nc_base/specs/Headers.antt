@@ -1,5 +1,6 @@
 -- Sound headers, bare headers and good datasets.
 use Rattle.std.specs.Prelude.{ℕ, ◌≡◌, ◌+◌, ◌*◌, ◌%◌, ◌<◌, ◌≤◌, Bool, true, false, IsTrue, ◌==◌, ◌||◌, if◌then◌else◌, List, [], ◌∷◌, ◌++◌, length, map, filter, sum, All, EachIndex, slice_index}
+use Rattle.std.specs.List.{list_any}
 use Rattle.nc_base.specs.declared.header.Att.{Att}
 use Rattle.nc_base.specs.declared.header.Dim.{Dim}
 use Rattle.nc_base.specs.declared.header.Var.{Var}
@@ -12,14 +13,13 @@ use Rattle.nc_base.specs.Bytes.{AreBytes}
 use Rattle.nc_base.specs.Types.{size_of}
 use Rattle.nc_base.specs.Versions.{count_limit, has_type}
 use Rattle.nc_base.specs.Names.{IsName}
-use Rattle.nc_base.specs.Sizes.{is_record_dim, is_record_var, slab_size, slab_count, padded_size, record_vars, record_size, record_count, slab_limit, record_limit}
+use Rattle.nc_base.specs.Sizes.{is_record_dim, is_record_var, slab_size, slab_count, padded_size, record_vars, record_size, record_count, slab_limit, array_limit, record_limit}
 
 -- one of the dimensions is the record dimension
 abbrev pub has_record_dim : List Dim → Bool
-has_record_dim [] = false
-has_record_dim (d ∷ ds) = (d.len == 0) || has_record_dim ds
+has_record_dim dims = list_any (λ (dim : Dim). dim.len == 0) dims
 
--- a dimension id: that of a dimension, and that of the record dimension in the first place alone
+-- a dimension id in a shape, behind those before it: it is that of a dimension, and that of the record dimension stands first
 pub record IsDimid (dims : List Dim) (before : List ℕ) (id : ℕ) : Type 0 where
   pub known : id < length dims
   pub record_first : IsTrue (is_record_dim dims id) → before ≡ []
@@ -28,7 +28,7 @@ abbrev pub AreDimids : List Dim → List ℕ → List ℕ → Type 0
 AreDimids dims before [] = Unit {0}
 AreDimids dims before (id ∷ ids) = IsDimid dims before id × AreDimids dims (before ++ id ∷ []) ids
 
--- an attribute of whole values that its version has and can count
+-- an attribute: its type is one of the version's, it has whole values, and the version can count them
 pub record IsSoundAtt (v : Version) (att : Att) : Type 0 where
   pub name_len : length att.name < count_limit v
   pub ty : IsTrue (has_type v att.ty)
@@ -59,48 +59,50 @@ pub record IsSound (h : Header) : Type 0 where
   pub numrecs : IsSoundNumRecs h.version h.numrecs
   pub dim_count : length h.dims < count_limit h.version
   pub dims : All (IsSoundDim h.version) h.dims
-  pub one_record_dim : length (filter (λ (d : Dim). d.len == 0) h.dims) ≤ 1
+  pub one_record_dim : length (filter (λ (dim : Dim). dim.len == 0) h.dims) ≤ 1
   pub gatt_count : length h.gatts < count_limit h.version
   pub gatts : All (IsSoundAtt h.version) h.gatts
   pub var_count : length h.vars < count_limit h.version
   pub vars : All (IsSoundVar h.version h.dims) h.vars
-  pub record_size : record_size h ≤ record_limit
+  pub small_records : record_size h ≤ record_limit
 
 -- each name is valid
 pub record HasValidNames (h : Header) : Type 0 where
-  pub dims : All (λ (d : Dim). IsName d.name) h.dims
-  pub gatts : All (λ (a : Att). IsName a.name) h.gatts
-  pub vars : All (λ (x : Var). IsName x.name × All (λ (a : Att). IsName a.name) x.atts) h.vars
+  pub dims : All (λ (dim : Dim). IsName dim.name) h.dims
+  pub gatts : All (λ (att : Att). IsName att.name) h.gatts
+  pub vars : All (λ (var : Var). IsName var.name × All (λ (att : Att). IsName att.name) var.atts) h.vars
 
--- without offsets, and with n records
+-- a variable without its offset
 abbrev pub bare_var : Var → Var
-bare_var x = record x { begin_at = 0 }
+bare_var var = record var { begin_at = 0 }
 
+-- a header without offsets, and with n records
 abbrev pub bare : Header → ℕ → Header
 bare h n = record h { numrecs = Known n; vars = map bare_var h.vars }
 
 -- how many values a variable has over n records
 abbrev pub value_count : List Dim → Var → ℕ → ℕ
-value_count dims x n = slab_count dims x * (if is_record_var dims x then n else 1)
+value_count dims var n = slab_count dims var * (if is_record_var dims var then n else 1)
 
--- a variable's values: as many as it has, each of its type, and in all no more than the greatest slab
-pub record IsArray (dims : List Dim) (records : ℕ) (x : Var) (array : List ℕ) : Type 0 where
+-- a variable's array: as many values as it has, in no more bytes than an array may have
+pub record IsArray (dims : List Dim) (records : ℕ) (var : Var) (array : List ℕ) : Type 0 where
   pub bytes : AreBytes array
-  pub whole : length array ≡ value_count dims x records * size_of x.ty
-  pub small : length array ≤ slab_limit
+  pub whole : length array ≡ value_count dims var records * size_of var.ty
+  pub small : length array ≤ array_limit
 
+-- one array for each variable
 abbrev pub AreArrays : List Dim → ℕ → List Var → List (List ℕ) → Type 0
 AreArrays dims records [] [] = Unit {0}
 AreArrays dims records [] (array ∷ arrays) = ⊥
-AreArrays dims records (x ∷ vars) [] = ⊥
-AreArrays dims records (x ∷ vars) (array ∷ arrays) = IsArray dims records x array × AreArrays dims records vars arrays
+AreArrays dims records (var ∷ vars) [] = ⊥
+AreArrays dims records (var ∷ vars) (array ∷ arrays) = IsArray dims records var array × AreArrays dims records vars arrays
 
--- each attribute's value is of its type
+-- each attribute's values are bytes, as any bytes are values of any type
 pub record HasValidValues (h : Header) : Type 0 where
-  pub gatts : All (λ (a : Att). AreBytes a.vals) h.gatts
-  pub vars : All (λ (x : Var). All (λ (a : Att). AreBytes a.vals) x.atts) h.vars
+  pub gatts : All (λ (att : Att). AreBytes att.vals) h.gatts
+  pub vars : All (λ (var : Var). All (λ (att : Att). AreBytes att.vals) var.atts) h.vars
 
--- a dataset that a file can hold. Any bytes are values of a type, so that bytes are asked of attributes and arrays alone.
+-- a dataset that a file can hold
 pub record IsGood (d : Dataset) : Type 0 where
   pub records : ℕ
   pub is_bare : d.header ≡ bare d.header records

@@ -1,5 +1,5 @@
 -- The sizes of a variable's slab and of a record, and the number of records.
-use Rattle.std.specs.Prelude.{ℕ, ◌≡◌, ◌+◌, ◌-◌, ◌*◌, ◌/◌, min, Bool, true, false, nat_lt, ◌==◌, ◌&&◌, if◌then◌else◌, List, [], ◌∷◌, length, map, filter, drop, slice_index, sum, Option, Some, None}
+use Rattle.std.specs.Prelude.{ℕ, ◌+◌, ◌-◌, ◌*◌, ◌/◌, ◌^◌, min, Bool, false, nat_lt, ◌==◌, ◌&&◌, if◌then◌else◌, List, [], ◌∷◌, length, map, filter, drop, slice_index, sum}
 use Rattle.nc_base.specs.declared.header.Dim.{Dim}
 use Rattle.nc_base.specs.declared.header.Var.{Var}
 use Rattle.nc_base.specs.declared.header.Header.{Header}
@@ -22,7 +22,7 @@ has_records dims [] = false
 has_records dims (id ∷ ids) = is_record_dim dims id
 
 abbrev pub is_record_var : List Dim → Var → Bool
-is_record_var dims v = has_records dims v.dimids
+is_record_var dims var = has_records dims var.dimids
 
 -- the lengths of the dimensions that a slab goes over: all but the record dimension
 abbrev pub slab_lens : List Dim → List ℕ → List ℕ
@@ -34,52 +34,61 @@ product (n ∷ ns) = n * product ns
 
 -- how many values a variable has: in one record for a record variable, and in all for any other
 abbrev pub slab_count : List Dim → Var → ℕ
-slab_count dims v = product (slab_lens dims v.dimids)
+slab_count dims var = product (slab_lens dims var.dimids)
 
 -- the bytes of a slab
 abbrev pub slab_size : List Dim → Var → ℕ
-slab_size dims v = slab_count dims v * size_of v.ty
+slab_size dims var = slab_count dims var * size_of var.ty
 
 -- with the bytes that fill it up to the next multiple of four
 abbrev pub padded_size : List Dim → Var → ℕ
-padded_size dims v = slab_size dims v + padding_len (slab_size dims v)
+padded_size dims var = slab_size dims var + padding_len (slab_size dims var)
 
 abbrev pub record_vars : List Dim → List Var → List Var
 record_vars dims vars = filter (is_record_var dims) vars
 
 -- a value takes less than four bytes
 abbrev pub is_narrow : Var → Bool
-is_narrow v = nat_lt (size_of v.ty) 4
+is_narrow var = nat_lt (size_of var.ty) 4
 
--- the bytes of a record: the padded slabs of its variables, but for a sole narrow one the slab without padding
-abbrev pub size_of_record : List Dim → List Var → ℕ
-size_of_record dims (v ∷ []) = if is_narrow v then slab_size dims v else padded_size dims v
-size_of_record dims vars = sum (map (padded_size dims) vars)
+-- the padded slabs of these variables together
+abbrev pub padded_total : List Dim → List Var → ℕ
+padded_total dims vars = sum (map (padded_size dims) vars)
 
+-- the bytes of a record of these variables: their padded slabs, but for a sole narrow one the slab without padding
+abbrev pub packed_size : List Dim → List Var → ℕ
+packed_size dims (var ∷ []) = if is_narrow var then slab_size dims var else padded_size dims var
+packed_size dims vars = padded_total dims vars
+
+-- the record size: the bytes from one record of a variable to its next
 abbrev pub record_size : Header → ℕ
-record_size h = size_of_record h.dims (record_vars h.dims h.vars)
+record_size h = packed_size h.dims (record_vars h.dims h.vars)
 
--- the greatest slab and the greatest record, in bytes
+-- the greatest slab, the greatest array of a dataset, and the greatest record, in bytes
 abbrev pub slab_limit : ℕ
-slab_limit = 281474976710656
+slab_limit = 2 ^ 48
+
+abbrev pub array_limit : ℕ
+array_limit = 2 ^ 48
 
 abbrev pub record_limit : ℕ
-record_limit = 4611686018427387904
+record_limit = 2 ^ 62
 
 -- the least begin of these variables
 abbrev pub least_begin : Var → List Var → ℕ
-least_begin v [] = v.begin_at
-least_begin v (w ∷ ws) = min v.begin_at (least_begin w ws)
+least_begin var [] = var.begin_at
+least_begin var (next ∷ others) = min var.begin_at (least_begin next others)
 
--- how many whole records stand between the least begin of the record variables and the end of a file of m bytes
+-- How many whole records of this size stand between the least begin of these variables and the end of a file of so many
+-- bytes: none where there are no such variables, or where the file ends before.
 abbrev pub records_between : ℕ → List Var → ℕ → ℕ
-records_between size [] m = 0
-records_between size (v ∷ vs) m = (m - least_begin v vs) / size
+records_between size [] file_len = 0
+records_between size (var ∷ vars) file_len = (file_len - least_begin var vars) / size
 
--- the number of records of a file of m bytes
+-- the number of records of a file of so many bytes
 abbrev pub record_count : Header → ℕ → ℕ
-record_count h m = of_numrecs h.numrecs
+record_count h file_len = of_numrecs h.numrecs
   where
     of_numrecs : NumRecs → ℕ
     of_numrecs (Known n) = n
-    of_numrecs Streaming = records_between (record_size h) (record_vars h.dims h.vars) m
+    of_numrecs Streaming = records_between (record_size h) (record_vars h.dims h.vars) file_len

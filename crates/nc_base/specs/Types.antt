@@ -1,4 +1,4 @@
--- The type table, and numbers as big-endian bytes.
+-- The type table.
 use Rattle.std.specs.Prelude.{◌≡◌, ℕ, zero, suc, ◌+◌, ◌-◌, ◌*◌, ◌/◌, ◌^◌, ◌<◌, ◌≤◌, ◌≤ℤ◌, ◌<ℤ◌, ◌==◌, Bool, true, false, ℤ, pos, negsuc, neg_ℤ, List, [], ◌∷◌, length, take, drop, Option, Some, None, if◌then◌else◌, codes}
 use Rattle.std.specs.Int.{Width, w8, w16, w32, w64, to_be_bytes, from_be_bytes, cast_signed, cast_unsigned, byte_len}
 use mir.Val.{bits, hbits}
@@ -63,3 +63,27 @@ default_fill_of Ushort = pos 65535
 default_fill_of Uint = pos 4294967295
 default_fill_of Int64 = neg_ℤ (pos 9223372036854775806)
 default_fill_of Uint64 = pos 18446744073709551614
+
+-- the word of a type in CDL
+abbrev pub type_word : NcType → List ℕ
+type_word Byte = codes "byte"
+type_word Char = codes "char"
+type_word Short = codes "short"
+type_word Int = codes "int"
+type_word Ubyte = codes "ubyte"
+type_word Ushort = codes "ushort"
+type_word Uint = codes "uint"
+type_word Int64 = codes "int64"
+type_word Uint64 = codes "uint64"
+
+-- the suffix of a number of this type in an attribute (characters stand in strings, and have none)
+abbrev pub number_suffix : NcType → List ℕ
+number_suffix Byte = codes "b"
+number_suffix Char = []
+number_suffix Short = codes "s"
+number_suffix Int = []
+number_suffix Ubyte = codes "UB"
+number_suffix Ushort = codes "US"
+number_suffix Uint = codes "U"
+number_suffix Int64 = codes "LL"
+number_suffix Uint64 = codes "ULL"
