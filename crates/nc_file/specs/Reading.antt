@@ -20,7 +20,6 @@ use Rattle.nc_base.specs.Bytes.{padding_len}
 use Rattle.nc_base.specs.Types.{type_of_code, code_of}
 use Rattle.nc_base.specs.Versions.{version_of_byte, count_limit, streaming_mark, has_type}
 use Rattle.nc_base.specs.Names.{is_name}
-use Rattle.nc_base.specs.Headers.{has_record_dim}
 use Rattle.nc_base.specs.Grammar.{dimension_tag, attribute_tag, variable_tag}
 use Rattle.nc_file.specs.Sources.{SourceView, HasFailed}
 use Rattle.nc_file.specs.declared.head_fault.HeadFault.{HeadFault}
@@ -166,14 +165,23 @@ name_at v = do
   name ← bytes_at n []
   if is_name name then (skip_at (padding_len n) >>= λ padding. done name) else wrong BadName
 
-abbrev pub type_or_none : Version → Option NcType → Part NcType
-type_or_none v None = wrong BadType
-type_or_none v (Some ty) = if has_type v ty then done ty else wrong BadType
+-- the type, if it is one of the version's
+abbrev pub known_type : Version → Option NcType → Option NcType
+known_type v None = None
+known_type v (Some ty) = if has_type v ty then Some ty else None
+
+-- the version's type with this code
+unfoldable pub type_in : Version → ℕ → Option NcType
+type_in v code = known_type v (type_of_code code)
+
+abbrev pub type_or_wrong : Option NcType → Part NcType
+type_or_wrong None = wrong BadType
+type_or_wrong (Some ty) = done ty
 
 unfoldable pub type_at : Version → Part NcType
 type_at v = do
   code ← u32_at
-  if (code == 5) || (code == 6) then wrong FloatingType else type_or_none v (type_of_code code)
+  if (code == 5) || (code == 6) then wrong FloatingType else type_or_wrong (type_in v code)
 
 -- the number of elements of a list, behind its tag
 unfoldable pub list_len_at : Version → ℕ → Part ℕ
@@ -202,11 +210,12 @@ dim_at v seen = do
   len ← count_at v
   if seen && (len == 0) then wrong TwoRecordDims else done (record { name = name; len = len })
 
-abbrev pub next_dim_at : Version → List Dim → Part Dim
-next_dim_at v before = dim_at v (has_record_dim before)
-
-unfoldable pub dims_at : Version → ℕ → List Dim → Part (List Dim)
-dims_at v n before = each_at (next_dim_at v) n before
+-- n dimensions, where the record dimension stands before them or not, behind those that were read before
+unfoldable pub dims_at : Version → ℕ → Bool → List Dim → Part (List Dim)
+dims_at v zero seen before = done before
+dims_at v (suc n) seen before = do
+  dim ← dim_at v seen
+  dims_at v n (seen || (dim.len == 0)) (before ++ dim ∷ [])
 
 -- the characters of an attribute
 unfoldable pub char_att_at : Version → List ℕ → Part Att
@@ -262,7 +271,7 @@ numrecs_at v = do
 unfoldable pub dim_list_at : Version → Part (List Dim)
 dim_list_at v = do
   n ← list_len_at v dimension_tag
-  dims_at v n []
+  dims_at v n false []
 
 unfoldable pub att_list_at : Version → Part (List Att)
 att_list_at v = do

@@ -10,6 +10,7 @@ mod fault;
 mod file;
 mod head_fault;
 mod memory;
+mod reading;
 mod sink;
 mod source;
 mod window;
