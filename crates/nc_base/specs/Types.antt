@@ -1,7 +1,6 @@
 -- The type table.
-use Rattle.std.specs.Prelude.{◌≡◌, ℕ, zero, suc, ◌+◌, ◌-◌, ◌*◌, ◌/◌, ◌^◌, ◌<◌, ◌≤◌, ◌≤ℤ◌, ◌<ℤ◌, ◌==◌, Bool, true, false, ℤ, pos, negsuc, neg_ℤ, List, [], ◌∷◌, length, take, drop, Option, Some, None, if◌then◌else◌, codes}
-use Rattle.std.specs.Int.{Width, w8, w16, w32, w64, to_be_bytes, from_be_bytes, cast_signed, cast_unsigned, byte_len}
-use mir.Val.{bits, hbits}
+use Rattle.std.specs.Prelude.{ℕ, ◌==◌, Bool, true, false, ℤ, pos, neg_ℤ, List, [], ◌∷◌, Option, find, codes}
+use Rattle.std.specs.Int.{Width, w8, w16, w32, w64, byte_len}
 use Rattle.nc_base.specs.declared.nc_type.NcType.{NcType}
 use Rattle.nc_base.specs.declared.nc_type.NcType.TheVariants.{Byte, Char, Short, Int, Ubyte, Ushort, Uint, Int64, Uint64}
 
@@ -17,12 +16,13 @@ code_of Uint = 9
 code_of Int64 = 10
 code_of Uint64 = 11
 
+-- all types
+abbrev pub all_types : List NcType
+all_types = Byte ∷ Char ∷ Short ∷ Int ∷ Ubyte ∷ Ushort ∷ Uint ∷ Int64 ∷ Uint64 ∷ []
+
 -- the type with this code: none for the floating types 5 and 6, and none for any other code
 abbrev pub type_of_code : ℕ → Option NcType
-type_of_code code =
-    if code == 1 then Some Byte else if code == 2 then Some Char else if code == 3 then Some Short else if code == 4 then Some Int
-    else if code == 7 then Some Ubyte else if code == 8 then Some Ushort else if code == 9 then Some Uint
-    else if code == 10 then Some Int64 else if code == 11 then Some Uint64 else None
+type_of_code code = find (λ ty. code == code_of ty) all_types
 
 -- the width of a value
 abbrev pub width_of : NcType → Width

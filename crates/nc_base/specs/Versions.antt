@@ -1,5 +1,5 @@
 -- What differs between the versions of the format, each thing once.
-use Rattle.std.specs.Prelude.{ℕ, ◌-◌, ◌^◌, ◌≡◌, Bool, true, false, Option, Some, None, if◌then◌else◌, ◌==◌}
+use Rattle.std.specs.Prelude.{ℕ, ◌-◌, ◌^◌, ◌==◌, Bool, true, false, [], ◌∷◌, Option, find}
 use Rattle.std.specs.Int.{Width, w32, w64}
 use mir.Val.{bits, hbits}
 use Rattle.nc_base.specs.declared.nc_type.NcType.{NcType}
@@ -13,8 +13,9 @@ version_byte Cdf1 = 1
 version_byte Cdf2 = 2
 version_byte Cdf5 = 5
 
+-- the version with this byte
 abbrev pub version_of_byte : ℕ → Option Version
-version_of_byte b = if b == 1 then Some Cdf1 else (if b == 2 then Some Cdf2 else (if b == 5 then Some Cdf5 else None))
+version_of_byte b = find (λ v. b == version_byte v) (Cdf1 ∷ Cdf2 ∷ Cdf5 ∷ [])
 
 -- the width of NON_NEG: a count, a length, a dimension id, the number of records, and of a vsize
 abbrev pub count_width : Version → Width

@@ -2,3 +2,5 @@ pub mod Writes
 pub mod Parts
 pub mod Loops
 pub mod Chunks
+pub mod Means
+pub mod FieldLaws

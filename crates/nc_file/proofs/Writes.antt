@@ -2,9 +2,9 @@
 use Rattle.std.proofs.Common.{◌≡◌, ℕ, ◌+◌, ◌-◌, ◌<◌, ◌≤◌, List, [], ◌∷◌, ◌++◌, length, take, drop, refl, sym, ap, ◌∙◌, append_assoc, arith, subst, Option, Some, None, Result, Ok, Err, take-add, map, get_or, suc, take-suc}
 use Rattle.std.proofs.lemmas.List.{append-nil, take-append-drop, length-take, length-drop, length-append, map-append, take_more, take_all}
 use Rattle.std.proofs.lemmas.Bool.{OnTrue_at, OnTrue_from}
-use Rattle.std.specs.Prelude.{Bool, true, false, is_some, option_map, unwrap_or}
+use Rattle.std.specs.Prelude.{is_some, option_map, unwrap_or}
 use Rattle.nc_base.specs.Bytes.{text}
-use Rattle.nc_file.specs.Sinks.{SinkView, append, count, IsFront, IsFrontIf, IsCut, BrokeOff, TookSome, Wrote, told, Grew, Broke, HasFailed}
+use Rattle.nc_file.specs.Sinks.{SinkView, append, count, IsFront, IsFrontIf, IsCut, BrokeOff, TookSome, told, Grew, Broke, HasFailed}
 
 pub append-++ : (s : SinkView) (a b : List ℕ) → append s (a ++ b) ≡ append (append s a) b
 unfolding append
@@ -88,6 +88,15 @@ text-++ (piece ∷ a) b = ap (λ (x : List ℕ). piece ++ x) (text-++ a b) ∙ s
 text-one : (piece : List ℕ) → text (piece ∷ []) ≡ piece
 unfolding text
 text-one piece = append-nil piece
+
+-- ---- a text of many pieces, by hand: the first piece, and then the others
+pub grew_piece : {s t u : SinkView} {piece : List ℕ} (pieces : List (List ℕ)) → Grew s t piece → Grew t u (text pieces) → Grew s u (text (piece ∷ pieces))
+unfolding text
+grew_piece {s = s} {t = t} {u = u} {piece = piece} pieces first others = grew_then s t u piece (text pieces) first others
+
+-- the last piece
+pub grew_last : {s t : SinkView} {piece : List ℕ} → Grew s t piece → Grew s t (text (piece ∷ []))
+grew_last {s = s} {t = t} {piece = piece} grew = subst (Grew s t) (sym (text-one piece)) grew
 
 -- the invariant of a loop that writes one text for each element
 abbrev pub IsWritten : {X : Type 0} → SinkView → SinkView → (X → List ℕ) → List X → ℕ → Type 0

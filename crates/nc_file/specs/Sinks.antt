@@ -1,6 +1,6 @@
 -- What a sink has taken, and what a call has written to it.
 use Rattle.std.specs.Bool.{OnTrue}
-use Rattle.std.specs.Prelude.{Bool, true, is_some, ◌≡◌, ℕ, ◌+◌, ◌^◌, ◌⊎◌, ◌<◌, ◌≤◌, List, [], ◌++◌, length, take, Option, Some, None, option_map, unwrap_or, Result, Ok, Err}
+use Rattle.std.specs.Prelude.{Bool, is_some, ◌≡◌, ℕ, ◌+◌, ◌^◌, ◌⊎◌, ◌<◌, ◌≤◌, List, [], ◌++◌, length, take, Option, Some, None, option_map, unwrap_or, Result, Ok, Err}
 
 -- a sink as its contracts see it: the bytes that it took, where it tells them, and how often it has failed
 pub record SinkView : Type 0 where

@@ -1,6 +1,6 @@
 //! Devices over the files and writers of the standard library.
 
-ghost use Rattle.std.specs.Prelude.{◌≡◌, ◌+◌, ◌^◌, ◌-◌, [], false, min, replicate, IfOk, IsErr, IsOk};
+ghost use Rattle.std.specs.Prelude.{◌≡◌, ◌+◌, ◌^◌, ◌-◌, [], false, min, replicate, IfOk, IsErr};
 ghost use Rattle.nc_file.specs.Sinks.{Wrote};
 
 use crate::{OpenFailed, Sink, SinkFailed, Source, SourceFailed};

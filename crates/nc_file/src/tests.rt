@@ -133,8 +133,13 @@ fn full_writer_fails(rt: HostRuntime) {
 fn failed_write_is_not_tried_again(rt: HostRuntime) {
     let mut sink = IoSink::new(Refusing { calls: 0 });
     assert_eq!(rt; put(&mut sink, b"abcde"), Err(WriteFailed));
-    assert_eq!(rt; sink.flush(), Err(SinkFailed));
     assert_eq!(rt; sink.into_inner().calls, 1);
+}
+
+#[test]
+fn failed_flush_is_a_failure(rt: HostRuntime) {
+    let mut sink = IoSink::new(Refusing { calls: 0 });
+    assert_eq!(rt; sink.flush(), Err(SinkFailed));
 }
 
 #[test]

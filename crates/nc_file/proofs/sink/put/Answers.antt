@@ -1,4 +1,4 @@
-use Rattle.std.proofs.Common.{rules, arith, length, take, drop, ◌-◌, ◌≤◌, length-drop}
+use Rattle.std.proofs.Common.{arith, length, drop, ◌-◌, ◌≤◌, length-drop}
 use Rattle.std.proofs.lemmas.List.{take_all}
 use Rattle.nc_file.proofs.Writes.{stops, moves}
 use Rattle.nc_file.proofs.sink.put.Goals as goal

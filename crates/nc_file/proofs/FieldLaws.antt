@@ -1,0 +1,274 @@
+-- Bytes, numbers, names and types are read as the grammar says.
+use Rattle.std.proofs.Common.{◌≡◌, ◌≢◌, ℕ, zero, suc, ◌+◌, ◌-◌, ◌*◌, ◌^◌, ◌<◌, ◌≤◌, Bool, true, false, cond, leb, List, [], ◌∷◌, ◌++◌, length, get_or, inl, inr, Option, Some, None, Result, Ok, Err, refl, sym, ap, subst, ◌∙◌, append_assoc, arith, add-one, take}
+use Rattle.std.proofs.lemmas.Bool.{cases_lt, leb-false, leb-true, eqb-true, eqb-false}
+use Rattle.std.proofs.lemmas.List.{append-nil, length-append, get_or-take, get_or_past, length-take}
+use Rattle.std.proofs.lemmas.Nat.{be_bytes_4, be_bytes_8}
+use Rattle.std.specs.Int.{Width, w32, w64, to_be_bytes, from_be_bytes, byte_len}
+use Rattle.std.specs.List.{AllByRecursion}
+use Rattle.std.specs.Prelude.{◌==◌, ◌||◌, ◌⊎◌, find, if◌then◌else◌}
+use Rattle.nc_base.specs.declared.fault.FormatFault.{FormatFault}
+use Rattle.nc_base.specs.declared.fault.FormatFault.TheVariants.{HeaderTruncated, BadCount, BadName, BadType, FloatingType}
+use Rattle.nc_base.specs.declared.nc_type.NcType.{NcType}
+use Rattle.nc_base.specs.declared.nc_type.NcType.TheVariants.{Byte, Char, Short, Int, Ubyte, Ushort, Uint, Int64, Uint64}
+use Rattle.nc_base.specs.declared.version.Version.{Version}
+use Rattle.nc_base.specs.declared.version.Version.TheVariants.{Cdf1, Cdf2, Cdf5}
+use Rattle.nc_base.specs.Bytes.{AreBytes, padding_len}
+use Rattle.nc_base.specs.Types.{code_of, type_of_code, all_types}
+use Rattle.nc_base.specs.Versions.{count_width, count_limit, has_type}
+use Rattle.nc_base.specs.Names.{is_name, IsName}
+use Rattle.nc_base.specs.Grammar.{SpellsNumber, SpellsCount, SpellsPadded, SpellsName, SpellsType}
+use Rattle.nc_base.specs.FirstFault.{IsCutNumber, StopsInCount, cut_count, negative_count, StopsInName, in_name_len, cut_name, bad_name, cut_name_padding, StopsInType, cut_type, floating, bad_type}
+use Rattle.nc_file.specs.Reading.{Outcome, Part, ◌>>=◌, done, stop, byte_or, byte_at, u32_at, u64_at, number_at, count_at, bytes_at, skip_at, padded_at, name_at, type_at, known_type, type_in, type_or_wrong}
+use Rattle.nc_file.proofs.Means.{Means, spells, stops, early, means-next, means-map, means-cond, AreBytes-tail}
+
+-- ---- numbers
+
+-- the file ends before a number of this width
+pub data CutNumber (width : Width) (bytes : List ℕ) : FormatFault → List ℕ → Type 0 where
+  cut_number : IsCutNumber width bytes → CutNumber width bytes HeaderTruncated []
+
+AreBytes-take : (n : ℕ) (bytes : List ℕ) → AreBytes bytes → AreBytes (take n bytes)
+AreBytes-take n bytes h i =
+    elim (cases_lt i n) [
+      | inl lt ↦ rw (get_or-take n bytes i 0 lt) (h i)
+      | inr le ↦ rw (get_or_past (take n bytes) i 0 (omega (arith, length-take n bytes))) (omega arith)
+    ]
+
+pub means-u32 : (bytes : List ℕ) → AreBytes bytes → Means (SpellsNumber w32 bytes) (CutNumber w32 bytes) ⊥ (u32_at.run bytes)
+unfolding u32_at ◌>>=◌ byte_or done
+means-u32 [] fits = stops _ _ (cut_number (omega arith))
+means-u32 (a ∷ []) fits = stops _ _ (cut_number (omega arith))
+means-u32 (a ∷ b ∷ []) fits = stops _ _ (cut_number (omega arith))
+means-u32 (a ∷ b ∷ c ∷ []) fits = stops _ _ (cut_number (omega arith))
+means-u32 (a ∷ b ∷ c ∷ d ∷ rest) fits =
+    let n : ℕ = from_be_bytes w32 (a ∷ b ∷ c ∷ d ∷ []) in
+    let spelled : to_be_bytes w32 n ≡ a ∷ b ∷ c ∷ d ∷ [] = be_bytes_4 (a ∷ b ∷ c ∷ d ∷ []) n refl (AreBytes-take 4 (a ∷ b ∷ c ∷ d ∷ rest) fits) refl in
+    spells n rest
+    (record { fits = omega (arith, fits 0, fits 1, fits 2, fits 3); spelled = ap (λ (x : List ℕ). x ++ rest) (sym spelled) })
+    (λ i. fits (suc (suc (suc (suc i)))))
+
+pub means-u64 : (bytes : List ℕ) → AreBytes bytes → Means (SpellsNumber w64 bytes) (CutNumber w64 bytes) ⊥ (u64_at.run bytes)
+unfolding u64_at ◌>>=◌ byte_or done
+means-u64 [] fits = stops _ _ (cut_number (omega arith))
+means-u64 (a ∷ []) fits = stops _ _ (cut_number (omega arith))
+means-u64 (a ∷ b ∷ []) fits = stops _ _ (cut_number (omega arith))
+means-u64 (a ∷ b ∷ c ∷ []) fits = stops _ _ (cut_number (omega arith))
+means-u64 (a ∷ b ∷ c ∷ d ∷ []) fits = stops _ _ (cut_number (omega arith))
+means-u64 (a ∷ b ∷ c ∷ d ∷ e ∷ []) fits = stops _ _ (cut_number (omega arith))
+means-u64 (a ∷ b ∷ c ∷ d ∷ e ∷ f ∷ []) fits = stops _ _ (cut_number (omega arith))
+means-u64 (a ∷ b ∷ c ∷ d ∷ e ∷ f ∷ g ∷ []) fits = stops _ _ (cut_number (omega arith))
+means-u64 (a ∷ b ∷ c ∷ d ∷ e ∷ f ∷ g ∷ h ∷ rest) fits =
+    let n : ℕ = from_be_bytes w64 (a ∷ b ∷ c ∷ d ∷ e ∷ f ∷ g ∷ h ∷ []) in
+    let spelled : to_be_bytes w64 n ≡ a ∷ b ∷ c ∷ d ∷ e ∷ f ∷ g ∷ h ∷ [] = be_bytes_8 (a ∷ b ∷ c ∷ d ∷ e ∷ f ∷ g ∷ h ∷ []) n refl (AreBytes-take 8 (a ∷ b ∷ c ∷ d ∷ e ∷ f ∷ g ∷ h ∷ rest) fits) refl in
+    spells n rest
+    (record { fits = omega (arith, fits 0, fits 1, fits 2, fits 3, fits 4, fits 5, fits 6, fits 7); spelled = ap (λ (x : List ℕ). x ++ rest) (sym spelled) })
+    (λ i. fits (suc (suc (suc (suc (suc (suc (suc (suc i)))))))))
+
+pub means-number : (v : Version) (bytes : List ℕ) → AreBytes bytes → Means (SpellsNumber (count_width v) bytes) (CutNumber (count_width v) bytes) ⊥ ((number_at v).run bytes)
+means-number Cdf1 bytes fits = means-u32 bytes fits
+means-number Cdf2 bytes fits = means-u32 bytes fits
+means-number Cdf5 bytes fits = means-u64 bytes fits
+
+cut-count : (v : Version) (bytes : List ℕ) (fault : FormatFault) (rest : List ℕ) → CutNumber (count_width v) bytes fault rest → StopsInCount v bytes fault rest
+cut-count v bytes fault rest (cut_number cut) = cut_count cut
+
+pub means-count : (v : Version) (bytes : List ℕ) → AreBytes bytes → Means (SpellsCount v bytes) (StopsInCount v bytes) ⊥ ((count_at v).run bytes)
+unfolding count_at ◌>>=◌ done stop
+means-count v bytes fits =
+    means-next _ (means-number v bytes fits)
+    (λ n rest number more. means-cond (leb (count_limit v) n) _ _ rest
+      (λ high. stops _ _ (negative_count n rest number (leb-true _ _ high)))
+      (λ low. spells n rest (record { number = number; non_negative = leb-false _ _ low }) more))
+    (cut-count v bytes) (λ e. e)
+
+-- ---- bytes
+
+-- the file ends before so many bytes
+pub data CutBytes (n : ℕ) (bytes : List ℕ) : FormatFault → List ℕ → Type 0 where
+  cut_bytes : length bytes < n → CutBytes n bytes HeaderTruncated []
+
+-- so many bytes stand in front
+pub record Taken (n : ℕ) (bytes content rest : List ℕ) : Type 0 where
+  pub count : length content ≡ n
+  pub spelled : bytes ≡ content ++ rest
+
+-- the same behind those that were read before
+pub record TakenBehind (n : ℕ) (front bytes all rest : List ℕ) : Type 0 where
+  pub content : List ℕ
+  pub taken : Taken n bytes content rest
+  pub joined : all ≡ front ++ content
+
+behind-cons : (n b : ℕ) (front bytes all rest : List ℕ) → TakenBehind n (front ++ b ∷ []) bytes all rest → TakenBehind (suc n) front (b ∷ bytes) all rest
+behind-cons n b front bytes all rest t = record {
+  content = b ∷ t.content;
+  taken = record { count = ap suc t.taken.count; spelled = ap (λ (x : List ℕ). b ∷ x) t.taken.spelled };
+  joined = t.joined ∙ append_assoc front (b ∷ []) t.content;
+}
+
+cut-cons : (n b : ℕ) (bytes : List ℕ) (fault : FormatFault) (rest : List ℕ) → CutBytes n bytes fault rest → CutBytes (suc n) (b ∷ bytes) fault rest
+cut-cons n b bytes fault rest (cut_bytes cut) = cut_bytes (omega (arith, cut))
+
+means-bytes_behind : (n : ℕ) (front bytes : List ℕ) → AreBytes bytes → Means (TakenBehind n front bytes) (CutBytes n bytes) ⊥ ((bytes_at n front).run bytes)
+unfolding bytes_at ◌>>=◌ byte_or done
+means-bytes_behind zero front bytes fits = spells front bytes (record { content = []; taken = record { count = refl; spelled = refl }; joined = sym (append-nil front) }) fits
+means-bytes_behind (suc n) front [] fits = stops _ _ (cut_bytes (omega arith))
+means-bytes_behind (suc n) front (b ∷ bytes) fits =
+    means-map (means-bytes_behind n (front ++ b ∷ []) bytes (AreBytes-tail b bytes fits)) (λ all rest. behind-cons n b front bytes all rest) (cut-cons n b bytes) (λ e. e)
+
+pub means-bytes : (n : ℕ) (bytes : List ℕ) → AreBytes bytes → Means (Taken n bytes) (CutBytes n bytes) ⊥ ((bytes_at n []).run bytes)
+means-bytes n bytes fits =
+    means-map (means-bytes_behind n [] bytes fits) (λ all rest t. subst (λ (x : List ℕ). Taken n bytes x rest) (sym t.joined) t.taken) (λ fault rest c. c) (λ e. e)
+
+-- so many bytes that may be any stand in front
+pub record Skipped (n : ℕ) (bytes rest : List ℕ) : Type 0 where
+  pub content : List ℕ
+  pub taken : Taken n bytes content rest
+
+skipped-cons : (n b : ℕ) (bytes rest : List ℕ) → Skipped n bytes rest → Skipped (suc n) (b ∷ bytes) rest
+skipped-cons n b bytes rest s = record { content = b ∷ s.content; taken = record { count = ap suc s.taken.count; spelled = ap (λ (x : List ℕ). b ∷ x) s.taken.spelled } }
+
+pub means-skip : (n : ℕ) (bytes : List ℕ) → AreBytes bytes → Means (λ skipped. Skipped n bytes) (CutBytes n bytes) ⊥ ((skip_at n).run bytes)
+unfolding skip_at ◌>>=◌ byte_or done
+means-skip zero bytes fits = spells tt bytes (record { content = []; taken = record { count = refl; spelled = refl } }) fits
+means-skip (suc n) [] fits = stops _ _ (cut_bytes (omega arith))
+means-skip (suc n) (b ∷ bytes) fits = means-map (means-skip n bytes (AreBytes-tail b bytes fits)) (λ u rest. skipped-cons n b bytes rest) (cut-cons n b bytes) (λ e. e)
+
+-- ---- bytes with padding, and names
+
+padded-at : (n : ℕ) (bytes content behind rest : List ℕ) → Taken n bytes content behind → Skipped (padding_len n) behind rest → SpellsPadded bytes content rest
+padded-at n bytes content behind rest taken skipped = record {
+  padding = skipped.content;
+  padded = skipped.taken.count ∙ ap padding_len (sym taken.count);
+  spelled = taken.spelled ∙ ap (λ (x : List ℕ). content ++ x) skipped.taken.spelled;
+}
+
+-- a count behind which so many bytes stand
+counted-bytes : (v : Version) (n : ℕ) (bytes body content rest : List ℕ) → SpellsCount v bytes n body → Taken n body content rest → SpellsCount v bytes (length content) (content ++ rest)
+counted-bytes v n bytes body content rest count taken =
+    subst (λ (x : List ℕ). SpellsCount v bytes (length content) x) taken.spelled (subst (λ (k : ℕ). SpellsCount v bytes k body) (sym taken.count) count)
+
+cut-name : (v : Version) (n : ℕ) (bytes body : List ℕ) (fault : FormatFault) (rest : List ℕ) → SpellsCount v bytes n body → CutBytes n body fault rest → StopsInName v bytes fault rest
+cut-name v n bytes body fault rest count (cut_bytes cut) = cut_name n body count cut
+
+cut-name_padding : (v : Version) (bytes name behind : List ℕ) (fault : FormatFault) (rest : List ℕ)
+    → SpellsCount v bytes (length name) (name ++ behind) → IsName name → CutBytes (padding_len (length name)) behind fault rest → StopsInName v bytes fault rest
+cut-name_padding v bytes name behind fault rest count valid (cut_bytes cut) = cut_name_padding name behind count valid cut
+
+spelled-name : (v : Version) (n : ℕ) (bytes body name behind rest : List ℕ)
+    → SpellsCount v bytes n body → Taken n body name behind → IsName name → Skipped (padding_len n) behind rest → SpellsName v bytes name rest
+spelled-name v n bytes body name behind rest count taken valid skipped = record {
+  behind_count = body;
+  count = subst (λ (k : ℕ). SpellsCount v bytes k body) (sym taken.count) count;
+  valid = valid;
+  padded = padded-at n body name behind rest taken skipped;
+}
+
+pub means-name : (v : Version) (bytes : List ℕ) → AreBytes bytes → Means (SpellsName v bytes) (StopsInName v bytes) ⊥ ((name_at v).run bytes)
+unfolding name_at ◌>>=◌ done stop
+means-name v bytes fits =
+    means-next _ (means-count v bytes fits)
+    (λ n body count more. means-next _ (means-bytes n body more)
+      (λ name behind taken more2. means-cond (is_name name) _ _ behind
+        (λ valid. means-next _ (means-skip (padding_len n) behind more2)
+          (λ u rest skipped more3. spells name rest (spelled-name v n bytes body name behind rest count taken valid skipped) more3)
+          (λ fault rest cut. cut-name_padding v bytes name behind fault rest (counted-bytes v n bytes body name behind count taken) valid (subst (λ (k : ℕ). CutBytes (padding_len k) behind fault rest) (sym taken.count) cut))
+          (λ e. e))
+        (λ invalid. stops _ _ (bad_name name behind (counted-bytes v n bytes body name behind count taken) invalid)))
+      (λ fault rest. cut-name v n bytes body fault rest count) (λ e. e))
+    (in_name_len) (λ e. e)
+
+-- ---- types
+
+first_found : {A : Type 0} (b : Bool) (y x : A) (others : Option A) → cond b (Some y) others ≡ Some x → ((b ≡ true) × (y ≡ x)) ⊎ (others ≡ Some x)
+first_found true y x others e = inl (refl, cc)
+first_found false y x others e = inr e
+
+found : {A : Type 0} (test : A → Bool) (xs : List A) (x : A) → find test xs ≡ Some x → test x ≡ true
+found test [] x e = absurd cc
+found {A = A} test (y ∷ ys) x e =
+    elim (first_found (test y) y x (find test ys) e) [
+      | inl here ↦ subst (λ (z : A). test z ≡ true) here.1 here.0
+      | inr later ↦ found test ys x later
+    ]
+
+none_first : {A : Type 0} (b : Bool) (y : A) (others : Option A) → cond b (Some y) others ≡ None → (b ≡ false) × (others ≡ None)
+none_first true y others e = absurd cc
+none_first false y others e = (refl, e)
+
+none_found : {A : Type 0} (test : A → Bool) (xs : List A) → find test xs ≡ None → AllByRecursion (λ x. test x ≡ false) xs
+none_found test [] e = tt
+none_found test (y ∷ ys) e = let h = none_first (test y) y (find test ys) e in (h.0, none_found test ys h.1)
+
+code-known : (code : ℕ) (ty : NcType) → type_of_code code ≡ Some ty → code ≡ code_of ty
+code-known code ty e = eqb-true _ _ (found (λ (t : NcType). code == code_of t) all_types ty e)
+
+other-codes : (code : ℕ) → AllByRecursion (λ (t : NcType). (code == code_of t) ≡ false) all_types → (ty : NcType) → (code == code_of ty) ≡ false
+other-codes code h Byte = h.0
+other-codes code h Char = h.1.0
+other-codes code h Short = h.1.1.0
+other-codes code h Int = h.1.1.1.0
+other-codes code h Ubyte = h.1.1.1.1.0
+other-codes code h Ushort = h.1.1.1.1.1.0
+other-codes code h Uint = h.1.1.1.1.1.1.0
+other-codes code h Int64 = h.1.1.1.1.1.1.1.0
+other-codes code h Uint64 = h.1.1.1.1.1.1.1.1.0
+
+code-unknown : (code : ℕ) → type_of_code code ≡ None → (ty : NcType) → code_of ty ≢ code
+code-unknown code e ty same = eqb-false _ _ (other-codes code (none_found (λ (t : NcType). code == code_of t) all_types e) ty) (sym same)
+
+type_of_code-code_of : (ty : NcType) → type_of_code (code_of ty) ≡ Some ty
+type_of_code-code_of Byte = refl
+type_of_code-code_of Char = refl
+type_of_code-code_of Short = refl
+type_of_code-code_of Int = refl
+type_of_code-code_of Ubyte = refl
+type_of_code-code_of Ushort = refl
+type_of_code-code_of Uint = refl
+type_of_code-code_of Int64 = refl
+type_of_code-code_of Uint64 = refl
+
+-- no type of the version has the code of a type that the version hasn't
+no-other : (v : Version) (code : ℕ) (ty other : NcType) → Some ty ≡ type_of_code code → has_type v ty ≡ false → has_type v other ≡ true → code_of other ≢ code
+no-other v code ty other is lacks has codes =
+    let same : Some other ≡ Some ty = sym (type_of_code-code_of other) ∙ ap type_of_code codes ∙ sym is in
+    let both : has_type v other ≡ has_type v ty = ap (has_type v) (cc) in
+    cc
+
+-- the version's type with this code, or none
+type-means : (v : Version) (code : ℕ) (bytes rest : List ℕ) (known : Option NcType) → known ≡ type_of_code code
+    → SpellsNumber w32 bytes code rest → code ≢ 5 → code ≢ 6 → AreBytes rest
+    → Means (SpellsType v bytes) (StopsInType v bytes) ⊥ ((type_or_wrong (known_type v known)).run rest)
+unfolding done stop
+type-means v code bytes rest None is number not5 not6 fits =
+    stops _ _ (bad_type code rest number not5 not6 (λ ty has. code-unknown code (sym is) ty))
+type-means v code bytes rest (Some ty) is number not5 not6 fits = at (has_type v ty) refl
+  where
+    same : code ≡ code_of ty
+    same = code-known code ty (sym is)
+    at : (b : Bool) → has_type v ty ≡ b → Means (SpellsType v bytes) (StopsInType v bytes) ⊥ ((type_or_wrong (if b then Some ty else None)).run rest)
+    at true has = spells ty rest (record { number = subst (λ (c : ℕ). SpellsNumber w32 bytes c rest) same number; has = has }) fits
+    at false lacks = stops _ _ (bad_type code rest number not5 not6 (λ other. no-other v code ty other is lacks))
+
+cut-type : (v : Version) (bytes : List ℕ) (fault : FormatFault) (rest : List ℕ) → CutNumber w32 bytes fault rest → StopsInType v bytes fault rest
+cut-type v bytes fault rest (cut_number cut) = cut_type cut
+
+or-false : (a b : Bool) → (a || b) ≡ false → (a ≡ false) × (b ≡ false)
+or-false true b e = absurd cc
+or-false false b e = (refl, e)
+
+or-true : (a b : Bool) → (a || b) ≡ true → (a ≡ true) ⊎ (b ≡ true)
+or-true true b e = inl refl
+or-true false b e = inr e
+
+floating-code : (code : ℕ) → ((code == 5) || (code == 6)) ≡ true → (code ≡ 5) ⊎ (code ≡ 6)
+floating-code code e = elim (or-true (code == 5) (code == 6) e) [ inl five ↦ inl (eqb-true _ _ five) | inr six ↦ inr (eqb-true _ _ six) ]
+
+pub means-type : (v : Version) (bytes : List ℕ) → AreBytes bytes → Means (SpellsType v bytes) (StopsInType v bytes) ⊥ ((type_at v).run bytes)
+unfolding type_at type_in ◌>>=◌ stop
+means-type v bytes fits =
+    means-next _ (means-u32 bytes fits)
+    (λ code rest number more. means-cond ((code == 5) || (code == 6)) _ _ rest
+      (λ is_floating. stops _ _ (floating code rest number (floating-code code is_floating)))
+      (λ is_other. let h = or-false (code == 5) (code == 6) is_other in
+        type-means v code bytes rest (type_of_code code) refl number (eqb-false _ _ h.0) (eqb-false _ _ h.1) more))
+    (cut-type v bytes) (λ e. e)
