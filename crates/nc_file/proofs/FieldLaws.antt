@@ -135,7 +135,7 @@ means-skip (suc n) (b ∷ bytes) fits = means-map (means-skip n bytes (AreBytes-
 
 -- ---- bytes with padding, and names
 
-padded-at : (n : ℕ) (bytes content behind rest : List ℕ) → Taken n bytes content behind → Skipped (padding_len n) behind rest → SpellsPadded bytes content rest
+pub padded-at : (n : ℕ) (bytes content behind rest : List ℕ) → Taken n bytes content behind → Skipped (padding_len n) behind rest → SpellsPadded bytes content rest
 padded-at n bytes content behind rest taken skipped = record {
   padding = skipped.content;
   padded = skipped.taken.count ∙ ap padding_len (sym taken.count);
@@ -183,7 +183,7 @@ first_found : {A : Type 0} (b : Bool) (y x : A) (others : Option A) → cond b (
 first_found true y x others e = inl (refl, cc)
 first_found false y x others e = inr e
 
-found : {A : Type 0} (test : A → Bool) (xs : List A) (x : A) → find test xs ≡ Some x → test x ≡ true
+pub found : {A : Type 0} (test : A → Bool) (xs : List A) (x : A) → find test xs ≡ Some x → test x ≡ true
 found test [] x e = absurd cc
 found {A = A} test (y ∷ ys) x e =
     elim (first_found (test y) y x (find test ys) e) [
@@ -216,7 +216,7 @@ other-codes code h Uint64 = h.1.1.1.1.1.1.1.1.0
 code-unknown : (code : ℕ) → type_of_code code ≡ None → (ty : NcType) → code_of ty ≢ code
 code-unknown code e ty same = eqb-false _ _ (other-codes code (none_found (λ (t : NcType). code == code_of t) all_types e) ty) (sym same)
 
-type_of_code-code_of : (ty : NcType) → type_of_code (code_of ty) ≡ Some ty
+pub type_of_code-code_of : (ty : NcType) → type_of_code (code_of ty) ≡ Some ty
 type_of_code-code_of Byte = refl
 type_of_code-code_of Char = refl
 type_of_code-code_of Short = refl

@@ -4,3 +4,4 @@ pub mod Loops
 pub mod Chunks
 pub mod Means
 pub mod FieldLaws
+pub mod ListLaws
