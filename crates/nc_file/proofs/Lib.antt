@@ -5,3 +5,4 @@ pub mod Chunks
 pub mod Means
 pub mod FieldLaws
 pub mod ListLaws
+pub mod HeaderLaws

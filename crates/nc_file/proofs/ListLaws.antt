@@ -177,7 +177,7 @@ and-false : (a b : Bool) → (a && b) ≡ false → b ≡ true → a ≡ false
 and-false true b e f = absurd cc
 and-false false b e f = refl
 
-and-true : (a b : Bool) → (a && b) ≡ true → (a ≡ true) × (b ≡ true)
+pub and-true : (a b : Bool) → (a && b) ≡ true → (a ≡ true) × (b ≡ true)
 and-true true b e = (refl, e)
 and-true false b e = absurd cc
 

@@ -1,0 +1,108 @@
+-- A header is read as the grammar says.
+use Rattle.std.proofs.Common.{◌≡◌, ◌≢◌, ℕ, suc, ◌+◌, ◌<◌, ◌≤◌, Bool, true, false, cond, leb, List, [], ◌∷◌, length, Option, Some, None, Result, Ok, Err, refl, sym, ap, subst, ◌∙◌, arith}
+use Rattle.std.proofs.lemmas.Bool.{eqb-true, eqb-false, leb-true, leb-false}
+use Rattle.std.specs.Prelude.{◌==◌, ◌&&◌}
+use Rattle.nc_base.specs.declared.fault.FormatFault.{FormatFault}
+use Rattle.nc_base.specs.declared.header.Att.{Att}
+use Rattle.nc_base.specs.declared.header.Dim.{Dim}
+use Rattle.nc_base.specs.declared.header.Var.{Var}
+use Rattle.nc_base.specs.declared.header.Header.{Header}
+use Rattle.nc_base.specs.declared.header.NumRecs.{NumRecs}
+use Rattle.nc_base.specs.declared.header.NumRecs.TheVariants.{Known, Streaming}
+use Rattle.nc_base.specs.declared.version.Version.{Version}
+use Rattle.nc_base.specs.declared.version.Version.TheVariants.{Cdf1, Cdf2, Cdf5}
+use Rattle.nc_base.specs.Bytes.{AreBytes}
+use Rattle.nc_base.specs.Versions.{version_byte, version_of_byte, count_width, count_limit, streaming_mark}
+use Rattle.nc_base.specs.Grammar.{SpellsNumber, SpellsMagic, SpellsNumRecs, SpellsStart, SpellsUpToDims, SpellsUpToGatts, SpellsHeader}
+use Rattle.nc_base.specs.FirstFault.{StopsInMagic, cut_magic, other_magic, cut_version, bad_version, StopsInNumRecs, cut_numrecs, negative_numrecs, StopsWith, in_magic, in_numrecs, in_dims, in_gatts, in_vars}
+use Rattle.nc_file.specs.Reading.{Part, ◌>>=◌, done, stop, byte_or, version_or, version_at, magic_at, number_at, numrecs_at, header_at}
+use Rattle.nc_file.specs.NotYet.{IsPlain, IsNotYet, number_att, variables}
+use Rattle.nc_file.proofs.Means.{Means, spells, stops, early, means-next, means-map, means-cond, AreBytes-tail}
+use Rattle.nc_file.proofs.FieldLaws.{CutNumber, cut_number, means-number, found}
+use Rattle.nc_file.proofs.ListLaws.{means-dims, means-atts, means-vars, and-true}
+
+-- ---- the magic
+
+three-bytes : (a b c : ℕ) → ((a == 67) && (b == 68) && (c == 70)) ≡ true → (a ≡ 67) × (b ≡ 68) × (c ≡ 70)
+three-bytes a b c e =
+    let outer = and-true ((a == 67) && (b == 68)) (c == 70) e in
+    let inner = and-true (a == 67) (b == 68) outer.0 in
+    (eqb-true _ _ inner.0, eqb-true _ _ inner.1, eqb-true _ _ outer.1)
+
+other-bytes : (a b c : ℕ) → ((a == 67) && (b == 68) && (c == 70)) ≡ false → ¬ ((a ≡ 67) × (b ≡ 68) × (c ≡ 70))
+other-bytes a b c e h =
+    let all : ((a == 67) && (b == 68) && (c == 70)) ≡ true = rw (h.0, h.1, h.2) refl in
+    cc
+
+version-means : (bytes : List ℕ) (n : ℕ) (rest : List ℕ) (known : Option Version) → known ≡ version_of_byte n → bytes ≡ 67 ∷ 68 ∷ 70 ∷ n ∷ rest → AreBytes rest
+    → Means (λ v more. SpellsMagic bytes v more) (StopsInMagic bytes) ⊥ ((version_or n known).run rest)
+unfolding done stop
+version-means bytes n rest None is e fits = stops _ _ (bad_version n rest e (sym is))
+version-means bytes n rest (Some v) is e fits =
+    let same : n ≡ version_byte v = eqb-true _ _ (found (λ (w : Version). n == version_byte w) (Cdf1 ∷ Cdf2 ∷ Cdf5 ∷ []) v (sym is)) in
+    spells v rest (e ∙ ap (λ (k : ℕ). 67 ∷ 68 ∷ 70 ∷ k ∷ rest) same) fits
+
+means-version : (bytes rest : List ℕ) → bytes ≡ 67 ∷ 68 ∷ 70 ∷ rest → AreBytes rest → Means (λ v more. SpellsMagic bytes v more) (StopsInMagic bytes) ⊥ (version_at.run rest)
+unfolding version_at ◌>>=◌ byte_or
+means-version bytes [] e fits = stops _ _ (cut_version e)
+means-version bytes (n ∷ rest) e fits = version-means bytes n rest (version_of_byte n) refl e (AreBytes-tail n rest fits)
+
+same-front : (a b c : ℕ) (rest : List ℕ) → (a ≡ 67) × (b ≡ 68) × (c ≡ 70) → a ∷ b ∷ c ∷ rest ≡ 67 ∷ 68 ∷ 70 ∷ rest
+same-front a b c rest h = rw (h.0, h.1, h.2) refl
+
+pub means-magic : (bytes : List ℕ) → AreBytes bytes → Means (λ v rest. SpellsMagic bytes v rest) (StopsInMagic bytes) ⊥ (magic_at.run bytes)
+unfolding magic_at ◌>>=◌ byte_or stop
+means-magic [] fits = stops _ _ (cut_magic (omega arith))
+means-magic (a ∷ []) fits = stops _ _ (cut_magic (omega arith))
+means-magic (a ∷ b ∷ []) fits = stops _ _ (cut_magic (omega arith))
+means-magic (a ∷ b ∷ c ∷ rest) fits =
+    means-cond ((a == 67) && (b == 68) && (c == 70)) _ _ rest
+    (λ is_magic. means-version (a ∷ b ∷ c ∷ rest) rest (same-front a b c rest (three-bytes a b c is_magic)) (λ i. fits (suc (suc (suc i)))))
+    (λ is_other. stops _ _ (other_magic a b c rest refl (other-bytes a b c is_other)))
+
+-- ---- the number of records
+
+cut-numrecs : (v : Version) (bytes : List ℕ) (fault : FormatFault) (rest : List ℕ) → CutNumber (count_width v) bytes fault rest → StopsInNumRecs v bytes fault rest
+cut-numrecs v bytes fault rest (cut_number cut) = cut_numrecs cut
+
+pub means-numrecs : (v : Version) (bytes : List ℕ) → AreBytes bytes → Means (SpellsNumRecs v bytes) (StopsInNumRecs v bytes) ⊥ ((numrecs_at v).run bytes)
+unfolding numrecs_at ◌>>=◌ done stop
+means-numrecs v bytes fits =
+    means-next _ (means-number v bytes fits)
+    (λ n rest number more. means-cond (n == streaming_mark v) _ _ rest
+      (λ is_mark. spells Streaming rest (subst (λ (k : ℕ). SpellsNumber (count_width v) bytes k rest) (eqb-true _ _ is_mark) number) more)
+      (λ no_mark. means-cond (leb (count_limit v) n) _ _ rest
+        (λ high. stops _ _ (negative_numrecs n rest number (leb-true _ _ high) (eqb-false _ _ no_mark)))
+        (λ low. spells (Known n) rest (record { number = number; non_negative = leb-false _ _ low }) more)))
+    (cut-numrecs v bytes) (λ e. e)
+
+-- ---- the whole
+
+-- a header that can be read already stands in front
+pub record SpellsPlain (bytes : List ℕ) (h : Header) (rest : List ℕ) : Type 0 where
+  pub header : SpellsHeader bytes h rest
+  pub plain : IsPlain h
+
+pub means-header : (bytes : List ℕ) → AreBytes bytes → Means (SpellsPlain bytes) (StopsWith bytes) (IsNotYet bytes) (header_at.run bytes)
+unfolding header_at ◌>>=◌ done
+means-header bytes fits =
+    means-next _ (means-magic bytes fits)
+    (λ v behind_magic magic more. means-next _ (means-numrecs v behind_magic more)
+      (λ numrecs behind_start records more2.
+        let start : SpellsStart bytes v numrecs behind_start = record { behind_magic = behind_magic; magic = magic; records = records } in
+        means-next _ (means-dims v behind_start more2)
+        (λ dims behind_dims dim_list more3.
+          let up_to_dims : SpellsUpToDims bytes v numrecs dims behind_dims = record { behind_start = behind_start; start = start; dim_list = dim_list } in
+          means-next _ (means-atts v behind_dims more3)
+          (λ gatts behind_gatts atts more4.
+            let up_to_gatts : SpellsUpToGatts bytes v numrecs dims gatts behind_gatts = record { behind_dims = behind_dims; front = up_to_dims; gatt_list = atts.list } in
+            means-next _ (means-vars v dims behind_gatts more4)
+            (λ vars rest none more5. spells (record { version = v; numrecs = numrecs; dims = dims; gatts = gatts; vars = vars }) rest
+              (record { header = record { behind_gatts = behind_gatts; front = up_to_gatts; var_list = none.list }; plain = record { gatts = atts.good; vars = none.none } }) more5)
+            (λ fault rest. in_vars v numrecs dims gatts behind_gatts fault rest up_to_gatts)
+            (λ e. variables v numrecs dims gatts behind_gatts up_to_gatts e))
+          (λ fault rest. in_gatts v numrecs dims behind_dims fault rest up_to_dims)
+          (λ e. number_att v numrecs dims behind_dims up_to_dims e))
+        (λ fault rest. in_dims v numrecs behind_start fault rest start) (λ e. absurd e))
+      (λ fault rest. in_numrecs v behind_magic fault rest magic) (λ e. absurd e))
+    (in_magic) (λ e. absurd e)
