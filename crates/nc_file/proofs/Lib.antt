@@ -6,3 +6,4 @@ pub mod Means
 pub mod FieldLaws
 pub mod ListLaws
 pub mod HeaderLaws
+pub mod Answered

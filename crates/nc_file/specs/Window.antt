@@ -11,16 +11,18 @@ use Rattle.nc_file.specs.declared.window.Window.{Window}
 -- a window as its contracts see it
 pub record State : Type 0 where
   pub source : SourceView
+  pub len : ℕ
   pub buf : List ℕ
   pub base : ℕ
   pub filled : ℕ
   pub pos : ℕ
 
 abbrev pub state : {S : Type 0} → (S → SourceView) → Window S → State
-state seen w = record { source = seen w.source.now; buf = w.buf.now; base = w.base; filled = w.filled; pos = w.pos }
+state seen w = record { source = seen w.source.now; len = w.len; buf = w.buf.now; base = w.base; filled = w.filled; pos = w.pos }
 
--- the buffer holds the source's bytes from base on
+-- it knows the source's length, and the buffer holds the source's bytes from base on
 pub record IsOpen (told : Bool) (w : State) : Type 0 where
+  pub knows_len : w.len ≡ length w.source.bytes
   pub used : w.pos ≤ w.filled
   pub fits : w.filled ≤ length w.buf
   pub room : 0 < length w.buf

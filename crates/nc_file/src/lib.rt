@@ -8,6 +8,7 @@
 
 mod fault;
 mod file;
+mod header;
 mod head_fault;
 mod memory;
 mod reading;
@@ -18,6 +19,7 @@ mod window;
 pub use fault::{OpenFailed, SinkFailed, SourceFailed, WriteFailed};
 pub use file::{FileSource, IoSink};
 pub use head_fault::HeadFault;
+pub use header::read_header;
 pub use memory::{MemSink, MemSource};
 pub use sink::{Sink, put};
 pub use source::Source;

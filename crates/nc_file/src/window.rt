@@ -12,28 +12,16 @@ use byteorder::{BigEndian, ByteOrder};
 use nc_base::{FormatFault, Sequence, Version};
 use std::alloc::Global;
 
-/// A lent buffer with the bytes of a source from `base` on, of which `pos` have been used. It reads from the source only
-/// when all of them have been, from the next byte on.
+/// A lent buffer with the bytes of a source of length `len` from `base` on, of which `pos` have been used. It reads from
+/// the source only when all of them have been, from the next byte on.
 #[derive(Drop)]
 pub(crate) struct Window<'a, S> {
     pub(crate) source: &'a mut S,
+    pub(crate) len: u64,
     pub(crate) buf: &'a mut [u8],
     pub(crate) base: u64,
     pub(crate) filled: usize,
     pub(crate) pos: usize,
-}
-
-impl<'a, S: Source> Window<'a, S> {
-    /// A window on the front of a source, which has read nothing yet.
-    pub(crate) fn new(source: &'a mut S, buf: &'a mut [u8]) -> Window<'a, S> {
-        Window {
-            source,
-            buf,
-            base: 0,
-            filled: 0,
-            pos: 0,
-        }
-    }
 }
 
 impl<S: Source> Window<'_, S> {
@@ -46,7 +34,7 @@ impl<S: Source> Window<'_, S> {
         ensures cause { Caused (S.seen self.old.source.now).failures (S.seen self.new.source.now) result }
         ensures refilled { Refilled S.told (state S.seen self.old) (state S.seen self.new) result }
     {
-        let len = self.source.len();
+        let len = self.len;
         let at = self.base + self.filled as u64;
         if len <= at {
             return Ok(false);

@@ -1,0 +1,45 @@
+//! Reading the header of a file.
+
+ghost use Rattle.std.specs.Prelude.{◌≡◌, ◌≤◌, length};
+ghost use Rattle.std.specs.Bool.{OnTrue};
+ghost use Rattle.nc_file.specs.Reading.{Caused};
+ghost use Rattle.nc_file.specs.Answers.{Answers};
+
+use crate::head_fault::HeadFault;
+use crate::source::Source;
+use crate::window::Window;
+use nc_base::Header;
+use std::alloc::Global;
+
+/// Reads the header at the front of a source, through a lent buffer of at least 16 bytes.
+///
+/// It reads from the source only when it lacks a byte of the next field, and from that byte on; so a source that tells its
+/// bytes hands over the header's bytes, or those up to the end of the first wrong field, and at most one buffer more. No
+/// count of the header reserves memory: a list grows as its elements are read. The padding of names and attributes may be
+/// any bytes (NetCDF Classic Format Specification).
+///
+/// # Errors
+///
+/// [`HeadFault::ReadFailed`] at once where the source fails, [`HeadFault::OutOfMemory`] at once where memory is refused, and
+/// else what is wrong with the first wrong field from the left. An end of the source before its length is the file's end.
+pub fn read_header<S: Source>(
+    alloc: Global,
+    source: &mut S,
+    buf: &mut [u8],
+) -> Result<Header, HeadFault>
+    requires { 16 ≤ length buf.old }
+    ensures bytes { (S.seen source.new).bytes ≡ (S.seen source.old).bytes }
+    ensures cause { Caused (S.seen source.old).failures (S.seen source.new) result }
+    ensures answer { OnTrue S.told (Answers (S.seen source.old) (S.seen source.new) (length buf.old) result) }
+{
+    let len = source.len();
+    let mut window = Window {
+        source,
+        len,
+        buf,
+        base: 0,
+        filled: 0,
+        pos: 0,
+    };
+    window.header(alloc)
+}
