@@ -1,0 +1,94 @@
+-- Lists with a comma between each two: the numbers of an attribute, and the dimensions of a shape.
+use Rattle.std.proofs.Common.{◌≡◌, ℕ, ℤ, ◌-◌, ◌/◌, ◌<◌, ◌≤◌, ◌==◌, Bool, true, false, List, [], ◌∷◌, ◌++◌, length, take, drop, map, refl, sym, ap, ◌∙◌, arith, suc, if◌then◌else◌, codes, append_assoc, add-one, nat_lt}
+use Rattle.std.proofs.lemmas.List.{append-nil, length-drop, length-map}
+use Rattle.std.proofs.lemmas.Bool.Decides.{nat_tests}
+use Rattle.std.specs.Fmt.{signed_decimal}
+use Rattle.nc_base.specs.declared.header.Dim.{Dim}
+use Rattle.nc_base.specs.declared.nc_type.NcType.{NcType}
+use Rattle.nc_base.specs.declared.nc_type.NcType.TheVariants.{Byte, Char, Short, Int, Ubyte, Ushort, Uint, Int64, Uint64}
+use Rattle.nc_base.specs.Bytes.{text}
+use Rattle.nc_base.specs.HeadText.{dim_name, joined, number_values}
+use Rattle.nc_base.specs.Types.{number_suffix}
+use Rattle.nc_base.specs.Numbers.{number_of, numbers, numbers_from}
+use Rattle.nc_base.specs.Types.{size_of}
+use Rattle.cdl_print.specs.Pieces.{dim_text, number_text}
+use Rattle.std.proofs.Math.Nat.{div-eq-sub-div, div-eq_of_lt}
+
+-- what stands behind a piece
+abbrev pub behind : Bool → List ℕ
+behind is_last = if is_last then [] else codes ", "
+
+pub joined-cons : (x : List ℕ) (xs : List (List ℕ)) (is_last : Bool) → is_last ≡ (length xs == 0) → joined (x ∷ xs) ≡ x ++ (behind is_last ++ joined xs)
+joined-cons x [] is_last e = rw e (sym (append-nil x))
+joined-cons x (y ∷ xs) is_last e =
+    let more : is_last ≡ false = grind (arith, nat_tests) in
+    rw more refl
+
+pub joined_names-cons : (dims : List Dim) (id : ℕ) (ids rest : List ℕ) (is_last : Bool) → rest ≡ id ∷ ids → is_last ≡ (length ids == 0) → joined (map (dim_name dims) rest) ≡ dim_text dims id is_last ++ joined (map (dim_name dims) ids)
+unfolding dim_text text
+joined_names-cons dims id ids rest is_last e last =
+    rw e (joined-cons (dim_name dims id) (map (dim_name dims) ids) is_last (rw length-map last) ∙ simp (append_assoc, append-nil))
+
+size_some : (ty : NcType) → 0 < size_of ty
+size_some Byte = omega arith
+size_some Char = omega arith
+size_some Short = omega arith
+size_some Int = omega arith
+size_some Ubyte = omega arith
+size_some Ushort = omega arith
+size_some Uint = omega arith
+size_some Int64 = omega arith
+size_some Uint64 = omega arith
+
+count-cons : (size : ℕ) (bytes : List ℕ) → 0 < size → size ≤ length bytes → length bytes / size ≡ suc (length (drop size bytes) / size)
+count-cons size bytes some le = rw (length-drop size bytes) (div-eq-sub-div some le ∙ add-one ((length bytes - size) / size))
+
+numbers_from-cons : (ty : NcType) (n k : ℕ) (bytes : List ℕ) → n ≡ suc k → numbers_from ty n bytes ≡ number_of ty (take (size_of ty) bytes) ∷ numbers_from ty k (drop (size_of ty) bytes)
+numbers_from-cons ty n k bytes e = rw e refl
+
+numbers-cons : (ty : NcType) (bytes : List ℕ) → size_of ty ≤ length bytes → numbers ty bytes ≡ number_of ty (take (size_of ty) bytes) ∷ numbers ty (drop (size_of ty) bytes)
+unfolding numbers
+numbers-cons ty bytes le = numbers_from-cons ty (length bytes / size_of ty) (length (drop (size_of ty) bytes) / size_of ty) bytes (count-cons (size_of ty) bytes (size_some ty) le)
+
+numbers-none : (ty : NcType) (bytes : List ℕ) → length bytes < size_of ty → numbers ty bytes ≡ []
+unfolding numbers
+numbers-none ty bytes lt = rw (div-eq_of_lt lt) refl
+
+pub number_values-none : (ty : NcType) (bytes : List ℕ) → length bytes < size_of ty → number_values ty bytes ≡ []
+unfolding number_values
+number_values-none ty bytes lt = rw (numbers-none ty bytes lt) refl
+
+-- whether there is none
+is_none : (ty : NcType) (bytes : List ℕ) (t : Bool) → nat_lt (length bytes) (size_of ty) ≡ t → t ≡ (length (numbers ty bytes) == 0)
+is_none ty bytes true e =
+    let short : length bytes < size_of ty = grind (arith, nat_tests) in
+    let none : length (numbers ty bytes) ≡ 0 = ap length (numbers-none ty bytes short) in
+    grind (arith, nat_tests)
+is_none ty bytes false e =
+    let enough : size_of ty ≤ length bytes = grind (arith, nat_tests) in
+    let some = ap length (numbers-cons ty bytes enough) in
+    grind (arith, nat_tests)
+
+regroup : (a b c d : List ℕ) → (a ++ b) ++ (c ++ d) ≡ (a ++ (b ++ (c ++ []))) ++ d
+regroup a b c d = simp (append_assoc, append-nil)
+
+texts : NcType → List ℤ → List (List ℕ)
+texts ty = map (λ (n : ℤ). signed_decimal n ++ number_suffix ty)
+
+number_values-cons : (ty : NcType) (bytes : List ℕ) (is_last : Bool) → size_of ty ≤ length bytes → nat_lt (length (drop (size_of ty) bytes)) (size_of ty) ≡ is_last → number_values ty bytes ≡ number_text ty (take (size_of ty) bytes) is_last ++ number_values ty (drop (size_of ty) bytes)
+unfolding number_values number_text text texts
+number_values-cons ty bytes is_last le last =
+    let n = number_of ty (take (size_of ty) bytes) in
+    let others = numbers ty (drop (size_of ty) bytes) in
+    let none = is_none ty (drop (size_of ty) bytes) is_last last in
+    ap (λ (ns : List ℤ). joined (texts ty ns)) (numbers-cons ty bytes le)
+    ∙ joined-cons (signed_decimal n ++ number_suffix ty) (texts ty others) is_last (rw length-map none)
+    ∙ regroup (signed_decimal n) (number_suffix ty) (behind is_last) (joined (texts ty others))
+
+pub number_values-parts : (ty : NcType) (size : ℕ) (rest value others : List ℕ) (is_last : Bool) → size ≡ size_of ty → size ≤ length rest → value ≡ take size rest → others ≡ drop size rest → is_last ≡ nat_lt (length others) size → number_values ty rest ≡ number_text ty value is_last ++ number_values ty others
+number_values-parts ty size rest value others is_last is le front back last =
+    let long : size_of ty ≤ length rest = omega arith in
+    let value_is : value ≡ take (size_of ty) rest = rw (← is) front in
+    let others_is : others ≡ drop (size_of ty) rest = rw (← is) back in
+    let last_is : nat_lt (length (drop (size_of ty) rest)) (size_of ty) ≡ is_last = cc in
+    rw (value_is, others_is) (number_values-cons ty rest is_last long last_is)

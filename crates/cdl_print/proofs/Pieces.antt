@@ -1,0 +1,124 @@
+-- The pieces that names and strings are written by.
+use Rattle.std.proofs.Common.{◌≡◌, ℕ, ◌+◌, ◌<◌, ◌≤◌, ◌==◌, Bool, true, false, cond, List, [], ◌∷◌, ◌++◌, length, take, drop, max, refl, sym, ap, ◌∙◌, arith, rules, zero, suc, min, append_assoc, if◌then◌else◌, not, nat_lt, position, Some, None}
+use Rattle.std.proofs.lemmas.Grind.{common_steps, flat_map-append}
+use Rattle.std.proofs.lemmas.List.Sums.{prefix_len-le-length}
+use Rattle.std.proofs.lemmas.List.{append-nil, take-append-drop}
+use Rattle.nc_base.specs.Bytes.{text}
+use Rattle.nc_base.specs.HeadText.{broken_text, string_break}
+use Rattle.std.proofs.lemmas.Bool.Decides.{nat_tests}
+use Rattle.std.specs.List.{flat_map, list_all, prefix_len, position_or_len}
+use Rattle.nc_base.specs.Escapes.{escaped_name, is_reserved, escaped_text, escaped_in_string}
+use Rattle.cdl_print.specs.Pieces.{is_literal, IsPiece, line_len, line_text}
+
+-- the length of a piece
+abbrev pub piece_len_of : (ℕ → Bool) → List ℕ → ℕ
+piece_len_of p xs = max 1 (prefix_len p xs)
+
+pub piece_len-le : (p : ℕ → Bool) (xs : List ℕ) → 0 < length xs → piece_len_of p xs ≤ length xs
+piece_len-le p xs h = omega (arith, prefix_len-le-length p xs)
+
+list_all-prefix : (p : ℕ → Bool) (xs : List ℕ) → list_all p (take (prefix_len p xs) xs) ≡ true
+list_all-prefix p [] = refl
+list_all-prefix p (x ∷ xs) =
+    let later = list_all-prefix p xs in
+    elim (p x) as (λ b. p x ≡ b → list_all p (take (cond b (1 + prefix_len p xs) 0) (x ∷ xs)) ≡ true) [ true ↦ λ e. grind (arith, common_steps, later) | false ↦ λ e. refl ] refl
+
+front_is_piece_at : (p : ℕ → Bool) (xs : List ℕ) (n : ℕ) → 0 < length xs → n ≡ prefix_len p xs → IsPiece p (take (max 1 n) xs)
+front_is_piece_at p [] zero h is = elim h [ ]
+front_is_piece_at p (x ∷ xs) zero h is = refl
+front_is_piece_at p xs (suc n) h is =
+    let all : list_all p (take (suc n) xs) ≡ true = rw is (list_all-prefix p xs) in
+    let longer : max 1 (suc n) ≡ suc n = omega arith in
+    rw (longer, all) (grind arith)
+
+pub front_is_piece : (p : ℕ → Bool) (xs : List ℕ) → 0 < length xs → IsPiece p (take (piece_len_of p xs) xs)
+front_is_piece p xs h = front_is_piece_at p xs (prefix_len p xs) h refl
+
+pub flat_map_parts : (f : ℕ → List ℕ) (n : ℕ) (xs front back : List ℕ) → front ≡ take n xs → back ≡ drop n xs → flat_map f xs ≡ flat_map f front ++ flat_map f back
+flat_map_parts f n xs front back e d =
+    rw (e, d) (ap (flat_map f) (sym (take-append-drop n xs)) ∙ flat_map-append f (take n xs) (drop n xs))
+
+pub flat_map_itself : (p : ℕ → Bool) (f : ℕ → List ℕ) → ((b : ℕ) → p b ≡ true → f b ≡ b ∷ []) → (piece : List ℕ) → list_all p piece ≡ true → flat_map f piece ≡ piece
+flat_map_itself p f at [] h = refl
+flat_map_itself p f at (b ∷ piece) h =
+    let first : p b ≡ true = grind arith in
+    let others : list_all p piece ≡ true = grind arith in
+    rw (at b first, flat_map_itself p f at piece others) refl
+
+-- the name of no variable
+pub escaped_name-none : escaped_name [] ≡ []
+unfolding escaped_name is_reserved
+escaped_name-none = refl
+
+pub ruleset nameless = (escaped_name-none)
+
+-- ---- lines
+
+pub line_len-position : (xs : List ℕ) → line_len xs ≡ min (position_or_len (λ b. b == 10) xs + 1) (length xs)
+line_len-position [] = refl
+line_len-position (b ∷ xs) = let e = line_len-position xs in grind (arith, common_steps)
+
+found_at : (k n at : ℕ) (t : Bool) → nat_lt k n ≡ t → cond t (Some k) None ≡ Some at → at + 1 ≡ min (k + 1) n
+found_at k n at true less e = let same : k ≡ at = cc in let below : k < n = grind (arith, nat_tests) in omega arith
+found_at k n at false less e = absurd cc
+
+found_none : (k n : ℕ) (t : Bool) → nat_lt k n ≡ t → k ≤ n → cond t (Some k) None ≡ None → n ≡ min (k + 1) n
+found_none k n true less le e = absurd cc
+found_none k n false less le e = let not_below : n ≤ k = grind (arith, nat_tests) in omega arith
+
+pub line_len-found : (xs : List ℕ) (at : ℕ) → position (λ b. b == 10) xs ≡ Some at → at + 1 ≡ line_len xs
+line_len-found xs at e = rw (line_len-position xs) (found_at (position_or_len (λ b. b == 10) xs) (length xs) at _ refl e)
+
+pub line_len-not_found : (xs : List ℕ) → position (λ b. b == 10) xs ≡ None → length xs ≡ line_len xs
+line_len-not_found xs e = rw (line_len-position xs) (found_none (position_or_len (λ b. b == 10) xs) (length xs) _ refl (prefix_len-le-length (λ b. not (b == 10)) xs) e)
+
+pub ruleset lines = (line_len-found, line_len-not_found)
+
+pub line_len-le : (xs : List ℕ) → line_len xs ≤ length xs
+line_len-le xs = omega (arith, line_len-position xs)
+
+pub line_len-some : (xs : List ℕ) → 0 < length xs → 0 < line_len xs
+line_len-some xs some = omega (arith, line_len-position xs)
+
+-- a byte that stands for itself in a string
+pub literal_itself : (b : ℕ) → is_literal b ≡ true → escaped_in_string b ≡ b ∷ []
+literal_itself b h = grind (arith, nat_tests)
+
+pub escaped_text-parts : (n : ℕ) (xs front back : List ℕ) → front ≡ take n xs → back ≡ drop n xs → escaped_text xs ≡ flat_map escaped_in_string front ++ escaped_text back
+unfolding escaped_text
+escaped_text-parts n xs front back e d = flat_map_parts escaped_in_string n xs front back e d
+
+line_text-cons : (b : ℕ) (line : List ℕ) (is_last : Bool) → line_text (b ∷ line) is_last ≡ escaped_in_string b ++ line_text line is_last
+unfolding line_text escaped_text text
+line_text-cons b line is_last = append_assoc (escaped_in_string b) (flat_map escaped_in_string line) ((if is_last then [] else string_break) ++ [])
+
+line_text-none : (is_last : Bool) → line_text [] is_last ≡ (if is_last then [] else string_break)
+unfolding line_text escaped_text text
+line_text-none is_last = append-nil (if is_last then [] else string_break)
+
+last_line : (b : ℕ) → escaped_in_string b ≡ line_text (b ∷ []) true ++ []
+last_line b = rw (line_text-cons b [] true, line_text-none true) (sym (append-nil (escaped_in_string b ++ []) ∙ append-nil (escaped_in_string b)))
+
+feed_line : (b : ℕ) (is_last : Bool) (others : List ℕ) → is_last ≡ false → escaped_in_string b ++ (string_break ++ others) ≡ line_text (b ∷ []) is_last ++ others
+feed_line b is_last others e = rw (e, line_text-cons b [] false, line_text-none false) (sym (append_assoc (escaped_in_string b) string_break others))
+
+-- the first line, and the lines behind it
+broken_text-line : (xs : List ℕ) → 0 < length xs → broken_text xs ≡ line_text (take (line_len xs) xs) (length (drop (line_len xs) xs) == 0) ++ broken_text (drop (line_len xs) xs)
+broken_text-line [] h = elim h [ ]
+broken_text-line (b ∷ []) h =
+    elim (b == 10) as (λ t. escaped_in_string b ≡ line_text (take (if t then 1 else 1) (b ∷ [])) (length (drop (if t then 1 else 1) (b ∷ [])) == 0) ++ broken_text (drop (if t then 1 else 1) (b ∷ [])))
+    [ true ↦ last_line b | false ↦ last_line b ]
+broken_text-line (b ∷ c ∷ bytes) h =
+    let later = broken_text-line (c ∷ bytes) (search rules) in
+    elim (b == 10) as (λ t. (b == 10) ≡ t → escaped_in_string b ++ ((if t then string_break else []) ++ broken_text (c ∷ bytes)) ≡ line_text (take (if t then 1 else suc (line_len (c ∷ bytes))) (b ∷ c ∷ bytes)) (length (drop (if t then 1 else suc (line_len (c ∷ bytes))) (b ∷ c ∷ bytes)) == 0) ++ broken_text (drop (if t then 1 else suc (line_len (c ∷ bytes))) (b ∷ c ∷ bytes))) [
+      | true ↦ λ e. feed_line b (length (c ∷ bytes) == 0) (broken_text (c ∷ bytes)) (grind (arith, nat_tests))
+      | false ↦ λ e.
+          let n = line_len (c ∷ bytes) in
+          let last = length (drop n (c ∷ bytes)) == 0 in
+          ap (λ (x : List ℕ). escaped_in_string b ++ x) later
+          ∙ sym (append_assoc (escaped_in_string b) (line_text (take n (c ∷ bytes)) last) (broken_text (drop n (c ∷ bytes))))
+          ∙ ap (λ (x : List ℕ). x ++ broken_text (drop n (c ∷ bytes))) (sym (line_text-cons b (take n (c ∷ bytes)) last))
+    ] refl
+
+pub broken_text-parts : (n : ℕ) (xs front back : List ℕ) (is_last : Bool) → 0 < length xs → n ≡ line_len xs → front ≡ take n xs → back ≡ drop n xs → is_last ≡ (length back == 0) → broken_text xs ≡ line_text front is_last ++ broken_text back
+broken_text-parts n xs front back is_last some is e d last = rw (last, e, d, is) (broken_text-line xs some)

@@ -1,0 +1,7 @@
+use Rattle.nc_base.specs.Escapes.{escaped_name}
+use Rattle.nc_base.specs.HeadText.{att_line}
+use Rattle.nc_file.proofs.Writes.{IsWritten}
+use Rattle.cdl_print.proofs.attribute.put_att_lines.Given as goal
+
+abbrev pub invariant-loop-att : goal.invariant-loop-att
+invariant-loop-att g l = IsWritten (g.W.Sink.seen l.fn.sink) (g.W.Sink.seen l.sink) (att_line (escaped_name l.owner)) l.atts l.att-index

@@ -1,0 +1,10 @@
+use Rattle.std.proofs.Common.{length, map}
+use Rattle.nc_base.specs.HeadText.{dim_name, joined}
+use Rattle.cdl_print.proofs.Begun.{IsBegun}
+use Rattle.cdl_print.proofs.variable.put_dim_names.Given as goal
+
+abbrev pub invariant-loop-first : goal.invariant-loop-first
+invariant-loop-first g l = IsBegun (g.W.Sink.seen l.fn.sink) (g.W.Sink.seen l.sink) (joined (map (dim_name l.dims) l.rest)) (joined (map (dim_name l.dims) l.dimids))
+
+abbrev pub decreases-loop-first : goal.decreases-loop-first
+decreases-loop-first g l = length l.rest

@@ -1,0 +1,6 @@
+use Rattle.nc_base.specs.HeadText.{var_lines}
+use Rattle.nc_file.proofs.Writes.{IsWritten}
+use Rattle.cdl_print.proofs.variable.put_var_rows.Given as goal
+
+abbrev pub invariant-loop-var : goal.invariant-loop-var
+invariant-loop-var g l = IsWritten (g.W.Sink.seen l.fn.sink) (g.W.Sink.seen l.sink) (var_lines l.dims) l.vars l.var-index

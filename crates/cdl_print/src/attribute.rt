@@ -1,0 +1,77 @@
+//! Attributes as CDL writes them.
+
+ghost use Rattle.std.specs.Prelude.{◌≡◌, [], ◌∷◌, codes};
+ghost use Rattle.nc_base.specs.Bytes.{text};
+ghost use Rattle.nc_base.specs.Escapes.{escaped_name};
+ghost use Rattle.nc_base.specs.HeadText.{att_line, att_lines, att_values, char_values, without_trailing_nuls};
+ghost use Rattle.nc_file.specs.Sinks.{Wrote};
+
+use crate::name::put_name;
+use crate::number::put_numbers;
+use crate::string::put_broken_text;
+use nc_base::{Att, NcType};
+use nc_file::{Sink, WriteFailed, put};
+
+/// Writes a line for each attribute of the variable with this name; of the dataset where the name is empty.
+#[tactic(auto, using(nc_file::proofs::Writes::writes), unfolding(nc_base::specs::HeadText::att_lines))]
+pub fn put_att_lines<W: Sink>(sink: &mut W, owner: &[u8], atts: &[Att]) -> Result<(), WriteFailed>
+    ensures { Wrote (W.seen sink.old) (W.seen sink.new) (att_lines (escaped_name owner.now) atts.now) result }
+{
+    for att in atts {
+        put_att_line(sink, owner, att)?;
+    }
+    Ok(())
+}
+
+/// Writes the line of an attribute.
+#[tactic(auto, using(nc_file::proofs::Writes::writes), unfolding(nc_base::specs::HeadText::att_line))]
+fn put_att_line<W: Sink>(sink: &mut W, owner: &[u8], att: &Att) -> Result<(), WriteFailed>
+    ensures { Wrote (W.seen sink.old) (W.seen sink.new) (att_line (escaped_name owner.now) att.now) result }
+{
+    put_att_name(sink, owner, att.name.as_slice())?;
+    put(sink, b" = ")?;
+    put_values(sink, att)?;
+    put(sink, b" ;\n")
+}
+
+/// Writes what an attribute is called, with its variable.
+#[tactic(auto, using(nc_file::proofs::Writes::writes))]
+fn put_att_name<W: Sink>(sink: &mut W, owner: &[u8], name: &[u8]) -> Result<(), WriteFailed>
+    ensures { Wrote (W.seen sink.old) (W.seen sink.new) (text (codes "\t\t" ∷ escaped_name owner.now ∷ codes ":" ∷ escaped_name name.now ∷ [])) result }
+{
+    put(sink, b"\t\t")?;
+    put_name(sink, owner)?;
+    put(sink, b":")?;
+    put_name(sink, name)
+}
+
+/// Writes the values of an attribute.
+fn put_values<W: Sink>(sink: &mut W, att: &Att) -> Result<(), WriteFailed>
+    ensures { Wrote (W.seen sink.old) (W.seen sink.new) (att_values att.now.ty att.now.vals) result }
+{
+    match att.ty {
+        NcType::Char => put_char_values(sink, att.vals.as_slice()),
+        ty => put_numbers(sink, ty, att.vals.as_slice()),
+    }
+}
+
+/// Writes the characters of an attribute as strings, without the NULs at their end.
+#[tactic(auto, using(nc_file::proofs::Writes::writes), unfolding(nc_base::specs::HeadText::char_values))]
+fn put_char_values<W: Sink>(sink: &mut W, vals: &[u8]) -> Result<(), WriteFailed>
+    ensures { Wrote (W.seen sink.old) (W.seen sink.new) (char_values vals.now) result }
+{
+    put(sink, b"\"")?;
+    put_broken_text(sink, without_trailing_nuls(vals))?;
+    put(sink, b"\"")
+}
+
+/// The bytes without the NULs at their end.
+fn without_trailing_nuls(bytes: &[u8]) -> &[u8]
+    ensures { result.now ≡ without_trailing_nuls bytes.now }
+{
+    let mut len = bytes.len();
+    while 0 < len && bytes[len - 1] == 0 {
+        len -= 1;
+    }
+    &bytes[..len]
+}

@@ -1,0 +1,22 @@
+//! Numbers in decimal.
+
+ghost use Rattle.std.specs.Prelude.{decimal};
+ghost use Rattle.std.specs.Fmt.{signed_decimal};
+ghost use Rattle.nc_file.specs.Sinks.{Wrote};
+
+use itoa::Buffer;
+use nc_file::{Sink, WriteFailed, put};
+
+/// Writes a count in decimal.
+pub fn put_decimal<W: Sink>(sink: &mut W, n: u64) -> Result<(), WriteFailed>
+    ensures { Wrote (W.seen sink.old) (W.seen sink.new) (decimal n) result }
+{
+    put(sink, Buffer::new().format(n).as_bytes())
+}
+
+/// Writes an integer in decimal.
+pub fn put_integer<W: Sink>(sink: &mut W, n: i128) -> Result<(), WriteFailed>
+    ensures { Wrote (W.seen sink.old) (W.seen sink.new) (signed_decimal n) result }
+{
+    put(sink, Buffer::new().format(n).as_bytes())
+}

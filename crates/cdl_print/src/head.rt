@@ -1,0 +1,131 @@
+//! The head of a dump.
+
+ghost use Rattle.std.specs.Prelude.{◌≡◌, [], ◌∷◌, codes, decimal};
+ghost use Rattle.nc_base.specs.Bytes.{text};
+ghost use Rattle.nc_base.specs.HeadText.{att_lines, currently_word, dim_extent, dim_line, dim_lines, dimensions_word, dims_text, gatts_text, global_word, head_text, unlimited_word};
+ghost use Rattle.nc_file.specs.Sinks.{Wrote};
+
+use crate::attribute::put_att_lines;
+use crate::decimal::put_decimal;
+use crate::name::put_name;
+use crate::variable::put_vars;
+use crate::word::Word;
+use nc_base::{Att, Dim, Header};
+use nc_file::{Sink, WriteFailed, put};
+
+/// Writes the head of a dump of the dataset with this name, up to `data:`.
+///
+/// The record dimension is shown with this number of records. The layout is that of ncdump(1).
+///
+/// # Errors
+///
+/// The sink failed. It took some front of the text.
+#[tactic(auto, using(nc_file::proofs::Writes::writes), unfolding(nc_base::specs::HeadText::head_text))]
+pub fn put_head<W: Sink>(
+    sink: &mut W,
+    name: &[u8],
+    header: &Header,
+    records: u64,
+) -> Result<(), WriteFailed>
+    ensures { Wrote (W.seen sink.old) (W.seen sink.new) (head_text name.now header.now records) result }
+{
+    put(sink, Word::Netcdf.bytes())?;
+    put_name(sink, name)?;
+    put(sink, b" {\n")?;
+    put_dims(sink, header.dims.as_slice(), records)?;
+    put_vars(sink, header.dims.as_slice(), header.vars.as_slice())?;
+    put_gatts(sink, header.gatts.as_slice())
+}
+
+/// Writes the dimensions, if there are any.
+#[tactic(auto, using(nc_file::proofs::Writes::writes), unfolding(nc_base::specs::HeadText::dims_text))]
+fn put_dims<W: Sink>(sink: &mut W, dims: &[Dim], records: u64) -> Result<(), WriteFailed>
+    ensures { Wrote (W.seen sink.old) (W.seen sink.new) (dims_text records dims.now) result }
+{
+    if dims.is_empty() {
+        return Ok(());
+    }
+    put_dims_part(sink, dims, records)
+}
+
+/// Writes the dimensions under their title.
+#[tactic(auto, using(nc_file::proofs::Writes::writes))]
+fn put_dims_part<W: Sink>(sink: &mut W, dims: &[Dim], records: u64) -> Result<(), WriteFailed>
+    ensures { Wrote (W.seen sink.old) (W.seen sink.new) (text (dimensions_word ∷ dim_lines records dims.now ∷ [])) result }
+{
+    put(sink, Word::Dimensions.bytes())?;
+    put_dim_lines(sink, dims, records)
+}
+
+/// Writes a line for each dimension.
+#[tactic(auto, using(nc_file::proofs::Writes::writes), unfolding(nc_base::specs::HeadText::dim_lines))]
+fn put_dim_lines<W: Sink>(sink: &mut W, dims: &[Dim], records: u64) -> Result<(), WriteFailed>
+    ensures { Wrote (W.seen sink.old) (W.seen sink.new) (dim_lines records dims.now) result }
+{
+    for dim in dims {
+        put_dim_line(sink, dim, records)?;
+    }
+    Ok(())
+}
+
+/// Writes the line of a dimension.
+#[tactic(auto, using(nc_file::proofs::Writes::writes), unfolding(nc_base::specs::HeadText::dim_line))]
+fn put_dim_line<W: Sink>(sink: &mut W, dim: &Dim, records: u64) -> Result<(), WriteFailed>
+    ensures { Wrote (W.seen sink.old) (W.seen sink.new) (dim_line records dim.now) result }
+{
+    put(sink, b"\t")?;
+    put_name(sink, dim.name.as_slice())?;
+    put(sink, b" = ")?;
+    put_extent(sink, dim.len, records)
+}
+
+/// Writes the length of a dimension; of the record dimension the number of records.
+#[tactic(auto, unfolding(nc_base::specs::HeadText::dim_extent))]
+fn put_extent<W: Sink>(sink: &mut W, len: u64, records: u64) -> Result<(), WriteFailed>
+    ensures { Wrote (W.seen sink.old) (W.seen sink.new) (dim_extent records len) result }
+{
+    if len == 0 {
+        put_records(sink, records)
+    } else {
+        put_length(sink, len)
+    }
+}
+
+/// Writes the length of the record dimension.
+#[tactic(auto, using(nc_file::proofs::Writes::writes))]
+fn put_records<W: Sink>(sink: &mut W, records: u64) -> Result<(), WriteFailed>
+    ensures { Wrote (W.seen sink.old) (W.seen sink.new) (text (unlimited_word ∷ decimal records ∷ currently_word ∷ [])) result }
+{
+    put(sink, Word::Unlimited.bytes())?;
+    put_decimal(sink, records)?;
+    put(sink, Word::Currently.bytes())
+}
+
+/// Writes the length of a dimension that is fixed.
+#[tactic(auto, using(nc_file::proofs::Writes::writes))]
+fn put_length<W: Sink>(sink: &mut W, len: u64) -> Result<(), WriteFailed>
+    ensures { Wrote (W.seen sink.old) (W.seen sink.new) (text (decimal len ∷ codes " ;\n" ∷ [])) result }
+{
+    put_decimal(sink, len)?;
+    put(sink, b" ;\n")
+}
+
+/// Writes the global attributes, if there are any.
+#[tactic(auto, using(nc_file::proofs::Writes::writes), unfolding(nc_base::specs::HeadText::gatts_text))]
+fn put_gatts<W: Sink>(sink: &mut W, gatts: &[Att]) -> Result<(), WriteFailed>
+    ensures { Wrote (W.seen sink.old) (W.seen sink.new) (gatts_text gatts.now) result }
+{
+    if gatts.is_empty() {
+        return Ok(());
+    }
+    put_gatts_part(sink, gatts)
+}
+
+/// Writes the global attributes under their title.
+#[tactic(auto, using(nc_file::proofs::Writes::writes, crate::proofs::Pieces::nameless))]
+fn put_gatts_part<W: Sink>(sink: &mut W, gatts: &[Att]) -> Result<(), WriteFailed>
+    ensures { Wrote (W.seen sink.old) (W.seen sink.new) (text (global_word ∷ att_lines [] gatts.now ∷ [])) result }
+{
+    put(sink, Word::GlobalAttributes.bytes())?;
+    put_att_lines(sink, b"", gatts)
+}

@@ -1,0 +1,88 @@
+//! The numbers of an attribute as CDL writes them.
+
+ghost use Rattle.std.specs.Prelude.{◌≡◌, length};
+ghost use Rattle.nc_base.specs.HeadText.{number_values};
+ghost use Rattle.nc_base.specs.Numbers.{number_of};
+ghost use Rattle.nc_base.specs.Types.{number_suffix, size_of};
+ghost use Rattle.nc_file.specs.Sinks.{Wrote};
+ghost use Rattle.cdl_print.specs.Pieces.{number_text};
+
+use crate::decimal::put_integer;
+use nc_base::NcType;
+use nc_file::{Sink, WriteFailed, put};
+
+/// Writes the numbers of an attribute, each with the suffix of its type.
+pub fn put_numbers<W: Sink>(sink: &mut W, ty: NcType, vals: &[u8]) -> Result<(), WriteFailed>
+    ensures { Wrote (W.seen sink.old) (W.seen sink.new) (number_values ty vals.now) result }
+{
+    let size = ty.size() as usize;
+    let mut rest = vals;
+    while size <= rest.len() {
+        let (value, others) = rest.split_at(size);
+        put_number(sink, ty, value, others.len() < size)?;
+        rest = others;
+    }
+    Ok(())
+}
+
+/// Writes a number, and what stands between it and the next.
+#[tactic(auto, using(nc_file::proofs::Writes::writes), unfolding(crate::specs::Pieces::number_text))]
+fn put_number<W: Sink>(
+    sink: &mut W,
+    ty: NcType,
+    value: &[u8],
+    is_last: bool,
+) -> Result<(), WriteFailed>
+    requires { length value.now ≡ size_of ty }
+    ensures { Wrote (W.seen sink.old) (W.seen sink.new) (number_text ty value.now is_last) result }
+{
+    put_integer(sink, number(ty, value))?;
+    put(sink, suffix(ty))?;
+    if is_last {
+        return Ok(());
+    }
+    put(sink, b", ")
+}
+
+/// The number that so many bytes are as the type's size.
+fn number(ty: NcType, bytes: &[u8]) -> i128
+    requires { length bytes.now ≡ size_of ty }
+    ensures { result ≡ number_of ty bytes.now }
+{
+    match ty {
+        NcType::Byte => i8::from_be_bytes([bytes[0]]) as i128,
+        NcType::Char | NcType::Ubyte => u8::from_be_bytes([bytes[0]]) as i128,
+        NcType::Short => i16::from_be_bytes([bytes[0], bytes[1]]) as i128,
+        NcType::Ushort => u16::from_be_bytes([bytes[0], bytes[1]]) as i128,
+        NcType::Int => i32::from_be_bytes([bytes[0], bytes[1], bytes[2], bytes[3]]) as i128,
+        NcType::Uint => u32::from_be_bytes([bytes[0], bytes[1], bytes[2], bytes[3]]) as i128,
+        NcType::Int64 => i64::from_be_bytes(eight(bytes)) as i128,
+        NcType::Uint64 => u64::from_be_bytes(eight(bytes)) as i128,
+    }
+}
+
+/// The bytes as an array.
+fn eight(bytes: &[u8]) -> [u8; 8]
+    requires { length bytes.now ≡ 8 }
+    ensures { result ≡ bytes.now }
+{
+    [
+        bytes[0], bytes[1], bytes[2], bytes[3], bytes[4], bytes[5], bytes[6], bytes[7],
+    ]
+}
+
+/// The suffix of a number of this type.
+fn suffix(ty: NcType) -> &'static [u8]
+    ensures { result.now ≡ number_suffix ty }
+{
+    match ty {
+        NcType::Byte => b"b",
+        NcType::Char | NcType::Int => b"",
+        NcType::Short => b"s",
+        NcType::Ubyte => b"UB",
+        NcType::Ushort => b"US",
+        NcType::Uint => b"U",
+        NcType::Int64 => b"LL",
+        NcType::Uint64 => b"ULL",
+    }
+}

@@ -1,0 +1,146 @@
+//! Variables as CDL declares them.
+
+ghost use Rattle.std.specs.Prelude.{◌≡◌, [], ◌∷◌, codes, map};
+ghost use Rattle.nc_base.specs.Bytes.{text};
+ghost use Rattle.nc_base.specs.Escapes.{escaped_name};
+ghost use Rattle.nc_base.specs.HeadText.{dim_name, joined, shape_text, var_lines, variables_word, vars_text};
+ghost use Rattle.nc_base.specs.Types.{type_word};
+ghost use Rattle.nc_file.specs.Sinks.{Wrote};
+ghost use Rattle.cdl_print.specs.Pieces.{dim_text, var_rows};
+
+use crate::attribute::put_att_lines;
+use crate::name::put_name;
+use crate::word::Word;
+use nc_base::{Dim, NcType, Var};
+use nc_file::{Sink, WriteFailed, put};
+
+/// Writes the variables, if there are any.
+#[tactic(auto, using(nc_file::proofs::Writes::writes), unfolding(nc_base::specs::HeadText::vars_text, crate::specs::Pieces::var_rows))]
+pub fn put_vars<W: Sink>(sink: &mut W, dims: &[Dim], vars: &[Var]) -> Result<(), WriteFailed>
+    ensures { Wrote (W.seen sink.old) (W.seen sink.new) (vars_text dims.now vars.now) result }
+{
+    if vars.is_empty() {
+        return Ok(());
+    }
+    put_vars_part(sink, dims, vars)
+}
+
+/// Writes the variables under their title.
+#[tactic(auto, using(nc_file::proofs::Writes::writes))]
+fn put_vars_part<W: Sink>(sink: &mut W, dims: &[Dim], vars: &[Var]) -> Result<(), WriteFailed>
+    ensures { Wrote (W.seen sink.old) (W.seen sink.new) (text (variables_word ∷ var_rows dims.now vars.now ∷ [])) result }
+{
+    put(sink, Word::Variables.bytes())?;
+    put_var_rows(sink, dims, vars)
+}
+
+/// Writes the lines of each variable.
+#[tactic(auto, using(nc_file::proofs::Writes::writes), unfolding(crate::specs::Pieces::var_rows))]
+fn put_var_rows<W: Sink>(sink: &mut W, dims: &[Dim], vars: &[Var]) -> Result<(), WriteFailed>
+    ensures { Wrote (W.seen sink.old) (W.seen sink.new) (var_rows dims.now vars.now) result }
+{
+    for var in vars {
+        put_var_lines(sink, dims, var)?;
+    }
+    Ok(())
+}
+
+/// Writes the lines of a variable: its declaration and its attributes.
+#[tactic(auto, using(nc_file::proofs::Writes::writes), unfolding(nc_base::specs::HeadText::var_lines))]
+fn put_var_lines<W: Sink>(sink: &mut W, dims: &[Dim], var: &Var) -> Result<(), WriteFailed>
+    ensures { Wrote (W.seen sink.old) (W.seen sink.new) (var_lines dims.now var.now) result }
+{
+    put_declared(sink, var.ty, var.name.as_slice())?;
+    put_shape(sink, dims, var.dimids.as_slice())?;
+    put(sink, b" ;\n")?;
+    put_att_lines(sink, var.name.as_slice(), var.atts.as_slice())
+}
+
+/// Writes the type and the name of a variable.
+#[tactic(auto, using(nc_file::proofs::Writes::writes))]
+fn put_declared<W: Sink>(sink: &mut W, ty: NcType, name: &[u8]) -> Result<(), WriteFailed>
+    ensures { Wrote (W.seen sink.old) (W.seen sink.new) (text (codes "\t" ∷ type_word ty ∷ codes " " ∷ escaped_name name.now ∷ [])) result }
+{
+    put(sink, b"\t")?;
+    put(sink, type_name(ty))?;
+    put(sink, b" ")?;
+    put_name(sink, name)
+}
+
+/// Writes the shape of a variable, if it has dimensions.
+#[tactic(auto, using(nc_file::proofs::Writes::writes), unfolding(nc_base::specs::HeadText::shape_text))]
+fn put_shape<W: Sink>(sink: &mut W, dims: &[Dim], dimids: &[u64]) -> Result<(), WriteFailed>
+    ensures { Wrote (W.seen sink.old) (W.seen sink.new) (shape_text dims.now dimids.now) result }
+{
+    if dimids.is_empty() {
+        return Ok(());
+    }
+    put_dim_list(sink, dims, dimids)
+}
+
+/// Writes the dimensions of a shape in parentheses.
+#[tactic(auto, using(nc_file::proofs::Writes::writes))]
+fn put_dim_list<W: Sink>(sink: &mut W, dims: &[Dim], dimids: &[u64]) -> Result<(), WriteFailed>
+    ensures { Wrote (W.seen sink.old) (W.seen sink.new) (text (codes "(" ∷ joined (map (dim_name dims.now) dimids.now) ∷ codes ")" ∷ [])) result }
+{
+    put(sink, b"(")?;
+    put_dim_names(sink, dims, dimids)?;
+    put(sink, b")")
+}
+
+/// Writes the names of the dimensions.
+fn put_dim_names<W: Sink>(sink: &mut W, dims: &[Dim], dimids: &[u64]) -> Result<(), WriteFailed>
+    ensures { Wrote (W.seen sink.old) (W.seen sink.new) (joined (map (dim_name dims.now) dimids.now)) result }
+{
+    let mut rest = dimids;
+    while let Some((&first, others)) = rest.split_first() {
+        put_dim_name(sink, dims, first, others.is_empty())?;
+        rest = others;
+    }
+    Ok(())
+}
+
+/// Writes the name of a dimension, and what stands between it and the next.
+#[tactic(auto, using(nc_file::proofs::Writes::writes), unfolding(crate::specs::Pieces::dim_text))]
+fn put_dim_name<W: Sink>(
+    sink: &mut W,
+    dims: &[Dim],
+    dimid: u64,
+    is_last: bool,
+) -> Result<(), WriteFailed>
+    ensures { Wrote (W.seen sink.old) (W.seen sink.new) (dim_text dims.now dimid is_last) result }
+{
+    put_name_of(sink, dims, dimid)?;
+    if is_last {
+        return Ok(());
+    }
+    put(sink, b", ")
+}
+
+/// Writes the name of the dimension with this place in the header's list; nothing, if there is none.
+#[tactic(auto, using(nc_file::proofs::Writes::writes))]
+fn put_name_of<W: Sink>(sink: &mut W, dims: &[Dim], dimid: u64) -> Result<(), WriteFailed>
+    ensures { Wrote (W.seen sink.old) (W.seen sink.new) (dim_name dims.now dimid) result }
+{
+    match dims.get(dimid as usize) {
+        Some(dim) => put_name(sink, dim.name.as_slice()),
+        None => Ok(()),
+    }
+}
+
+/// The word of a type.
+fn type_name(ty: NcType) -> &'static [u8]
+    ensures { result.now ≡ type_word ty }
+{
+    match ty {
+        NcType::Byte => b"byte",
+        NcType::Char => b"char",
+        NcType::Short => b"short",
+        NcType::Int => b"int",
+        NcType::Ubyte => b"ubyte",
+        NcType::Ushort => b"ushort",
+        NcType::Uint => b"uint",
+        NcType::Int64 => b"int64",
+        NcType::Uint64 => b"uint64",
+    }
+}

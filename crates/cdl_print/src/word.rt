@@ -1,0 +1,41 @@
+//! The fixed words of a dump.
+
+ghost use Rattle.std.specs.Prelude.{◌≡◌};
+ghost use Rattle.cdl_print.specs.Words.{word_text};
+
+/// A fixed word of a dump.
+#[derive(Clone, Copy)]
+pub enum Word {
+    /// What a dump begins with.
+    Netcdf,
+    /// The title of the dimensions.
+    Dimensions,
+    /// What stands before the number of records.
+    Unlimited,
+    /// What stands behind the number of records.
+    Currently,
+    /// The title of the variables.
+    Variables,
+    /// The title of the global attributes.
+    GlobalAttributes,
+    /// What ends a line inside a string.
+    StringBreak,
+}
+
+impl Word {
+    /// The bytes of the word.
+    #[tactic(auto, unfolding(nc_base::specs::HeadText::netcdf_word, nc_base::specs::HeadText::dimensions_word, nc_base::specs::HeadText::unlimited_word, nc_base::specs::HeadText::currently_word, nc_base::specs::HeadText::variables_word, nc_base::specs::HeadText::global_word, nc_base::specs::HeadText::string_break))]
+    pub fn bytes(self) -> &'static [u8]
+        ensures { result.now ≡ word_text self }
+    {
+        match self {
+            Word::Netcdf => b"netcdf ",
+            Word::Dimensions => b"dimensions:\n",
+            Word::Unlimited => b"UNLIMITED ; // (",
+            Word::Currently => b" currently)\n",
+            Word::Variables => b"variables:\n",
+            Word::GlobalAttributes => b"\n// global attributes:\n",
+            Word::StringBreak => b"\",\n\t\t\t\"",
+        }
+    }
+}
