@@ -1,0 +1,58 @@
+-- The faults of a dump, and the lines that tell them.
+use Rattle.std.specs.Prelude.{ℕ, List, [], ◌∷◌, codes, decimal}
+use Rattle.nc_base.specs.Bytes.{text}
+use Rattle.nc_base.specs.declared.fault.FormatFault.{FormatFault}
+use Rattle.nc_base.specs.declared.fault.FormatFault.TheVariants.{NotNetcdf, UnknownVersion, HeaderTruncated, BadTag, BadCount, BadName, FloatingType, BadType, BadShape, TwoRecordDims, BadOffset, TooLarge}
+use Rattle.nc_file.specs.declared.head_fault.HeadFault.{HeadFault}
+use Rattle.nc_file.specs.declared.head_fault.HeadFault.TheVariants as head
+use Rattle.ncdump.specs.declared.fault.DumpFault.{DumpFault}
+use Rattle.ncdump.specs.declared.fault.DumpFault.TheVariants.{OutOfMemory, ReadFailed, WriteFailed, Format, NoSuchVariable, DataTruncated, NotYet}
+
+-- why reading the header failed, as a fault of the dump
+abbrev pub fault_of_head : HeadFault → DumpFault
+fault_of_head head.OutOfMemory = OutOfMemory
+fault_of_head head.ReadFailed = ReadFailed
+fault_of_head head.NotYet = NotYet
+fault_of_head (head.Format fault) = Format fault
+
+-- what a wrong field's fault says, but for the number behind it
+abbrev pub format_words : FormatFault → List ℕ
+format_words NotNetcdf = codes "not a netCDF classic file"
+format_words (UnknownVersion n) = codes "unknown version "
+format_words HeaderTruncated = codes "header truncated"
+format_words BadTag = codes "bad tag"
+format_words BadCount = codes "bad count"
+format_words BadName = codes "bad name"
+format_words FloatingType = codes "floating type"
+format_words BadType = codes "bad type"
+format_words BadShape = codes "bad shape"
+format_words TwoRecordDims = codes "two record dimensions"
+format_words BadOffset = codes "bad offset"
+format_words TooLarge = codes "too large"
+
+-- what a fault says, up to its first number
+unfoldable pub fault_words : DumpFault → List ℕ
+fault_words OutOfMemory = codes "out of memory"
+fault_words ReadFailed = codes "read failed"
+fault_words WriteFailed = codes "write failed"
+fault_words (Format fault) = format_words fault
+fault_words (NoSuchVariable index) = codes "no such variable: item "
+fault_words (DataTruncated var value) = codes "variable "
+fault_words NotYet = codes "not yet"
+
+unfoldable pub truncated_words : List ℕ
+truncated_words = codes ": data truncated at value "
+
+-- the numbers of a fault, with the words between them
+unfoldable pub fault_numbers : DumpFault → List ℕ
+fault_numbers (Format (UnknownVersion n)) = decimal n
+fault_numbers (NoSuchVariable index) = text (decimal index ∷ codes " of -v" ∷ [])
+fault_numbers (DataTruncated var value) = text (decimal var ∷ truncated_words ∷ decimal value ∷ [])
+fault_numbers other = []
+
+unfoldable pub program_words : List ℕ
+program_words = codes "ncdump: "
+
+-- the line that tells a fault
+unfoldable pub line_of : List ℕ → DumpFault → List ℕ
+line_of file fault = text (program_words ∷ file ∷ codes ": " ∷ fault_words fault ∷ fault_numbers fault ∷ codes "\n" ∷ [])

@@ -1,0 +1,54 @@
+//! Why a file could not be dumped.
+
+ghost use Rattle.std.specs.Prelude.{◌≡◌};
+ghost use Rattle.ncdump.specs.Faults.{fault_of_head};
+ghost use Rattle.ncdump.specs.declared.fault.DumpFault.TheVariants.{WriteFailed as write_failed};
+
+use nc_base::FormatFault;
+use nc_file::{HeadFault, WriteFailed};
+
+/// Why a file could not be dumped: for want of memory, because a device failed, for what is wrong with the file, or for
+/// what was asked of it.
+#[derive(Clone, Copy, Debug, PartialEq, Eq)]
+pub enum DumpFault {
+    /// Memory was refused. Nothing was written.
+    OutOfMemory,
+    /// The source failed.
+    ReadFailed,
+    /// The sink failed. It has taken a front of the text.
+    WriteFailed,
+    /// The first wrong field of the header. Nothing was written.
+    Format(FormatFault),
+    /// This item of the chosen names, counted from 0, is the name of no variable. Nothing was written.
+    NoSuchVariable(usize),
+    /// This value, counted from 0, of this variable, counted from 0, isn't in the file. The values before it were written.
+    DataTruncated {
+        /// The variable.
+        var: usize,
+        /// The value.
+        value: u128,
+    },
+    /// What can't be shown yet: variables, attributes of number types, and chosen names. Nothing was written.
+    NotYet,
+}
+
+impl From<HeadFault> for DumpFault {
+    ghost from_gives = { λ fault e. e ≡ fault_of_head fault };
+
+    fn from(fault: HeadFault) -> DumpFault {
+        match fault {
+            HeadFault::OutOfMemory => DumpFault::OutOfMemory,
+            HeadFault::ReadFailed => DumpFault::ReadFailed,
+            HeadFault::NotYet => DumpFault::NotYet,
+            HeadFault::Format(fault) => DumpFault::Format(fault),
+        }
+    }
+}
+
+impl From<WriteFailed> for DumpFault {
+    ghost from_gives = { λ _ e. e ≡ write_failed };
+
+    fn from(_failure: WriteFailed) -> DumpFault {
+        DumpFault::WriteFailed
+    }
+}

@@ -1,0 +1,20 @@
+//! What to show of a file.
+
+use nc_base::Sequence;
+
+/// What to show of a file, and under which name (the options of ncdump(1)).
+#[derive(Debug, Drop)]
+pub struct DumpOptions {
+    /// The path of the file, which fault lines name.
+    pub file: String,
+    /// The name of the dataset: `-n`, or the stem of the path.
+    pub name: Sequence<u8>,
+    /// Whether the header alone is shown: `-h`.
+    pub head_only: bool,
+    /// Whether the values of coordinate variables alone are shown: `-c`.
+    pub coords: bool,
+    /// The names of the variables whose values are shown, if not all: `-v`.
+    pub chosen: Option<Sequence<Sequence<u8>>>,
+    /// The greatest length of a line of values that aren't characters, from 20 to 1000 bytes: `-l`.
+    pub width: usize,
+}
