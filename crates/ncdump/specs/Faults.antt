@@ -16,7 +16,7 @@ fault_of_head head.NotYet = NotYet
 fault_of_head (head.Format fault) = Format fault
 
 -- what a wrong field's fault says, but for the number behind it
-abbrev pub format_words : FormatFault → List ℕ
+unfoldable pub format_words : FormatFault → List ℕ
 format_words NotNetcdf = codes "not a netCDF classic file"
 format_words (UnknownVersion n) = codes "unknown version "
 format_words HeaderTruncated = codes "header truncated"
@@ -50,9 +50,13 @@ fault_numbers (NoSuchVariable index) = text (decimal index ∷ codes " of -v" �
 fault_numbers (DataTruncated var value) = text (decimal var ∷ truncated_words ∷ decimal value ∷ [])
 fault_numbers other = []
 
+-- what a fault says
+unfoldable pub fault_text : DumpFault → List ℕ
+fault_text fault = text (fault_words fault ∷ fault_numbers fault ∷ [])
+
 unfoldable pub program_words : List ℕ
 program_words = codes "ncdump: "
 
 -- the line that tells a fault
 unfoldable pub line_of : List ℕ → DumpFault → List ℕ
-line_of file fault = text (program_words ∷ file ∷ codes ": " ∷ fault_words fault ∷ fault_numbers fault ∷ codes "\n" ∷ [])
+line_of file fault = text (program_words ∷ file ∷ codes ": " ∷ fault_text fault ∷ codes "\n" ∷ [])

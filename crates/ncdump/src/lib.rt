@@ -6,9 +6,11 @@
 
 mod dumping;
 mod fault;
+mod line;
 mod options;
 
 pub use dumping::dump;
 pub use fault::DumpFault;
+pub use line::fault_line;
 pub use options::DumpOptions;
 
