@@ -16,7 +16,7 @@ pub enum Version {
 }
 
 impl Version {
-    ghost use Rattle.nc_base.specs.Versions.{version_of_byte, count_limit, streaming_mark, has_type};
+    ghost use Rattle.nc_base.specs.Versions.{version_of_byte, count_limit, offset_limit, streaming_mark, has_type};
 
     /// The version with this byte; none for any byte but 1, 2 and 5.
     pub fn of_byte(b: u8) -> Option<Version>
@@ -37,6 +37,16 @@ impl Version {
         match self {
             Version::Cdf1 | Version::Cdf2 => 1 << 31,
             Version::Cdf5 => 1 << 63,
+        }
+    }
+
+    /// The least number that is no offset: those have their top bit 0 (`OFFSET`).
+    pub fn offset_limit(self) -> u64
+        ensures { result ≡ offset_limit self }
+    {
+        match self {
+            Version::Cdf1 => 1 << 31,
+            Version::Cdf2 | Version::Cdf5 => 1 << 63,
         }
     }
 

@@ -5,25 +5,22 @@ use Rattle.nc_base.specs.declared.fault.FormatFault.{FormatFault}
 use Rattle.nc_base.specs.declared.header.Header.{Header}
 use Rattle.nc_base.specs.Bytes.{AreBytes}
 use Rattle.nc_base.specs.FirstFault.{StopsWith}
+use Rattle.nc_base.specs.Grammar.{SpellsHeader}
 use Rattle.nc_file.specs.declared.head_fault.HeadFault.{HeadFault}
-use Rattle.nc_file.specs.declared.head_fault.HeadFault.TheVariants.{OutOfMemory, ReadFailed, NotYet, Format}
+use Rattle.nc_file.specs.declared.head_fault.HeadFault.TheVariants.{OutOfMemory, ReadFailed, Format}
 use Rattle.nc_file.specs.declared.window.Window.{Window}
 use Rattle.nc_file.specs.Sources.{SourceView}
 use Rattle.nc_file.specs.Reading.{Outcome, Reads, header_at}
 use Rattle.nc_file.specs.Window.{State, state, left, Kept, Did}
-use Rattle.nc_file.specs.NotYet.{IsNotYet}
 use Rattle.nc_file.specs.Answers.{HandedUpTo, Answers}
-use Rattle.nc_file.proofs.Means.{Means, spells, stops, early}
-use Rattle.nc_file.proofs.HeaderLaws.{SpellsPlain, means-header}
+use Rattle.nc_file.proofs.Means.{Means, spells, stops}
+use Rattle.nc_file.proofs.HeaderLaws.{means-header}
 
-value-of : {A : Type 0} {P : A → List ℕ → Type 0} {Q : FormatFault → List ℕ → Type 0} {E : Type 0} {x : A} {rest : List ℕ} → Means P Q E (Ok (x, rest)) → P x rest
+value-of : {A : Type 0} {P : A → List ℕ → Type 0} {Q : FormatFault → List ℕ → Type 0} {x : A} {rest : List ℕ} → Means P Q (Ok (x, rest)) → P x rest
 value-of (spells x rest p fits) = p
 
-fault-of : {A : Type 0} {P : A → List ℕ → Type 0} {Q : FormatFault → List ℕ → Type 0} {E : Type 0} {fault : FormatFault} {rest : List ℕ} → Means P Q E (Err (Format fault, rest)) → Q fault rest
+fault-of : {A : Type 0} {P : A → List ℕ → Type 0} {Q : FormatFault → List ℕ → Type 0} {fault : FormatFault} {rest : List ℕ} → Means P Q (Err (Format fault, rest)) → Q fault rest
 fault-of (stops fault rest q) = q
-
-early-of : {A : Type 0} {P : A → List ℕ → Type 0} {Q : FormatFault → List ℕ → Type 0} {E : Type 0} {rest : List ℕ} → Means P Q E (Err (NotYet, rest)) → E
-early-of (early rest e) = e
 
 left-length : (now : State) (bytes : List ℕ) → now.source.bytes ≡ bytes → length (left now) ≡ length bytes - (now.base + now.pos)
 left-length now bytes same = ap (λ (bs : List ℕ). length (drop (now.base + now.pos) bs)) same ∙ length-drop (now.base + now.pos) bytes
@@ -40,10 +37,10 @@ handed-up-to told start now base filled kept =
 
 -- what is read from the start, as the grammar says
 read-from-start : (start now : State) (o : Outcome Header) → start.base ≡ 0 → start.pos ≡ 0 → AreBytes start.source.bytes → header_at.run (left start) ≡ o
-    → Means (SpellsPlain start.source.bytes) (StopsWith start.source.bytes) (IsNotYet start.source.bytes) o
+    → Means (SpellsHeader start.source.bytes) (StopsWith start.source.bytes) o
 read-from-start start now o base pos fits e =
     let at_start : left start ≡ start.source.bytes = rw (base, pos) refl in
-    subst (Means (SpellsPlain start.source.bytes) (StopsWith start.source.bytes) (IsNotYet start.source.bytes))
+    subst (Means (SpellsHeader start.source.bytes) (StopsWith start.source.bytes))
     (sym (ap header_at.run at_start) ∙ e) (means-header start.source.bytes fits)
 
 answer : (start now : State) (result : Result Header HeadFault) → start.base ≡ 0 → start.filled ≡ 0 → start.pos ≡ 0 → Kept true start now → AreBytes start.source.bytes
@@ -53,9 +50,8 @@ answer start now (Ok h) base filled pos kept fits reads =
     record {
       rest = left now;
       end = length start.source.bytes - length (left now);
-      spelled = found.header;
+      spelled = found;
       ends = ends-at true start now kept;
-      plain = found.plain;
       handed = handed-up-to true start now base filled kept;
     }
 answer start now (Err (Format fault)) base filled pos kept fits reads =
@@ -65,7 +61,6 @@ answer start now (Err (Format fault)) base filled pos kept fits reads =
       stops = record { rest = left now; stops = stopped; ends = ends-at true start now kept };
       handed = handed-up-to true start now base filled kept;
     }
-answer start now (Err NotYet) base filled pos kept fits reads = early-of (read-from-start start now (Err (NotYet, left now)) base pos fits reads)
 answer start now (Err OutOfMemory) base filled pos kept fits reads = tt
 answer start now (Err ReadFailed) base filled pos kept fits reads = tt
 

@@ -19,7 +19,7 @@ use Rattle.nc_base.specs.Names.{is_name, IsName}
 use Rattle.nc_base.specs.Grammar.{SpellsNumber, SpellsCount, SpellsPadded, SpellsName, SpellsType}
 use Rattle.nc_base.specs.FirstFault.{IsCutNumber, StopsInCount, cut_count, negative_count, StopsInName, in_name_len, cut_name, bad_name, cut_name_padding, StopsInType, cut_type, floating, bad_type}
 use Rattle.nc_file.specs.Reading.{Outcome, Part, ◌>>=◌, done, stop, byte_or, byte_at, u32_at, u64_at, number_at, count_at, bytes_at, skip_at, padded_at, name_at, type_at, known_type, type_in, type_or_wrong}
-use Rattle.nc_file.proofs.Means.{Means, spells, stops, early, means-next, means-map, means-cond, AreBytes-tail}
+use Rattle.nc_file.proofs.Means.{Means, spells, stops, means-next, means-map, means-cond, AreBytes-tail}
 
 -- ---- numbers
 
@@ -34,7 +34,7 @@ AreBytes-take n bytes h i =
       | inr le ↦ rw (get_or_past (take n bytes) i 0 (omega (arith, length-take n bytes))) (omega arith)
     ]
 
-pub means-u32 : (bytes : List ℕ) → AreBytes bytes → Means (SpellsNumber w32 bytes) (CutNumber w32 bytes) ⊥ (u32_at.run bytes)
+pub means-u32 : (bytes : List ℕ) → AreBytes bytes → Means (SpellsNumber w32 bytes) (CutNumber w32 bytes) (u32_at.run bytes)
 unfolding u32_at ◌>>=◌ byte_or done
 means-u32 [] fits = stops _ _ (cut_number (omega arith))
 means-u32 (a ∷ []) fits = stops _ _ (cut_number (omega arith))
@@ -47,7 +47,7 @@ means-u32 (a ∷ b ∷ c ∷ d ∷ rest) fits =
     (record { fits = omega (arith, fits 0, fits 1, fits 2, fits 3); spelled = ap (λ (x : List ℕ). x ++ rest) (sym spelled) })
     (λ i. fits (suc (suc (suc (suc i)))))
 
-pub means-u64 : (bytes : List ℕ) → AreBytes bytes → Means (SpellsNumber w64 bytes) (CutNumber w64 bytes) ⊥ (u64_at.run bytes)
+pub means-u64 : (bytes : List ℕ) → AreBytes bytes → Means (SpellsNumber w64 bytes) (CutNumber w64 bytes) (u64_at.run bytes)
 unfolding u64_at ◌>>=◌ byte_or done
 means-u64 [] fits = stops _ _ (cut_number (omega arith))
 means-u64 (a ∷ []) fits = stops _ _ (cut_number (omega arith))
@@ -64,7 +64,7 @@ means-u64 (a ∷ b ∷ c ∷ d ∷ e ∷ f ∷ g ∷ h ∷ rest) fits =
     (record { fits = omega (arith, fits 0, fits 1, fits 2, fits 3, fits 4, fits 5, fits 6, fits 7); spelled = ap (λ (x : List ℕ). x ++ rest) (sym spelled) })
     (λ i. fits (suc (suc (suc (suc (suc (suc (suc (suc i)))))))))
 
-pub means-number : (v : Version) (bytes : List ℕ) → AreBytes bytes → Means (SpellsNumber (count_width v) bytes) (CutNumber (count_width v) bytes) ⊥ ((number_at v).run bytes)
+pub means-number : (v : Version) (bytes : List ℕ) → AreBytes bytes → Means (SpellsNumber (count_width v) bytes) (CutNumber (count_width v) bytes) ((number_at v).run bytes)
 means-number Cdf1 bytes fits = means-u32 bytes fits
 means-number Cdf2 bytes fits = means-u32 bytes fits
 means-number Cdf5 bytes fits = means-u64 bytes fits
@@ -72,14 +72,14 @@ means-number Cdf5 bytes fits = means-u64 bytes fits
 cut-count : (v : Version) (bytes : List ℕ) (fault : FormatFault) (rest : List ℕ) → CutNumber (count_width v) bytes fault rest → StopsInCount v bytes fault rest
 cut-count v bytes fault rest (cut_number cut) = cut_count cut
 
-pub means-count : (v : Version) (bytes : List ℕ) → AreBytes bytes → Means (SpellsCount v bytes) (StopsInCount v bytes) ⊥ ((count_at v).run bytes)
+pub means-count : (v : Version) (bytes : List ℕ) → AreBytes bytes → Means (SpellsCount v bytes) (StopsInCount v bytes) ((count_at v).run bytes)
 unfolding count_at ◌>>=◌ done stop
 means-count v bytes fits =
     means-next _ (means-number v bytes fits)
     (λ n rest number more. means-cond (leb (count_limit v) n) _ _ rest
       (λ high. stops _ _ (negative_count n rest number (leb-true _ _ high)))
       (λ low. spells n rest (record { number = number; non_negative = leb-false _ _ low }) more))
-    (cut-count v bytes) (λ e. e)
+    (cut-count v bytes)
 
 -- ---- bytes
 
@@ -108,16 +108,16 @@ behind-cons n b front bytes all rest t = record {
 cut-cons : (n b : ℕ) (bytes : List ℕ) (fault : FormatFault) (rest : List ℕ) → CutBytes n bytes fault rest → CutBytes (suc n) (b ∷ bytes) fault rest
 cut-cons n b bytes fault rest (cut_bytes cut) = cut_bytes (omega (arith, cut))
 
-means-bytes_behind : (n : ℕ) (front bytes : List ℕ) → AreBytes bytes → Means (TakenBehind n front bytes) (CutBytes n bytes) ⊥ ((bytes_at n front).run bytes)
+means-bytes_behind : (n : ℕ) (front bytes : List ℕ) → AreBytes bytes → Means (TakenBehind n front bytes) (CutBytes n bytes) ((bytes_at n front).run bytes)
 unfolding bytes_at ◌>>=◌ byte_or done
 means-bytes_behind zero front bytes fits = spells front bytes (record { content = []; taken = record { count = refl; spelled = refl }; joined = sym (append-nil front) }) fits
 means-bytes_behind (suc n) front [] fits = stops _ _ (cut_bytes (omega arith))
 means-bytes_behind (suc n) front (b ∷ bytes) fits =
-    means-map (means-bytes_behind n (front ++ b ∷ []) bytes (AreBytes-tail b bytes fits)) (λ all rest. behind-cons n b front bytes all rest) (cut-cons n b bytes) (λ e. e)
+    means-map (means-bytes_behind n (front ++ b ∷ []) bytes (AreBytes-tail b bytes fits)) (λ all rest. behind-cons n b front bytes all rest) (cut-cons n b bytes)
 
-pub means-bytes : (n : ℕ) (bytes : List ℕ) → AreBytes bytes → Means (Taken n bytes) (CutBytes n bytes) ⊥ ((bytes_at n []).run bytes)
+pub means-bytes : (n : ℕ) (bytes : List ℕ) → AreBytes bytes → Means (Taken n bytes) (CutBytes n bytes) ((bytes_at n []).run bytes)
 means-bytes n bytes fits =
-    means-map (means-bytes_behind n [] bytes fits) (λ all rest t. subst (λ (x : List ℕ). Taken n bytes x rest) (sym t.joined) t.taken) (λ fault rest c. c) (λ e. e)
+    means-map (means-bytes_behind n [] bytes fits) (λ all rest t. subst (λ (x : List ℕ). Taken n bytes x rest) (sym t.joined) t.taken) (λ fault rest c. c)
 
 -- so many bytes that may be any stand in front
 pub record Skipped (n : ℕ) (bytes rest : List ℕ) : Type 0 where
@@ -127,11 +127,11 @@ pub record Skipped (n : ℕ) (bytes rest : List ℕ) : Type 0 where
 skipped-cons : (n b : ℕ) (bytes rest : List ℕ) → Skipped n bytes rest → Skipped (suc n) (b ∷ bytes) rest
 skipped-cons n b bytes rest s = record { content = b ∷ s.content; taken = record { count = ap suc s.taken.count; spelled = ap (λ (x : List ℕ). b ∷ x) s.taken.spelled } }
 
-pub means-skip : (n : ℕ) (bytes : List ℕ) → AreBytes bytes → Means (λ skipped. Skipped n bytes) (CutBytes n bytes) ⊥ ((skip_at n).run bytes)
+pub means-skip : (n : ℕ) (bytes : List ℕ) → AreBytes bytes → Means (λ skipped. Skipped n bytes) (CutBytes n bytes) ((skip_at n).run bytes)
 unfolding skip_at ◌>>=◌ byte_or done
 means-skip zero bytes fits = spells tt bytes (record { content = []; taken = record { count = refl; spelled = refl } }) fits
 means-skip (suc n) [] fits = stops _ _ (cut_bytes (omega arith))
-means-skip (suc n) (b ∷ bytes) fits = means-map (means-skip n bytes (AreBytes-tail b bytes fits)) (λ u rest. skipped-cons n b bytes rest) (cut-cons n b bytes) (λ e. e)
+means-skip (suc n) (b ∷ bytes) fits = means-map (means-skip n bytes (AreBytes-tail b bytes fits)) (λ u rest. skipped-cons n b bytes rest) (cut-cons n b bytes)
 
 -- ---- bytes with padding, and names
 
@@ -163,7 +163,7 @@ spelled-name v n bytes body name behind rest count taken valid skipped = record 
   padded = padded-at n body name behind rest taken skipped;
 }
 
-pub means-name : (v : Version) (bytes : List ℕ) → AreBytes bytes → Means (SpellsName v bytes) (StopsInName v bytes) ⊥ ((name_at v).run bytes)
+pub means-name : (v : Version) (bytes : List ℕ) → AreBytes bytes → Means (SpellsName v bytes) (StopsInName v bytes) ((name_at v).run bytes)
 unfolding name_at ◌>>=◌ done stop
 means-name v bytes fits =
     means-next _ (means-count v bytes fits)
@@ -172,10 +172,10 @@ means-name v bytes fits =
         (λ valid. means-next _ (means-skip (padding_len n) behind more2)
           (λ u rest skipped more3. spells name rest (spelled-name v n bytes body name behind rest count taken valid skipped) more3)
           (λ fault rest cut. cut-name_padding v bytes name behind fault rest (counted-bytes v n bytes body name behind count taken) valid (subst (λ (k : ℕ). CutBytes (padding_len k) behind fault rest) (sym taken.count) cut))
-          (λ e. e))
+         )
         (λ invalid. stops _ _ (bad_name name behind (counted-bytes v n bytes body name behind count taken) invalid)))
-      (λ fault rest. cut-name v n bytes body fault rest count) (λ e. e))
-    (in_name_len) (λ e. e)
+      (λ fault rest. cut-name v n bytes body fault rest count))
+    (in_name_len)
 
 -- ---- types
 
@@ -237,7 +237,7 @@ no-other v code ty other is lacks has codes =
 -- the version's type with this code, or none
 type-means : (v : Version) (code : ℕ) (bytes rest : List ℕ) (known : Option NcType) → known ≡ type_of_code code
     → SpellsNumber w32 bytes code rest → code ≢ 5 → code ≢ 6 → AreBytes rest
-    → Means (SpellsType v bytes) (StopsInType v bytes) ⊥ ((type_or_wrong (known_type v known)).run rest)
+    → Means (SpellsType v bytes) (StopsInType v bytes) ((type_or_wrong (known_type v known)).run rest)
 unfolding done stop
 type-means v code bytes rest None is number not5 not6 fits =
     stops _ _ (bad_type code rest number not5 not6 (λ ty has. code-unknown code (sym is) ty))
@@ -245,7 +245,7 @@ type-means v code bytes rest (Some ty) is number not5 not6 fits = at (has_type v
   where
     same : code ≡ code_of ty
     same = code-known code ty (sym is)
-    at : (b : Bool) → has_type v ty ≡ b → Means (SpellsType v bytes) (StopsInType v bytes) ⊥ ((type_or_wrong (if b then Some ty else None)).run rest)
+    at : (b : Bool) → has_type v ty ≡ b → Means (SpellsType v bytes) (StopsInType v bytes) ((type_or_wrong (if b then Some ty else None)).run rest)
     at true has = spells ty rest (record { number = subst (λ (c : ℕ). SpellsNumber w32 bytes c rest) same number; has = has }) fits
     at false lacks = stops _ _ (bad_type code rest number not5 not6 (λ other. no-other v code ty other is lacks))
 
@@ -263,7 +263,7 @@ or-true false b e = inr e
 floating-code : (code : ℕ) → ((code == 5) || (code == 6)) ≡ true → (code ≡ 5) ⊎ (code ≡ 6)
 floating-code code e = elim (or-true (code == 5) (code == 6) e) [ inl five ↦ inl (eqb-true _ _ five) | inr six ↦ inr (eqb-true _ _ six) ]
 
-pub means-type : (v : Version) (bytes : List ℕ) → AreBytes bytes → Means (SpellsType v bytes) (StopsInType v bytes) ⊥ ((type_at v).run bytes)
+pub means-type : (v : Version) (bytes : List ℕ) → AreBytes bytes → Means (SpellsType v bytes) (StopsInType v bytes) ((type_at v).run bytes)
 unfolding type_at type_in ◌>>=◌ stop
 means-type v bytes fits =
     means-next _ (means-u32 bytes fits)
@@ -271,4 +271,4 @@ means-type v bytes fits =
       (λ is_floating. stops _ _ (floating code rest number (floating-code code is_floating)))
       (λ is_other. let h = or-false (code == 5) (code == 6) is_other in
         type-means v code bytes rest (type_of_code code) refl number (eqb-false _ _ h.0) (eqb-false _ _ h.1) more))
-    (cut-type v bytes) (λ e. e)
+    (cut-type v bytes)

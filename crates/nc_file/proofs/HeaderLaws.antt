@@ -16,10 +16,10 @@ use Rattle.nc_base.specs.Versions.{version_byte, version_of_byte, count_width, c
 use Rattle.nc_base.specs.Grammar.{SpellsNumber, SpellsMagic, SpellsNumRecs, SpellsStart, SpellsUpToDims, SpellsUpToGatts, SpellsHeader}
 use Rattle.nc_base.specs.FirstFault.{StopsInMagic, cut_magic, other_magic, cut_version, bad_version, StopsInNumRecs, cut_numrecs, negative_numrecs, StopsWith, in_magic, in_numrecs, in_dims, in_gatts, in_vars}
 use Rattle.nc_file.specs.Reading.{Part, ◌>>=◌, done, stop, byte_or, version_or, version_at, magic_at, number_at, numrecs_at, header_at}
-use Rattle.nc_file.specs.NotYet.{IsPlain, IsNotYet, number_att, variables}
-use Rattle.nc_file.proofs.Means.{Means, spells, stops, early, means-next, means-map, means-cond, AreBytes-tail}
+use Rattle.nc_file.proofs.Means.{Means, spells, stops, means-next, means-map, means-cond, AreBytes-tail}
 use Rattle.nc_file.proofs.FieldLaws.{CutNumber, cut_number, means-number, found}
-use Rattle.nc_file.proofs.ListLaws.{means-dims, means-atts, means-vars, and-true}
+use Rattle.nc_file.proofs.ListLaws.{means-dims, means-atts, and-true}
+use Rattle.nc_file.proofs.VariableLaws.{means-vars}
 
 -- ---- the magic
 
@@ -35,14 +35,14 @@ other-bytes a b c e h =
     cc
 
 version-means : (bytes : List ℕ) (n : ℕ) (rest : List ℕ) (known : Option Version) → known ≡ version_of_byte n → bytes ≡ 67 ∷ 68 ∷ 70 ∷ n ∷ rest → AreBytes rest
-    → Means (λ v more. SpellsMagic bytes v more) (StopsInMagic bytes) ⊥ ((version_or n known).run rest)
+    → Means (λ v more. SpellsMagic bytes v more) (StopsInMagic bytes) ((version_or n known).run rest)
 unfolding done stop
 version-means bytes n rest None is e fits = stops _ _ (bad_version n rest e (sym is))
 version-means bytes n rest (Some v) is e fits =
     let same : n ≡ version_byte v = eqb-true _ _ (found (λ (w : Version). n == version_byte w) (Cdf1 ∷ Cdf2 ∷ Cdf5 ∷ []) v (sym is)) in
     spells v rest (e ∙ ap (λ (k : ℕ). 67 ∷ 68 ∷ 70 ∷ k ∷ rest) same) fits
 
-means-version : (bytes rest : List ℕ) → bytes ≡ 67 ∷ 68 ∷ 70 ∷ rest → AreBytes rest → Means (λ v more. SpellsMagic bytes v more) (StopsInMagic bytes) ⊥ (version_at.run rest)
+means-version : (bytes rest : List ℕ) → bytes ≡ 67 ∷ 68 ∷ 70 ∷ rest → AreBytes rest → Means (λ v more. SpellsMagic bytes v more) (StopsInMagic bytes) (version_at.run rest)
 unfolding version_at ◌>>=◌ byte_or
 means-version bytes [] e fits = stops _ _ (cut_version e)
 means-version bytes (n ∷ rest) e fits = version-means bytes n rest (version_of_byte n) refl e (AreBytes-tail n rest fits)
@@ -50,7 +50,7 @@ means-version bytes (n ∷ rest) e fits = version-means bytes n rest (version_of
 same-front : (a b c : ℕ) (rest : List ℕ) → (a ≡ 67) × (b ≡ 68) × (c ≡ 70) → a ∷ b ∷ c ∷ rest ≡ 67 ∷ 68 ∷ 70 ∷ rest
 same-front a b c rest h = rw (h.0, h.1, h.2) refl
 
-pub means-magic : (bytes : List ℕ) → AreBytes bytes → Means (λ v rest. SpellsMagic bytes v rest) (StopsInMagic bytes) ⊥ (magic_at.run bytes)
+pub means-magic : (bytes : List ℕ) → AreBytes bytes → Means (λ v rest. SpellsMagic bytes v rest) (StopsInMagic bytes) (magic_at.run bytes)
 unfolding magic_at ◌>>=◌ byte_or stop
 means-magic [] fits = stops _ _ (cut_magic (omega arith))
 means-magic (a ∷ []) fits = stops _ _ (cut_magic (omega arith))
@@ -65,7 +65,7 @@ means-magic (a ∷ b ∷ c ∷ rest) fits =
 cut-numrecs : (v : Version) (bytes : List ℕ) (fault : FormatFault) (rest : List ℕ) → CutNumber (count_width v) bytes fault rest → StopsInNumRecs v bytes fault rest
 cut-numrecs v bytes fault rest (cut_number cut) = cut_numrecs cut
 
-pub means-numrecs : (v : Version) (bytes : List ℕ) → AreBytes bytes → Means (SpellsNumRecs v bytes) (StopsInNumRecs v bytes) ⊥ ((numrecs_at v).run bytes)
+pub means-numrecs : (v : Version) (bytes : List ℕ) → AreBytes bytes → Means (SpellsNumRecs v bytes) (StopsInNumRecs v bytes) ((numrecs_at v).run bytes)
 unfolding numrecs_at ◌>>=◌ done stop
 means-numrecs v bytes fits =
     means-next _ (means-number v bytes fits)
@@ -74,16 +74,11 @@ means-numrecs v bytes fits =
       (λ no_mark. means-cond (leb (count_limit v) n) _ _ rest
         (λ high. stops _ _ (negative_numrecs n rest number (leb-true _ _ high) (eqb-false _ _ no_mark)))
         (λ low. spells (Known n) rest (record { number = number; non_negative = leb-false _ _ low }) more)))
-    (cut-numrecs v bytes) (λ e. e)
+    (cut-numrecs v bytes)
 
 -- ---- the whole
 
--- a header that can be read already stands in front
-pub record SpellsPlain (bytes : List ℕ) (h : Header) (rest : List ℕ) : Type 0 where
-  pub header : SpellsHeader bytes h rest
-  pub plain : IsPlain h
-
-pub means-header : (bytes : List ℕ) → AreBytes bytes → Means (SpellsPlain bytes) (StopsWith bytes) (IsNotYet bytes) (header_at.run bytes)
+pub means-header : (bytes : List ℕ) → AreBytes bytes → Means (SpellsHeader bytes) (StopsWith bytes) (header_at.run bytes)
 unfolding header_at ◌>>=◌ done
 means-header bytes fits =
     means-next _ (means-magic bytes fits)
@@ -94,15 +89,13 @@ means-header bytes fits =
         (λ dims behind_dims dim_list more3.
           let up_to_dims : SpellsUpToDims bytes v numrecs dims behind_dims = record { behind_start = behind_start; start = start; dim_list = dim_list } in
           means-next _ (means-atts v behind_dims more3)
-          (λ gatts behind_gatts atts more4.
-            let up_to_gatts : SpellsUpToGatts bytes v numrecs dims gatts behind_gatts = record { behind_dims = behind_dims; front = up_to_dims; gatt_list = atts.list } in
+          (λ gatts behind_gatts gatt_list more4.
+            let up_to_gatts : SpellsUpToGatts bytes v numrecs dims gatts behind_gatts = record { behind_dims = behind_dims; front = up_to_dims; gatt_list = gatt_list } in
             means-next _ (means-vars v dims behind_gatts more4)
-            (λ vars rest none more5. spells (record { version = v; numrecs = numrecs; dims = dims; gatts = gatts; vars = vars }) rest
-              (record { header = record { behind_gatts = behind_gatts; front = up_to_gatts; var_list = none.list }; plain = record { gatts = atts.good; vars = none.none } }) more5)
-            (λ fault rest. in_vars v numrecs dims gatts behind_gatts fault rest up_to_gatts)
-            (λ e. variables v numrecs dims gatts behind_gatts up_to_gatts e))
-          (λ fault rest. in_gatts v numrecs dims behind_dims fault rest up_to_dims)
-          (λ e. number_att v numrecs dims behind_dims up_to_dims e))
-        (λ fault rest. in_dims v numrecs behind_start fault rest start) (λ e. absurd e))
-      (λ fault rest. in_numrecs v behind_magic fault rest magic) (λ e. absurd e))
-    (in_magic) (λ e. absurd e)
+            (λ vars rest var_list more5. spells (record { version = v; numrecs = numrecs; dims = dims; gatts = gatts; vars = vars }) rest
+              (record { behind_gatts = behind_gatts; front = up_to_gatts; var_list = var_list }) more5)
+            (λ fault rest. in_vars v numrecs dims gatts behind_gatts fault rest up_to_gatts))
+          (λ fault rest. in_gatts v numrecs dims behind_dims fault rest up_to_dims))
+        (λ fault rest. in_dims v numrecs behind_start fault rest start))
+      (λ fault rest. in_numrecs v behind_magic fault rest magic))
+    (in_magic)

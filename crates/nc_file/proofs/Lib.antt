@@ -5,5 +5,6 @@ pub mod Chunks
 pub mod Means
 pub mod FieldLaws
 pub mod ListLaws
+pub mod VariableLaws
 pub mod HeaderLaws
 pub mod Answered

@@ -6,13 +6,12 @@ use Rattle.nc_base.specs.declared.header.Att.{Att}
 use Rattle.nc_base.specs.declared.header.Dim.{Dim}
 use Rattle.nc_base.specs.declared.header.Var.{Var}
 use Rattle.nc_base.specs.declared.version.Version.{Version}
-use Rattle.nc_file.specs.declared.head_fault.HeadFault.TheVariants.{NotYet}
 use Rattle.std.specs.Prelude.{zero, ◌≢◌}
 use Rattle.nc_file.specs.Sources.{SourceView}
 use Rattle.nc_file.specs.declared.window.Window.{Window}
-use Rattle.nc_file.specs.Reading.{Part, ◌>>=◌, done, left_over, next-shorter, byte_at, skip_at, stop, each_at, dim_at, dims_at, att_at, atts_at, vars_at}
+use Rattle.nc_file.specs.Reading.{Part, ◌>>=◌, done, left_over, next-shorter, byte_at, skip_at, stop, each_at, dim_at, dims_at, att_at, atts_at, dimid_at, dimids_at, var_at, vars_at}
 use Rattle.nc_file.specs.Window.{state, left, Kept}
-use Rattle.nc_file.proofs.Parts.{run-bind, run-done, run-stop, left_over-ok, left_over-err}
+use Rattle.nc_file.proofs.Parts.{run-bind, run-done, left_over-ok, left_over-err}
 
 -- What is still to be read from here gives what all of it gives from the start.
 pub record Goes {S A : Type 0} (told : Bool) (seen : S → SourceView) (start now : Window S) (ahead whole : Part A) : Type 0 where
@@ -64,14 +63,24 @@ atts-end v n i front le = each-end (λ before. att_at v) n i front le
 
 pub ruleset atts = (atts-step, atts-end, run-bind, run-done, left_over-ok, left_over-err, next-shorter)
 
--- there are no variables, or the first can't be read yet
-pub vars-none : (bytes : List ℕ) → (vars_at 0 []).run bytes ≡ Ok ([], bytes)
-unfolding vars_at each_at done
-vars-none bytes = refl
+pub dimids-step : (v : Version) (dims : List Dim) (n i : ℕ) (first : Bool) (front : List ℕ) → i < n
+    → dimids_at v dims (n - i) first front ≡ (dimid_at v dims first >>= λ id. dimids_at v dims (n - (i + 1)) false (front ++ id ∷ []))
+unfolding dimids_at
+dimids-step v dims n i first front lt = let k : n - i ≡ suc (n - (i + 1)) = omega arith in rw k refl
 
-pub vars-some : (n : ℕ) (bytes : List ℕ) → n ≢ 0 → (vars_at n []).run bytes ≡ Err (NotYet, bytes)
-unfolding vars_at each_at ◌>>=◌ stop
-vars-some zero bytes some = absurd (some refl)
-vars-some (suc n) bytes some = refl
+pub dimids-end : (v : Version) (dims : List Dim) (n i : ℕ) (first : Bool) (front : List ℕ) → n ≤ i → dimids_at v dims (n - i) first front ≡ done front
+unfolding dimids_at
+dimids-end v dims n i first front le = let k : n - i ≡ 0 = omega arith in rw k refl
 
-pub ruleset vars = (vars-none, vars-some, left_over-ok, left_over-err)
+pub ruleset dimids = (dimids-step, dimids-end, run-bind, run-done, left_over-ok, left_over-err, next-shorter)
+
+pub vars-step : (v : Version) (dims : List Dim) (n i total : ℕ) (front : List Var) → i < n
+    → vars_at v dims (n - i) total front ≡ (var_at v dims total >>= λ sized. vars_at v dims (n - (i + 1)) sized.total (front ++ sized.var ∷ []))
+unfolding vars_at
+vars-step v dims n i total front lt = let k : n - i ≡ suc (n - (i + 1)) = omega arith in rw k refl
+
+pub vars-end : (v : Version) (dims : List Dim) (n i total : ℕ) (front : List Var) → n ≤ i → vars_at v dims (n - i) total front ≡ done front
+unfolding vars_at
+vars-end v dims n i total front le = let k : n - i ≡ 0 = omega arith in rw k refl
+
+pub ruleset vars = (vars-step, vars-end, run-bind, run-done, left_over-ok, left_over-err, next-shorter)

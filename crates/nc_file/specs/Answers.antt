@@ -5,9 +5,8 @@ use Rattle.nc_base.specs.declared.header.Header.{Header}
 use Rattle.nc_base.specs.Grammar.{SpellsHeader}
 use Rattle.nc_base.specs.FirstFault.{StopsAt}
 use Rattle.nc_file.specs.Sources.{SourceView}
-use Rattle.nc_file.specs.NotYet.{IsPlain, IsNotYet}
 use Rattle.nc_file.specs.declared.head_fault.HeadFault.{HeadFault}
-use Rattle.nc_file.specs.declared.head_fault.HeadFault.TheVariants.{OutOfMemory, ReadFailed, NotYet, Format}
+use Rattle.nc_file.specs.declared.head_fault.HeadFault.TheVariants.{OutOfMemory, ReadFailed, Format}
 
 -- no more was handed over than the bytes up to here, and one buffer
 abbrev pub HandedUpTo : SourceView → SourceView → ℕ → ℕ → Type 0
@@ -19,7 +18,6 @@ pub record IsRead (old new : SourceView) (room : ℕ) (h : Header) : Type 0 wher
   pub end : ℕ
   pub spelled : SpellsHeader old.bytes h rest
   pub ends : end + length rest ≡ length old.bytes
-  pub plain : IsPlain h
   pub handed : HandedUpTo old new end room
 
 -- the first wrong field has this fault, and ends here
@@ -31,6 +29,5 @@ pub record IsRefused (old new : SourceView) (room : ℕ) (fault : FormatFault) :
 abbrev pub Answers : SourceView → SourceView → ℕ → Result Header HeadFault → Type 0
 Answers old new room (Ok h) = IsRead old new room h
 Answers old new room (Err (Format fault)) = IsRefused old new room fault
-Answers old new room (Err NotYet) = IsNotYet old.bytes
 Answers old new room (Err OutOfMemory) = Unit {0}
 Answers old new room (Err ReadFailed) = Unit {0}

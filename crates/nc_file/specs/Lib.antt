@@ -2,5 +2,4 @@ pub mod Sinks
 pub mod Sources
 pub mod Reading
 pub mod Window
-pub mod NotYet
 pub mod Answers

@@ -1,11 +1,11 @@
 -- Reading a header from left to right: the value at the front of a list of bytes, or the first fault that is met, and what
 -- is left behind. That it gives what the grammar says is proved in `proofs/Laws.antt`.
-use Rattle.std.specs.Prelude.{◌≡◌, ℕ, zero, suc, ◌+◌, ◌-◌, ◌*◌, ◌<◌, ◌≤◌, Bool, true, false, List, [], ◌∷◌, ◌++◌, length, Option, Some, None, Result, Ok, Err, nat_le, ◌==◌, ◌&&◌, ◌||◌, not, if◌then◌else◌, MatchBool}
+use Rattle.std.specs.Prelude.{◌≡◌, ℕ, zero, suc, ◌+◌, ◌-◌, ◌*◌, ◌<◌, ◌≤◌, Bool, true, false, List, [], ◌∷◌, ◌++◌, length, Option, Some, None, Result, Ok, Err, nat_lt, nat_le, ◌==◌, ◌&&◌, ◌||◌, not, if◌then◌else◌, MatchBool}
 use Rattle.std.specs.Int.{w32, w64, from_be_bytes}
 use Rattle.std.specs.Bool.{OnTrue}
 use Rattle.std.proofs.Math.Nat.{le_refl, le_trans, le-suc}
 use Rattle.nc_base.specs.declared.fault.FormatFault.{FormatFault}
-use Rattle.nc_base.specs.declared.fault.FormatFault.TheVariants.{NotNetcdf, UnknownVersion, HeaderTruncated, BadTag, BadCount, BadName, FloatingType, BadType, TwoRecordDims}
+use Rattle.nc_base.specs.declared.fault.FormatFault.TheVariants.{NotNetcdf, UnknownVersion, HeaderTruncated, BadTag, BadCount, BadName, FloatingType, BadType, BadShape, TwoRecordDims, BadOffset, TooLarge}
 use Rattle.nc_base.specs.declared.header.Att.{Att}
 use Rattle.nc_base.specs.declared.header.Dim.{Dim}
 use Rattle.nc_base.specs.declared.header.Var.{Var}
@@ -13,17 +13,18 @@ use Rattle.nc_base.specs.declared.header.Header.{Header}
 use Rattle.nc_base.specs.declared.header.NumRecs.{NumRecs}
 use Rattle.nc_base.specs.declared.header.NumRecs.TheVariants.{Known, Streaming}
 use Rattle.nc_base.specs.declared.nc_type.NcType.{NcType}
-use Rattle.nc_base.specs.declared.nc_type.NcType.TheVariants.{Char}
 use Rattle.nc_base.specs.declared.version.Version.{Version}
 use Rattle.nc_base.specs.declared.version.Version.TheVariants.{Cdf1, Cdf2, Cdf5}
 use Rattle.nc_base.specs.Bytes.{padding_len}
-use Rattle.nc_base.specs.Types.{type_of_code, code_of}
-use Rattle.nc_base.specs.Versions.{version_of_byte, count_limit, streaming_mark, has_type}
+use Rattle.nc_base.specs.Types.{type_of_code, size_of}
+use Rattle.nc_base.specs.Versions.{version_of_byte, count_limit, offset_limit, streaming_mark, has_type}
+use Rattle.nc_base.specs.Sizes.{is_record_dim, has_records, slab_lens, product, slab_limit, record_limit}
+use Rattle.nc_file.specs.declared.sized_var.SizedVar.{SizedVar}
 use Rattle.nc_base.specs.Names.{is_name}
 use Rattle.nc_base.specs.Grammar.{dimension_tag, attribute_tag, variable_tag}
 use Rattle.nc_file.specs.Sources.{SourceView, HasFailed}
 use Rattle.nc_file.specs.declared.head_fault.HeadFault.{HeadFault}
-use Rattle.nc_file.specs.declared.head_fault.HeadFault.TheVariants.{OutOfMemory, ReadFailed, NotYet, Format}
+use Rattle.nc_file.specs.declared.head_fault.HeadFault.TheVariants.{OutOfMemory, ReadFailed, Format}
 
 -- a value and what is left, or a fault and what is left
 abbrev pub Outcome : Type 0 → Type 0
@@ -217,29 +218,96 @@ dims_at v (suc n) seen before = do
   dim ← dim_at v seen
   dims_at v n (seen || (dim.len == 0)) (before ++ dim ∷ [])
 
--- the characters of an attribute
-unfoldable pub char_att_at : Version → List ℕ → Part Att
-char_att_at v name = do
-  n ← count_at v
-  vals ← padded_at n
-  done (record { name = name; ty = Char; vals = vals })
-
--- an attribute: for now of characters alone
+-- an attribute
 unfoldable pub att_at : Version → Part Att
 att_at v = do
   name ← name_at v
   ty ← type_at v
-  if code_of ty == 2 then char_att_at v name else stop NotYet
+  n ← count_at v
+  vals ← padded_at (n * size_of ty)
+  done (record { name = name; ty = ty; vals = vals })
 
 unfoldable pub atts_at : Version → ℕ → List Att → Part (List Att)
 atts_at v n before = each_at (λ before. att_at v) n before
 
--- a variable: none for now
-abbrev pub var_at : List Var → Part Var
-var_at before = stop NotYet
+unfoldable pub att_list_at : Version → Part (List Att)
+att_list_at v = do
+  n ← list_len_at v attribute_tag
+  atts_at v n []
 
-unfoldable pub vars_at : ℕ → List Var → Part (List Var)
-vars_at n before = each_at var_at n before
+-- ---- variables
+
+-- the id of a dimension; that of the record dimension in the first place alone
+abbrev pub is_dimid : List Dim → Bool → ℕ → Bool
+is_dimid dims first id = nat_lt id (length dims) && (first || not (is_record_dim dims id))
+
+unfoldable pub dimid_at : Version → List Dim → Bool → Part ℕ
+dimid_at v dims first = do
+  id ← number_at v
+  if is_dimid dims first id then done id else wrong BadShape
+
+-- n dimension ids, the first of which stands in the first place or not, behind those that were read before
+unfoldable pub dimids_at : Version → List Dim → ℕ → Bool → List ℕ → Part (List ℕ)
+dimids_at v dims zero first before = done before
+dimids_at v dims (suc n) first before = do
+  id ← dimid_at v dims first
+  dimids_at v dims n false (before ++ id ∷ [])
+
+unfoldable pub shape_at : Version → List Dim → Part (List ℕ)
+shape_at v dims = do
+  n ← count_at v
+  dimids_at v dims n true []
+
+-- an offset: a number whose top bit is 0
+abbrev pub wide_at : Version → Part ℕ
+wide_at Cdf1 = u32_at
+wide_at Cdf2 = u64_at
+wide_at Cdf5 = u64_at
+
+unfoldable pub offset_at : Version → Part ℕ
+offset_at v = do
+  n ← wide_at v
+  if nat_le (offset_limit v) n then wrong BadOffset else done n
+
+-- the bytes of a slab of this shape, and what it adds to a record
+abbrev pub slab_of_shape : List Dim → List ℕ → NcType → ℕ
+slab_of_shape dims ids ty = product (slab_lens dims ids) * size_of ty
+
+abbrev pub record_part : List Dim → List ℕ → NcType → ℕ
+record_part dims ids ty = if has_records dims ids then slab_of_shape dims ids ty + padding_len (slab_of_shape dims ids ty) else 0
+
+-- The padded slabs of the record variables so far, with this variable's: none where a limit is passed.
+unfoldable pub total_with : List Dim → List ℕ → NcType → ℕ → Option ℕ
+total_with dims ids ty total =
+    if nat_le (slab_of_shape dims ids ty) slab_limit && nat_le (total + record_part dims ids ty) record_limit then Some (total + record_part dims ids ty) else None
+
+abbrev pub total_or_wrong : Option ℕ → Part ℕ
+total_or_wrong None = wrong TooLarge
+total_or_wrong (Some total) = done total
+
+-- a variable, and the padded slabs of the record variables up to and with it
+unfoldable pub var_at : Version → List Dim → ℕ → Part SizedVar
+var_at v dims total = do
+  name ← name_at v
+  dimids ← shape_at v dims
+  atts ← att_list_at v
+  ty ← type_at v
+  sum ← total_or_wrong (total_with dims dimids ty total)
+  vsize ← number_at v
+  begin ← offset_at v
+  done (record { var = record { name = name; dimids = dimids; atts = atts; ty = ty; begin_at = begin }; total = sum })
+
+-- n variables, behind others with such padded slabs, and behind those that were read before
+unfoldable pub vars_at : Version → List Dim → ℕ → ℕ → List Var → Part (List Var)
+vars_at v dims zero total before = done before
+vars_at v dims (suc n) total before = do
+  sized ← var_at v dims total
+  vars_at v dims n sized.total (before ++ sized.var ∷ [])
+
+unfoldable pub var_list_at : Version → List Dim → Part (List Var)
+var_list_at v dims = do
+  n ← list_len_at v variable_tag
+  vars_at v dims n 0 []
 
 -- ---- the whole
 
@@ -273,21 +341,11 @@ dim_list_at v = do
   n ← list_len_at v dimension_tag
   dims_at v n false []
 
-unfoldable pub att_list_at : Version → Part (List Att)
-att_list_at v = do
-  n ← list_len_at v attribute_tag
-  atts_at v n []
-
-unfoldable pub var_list_at : Version → Part (List Var)
-var_list_at v = do
-  n ← list_len_at v variable_tag
-  vars_at n []
-
 unfoldable pub header_at : Part Header
 header_at = do
   v ← magic_at
   numrecs ← numrecs_at v
   dims ← dim_list_at v
   gatts ← att_list_at v
-  vars ← var_list_at v
+  vars ← var_list_at v dims
   done (record { version = v; numrecs = numrecs; dims = dims; gatts = gatts; vars = vars })

@@ -13,8 +13,6 @@ pub enum HeadFault {
     OutOfMemory,
     /// The source failed.
     ReadFailed,
-    /// The header has a variable or an attribute of a number type, which can't be read yet.
-    NotYet,
     /// The first wrong field of the header, from the left.
     Format(FormatFault),
 }

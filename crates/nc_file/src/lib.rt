@@ -12,6 +12,7 @@ mod header;
 mod head_fault;
 mod memory;
 mod reading;
+mod sized_var;
 mod sink;
 mod source;
 mod window;

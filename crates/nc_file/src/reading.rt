@@ -1,10 +1,11 @@
 //! Reading a header, part by part.
 
-ghost use Rattle.std.specs.Prelude.{◌≡◌, [], false};
-ghost use Rattle.nc_file.specs.Reading.{type_in, name_at, type_at, list_len_at, dim_at, dims_at, dim_list_at, char_att_at, att_at, atts_at, att_list_at, vars_at, var_list_at, first_at, version_at, magic_at, numrecs_at, header_at};
+ghost use Rattle.std.specs.Prelude.{◌≡◌, [], false, true};
+ghost use Rattle.nc_file.specs.Reading.{type_in, name_at, type_at, list_len_at, dim_at, dims_at, dim_list_at, att_at, atts_at, att_list_at, is_dimid, dimid_at, dimids_at, shape_at, wide_at, offset_at, total_with, var_at, vars_at, var_list_at, first_at, version_at, magic_at, numrecs_at, header_at};
 ghost use Rattle.nc_file.specs.Window.{Opened, Did};
 
 use crate::head_fault::HeadFault;
+use crate::sized_var::SizedVar;
 use crate::source::Source;
 use crate::window::{Window, padding_len};
 use nc_base::{Att, Dim, FormatFault, Header, NcType, NumRecs, Sequence, Var, Version, check_name};
@@ -102,26 +103,6 @@ impl<S: Source> Window<'_, S> {
         self.dims(alloc, version, n)
     }
 
-    /// An attribute of characters, behind its name and its type.
-    #[tactic(auto, using(crate::proofs::Parts::parts), unfolding(crate::specs::Reading::char_att_at))]
-    fn char_att(
-        &mut self,
-        alloc: Global,
-        version: Version,
-        name: Sequence<u8>,
-    ) -> Result<Att, HeadFault>
-        requires { Opened S.told S.seen self.old }
-        ensures { Did S.told S.seen self.old self.new (char_att_at version name) result }
-    {
-        let n = self.count(version)?;
-        let vals = self.padded(alloc, n as u128)?;
-        Ok(Att {
-            name,
-            ty: NcType::Char,
-            vals,
-        })
-    }
-
     /// An attribute.
     #[tactic(auto, using(crate::proofs::Parts::parts), unfolding(crate::specs::Reading::att_at))]
     fn att(&mut self, alloc: Global, version: Version) -> Result<Att, HeadFault>
@@ -130,10 +111,9 @@ impl<S: Source> Window<'_, S> {
     {
         let name = self.name(alloc, version)?;
         let ty = self.nc_type(version)?;
-        if ty.code() != 2 {
-            return Err(HeadFault::NotYet);
-        }
-        self.char_att(alloc, version, name)
+        let n = self.count(version)?;
+        let vals = self.padded(alloc, n as u128 * ty.size() as u128)?;
+        Ok(Att { name, ty, vals })
     }
 
     #[tactic(auto, using(crate::proofs::Loops::atts))]
@@ -158,25 +138,140 @@ impl<S: Source> Window<'_, S> {
         self.atts(alloc, version, n)
     }
 
-    #[tactic(auto, using(crate::proofs::Loops::vars))]
-    fn vars(&mut self, alloc: Global, n: u64) -> Result<Sequence<Var>, HeadFault>
+    /// A dimension id. That of the record dimension stands in the first place of a shape alone.
+    #[tactic(auto, using(crate::proofs::Parts::parts), unfolding(crate::specs::Reading::dimid_at))]
+    fn dimid(&mut self, version: Version, dims: &[Dim], first: bool) -> Result<u64, HeadFault>
         requires { Opened S.told S.seen self.old }
-        ensures { Did S.told S.seen self.old self.new (vars_at n []) result }
+        ensures { Did S.told S.seen self.old self.new (dimid_at version dims.now first) result }
     {
-        if n == 0 {
-            Ok(Sequence::new(alloc))
-        } else {
-            Err(HeadFault::NotYet)
+        let id = self.number(version)?;
+        if !is_dimid(dims, first, id) {
+            return Err(HeadFault::Format(FormatFault::BadShape));
+        }
+        Ok(id)
+    }
+
+    #[tactic(auto, using(crate::proofs::Loops::dimids))]
+    fn dimids(
+        &mut self,
+        alloc: Global,
+        version: Version,
+        dims: &[Dim],
+        n: u64,
+    ) -> Result<Sequence<u64>, HeadFault>
+        requires { Opened S.told S.seen self.old }
+        ensures { Did S.told S.seen self.old self.new (dimids_at version dims.now n true []) result }
+    {
+        let mut dimids = Sequence::new(alloc);
+        let mut first = true;
+        for _ in 0..n {
+            dimids.push(self.dimid(version, dims, first)?)?;
+            first = false;
+        }
+        Ok(dimids)
+    }
+
+    /// The shape of a variable: its rank and its dimension ids.
+    #[tactic(auto, using(crate::proofs::Parts::parts), unfolding(crate::specs::Reading::shape_at))]
+    fn shape(&mut self, alloc: Global, version: Version, dims: &[Dim]) -> Result<Sequence<u64>, HeadFault>
+        requires { Opened S.told S.seen self.old }
+        ensures { Did S.told S.seen self.old self.new (shape_at version dims.now) result }
+    {
+        let n = self.count(version)?;
+        self.dimids(alloc, version, dims, n)
+    }
+
+    /// A number of the width that offsets have in the version.
+    fn wide(&mut self, version: Version) -> Result<u64, HeadFault>
+        requires { Opened S.told S.seen self.old }
+        ensures { Did S.told S.seen self.old self.new (wide_at version) result }
+    {
+        match version {
+            Version::Cdf1 => self.narrow_number(),
+            Version::Cdf2 | Version::Cdf5 => self.read_u64(),
         }
     }
 
-    #[tactic(auto, using(crate::proofs::Parts::parts), unfolding(crate::specs::Reading::var_list_at))]
-    fn var_list(&mut self, alloc: Global, version: Version) -> Result<Sequence<Var>, HeadFault>
+    /// The offset of a variable.
+    #[tactic(auto, using(crate::proofs::Parts::parts), unfolding(crate::specs::Reading::offset_at))]
+    fn offset(&mut self, version: Version) -> Result<u64, HeadFault>
         requires { Opened S.told S.seen self.old }
-        ensures { Did S.told S.seen self.old self.new (var_list_at version) result }
+        ensures { Did S.told S.seen self.old self.new (offset_at version) result }
+    {
+        let n = self.wide(version)?;
+        if version.offset_limit() <= n {
+            return Err(HeadFault::Format(FormatFault::BadOffset));
+        }
+        Ok(n)
+    }
+
+    /// A variable, behind others whose records have so many bytes. Its `vsize` may be any number.
+    #[tactic(auto, using(crate::proofs::Parts::parts), unfolding(crate::specs::Reading::var_at))]
+    fn var(
+        &mut self,
+        alloc: Global,
+        version: Version,
+        dims: &[Dim],
+        total: u64,
+    ) -> Result<SizedVar, HeadFault>
+        requires { Opened S.told S.seen self.old }
+        ensures { Did S.told S.seen self.old self.new (var_at version dims.now total) result }
+    {
+        let name = self.name(alloc, version)?;
+        let dimids = self.shape(alloc, version, dims)?;
+        let atts = self.att_list(alloc, version)?;
+        let ty = self.nc_type(version)?;
+        let total = match total_with(dims, dimids.as_slice(), ty, total) {
+            Some(total) => total,
+            None => return Err(HeadFault::Format(FormatFault::TooLarge)),
+        };
+        self.number(version)?;
+        let begin_at = self.offset(version)?;
+        Ok(SizedVar {
+            var: Var {
+                name,
+                dimids,
+                atts,
+                ty,
+                begin_at,
+            },
+            total,
+        })
+    }
+
+    #[tactic(auto, using(crate::proofs::Loops::vars))]
+    fn vars(
+        &mut self,
+        alloc: Global,
+        version: Version,
+        dims: &[Dim],
+        n: u64,
+    ) -> Result<Sequence<Var>, HeadFault>
+        requires { Opened S.told S.seen self.old }
+        ensures { Did S.told S.seen self.old self.new (vars_at version dims.now n 0 []) result }
+    {
+        let mut vars = Sequence::new(alloc);
+        let mut total = 0;
+        for _ in 0..n {
+            let sized = self.var(alloc, version, dims, total)?;
+            total = sized.total;
+            vars.push(sized.var)?;
+        }
+        Ok(vars)
+    }
+
+    #[tactic(auto, using(crate::proofs::Parts::parts), unfolding(crate::specs::Reading::var_list_at))]
+    fn var_list(
+        &mut self,
+        alloc: Global,
+        version: Version,
+        dims: &[Dim],
+    ) -> Result<Sequence<Var>, HeadFault>
+        requires { Opened S.told S.seen self.old }
+        ensures { Did S.told S.seen self.old self.new (var_list_at version dims.now) result }
     {
         let n = self.list_len(version, VARIABLE_TAG)?;
-        self.vars(alloc, n)
+        self.vars(alloc, version, dims, n)
     }
 
     /// A byte of `CDF`.
@@ -245,7 +340,7 @@ impl<S: Source> Window<'_, S> {
         let numrecs = self.numrecs(version)?;
         let dims = self.dim_list(alloc, version)?;
         let gatts = self.att_list(alloc, version)?;
-        let vars = self.var_list(alloc, version)?;
+        let vars = self.var_list(alloc, version, dims.as_slice())?;
         Ok(Header {
             version,
             numrecs,
@@ -265,4 +360,20 @@ fn type_of(version: Version, code: u32) -> Option<NcType>
         Some(ty) if version.has_type(ty) => Some(ty),
         _ => None,
     }
+}
+
+/// Says whether this is a dimension id, and in its place.
+fn is_dimid(dims: &[Dim], first: bool, id: u64) -> bool
+    ensures { result ≡ is_dimid dims.now first id }
+{
+    id < dims.len() as u64 && (first || dims[id as usize].len != 0)
+}
+
+/// The padded slabs of the record variables so far, with those of a variable of this shape and type; none where its slab
+/// or the record passes its limit.
+#[tactic(auto, unfolding(crate::specs::Reading::total_with))]
+fn total_with(dims: &[Dim], dimids: &[u64], ty: NcType, total: u64) -> Option<u64>
+    ensures { result ≡ total_with dims.now dimids.now ty total }
+{
+    None
 }

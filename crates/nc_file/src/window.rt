@@ -96,7 +96,7 @@ impl<S: Source> Window<'_, S> {
     }
 
     #[tactic(auto, using(crate::proofs::Parts::parts), unfolding(crate::specs::Reading::u64_at))]
-    fn read_u64(&mut self) -> Result<u64, HeadFault>
+    pub(crate) fn read_u64(&mut self) -> Result<u64, HeadFault>
         requires { Opened S.told S.seen self.old }
         ensures { Did S.told S.seen self.old self.new u64_at result }
     {
@@ -122,7 +122,7 @@ impl<S: Source> Window<'_, S> {
         }
     }
 
-    fn narrow_number(&mut self) -> Result<u64, HeadFault>
+    pub(crate) fn narrow_number(&mut self) -> Result<u64, HeadFault>
         requires { Opened S.told S.seen self.old }
         ensures { Did S.told S.seen self.old self.new u32_at result }
     {
