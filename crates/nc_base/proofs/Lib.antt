@@ -1,1 +1,4 @@
 pub mod NameLemmas
+pub mod NumberLaws
+pub mod PathLemmas
+pub mod SizeLaws

@@ -1,5 +1,5 @@
 -- The dump of a file: its text, and how it ends.
-use Rattle.std.specs.Prelude.{ℕ, ◌≡◌, ◌<◌, Bool, true, false, IsTrue, ◌==◌, ◌||◌, List, [], ◌∷◌, length, map, codes, Option, Some, None, if◌then◌else◌, slice_get}
+use Rattle.std.specs.Prelude.{ℕ, ◌≡◌, ◌<◌, Bool, true, false, IsTrue, ◌==◌, ◌||◌, List, [], ◌∷◌, length, codes, Option, Some, None, slice_get}
 use Rattle.std.specs.List.{list_any, list_all}
 use Rattle.std.specs.Str.{bytes_eq}
 use Rattle.nc_base.specs.declared.fault.FormatFault.{FormatFault}
@@ -60,7 +60,7 @@ closed_text name h records section = text (head_text name h records ∷ section 
 pub data IsDump (bytes : List ℕ) (o : Options) : List ℕ → Ending → Type 0 where
   stopped : (fault : FormatFault) (end : ℕ) → StopsAt bytes fault end → IsDump bytes o [] (wrong_field fault)
   unknown : (h : Header) (rest : List ℕ) (index : ℕ)
-    → SpellsHeader bytes h rest → IsFirstUnknownOf h o.chosen index → IsDump bytes o [] (no_such_variable index)
+      → SpellsHeader bytes h rest → IsFirstUnknownOf h o.chosen index → IsDump bytes o [] (no_such_variable index)
   without_data : (h : Header) (rest : List ℕ)
-    → SpellsHeader bytes h rest → KnowsChosen h o.chosen → IsTrue (has_no_data h o)
-    → IsDump bytes o (closed_text o.name h (record_count h (length bytes)) []) whole
+      → SpellsHeader bytes h rest → KnowsChosen h o.chosen → IsTrue (has_no_data h o)
+      → IsDump bytes o (closed_text o.name h (record_count h (length bytes)) []) whole

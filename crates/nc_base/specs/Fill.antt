@@ -1,5 +1,5 @@
 -- Fill values, and which values print as `_`.
-use Rattle.std.specs.Prelude.{ℕ, ◌≡◌, ℤ, Bool, true, false, IsTrue, ◌==◌, ◌&&◌, List, length, find, Option, Some, None, is_some, if◌then◌else◌, codes}
+use Rattle.std.specs.Prelude.{◌≡◌, ℤ, Bool, true, false, ◌==◌, ◌&&◌, length, find, Option, Some, None, is_some, if◌then◌else◌, codes}
 use Rattle.std.specs.Str.{bytes_eq}
 use Rattle.nc_base.specs.declared.header.Att.{Att}
 use Rattle.nc_base.specs.declared.header.Var.{Var}

@@ -15,7 +15,7 @@ use Rattle.nc_base.specs.Types.{code_of, size_of}
 use Rattle.nc_base.specs.Versions.{count_width, offset_width, count_limit, offset_limit, version_of_byte, streaming_mark, has_type}
 use Rattle.nc_base.specs.Names.{is_name, IsName}
 use Rattle.nc_base.specs.Headers.{has_record_dim, IsDimid}
-use Rattle.nc_base.specs.Grammar.{ElementSpelling, dimension_tag, attribute_tag, variable_tag, SpellsNumber, SpellsCount, SpellsMagic, SpellsName, SpellsType, SpellsCounted, SpellsDim, SpellsAtt, SpellsAttFront, SpellsAtts, SpellsDimid, SpellsVar, SpellsVarFront, SpellsTypedVar, IsWithinLimits, SpellsStart, SpellsUpToDims, SpellsUpToGatts}
+use Rattle.nc_base.specs.Grammar.{ElementSpelling, dimension_tag, attribute_tag, variable_tag, SpellsNumber, SpellsCount, SpellsMagic, SpellsName, SpellsType, SpellsCounted, SpellsDim, SpellsAtt, SpellsAttFront, SpellsDimid, SpellsVar, SpellsVarFront, SpellsTypedVar, IsWithinLimits, SpellsStart, SpellsUpToDims, SpellsUpToGatts}
 
 -- ---- numbers
 
@@ -27,8 +27,8 @@ IsCutNumber width bytes = length bytes < byte_len width
 pub data StopsInCount (v : Version) (bytes : List ℕ) : FormatFault → List ℕ → Type 0 where
   cut_count : IsCutNumber (count_width v) bytes → StopsInCount v bytes HeaderTruncated []
   negative_count : (n : ℕ) (rest : List ℕ)
-    → SpellsNumber (count_width v) bytes n rest → count_limit v ≤ n
-    → StopsInCount v bytes BadCount rest
+      → SpellsNumber (count_width v) bytes n rest → count_limit v ≤ n
+      → StopsInCount v bytes BadCount rest
 
 -- ---- names and types
 
@@ -36,24 +36,24 @@ pub data StopsInCount (v : Version) (bytes : List ℕ) : FormatFault → List �
 pub data StopsInName (v : Version) (bytes : List ℕ) : FormatFault → List ℕ → Type 0 where
   in_name_len : (fault : FormatFault) (rest : List ℕ) → StopsInCount v bytes fault rest → StopsInName v bytes fault rest
   cut_name : (n : ℕ) (body : List ℕ)
-    → SpellsCount v bytes n body → length body < n
-    → StopsInName v bytes HeaderTruncated []
+      → SpellsCount v bytes n body → length body < n
+      → StopsInName v bytes HeaderTruncated []
   bad_name : (name rest : List ℕ)
-    → SpellsCount v bytes (length name) (name ++ rest) → is_name name ≡ false
-    → StopsInName v bytes BadName rest
+      → SpellsCount v bytes (length name) (name ++ rest) → is_name name ≡ false
+      → StopsInName v bytes BadName rest
   cut_name_padding : (name rest : List ℕ)
-    → SpellsCount v bytes (length name) (name ++ rest) → IsName name → length rest < padding_len (length name)
-    → StopsInName v bytes HeaderTruncated []
+      → SpellsCount v bytes (length name) (name ++ rest) → IsName name → length rest < padding_len (length name)
+      → StopsInName v bytes HeaderTruncated []
 
 -- a type
 pub data StopsInType (v : Version) (bytes : List ℕ) : FormatFault → List ℕ → Type 0 where
   cut_type : IsCutNumber w32 bytes → StopsInType v bytes HeaderTruncated []
   floating : (code : ℕ) (rest : List ℕ)
-    → SpellsNumber w32 bytes code rest → (code ≡ 5) ⊎ (code ≡ 6)
-    → StopsInType v bytes FloatingType rest
+      → SpellsNumber w32 bytes code rest → (code ≡ 5) ⊎ (code ≡ 6)
+      → StopsInType v bytes FloatingType rest
   bad_type : (code : ℕ) (rest : List ℕ)
-    → SpellsNumber w32 bytes code rest → code ≢ 5 → code ≢ 6 → ((ty : NcType) → has_type v ty ≡ true → code_of ty ≢ code)
-    → StopsInType v bytes BadType rest
+      → SpellsNumber w32 bytes code rest → code ≢ 5 → code ≢ 6 → ((ty : NcType) → has_type v ty ≡ true → code_of ty ≢ code)
+      → StopsInType v bytes BadType rest
 
 -- ---- lists
 
@@ -72,25 +72,25 @@ StopsInEach {A = A} Element Stops (suc n) before bytes fault rest =
 pub data StopsInCounted {A : Type 0} (v : Version) (Element : ElementSpelling A) (Stops : ElementStop A) (bytes : List ℕ) : FormatFault → List ℕ → Type 0 where
   in_count : (fault : FormatFault) (rest : List ℕ) → StopsInCount v bytes fault rest → StopsInCounted v Element Stops bytes fault rest
   in_element : (n : ℕ) (body : List ℕ) (fault : FormatFault) (rest : List ℕ)
-    → SpellsCount v bytes n body → StopsInEach Element Stops n [] body fault rest
-    → StopsInCounted v Element Stops bytes fault rest
+      → SpellsCount v bytes n body → StopsInEach Element Stops n [] body fault rest
+      → StopsInCounted v Element Stops bytes fault rest
 
 -- a list: its tag is neither zero nor its own, or its count is wrong, which behind a zero tag is any but zero, or an
 -- element is wrong
 pub data StopsInList {A : Type 0} (v : Version) (tag : ℕ) (Element : ElementSpelling A) (Stops : ElementStop A) (bytes : List ℕ) : FormatFault → List ℕ → Type 0 where
   cut_tag : IsCutNumber w32 bytes → StopsInList v tag Element Stops bytes HeaderTruncated []
   bad_tag : (found : ℕ) (rest : List ℕ)
-    → SpellsNumber w32 bytes found rest → found ≢ 0 → found ≢ tag
-    → StopsInList v tag Element Stops bytes BadTag rest
+      → SpellsNumber w32 bytes found rest → found ≢ 0 → found ≢ tag
+      → StopsInList v tag Element Stops bytes BadTag rest
   in_absent_count : (behind_tag : List ℕ) (fault : FormatFault) (rest : List ℕ)
-    → SpellsNumber w32 bytes 0 behind_tag → StopsInCount v behind_tag fault rest
-    → StopsInList v tag Element Stops bytes fault rest
+      → SpellsNumber w32 bytes 0 behind_tag → StopsInCount v behind_tag fault rest
+      → StopsInList v tag Element Stops bytes fault rest
   absent_elements : (behind_tag : List ℕ) (n : ℕ) (rest : List ℕ)
-    → SpellsNumber w32 bytes 0 behind_tag → SpellsCount v behind_tag n rest → n ≢ 0
-    → StopsInList v tag Element Stops bytes BadCount rest
+      → SpellsNumber w32 bytes 0 behind_tag → SpellsCount v behind_tag n rest → n ≢ 0
+      → StopsInList v tag Element Stops bytes BadCount rest
   in_present : (behind_tag : List ℕ) (fault : FormatFault) (rest : List ℕ)
-    → SpellsNumber w32 bytes tag behind_tag → StopsInCounted v Element Stops behind_tag fault rest
-    → StopsInList v tag Element Stops bytes fault rest
+      → SpellsNumber w32 bytes tag behind_tag → StopsInCounted v Element Stops behind_tag fault rest
+      → StopsInList v tag Element Stops bytes fault rest
 
 -- ---- dimensions and attributes
 
@@ -98,28 +98,28 @@ pub data StopsInList {A : Type 0} (v : Version) (tag : ℕ) (Element : ElementSp
 pub data StopsInDim (v : Version) (before : List Dim) (bytes : List ℕ) : FormatFault → List ℕ → Type 0 where
   in_dim_name : (fault : FormatFault) (rest : List ℕ) → StopsInName v bytes fault rest → StopsInDim v before bytes fault rest
   in_dim_len : (name behind_name : List ℕ) (fault : FormatFault) (rest : List ℕ)
-    → SpellsName v bytes name behind_name → StopsInCount v behind_name fault rest
-    → StopsInDim v before bytes fault rest
+      → SpellsName v bytes name behind_name → StopsInCount v behind_name fault rest
+      → StopsInDim v before bytes fault rest
   second_record_dim : (name behind_name rest : List ℕ)
-    → SpellsName v bytes name behind_name → SpellsCount v behind_name 0 rest → has_record_dim before ≡ true
-    → StopsInDim v before bytes TwoRecordDims rest
+      → SpellsName v bytes name behind_name → SpellsCount v behind_name 0 rest → has_record_dim before ≡ true
+      → StopsInDim v before bytes TwoRecordDims rest
 
 -- an attribute, whatever stands before it: its values and their padding are two fields
 pub data StopsInAtt (v : Version) (before : List Att) (bytes : List ℕ) : FormatFault → List ℕ → Type 0 where
   in_att_name : (fault : FormatFault) (rest : List ℕ) → StopsInName v bytes fault rest → StopsInAtt v before bytes fault rest
   in_att_type : (name behind_name : List ℕ) (fault : FormatFault) (rest : List ℕ)
-    → SpellsName v bytes name behind_name → StopsInType v behind_name fault rest
-    → StopsInAtt v before bytes fault rest
+      → SpellsName v bytes name behind_name → StopsInType v behind_name fault rest
+      → StopsInAtt v before bytes fault rest
   in_att_count : (name behind_name behind_type : List ℕ) (ty : NcType) (fault : FormatFault) (rest : List ℕ)
-    → SpellsName v bytes name behind_name → SpellsType v behind_name ty behind_type → StopsInCount v behind_type fault rest
-    → StopsInAtt v before bytes fault rest
+      → SpellsName v bytes name behind_name → SpellsType v behind_name ty behind_type → StopsInCount v behind_type fault rest
+      → StopsInAtt v before bytes fault rest
   cut_values : (name body : List ℕ) (ty : NcType) (count : ℕ)
-    → SpellsAttFront v bytes name ty count body → length body < count * size_of ty
-    → StopsInAtt v before bytes HeaderTruncated []
+      → SpellsAttFront v bytes name ty count body → length body < count * size_of ty
+      → StopsInAtt v before bytes HeaderTruncated []
   cut_value_padding : (name vals rest : List ℕ) (ty : NcType) (count : ℕ)
-    → SpellsAttFront v bytes name ty count (vals ++ rest) → length vals ≡ count * size_of ty
-    → length rest < padding_len (length vals)
-    → StopsInAtt v before bytes HeaderTruncated []
+      → SpellsAttFront v bytes name ty count (vals ++ rest) → length vals ≡ count * size_of ty
+      → length rest < padding_len (length vals)
+      → StopsInAtt v before bytes HeaderTruncated []
 
 abbrev pub StopsInAtts : Version → List ℕ → FormatFault → List ℕ → Type 0
 StopsInAtts v bytes fault rest = StopsInList v attribute_tag (SpellsAtt v) (StopsInAtt v) bytes fault rest
@@ -130,36 +130,36 @@ StopsInAtts v bytes fault rest = StopsInList v attribute_tag (SpellsAtt v) (Stop
 pub data StopsInDimid (v : Version) (dims : List Dim) (before : List ℕ) (bytes : List ℕ) : FormatFault → List ℕ → Type 0 where
   cut_dimid : IsCutNumber (count_width v) bytes → StopsInDimid v dims before bytes HeaderTruncated []
   bad_dimid : (id : ℕ) (rest : List ℕ)
-    → SpellsNumber (count_width v) bytes id rest → ¬ IsDimid dims before id
-    → StopsInDimid v dims before bytes BadShape rest
+      → SpellsNumber (count_width v) bytes id rest → ¬ IsDimid dims before id
+      → StopsInDimid v dims before bytes BadShape rest
 
 -- a variable: that it is too large shows at its type
 pub data StopsInVar (v : Version) (dims : List Dim) (before : List Var) (bytes : List ℕ) : FormatFault → List ℕ → Type 0 where
   in_var_name : (fault : FormatFault) (rest : List ℕ) → StopsInName v bytes fault rest → StopsInVar v dims before bytes fault rest
   in_shape : (name behind_name : List ℕ) (fault : FormatFault) (rest : List ℕ)
-    → SpellsName v bytes name behind_name → StopsInCounted v (SpellsDimid v dims) (StopsInDimid v dims) behind_name fault rest
-    → StopsInVar v dims before bytes fault rest
+      → SpellsName v bytes name behind_name → StopsInCounted v (SpellsDimid v dims) (StopsInDimid v dims) behind_name fault rest
+      → StopsInVar v dims before bytes fault rest
   in_var_atts : (name behind_name behind_shape dimids : List ℕ) (fault : FormatFault) (rest : List ℕ)
-    → SpellsName v bytes name behind_name → SpellsCounted v (SpellsDimid v dims) behind_name dimids behind_shape
-    → StopsInAtts v behind_shape fault rest
-    → StopsInVar v dims before bytes fault rest
+      → SpellsName v bytes name behind_name → SpellsCounted v (SpellsDimid v dims) behind_name dimids behind_shape
+      → StopsInAtts v behind_shape fault rest
+      → StopsInVar v dims before bytes fault rest
   in_var_type : (var : Var) (behind_atts : List ℕ) (fault : FormatFault) (rest : List ℕ)
-    → SpellsVarFront v dims bytes var behind_atts → StopsInType v behind_atts fault rest
-    → StopsInVar v dims before bytes fault rest
+      → SpellsVarFront v dims bytes var behind_atts → StopsInType v behind_atts fault rest
+      → StopsInVar v dims before bytes fault rest
   too_large : (var : Var) (behind_atts rest : List ℕ)
-    → SpellsVarFront v dims bytes var behind_atts → SpellsType v behind_atts var.ty rest → ¬ IsWithinLimits dims before var
-    → StopsInVar v dims before bytes TooLarge rest
+      → SpellsVarFront v dims bytes var behind_atts → SpellsType v behind_atts var.ty rest → ¬ IsWithinLimits dims before var
+      → StopsInVar v dims before bytes TooLarge rest
   cut_vsize : (var : Var) (behind_type : List ℕ)
-    → SpellsTypedVar v dims before bytes var behind_type → IsCutNumber (count_width v) behind_type
-    → StopsInVar v dims before bytes HeaderTruncated []
+      → SpellsTypedVar v dims before bytes var behind_type → IsCutNumber (count_width v) behind_type
+      → StopsInVar v dims before bytes HeaderTruncated []
   cut_begin : (var : Var) (behind_type behind_vsize : List ℕ) (vsize : ℕ)
-    → SpellsTypedVar v dims before bytes var behind_type → SpellsNumber (count_width v) behind_type vsize behind_vsize
-    → IsCutNumber (offset_width v) behind_vsize
-    → StopsInVar v dims before bytes HeaderTruncated []
+      → SpellsTypedVar v dims before bytes var behind_type → SpellsNumber (count_width v) behind_type vsize behind_vsize
+      → IsCutNumber (offset_width v) behind_vsize
+      → StopsInVar v dims before bytes HeaderTruncated []
   negative_begin : (var : Var) (behind_type behind_vsize : List ℕ) (vsize begin : ℕ) (rest : List ℕ)
-    → SpellsTypedVar v dims before bytes var behind_type → SpellsNumber (count_width v) behind_type vsize behind_vsize
-    → SpellsNumber (offset_width v) behind_vsize begin rest → offset_limit v ≤ begin
-    → StopsInVar v dims before bytes BadOffset rest
+      → SpellsTypedVar v dims before bytes var behind_type → SpellsNumber (count_width v) behind_type vsize behind_vsize
+      → SpellsNumber (offset_width v) behind_vsize begin rest → offset_limit v ≤ begin
+      → StopsInVar v dims before bytes BadOffset rest
 
 -- ---- the whole
 
@@ -167,36 +167,36 @@ pub data StopsInVar (v : Version) (dims : List Dim) (before : List Var) (bytes :
 pub data StopsInMagic (bytes : List ℕ) : FormatFault → List ℕ → Type 0 where
   cut_magic : length bytes < 3 → StopsInMagic bytes NotNetcdf []
   other_magic : (a b c : ℕ) (rest : List ℕ)
-    → bytes ≡ a ∷ b ∷ c ∷ rest → ¬ ((a ≡ 67) × (b ≡ 68) × (c ≡ 70))
-    → StopsInMagic bytes NotNetcdf rest
+      → bytes ≡ a ∷ b ∷ c ∷ rest → ¬ ((a ≡ 67) × (b ≡ 68) × (c ≡ 70))
+      → StopsInMagic bytes NotNetcdf rest
   cut_version : bytes ≡ 67 ∷ 68 ∷ 70 ∷ [] → StopsInMagic bytes HeaderTruncated []
   bad_version : (n : ℕ) (rest : List ℕ)
-    → bytes ≡ 67 ∷ 68 ∷ 70 ∷ n ∷ rest → version_of_byte n ≡ None
-    → StopsInMagic bytes (UnknownVersion n) rest
+      → bytes ≡ 67 ∷ 68 ∷ 70 ∷ n ∷ rest → version_of_byte n ≡ None
+      → StopsInMagic bytes (UnknownVersion n) rest
 
 -- the number of records: the mark is no wrong number
 pub data StopsInNumRecs (v : Version) (bytes : List ℕ) : FormatFault → List ℕ → Type 0 where
   cut_numrecs : IsCutNumber (count_width v) bytes → StopsInNumRecs v bytes HeaderTruncated []
   negative_numrecs : (n : ℕ) (rest : List ℕ)
-    → SpellsNumber (count_width v) bytes n rest → count_limit v ≤ n → n ≢ streaming_mark v
-    → StopsInNumRecs v bytes BadCount rest
+      → SpellsNumber (count_width v) bytes n rest → count_limit v ≤ n → n ≢ streaming_mark v
+      → StopsInNumRecs v bytes BadCount rest
 
 -- a header: the first wrong field of all
 pub data StopsWith (bytes : List ℕ) : FormatFault → List ℕ → Type 0 where
   in_magic : (fault : FormatFault) (rest : List ℕ) → StopsInMagic bytes fault rest → StopsWith bytes fault rest
   in_numrecs : (v : Version) (behind_magic : List ℕ) (fault : FormatFault) (rest : List ℕ)
-    → SpellsMagic bytes v behind_magic → StopsInNumRecs v behind_magic fault rest
-    → StopsWith bytes fault rest
+      → SpellsMagic bytes v behind_magic → StopsInNumRecs v behind_magic fault rest
+      → StopsWith bytes fault rest
   in_dims : (v : Version) (numrecs : NumRecs) (behind_start : List ℕ) (fault : FormatFault) (rest : List ℕ)
-    → SpellsStart bytes v numrecs behind_start → StopsInList v dimension_tag (SpellsDim v) (StopsInDim v) behind_start fault rest
-    → StopsWith bytes fault rest
+      → SpellsStart bytes v numrecs behind_start → StopsInList v dimension_tag (SpellsDim v) (StopsInDim v) behind_start fault rest
+      → StopsWith bytes fault rest
   in_gatts : (v : Version) (numrecs : NumRecs) (dims : List Dim) (behind_dims : List ℕ) (fault : FormatFault) (rest : List ℕ)
-    → SpellsUpToDims bytes v numrecs dims behind_dims → StopsInAtts v behind_dims fault rest
-    → StopsWith bytes fault rest
+      → SpellsUpToDims bytes v numrecs dims behind_dims → StopsInAtts v behind_dims fault rest
+      → StopsWith bytes fault rest
   in_vars : (v : Version) (numrecs : NumRecs) (dims : List Dim) (gatts : List Att) (behind_gatts : List ℕ) (fault : FormatFault) (rest : List ℕ)
-    → SpellsUpToGatts bytes v numrecs dims gatts behind_gatts
-    → StopsInList v variable_tag (SpellsVar v dims) (StopsInVar v dims) behind_gatts fault rest
-    → StopsWith bytes fault rest
+      → SpellsUpToGatts bytes v numrecs dims gatts behind_gatts
+      → StopsInList v variable_tag (SpellsVar v dims) (StopsInVar v dims) behind_gatts fault rest
+      → StopsWith bytes fault rest
 
 -- the same by the offset at which the first wrong field ends
 pub record StopsAt (bytes : List ℕ) (fault : FormatFault) (end : ℕ) : Type 0 where

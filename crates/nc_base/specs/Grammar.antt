@@ -85,11 +85,11 @@ pub record SpellsCounted {A : Type 0} (v : Version) (Element : ElementSpelling A
 -- a list = ABSENT | TAG nelems [element ...]
 pub data SpellsList {A : Type 0} (v : Version) (tag : ℕ) (Element : ElementSpelling A) (bytes : List ℕ) (xs : List A) (rest : List ℕ) : Type 0 where
   absent : (behind_tag : List ℕ)
-    → SpellsNumber w32 bytes 0 behind_tag → SpellsCount v behind_tag 0 rest → xs ≡ []
-    → SpellsList v tag Element bytes xs rest
+      → SpellsNumber w32 bytes 0 behind_tag → SpellsCount v behind_tag 0 rest → xs ≡ []
+      → SpellsList v tag Element bytes xs rest
   present : (behind_tag : List ℕ)
-    → SpellsNumber w32 bytes tag behind_tag → SpellsCounted v Element behind_tag xs rest
-    → SpellsList v tag Element bytes xs rest
+      → SpellsNumber w32 bytes tag behind_tag → SpellsCounted v Element behind_tag xs rest
+      → SpellsList v tag Element bytes xs rest
 
 -- ---- dimensions and attributes
 

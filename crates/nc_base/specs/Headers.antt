@@ -1,5 +1,5 @@
 -- Sound headers, bare headers and good datasets.
-use Rattle.std.specs.Prelude.{ℕ, ◌≡◌, ◌+◌, ◌*◌, ◌%◌, ◌<◌, ◌≤◌, Bool, true, false, IsTrue, ◌==◌, ◌||◌, if◌then◌else◌, List, [], ◌∷◌, ◌++◌, length, map, filter, sum, All, EachIndex, slice_index}
+use Rattle.std.specs.Prelude.{ℕ, ◌≡◌, ◌*◌, ◌<◌, ◌≤◌, Bool, IsTrue, ◌==◌, if◌then◌else◌, List, [], ◌∷◌, ◌++◌, length, map, filter, All}
 use Rattle.std.specs.List.{list_any}
 use Rattle.nc_base.specs.declared.header.Att.{Att}
 use Rattle.nc_base.specs.declared.header.Dim.{Dim}
@@ -13,7 +13,7 @@ use Rattle.nc_base.specs.Bytes.{AreBytes}
 use Rattle.nc_base.specs.Types.{size_of}
 use Rattle.nc_base.specs.Versions.{count_limit, has_type}
 use Rattle.nc_base.specs.Names.{IsName}
-use Rattle.nc_base.specs.Sizes.{is_record_dim, is_record_var, slab_size, slab_count, padded_size, record_vars, record_size, record_count, slab_limit, array_limit, record_limit}
+use Rattle.nc_base.specs.Sizes.{is_record_dim, is_record_var, slab_size, slab_count, record_size, slab_limit, array_limit, record_limit}
 
 -- one of the dimensions is the record dimension
 abbrev pub has_record_dim : List Dim → Bool

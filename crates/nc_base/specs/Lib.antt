@@ -1,6 +1,8 @@
 pub mod Bytes
 pub mod Types
 pub mod Numbers
+pub mod NumberLaws
+pub mod Paths
 pub mod Versions
 pub mod Names
 pub mod Sizes

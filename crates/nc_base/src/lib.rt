@@ -1,17 +1,33 @@
-//! t
+//! What a netCDF classic file, a dataset and its CDL text are.
+//!
+//! The types of headers and datasets stand here, with what follows from them alone: the type table, what differs between
+//! the versions of the format, the rule on names, the fill value of a variable and the stem of a path. `specs/` has the
+//! definitions that the contracts of all crates cite: the grammar of a header, its first wrong field, sizes, fill values,
+//! escapes and the text of a dump. No crate stands below this one, and nothing in it reads or writes a device.
 #![tactic(auto)]
-mod fault;
-mod name;
+
 mod dataset;
+mod fault;
+mod fill;
 mod header;
+pub mod laws;
+mod name;
 mod nc_type;
+mod path;
 mod sequence;
+mod sizes;
 mod version;
 
 pub use dataset::Dataset;
 pub use fault::FormatFault;
-pub use name::check_name;
+pub use fill::fill_of;
 pub use header::{Att, Dim, Header, NumRecs, Var};
+pub use name::check_name;
 pub use nc_type::NcType;
+pub use path::stem;
 pub use sequence::Sequence;
+pub use sizes::{has_records, slab_bytes, slab_of};
 pub use version::Version;
+
+#[cfg(test)]
+mod tests;

@@ -69,7 +69,8 @@ impl<T> Sequence<T> {
 
     /// Adds an item at the end. Where memory is refused, the sequence stays as it was.
     pub fn push(&mut self, item: T) -> Result<(), AllocError>
-        where T: Drop
+    where
+        T: Drop,
         ensures ok { OnOk result (self.new ≡ self.old ++ item ∷ []) }
         ensures err { OnErr result (self.new ≡ self.old) }
     {
@@ -79,7 +80,8 @@ impl<T> Sequence<T> {
 
     /// Adds copies of these items at the end. Where memory is refused, the sequence stays as it was.
     pub fn extend_from_slice(&mut self, items: &[T]) -> Result<(), AllocError>
-        where T: Copy
+    where
+        T: Copy,
         ensures ok { OnOk result (self.new ≡ self.old ++ items.now) }
         ensures err { OnErr result (self.new ≡ self.old) }
     {

@@ -17,12 +17,12 @@ use Rattle.nc_base.specs.declared.version.Version.{Version}
 use Rattle.nc_base.specs.declared.version.Version.TheVariants.{Cdf1, Cdf2, Cdf5}
 use Rattle.nc_base.specs.Bytes.{AreBytes, padding_len}
 use Rattle.nc_base.specs.Versions.{count_width, offset_width, count_limit, offset_limit}
-use Rattle.nc_base.specs.Sizes.{is_record_dim, is_record_var, slab_size, padded_size, padded_total, record_vars, slab_limit, record_limit}
+use Rattle.nc_base.specs.Sizes.{is_record_dim, is_record_var, slab_size, padded_size, padded_total, record_vars, slab_of, slab_limit, record_limit}
 use Rattle.nc_base.specs.Headers.{IsDimid}
 use Rattle.nc_base.specs.Grammar.{variable_tag, SpellsNumber, SpellsCount, SpellsOffset, SpellsName, SpellsType, SpellsCounted, SpellsList, SpellsAtts, SpellsDimid, SpellsVar, SpellsVarFront, SpellsTypedVar, IsWithinLimits}
 use Rattle.nc_base.specs.FirstFault.{IsCutNumber, StopsInCounted, in_count, in_element, StopsInEach, StopsInList, StopsInDimid, cut_dimid, bad_dimid, StopsInVar, in_var_name, in_shape, in_var_atts, in_var_type, too_large, cut_vsize, cut_begin, negative_begin}
 use Rattle.nc_file.specs.declared.sized_var.SizedVar.{SizedVar}
-use Rattle.nc_file.specs.Reading.{Outcome, Part, next, ◌>>=◌, done, stop, number_at, each_at, list_len_at, is_dimid, dimid_at, dimids_at, shape_at, wide_at, offset_at, slab_of_shape, record_part, total_with, total_or_wrong, var_at, vars_at, var_list_at}
+use Rattle.nc_file.specs.Reading.{Outcome, Part, next, ◌>>=◌, done, stop, number_at, each_at, list_len_at, is_dimid, dimid_at, dimids_at, shape_at, wide_at, offset_at, record_part, total_with, total_or_wrong, var_at, vars_at, var_list_at}
 use Rattle.nc_file.proofs.Means.{Means, spells, stops, means-next, means-map, means-cond}
 use Rattle.nc_file.proofs.FieldLaws.{CutNumber, cut_number, means-u32, means-u64, means-number, means-count, means-name, means-type}
 use Rattle.nc_file.proofs.ListLaws.{ReadsElement, ReadsElements, SpellsMore, more-cons, reads-each, counted, means-list, next-cong, means-atts, and-true}
@@ -141,7 +141,7 @@ total_of-append dims before var =
 
 -- a shape and a type that keep the limits behind such padded slabs
 pub record Fits (dims : List Dim) (ids : List ℕ) (ty : NcType) (total : ℕ) : Type 0 where
-  pub slab : slab_of_shape dims ids ty ≤ slab_limit
+  pub slab : slab_of dims ids ty ≤ slab_limit
   pub records : total + record_part dims ids ty ≤ record_limit
 
 within : (dims : List Dim) (before : List Var) (var : Var) (total : ℕ) → total ≡ total_of dims before → Fits dims var.dimids var.ty total → IsWithinLimits dims before var
@@ -162,7 +162,7 @@ pub data NoTotal (dims : List Dim) (ids : List ℕ) (ty : NcType) (total : ℕ) 
   no_total : ¬ Fits dims ids ty total → NoTotal dims ids ty total here TooLarge here
 
 total-tests : (dims : List Dim) (ids : List ℕ) (ty : NcType) (total : ℕ) (here : List ℕ) (slab_test record_test : Bool) → AreBytes here
-    → leb (slab_of_shape dims ids ty) slab_limit ≡ slab_test → leb (total + record_part dims ids ty) record_limit ≡ record_test
+    → leb (slab_of dims ids ty) slab_limit ≡ slab_test → leb (total + record_part dims ids ty) record_limit ≡ record_test
     → Means (NewTotal dims ids ty total here) (NoTotal dims ids ty total here) ((total_or_wrong (cond (slab_test && record_test) (Some (total + record_part dims ids ty)) None)).run here)
 unfolding done stop
 total-tests dims ids ty total here true true fits a b =

@@ -18,7 +18,7 @@ use Rattle.nc_base.specs.declared.version.Version.TheVariants.{Cdf1, Cdf2, Cdf5}
 use Rattle.nc_base.specs.Bytes.{padding_len}
 use Rattle.nc_base.specs.Types.{type_of_code, size_of}
 use Rattle.nc_base.specs.Versions.{version_of_byte, count_limit, offset_limit, streaming_mark, has_type}
-use Rattle.nc_base.specs.Sizes.{is_record_dim, has_records, slab_lens, product, slab_limit, record_limit}
+use Rattle.nc_base.specs.Sizes.{is_record_dim, has_records, slab_of, slab_limit, record_limit}
 use Rattle.nc_file.specs.declared.sized_var.SizedVar.{SizedVar}
 use Rattle.nc_base.specs.Names.{is_name}
 use Rattle.nc_base.specs.Grammar.{dimension_tag, attribute_tag, variable_tag}
@@ -269,17 +269,14 @@ offset_at v = do
   n ← wide_at v
   if nat_le (offset_limit v) n then wrong BadOffset else done n
 
--- the bytes of a slab of this shape, and what it adds to a record
-abbrev pub slab_of_shape : List Dim → List ℕ → NcType → ℕ
-slab_of_shape dims ids ty = product (slab_lens dims ids) * size_of ty
-
+-- what a variable of this shape and type adds to a record
 abbrev pub record_part : List Dim → List ℕ → NcType → ℕ
-record_part dims ids ty = if has_records dims ids then slab_of_shape dims ids ty + padding_len (slab_of_shape dims ids ty) else 0
+record_part dims ids ty = if has_records dims ids then slab_of dims ids ty + padding_len (slab_of dims ids ty) else 0
 
 -- The padded slabs of the record variables so far, with this variable's: none where a limit is passed.
 unfoldable pub total_with : List Dim → List ℕ → NcType → ℕ → Option ℕ
 total_with dims ids ty total =
-    if nat_le (slab_of_shape dims ids ty) slab_limit && nat_le (total + record_part dims ids ty) record_limit then Some (total + record_part dims ids ty) else None
+    if nat_le (slab_of dims ids ty) slab_limit && nat_le (total + record_part dims ids ty) record_limit then Some (total + record_part dims ids ty) else None
 
 abbrev pub total_or_wrong : Option ℕ → Part ℕ
 total_or_wrong None = wrong TooLarge

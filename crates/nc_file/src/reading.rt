@@ -1,6 +1,8 @@
 //! Reading a header, part by part.
 
-ghost use Rattle.std.specs.Prelude.{◌≡◌, [], false, true};
+ghost use Rattle.std.specs.Prelude.{◌≡◌, ◌+◌, ◌≤◌, [], false, true, if◌then◌else◌};
+ghost use Rattle.nc_base.specs.Bytes.{padding_len};
+ghost use Rattle.nc_base.specs.Sizes.{has_records, slab_limit};
 ghost use Rattle.nc_file.specs.Reading.{type_in, name_at, type_at, list_len_at, dim_at, dims_at, dim_list_at, att_at, atts_at, att_list_at, is_dimid, dimid_at, dimids_at, shape_at, wide_at, offset_at, total_with, var_at, vars_at, var_list_at, first_at, version_at, magic_at, numrecs_at, header_at};
 ghost use Rattle.nc_file.specs.Window.{Opened, Did};
 
@@ -8,13 +10,16 @@ use crate::head_fault::HeadFault;
 use crate::sized_var::SizedVar;
 use crate::source::Source;
 use crate::window::{Window, padding_len};
-use nc_base::{Att, Dim, FormatFault, Header, NcType, NumRecs, Sequence, Var, Version, check_name};
+use nc_base::{Att, Dim, FormatFault, Header, NcType, NumRecs, Sequence, Var, Version, check_name, has_records, slab_of};
 use std::alloc::Global;
 
 /// The tags of the lists: `NC_DIMENSION`, `NC_VARIABLE` and `NC_ATTRIBUTE`.
 const DIMENSION_TAG: u32 = 10;
 const VARIABLE_TAG: u32 = 11;
 const ATTRIBUTE_TAG: u32 = 12;
+
+/// The greatest record in bytes: 2^62.
+const RECORD_LIMIT: u128 = 1 << 62;
 
 impl<S: Source> Window<'_, S> {
     /// A name: its length, its bytes and their padding.
@@ -369,11 +374,29 @@ fn is_dimid(dims: &[Dim], first: bool, id: u64) -> bool
     id < dims.len() as u64 && (first || dims[id as usize].len != 0)
 }
 
-/// The padded slabs of the record variables so far, with those of a variable of this shape and type; none where its slab
-/// or the record passes its limit.
+/// The padded slabs of the record variables so far, with that of a variable of this shape and type; none where its slab or
+/// the record passes its limit.
 #[tactic(auto, unfolding(crate::specs::Reading::total_with))]
 fn total_with(dims: &[Dim], dimids: &[u64], ty: NcType, total: u64) -> Option<u64>
     ensures { result ≡ total_with dims.now dimids.now ty total }
 {
-    None
+    let slab = slab_of(dims, dimids, ty)?;
+    let sum = total as u128 + record_part(dims, dimids, slab) as u128;
+    if sum <= RECORD_LIMIT {
+        Some(sum as u64)
+    } else {
+        None
+    }
+}
+
+/// What a slab of this shape adds to a record: its padded size, and nothing where the shape has no records.
+fn record_part(dims: &[Dim], dimids: &[u64], slab: u64) -> u64
+    requires { slab ≤ slab_limit }
+    ensures { result ≡ (if has_records dims.now dimids.now then slab + padding_len slab else 0) }
+{
+    if has_records(dims, dimids) {
+        slab + padding_len(slab as u128)
+    } else {
+        0
+    }
 }

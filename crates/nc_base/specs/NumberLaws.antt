@@ -1,0 +1,20 @@
+-- What holds of numbers and their bytes.
+use Rattle.std.specs.Prelude.{ℕ, ◌≡◌, ℤ, List, length}
+use Rattle.nc_base.specs.declared.nc_type.NcType.{NcType}
+use Rattle.nc_base.specs.Bytes.{AreBytes}
+use Rattle.nc_base.specs.Types.{size_of}
+use Rattle.nc_base.specs.Numbers.{number_of, bytes_of_number, IsInRange}
+
+-- a number in the type's range is read back from its bytes
+abbrev pub NumbersReadBack : Type 0
+NumbersReadBack = (ty : NcType) (number : ℤ) → IsInRange ty number → number_of ty (bytes_of_number ty number) ≡ number
+
+-- as many bytes as the type's size are the bytes of their number
+abbrev pub BytesReadBack : Type 0
+BytesReadBack = (ty : NcType) (bytes : List ℕ) → AreBytes bytes → length bytes ≡ size_of ty
+    → bytes_of_number ty (number_of ty bytes) ≡ bytes
+
+-- and that number is in the type's range
+abbrev pub NumbersAreInRange : Type 0
+NumbersAreInRange = (ty : NcType) (bytes : List ℕ) → AreBytes bytes → length bytes ≡ size_of ty
+    → IsInRange ty (number_of ty bytes)

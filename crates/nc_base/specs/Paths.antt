@@ -1,0 +1,25 @@
+-- The stem of a path: the name of its file without the extension.
+use Rattle.std.specs.Prelude.{ℕ, Bool, ◌==◌, List, drop, if◌then◌else◌}
+use Rattle.std.specs.List.{list_any, before_last, after_last}
+
+abbrev pub is_slash : ℕ → Bool
+is_slash b = b == 47
+
+abbrev pub is_dot : ℕ → Bool
+is_dot b = b == 46
+
+-- what stands after the last slash of a path, or all of it where it has none
+abbrev pub file_name_of : List ℕ → List ℕ
+file_name_of path = after_last is_slash path
+
+-- a dot stands behind the first byte
+abbrev pub has_extension : List ℕ → Bool
+has_extension name = list_any is_dot (drop 1 name)
+
+-- what stands before the last dot of a name, where a dot stands behind its first byte
+abbrev pub without_extension : List ℕ → List ℕ
+without_extension name = if has_extension name then before_last is_dot name else name
+
+-- the name of a path's file without its extension
+abbrev pub stem_of : List ℕ → List ℕ
+stem_of path = without_extension (file_name_of path)
