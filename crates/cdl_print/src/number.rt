@@ -8,7 +8,7 @@ ghost use Rattle.nc_file.specs.Sinks.{Wrote};
 ghost use Rattle.cdl_print.specs.Pieces.{number_text};
 
 use crate::decimal::put_integer;
-use nc_base::NcType;
+use nc_base::{NcType, number_of};
 use nc_file::{Sink, WriteFailed, put};
 
 /// Writes the numbers of an attribute, each with the suffix of its type.
@@ -36,39 +36,12 @@ fn put_number<W: Sink>(
     requires { length value.now ≡ size_of ty }
     ensures { Wrote (W.seen sink.old) (W.seen sink.new) (number_text ty value.now is_last) result }
 {
-    put_integer(sink, number(ty, value))?;
+    put_integer(sink, number_of(ty, value))?;
     put(sink, suffix(ty))?;
     if is_last {
         return Ok(());
     }
     put(sink, b", ")
-}
-
-/// The number that so many bytes are as the type's size.
-fn number(ty: NcType, bytes: &[u8]) -> i128
-    requires { length bytes.now ≡ size_of ty }
-    ensures { result ≡ number_of ty bytes.now }
-{
-    match ty {
-        NcType::Byte => i8::from_be_bytes([bytes[0]]) as i128,
-        NcType::Char | NcType::Ubyte => u8::from_be_bytes([bytes[0]]) as i128,
-        NcType::Short => i16::from_be_bytes([bytes[0], bytes[1]]) as i128,
-        NcType::Ushort => u16::from_be_bytes([bytes[0], bytes[1]]) as i128,
-        NcType::Int => i32::from_be_bytes([bytes[0], bytes[1], bytes[2], bytes[3]]) as i128,
-        NcType::Uint => u32::from_be_bytes([bytes[0], bytes[1], bytes[2], bytes[3]]) as i128,
-        NcType::Int64 => i64::from_be_bytes(eight(bytes)) as i128,
-        NcType::Uint64 => u64::from_be_bytes(eight(bytes)) as i128,
-    }
-}
-
-/// The bytes as an array.
-fn eight(bytes: &[u8]) -> [u8; 8]
-    requires { length bytes.now ≡ 8 }
-    ensures { result ≡ bytes.now }
-{
-    [
-        bytes[0], bytes[1], bytes[2], bytes[3], bytes[4], bytes[5], bytes[6], bytes[7],
-    ]
 }
 
 /// The suffix of a number of this type.

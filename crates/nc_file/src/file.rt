@@ -8,6 +8,7 @@ use std::fs::File;
 use std::io;
 use std::io::{ErrorKind, Write};
 use std::os::unix::fs::FileExt;
+use std::rt::Files;
 
 /// A source over a file of the system, which does not tell its bytes.
 ///
@@ -27,7 +28,7 @@ impl FileSource {
     /// # Errors
     ///
     /// The path names nothing, nothing that may be read, or something other than a regular file.
-    pub fn open(rt: &HostRuntime, path: &str) -> Result<FileSource, OpenFailed>
+    pub fn open(rt: &impl Files<File = File>, path: &str) -> Result<FileSource, OpenFailed>
         ensures failures { IfOk result (λ source. (⟦<FileSource as Source>⟧.seen source).failures ≡ 0) }
         ensures handed { IfOk result (λ source. (⟦<FileSource as Source>⟧.seen source).handed ≡ 0) }
     {

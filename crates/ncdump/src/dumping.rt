@@ -40,17 +40,18 @@ pub fn dump<S: Source, W: Sink>(
 }
 
 /// Writes the dump of a file with this header.
-fn put_dump<W: Sink>(
-    sink: &mut W,
-    options: &DumpOptions,
-    header: &Header,
-) -> Result<(), DumpFault>
+fn put_dump<W: Sink>(sink: &mut W, options: &DumpOptions, header: &Header) -> Result<(), DumpFault>
     ensures { Puts (options_of options.now) header.now (W.seen sink.old) (W.seen sink.new) result }
 {
     if options.chosen.is_some() {
         return Err(DumpFault::NotYet);
     }
-    put_whole(sink, options.name.as_slice(), header, known_records(header.numrecs))?;
+    put_whole(
+        sink,
+        options.name.as_slice(),
+        header,
+        known_records(header.numrecs),
+    )?;
     Ok(())
 }
 

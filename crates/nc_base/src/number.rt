@@ -1,0 +1,48 @@
+//! Values as numbers.
+
+ghost use Rattle.std.specs.Prelude.{◌≡◌, length};
+ghost use Rattle.nc_base.specs.Numbers.{number_of};
+ghost use Rattle.nc_base.specs.Types.{size_of};
+
+use crate::nc_type::NcType;
+
+/// The number that these bytes are as a value of the type: big-endian, and in two's complement where the type has a sign
+/// (NetCDF Classic Format Specification).
+pub fn number_of(ty: NcType, bytes: &[u8]) -> i128
+    requires { length bytes.now ≡ size_of ty }
+    ensures { result ≡ number_of ty bytes.now }
+{
+    match ty {
+        NcType::Byte => i8::from_be_bytes([bytes[0]]) as i128,
+        NcType::Char | NcType::Ubyte => bytes[0] as i128,
+        NcType::Short => i16::from_be_bytes(two_bytes(bytes)) as i128,
+        NcType::Ushort => u16::from_be_bytes(two_bytes(bytes)) as i128,
+        NcType::Int => i32::from_be_bytes(four_bytes(bytes)) as i128,
+        NcType::Uint => u32::from_be_bytes(four_bytes(bytes)) as i128,
+        NcType::Int64 => i64::from_be_bytes(eight_bytes(bytes)) as i128,
+        NcType::Uint64 => u64::from_be_bytes(eight_bytes(bytes)) as i128,
+    }
+}
+
+fn two_bytes(bytes: &[u8]) -> [u8; 2]
+    requires { length bytes.now ≡ 2 }
+    ensures { result ≡ bytes.now }
+{
+    [bytes[0], bytes[1]]
+}
+
+fn four_bytes(bytes: &[u8]) -> [u8; 4]
+    requires { length bytes.now ≡ 4 }
+    ensures { result ≡ bytes.now }
+{
+    [bytes[0], bytes[1], bytes[2], bytes[3]]
+}
+
+fn eight_bytes(bytes: &[u8]) -> [u8; 8]
+    requires { length bytes.now ≡ 8 }
+    ensures { result ≡ bytes.now }
+{
+    [
+        bytes[0], bytes[1], bytes[2], bytes[3], bytes[4], bytes[5], bytes[6], bytes[7],
+    ]
+}

@@ -1,0 +1,123 @@
+//! Why the program failed, and the line that says so.
+
+ghost use Rattle.std.specs.Prelude.{◌≡◌};
+ghost use Rattle.nc_file.specs.Sinks.{Wrote};
+ghost use Rattle.ncdump_cli.specs.Failures.{cannot_open_line, cannot_open_words, file_line, line_of_failure, usage_line};
+ghost use Rattle.ncdump_cli.specs.declared.failure.FileFault.TheVariants.{CannotOpen, Dump, FlushFailed as flush_failed};
+
+use nc_file::{OpenFailed, Sink, SinkFailed, WriteFailed, put};
+use ncdump::{DumpFault, fault_line};
+use std::io;
+use std::io::ErrorKind;
+
+/// Why the program failed.
+#[derive(Debug, Drop)]
+pub enum Failure {
+    /// The words are not those that the program takes.
+    Usage,
+    /// Memory was refused before the file was known.
+    OutOfMemory,
+    /// What is wrong with the file at this path, or with the writing of its dump.
+    File(String, FileFault),
+}
+
+/// Why the dump of a file isn't on standard output.
+#[derive(Clone, Copy, Debug, PartialEq, Eq)]
+pub enum FileFault {
+    /// The path can't be opened.
+    CannotOpen,
+    /// The file could not be dumped.
+    Dump(DumpFault),
+    /// Standard output didn't take the end of the text.
+    FlushFailed,
+}
+
+impl From<io::Error> for Failure {
+    fn from(error: io::Error) -> Failure {
+        match error.kind() {
+            ErrorKind::OutOfMemory => Failure::OutOfMemory,
+            _ => Failure::Usage,
+        }
+    }
+}
+
+impl From<OpenFailed> for FileFault {
+    ghost from_gives = { λ _ e. e ≡ CannotOpen };
+
+    fn from(_failure: OpenFailed) -> FileFault {
+        FileFault::CannotOpen
+    }
+}
+
+impl From<DumpFault> for FileFault {
+    ghost from_gives = { λ fault e. e ≡ Dump fault };
+
+    fn from(fault: DumpFault) -> FileFault {
+        FileFault::Dump(fault)
+    }
+}
+
+impl From<SinkFailed> for FileFault {
+    ghost from_gives = { λ _ e. e ≡ flush_failed };
+
+    fn from(_failure: SinkFailed) -> FileFault {
+        FileFault::FlushFailed
+    }
+}
+
+/// Writes the line that tells a failure. None tells a failed flush.
+///
+/// # Errors
+///
+/// The sink failed. It took some front of the line.
+#[tactic(auto, unfolding(crate::specs::Failures::line_of_failure))]
+pub fn put_failure<W: Sink>(sink: &mut W, failure: &Failure) -> Result<(), WriteFailed>
+    ensures { Wrote (W.seen sink.old) (W.seen sink.new) (line_of_failure failure.now) result }
+{
+    match failure {
+        Failure::Usage => put_usage(sink),
+        Failure::OutOfMemory => put(sink, b"ncdump: out of memory\n"),
+        Failure::File(path, fault) => put_file_fault(sink, path.as_bytes(), *fault),
+    }
+}
+
+/// Writes the line that tells how the program is used.
+#[tactic(auto, unfolding(crate::specs::Failures::usage_line))]
+fn put_usage<W: Sink>(sink: &mut W) -> Result<(), WriteFailed>
+    ensures { Wrote (W.seen sink.old) (W.seen sink.new) usage_line result }
+{
+    put(
+        sink,
+        b"usage: ncdump [-h] [-c] [-v names] [-n name] [-l width] file\n",
+    )
+}
+
+/// Writes the line that tells a fault of the file at this path.
+#[tactic(auto, unfolding(crate::specs::Failures::file_line))]
+fn put_file_fault<W: Sink>(sink: &mut W, path: &[u8], fault: FileFault) -> Result<(), WriteFailed>
+    ensures { Wrote (W.seen sink.old) (W.seen sink.new) (file_line path.now fault) result }
+{
+    match fault {
+        FileFault::CannotOpen => put_cannot_open(sink, path),
+        FileFault::Dump(fault) => fault_line(sink, path, &fault),
+        FileFault::FlushFailed => put(sink, b""),
+    }
+}
+
+/// Writes the line for a path that can't be opened.
+#[tactic(auto, using(nc_file::proofs::Writes::writes), unfolding(crate::specs::Failures::cannot_open_line))]
+fn put_cannot_open<W: Sink>(sink: &mut W, path: &[u8]) -> Result<(), WriteFailed>
+    ensures { Wrote (W.seen sink.old) (W.seen sink.new) (cannot_open_line path.now) result }
+{
+    put(sink, b"ncdump: ")?;
+    put(sink, path)?;
+    put(sink, cannot_open_words())
+}
+
+/// What stands behind a path that can't be opened.
+#[tactic(auto, unfolding(crate::specs::Failures::cannot_open_words))]
+fn cannot_open_words() -> &'static [u8]
+    ensures { result.now ≡ cannot_open_words }
+{
+    b": cannot open\n"
+}

@@ -1,0 +1,153 @@
+#!/usr/bin/env bash
+# Runs bin/ncdump on files on disk, and compares its standard output, its standard error and its status.
+set -u
+top=$(cd "$(dirname "$0")/.." && pwd)
+ncdump=$top/bin/ncdump
+samples=$top/samples
+passed=0
+failed=0
+
+if ! [ -x "$ncdump" ]; then
+    echo "tests/run.sh: no bin/ncdump: run make first" >&2
+    exit 1
+fi
+work=$(mktemp -d)
+trap 'rm -rf "$work"' EXIT
+trap 'exit 1' HUP INT TERM
+mkdir "$work/files" "$work/files/dir" "$work/want" "$work/got"
+cd "$work/files" || exit 1
+
+# stdout TEXT: the standard output that the next verdict wants, with printf's escapes.
+stdout() {
+    printf '%b' "$1" >"$work/want/stdout"
+}
+
+# stderr TEXT: the same of the standard error.
+stderr() {
+    printf '%b' "$1" >"$work/want/stderr"
+}
+
+# nothing: no output is wanted.
+nothing() {
+    : >"$work/want/stdout"
+    : >"$work/want/stderr"
+}
+
+# run COMMAND..: runs the command, and keeps what it writes and its status.
+run() {
+    "$@" >"$work/got/stdout" 2>"$work/got/stderr"
+    echo "status $?" >"$work/got/status"
+}
+
+# verdict NAME STATUS: what the test NAME shows holds where the last run wrote what is wanted and ended so.
+verdict() {
+    echo "status $2" >"$work/want/status"
+    if diff -u "$work/want" "$work/got" >"$work/diff"; then
+        passed=$((passed + 1))
+        echo "ok $1"
+    else
+        failed=$((failed + 1))
+        echo "FAILED $1"
+        cat "$work/diff"
+    fi
+    nothing
+}
+
+# cdl NAME FILE TEXT: the file's dump is the text, with printf's escapes, and nothing else is written.
+cdl() {
+    stdout "$3"
+    run "$ncdump" "$2"
+    verdict "$1" 0
+}
+
+# fault NAME FILE TEXT: the file has no dump, and one line says why.
+fault() {
+    stderr "ncdump: $2: $3\\n"
+    run "$ncdump" "$2"
+    verdict "$1" 1
+}
+
+# zeros N: so many zero bytes.
+zeros() {
+    head -c "$1" /dev/zero
+}
+
+# smallest NAME: makes a file of version 1 without dimensions, attributes and variables.
+smallest() {
+    { printf 'CDF\001' && zeros 28; } >"$1"
+}
+
+# limited COMMAND..: runs the command with 256 MiB of memory and 5 seconds of processor time.
+limited() (
+    ulimit -v 262144
+    ulimit -t 5
+    exec "$@"
+)
+
+# to_full_device FILE, without_stderr FILE: the dump where a device takes nothing.
+to_full_device() {
+    "$ncdump" "$1" >/dev/full
+}
+without_stderr() {
+    "$ncdump" "$1" 2>&-
+}
+
+nothing
+
+# The samples.
+cdl smallest_file_of_version_1 "$samples/smallest.nc" 'netcdf smallest {\n}\n'
+cdl smallest_file_of_version_5 "$samples/smallest5.nc" 'netcdf smallest5 {\n}\n'
+cdl record_dimension "$samples/records.nc" \
+    'netcdf records {\ndimensions:\n\tt = UNLIMITED ; // (2 currently)\n}\n'
+cdl text_attribute_of_two_lines "$samples/note.nc" \
+    'netcdf note {\n\n// global attributes:\n\t\t:note = "a\\n",\n\t\t\t"b\\n" ;\n}\n'
+
+# The name of the dataset.
+smallest dir/a.b.nc
+cdl name_behind_the_last_slash_to_the_last_dot dir/a.b.nc 'netcdf a.b {\n}\n'
+smallest data.nc
+cdl name_that_is_a_reserved_word data.nc 'netcdf \\data {\n}\n'
+
+# Wrong headers.
+: >empty.nc
+fault empty_file empty.nc 'not a netCDF classic file'
+printf 'CDF' >magic.nc
+fault magic_without_version magic.nc 'header truncated'
+printf 'CDF\006' >version6.nc
+fault unknown_version version6.nc 'unknown version 6'
+{
+    printf 'CDF\001\000\000\000\000\000\000\000\012\000\000\000\002'
+    printf '\000\000\000\001x\000\000\000\000\000\000\000'
+    printf '\000\000\000\001y\000\000\000\000\000\000\000'
+} >two.nc
+fault two_record_dimensions two.nc 'two record dimensions'
+{
+    printf 'CDF\001\000\000\000\000\000\000\000\012\177\377\377\377'
+    printf '\000\000\000\001x\000\000\000\000\000\000\001'
+    printf '\000\000\000\001y\000\000\000\000\000\000\001'
+} >hostile.nc
+stderr 'ncdump: hostile.nc: header truncated\n'
+run limited "$ncdump" hostile.nc
+verdict hostile_count_in_little_memory_and_time 1
+
+# Paths that can't be opened.
+fault missing_path missing.nc 'cannot open'
+fault directory dir 'cannot open'
+
+# The words.
+usage='usage: ncdump [-h] [-c] [-v names] [-n name] [-l width] file\n'
+stderr "$usage"
+run "$ncdump"
+verdict no_word 1
+stderr "$usage"
+run "$ncdump" data.nc data.nc
+verdict two_words 1
+
+# Devices that take nothing.
+run to_full_device "$samples/records.nc"
+verdict full_standard_output 1
+run without_stderr missing.nc
+verdict closed_standard_error 1
+
+echo "$passed passed, $failed failed"
+[ "$failed" -eq 0 ]
