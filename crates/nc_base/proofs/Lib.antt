@@ -2,3 +2,4 @@ pub mod NameLemmas
 pub mod NumberLaws
 pub mod PathLemmas
 pub mod SizeLaws
+pub mod SoundLaws

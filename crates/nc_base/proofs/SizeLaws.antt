@@ -1,10 +1,20 @@
 -- The sizes of slabs and of records.
-use Rattle.std.proofs.Common.{◌≡◌, ℕ, zero, suc, ◌+◌, ◌*◌, ◌<◌, ◌≤◌, ◌⊎◌, inl, inr, min, List, [], ◌∷◌, length, get_or, drop, map, sym, ◌∙◌, ap, subst, arith, drop-cons}
-use Rattle.std.proofs.Math.ListN.{drop_of_length-le}
+use Rattle.std.proofs.Common.{◌≡◌, ℕ, zero, suc, ◌+◌, ◌*◌, ◌<◌, ◌≤◌, ◌⊎◌, inl, inr, min, Bool, true, false, ◌&&◌, cond, List, [], ◌∷◌, ◌++◌, length, get_or, drop, take, map, refl, sym, ◌∙◌, ap, subst, arith, drop-cons, sum, Option, Some, None, filter}
+use Rattle.std.specs.Prelude.{nat_le, ◌==◌, if◌then◌else◌}
+use Rattle.std.specs.List.{list_all}
+use Rattle.std.proofs.Math.ListN.{drop_of_length-le, take-append-drop}
 use Rattle.std.proofs.Math.Nat.{mul-le-mul_left}
-use Rattle.std.proofs.lemmas.Bool.{cases_lt}
-use Rattle.nc_base.specs.Sizes.{dim_len, product}
+use Rattle.std.proofs.lemmas.Bool.{cases_lt, le-leb}
+use Rattle.std.proofs.lemmas.Bool.Decides.{leb_tells}
+use Rattle.std.proofs.lemmas.List.{append-nil, take_all}
+use Rattle.std.proofs.lemmas.List.Elements.{filter_more, filter-append}
+use Rattle.std.proofs.lemmas.List.Folds.{list_all-append}
+use Rattle.std.proofs.lemmas.List.Sums.{sum-map, sum_by_push}
+use Rattle.nc_base.specs.Bytes.{padding_len}
+use Rattle.nc_base.specs.Sizes.{dim_len, product, is_record_var, is_narrow, slab_size, padded_size, padded_total, packed_size, record_vars, record_size, slab_limit, record_limit, has_small_slab, checked_record_size, least_begin, first_begin, lesser}
 use Rattle.nc_base.specs.declared.header.Dim.{Dim}
+use Rattle.nc_base.specs.declared.header.Var.{Var}
+use Rattle.nc_base.specs.declared.header.Header.{Header}
 
 -- a number that is cut off at c may be cut off before it is multiplied
 pub min-mul : (a b c : ℕ) → min (min a c * b) c ≡ min (a * b) c
@@ -39,3 +49,169 @@ capped_all f ids n i m c done small inv =
     let none : drop i ids ≡ [] = drop_of_length-le ids done in
     let last : min (n * 1) c ≡ m = sym (ap (λ (xs : List ℕ). min (n * product (map f xs)) c) none) ∙ inv in
     omega (arith, last)
+
+-- the record variables among the first i variables
+abbrev pub seen : List Dim → List Var → ℕ → List Var
+seen dims vars i = filter (is_record_var dims) (take i vars)
+
+abbrev pub is_none : List Var → Bool
+is_none [] = true
+is_none (var ∷ vars) = false
+
+is_none-push : (xs : List Var) (x : Var) → is_none (xs ++ x ∷ []) ≡ false
+is_none-push [] x = refl
+is_none-push (y ∷ ys) x = refl
+
+both_pass : (a b : Bool) → a ≡ true → b ≡ true → (a && (b && true)) ≡ true
+both_pass true true p q = refl
+both_pass true false p q = cc
+both_pass false b p q = cc
+
+picked-le : (b : Bool) (slab padded m : ℕ) → slab ≤ m → padded ≤ m → (if b then slab else padded) ≤ m
+picked-le true slab padded m p q = p
+picked-le false slab padded m p q = q
+
+-- what the sum over the first i variables keeps
+pub record AreSums (dims : List Dim) (vars : List Var) (i size padded : ℕ) (is_first : Bool) : Type 0 where
+  pub size_is : size ≡ packed_size dims (seen dims vars i)
+  pub padded_is : padded ≡ padded_total dims (seen dims vars i)
+  pub first_is : is_first ≡ is_none (seen dims vars i)
+  pub small : list_all (has_small_slab dims) (seen dims vars i) ≡ true
+  pub bound : padded ≤ i * 281474976710660
+  pub size_bound : size ≤ i * 281474976710660
+
+padded_total-append : (dims : List Dim) (xs : List Var) (x : Var) → padded_total dims (xs ++ x ∷ []) ≡ padded_total dims xs + padded_size dims x
+padded_total-append dims xs x =
+    let f = padded_size dims in
+    sum-map f (xs ++ x ∷ []) ∙ sum_by_push f xs x ∙ ap (λ n. n + f x) (sym (sum-map f xs))
+
+packed_first : (b : Bool) (slab padded : ℕ) → (if b then slab else padded) ≡ (if true && b then slab else (0 + padded))
+packed_first true slab padded = refl
+packed_first false slab padded = omega arith
+
+packed_size-append : (dims : List Dim) (xs : List Var) (x : Var)
+    → packed_size dims (xs ++ x ∷ []) ≡ (if is_none xs && is_narrow x then slab_size dims x else (padded_total dims xs + padded_size dims x))
+packed_size-append dims [] x = packed_first (is_narrow x) (slab_size dims x) (padded_size dims x)
+packed_size-append dims (y ∷ []) x = padded_total-append dims (y ∷ []) x
+packed_size-append dims (y ∷ z ∷ ys) x = padded_total-append dims (y ∷ z ∷ ys) x
+
+pub sums_none : (dims : List Dim) (vars : List Var) → AreSums dims vars 0 0 0 true
+sums_none dims vars = record { size_is = refl; padded_is = refl; first_is = refl; small = refl; bound = omega arith; size_bound = omega arith }
+
+seen_skipped : (dims : List Dim) (vars : List Var) (i : ℕ) (d : Var) → i < length vars → is_record_var dims (get_or vars i d) ≡ false
+    → seen dims vars (i + 1) ≡ seen dims vars i
+seen_skipped dims vars i d lt fixed =
+    filter_more (is_record_var dims) vars i d lt ∙ ap (λ b. seen dims vars i ++ cond b (get_or vars i d ∷ []) []) fixed ∙ append-nil _
+
+seen_more : (dims : List Dim) (vars : List Var) (i : ℕ) (d : Var) → i < length vars → is_record_var dims (get_or vars i d) ≡ true
+    → seen dims vars (i + 1) ≡ seen dims vars i ++ get_or vars i d ∷ []
+seen_more dims vars i d lt growing =
+    filter_more (is_record_var dims) vars i d lt ∙ ap (λ b. seen dims vars i ++ cond b (get_or vars i d ∷ []) []) growing
+
+pub sums_skipped : (dims : List Dim) (vars : List Var) (i size padded : ℕ) (is_first : Bool) (d : Var) → i < length vars
+    → is_record_var dims (get_or vars i d) ≡ false → AreSums dims vars i size padded is_first → AreSums dims vars (i + 1) size padded is_first
+sums_skipped dims vars i size padded is_first d lt fixed sums =
+    let e = seen_skipped dims vars i d lt fixed in
+    record {
+      size_is = sums.size_is ∙ ap (packed_size dims) (sym e);
+      padded_is = sums.padded_is ∙ ap (padded_total dims) (sym e);
+      first_is = sums.first_is ∙ ap is_none (sym e);
+      small = ap (list_all (has_small_slab dims)) e ∙ sums.small;
+      bound = omega (arith, sums.bound);
+      size_bound = omega (arith, sums.size_bound)
+    }
+
+-- one more record variable, whose slab keeps the limit
+pub sums_more : (dims : List Dim) (vars : List Var) (i size padded size' padded' : ℕ) (is_first : Bool) (d : Var) → i < length vars
+    → is_record_var dims (get_or vars i d) ≡ true → slab_size dims (get_or vars i d) ≤ slab_limit
+    → padded' ≡ padded + padded_size dims (get_or vars i d)
+    → size' ≡ (if is_first && is_narrow (get_or vars i d) then slab_size dims (get_or vars i d) else padded')
+    → AreSums dims vars i size padded is_first → AreSums dims vars (i + 1) size' padded' false
+sums_more dims vars i size padded size' padded' is_first d lt growing fits padded_is size_is sums =
+    let x = get_or vars i d in
+    let e = seen_more dims vars i d lt growing in
+    let padded_bound : padded' ≤ padded + 281474976710660 = omega (arith, padded_is, fits) in
+    record {
+      size_is = size_is
+        ∙ ap (λ n. if is_first && is_narrow x then slab_size dims x else n) (padded_is ∙ ap (λ n. n + padded_size dims x) sums.padded_is)
+        ∙ ap (λ b. if b && is_narrow x then slab_size dims x else (padded_total dims (seen dims vars i) + padded_size dims x)) sums.first_is
+        ∙ sym (packed_size-append dims (seen dims vars i) x)
+        ∙ ap (packed_size dims) (sym e);
+      padded_is = padded_is ∙ ap (λ n. n + padded_size dims x) sums.padded_is ∙ sym (padded_total-append dims (seen dims vars i) x) ∙ ap (padded_total dims) (sym e);
+      first_is = sym (is_none-push (seen dims vars i) x) ∙ ap is_none (sym e);
+      small = ap (list_all (has_small_slab dims)) e ∙ list_all-append (has_small_slab dims) (seen dims vars i) (x ∷ []) ∙ both_pass _ _ sums.small (le-leb _ _ fits);
+      bound = omega (arith, padded_bound, sums.bound);
+      size_bound = omega (arith, padded_bound, sums.bound, size_is, picked-le (is_first && is_narrow x) (slab_size dims x) padded' padded' (omega (arith, padded_is)) (omega arith))
+    }
+
+middle_fails : (a b c : Bool) → b ≡ false → ((a && (b && true)) && c) ≡ false
+middle_fails true true c h = cc
+middle_fails true false c h = refl
+middle_fails false b c h = refl
+
+-- an element that is kept, and fails a test
+fails_along : (p test : Var → Bool) (xs : List Var) (i : ℕ) (d : Var) → i < length xs → p (get_or xs i d) ≡ true → test (get_or xs i d) ≡ false
+    → list_all test (filter p xs) ≡ false
+fails_along p test xs i d lt kept fails =
+    let x = get_or xs i d in
+    let front : filter p (take (i + 1) xs) ≡ filter p (take i xs) ++ x ∷ [] =
+        filter_more p xs i d lt ∙ ap (λ b. filter p (take i xs) ++ cond b (x ∷ []) []) kept in
+    let whole : filter p xs ≡ (filter p (take i xs) ++ x ∷ []) ++ filter p (drop (i + 1) xs) =
+        ap (filter p) (sym (take-append-drop (i + 1) xs)) ∙ filter-append p (take (i + 1) xs) (drop (i + 1) xs)
+        ∙ ap (λ (ys : List Var). ys ++ filter p (drop (i + 1) xs)) front in
+    ap (list_all test) whole
+        ∙ list_all-append test (filter p (take i xs) ++ x ∷ []) (filter p (drop (i + 1) xs))
+        ∙ ap (λ b. b && list_all test (filter p (drop (i + 1) xs))) (list_all-append test (filter p (take i xs)) (x ∷ []))
+        ∙ middle_fails _ _ _ fails
+
+-- a record variable whose slab passes the limit leaves no record size
+pub checked-none : (h : Header) (i : ℕ) (d : Var) → i < length h.vars → is_record_var h.dims (get_or h.vars i d) ≡ true
+    → (slab_size h.dims (get_or h.vars i d) ≤ slab_limit → ⊥) → checked_record_size h ≡ None
+checked-none h i d lt growing large =
+    let x = get_or h.vars i d in
+    let test = has_small_slab h.dims in
+    let unfit : test x ≡ false = elim (leb_tells (slab_size h.dims x) slab_limit) [ inl p ↦ absurd (large p.1) | inr p ↦ p.0 ] in
+    let all : list_all test (record_vars h.dims h.vars) ≡ false = fails_along (is_record_var h.dims) test h.vars i d lt growing unfit in
+    ap (λ b. if b && nat_le (record_size h) record_limit then Some (record_size h) else None) all
+
+-- the same at an element by its own name
+pub sums_more_at : (dims : List Dim) (vars : List Var) (i size padded size' padded' slab : ℕ) (is_first : Bool) (x : Var) → i < length vars
+    → x ≡ get_or vars i x → is_record_var dims x ≡ true → slab ≤ slab_limit → slab ≡ slab_size dims x
+    → padded' ≡ padded + (slab + padding_len slab)
+    → size' ≡ (if is_first && is_narrow x then slab else padded')
+    → AreSums dims vars i size padded is_first → AreSums dims vars (i + 1) size' padded' false
+sums_more_at dims vars i size padded size' padded' slab is_first x lt at growing fits slab_is padded_is size_is sums =
+    let Q : Var → Type 0 = λ v. is_record_var dims v ≡ true → slab_size dims v ≤ slab_limit → padded' ≡ padded + padded_size dims v
+        → size' ≡ (if is_first && is_narrow v then slab_size dims v else padded') → AreSums dims vars (i + 1) size' padded' false in
+    subst Q (sym at) (λ a b e f. sums_more dims vars i size padded size' padded' is_first x lt a b e f sums)
+        growing (omega (arith, slab_is)) (padded_is ∙ ap (λ n. padded + (n + padding_len n)) slab_is)
+        (size_is ∙ ap (λ n. if is_first && is_narrow x then n else padded') slab_is)
+
+pub sums_skipped_at : (dims : List Dim) (vars : List Var) (i size padded : ℕ) (is_first : Bool) (x : Var) → i < length vars
+    → x ≡ get_or vars i x → is_record_var dims x ≡ false → AreSums dims vars i size padded is_first → AreSums dims vars (i + 1) size padded is_first
+sums_skipped_at dims vars i size padded is_first x lt at fixed sums =
+    sums_skipped dims vars i size padded is_first x lt (ap (is_record_var dims) (sym at) ∙ fixed) sums
+
+pub checked-none_at : (h : Header) (i : ℕ) (x : Var) → i < length h.vars → x ≡ get_or h.vars i x → is_record_var h.dims x ≡ true
+    → (slab_size h.dims x ≤ slab_limit → ⊥) → checked_record_size h ≡ None
+checked-none_at h i x lt at growing large =
+    checked-none h i x lt (ap (is_record_var h.dims) (sym at) ∙ growing) (λ small. large (omega (arith, small, ap (slab_size h.dims) at)))
+
+least_begin-push : (var : Var) (vars : List Var) (x : Var) → least_begin var (vars ++ x ∷ []) ≡ min (least_begin var vars) x.begin_at
+least_begin-push var [] x = refl
+least_begin-push var (next ∷ vars) x = omega (arith, least_begin-push next vars x)
+
+first_begin-push : (vars : List Var) (x : Var) → first_begin (vars ++ x ∷ []) ≡ Some (lesser (first_begin vars) x.begin_at)
+first_begin-push [] x = refl
+first_begin-push (var ∷ vars) x = ap Some (least_begin-push var vars x)
+
+-- one more record variable
+pub first_begin_more : (dims : List Dim) (vars : List Var) (i : ℕ) (x : Var) → i < length vars → x ≡ get_or vars i x
+    → is_record_var dims x ≡ true → first_begin (seen dims vars (i + 1)) ≡ Some (lesser (first_begin (seen dims vars i)) x.begin_at)
+first_begin_more dims vars i x lt at growing =
+    ap first_begin (seen_more dims vars i x lt (ap (is_record_var dims) (sym at) ∙ growing) ∙ ap (λ (v : Var). seen dims vars i ++ v ∷ []) (sym at))
+        ∙ first_begin-push (seen dims vars i) x
+
+pub seen_skipped_at : (dims : List Dim) (vars : List Var) (i : ℕ) (x : Var) → i < length vars → x ≡ get_or vars i x
+    → is_record_var dims x ≡ false → seen dims vars (i + 1) ≡ seen dims vars i
+seen_skipped_at dims vars i x lt at fixed = seen_skipped dims vars i x lt (ap (is_record_var dims) (sym at) ∙ fixed)

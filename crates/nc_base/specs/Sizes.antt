@@ -121,6 +121,16 @@ checked_record_size h =
     if list_all (has_small_slab h.dims) (record_vars h.dims h.vars) && nat_le (record_size h) record_limit
     then Some (record_size h) else None
 
+-- the least begin of these variables, where there are any
+abbrev pub first_begin : List Var → Option ℕ
+first_begin [] = None
+first_begin (var ∷ vars) = Some (least_begin var vars)
+
+-- the lesser of two offsets, of which the first may be missing
+abbrev pub lesser : Option ℕ → ℕ → ℕ
+lesser None begin = begin
+lesser (Some offset) begin = min offset begin
+
 -- the first offset behind the last value that a variable has over so many records: its begin, where it has none
 abbrev pub end_of : Header → ℕ → Var → ℕ
 end_of h records var =

@@ -28,7 +28,7 @@ pub use nc_type::NcType;
 pub use number::number_of;
 pub use path::stem;
 pub use sequence::Sequence;
-pub use sizes::{has_records, slab_bytes, slab_of};
+pub use sizes::{extent_end, has_records, rec_size, records, slab_bytes, slab_of};
 pub use version::Version;
 
 #[cfg(test)]

@@ -1,15 +1,19 @@
 //! The sizes of slabs and of records, the number of records, and where a variable ends.
 
-ghost use Rattle.std.specs.Prelude.{◌≡◌, ◌+◌, ◌*◌, ◌<◌, ◌≤◌, ◌^◌, length, map, min, SomeIff};
-ghost use Rattle.std.specs.List.{HoldsAt};
+ghost use Rattle.std.specs.Prelude.{◌≡◌, ◌+◌, ◌*◌, ◌/◌, ◌<◌, ◌≤◌, ◌^◌, ◌&&◌, IfSome, if◌then◌else◌, length, map, min, SomeIff};
 ghost use Rattle.nc_base.specs.Types.{size_of};
-ghost use Rattle.nc_base.specs.Sizes.{HasKnownDims, dim_len, is_record_dim, has_records, product, slab_of, slab_at, slab_limit};
+ghost use Rattle.nc_base.specs.Bytes.{padding_len};
+ghost use Rattle.nc_base.specs.Sizes.{dim_len, is_record_dim, has_records, is_record_var, is_narrow, product, slab_of, slab_at, slab_size, padded_size, slab_limit, record_size, checked_record_size, record_vars, record_count, first_begin, lesser, end_at};
+ghost use Rattle.nc_base.specs.Headers.{IsSound};
 
-use crate::header::{Dim, Header};
+use crate::header::{Dim, Header, NumRecs, Var};
 use crate::nc_type::NcType;
 
 /// The greatest slab in bytes: 2^48.
 const SLAB_LIMIT: u64 = 1 << 48;
+
+/// The greatest record in bytes: 2^62.
+const RECORD_LIMIT: u128 = 1 << 62;
 
 /// The bytes of the slab of the variable in place `v`, without padding: of its values in one record for a record
 /// variable, and of all its values for any other (`vsize` of the NetCDF Classic Format Specification before it is
@@ -20,6 +24,153 @@ pub fn slab_bytes(header: &Header, v: usize) -> Option<u64>
 {
     let var = &header.vars.as_slice()[v];
     slab_of(header.dims.as_slice(), var.dimids.as_slice(), var.ty)
+}
+
+/// The record size: the bytes from a record variable's values in one record to those in the next. It is the sum of
+/// the slabs of all record variables, each padded to a multiple of four bytes; but a sole record variable of one-byte
+/// or two-byte values isn't padded (`recsize` of the NetCDF Classic Format Specification, with its special case).
+/// None where a record variable's slab passes 2^48 bytes, or the record size 2^62 bytes.
+pub fn rec_size(header: &Header) -> Option<u64>
+    ensures { result ≡ checked_record_size header.now }
+{
+    let dims = header.dims.as_slice();
+    let mut size = 0;
+    let mut padded = 0;
+    let mut is_first = true;
+    for var in header.vars.as_slice() {
+        if is_record_var(dims, var) {
+            let slab = slab_of(dims, var.dimids.as_slice(), var.ty)?;
+            let with_padding = padded + padded_bytes(slab);
+            size = packed_bytes(is_first, var, slab, with_padding);
+            padded = with_padding;
+            is_first = false;
+        }
+    }
+    if size <= RECORD_LIMIT {
+        Some(size as u64)
+    } else {
+        None
+    }
+}
+
+/// The number of records of a file of `len` bytes with this header: the one that the header tells, or else (`STREAMING`)
+/// how many whole records stand between the least offset of its record variables and the file's end. It is 0 where there
+/// are no record variables, or where the file ends before (`numrecs` of the NetCDF Classic Format Specification). The
+/// header is to be sound; of another the number says nothing.
+pub fn records(header: &Header, len: u64) -> u64
+    ensures { IsSound header.now → result ≡ record_count header.now len }
+{
+    match header.numrecs {
+        NumRecs::Known(n) => n,
+        NumRecs::Streaming => match first_begin(header.dims.as_slice(), header.vars.as_slice()) {
+            Some(begin) => whole_records(len.saturating_sub(begin), rec_size(header)),
+            None => 0,
+        },
+    }
+}
+
+/// How many whole records of this size so many bytes have; none where the size isn't known.
+fn whole_records(bytes: u64, size: Option<u64>) -> u64
+    ensures { IfSome size (λ size. result ≡ bytes / size) }
+{
+    match size {
+        Some(size) if size > 0 => bytes / size,
+        _ => 0,
+    }
+}
+
+/// The first offset behind the last value that the variable in place `v` has over so many records: its begin and the
+/// bytes of its slab, and for a record variable one record size more for each record behind the first. A record variable
+/// has no value over no records, and ends where it begins. In bytes from the file's start, without padding.
+pub fn extent_end(header: &Header, v: usize, records: u64) -> u128
+    requires sound { IsSound header.now }
+    requires there { v < length header.now.vars }
+    ensures { result ≡ end_at header.now v records }
+{
+    let var = &header.vars.as_slice()[v];
+    let begin = var.begin_at as u128;
+    let slab = sound_slab(header, v) as u128;
+    if !is_record_var(header.dims.as_slice(), var) {
+        begin + slab
+    } else if records == 0 {
+        begin
+    } else {
+        begin + (records - 1) as u128 * sound_rec_size(header) as u128 + slab
+    }
+}
+
+/// The record size of a sound header.
+fn sound_rec_size(header: &Header) -> u64
+    requires { IsSound header.now }
+    ensures { result ≡ record_size header.now }
+{
+    rec_size(header).unwrap()
+}
+
+/// The bytes of a slab of a sound header.
+fn sound_slab(header: &Header, v: usize) -> u64
+    requires sound { IsSound header.now }
+    requires there { v < length header.now.vars }
+    ensures size { result ≡ slab_at header.now v }
+    ensures small { result ≤ slab_limit }
+{
+    slab_bytes(header, v).unwrap()
+}
+
+/// The least begin of the record variables, where there are any.
+fn first_begin(dims: &[Dim], vars: &[Var]) -> Option<u64>
+    ensures { result ≡ first_begin (record_vars dims.now vars.now) }
+{
+    let mut least = None;
+    for var in vars {
+        if is_record_var(dims, var) {
+            least = Some(lesser(least, var.begin_at));
+        }
+    }
+    least
+}
+
+/// The lesser of two offsets, of which the first may be missing.
+fn lesser(least: Option<u64>, begin: u64) -> u64
+    ensures { result ≡ lesser least begin }
+{
+    match least {
+        Some(offset) => offset.min(begin),
+        None => begin,
+    }
+}
+
+/// The size of a record that ends with this variable's slab: the slab alone where the variable is the first and
+/// narrow, and else all slabs with their padding.
+fn packed_bytes(is_first: bool, var: &Var, slab: u64, with_padding: u128) -> u128
+    ensures { result ≡ (if is_first && is_narrow var.now then slab else with_padding) }
+{
+    if is_first && is_narrow(var) {
+        slab as u128
+    } else {
+        with_padding
+    }
+}
+
+/// These bytes, padded to a multiple of four.
+fn padded_bytes(slab: u64) -> u128
+    ensures { result ≡ slab + padding_len slab }
+{
+    slab as u128 + ((4 - slab % 4) % 4) as u128
+}
+
+/// Says whether a value takes less than four bytes.
+fn is_narrow(var: &Var) -> bool
+    ensures { result ≡ is_narrow var.now }
+{
+    var.ty.size() < 4
+}
+
+/// Says whether the variable has values in each record.
+fn is_record_var(dims: &[Dim], var: &Var) -> bool
+    ensures { result ≡ is_record_var dims.now var.now }
+{
+    has_records(dims, var.dimids.as_slice())
 }
 
 /// The bytes of a slab of this shape and type over these dimensions, without padding. A first dimension of length 0

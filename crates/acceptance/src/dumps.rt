@@ -1,0 +1,156 @@
+//! Dumps of whole files, through every lent buffer.
+
+ghost use Rattle.std.specs.Prelude.{◌≤◌, length};
+
+use crate::files;
+use nc_base::{FormatFault, Sequence};
+use nc_file::{FileSource, MemSink, MemSource, Source};
+use ncdump::{DumpFault, DumpOptions, dump};
+use std::alloc::{AllocError, Global};
+use std::process::Abort;
+use std::test::Fail;
+
+/// The options of a plain dump with the name `t`.
+fn options(alloc: Global, head_only: bool) -> Result<DumpOptions, AllocError> {
+    Ok(DumpOptions {
+        file: String::new(alloc),
+        name: Sequence::from_vec(Vec::from_slice(alloc, b"t")?),
+        head_only,
+        coords: false,
+        chosen: None,
+        width: 80,
+    })
+}
+
+/// Dumps the source through this buffer, and asserts the answer and what was written.
+fn dumps_through<S: Source>(
+    rt: &impl Abort,
+    alloc: Global,
+    source: &mut S,
+    options: &DumpOptions,
+    buf: &mut [u8],
+    answer: Result<(), DumpFault>,
+    text: &[u8],
+)
+    requires { 16 ≤ length buf.old }
+{
+    let mut sink = MemSink::new(alloc);
+    let found = dump(alloc, source, options, buf, &mut sink);
+    assert!(rt; found == answer);
+    assert!(rt; sink.as_slice() == text);
+}
+
+/// The same of bytes in memory, through buffers of several lengths.
+fn dumps_as(
+    rt: &impl Abort,
+    alloc: Global,
+    bytes: &[u8],
+    options: &DumpOptions,
+    answer: Result<(), DumpFault>,
+    text: &[u8],
+) {
+    dumps_through(rt, alloc, &mut MemSource::new(bytes), options, &mut [0; 16], answer, text);
+    dumps_through(rt, alloc, &mut MemSource::new(bytes), options, &mut [0; 17], answer, text);
+    dumps_through(rt, alloc, &mut MemSource::new(bytes), options, &mut [0; 31], answer, text);
+    dumps_through(rt, alloc, &mut MemSource::new(bytes), options, &mut [0; 4096], answer, text);
+}
+
+/// The plain dump of bytes in memory.
+fn dumps(
+    rt: &impl Abort,
+    alloc: Global,
+    bytes: &[u8],
+    answer: Result<(), DumpFault>,
+    text: &[u8],
+) -> Result<(), AllocError> {
+    let options = options(alloc, false)?;
+    dumps_as(rt, alloc, bytes, &options, answer, text);
+    Ok(())
+}
+
+/// A file that is refused, with nothing written.
+fn refused(
+    rt: &impl Abort,
+    alloc: Global,
+    bytes: &[u8],
+    fault: FormatFault,
+) -> Result<(), AllocError> {
+    dumps(rt, alloc, bytes, Err(DumpFault::Format(fault)), b"")
+}
+
+#[test]
+fn smallest_file(rt: HostRuntime) -> Result<(), Fail> {
+    let text = b"netcdf t {\n}\n";
+    dumps(&rt, rt.alloc(), files::SMALLEST, Ok(()), text)?;
+    dumps(&rt, rt.alloc(), files::SMALLEST_CDF5, Ok(()), text)?;
+    Ok(())
+}
+
+#[test]
+fn text_attribute(rt: HostRuntime) -> Result<(), Fail> {
+    let text =
+        b"netcdf t {\n\n// global attributes:\n\t\t:note = \"a\\n\",\n\t\t\t\"b\\n\" ;\n}\n";
+    dumps(&rt, rt.alloc(), files::TEXT_ATTRIBUTE, Ok(()), text)?;
+    Ok(())
+}
+
+#[test]
+fn two_records(rt: HostRuntime) -> Result<(), Fail> {
+    let known = b"netcdf t {\ndimensions:\n\tt = UNLIMITED ; // (2 currently)\n}\n";
+    dumps(&rt, rt.alloc(), files::TWO_RECORDS, Ok(()), known)?;
+    let unknown = b"netcdf t {\ndimensions:\n\tt = UNLIMITED ; // (0 currently)\n}\n";
+    dumps(&rt, rt.alloc(), files::STREAMED_RECORDS, Ok(()), unknown)?;
+    Ok(())
+}
+
+#[test]
+fn refused_headers(rt: HostRuntime) -> Result<(), Fail> {
+    refused(&rt, rt.alloc(), b"", FormatFault::NotNetcdf)?;
+    refused(&rt, rt.alloc(), b"CDF", FormatFault::HeaderTruncated)?;
+    refused(&rt, rt.alloc(), files::HOSTILE_COUNT, FormatFault::HeaderTruncated)?;
+    refused(&rt, rt.alloc(), files::TWO_RECORD_DIMS, FormatFault::TwoRecordDims)?;
+    refused(&rt, rt.alloc(), files::LARGE_SLAB, FormatFault::TooLarge)?;
+    Ok(())
+}
+
+#[test]
+fn values_are_not_yet_shown(rt: HostRuntime) -> Result<(), Fail> {
+    dumps(&rt, rt.alloc(), files::GENERATED, Err(DumpFault::NotYet), b"")?;
+    Ok(())
+}
+
+#[test]
+fn head_of_a_generated_file(rt: HostRuntime) -> Result<(), Fail> {
+    let text = b"netcdf t {\ndimensions:\n\tx = 3 ;\nvariables:\n\tshort s(x) ;\n}\n";
+    let options = options(rt.alloc(), true)?;
+    dumps_as(&rt, rt.alloc(), files::GENERATED, &options, Ok(()), text);
+    dumps_as(&rt, rt.alloc(), files::GENERATED_CDF2, &options, Ok(()), text);
+    dumps_as(&rt, rt.alloc(), files::GENERATED_CDF5, &options, Ok(()), text);
+    Ok(())
+}
+
+#[test]
+fn chosen_names_are_not_yet_known(rt: HostRuntime) -> Result<(), Fail> {
+    let mut options = options(rt.alloc(), false)?;
+    options.chosen = Some(Sequence::new(rt.alloc()));
+    dumps_as(&rt, rt.alloc(), files::SMALLEST, &options, Err(DumpFault::NotYet), b"");
+    dumps_as(
+        &rt,
+        rt.alloc(),
+        b"CDF",
+        &options,
+        Err(DumpFault::Format(FormatFault::HeaderTruncated)),
+        b"",
+    );
+    Ok(())
+}
+
+#[test]
+fn opened_file(rt: HostRuntime) -> Result<(), Fail> {
+    let options = options(rt.alloc(), false)?;
+    let mut source = FileSource::open(&rt, "records.nc")?;
+    let text = b"netcdf t {\ndimensions:\n\tt = UNLIMITED ; // (2 currently)\n}\n";
+    dumps_through(&rt, rt.alloc(), &mut source, &options, &mut [0; 16], Ok(()), text);
+    assert!(rt; FileSource::open(&rt, "nothing.nc").is_err());
+    Ok(())
+}

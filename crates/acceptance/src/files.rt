@@ -1,0 +1,97 @@
+//! The files of the tests, byte by byte.
+
+/// CDF-1 without anything: magic, no records, three absent lists.
+pub const SMALLEST: &[u8] = b"CDF\x01\0\0\0\0\
+    \0\0\0\0\0\0\0\0\
+    \0\0\0\0\0\0\0\0\
+    \0\0\0\0\0\0\0\0";
+
+/// CDF-5 without anything: all counts have eight bytes.
+pub const SMALLEST_CDF5: &[u8] = b"CDF\x05\0\0\0\0\0\0\0\0\
+    \0\0\0\0\0\0\0\0\0\0\0\0\
+    \0\0\0\0\0\0\0\0\0\0\0\0\
+    \0\0\0\0\0\0\0\0\0\0\0\0";
+
+/// The record dimension `t` and two records.
+pub const TWO_RECORDS: &[u8] = b"CDF\x01\0\0\0\x02\
+    \0\0\0\x0a\0\0\0\x01\
+    \0\0\0\x01t\0\0\0\0\0\0\0\
+    \0\0\0\0\0\0\0\0\
+    \0\0\0\0\0\0\0\0";
+
+/// The same with the streaming mark for the number of records, which without record variables means none.
+pub const STREAMED_RECORDS: &[u8] = b"CDF\x01\xff\xff\xff\xff\
+    \0\0\0\x0a\0\0\0\x01\
+    \0\0\0\x01t\0\0\0\0\0\0\0\
+    \0\0\0\0\0\0\0\0\
+    \0\0\0\0\0\0\0\0";
+
+/// The global attribute `note`: two lines of text.
+pub const TEXT_ATTRIBUTE: &[u8] = b"CDF\x01\0\0\0\0\
+    \0\0\0\0\0\0\0\0\
+    \0\0\0\x0c\0\0\0\x01\
+    \0\0\0\x04note\0\0\0\x02\0\0\0\x04a\nb\n\
+    \0\0\0\0\0\0\0\0";
+
+/// `short s(x)`, x = 3, with the values 1, fill and 3: 80 bytes of header and 8 of data.
+pub const GENERATED: &[u8] = b"CDF\x01\0\0\0\0\
+    \0\0\0\x0a\0\0\0\x01\
+    \0\0\0\x01x\0\0\0\0\0\0\x03\
+    \0\0\0\0\0\0\0\0\
+    \0\0\0\x0b\0\0\0\x01\
+    \0\0\0\x01s\0\0\0\
+    \0\0\0\x01\0\0\0\0\
+    \0\0\0\0\0\0\0\0\
+    \0\0\0\x03\0\0\0\x08\0\0\0\x50\
+    \0\x01\x80\x01\0\x03\x80\x01";
+
+/// The same in CDF-2: the offset has eight bytes, and is 84.
+pub const GENERATED_CDF2: &[u8] = b"CDF\x02\0\0\0\0\
+    \0\0\0\x0a\0\0\0\x01\
+    \0\0\0\x01x\0\0\0\0\0\0\x03\
+    \0\0\0\0\0\0\0\0\
+    \0\0\0\x0b\0\0\0\x01\
+    \0\0\0\x01s\0\0\0\
+    \0\0\0\x01\0\0\0\0\
+    \0\0\0\0\0\0\0\0\
+    \0\0\0\x03\0\0\0\x08\0\0\0\0\0\0\0\x54\
+    \0\x01\x80\x01\0\x03\x80\x01";
+
+/// The same in CDF-5: 128 bytes of header.
+pub const GENERATED_CDF5: &[u8] = b"CDF\x05\0\0\0\0\0\0\0\0\
+    \0\0\0\x0a\0\0\0\0\0\0\0\x01\
+    \0\0\0\0\0\0\0\x01x\0\0\0\0\0\0\0\0\0\0\x03\
+    \0\0\0\0\0\0\0\0\0\0\0\0\
+    \0\0\0\x0b\0\0\0\0\0\0\0\x01\
+    \0\0\0\0\0\0\0\x01s\0\0\0\
+    \0\0\0\0\0\0\0\x01\0\0\0\0\0\0\0\0\
+    \0\0\0\0\0\0\0\0\0\0\0\0\
+    \0\0\0\x03\0\0\0\0\0\0\0\x08\0\0\0\0\0\0\0\x80\
+    \0\x01\x80\x01\0\x03\x80\x01";
+
+/// A list of 2147483647 dimensions, of which the file has two.
+pub const HOSTILE_COUNT: &[u8] = b"CDF\x01\0\0\0\0\
+    \0\0\0\x0a\x7f\xff\xff\xff\
+    \0\0\0\x01x\0\0\0\0\0\0\x01\
+    \0\0\0\x01y\0\0\0\0\0\0\x01";
+
+/// A list of 2^63 - 1 dimensions, and the file's end.
+pub const HOSTILE_COUNT_CDF5: &[u8] =
+    b"CDF\x05\0\0\0\0\0\0\0\0\0\0\0\x0a\x7f\xff\xff\xff\xff\xff\xff\xff";
+
+/// Two dimensions of length 0.
+pub const TWO_RECORD_DIMS: &[u8] = b"CDF\x01\0\0\0\0\
+    \0\0\0\x0a\0\0\0\x02\
+    \0\0\0\x01x\0\0\0\0\0\0\0\
+    \0\0\0\x01y\0\0\0\0\0\0\0";
+
+/// `byte b(x, x)`, x = 2147483647: a slab of nearly 2^62 bytes.
+pub const LARGE_SLAB: &[u8] = b"CDF\x01\0\0\0\0\
+    \0\0\0\x0a\0\0\0\x01\
+    \0\0\0\x01x\0\0\0\x7f\xff\xff\xff\
+    \0\0\0\0\0\0\0\0\
+    \0\0\0\x0b\0\0\0\x01\
+    \0\0\0\x01b\0\0\0\
+    \0\0\0\x02\0\0\0\0\0\0\0\0\
+    \0\0\0\0\0\0\0\0\
+    \0\0\0\x01\xff\xff\xff\xff\0\0\0\x54";

@@ -1,0 +1,9 @@
+//! Tests that go across the crates: whole files, read and dumped through every lent buffer.
+#![tactic(auto)]
+
+#[cfg(test)]
+mod dumps;
+#[cfg(test)]
+mod files;
+#[cfg(test)]
+mod headers;

@@ -1,0 +1,136 @@
+-- What a sound header keeps.
+use Rattle.std.proofs.Common.{◌≡◌, ℕ, zero, suc, ◌+◌, ◌*◌, ◌<◌, ◌≤◌, ◌⊎◌, inl, inr, min, Bool, true, false, ◌&&◌, cond, List, [], ◌∷◌, ◌++◌, length, get_or, drop, take, map, refl, sym, ◌∙◌, ap, subst, arith, sum, Option, Some, None, filter}
+use Rattle.std.specs.Prelude.{nat_le, nat_lt, ◌==◌, if◌then◌else◌, IsTrue, All, IsSome, IfSome, SomeIff, ◌-◌, ◌/◌}
+use Rattle.std.specs.List.{list_all, HoldsAt}
+use Rattle.std.proofs.Math.Nat.{mul-le-mul_left}
+use Rattle.std.proofs.lemmas.Bool.{le-leb}
+use Rattle.std.proofs.lemmas.List.{length-map}
+use Rattle.std.proofs.lemmas.Bool.Decides.{nat_tests}
+use Rattle.std.proofs.lemmas.List.Elements.{All-filter, All-head, All-tail, All-cons, All-nil, All-weaker, All-get_or, All-map}
+use Rattle.std.proofs.lemmas.List.Sums.{sum-map, sum_by-cons}
+use Rattle.nc_base.specs.Types.{size_of}
+use Rattle.nc_base.specs.Bytes.{padding_len}
+use Rattle.nc_base.specs.Sizes.{dim_len, product, has_records, is_record_dim, is_record_var, is_narrow, slab_lens, slab_size, padded_size, padded_total, packed_size, record_vars, record_size, slab_limit, record_limit, has_small_slab, checked_record_size, HasKnownDims, HasKnownShapes, first_begin, slab_at, records_between, least_begin, record_count}
+use Rattle.nc_base.specs.Headers.{IsSound, IsSoundVar, AreDimids, IsDimid}
+use Rattle.nc_base.specs.declared.nc_type.NcType.{NcType}
+use Rattle.nc_base.specs.declared.nc_type.NcType.TheVariants.{Byte, Char, Short, Int, Ubyte, Ushort, Uint, Int64, Uint64}
+use Rattle.nc_base.specs.declared.version.Version.{Version}
+use Rattle.nc_base.specs.declared.header.Dim.{Dim}
+use Rattle.nc_base.specs.declared.header.Var.{Var}
+use Rattle.nc_base.specs.declared.header.Header.{Header}
+use Rattle.nc_base.specs.declared.header.NumRecs.{NumRecs}
+use Rattle.nc_base.specs.declared.header.NumRecs.TheVariants.{Streaming}
+
+-- a sound shape names dimensions
+pub HasKnownDims-from_AreDimids : (dims : List Dim) (before ids : List ℕ) → AreDimids dims before ids → HasKnownDims dims ids
+HasKnownDims-from_AreDimids dims before [] h = All-nil _
+HasKnownDims-from_AreDimids dims before (id ∷ ids) h =
+    All-cons (λ k. k < length dims) id ids h.0.known (HasKnownDims-from_AreDimids dims (before ++ id ∷ []) ids h.1)
+
+pub HasKnownShapes-from_IsSound : (h : Header) → IsSound h → HasKnownShapes h
+HasKnownShapes-from_IsSound h sound =
+    All-weaker (IsSoundVar h.version h.dims) (λ (var : Var). HasKnownDims h.dims var.dimids)
+        (λ var s. HasKnownDims-from_AreDimids h.dims [] var.dimids s.shape) h.vars sound.vars
+
+passes : (test : Var → Bool) (xs : List Var) → All (λ x. test x ≡ true) xs → list_all test xs ≡ true
+passes test [] h = refl
+passes test (x ∷ xs) h = ap (λ b. b && list_all test xs) (All-head (λ (v : Var). test v ≡ true) x xs h) ∙ passes test xs (All-tail (λ (v : Var). test v ≡ true) x xs h)
+
+all_pass : (p test : Var → Bool) (xs : List Var) → All (λ x. test x ≡ true) xs → list_all test (filter p xs) ≡ true
+all_pass p test xs h = passes test (filter p xs) (All-filter p (λ (x : Var). test x ≡ true) xs h)
+
+-- a sound header has a record size
+pub checked-sound : (h : Header) → IsSound h → checked_record_size h ≡ Some (record_size h)
+checked-sound h sound =
+    let fits : list_all (has_small_slab h.dims) (record_vars h.dims h.vars) ≡ true =
+        all_pass (is_record_var h.dims) (has_small_slab h.dims) h.vars
+            (All-weaker (IsSoundVar h.version h.dims) (λ (var : Var). has_small_slab h.dims var ≡ true) (λ var s. le-leb _ _ s.slab) h.vars sound.vars) in
+    ap (λ b. if b && nat_le (record_size h) record_limit then Some (record_size h) else None) fits
+        ∙ ap (λ b. if b then Some (record_size h) else None) (le-leb _ _ sound.small_records)
+
+fixed_len : (a b n : ℕ) → a < b → (nat_lt a b && (n == 0)) ≡ false → 0 < n
+fixed_len a b n lt h = grind (arith, nat_tests)
+
+some_product : (a b : ℕ) → 0 < a → 0 < b → 0 < a * b
+some_product a b p q = omega (arith, mul-le-mul_left a (let h : 1 ≤ b = omega arith in h))
+
+push_is_some : (xs : List ℕ) (x : ℕ) → xs ++ x ∷ [] ≡ [] → ⊥
+push_is_some [] x h = cc
+push_is_some (y ∷ ys) x h = cc
+
+later_len : (b : Bool) (before : List ℕ) → (before ≡ [] → ⊥) → (IsTrue b → before ≡ []) → b ≡ false
+later_len true before some h = absurd (some (h refl))
+later_len false before some h = refl
+
+-- the lengths of a sound shape behind its first place
+some_later : (dims : List Dim) (before ids : List ℕ) → (before ≡ [] → ⊥) → AreDimids dims before ids → 0 < product (map (dim_len dims) ids)
+some_later dims before [] some h = omega arith
+some_later dims before (id ∷ ids) some h =
+    let fixed = later_len (is_record_dim dims id) before some h.0.record_first in
+    some_product (dim_len dims id) _ (fixed_len id (length dims) (dim_len dims id) h.0.known fixed)
+        (some_later dims (before ++ id ∷ []) ids (push_is_some before id) h.1)
+
+first_place : (dims : List Dim) (id : ℕ) (ids : List ℕ) → id < length dims → 0 < product (map (dim_len dims) ids)
+    → (b : Bool) → is_record_dim dims id ≡ b → 0 < product (map (dim_len dims) (if b then ids else (id ∷ ids)))
+first_place dims id ids known some true is = some
+first_place dims id ids known some false is = some_product (dim_len dims id) _ (fixed_len id (length dims) (dim_len dims id) known is) some
+
+-- a slab of a sound shape has values
+some_count : (dims : List Dim) (ids : List ℕ) → AreDimids dims [] ids → 0 < product (slab_lens dims ids)
+some_count dims [] h = omega arith
+some_count dims (id ∷ ids) h =
+    first_place dims id ids h.0.known (some_later dims (id ∷ []) ids (λ e. cc) h.1) (is_record_dim dims id) refl
+
+some_size : (ty : NcType) → 0 < size_of ty
+some_size Byte = omega arith
+some_size Char = omega arith
+some_size Short = omega arith
+some_size Int = omega arith
+some_size Ubyte = omega arith
+some_size Ushort = omega arith
+some_size Uint = omega arith
+some_size Int64 = omega arith
+some_size Uint64 = omega arith
+
+some_packed : (dims : List Dim) (var : Var) (vars : List Var) → 0 < slab_size dims var → 0 < packed_size dims (var ∷ vars)
+some_packed dims var [] h = picked (is_narrow var) (slab_size dims var) (padded_size dims var) h (omega arith)
+  where
+    picked : (b : Bool) (m n : ℕ) → 0 < m → 0 < n → 0 < (if b then m else n)
+    picked true m n p q = p
+    picked false m n p q = q
+some_packed dims var (next ∷ vars) h = omega (arith, sum-map (padded_size dims) (var ∷ next ∷ vars), sum_by-cons (padded_size dims) var (next ∷ vars))
+
+-- a record of a sound header with record variables has bytes
+pub some_record : (h : Header) → IsSound h → IsSome (first_begin (record_vars h.dims h.vars)) → 0 < record_size h
+some_record h sound some =
+    go (record_vars h.dims h.vars) (All-filter (is_record_var h.dims) (IsSoundVar h.version h.dims) h.vars sound.vars) some
+  where
+    go : (vars : List Var) → All (IsSoundVar h.version h.dims) vars → IsSome (first_begin vars) → 0 < packed_size h.dims vars
+    go [] all some = cc
+    go (var ∷ vars) all some =
+        let s = All-head (IsSoundVar h.version h.dims) var vars all in
+        some_packed h.dims var vars (some_product _ _ (some_count h.dims var.dimids s.shape) (some_size var.ty))
+
+-- a slab of a sound header keeps the limit
+pub slab_at-small : (h : Header) (v : ℕ) → IsSound h → v < length h.vars → slab_at h v ≤ slab_limit
+slab_at-small h v sound lt =
+    All-get_or (λ n. n ≤ slab_limit) (map (slab_size h.dims) h.vars) v 0 (omega (arith, length-map h.vars (slab_size h.dims)))
+        (All-map (λ n. n ≤ slab_limit) (slab_size h.dims) h.vars
+            (All-weaker (IsSoundVar h.version h.dims) (λ (var : Var). slab_size h.dims var ≤ slab_limit) (λ var s. s.slab) h.vars sound.vars))
+
+pub IsSome-from_SomeIff : (o : Option ℕ) (P : Type 0) (n : ℕ) → SomeIff o P n → P → IsSome o
+IsSome-from_SomeIff None P n h p = absurd (h p)
+IsSome-from_SomeIff (Some x) P n h p = refl
+
+-- the number of whole records behind the first begin
+between : (size len begin : ℕ) (vars : List Var) → first_begin vars ≡ Some begin → records_between size vars len ≡ (len - begin) / size
+between size len begin [] e = absurd cc
+between size len begin (var ∷ vars) e = let same : least_begin var vars ≡ begin = cc in ap (λ (b : ℕ). (len - b) / size) same
+
+-- where a sound header doesn't tell its number of records, it is that of the whole records
+pub streamed : (h : Header) (len begin quotient : ℕ) (size : Option ℕ) → h.numrecs ≡ Streaming → first_begin (record_vars h.dims h.vars) ≡ Some begin
+    → size ≡ checked_record_size h → IfSome size (λ s. quotient ≡ (len - begin) / s) → IsSound h → quotient ≡ record_count h len
+streamed h len begin quotient size streaming found is_size divided sound =
+    subst (λ (s : Option ℕ). IfSome s (λ n. quotient ≡ (len - begin) / n)) (is_size ∙ checked-sound h sound) divided
+        ∙ sym (between (record_size h) len begin (record_vars h.dims h.vars) found)
+        ∙ subst (λ (n : NumRecs). records_between (record_size h) (record_vars h.dims h.vars) len ≡ record_count (record h { numrecs = n }) len) (sym streaming) refl
