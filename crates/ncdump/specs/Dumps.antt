@@ -1,11 +1,8 @@
 -- What a dump has done.
-use Rattle.std.specs.Prelude.{ℕ, ◌≡◌, List, [], Option, Some, None, IsSome, Result, Ok, Err}
+use Rattle.std.specs.Prelude.{ℕ, ◌≡◌, Bool, true, false, not, ◌||◌, List, [], is_some, Result, Ok, Err}
 use Rattle.nc_base.specs.declared.header.Header.{Header}
-use Rattle.nc_base.specs.declared.header.NumRecs.{NumRecs}
-use Rattle.nc_base.specs.declared.header.NumRecs.TheVariants.{Known, Streaming}
 use Rattle.nc_base.specs.Grammar.{SpellsHeader}
-use Rattle.nc_base.specs.Dump.{Options, whole, wrong_field, closed_text, IsDump}
-use Rattle.nc_file.specs.NotYet.{IsNotYet}
+use Rattle.nc_base.specs.Dump.{Options, whole, wrong_field, closed_text, has_no_data, IsDump}
 use Rattle.nc_file.specs.Sources.{SourceView}
 use Rattle.nc_file.specs.Sources as sources
 use Rattle.nc_file.specs.Sinks.{SinkView, Grew, Broke}
@@ -29,10 +26,16 @@ WriteFailsOnly old new (Ok done) = new.failures ≡ old.failures
 WriteFailsOnly old new (Err WriteFailed) = sinks.HasFailed old.failures new
 WriteFailsOnly old new (Err _) = new ≡ old
 
--- what can't be shown yet: a part of the header that can't be read, or else chosen names
-pub data IsNotYetShown (bytes : List ℕ) (o : Options) : Type 0 where
-  unread : IsNotYet bytes → IsNotYetShown bytes o
-  names : (h : Header) (rest : List ℕ) → SpellsHeader bytes h rest → IsSome o.chosen → IsNotYetShown bytes o
+-- names are chosen, or there is a data section to show
+abbrev pub asks_for_more : Header → Options → Bool
+asks_for_more h o = is_some o.chosen || not (has_no_data h o)
+
+-- what can't be shown yet, behind a header that can be read
+pub record IsNotYetShown (bytes : List ℕ) (o : Options) : Type 0 where
+  pub h : Header
+  pub rest : List ℕ
+  pub spelled : SpellsHeader bytes h rest
+  pub more : asks_for_more h o ≡ true
 
 -- the whole text was written
 pub record IsWhole (bytes : List ℕ) (o : Options) (old new : SinkView) : Type 0 where
@@ -58,14 +61,9 @@ Dumps bytes o old new (Err (NoSuchVariable index)) = ⊥
 Dumps bytes o old new (Err (DataTruncated var value)) = ⊥
 Dumps bytes o old new (Err NotYet) = IsNotYetShown bytes o
 
--- the number of records of a header; where it is unknown, none
-abbrev pub known_records : NumRecs → ℕ
-known_records (Known n) = n
-known_records Streaming = 0
-
--- what was written of the dump of a file with this header, which has no variables
-abbrev pub Puts : {A : Type 0} → Options → Header → SinkView → SinkView → Result A DumpFault → Type 0
-Puts o h old new (Ok done) = (o.chosen ≡ None) × Grew old new (closed_text o.name h (known_records h.numrecs) [])
-Puts o h old new (Err WriteFailed) = (o.chosen ≡ None) × Broke old new (closed_text o.name h (known_records h.numrecs) [])
-Puts o h old new (Err NotYet) = IsSome o.chosen × (new ≡ old)
-Puts o h old new (Err _) = ⊥
+-- what was written of the dump of a file with this header and so many records
+abbrev pub Puts : {A : Type 0} → Options → Header → ℕ → SinkView → SinkView → Result A DumpFault → Type 0
+Puts o h records old new (Ok done) = (asks_for_more h o ≡ false) × Grew old new (closed_text o.name h records [])
+Puts o h records old new (Err WriteFailed) = (asks_for_more h o ≡ false) × Broke old new (closed_text o.name h records [])
+Puts o h records old new (Err NotYet) = (asks_for_more h o ≡ true) × (new ≡ old)
+Puts o h records old new (Err _) = ⊥

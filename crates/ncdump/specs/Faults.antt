@@ -12,7 +12,6 @@ use Rattle.ncdump.specs.declared.fault.DumpFault.TheVariants.{OutOfMemory, ReadF
 abbrev pub fault_of_head : HeadFault → DumpFault
 fault_of_head head.OutOfMemory = OutOfMemory
 fault_of_head head.ReadFailed = ReadFailed
-fault_of_head head.NotYet = NotYet
 fault_of_head (head.Format fault) = Format fault
 
 -- what a wrong field's fault says, but for the number behind it

@@ -4,12 +4,12 @@ ghost use Rattle.std.specs.Prelude.{◌≡◌, ◌≤◌, [], length};
 ghost use Rattle.std.specs.Bool.{OnTrue};
 ghost use Rattle.nc_base.specs.Dump.{closed_text};
 ghost use Rattle.nc_file.specs.Sinks.{Wrote};
-ghost use Rattle.ncdump.specs.Dumps.{options_of, known_records, ReadFailsOnly, WriteFailsOnly, Puts, Dumps};
+ghost use Rattle.ncdump.specs.Dumps.{options_of, asks_for_more, ReadFailsOnly, WriteFailsOnly, Puts, Dumps};
 
 use crate::fault::DumpFault;
 use crate::options::DumpOptions;
 use cdl_print::put_head;
-use nc_base::{Header, NumRecs};
+use nc_base::{Header, records};
 use nc_file::{Sink, Source, WriteFailed, put, read_header};
 use std::alloc::Global;
 
@@ -19,8 +19,8 @@ use std::alloc::Global;
 ///
 /// # Errors
 ///
-/// The faults of the header, then [`DumpFault::NotYet`] where names are chosen, each with nothing written; then
-/// [`DumpFault::WriteFailed`], and the sink has taken a front of the text. A device's fault is answered only where the
+/// The faults of the header, then [`DumpFault::NotYet`] where names are chosen or values are to be shown, each with nothing
+/// written; then [`DumpFault::WriteFailed`], and the sink has taken a front of the text. A device's fault is answered only where the
 /// device failed, and [`DumpFault::OutOfMemory`] only where memory was refused.
 pub fn dump<S: Source, W: Sink>(
     alloc: Global,
@@ -36,23 +36,31 @@ pub fn dump<S: Source, W: Sink>(
     ensures answer { OnTrue S.told (Dumps (S.seen source.old).bytes (options_of options.now) (W.seen sink.old) (W.seen sink.new) result) }
 {
     let header = read_header(alloc, source, buf)?;
-    put_dump(sink, options, &header)
+    let count = records(&header, source.len());
+    put_dump(sink, options, &header, count)
 }
 
-/// Writes the dump of a file with this header.
-fn put_dump<W: Sink>(sink: &mut W, options: &DumpOptions, header: &Header) -> Result<(), DumpFault>
-    ensures { Puts (options_of options.now) header.now (W.seen sink.old) (W.seen sink.new) result }
+/// Writes the dump of a file with this header and so many records.
+fn put_dump<W: Sink>(
+    sink: &mut W,
+    options: &DumpOptions,
+    header: &Header,
+    count: u64,
+) -> Result<(), DumpFault>
+    ensures { Puts (options_of options.now) header.now count (W.seen sink.old) (W.seen sink.new) result }
 {
-    if options.chosen.is_some() {
+    if asks_for_more(options, header) {
         return Err(DumpFault::NotYet);
     }
-    put_whole(
-        sink,
-        options.name.as_slice(),
-        header,
-        known_records(header.numrecs),
-    )?;
+    put_whole(sink, options.name.as_slice(), header, count)?;
     Ok(())
+}
+
+/// Says whether names are chosen, or values are to be shown.
+fn asks_for_more(options: &DumpOptions, header: &Header) -> bool
+    ensures { result ≡ asks_for_more header.now (options_of options.now) }
+{
+    options.chosen.is_some() || !(options.head_only || header.vars.is_empty())
 }
 
 /// Writes the head and the closing brace.
@@ -61,20 +69,10 @@ fn put_whole<W: Sink>(
     sink: &mut W,
     name: &[u8],
     header: &Header,
-    records: u64,
+    count: u64,
 ) -> Result<(), WriteFailed>
-    ensures { Wrote (W.seen sink.old) (W.seen sink.new) (closed_text name.now header.now records []) result }
+    ensures { Wrote (W.seen sink.old) (W.seen sink.new) (closed_text name.now header.now count []) result }
 {
-    put_head(sink, name, header, records)?;
+    put_head(sink, name, header, count)?;
     put(sink, b"}\n")
-}
-
-/// The number of records; where it is unknown, none.
-fn known_records(numrecs: NumRecs) -> u64
-    ensures { result ≡ known_records numrecs }
-{
-    match numrecs {
-        NumRecs::Known(n) => n,
-        NumRecs::Streaming => 0,
-    }
 }

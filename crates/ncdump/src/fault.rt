@@ -28,7 +28,7 @@ pub enum DumpFault {
         /// The value.
         value: u128,
     },
-    /// What can't be shown yet: variables, attributes of number types, and chosen names. Nothing was written.
+    /// What can't be shown yet: values, and chosen names. Nothing was written.
     NotYet,
 }
 
@@ -39,7 +39,6 @@ impl From<HeadFault> for DumpFault {
         match fault {
             HeadFault::OutOfMemory => DumpFault::OutOfMemory,
             HeadFault::ReadFailed => DumpFault::ReadFailed,
-            HeadFault::NotYet => DumpFault::NotYet,
             HeadFault::Format(fault) => DumpFault::Format(fault),
         }
     }

@@ -8,4 +8,5 @@ returns-in_err-header-clause-answer g c =
     rw (p.1, p.2) (told_refused (Unit {0}) _ _ _ _ _ _ _ c.in_err-header.ensures.answer)
 
 pub returns-clause-answer : goal.returns-clause-answer
-returns-clause-answer g c = told_dumped _ _ _ _ _ _ _ _ _ c.in_ok-header.ensures.answer c.put_dump.ensures
+returns-clause-answer g c =
+    told_dumped _ _ _ _ _ _ _ _ _ _ _ c.in_ok-header.ensures.answer c.records-count.ensures c.len.ensures.length c.in_ok-header.ensures.bytes c.put_dump.ensures
