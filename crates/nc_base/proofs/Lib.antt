@@ -3,3 +3,5 @@ pub mod NumberLaws
 pub mod PathLemmas
 pub mod SizeLaws
 pub mod SoundLaws
+pub mod SoundSpelling
+pub mod SpelledWeight

@@ -13,3 +13,4 @@ pub mod Fill
 pub mod Escapes
 pub mod HeadText
 pub mod Dump
+pub mod Weight

@@ -1,0 +1,188 @@
+-- A header that bytes spell is sound, and its names are valid.
+use Rattle.std.proofs.Common.{◌≡◌, ℕ, ◌+◌, ◌<◌, ◌≤◌, Bool, true, false, cond, List, [], ◌∷◌, ◌++◌, length, refl, sym, subst, append_assoc, arith}
+use Rattle.std.proofs.lemmas.Bool.{eqb-true}
+use Rattle.std.proofs.lemmas.List.{append-nil, length-append}
+use Rattle.std.proofs.lemmas.List.Elements.{All-from_recursion, filter-append}
+use Rattle.std.specs.List.{AllByRecursion}
+use Rattle.std.specs.Prelude.{◌==◌, ◌||◌, filter, All}
+use Rattle.nc_base.specs.declared.header.Att.{Att}
+use Rattle.nc_base.specs.declared.header.Dim.{Dim}
+use Rattle.nc_base.specs.declared.header.Var.{Var}
+use Rattle.nc_base.specs.declared.header.Header.{Header}
+use Rattle.nc_base.specs.declared.header.NumRecs.{NumRecs}
+use Rattle.nc_base.specs.declared.header.NumRecs.TheVariants.{Known, Streaming}
+use Rattle.nc_base.specs.declared.version.Version.{Version}
+use Rattle.nc_base.specs.Bytes.{padding_len}
+use Rattle.nc_base.specs.Versions.{count_limit}
+use Rattle.nc_base.specs.Names.{IsName}
+use Rattle.nc_base.specs.Sizes.{is_narrow, slab_size, padded_total, packed_size, record_vars, record_limit}
+use Rattle.nc_base.specs.Headers.{has_record_dim, AreDimids, IsSoundAtt, IsSoundVar, IsSoundDim, IsSoundNumRecs, IsSound, HasValidNames}
+use Rattle.nc_base.specs.Grammar.{ElementSpelling, SpellsEach, SpellsList, absent, present, SpellsDim, SpellsAtt, SpellsAtts, SpellsDimid, SpellsVar, SpellsNumRecs, SpellsHeader}
+
+-- ---- lists
+
+-- the elements of a list, which the version can count
+pub record SpellsListed {A : Type 0} (v : Version) (Element : ElementSpelling A) (xs : List A) (rest : List ℕ) : Type 0 where
+  pub count : length xs < count_limit v
+  pub front : List ℕ
+  pub each : SpellsEach Element [] front xs rest
+
+pub listed : {A : Type 0} (v : Version) (tag : ℕ) (Element : ElementSpelling A) (bytes : List ℕ) (xs : List A) (rest : List ℕ)
+    → SpellsList v tag Element bytes xs rest → SpellsListed v Element xs rest
+listed {A = A} v tag Element bytes xs rest (absent behind_tag number count none) =
+    subst (λ (ys : List A). SpellsListed v Element ys rest) (sym none) (record { count = count.non_negative; front = rest; each = refl })
+listed v tag Element bytes xs rest (present behind_tag number counted) =
+    record { count = counted.count.non_negative; front = counted.behind_count; each = counted.each }
+
+-- what each spelling of an element gives
+abbrev pub Gives : {A : Type 0} → ElementSpelling A → (A → Type 0) → Type 0
+Gives {A = A} Element P = (before : List A) (bytes : List ℕ) (x : A) (rest : List ℕ) → Element before bytes x rest → P x
+
+each-by_recursion : {A : Type 0} (Element : ElementSpelling A) (P : A → Type 0) → Gives Element P
+    → (xs before : List A) (bytes rest : List ℕ) → SpellsEach Element before bytes xs rest → AllByRecursion P xs
+each-by_recursion Element P gives [] before bytes rest each = tt
+each-by_recursion Element P gives (x ∷ xs) before bytes rest each =
+    (gives before bytes x each.0 each.1, each-by_recursion Element P gives xs (before ++ x ∷ []) each.0 rest each.2)
+
+-- each element of a list has it
+list-all : {A : Type 0} (v : Version) (tag : ℕ) (Element : ElementSpelling A) (P : A → Type 0) → Gives Element P
+    → (bytes : List ℕ) (xs : List A) (rest : List ℕ) → SpellsList v tag Element bytes xs rest → All P xs
+list-all v tag Element P gives bytes xs rest s =
+    let l = listed v tag Element bytes xs rest s in
+    All-from_recursion P xs (each-by_recursion Element P gives xs [] l.front rest l.each)
+
+-- ---- attributes
+
+att-sound : (v : Version) → Gives (SpellsAtt v) (IsSoundAtt v)
+att-sound v before bytes att rest s = record {
+  name_len = s.front.named.count.non_negative;
+  ty = s.front.typed.has;
+  count = s.count;
+  counted = s.front.counted.non_negative;
+  whole = s.whole;
+}
+
+att-name : (v : Version) → Gives (SpellsAtt v) (λ (att : Att). IsName att.name)
+att-name v before bytes att rest s = s.front.named.valid
+
+-- ---- dimensions
+
+dim-sound : (v : Version) → Gives (SpellsDim v) (IsSoundDim v)
+dim-sound v before bytes dim rest s = record { name_len = s.name.count.non_negative; len = s.len.non_negative }
+
+dim-name : (v : Version) → Gives (SpellsDim v) (λ (dim : Dim). IsName dim.name)
+dim-name v before bytes dim rest s = s.name.valid
+
+-- the record dimensions among these
+abbrev record_dims : List Dim → List Dim
+record_dims dims = filter (λ (dim : Dim). dim.len == 0) dims
+
+none-filtered : (b : Bool) (dim : Dim) (dims : List Dim) → (b || has_record_dim dims) ≡ false → (has_record_dim dims ≡ false → length (record_dims dims) ≡ 0)
+    → length (cond b (dim ∷ record_dims dims) (record_dims dims)) ≡ 0
+none-filtered true dim dims e below = absurd cc
+none-filtered false dim dims e below = below e
+
+no-record_dims : (dims : List Dim) → has_record_dim dims ≡ false → length (record_dims dims) ≡ 0
+no-record_dims [] e = refl
+no-record_dims (dim ∷ dims) e = none-filtered (dim.len == 0) dim dims e (no-record_dims dims)
+
+one-more : (b : Bool) (before : List Dim) (dim : Dim) → (b ≡ true → length (record_dims before) ≡ 0) → length (record_dims before) ≤ 1
+    → length (record_dims before ++ cond b (dim ∷ []) []) ≤ 1
+one-more true before dim first below = omega (arith, first refl, length-append (record_dims before) (dim ∷ []))
+one-more false before dim first below = omega (arith, below, length-append {A = Dim} (record_dims before) [])
+
+dims-one : (v : Version) (dims before : List Dim) (bytes rest : List ℕ) → SpellsEach (SpellsDim v) before bytes dims rest
+    → length (record_dims before) ≤ 1 → length (record_dims (before ++ dims)) ≤ 1
+dims-one v [] before bytes rest each one = subst (λ (ds : List Dim). length (record_dims ds) ≤ 1) (sym (append-nil before)) one
+dims-one v (dim ∷ dims) before bytes rest each one =
+    let d = each.1 in
+    let more = one-more (dim.len == 0) before dim (λ e. no-record_dims before (d.one_record_dim (eqb-true dim.len 0 e))) one in
+    let all = subst (λ (ds : List Dim). length ds ≤ 1) (sym (filter-append (λ (x : Dim). x.len == 0) before (dim ∷ []))) more in
+    subst (λ (ds : List Dim). length (record_dims ds) ≤ 1) (append_assoc before (dim ∷ []) dims) (dims-one v dims (before ++ dim ∷ []) each.0 rest each.2 all)
+
+-- ---- variables
+
+shape-known : (v : Version) (dims : List Dim) (ids before bytes rest : List ℕ) → SpellsEach (SpellsDimid v dims) before bytes ids rest → AreDimids dims before ids
+shape-known v dims [] before bytes rest each = tt
+shape-known v dims (id ∷ ids) before bytes rest each = (each.1.known, shape-known v dims ids (before ++ id ∷ []) each.0 rest each.2)
+
+atts-sound : (v : Version) (bytes : List ℕ) (atts : List Att) (rest : List ℕ) → SpellsAtts v bytes atts rest → All (IsSoundAtt v) atts
+atts-sound v bytes atts rest s = list-all v _ (SpellsAtt v) (IsSoundAtt v) (att-sound v) bytes atts rest s
+
+atts-names : (v : Version) (bytes : List ℕ) (atts : List Att) (rest : List ℕ) → SpellsAtts v bytes atts rest → All (λ (att : Att). IsName att.name) atts
+atts-names v bytes atts rest s = list-all v _ (SpellsAtt v) (λ (att : Att). IsName att.name) (att-name v) bytes atts rest s
+
+var-sound : (v : Version) (dims : List Dim) → Gives (SpellsVar v dims) (IsSoundVar v dims)
+var-sound v dims before bytes var rest s =
+    let front = s.typed.front in record {
+      name_len = front.name.count.non_negative;
+      rank = front.shape.count.non_negative;
+      shape = shape-known v dims var.dimids [] front.shape.behind_count front.behind_shape front.shape.each;
+      att_count = (listed v _ (SpellsAtt v) front.behind_shape var.atts s.typed.behind_atts front.atts).count;
+      atts = atts-sound v front.behind_shape var.atts s.typed.behind_atts front.atts;
+      ty = s.typed.ty.has;
+      slab = s.typed.small.slab;
+    }
+
+abbrev HasNames : Var → Type 0
+HasNames var = IsName var.name × All (λ (att : Att). IsName att.name) var.atts
+
+var-names : (v : Version) (dims : List Dim) → Gives (SpellsVar v dims) HasNames
+var-names v dims before bytes var rest s =
+    let front = s.typed.front in (front.name.valid, atts-names v front.behind_shape var.atts s.typed.behind_atts front.atts)
+
+-- ---- the record size
+
+vars-small : (v : Version) (dims : List Dim) (vars before : List Var) (bytes rest : List ℕ) → SpellsEach (SpellsVar v dims) before bytes vars rest
+    → padded_total dims (record_vars dims before) ≤ record_limit → padded_total dims (record_vars dims (before ++ vars)) ≤ record_limit
+vars-small v dims [] before bytes rest each small = subst (λ (vs : List Var). padded_total dims (record_vars dims vs) ≤ record_limit) (sym (append-nil before)) small
+vars-small v dims (var ∷ vars) before bytes rest each small =
+    subst (λ (vs : List Var). padded_total dims (record_vars dims vs) ≤ record_limit) (append_assoc before (var ∷ []) vars)
+    (vars-small v dims vars (before ++ var ∷ []) each.0 rest each.2 each.1.typed.small.record_bytes)
+
+one-packed : (narrow : Bool) (slab padding : ℕ) → cond narrow slab (slab + padding) ≤ slab + padding
+one-packed true slab padding = omega arith
+one-packed false slab padding = omega arith
+
+packed-le-padded : (dims : List Dim) (vars : List Var) → packed_size dims vars ≤ padded_total dims vars
+packed-le-padded dims [] = omega arith
+packed-le-padded dims (var ∷ []) = omega (arith, one-packed (is_narrow var) (slab_size dims var) (padding_len (slab_size dims var)))
+packed-le-padded dims (var ∷ next ∷ vars) = omega arith
+
+-- ---- the whole
+
+records-sound : (v : Version) (bytes : List ℕ) (numrecs : NumRecs) (rest : List ℕ) → SpellsNumRecs v bytes numrecs rest → IsSoundNumRecs v numrecs
+records-sound v bytes (Known n) rest s = s.non_negative
+records-sound v bytes Streaming rest s = tt
+
+pub spelled-sound : (bytes : List ℕ) (h : Header) (rest : List ℕ) → SpellsHeader bytes h rest → IsSound h
+spelled-sound bytes h rest s =
+    let v = h.version in
+    let gatts = s.front in
+    let dims = gatts.front in
+    let dim_list = listed v _ (SpellsDim v) dims.behind_start h.dims gatts.behind_dims dims.dim_list in
+    let var_list = listed v _ (SpellsVar v h.dims) s.behind_gatts h.vars rest s.var_list in
+    let records = vars-small v h.dims h.vars [] var_list.front rest var_list.each (omega arith) in
+    let packed = packed-le-padded h.dims (record_vars h.dims h.vars) in
+    record {
+      numrecs = records-sound v dims.start.behind_magic h.numrecs dims.behind_start dims.start.records;
+      dim_count = dim_list.count;
+      dims = list-all v _ (SpellsDim v) (IsSoundDim v) (dim-sound v) dims.behind_start h.dims gatts.behind_dims dims.dim_list;
+      one_record_dim = dims-one v h.dims [] dim_list.front gatts.behind_dims dim_list.each (omega arith);
+      gatt_count = (listed v _ (SpellsAtt v) gatts.behind_dims h.gatts s.behind_gatts gatts.gatt_list).count;
+      gatts = atts-sound v gatts.behind_dims h.gatts s.behind_gatts gatts.gatt_list;
+      var_count = var_list.count;
+      vars = list-all v _ (SpellsVar v h.dims) (IsSoundVar v h.dims) (var-sound v h.dims) s.behind_gatts h.vars rest s.var_list;
+      small_records = omega (arith, packed, records);
+    }
+
+pub spelled-names : (bytes : List ℕ) (h : Header) (rest : List ℕ) → SpellsHeader bytes h rest → HasValidNames h
+spelled-names bytes h rest s =
+    let v = h.version in
+    let gatts = s.front in
+    let dims = gatts.front in
+    record {
+      dims = list-all v _ (SpellsDim v) (λ (dim : Dim). IsName dim.name) (dim-name v) dims.behind_start h.dims gatts.behind_dims dims.dim_list;
+      gatts = atts-names v gatts.behind_dims h.gatts s.behind_gatts gatts.gatt_list;
+      vars = list-all v _ (SpellsVar v h.dims) HasNames (var-names v h.dims) s.behind_gatts h.vars rest s.var_list;
+    }
