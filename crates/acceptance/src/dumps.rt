@@ -7,6 +7,7 @@ use nc_base::{FormatFault, Sequence};
 use nc_file::{FileSource, MemSink, MemSource, Source};
 use ncdump::{DumpFault, DumpOptions, dump};
 use std::alloc::{AllocError, Global};
+use std::fs;
 use std::process::Abort;
 use std::test::Fail;
 
@@ -148,7 +149,10 @@ fn chosen_names_are_not_yet_known(rt: HostRuntime) -> Result<(), Fail> {
 #[test]
 fn opened_file(rt: HostRuntime) -> Result<(), Fail> {
     let options = options(rt.alloc(), false)?;
-    let mut source = FileSource::open(&rt, "records.nc")?;
+    let path = "acceptance_records.nc";
+    fs::write(&rt, path, files::TWO_RECORDS)?;
+    let mut source = FileSource::open(&rt, path)?;
+    fs::remove_file(&rt, path)?;
     let text = b"netcdf t {\ndimensions:\n\tt = UNLIMITED ; // (2 currently)\n}\n";
     dumps_through(&rt, rt.alloc(), &mut source, &options, &mut [0; 16], Ok(()), text);
     assert!(rt; FileSource::open(&rt, "nothing.nc").is_err());
