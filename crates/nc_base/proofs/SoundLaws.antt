@@ -1,25 +1,43 @@
 -- What a sound header keeps.
-use Rattle.std.proofs.Common.{◌≡◌, ℕ, zero, suc, ◌+◌, ◌*◌, ◌<◌, ◌≤◌, ◌⊎◌, inl, inr, min, Bool, true, false, ◌&&◌, cond, List, [], ◌∷◌, ◌++◌, length, get_or, drop, take, map, refl, sym, ◌∙◌, ap, subst, arith, sum, Option, Some, None, filter}
-use Rattle.std.specs.Prelude.{nat_le, nat_lt, ◌==◌, if◌then◌else◌, IsTrue, All, IsSome, IfSome, SomeIff, ◌-◌, ◌/◌}
-use Rattle.std.specs.List.{list_all, HoldsAt}
-use Rattle.std.proofs.Math.Nat.{mul-le-mul_left}
-use Rattle.std.proofs.lemmas.Bool.{le-leb}
+use Rattle.std.proofs.Common.{◌≡◌, ℕ, zero, suc, ◌+◌, ◌*◌, ◌/◌, ◌%◌, ◌<◌, ◌≤◌, ◌⊎◌, inl, inr, min, Bool, true, false, ◌&&◌, cond, List, [], ◌∷◌, ◌++◌, length, get_or, drop, take, map, refl, sym, ◌∙◌, ap, subst, arith, sum, Option, Some, None, filter}
+use Rattle.std.specs.Prelude.{nat_le, nat_lt, ◌==◌, not, if◌then◌else◌, IsTrue, All, IsSome, SomeIff, is_some}
+use Rattle.std.specs.List.{list_all, count_by}
+use Rattle.std.proofs.Math.Nat.{mul-le-mul_left, mod-eq-sub-div-mul, div-mul-le_self}
+use Rattle.std.proofs.lemmas.Bool.{le-leb, leb-true, ltb-true, lt-ltb}
 use Rattle.std.proofs.lemmas.List.{length-map}
+use Rattle.std.proofs.lemmas.Nat.{div-mul-add}
 use Rattle.std.proofs.lemmas.Bool.Decides.{nat_tests}
 use Rattle.std.proofs.lemmas.List.Elements.{All-filter, All-head, All-tail, All-cons, All-nil, All-weaker, All-get_or, All-map}
-use Rattle.std.proofs.lemmas.List.Sums.{sum-map, sum_by-cons}
+use Rattle.std.proofs.lemmas.List.Sums.{sum-map, sum_by-cons, length-filter}
 use Rattle.nc_base.specs.Types.{size_of}
 use Rattle.nc_base.specs.Bytes.{padding_len}
-use Rattle.nc_base.specs.Sizes.{dim_len, product, has_records, is_record_dim, is_record_var, is_narrow, slab_lens, slab_size, padded_size, padded_total, packed_size, record_vars, record_size, slab_limit, record_limit, has_small_slab, checked_record_size, HasKnownDims, HasKnownShapes, first_begin, slab_at, records_between, least_begin, record_count}
-use Rattle.nc_base.specs.Headers.{IsSound, IsSoundVar, AreDimids, IsDimid}
+use Rattle.nc_base.specs.Sizes.{dim_len, product, has_records, is_record_dim, is_record_var, is_narrow, slab_lens, slab_size, padded_size, padded_total, packed_size, record_vars, record_size, slab_limit, record_limit, has_small_slab, checked_record_size, HasKnownDims, HasKnownShapes, first_begin, slab_at, is_fixed_dim}
+use Rattle.nc_base.specs.Headers.{IsSound, IsSoundVar, IsSoundAtt, AreDimids, IsDimid}
 use Rattle.nc_base.specs.declared.nc_type.NcType.{NcType}
 use Rattle.nc_base.specs.declared.nc_type.NcType.TheVariants.{Byte, Char, Short, Int, Ubyte, Ushort, Uint, Int64, Uint64}
 use Rattle.nc_base.specs.declared.version.Version.{Version}
+use Rattle.nc_base.specs.Whole.{HasWholeValues}
+use Rattle.nc_base.specs.Versions.{count_limit, has_type}
+use Rattle.nc_base.specs.declared.header.Att.{Att}
 use Rattle.nc_base.specs.declared.header.Dim.{Dim}
 use Rattle.nc_base.specs.declared.header.Var.{Var}
 use Rattle.nc_base.specs.declared.header.Header.{Header}
 use Rattle.nc_base.specs.declared.header.NumRecs.{NumRecs}
 use Rattle.nc_base.specs.declared.header.NumRecs.TheVariants.{Streaming}
+use Rattle.nc_base.specs.Sizes.{records_between, least_begin, record_count}
+use Rattle.std.specs.Prelude.{IfSome, ◌-◌, ◌/◌}
+
+and_first : (a b : Bool) → (a && b) ≡ true → a ≡ true
+and_first true b h = refl
+and_first false b h = cc
+
+and_second : (a b : Bool) → (a && b) ≡ true → b ≡ true
+and_second true b h = h
+and_second false b h = cc
+
+not_both : (b : Bool) → not b ≡ true → b ≡ true → ⊥
+not_both true p q = cc
+not_both false p q = cc
 
 -- a sound shape names dimensions
 pub HasKnownDims-from_AreDimids : (dims : List Dim) (before ids : List ℕ) → AreDimids dims before ids → HasKnownDims dims ids
@@ -27,10 +45,13 @@ HasKnownDims-from_AreDimids dims before [] h = All-nil _
 HasKnownDims-from_AreDimids dims before (id ∷ ids) h =
     All-cons (λ k. k < length dims) id ids h.0.known (HasKnownDims-from_AreDimids dims (before ++ id ∷ []) ids h.1)
 
-pub HasKnownShapes-from_IsSound : (h : Header) → IsSound h → HasKnownShapes h
-HasKnownShapes-from_IsSound h sound =
+pub HasKnownShapes-from_All : (h : Header) → All (IsSoundVar h.version h.dims) h.vars → HasKnownShapes h
+HasKnownShapes-from_All h vars =
     All-weaker (IsSoundVar h.version h.dims) (λ (var : Var). HasKnownDims h.dims var.dimids)
-        (λ var s. HasKnownDims-from_AreDimids h.dims [] var.dimids s.shape) h.vars sound.vars
+        (λ var s. HasKnownDims-from_AreDimids h.dims [] var.dimids s.shape) h.vars vars
+
+pub HasKnownShapes-from_IsSound : (h : Header) → IsSound h → HasKnownShapes h
+HasKnownShapes-from_IsSound h sound = HasKnownShapes-from_All h sound.vars
 
 passes : (test : Var → Bool) (xs : List Var) → All (λ x. test x ≡ true) xs → list_all test xs ≡ true
 passes test [] h = refl
@@ -39,14 +60,28 @@ passes test (x ∷ xs) h = ap (λ b. b && list_all test xs) (All-head (λ (v : V
 all_pass : (p test : Var → Bool) (xs : List Var) → All (λ x. test x ≡ true) xs → list_all test (filter p xs) ≡ true
 all_pass p test xs h = passes test (filter p xs) (All-filter p (λ (x : Var). test x ≡ true) xs h)
 
--- a sound header has a record size
-pub checked-sound : (h : Header) → IsSound h → checked_record_size h ≡ Some (record_size h)
-checked-sound h sound =
+-- sound variables and a record that keeps the limit
+pub checked-small : (h : Header) → All (IsSoundVar h.version h.dims) h.vars → record_size h ≤ record_limit → checked_record_size h ≡ Some (record_size h)
+checked-small h vars small =
     let fits : list_all (has_small_slab h.dims) (record_vars h.dims h.vars) ≡ true =
         all_pass (is_record_var h.dims) (has_small_slab h.dims) h.vars
-            (All-weaker (IsSoundVar h.version h.dims) (λ (var : Var). has_small_slab h.dims var ≡ true) (λ var s. le-leb _ _ s.slab) h.vars sound.vars) in
+            (All-weaker (IsSoundVar h.version h.dims) (λ (var : Var). has_small_slab h.dims var ≡ true) (λ var s. le-leb _ _ s.slab) h.vars vars) in
     ap (λ b. if b && nat_le (record_size h) record_limit then Some (record_size h) else None) fits
-        ∙ ap (λ b. if b then Some (record_size h) else None) (le-leb _ _ sound.small_records)
+        ∙ ap (λ b. if b then Some (record_size h) else None) (le-leb _ _ small)
+
+-- a sound header has a record size
+pub checked-sound : (h : Header) → IsSound h → checked_record_size h ≡ Some (record_size h)
+checked-sound h sound = checked-small h sound.vars sound.small_records
+
+last_passes : (a b : Bool) (n : ℕ) → is_some (if a && b then Some n else None) ≡ true → b ≡ true
+last_passes true true n h = refl
+last_passes true false n h = cc
+last_passes false b n h = cc
+
+pub small-checked : (h : Header) → is_some (checked_record_size h) ≡ true → record_size h ≤ record_limit
+small-checked h some =
+    leb-true (record_size h) record_limit
+        (last_passes (list_all (has_small_slab h.dims) (record_vars h.dims h.vars)) (nat_le (record_size h) record_limit) (record_size h) some)
 
 fixed_len : (a b n : ℕ) → a < b → (nat_lt a b && (n == 0)) ≡ false → 0 < n
 fixed_len a b n lt h = grind (arith, nat_tests)
@@ -121,6 +156,61 @@ slab_at-small h v sound lt =
 pub IsSome-from_SomeIff : (o : Option ℕ) (P : Type 0) (n : ℕ) → SomeIff o P n → P → IsSome o
 IsSome-from_SomeIff None P n h p = absurd (h p)
 IsSome-from_SomeIff (Some x) P n h p = refl
+
+-- a shape behind its first place
+fixed_shape : (dims : List Dim) (before ids : List ℕ) → list_all (is_fixed_dim dims) ids ≡ true → AreDimids dims before ids
+fixed_shape dims before [] h = tt
+fixed_shape dims before (id ∷ ids) h =
+    let here : is_fixed_dim dims id ≡ true = and_first (is_fixed_dim dims id) _ h in
+    let known : nat_lt id (length dims) ≡ true = and_first (nat_lt id (length dims)) _ here in
+    let fixed : not (is_record_dim dims id) ≡ true = and_second (nat_lt id (length dims)) _ here in
+    (record { known = ltb-true id (length dims) known; record_first = λ is. absurd (not_both (is_record_dim dims id) fixed is) },
+        fixed_shape dims (before ++ id ∷ []) ids (and_second (is_fixed_dim dims id) _ h))
+
+shape_fixed : (dims : List Dim) (before ids : List ℕ) → (before ≡ [] → ⊥) → AreDimids dims before ids → list_all (is_fixed_dim dims) ids ≡ true
+shape_fixed dims before [] some h = refl
+shape_fixed dims before (id ∷ ids) some h =
+    let fixed : is_record_dim dims id ≡ false = later_len (is_record_dim dims id) before some h.0.record_first in
+    let known : nat_lt id (length dims) ≡ true = lt-ltb id (length dims) h.0.known in
+    ap (λ b. (b && not (is_record_dim dims id)) && list_all (is_fixed_dim dims) ids) known
+        ∙ ap (λ b. not b && list_all (is_fixed_dim dims) ids) fixed
+        ∙ shape_fixed dims (before ++ id ∷ []) ids (push_is_some before id) h.1
+
+pub sound_shape : (dims : List Dim) (ids : List ℕ) → 0 < length ids → get_or ids 0 0 < length dims
+    → (IsTrue (list_all (is_fixed_dim dims) (drop 1 ids)) → AreDimids dims [] ids) × (AreDimids dims [] ids → IsTrue (list_all (is_fixed_dim dims) (drop 1 ids)))
+sound_shape dims [] some known = absurd (omega arith)
+sound_shape dims (id ∷ ids) some known =
+    (λ h. (record { known = known; record_first = λ _. refl }, fixed_shape dims (id ∷ []) ids h),
+        λ h. shape_fixed dims (id ∷ []) ids (λ e. cc) h.1)
+
+pub sound_att : (v : Version) (att : Att) → length att.name < count_limit v → IsTrue (has_type v att.ty) → HasWholeValues v att → IsSoundAtt v att
+sound_att v att name ty values = record { name_len = name; ty = ty; count = values.count; counted = values.counted; whole = values.whole }
+
+pub whole_values : (v : Version) (att : Att) → IsSoundAtt v att → HasWholeValues v att
+whole_values v att sound = record { count = sound.count; counted = sound.counted; whole = sound.whole }
+
+whole_part : (n size : ℕ) → n % size ≡ 0 → n ≡ n / size * size
+whole_part n size none = omega (arith, mod-eq-sub-div-mul n size, div-mul-le_self n size)
+
+part_whole : (n size count : ℕ) → 0 < size → n ≡ count * size → (n % size ≡ 0) × (n / size ≡ count)
+part_whole n size count some whole =
+    let part : n / size ≡ count = ap (λ m. m / size) (let e : n ≡ count * size + 0 = omega arith in e) ∙ div-mul-add count size 0 some in
+    let same : n / size * size ≡ count * size = ap (λ m. m * size) part in
+    (omega (arith, mod-eq-sub-div-mul n size, same), part)
+
+pub whole_values-iff : (v : Version) (att : Att) → length att.vals % size_of att.ty ≡ 0
+    → (IsTrue (nat_lt (length att.vals / size_of att.ty) (count_limit v)) → HasWholeValues v att)
+        × (HasWholeValues v att → IsTrue (nat_lt (length att.vals / size_of att.ty) (count_limit v)))
+whole_values-iff v att none =
+    (λ few. record { count = length att.vals / size_of att.ty; counted = ltb-true _ _ few; whole = whole_part (length att.vals) (size_of att.ty) none },
+        λ w. lt-ltb _ _ (subst (λ n. n < count_limit v) (sym (part_whole (length att.vals) (size_of att.ty) w.count (some_size att.ty) w.whole).1) w.counted))
+
+pub values_whole : (v : Version) (att : Att) → HasWholeValues v att → length att.vals % size_of att.ty ≡ 0
+values_whole v att w = (part_whole (length att.vals) (size_of att.ty) w.count (some_size att.ty) w.whole).0
+
+-- at most one dimension of length 0
+pub one_record_dim : (dims : List Dim) → length (filter (λ (dim : Dim). dim.len == 0) dims) ≡ count_by (λ (dim : Dim). dim.len == 0) dims
+one_record_dim dims = length-filter (λ (dim : Dim). dim.len == 0) dims
 
 -- the number of whole records behind the first begin
 between : (size len begin : ℕ) (vars : List Var) → first_begin vars ≡ Some begin → records_between size vars len ≡ (len - begin) / size

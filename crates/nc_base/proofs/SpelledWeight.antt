@@ -3,7 +3,7 @@ use Rattle.std.proofs.Common.{◌≡◌, ℕ, zero, suc, ◌+◌, ◌≤◌, Lis
 use Rattle.std.proofs.lemmas.List.{length-append}
 use Rattle.std.proofs.lemmas.List.Sums.{sum_by-cons}
 use Rattle.std.specs.Int.{Width, w32, to_be_bytes, byte_len, bytes_high_first}
-use Rattle.std.specs.Prelude.{sum}
+use Rattle.std.specs.List.{sum_by}
 use Rattle.nc_base.specs.declared.header.Att.{Att}
 use Rattle.nc_base.specs.declared.header.Dim.{Dim}
 use Rattle.nc_base.specs.declared.header.Header.{Header}
@@ -55,20 +55,20 @@ abbrev pub Takes : {A : Type 0} → ElementSpelling A → (A → ℕ) → Type 0
 Takes {A = A} Element weight = (before : List A) (bytes : List ℕ) (x : A) (rest : List ℕ) → Element before bytes x rest → weight x + length rest ≤ length bytes
 
 each-takes : {A : Type 0} (Element : ElementSpelling A) (weight : A → ℕ) → Takes Element weight
-    → (xs before : List A) (bytes rest : List ℕ) → SpellsEach Element before bytes xs rest → sum (map weight xs) + length rest ≤ length bytes
+    → (xs before : List A) (bytes rest : List ℕ) → SpellsEach Element before bytes xs rest → sum_by weight xs + length rest ≤ length bytes
 each-takes Element weight takes [] before bytes rest each = omega (arith, ap (λ (bs : List ℕ). length bs) each)
 each-takes Element weight takes (x ∷ xs) before bytes rest each =
-    omega (arith, sum_by-cons (λ (n : ℕ). n) (weight x) (map weight xs), takes before bytes x each.0 each.1, each-takes Element weight takes xs (before ++ x ∷ []) each.0 rest each.2)
+    omega (arith, sum_by-cons weight x xs, takes before bytes x each.0 each.1, each-takes Element weight takes xs (before ++ x ∷ []) each.0 rest each.2)
 
 counted-takes : {A : Type 0} (v : Version) (Element : ElementSpelling A) (weight : A → ℕ) → Takes Element weight
-    → (bytes : List ℕ) (xs : List A) (rest : List ℕ) → SpellsCounted v Element bytes xs rest → sum (map weight xs) + length rest ≤ length bytes
+    → (bytes : List ℕ) (xs : List A) (rest : List ℕ) → SpellsCounted v Element bytes xs rest → sum_by weight xs + length rest ≤ length bytes
 counted-takes v Element weight takes bytes xs rest s =
     omega (arith, count-takes v bytes (length xs) s.behind_count s.count.number, each-takes Element weight takes xs [] s.behind_count rest s.each)
 
 list-takes : {A : Type 0} (v : Version) (tag : ℕ) (Element : ElementSpelling A) (weight : A → ℕ) → Takes Element weight
-    → (bytes : List ℕ) (xs : List A) (rest : List ℕ) → SpellsList v tag Element bytes xs rest → sum (map weight xs) + length rest ≤ length bytes
+    → (bytes : List ℕ) (xs : List A) (rest : List ℕ) → SpellsList v tag Element bytes xs rest → sum_by weight xs + length rest ≤ length bytes
 list-takes {A = A} v tag Element weight takes bytes xs rest (absent behind_tag number count none) =
-    omega (arith, ap (λ (ys : List A). sum (map weight ys)) none, number-takes w32 bytes 0 behind_tag number, count-takes v behind_tag 0 rest count.number)
+    omega (arith, ap (λ (ys : List A). sum_by weight ys) none, number-takes w32 bytes 0 behind_tag number, count-takes v behind_tag 0 rest count.number)
 list-takes v tag Element weight takes bytes xs rest (present behind_tag number counted) =
     omega (arith, number-takes w32 bytes tag behind_tag number, counted-takes v Element weight takes behind_tag xs rest counted)
 
@@ -89,7 +89,7 @@ att-takes v before bytes att rest s =
       padded-takes s.behind_count att.vals rest s.values,
     )
 
-atts-take : (v : Version) (bytes : List ℕ) (atts : List Att) (rest : List ℕ) → SpellsAtts v bytes atts rest → sum (map att_weight atts) + length rest ≤ length bytes
+atts-take : (v : Version) (bytes : List ℕ) (atts : List Att) (rest : List ℕ) → SpellsAtts v bytes atts rest → sum_by att_weight atts + length rest ≤ length bytes
 atts-take v bytes atts rest s = list-takes v _ (SpellsAtt v) att_weight (att-takes v) bytes atts rest s
 
 shape-each : (v : Version) (dims : List Dim) (ids before bytes rest : List ℕ) → SpellsEach (SpellsDimid v dims) before bytes ids rest → length ids + length rest ≤ length bytes

@@ -14,3 +14,4 @@ pub mod Escapes
 pub mod HeadText
 pub mod Dump
 pub mod Weight
+pub mod Whole

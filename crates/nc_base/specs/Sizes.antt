@@ -1,5 +1,5 @@
 -- The sizes of a variable's slab and of a record, and the number of records.
-use Rattle.std.specs.Prelude.{ℕ, ◌+◌, ◌-◌, ◌*◌, ◌/◌, ◌^◌, ◌<◌, min, Bool, false, nat_lt, nat_le, ◌==◌, ◌&&◌, if◌then◌else◌, List, [], ◌∷◌, length, map, filter, drop, slice_index, sum, All, Option, Some, None}
+use Rattle.std.specs.Prelude.{ℕ, ◌+◌, ◌-◌, ◌*◌, ◌/◌, ◌^◌, ◌<◌, min, Bool, false, nat_lt, nat_le, ◌==◌, ◌&&◌, not, if◌then◌else◌, List, [], ◌∷◌, length, map, filter, drop, slice_index, sum, All, Option, Some, None}
 use Rattle.std.specs.List.{list_all}
 use Rattle.nc_base.specs.declared.header.Dim.{Dim}
 use Rattle.nc_base.specs.declared.header.Var.{Var}
@@ -102,6 +102,10 @@ HasKnownDims dims ids = All (λ id. id < length dims) ids
 -- so is each dimension id of the header
 abbrev pub HasKnownShapes : Header → Type 0
 HasKnownShapes h = All (λ (var : Var). HasKnownDims h.dims var.dimids) h.vars
+
+-- the id is that of a dimension other than the record dimension
+abbrev pub is_fixed_dim : List Dim → ℕ → Bool
+is_fixed_dim dims id = nat_lt id (length dims) && not (is_record_dim dims id)
 
 -- the bytes of a slab of this shape and type
 abbrev pub slab_of : List Dim → List ℕ → NcType → ℕ

@@ -1,23 +1,23 @@
--- The weight of a header: what it holds.
-use Rattle.std.specs.Prelude.{ℕ, ◌+◌, length, map, sum}
+-- The weight of a header: how much there is to read, to keep and to write of it.
+use Rattle.std.specs.Prelude.{ℕ, ◌+◌, length}
+use Rattle.std.specs.List.{sum_by}
 use Rattle.nc_base.specs.declared.header.Att.{Att}
 use Rattle.nc_base.specs.declared.header.Dim.{Dim}
 use Rattle.nc_base.specs.declared.header.Var.{Var}
 use Rattle.nc_base.specs.declared.header.Header.{Header}
 
--- the bytes of the name, and one for the dimension
+-- one, and one for each byte of the name
 abbrev pub dim_weight : Dim → ℕ
 dim_weight dim = length dim.name + 1
 
--- the bytes of the name and of the values, and one for the attribute
+-- one, and one for each byte of the name and of the values
 abbrev pub att_weight : Att → ℕ
 att_weight att = length att.name + length att.vals + 1
 
--- the bytes of the name, one for each dimension id, the attributes, and one for the variable
+-- one, and one for each byte of the name and each dimension id, and the weights of the attributes
 abbrev pub var_weight : Var → ℕ
-var_weight var = length var.name + length var.dimids + sum (map att_weight var.atts) + 1
+var_weight var = length var.name + length var.dimids + sum_by att_weight var.atts + 1
 
--- The bytes of all names and of all attributes' values, one for each dimension id, and one for each dimension, attribute
--- and variable.
+-- the weights of all dimensions, attributes and variables
 abbrev pub weight_of : Header → ℕ
-weight_of h = sum (map dim_weight h.dims) + sum (map att_weight h.gatts) + sum (map var_weight h.vars)
+weight_of h = sum_by dim_weight h.dims + sum_by att_weight h.gatts + sum_by var_weight h.vars

@@ -17,7 +17,9 @@ mod number;
 mod path;
 mod sequence;
 mod sizes;
+mod sound;
 mod version;
+mod weights;
 
 pub use dataset::Dataset;
 pub use fault::FormatFault;
@@ -30,6 +32,7 @@ pub use path::stem;
 pub use sequence::Sequence;
 pub use sizes::{extent_end, has_records, rec_size, records, slab_bytes, slab_of};
 pub use version::Version;
+pub use weights::weight;
 
 #[cfg(test)]
 mod tests;

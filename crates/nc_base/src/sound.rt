@@ -1,0 +1,162 @@
+//! The limits that the counts and sizes of a header keep.
+
+ghost use Rattle.std.specs.Prelude.{◌≡◌, ◌<◌, ◌≤◌, ◌==◌, ◌↔◌, [], length, filter, IsTrue, All};
+ghost use Rattle.nc_base.specs.Versions.{count_limit};
+ghost use Rattle.std.specs.List.{list_all, count_by};
+ghost use Rattle.nc_base.specs.Sizes.{is_fixed_dim, slab_of, slab_limit, record_size, record_limit};
+ghost use Rattle.nc_base.specs.Headers.{IsSoundNumRecs, IsSoundDim, IsSoundAtt, IsSoundVar, AreDimids};
+ghost use Rattle.nc_base.specs.Whole.{HasWholeValues};
+
+use crate::header::{Att, Dim, Header, NumRecs, Var};
+use crate::nc_type::NcType;
+use crate::sizes::{is_record_dim, rec_size, slab_of};
+use crate::version::Version;
+
+impl Header {
+    ghost use Rattle.nc_base.specs.Headers.{IsSound};
+
+    /// Says whether the header is sound: each count and length is below the version's limit (2^31, and 2^63 in CDF-5),
+    /// each type is one of the version's, each attribute has whole values, each dimension id names a dimension, at most
+    /// one dimension has length 0 and stands first in each shape, no slab passes 2^48 bytes, and the record size doesn't
+    /// pass 2^62 bytes. These are the limits of the NetCDF Classic Format Specification, but for the last two.
+    pub fn sound(&self) -> bool
+        ensures { IsTrue result ↔ IsSound self.now }
+    {
+        let version = self.version;
+        let dims = self.dims.as_slice();
+        is_sound_numrecs(version, self.numrecs)
+            && are_sound_dims(version, dims)
+            && has_one_record_dim(dims)
+            && are_sound_atts(version, self.gatts.as_slice())
+            && has_sound_vars(self)
+    }
+}
+
+/// Says whether the variables are sound, and so is their record size.
+fn has_sound_vars(header: &Header) -> bool
+    ensures { IsTrue result ↔ (length header.now.vars < count_limit header.now.version) × All (IsSoundVar header.now.version header.now.dims) header.now.vars × (record_size header.now ≤ record_limit) }
+{
+    are_sound_vars(header.version, header.dims.as_slice(), header.vars.as_slice())
+        && rec_size(header).is_some()
+}
+
+/// Says whether the version can count the records.
+fn is_sound_numrecs(version: Version, numrecs: NumRecs) -> bool
+    ensures { IsTrue result ↔ IsSoundNumRecs version numrecs }
+{
+    match numrecs {
+        NumRecs::Known(n) => n < version.count_limit(),
+        NumRecs::Streaming => true,
+    }
+}
+
+/// Says whether the version can count so many.
+fn is_countable(version: Version, count: usize) -> bool
+    ensures { IsTrue result ↔ (count < count_limit version) }
+{
+    (count as u64) < version.count_limit()
+}
+
+/// Says whether there are no more dimensions than the version can count, and each is sound.
+fn are_sound_dims(version: Version, dims: &[Dim]) -> bool
+    ensures { IsTrue result ↔ (length dims.now < count_limit version) × All (IsSoundDim version) dims.now }
+{
+    is_countable(version, dims.len()) && dims.iter().all(|dim| is_sound_dim(version, dim))
+}
+
+/// Says whether the version can count the name's bytes and the dimension's length.
+fn is_sound_dim(version: Version, dim: &Dim) -> bool
+    ensures { IsTrue result ↔ IsSoundDim version dim.now }
+{
+    is_countable(version, dim.name.len()) && dim.len < version.count_limit()
+}
+
+/// Says whether at most one dimension is the record dimension.
+fn has_one_record_dim(dims: &[Dim]) -> bool
+    ensures { IsTrue result ↔ (length (filter (λ dim. dim.len == 0) dims.now) ≤ 1) }
+{
+    record_dim_count(dims) <= 1
+}
+
+/// The number of dimensions of length 0.
+fn record_dim_count(dims: &[Dim]) -> usize
+    ensures { result ≡ count_by (λ dim. dim.len == 0) dims.now }
+{
+    dims.iter().filter(|dim| dim.len == 0).count()
+}
+
+/// Says whether there are no more attributes than the version can count, and each is sound.
+fn are_sound_atts(version: Version, atts: &[Att]) -> bool
+    ensures { IsTrue result ↔ (length atts.now < count_limit version) × All (IsSoundAtt version) atts.now }
+{
+    is_countable(version, atts.len()) && atts.iter().all(|att| is_sound_att(version, att))
+}
+
+/// Says whether the attribute's type is one of the version's, and it has whole values that the version can count.
+fn is_sound_att(version: Version, att: &Att) -> bool
+    ensures { IsTrue result ↔ IsSoundAtt version att.now }
+{
+    is_countable(version, att.name.len())
+        && version.has_type(att.ty)
+        && has_whole_values(version, att)
+}
+
+/// Says whether the attribute has whole values that the version can count.
+fn has_whole_values(version: Version, att: &Att) -> bool
+    ensures { IsTrue result ↔ HasWholeValues version att.now }
+{
+    let size = att.ty.size();
+    let bytes = att.vals.len() as u64;
+    bytes % size == 0 && bytes / size < version.count_limit()
+}
+
+/// Says whether there are no more variables than the version can count, and each is sound.
+fn are_sound_vars(version: Version, dims: &[Dim], vars: &[Var]) -> bool
+    ensures { IsTrue result ↔ (length vars.now < count_limit version) × All (IsSoundVar version dims.now) vars.now }
+{
+    is_countable(version, vars.len()) && vars.iter().all(|var| is_sound_var(version, dims, var))
+}
+
+/// Says whether the variable's type is one of the version's, its shape and its attributes are sound, and its slab is no
+/// greater than 2^48 bytes.
+fn is_sound_var(version: Version, dims: &[Dim], var: &Var) -> bool
+    ensures { IsTrue result ↔ IsSoundVar version dims.now var.now }
+{
+    let dimids = var.dimids.as_slice();
+    is_countable(version, var.name.len())
+        && is_countable(version, dimids.len())
+        && version.has_type(var.ty)
+        && are_sound_atts(version, var.atts.as_slice())
+        && has_sound_slab(dims, dimids, var.ty)
+}
+
+/// Says whether a shape is sound, and a slab of it and of this type no greater than 2^48 bytes.
+fn has_sound_slab(dims: &[Dim], dimids: &[u64], ty: NcType) -> bool
+    ensures { IsTrue result ↔ AreDimids dims.now [] dimids.now × (slab_of dims.now dimids.now ty ≤ slab_limit) }
+{
+    is_sound_shape(dims, dimids) && slab_of(dims, dimids, ty).is_some()
+}
+
+/// Says whether each id of a shape names a dimension, and only the first may name the record dimension.
+fn is_sound_shape(dims: &[Dim], dimids: &[u64]) -> bool
+    ensures { IsTrue result ↔ AreDimids dims.now [] dimids.now }
+{
+    match dimids {
+        [] => true,
+        [first, others @ ..] => *first < dims.len() as u64 && are_fixed_dims(dims, others),
+    }
+}
+
+/// Says whether each id names a dimension other than the record dimension.
+fn are_fixed_dims(dims: &[Dim], dimids: &[u64]) -> bool
+    ensures { result ≡ list_all (is_fixed_dim dims.now) dimids.now }
+{
+    dimids.iter().all(|id| is_fixed_dim(dims, *id))
+}
+
+/// Says whether the id names a dimension other than the record dimension.
+fn is_fixed_dim(dims: &[Dim], id: u64) -> bool
+    ensures { result ≡ is_fixed_dim dims.now id }
+{
+    id < dims.len() as u64 && !is_record_dim(dims, id)
+}

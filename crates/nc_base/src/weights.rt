@@ -1,0 +1,73 @@
+//! How much a header holds.
+
+ghost use Rattle.std.specs.Prelude.{◌≡◌, ◌+◌, min};
+ghost use Rattle.std.specs.List.{sum_by};
+ghost use Rattle.nc_base.specs.Weight.{dim_weight, att_weight, var_weight, weight_of};
+
+use crate::header::{Att, Dim, Header, Var};
+
+/// The weight of a header: the bytes of all names and attribute values, plus one for each dimension id, each dimension,
+/// each attribute (of the file and of its variables) and each variable; or the greatest `u128` where that is greater.
+/// Reading, keeping and writing a header takes time and memory in proportion to it.
+pub fn weight(header: &Header) -> u128
+    ensures { result ≡ min (weight_of header.now) u128.MAX }
+{
+    dims_weight(header.dims.as_slice())
+        .saturating_add(atts_weight(header.gatts.as_slice()))
+        .saturating_add(vars_weight(header.vars.as_slice()))
+}
+
+/// The weight of these dimensions.
+fn dims_weight(dims: &[Dim]) -> u128
+    ensures { result ≡ min (sum_by dim_weight dims.now) u128.MAX }
+{
+    let mut total: u128 = 0;
+    for dim in dims {
+        total = total.saturating_add(dim_weight(dim));
+    }
+    total
+}
+
+/// The weight of these attributes.
+fn atts_weight(atts: &[Att]) -> u128
+    ensures { result ≡ min (sum_by att_weight atts.now) u128.MAX }
+{
+    let mut total: u128 = 0;
+    for att in atts {
+        total = total.saturating_add(att_weight(att));
+    }
+    total
+}
+
+/// The weight of these variables.
+fn vars_weight(vars: &[Var]) -> u128
+    ensures { result ≡ min (sum_by var_weight vars.now) u128.MAX }
+{
+    let mut total: u128 = 0;
+    for var in vars {
+        total = total.saturating_add(var_weight(var));
+    }
+    total
+}
+
+/// One, and one for each byte of the name.
+fn dim_weight(dim: &Dim) -> u128
+    ensures { result ≡ dim_weight dim.now }
+{
+    dim.name.len() as u128 + 1
+}
+
+/// One, and one for each byte of the name and of the values.
+fn att_weight(att: &Att) -> u128
+    ensures { result ≡ att_weight att.now }
+{
+    att.name.len() as u128 + att.vals.len() as u128 + 1
+}
+
+/// One, and one for each byte of the name and each dimension id, and the weights of the attributes.
+fn var_weight(var: &Var) -> u128
+    ensures { result ≡ min (var_weight var.now) u128.MAX }
+{
+    let own = var.name.len() as u128 + var.dimids.len() as u128 + 1;
+    own.saturating_add(atts_weight(var.atts.as_slice()))
+}
