@@ -50,10 +50,42 @@ fn dumps_as(
     answer: Result<(), DumpFault>,
     text: &[u8],
 ) {
-    dumps_through(rt, alloc, &mut MemSource::new(bytes), options, &mut [0; 16], answer, text);
-    dumps_through(rt, alloc, &mut MemSource::new(bytes), options, &mut [0; 17], answer, text);
-    dumps_through(rt, alloc, &mut MemSource::new(bytes), options, &mut [0; 31], answer, text);
-    dumps_through(rt, alloc, &mut MemSource::new(bytes), options, &mut [0; 4096], answer, text);
+    dumps_through(
+        rt,
+        alloc,
+        &mut MemSource::new(bytes),
+        options,
+        &mut [0; 16],
+        answer,
+        text,
+    );
+    dumps_through(
+        rt,
+        alloc,
+        &mut MemSource::new(bytes),
+        options,
+        &mut [0; 17],
+        answer,
+        text,
+    );
+    dumps_through(
+        rt,
+        alloc,
+        &mut MemSource::new(bytes),
+        options,
+        &mut [0; 31],
+        answer,
+        text,
+    );
+    dumps_through(
+        rt,
+        alloc,
+        &mut MemSource::new(bytes),
+        options,
+        &mut [0; 4096],
+        answer,
+        text,
+    );
 }
 
 /// The plain dump of bytes in memory.
@@ -89,8 +121,7 @@ fn smallest_file(rt: HostRuntime) -> Result<(), Fail> {
 
 #[test]
 fn text_attribute(rt: HostRuntime) -> Result<(), Fail> {
-    let text =
-        b"netcdf t {\n\n// global attributes:\n\t\t:note = \"a\\n\",\n\t\t\t\"b\\n\" ;\n}\n";
+    let text = b"netcdf t {\n\n// global attributes:\n\t\t:note = \"a\\n\",\n\t\t\t\"b\\n\" ;\n}\n";
     dumps(&rt, rt.alloc(), files::TEXT_ATTRIBUTE, Ok(()), text)?;
     Ok(())
 }
@@ -108,15 +139,31 @@ fn two_records(rt: HostRuntime) -> Result<(), Fail> {
 fn refused_headers(rt: HostRuntime) -> Result<(), Fail> {
     refused(&rt, rt.alloc(), b"", FormatFault::NotNetcdf)?;
     refused(&rt, rt.alloc(), b"CDF", FormatFault::HeaderTruncated)?;
-    refused(&rt, rt.alloc(), files::HOSTILE_COUNT, FormatFault::HeaderTruncated)?;
-    refused(&rt, rt.alloc(), files::TWO_RECORD_DIMS, FormatFault::TwoRecordDims)?;
+    refused(
+        &rt,
+        rt.alloc(),
+        files::HOSTILE_COUNT,
+        FormatFault::HeaderTruncated,
+    )?;
+    refused(
+        &rt,
+        rt.alloc(),
+        files::TWO_RECORD_DIMS,
+        FormatFault::TwoRecordDims,
+    )?;
     refused(&rt, rt.alloc(), files::LARGE_SLAB, FormatFault::TooLarge)?;
     Ok(())
 }
 
 #[test]
 fn values_are_not_yet_shown(rt: HostRuntime) -> Result<(), Fail> {
-    dumps(&rt, rt.alloc(), files::GENERATED, Err(DumpFault::NotYet), b"")?;
+    dumps(
+        &rt,
+        rt.alloc(),
+        files::GENERATED,
+        Err(DumpFault::NotYet),
+        b"",
+    )?;
     Ok(())
 }
 
@@ -125,8 +172,22 @@ fn head_of_a_generated_file(rt: HostRuntime) -> Result<(), Fail> {
     let text = b"netcdf t {\ndimensions:\n\tx = 3 ;\nvariables:\n\tshort s(x) ;\n}\n";
     let options = options(rt.alloc(), true)?;
     dumps_as(&rt, rt.alloc(), files::GENERATED, &options, Ok(()), text);
-    dumps_as(&rt, rt.alloc(), files::GENERATED_CDF2, &options, Ok(()), text);
-    dumps_as(&rt, rt.alloc(), files::GENERATED_CDF5, &options, Ok(()), text);
+    dumps_as(
+        &rt,
+        rt.alloc(),
+        files::GENERATED_CDF2,
+        &options,
+        Ok(()),
+        text,
+    );
+    dumps_as(
+        &rt,
+        rt.alloc(),
+        files::GENERATED_CDF5,
+        &options,
+        Ok(()),
+        text,
+    );
     Ok(())
 }
 
@@ -134,7 +195,14 @@ fn head_of_a_generated_file(rt: HostRuntime) -> Result<(), Fail> {
 fn chosen_names_are_not_yet_known(rt: HostRuntime) -> Result<(), Fail> {
     let mut options = options(rt.alloc(), false)?;
     options.chosen = Some(Sequence::new(rt.alloc()));
-    dumps_as(&rt, rt.alloc(), files::SMALLEST, &options, Err(DumpFault::NotYet), b"");
+    dumps_as(
+        &rt,
+        rt.alloc(),
+        files::SMALLEST,
+        &options,
+        Err(DumpFault::NotYet),
+        b"",
+    );
     dumps_as(
         &rt,
         rt.alloc(),
@@ -154,7 +222,15 @@ fn opened_file(rt: HostRuntime) -> Result<(), Fail> {
     let mut source = FileSource::open(&rt, path)?;
     fs::remove_file(&rt, path)?;
     let text = b"netcdf t {\ndimensions:\n\tt = UNLIMITED ; // (2 currently)\n}\n";
-    dumps_through(&rt, rt.alloc(), &mut source, &options, &mut [0; 16], Ok(()), text);
+    dumps_through(
+        &rt,
+        rt.alloc(),
+        &mut source,
+        &options,
+        &mut [0; 16],
+        Ok(()),
+        text,
+    );
     assert!(rt; FileSource::open(&rt, "nothing.nc").is_err());
     Ok(())
 }

@@ -10,13 +10,7 @@ use std::process::Abort;
 use std::test::Fail;
 
 /// Reads the header through this buffer, and asserts that its first wrong field has this fault.
-fn refused_through(
-    rt: &impl Abort,
-    alloc: Global,
-    bytes: &[u8],
-    fault: FormatFault,
-    buf: &mut [u8],
-)
+fn refused_through(rt: &impl Abort, alloc: Global, bytes: &[u8], fault: FormatFault, buf: &mut [u8])
     requires { 16 ≤ length buf.old }
 {
     let answer = read_header(alloc, &mut MemSource::new(bytes), buf);
@@ -105,7 +99,14 @@ fn padding_and_vsize_are_free(rt: HostRuntime) -> Result<(), Fail> {
 #[test]
 fn no_netcdf_file(rt: HostRuntime) -> Result<(), Fail> {
     refused(&rt, rt.alloc(), b"", FormatFault::NotNetcdf);
-    refused_changed(&rt, rt.alloc(), files::GENERATED, 0, 0x44, FormatFault::NotNetcdf)?;
+    refused_changed(
+        &rt,
+        rt.alloc(),
+        files::GENERATED,
+        0,
+        0x44,
+        FormatFault::NotNetcdf,
+    )?;
     refused(&rt, rt.alloc(), b"CDF", FormatFault::HeaderTruncated);
     Ok(())
 }
@@ -114,8 +115,22 @@ fn no_netcdf_file(rt: HostRuntime) -> Result<(), Fail> {
 fn other_versions(rt: HostRuntime) -> Result<(), Fail> {
     // As CDF-5 the number of records takes the first tag, and the next is 1.
     refused_changed(&rt, rt.alloc(), files::GENERATED, 3, 5, FormatFault::BadTag)?;
-    refused_changed(&rt, rt.alloc(), files::GENERATED, 3, 6, FormatFault::UnknownVersion(6))?;
-    refused_changed(&rt, rt.alloc(), files::GENERATED, 3, 0, FormatFault::UnknownVersion(0))?;
+    refused_changed(
+        &rt,
+        rt.alloc(),
+        files::GENERATED,
+        3,
+        6,
+        FormatFault::UnknownVersion(6),
+    )?;
+    refused_changed(
+        &rt,
+        rt.alloc(),
+        files::GENERATED,
+        3,
+        0,
+        FormatFault::UnknownVersion(0),
+    )?;
     Ok(())
 }
 
@@ -138,25 +153,54 @@ fn changed_headers(rt: HostRuntime) -> Result<(), Fail> {
     refused_changed(&rt, rt.alloc(), file, 56, 0x80, FormatFault::BadShape)?;
     // An offset with its top bit set.
     refused_changed(&rt, rt.alloc(), file, 76, 0x80, FormatFault::BadOffset)?;
-    refused_changed(&rt, rt.alloc(), files::GENERATED_CDF2, 76, 0x80, FormatFault::BadOffset)?;
+    refused_changed(
+        &rt,
+        rt.alloc(),
+        files::GENERATED_CDF2,
+        76,
+        0x80,
+        FormatFault::BadOffset,
+    )?;
     Ok(())
 }
 
 #[test]
 fn cdf5_headers(rt: HostRuntime) -> Result<(), Fail> {
-    refused_changed(&rt, rt.alloc(), files::SMALLEST_CDF5, 4, 0x80, FormatFault::BadCount)?;
-    refused(&rt, rt.alloc(), files::HOSTILE_COUNT_CDF5, FormatFault::HeaderTruncated);
+    refused_changed(
+        &rt,
+        rt.alloc(),
+        files::SMALLEST_CDF5,
+        4,
+        0x80,
+        FormatFault::BadCount,
+    )?;
+    refused(
+        &rt,
+        rt.alloc(),
+        files::HOSTILE_COUNT_CDF5,
+        FormatFault::HeaderTruncated,
+    );
     Ok(())
 }
 
 #[test]
 fn hostile_count(rt: HostRuntime) {
-    refused(&rt, rt.alloc(), files::HOSTILE_COUNT, FormatFault::HeaderTruncated);
+    refused(
+        &rt,
+        rt.alloc(),
+        files::HOSTILE_COUNT,
+        FormatFault::HeaderTruncated,
+    );
 }
 
 #[test]
 fn two_record_dimensions(rt: HostRuntime) {
-    refused(&rt, rt.alloc(), files::TWO_RECORD_DIMS, FormatFault::TwoRecordDims);
+    refused(
+        &rt,
+        rt.alloc(),
+        files::TWO_RECORD_DIMS,
+        FormatFault::TwoRecordDims,
+    );
 }
 
 #[test]
@@ -185,6 +229,12 @@ fn truncated_headers(rt: HostRuntime) {
 #[test]
 fn headers_without_data(rt: HostRuntime) -> Result<(), Fail> {
     generated(&rt, rt.alloc(), &files::GENERATED[..80], Version::Cdf1, 80)?;
-    generated(&rt, rt.alloc(), &files::GENERATED_CDF5[..128], Version::Cdf5, 128)?;
+    generated(
+        &rt,
+        rt.alloc(),
+        &files::GENERATED_CDF5[..128],
+        Version::Cdf5,
+        128,
+    )?;
     Ok(())
 }

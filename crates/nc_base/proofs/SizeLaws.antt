@@ -1,17 +1,17 @@
 -- The sizes of slabs and of records.
-use Rattle.std.proofs.Common.{◌≡◌, ℕ, zero, suc, ◌+◌, ◌*◌, ◌<◌, ◌≤◌, ◌⊎◌, inl, inr, min, Bool, true, false, ◌&&◌, cond, List, [], ◌∷◌, ◌++◌, length, get_or, drop, take, map, refl, sym, ◌∙◌, ap, subst, arith, drop-cons, sum, Option, Some, None, filter}
-use Rattle.std.specs.Prelude.{nat_le, ◌==◌, if◌then◌else◌}
+use Rattle.std.proofs.Common.{◌≡◌, ℕ, zero, suc, ◌+◌, ◌*◌, ◌<◌, ◌≤◌, inl, inr, min, Bool, true, false, ◌&&◌, cond, List, [], ◌∷◌, ◌++◌, length, get_or, drop, take, map, refl, sym, ◌∙◌, ap, subst, arith, drop-cons, Some, None, filter}
+use Rattle.std.specs.Prelude.{nat_le, if◌then◌else◌}
 use Rattle.std.specs.List.{list_all}
 use Rattle.std.proofs.Math.ListN.{drop_of_length-le, take-append-drop}
 use Rattle.std.proofs.Math.Nat.{mul-le-mul_left}
 use Rattle.std.proofs.lemmas.Bool.{cases_lt, le-leb}
 use Rattle.std.proofs.lemmas.Bool.Decides.{leb_tells}
-use Rattle.std.proofs.lemmas.List.{append-nil, take_all}
+use Rattle.std.proofs.lemmas.List.{append-nil}
 use Rattle.std.proofs.lemmas.List.Elements.{filter_more, filter-append}
 use Rattle.std.proofs.lemmas.List.Folds.{list_all-append}
 use Rattle.std.proofs.lemmas.List.Sums.{sum-map, sum_by_push}
 use Rattle.nc_base.specs.Bytes.{padding_len}
-use Rattle.nc_base.specs.Sizes.{dim_len, product, is_record_var, is_narrow, slab_size, padded_size, padded_total, packed_size, record_vars, record_size, slab_limit, record_limit, has_small_slab, checked_record_size, least_begin, first_begin, lesser}
+use Rattle.nc_base.specs.Sizes.{product, is_record_var, is_narrow, slab_size, padded_size, padded_total, packed_size, record_vars, record_size, slab_limit, record_limit, has_small_slab, checked_record_size, least_begin, first_begin, lesser}
 use Rattle.nc_base.specs.declared.header.Dim.{Dim}
 use Rattle.nc_base.specs.declared.header.Var.{Var}
 use Rattle.nc_base.specs.declared.header.Header.{Header}
@@ -21,12 +21,12 @@ pub min-mul : (a b c : ℕ) → min (min a c * b) c ≡ min (a * b) c
 min-mul a zero c = omega arith
 min-mul a (suc b) c =
     elim (cases_lt a c) [
-    | inl below ↦ let e : min a c ≡ a = omega arith in ap (λ n. min (n * suc b) c) e
-    | inr above ↦
-        let e : min a c ≡ c = omega arith in
-        let low : c ≤ c * suc b = omega (arith, mul-le-mul_left c (let h : 1 ≤ suc b = omega arith in h)) in
-        let high : c ≤ a * suc b = omega (arith, mul-le-mul_left a (let h : 1 ≤ suc b = omega arith in h)) in
-        ap (λ n. min (n * suc b) c) e ∙ omega (arith, low, high)
+      | inl below ↦ let e : min a c ≡ a = omega arith in ap (λ n. min (n * suc b) c) e
+      | inr above ↦
+          let e : min a c ≡ c = omega arith in
+          let low : c ≤ c * suc b = omega (arith, mul-le-mul_left c (let h : 1 ≤ suc b = omega arith in h)) in
+          let high : c ≤ a * suc b = omega (arith, mul-le-mul_left a (let h : 1 ≤ suc b = omega arith in h)) in
+          ap (λ n. min (n * suc b) c) e ∙ omega (arith, low, high)
     ]
 
 -- one more length of a capped product
@@ -118,7 +118,7 @@ sums_skipped dims vars i size padded is_first d lt fixed sums =
       first_is = sums.first_is ∙ ap is_none (sym e);
       small = ap (list_all (has_small_slab dims)) e ∙ sums.small;
       bound = omega (arith, sums.bound);
-      size_bound = omega (arith, sums.size_bound)
+      size_bound = omega (arith, sums.size_bound);
     }
 
 -- one more record variable, whose slab keeps the limit
@@ -133,15 +133,15 @@ sums_more dims vars i size padded size' padded' is_first d lt growing fits padde
     let padded_bound : padded' ≤ padded + 281474976710660 = omega (arith, padded_is, fits) in
     record {
       size_is = size_is
-        ∙ ap (λ n. if is_first && is_narrow x then slab_size dims x else n) (padded_is ∙ ap (λ n. n + padded_size dims x) sums.padded_is)
-        ∙ ap (λ b. if b && is_narrow x then slab_size dims x else (padded_total dims (seen dims vars i) + padded_size dims x)) sums.first_is
-        ∙ sym (packed_size-append dims (seen dims vars i) x)
-        ∙ ap (packed_size dims) (sym e);
+          ∙ ap (λ n. if is_first && is_narrow x then slab_size dims x else n) (padded_is ∙ ap (λ n. n + padded_size dims x) sums.padded_is)
+          ∙ ap (λ b. if b && is_narrow x then slab_size dims x else (padded_total dims (seen dims vars i) + padded_size dims x)) sums.first_is
+          ∙ sym (packed_size-append dims (seen dims vars i) x)
+          ∙ ap (packed_size dims) (sym e);
       padded_is = padded_is ∙ ap (λ n. n + padded_size dims x) sums.padded_is ∙ sym (padded_total-append dims (seen dims vars i) x) ∙ ap (padded_total dims) (sym e);
       first_is = sym (is_none-push (seen dims vars i) x) ∙ ap is_none (sym e);
       small = ap (list_all (has_small_slab dims)) e ∙ list_all-append (has_small_slab dims) (seen dims vars i) (x ∷ []) ∙ both_pass _ _ sums.small (le-leb _ _ fits);
       bound = omega (arith, padded_bound, sums.bound);
-      size_bound = omega (arith, padded_bound, sums.bound, size_is, picked-le (is_first && is_narrow x) (slab_size dims x) padded' padded' (omega (arith, padded_is)) (omega arith))
+      size_bound = omega (arith, padded_bound, sums.bound, size_is, picked-le (is_first && is_narrow x) (slab_size dims x) padded' padded' (omega (arith, padded_is)) (omega arith));
     }
 
 middle_fails : (a b c : Bool) → b ≡ false → ((a && (b && true)) && c) ≡ false
@@ -155,14 +155,14 @@ fails_along : (p test : Var → Bool) (xs : List Var) (i : ℕ) (d : Var) → i 
 fails_along p test xs i d lt kept fails =
     let x = get_or xs i d in
     let front : filter p (take (i + 1) xs) ≡ filter p (take i xs) ++ x ∷ [] =
-        filter_more p xs i d lt ∙ ap (λ b. filter p (take i xs) ++ cond b (x ∷ []) []) kept in
+    filter_more p xs i d lt ∙ ap (λ b. filter p (take i xs) ++ cond b (x ∷ []) []) kept in
     let whole : filter p xs ≡ (filter p (take i xs) ++ x ∷ []) ++ filter p (drop (i + 1) xs) =
-        ap (filter p) (sym (take-append-drop (i + 1) xs)) ∙ filter-append p (take (i + 1) xs) (drop (i + 1) xs)
-        ∙ ap (λ (ys : List Var). ys ++ filter p (drop (i + 1) xs)) front in
+    ap (filter p) (sym (take-append-drop (i + 1) xs)) ∙ filter-append p (take (i + 1) xs) (drop (i + 1) xs)
+    ∙ ap (λ (ys : List Var). ys ++ filter p (drop (i + 1) xs)) front in
     ap (list_all test) whole
-        ∙ list_all-append test (filter p (take i xs) ++ x ∷ []) (filter p (drop (i + 1) xs))
-        ∙ ap (λ b. b && list_all test (filter p (drop (i + 1) xs))) (list_all-append test (filter p (take i xs)) (x ∷ []))
-        ∙ middle_fails _ _ _ fails
+    ∙ list_all-append test (filter p (take i xs) ++ x ∷ []) (filter p (drop (i + 1) xs))
+    ∙ ap (λ b. b && list_all test (filter p (drop (i + 1) xs))) (list_all-append test (filter p (take i xs)) (x ∷ []))
+    ∙ middle_fails _ _ _ fails
 
 -- a record variable whose slab passes the limit leaves no record size
 pub checked-none : (h : Header) (i : ℕ) (d : Var) → i < length h.vars → is_record_var h.dims (get_or h.vars i d) ≡ true
@@ -182,10 +182,10 @@ pub sums_more_at : (dims : List Dim) (vars : List Var) (i size padded size' padd
     → AreSums dims vars i size padded is_first → AreSums dims vars (i + 1) size' padded' false
 sums_more_at dims vars i size padded size' padded' slab is_first x lt at growing fits slab_is padded_is size_is sums =
     let Q : Var → Type 0 = λ v. is_record_var dims v ≡ true → slab_size dims v ≤ slab_limit → padded' ≡ padded + padded_size dims v
-        → size' ≡ (if is_first && is_narrow v then slab_size dims v else padded') → AreSums dims vars (i + 1) size' padded' false in
+    → size' ≡ (if is_first && is_narrow v then slab_size dims v else padded') → AreSums dims vars (i + 1) size' padded' false in
     subst Q (sym at) (λ a b e f. sums_more dims vars i size padded size' padded' is_first x lt a b e f sums)
-        growing (omega (arith, slab_is)) (padded_is ∙ ap (λ n. padded + (n + padding_len n)) slab_is)
-        (size_is ∙ ap (λ n. if is_first && is_narrow x then n else padded') slab_is)
+    growing (omega (arith, slab_is)) (padded_is ∙ ap (λ n. padded + (n + padding_len n)) slab_is)
+    (size_is ∙ ap (λ n. if is_first && is_narrow x then n else padded') slab_is)
 
 pub sums_skipped_at : (dims : List Dim) (vars : List Var) (i size padded : ℕ) (is_first : Bool) (x : Var) → i < length vars
     → x ≡ get_or vars i x → is_record_var dims x ≡ false → AreSums dims vars i size padded is_first → AreSums dims vars (i + 1) size padded is_first
@@ -210,7 +210,7 @@ pub first_begin_more : (dims : List Dim) (vars : List Var) (i : ℕ) (x : Var) �
     → is_record_var dims x ≡ true → first_begin (seen dims vars (i + 1)) ≡ Some (lesser (first_begin (seen dims vars i)) x.begin_at)
 first_begin_more dims vars i x lt at growing =
     ap first_begin (seen_more dims vars i x lt (ap (is_record_var dims) (sym at) ∙ growing) ∙ ap (λ (v : Var). seen dims vars i ++ v ∷ []) (sym at))
-        ∙ first_begin-push (seen dims vars i) x
+    ∙ first_begin-push (seen dims vars i) x
 
 pub seen_skipped_at : (dims : List Dim) (vars : List Var) (i : ℕ) (x : Var) → i < length vars → x ≡ get_or vars i x
     → is_record_var dims x ≡ false → seen dims vars (i + 1) ≡ seen dims vars i

@@ -1,5 +1,5 @@
 -- What a sound header keeps.
-use Rattle.std.proofs.Common.{◌≡◌, ℕ, zero, suc, ◌+◌, ◌*◌, ◌/◌, ◌%◌, ◌<◌, ◌≤◌, ◌⊎◌, inl, inr, min, Bool, true, false, ◌&&◌, cond, List, [], ◌∷◌, ◌++◌, length, get_or, drop, take, map, refl, sym, ◌∙◌, ap, subst, arith, sum, Option, Some, None, filter}
+use Rattle.std.proofs.Common.{◌≡◌, ℕ, ◌+◌, ◌*◌, ◌/◌, ◌%◌, ◌<◌, ◌≤◌, Bool, true, false, ◌&&◌, List, [], ◌∷◌, ◌++◌, length, get_or, drop, map, refl, sym, ◌∙◌, ap, subst, arith, Option, Some, None, filter}
 use Rattle.std.specs.Prelude.{nat_le, nat_lt, ◌==◌, not, if◌then◌else◌, IsTrue, All, IsSome, SomeIff, is_some}
 use Rattle.std.specs.List.{list_all, count_by}
 use Rattle.std.proofs.Math.Nat.{mul-le-mul_left, mod-eq-sub-div-mul, div-mul-le_self}
@@ -10,9 +10,8 @@ use Rattle.std.proofs.lemmas.Bool.Decides.{nat_tests}
 use Rattle.std.proofs.lemmas.List.Elements.{All-filter, All-head, All-tail, All-cons, All-nil, All-weaker, All-get_or, All-map}
 use Rattle.std.proofs.lemmas.List.Sums.{sum-map, sum_by-cons, length-filter}
 use Rattle.nc_base.specs.Types.{size_of}
-use Rattle.nc_base.specs.Bytes.{padding_len}
-use Rattle.nc_base.specs.Sizes.{dim_len, product, has_records, is_record_dim, is_record_var, is_narrow, slab_lens, slab_size, padded_size, padded_total, packed_size, record_vars, record_size, slab_limit, record_limit, has_small_slab, checked_record_size, HasKnownDims, HasKnownShapes, first_begin, slab_at, is_fixed_dim}
-use Rattle.nc_base.specs.Headers.{IsSound, IsSoundVar, IsSoundAtt, AreDimids, IsDimid}
+use Rattle.nc_base.specs.Sizes.{dim_len, product, is_record_dim, is_record_var, is_narrow, slab_lens, slab_size, padded_size, packed_size, record_vars, record_size, slab_limit, record_limit, has_small_slab, checked_record_size, HasKnownDims, HasKnownShapes, first_begin, slab_at, is_fixed_dim}
+use Rattle.nc_base.specs.Headers.{IsSound, IsSoundVar, IsSoundAtt, AreDimids}
 use Rattle.nc_base.specs.declared.nc_type.NcType.{NcType}
 use Rattle.nc_base.specs.declared.nc_type.NcType.TheVariants.{Byte, Char, Short, Int, Ubyte, Ushort, Uint, Int64, Uint64}
 use Rattle.nc_base.specs.declared.version.Version.{Version}
@@ -48,7 +47,7 @@ HasKnownDims-from_AreDimids dims before (id ∷ ids) h =
 pub HasKnownShapes-from_All : (h : Header) → All (IsSoundVar h.version h.dims) h.vars → HasKnownShapes h
 HasKnownShapes-from_All h vars =
     All-weaker (IsSoundVar h.version h.dims) (λ (var : Var). HasKnownDims h.dims var.dimids)
-        (λ var s. HasKnownDims-from_AreDimids h.dims [] var.dimids s.shape) h.vars vars
+    (λ var s. HasKnownDims-from_AreDimids h.dims [] var.dimids s.shape) h.vars vars
 
 pub HasKnownShapes-from_IsSound : (h : Header) → IsSound h → HasKnownShapes h
 HasKnownShapes-from_IsSound h sound = HasKnownShapes-from_All h sound.vars
@@ -64,10 +63,10 @@ all_pass p test xs h = passes test (filter p xs) (All-filter p (λ (x : Var). te
 pub checked-small : (h : Header) → All (IsSoundVar h.version h.dims) h.vars → record_size h ≤ record_limit → checked_record_size h ≡ Some (record_size h)
 checked-small h vars small =
     let fits : list_all (has_small_slab h.dims) (record_vars h.dims h.vars) ≡ true =
-        all_pass (is_record_var h.dims) (has_small_slab h.dims) h.vars
-            (All-weaker (IsSoundVar h.version h.dims) (λ (var : Var). has_small_slab h.dims var ≡ true) (λ var s. le-leb _ _ s.slab) h.vars vars) in
+    all_pass (is_record_var h.dims) (has_small_slab h.dims) h.vars
+    (All-weaker (IsSoundVar h.version h.dims) (λ (var : Var). has_small_slab h.dims var ≡ true) (λ var s. le-leb _ _ s.slab) h.vars vars) in
     ap (λ b. if b && nat_le (record_size h) record_limit then Some (record_size h) else None) fits
-        ∙ ap (λ b. if b then Some (record_size h) else None) (le-leb _ _ small)
+    ∙ ap (λ b. if b then Some (record_size h) else None) (le-leb _ _ small)
 
 -- a sound header has a record size
 pub checked-sound : (h : Header) → IsSound h → checked_record_size h ≡ Some (record_size h)
@@ -81,7 +80,7 @@ last_passes false b n h = cc
 pub small-checked : (h : Header) → is_some (checked_record_size h) ≡ true → record_size h ≤ record_limit
 small-checked h some =
     leb-true (record_size h) record_limit
-        (last_passes (list_all (has_small_slab h.dims) (record_vars h.dims h.vars)) (nat_le (record_size h) record_limit) (record_size h) some)
+    (last_passes (list_all (has_small_slab h.dims) (record_vars h.dims h.vars)) (nat_le (record_size h) record_limit) (record_size h) some)
 
 fixed_len : (a b n : ℕ) → a < b → (nat_lt a b && (n == 0)) ≡ false → 0 < n
 fixed_len a b n lt h = grind (arith, nat_tests)
@@ -103,7 +102,7 @@ some_later dims before [] some h = omega arith
 some_later dims before (id ∷ ids) some h =
     let fixed = later_len (is_record_dim dims id) before some h.0.record_first in
     some_product (dim_len dims id) _ (fixed_len id (length dims) (dim_len dims id) h.0.known fixed)
-        (some_later dims (before ++ id ∷ []) ids (push_is_some before id) h.1)
+    (some_later dims (before ++ id ∷ []) ids (push_is_some before id) h.1)
 
 first_place : (dims : List Dim) (id : ℕ) (ids : List ℕ) → id < length dims → 0 < product (map (dim_len dims) ids)
     → (b : Bool) → is_record_dim dims id ≡ b → 0 < product (map (dim_len dims) (if b then ids else (id ∷ ids)))
@@ -150,8 +149,8 @@ some_record h sound some =
 pub slab_at-small : (h : Header) (v : ℕ) → IsSound h → v < length h.vars → slab_at h v ≤ slab_limit
 slab_at-small h v sound lt =
     All-get_or (λ n. n ≤ slab_limit) (map (slab_size h.dims) h.vars) v 0 (omega (arith, length-map h.vars (slab_size h.dims)))
-        (All-map (λ n. n ≤ slab_limit) (slab_size h.dims) h.vars
-            (All-weaker (IsSoundVar h.version h.dims) (λ (var : Var). slab_size h.dims var ≤ slab_limit) (λ var s. s.slab) h.vars sound.vars))
+    (All-map (λ n. n ≤ slab_limit) (slab_size h.dims) h.vars
+    (All-weaker (IsSoundVar h.version h.dims) (λ (var : Var). slab_size h.dims var ≤ slab_limit) (λ var s. s.slab) h.vars sound.vars))
 
 pub IsSome-from_SomeIff : (o : Option ℕ) (P : Type 0) (n : ℕ) → SomeIff o P n → P → IsSome o
 IsSome-from_SomeIff None P n h p = absurd (h p)
@@ -163,9 +162,10 @@ fixed_shape dims before [] h = tt
 fixed_shape dims before (id ∷ ids) h =
     let here : is_fixed_dim dims id ≡ true = and_first (is_fixed_dim dims id) _ h in
     let known : nat_lt id (length dims) ≡ true = and_first (nat_lt id (length dims)) _ here in
-    let fixed : not (is_record_dim dims id) ≡ true = and_second (nat_lt id (length dims)) _ here in
-    (record { known = ltb-true id (length dims) known; record_first = λ is. absurd (not_both (is_record_dim dims id) fixed is) },
-        fixed_shape dims (before ++ id ∷ []) ids (and_second (is_fixed_dim dims id) _ h))
+    let fixed : not (is_record_dim dims id) ≡ true = and_second (nat_lt id (length dims)) _ here in (
+      record { known = ltb-true id (length dims) known; record_first = λ is. absurd (not_both (is_record_dim dims id) fixed is) },
+      fixed_shape dims (before ++ id ∷ []) ids (and_second (is_fixed_dim dims id) _ h),
+    )
 
 shape_fixed : (dims : List Dim) (before ids : List ℕ) → (before ≡ [] → ⊥) → AreDimids dims before ids → list_all (is_fixed_dim dims) ids ≡ true
 shape_fixed dims before [] some h = refl
@@ -173,15 +173,16 @@ shape_fixed dims before (id ∷ ids) some h =
     let fixed : is_record_dim dims id ≡ false = later_len (is_record_dim dims id) before some h.0.record_first in
     let known : nat_lt id (length dims) ≡ true = lt-ltb id (length dims) h.0.known in
     ap (λ b. (b && not (is_record_dim dims id)) && list_all (is_fixed_dim dims) ids) known
-        ∙ ap (λ b. not b && list_all (is_fixed_dim dims) ids) fixed
-        ∙ shape_fixed dims (before ++ id ∷ []) ids (push_is_some before id) h.1
+    ∙ ap (λ b. not b && list_all (is_fixed_dim dims) ids) fixed
+    ∙ shape_fixed dims (before ++ id ∷ []) ids (push_is_some before id) h.1
 
 pub sound_shape : (dims : List Dim) (ids : List ℕ) → 0 < length ids → get_or ids 0 0 < length dims
     → (IsTrue (list_all (is_fixed_dim dims) (drop 1 ids)) → AreDimids dims [] ids) × (AreDimids dims [] ids → IsTrue (list_all (is_fixed_dim dims) (drop 1 ids)))
 sound_shape dims [] some known = absurd (omega arith)
-sound_shape dims (id ∷ ids) some known =
-    (λ h. (record { known = known; record_first = λ _. refl }, fixed_shape dims (id ∷ []) ids h),
-        λ h. shape_fixed dims (id ∷ []) ids (λ e. cc) h.1)
+sound_shape dims (id ∷ ids) some known = (
+  λ h. (record { known = known; record_first = λ _. refl }, fixed_shape dims (id ∷ []) ids h),
+  λ h. shape_fixed dims (id ∷ []) ids (λ e. cc) h.1,
+)
 
 pub sound_att : (v : Version) (att : Att) → length att.name < count_limit v → IsTrue (has_type v att.ty) → HasWholeValues v att → IsSoundAtt v att
 sound_att v att name ty values = record { name_len = name; ty = ty; count = values.count; counted = values.counted; whole = values.whole }
@@ -200,10 +201,11 @@ part_whole n size count some whole =
 
 pub whole_values-iff : (v : Version) (att : Att) → length att.vals % size_of att.ty ≡ 0
     → (IsTrue (nat_lt (length att.vals / size_of att.ty) (count_limit v)) → HasWholeValues v att)
-        × (HasWholeValues v att → IsTrue (nat_lt (length att.vals / size_of att.ty) (count_limit v)))
-whole_values-iff v att none =
-    (λ few. record { count = length att.vals / size_of att.ty; counted = ltb-true _ _ few; whole = whole_part (length att.vals) (size_of att.ty) none },
-        λ w. lt-ltb _ _ (subst (λ n. n < count_limit v) (sym (part_whole (length att.vals) (size_of att.ty) w.count (some_size att.ty) w.whole).1) w.counted))
+    × (HasWholeValues v att → IsTrue (nat_lt (length att.vals / size_of att.ty) (count_limit v)))
+whole_values-iff v att none = (
+  λ few. record { count = length att.vals / size_of att.ty; counted = ltb-true _ _ few; whole = whole_part (length att.vals) (size_of att.ty) none },
+  λ w. lt-ltb _ _ (subst (λ n. n < count_limit v) (sym (part_whole (length att.vals) (size_of att.ty) w.count (some_size att.ty) w.whole).1) w.counted),
+)
 
 pub values_whole : (v : Version) (att : Att) → HasWholeValues v att → length att.vals % size_of att.ty ≡ 0
 values_whole v att w = (part_whole (length att.vals) (size_of att.ty) w.count (some_size att.ty) w.whole).0
@@ -222,5 +224,5 @@ pub streamed : (h : Header) (len begin quotient : ℕ) (size : Option ℕ) → h
     → size ≡ checked_record_size h → IfSome size (λ s. quotient ≡ (len - begin) / s) → IsSound h → quotient ≡ record_count h len
 streamed h len begin quotient size streaming found is_size divided sound =
     subst (λ (s : Option ℕ). IfSome s (λ n. quotient ≡ (len - begin) / n)) (is_size ∙ checked-sound h sound) divided
-        ∙ sym (between (record_size h) len begin (record_vars h.dims h.vars) found)
-        ∙ subst (λ (n : NumRecs). records_between (record_size h) (record_vars h.dims h.vars) len ≡ record_count (record h { numrecs = n }) len) (sym streaming) refl
+    ∙ sym (between (record_size h) len begin (record_vars h.dims h.vars) found)
+    ∙ subst (λ (n : NumRecs). records_between (record_size h) (record_vars h.dims h.vars) len ≡ record_count (record h { numrecs = n }) len) (sym streaming) refl

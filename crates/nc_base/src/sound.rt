@@ -36,8 +36,11 @@ impl Header {
 fn has_sound_vars(header: &Header) -> bool
     ensures { IsTrue result ↔ (length header.now.vars < count_limit header.now.version) × All (IsSoundVar header.now.version header.now.dims) header.now.vars × (record_size header.now ≤ record_limit) }
 {
-    are_sound_vars(header.version, header.dims.as_slice(), header.vars.as_slice())
-        && rec_size(header).is_some()
+    are_sound_vars(
+        header.version,
+        header.dims.as_slice(),
+        header.vars.as_slice(),
+    ) && rec_size(header).is_some()
 }
 
 /// Says whether the version can count the records.

@@ -1,10 +1,10 @@
 -- Reading many bytes at once is reading them one after the other.
-use Rattle.std.proofs.Common.{◌≡◌, ℕ, zero, suc, ◌+◌, ◌-◌, ◌<◌, ◌≤◌, List, [], ◌∷◌, ◌++◌, length, take, drop, Bool, true, false, Result, Ok, Err, refl, sym, ap, ◌∙◌, append_assoc, arith}
+use Rattle.std.proofs.Common.{◌≡◌, ℕ, zero, suc, ◌+◌, ◌-◌, ◌<◌, ◌≤◌, List, [], ◌∷◌, ◌++◌, length, take, drop, Bool, true, false, Ok, Err, refl, sym, ap, ◌∙◌, append_assoc, arith}
 use Rattle.std.proofs.Math.Nat.{sub-zero}
 use Rattle.std.proofs.lemmas.List.{append-nil, drop-drop, drop-take, take-take, length-take, length-drop}
 use Rattle.nc_base.specs.declared.fault.FormatFault.TheVariants.{HeaderTruncated}
 use Rattle.nc_file.specs.declared.head_fault.HeadFault.TheVariants.{Format}
-use Rattle.nc_file.specs.Reading.{Outcome, left_over, ◌>>=◌, done, byte_or, byte_at, bytes_at}
+use Rattle.nc_file.specs.Reading.{left_over, ◌>>=◌, done, byte_or, bytes_at}
 use Rattle.std.specs.Bool.{OnTrue}
 use Rattle.nc_file.specs.Window.{State, left, IsOpen, Ready}
 use Rattle.nc_file.proofs.Parts.{left_over-ok, left_over-err}

@@ -1,13 +1,13 @@
 -- Bytes, numbers, names and types are read as the grammar says.
-use Rattle.std.proofs.Common.{◌≡◌, ◌≢◌, ℕ, zero, suc, ◌+◌, ◌-◌, ◌*◌, ◌^◌, ◌<◌, ◌≤◌, Bool, true, false, cond, leb, List, [], ◌∷◌, ◌++◌, length, get_or, inl, inr, Option, Some, None, Result, Ok, Err, refl, sym, ap, subst, ◌∙◌, append_assoc, arith, add-one, take}
+use Rattle.std.proofs.Common.{◌≡◌, ◌≢◌, ℕ, zero, suc, ◌<◌, Bool, true, false, cond, leb, List, [], ◌∷◌, ◌++◌, length, inl, inr, Option, Some, None, refl, sym, ap, subst, ◌∙◌, append_assoc, arith, take}
 use Rattle.std.proofs.lemmas.Bool.{cases_lt, leb-false, leb-true, eqb-true, eqb-false}
-use Rattle.std.proofs.lemmas.List.{append-nil, length-append, get_or-take, get_or_past, length-take}
+use Rattle.std.proofs.lemmas.List.{append-nil, get_or-take, get_or_past, length-take}
 use Rattle.std.proofs.lemmas.Nat.{be_bytes_4, be_bytes_8}
-use Rattle.std.specs.Int.{Width, w32, w64, to_be_bytes, from_be_bytes, byte_len}
+use Rattle.std.specs.Int.{Width, w32, w64, to_be_bytes, from_be_bytes}
 use Rattle.std.specs.List.{AllByRecursion}
 use Rattle.std.specs.Prelude.{◌==◌, ◌||◌, ◌⊎◌, find, if◌then◌else◌}
 use Rattle.nc_base.specs.declared.fault.FormatFault.{FormatFault}
-use Rattle.nc_base.specs.declared.fault.FormatFault.TheVariants.{HeaderTruncated, BadCount, BadName, BadType, FloatingType}
+use Rattle.nc_base.specs.declared.fault.FormatFault.TheVariants.{HeaderTruncated}
 use Rattle.nc_base.specs.declared.nc_type.NcType.{NcType}
 use Rattle.nc_base.specs.declared.nc_type.NcType.TheVariants.{Byte, Char, Short, Int, Ubyte, Ushort, Uint, Int64, Uint64}
 use Rattle.nc_base.specs.declared.version.Version.{Version}
@@ -18,7 +18,7 @@ use Rattle.nc_base.specs.Versions.{count_width, count_limit, has_type}
 use Rattle.nc_base.specs.Names.{is_name, IsName}
 use Rattle.nc_base.specs.Grammar.{SpellsNumber, SpellsCount, SpellsPadded, SpellsName, SpellsType}
 use Rattle.nc_base.specs.FirstFault.{IsCutNumber, StopsInCount, cut_count, negative_count, StopsInName, in_name_len, cut_name, bad_name, cut_name_padding, StopsInType, cut_type, floating, bad_type}
-use Rattle.nc_file.specs.Reading.{Outcome, Part, ◌>>=◌, done, stop, byte_or, byte_at, u32_at, u64_at, number_at, count_at, bytes_at, skip_at, padded_at, name_at, type_at, known_type, type_in, type_or_wrong}
+use Rattle.nc_file.specs.Reading.{◌>>=◌, done, stop, byte_or, u32_at, u64_at, number_at, count_at, bytes_at, skip_at, name_at, type_at, known_type, type_in, type_or_wrong}
 use Rattle.nc_file.proofs.Means.{Means, spells, stops, means-next, means-map, means-cond, AreBytes-tail}
 
 -- ---- numbers
@@ -77,8 +77,8 @@ unfolding count_at ◌>>=◌ done stop
 means-count v bytes fits =
     means-next _ (means-number v bytes fits)
     (λ n rest number more. means-cond (leb (count_limit v) n) _ _ rest
-      (λ high. stops _ _ (negative_count n rest number (leb-true _ _ high)))
-      (λ low. spells n rest (record { number = number; non_negative = leb-false _ _ low }) more))
+    (λ high. stops _ _ (negative_count n rest number (leb-true _ _ high)))
+    (λ low. spells n rest (record { number = number; non_negative = leb-false _ _ low }) more))
     (cut-count v bytes)
 
 -- ---- bytes
@@ -168,13 +168,13 @@ unfolding name_at ◌>>=◌ done stop
 means-name v bytes fits =
     means-next _ (means-count v bytes fits)
     (λ n body count more. means-next _ (means-bytes n body more)
-      (λ name behind taken more2. means-cond (is_name name) _ _ behind
-        (λ valid. means-next _ (means-skip (padding_len n) behind more2)
-          (λ u rest skipped more3. spells name rest (spelled-name v n bytes body name behind rest count taken valid skipped) more3)
-          (λ fault rest cut. cut-name_padding v bytes name behind fault rest (counted-bytes v n bytes body name behind count taken) valid (subst (λ (k : ℕ). CutBytes (padding_len k) behind fault rest) (sym taken.count) cut))
-         )
-        (λ invalid. stops _ _ (bad_name name behind (counted-bytes v n bytes body name behind count taken) invalid)))
-      (λ fault rest. cut-name v n bytes body fault rest count))
+    (λ name behind taken more2. means-cond (is_name name) _ _ behind
+    (λ valid. means-next _ (means-skip (padding_len n) behind more2)
+    (λ u rest skipped more3. spells name rest (spelled-name v n bytes body name behind rest count taken valid skipped) more3)
+    (λ fault rest cut. cut-name_padding v bytes name behind fault rest (counted-bytes v n bytes body name behind count taken) valid (subst (λ (k : ℕ). CutBytes (padding_len k) behind fault rest) (sym taken.count) cut))
+    )
+    (λ invalid. stops _ _ (bad_name name behind (counted-bytes v n bytes body name behind count taken) invalid)))
+    (λ fault rest. cut-name v n bytes body fault rest count))
     (in_name_len)
 
 -- ---- types
@@ -245,6 +245,7 @@ type-means v code bytes rest (Some ty) is number not5 not6 fits = at (has_type v
   where
     same : code ≡ code_of ty
     same = code-known code ty (sym is)
+
     at : (b : Bool) → has_type v ty ≡ b → Means (SpellsType v bytes) (StopsInType v bytes) ((type_or_wrong (if b then Some ty else None)).run rest)
     at true has = spells ty rest (record { number = subst (λ (c : ℕ). SpellsNumber w32 bytes c rest) same number; has = has }) fits
     at false lacks = stops _ _ (bad_type code rest number not5 not6 (λ other. no-other v code ty other is lacks))
@@ -268,7 +269,7 @@ unfolding type_at type_in ◌>>=◌ stop
 means-type v bytes fits =
     means-next _ (means-u32 bytes fits)
     (λ code rest number more. means-cond ((code == 5) || (code == 6)) _ _ rest
-      (λ is_floating. stops _ _ (floating code rest number (floating-code code is_floating)))
-      (λ is_other. let h = or-false (code == 5) (code == 6) is_other in
-        type-means v code bytes rest (type_of_code code) refl number (eqb-false _ _ h.0) (eqb-false _ _ h.1) more))
+    (λ is_floating. stops _ _ (floating code rest number (floating-code code is_floating)))
+    (λ is_other. let h = or-false (code == 5) (code == 6) is_other in
+    type-means v code bytes rest (type_of_code code) refl number (eqb-false _ _ h.0) (eqb-false _ _ h.1) more))
     (cut-type v bytes)

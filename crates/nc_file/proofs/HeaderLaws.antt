@@ -1,13 +1,8 @@
 -- A header is read as the grammar says.
-use Rattle.std.proofs.Common.{◌≡◌, ◌≢◌, ℕ, suc, ◌+◌, ◌<◌, ◌≤◌, Bool, true, false, cond, leb, List, [], ◌∷◌, length, Option, Some, None, Result, Ok, Err, refl, sym, ap, subst, ◌∙◌, arith}
+use Rattle.std.proofs.Common.{◌≡◌, ℕ, suc, true, false, leb, List, [], ◌∷◌, Option, Some, None, refl, sym, ap, subst, ◌∙◌, arith}
 use Rattle.std.proofs.lemmas.Bool.{eqb-true, eqb-false, leb-true, leb-false}
 use Rattle.std.specs.Prelude.{◌==◌, ◌&&◌}
 use Rattle.nc_base.specs.declared.fault.FormatFault.{FormatFault}
-use Rattle.nc_base.specs.declared.header.Att.{Att}
-use Rattle.nc_base.specs.declared.header.Dim.{Dim}
-use Rattle.nc_base.specs.declared.header.Var.{Var}
-use Rattle.nc_base.specs.declared.header.Header.{Header}
-use Rattle.nc_base.specs.declared.header.NumRecs.{NumRecs}
 use Rattle.nc_base.specs.declared.header.NumRecs.TheVariants.{Known, Streaming}
 use Rattle.nc_base.specs.declared.version.Version.{Version}
 use Rattle.nc_base.specs.declared.version.Version.TheVariants.{Cdf1, Cdf2, Cdf5}
@@ -15,8 +10,8 @@ use Rattle.nc_base.specs.Bytes.{AreBytes}
 use Rattle.nc_base.specs.Versions.{version_byte, version_of_byte, count_width, count_limit, streaming_mark}
 use Rattle.nc_base.specs.Grammar.{SpellsNumber, SpellsMagic, SpellsNumRecs, SpellsStart, SpellsUpToDims, SpellsUpToGatts, SpellsHeader}
 use Rattle.nc_base.specs.FirstFault.{StopsInMagic, cut_magic, other_magic, cut_version, bad_version, StopsInNumRecs, cut_numrecs, negative_numrecs, StopsWith, in_magic, in_numrecs, in_dims, in_gatts, in_vars}
-use Rattle.nc_file.specs.Reading.{Part, ◌>>=◌, done, stop, byte_or, version_or, version_at, magic_at, number_at, numrecs_at, header_at}
-use Rattle.nc_file.proofs.Means.{Means, spells, stops, means-next, means-map, means-cond, AreBytes-tail}
+use Rattle.nc_file.specs.Reading.{◌>>=◌, done, stop, byte_or, version_or, version_at, magic_at, numrecs_at, header_at}
+use Rattle.nc_file.proofs.Means.{Means, spells, stops, means-next, means-cond, AreBytes-tail}
 use Rattle.nc_file.proofs.FieldLaws.{CutNumber, cut_number, means-number, found}
 use Rattle.nc_file.proofs.ListLaws.{means-dims, means-atts, and-true}
 use Rattle.nc_file.proofs.VariableLaws.{means-vars}
@@ -70,10 +65,10 @@ unfolding numrecs_at ◌>>=◌ done stop
 means-numrecs v bytes fits =
     means-next _ (means-number v bytes fits)
     (λ n rest number more. means-cond (n == streaming_mark v) _ _ rest
-      (λ is_mark. spells Streaming rest (subst (λ (k : ℕ). SpellsNumber (count_width v) bytes k rest) (eqb-true _ _ is_mark) number) more)
-      (λ no_mark. means-cond (leb (count_limit v) n) _ _ rest
-        (λ high. stops _ _ (negative_numrecs n rest number (leb-true _ _ high) (eqb-false _ _ no_mark)))
-        (λ low. spells (Known n) rest (record { number = number; non_negative = leb-false _ _ low }) more)))
+    (λ is_mark. spells Streaming rest (subst (λ (k : ℕ). SpellsNumber (count_width v) bytes k rest) (eqb-true _ _ is_mark) number) more)
+    (λ no_mark. means-cond (leb (count_limit v) n) _ _ rest
+    (λ high. stops _ _ (negative_numrecs n rest number (leb-true _ _ high) (eqb-false _ _ no_mark)))
+    (λ low. spells (Known n) rest (record { number = number; non_negative = leb-false _ _ low }) more)))
     (cut-numrecs v bytes)
 
 -- ---- the whole
@@ -83,19 +78,19 @@ unfolding header_at ◌>>=◌ done
 means-header bytes fits =
     means-next _ (means-magic bytes fits)
     (λ v behind_magic magic more. means-next _ (means-numrecs v behind_magic more)
-      (λ numrecs behind_start records more2.
-        let start : SpellsStart bytes v numrecs behind_start = record { behind_magic = behind_magic; magic = magic; records = records } in
-        means-next _ (means-dims v behind_start more2)
-        (λ dims behind_dims dim_list more3.
-          let up_to_dims : SpellsUpToDims bytes v numrecs dims behind_dims = record { behind_start = behind_start; start = start; dim_list = dim_list } in
-          means-next _ (means-atts v behind_dims more3)
-          (λ gatts behind_gatts gatt_list more4.
-            let up_to_gatts : SpellsUpToGatts bytes v numrecs dims gatts behind_gatts = record { behind_dims = behind_dims; front = up_to_dims; gatt_list = gatt_list } in
-            means-next _ (means-vars v dims behind_gatts more4)
-            (λ vars rest var_list more5. spells (record { version = v; numrecs = numrecs; dims = dims; gatts = gatts; vars = vars }) rest
-              (record { behind_gatts = behind_gatts; front = up_to_gatts; var_list = var_list }) more5)
-            (λ fault rest. in_vars v numrecs dims gatts behind_gatts fault rest up_to_gatts))
-          (λ fault rest. in_gatts v numrecs dims behind_dims fault rest up_to_dims))
-        (λ fault rest. in_dims v numrecs behind_start fault rest start))
-      (λ fault rest. in_numrecs v behind_magic fault rest magic))
+    (λ numrecs behind_start records more2.
+    let start : SpellsStart bytes v numrecs behind_start = record { behind_magic = behind_magic; magic = magic; records = records } in
+    means-next _ (means-dims v behind_start more2)
+    (λ dims behind_dims dim_list more3.
+    let up_to_dims : SpellsUpToDims bytes v numrecs dims behind_dims = record { behind_start = behind_start; start = start; dim_list = dim_list } in
+    means-next _ (means-atts v behind_dims more3)
+    (λ gatts behind_gatts gatt_list more4.
+    let up_to_gatts : SpellsUpToGatts bytes v numrecs dims gatts behind_gatts = record { behind_dims = behind_dims; front = up_to_dims; gatt_list = gatt_list } in
+    means-next _ (means-vars v dims behind_gatts more4)
+    (λ vars rest var_list more5. spells (record { version = v; numrecs = numrecs; dims = dims; gatts = gatts; vars = vars }) rest
+    (record { behind_gatts = behind_gatts; front = up_to_gatts; var_list = var_list }) more5)
+    (λ fault rest. in_vars v numrecs dims gatts behind_gatts fault rest up_to_gatts))
+    (λ fault rest. in_gatts v numrecs dims behind_dims fault rest up_to_dims))
+    (λ fault rest. in_dims v numrecs behind_start fault rest start))
+    (λ fault rest. in_numrecs v behind_magic fault rest magic))
     (in_magic)

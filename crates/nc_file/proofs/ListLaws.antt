@@ -1,26 +1,24 @@
 -- Lists, dimensions and attributes are read as the grammar says.
-use Rattle.std.proofs.Common.{◌≡◌, ◌≢◌, ℕ, zero, suc, ◌+◌, ◌*◌, ◌<◌, ◌≤◌, Bool, true, false, cond, leb, List, [], ◌∷◌, ◌++◌, length, inl, inr, Some, Result, Ok, Err, refl, sym, ap, subst, ◌∙◌, append_assoc, arith}
+use Rattle.std.proofs.Common.{◌≡◌, ◌≢◌, ℕ, zero, suc, ◌*◌, ◌<◌, Bool, true, false, cond, List, [], ◌∷◌, ◌++◌, length, inl, inr, Ok, Err, refl, sym, ap, subst, ◌∙◌, append_assoc, arith}
 use Rattle.std.proofs.lemmas.Bool.{eqb-true, eqb-false, eq-eqb}
 use Rattle.std.proofs.lemmas.List.{append-nil}
 use Rattle.std.proofs.lemmas.List.Folds.{list_any-append}
-use Rattle.std.specs.Int.{Width, w32}
-use Rattle.std.specs.List.{AllByRecursion, list_any}
-use Rattle.std.specs.Prelude.{◌==◌, ◌||◌, ◌&&◌, ◌⊎◌, not}
+use Rattle.std.specs.Int.{w32}
+use Rattle.std.specs.Prelude.{◌==◌, ◌||◌, ◌&&◌, not}
 use Rattle.nc_base.specs.declared.fault.FormatFault.{FormatFault}
-use Rattle.nc_base.specs.declared.fault.FormatFault.TheVariants.{HeaderTruncated, BadTag, BadCount, TwoRecordDims}
+use Rattle.nc_base.specs.declared.fault.FormatFault.TheVariants.{HeaderTruncated, BadCount}
 use Rattle.nc_base.specs.declared.header.Att.{Att}
 use Rattle.nc_base.specs.declared.header.Dim.{Dim}
-use Rattle.nc_base.specs.declared.header.Var.{Var}
 use Rattle.nc_base.specs.declared.nc_type.NcType.{NcType}
 use Rattle.nc_base.specs.declared.version.Version.{Version}
 use Rattle.nc_base.specs.Bytes.{AreBytes, padding_len}
-use Rattle.nc_base.specs.Types.{code_of, size_of, type_of_code}
+use Rattle.nc_base.specs.Types.{size_of}
 use Rattle.nc_base.specs.Headers.{has_record_dim}
-use Rattle.nc_base.specs.Grammar.{ElementSpelling, dimension_tag, attribute_tag, variable_tag, SpellsNumber, SpellsCount, SpellsName, SpellsType, SpellsPadded, SpellsEach, SpellsCounted, SpellsList, absent, present, SpellsDim, SpellsAttFront, SpellsAtt, SpellsAtts, SpellsVar}
-use Rattle.nc_base.specs.FirstFault.{ElementStop, StopsInCount, StopsInName, StopsInEach, StopsInCounted, in_count, in_element, StopsInList, cut_tag, bad_tag, in_absent_count, absent_elements, in_present, StopsInDim, in_dim_name, in_dim_len, second_record_dim, StopsInAtt, in_att_name, in_att_type, in_att_count, cut_values, cut_value_padding, StopsInAtts, StopsInVar}
-use Rattle.nc_file.specs.Reading.{Outcome, Part, next, ◌>>=◌, done, stop, list_len_at, count_at, bytes_at, skip_at, padded_at, each_at, dim_at, dims_at, dim_list_at, att_at, atts_at, att_list_at}
+use Rattle.nc_base.specs.Grammar.{ElementSpelling, dimension_tag, attribute_tag, SpellsNumber, SpellsCount, SpellsPadded, SpellsEach, SpellsCounted, SpellsList, absent, present, SpellsDim, SpellsAttFront, SpellsAtt, SpellsAtts}
+use Rattle.nc_base.specs.FirstFault.{ElementStop, StopsInCount, StopsInEach, in_count, in_element, StopsInList, cut_tag, bad_tag, in_absent_count, absent_elements, in_present, StopsInDim, in_dim_name, in_dim_len, second_record_dim, StopsInAtt, in_att_name, in_att_type, in_att_count, cut_values, cut_value_padding, StopsInAtts}
+use Rattle.nc_file.specs.Reading.{Outcome, Part, next, ◌>>=◌, done, stop, list_len_at, padded_at, each_at, dim_at, dims_at, dim_list_at, att_at, atts_at, att_list_at}
 use Rattle.nc_file.proofs.Means.{Means, spells, stops, means-next, means-map, means-cond}
-use Rattle.nc_file.proofs.FieldLaws.{CutNumber, cut_number, CutBytes, cut_bytes, Taken, Skipped, padded-at, means-u32, means-count, means-bytes, means-skip, means-name, means-type}
+use Rattle.nc_file.proofs.FieldLaws.{CutNumber, cut_number, CutBytes, cut_bytes, Taken, padded-at, means-u32, means-count, means-bytes, means-skip, means-name, means-type}
 
 -- ---- the tag and the count of a list
 
@@ -70,11 +68,11 @@ unfolding list_len_at ◌>>=◌ stop
 means-list_len v tag Element Stops bytes fits =
     means-next _ (means-u32 bytes fits)
     (λ found behind_tag number more. means-cond (not (found == 0) && not (found == tag)) _ _ behind_tag
-      (λ other. let h = other-tag tag found _ _ refl refl other in stops _ _ (bad_tag found behind_tag number h.0 h.1))
-      (λ own. let h = is-tag tag found _ _ refl refl own in
-        means-next _ (means-count v behind_tag more)
-        (λ n rest count more2. counted-len v tag found Element Stops bytes behind_tag n rest _ h number count more2 refl)
-        (λ fault rest. in-count v tag found Element Stops bytes behind_tag fault rest h number)))
+    (λ other. let h = other-tag tag found _ _ refl refl other in stops _ _ (bad_tag found behind_tag number h.0 h.1))
+    (λ own. let h = is-tag tag found _ _ refl refl own in
+    means-next _ (means-count v behind_tag more)
+    (λ n rest count more2. counted-len v tag found Element Stops bytes behind_tag n rest _ h number count more2 refl)
+    (λ fault rest. in-count v tag found Element Stops bytes behind_tag fault rest h number)))
     (cut-tag v tag Element Stops bytes)
 
 -- ---- elements
@@ -110,8 +108,8 @@ means-each Element Stops element reads zero before bytes fits =
 means-each Element Stops element reads (suc n) before bytes fits =
     means-next _ (reads before bytes fits)
     (λ x middle h more. means-map (means-each Element Stops element reads n (before ++ x ∷ []) middle more)
-      (λ all rest. more-cons Element n before bytes middle x all rest h)
-      (λ fault rest s. inr (x, middle, h, s)))
+    (λ all rest. more-cons Element n before bytes middle x all rest h)
+    (λ fault rest s. inr (x, middle, h, s)))
     (λ fault rest s. inl s)
 
 -- a count and so many elements
@@ -161,8 +159,8 @@ pub means-list : {A : Type 0} (v : Version) (tag : ℕ) (Element : ElementSpelli
 means-list v tag Element Stops elements reads bytes fits =
     means-next _ (means-list_len v tag Element Stops bytes fits)
     (λ n body len more. means-map (reads n body more)
-      (λ all rest. spells-list v tag Element n bytes body all rest len)
-      (λ fault rest. stops-list v tag Element Stops n bytes body fault rest len))
+    (λ all rest. spells-list v tag Element n bytes body all rest len)
+    (λ fault rest. stops-list v tag Element Stops n bytes body fault rest len))
     (λ fault rest s. s)
 
 -- two continuations that read the same
@@ -185,12 +183,12 @@ unfolding dim_at ◌>>=◌ done stop
 dim-read v before bytes fits =
     means-next _ (means-name v bytes fits)
     (λ name behind_name named more. means-next _ (means-count v behind_name more)
-      (λ len rest counted more2. means-cond (has_record_dim before && (len == 0)) _ _ rest
-        (λ second. let h = and-true (has_record_dim before) (len == 0) second in
-          stops _ _ (second_record_dim name behind_name rest named (subst (λ (n : ℕ). SpellsCount v behind_name n rest) (eqb-true _ _ h.1) counted) h.0))
-        (λ single. spells (record { name = name; len = len }) rest
-          (record { behind_name = behind_name; name = named; len = counted; one_record_dim = λ none. and-false (has_record_dim before) (len == 0) single (eq-eqb len 0 none) }) more2))
-      (λ fault rest. in_dim_len name behind_name fault rest named))
+    (λ len rest counted more2. means-cond (has_record_dim before && (len == 0)) _ _ rest
+    (λ second. let h = and-true (has_record_dim before) (len == 0) second in
+    stops _ _ (second_record_dim name behind_name rest named (subst (λ (n : ℕ). SpellsCount v behind_name n rest) (eqb-true _ _ h.1) counted) h.0))
+    (λ single. spells (record { name = name; len = len }) rest
+    (record { behind_name = behind_name; name = named; len = counted; one_record_dim = λ none. and-false (has_record_dim before) (len == 0) single (eq-eqb len 0 none) }) more2))
+    (λ fault rest. in_dim_len name behind_name fault rest named))
     (in_dim_name)
 
 has_record_dim-append : (dims : List Dim) (d : Dim) → has_record_dim (dims ++ d ∷ []) ≡ (has_record_dim dims || (d.len == 0))
@@ -235,8 +233,8 @@ unfolding padded_at ◌>>=◌ done
 means-padded n bytes fits =
     means-next _ (means-bytes n bytes fits)
     (λ content behind taken more. means-next _ (means-skip (padding_len n) behind more)
-      (λ u rest skipped more2. spells content rest (record { count = taken.count; padded = padded-at n bytes content behind rest taken skipped }) more2)
-      (λ fault rest. cut-padding n bytes content behind fault rest taken))
+    (λ u rest skipped more2. spells content rest (record { count = taken.count; padded = padded-at n bytes content behind rest taken skipped }) more2)
+    (λ fault rest. cut-padding n bytes content behind fault rest taken))
     (cut-content n bytes)
 
 cut-values : (v : Version) (before : List Att) (bytes name body : List ℕ) (ty : NcType) (n : ℕ) (fault : FormatFault) (rest : List ℕ)
@@ -251,15 +249,15 @@ unfolding att_at ◌>>=◌ done
 att-read v before bytes fits =
     means-next _ (means-name v bytes fits)
     (λ name behind_name named more. means-next _ (means-type v behind_name more)
-      (λ ty behind_type typed more2. means-next _ (means-count v behind_type more2)
-        (λ n body counted more3.
-          let front : SpellsAttFront v bytes name ty n body = record { behind_name = behind_name; behind_type = behind_type; named = named; typed = typed; counted = counted } in
-          means-next _ (means-padded (n * size_of ty) body more3)
-          (λ vals rest p more4. spells (record { name = name; ty = ty; vals = vals }) rest
-            (record { count = n; behind_count = body; front = front; whole = p.count; values = p.padded }) more4)
-          (λ fault rest. cut-values v before bytes name body ty n fault rest front))
-        (λ fault rest. in_att_count name behind_name behind_type ty fault rest named typed))
-      (λ fault rest. in_att_type name behind_name fault rest named))
+    (λ ty behind_type typed more2. means-next _ (means-count v behind_type more2)
+    (λ n body counted more3.
+    let front : SpellsAttFront v bytes name ty n body = record { behind_name = behind_name; behind_type = behind_type; named = named; typed = typed; counted = counted } in
+    means-next _ (means-padded (n * size_of ty) body more3)
+    (λ vals rest p more4. spells (record { name = name; ty = ty; vals = vals }) rest
+    (record { count = n; behind_count = body; front = front; whole = p.count; values = p.padded }) more4)
+    (λ fault rest. cut-values v before bytes name body ty n fault rest front))
+    (λ fault rest. in_att_count name behind_name behind_type ty fault rest named typed))
+    (λ fault rest. in_att_type name behind_name fault rest named))
     (in_att_name)
 
 pub means-atts : (v : Version) (bytes : List ℕ) → AreBytes bytes

@@ -1,12 +1,11 @@
 -- A loop that reads element after element.
-use Rattle.std.proofs.Common.{◌≡◌, ℕ, suc, ◌+◌, ◌-◌, ◌<◌, ◌≤◌, Bool, true, false, ◌||◌, List, [], ◌∷◌, ◌++◌, Result, Ok, Err, refl, sym, ap, ◌∙◌, arith}
+use Rattle.std.proofs.Common.{◌≡◌, ℕ, suc, ◌+◌, ◌-◌, ◌<◌, ◌≤◌, Bool, false, ◌||◌, List, [], ◌∷◌, ◌++◌, refl, arith}
 use Rattle.std.specs.Prelude.{◌==◌}
 use Rattle.std.specs.Bool.{OnTrue}
 use Rattle.nc_base.specs.declared.header.Att.{Att}
 use Rattle.nc_base.specs.declared.header.Dim.{Dim}
 use Rattle.nc_base.specs.declared.header.Var.{Var}
 use Rattle.nc_base.specs.declared.version.Version.{Version}
-use Rattle.std.specs.Prelude.{zero, ◌≢◌}
 use Rattle.nc_file.specs.Sources.{SourceView}
 use Rattle.nc_file.specs.declared.window.Window.{Window}
 use Rattle.nc_file.specs.Reading.{Part, ◌>>=◌, done, left_over, next-shorter, byte_at, skip_at, stop, each_at, dim_at, dims_at, att_at, atts_at, dimid_at, dimids_at, var_at, vars_at}

@@ -1,5 +1,5 @@
 -- That a part of a header reads what the grammar says: how such facts are put together.
-use Rattle.std.proofs.Common.{◌≡◌, ℕ, suc, Bool, true, false, cond, List, ◌∷◌, Result, Ok, Err, refl}
+use Rattle.std.proofs.Common.{◌≡◌, ℕ, suc, Bool, true, false, cond, List, ◌∷◌, Ok, Err, refl}
 use Rattle.nc_base.specs.declared.fault.FormatFault.{FormatFault}
 use Rattle.nc_base.specs.Bytes.{AreBytes}
 use Rattle.nc_file.specs.declared.head_fault.HeadFault.TheVariants.{Format}

@@ -1,13 +1,12 @@
 -- Variables are read as the grammar says.
-use Rattle.std.proofs.Common.{◌≡◌, ◌≢◌, ℕ, zero, suc, ◌+◌, ◌*◌, ◌<◌, ◌≤◌, Bool, true, false, cond, leb, ltb, List, [], ◌∷◌, ◌++◌, length, inl, inr, Option, Some, None, Result, Ok, Err, refl, sym, ap, subst, ◌∙◌, append_assoc, arith}
-use Rattle.std.proofs.lemmas.Bool.{eqb-true, eqb-false, leb-true, leb-false, ltb-true, ltb-false}
+use Rattle.std.proofs.Common.{◌≡◌, ℕ, zero, suc, ◌+◌, ◌≤◌, Bool, true, false, cond, leb, ltb, List, [], ◌∷◌, ◌++◌, length, inl, inr, Some, None, refl, sym, ap, subst, ◌∙◌, arith}
+use Rattle.std.proofs.lemmas.Bool.{eqb-true, leb-true, leb-false, ltb-true}
 use Rattle.std.proofs.lemmas.List.{append-nil, map-append}
 use Rattle.std.proofs.lemmas.List.Elements.{filter-append}
 use Rattle.std.proofs.lemmas.List.Sums.{sum_by-append}
-use Rattle.std.specs.Int.{Width, w32}
-use Rattle.std.specs.Prelude.{◌==◌, ◌||◌, ◌&&◌, not, map, filter, sum, drop, IsTrue}
+use Rattle.std.specs.Prelude.{◌==◌, ◌||◌, ◌&&◌, not, map, sum}
 use Rattle.nc_base.specs.declared.fault.FormatFault.{FormatFault}
-use Rattle.nc_base.specs.declared.fault.FormatFault.TheVariants.{HeaderTruncated, BadShape, BadOffset, TooLarge}
+use Rattle.nc_base.specs.declared.fault.FormatFault.TheVariants.{HeaderTruncated, BadOffset, TooLarge}
 use Rattle.nc_base.specs.declared.header.Att.{Att}
 use Rattle.nc_base.specs.declared.header.Dim.{Dim}
 use Rattle.nc_base.specs.declared.header.Var.{Var}
@@ -15,17 +14,17 @@ use Rattle.nc_base.specs.declared.nc_type.NcType.{NcType}
 use Rattle.nc_base.specs.declared.nc_type.NcType.TheVariants.{Byte}
 use Rattle.nc_base.specs.declared.version.Version.{Version}
 use Rattle.nc_base.specs.declared.version.Version.TheVariants.{Cdf1, Cdf2, Cdf5}
-use Rattle.nc_base.specs.Bytes.{AreBytes, padding_len}
-use Rattle.nc_base.specs.Versions.{count_width, offset_width, count_limit, offset_limit}
-use Rattle.nc_base.specs.Sizes.{is_record_dim, is_record_var, slab_size, padded_size, padded_total, record_vars, slab_of, slab_limit, record_limit}
+use Rattle.nc_base.specs.Bytes.{AreBytes}
+use Rattle.nc_base.specs.Versions.{count_width, offset_width, offset_limit}
+use Rattle.nc_base.specs.Sizes.{is_record_dim, is_record_var, padded_size, padded_total, record_vars, slab_of, slab_limit, record_limit}
 use Rattle.nc_base.specs.Headers.{IsDimid}
-use Rattle.nc_base.specs.Grammar.{variable_tag, SpellsNumber, SpellsCount, SpellsOffset, SpellsName, SpellsType, SpellsCounted, SpellsList, SpellsAtts, SpellsDimid, SpellsVar, SpellsVarFront, SpellsTypedVar, IsWithinLimits}
+use Rattle.nc_base.specs.Grammar.{variable_tag, SpellsNumber, SpellsOffset, SpellsType, SpellsCounted, SpellsList, SpellsDimid, SpellsVar, SpellsVarFront, SpellsTypedVar, IsWithinLimits}
 use Rattle.nc_base.specs.FirstFault.{IsCutNumber, StopsInCounted, in_count, in_element, StopsInEach, StopsInList, StopsInDimid, cut_dimid, bad_dimid, StopsInVar, in_var_name, in_shape, in_var_atts, in_var_type, too_large, cut_vsize, cut_begin, negative_begin}
 use Rattle.nc_file.specs.declared.sized_var.SizedVar.{SizedVar}
-use Rattle.nc_file.specs.Reading.{Outcome, Part, next, ◌>>=◌, done, stop, number_at, each_at, list_len_at, is_dimid, dimid_at, dimids_at, shape_at, wide_at, offset_at, record_part, total_with, total_or_wrong, var_at, vars_at, var_list_at}
+use Rattle.nc_file.specs.Reading.{next, ◌>>=◌, done, stop, number_at, each_at, is_dimid, dimid_at, dimids_at, shape_at, wide_at, offset_at, record_part, total_with, total_or_wrong, var_at, vars_at, var_list_at}
 use Rattle.nc_file.proofs.Means.{Means, spells, stops, means-next, means-map, means-cond}
 use Rattle.nc_file.proofs.FieldLaws.{CutNumber, cut_number, means-u32, means-u64, means-number, means-count, means-name, means-type}
-use Rattle.nc_file.proofs.ListLaws.{ReadsElement, ReadsElements, SpellsMore, more-cons, reads-each, counted, means-list, next-cong, means-atts, and-true}
+use Rattle.nc_file.proofs.ListLaws.{ReadsElement, SpellsMore, more-cons, reads-each, counted, means-list, next-cong, means-atts, and-true}
 
 -- ---- dimension ids
 
@@ -71,8 +70,8 @@ unfolding dimid_at ◌>>=◌ done stop
 dimid-read v dims before bytes fits =
     means-next _ (means-number v bytes fits)
     (λ id rest number more. means-cond (is_dimid dims (is_first before) id) _ _ rest
-      (λ known. spells id rest (record { number = number; known = is-dimid dims before id known }) more)
-      (λ unknown. stops _ _ (bad_dimid id rest number (no-dimid dims before id unknown))))
+    (λ known. spells id rest (record { number = number; known = is-dimid dims before id known }) more)
+    (λ unknown. stops _ _ (bad_dimid id rest number (no-dimid dims before id unknown))))
     (cut-dimid v dims before bytes)
 
 is_first-append : (before : List ℕ) (id : ℕ) → is_first (before ++ id ∷ []) ≡ false
@@ -94,8 +93,8 @@ means-shape v dims bytes fits =
     let reads = reads-each (SpellsDimid v dims) (StopsInDimid v dims) (λ b. dimid_at v dims (is_first b)) (λ n. dimids_at v dims n true []) (dimid-read v dims) (λ n. dimids_at-each v dims n []) in
     means-next _ (means-count v bytes fits)
     (λ n body count more. means-map (reads n body more)
-      (λ all rest. counted v (SpellsDimid v dims) n bytes body all rest count)
-      (λ fault rest s. in_element n body fault rest count s))
+    (λ all rest. counted v (SpellsDimid v dims) n bytes body all rest count)
+    (λ fault rest s. in_element n body fault rest count s))
     (in_count)
 
 -- ---- offsets
@@ -118,8 +117,8 @@ unfolding offset_at ◌>>=◌ done stop
 means-offset v bytes fits =
     means-next _ (means-wide v bytes fits)
     (λ n rest number more. means-cond (leb (offset_limit v) n) _ _ rest
-      (λ high. stops _ _ (negative_offset n rest number (leb-true _ _ high)))
-      (λ low. spells n rest (record { number = number; non_negative = leb-false _ _ low }) more))
+    (λ high. stops _ _ (negative_offset n rest number (leb-true _ _ high)))
+    (λ low. spells n rest (record { number = number; non_negative = leb-false _ _ low }) more))
     (cut-offset v bytes)
 
 -- ---- limits
@@ -202,18 +201,18 @@ var-tail : (v : Version) (dims : List Dim) (before : List Var) (bytes : List ℕ
     → ((begin : ℕ) → SpellsTypedVar v dims before bytes (record { name = name; dimids = ids; atts = atts; ty = ty; begin_at = begin }) behind_type)
     → total ≡ total_of dims before → sum ≡ total + record_part dims ids ty → AreBytes behind_type
     → Means (SpellsSized v dims before bytes) (StopsInVar v dims before bytes)
-      (next ((number_at v).run behind_type) (λ vsize. offset_at v >>= λ begin. done (record { var = record { name = name; dimids = ids; atts = atts; ty = ty; begin_at = begin }; total = sum })))
+    (next ((number_at v).run behind_type) (λ vsize. offset_at v >>= λ begin. done (record { var = record { name = name; dimids = ids; atts = atts; ty = ty; begin_at = begin }; total = sum })))
 unfolding ◌>>=◌ done
 var-tail v dims before bytes name ids atts ty behind_type total sum typed same is_sum fits =
     means-next _ (means-number v behind_type fits)
     (λ vsize behind_vsize number more. means-next _ (means-offset v behind_vsize more)
-      (λ begin rest offset more2.
-        let var : Var = record { name = name; dimids = ids; atts = atts; ty = ty; begin_at = begin } in
-        spells (record { var = var; total = sum }) rest (record {
-          spelled = record { behind_type = behind_type; behind_vsize = behind_vsize; vsize = vsize; typed = typed begin; any_vsize = number; begin = offset };
-          total = is_sum ∙ ap (λ (n : ℕ). n + record_part dims ids ty) same ∙ sym (total_of-append dims before var);
-        }) more2)
-      (λ fault rest. stops-offset v dims before bytes _ behind_type behind_vsize vsize fault rest (typed 0) number))
+    (λ begin rest offset more2.
+    let var : Var = record { name = name; dimids = ids; atts = atts; ty = ty; begin_at = begin } in
+    spells (record { var = var; total = sum }) rest (record {
+      spelled = record { behind_type = behind_type; behind_vsize = behind_vsize; vsize = vsize; typed = typed begin; any_vsize = number; begin = offset };
+      total = is_sum ∙ ap (λ (n : ℕ). n + record_part dims ids ty) same ∙ sym (total_of-append dims before var);
+    }) more2)
+    (λ fault rest. stops-offset v dims before bytes _ behind_type behind_vsize vsize fault rest (typed 0) number))
     (λ fault rest. cut-vsize v dims before bytes _ behind_type fault rest (typed 0))
 
 var-read : (v : Version) (dims : List Dim) (before : List Var) (total : ℕ) (bytes : List ℕ) → total ≡ total_of dims before → AreBytes bytes
@@ -222,21 +221,21 @@ unfolding var_at ◌>>=◌
 var-read v dims before total bytes same fits =
     means-next _ (means-name v bytes fits)
     (λ name behind_name named more. means-next _ (means-shape v dims behind_name more)
-      (λ ids behind_shape shape more2. means-next _ (means-atts v behind_shape more2)
-        (λ atts behind_atts att_list more3.
-          let front : (ty : NcType) (begin : ℕ) → SpellsVarFront v dims bytes (record { name = name; dimids = ids; atts = atts; ty = ty; begin_at = begin }) behind_atts =
-            λ ty begin. record { behind_name = behind_name; behind_shape = behind_shape; name = named; shape = shape; atts = att_list } in
-          means-next _ (means-type v behind_atts more3)
-          (λ ty behind_type typed more4. means-next _ (means-total dims ids ty total behind_type more4)
-            (λ sum here t more5. subst (λ (r : List ℕ). Means (SpellsSized v dims before bytes) (StopsInVar v dims before bytes)
-                (next ((number_at v).run r) (λ vsize. offset_at v >>= λ begin. done (record { var = record { name = name; dimids = ids; atts = atts; ty = ty; begin_at = begin }; total = sum })))) (sym t.stays)
-              (var-tail v dims before bytes name ids atts ty behind_type total sum
-                (λ begin. record { behind_atts = behind_atts; front = front ty begin; ty = typed; small = within dims before (record { name = name; dimids = ids; atts = atts; ty = ty; begin_at = begin }) total same t.fits })
-                same t.value more4))
-            (λ fault rest. too-large v dims before bytes _ behind_atts behind_type total fault rest same (front ty 0) typed))
-          (λ fault rest. in_var_type (record { name = name; dimids = ids; atts = atts; ty = Byte; begin_at = 0 }) behind_atts fault rest (front Byte 0)))
-        (λ fault rest. in_var_atts name behind_name behind_shape ids fault rest named shape))
-      (λ fault rest. in_shape name behind_name fault rest named))
+    (λ ids behind_shape shape more2. means-next _ (means-atts v behind_shape more2)
+    (λ atts behind_atts att_list more3.
+    let front : (ty : NcType) (begin : ℕ) → SpellsVarFront v dims bytes (record { name = name; dimids = ids; atts = atts; ty = ty; begin_at = begin }) behind_atts =
+    λ ty begin. record { behind_name = behind_name; behind_shape = behind_shape; name = named; shape = shape; atts = att_list } in
+    means-next _ (means-type v behind_atts more3)
+    (λ ty behind_type typed more4. means-next _ (means-total dims ids ty total behind_type more4)
+    (λ sum here t more5. subst (λ (r : List ℕ). Means (SpellsSized v dims before bytes) (StopsInVar v dims before bytes)
+    (next ((number_at v).run r) (λ vsize. offset_at v >>= λ begin. done (record { var = record { name = name; dimids = ids; atts = atts; ty = ty; begin_at = begin }; total = sum })))) (sym t.stays)
+    (var-tail v dims before bytes name ids atts ty behind_type total sum
+    (λ begin. record { behind_atts = behind_atts; front = front ty begin; ty = typed; small = within dims before (record { name = name; dimids = ids; atts = atts; ty = ty; begin_at = begin }) total same t.fits })
+    same t.value more4))
+    (λ fault rest. too-large v dims before bytes _ behind_atts behind_type total fault rest same (front ty 0) typed))
+    (λ fault rest. in_var_type (record { name = name; dimids = ids; atts = atts; ty = Byte; begin_at = 0 }) behind_atts fault rest (front Byte 0)))
+    (λ fault rest. in_var_atts name behind_name behind_shape ids fault rest named shape))
+    (λ fault rest. in_shape name behind_name fault rest named))
     (in_var_name)
 
 vars-read : (v : Version) (dims : List Dim) (n : ℕ) (before : List Var) (total : ℕ) (bytes : List ℕ) → total ≡ total_of dims before → AreBytes bytes
@@ -247,8 +246,8 @@ vars-read v dims zero before total bytes same fits =
 vars-read v dims (suc n) before total bytes same fits =
     means-next _ (var-read v dims before total bytes same fits)
     (λ sized middle s more. means-map (vars-read v dims n (before ++ sized.var ∷ []) sized.total middle s.total more)
-      (λ all rest. more-cons (SpellsVar v dims) n before bytes middle sized.var all rest s.spelled)
-      (λ fault rest f. inr (sized.var, middle, s.spelled, f)))
+    (λ all rest. more-cons (SpellsVar v dims) n before bytes middle sized.var all rest s.spelled)
+    (λ fault rest f. inr (sized.var, middle, s.spelled, f)))
     (λ fault rest s. inl s)
 
 pub means-vars : (v : Version) (dims : List Dim) (bytes : List ℕ) → AreBytes bytes

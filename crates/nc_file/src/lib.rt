@@ -8,12 +8,12 @@
 
 mod fault;
 mod file;
-mod header;
 mod head_fault;
+mod header;
 mod memory;
 mod reading;
-mod sized_var;
 mod sink;
+mod sized_var;
 mod source;
 mod window;
 

@@ -10,12 +10,17 @@ use crate::head_fault::HeadFault;
 use crate::sized_var::SizedVar;
 use crate::source::Source;
 use crate::window::{Window, padding_len};
-use nc_base::{Att, Dim, FormatFault, Header, NcType, NumRecs, Sequence, Var, Version, check_name, has_records, slab_of};
+use nc_base::{
+    Att, Dim, FormatFault, Header, NcType, NumRecs, Sequence, Var, Version, check_name,
+    has_records, slab_of,
+};
 use std::alloc::Global;
 
 /// The tags of the lists: `NC_DIMENSION`, `NC_VARIABLE` and `NC_ATTRIBUTE`.
 const DIMENSION_TAG: u32 = 10;
+
 const VARIABLE_TAG: u32 = 11;
+
 const ATTRIBUTE_TAG: u32 = 12;
 
 /// The greatest record in bytes: 2^62.
@@ -178,7 +183,12 @@ impl<S: Source> Window<'_, S> {
 
     /// The shape of a variable: its rank and its dimension ids.
     #[tactic(auto, using(crate::proofs::Parts::parts), unfolding(crate::specs::Reading::shape_at))]
-    fn shape(&mut self, alloc: Global, version: Version, dims: &[Dim]) -> Result<Sequence<u64>, HeadFault>
+    fn shape(
+        &mut self,
+        alloc: Global,
+        version: Version,
+        dims: &[Dim],
+    ) -> Result<Sequence<u64>, HeadFault>
         requires { Opened S.told S.seen self.old }
         ensures { Did S.told S.seen self.old self.new (shape_at version dims.now) result }
     {

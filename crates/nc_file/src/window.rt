@@ -153,7 +153,11 @@ impl<S: Source> Window<'_, S> {
         ensures { Ready S.told (state S.seen self.now) most result.now }
     {
         let ready = self.filled - self.pos;
-        let k = if (ready as u128) < most { ready } else { most as usize };
+        let k = if (ready as u128) < most {
+            ready
+        } else {
+            most as usize
+        };
         &self.buf[self.pos..self.pos + k]
     }
 

@@ -1,14 +1,13 @@
 -- A dump from reading the header and writing the text.
 use Rattle.std.proofs.Common.{◌≡◌, ℕ, Bool, true, false, List, [], length, Option, Some, None, Result, Ok, Err, refl, sym, ap, subst, ◌∙◌}
 use Rattle.std.specs.Bool.{OnTrue}
-use Rattle.std.specs.Prelude.{IsTrue, is_some, not, ◌||◌}
+use Rattle.std.specs.Prelude.{is_some, not, ◌||◌}
 use Rattle.nc_base.specs.declared.header.Header.{Header}
-use Rattle.nc_base.specs.Grammar.{SpellsHeader}
 use Rattle.nc_base.specs.Headers.{IsSound}
 use Rattle.nc_base.specs.Sizes.{record_count}
 use Rattle.nc_base.specs.Dump.{Options, whole, closed_text, has_no_data, KnowsChosen, IsDump, stopped, without_data}
 use Rattle.nc_file.specs.Sources.{SourceView}
-use Rattle.nc_file.specs.Sinks.{SinkView, Grew, Broke}
+use Rattle.nc_file.specs.Sinks.{SinkView}
 use Rattle.nc_file.specs.Answers.{IsRead, Answers}
 use Rattle.nc_file.specs.declared.head_fault.HeadFault.{HeadFault}
 use Rattle.nc_file.specs.declared.head_fault.HeadFault.TheVariants as head

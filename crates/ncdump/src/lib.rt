@@ -13,4 +13,3 @@ pub use dumping::dump;
 pub use fault::DumpFault;
 pub use line::fault_line;
 pub use options::DumpOptions;
-

@@ -1,4 +1,4 @@
-use Rattle.std.proofs.Common.{◌≡◌, ℕ, ◌+◌, ◌<◌, ◌≤◌, ◌&&◌, List, length, get_or, sym, ◌∙◌, ap, subst, arith, true, false}
+use Rattle.std.proofs.Common.{◌≡◌, ℕ, ◌+◌, ◌<◌, ◌≤◌, ◌&&◌, List, length, get_or, sym, ◌∙◌, ap, subst, arith, true}
 use Rattle.std.specs.Prelude.{if◌then◌else◌}
 use Rattle.nc_base.specs.Sizes.{slab_of, is_record_var, is_narrow, slab_limit}
 use Rattle.nc_base.specs.declared.header.Dim.{Dim}
@@ -16,9 +16,9 @@ returns-in_err-slab c =
     let lt : c.loop-var.var-index < length h.vars = subst (λ (vs : List Var). c.loop-var.var-index < length vs) items c.loop-var-test.true in
     let at : x ≡ get_or h.vars c.loop-var.var-index x = c.var-item.is ∙ ap (λ (vs : List Var). get_or vs c.loop-var.var-index x) items in
     let growing : is_record_var h.dims x ≡ true =
-        ap (λ (ds : List Dim). is_record_var ds x) (sym same) ∙ sym c.is_record_var.ensures ∙ c.if-is_record_var.true in
+    ap (λ (ds : List Dim). is_record_var ds x) (sym same) ∙ sym c.is_record_var.ensures ∙ c.if-is_record_var.true in
     let slab : slab_of h.dims x.dimids x.ty ≡ slab_of c.as_slice-dims.result.now c.as_slice.result.now x.ty =
-        ap (λ (ds : List Dim). slab_of ds x.dimids x.ty) (sym same) ∙ ap (λ (ids : List ℕ). slab_of c.as_slice-dims.result.now ids x.ty) (sym c.as_slice.ensures) in
+    ap (λ (ds : List Dim). slab_of ds x.dimids x.ty) (sym same) ∙ ap (λ (ids : List ℕ). slab_of c.as_slice-dims.result.now ids x.ty) (sym c.as_slice.ensures) in
     let large : slab_of h.dims x.dimids x.ty ≤ slab_limit → ⊥ = λ small. c.in_err-slab.ensures (subst (λ n. n ≤ slab_limit) slab small) in
     c.from_residual.ensures ∙ sym (checked-none_at h c.loop-var.var-index x lt at growing large)
 
@@ -32,17 +32,17 @@ loop-var-preserved c =
     let lt : i < length vars = subst (λ (vs : List Var). i < length vs) items c.loop-var-test.true in
     let at : x ≡ get_or vars i x = c.var-item.is ∙ ap (λ (vs : List Var). get_or vs i x) items in
     elim c.if-is_record_var.branch [
-    | then-is_record_var+in_ok-slab w ↦
-        let slab : slab_of dims w.as_slice.result.now x.ty ≡ slab_of dims x.dimids x.ty = ap (λ (ids : List ℕ). slab_of dims ids x.ty) w.as_slice.ensures in
-        let found = w.in_ok-slab.ensures {u = tt} in
-        rw (w.is_first-is)
-            (sums_more_at dims vars i c.loop-var.size c.loop-var.padded _ _ _ c.loop-var.is_first x lt at
-                (sym c.is_record_var.ensures ∙ w.if-is_record_var.true)
-                (omega (arith, found.0, found.1)) (found.1 ∙ slab)
-                (w.padded-is ∙ ap (λ n. c.loop-var.padded + n) w.padded_bytes.ensures)
-                (w.size-is ∙ w.packed_bytes-size.ensures ∙ ap (λ n. if c.loop-var.is_first && is_narrow x then w.in_ok-slab.slab else n) (sym w.padded-is))
-                c.loop-var.invariant)
-    | else-is_record_var w ↦
-        rw (w.is_first-is, w.padded-is, w.size-is)
-            (sums_skipped_at dims vars i _ _ _ x lt at (sym c.is_record_var.ensures ∙ w.if-is_record_var.false) c.loop-var.invariant)
+      | then-is_record_var+in_ok-slab w ↦
+          let slab : slab_of dims w.as_slice.result.now x.ty ≡ slab_of dims x.dimids x.ty = ap (λ (ids : List ℕ). slab_of dims ids x.ty) w.as_slice.ensures in
+          let found = w.in_ok-slab.ensures {u = tt} in
+          rw (w.is_first-is)
+          (sums_more_at dims vars i c.loop-var.size c.loop-var.padded _ _ _ c.loop-var.is_first x lt at
+          (sym c.is_record_var.ensures ∙ w.if-is_record_var.true)
+          (omega (arith, found.0, found.1)) (found.1 ∙ slab)
+          (w.padded-is ∙ ap (λ n. c.loop-var.padded + n) w.padded_bytes.ensures)
+          (w.size-is ∙ w.packed_bytes-size.ensures ∙ ap (λ n. if c.loop-var.is_first && is_narrow x then w.in_ok-slab.slab else n) (sym w.padded-is))
+          c.loop-var.invariant)
+      | else-is_record_var w ↦
+          rw (w.is_first-is, w.padded-is, w.size-is)
+          (sums_skipped_at dims vars i _ _ _ x lt at (sym c.is_record_var.ensures ∙ w.if-is_record_var.false) c.loop-var.invariant)
     ]

@@ -4,7 +4,7 @@ use Rattle.nc_base.specs.Headers.{IsSoundVar}
 use Rattle.nc_base.specs.Versions.{count_limit}
 use Rattle.nc_base.specs.declared.header.Dim.{Dim}
 use Rattle.nc_base.specs.declared.header.Var.{Var}
-use Rattle.nc_base.proofs.SoundLaws.{HasKnownShapes-from_All, checked-small, small-checked}
+use Rattle.nc_base.proofs.SoundLaws.{checked-small, small-checked}
 use Rattle.nc_base.proofs.sound.has_sound_vars.Goals as goal
 
 pub returns-then-are_sound_vars : goal.returns-then-are_sound_vars

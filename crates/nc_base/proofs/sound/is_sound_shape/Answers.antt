@@ -1,4 +1,4 @@
-use Rattle.std.proofs.Common.{◌-◌, ◌∙◌, length, length-drop, drop, ap, arith, ℕ}
+use Rattle.std.proofs.Common.{◌-◌, ◌∙◌, length, length-drop, drop, ap, arith}
 use Rattle.std.proofs.lemmas.List.{take_all}
 use Rattle.std.specs.List.{list_all}
 use Rattle.nc_base.specs.Sizes.{is_fixed_dim}
