@@ -199,7 +199,7 @@ none_found : {A : Type 0} (test : A → Bool) (xs : List A) → find test xs ≡
 none_found test [] e = tt
 none_found test (y ∷ ys) e = let h = none_first (test y) y (find test ys) e in (h.0, none_found test ys h.1)
 
-code-known : (code : ℕ) (ty : NcType) → type_of_code code ≡ Some ty → code ≡ code_of ty
+pub code-known : (code : ℕ) (ty : NcType) → type_of_code code ≡ Some ty → code ≡ code_of ty
 code-known code ty e = eqb-true _ _ (found (λ (t : NcType). code == code_of t) all_types ty e)
 
 other-codes : (code : ℕ) → AllByRecursion (λ (t : NcType). (code == code_of t) ≡ false) all_types → (ty : NcType) → (code == code_of ty) ≡ false

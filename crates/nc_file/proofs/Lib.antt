@@ -7,4 +7,5 @@ pub mod FieldLaws
 pub mod ListLaws
 pub mod VariableLaws
 pub mod HeaderLaws
+pub mod Again
 pub mod Answered

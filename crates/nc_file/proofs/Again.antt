@@ -1,0 +1,208 @@
+-- The other direction: bytes, numbers, names and types that are spelled are read, and reading stops with the first wrong field.
+use Rattle.std.proofs.Common.{◌≡◌, ◌≢◌, ℕ, zero, suc, ◌+◌, ◌^◌, ◌<◌, ◌≤◌, Bool, true, false, cond, leb, List, [], ◌∷◌, ◌++◌, length, inl, inr, Option, Some, None, Result, Ok, Err, refl, sym, ap, subst, ◌∙◌, append_assoc, arith}
+use Rattle.std.proofs.lemmas.Bool.{eq-eqb}
+use Rattle.std.proofs.lemmas.List.{append-nil}
+use Rattle.std.proofs.lemmas.Nat.{from_be_bytes-to_be_bytes_4, from_be_bytes-to_be_bytes_8}
+use Rattle.std.specs.Int.{Width, w32, w64}
+use Rattle.std.specs.Prelude.{◌==◌, ◌||◌, ◌⊎◌}
+use Rattle.nc_base.specs.declared.fault.FormatFault.{FormatFault}
+use Rattle.nc_base.specs.declared.fault.FormatFault.TheVariants.{HeaderTruncated}
+use Rattle.nc_base.specs.declared.nc_type.NcType.{NcType}
+use Rattle.nc_base.specs.declared.nc_type.NcType.TheVariants.{Byte, Char, Short, Int, Ubyte, Ushort, Uint, Int64, Uint64}
+use Rattle.nc_base.specs.declared.version.Version.{Version}
+use Rattle.nc_base.specs.declared.version.Version.TheVariants.{Cdf1, Cdf2, Cdf5}
+use Rattle.nc_base.specs.Bytes.{padding_len}
+use Rattle.nc_base.specs.Types.{code_of, type_of_code}
+use Rattle.nc_base.specs.Versions.{count_width, count_limit, has_type}
+use Rattle.nc_base.specs.Names.{is_name, IsName}
+use Rattle.nc_base.specs.Grammar.{SpellsNumber, SpellsCount, SpellsPadded, SpellsName, SpellsType}
+use Rattle.nc_base.specs.FirstFault.{IsCutNumber, StopsInCount, cut_count, negative_count, StopsInName, in_name_len, cut_name, bad_name, cut_name_padding, StopsInType, cut_type, floating, bad_type}
+use Rattle.nc_file.specs.declared.head_fault.HeadFault.{HeadFault}
+use Rattle.nc_file.specs.declared.head_fault.HeadFault.TheVariants.{Format}
+use Rattle.nc_file.specs.Reading.{Outcome, Part, next, ◌>>=◌, done, stop, byte_or, u32_at, u64_at, number_at, count_at, bytes_at, skip_at, padded_at, name_at, type_at, known_type, type_in, type_or_wrong}
+use Rattle.nc_file.proofs.FieldLaws.{code-known, type_of_code-code_of}
+
+-- ---- steps
+
+-- a part that reads a value, and what is read behind it
+pub then-ok : {A B : Type 0} {r : Outcome A} (f : A → Part B) {x : A} {rest : List ℕ} {o : Outcome B} → r ≡ Ok (x, rest) → (f x).run rest ≡ o → next r f ≡ o
+then-ok f e h = ap (λ q. next q f) e ∙ h
+
+-- a part that stops
+pub then-err : {A B : Type 0} {r : Outcome A} (f : A → Part B) {e : HeadFault × List ℕ} → r ≡ Err e → next r f ≡ Err e
+then-err f h = ap (λ q. next q f) h
+
+-- a test that holds
+pub if-so : {A : Type 0} {b : Bool} (p q : Part A) {bytes : List ℕ} {o : Outcome A} → b ≡ true → p.run bytes ≡ o → (cond b p q).run bytes ≡ o
+if-so p q {bytes = bytes} e h = ap (λ c. (cond c p q).run bytes) e ∙ h
+
+-- a test that does not hold
+pub if-not : {A : Type 0} {b : Bool} (p q : Part A) {bytes : List ℕ} {o : Outcome A} → b ≡ false → q.run bytes ≡ o → (cond b p q).run bytes ≡ o
+if-not p q {bytes = bytes} e h = ap (λ c. (cond c p q).run bytes) e ∙ h
+
+-- numbers in their order pass the test
+pub below-test : (a b : ℕ) → b < a → leb a b ≡ false
+below-test a b lt = grind arith
+
+pub above-test : (a b : ℕ) → a ≤ b → leb a b ≡ true
+above-test a b le = grind arith
+
+-- two numbers that differ do not pass the test
+pub other-test : (a b : ℕ) → a ≢ b → (a == b) ≡ false
+other-test a b ne = grind (arith, ne)
+
+-- ---- numbers
+
+pub u32-again : (bytes : List ℕ) (n : ℕ) (rest : List ℕ) → SpellsNumber w32 bytes n rest → u32_at.run bytes ≡ Ok (n, rest)
+unfolding u32_at ◌>>=◌ byte_or done
+u32-again bytes n rest s = ap u32_at.run s.spelled ∙ ap (λ (m : ℕ). Ok (m, rest)) (from_be_bytes-to_be_bytes_4 n s.fits)
+
+pub u64-again : (bytes : List ℕ) (n : ℕ) (rest : List ℕ) → SpellsNumber w64 bytes n rest → u64_at.run bytes ≡ Ok (n, rest)
+unfolding u64_at ◌>>=◌ byte_or done
+u64-again bytes n rest s = ap u64_at.run s.spelled ∙ ap (λ (m : ℕ). Ok (m, rest)) (from_be_bytes-to_be_bytes_8 n s.fits)
+
+pub u32-stops-again : (bytes : List ℕ) → IsCutNumber w32 bytes → u32_at.run bytes ≡ Err (Format HeaderTruncated, [])
+unfolding u32_at ◌>>=◌ byte_or
+u32-stops-again [] cut = refl
+u32-stops-again (a ∷ []) cut = refl
+u32-stops-again (a ∷ b ∷ []) cut = refl
+u32-stops-again (a ∷ b ∷ c ∷ []) cut = refl
+u32-stops-again (a ∷ b ∷ c ∷ d ∷ rest) cut = absurd (omega (arith, cut))
+
+pub u64-stops-again : (bytes : List ℕ) → IsCutNumber w64 bytes → u64_at.run bytes ≡ Err (Format HeaderTruncated, [])
+unfolding u64_at ◌>>=◌ byte_or
+u64-stops-again [] cut = refl
+u64-stops-again (a ∷ []) cut = refl
+u64-stops-again (a ∷ b ∷ []) cut = refl
+u64-stops-again (a ∷ b ∷ c ∷ []) cut = refl
+u64-stops-again (a ∷ b ∷ c ∷ d ∷ []) cut = refl
+u64-stops-again (a ∷ b ∷ c ∷ d ∷ e ∷ []) cut = refl
+u64-stops-again (a ∷ b ∷ c ∷ d ∷ e ∷ f ∷ []) cut = refl
+u64-stops-again (a ∷ b ∷ c ∷ d ∷ e ∷ f ∷ g ∷ []) cut = refl
+u64-stops-again (a ∷ b ∷ c ∷ d ∷ e ∷ f ∷ g ∷ h ∷ rest) cut = absurd (omega (arith, cut))
+
+pub number-again : (v : Version) (bytes : List ℕ) (n : ℕ) (rest : List ℕ) → SpellsNumber (count_width v) bytes n rest → (number_at v).run bytes ≡ Ok (n, rest)
+number-again Cdf1 bytes n rest s = u32-again bytes n rest s
+number-again Cdf2 bytes n rest s = u32-again bytes n rest s
+number-again Cdf5 bytes n rest s = u64-again bytes n rest s
+
+pub number-stops-again : (v : Version) (bytes : List ℕ) → IsCutNumber (count_width v) bytes → (number_at v).run bytes ≡ Err (Format HeaderTruncated, [])
+number-stops-again Cdf1 bytes cut = u32-stops-again bytes cut
+number-stops-again Cdf2 bytes cut = u32-stops-again bytes cut
+number-stops-again Cdf5 bytes cut = u64-stops-again bytes cut
+
+pub count-again : (v : Version) (bytes : List ℕ) (n : ℕ) (rest : List ℕ) → SpellsCount v bytes n rest → (count_at v).run bytes ≡ Ok (n, rest)
+unfolding count_at ◌>>=◌ done
+count-again v bytes n rest s =
+    then-ok _ (number-again v bytes n rest s.number) (if-not _ _ (below-test _ _ s.non_negative) refl)
+
+pub count-stops-again : (v : Version) (bytes : List ℕ) (fault : FormatFault) (rest : List ℕ) → StopsInCount v bytes fault rest → (count_at v).run bytes ≡ Err (Format fault, rest)
+unfolding count_at ◌>>=◌ stop
+count-stops-again v bytes fault rest (cut_count cut) = then-err _ (number-stops-again v bytes cut)
+count-stops-again v bytes fault rest (negative_count n r number high) =
+    then-ok _ (number-again v bytes n r number) (if-so _ _ (above-test _ _ high) refl)
+
+-- ---- bytes
+
+bytes-behind : (content front rest : List ℕ) → (bytes_at (length content) front).run (content ++ rest) ≡ Ok (front ++ content, rest)
+unfolding bytes_at ◌>>=◌ byte_or done
+bytes-behind [] front rest = ap (λ (x : List ℕ). Ok (x, rest)) (sym (append-nil front))
+bytes-behind (b ∷ content) front rest = bytes-behind content (front ++ b ∷ []) rest ∙ ap (λ (x : List ℕ). Ok (x, rest)) (append_assoc front (b ∷ []) content)
+
+pub bytes-again : (n : ℕ) (bytes content rest : List ℕ) → length content ≡ n → bytes ≡ content ++ rest → (bytes_at n []).run bytes ≡ Ok (content, rest)
+bytes-again n bytes content rest count spelled =
+    ap (bytes_at n []).run spelled ∙ ap (λ (k : ℕ). (bytes_at k []).run (content ++ rest)) (sym count) ∙ bytes-behind content [] rest
+
+pub bytes-stops-again : (n : ℕ) (front bytes : List ℕ) → length bytes < n → (bytes_at n front).run bytes ≡ Err (Format HeaderTruncated, [])
+unfolding bytes_at ◌>>=◌ byte_or
+bytes-stops-again zero front bytes cut = absurd (omega (arith, cut))
+bytes-stops-again (suc n) front [] cut = refl
+bytes-stops-again (suc n) front (b ∷ bytes) cut = bytes-stops-again n (front ++ b ∷ []) bytes (omega (arith, cut))
+
+pub skip-again : (n : ℕ) (content rest : List ℕ) → length content ≡ n → (skip_at n).run (content ++ rest) ≡ Ok (tt, rest)
+unfolding skip_at ◌>>=◌ byte_or done
+skip-again zero [] rest count = refl
+skip-again zero (b ∷ content) rest count = absurd (omega (arith, count))
+skip-again (suc n) [] rest count = absurd (omega (arith, count))
+skip-again (suc n) (b ∷ content) rest count = skip-again n content rest (omega (arith, count))
+
+pub skip-stops-again : (n : ℕ) (bytes : List ℕ) → length bytes < n → (skip_at n).run bytes ≡ Err (Format HeaderTruncated, [])
+unfolding skip_at ◌>>=◌ byte_or
+skip-stops-again zero bytes cut = absurd (omega (arith, cut))
+skip-stops-again (suc n) [] cut = refl
+skip-stops-again (suc n) (b ∷ bytes) cut = skip-stops-again n bytes (omega (arith, cut))
+
+-- ---- names
+
+pub name-again : (v : Version) (bytes name rest : List ℕ) → SpellsName v bytes name rest → (name_at v).run bytes ≡ Ok (name, rest)
+unfolding name_at ◌>>=◌ done
+name-again v bytes name rest s =
+    then-ok _ (count-again v bytes (length name) s.behind_count s.count)
+    (then-ok _ (bytes-again (length name) s.behind_count name (s.padded.padding ++ rest) refl s.padded.spelled) (if-so _ _ s.valid
+    (then-ok _ (skip-again (padding_len (length name)) s.padded.padding rest s.padded.padded) refl)))
+
+pub name-stops-again : (v : Version) (bytes : List ℕ) (fault : FormatFault) (rest : List ℕ) → StopsInName v bytes fault rest → (name_at v).run bytes ≡ Err (Format fault, rest)
+unfolding name_at ◌>>=◌ stop
+name-stops-again v bytes fault rest (in_name_len f r s) = then-err _ (count-stops-again v bytes f r s)
+name-stops-again v bytes fault rest (cut_name n body count cut) =
+    then-ok _ (count-again v bytes n body count) (then-err _ (bytes-stops-again n [] body cut))
+name-stops-again v bytes fault rest (bad_name name r count invalid) =
+    then-ok _ (count-again v bytes (length name) (name ++ r) count)
+    (then-ok _ (bytes-again (length name) (name ++ r) name r refl refl) (if-not _ _ invalid refl))
+name-stops-again v bytes fault rest (cut_name_padding name r count valid cut) =
+    then-ok _ (count-again v bytes (length name) (name ++ r) count)
+    (then-ok _ (bytes-again (length name) (name ++ r) name r refl refl) (if-so _ _ valid (then-err _ (skip-stops-again (padding_len (length name)) r cut))))
+
+-- ---- types
+
+is-whole : (ty : NcType) → ((code_of ty == 5) || (code_of ty == 6)) ≡ false
+is-whole Byte = refl
+is-whole Char = refl
+is-whole Short = refl
+is-whole Int = refl
+is-whole Ubyte = refl
+is-whole Ushort = refl
+is-whole Uint = refl
+is-whole Int64 = refl
+is-whole Uint64 = refl
+
+is-floating : (code : ℕ) → (code ≡ 5) ⊎ (code ≡ 6) → ((code == 5) || (code == 6)) ≡ true
+is-floating code (inl five) = rw five refl
+is-floating code (inr six) = rw six refl
+
+is-other : (code : ℕ) → code ≢ 5 → code ≢ 6 → ((code == 5) || (code == 6)) ≡ false
+is-other code not5 not6 = rw (other-test code 5 not5, other-test code 6 not6) refl
+
+-- a type of the version has its code
+type_in-again : (v : Version) (ty : NcType) → has_type v ty ≡ true → type_in v (code_of ty) ≡ Some ty
+unfolding type_in
+type_in-again v ty has = ap (known_type v) (type_of_code-code_of ty) ∙ ap (λ (b : Bool). cond b (Some ty) None) has
+
+-- a code that no type of the version has
+no-type : (v : Version) (code : ℕ) (known : Option NcType) → known ≡ type_of_code code
+    → ((ty : NcType) → has_type v ty ≡ true → code_of ty ≢ code) → known_type v known ≡ None
+no-type v code None is none = refl
+no-type v code (Some ty) is none = at (has_type v ty) refl
+  where
+    at : (b : Bool) → has_type v ty ≡ b → cond b (Some ty) None ≡ None
+    at true has = absurd (none ty has (sym (code-known code ty (sym is))))
+    at false lacks = refl
+
+type_in-none : (v : Version) (code : ℕ) → ((ty : NcType) → has_type v ty ≡ true → code_of ty ≢ code) → type_in v code ≡ None
+unfolding type_in
+type_in-none v code none = no-type v code (type_of_code code) refl none
+
+pub type-again : (v : Version) (bytes : List ℕ) (ty : NcType) (rest : List ℕ) → SpellsType v bytes ty rest → (type_at v).run bytes ≡ Ok (ty, rest)
+unfolding type_at ◌>>=◌ done
+type-again v bytes ty rest s =
+    then-ok _ (u32-again bytes (code_of ty) rest s.number)
+    (if-not _ _ (is-whole ty) (ap (λ (known : Option NcType). (type_or_wrong known).run rest) (type_in-again v ty s.has)))
+
+pub type-stops-again : (v : Version) (bytes : List ℕ) (fault : FormatFault) (rest : List ℕ) → StopsInType v bytes fault rest → (type_at v).run bytes ≡ Err (Format fault, rest)
+unfolding type_at ◌>>=◌ stop
+type-stops-again v bytes fault rest (cut_type cut) = then-err _ (u32-stops-again bytes cut)
+type-stops-again v bytes fault rest (floating code r number is) =
+    then-ok _ (u32-again bytes code r number) (if-so _ _ (is-floating code is) refl)
+type-stops-again v bytes fault rest (bad_type code r number not5 not6 none) =
+    then-ok _ (u32-again bytes code r number)
+    (if-not _ _ (is-other code not5 not6) (ap (λ (known : Option NcType). (type_or_wrong known).run r) (type_in-none v code none)))
