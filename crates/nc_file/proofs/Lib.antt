@@ -8,4 +8,5 @@ pub mod ListLaws
 pub mod VariableLaws
 pub mod HeaderLaws
 pub mod Again
+pub mod ListsAgain
 pub mod Answered

@@ -195,7 +195,7 @@ has_record_dim-append : (dims : List Dim) (d : Dim) → has_record_dim (dims ++ 
 has_record_dim-append dims d =
     list_any-append (λ (dim : Dim). dim.len == 0) dims (d ∷ []) ∙ ap (λ (b : Bool). has_record_dim dims || b) (elim (d.len == 0) as (λ b. (b || false) ≡ b) [ true ↦ refl | false ↦ refl ])
 
-dims_at-each : (v : Version) (n : ℕ) (before : List Dim) (bytes : List ℕ)
+pub dims_at-each : (v : Version) (n : ℕ) (before : List Dim) (bytes : List ℕ)
     → (dims_at v n (has_record_dim before) before).run bytes ≡ (each_at (λ b. dim_at v (has_record_dim b)) n before).run bytes
 unfolding dims_at each_at ◌>>=◌
 dims_at-each v zero before bytes = refl

@@ -1,0 +1,258 @@
+-- The other direction: lists, dimensions and attributes that are spelled are read, and reading stops with their first wrong field.
+use Rattle.std.proofs.Common.{◌≡◌, ◌≢◌, ℕ, zero, suc, ◌+◌, ◌*◌, ◌<◌, ◌≤◌, Bool, true, false, cond, List, [], ◌∷◌, ◌++◌, length, inl, inr, Result, Ok, Err, refl, sym, ap, subst, ◌∙◌, append_assoc, arith}
+use Rattle.std.proofs.lemmas.Bool.{eqb-true, eq-eqb}
+use Rattle.std.proofs.lemmas.List.{append-nil}
+use Rattle.std.specs.Int.{Width, w32}
+use Rattle.std.specs.Prelude.{◌==◌, ◌&&◌, ◌⊎◌, not}
+use Rattle.nc_base.specs.declared.fault.FormatFault.{FormatFault}
+use Rattle.nc_base.specs.declared.fault.FormatFault.TheVariants.{HeaderTruncated, BadTag, BadCount}
+use Rattle.nc_base.specs.declared.header.Att.{Att}
+use Rattle.nc_base.specs.declared.header.Dim.{Dim}
+use Rattle.nc_base.specs.declared.nc_type.NcType.{NcType}
+use Rattle.nc_base.specs.declared.version.Version.{Version}
+use Rattle.nc_base.specs.Bytes.{padding_len}
+use Rattle.nc_base.specs.Types.{size_of}
+use Rattle.nc_base.specs.Headers.{has_record_dim}
+use Rattle.nc_base.specs.Grammar.{ElementSpelling, dimension_tag, attribute_tag, SpellsNumber, SpellsCount, SpellsPadded, SpellsEach, SpellsCounted, SpellsList, absent, present, SpellsDim, SpellsAttFront, SpellsAtt, SpellsAtts}
+use Rattle.nc_base.specs.FirstFault.{ElementStop, StopsInCount, StopsInEach, StopsInCounted, in_count, in_element, StopsInList, cut_tag, bad_tag, in_absent_count, absent_elements, in_present, StopsInDim, in_dim_name, in_dim_len, second_record_dim, StopsInAtt, in_att_name, in_att_type, in_att_count, cut_values, cut_value_padding, StopsInAtts}
+use Rattle.nc_file.specs.declared.head_fault.HeadFault.TheVariants.{Format}
+use Rattle.nc_file.specs.Reading.{Outcome, Part, next, ◌>>=◌, done, stop, list_len_at, count_at, padded_at, each_at, dim_at, dims_at, dim_list_at, att_at, atts_at, att_list_at}
+use Rattle.nc_file.proofs.ListLaws.{SpellsListLen, absent_len, present_len, dims_at-each}
+use Rattle.nc_file.proofs.Again.{then-ok, then-err, if-so, if-not, other-test, u32-again, u32-stops-again, count-again, count-stops-again, bytes-again, bytes-stops-again, skip-again, skip-stops-again, name-again, name-stops-again, type-again, type-stops-again}
+
+-- ---- the tag and the count of a list
+
+-- a tag of a list is not zero
+abbrev pub IsListTag : ℕ → Type 0
+IsListTag tag = (tag == 0) ≡ false
+
+-- a list's own tag is no wrong one
+own-tag : (tag : ℕ) (b : Bool) → (not b && not (tag == tag)) ≡ false
+own-tag tag true = refl
+own-tag tag false = rw (eq-eqb tag tag refl) refl
+
+-- a tag that is neither zero nor the list's
+wrong-tag : (tag found : ℕ) → found ≢ 0 → found ≢ tag → (not (found == 0) && not (found == tag)) ≡ true
+wrong-tag tag found not_zero not_own = rw (other-test found 0 not_zero, other-test found tag not_own) refl
+
+-- behind a tag any count may stand
+any-count : (tag : ℕ) (b : Bool) → IsListTag tag → ((tag == 0) && b) ≡ false
+any-count tag b is = rw is refl
+
+pub list_len-again : (v : Version) (tag : ℕ) (bytes : List ℕ) (n : ℕ) (rest : List ℕ) → IsListTag tag → SpellsListLen v tag bytes n rest → (list_len_at v tag).run bytes ≡ Ok (n, rest)
+unfolding list_len_at ◌>>=◌ done
+list_len-again v tag bytes n rest is (absent_len behind_tag number count none) =
+    then-ok _ (u32-again bytes 0 behind_tag number)
+    (then-ok _ (count-again v behind_tag n rest count) (if-not _ _ (ap not (eq-eqb n 0 none)) refl))
+list_len-again v tag bytes n rest is (present_len behind_tag number count) =
+    then-ok _ (u32-again bytes tag behind_tag number)
+    (if-not _ _ (own-tag tag (tag == 0))
+    (then-ok _ (count-again v behind_tag n rest count) (if-not _ _ (any-count tag (not (n == 0)) is) refl)))
+
+-- the count behind a list's own tag is wrong
+present-count-stops : (v : Version) (tag : ℕ) (bytes behind_tag : List ℕ) (fault : FormatFault) (rest : List ℕ)
+    → SpellsNumber w32 bytes tag behind_tag → StopsInCount v behind_tag fault rest → (list_len_at v tag).run bytes ≡ Err (Format fault, rest)
+unfolding list_len_at ◌>>=◌
+present-count-stops v tag bytes behind_tag fault rest number s =
+    then-ok _ (u32-again bytes tag behind_tag number)
+    (if-not _ _ (own-tag tag (tag == 0)) (then-err _ (count-stops-again v behind_tag fault rest s)))
+
+-- ---- elements
+
+-- what is spelled is read as one element
+abbrev pub ElementAgain : {A : Type 0} → ElementSpelling A → (List A → Part A) → Type 0
+ElementAgain {A = A} Element element =
+    (before : List A) (bytes : List ℕ) (x : A) (rest : List ℕ) → Element before bytes x rest → (element before).run bytes ≡ Ok (x, rest)
+
+-- reading an element stops with its first wrong field
+abbrev pub ElementStopsAgain : {A : Type 0} → ElementStop A → (List A → Part A) → Type 0
+ElementStopsAgain {A = A} Stops element =
+    (before : List A) (bytes : List ℕ) (fault : FormatFault) (rest : List ℕ) → Stops before bytes fault rest → (element before).run bytes ≡ Err (Format fault, rest)
+
+pub each-again : {A : Type 0} (Element : ElementSpelling A) (element : List A → Part A) → ElementAgain Element element
+    → (xs before : List A) (bytes rest : List ℕ) → SpellsEach Element before bytes xs rest
+    → (each_at element (length xs) before).run bytes ≡ Ok (before ++ xs, rest)
+unfolding each_at ◌>>=◌ done
+each-again {A = A} Element element again [] before bytes rest s = ap (λ (r : List ℕ). Ok (before, r)) s ∙ ap (λ (xs : List A). Ok (xs, rest)) (sym (append-nil before))
+each-again {A = A} Element element again (x ∷ xs) before bytes rest s =
+    then-ok _ (again before bytes x s.0 s.1)
+    (each-again Element element again xs (before ++ x ∷ []) s.0 rest s.2 ∙ ap (λ (ys : List A). Ok (ys, rest)) (append_assoc before (x ∷ []) xs))
+
+pub each-stops-again : {A : Type 0} (Element : ElementSpelling A) (Stops : ElementStop A) (element : List A → Part A)
+    → ElementAgain Element element → ElementStopsAgain Stops element
+    → (n : ℕ) (before : List A) (bytes : List ℕ) (fault : FormatFault) (rest : List ℕ) → StopsInEach Element Stops n before bytes fault rest
+    → (each_at element n before).run bytes ≡ Err (Format fault, rest)
+unfolding each_at ◌>>=◌
+each-stops-again Element Stops element again stops_again zero before bytes fault rest s = absurd s
+each-stops-again Element Stops element again stops_again (suc n) before bytes fault rest (inl s) = then-err _ (stops_again before bytes fault rest s)
+each-stops-again Element Stops element again stops_again (suc n) before bytes fault rest (inr s) =
+    then-ok _ (again before bytes s.0 s.1 s.2)
+    (each-stops-again Element Stops element again stops_again n (before ++ s.0 ∷ []) s.1 fault rest s.3)
+
+-- ---- lists
+
+-- elements that are spelled one behind the other are read
+abbrev pub ElementsAgain : {A : Type 0} → ElementSpelling A → (ℕ → Part (List A)) → Type 0
+ElementsAgain {A = A} Element elements =
+    (xs : List A) (bytes rest : List ℕ) → SpellsEach Element [] bytes xs rest → (elements (length xs)).run bytes ≡ Ok (xs, rest)
+
+-- reading them stops with the first wrong field of all
+abbrev pub ElementsStopAgain : {A : Type 0} → ElementSpelling A → ElementStop A → (ℕ → Part (List A)) → Type 0
+ElementsStopAgain Element Stops elements =
+    (n : ℕ) (bytes : List ℕ) (fault : FormatFault) (rest : List ℕ) → StopsInEach Element Stops n [] bytes fault rest → (elements n).run bytes ≡ Err (Format fault, rest)
+
+pub list-again : {A : Type 0} (v : Version) (tag : ℕ) (Element : ElementSpelling A) (elements : ℕ → Part (List A))
+    → IsListTag tag → ElementsAgain Element elements
+    → (bytes : List ℕ) (xs : List A) (rest : List ℕ) → SpellsList v tag Element bytes xs rest
+    → next ((list_len_at v tag).run bytes) elements ≡ Ok (xs, rest)
+list-again {A = A} v tag Element elements is again bytes xs rest (absent behind_tag number count none) =
+    then-ok _ (list_len-again v tag bytes 0 rest is (absent_len behind_tag number count refl))
+    (again [] rest rest refl ∙ ap (λ (ys : List A). Ok (ys, rest)) (sym none))
+list-again v tag Element elements is again bytes xs rest (present behind_tag number counted) =
+    then-ok _ (list_len-again v tag bytes (length xs) counted.behind_count is (present_len behind_tag number counted.count))
+    (again xs counted.behind_count rest counted.each)
+
+-- reading a list stops in what stands behind its own tag
+present-stops : {A : Type 0} (v : Version) (tag : ℕ) (Element : ElementSpelling A) (Stops : ElementStop A) (elements : ℕ → Part (List A))
+    → IsListTag tag → ElementsStopAgain Element Stops elements
+    → (bytes behind_tag : List ℕ) (fault : FormatFault) (rest : List ℕ) → SpellsNumber w32 bytes tag behind_tag → StopsInCounted v Element Stops behind_tag fault rest
+    → next ((list_len_at v tag).run bytes) elements ≡ Err (Format fault, rest)
+present-stops v tag Element Stops elements is stop_again bytes behind_tag fault rest number (in_count f r s) =
+    then-err _ (present-count-stops v tag bytes behind_tag f r number s)
+present-stops v tag Element Stops elements is stop_again bytes behind_tag fault rest number (in_element n body f r count s) =
+    then-ok _ (list_len-again v tag bytes n body is (present_len behind_tag number count)) (stop_again n body f r s)
+
+-- reading the tag and the count stops
+len-stops : (v : Version) (tag : ℕ) (bytes behind_tag : List ℕ) (fault : FormatFault) (rest : List ℕ)
+    → SpellsNumber w32 bytes 0 behind_tag → StopsInCount v behind_tag fault rest → (list_len_at v tag).run bytes ≡ Err (Format fault, rest)
+unfolding list_len_at ◌>>=◌
+len-stops v tag bytes behind_tag fault rest number s =
+    then-ok _ (u32-again bytes 0 behind_tag number) (then-err _ (count-stops-again v behind_tag fault rest s))
+
+cut-tag-stops : (v : Version) (tag : ℕ) (bytes : List ℕ) → length bytes < 4 → (list_len_at v tag).run bytes ≡ Err (Format HeaderTruncated, [])
+unfolding list_len_at ◌>>=◌
+cut-tag-stops v tag bytes cut = then-err _ (u32-stops-again bytes cut)
+
+bad-tag-stops : (v : Version) (tag found : ℕ) (bytes rest : List ℕ) → SpellsNumber w32 bytes found rest → found ≢ 0 → found ≢ tag
+    → (list_len_at v tag).run bytes ≡ Err (Format BadTag, rest)
+unfolding list_len_at ◌>>=◌ stop
+bad-tag-stops v tag found bytes rest number not_zero not_own =
+    then-ok _ (u32-again bytes found rest number) (if-so _ _ (wrong-tag tag found not_zero not_own) refl)
+
+absent-elements-stop : (v : Version) (tag n : ℕ) (bytes behind_tag rest : List ℕ) → SpellsNumber w32 bytes 0 behind_tag → SpellsCount v behind_tag n rest → n ≢ 0
+    → (list_len_at v tag).run bytes ≡ Err (Format BadCount, rest)
+unfolding list_len_at ◌>>=◌ stop
+absent-elements-stop v tag n bytes behind_tag rest number count some =
+    then-ok _ (u32-again bytes 0 behind_tag number)
+    (then-ok _ (count-again v behind_tag n rest count) (if-so _ _ (ap not (other-test n 0 some)) refl))
+
+pub list-stops-again : {A : Type 0} (v : Version) (tag : ℕ) (Element : ElementSpelling A) (Stops : ElementStop A) (elements : ℕ → Part (List A))
+    → IsListTag tag → ElementsStopAgain Element Stops elements
+    → (bytes : List ℕ) (fault : FormatFault) (rest : List ℕ) → StopsInList v tag Element Stops bytes fault rest
+    → next ((list_len_at v tag).run bytes) elements ≡ Err (Format fault, rest)
+list-stops-again v tag Element Stops elements is stop_again bytes fault rest (cut_tag cut) = then-err _ (cut-tag-stops v tag bytes cut)
+list-stops-again v tag Element Stops elements is stop_again bytes fault rest (bad_tag found r number not_zero not_own) =
+    then-err _ (bad-tag-stops v tag found bytes r number not_zero not_own)
+list-stops-again v tag Element Stops elements is stop_again bytes fault rest (in_absent_count behind_tag f r number s) =
+    then-err _ (len-stops v tag bytes behind_tag f r number s)
+list-stops-again v tag Element Stops elements is stop_again bytes fault rest (absent_elements behind_tag n r number count some) =
+    then-err _ (absent-elements-stop v tag n bytes behind_tag r number count some)
+list-stops-again v tag Element Stops elements is stop_again bytes fault rest (in_present behind_tag f r number s) =
+    present-stops v tag Element Stops elements is stop_again bytes behind_tag f r number s
+
+-- ---- dimensions
+
+-- no second record dimension
+single-test : (a b : Bool) → (b ≡ true → a ≡ false) → (a && b) ≡ false
+single-test true true h = h refl
+single-test true false h = refl
+single-test false b h = refl
+
+pub dim-again : (v : Version) → ElementAgain (SpellsDim v) (λ before. dim_at v (has_record_dim before))
+unfolding dim_at ◌>>=◌ done
+dim-again v before bytes dim rest s =
+    then-ok _ (name-again v bytes dim.name s.behind_name s.name)
+    (then-ok _ (count-again v s.behind_name dim.len rest s.len)
+    (if-not _ _ (single-test (has_record_dim before) (dim.len == 0) (λ none. s.one_record_dim (eqb-true _ _ none))) refl))
+
+pub dim-stops-again : (v : Version) → ElementStopsAgain (StopsInDim v) (λ before. dim_at v (has_record_dim before))
+unfolding dim_at ◌>>=◌ stop
+dim-stops-again v before bytes fault rest (in_dim_name f r s) = then-err _ (name-stops-again v bytes f r s)
+dim-stops-again v before bytes fault rest (in_dim_len name behind_name f r named s) =
+    then-ok _ (name-again v bytes name behind_name named) (then-err _ (count-stops-again v behind_name f r s))
+dim-stops-again v before bytes fault rest (second_record_dim name behind_name r named count seen) =
+    then-ok _ (name-again v bytes name behind_name named)
+    (then-ok _ (count-again v behind_name 0 r count) (if-so _ _ (ap (λ (b : Bool). b && true) seen) refl))
+
+pub dims-again : (v : Version) (bytes : List ℕ) (dims : List Dim) (rest : List ℕ) → SpellsList v dimension_tag (SpellsDim v) bytes dims rest → (dim_list_at v).run bytes ≡ Ok (dims, rest)
+unfolding dim_list_at ◌>>=◌
+dims-again v bytes dims rest s =
+    list-again v dimension_tag (SpellsDim v) (λ n. dims_at v n false []) refl
+    (λ xs body more each. dims_at-each v (length xs) [] body ∙ each-again (SpellsDim v) (λ b. dim_at v (has_record_dim b)) (dim-again v) xs [] body more each)
+    bytes dims rest s
+
+pub dims-stop-again : (v : Version) (bytes : List ℕ) (fault : FormatFault) (rest : List ℕ) → StopsInList v dimension_tag (SpellsDim v) (StopsInDim v) bytes fault rest → (dim_list_at v).run bytes ≡ Err (Format fault, rest)
+unfolding dim_list_at ◌>>=◌
+dims-stop-again v bytes fault rest s =
+    list-stops-again v dimension_tag (SpellsDim v) (StopsInDim v) (λ n. dims_at v n false []) refl
+    (λ n body f r each. dims_at-each v n [] body ∙ each-stops-again (SpellsDim v) (StopsInDim v) (λ b. dim_at v (has_record_dim b)) (dim-again v) (dim-stops-again v) n [] body f r each)
+    bytes fault rest s
+
+-- ---- attributes
+
+pub padded-again : (n : ℕ) (bytes content rest : List ℕ) → length content ≡ n → SpellsPadded bytes content rest → (padded_at n).run bytes ≡ Ok (content, rest)
+unfolding padded_at ◌>>=◌ done
+padded-again n bytes content rest count s =
+    then-ok _ (bytes-again n bytes content (s.padding ++ rest) count s.spelled)
+    (then-ok _ (skip-again (padding_len n) s.padding rest (s.padded ∙ ap padding_len count)) refl)
+
+-- the file ends in so many bytes
+pub content-stops-again : (n : ℕ) (bytes : List ℕ) → length bytes < n → (padded_at n).run bytes ≡ Err (Format HeaderTruncated, [])
+unfolding padded_at ◌>>=◌
+content-stops-again n bytes cut = then-err _ (bytes-stops-again n [] bytes cut)
+
+-- the file ends in their padding
+pub padding-stops-again : (n : ℕ) (content rest : List ℕ) → length content ≡ n → length rest < padding_len (length content) → (padded_at n).run (content ++ rest) ≡ Err (Format HeaderTruncated, [])
+unfolding padded_at ◌>>=◌
+padding-stops-again n content rest count cut =
+    then-ok _ (bytes-again n (content ++ rest) content rest count refl)
+    (then-err _ (skip-stops-again (padding_len n) rest (subst (λ (k : ℕ). length rest < padding_len k) count cut)))
+
+pub att-again : (v : Version) → ElementAgain (SpellsAtt v) (λ before. att_at v)
+unfolding att_at ◌>>=◌ done
+att-again v before bytes att rest s =
+    then-ok _ (name-again v bytes att.name s.front.behind_name s.front.named)
+    (then-ok _ (type-again v s.front.behind_name att.ty s.front.behind_type s.front.typed)
+    (then-ok _ (count-again v s.front.behind_type s.count s.behind_count s.front.counted)
+    (then-ok _ (padded-again (s.count * size_of att.ty) s.behind_count att.vals rest s.whole s.values) refl)))
+
+pub att-stops-again : (v : Version) → ElementStopsAgain (StopsInAtt v) (λ before. att_at v)
+unfolding att_at ◌>>=◌
+att-stops-again v before bytes fault rest (in_att_name f r s) = then-err _ (name-stops-again v bytes f r s)
+att-stops-again v before bytes fault rest (in_att_type name behind_name f r named s) =
+    then-ok _ (name-again v bytes name behind_name named) (then-err _ (type-stops-again v behind_name f r s))
+att-stops-again v before bytes fault rest (in_att_count name behind_name behind_type ty f r named typed s) =
+    then-ok _ (name-again v bytes name behind_name named)
+    (then-ok _ (type-again v behind_name ty behind_type typed) (then-err _ (count-stops-again v behind_type f r s)))
+att-stops-again v before bytes fault rest (cut_values name body ty count front cut) =
+    then-ok _ (name-again v bytes name front.behind_name front.named)
+    (then-ok _ (type-again v front.behind_name ty front.behind_type front.typed)
+    (then-ok _ (count-again v front.behind_type count body front.counted) (then-err _ (content-stops-again (count * size_of ty) body cut))))
+att-stops-again v before bytes fault rest (cut_value_padding name vals r ty count front whole cut) =
+    then-ok _ (name-again v bytes name front.behind_name front.named)
+    (then-ok _ (type-again v front.behind_name ty front.behind_type front.typed)
+    (then-ok _ (count-again v front.behind_type count (vals ++ r) front.counted) (then-err _ (padding-stops-again (count * size_of ty) vals r whole cut))))
+
+pub atts-again : (v : Version) (bytes : List ℕ) (atts : List Att) (rest : List ℕ) → SpellsAtts v bytes atts rest → (att_list_at v).run bytes ≡ Ok (atts, rest)
+unfolding att_list_at atts_at ◌>>=◌
+atts-again v bytes atts rest s =
+    list-again v attribute_tag (SpellsAtt v) (λ n. atts_at v n []) refl
+    (λ xs body more each. each-again (SpellsAtt v) (λ before. att_at v) (att-again v) xs [] body more each)
+    bytes atts rest s
+
+pub atts-stop-again : (v : Version) (bytes : List ℕ) (fault : FormatFault) (rest : List ℕ) → StopsInAtts v bytes fault rest → (att_list_at v).run bytes ≡ Err (Format fault, rest)
+unfolding att_list_at atts_at ◌>>=◌
+atts-stop-again v bytes fault rest s =
+    list-stops-again v attribute_tag (SpellsAtt v) (StopsInAtt v) (λ n. atts_at v n []) refl
+    (λ n body f r each. each-stops-again (SpellsAtt v) (StopsInAtt v) (λ before. att_at v) (att-again v) (att-stops-again v) n [] body f r each)
+    bytes fault rest s
