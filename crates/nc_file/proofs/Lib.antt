@@ -9,4 +9,5 @@ pub mod VariableLaws
 pub mod HeaderLaws
 pub mod Again
 pub mod ListsAgain
+pub mod VariablesAgain
 pub mod Answered

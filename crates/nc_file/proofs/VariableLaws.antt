@@ -45,12 +45,12 @@ length-none : {A : Type 0} (xs : List A) → (length xs == 0) ≡ true → xs �
 length-none [] e = refl
 length-none (x ∷ xs) e = let none : length (x ∷ xs) ≡ 0 = eqb-true _ _ e in absurd (omega arith)
 
-is-dimid : (dims : List Dim) (before : List ℕ) (id : ℕ) → is_dimid dims (is_first before) id ≡ true → IsDimid dims before id
+pub is-dimid : (dims : List Dim) (before : List ℕ) (id : ℕ) → is_dimid dims (is_first before) id ≡ true → IsDimid dims before id
 is-dimid dims before id e =
     let h = and-true (ltb id (length dims)) (is_first before || not (is_record_dim dims id)) e in
     record { known = ltb-true _ _ h.0; record_first = λ r. length-none before (first-or-fixed (is_first before) (is_record_dim dims id) h.1 r) }
 
-known-and-first : (a first r : Bool) → a ≡ true → (r ≡ true → first ≡ true) → (a && (first || not r)) ≡ true
+pub known-and-first : (a first r : Bool) → a ≡ true → (r ≡ true → first ≡ true) → (a && (first || not r)) ≡ true
 known-and-first true true r known first_of = refl
 known-and-first true false true known first_of = first_of refl
 known-and-first true false false known first_of = refl
@@ -78,7 +78,7 @@ is_first-append : (before : List ℕ) (id : ℕ) → is_first (before ++ id ∷ 
 is_first-append [] id = refl
 is_first-append (x ∷ before) id = grind arith
 
-dimids_at-each : (v : Version) (dims : List Dim) (n : ℕ) (before bytes : List ℕ)
+pub dimids_at-each : (v : Version) (dims : List Dim) (n : ℕ) (before bytes : List ℕ)
     → (dimids_at v dims n (is_first before) before).run bytes ≡ (each_at (λ b. dimid_at v dims (is_first b)) n before).run bytes
 unfolding dimids_at each_at ◌>>=◌
 dimids_at-each v dims zero before bytes = refl
@@ -131,7 +131,7 @@ record_vars-one : (dims : List Dim) (var : Var) → total_of dims (var ∷ []) �
 record_vars-one dims var =
     elim (is_record_var dims var) as (λ b. padded_total dims (cond b (var ∷ []) []) ≡ cond b (padded_size dims var) 0) [ true ↦ omega arith | false ↦ refl ]
 
-total_of-append : (dims : List Dim) (before : List Var) (var : Var) → total_of dims (before ++ var ∷ []) ≡ total_of dims before + record_part dims var.dimids var.ty
+pub total_of-append : (dims : List Dim) (before : List Var) (var : Var) → total_of dims (before ++ var ∷ []) ≡ total_of dims before + record_part dims var.dimids var.ty
 total_of-append dims before var =
     ap (padded_total dims) (filter-append (is_record_var dims) before (var ∷ []))
     ∙ ap (λ (ns : List ℕ). sum ns) (map-append (padded_size dims) (record_vars dims before) (record_vars dims (var ∷ [])))
@@ -143,11 +143,11 @@ pub record Fits (dims : List Dim) (ids : List ℕ) (ty : NcType) (total : ℕ) :
   pub slab : slab_of dims ids ty ≤ slab_limit
   pub records : total + record_part dims ids ty ≤ record_limit
 
-within : (dims : List Dim) (before : List Var) (var : Var) (total : ℕ) → total ≡ total_of dims before → Fits dims var.dimids var.ty total → IsWithinLimits dims before var
+pub within : (dims : List Dim) (before : List Var) (var : Var) (total : ℕ) → total ≡ total_of dims before → Fits dims var.dimids var.ty total → IsWithinLimits dims before var
 within dims before var total same fits =
     record { slab = fits.slab; record_bytes = omega (arith, total_of-append dims before var, same, fits.records) }
 
-fits-within : (dims : List Dim) (before : List Var) (var : Var) (total : ℕ) → total ≡ total_of dims before → IsWithinLimits dims before var → Fits dims var.dimids var.ty total
+pub fits-within : (dims : List Dim) (before : List Var) (var : Var) (total : ℕ) → total ≡ total_of dims before → IsWithinLimits dims before var → Fits dims var.dimids var.ty total
 fits-within dims before var total same w =
     record { slab = w.slab; records = omega (arith, total_of-append dims before var, same, w.record_bytes) }
 

@@ -1,0 +1,224 @@
+-- The other direction: variables that are spelled are read, and reading stops with their first wrong field.
+use Rattle.std.proofs.Common.{◌≡◌, ◌≢◌, ℕ, zero, suc, ◌+◌, ◌*◌, ◌<◌, ◌≤◌, Bool, true, false, cond, leb, ltb, List, [], ◌∷◌, ◌++◌, length, inl, inr, Option, Some, None, Result, Ok, Err, refl, sym, ap, subst, ◌∙◌, append_assoc, arith}
+use Rattle.std.proofs.lemmas.Bool.{leb-true}
+use Rattle.std.proofs.lemmas.List.{append-nil}
+use Rattle.std.specs.Prelude.{◌==◌, ◌||◌, ◌&&◌, not}
+use Rattle.nc_base.specs.declared.fault.FormatFault.{FormatFault}
+use Rattle.nc_base.specs.declared.fault.FormatFault.TheVariants.{HeaderTruncated, BadOffset, TooLarge}
+use Rattle.nc_base.specs.declared.header.Att.{Att}
+use Rattle.nc_base.specs.declared.header.Dim.{Dim}
+use Rattle.nc_base.specs.declared.header.Var.{Var}
+use Rattle.nc_base.specs.declared.nc_type.NcType.{NcType}
+use Rattle.nc_base.specs.declared.version.Version.{Version}
+use Rattle.nc_base.specs.declared.version.Version.TheVariants.{Cdf1, Cdf2, Cdf5}
+use Rattle.nc_base.specs.Versions.{count_width, offset_width, offset_limit}
+use Rattle.nc_base.specs.Sizes.{is_record_dim, slab_of, slab_limit, record_limit}
+use Rattle.nc_base.specs.Headers.{IsDimid}
+use Rattle.nc_base.specs.Grammar.{variable_tag, SpellsNumber, SpellsOffset, SpellsEach, SpellsCounted, SpellsList, SpellsDimid, SpellsVar, SpellsVarFront, SpellsTypedVar, IsWithinLimits}
+use Rattle.nc_base.specs.FirstFault.{IsCutNumber, StopsInCounted, in_count, in_element, StopsInEach, StopsInList, StopsInDimid, cut_dimid, bad_dimid, StopsInVar, in_var_name, in_shape, in_var_atts, in_var_type, too_large, cut_vsize, cut_begin, negative_begin}
+use Rattle.nc_file.specs.declared.head_fault.HeadFault.TheVariants.{Format}
+use Rattle.nc_file.specs.declared.sized_var.SizedVar.{SizedVar}
+use Rattle.nc_file.specs.Reading.{Outcome, Part, next, ◌>>=◌, done, stop, number_at, type_at, is_dimid, dimid_at, dimids_at, shape_at, wide_at, offset_at, record_part, total_with, total_or_wrong, var_at, vars_at, var_list_at}
+use Rattle.nc_file.proofs.ListLaws.{and-true}
+use Rattle.nc_file.proofs.VariableLaws.{is_first, is-dimid, known-and-first, dimids_at-each, total_of, total_of-append, Fits, within, fits-within}
+use Rattle.nc_file.proofs.Again.{then-ok, then-err, if-so, if-not, below-test, above-test, u32-again, u64-again, u32-stops-again, u64-stops-again, number-again, number-stops-again, count-again, count-stops-again, name-again, name-stops-again, type-again, type-stops-again}
+use Rattle.nc_file.proofs.ListsAgain.{ElementAgain, ElementStopsAgain, each-again, each-stops-again, list-again, list-stops-again, atts-again, atts-stop-again}
+
+-- a test that cannot hold
+not-so : (b : Bool) → ¬ (b ≡ true) → b ≡ false
+not-so true h = absurd (h refl)
+not-so false h = refl
+
+-- two tests that hold
+both-so : (a b : Bool) → a ≡ true → b ≡ true → (a && b) ≡ true
+both-so a b e f = ap (λ x. x && b) e ∙ f
+
+-- ---- dimension ids
+
+dimid-test : (dims : List Dim) (before : List ℕ) (id : ℕ) → IsDimid dims before id → is_dimid dims (is_first before) id ≡ true
+dimid-test dims before id h =
+    let known : ltb id (length dims) ≡ true = grind (arith, h.known) in
+    known-and-first (ltb id (length dims)) (is_first before) (is_record_dim dims id) known (λ r. ap (λ (xs : List ℕ). length xs == 0) (h.record_first r))
+
+pub dimid-again : (v : Version) (dims : List Dim) → ElementAgain (SpellsDimid v dims) (λ before. dimid_at v dims (is_first before))
+unfolding dimid_at ◌>>=◌ done
+dimid-again v dims before bytes id rest s =
+    then-ok _ (number-again v bytes id rest s.number) (if-so _ _ (dimid-test dims before id s.known) refl)
+
+pub dimid-stops-again : (v : Version) (dims : List Dim) → ElementStopsAgain (StopsInDimid v dims) (λ before. dimid_at v dims (is_first before))
+unfolding dimid_at ◌>>=◌ stop
+dimid-stops-again v dims before bytes fault rest (cut_dimid cut) = then-err _ (number-stops-again v bytes cut)
+dimid-stops-again v dims before bytes fault rest (bad_dimid id r number unknown) =
+    then-ok _ (number-again v bytes id r number)
+    (if-not _ _ (not-so (is_dimid dims (is_first before) id) (λ e. unknown (is-dimid dims before id e))) refl)
+
+pub shape-again : (v : Version) (dims : List Dim) (bytes ids rest : List ℕ) → SpellsCounted v (SpellsDimid v dims) bytes ids rest → (shape_at v dims).run bytes ≡ Ok (ids, rest)
+unfolding shape_at ◌>>=◌
+shape-again v dims bytes ids rest s =
+    then-ok _ (count-again v bytes (length ids) s.behind_count s.count)
+    (dimids_at-each v dims (length ids) [] s.behind_count
+    ∙ each-again (SpellsDimid v dims) (λ b. dimid_at v dims (is_first b)) (dimid-again v dims) ids [] s.behind_count rest s.each)
+
+pub shape-stops-again : (v : Version) (dims : List Dim) (bytes : List ℕ) (fault : FormatFault) (rest : List ℕ)
+    → StopsInCounted v (SpellsDimid v dims) (StopsInDimid v dims) bytes fault rest → (shape_at v dims).run bytes ≡ Err (Format fault, rest)
+unfolding shape_at ◌>>=◌
+shape-stops-again v dims bytes fault rest (in_count f r s) = then-err _ (count-stops-again v bytes f r s)
+shape-stops-again v dims bytes fault rest (in_element n body f r count s) =
+    then-ok _ (count-again v bytes n body count)
+    (dimids_at-each v dims n [] body
+    ∙ each-stops-again (SpellsDimid v dims) (StopsInDimid v dims) (λ b. dimid_at v dims (is_first b)) (dimid-again v dims) (dimid-stops-again v dims) n [] body f r s)
+
+-- ---- offsets
+
+pub wide-again : (v : Version) (bytes : List ℕ) (n : ℕ) (rest : List ℕ) → SpellsNumber (offset_width v) bytes n rest → (wide_at v).run bytes ≡ Ok (n, rest)
+wide-again Cdf1 bytes n rest s = u32-again bytes n rest s
+wide-again Cdf2 bytes n rest s = u64-again bytes n rest s
+wide-again Cdf5 bytes n rest s = u64-again bytes n rest s
+
+pub wide-stops-again : (v : Version) (bytes : List ℕ) → IsCutNumber (offset_width v) bytes → (wide_at v).run bytes ≡ Err (Format HeaderTruncated, [])
+wide-stops-again Cdf1 bytes cut = u32-stops-again bytes cut
+wide-stops-again Cdf2 bytes cut = u64-stops-again bytes cut
+wide-stops-again Cdf5 bytes cut = u64-stops-again bytes cut
+
+pub offset-again : (v : Version) (bytes : List ℕ) (n : ℕ) (rest : List ℕ) → SpellsOffset v bytes n rest → (offset_at v).run bytes ≡ Ok (n, rest)
+unfolding offset_at ◌>>=◌ done
+offset-again v bytes n rest s =
+    then-ok _ (wide-again v bytes n rest s.number) (if-not _ _ (below-test _ _ s.non_negative) refl)
+
+-- the file ends in an offset
+pub cut-offset-again : (v : Version) (bytes : List ℕ) → IsCutNumber (offset_width v) bytes → (offset_at v).run bytes ≡ Err (Format HeaderTruncated, [])
+unfolding offset_at ◌>>=◌
+cut-offset-again v bytes cut = then-err _ (wide-stops-again v bytes cut)
+
+-- an offset's top bit is 1
+pub negative-offset-again : (v : Version) (bytes : List ℕ) (n : ℕ) (rest : List ℕ) → SpellsNumber (offset_width v) bytes n rest → offset_limit v ≤ n → (offset_at v).run bytes ≡ Err (Format BadOffset, rest)
+unfolding offset_at ◌>>=◌ stop
+negative-offset-again v bytes n rest number high =
+    then-ok _ (wide-again v bytes n rest number) (if-so _ _ (above-test _ _ high) refl)
+
+-- ---- limits
+
+-- what the limits allow is counted
+pub total-again : (dims : List Dim) (ids : List ℕ) (ty : NcType) (total : ℕ) (here : List ℕ) → Fits dims ids ty total
+    → (total_or_wrong (total_with dims ids ty total)).run here ≡ Ok (total + record_part dims ids ty, here)
+unfolding total_with done
+total-again dims ids ty total here fits =
+    ap (λ b. (total_or_wrong (cond b (Some (total + record_part dims ids ty)) None)).run here)
+    (both-so (leb (slab_of dims ids ty) slab_limit) (leb (total + record_part dims ids ty) record_limit) (above-test _ _ fits.slab) (above-test _ _ fits.records))
+
+-- where the limits are passed, reading stops
+pub total-stops-again : (dims : List Dim) (ids : List ℕ) (ty : NcType) (total : ℕ) (here : List ℕ) → ¬ Fits dims ids ty total
+    → (total_or_wrong (total_with dims ids ty total)).run here ≡ Err (Format TooLarge, here)
+unfolding total_with stop
+total-stops-again dims ids ty total here large =
+    ap (λ b. (total_or_wrong (cond b (Some (total + record_part dims ids ty)) None)).run here)
+    (not-so (leb (slab_of dims ids ty) slab_limit && leb (total + record_part dims ids ty) record_limit)
+      (λ e. let h = and-true (leb (slab_of dims ids ty) slab_limit) (leb (total + record_part dims ids ty) record_limit) e in
+        large (record { slab = leb-true _ _ h.0; records = leb-true _ _ h.1 })))
+
+-- ---- variables
+
+pub var-again : (v : Version) (dims : List Dim) (before : List Var) (total : ℕ) (bytes : List ℕ) (var : Var) (rest : List ℕ) → total ≡ total_of dims before → SpellsVar v dims before bytes var rest
+    → (var_at v dims total).run bytes ≡ Ok (record { var = var; total = total_of dims (before ++ var ∷ []) }, rest)
+unfolding var_at ◌>>=◌ done
+var-again v dims before total bytes var rest same s =
+    let typed = s.typed in
+    let front = typed.front in
+    let sum : total + record_part dims var.dimids var.ty ≡ total_of dims (before ++ var ∷ []) = ap (λ (n : ℕ). n + record_part dims var.dimids var.ty) same ∙ sym (total_of-append dims before var) in
+    then-ok _ (name-again v bytes var.name front.behind_name front.name)
+    (then-ok _ (shape-again v dims front.behind_name var.dimids front.behind_shape front.shape)
+    (then-ok _ (atts-again v front.behind_shape var.atts typed.behind_atts front.atts)
+    (then-ok _ (type-again v typed.behind_atts var.ty s.behind_type typed.ty)
+    (then-ok _ (total-again dims var.dimids var.ty total s.behind_type (fits-within dims before var total same typed.small))
+    (then-ok _ (number-again v s.behind_type s.vsize s.behind_vsize s.any_vsize)
+    (then-ok _ (offset-again v s.behind_vsize var.begin_at rest s.begin)
+    (ap (λ (n : ℕ). Ok (record { var = var; total = n }, rest)) sum)))))))
+
+-- what is read of a variable behind its type
+abbrev behind_type_at : Version → List ℕ → List ℕ → List Att → NcType → ℕ → Part SizedVar
+behind_type_at v name ids atts ty sum =
+    number_at v >>= λ vsize. offset_at v >>= λ begin. done (record { var = record { name = name; dimids = ids; atts = atts; ty = ty; begin_at = begin }; total = sum })
+
+-- what is read of a variable behind its attributes
+abbrev behind_front : Version → List Dim → ℕ → List ℕ → List ℕ → List Att → Part SizedVar
+behind_front v dims total name ids atts =
+    type_at v >>= λ ty. total_or_wrong (total_with dims ids ty total) >>= λ sum. behind_type_at v name ids atts ty sum
+
+-- a variable up to its attributes, and what is read behind them
+front-again : (v : Version) (dims : List Dim) (total : ℕ) (bytes : List ℕ) (var : Var) (behind_atts : List ℕ) (o : Outcome SizedVar)
+    → SpellsVarFront v dims bytes var behind_atts
+    → (behind_front v dims total var.name var.dimids var.atts).run behind_atts ≡ o
+    → (var_at v dims total).run bytes ≡ o
+unfolding var_at ◌>>=◌
+front-again v dims total bytes var behind_atts o front h =
+    then-ok _ (name-again v bytes var.name front.behind_name front.name)
+    (then-ok _ (shape-again v dims front.behind_name var.dimids front.behind_shape front.shape)
+    (then-ok _ (atts-again v front.behind_shape var.atts behind_atts front.atts) h))
+
+-- a variable up to its type, and what is read behind it
+typed-again : (v : Version) (dims : List Dim) (before : List Var) (total : ℕ) (bytes : List ℕ) (var : Var) (behind_type : List ℕ) (o : Outcome SizedVar)
+    → total ≡ total_of dims before → SpellsTypedVar v dims before bytes var behind_type
+    → (behind_type_at v var.name var.dimids var.atts var.ty (total + record_part dims var.dimids var.ty)).run behind_type ≡ o
+    → (var_at v dims total).run bytes ≡ o
+unfolding ◌>>=◌
+typed-again v dims before total bytes var behind_type o same typed h =
+    front-again v dims total bytes var typed.behind_atts o typed.front
+    (then-ok _ (type-again v typed.behind_atts var.ty behind_type typed.ty)
+    (then-ok _ (total-again dims var.dimids var.ty total behind_type (fits-within dims before var total same typed.small)) h))
+
+pub var-stops-again : (v : Version) (dims : List Dim) (before : List Var) (total : ℕ) (bytes : List ℕ) (fault : FormatFault) (rest : List ℕ) → total ≡ total_of dims before → StopsInVar v dims before bytes fault rest
+    → (var_at v dims total).run bytes ≡ Err (Format fault, rest)
+unfolding var_at ◌>>=◌
+var-stops-again v dims before total bytes fault rest same (in_var_name f r s) = then-err _ (name-stops-again v bytes f r s)
+var-stops-again v dims before total bytes fault rest same (in_shape name behind_name f r named s) =
+    then-ok _ (name-again v bytes name behind_name named) (then-err _ (shape-stops-again v dims behind_name f r s))
+var-stops-again v dims before total bytes fault rest same (in_var_atts name behind_name behind_shape ids f r named shape s) =
+    then-ok _ (name-again v bytes name behind_name named)
+    (then-ok _ (shape-again v dims behind_name ids behind_shape shape) (then-err _ (atts-stop-again v behind_shape f r s)))
+var-stops-again v dims before total bytes fault rest same (in_var_type var behind_atts f r front s) =
+    front-again v dims total bytes var behind_atts _ front (then-err _ (type-stops-again v behind_atts f r s))
+var-stops-again v dims before total bytes fault rest same (too_large var behind_atts r front typed large) =
+    front-again v dims total bytes var behind_atts _ front
+    (then-ok _ (type-again v behind_atts var.ty r typed)
+    (then-err _ (total-stops-again dims var.dimids var.ty total r (λ fits. large (within dims before var total same fits)))))
+var-stops-again v dims before total bytes fault rest same (cut_vsize var behind_type typed cut) =
+    typed-again v dims before total bytes var behind_type _ same typed (then-err _ (number-stops-again v behind_type cut))
+var-stops-again v dims before total bytes fault rest same (cut_begin var behind_type behind_vsize vsize typed number cut) =
+    typed-again v dims before total bytes var behind_type _ same typed
+    (then-ok _ (number-again v behind_type vsize behind_vsize number) (then-err _ (cut-offset-again v behind_vsize cut)))
+var-stops-again v dims before total bytes fault rest same (negative_begin var behind_type behind_vsize vsize begin r typed number offset high) =
+    typed-again v dims before total bytes var behind_type _ same typed
+    (then-ok _ (number-again v behind_type vsize behind_vsize number) (then-err _ (negative-offset-again v behind_vsize begin r offset high)))
+
+-- variables behind others
+vars-behind : (v : Version) (dims : List Dim) (xs before : List Var) (total : ℕ) (bytes rest : List ℕ) → total ≡ total_of dims before → SpellsEach (SpellsVar v dims) before bytes xs rest
+    → (vars_at v dims (length xs) total before).run bytes ≡ Ok (before ++ xs, rest)
+unfolding vars_at ◌>>=◌ done
+vars-behind v dims [] before total bytes rest same s = ap (λ (r : List ℕ). Ok (before, r)) s ∙ ap (λ (xs : List Var). Ok (xs, rest)) (sym (append-nil before))
+vars-behind v dims (x ∷ xs) before total bytes rest same s =
+    then-ok _ (var-again v dims before total bytes x s.0 same s.1)
+    (vars-behind v dims xs (before ++ x ∷ []) (total_of dims (before ++ x ∷ [])) s.0 rest refl s.2 ∙ ap (λ (ys : List Var). Ok (ys, rest)) (append_assoc before (x ∷ []) xs))
+
+-- reading them stops with the first wrong field of all
+vars-stop-behind : (v : Version) (dims : List Dim) (n : ℕ) (before : List Var) (total : ℕ) (bytes : List ℕ) (fault : FormatFault) (rest : List ℕ) → total ≡ total_of dims before
+    → StopsInEach (SpellsVar v dims) (StopsInVar v dims) n before bytes fault rest
+    → (vars_at v dims n total before).run bytes ≡ Err (Format fault, rest)
+unfolding vars_at ◌>>=◌
+vars-stop-behind v dims zero before total bytes fault rest same s = absurd s
+vars-stop-behind v dims (suc n) before total bytes fault rest same (inl s) = then-err _ (var-stops-again v dims before total bytes fault rest same s)
+vars-stop-behind v dims (suc n) before total bytes fault rest same (inr s) =
+    then-ok _ (var-again v dims before total bytes s.0 s.1 same s.2)
+    (vars-stop-behind v dims n (before ++ s.0 ∷ []) (total_of dims (before ++ s.0 ∷ [])) s.1 fault rest refl s.3)
+
+pub vars-again : (v : Version) (dims : List Dim) (bytes : List ℕ) (vars : List Var) (rest : List ℕ) → SpellsList v variable_tag (SpellsVar v dims) bytes vars rest → (var_list_at v dims).run bytes ≡ Ok (vars, rest)
+unfolding var_list_at ◌>>=◌
+vars-again v dims bytes vars rest s =
+    list-again v variable_tag (SpellsVar v dims) (λ n. vars_at v dims n 0 []) refl
+    (λ xs body more each. vars-behind v dims xs [] 0 body more refl each) bytes vars rest s
+
+pub vars-stop-again : (v : Version) (dims : List Dim) (bytes : List ℕ) (fault : FormatFault) (rest : List ℕ) → StopsInList v variable_tag (SpellsVar v dims) (StopsInVar v dims) bytes fault rest
+    → (var_list_at v dims).run bytes ≡ Err (Format fault, rest)
+unfolding var_list_at ◌>>=◌
+vars-stop-again v dims bytes fault rest s =
+    list-stops-again v variable_tag (SpellsVar v dims) (StopsInVar v dims) (λ n. vars_at v dims n 0 []) refl
+    (λ n body f r each. vars-stop-behind v dims n [] 0 body f r refl each) bytes fault rest s
