@@ -51,6 +51,11 @@ above-test a b le = grind arith
 pub other-test : (a b : ℕ) → a ≢ b → (a == b) ≡ false
 other-test a b ne = grind (arith, ne)
 
+-- a test that cannot hold
+pub not-so : (b : Bool) → ¬ (b ≡ true) → b ≡ false
+not-so true h = absurd (h refl)
+not-so false h = refl
+
 -- ---- numbers
 
 pub u32-again : (bytes : List ℕ) (n : ℕ) (rest : List ℕ) → SpellsNumber w32 bytes n rest → u32_at.run bytes ≡ Ok (n, rest)

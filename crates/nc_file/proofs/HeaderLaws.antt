@@ -18,7 +18,7 @@ use Rattle.nc_file.proofs.VariableLaws.{means-vars}
 
 -- ---- the magic
 
-three-bytes : (a b c : ℕ) → ((a == 67) && (b == 68) && (c == 70)) ≡ true → (a ≡ 67) × (b ≡ 68) × (c ≡ 70)
+pub three-bytes : (a b c : ℕ) → ((a == 67) && (b == 68) && (c == 70)) ≡ true → (a ≡ 67) × (b ≡ 68) × (c ≡ 70)
 three-bytes a b c e =
     let outer = and-true ((a == 67) && (b == 68)) (c == 70) e in
     let inner = and-true (a == 67) (b == 68) outer.0 in

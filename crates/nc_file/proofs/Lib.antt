@@ -10,4 +10,5 @@ pub mod HeaderLaws
 pub mod Again
 pub mod ListsAgain
 pub mod VariablesAgain
+pub mod HeadersAgain
 pub mod Answered

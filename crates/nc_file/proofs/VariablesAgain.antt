@@ -21,13 +21,8 @@ use Rattle.nc_file.specs.declared.sized_var.SizedVar.{SizedVar}
 use Rattle.nc_file.specs.Reading.{Outcome, Part, next, ◌>>=◌, done, stop, number_at, type_at, is_dimid, dimid_at, dimids_at, shape_at, wide_at, offset_at, record_part, total_with, total_or_wrong, var_at, vars_at, var_list_at}
 use Rattle.nc_file.proofs.ListLaws.{and-true}
 use Rattle.nc_file.proofs.VariableLaws.{is_first, is-dimid, known-and-first, dimids_at-each, total_of, total_of-append, Fits, within, fits-within}
-use Rattle.nc_file.proofs.Again.{then-ok, then-err, if-so, if-not, below-test, above-test, u32-again, u64-again, u32-stops-again, u64-stops-again, number-again, number-stops-again, count-again, count-stops-again, name-again, name-stops-again, type-again, type-stops-again}
+use Rattle.nc_file.proofs.Again.{then-ok, then-err, if-so, if-not, below-test, above-test, not-so, u32-again, u64-again, u32-stops-again, u64-stops-again, number-again, number-stops-again, count-again, count-stops-again, name-again, name-stops-again, type-again, type-stops-again}
 use Rattle.nc_file.proofs.ListsAgain.{ElementAgain, ElementStopsAgain, each-again, each-stops-again, list-again, list-stops-again, atts-again, atts-stop-again}
-
--- a test that cannot hold
-not-so : (b : Bool) → ¬ (b ≡ true) → b ≡ false
-not-so true h = absurd (h refl)
-not-so false h = refl
 
 -- two tests that hold
 both-so : (a b : Bool) → a ≡ true → b ≡ true → (a && b) ≡ true

@@ -1,0 +1,111 @@
+-- The other direction: a header that is spelled is read, and reading stops with the first wrong field. So each list of bytes
+-- has one header or one first wrong field.
+use Rattle.std.proofs.Common.{◌≡◌, ◌≢◌, ℕ, zero, suc, ◌+◌, ◌-◌, ◌<◌, ◌≤◌, Bool, true, false, cond, leb, List, [], ◌∷◌, length, Option, Some, None, Result, Ok, Err, refl, sym, ap, subst, ◌∙◌, arith}
+use Rattle.std.proofs.lemmas.Bool.{eq-eqb}
+use Rattle.std.specs.Prelude.{◌==◌, ◌&&◌}
+use Rattle.nc_base.specs.declared.fault.FormatFault.{FormatFault}
+use Rattle.nc_base.specs.declared.fault.FormatFault.TheVariants.{NotNetcdf}
+use Rattle.nc_base.specs.declared.header.Dim.{Dim}
+use Rattle.nc_base.specs.declared.header.Header.{Header}
+use Rattle.nc_base.specs.declared.header.NumRecs.{NumRecs}
+use Rattle.nc_base.specs.declared.header.NumRecs.TheVariants.{Known, Streaming}
+use Rattle.nc_base.specs.declared.version.Version.{Version}
+use Rattle.nc_base.specs.declared.version.Version.TheVariants.{Cdf1, Cdf2, Cdf5}
+use Rattle.nc_base.specs.Versions.{version_byte, count_limit, streaming_mark}
+use Rattle.nc_base.specs.Grammar.{SpellsMagic, SpellsNumRecs, SpellsStart, SpellsUpToDims, SpellsUpToGatts, SpellsHeader}
+use Rattle.nc_base.specs.FirstFault.{StopsInMagic, cut_magic, other_magic, cut_version, bad_version, StopsInNumRecs, cut_numrecs, negative_numrecs, StopsWith, in_magic, in_numrecs, in_dims, in_gatts, in_vars}
+use Rattle.nc_file.specs.declared.head_fault.HeadFault.TheVariants.{Format}
+use Rattle.nc_file.specs.Reading.{Part, ◌>>=◌, done, stop, byte_or, version_or, version_at, magic_at, numrecs_at, header_at}
+use Rattle.nc_file.proofs.HeaderLaws.{three-bytes}
+use Rattle.nc_file.proofs.Again.{then-ok, then-err, if-so, if-not, below-test, above-test, other-test, not-so, number-again, number-stops-again}
+use Rattle.nc_file.proofs.ListsAgain.{dims-again, dims-stop-again, atts-again, atts-stop-again}
+use Rattle.nc_file.proofs.VariablesAgain.{vars-again, vars-stop-again}
+
+-- ---- the magic
+
+-- `CDF` and a version's byte are read
+version-again : (v : Version) (rest : List ℕ) → magic_at.run (67 ∷ 68 ∷ 70 ∷ version_byte v ∷ rest) ≡ Ok (v, rest)
+unfolding magic_at version_at ◌>>=◌ byte_or done
+version-again Cdf1 rest = refl
+version-again Cdf2 rest = refl
+version-again Cdf5 rest = refl
+
+pub magic-again : (bytes : List ℕ) (v : Version) (rest : List ℕ) → SpellsMagic bytes v rest → magic_at.run bytes ≡ Ok (v, rest)
+magic-again bytes v rest s = ap magic_at.run s ∙ version-again v rest
+
+-- the file ends in `CDF`
+cut-magic-again : (bytes : List ℕ) → length bytes < 3 → magic_at.run bytes ≡ Err (Format NotNetcdf, [])
+unfolding magic_at ◌>>=◌ byte_or
+cut-magic-again [] cut = refl
+cut-magic-again (a ∷ []) cut = refl
+cut-magic-again (a ∷ b ∷ []) cut = refl
+cut-magic-again (a ∷ b ∷ c ∷ rest) cut = absurd (omega (arith, cut))
+
+pub magic-stops-again : (bytes : List ℕ) (fault : FormatFault) (rest : List ℕ) → StopsInMagic bytes fault rest → magic_at.run bytes ≡ Err (Format fault, rest)
+unfolding magic_at version_at ◌>>=◌ byte_or stop
+magic-stops-again bytes fault rest (cut_magic cut) = cut-magic-again bytes cut
+magic-stops-again bytes fault rest (other_magic a b c r is other) =
+    ap magic_at.run is ∙ if-not _ _ (not-so ((a == 67) && (b == 68) && (c == 70)) (λ e. other (three-bytes a b c e))) refl
+magic-stops-again bytes fault rest (cut_version is) = ap magic_at.run is
+magic-stops-again bytes fault rest (bad_version n r is none) =
+    ap magic_at.run is ∙ ap (λ (known : Option Version). (version_or n known).run r) none
+
+-- ---- the number of records
+
+-- a number of records is not the mark
+no-mark : (v : Version) (n : ℕ) → n < count_limit v → n ≢ streaming_mark v
+no-mark Cdf1 n lt e = omega (arith, lt, e)
+no-mark Cdf2 n lt e = omega (arith, lt, e)
+no-mark Cdf5 n lt e = omega (arith, lt, e)
+
+pub numrecs-again : (v : Version) (bytes : List ℕ) (numrecs : NumRecs) (rest : List ℕ) → SpellsNumRecs v bytes numrecs rest → (numrecs_at v).run bytes ≡ Ok (numrecs, rest)
+unfolding numrecs_at ◌>>=◌ done
+numrecs-again v bytes (Known n) rest s =
+    then-ok _ (number-again v bytes n rest s.number)
+    (if-not _ _ (other-test n (streaming_mark v) (no-mark v n s.non_negative)) (if-not _ _ (below-test _ _ s.non_negative) refl))
+numrecs-again v bytes Streaming rest s =
+    then-ok _ (number-again v bytes (streaming_mark v) rest s) (if-so _ _ (eq-eqb (streaming_mark v) (streaming_mark v) refl) refl)
+
+pub numrecs-stops-again : (v : Version) (bytes : List ℕ) (fault : FormatFault) (rest : List ℕ) → StopsInNumRecs v bytes fault rest → (numrecs_at v).run bytes ≡ Err (Format fault, rest)
+unfolding numrecs_at ◌>>=◌ stop
+numrecs-stops-again v bytes fault rest (cut_numrecs cut) = then-err _ (number-stops-again v bytes cut)
+numrecs-stops-again v bytes fault rest (negative_numrecs n r number high not_mark) =
+    then-ok _ (number-again v bytes n r number)
+    (if-not _ _ (other-test n (streaming_mark v) not_mark) (if-so _ _ (above-test _ _ high) refl))
+
+-- ---- the whole
+
+pub header-again : (bytes : List ℕ) (h : Header) (rest : List ℕ) → SpellsHeader bytes h rest → header_at.run bytes ≡ Ok (h, rest)
+unfolding header_at ◌>>=◌ done
+header-again bytes h rest s =
+    let to_dims = s.front.front in
+    let start = to_dims.start in
+    then-ok _ (magic-again bytes h.version start.behind_magic start.magic)
+    (then-ok _ (numrecs-again h.version start.behind_magic h.numrecs to_dims.behind_start start.records)
+    (then-ok _ (dims-again h.version to_dims.behind_start h.dims s.front.behind_dims to_dims.dim_list)
+    (then-ok _ (atts-again h.version s.front.behind_dims h.gatts s.behind_gatts s.front.gatt_list)
+    (then-ok _ (vars-again h.version h.dims s.behind_gatts h.vars rest s.var_list) refl))))
+
+pub header-stops-again : (bytes : List ℕ) (fault : FormatFault) (rest : List ℕ) → StopsWith bytes fault rest → header_at.run bytes ≡ Err (Format fault, rest)
+unfolding header_at ◌>>=◌
+header-stops-again bytes fault rest (in_magic f r s) = then-err _ (magic-stops-again bytes f r s)
+header-stops-again bytes fault rest (in_numrecs v behind_magic f r magic s) =
+    then-ok _ (magic-again bytes v behind_magic magic) (then-err _ (numrecs-stops-again v behind_magic f r s))
+header-stops-again bytes fault rest (in_dims v numrecs behind_start f r start s) =
+    then-ok _ (magic-again bytes v start.behind_magic start.magic)
+    (then-ok _ (numrecs-again v start.behind_magic numrecs behind_start start.records)
+    (then-err _ (dims-stop-again v behind_start f r s)))
+header-stops-again bytes fault rest (in_gatts v numrecs dims behind_dims f r front s) =
+    let start = front.start in
+    then-ok _ (magic-again bytes v start.behind_magic start.magic)
+    (then-ok _ (numrecs-again v start.behind_magic numrecs front.behind_start start.records)
+    (then-ok _ (dims-again v front.behind_start dims behind_dims front.dim_list)
+    (then-err _ (atts-stop-again v behind_dims f r s))))
+header-stops-again bytes fault rest (in_vars v numrecs dims gatts behind_gatts f r front s) =
+    let to_dims = front.front in
+    let start = to_dims.start in
+    then-ok _ (magic-again bytes v start.behind_magic start.magic)
+    (then-ok _ (numrecs-again v start.behind_magic numrecs to_dims.behind_start start.records)
+    (then-ok _ (dims-again v to_dims.behind_start dims front.behind_dims to_dims.dim_list)
+    (then-ok _ (atts-again v front.behind_dims gatts behind_gatts front.gatt_list)
+    (then-err _ (vars-stop-again v dims behind_gatts f r s)))))
