@@ -40,14 +40,15 @@ if-so p q {bytes = bytes} e h = ap (λ c. (cond c p q).run bytes) e ∙ h
 pub if-not : {A : Type 0} {b : Bool} (p q : Part A) {bytes : List ℕ} {o : Outcome A} → b ≡ false → q.run bytes ≡ o → (cond b p q).run bytes ≡ o
 if-not p q {bytes = bytes} e h = ap (λ c. (cond c p q).run bytes) e ∙ h
 
--- numbers in their order pass the test
+-- a number below a limit does not reach it
 pub below-test : (a b : ℕ) → b < a → leb a b ≡ false
 below-test a b lt = grind arith
 
+-- a number from a limit on reaches it
 pub above-test : (a b : ℕ) → a ≤ b → leb a b ≡ true
 above-test a b le = grind arith
 
--- two numbers that differ do not pass the test
+-- two numbers that differ do not pass the test of equality
 pub other-test : (a b : ℕ) → a ≢ b → (a == b) ≡ false
 other-test a b ne = grind (arith, ne)
 
@@ -58,14 +59,17 @@ not-so false h = refl
 
 -- ---- numbers
 
+-- a spelled number of four bytes is read
 pub u32-again : (bytes : List ℕ) (n : ℕ) (rest : List ℕ) → SpellsNumber w32 bytes n rest → u32_at.run bytes ≡ Ok (n, rest)
 unfolding u32_at ◌>>=◌ byte_or done
 u32-again bytes n rest s = ap u32_at.run s.spelled ∙ ap (λ (m : ℕ). Ok (m, rest)) (from_be_bytes-to_be_bytes_4 n s.fits)
 
+-- a spelled number of eight bytes is read
 pub u64-again : (bytes : List ℕ) (n : ℕ) (rest : List ℕ) → SpellsNumber w64 bytes n rest → u64_at.run bytes ≡ Ok (n, rest)
 unfolding u64_at ◌>>=◌ byte_or done
 u64-again bytes n rest s = ap u64_at.run s.spelled ∙ ap (λ (m : ℕ). Ok (m, rest)) (from_be_bytes-to_be_bytes_8 n s.fits)
 
+-- where the file ends in a number of four bytes, reading stops
 pub u32-stops-again : (bytes : List ℕ) → IsCutNumber w32 bytes → u32_at.run bytes ≡ Err (Format HeaderTruncated, [])
 unfolding u32_at ◌>>=◌ byte_or
 u32-stops-again [] cut = refl
@@ -74,6 +78,7 @@ u32-stops-again (a ∷ b ∷ []) cut = refl
 u32-stops-again (a ∷ b ∷ c ∷ []) cut = refl
 u32-stops-again (a ∷ b ∷ c ∷ d ∷ rest) cut = absurd (omega (arith, cut))
 
+-- where the file ends in a number of eight bytes, reading stops
 pub u64-stops-again : (bytes : List ℕ) → IsCutNumber w64 bytes → u64_at.run bytes ≡ Err (Format HeaderTruncated, [])
 unfolding u64_at ◌>>=◌ byte_or
 u64-stops-again [] cut = refl
@@ -86,21 +91,25 @@ u64-stops-again (a ∷ b ∷ c ∷ d ∷ e ∷ f ∷ []) cut = refl
 u64-stops-again (a ∷ b ∷ c ∷ d ∷ e ∷ f ∷ g ∷ []) cut = refl
 u64-stops-again (a ∷ b ∷ c ∷ d ∷ e ∷ f ∷ g ∷ h ∷ rest) cut = absurd (omega (arith, cut))
 
+-- a spelled number of the version's width is read
 pub number-again : (v : Version) (bytes : List ℕ) (n : ℕ) (rest : List ℕ) → SpellsNumber (count_width v) bytes n rest → (number_at v).run bytes ≡ Ok (n, rest)
 number-again Cdf1 bytes n rest s = u32-again bytes n rest s
 number-again Cdf2 bytes n rest s = u32-again bytes n rest s
 number-again Cdf5 bytes n rest s = u64-again bytes n rest s
 
+-- where the file ends in one, reading stops
 pub number-stops-again : (v : Version) (bytes : List ℕ) → IsCutNumber (count_width v) bytes → (number_at v).run bytes ≡ Err (Format HeaderTruncated, [])
 number-stops-again Cdf1 bytes cut = u32-stops-again bytes cut
 number-stops-again Cdf2 bytes cut = u32-stops-again bytes cut
 number-stops-again Cdf5 bytes cut = u64-stops-again bytes cut
 
+-- a spelled count is read
 pub count-again : (v : Version) (bytes : List ℕ) (n : ℕ) (rest : List ℕ) → SpellsCount v bytes n rest → (count_at v).run bytes ≡ Ok (n, rest)
 unfolding count_at ◌>>=◌ done
 count-again v bytes n rest s =
     then-ok _ (number-again v bytes n rest s.number) (if-not _ _ (below-test _ _ s.non_negative) refl)
 
+-- reading a count stops where it is wrong
 pub count-stops-again : (v : Version) (bytes : List ℕ) (fault : FormatFault) (rest : List ℕ) → StopsInCount v bytes fault rest → (count_at v).run bytes ≡ Err (Format fault, rest)
 unfolding count_at ◌>>=◌ stop
 count-stops-again v bytes fault rest (cut_count cut) = then-err _ (number-stops-again v bytes cut)
@@ -109,21 +118,25 @@ count-stops-again v bytes fault rest (negative_count n r number high) =
 
 -- ---- bytes
 
+-- bytes behind others are read
 bytes-behind : (content front rest : List ℕ) → (bytes_at (length content) front).run (content ++ rest) ≡ Ok (front ++ content, rest)
 unfolding bytes_at ◌>>=◌ byte_or done
 bytes-behind [] front rest = ap (λ (x : List ℕ). Ok (x, rest)) (sym (append-nil front))
 bytes-behind (b ∷ content) front rest = bytes-behind content (front ++ b ∷ []) rest ∙ ap (λ (x : List ℕ). Ok (x, rest)) (append_assoc front (b ∷ []) content)
 
+-- so many bytes are read
 pub bytes-again : (n : ℕ) (bytes content rest : List ℕ) → length content ≡ n → bytes ≡ content ++ rest → (bytes_at n []).run bytes ≡ Ok (content, rest)
 bytes-again n bytes content rest count spelled =
     ap (bytes_at n []).run spelled ∙ ap (λ (k : ℕ). (bytes_at k []).run (content ++ rest)) (sym count) ∙ bytes-behind content [] rest
 
+-- where the file ends in them, reading stops
 pub bytes-stops-again : (n : ℕ) (front bytes : List ℕ) → length bytes < n → (bytes_at n front).run bytes ≡ Err (Format HeaderTruncated, [])
 unfolding bytes_at ◌>>=◌ byte_or
 bytes-stops-again zero front bytes cut = absurd (omega (arith, cut))
 bytes-stops-again (suc n) front [] cut = refl
 bytes-stops-again (suc n) front (b ∷ bytes) cut = bytes-stops-again n (front ++ b ∷ []) bytes (omega (arith, cut))
 
+-- so many bytes are skipped
 pub skip-again : (n : ℕ) (content rest : List ℕ) → length content ≡ n → (skip_at n).run (content ++ rest) ≡ Ok (tt, rest)
 unfolding skip_at ◌>>=◌ byte_or done
 skip-again zero [] rest count = refl
@@ -131,6 +144,7 @@ skip-again zero (b ∷ content) rest count = absurd (omega (arith, count))
 skip-again (suc n) [] rest count = absurd (omega (arith, count))
 skip-again (suc n) (b ∷ content) rest count = skip-again n content rest (omega (arith, count))
 
+-- where the file ends in them, skipping stops
 pub skip-stops-again : (n : ℕ) (bytes : List ℕ) → length bytes < n → (skip_at n).run bytes ≡ Err (Format HeaderTruncated, [])
 unfolding skip_at ◌>>=◌ byte_or
 skip-stops-again zero bytes cut = absurd (omega (arith, cut))
@@ -139,6 +153,7 @@ skip-stops-again (suc n) (b ∷ bytes) cut = skip-stops-again n bytes (omega (ar
 
 -- ---- names
 
+-- a spelled name is read
 pub name-again : (v : Version) (bytes name rest : List ℕ) → SpellsName v bytes name rest → (name_at v).run bytes ≡ Ok (name, rest)
 unfolding name_at ◌>>=◌ done
 name-again v bytes name rest s =
@@ -146,6 +161,7 @@ name-again v bytes name rest s =
     (then-ok _ (bytes-again (length name) s.behind_count name (s.padded.padding ++ rest) refl s.padded.spelled) (if-so _ _ s.valid
     (then-ok _ (skip-again (padding_len (length name)) s.padded.padding rest s.padded.padded) refl)))
 
+-- reading a name stops with its first wrong field
 pub name-stops-again : (v : Version) (bytes : List ℕ) (fault : FormatFault) (rest : List ℕ) → StopsInName v bytes fault rest → (name_at v).run bytes ≡ Err (Format fault, rest)
 unfolding name_at ◌>>=◌ stop
 name-stops-again v bytes fault rest (in_name_len f r s) = then-err _ (count-stops-again v bytes f r s)
@@ -160,6 +176,7 @@ name-stops-again v bytes fault rest (cut_name_padding name r count valid cut) =
 
 -- ---- types
 
+-- no type has a floating code
 is-whole : (ty : NcType) → ((code_of ty == 5) || (code_of ty == 6)) ≡ false
 is-whole Byte = refl
 is-whole Char = refl
@@ -171,10 +188,12 @@ is-whole Uint = refl
 is-whole Int64 = refl
 is-whole Uint64 = refl
 
+-- the floating codes pass the test
 is-floating : (code : ℕ) → (code ≡ 5) ⊎ (code ≡ 6) → ((code == 5) || (code == 6)) ≡ true
 is-floating code (inl five) = rw five refl
 is-floating code (inr six) = rw six refl
 
+-- other codes do not
 is-other : (code : ℕ) → code ≢ 5 → code ≢ 6 → ((code == 5) || (code == 6)) ≡ false
 is-other code not5 not6 = rw (other-test code 5 not5, other-test code 6 not6) refl
 
@@ -193,16 +212,19 @@ no-type v code (Some ty) is none = at (has_type v ty) refl
     at true has = absurd (none ty has (sym (code-known code ty (sym is))))
     at false lacks = refl
 
+-- so there is no type of the version with this code
 type_in-none : (v : Version) (code : ℕ) → ((ty : NcType) → has_type v ty ≡ true → code_of ty ≢ code) → type_in v code ≡ None
 unfolding type_in
 type_in-none v code none = no-type v code (type_of_code code) refl none
 
+-- a spelled type is read
 pub type-again : (v : Version) (bytes : List ℕ) (ty : NcType) (rest : List ℕ) → SpellsType v bytes ty rest → (type_at v).run bytes ≡ Ok (ty, rest)
 unfolding type_at ◌>>=◌ done
 type-again v bytes ty rest s =
     then-ok _ (u32-again bytes (code_of ty) rest s.number)
     (if-not _ _ (is-whole ty) (ap (λ (known : Option NcType). (type_or_wrong known).run rest) (type_in-again v ty s.has)))
 
+-- reading a type stops where it is wrong
 pub type-stops-again : (v : Version) (bytes : List ℕ) (fault : FormatFault) (rest : List ℕ) → StopsInType v bytes fault rest → (type_at v).run bytes ≡ Err (Format fault, rest)
 unfolding type_at ◌>>=◌ stop
 type-stops-again v bytes fault rest (cut_type cut) = then-err _ (u32-stops-again bytes cut)

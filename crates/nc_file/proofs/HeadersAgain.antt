@@ -30,6 +30,7 @@ version-again Cdf1 rest = refl
 version-again Cdf2 rest = refl
 version-again Cdf5 rest = refl
 
+-- a spelled magic is read
 pub magic-again : (bytes : List ℕ) (v : Version) (rest : List ℕ) → SpellsMagic bytes v rest → magic_at.run bytes ≡ Ok (v, rest)
 magic-again bytes v rest s = ap magic_at.run s ∙ version-again v rest
 
@@ -41,6 +42,7 @@ cut-magic-again (a ∷ []) cut = refl
 cut-magic-again (a ∷ b ∷ []) cut = refl
 cut-magic-again (a ∷ b ∷ c ∷ rest) cut = absurd (omega (arith, cut))
 
+-- reading the magic stops with its first wrong field
 pub magic-stops-again : (bytes : List ℕ) (fault : FormatFault) (rest : List ℕ) → StopsInMagic bytes fault rest → magic_at.run bytes ≡ Err (Format fault, rest)
 unfolding magic_at version_at ◌>>=◌ byte_or stop
 magic-stops-again bytes fault rest (cut_magic cut) = cut-magic-again bytes cut
@@ -58,6 +60,7 @@ no-mark Cdf1 n lt e = omega (arith, lt, e)
 no-mark Cdf2 n lt e = omega (arith, lt, e)
 no-mark Cdf5 n lt e = omega (arith, lt, e)
 
+-- a spelled number of records is read
 pub numrecs-again : (v : Version) (bytes : List ℕ) (numrecs : NumRecs) (rest : List ℕ) → SpellsNumRecs v bytes numrecs rest → (numrecs_at v).run bytes ≡ Ok (numrecs, rest)
 unfolding numrecs_at ◌>>=◌ done
 numrecs-again v bytes (Known n) rest s =
@@ -66,6 +69,7 @@ numrecs-again v bytes (Known n) rest s =
 numrecs-again v bytes Streaming rest s =
     then-ok _ (number-again v bytes (streaming_mark v) rest s) (if-so _ _ (eq-eqb (streaming_mark v) (streaming_mark v) refl) refl)
 
+-- reading the number of records stops where it is wrong
 pub numrecs-stops-again : (v : Version) (bytes : List ℕ) (fault : FormatFault) (rest : List ℕ) → StopsInNumRecs v bytes fault rest → (numrecs_at v).run bytes ≡ Err (Format fault, rest)
 unfolding numrecs_at ◌>>=◌ stop
 numrecs-stops-again v bytes fault rest (cut_numrecs cut) = then-err _ (number-stops-again v bytes cut)
@@ -75,6 +79,7 @@ numrecs-stops-again v bytes fault rest (negative_numrecs n r number high not_mar
 
 -- ---- the whole
 
+-- a spelled header is read
 pub header-again : (bytes : List ℕ) (h : Header) (rest : List ℕ) → SpellsHeader bytes h rest → header_at.run bytes ≡ Ok (h, rest)
 unfolding header_at ◌>>=◌ done
 header-again bytes h rest s =
@@ -86,6 +91,7 @@ header-again bytes h rest s =
     (then-ok _ (atts-again h.version s.front.behind_dims h.gatts s.behind_gatts s.front.gatt_list)
     (then-ok _ (vars-again h.version h.dims s.behind_gatts h.vars rest s.var_list) refl))))
 
+-- reading a header stops with its first wrong field
 pub header-stops-again : (bytes : List ℕ) (fault : FormatFault) (rest : List ℕ) → StopsWith bytes fault rest → header_at.run bytes ≡ Err (Format fault, rest)
 unfolding header_at ◌>>=◌
 header-stops-again bytes fault rest (in_magic f r s) = then-err _ (magic-stops-again bytes f r s)

@@ -11,4 +11,5 @@ pub mod Again
 pub mod ListsAgain
 pub mod VariablesAgain
 pub mod HeadersAgain
+pub mod OneOutcome
 pub mod Answered

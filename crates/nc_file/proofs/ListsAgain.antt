@@ -39,6 +39,7 @@ wrong-tag tag found not_zero not_own = rw (other-test found 0 not_zero, other-te
 any-count : (tag : ℕ) (b : Bool) → IsListTag tag → ((tag == 0) && b) ≡ false
 any-count tag b is = rw is refl
 
+-- a spelled tag and count are read
 pub list_len-again : (v : Version) (tag : ℕ) (bytes : List ℕ) (n : ℕ) (rest : List ℕ) → IsListTag tag → SpellsListLen v tag bytes n rest → (list_len_at v tag).run bytes ≡ Ok (n, rest)
 unfolding list_len_at ◌>>=◌ done
 list_len-again v tag bytes n rest is (absent_len behind_tag number count none) =
@@ -69,6 +70,7 @@ abbrev pub ElementStopsAgain : {A : Type 0} → ElementStop A → (List A → Pa
 ElementStopsAgain {A = A} Stops element =
     (before : List A) (bytes : List ℕ) (fault : FormatFault) (rest : List ℕ) → Stops before bytes fault rest → (element before).run bytes ≡ Err (Format fault, rest)
 
+-- elements that are spelled behind others are read
 pub each-again : {A : Type 0} (Element : ElementSpelling A) (element : List A → Part A) → ElementAgain Element element
     → (xs before : List A) (bytes rest : List ℕ) → SpellsEach Element before bytes xs rest
     → (each_at element (length xs) before).run bytes ≡ Ok (before ++ xs, rest)
@@ -78,6 +80,7 @@ each-again {A = A} Element element again (x ∷ xs) before bytes rest s =
     then-ok _ (again before bytes x s.0 s.1)
     (each-again Element element again xs (before ++ x ∷ []) s.0 rest s.2 ∙ ap (λ (ys : List A). Ok (ys, rest)) (append_assoc before (x ∷ []) xs))
 
+-- reading elements behind others stops with the first wrong field of all
 pub each-stops-again : {A : Type 0} (Element : ElementSpelling A) (Stops : ElementStop A) (element : List A → Part A)
     → ElementAgain Element element → ElementStopsAgain Stops element
     → (n : ℕ) (before : List A) (bytes : List ℕ) (fault : FormatFault) (rest : List ℕ) → StopsInEach Element Stops n before bytes fault rest
@@ -101,6 +104,7 @@ abbrev pub ElementsStopAgain : {A : Type 0} → ElementSpelling A → ElementSto
 ElementsStopAgain Element Stops elements =
     (n : ℕ) (bytes : List ℕ) (fault : FormatFault) (rest : List ℕ) → StopsInEach Element Stops n [] bytes fault rest → (elements n).run bytes ≡ Err (Format fault, rest)
 
+-- a spelled list is read
 pub list-again : {A : Type 0} (v : Version) (tag : ℕ) (Element : ElementSpelling A) (elements : ℕ → Part (List A))
     → IsListTag tag → ElementsAgain Element elements
     → (bytes : List ℕ) (xs : List A) (rest : List ℕ) → SpellsList v tag Element bytes xs rest
@@ -129,16 +133,19 @@ unfolding list_len_at ◌>>=◌
 len-stops v tag bytes behind_tag fault rest number s =
     then-ok _ (u32-again bytes 0 behind_tag number) (then-err _ (count-stops-again v behind_tag fault rest s))
 
+-- where the file ends in the tag, reading stops
 cut-tag-stops : (v : Version) (tag : ℕ) (bytes : List ℕ) → length bytes < 4 → (list_len_at v tag).run bytes ≡ Err (Format HeaderTruncated, [])
 unfolding list_len_at ◌>>=◌
 cut-tag-stops v tag bytes cut = then-err _ (u32-stops-again bytes cut)
 
+-- reading stops at a wrong tag
 bad-tag-stops : (v : Version) (tag found : ℕ) (bytes rest : List ℕ) → SpellsNumber w32 bytes found rest → found ≢ 0 → found ≢ tag
     → (list_len_at v tag).run bytes ≡ Err (Format BadTag, rest)
 unfolding list_len_at ◌>>=◌ stop
 bad-tag-stops v tag found bytes rest number not_zero not_own =
     then-ok _ (u32-again bytes found rest number) (if-so _ _ (wrong-tag tag found not_zero not_own) refl)
 
+-- reading stops at a count behind a zero tag
 absent-elements-stop : (v : Version) (tag n : ℕ) (bytes behind_tag rest : List ℕ) → SpellsNumber w32 bytes 0 behind_tag → SpellsCount v behind_tag n rest → n ≢ 0
     → (list_len_at v tag).run bytes ≡ Err (Format BadCount, rest)
 unfolding list_len_at ◌>>=◌ stop
@@ -146,6 +153,7 @@ absent-elements-stop v tag n bytes behind_tag rest number count some =
     then-ok _ (u32-again bytes 0 behind_tag number)
     (then-ok _ (count-again v behind_tag n rest count) (if-so _ _ (ap not (other-test n 0 some)) refl))
 
+-- reading a list stops with its first wrong field
 pub list-stops-again : {A : Type 0} (v : Version) (tag : ℕ) (Element : ElementSpelling A) (Stops : ElementStop A) (elements : ℕ → Part (List A))
     → IsListTag tag → ElementsStopAgain Element Stops elements
     → (bytes : List ℕ) (fault : FormatFault) (rest : List ℕ) → StopsInList v tag Element Stops bytes fault rest
@@ -168,6 +176,7 @@ single-test true true h = h refl
 single-test true false h = refl
 single-test false b h = refl
 
+-- a spelled dimension is read
 pub dim-again : (v : Version) → ElementAgain (SpellsDim v) (λ before. dim_at v (has_record_dim before))
 unfolding dim_at ◌>>=◌ done
 dim-again v before bytes dim rest s =
@@ -175,6 +184,7 @@ dim-again v before bytes dim rest s =
     (then-ok _ (count-again v s.behind_name dim.len rest s.len)
     (if-not _ _ (single-test (has_record_dim before) (dim.len == 0) (λ none. s.one_record_dim (eqb-true _ _ none))) refl))
 
+-- reading a dimension stops with its first wrong field
 pub dim-stops-again : (v : Version) → ElementStopsAgain (StopsInDim v) (λ before. dim_at v (has_record_dim before))
 unfolding dim_at ◌>>=◌ stop
 dim-stops-again v before bytes fault rest (in_dim_name f r s) = then-err _ (name-stops-again v bytes f r s)
@@ -184,6 +194,7 @@ dim-stops-again v before bytes fault rest (second_record_dim name behind_name r 
     then-ok _ (name-again v bytes name behind_name named)
     (then-ok _ (count-again v behind_name 0 r count) (if-so _ _ (ap (λ (b : Bool). b && true) seen) refl))
 
+-- a spelled list of dimensions is read
 pub dims-again : (v : Version) (bytes : List ℕ) (dims : List Dim) (rest : List ℕ) → SpellsList v dimension_tag (SpellsDim v) bytes dims rest → (dim_list_at v).run bytes ≡ Ok (dims, rest)
 unfolding dim_list_at ◌>>=◌
 dims-again v bytes dims rest s =
@@ -191,6 +202,7 @@ dims-again v bytes dims rest s =
     (λ xs body more each. dims_at-each v (length xs) [] body ∙ each-again (SpellsDim v) (λ b. dim_at v (has_record_dim b)) (dim-again v) xs [] body more each)
     bytes dims rest s
 
+-- reading a list of dimensions stops with its first wrong field
 pub dims-stop-again : (v : Version) (bytes : List ℕ) (fault : FormatFault) (rest : List ℕ) → StopsInList v dimension_tag (SpellsDim v) (StopsInDim v) bytes fault rest → (dim_list_at v).run bytes ≡ Err (Format fault, rest)
 unfolding dim_list_at ◌>>=◌
 dims-stop-again v bytes fault rest s =
@@ -200,6 +212,7 @@ dims-stop-again v bytes fault rest s =
 
 -- ---- attributes
 
+-- so many bytes and their padding are read
 pub padded-again : (n : ℕ) (bytes content rest : List ℕ) → length content ≡ n → SpellsPadded bytes content rest → (padded_at n).run bytes ≡ Ok (content, rest)
 unfolding padded_at ◌>>=◌ done
 padded-again n bytes content rest count s =
@@ -218,6 +231,7 @@ padding-stops-again n content rest count cut =
     then-ok _ (bytes-again n (content ++ rest) content rest count refl)
     (then-err _ (skip-stops-again (padding_len n) rest (subst (λ (k : ℕ). length rest < padding_len k) count cut)))
 
+-- a spelled attribute is read
 pub att-again : (v : Version) → ElementAgain (SpellsAtt v) (λ before. att_at v)
 unfolding att_at ◌>>=◌ done
 att-again v before bytes att rest s =
@@ -226,6 +240,7 @@ att-again v before bytes att rest s =
     (then-ok _ (count-again v s.front.behind_type s.count s.behind_count s.front.counted)
     (then-ok _ (padded-again (s.count * size_of att.ty) s.behind_count att.vals rest s.whole s.values) refl)))
 
+-- reading an attribute stops with its first wrong field
 pub att-stops-again : (v : Version) → ElementStopsAgain (StopsInAtt v) (λ before. att_at v)
 unfolding att_at ◌>>=◌
 att-stops-again v before bytes fault rest (in_att_name f r s) = then-err _ (name-stops-again v bytes f r s)
@@ -243,6 +258,7 @@ att-stops-again v before bytes fault rest (cut_value_padding name vals r ty coun
     (then-ok _ (type-again v front.behind_name ty front.behind_type front.typed)
     (then-ok _ (count-again v front.behind_type count (vals ++ r) front.counted) (then-err _ (padding-stops-again (count * size_of ty) vals r whole cut))))
 
+-- a spelled list of attributes is read
 pub atts-again : (v : Version) (bytes : List ℕ) (atts : List Att) (rest : List ℕ) → SpellsAtts v bytes atts rest → (att_list_at v).run bytes ≡ Ok (atts, rest)
 unfolding att_list_at atts_at ◌>>=◌
 atts-again v bytes atts rest s =
@@ -250,6 +266,7 @@ atts-again v bytes atts rest s =
     (λ xs body more each. each-again (SpellsAtt v) (λ before. att_at v) (att-again v) xs [] body more each)
     bytes atts rest s
 
+-- reading a list of attributes stops with its first wrong field
 pub atts-stop-again : (v : Version) (bytes : List ℕ) (fault : FormatFault) (rest : List ℕ) → StopsInAtts v bytes fault rest → (att_list_at v).run bytes ≡ Err (Format fault, rest)
 unfolding att_list_at atts_at ◌>>=◌
 atts-stop-again v bytes fault rest s =

@@ -30,16 +30,19 @@ both-so a b e f = ap (λ x. x && b) e ∙ f
 
 -- ---- dimension ids
 
+-- a dimension id passes the test
 dimid-test : (dims : List Dim) (before : List ℕ) (id : ℕ) → IsDimid dims before id → is_dimid dims (is_first before) id ≡ true
 dimid-test dims before id h =
     let known : ltb id (length dims) ≡ true = grind (arith, h.known) in
     known-and-first (ltb id (length dims)) (is_first before) (is_record_dim dims id) known (λ r. ap (λ (xs : List ℕ). length xs == 0) (h.record_first r))
 
+-- a spelled dimension id is read
 pub dimid-again : (v : Version) (dims : List Dim) → ElementAgain (SpellsDimid v dims) (λ before. dimid_at v dims (is_first before))
 unfolding dimid_at ◌>>=◌ done
 dimid-again v dims before bytes id rest s =
     then-ok _ (number-again v bytes id rest s.number) (if-so _ _ (dimid-test dims before id s.known) refl)
 
+-- reading a dimension id stops where it is wrong
 pub dimid-stops-again : (v : Version) (dims : List Dim) → ElementStopsAgain (StopsInDimid v dims) (λ before. dimid_at v dims (is_first before))
 unfolding dimid_at ◌>>=◌ stop
 dimid-stops-again v dims before bytes fault rest (cut_dimid cut) = then-err _ (number-stops-again v bytes cut)
@@ -47,6 +50,7 @@ dimid-stops-again v dims before bytes fault rest (bad_dimid id r number unknown)
     then-ok _ (number-again v bytes id r number)
     (if-not _ _ (not-so (is_dimid dims (is_first before) id) (λ e. unknown (is-dimid dims before id e))) refl)
 
+-- a spelled shape is read
 pub shape-again : (v : Version) (dims : List Dim) (bytes ids rest : List ℕ) → SpellsCounted v (SpellsDimid v dims) bytes ids rest → (shape_at v dims).run bytes ≡ Ok (ids, rest)
 unfolding shape_at ◌>>=◌
 shape-again v dims bytes ids rest s =
@@ -54,6 +58,7 @@ shape-again v dims bytes ids rest s =
     (dimids_at-each v dims (length ids) [] s.behind_count
     ∙ each-again (SpellsDimid v dims) (λ b. dimid_at v dims (is_first b)) (dimid-again v dims) ids [] s.behind_count rest s.each)
 
+-- reading a shape stops with its first wrong field
 pub shape-stops-again : (v : Version) (dims : List Dim) (bytes : List ℕ) (fault : FormatFault) (rest : List ℕ)
     → StopsInCounted v (SpellsDimid v dims) (StopsInDimid v dims) bytes fault rest → (shape_at v dims).run bytes ≡ Err (Format fault, rest)
 unfolding shape_at ◌>>=◌
@@ -65,16 +70,19 @@ shape-stops-again v dims bytes fault rest (in_element n body f r count s) =
 
 -- ---- offsets
 
+-- a spelled number of an offset's width is read
 pub wide-again : (v : Version) (bytes : List ℕ) (n : ℕ) (rest : List ℕ) → SpellsNumber (offset_width v) bytes n rest → (wide_at v).run bytes ≡ Ok (n, rest)
 wide-again Cdf1 bytes n rest s = u32-again bytes n rest s
 wide-again Cdf2 bytes n rest s = u64-again bytes n rest s
 wide-again Cdf5 bytes n rest s = u64-again bytes n rest s
 
+-- where the file ends in one, reading stops
 pub wide-stops-again : (v : Version) (bytes : List ℕ) → IsCutNumber (offset_width v) bytes → (wide_at v).run bytes ≡ Err (Format HeaderTruncated, [])
 wide-stops-again Cdf1 bytes cut = u32-stops-again bytes cut
 wide-stops-again Cdf2 bytes cut = u64-stops-again bytes cut
 wide-stops-again Cdf5 bytes cut = u64-stops-again bytes cut
 
+-- a spelled offset is read
 pub offset-again : (v : Version) (bytes : List ℕ) (n : ℕ) (rest : List ℕ) → SpellsOffset v bytes n rest → (offset_at v).run bytes ≡ Ok (n, rest)
 unfolding offset_at ◌>>=◌ done
 offset-again v bytes n rest s =
@@ -113,6 +121,7 @@ total-stops-again dims ids ty total here large =
 
 -- ---- variables
 
+-- a spelled variable is read, with the padded slabs of the record variables up to and with it
 pub var-again : (v : Version) (dims : List Dim) (before : List Var) (total : ℕ) (bytes : List ℕ) (var : Var) (rest : List ℕ) → total ≡ total_of dims before → SpellsVar v dims before bytes var rest
     → (var_at v dims total).run bytes ≡ Ok (record { var = var; total = total_of dims (before ++ var ∷ []) }, rest)
 unfolding var_at ◌>>=◌ done
@@ -161,6 +170,7 @@ typed-again v dims before total bytes var behind_type o same typed h =
     (then-ok _ (type-again v typed.behind_atts var.ty behind_type typed.ty)
     (then-ok _ (total-again dims var.dimids var.ty total behind_type (fits-within dims before var total same typed.small)) h))
 
+-- reading a variable stops with its first wrong field
 pub var-stops-again : (v : Version) (dims : List Dim) (before : List Var) (total : ℕ) (bytes : List ℕ) (fault : FormatFault) (rest : List ℕ) → total ≡ total_of dims before → StopsInVar v dims before bytes fault rest
     → (var_at v dims total).run bytes ≡ Err (Format fault, rest)
 unfolding var_at ◌>>=◌
@@ -205,12 +215,14 @@ vars-stop-behind v dims (suc n) before total bytes fault rest same (inr s) =
     then-ok _ (var-again v dims before total bytes s.0 s.1 same s.2)
     (vars-stop-behind v dims n (before ++ s.0 ∷ []) (total_of dims (before ++ s.0 ∷ [])) s.1 fault rest refl s.3)
 
+-- a spelled list of variables is read
 pub vars-again : (v : Version) (dims : List Dim) (bytes : List ℕ) (vars : List Var) (rest : List ℕ) → SpellsList v variable_tag (SpellsVar v dims) bytes vars rest → (var_list_at v dims).run bytes ≡ Ok (vars, rest)
 unfolding var_list_at ◌>>=◌
 vars-again v dims bytes vars rest s =
     list-again v variable_tag (SpellsVar v dims) (λ n. vars_at v dims n 0 []) refl
     (λ xs body more each. vars-behind v dims xs [] 0 body more refl each) bytes vars rest s
 
+-- reading a list of variables stops with its first wrong field
 pub vars-stop-again : (v : Version) (dims : List Dim) (bytes : List ℕ) (fault : FormatFault) (rest : List ℕ) → StopsInList v variable_tag (SpellsVar v dims) (StopsInVar v dims) bytes fault rest
     → (var_list_at v dims).run bytes ≡ Err (Format fault, rest)
 unfolding var_list_at ◌>>=◌

@@ -3,3 +3,4 @@ pub mod Sources
 pub mod Reading
 pub mod Window
 pub mod Answers
+pub mod OneOutcome

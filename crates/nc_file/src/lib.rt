@@ -10,6 +10,7 @@ mod fault;
 mod file;
 mod head_fault;
 mod header;
+pub mod laws;
 mod memory;
 mod reading;
 mod sink;

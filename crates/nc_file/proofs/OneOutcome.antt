@@ -1,0 +1,68 @@
+-- Bytes begin with one header or have one first wrong field.
+use Rattle.std.proofs.Common.{◌≡◌, ℕ, ◌+◌, ◌-◌, ◌≤◌, List, length, inl, inr, Result, Ok, Err, sym, ap, ◌∙◌, arith}
+use Rattle.std.specs.Prelude.{◌⊎◌}
+use Rattle.nc_base.specs.declared.fault.FormatFault.{FormatFault}
+use Rattle.nc_base.specs.declared.header.Header.{Header}
+use Rattle.nc_base.specs.Bytes.{AreBytes}
+use Rattle.nc_base.specs.Grammar.{SpellsHeader}
+use Rattle.nc_base.specs.FirstFault.{StopsWith, StopsAt}
+use Rattle.nc_file.specs.declared.head_fault.HeadFault.{HeadFault}
+use Rattle.nc_file.specs.declared.head_fault.HeadFault.TheVariants.{Format}
+use Rattle.nc_file.specs.OneOutcome.{BeginsWithHeader, HasFirstFault, HasOneOutcome}
+use Rattle.nc_file.specs.Reading.{Outcome, left_over, header_at}
+use Rattle.nc_file.proofs.Means.{Means, spells, stops}
+use Rattle.nc_file.proofs.HeaderLaws.{means-header}
+use Rattle.nc_file.proofs.HeadersAgain.{header-again, header-stops-again}
+
+-- what reading gives is a header or the first wrong field
+either-of : (bytes : List ℕ) (o : Outcome Header) → left_over o ≤ length bytes → Means (SpellsHeader bytes) (StopsWith bytes) o → BeginsWithHeader bytes ⊎ HasFirstFault bytes
+unfolding left_over
+either-of bytes o shorter (spells h rest s fits) = inl (h, rest, s)
+either-of bytes o shorter (stops fault rest s) =
+    inr (fault, length bytes - length rest, record { rest = rest; stops = s; ends = omega (arith, shorter) })
+
+-- a value that was read, with the rest
+abbrev read : Header → List ℕ → Outcome Header
+read h rest = Ok (h, rest)
+
+-- a fault that was met, with the rest
+abbrev refused : FormatFault → List ℕ → Outcome Header
+refused fault rest = Err (Format fault, rest)
+
+-- two values that one reading gives are one
+same-read : (h k : Header) (rest more : List ℕ) → read h rest ≡ read k more → (h ≡ k) × (rest ≡ more)
+same-read h k rest more e =
+    let both : (h, rest) ≡ (k, more) = cc in
+    (ap (λ (x : Header × List ℕ). x.0) both, ap (λ (x : Header × List ℕ). x.1) both)
+
+-- two faults that one reading gives are one
+same-refused : (fault other : FormatFault) (rest more : List ℕ) → refused fault rest ≡ refused other more → (fault ≡ other) × (rest ≡ more)
+same-refused fault other rest more e =
+    let both : (Format fault, rest) ≡ (Format other, more) = cc in
+    let same : Format fault ≡ Format other = ap (λ (x : HeadFault × List ℕ). x.0) both in
+    let one : fault ≡ other = cc in
+    (one, ap (λ (x : HeadFault × List ℕ). x.1) both)
+
+-- no reading gives both
+not-both : (h : Header) (fault : FormatFault) (rest more : List ℕ) → ¬ (read h rest ≡ refused fault more)
+not-both h fault rest more e = cc
+
+-- no two headers
+one-header : (bytes : List ℕ) (h k : Header) (rest more : List ℕ) → SpellsHeader bytes h rest → SpellsHeader bytes k more → (h ≡ k) × (rest ≡ more)
+one-header bytes h k rest more s t = same-read h k rest more (sym (header-again bytes h rest s) ∙ header-again bytes k more t)
+
+-- no two first wrong fields
+one-fault : (bytes : List ℕ) (fault other : FormatFault) (end last : ℕ) → StopsAt bytes fault end → StopsAt bytes other last → (fault ≡ other) × (end ≡ last)
+one-fault bytes fault other end last s t =
+    let same = same-refused fault other s.rest t.rest (sym (header-stops-again bytes fault s.rest s.stops) ∙ header-stops-again bytes other t.rest t.stops) in
+    let lens : length s.rest ≡ length t.rest = ap (λ (x : List ℕ). length x) same.1 in
+    (same.0, omega (arith, lens, s.ends, t.ends))
+
+-- the law
+pub one-outcome : (bytes : List ℕ) → AreBytes bytes → HasOneOutcome bytes
+one-outcome bytes fits = record {
+  either = either-of bytes (header_at.run bytes) (header_at.shorter bytes) (means-header bytes fits);
+  one_header = one-header bytes;
+  one_fault = one-fault bytes;
+  not_both = λ x y. not-both x.0 y.0 x.1 y.2.rest (sym (header-again bytes x.0 x.1 x.2) ∙ header-stops-again bytes y.0 y.2.rest y.2.stops);
+}

@@ -1,0 +1,5 @@
+use Rattle.nc_file.proofs.OneOutcome.{one-outcome}
+use Rattle.nc_file.proofs.laws.one_header_or_one_fault.Goals as goal
+
+pub returns : goal.returns
+returns c = one-outcome

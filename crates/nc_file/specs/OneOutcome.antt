@@ -1,0 +1,26 @@
+-- Bytes begin with one header or have one first wrong field: the grammar and its faults leave nothing open.
+use Rattle.std.specs.Prelude.{ℕ, ◌≡◌, ◌⊎◌, List}
+use Rattle.nc_base.specs.declared.fault.FormatFault.{FormatFault}
+use Rattle.nc_base.specs.declared.header.Header.{Header}
+use Rattle.nc_base.specs.Grammar.{SpellsHeader}
+use Rattle.nc_base.specs.FirstFault.{StopsAt}
+
+-- these bytes begin with a spelling of some header
+abbrev pub BeginsWithHeader : List ℕ → Type 0
+BeginsWithHeader bytes = (h : Header) × (rest : List ℕ) × SpellsHeader bytes h rest
+
+-- some field is the first wrong one
+abbrev pub HasFirstFault : List ℕ → Type 0
+HasFirstFault bytes = (fault : FormatFault) × (end : ℕ) × StopsAt bytes fault end
+
+-- exactly one of the two holds, and in one way: there are no two headers, no two rests behind a header, no two faults of the
+-- first wrong field, and no two ends of it
+pub record HasOneOutcome (bytes : List ℕ) : Type 0 where
+  pub either : BeginsWithHeader bytes ⊎ HasFirstFault bytes
+  pub one_header : (h other_h : Header) (rest other_rest : List ℕ)
+      → SpellsHeader bytes h rest → SpellsHeader bytes other_h other_rest
+      → (h ≡ other_h) × (rest ≡ other_rest)
+  pub one_fault : (fault other_fault : FormatFault) (end other_end : ℕ)
+      → StopsAt bytes fault end → StopsAt bytes other_fault other_end
+      → (fault ≡ other_fault) × (end ≡ other_end)
+  pub not_both : BeginsWithHeader bytes → ¬ HasFirstFault bytes
