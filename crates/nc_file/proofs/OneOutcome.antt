@@ -1,5 +1,5 @@
 -- Bytes begin with one header or have one first wrong field.
-use Rattle.std.proofs.Common.{◌≡◌, ℕ, ◌+◌, ◌-◌, ◌≤◌, List, length, inl, inr, Result, Ok, Err, sym, ap, ◌∙◌, arith}
+use Rattle.std.proofs.Common.{◌≡◌, ℕ, ◌-◌, ◌≤◌, List, length, inl, inr, Ok, Err, sym, ap, ◌∙◌, arith}
 use Rattle.std.specs.Prelude.{◌⊎◌}
 use Rattle.nc_base.specs.declared.fault.FormatFault.{FormatFault}
 use Rattle.nc_base.specs.declared.header.Header.{Header}
@@ -35,13 +35,15 @@ same-read h k rest more e =
     let both : (h, rest) ≡ (k, more) = cc in
     (ap (λ (x : Header × List ℕ). x.0) both, ap (λ (x : Header × List ℕ). x.1) both)
 
+-- a fault of the format is told by one fault of the reading
+same-format : (fault other : FormatFault) → Format fault ≡ Format other → fault ≡ other
+same-format fault other e = cc
+
 -- two faults that one reading gives are one
 same-refused : (fault other : FormatFault) (rest more : List ℕ) → refused fault rest ≡ refused other more → (fault ≡ other) × (rest ≡ more)
 same-refused fault other rest more e =
     let both : (Format fault, rest) ≡ (Format other, more) = cc in
-    let same : Format fault ≡ Format other = ap (λ (x : HeadFault × List ℕ). x.0) both in
-    let one : fault ≡ other = cc in
-    (one, ap (λ (x : HeadFault × List ℕ). x.1) both)
+    (same-format fault other (ap (λ (x : HeadFault × List ℕ). x.0) both), ap (λ (x : HeadFault × List ℕ). x.1) both)
 
 -- no reading gives both
 not-both : (h : Header) (fault : FormatFault) (rest more : List ℕ) → ¬ (read h rest ≡ refused fault more)
