@@ -77,6 +77,16 @@ smallest() {
     { printf 'CDF\001' && zeros 28; } >"$1"
 }
 
+# large NAME: makes a file whose attribute `note` is a line of 20000 bytes, more than the writer holds back.
+large() {
+    {
+        printf 'CDF\001' && zeros 12
+        printf '\000\000\000\014\000\000\000\001\000\000\000\004note\000\000\000\002\000\000\116\040'
+        zeros 20000 | tr '\000' a
+        zeros 8
+    } >"$1"
+}
+
 # limited COMMAND..: runs the command with 256 MiB of memory and 5 seconds of processor time.
 limited() (
     ulimit -v 262144
@@ -84,9 +94,12 @@ limited() (
     exec "$@"
 )
 
-# to_full_device FILE, without_stderr FILE: the dump where a device takes nothing.
+# to_full_device FILE, without_stdout FILE, without_stderr FILE: the dump where a device takes nothing.
 to_full_device() {
     "$ncdump" "$1" >/dev/full
+}
+without_stdout() {
+    "$ncdump" "$1" >&-
 }
 without_stderr() {
     "$ncdump" "$1" 2>&-
@@ -101,6 +114,10 @@ cdl record_dimension "$samples/records.nc" \
     'netcdf records {\ndimensions:\n\tt = UNLIMITED ; // (2 currently)\n}\n'
 cdl text_attribute_of_two_lines "$samples/note.nc" \
     'netcdf note {\n\n// global attributes:\n\t\t:note = "a\\n",\n\t\t\t"b\\n" ;\n}\n'
+
+large large.nc
+cdl long_text large.nc \
+    "netcdf large {\\n\\n// global attributes:\\n\\t\\t:note = \"$(zeros 20000 | tr '\000' a)\" ;\\n}\\n"
 
 # The name of the dataset.
 smallest dir/a.b.nc
@@ -145,7 +162,12 @@ verdict two_words 1
 
 # Devices that take nothing.
 run to_full_device "$samples/records.nc"
-verdict full_standard_output 1
+verdict full_standard_output_at_the_end 1
+stderr 'ncdump: large.nc: write failed\n'
+run to_full_device large.nc
+verdict full_standard_output_on_the_way 1
+run without_stdout "$samples/records.nc"
+verdict closed_standard_output 1
 run without_stderr missing.nc
 verdict closed_standard_error 1
 

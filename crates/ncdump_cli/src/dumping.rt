@@ -1,10 +1,10 @@
 //! The dump of a file of the system to standard output.
 
-ghost use Rattle.std.specs.Prelude.{◌≡◌, OnOk};
+ghost use Rattle.std.specs.Prelude.{◌≡◌, ◌≢◌, OnOk};
 ghost use Rattle.std.specs.Bool.{OnTrue};
 ghost use Rattle.nc_file.specs.Sinks.{HasFailed};
 ghost use Rattle.ncdump.specs.Dumps.{options_of};
-ghost use Rattle.ncdump_cli.specs.Runs.{Shows};
+ghost use Rattle.ncdump_cli.specs.Runs.{ReadFailsOnly, Shows};
 
 use crate::failure::FileFault;
 use nc_file::{FileSource, IoSink, Sink, Source};
@@ -32,7 +32,8 @@ fn dump_whole<S: Source, W: Write>(
     options: &DumpOptions,
     sink: &mut IoSink<W>,
 ) -> Result<(), FileFault>
-    ensures reads { OnOk result ((S.seen source.new).failures ≡ (S.seen source.old).failures) }
+    ensures opened { result ≢ Err FileFault.CannotOpen }
+    ensures reads { ReadFailsOnly (S.seen source.old) (S.seen source.new) result }
     ensures writes { OnOk result ((⟦<IoSink<W> as Sink>⟧.seen sink.new).failures ≡ (⟦<IoSink<W> as Sink>⟧.seen sink.old).failures) }
     ensures flush { result ≡ Err FileFault.FlushFailed → HasFailed (⟦<IoSink<W> as Sink>⟧.seen sink.old).failures (⟦<IoSink<W> as Sink>⟧.seen sink.new) }
     ensures shows { OnTrue S.told (Shows (S.seen source.old).bytes (options_of options.now) (⟦<IoSink<W> as Sink>⟧.seen sink.old) (⟦<IoSink<W> as Sink>⟧.seen sink.new) result) }

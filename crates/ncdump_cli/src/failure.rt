@@ -7,8 +7,6 @@ ghost use Rattle.ncdump_cli.specs.declared.failure.FileFault.TheVariants.{Cannot
 
 use nc_file::{OpenFailed, Sink, SinkFailed, WriteFailed, put};
 use ncdump::{DumpFault, fault_line};
-use std::io;
-use std::io::ErrorKind;
 
 /// Why the program failed.
 #[derive(Debug, Drop)]
@@ -30,15 +28,6 @@ pub enum FileFault {
     Dump(DumpFault),
     /// Standard output didn't take the end of the text.
     FlushFailed,
-}
-
-impl From<io::Error> for Failure {
-    fn from(error: io::Error) -> Failure {
-        match error.kind() {
-            ErrorKind::OutOfMemory => Failure::OutOfMemory,
-            _ => Failure::Usage,
-        }
-    }
 }
 
 impl From<OpenFailed> for FileFault {

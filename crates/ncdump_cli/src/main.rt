@@ -14,7 +14,7 @@ use std::env;
 use std::fs::File;
 use std::process::ExitCode;
 use std::rt::{Env, Files};
-use words::{options_of, path_of};
+use words::{options_of, path_of, unread};
 
 fn main(rt: HostRuntime) -> ExitCode {
     match run(&rt) {
@@ -29,7 +29,7 @@ fn main(rt: HostRuntime) -> ExitCode {
 
 /// Writes the dump of the file that the program's words name.
 fn run<R: Env + Files<File = File> + Print + AllocGlobal>(rt: &R) -> Result<(), Failure> {
-    let path = path_of(env::args(rt)?)?;
+    let path = path_of(env::args(rt).map_err(unread)?)?;
     let options = options_of(rt.alloc(), path)?;
     match dump_path(rt, &options) {
         Ok(()) => Ok(()),

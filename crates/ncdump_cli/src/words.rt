@@ -1,6 +1,7 @@
 //! The words that the program is run with.
 
-ghost use Rattle.std.specs.Prelude.{◌≡◌, ◌↔◌, [], ◌∷◌, drop, false, IsOk, IfOk, IfErr};
+ghost use Rattle.std.specs.Prelude.{◌≡◌, ◌≢◌, ◌↔◌, [], ◌∷◌, drop, false, IsOk, IfOk, IfErr};
+ghost use Rattle.std.specs.IoError.{error_kind};
 ghost use Rattle.std.specs.Vec.Iter.{into_iter_items, into_iter_len};
 ghost use Rattle.ncdump.specs.Dumps as dumps;
 
@@ -9,6 +10,19 @@ use nc_base::{Sequence, stem};
 use ncdump::{DumpFault, DumpOptions};
 use std::alloc::{AllocError, Global};
 use std::env::Args;
+use std::io;
+use std::io::ErrorKind;
+
+/// Why the words could not be read: for want of memory, or because one isn't UTF-8.
+pub fn unread(error: io::Error) -> Failure
+    ensures memory { error_kind error ≡ ErrorKind.OutOfMemory → result ≡ Failure.OutOfMemory }
+    ensures other { error_kind error ≢ ErrorKind.OutOfMemory → result ≡ Failure.Usage }
+{
+    match error.kind() {
+        ErrorKind::OutOfMemory => Failure::OutOfMemory,
+        _ => Failure::Usage,
+    }
+}
 
 /// The path of the file: the only word behind the program's name.
 pub fn path_of(mut words: Args) -> Result<String, Failure>
