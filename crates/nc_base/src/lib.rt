@@ -35,4 +35,6 @@ pub use version::Version;
 pub use weights::weight;
 
 #[cfg(test)]
+mod size_tests;
+#[cfg(test)]
 mod tests;
