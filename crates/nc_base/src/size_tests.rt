@@ -1,15 +1,14 @@
 //! Sizes of small headers, worked out by hand.
 
-use std::alloc::{AllocError, Global};
-use std::process::Abort;
-use std::test::Fail;
-
 use crate::header::{Att, Dim, Header, NumRecs, Var};
 use crate::nc_type::NcType;
 use crate::sequence::Sequence;
 use crate::sizes::{extent_end, rec_size, records, slab_of};
 use crate::version::Version;
 use crate::weights::weight;
+use std::alloc::{AllocError, Global};
+use std::process::Abort;
+use std::test::Fail;
 
 fn variable(alloc: Global, dimids: &[u64], ty: NcType, begin_at: u64) -> Result<Var, AllocError> {
     let mut ids = Sequence::new(alloc);
@@ -82,7 +81,13 @@ fn slabs_leave_out_the_record_dimension(rt: HostRuntime) -> Result<(), Fail> {
 
 #[test]
 fn slabs_end_at_their_limit(rt: HostRuntime) -> Result<(), Fail> {
-    let lens = [2147483647, 16777216, 281474976710657, 9223372036854775807, 0];
+    let lens = [
+        2147483647,
+        16777216,
+        281474976710657,
+        9223372036854775807,
+        0,
+    ];
     let large = header(rt.alloc(), &lens, &[])?;
     expect_slab(&rt, &large, &[0, 0], NcType::Byte, None);
     expect_slab(&rt, &large, &[1, 1], NcType::Byte, Some(281474976710656));

@@ -116,8 +116,8 @@ unfolding total_with stop
 total-stops-again dims ids ty total here large =
     ap (λ b. (total_or_wrong (cond b (Some (total + record_part dims ids ty)) None)).run here)
     (not-so (leb (slab_of dims ids ty) slab_limit && leb (total + record_part dims ids ty) record_limit)
-      (λ e. let h = and-true (leb (slab_of dims ids ty) slab_limit) (leb (total + record_part dims ids ty) record_limit) e in
-        large (record { slab = leb-true _ _ h.0; records = leb-true _ _ h.1 })))
+    (λ e. let h = and-true (leb (slab_of dims ids ty) slab_limit) (leb (total + record_part dims ids ty) record_limit) e in
+    large (record { slab = leb-true _ _ h.0; records = leb-true _ _ h.1 })))
 
 -- ---- variables
 
