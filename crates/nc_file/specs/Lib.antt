@@ -4,3 +4,5 @@ pub mod Reading
 pub mod Window
 pub mod Answers
 pub mod OneOutcome
+pub mod Drip
+pub mod Slice

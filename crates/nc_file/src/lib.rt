@@ -3,9 +3,11 @@
 //! A [`Source`] hands over bytes from any place, and a [`Sink`] takes bytes one behind another. Each
 //! counts its failures and says nothing of their cause. [`MemSource`] and [`MemSink`] stand in memory,
 //! [`FileSource`] is a file of the system, and [`IoSink`] goes over any writer of the standard library.
-//! [`put`] writes all of the bytes that it is given.
+//! [`DripSource`] hands over few bytes a read and fails when it is told to, and [`SliceSink`] fills a lent
+//! slice, a few bytes a call. [`put`] writes all of the bytes that it is given.
 #![tactic(auto)]
 
+mod drip;
 mod fault;
 mod file;
 mod head_fault;
@@ -15,16 +17,21 @@ mod memory;
 mod reading;
 mod sink;
 mod sized_var;
+mod slice;
 mod source;
 mod window;
 
+pub use drip::{DripSource, FailWhen};
 pub use fault::{OpenFailed, SinkFailed, SourceFailed, WriteFailed};
 pub use file::{FileSource, IoSink};
 pub use head_fault::HeadFault;
 pub use header::read_header;
 pub use memory::{MemSink, MemSource};
 pub use sink::{Sink, put};
+pub use slice::SliceSink;
 pub use source::Source;
 
+#[cfg(test)]
+mod device_tests;
 #[cfg(test)]
 mod tests;

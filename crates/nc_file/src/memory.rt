@@ -53,7 +53,7 @@ impl Source for MemSource<'_> {
 }
 
 /// The number of the bytes, each of which is below 256.
-fn length_of(bytes: &[u8]) -> u64
+pub(crate) fn length_of(bytes: &[u8]) -> u64
     ensures length { result ≡ length bytes.now }
     ensures bytes { AreBytes bytes.now }
 {

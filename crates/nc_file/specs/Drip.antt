@@ -1,0 +1,28 @@
+-- When a source that is told to fail does so.
+use Rattle.std.specs.Prelude.{◌≡◌, ◌≤◌, ℕ}
+use Rattle.nc_file.specs.Sources.{SourceView}
+use Rattle.nc_file.specs.declared.drip.DripSource.{DripSource}
+use Rattle.nc_file.specs.declared.drip.FailWhen.{FailWhen}
+use Rattle.nc_file.specs.declared.drip.FailWhen.TheVariants.{Never, From, Read}
+
+-- a read at this place, with so many reads before it, is to fail
+abbrev pub IsDue : FailWhen → ℕ → ℕ → Type 0
+IsDue Never at reads = ⊥
+IsDue (From from) at reads = from ≤ at
+IsDue (Read read) at reads = read ≡ reads
+
+-- the source as the contracts of all sources see it
+abbrev pub view_of : DripSource → SourceView
+view_of source = record { bytes = source.bytes.now; failures = source.failures; handed = source.handed }
+
+-- how many bytes it hands over at most
+abbrev pub step_of : DripSource → ℕ
+step_of source = source.step
+
+-- when it is to fail
+abbrev pub fail_of : DripSource → FailWhen
+fail_of source = source.fail
+
+-- how often it has been read
+abbrev pub reads_of : DripSource → ℕ
+reads_of source = source.reads

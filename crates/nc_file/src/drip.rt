@@ -1,0 +1,119 @@
+//! A source that hands over few bytes a read, and fails when it is told to.
+
+ghost use Rattle.std.specs.Prelude.{◌≡◌, ◌↔◌, ◌≤◌, ◌<◌, ◌⊎◌, ◌+◌, ◌-◌, ◌^◌, IfOk, IsErr, IsTrue, true, length, min};
+ghost use Rattle.nc_file.specs.Sources.{ReadSome};
+
+use crate::memory::length_of;
+use crate::{Source, SourceFailed};
+
+/// When a [`DripSource`] fails.
+#[derive(Clone, Copy, Debug, PartialEq, Eq)]
+pub enum FailWhen {
+    /// At no read.
+    Never,
+    /// At each read that begins at this offset or later.
+    From(u64),
+    /// At the read of this number, counted from 0, and at no other.
+    Read(u64),
+}
+
+impl FailWhen {
+    ghost use Rattle.nc_file.specs.Drip.{IsDue};
+
+    /// A read at the offset `at`, with `reads` reads before it, is to fail.
+    fn is_due(self, at: u64, reads: u128) -> bool
+        ensures { IsTrue result ↔ IsDue self at reads }
+    {
+        match self {
+            FailWhen::Never => false,
+            FailWhen::From(from) => from <= at,
+            FailWhen::Read(read) => read as u128 == reads,
+        }
+    }
+}
+
+/// A source of the bytes of a slice, all of which it tells, that hands over at most `step` of them a read.
+///
+/// It fails when it is told to, and where a count would reach 2^128.
+#[derive(Drop)]
+pub struct DripSource<'a> {
+    bytes: &'a [u8],
+    step: usize,
+    fail: FailWhen,
+    reads: u128,
+    failures: u128,
+    handed: u128,
+    ghost steps: { 1 ≤ step },
+}
+
+impl<'a> DripSource<'a> {
+    ghost use Rattle.nc_file.specs.Drip.{step_of, fail_of, reads_of};
+
+    /// A source of these bytes, which has handed over none of them.
+    pub fn new(bytes: &'a [u8], step: usize, fail: FailWhen) -> DripSource<'a>
+        requires { 1 ≤ step }
+        ensures seen { ⟦<DripSource<'static> as Source>⟧.seen result ≡ record { bytes = bytes.now; failures = 0; handed = 0 } }
+        ensures step { step_of result ≡ step }
+        ensures fail { fail_of result ≡ fail }
+        ensures reads { reads_of result ≡ 0 }
+    {
+        DripSource {
+            bytes,
+            step,
+            fail,
+            reads: 0,
+            failures: 0,
+            handed: 0,
+        }
+    }
+
+    /// How many bytes it has handed over.
+    pub fn handed(&self) -> u128
+        ensures { result ≡ (⟦<DripSource<'static> as Source>⟧.seen self.now).handed }
+    {
+        self.handed
+    }
+}
+
+impl Source for DripSource<'_> {
+    ghost use Rattle.nc_file.specs.Drip.{IsDue, view_of, step_of, fail_of, reads_of};
+
+    ghost told = { true };
+
+    ghost seen = { view_of };
+
+    fn len(&self) -> u64 {
+        length_of(self.bytes)
+    }
+
+    #[tactic(auto, unfolding(crate::specs::Sources::HasFailed))]
+    fn read_at(&mut self, at: u64, into: &mut [u8]) -> Result<usize, SourceFailed>
+        ensures read { ReadSome true (view_of self.old) (view_of self.new) at into.old into.new result }
+        ensures few { IfOk result (λ n. n ≤ step_of self.old) }
+
+        // It stays as it is, but counts its reads.
+        ensures step { step_of self.new ≡ step_of self.old }
+        ensures fail { fail_of self.new ≡ fail_of self.old }
+        ensures reads { (view_of self.old).handed + length into.old < 2 ^ 128 → reads_of self.new ≡ min (reads_of self.old + 1) (2 ^ 128 - 1) }
+
+        // It fails when it is told to, and else where it cannot count.
+        ensures due { IsDue (fail_of self.old) at (reads_of self.old) → IsErr result }
+        ensures only_due { IsErr result → IsDue (fail_of self.old) at (reads_of self.old) ⊎ (2 ^ 128 ≤ (view_of self.old).handed + length into.old) }
+    {
+        let len = self.bytes.len();
+        let from = if at < len as u64 { at as usize } else { len };
+        let n = into.len().min(len - from).min(self.step);
+        if u128::MAX - self.handed < n as u128 {
+            return Err(SourceFailed);
+        }
+        let is_due = self.fail.is_due(at, self.reads);
+        self.reads = self.reads.saturating_add(1);
+        if is_due {
+            self.failures = self.failures.saturating_add(1);
+            return Err(SourceFailed);
+        }
+        into[..n].copy_from_slice(&self.bytes[from..from + n]);
+        self.handed += n as u128;
+        Ok(n)
+    }
+}

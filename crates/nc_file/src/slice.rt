@@ -1,0 +1,76 @@
+//! A sink over a lent slice.
+
+ghost use Rattle.std.specs.Prelude.{◌≡◌, ◌↔◌, ◌<◌, ◌≤◌, ◌+◌, ◌-◌, [], Some, length, take, IsErr, IfOk, OnErr};
+ghost use Rattle.nc_file.specs.Sinks.{WroteSome};
+
+use crate::{Sink, SinkFailed};
+
+/// A sink that keeps its bytes at the front of a lent slice, and tells them. It takes at most `step` of them a call.
+///
+/// It fails once the slice is full.
+#[derive(Drop)]
+pub struct SliceSink<'a> {
+    into: &'a mut [u8],
+    step: usize,
+    len: usize,
+    failures: u128,
+    ghost steps: { 1 ≤ step },
+    ghost within: { len ≤ length into.now },
+}
+
+impl<'a> SliceSink<'a> {
+    ghost use Rattle.nc_file.specs.Slice.{room_of, step_of};
+
+    /// An empty sink over the slice.
+    pub fn new(into: &'a mut [u8], step: usize) -> SliceSink<'a>
+        requires { 1 ≤ step }
+        ensures seen { ⟦<SliceSink<'static> as Sink>⟧.seen result ≡ record { taken = Some []; failures = 0 } }
+        ensures room { room_of result ≡ length into.old }
+        ensures step { step_of result ≡ step }
+    {
+        SliceSink {
+            into,
+            step,
+            len: 0,
+            failures: 0,
+        }
+    }
+
+    /// All the bytes that it took.
+    pub fn taken(&self) -> &[u8]
+        ensures { (⟦<SliceSink<'static> as Sink>⟧.seen self.now).taken ≡ Some result.now }
+    {
+        &self.into[..self.len]
+    }
+}
+
+impl Sink for SliceSink<'_> {
+    ghost use Rattle.nc_file.specs.Slice.{view_of, room_of, step_of};
+
+    ghost seen = { view_of };
+
+    #[tactic(auto, using(crate::proofs::Writes::devices), unfolding(crate::specs::Sinks::append, crate::specs::Sinks::count, crate::specs::Sinks::IsCut, crate::specs::Sinks::told, crate::specs::Sinks::HasFailed))]
+    fn write_some(&mut self, bytes: &[u8]) -> Result<usize, SinkFailed>
+        ensures wrote { WroteSome (view_of self.old) (view_of self.new) bytes.now result }
+        ensures few { IfOk result (λ n. n ≤ step_of self.old) }
+        ensures step { step_of self.new ≡ step_of self.old }
+
+        // It fails once it has no room.
+        ensures full { IsErr result ↔ (0 < length bytes.now) × (room_of self.old ≡ 0) }
+        ensures room { IfOk result (λ n. room_of self.new + n ≡ room_of self.old) }
+        ensures same_room { OnErr result (room_of self.new ≡ room_of self.old) }
+    {
+        if bytes.is_empty() {
+            return Ok(0);
+        }
+        let room = self.into.len() - self.len;
+        if room == 0 {
+            self.failures = self.failures.saturating_add(1);
+            return Err(SinkFailed);
+        }
+        let n = bytes.len().min(room).min(self.step);
+        self.into[self.len..self.len + n].copy_from_slice(&bytes[..n]);
+        self.len += n;
+        Ok(n)
+    }
+}
