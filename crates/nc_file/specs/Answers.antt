@@ -6,34 +6,48 @@ use Rattle.nc_base.specs.Headers.{IsSound, HasValidNames}
 use Rattle.nc_base.specs.Weight.{weight_of}
 use Rattle.nc_base.specs.Grammar.{SpellsHeader}
 use Rattle.nc_base.specs.FirstFault.{StopsAt}
-use Rattle.nc_file.specs.Sources.{SourceView}
 use Rattle.nc_file.specs.declared.head_fault.HeadFault.{HeadFault}
 use Rattle.nc_file.specs.declared.head_fault.HeadFault.TheVariants.{OutOfMemory, ReadFailed, Format}
 
--- no more was handed over than the bytes up to here, and one buffer
-abbrev pub HandedUpTo : SourceView → SourceView → ℕ → ℕ → Type 0
-HandedUpTo old new end room = new.handed ≤ old.handed + end + room
+-- no more was handed over in between than the bytes up to here, and one buffer
+abbrev pub HandedUpTo : ℕ → ℕ → ℕ → ℕ → Type 0
+HandedUpTo before after end room = after ≤ before + end + room
 
 -- The bytes begin with a spelling of the header, with this rest behind it. The header is sound, has valid names and weighs
 -- no more than the bytes that spell it.
-pub record IsRead (old new : SourceView) (room : ℕ) (h : Header) : Type 0 where
+pub record IsRead (bytes : List ℕ) (before after room : ℕ) (h : Header) : Type 0 where
   pub rest : List ℕ
   pub end : ℕ
-  pub spelled : SpellsHeader old.bytes h rest
-  pub ends : end + length rest ≡ length old.bytes
-  pub handed : HandedUpTo old new end room
+  pub spelled : SpellsHeader bytes h rest
+  pub ends : end + length rest ≡ length bytes
+  pub handed : HandedUpTo before after end room
   pub sound : IsSound h
   pub names : HasValidNames h
   pub weight : weight_of h ≤ end
 
 -- the first wrong field has this fault, and ends here
-pub record IsRefused (old new : SourceView) (room : ℕ) (fault : FormatFault) : Type 0 where
+pub record IsRefused (bytes : List ℕ) (before after room : ℕ) (fault : FormatFault) : Type 0 where
   pub end : ℕ
-  pub stops : StopsAt old.bytes fault end
-  pub handed : HandedUpTo old new end room
+  pub stops : StopsAt bytes fault end
+  pub handed : HandedUpTo before after end room
 
-abbrev pub Answers : SourceView → SourceView → ℕ → Result Header HeadFault → Type 0
-Answers old new room (Ok h) = IsRead old new room h
-Answers old new room (Err (Format fault)) = IsRefused old new room fault
-Answers old new room (Err OutOfMemory) = Unit {0}
-Answers old new room (Err ReadFailed) = Unit {0}
+-- the header ends here, or its first wrong field
+pub data EndsAt (bytes : List ℕ) (end : ℕ) : Type 0 where
+  header_end : (h : Header) (rest : List ℕ) → SpellsHeader bytes h rest → end + length rest ≡ length bytes → EndsAt bytes end
+  fault_end : (fault : FormatFault) → StopsAt bytes fault end → EndsAt bytes end
+
+-- reading broke off before the header's end, or that of its first wrong field
+pub record IsBrokenOff (bytes : List ℕ) (before after room : ℕ) : Type 0 where
+  pub end : ℕ
+  pub ends : EndsAt bytes end
+  pub handed : HandedUpTo before after end room
+
+abbrev pub Answers : List ℕ → ℕ → ℕ → ℕ → Result Header HeadFault → Type 0
+Answers bytes before after room (Ok h) = IsRead bytes before after room h
+Answers bytes before after room (Err (Format fault)) = IsRefused bytes before after room fault
+Answers bytes before after room (Err OutOfMemory) = IsBrokenOff bytes before after room
+Answers bytes before after room (Err ReadFailed) = IsBrokenOff bytes before after room
+
+-- the answer is right for the bytes that the source had
+pub record HasAnswered (bytes : List ℕ) (before after room : ℕ) (result : Result Header HeadFault) : Type 0 where
+  pub answer : Answers bytes before after room result

@@ -1,5 +1,5 @@
 -- Reading a header from left to right: the value at the front of a list of bytes, or the first fault that is met, and what
--- is left behind. That it gives what the grammar says is proved in `proofs/Laws.antt`.
+-- is left behind. That it gives what the grammar says is proved in `proofs/HeaderLaws.antt` and `proofs/HeadersAgain.antt`.
 use Rattle.std.specs.Prelude.{◌≡◌, ℕ, zero, suc, ◌+◌, ◌*◌, ◌≤◌, Bool, true, false, List, [], ◌∷◌, ◌++◌, length, Option, Some, None, Result, Ok, Err, nat_lt, nat_le, ◌==◌, ◌&&◌, ◌||◌, not, if◌then◌else◌, MatchBool}
 use Rattle.std.specs.Int.{w32, w64, from_be_bytes}
 use Rattle.std.specs.Bool.{OnTrue}

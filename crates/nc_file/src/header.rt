@@ -3,7 +3,7 @@
 ghost use Rattle.std.specs.Prelude.{◌≡◌, ◌≤◌, length};
 ghost use Rattle.std.specs.Bool.{OnTrue};
 ghost use Rattle.nc_file.specs.Reading.{Caused};
-ghost use Rattle.nc_file.specs.Answers.{Answers};
+ghost use Rattle.nc_file.specs.Answers.{HasAnswered};
 
 use crate::head_fault::HeadFault;
 use crate::source::Source;
@@ -30,7 +30,7 @@ pub fn read_header<S: Source>(
     requires { 16 ≤ length buf.old }
     ensures bytes { (S.seen source.new).bytes ≡ (S.seen source.old).bytes }
     ensures cause { Caused (S.seen source.old).failures (S.seen source.new) result }
-    ensures answer { OnTrue S.told (Answers (S.seen source.old) (S.seen source.new) (length buf.old) result) }
+    ensures answer { OnTrue S.told (HasAnswered (S.seen source.old).bytes (S.seen source.old).handed (S.seen source.new).handed (length buf.old) result) }
 {
     let len = source.len();
     let mut window = Window {

@@ -6,9 +6,8 @@ use Rattle.nc_base.specs.declared.header.Header.{Header}
 use Rattle.nc_base.specs.Headers.{IsSound}
 use Rattle.nc_base.specs.Sizes.{record_count}
 use Rattle.nc_base.specs.Dump.{Options, whole, closed_text, has_no_data, KnowsChosen, IsDump, stopped, without_data}
-use Rattle.nc_file.specs.Sources.{SourceView}
 use Rattle.nc_file.specs.Sinks.{SinkView}
-use Rattle.nc_file.specs.Answers.{IsRead, Answers}
+use Rattle.nc_file.specs.Answers.{IsRead, Answers, HasAnswered}
 use Rattle.nc_file.specs.declared.head_fault.HeadFault.{HeadFault}
 use Rattle.nc_file.specs.declared.head_fault.HeadFault.TheVariants as head
 use Rattle.ncdump.specs.declared.fault.DumpFault.{DumpFault}
@@ -16,17 +15,17 @@ use Rattle.ncdump.specs.declared.fault.DumpFault.TheVariants.{OutOfMemory, ReadF
 use Rattle.ncdump.specs.Faults.{fault_of_head}
 use Rattle.ncdump.specs.Dumps.{asks_for_more, Puts, Dumps}
 
-refused : (A : Type 0) (o : Options) (old new : SourceView) (room : ℕ) (sink : SinkView) (e : HeadFault)
-    → Answers old new room (Err e) → Dumps {A = A} old.bytes o sink sink (Err (fault_of_head e))
-refused A o old new room sink head.OutOfMemory answer = tt
-refused A o old new room sink head.ReadFailed answer = tt
-refused A o old new room sink (head.Format fault) answer = stopped fault answer.end answer.stops
+refused : (A : Type 0) (o : Options) (bytes : List ℕ) (begin end room : ℕ) (sink : SinkView) (e : HeadFault)
+    → Answers bytes begin end room (Err e) → Dumps {A = A} bytes o sink sink (Err (fault_of_head e))
+refused A o bytes begin end room sink head.OutOfMemory answer = tt
+refused A o bytes begin end room sink head.ReadFailed answer = tt
+refused A o bytes begin end room sink (head.Format fault) answer = stopped fault answer.end answer.stops
 
 -- a header that isn't read
-pub told_refused : (A : Type 0) (told : Bool) (o : Options) (old new : SourceView) (room : ℕ) (sink : SinkView) (e : HeadFault)
-    → OnTrue told (Answers old new room (Err e)) → OnTrue told (Dumps {A = A} old.bytes o sink sink (Err (fault_of_head e)))
-told_refused A false o old new room sink e answer = tt
-told_refused A true o old new room sink e answer = refused A o old new room sink e answer
+pub told_refused : (A : Type 0) (told : Bool) (o : Options) (bytes : List ℕ) (begin end room : ℕ) (sink : SinkView) (e : HeadFault)
+    → OnTrue told (HasAnswered bytes begin end room (Err e)) → OnTrue told (Dumps {A = A} bytes o sink sink (Err (fault_of_head e)))
+told_refused A false o bytes begin end room sink e answer = tt
+told_refused A true o bytes begin end room sink e answered = refused A o bytes begin end room sink e answered.answer
 
 or-false : (a b : Bool) → (a || b) ≡ false → (a ≡ false) × (b ≡ false)
 or-false true b e = absurd cc
@@ -40,29 +39,30 @@ knows-none : (h : Header) (chosen : Option (List (List ℕ))) → is_some chosen
 knows-none h None none = tt
 knows-none h (Some names) none = absurd cc
 
-is-dump : (o : Options) (old new : SourceView) (room : ℕ) (h : Header) (count : ℕ) → IsRead old new room h → count ≡ record_count h (length old.bytes)
-    → asks_for_more h o ≡ false → IsDump old.bytes o (closed_text o.name h count []) whole
-is-dump o old new room h count read is_count all =
+is-dump : (o : Options) (bytes : List ℕ) (begin end room : ℕ) (h : Header) (count : ℕ) → IsRead bytes begin end room h → count ≡ record_count h (length bytes)
+    → asks_for_more h o ≡ false → IsDump bytes o (closed_text o.name h count []) whole
+is-dump o bytes begin end room h count read is_count all =
     let no = or-false (is_some o.chosen) (not (has_no_data h o)) all in
-    subst (λ (n : ℕ). IsDump old.bytes o (closed_text o.name h n []) whole) (sym is_count)
+    subst (λ (n : ℕ). IsDump bytes o (closed_text o.name h n []) whole) (sym is_count)
     (without_data h read.rest read.spelled (knows-none h o.chosen no.0) (not-false (has_no_data h o) no.1))
 
-dumped : {A : Type 0} (o : Options) (old new : SourceView) (room : ℕ) (h : Header) (count : ℕ) (before after : SinkView) (result : Result A DumpFault)
-    → IsRead old new room h → count ≡ record_count h (length old.bytes) → Puts o h count before after result → Dumps old.bytes o before after result
-dumped o old new room h count before after (Ok done) read is_count puts = record { text = _; is_dump = is-dump o old new room h count read is_count puts.0; grew = puts.1 }
-dumped o old new room h count before after (Err OutOfMemory) read is_count puts = absurd puts
-dumped o old new room h count before after (Err ReadFailed) read is_count puts = absurd puts
-dumped o old new room h count before after (Err WriteFailed) read is_count puts = record { text = _; is_dump = is-dump o old new room h count read is_count puts.0; broke = puts.1 }
-dumped o old new room h count before after (Err (Format fault)) read is_count puts = absurd puts
-dumped o old new room h count before after (Err (NoSuchVariable index)) read is_count puts = absurd puts
-dumped o old new room h count before after (Err (DataTruncated var value)) read is_count puts = absurd puts
-dumped o old new room h count before after (Err NotYet) read is_count puts = record { h = h; rest = read.rest; spelled = read.spelled; more = puts.0 }
+dumped : {A : Type 0} (o : Options) (bytes : List ℕ) (begin end room : ℕ) (h : Header) (count : ℕ) (before after : SinkView) (result : Result A DumpFault)
+    → IsRead bytes begin end room h → count ≡ record_count h (length bytes) → Puts o h count before after result → Dumps bytes o before after result
+dumped o bytes begin end room h count before after (Ok done) read is_count puts = record { text = _; is_dump = is-dump o bytes begin end room h count read is_count puts.0; grew = puts.1 }
+dumped o bytes begin end room h count before after (Err OutOfMemory) read is_count puts = absurd puts
+dumped o bytes begin end room h count before after (Err ReadFailed) read is_count puts = absurd puts
+dumped o bytes begin end room h count before after (Err WriteFailed) read is_count puts = record { text = _; is_dump = is-dump o bytes begin end room h count read is_count puts.0; broke = puts.1 }
+dumped o bytes begin end room h count before after (Err (Format fault)) read is_count puts = absurd puts
+dumped o bytes begin end room h count before after (Err (NoSuchVariable index)) read is_count puts = absurd puts
+dumped o bytes begin end room h count before after (Err (DataTruncated var value)) read is_count puts = absurd puts
+dumped o bytes begin end room h count before after (Err NotYet) read is_count puts = record { h = h; rest = read.rest; spelled = read.spelled; more = puts.0 }
 
 -- a header that is read, and the text that is written of it
-pub told_dumped : {A : Type 0} (told : Bool) (o : Options) (old new : SourceView) (room : ℕ) (h : Header) (count len : ℕ) (before after : SinkView) (result : Result A DumpFault)
-    → OnTrue told (IsRead old new room h) → (IsSound h → count ≡ record_count h len) → len ≡ length new.bytes → new.bytes ≡ old.bytes
-    → Puts o h count before after result → OnTrue told (Dumps old.bytes o before after result)
-told_dumped false o old new room h count len before after result read counted is_len same puts = tt
-told_dumped true o old new room h count len before after result read counted is_len same puts =
-    let whole_len : len ≡ length old.bytes = is_len ∙ ap (λ (bs : List ℕ). length bs) same in
-    dumped o old new room h count before after result read (counted read.sound ∙ ap (record_count h) whole_len) puts
+pub told_dumped : {A : Type 0} (told : Bool) (o : Options) (bytes now : List ℕ) (begin end room : ℕ) (h : Header) (count len : ℕ) (before after : SinkView) (result : Result A DumpFault)
+    → OnTrue told (HasAnswered bytes begin end room (Ok h)) → (IsSound h → count ≡ record_count h len) → len ≡ length now → now ≡ bytes
+    → Puts o h count before after result → OnTrue told (Dumps bytes o before after result)
+told_dumped false o bytes now begin end room h count len before after result read counted is_len same puts = tt
+told_dumped true o bytes now begin end room h count len before after result answered counted is_len same puts =
+    let whole_len : len ≡ length bytes = is_len ∙ ap (λ (bs : List ℕ). length bs) same in
+    let read : IsRead bytes begin end room h = answered.answer in
+    dumped o bytes begin end room h count before after result read (counted read.sound ∙ ap (record_count h) whole_len) puts
