@@ -4,7 +4,7 @@ ghost use Rattle.std.specs.Prelude.{◌≤◌, length};
 
 use crate::files;
 use nc_base::{FormatFault, Sequence};
-use nc_file::{FileSource, MemSink, MemSource, Source};
+use nc_file::{DripSource, FailWhen, FileSource, MemSink, MemSource, SliceSink, Source};
 use ncdump::{DumpFault, DumpOptions, dump};
 use std::alloc::{AllocError, Global};
 use std::fs;
@@ -232,5 +232,103 @@ fn opened_file(rt: HostRuntime) -> Result<(), Fail> {
         text,
     );
     assert!(rt; FileSource::open(&rt, "nothing.nc").is_err());
+    Ok(())
+}
+
+const TWO_RECORDS_TEXT: &[u8] = b"netcdf t {\ndimensions:\n\tt = UNLIMITED ; // (2 currently)\n}\n";
+
+#[test]
+fn dripping_source(rt: HostRuntime) -> Result<(), Fail> {
+    let options = options(rt.alloc(), false)?;
+    let mut one = DripSource::new(files::TWO_RECORDS, 1, FailWhen::Never);
+    dumps_through(
+        &rt,
+        rt.alloc(),
+        &mut one,
+        &options,
+        &mut [0; 16],
+        Ok(()),
+        TWO_RECORDS_TEXT,
+    );
+    let mut seven = DripSource::new(files::TWO_RECORDS, 7, FailWhen::Never);
+    dumps_through(
+        &rt,
+        rt.alloc(),
+        &mut seven,
+        &options,
+        &mut [0; 17],
+        Ok(()),
+        TWO_RECORDS_TEXT,
+    );
+    Ok(())
+}
+
+#[test]
+fn failed_read_writes_nothing(rt: HostRuntime) -> Result<(), Fail> {
+    let options = options(rt.alloc(), false)?;
+    let failed = Err(DumpFault::ReadFailed);
+    // The header has 44 bytes, read one by one.
+    for n in 0..44 {
+        let mut source = DripSource::new(files::TWO_RECORDS, 1, FailWhen::Read(n));
+        dumps_through(
+            &rt,
+            rt.alloc(),
+            &mut source,
+            &options,
+            &mut [0; 16],
+            failed,
+            b"",
+        );
+    }
+    Ok(())
+}
+
+/// Dumps into a slice that has too little room for the text, and asserts that a front of it was taken.
+fn cut_off(
+    rt: &impl Abort,
+    alloc: Global,
+    options: &DumpOptions,
+    into: &mut [u8],
+    step: usize,
+    text: &[u8],
+)
+    requires { 1 ≤ step }
+{
+    let room = into.len();
+    let mut sink = SliceSink::new(into, step);
+    let answer = dump(
+        alloc,
+        &mut MemSource::new(files::TWO_RECORDS),
+        options,
+        &mut [0; 16],
+        &mut sink,
+    );
+    assert!(rt; answer == Err(DumpFault::WriteFailed));
+    assert!(rt; room < text.len());
+    assert!(rt; sink.taken() == &text[..room]);
+}
+
+#[test]
+fn failed_write_leaves_a_front(rt: HostRuntime) -> Result<(), Fail> {
+    let options = options(rt.alloc(), false)?;
+    for room in 0..TWO_RECORDS_TEXT.len() {
+        let mut into = Vec::from_elem(rt.alloc(), 0, room)?;
+        cut_off(
+            &rt,
+            rt.alloc(),
+            &options,
+            into.as_mut_slice(),
+            1,
+            TWO_RECORDS_TEXT,
+        );
+        cut_off(
+            &rt,
+            rt.alloc(),
+            &options,
+            into.as_mut_slice(),
+            3,
+            TWO_RECORDS_TEXT,
+        );
+    }
     Ok(())
 }

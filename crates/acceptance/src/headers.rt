@@ -4,25 +4,50 @@ ghost use Rattle.std.specs.Prelude.{◌≤◌, ◌<◌, length};
 
 use crate::files;
 use nc_base::{FormatFault, Header, NcType, NumRecs, Version};
-use nc_file::{HeadFault, MemSource, read_header};
+use nc_file::{DripSource, FailWhen, HeadFault, MemSource, Source, read_header};
 use std::alloc::{AllocError, Global};
 use std::process::Abort;
 use std::test::Fail;
 
 /// Reads the header through this buffer, and asserts that its first wrong field has this fault.
-fn refused_through(rt: &impl Abort, alloc: Global, bytes: &[u8], fault: FormatFault, buf: &mut [u8])
+fn refused_through<S: Source>(
+    rt: &impl Abort,
+    alloc: Global,
+    source: &mut S,
+    fault: FormatFault,
+    buf: &mut [u8],
+)
     requires { 16 ≤ length buf.old }
 {
-    let answer = read_header(alloc, &mut MemSource::new(bytes), buf);
+    let answer = read_header(alloc, source, buf);
     assert!(rt; matches!(answer, Err(found) if found == HeadFault::Format(fault)));
+}
+
+/// The same of bytes in memory, of which each read hands over as many as there are, at most 1, 3, or 7.
+fn refused_in_steps(
+    rt: &impl Abort,
+    alloc: Global,
+    bytes: &[u8],
+    fault: FormatFault,
+    buf: &mut [u8],
+)
+    requires { 16 ≤ length buf.old }
+{
+    refused_through(rt, alloc, &mut MemSource::new(bytes), fault, buf);
+    let mut one = DripSource::new(bytes, 1, FailWhen::Never);
+    refused_through(rt, alloc, &mut one, fault, buf);
+    let mut three = DripSource::new(bytes, 3, FailWhen::Never);
+    refused_through(rt, alloc, &mut three, fault, buf);
+    let mut seven = DripSource::new(bytes, 7, FailWhen::Never);
+    refused_through(rt, alloc, &mut seven, fault, buf);
 }
 
 /// The same through buffers of several lengths.
 fn refused(rt: &impl Abort, alloc: Global, bytes: &[u8], fault: FormatFault) {
-    refused_through(rt, alloc, bytes, fault, &mut [0; 16]);
-    refused_through(rt, alloc, bytes, fault, &mut [0; 17]);
-    refused_through(rt, alloc, bytes, fault, &mut [0; 31]);
-    refused_through(rt, alloc, bytes, fault, &mut [0; 4096]);
+    refused_in_steps(rt, alloc, bytes, fault, &mut [0; 16]);
+    refused_in_steps(rt, alloc, bytes, fault, &mut [0; 17]);
+    refused_in_steps(rt, alloc, bytes, fault, &mut [0; 31]);
+    refused_in_steps(rt, alloc, bytes, fault, &mut [0; 4096]);
 }
 
 /// The same of a file with one byte changed.
@@ -237,4 +262,100 @@ fn headers_without_data(rt: HostRuntime) -> Result<(), Fail> {
         128,
     )?;
     Ok(())
+}
+
+/// A failed read is answered at once, whichever it is: the header has as many bytes as there are reads of one byte.
+fn failed_reads(rt: &impl Abort, alloc: Global, bytes: &[u8], header_len: u64, buf: &mut [u8])
+    requires { 16 ≤ length buf.old }
+{
+    for n in 0..header_len {
+        let mut source = DripSource::new(bytes, 1, FailWhen::Read(n));
+        let answer = read_header(alloc, &mut source, buf);
+        assert!(rt; matches!(answer, Err(HeadFault::ReadFailed)));
+    }
+}
+
+/// The header is read, though each read behind it would fail, and little more than it is handed over.
+fn read_alone(
+    rt: &impl Abort,
+    alloc: Global,
+    bytes: &[u8],
+    step: usize,
+    header_len: u64,
+    buf: &mut [u8],
+)
+    requires steps { 1 ≤ step }
+    requires room { 16 ≤ length buf.old }
+{
+    let mut source = DripSource::new(bytes, step, FailWhen::From(header_len));
+    let answer = read_header(alloc, &mut source, buf);
+    assert!(rt; answer.is_ok());
+    assert!(rt; source.handed() <= header_len as u128 + buf.len() as u128);
+}
+
+#[test]
+fn each_read_fails_in_turn(rt: HostRuntime) {
+    failed_reads(&rt, rt.alloc(), files::GENERATED, 80, &mut [0; 16]);
+    failed_reads(&rt, rt.alloc(), files::GENERATED, 80, &mut [0; 4096]);
+    failed_reads(&rt, rt.alloc(), files::GENERATED_CDF5, 128, &mut [0; 17]);
+}
+
+#[test]
+fn no_read_begins_behind_the_header(rt: HostRuntime) {
+    read_alone(&rt, rt.alloc(), files::GENERATED, 1, 80, &mut [0; 16]);
+    read_alone(&rt, rt.alloc(), files::GENERATED, 3, 80, &mut [0; 17]);
+    read_alone(&rt, rt.alloc(), files::GENERATED, 7, 80, &mut [0; 31]);
+    read_alone(&rt, rt.alloc(), files::GENERATED, 4096, 80, &mut [0; 16]);
+    read_alone(&rt, rt.alloc(), files::GENERATED_CDF5, 7, 128, &mut [0; 31]);
+}
+
+/// This many variables `int v`, all alike, and nothing else.
+fn many_variables(alloc: Global, count: u32) -> Result<Vec<u8>, AllocError> {
+    let mut bytes = Vec::from_slice(
+        alloc,
+        b"CDF\x01\0\0\0\0\0\0\0\0\0\0\0\0\0\0\0\0\0\0\0\0\0\0\0\x0b",
+    )?;
+    bytes.extend_from_slice(&count.to_be_bytes())?;
+    for _ in 0..count {
+        bytes.extend_from_slice(
+            b"\0\0\0\x01v\0\0\0\0\0\0\0\0\0\0\0\0\0\0\0\0\0\0\x04\0\0\0\x04\0\0\0\0",
+        )?;
+    }
+    Ok(bytes)
+}
+
+/// Reads a header of this many variables.
+fn reads_variables(
+    rt: &impl Abort,
+    alloc: Global,
+    bytes: &[u8],
+    count: usize,
+) -> Result<(), HeadFault> {
+    let header = read_header(alloc, &mut MemSource::new(bytes), &mut [0; 4096])?;
+    assert_eq!(rt; header.vars.len(), count);
+    Ok(())
+}
+
+#[test]
+fn twenty_thousand_variables(rt: HostRuntime) -> Result<(), Fail> {
+    let bytes = many_variables(rt.alloc(), 20_000)?;
+    reads_variables(&rt, rt.alloc(), bytes.as_slice(), 20_000)?;
+    Ok(())
+}
+
+/// Reads a header in steps of three bytes: it can be read, or memory is refused.
+fn read_or_out_of_memory(rt: &impl Abort, alloc: Global, bytes: &[u8]) {
+    let mut source = DripSource::new(bytes, 3, FailWhen::Never);
+    let answer = read_header(alloc, &mut source, &mut [0; 16]);
+    if let Err(fault) = answer {
+        assert!(rt; fault == HeadFault::OutOfMemory);
+    }
+}
+
+/// To be run with each growth refused in turn, too.
+#[test]
+fn refused_growth_is_out_of_memory(rt: HostRuntime) {
+    read_or_out_of_memory(&rt, rt.alloc(), files::TEXT_ATTRIBUTE);
+    read_or_out_of_memory(&rt, rt.alloc(), files::GENERATED);
+    read_or_out_of_memory(&rt, rt.alloc(), files::GENERATED_CDF5);
 }
