@@ -41,7 +41,29 @@ fn dumps_through<S: Source>(
     assert!(rt; sink.as_slice() == text);
 }
 
-/// The same of bytes in memory, through buffers of several lengths.
+/// The same of bytes in memory, of which each read hands over as many as there are, at most 1, 3, or 7.
+fn dumps_in_steps(
+    rt: &impl Abort,
+    alloc: Global,
+    bytes: &[u8],
+    options: &DumpOptions,
+    buf: &mut [u8],
+    answer: Result<(), DumpFault>,
+    text: &[u8],
+)
+    requires { 16 ≤ length buf.old }
+{
+    let mut all = MemSource::new(bytes);
+    dumps_through(rt, alloc, &mut all, options, buf, answer, text);
+    let mut one = DripSource::new(bytes, 1, FailWhen::Never);
+    dumps_through(rt, alloc, &mut one, options, buf, answer, text);
+    let mut three = DripSource::new(bytes, 3, FailWhen::Never);
+    dumps_through(rt, alloc, &mut three, options, buf, answer, text);
+    let mut seven = DripSource::new(bytes, 7, FailWhen::Never);
+    dumps_through(rt, alloc, &mut seven, options, buf, answer, text);
+}
+
+/// The same through buffers of several lengths.
 fn dumps_as(
     rt: &impl Abort,
     alloc: Global,
@@ -50,42 +72,10 @@ fn dumps_as(
     answer: Result<(), DumpFault>,
     text: &[u8],
 ) {
-    dumps_through(
-        rt,
-        alloc,
-        &mut MemSource::new(bytes),
-        options,
-        &mut [0; 16],
-        answer,
-        text,
-    );
-    dumps_through(
-        rt,
-        alloc,
-        &mut MemSource::new(bytes),
-        options,
-        &mut [0; 17],
-        answer,
-        text,
-    );
-    dumps_through(
-        rt,
-        alloc,
-        &mut MemSource::new(bytes),
-        options,
-        &mut [0; 31],
-        answer,
-        text,
-    );
-    dumps_through(
-        rt,
-        alloc,
-        &mut MemSource::new(bytes),
-        options,
-        &mut [0; 4096],
-        answer,
-        text,
-    );
+    dumps_in_steps(rt, alloc, bytes, options, &mut [0; 16], answer, text);
+    dumps_in_steps(rt, alloc, bytes, options, &mut [0; 17], answer, text);
+    dumps_in_steps(rt, alloc, bytes, options, &mut [0; 31], answer, text);
+    dumps_in_steps(rt, alloc, bytes, options, &mut [0; 4096], answer, text);
 }
 
 /// The plain dump of bytes in memory.
@@ -235,34 +225,6 @@ fn opened_file(rt: HostRuntime) -> Result<(), Fail> {
     Ok(())
 }
 
-const TWO_RECORDS_TEXT: &[u8] = b"netcdf t {\ndimensions:\n\tt = UNLIMITED ; // (2 currently)\n}\n";
-
-#[test]
-fn dripping_source(rt: HostRuntime) -> Result<(), Fail> {
-    let options = options(rt.alloc(), false)?;
-    let mut one = DripSource::new(files::TWO_RECORDS, 1, FailWhen::Never);
-    dumps_through(
-        &rt,
-        rt.alloc(),
-        &mut one,
-        &options,
-        &mut [0; 16],
-        Ok(()),
-        TWO_RECORDS_TEXT,
-    );
-    let mut seven = DripSource::new(files::TWO_RECORDS, 7, FailWhen::Never);
-    dumps_through(
-        &rt,
-        rt.alloc(),
-        &mut seven,
-        &options,
-        &mut [0; 17],
-        Ok(()),
-        TWO_RECORDS_TEXT,
-    );
-    Ok(())
-}
-
 #[test]
 fn failed_read_writes_nothing(rt: HostRuntime) -> Result<(), Fail> {
     let options = options(rt.alloc(), false)?;
@@ -282,6 +244,9 @@ fn failed_read_writes_nothing(rt: HostRuntime) -> Result<(), Fail> {
     }
     Ok(())
 }
+
+/// The dump of two records.
+const TWO_RECORDS_TEXT: &[u8] = b"netcdf t {\ndimensions:\n\tt = UNLIMITED ; // (2 currently)\n}\n";
 
 /// Dumps into a slice that has too little room for the text, and asserts that a front of it was taken.
 fn cut_off(

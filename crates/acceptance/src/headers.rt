@@ -89,7 +89,52 @@ fn assert_generated(rt: &impl Abort, header: &Header, begin_at: u64) {
     assert_eq!(rt; vars[0].begin_at, begin_at);
 }
 
-/// Reads the header of a generated file through a buffer of 16 bytes.
+/// Reads the header of a generated file through this buffer.
+fn generated_through<S: Source>(
+    rt: &impl Abort,
+    alloc: Global,
+    source: &mut S,
+    version: Version,
+    begin_at: u64,
+    buf: &mut [u8],
+) -> Result<(), HeadFault>
+    requires { 16 ≤ length buf.old }
+{
+    let header = read_header(alloc, source, buf)?;
+    assert!(rt; header.version == version);
+    assert!(rt; header.numrecs == NumRecs::Known(0));
+    assert_generated(rt, &header, begin_at);
+    Ok(())
+}
+
+/// The same in reads of as many bytes as there are, at most 1, 3, or 7.
+fn generated_in_steps(
+    rt: &impl Abort,
+    alloc: Global,
+    bytes: &[u8],
+    version: Version,
+    begin_at: u64,
+    buf: &mut [u8],
+) -> Result<(), HeadFault>
+    requires { 16 ≤ length buf.old }
+{
+    generated_through(
+        rt,
+        alloc,
+        &mut MemSource::new(bytes),
+        version,
+        begin_at,
+        buf,
+    )?;
+    let mut one = DripSource::new(bytes, 1, FailWhen::Never);
+    generated_through(rt, alloc, &mut one, version, begin_at, buf)?;
+    let mut three = DripSource::new(bytes, 3, FailWhen::Never);
+    generated_through(rt, alloc, &mut three, version, begin_at, buf)?;
+    let mut seven = DripSource::new(bytes, 7, FailWhen::Never);
+    generated_through(rt, alloc, &mut seven, version, begin_at, buf)
+}
+
+/// The same through buffers of several lengths.
 fn generated(
     rt: &impl Abort,
     alloc: Global,
@@ -97,11 +142,10 @@ fn generated(
     version: Version,
     begin_at: u64,
 ) -> Result<(), HeadFault> {
-    let header = read_header(alloc, &mut MemSource::new(bytes), &mut [0; 16])?;
-    assert!(rt; header.version == version);
-    assert!(rt; header.numrecs == NumRecs::Known(0));
-    assert_generated(rt, &header, begin_at);
-    Ok(())
+    generated_in_steps(rt, alloc, bytes, version, begin_at, &mut [0; 16])?;
+    generated_in_steps(rt, alloc, bytes, version, begin_at, &mut [0; 17])?;
+    generated_in_steps(rt, alloc, bytes, version, begin_at, &mut [0; 31])?;
+    generated_in_steps(rt, alloc, bytes, version, begin_at, &mut [0; 4096])
 }
 
 #[test]
