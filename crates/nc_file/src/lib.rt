@@ -1,4 +1,7 @@
-//! The devices of netCDF files: what bytes are read from, and what they are written to.
+//! The devices of netCDF files, and the header that is read from one.
+//!
+//! [`read_header`] reads the header of a classic file from any source, through a lent buffer, and
+//! answers a [`HeadFault`] where there is none.
 //!
 //! A [`Source`] hands over bytes from any place, and a [`Sink`] takes bytes one behind another. Each
 //! counts its failures and says nothing of their cause. [`MemSource`] and [`MemSink`] stand in memory,
