@@ -75,9 +75,7 @@ impl<S: Source> Window<'_, S> {
         requires { Opened S.told S.seen self.old }
         ensures { Did S.told S.seen self.old self.new byte_at result }
     {
-        if self.pos == self.filled && !self.refill()? {
-            return Err(HeadFault::Format(FormatFault::HeaderTruncated));
-        }
+        self.fill()?;
         let b = self.buf[self.pos];
         self.pos += 1;
         Ok(b)
@@ -126,10 +124,7 @@ impl<S: Source> Window<'_, S> {
         requires { Opened S.told S.seen self.old }
         ensures { Did S.told S.seen self.old self.new u32_at result }
     {
-        match self.read_u32() {
-            Ok(n) => Ok(n as u64),
-            Err(e) => Err(e),
-        }
+        Ok(self.read_u32()? as u64)
     }
 
     /// A count or a length.
