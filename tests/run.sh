@@ -60,6 +60,16 @@ cdl() {
     verdict "$1" 0
 }
 
+# head_of NAME FILE TEXT: the same of the file's head, with `-h` before the path and behind it.
+head_of() {
+    stdout "$3"
+    run "$ncdump" -h "$2"
+    verdict "$1" 0
+    stdout "$3"
+    run "$ncdump" "$2" -h
+    verdict "$1_with_the_option_behind" 0
+}
+
 # fault NAME FILE TEXT: the file has no dump, and one line says why.
 fault() {
     stderr "ncdump: $2: $3\\n"
@@ -119,6 +129,20 @@ large large.nc
 cdl long_text large.nc \
     "netcdf large {\\n\\n// global attributes:\\n\\t\\t:note = \"$(zeros 20000 | tr '\000' a)\" ;\\n}\\n"
 
+# The head alone.
+head_of head_of_a_file_without_variables "$samples/records.nc" \
+    'netcdf records {\ndimensions:\n\tt = UNLIMITED ; // (2 currently)\n}\n'
+{
+    printf 'CDF\001' && zeros 4
+    printf '\000\000\000\012\000\000\000\001\000\000\000\001x\000\000\000\000\000\000\003' && zeros 8
+    printf '\000\000\000\013\000\000\000\001\000\000\000\001s\000\000\000'
+    printf '\000\000\000\001\000\000\000\000' && zeros 8
+    printf '\000\000\000\003\000\000\000\010\000\000\000\120\000\001\200\001\000\003\200\001'
+} >generated.nc
+head_of head_of_a_file_with_a_variable generated.nc \
+    'netcdf generated {\ndimensions:\n\tx = 3 ;\nvariables:\n\tshort s(x) ;\n}\n'
+fault values_are_not_yet_shown generated.nc 'not yet'
+
 # The name of the dataset.
 smallest dir/a.b.nc
 cdl name_behind_the_last_slash_to_the_last_dot dir/a.b.nc 'netcdf a.b {\n}\n'
@@ -159,6 +183,13 @@ verdict no_word 1
 stderr "$usage"
 run "$ncdump" data.nc data.nc
 verdict two_words 1
+for words in '-h' '-h -h' '-h data.nc data.nc' '-c data.nc'; do
+    stderr "$usage"
+    # The words are meant to be split.
+    # shellcheck disable=SC2086
+    run "$ncdump" $words
+    verdict "usage_of_$(printf '%s' "$words" | tr ' ' '_')" 1
+done
 
 # Devices that take nothing.
 run to_full_device "$samples/records.nc"

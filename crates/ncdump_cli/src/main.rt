@@ -1,4 +1,4 @@
-//! `ncdump FILE` writes a netCDF classic file as CDL text to standard output.
+//! `ncdump FILE` writes a netCDF classic file as CDL text to standard output, and `ncdump -h FILE` its header alone.
 //!
 //! Where it can't, one line on standard error says why, and the status is 1.
 #![tactic(auto)]
@@ -14,7 +14,7 @@ use std::env;
 use std::fs::File;
 use std::process::ExitCode;
 use std::rt::{Env, Files};
-use words::{options_of, path_of, unread};
+use words::{command_of, options_of, unread};
 
 fn main(rt: HostRuntime) -> ExitCode {
     match run(&rt) {
@@ -29,8 +29,8 @@ fn main(rt: HostRuntime) -> ExitCode {
 
 /// Writes the dump of the file that the program's words name.
 fn run<R: Env + Files<File = File> + Print + AllocGlobal>(rt: &R) -> Result<(), Failure> {
-    let path = path_of(env::args(rt).map_err(unread)?)?;
-    let options = options_of(rt.alloc(), path)?;
+    let command = command_of(env::args(rt).map_err(unread)?)?;
+    let options = options_of(rt.alloc(), command)?;
     match dump_path(rt, &options) {
         Ok(()) => Ok(()),
         Err(fault) => Err(Failure::File(options.file, fault)),

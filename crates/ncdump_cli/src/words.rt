@@ -1,9 +1,10 @@
 //! The words that the program is run with.
 
-ghost use Rattle.std.specs.Prelude.{◌≡◌, ◌≢◌, ◌↔◌, [], ◌∷◌, drop, false, IsOk, IfOk, IfErr};
+ghost use Rattle.std.specs.Prelude.{◌≡◌, ◌≢◌, [], ◌∷◌, map, drop, false, IfOk, IfErr, string_bytes};
 ghost use Rattle.std.specs.IoError.{error_kind};
-ghost use Rattle.std.specs.Vec.Iter.{into_iter_items, into_iter_len};
+ghost use Rattle.std.specs.Vec.Iter.{into_iter_items};
 ghost use Rattle.ncdump.specs.Dumps as dumps;
+ghost use Rattle.ncdump_cli.specs.Commands.{asks_for_head, command_in, found};
 
 use crate::failure::{Failure, FileFault};
 use nc_base::{Sequence, stem};
@@ -24,35 +25,93 @@ pub fn unread(error: io::Error) -> Failure
     }
 }
 
-/// The path of the file: the only word behind the program's name.
-pub fn path_of(mut words: Args) -> Result<String, Failure>
-    ensures one { IsOk result ↔ (into_iter_len words ≡ 2) }
-    ensures path { IfOk result (λ path. drop 1 (into_iter_items words) ≡ path ∷ []) }
+/// What to show: the file at this path, or its header alone.
+#[derive(Debug, Drop)]
+pub struct Command {
+    pub path: String,
+    pub head_only: bool,
+}
+
+/// What the words behind the program's name ask for: a path, and perhaps `-h` before or behind it.
+#[tactic(auto, unfolding(crate::specs::Commands::command_in))]
+pub fn command_of(mut words: Args) -> Result<Command, Failure>
+    ensures found { found result ≡ command_in (map string_bytes (drop 1 (into_iter_items words))) }
     ensures err { IfErr result (λ failure. failure ≡ Failure.Usage) }
 {
     let _program = words.next();
-    match (words.next(), words.next()) {
-        (Some(path), None) => Ok(path),
-        _ => Err(Failure::Usage),
+    let Some(first) = words.next() else {
+        return Err(Failure::Usage);
+    };
+    let Some(second) = words.next() else {
+        return command_of_one(first);
+    };
+    if words.next().is_some() {
+        return Err(Failure::Usage);
     }
+    command_of_two(first, second)
 }
 
-/// What to show of the file at this path.
-pub fn options_of(alloc: Global, path: String) -> Result<DumpOptions, Failure>
-    ensures file { IfOk result (λ options. options.file ≡ path) }
-    ensures plain { IfOk result (λ options. dumps.options_of options ≡ record { name = options.name; head_only = false; coords = false; chosen = None; width = 80 }) }
-    ensures err { IfErr result (λ failure. failure ≡ Failure.File path (FileFault.Dump DumpFault.OutOfMemory)) }
+/// What one word asks for.
+#[tactic(auto, unfolding(crate::specs::Commands::command_in))]
+fn command_of_one(word: String) -> Result<Command, Failure>
+    ensures found { found result ≡ command_in (string_bytes word ∷ []) }
+    ensures err { IfErr result (λ failure. failure ≡ Failure.Usage) }
 {
-    match name_of(alloc, path.as_str()) {
+    if asks_for_head(word.as_str()) {
+        return Err(Failure::Usage);
+    }
+    Ok(Command {
+        path: word,
+        head_only: false,
+    })
+}
+
+/// What two words ask for.
+#[tactic(auto, unfolding(crate::specs::Commands::command_in))]
+fn command_of_two(first: String, second: String) -> Result<Command, Failure>
+    ensures found { found result ≡ command_in (string_bytes first ∷ string_bytes second ∷ []) }
+    ensures err { IfErr result (λ failure. failure ≡ Failure.Usage) }
+{
+    let path = match (
+        asks_for_head(first.as_str()),
+        asks_for_head(second.as_str()),
+    ) {
+        (true, false) => second,
+        (false, true) => first,
+        _ => return Err(Failure::Usage),
+    };
+    Ok(Command {
+        path,
+        head_only: true,
+    })
+}
+
+/// The word is `-h`.
+fn asks_for_head(word: &str) -> bool
+    ensures { result ≡ asks_for_head word.now }
+{
+    word.as_bytes() == b"-h".as_slice()
+}
+
+/// What to show of the file at the path.
+pub fn options_of(alloc: Global, command: Command) -> Result<DumpOptions, Failure>
+    ensures file { IfOk result (λ options. options.file ≡ command.path) }
+    ensures rest { IfOk result (λ options. dumps.options_of options ≡ record { name = options.name; head_only = command.head_only; coords = false; chosen = None; width = 80 }) }
+    ensures err { IfErr result (λ failure. failure ≡ Failure.File command.path (FileFault.Dump DumpFault.OutOfMemory)) }
+{
+    match name_of(alloc, command.path.as_str()) {
         Ok(name) => Ok(DumpOptions {
-            file: path,
+            file: command.path,
             name,
-            head_only: false,
+            head_only: command.head_only,
             coords: false,
             chosen: None,
             width: 80,
         }),
-        Err(AllocError) => Err(Failure::File(path, FileFault::Dump(DumpFault::OutOfMemory))),
+        Err(AllocError) => Err(Failure::File(
+            command.path,
+            FileFault::Dump(DumpFault::OutOfMemory),
+        )),
     }
 }
 
