@@ -1,21 +1,20 @@
 -- The other direction: a header that is spelled is read, and reading stops with the first wrong field. So each list of bytes
 -- has one header or one first wrong field.
-use Rattle.std.proofs.Common.{◌≡◌, ◌≢◌, ℕ, zero, suc, ◌+◌, ◌-◌, ◌<◌, ◌≤◌, Bool, true, false, cond, leb, List, [], ◌∷◌, length, Option, Some, None, Result, Ok, Err, refl, sym, ap, subst, ◌∙◌, arith}
+use Rattle.std.proofs.Common.{◌≡◌, ◌≢◌, ℕ, ◌<◌, List, [], ◌∷◌, length, Option, Ok, Err, refl, ap, ◌∙◌, arith}
 use Rattle.std.proofs.lemmas.Bool.{eq-eqb}
 use Rattle.std.specs.Prelude.{◌==◌, ◌&&◌}
 use Rattle.nc_base.specs.declared.fault.FormatFault.{FormatFault}
 use Rattle.nc_base.specs.declared.fault.FormatFault.TheVariants.{NotNetcdf}
-use Rattle.nc_base.specs.declared.header.Dim.{Dim}
 use Rattle.nc_base.specs.declared.header.Header.{Header}
 use Rattle.nc_base.specs.declared.header.NumRecs.{NumRecs}
 use Rattle.nc_base.specs.declared.header.NumRecs.TheVariants.{Known, Streaming}
 use Rattle.nc_base.specs.declared.version.Version.{Version}
 use Rattle.nc_base.specs.declared.version.Version.TheVariants.{Cdf1, Cdf2, Cdf5}
 use Rattle.nc_base.specs.Versions.{version_byte, count_limit, streaming_mark}
-use Rattle.nc_base.specs.Grammar.{SpellsMagic, SpellsNumRecs, SpellsStart, SpellsUpToDims, SpellsUpToGatts, SpellsHeader}
+use Rattle.nc_base.specs.Grammar.{SpellsMagic, SpellsNumRecs, SpellsHeader}
 use Rattle.nc_base.specs.FirstFault.{StopsInMagic, cut_magic, other_magic, cut_version, bad_version, StopsInNumRecs, cut_numrecs, negative_numrecs, StopsWith, in_magic, in_numrecs, in_dims, in_gatts, in_vars}
 use Rattle.nc_file.specs.declared.head_fault.HeadFault.TheVariants.{Format}
-use Rattle.nc_file.specs.Reading.{Part, ◌>>=◌, done, stop, byte_or, version_or, version_at, magic_at, numrecs_at, header_at}
+use Rattle.nc_file.specs.Reading.{◌>>=◌, done, stop, byte_or, version_or, version_at, magic_at, numrecs_at, header_at}
 use Rattle.nc_file.proofs.HeaderLaws.{three-bytes}
 use Rattle.nc_file.proofs.Again.{then-ok, then-err, if-so, if-not, below-test, above-test, other-test, not-so, number-again, number-stops-again}
 use Rattle.nc_file.proofs.ListsAgain.{dims-again, dims-stop-again, atts-again, atts-stop-again}

@@ -1,22 +1,21 @@
 -- The other direction: lists, dimensions and attributes that are spelled are read, and reading stops with their first wrong field.
-use Rattle.std.proofs.Common.{◌≡◌, ◌≢◌, ℕ, zero, suc, ◌+◌, ◌*◌, ◌<◌, ◌≤◌, Bool, true, false, cond, List, [], ◌∷◌, ◌++◌, length, inl, inr, Result, Ok, Err, refl, sym, ap, subst, ◌∙◌, append_assoc, arith}
+use Rattle.std.proofs.Common.{◌≡◌, ◌≢◌, ℕ, zero, suc, ◌*◌, ◌<◌, Bool, true, false, List, [], ◌∷◌, ◌++◌, length, inl, inr, Ok, Err, refl, sym, ap, subst, ◌∙◌, append_assoc}
 use Rattle.std.proofs.lemmas.Bool.{eqb-true, eq-eqb}
 use Rattle.std.proofs.lemmas.List.{append-nil}
-use Rattle.std.specs.Int.{Width, w32}
-use Rattle.std.specs.Prelude.{◌==◌, ◌&&◌, ◌⊎◌, not}
+use Rattle.std.specs.Int.{w32}
+use Rattle.std.specs.Prelude.{◌==◌, ◌&&◌, not}
 use Rattle.nc_base.specs.declared.fault.FormatFault.{FormatFault}
 use Rattle.nc_base.specs.declared.fault.FormatFault.TheVariants.{HeaderTruncated, BadTag, BadCount}
 use Rattle.nc_base.specs.declared.header.Att.{Att}
 use Rattle.nc_base.specs.declared.header.Dim.{Dim}
-use Rattle.nc_base.specs.declared.nc_type.NcType.{NcType}
 use Rattle.nc_base.specs.declared.version.Version.{Version}
 use Rattle.nc_base.specs.Bytes.{padding_len}
 use Rattle.nc_base.specs.Types.{size_of}
 use Rattle.nc_base.specs.Headers.{has_record_dim}
-use Rattle.nc_base.specs.Grammar.{ElementSpelling, dimension_tag, attribute_tag, SpellsNumber, SpellsCount, SpellsPadded, SpellsEach, SpellsCounted, SpellsList, absent, present, SpellsDim, SpellsAttFront, SpellsAtt, SpellsAtts}
+use Rattle.nc_base.specs.Grammar.{ElementSpelling, dimension_tag, attribute_tag, SpellsNumber, SpellsCount, SpellsPadded, SpellsEach, SpellsList, absent, present, SpellsDim, SpellsAtt, SpellsAtts}
 use Rattle.nc_base.specs.FirstFault.{ElementStop, StopsInCount, StopsInEach, StopsInCounted, in_count, in_element, StopsInList, cut_tag, bad_tag, in_absent_count, absent_elements, in_present, StopsInDim, in_dim_name, in_dim_len, second_record_dim, StopsInAtt, in_att_name, in_att_type, in_att_count, cut_values, cut_value_padding, StopsInAtts}
 use Rattle.nc_file.specs.declared.head_fault.HeadFault.TheVariants.{Format}
-use Rattle.nc_file.specs.Reading.{Outcome, Part, next, ◌>>=◌, done, stop, list_len_at, count_at, padded_at, each_at, dim_at, dims_at, dim_list_at, att_at, atts_at, att_list_at}
+use Rattle.nc_file.specs.Reading.{Part, next, ◌>>=◌, done, stop, list_len_at, padded_at, each_at, dim_at, dims_at, dim_list_at, att_at, atts_at, att_list_at}
 use Rattle.nc_file.proofs.ListLaws.{SpellsListLen, absent_len, present_len, dims_at-each}
 use Rattle.nc_file.proofs.Again.{then-ok, then-err, if-so, if-not, other-test, u32-again, u32-stops-again, count-again, count-stops-again, bytes-again, bytes-stops-again, skip-again, skip-stops-again, name-again, name-stops-again, type-again, type-stops-again}
 

@@ -1,8 +1,8 @@
 -- The other direction: variables that are spelled are read, and reading stops with their first wrong field.
-use Rattle.std.proofs.Common.{◌≡◌, ◌≢◌, ℕ, zero, suc, ◌+◌, ◌*◌, ◌<◌, ◌≤◌, Bool, true, false, cond, leb, ltb, List, [], ◌∷◌, ◌++◌, length, inl, inr, Option, Some, None, Result, Ok, Err, refl, sym, ap, subst, ◌∙◌, append_assoc, arith}
+use Rattle.std.proofs.Common.{◌≡◌, ℕ, zero, suc, ◌+◌, ◌≤◌, Bool, true, cond, leb, ltb, List, [], ◌∷◌, ◌++◌, length, inl, inr, Some, None, Ok, Err, refl, sym, ap, ◌∙◌, append_assoc, arith}
 use Rattle.std.proofs.lemmas.Bool.{leb-true}
 use Rattle.std.proofs.lemmas.List.{append-nil}
-use Rattle.std.specs.Prelude.{◌==◌, ◌||◌, ◌&&◌, not}
+use Rattle.std.specs.Prelude.{◌==◌, ◌&&◌}
 use Rattle.nc_base.specs.declared.fault.FormatFault.{FormatFault}
 use Rattle.nc_base.specs.declared.fault.FormatFault.TheVariants.{HeaderTruncated, BadOffset, TooLarge}
 use Rattle.nc_base.specs.declared.header.Att.{Att}
@@ -11,14 +11,14 @@ use Rattle.nc_base.specs.declared.header.Var.{Var}
 use Rattle.nc_base.specs.declared.nc_type.NcType.{NcType}
 use Rattle.nc_base.specs.declared.version.Version.{Version}
 use Rattle.nc_base.specs.declared.version.Version.TheVariants.{Cdf1, Cdf2, Cdf5}
-use Rattle.nc_base.specs.Versions.{count_width, offset_width, offset_limit}
+use Rattle.nc_base.specs.Versions.{offset_width, offset_limit}
 use Rattle.nc_base.specs.Sizes.{is_record_dim, slab_of, slab_limit, record_limit}
 use Rattle.nc_base.specs.Headers.{IsDimid}
-use Rattle.nc_base.specs.Grammar.{variable_tag, SpellsNumber, SpellsOffset, SpellsEach, SpellsCounted, SpellsList, SpellsDimid, SpellsVar, SpellsVarFront, SpellsTypedVar, IsWithinLimits}
+use Rattle.nc_base.specs.Grammar.{variable_tag, SpellsNumber, SpellsOffset, SpellsEach, SpellsCounted, SpellsList, SpellsDimid, SpellsVar, SpellsVarFront, SpellsTypedVar}
 use Rattle.nc_base.specs.FirstFault.{IsCutNumber, StopsInCounted, in_count, in_element, StopsInEach, StopsInList, StopsInDimid, cut_dimid, bad_dimid, StopsInVar, in_var_name, in_shape, in_var_atts, in_var_type, too_large, cut_vsize, cut_begin, negative_begin}
 use Rattle.nc_file.specs.declared.head_fault.HeadFault.TheVariants.{Format}
 use Rattle.nc_file.specs.declared.sized_var.SizedVar.{SizedVar}
-use Rattle.nc_file.specs.Reading.{Outcome, Part, next, ◌>>=◌, done, stop, number_at, type_at, is_dimid, dimid_at, dimids_at, shape_at, wide_at, offset_at, record_part, total_with, total_or_wrong, var_at, vars_at, var_list_at}
+use Rattle.nc_file.specs.Reading.{Outcome, Part, ◌>>=◌, done, stop, number_at, type_at, is_dimid, dimid_at, shape_at, wide_at, offset_at, record_part, total_with, total_or_wrong, var_at, vars_at, var_list_at}
 use Rattle.nc_file.proofs.ListLaws.{and-true}
 use Rattle.nc_file.proofs.VariableLaws.{is_first, is-dimid, known-and-first, dimids_at-each, total_of, total_of-append, Fits, within, fits-within}
 use Rattle.nc_file.proofs.Again.{then-ok, then-err, if-so, if-not, below-test, above-test, not-so, u32-again, u64-again, u32-stops-again, u64-stops-again, number-again, number-stops-again, count-again, count-stops-again, name-again, name-stops-again, type-again, type-stops-again}
