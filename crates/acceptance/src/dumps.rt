@@ -3,93 +3,14 @@
 ghost use Rattle.std.specs.Prelude.{◌≤◌, length};
 
 use crate::files;
-use nc_base::{FormatFault, Sequence};
-use nc_file::{DripSource, FailWhen, FileSource, MemSink, MemSource, SliceSink, Source};
+use crate::runs::{dumps, dumps_as, dumps_through, options};
+use nc_base::FormatFault;
+use nc_file::{DripSource, FailWhen, FileSource, MemSource, SliceSink};
 use ncdump::{DumpFault, DumpOptions, dump};
 use std::alloc::{AllocError, Global};
 use std::fs;
 use std::process::Abort;
 use std::test::Fail;
-
-/// The options of a plain dump with the name `t`.
-fn options(alloc: Global, head_only: bool) -> Result<DumpOptions, AllocError> {
-    Ok(DumpOptions {
-        file: String::new(alloc),
-        name: Sequence::from_vec(Vec::from_slice(alloc, b"t")?),
-        head_only,
-        coords: false,
-        chosen: None,
-        width: 80,
-    })
-}
-
-/// Dumps the source through this buffer, and asserts the answer and what was written.
-fn dumps_through<S: Source>(
-    rt: &impl Abort,
-    alloc: Global,
-    source: &mut S,
-    options: &DumpOptions,
-    buf: &mut [u8],
-    answer: Result<(), DumpFault>,
-    text: &[u8],
-)
-    requires { 16 ≤ length buf.old }
-{
-    let mut sink = MemSink::new(alloc);
-    let found = dump(alloc, source, options, buf, &mut sink);
-    assert!(rt; found == answer);
-    assert!(rt; sink.as_slice() == text);
-}
-
-/// The same of bytes in memory, of which each read hands over as many as there are, at most 1, 3, or 7.
-fn dumps_in_steps(
-    rt: &impl Abort,
-    alloc: Global,
-    bytes: &[u8],
-    options: &DumpOptions,
-    buf: &mut [u8],
-    answer: Result<(), DumpFault>,
-    text: &[u8],
-)
-    requires { 16 ≤ length buf.old }
-{
-    let mut all = MemSource::new(bytes);
-    dumps_through(rt, alloc, &mut all, options, buf, answer, text);
-    let mut one = DripSource::new(bytes, 1, FailWhen::Never);
-    dumps_through(rt, alloc, &mut one, options, buf, answer, text);
-    let mut three = DripSource::new(bytes, 3, FailWhen::Never);
-    dumps_through(rt, alloc, &mut three, options, buf, answer, text);
-    let mut seven = DripSource::new(bytes, 7, FailWhen::Never);
-    dumps_through(rt, alloc, &mut seven, options, buf, answer, text);
-}
-
-/// The same through buffers of several lengths.
-fn dumps_as(
-    rt: &impl Abort,
-    alloc: Global,
-    bytes: &[u8],
-    options: &DumpOptions,
-    answer: Result<(), DumpFault>,
-    text: &[u8],
-) {
-    dumps_in_steps(rt, alloc, bytes, options, &mut [0; 16], answer, text);
-    dumps_in_steps(rt, alloc, bytes, options, &mut [0; 17], answer, text);
-    dumps_in_steps(rt, alloc, bytes, options, &mut [0; 31], answer, text);
-    dumps_in_steps(rt, alloc, bytes, options, &mut [0; 4096], answer, text);
-}
-
-/// The plain dump of bytes in memory.
-fn dumps(
-    rt: &impl Abort,
-    alloc: Global,
-    bytes: &[u8],
-    answer: Result<(), DumpFault>,
-    text: &[u8],
-) -> Result<(), AllocError> {
-    let options = options(alloc, false)?;
-    dumps_as(rt, alloc, bytes, &options, answer, text);
-    Ok(())
-}
 
 /// A file that is refused, with nothing written.
 fn refused(
@@ -177,29 +98,6 @@ fn head_of_a_generated_file(rt: HostRuntime) -> Result<(), Fail> {
         &options,
         Ok(()),
         text,
-    );
-    Ok(())
-}
-
-#[test]
-fn chosen_names_are_not_yet_known(rt: HostRuntime) -> Result<(), Fail> {
-    let mut options = options(rt.alloc(), false)?;
-    options.chosen = Some(Sequence::new(rt.alloc()));
-    dumps_as(
-        &rt,
-        rt.alloc(),
-        files::SMALLEST,
-        &options,
-        Err(DumpFault::NotYet),
-        b"",
-    );
-    dumps_as(
-        &rt,
-        rt.alloc(),
-        b"CDF",
-        &options,
-        Err(DumpFault::Format(FormatFault::HeaderTruncated)),
-        b"",
     );
     Ok(())
 }

@@ -7,3 +7,7 @@ mod dumps;
 mod files;
 #[cfg(test)]
 mod headers;
+#[cfg(test)]
+mod runs;
+#[cfg(test)]
+mod selections;

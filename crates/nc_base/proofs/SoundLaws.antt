@@ -1,5 +1,5 @@
 -- What a sound header keeps.
-use Rattle.std.proofs.Common.{◌≡◌, ℕ, ◌+◌, ◌*◌, ◌/◌, ◌%◌, ◌<◌, ◌≤◌, Bool, true, false, ◌&&◌, List, [], ◌∷◌, ◌++◌, length, get_or, drop, map, refl, sym, ◌∙◌, ap, subst, arith, Option, Some, None, filter}
+use Rattle.std.proofs.Common.{◌≡◌, ℕ, zero, suc, ◌+◌, ◌*◌, ◌/◌, ◌%◌, ◌<◌, ◌≤◌, Bool, true, false, ◌&&◌, ◌||◌, List, [], ◌∷◌, ◌++◌, length, get_or, drop, map, refl, sym, ◌∙◌, ap, subst, arith, Option, Some, None, filter}
 use Rattle.std.specs.Prelude.{nat_le, nat_lt, ◌==◌, not, if◌then◌else◌, IsTrue, All, IsSome, SomeIff, is_some}
 use Rattle.std.specs.List.{list_all, count_by}
 use Rattle.std.proofs.Math.Nat.{mul-le-mul_left, mod-eq-sub-div-mul, div-mul-le_self}
@@ -11,11 +11,12 @@ use Rattle.std.proofs.lemmas.List.Elements.{All-filter, All-head, All-tail, All-
 use Rattle.std.proofs.lemmas.List.Sums.{sum-map, sum_by-cons, length-filter}
 use Rattle.nc_base.specs.Types.{size_of}
 use Rattle.nc_base.specs.Sizes.{dim_len, product, is_record_dim, is_record_var, is_narrow, slab_lens, slab_size, padded_size, packed_size, record_vars, record_size, slab_limit, record_limit, has_small_slab, checked_record_size, HasKnownDims, HasKnownShapes, first_begin, slab_at, is_fixed_dim}
-use Rattle.nc_base.specs.Headers.{IsSound, IsSoundVar, IsSoundAtt, AreDimids}
+use Rattle.nc_base.specs.Dump.{has_values}
+use Rattle.nc_base.specs.Sizes.{has_slabs}
+use Rattle.nc_base.specs.Headers.{IsSound, IsSoundVar, IsSoundAtt, HasWholeValues, AreDimids}
 use Rattle.nc_base.specs.declared.nc_type.NcType.{NcType}
 use Rattle.nc_base.specs.declared.nc_type.NcType.TheVariants.{Byte, Char, Short, Int, Ubyte, Ushort, Uint, Int64, Uint64}
 use Rattle.nc_base.specs.declared.version.Version.{Version}
-use Rattle.nc_base.specs.Whole.{HasWholeValues}
 use Rattle.nc_base.specs.Versions.{count_limit, has_type}
 use Rattle.nc_base.specs.declared.header.Att.{Att}
 use Rattle.nc_base.specs.declared.header.Dim.{Dim}
@@ -110,7 +111,7 @@ first_place dims id ids known some true is = some
 first_place dims id ids known some false is = some_product (dim_len dims id) _ (fixed_len id (length dims) (dim_len dims id) known is) some
 
 -- a slab of a sound shape has values
-some_count : (dims : List Dim) (ids : List ℕ) → AreDimids dims [] ids → 0 < product (slab_lens dims ids)
+pub some_count : (dims : List Dim) (ids : List ℕ) → AreDimids dims [] ids → 0 < product (slab_lens dims ids)
 some_count dims [] h = omega arith
 some_count dims (id ∷ ids) h =
     first_place dims id ids h.0.known (some_later dims (id ∷ []) ids (λ e. cc) h.1) (is_record_dim dims id) refl
@@ -184,12 +185,6 @@ sound_shape dims (id ∷ ids) some known = (
   λ h. shape_fixed dims (id ∷ []) ids (λ e. cc) h.1,
 )
 
-pub sound_att : (v : Version) (att : Att) → length att.name < count_limit v → IsTrue (has_type v att.ty) → HasWholeValues v att → IsSoundAtt v att
-sound_att v att name ty values = record { name_len = name; ty = ty; count = values.count; counted = values.counted; whole = values.whole }
-
-pub whole_values : (v : Version) (att : Att) → IsSoundAtt v att → HasWholeValues v att
-whole_values v att sound = record { count = sound.count; counted = sound.counted; whole = sound.whole }
-
 whole_part : (n size : ℕ) → n % size ≡ 0 → n ≡ n / size * size
 whole_part n size none = omega (arith, mod-eq-sub-div-mul n size, div-mul-le_self n size)
 
@@ -226,3 +221,23 @@ streamed h len begin quotient size streaming found is_size divided sound =
     subst (λ (s : Option ℕ). IfSome s (λ n. quotient ≡ (len - begin) / n)) (is_size ∙ checked-sound h sound) divided
     ∙ sym (between (record_size h) len begin (record_vars h.dims h.vars) found)
     ∙ subst (λ (n : NumRecs). records_between (record_size h) (record_vars h.dims h.vars) len ≡ record_count (record h { numrecs = n }) len) (sym streaming) refl
+
+some_times : (c n : ℕ) → 0 < c → nat_lt 0 (c * n) ≡ nat_lt 0 n
+some_times c zero some = ap (nat_lt 0) (let e : c * 0 ≡ 0 = omega arith in e)
+some_times c (suc n) some = lt-ltb 0 (c * suc n) (some_product c (suc n) some (omega arith)) ∙ sym (lt-ltb 0 (suc n) (omega arith))
+
+count_tested : (c n : ℕ) (b : Bool) → 0 < c → nat_lt 0 (c * (if b then n else 1)) ≡ (nat_lt 0 n || not b)
+count_tested c n true some = some_times c n some ∙ sym (or_false (nat_lt 0 n))
+  where
+    or_false : (a : Bool) → (a || false) ≡ a
+    or_false true = refl
+    or_false false = refl
+count_tested c n false some = some_times c 1 some ∙ sym (or_true (nat_lt 0 n))
+  where
+    or_true : (a : Bool) → (a || true) ≡ true
+    or_true true = refl
+    or_true false = refl
+
+-- a variable of a sound shape has values where it has slabs
+pub has_values-has_slabs : (dims : List Dim) (var : Var) (n : ℕ) → AreDimids dims [] var.dimids → has_values dims n var ≡ has_slabs dims n var
+has_values-has_slabs dims var n shape = count_tested (product (slab_lens dims var.dimids)) n (is_record_var dims var) (some_count dims var.dimids shape)

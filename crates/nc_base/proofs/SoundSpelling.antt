@@ -57,9 +57,7 @@ att-sound : (v : Version) → Gives (SpellsAtt v) (IsSoundAtt v)
 att-sound v before bytes att rest s = record {
   name_len = s.front.named.count.non_negative;
   ty = s.front.typed.has;
-  count = s.count;
-  counted = s.front.counted.non_negative;
-  whole = s.whole;
+  values = record { count = s.count; counted = s.front.counted.non_negative; whole = s.whole };
 }
 
 att-name : (v : Version) → Gives (SpellsAtt v) (λ (att : Att). IsName att.name)

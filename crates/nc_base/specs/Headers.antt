@@ -28,13 +28,17 @@ abbrev pub AreDimids : List Dim → List ℕ → List ℕ → Type 0
 AreDimids dims before [] = Unit {0}
 AreDimids dims before (id ∷ ids) = IsDimid dims before id × AreDimids dims (before ++ id ∷ []) ids
 
--- an attribute: its type is one of the version's, it has whole values, and the version can count them
-pub record IsSoundAtt (v : Version) (att : Att) : Type 0 where
-  pub name_len : length att.name < count_limit v
-  pub ty : IsTrue (has_type v att.ty)
+-- an attribute has whole values, and the version can count them
+pub record HasWholeValues (v : Version) (att : Att) : Type 0 where
   pub count : ℕ
   pub counted : count < count_limit v
   pub whole : length att.vals ≡ count * size_of att.ty
+
+-- an attribute: its type is one of the version's, and it has whole values
+pub record IsSoundAtt (v : Version) (att : Att) : Type 0 where
+  pub name_len : length att.name < count_limit v
+  pub ty : IsTrue (has_type v att.ty)
+  pub values : HasWholeValues v att
 
 pub record IsSoundVar (v : Version) (dims : List Dim) (var : Var) : Type 0 where
   pub name_len : length var.name < count_limit v

@@ -14,4 +14,3 @@ pub mod Escapes
 pub mod HeadText
 pub mod Dump
 pub mod Weight
-pub mod Whole

@@ -1,5 +1,5 @@
 -- The sizes of a variable's slab and of a record, and the number of records.
-use Rattle.std.specs.Prelude.{ℕ, ◌+◌, ◌-◌, ◌*◌, ◌/◌, ◌^◌, ◌<◌, min, Bool, false, nat_lt, nat_le, ◌==◌, ◌&&◌, not, if◌then◌else◌, List, [], ◌∷◌, length, map, filter, drop, slice_index, sum, All, Option, Some, None}
+use Rattle.std.specs.Prelude.{ℕ, ◌+◌, ◌-◌, ◌*◌, ◌/◌, ◌^◌, ◌<◌, min, Bool, false, nat_lt, nat_le, ◌==◌, ◌&&◌, ◌||◌, not, if◌then◌else◌, List, [], ◌∷◌, length, map, filter, drop, slice_index, sum, All, Option, Some, None}
 use Rattle.std.specs.List.{list_all}
 use Rattle.nc_base.specs.declared.header.Dim.{Dim}
 use Rattle.nc_base.specs.declared.header.Var.{Var}
@@ -110,6 +110,10 @@ is_fixed_dim dims id = nat_lt id (length dims) && not (is_record_dim dims id)
 -- the bytes of a slab of this shape and type
 abbrev pub slab_of : List Dim → List ℕ → NcType → ℕ
 slab_of dims ids ty = product (slab_lens dims ids) * size_of ty
+
+-- the variable has a slab over so many records: one in each record, or one in all
+abbrev pub has_slabs : List Dim → ℕ → Var → Bool
+has_slabs dims records var = nat_lt 0 records || not (is_record_var dims var)
 
 -- the bytes of the slab of the variable in this place
 abbrev pub slab_at : Header → ℕ → ℕ

@@ -1,17 +1,19 @@
 //! Reading the header of a file.
 
-ghost use Rattle.std.specs.Prelude.{◌≡◌, ◌≤◌, length};
+ghost use Rattle.std.specs.Prelude.{◌≡◌, ◌≤◌, length, IfOk};
 ghost use Rattle.std.specs.Bool.{OnTrue};
+ghost use Rattle.nc_base.specs.Headers.{IsSound};
 ghost use Rattle.nc_file.specs.Reading.{Caused};
 ghost use Rattle.nc_file.specs.Answers.{HasAnswered};
 
 use crate::head_fault::HeadFault;
 use crate::source::Source;
 use crate::window::Window;
-use nc_base::Header;
+use nc_base::{FormatFault, Header};
 use std::alloc::Global;
 
-/// Reads the header at the front of a source, through a lent buffer of at least 16 bytes.
+/// Reads the header at the front of a source, through a lent buffer of at least 16 bytes. The header is sound, whatever
+/// source it comes from.
 ///
 /// It reads from the source only when it lacks a byte of the next field, and from that byte on; so a source that tells its
 /// bytes hands over the header's bytes, or those up to the end of the first wrong field, and at most one buffer more. No
@@ -23,6 +25,25 @@ use std::alloc::Global;
 /// [`HeadFault::ReadFailed`] at once where the source fails, [`HeadFault::OutOfMemory`] at once where memory is refused, and
 /// else what is wrong with the first wrong field from the left. An end of the source before its length is the file's end.
 pub fn read_header<S: Source>(
+    alloc: Global,
+    source: &mut S,
+    buf: &mut [u8],
+) -> Result<Header, HeadFault>
+    requires { 16 ≤ length buf.old }
+    ensures bytes { (S.seen source.new).bytes ≡ (S.seen source.old).bytes }
+    ensures cause { Caused (S.seen source.old).failures (S.seen source.new) result }
+    ensures answer { OnTrue S.told (HasAnswered (S.seen source.old).bytes (S.seen source.old).handed (S.seen source.new).handed (length buf.old) result) }
+    ensures sound { IfOk result IsSound }
+{
+    match header_in_front(alloc, source, buf) {
+        Ok(header) if !header.sound() => Err(HeadFault::Format(FormatFault::TooLarge)),
+        answer => answer,
+    }
+}
+
+/// Reads the header at the front. It is sound where the source tells its bytes; of the bytes of another source nothing is
+/// known.
+fn header_in_front<S: Source>(
     alloc: Global,
     source: &mut S,
     buf: &mut [u8],

@@ -1,1 +1,4 @@
 pub mod DumpLaws
+pub mod NameSets
+pub mod Shown
+pub mod Unknown

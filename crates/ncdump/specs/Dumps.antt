@@ -1,8 +1,9 @@
 -- What a dump has done.
-use Rattle.std.specs.Prelude.{ℕ, ◌≡◌, Bool, true, false, not, ◌||◌, List, [], is_some, Result, Ok, Err}
+use Rattle.std.specs.Prelude.{ℕ, ◌≡◌, true, false, List, [], length, Result, Ok, Err}
 use Rattle.nc_base.specs.declared.header.Header.{Header}
 use Rattle.nc_base.specs.Grammar.{SpellsHeader}
-use Rattle.nc_base.specs.Dump.{Options, whole, wrong_field, closed_text, has_no_data, IsDump}
+use Rattle.nc_base.specs.Dump.{Options, whole, wrong_field, no_such_variable, closed_text, empty_section, shows_values, KnowsChosen, IsFirstUnknownOf, IsDump}
+use Rattle.nc_base.specs.Sizes.{record_count}
 use Rattle.nc_file.specs.Sources.{SourceView}
 use Rattle.nc_file.specs.Sources as sources
 use Rattle.nc_file.specs.Sinks.{SinkView, Grew, Broke}
@@ -26,16 +27,13 @@ WriteFailsOnly old new (Ok done) = new.failures ≡ old.failures
 WriteFailsOnly old new (Err WriteFailed) = sinks.HasFailed old.failures new
 WriteFailsOnly old new (Err _) = new ≡ old
 
--- names are chosen, or there is a data section to show
-abbrev pub asks_for_more : Header → Options → Bool
-asks_for_more h o = is_some o.chosen || not (has_no_data h o)
-
 -- what can't be shown yet, behind a header that can be read
 pub record IsNotYetShown (bytes : List ℕ) (o : Options) : Type 0 where
   pub h : Header
   pub rest : List ℕ
   pub spelled : SpellsHeader bytes h rest
-  pub more : asks_for_more h o ≡ true
+  pub knows : KnowsChosen h o.chosen
+  pub shows : shows_values h o (record_count h (length bytes)) ≡ true
 
 -- the whole text was written
 pub record IsWhole (bytes : List ℕ) (o : Options) (old new : SinkView) : Type 0 where
@@ -57,13 +55,27 @@ Dumps bytes o old new (Err OutOfMemory) = Unit {0}
 Dumps bytes o old new (Err ReadFailed) = Unit {0}
 Dumps bytes o old new (Err WriteFailed) = IsCutShort bytes o old new
 Dumps bytes o old new (Err (Format fault)) = IsDump bytes o [] (wrong_field fault)
-Dumps bytes o old new (Err (NoSuchVariable index)) = ⊥
+Dumps bytes o old new (Err (NoSuchVariable index)) = IsDump bytes o [] (no_such_variable index)
 Dumps bytes o old new (Err (DataTruncated var value)) = ⊥
 Dumps bytes o old new (Err NotYet) = IsNotYetShown bytes o
 
+-- the whole text of a dump without values is written, or a front of it
+pub record PutsText (o : Options) (h : Header) (records : ℕ) (Written : List ℕ → Type 0) : Type 0 where
+  pub knows : KnowsChosen h o.chosen
+  pub shows : shows_values h o records ≡ false
+  pub written : Written (closed_text o.name h records (empty_section h o))
+
+-- values are to be shown, and nothing is written
+pub record PutsNothing (o : Options) (h : Header) (records : ℕ) (old new : SinkView) : Type 0 where
+  pub knows : KnowsChosen h o.chosen
+  pub shows : shows_values h o records ≡ true
+  pub same : new ≡ old
+
 -- what was written of the dump of a file with this header and so many records
 abbrev pub Puts : {A : Type 0} → Options → Header → ℕ → SinkView → SinkView → Result A DumpFault → Type 0
-Puts o h records old new (Ok done) = (asks_for_more h o ≡ false) × Grew old new (closed_text o.name h records [])
-Puts o h records old new (Err WriteFailed) = (asks_for_more h o ≡ false) × Broke old new (closed_text o.name h records [])
-Puts o h records old new (Err NotYet) = (asks_for_more h o ≡ true) × (new ≡ old)
+Puts o h records old new (Ok done) = PutsText o h records (Grew old new)
+Puts o h records old new (Err WriteFailed) = PutsText o h records (Broke old new)
+Puts o h records old new (Err NotYet) = PutsNothing o h records old new
+Puts o h records old new (Err OutOfMemory) = new ≡ old
+Puts o h records old new (Err (NoSuchVariable index)) = IsFirstUnknownOf h o.chosen index × (new ≡ old)
 Puts o h records old new (Err _) = ⊥

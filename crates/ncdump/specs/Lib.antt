@@ -1,2 +1,4 @@
 pub mod Faults
 pub mod Dumps
+pub mod Names
+pub mod Selections

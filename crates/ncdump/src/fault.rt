@@ -2,10 +2,11 @@
 
 ghost use Rattle.std.specs.Prelude.{◌≡◌};
 ghost use Rattle.ncdump.specs.Faults.{fault_of_head};
-ghost use Rattle.ncdump.specs.declared.fault.DumpFault.TheVariants.{WriteFailed as write_failed};
+ghost use Rattle.ncdump.specs.declared.fault.DumpFault.TheVariants.{OutOfMemory as out_of_memory, WriteFailed as write_failed};
 
 use nc_base::FormatFault;
 use nc_file::{HeadFault, WriteFailed};
+use std::alloc::AllocError;
 
 /// Why a file could not be dumped: for want of memory, because a device failed, for what is wrong with the file, or for
 /// what was asked of it.
@@ -28,7 +29,7 @@ pub enum DumpFault {
         /// The value.
         value: u128,
     },
-    /// What can't be shown yet: values, and chosen names. Nothing was written.
+    /// What can't be shown yet: values. Nothing was written.
     NotYet,
 }
 
@@ -41,6 +42,14 @@ impl From<HeadFault> for DumpFault {
             HeadFault::ReadFailed => DumpFault::ReadFailed,
             HeadFault::Format(fault) => DumpFault::Format(fault),
         }
+    }
+}
+
+impl From<AllocError> for DumpFault {
+    ghost from_gives = { λ _ e. e ≡ out_of_memory };
+
+    fn from(_refusal: AllocError) -> DumpFault {
+        DumpFault::OutOfMemory
     }
 }
 

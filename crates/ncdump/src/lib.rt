@@ -7,9 +7,12 @@
 mod dumping;
 mod fault;
 mod line;
+mod names;
 mod options;
+mod selection;
 
 pub use dumping::dump;
 pub use fault::DumpFault;
 pub use line::fault_line;
 pub use options::DumpOptions;
+pub use selection::select;

@@ -9,4 +9,4 @@ returns-in_err-header-clause-answer g c =
 
 pub returns-clause-answer : goal.returns-clause-answer
 returns-clause-answer g c =
-    told_dumped _ _ _ _ _ _ _ _ _ _ _ _ _ c.in_ok-header.ensures.answer c.records-count.ensures c.len.ensures.length c.in_ok-header.ensures.bytes c.put_dump.ensures
+    told_dumped _ _ _ _ _ _ _ _ _ _ _ _ _ c.in_ok-header.ensures.answer c.records-count.ensures c.len.ensures.length c.in_ok-header.ensures.bytes c.dump_values.ensures

@@ -1,0 +1,59 @@
+-- The first name that no variable has.
+use Rattle.std.proofs.Common.{◌≡◌, ℕ, ◌+◌, ◌<◌, Bool, true, false, List, [], ◌∷◌, length, get_or, refl, sym, ap, ◌∙◌, arith, Option, Some, None}
+use Rattle.std.specs.Prelude.{not, cond, nat_lt, position, slice_get}
+use Rattle.std.specs.List.{list_all, prefix_len, position_or_len}
+use Rattle.std.proofs.lemmas.Bool.{lt-ltb}
+use Rattle.std.proofs.lemmas.List.Quantifiers.{position-Some}
+use Rattle.std.proofs.lemmas.Option.{get_or_from_slice_get, slice_get-get_or}
+use Rattle.nc_base.specs.declared.header.Var.{Var}
+use Rattle.nc_base.specs.Dump.{has_variable, IsFirstUnknown}
+
+not-not : (b : Bool) → not (not b) ≡ b
+not-not true = refl
+not-not false = refl
+
+is-false : (b : Bool) → not b ≡ true → b ≡ false
+is-false true e = absurd cc
+is-false false e = refl
+
+is-true : (b : Bool) → not b ≡ false → b ≡ true
+is-true true e = refl
+is-true false e = absurd cc
+
+all-cons : {X : Type 0} (p q : X → Bool) (x : X) (xs : List X) (b : Bool) → p x ≡ b → p x ≡ q x → (cond b (1 + prefix_len p xs) 0 < length (x ∷ xs) → ⊥)
+    → ((prefix_len p xs < length xs → ⊥) → list_all q xs ≡ true) → list_all q (x ∷ xs) ≡ true
+all-cons p q x xs true passes same long rest = rw (← same, passes) (rest (λ less. long (omega (arith, less))))
+all-cons p q x xs false fails same long rest = absurd (long (omega arith))
+
+-- a front as long as the list is the whole list
+all-pass : {X : Type 0} (p q : X → Bool) → ((x : X) → p x ≡ q x) → (xs : List X) → (prefix_len p xs < length xs → ⊥) → list_all q xs ≡ true
+all-pass p q same [] long = refl
+all-pass p q same (x ∷ xs) long = all-cons p q x xs (p x) refl (same x) long (all-pass p q same xs)
+
+some-none : (b : Bool) (n : ℕ) → cond b (Some n) None ≡ None → b ≡ true → ⊥
+some-none true n e is = cc
+some-none false n e is = cc
+
+not-some : (n m : ℕ) → cond (nat_lt n m) (Some n) None ≡ None → n < m → ⊥
+not-some n m e less = some-none (nat_lt n m) n e (lt-ltb n m less)
+
+-- each name that the set has is a variable's, and it has them all
+pub all-known : (vars : List Var) (names : List (List ℕ)) (known : List ℕ → Bool) → ((name : List ℕ) → known name ≡ has_variable vars name)
+    → position (λ (name : List ℕ). not (known name)) names ≡ None → list_all (has_variable vars) names ≡ true
+all-known vars names known same none =
+    all-pass (λ (name : List ℕ). not (not (known name))) (has_variable vars) (λ name. not-not (known name) ∙ same name) names
+    (not-some (position_or_len (λ (name : List ℕ). not (known name)) names) (length names) none)
+
+-- the first that the set hasn't is no variable's
+pub first-unknown : (vars : List Var) (names : List (List ℕ)) (known : List ℕ → Bool) (index : ℕ) → ((name : List ℕ) → known name ≡ has_variable vars name)
+    → position (λ (name : List ℕ). not (known name)) names ≡ Some index → IsFirstUnknown vars names index
+first-unknown vars names known index same found =
+    let at = position-Some (λ (name : List ℕ). not (known name)) names index [] found in
+    record {
+      name = get_or names index [];
+      at = slice_get-get_or names index [] at.0;
+      unknown = sym (same (get_or names index [])) ∙ is-false (known (get_or names index [])) at.1;
+      others = λ k other before there.
+          let is : get_or names k [] ≡ other = get_or_from_slice_get names k other [] there in
+          sym (same other) ∙ ap known (sym is) ∙ is-true (known (get_or names k [])) (at.2 k before);
+    }
