@@ -110,12 +110,12 @@ first_place dims id ids known some true is = some
 first_place dims id ids known some false is = some_product (dim_len dims id) _ (fixed_len id (length dims) (dim_len dims id) known is) some
 
 -- a slab of a sound shape has values
-some_count : (dims : List Dim) (ids : List ℕ) → AreDimids dims [] ids → 0 < product (slab_lens dims ids)
+pub some_count : (dims : List Dim) (ids : List ℕ) → AreDimids dims [] ids → 0 < product (slab_lens dims ids)
 some_count dims [] h = omega arith
 some_count dims (id ∷ ids) h =
     first_place dims id ids h.0.known (some_later dims (id ∷ []) ids (λ e. cc) h.1) (is_record_dim dims id) refl
 
-some_size : (ty : NcType) → 0 < size_of ty
+pub some_size : (ty : NcType) → 0 < size_of ty
 some_size Byte = omega arith
 some_size Char = omega arith
 some_size Short = omega arith
