@@ -116,7 +116,7 @@ some_count dims [] h = omega arith
 some_count dims (id ∷ ids) h =
     first_place dims id ids h.0.known (some_later dims (id ∷ []) ids (λ e. cc) h.1) (is_record_dim dims id) refl
 
-some_size : (ty : NcType) → 0 < size_of ty
+pub some_size : (ty : NcType) → 0 < size_of ty
 some_size Byte = omega arith
 some_size Char = omega arith
 some_size Short = omega arith

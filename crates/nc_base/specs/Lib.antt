@@ -8,6 +8,7 @@ pub mod Names
 pub mod Sizes
 pub mod Headers
 pub mod Grammar
+pub mod Places
 pub mod FirstFault
 pub mod Fill
 pub mod Escapes

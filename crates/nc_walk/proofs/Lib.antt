@@ -1,0 +1,5 @@
+pub mod Fills
+pub mod Runs
+pub mod Orders
+pub mod Slabs
+pub mod OneRead

@@ -1,0 +1,149 @@
+-- One read of a walk, and what the walk is afterwards.
+use Rattle.std.proofs.Common.{◌≡◌, ℕ, zero, suc, ◌+◌, ◌-◌, ◌*◌, ◌/◌, ◌<◌, ◌≤◌, Bool, List, ◌++◌, length, take, drop, map, sym, ◌∙◌, ap, refl, subst, arith, length-append, length-take, Option, None, Some, Ok}
+use Rattle.std.specs.Prelude.{All}
+use Rattle.std.specs.List.{concat}
+use Rattle.std.proofs.lemmas.List.{take-append-le}
+use Rattle.std.proofs.Math.Nat.{mul-div_cancel, mul-le-mul_right, le_of_mul-le-mul_right, div-mul-le_self}
+use Rattle.nc_base.specs.Places.{bytes_at}
+use Rattle.nc_file.specs.Sources.{SourceView, after}
+use Rattle.nc_walk.specs.declared.fault.WalkFault.{WalkFault}
+use Rattle.nc_walk.specs.declared.line.Line.{Line}
+use Rattle.nc_walk.specs.Fills.{Filled, BrokeOff}
+use Rattle.nc_walk.specs.Lines.{total, offset, offsets_from, offsets_behind, Ready, IsSized}
+use Rattle.nc_walk.specs.Walks.{IsWhole, IsInOrder, Exactly, Hands, Failing, Truncated, Steps, Moved, standing, stopped, in_front, count}
+use Rattle.nc_walk.proofs.Fills.{told_any, told_map, told_both}
+use Rattle.nc_walk.proofs.Runs.{length-offsets, take-offsets, drop-offsets, first_offset, run_bytes, run_within, ready_whole}
+
+some_left : (l : Line) (done : ℕ) → done < total l → 0 < length (offsets_behind l done)
+some_left l done lt = omega (arith, length-offsets l done (total l - done))
+
+pub none_left : (l : Line) (done : ℕ) → done ≡ total l → length (offsets_behind l done) ≡ 0
+none_left l done e = omega (arith, length-offsets l done (total l - done))
+
+-- no value is ready
+pub not_ready : (told : Bool) (l : Line) (done : ℕ) (buf : List ℕ) (before : SourceView) (n : ℕ) → done < total l
+    → Ready l done (length buf) (length before.bytes) n → n ≡ 0 → Truncated told (standing l done buf) before before done
+not_ready told l done buf before n more ready none = record {
+  value = refl;
+  some = some_left l done more;
+  failures = refl;
+  missing = told_any told (
+      let first = first_offset l done (total l - done) (omega arith) in
+      let short = ready.none none in
+      (omega (arith, first, short), refl)
+      );
+}
+
+-- n values that were asked for, of which so many bytes came
+module _ (told : Bool) (l : Line) (done : ℕ) (buf : List ℕ) (before now : SourceView) (ys rest : List ℕ) (n got : ℕ)
+    (sized : IsSized l) (more : done < total l) (ready : Ready l done (length buf) (length before.bytes) n) (some : 0 < n)
+    (len : length ys ≡ n * l.size) where
+  few : got ≤ length ys → got / l.size ≤ n
+  few le = le_of_mul-le-mul_right {k = l.size} (let up : got / l.size * l.size ≤ n * l.size = omega (arith, div-mul-le_self got l.size) in up) sized.some
+
+  end : done + n ≤ total l
+  end = run_within l done n sized.per more ready.in_slab
+
+  next : take n (offsets_behind l done) ≡ offsets_from l done n
+  next = take-offsets l done (total l - done) n (omega (arith, end))
+
+  whole : All (IsWhole l.size before.bytes) (take n (offsets_behind l done))
+  whole = subst (All (IsWhole l.size before.bytes)) (sym next) (ready_whole l before.bytes done (length buf) n ready)
+
+  all_of : got ≡ length ys → take got ys ≡ take got (drop (offset l done) before.bytes) → now ≡ after before got
+      → Exactly (standing l done buf) before now (take (got / l.size * l.size) (ys ++ rest)) (got / l.size)
+  all_of full same left =
+      let w = n * l.size in
+      let e : got ≡ w = full ∙ len in
+      let k : got / l.size ≡ n = ap (λ (m : ℕ). m / l.size) e ∙ mul-div_cancel n sized.some in
+      let front : take w (ys ++ rest) ≡ take w ys = take-append-le w ys rest (omega arith) in
+      let long : length (take w (ys ++ rest)) ≡ w = ap (λ (xs : List ℕ). length xs) front ∙ (let h : length (take w ys) ≡ w = omega (arith, length-take w ys) in h) in
+      subst (λ (m : ℕ). Exactly (standing l done buf) before now (take (m * l.size) (ys ++ rest)) m) (sym k) (record {
+        whole = whole;
+        bytes = front ∙ subst (λ (m : ℕ). take m ys ≡ take m (drop (offset l done) before.bytes)) e same
+            ∙ sym (run_bytes l before.bytes done n ready.in_slab)
+            ∙ ap (λ (xs : List ℕ). concat (map (bytes_at l.size before.bytes) xs)) (sym next);
+        handed = left ∙ ap (after before) (e ∙ sym long);
+      })
+
+  pub came : Filled told before now (offset l done) ys got → 0 < got / l.size
+      → (got / l.size * l.size ≤ length (ys ++ rest)) × Hands told (standing l done buf) before now (take (got / l.size * l.size) (ys ++ rest)) (got / l.size)
+  came f some_came =
+      let w = got / l.size in
+      let most : w * l.size ≤ got = div-mul-le_self got l.size in
+      let le : w * l.size ≤ length (ys ++ rest) = omega (arith, most, f.within, length-append ys rest) in (
+        le,
+        record {
+          some = some_came;
+          len = (let h : length (take (w * l.size) (ys ++ rest)) ≡ w * l.size = omega (arith, le, length-take (w * l.size) (ys ++ rest)) in h);
+          within = omega (arith, end, few f.within, length-offsets l done (total l - done));
+          room = omega (arith, most, f.within, len, ready.in_room);
+          failures = ap (λ (v : SourceView). v.failures) f.same;
+          exactly = told_both told (λ e b. all_of e b f.same) f.all f.bytes;
+        },
+      )
+
+  pub came_none : Filled told before now (offset l done) ys got → got / l.size ≡ 0 → Truncated told (standing l done buf) before now done
+  came_none f none = record {
+    value = refl;
+    some = some_left l done more;
+    failures = ap (λ (v : SourceView). v.failures) f.same;
+    missing = told_map told (λ full.
+        let k : got / l.size ≡ n = ap (λ (m : ℕ). m / l.size) (full ∙ len) ∙ mul-div_cancel n sized.some in
+        absurd (omega arith)) f.all;
+  }
+
+  pub broke : BrokeOff before now (length ys) → (k : ℕ) × Failing (standing l done buf) before now k
+  broke b = (
+    n,
+    record {
+      some = some_left l done more;
+      within = omega (arith, end, length-offsets l done (total l - done));
+      whole = whole;
+      room = ready.in_room;
+      broke = subst (BrokeOff before now) len b;
+    },
+  )
+
+-- ---- afterwards
+
+front : (buf : List ℕ) (m : ℕ) → 0 < m → in_front buf (Ok m) ≡ Ok (Some (take m buf))
+front buf zero lt = absurd (omega arith)
+front buf (suc m) lt = refl
+
+-- values in front of the buffer are handed out
+module _ (told : Bool) (l : Line) (done : ℕ) (had buf : List ℕ) (before now : SourceView) (n : ℕ) (sized : IsSized l) (within : done ≤ total l)
+    (h : (n * l.size ≤ length buf) × Hands told (standing l done had) before now (take (n * l.size) buf) n) where
+  number : count l.size (take (n * l.size) buf) ≡ n
+  number = ap (λ (k : ℕ). k / l.size) h.1.len ∙ mul-div_cancel n sized.some
+
+  answer : in_front buf (Ok (n * l.size)) ≡ Ok (Some (take (n * l.size) buf))
+  answer = front buf (n * l.size) (let up : 1 * l.size ≤ n * l.size = mul-le-mul_right l.size (let w : 1 ≤ n = omega (arith, h.1.some) in w) in omega (arith, up, sized.some))
+
+  reached : done + n ≤ total l
+  reached = omega (arith, h.1.within, length-offsets l done (total l - done))
+
+  pub steps : (fault : Option WalkFault) → Steps told (stopped l done fault had) before now (in_front buf (Ok (n * l.size)))
+  steps fault = subst (Steps told (stopped l done fault had) before now) (sym answer)
+      (subst (Hands told (stopped l done fault had) before now (take (n * l.size) buf)) (sym number) (record {
+        some = h.1.some;
+        len = h.1.len;
+        within = h.1.within;
+        room = h.1.room;
+        failures = h.1.failures;
+        exactly = told_map told (λ e. record { whole = e.whole; bytes = e.bytes; handed = e.handed }) h.1.exactly;
+      }))
+
+  pub moved : (old new : Option WalkFault) → new ≡ None → length buf ≡ length had → Moved (stopped l done old had) (stopped l (done + n) new buf) (in_front buf (Ok (n * l.size)))
+  moved old new none room = subst (Moved (stopped l done old had) (stopped l (done + n) new buf)) (sym answer) (record {
+    size = refl;
+    left = ap (offsets_from l (done + n)) (let e : total l - (done + n) ≡ total l - done - n = omega arith in e)
+        ∙ sym (drop-offsets l done (total l - done) n (omega (arith, reached)))
+        ∙ ap (λ (k : ℕ). drop k (offsets_behind l done)) (sym number);
+    done = ap (λ (k : ℕ). done + k) (sym number);
+    fault = none;
+    buf = room;
+  })
+
+  pub in_order : length buf ≡ length had → 16 ≤ length had → IsInOrder l (done + n) buf
+  in_order room long = record { sized = sized; within = reached; room = omega (arith, room, long) }

@@ -1,0 +1,155 @@
+-- The offsets of a variable's values by their index vectors are those by their numbers, in the same order.
+use Rattle.std.proofs.Common.{◌≡◌, ℕ, zero, suc, ◌+◌, ◌*◌, ◌/◌, ◌%◌, ◌<◌, Bool, true, false, List, [], ◌∷◌, ◌++◌, length, map, sym, ◌∙◌, ap, refl, arith, ◌-◌}
+use Rattle.std.specs.Prelude.{if◌then◌else◌}
+use Rattle.std.specs.List.{flat_map, range_with_len}
+use Rattle.std.proofs.lemmas.List.{map-append}
+use Rattle.std.proofs.lemmas.List.FromFn.{length-map-range_with_len}
+use Rattle.std.proofs.lemmas.Nat.{div-mul-add, mod-mul-add, mod_below, div-add-mod'}
+use Rattle.nc_base.specs.declared.header.Var.{Var}
+use Rattle.nc_base.specs.declared.header.Header.{Header}
+use Rattle.nc_base.specs.Types.{size_of}
+use Rattle.nc_base.specs.Sizes.{product, is_record_var, slab_lens, record_size}
+use Rattle.nc_base.specs.Headers.{value_count}
+use Rattle.nc_base.specs.Places.{vectors_below, slab_strides, distance, value_offset, value_offsets, lens_over}
+use Rattle.nc_walk.specs.declared.line.Line.{Line}
+use Rattle.nc_walk.specs.Lines.{total, offset, offsets_from, offsets_behind, line_of, IsLineOf}
+use Rattle.nc_walk.specs.Walks.{Starts, standing}
+use Rattle.nc_walk.proofs.Runs.{offset_at}
+
+-- the i-th index vector in row-major order
+abbrev pub vector_at : List ℕ → ℕ → List ℕ
+vector_at [] i = []
+vector_at (n ∷ ns) i = i / product ns ∷ vector_at ns (i % product ns)
+
+some_right : (a b i : ℕ) → i < a * b → 0 < b
+some_right a zero i lt = absurd (omega arith)
+some_right a (suc b) i lt = omega arith
+
+-- ---- one offset
+
+distance_at : (size : ℕ) (ns : List ℕ) (i : ℕ) → i < product ns → distance (vector_at ns i) (slab_strides size ns) ≡ i * size
+distance_at size [] i lt =
+    let z : 0 ≡ i = omega arith in
+    let f : 0 ≡ 0 * size = omega arith in
+    f ∙ ap (λ (k : ℕ). k * size) z
+distance_at size (n ∷ ns) i lt =
+    let p = product ns in
+    let below : i % p < p = mod_below i p (some_right n p i lt) in
+    let e : i / p * (size * p) + i % p * size ≡ (i / p * p + i % p) * size = omega arith in
+    ap (λ (k : ℕ). i / p * (size * p) + k) (distance_at size ns (i % p) below) ∙ e ∙ ap (λ (k : ℕ). k * size) (div-add-mod' i p)
+
+at_first : (l : Line) (i : ℕ) → i < l.per → offset l i ≡ l.begin + i * l.size
+at_first l i lt =
+    let e : i ≡ 0 * l.per + i = omega arith in
+    let f : l.begin + 0 * l.stride + i * l.size ≡ l.begin + i * l.size = omega arith in
+    ap (offset l) e ∙ offset_at l 0 i lt ∙ f
+
+-- slabs of this shape, one for each of n records or one in all
+abbrev shaped : ℕ → ℕ → ℕ → Bool → List ℕ → ℕ → Line
+shaped begin size stride is_record lens n = record { begin = begin; stride = stride; per = product lens; slabs = if is_record then n else 1; size = size }
+
+abbrev over : Bool → List ℕ → ℕ → List ℕ
+over is_record lens n = if is_record then n ∷ lens else lens
+
+shaped_at : (begin size stride : ℕ) (is_record : Bool) (lens : List ℕ) (n i : ℕ) → i < total (shaped begin size stride is_record lens n)
+    → begin + distance (vector_at (over is_record lens n) i) (if is_record then stride ∷ slab_strides size lens else slab_strides size lens)
+    ≡ offset (shaped begin size stride is_record lens n) i
+shaped_at begin size stride true lens n i lt =
+    let p = product lens in
+    let below : i % p < p = mod_below i p (some_right n p i lt) in
+    let e : begin + (i / p * stride + i % p * size) ≡ begin + i / p * stride + i % p * size = omega arith in
+    ap (λ (k : ℕ). begin + (i / p * stride + k)) (distance_at size lens (i % p) below) ∙ e
+shaped_at begin size stride false lens n i lt =
+    let within : i < product lens = omega arith in
+    ap (λ (k : ℕ). begin + k) (distance_at size lens i within) ∙ sym (at_first (shaped begin size stride false lens n) i within)
+
+shaped_total : (begin size stride : ℕ) (is_record : Bool) (lens : List ℕ) (n : ℕ) → product (over is_record lens n) ≡ total (shaped begin size stride is_record lens n)
+shaped_total begin size stride true lens n = refl
+shaped_total begin size stride false lens n = omega arith
+
+-- the offset of value number i is that of the i-th index vector
+pub value_offset_at : (h : Header) (var : Var) (n i : ℕ) → i < total (line_of h var n) → value_offset h var (vector_at (lens_over h.dims var n) i) ≡ offset (line_of h var n) i
+value_offset_at h var n i lt = shaped_at var.begin_at (size_of var.ty) (record_size h) (is_record_var h.dims var) (slab_lens h.dims var.dimids) n i lt
+
+-- ---- all index vectors, in order
+
+shifted : {A : Type 0} (f g : ℕ → A) (a k n : ℕ) → ((q : ℕ) → q < k + n → f q ≡ g (a + q)) → map f (range_with_len k n) ≡ map g (range_with_len (a + k) n)
+shifted f g a k zero same = refl
+shifted f g a k (suc n) same =
+    let next : a + k + 1 ≡ a + (k + 1) = omega arith in
+    ap (λ x. x ∷ map f (range_with_len (k + 1) n)) (same k (omega arith))
+    ∙ ap (λ xs. g (a + k) ∷ xs) (shifted f g a (k + 1) n (λ q lt. same q (omega arith)) ∙ ap (λ (j : ℕ). map g (range_with_len j n)) (sym next))
+
+range-add : (k m n : ℕ) → range_with_len k (m + n) ≡ range_with_len k m ++ range_with_len (k + m) n
+range-add k zero n = let e : 0 + n ≡ n = omega arith in let f : k ≡ k + 0 = omega arith in ap (range_with_len k) e ∙ ap (λ (j : ℕ). range_with_len j n) f
+range-add k (suc m) n =
+    let e : suc m + n ≡ suc (m + n) = omega arith in
+    let f : k + 1 + m ≡ k + suc m = omega arith in
+    ap (range_with_len k) e ∙ ap (λ (xs : List ℕ). k ∷ xs) (range-add (k + 1) m n ∙ ap (λ (j : ℕ). range_with_len (k + 1) m ++ range_with_len j n) f)
+
+map_map : {A B C : Type 0} (g : B → C) (f : A → B) (xs : List A) → map g (map f xs) ≡ map (λ x. g (f x)) xs
+map_map g f [] = refl
+map_map g f (x ∷ xs) = ap (λ ys. g (f x) ∷ ys) (map_map g f xs)
+
+rows : (ns : List ℕ) (a n : ℕ) → flat_map (λ i. map (λ (index : List ℕ). i ∷ index) (map (vector_at ns) (range_with_len 0 (product ns)))) (range_with_len a n)
+    ≡ map (λ (j : ℕ). j / product ns ∷ vector_at ns (j % product ns)) (range_with_len (a * product ns) (n * product ns))
+rows ns a zero = let e : 0 ≡ 0 * product ns = omega arith in ap (λ (k : ℕ). map (λ (j : ℕ). j / product ns ∷ vector_at ns (j % product ns)) (range_with_len (a * product ns) k)) e
+rows ns a (suc n) =
+    let p = product ns in
+    let g : ℕ → List ℕ = λ j. j / p ∷ vector_at ns (j % p) in
+    let f : ℕ → List ℕ = λ q. a ∷ vector_at ns q in
+    let same : (q : ℕ) → q < 0 + p → f q ≡ g (a * p + q) = λ q lt. sym (ap (λ (i : ℕ). i ∷ vector_at ns ((a * p + q) % p)) (div-mul-add a p q (omega arith)) ∙ ap (λ (i : ℕ). a ∷ vector_at ns i) (mod-mul-add a p q (omega arith))) in
+    let start : a * p + 0 ≡ a * p = omega arith in
+    let next : (a + 1) * p ≡ a * p + p = omega arith in
+    let all : p + n * p ≡ suc n * p = omega arith in
+    ap (λ xs. xs ++ flat_map (λ i. map (λ (index : List ℕ). i ∷ index) (map (vector_at ns) (range_with_len 0 p))) (range_with_len (a + 1) n))
+    (map_map (λ (index : List ℕ). a ∷ index) (vector_at ns) (range_with_len 0 p) ∙ shifted f g (a * p) 0 p same ∙ ap (λ (k : ℕ). map g (range_with_len k p)) start)
+    ∙ ap (λ xs. map g (range_with_len (a * p) p) ++ xs) (rows ns (a + 1) n ∙ ap (λ (k : ℕ). map g (range_with_len k (n * p))) next)
+    ∙ sym (map-append g (range_with_len (a * p) p) (range_with_len (a * p + p) (n * p)))
+    ∙ ap (map g) (sym (range-add (a * p) p (n * p)) ∙ ap (range_with_len (a * p)) all)
+
+pub vectors_in_order : (ns : List ℕ) → vectors_below ns ≡ map (vector_at ns) (range_with_len 0 (product ns))
+vectors_in_order [] = refl
+vectors_in_order (n ∷ ns) =
+    ap (λ vs. flat_map (λ i. map (λ (index : List ℕ). i ∷ index) vs) (range_with_len 0 n)) (vectors_in_order ns) ∙ rows ns 0 n
+    ∙ ap (λ (k : ℕ). map (λ (j : ℕ). j / product ns ∷ vector_at ns (j % product ns)) (range_with_len k (n * product ns))) (let e : 0 * product ns ≡ 0 = omega arith in e)
+
+-- ---- of a variable
+
+-- all offsets of a variable's values, in row-major order
+pub offsets_in_order : (h : Header) (var : Var) (n : ℕ) → offsets_from (line_of h var n) 0 (total (line_of h var n)) ≡ value_offsets h var n
+unfolding value_offsets offsets_from
+offsets_in_order h var n =
+    let ns = lens_over h.dims var n in
+    let l = line_of h var n in
+    let same : (q : ℕ) → q < 0 + total l → value_offset h var (vector_at ns q) ≡ offset l (0 + q) = λ q lt. let e : q ≡ 0 + q = omega arith in value_offset_at h var n q (omega arith) ∙ ap (offset l) e in
+    let count : product ns ≡ total l = shaped_total var.begin_at (size_of var.ty) (record_size h) (is_record_var h.dims var) (slab_lens h.dims var.dimids) n in
+    sym (
+    ap (map (value_offset h var)) (vectors_in_order ns) ∙ map_map (value_offset h var) (vector_at ns) (range_with_len 0 (product ns))
+    ∙ ap (λ (k : ℕ). map (λ (q : ℕ). value_offset h var (vector_at ns q)) (range_with_len 0 k)) count
+    ∙ shifted (λ q. value_offset h var (vector_at ns q)) (offset l) 0 0 (total l) same
+    )
+
+pub count_of_offsets : (h : Header) (var : Var) (n : ℕ) → length (value_offsets h var n) ≡ value_count h.dims var n
+unfolding offsets_from
+count_of_offsets h var n =
+    let l = line_of h var n in
+    let e : total l ≡ value_count h.dims var n = omega arith in
+    ap (λ (xs : List ℕ). length xs) (sym (offsets_in_order h var n)) ∙ length-map-range_with_len (offset l) 0 (total l) ∙ e
+
+-- a walk over the slabs of a variable starts at its first value
+pub starts : (h : Header) (v n : ℕ) (l : Line) (buf : List ℕ) → IsLineOf h v n l → Starts h v n (length buf) (standing l 0 buf)
+starts h v n l buf line =
+    let all : total (line_of h line.var n) - 0 ≡ total (line_of h line.var n) = omega arith in
+    let left : offsets_behind l 0 ≡ value_offsets h line.var n =
+    ap (λ (k : Line). offsets_behind k 0) line.is ∙ ap (offsets_from (line_of h line.var n) 0) all ∙ offsets_in_order h line.var n in
+    record {
+      var = line.var;
+      at = line.at;
+      size = ap (λ (k : Line). k.size) line.is;
+      left = left;
+      count = ap (λ (xs : List ℕ). length xs) left ∙ count_of_offsets h line.var n;
+      done = refl;
+      fault = refl;
+      room = refl;
+    }

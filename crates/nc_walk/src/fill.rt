@@ -1,0 +1,32 @@
+//! Reading on until a slice is full.
+
+ghost use Rattle.std.specs.Prelude.{◌≡◌, ◌+◌, ◌*◌, ◌<◌, ◌≤◌, ◌^◌, length};
+ghost use Rattle.nc_walk.specs.Fills.{Fills};
+
+use nc_file::{Source, SourceFailed};
+
+/// Reads the bytes from the offset `at` on until the slice is full, or the source says that it has ended, and gives their
+/// number. A source that tells its bytes fills the slice.
+///
+/// # Errors
+///
+/// The source failed.
+pub(crate) fn fill<S: Source>(
+    source: &mut S,
+    at: u64,
+    into: &mut [u8],
+) -> Result<usize, SourceFailed>
+    requires fits { at + length into.old < 2 ^ 64 }
+    requires there { at + length into.old ≤ length (S.seen source.old).bytes }
+    ensures { Fills S.told (S.seen source.old) (S.seen source.new) at into.new result }
+{
+    let mut got = 0;
+    while got < into.len() {
+        match source.read_at(at + got as u64, &mut into[got..]) {
+            Ok(0) => return Ok(got),
+            Ok(n) => got += n,
+            Err(failure) => return Err(failure),
+        }
+    }
+    Ok(got)
+}

@@ -1,0 +1,14 @@
+//! The values of one variable, out of a file.
+//!
+//! A [`Walk`] hands out the values of a variable in row-major order, as the file has them, in pieces that it lends out of a
+//! lent buffer. It reads no byte that isn't a byte of a value, and none twice for the same value, and it takes no memory.
+#![tactic(auto)]
+
+mod fault;
+mod fill;
+mod line;
+mod reading;
+mod walk;
+
+pub use fault::WalkFault;
+pub use walk::Walk;

@@ -1,0 +1,108 @@
+//! Where a variable's values lie, by their number.
+
+ghost use Rattle.std.specs.Prelude.{◌≡◌, ◌+◌, ◌*◌, ◌<◌, ◌≤◌, ◌^◌, if◌then◌else◌, length};
+ghost use Rattle.nc_base.specs.Headers.{IsSound};
+ghost use Rattle.nc_base.specs.Sizes.{is_record_var, record_size, record_limit, slab_count, slab_size, slab_limit};
+ghost use Rattle.nc_walk.specs.Lines.{total, offset, IsSized, IsLineOf, Ready};
+
+use nc_base::{Dim, Header, Var, has_records, rec_size, slab_of};
+
+/// The slabs of a variable: values side by side in each, and one slab behind the other at the same distance.
+#[derive(Clone, Copy)]
+pub(crate) struct Line {
+    /// The offset of the first value.
+    pub(crate) begin: u64,
+    /// The bytes from one slab to the next.
+    pub(crate) stride: u64,
+    /// The values in a slab.
+    pub(crate) per: u64,
+    /// The number of slabs.
+    pub(crate) slabs: u64,
+    /// The bytes of a value.
+    pub(crate) size: u64,
+}
+
+impl Line {
+    /// The slabs of the variable in place `v` over so many records: one for each record, or one in all where the variable
+    /// has no record dimension.
+    pub(crate) fn of(header: &Header, v: usize, records: u64) -> Line
+        requires sound { IsSound header.now }
+        requires there { v < length header.now.vars }
+        ensures { IsLineOf header.now v records result }
+    {
+        let dims = header.dims.as_slice();
+        let var = &header.vars.as_slice()[v];
+        Line {
+            begin: var.begin_at,
+            stride: sound_rec_size(header),
+            per: slab_values(dims, var),
+            slabs: slab_number(dims, var, records),
+            size: var.ty.size(),
+        }
+    }
+
+    /// The number of values.
+    pub(crate) fn total(&self) -> u128
+        ensures { result ≡ total self.now }
+    {
+        self.slabs as u128 * self.per as u128
+    }
+
+    /// The offset of the value of this number.
+    pub(crate) fn offset(&self, i: u128) -> u128
+        requires sized { IsSized self.now }
+        requires within { i < total self.now }
+        ensures value { result ≡ offset self.now i }
+        ensures bound { result < 2 ^ 127 }
+    {
+        let per = self.per as u128;
+        self.begin as u128 + i / per * self.stride as u128 + i % per * self.size as u128
+    }
+
+    /// How many values from the one of this number on lie side by side, fill at most `room` bytes and end inside of `len`
+    /// bytes.
+    pub(crate) fn ready(&self, i: u128, room: usize, len: u64) -> u64
+        requires sized { IsSized self.now }
+        requires within { i < total self.now }
+        requires room { self.now.size ≤ room }
+        ensures { Ready self.now i room len result }
+    {
+        let at = self.offset(i);
+        if len as u128 <= at {
+            return 0;
+        }
+        let in_slab = self.per - (i % self.per as u128) as u64;
+        let in_source = (len - at as u64) / self.size;
+        let in_room = room as u64 / self.size;
+        in_slab.min(in_source).min(in_room)
+    }
+}
+
+/// The record size of a sound header.
+fn sound_rec_size(header: &Header) -> u64
+    requires { IsSound header.now }
+    ensures size { result ≡ record_size header.now }
+    ensures small { result ≤ record_limit }
+{
+    rec_size(header).unwrap()
+}
+
+/// The number of slabs over so many records.
+fn slab_number(dims: &[Dim], var: &Var, records: u64) -> u64
+    ensures { result ≡ (if is_record_var dims.now var.now then records else 1) }
+{
+    if has_records(dims, var.dimids.as_slice()) {
+        records
+    } else {
+        1
+    }
+}
+
+/// The number of values in a slab that keeps the limit.
+fn slab_values(dims: &[Dim], var: &Var) -> u64
+    requires { slab_size dims.now var.now ≤ slab_limit }
+    ensures { result ≡ slab_count dims.now var.now }
+{
+    let slab = slab_of(dims, var.dimids.as_slice(), var.ty).unwrap();
+    slab / var.ty.size()
+}

@@ -1,0 +1,111 @@
+//! A walk over the values of a variable.
+
+ghost use Rattle.std.specs.Prelude.{◌≡◌, ◌+◌, ◌*◌, ◌<◌, ◌≤◌, ◌^◌, [], length, take, None, IfOk};
+ghost use Rattle.std.specs.Borrow.{sem};
+ghost use mir.Syntax.{named};
+ghost use Rattle.nc_base.specs.Headers.{IsSound};
+ghost use Rattle.nc_walk.specs.Walks.{Starts, Steps, Repeats, Moved, Rests, lent, in_front};
+ghost use Rattle.nc_walk.specs.contracts.walk.Walk.{the_row};
+
+use crate::fault::WalkFault;
+use crate::line::Line;
+use crate::reading::read_values;
+use nc_base::Header;
+use nc_file::Source;
+use std::marker::Model;
+
+/// A walk over the values of one variable, through a lent buffer of at least 16 bytes.
+///
+/// It hands out the values in row-major order, in pieces of one or more whole values, and each piece as the file has it:
+/// big-endian, without padding. Of a walk that has stopped each call answers the same fault.
+#[derive(Drop)]
+pub struct Walk<'a> {
+    line: Line,
+    done: u128,
+    fault: Option<WalkFault>,
+    buf: &'a mut [u8],
+}
+
+impl<'a> Model for Walk<'a> {
+    ghost use Rattle.nc_walk.specs.Walks.{WalkView, IsInOrder, stopped};
+
+    ghost Value = { WalkView };
+
+    ghost view = { λ w. stopped w.line w.done w.fault w.buf.now };
+
+    ghost invariant = { λ w. IsInOrder w.line w.done w.buf.now };
+}
+
+impl<'a> Walk<'a> {
+    /// A walk at the first value of the variable in place `v` of the header, over so many records. Where the values lie
+    /// follows from the variable's `begin` and its shape, and not from its `vsize` (NetCDF Classic Format Specification).
+    pub fn new(header: &Header, v: usize, records: u64, buf: &'a mut [u8]) -> Walk<'a>
+        requires sound { IsSound header.now }
+        requires there { v < length header.now.vars }
+        requires room { 16 ≤ length buf.old }
+        ensures { Starts header.now v records (length buf.old) result }
+    {
+        Walk {
+            line: Line::of(header, v, records),
+            done: 0,
+            fault: None,
+            buf,
+        }
+    }
+
+    /// The first bytes of the buffer.
+    fn front(&self, n: usize) -> &[u8]
+        requires { n ≤ length self.now.buf }
+        ensures { result.now ≡ take n self.now.buf }
+    {
+        &self.buf[..n]
+    }
+
+    /// Reads the next values to the front of the buffer, and gives the number of their bytes: 0 behind the last value.
+    fn step<S: Source>(&mut self, source: &mut S) -> Result<usize, WalkFault>
+        ensures moved { Moved self.old self.new (in_front self.new.buf result) }
+        ensures steps { self.old.fault ≡ None
+            → Steps S.told self.old (S.seen source.old) (S.seen source.new) (in_front self.new.buf result) }
+        ensures repeats { Repeats self.old (S.seen source.old) (S.seen source.new) (in_front self.new.buf result) }
+        ensures fits { IfOk result (λ n. n ≤ length self.new.buf) }
+    {
+        if let Some(fault) = self.fault {
+            return Err(fault);
+        }
+        if self.done == self.line.total() {
+            return Ok(0);
+        }
+        match read_values(&self.line, self.done, source, self.buf) {
+            Ok(n) => {
+                self.done += n as u128;
+                Ok((n * self.line.size) as usize)
+            }
+            Err(fault) => {
+                self.fault = Some(fault);
+                Err(fault)
+            }
+        }
+    }
+
+    /// The next values, one or more, lent out of the buffer; none behind the last value.
+    ///
+    /// A source that tells its bytes hands over the bytes of the piece and no others.
+    ///
+    /// # Errors
+    ///
+    /// [`WalkFault::ReadFailed`] at once where the source fails, and [`WalkFault::DataTruncated`] where the next value isn't
+    /// whole in the source, without a read. An end of the source before its length is the file's end. From then on each call
+    /// answers the same, and touches nothing.
+    pub fn next<S: Source>(&mut self, source: &mut S) -> Result<Option<&[u8]>, WalkFault>
+        ensures steps { self.old.fault ≡ None
+            → Steps S.told self.old (S.seen source.old) (S.seen source.new) (lent result) }
+        ensures repeats { Repeats self.old (S.seen source.old) (S.seen source.new) (lent result) }
+        ensures* after { sem 𝓛 (Rests (the_row (record { mir = named 0; lft = [] })) self.entry (λ new. Moved self.old new (lent result))) }
+    {
+        match self.step(source) {
+            Ok(0) => Ok(None),
+            Ok(n) => Ok(Some(self.front(n))),
+            Err(fault) => Err(fault),
+        }
+    }
+}
