@@ -5,3 +5,4 @@ pub mod SizeLaws
 pub mod SoundLaws
 pub mod SoundSpelling
 pub mod SpelledWeight
+pub mod ValueLaws
