@@ -5,4 +5,5 @@ pub mod SizeLaws
 pub mod SoundLaws
 pub mod SoundSpelling
 pub mod SpelledWeight
+pub mod ValueLaws
 pub mod Examples

@@ -1,17 +1,22 @@
 -- The dump of a file: its text, and how it ends.
-use Rattle.std.specs.Prelude.{ℕ, ◌≡◌, ◌<◌, Bool, true, false, IsTrue, ◌==◌, ◌&&◌, ◌||◌, not, nat_lt, if◌then◌else◌, List, [], ◌∷◌, length, codes, Option, Some, None, slice_get}
+use Rattle.std.specs.Prelude.{ℕ, ◌≡◌, ◌+◌, ◌<◌, ℤ, Bool, true, false, IsTrue, ◌==◌, ◌&&◌, ◌||◌, not, nat_lt, if◌then◌else◌, List, [], ◌∷◌, ◌++◌, length, map, take, codes, Option, Some, None, slice_get, slice_index_or}
 use Rattle.std.specs.List.{list_any, list_all}
 use Rattle.std.specs.Str.{bytes_eq}
 use Rattle.nc_base.specs.declared.fault.FormatFault.{FormatFault}
 use Rattle.nc_base.specs.declared.header.Dim.{Dim}
+use Rattle.nc_base.specs.declared.dataset.Dataset.{Dataset}
 use Rattle.nc_base.specs.declared.header.Header.{Header}
+use Rattle.nc_base.specs.declared.header.NumRecs.TheVariants.{Known}
 use Rattle.nc_base.specs.declared.header.Var.{Var}
 use Rattle.nc_base.specs.Bytes.{text}
+use Rattle.nc_base.specs.Numbers.{numbers}
 use Rattle.nc_base.specs.Headers.{value_count}
 use Rattle.nc_base.specs.Sizes.{record_count}
 use Rattle.nc_base.specs.Grammar.{SpellsHeader}
 use Rattle.nc_base.specs.FirstFault.{StopsAt}
 use Rattle.nc_base.specs.HeadText.{head_text}
+use Rattle.nc_base.specs.Places.{stored_values, first_missing}
+use Rattle.nc_base.specs.ValueText.{Look, look_of, variable_front, variable_text}
 
 -- what to show of a dataset, and under which name
 pub record Options : Type 0 where
@@ -67,36 +72,87 @@ is_chosen (Some names) name = has_name names name
 abbrev pub is_selected : Header → Options → Var → Bool
 is_selected h o var = is_chosen o.chosen var.name && (not o.coords || has_dimension h.dims var.name)
 
+-- which of the header's variables values are asked for
+abbrev pub selection_of : Header → Options → List Bool
+selection_of h o = map (is_selected h o) h.vars
+
 -- the variable has a value over so many records
 abbrev pub has_values : List Dim → ℕ → Var → Bool
-has_values dims records var = nat_lt 0 (value_count dims var records)
+has_values dims n var = nat_lt 0 (value_count dims var n)
 
--- the dump shows a value of the variable
-abbrev pub is_shown : Header → Options → ℕ → Var → Bool
-is_shown h o records var = not o.head_only && (is_selected h o var && has_values h.dims records var)
+-- ---- the data section
 
--- the dump shows a value
-abbrev pub shows_values : Header → Options → ℕ → Bool
-shows_values h o records = list_any (is_shown h o records) h.vars
+-- a text, and how it ends
+pub record Section : Type 0 where
+  pub text : List ℕ
+  pub ending : Ending
 
--- what a data section begins with
-unfoldable pub data_word : List ℕ
-data_word = codes "data:\n"
+-- nothing, which is whole
+abbrev pub no_section : Section
+no_section = record { text = []; ending = whole }
 
--- a data section without values: there is none at all where there are no variables, or the header alone is asked for
-abbrev pub empty_section : Header → Options → List ℕ
-empty_section h o = if o.head_only || (length h.vars == 0) then [] else data_word
+-- the values of a variable, and the number of the first one that is missing
+pub record Content : Type 0 where
+  pub values : List ℤ
+  pub missing : Option ℕ
 
--- the head of a dump, its data section, and the closing brace
-abbrev pub closed_text : List ℕ → Header → ℕ → List ℕ → List ℕ
-closed_text name h records section = text (head_text name h records ∷ section ∷ codes "}\n" ∷ [])
+-- what a file with these bytes has of a variable over n records
+abbrev pub content_in : Header → List ℕ → ℕ → ℕ → Var → Content
+content_in h bytes n v var = record { values = stored_values h bytes var n; missing = first_missing h bytes var n }
+
+-- what a dataset has of the variable in place v
+abbrev pub content_of : Dataset → ℕ → Var → Content
+content_of d v var = record { values = numbers var.ty (slice_index_or d.arrays v []); missing = None }
+
+-- The values of the variable in place v, and the section behind them: all values and that section; or those before the first
+-- missing one, and nothing behind them.
+abbrev pub values_before : Look → List ℤ → Option ℕ → ℕ → Section → Section
+values_before look values None v others = record { text = variable_text look values ++ others.text; ending = others.ending }
+values_before look values (Some k) v others = record { text = variable_front look (take k values); ending = data_truncated v k }
+
+-- The values of the marked ones of these variables, the first of which has place v, over n records and in lines of this width.
+-- A variable that has no values has no text.
+abbrev pub values_of : Header → (ℕ → Var → Content) → ℕ → ℕ → ℕ → List Var → List Bool → Section
+values_of h content n width v (var ∷ vars) (mark ∷ marks) =
+    if mark && has_values h.dims n var
+    then values_before (look_of h var n width) (content v var).values (content v var).missing v (values_of h content n width (v + 1) vars marks)
+    else values_of h content n width (v + 1) vars marks
+values_of h content n width v vars marks = no_section
+
+-- the same of all variables, but of none where the header alone is asked for
+abbrev pub shown_values : Header → Options → (ℕ → Var → Content) → ℕ → List Bool → Section
+shown_values h o content n marks = if o.head_only then no_section else values_of h content n o.width 0 h.vars marks
+
+-- what stands before the values: nothing where there are no variables, or the header alone is asked for
+unfoldable pub data_word : Header → Options → List ℕ
+data_word h o = if o.head_only || (length h.vars == 0) then [] else codes "data:\n"
+
+-- what stands behind them: nothing where a value is missing
+unfoldable pub closing_word : Ending → List ℕ
+closing_word whole = codes "}\n"
+closing_word other = []
+
+-- ---- the dump
+
+-- the head of a dump, its values, and the closing brace
+abbrev pub dump_text : Header → Options → ℕ → Section → List ℕ
+dump_text h o n section = text (head_text o.name h n ∷ data_word h o ∷ section.text ∷ closing_word section.ending ∷ [])
 
 -- The dump of a file with these bytes: nothing, and the fault of the first wrong field; nothing, and the place of the
--- first chosen name that no variable has; or the head, a data section without values and the closing brace.
+-- first chosen name that no variable has; or the head and the values, up to the first missing one.
 pub data IsDump (bytes : List ℕ) (o : Options) : List ℕ → Ending → Type 0 where
   stopped : (fault : FormatFault) (end : ℕ) → StopsAt bytes fault end → IsDump bytes o [] (wrong_field fault)
   unknown : (h : Header) (rest : List ℕ) (index : ℕ)
       → SpellsHeader bytes h rest → IsFirstUnknownOf h o.chosen index → IsDump bytes o [] (no_such_variable index)
-  without_values : (h : Header) (rest : List ℕ)
-      → SpellsHeader bytes h rest → KnowsChosen h o.chosen → shows_values h o (record_count h (length bytes)) ≡ false
-      → IsDump bytes o (closed_text o.name h (record_count h (length bytes)) (empty_section h o)) whole
+  shown : (h : Header) (rest : List ℕ) (n : ℕ) (section : Section)
+      → SpellsHeader bytes h rest → KnowsChosen h o.chosen
+      → n ≡ record_count h (length bytes) → section ≡ shown_values h o (content_in h bytes n) n (selection_of h o)
+      → IsDump bytes o (dump_text h o n section) section.ending
+
+-- The text of a dataset: nothing, and the place of the first chosen name that no variable has; or the head and the values.
+pub data IsText (d : Dataset) (o : Options) : List ℕ → Ending → Type 0 where
+  unknown : (index : ℕ) → IsFirstUnknownOf d.header o.chosen index → IsText d o [] (no_such_variable index)
+  shown : (n : ℕ) (section : Section)
+      → KnowsChosen d.header o.chosen → d.header.numrecs ≡ Known n
+      → section ≡ shown_values d.header o (content_of d) n (selection_of d.header o)
+      → IsText d o (dump_text d.header o n section) section.ending

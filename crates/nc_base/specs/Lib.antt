@@ -13,5 +13,6 @@ pub mod FirstFault
 pub mod Fill
 pub mod Escapes
 pub mod HeadText
+pub mod ValueText
 pub mod Dump
 pub mod Weight

@@ -1,7 +1,7 @@
 //! The fill value of a variable.
 
-ghost use Rattle.std.specs.Prelude.{◌≡◌, find, option_map};
-ghost use Rattle.nc_base.specs.Fill.{fill_value, is_fill_att, is_one_of_type};
+ghost use Rattle.std.specs.Prelude.{◌≡◌, find, is_some, option_map};
+ghost use Rattle.nc_base.specs.Fill.{fill_value, has_blanks, is_fill_att, is_one_of_type, own_fill};
 
 use crate::header::{Att, Var};
 use crate::nc_type::NcType;
@@ -17,6 +17,29 @@ pub fn fill_of(var: &Var) -> i128
     match fill_att(var.atts.as_slice()) {
         Some(att) if is_one_of_type(var.ty, att) => number_of(var.ty, att.vals.as_slice()),
         _ => var.ty.default_fill(),
+    }
+}
+
+/// Says whether a value of the variable that equals its fill value prints as `_`: a character never does, and a number of
+/// one byte only where the variable has a fill value of its own (ncdump(1), on `_FillValue`).
+pub fn has_blanks(var: &Var) -> bool
+    ensures { result ≡ has_blanks var.now.ty (is_some (own_fill var.now)) }
+{
+    match var.ty {
+        NcType::Char => false,
+        NcType::Byte | NcType::Ubyte => has_own_fill(var),
+        NcType::Short | NcType::Ushort | NcType::Int | NcType::Uint => true,
+        NcType::Int64 | NcType::Uint64 => true,
+    }
+}
+
+/// Says whether the variable has a fill value of its own.
+fn has_own_fill(var: &Var) -> bool
+    ensures { result ≡ is_some (own_fill var.now) }
+{
+    match fill_att(var.atts.as_slice()) {
+        Some(att) => is_one_of_type(var.ty, att),
+        None => false,
     }
 }
 

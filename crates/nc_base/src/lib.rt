@@ -23,14 +23,16 @@ mod weights;
 
 pub use dataset::Dataset;
 pub use fault::FormatFault;
-pub use fill::fill_of;
+pub use fill::{fill_of, has_blanks};
 pub use header::{Att, Dim, Header, NumRecs, Var};
 pub use name::check_name;
 pub use nc_type::NcType;
 pub use number::number_of;
 pub use path::stem;
 pub use sequence::Sequence;
-pub use sizes::{extent_end, has_records, rec_size, records, slab_bytes, slab_of};
+pub use sizes::{
+    dim_len, extent_end, has_records, rec_size, records, slab_bytes, slab_of, value_count,
+};
 pub use version::Version;
 pub use weights::weight;
 

@@ -1,10 +1,10 @@
 //! The sizes of slabs and of records, the number of records, and where a variable ends.
 
-ghost use Rattle.std.specs.Prelude.{◌≡◌, ◌+◌, ◌*◌, ◌/◌, ◌<◌, ◌≤◌, ◌^◌, ◌&&◌, IfSome, if◌then◌else◌, length, map, min, SomeIff};
+ghost use Rattle.std.specs.Prelude.{◌≡◌, ◌+◌, ◌*◌, ◌/◌, ◌<◌, ◌≤◌, ◌^◌, ◌&&◌, IfSome, if◌then◌else◌, length, map, min, slice_get, SomeIff};
 ghost use Rattle.nc_base.specs.Types.{size_of};
 ghost use Rattle.nc_base.specs.Bytes.{padding_len};
 ghost use Rattle.nc_base.specs.Sizes.{dim_len, is_record_dim, has_records, is_record_var, is_narrow, product, slab_of, slab_at, slab_size, padded_size, slab_limit, record_size, checked_record_size, record_vars, record_count, first_begin, lesser, end_at};
-ghost use Rattle.nc_base.specs.Headers.{IsSound};
+ghost use Rattle.nc_base.specs.Headers.{IsSound, value_count};
 
 use crate::header::{Dim, Header, NumRecs, Var};
 use crate::nc_type::NcType;
@@ -96,6 +96,22 @@ pub fn extent_end(header: &Header, v: usize, records: u64) -> u128
         begin
     } else {
         begin + (records - 1) as u128 * sound_rec_size(header) as u128 + slab
+    }
+}
+
+/// How many values the variable in place `v` has over so many records: a record variable has as many as a slab for each
+/// record, and any other those of its one slab.
+pub fn value_count(header: &Header, v: usize, records: u64) -> u128
+    requires sound { IsSound header.now }
+    requires there { v < length header.now.vars }
+    ensures { IfSome (slice_get header.now.vars v) (λ var. result ≡ value_count header.now.dims var records) }
+{
+    let var = &header.vars.as_slice()[v];
+    let count = (sound_slab(header, v) / var.ty.size()) as u128;
+    if is_record_var(header.dims.as_slice(), var) {
+        count * records as u128
+    } else {
+        count
     }
 }
 
@@ -229,7 +245,7 @@ pub(crate) fn is_record_dim(dims: &[Dim], id: u64) -> bool
 }
 
 /// The length of the dimension with this id, and 0 where there is none.
-fn dim_len(dims: &[Dim], id: u64) -> u64
+pub fn dim_len(dims: &[Dim], id: u64) -> u64
     ensures { result ≡ dim_len dims.now id }
 {
     match dims.get(id as usize) {

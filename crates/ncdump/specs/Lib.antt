@@ -2,3 +2,4 @@ pub mod Faults
 pub mod Dumps
 pub mod Names
 pub mod Selections
+pub mod Shows

@@ -1,0 +1,151 @@
+-- The text of a variable's values, as the data section of a dump shows them.
+use Rattle.std.specs.Prelude.{ℕ, ◌+◌, ◌-◌, ◌%◌, ◌==◌, ◌&&◌, ℤ, pos, unsigned_abs, Bool, true, false, not, nat_lt, if◌then◌else◌, List, [], ◌∷◌, ◌++◌, length, drop, replicate, slice_index, is_some, codes}
+use Rattle.std.specs.Fmt.{signed_decimal}
+use Rattle.std.specs.List.{suffix_len}
+use Rattle.std.specs.Ordering.{int_eq}
+use Rattle.nc_base.specs.declared.header.Dim.{Dim}
+use Rattle.nc_base.specs.declared.header.Header.{Header}
+use Rattle.nc_base.specs.declared.header.Var.{Var}
+use Rattle.nc_base.specs.declared.nc_type.NcType.{NcType}
+use Rattle.nc_base.specs.declared.nc_type.NcType.TheVariants.{Char}
+use Rattle.nc_base.specs.Bytes.{text}
+use Rattle.nc_base.specs.Escapes.{escaped_name, escaped_text}
+use Rattle.nc_base.specs.Fill.{fill_value, own_fill, has_blanks}
+use Rattle.nc_base.specs.Headers.{value_count}
+use Rattle.nc_base.specs.Sizes.{dim_len, is_record_var}
+
+-- ---- what the text depends on
+
+-- all that the text of a variable's values depends on, but for the values
+pub record Look : Type 0 where
+  pub name : List ℕ
+  pub ty : NcType
+  -- the rank is 2 or more
+  pub in_rows : Bool
+  -- how many values a row has
+  pub row : ℕ
+  -- how many values there are
+  pub total : ℕ
+  pub fill : ℤ
+  -- a value that equals the fill value prints as `_`
+  pub blanks : Bool
+  -- the NULs at the end of a row of characters aren't printed
+  pub trimmed : Bool
+  -- the greatest length of a line of numbers
+  pub width : ℕ
+
+abbrev pub is_char : NcType → Bool
+is_char Char = true
+is_char ty = false
+
+-- how many values a row has: all at rank 0 and 1, and at rank 2 and up as many as the last dimension is long
+abbrev pub row_len : List Dim → Var → ℕ → ℕ
+row_len dims var records =
+    if nat_lt (length var.dimids) 2 then value_count dims var records
+    else dim_len dims (slice_index var.dimids (length var.dimids - 1))
+
+-- the fill value is NUL, and the variable isn't a record variable of rank 1
+abbrev pub is_trimmed : List Dim → Var → Bool
+is_trimmed dims var = int_eq (fill_value var) (pos 0) && not (is_record_var dims var && (length var.dimids == 1))
+
+-- the look of a variable over so many records, in lines of this width
+unfoldable pub look_of : Header → Var → ℕ → ℕ → Look
+look_of h var records width = record {
+  name = var.name;
+  ty = var.ty;
+  in_rows = not (nat_lt (length var.dimids) 2);
+  row = row_len h.dims var records;
+  total = value_count h.dims var records;
+  fill = fill_value var;
+  blanks = has_blanks var.ty (is_some (own_fill var));
+  trimmed = is_trimmed h.dims var;
+  width = width;
+}
+
+-- value i, counted from 0, is its row's first
+abbrev pub begins_row : Look → ℕ → Bool
+begins_row look i = i % look.row == 0
+
+-- ---- numbers
+
+-- how many bytes stand behind the last line feed
+abbrev pub column : List ℕ → ℕ
+column before = suffix_len (λ b. not (b == 10)) before
+
+-- a number in decimal, or `_` for a blank
+abbrev pub number_text : Look → ℤ → List ℕ
+number_text look value = if look.blanks && int_eq value look.fill then codes "_" else signed_decimal value
+
+-- what stands before value i, the first number of its row
+abbrev pub number_lead : Look → ℕ → List ℕ
+number_lead look i = if look.in_rows then (if i == 0 then codes "\n  " else codes ",\n  ") else codes " "
+
+-- What stands between two numbers of a row, by all text before and the length of the second: a new line begins where the
+-- second, with two bytes behind it, would pass the width.
+abbrev pub separator : Look → List ℕ → ℕ → List ℕ
+separator look before len =
+    if nat_lt look.width (column (before ++ codes ", ") + len + 2) then codes ", \n    " else codes ", "
+
+-- value i, a number, with what stands before it, by all text before
+unfoldable pub number_piece : Look → List ℕ → ℕ → ℤ → List ℕ
+number_piece look before i value =
+    (if begins_row look i then number_lead look i else separator look before (length (number_text look value)))
+    ++ number_text look value
+
+-- ---- characters
+
+-- what stands before value i, the first character of its row
+abbrev pub char_lead : Look → ℕ → List ℕ
+char_lead look i = if look.in_rows then (if i == 0 then codes "\n  \"" else codes "\",\n  \"") else codes " \""
+
+abbrev pub is_nul : ℤ → Bool
+is_nul value = unsigned_abs value == 0
+
+-- the values that stand in its row before the value behind these
+abbrev pub row_so_far : Look → List ℤ → List ℤ
+row_so_far look values = drop (length values - length values % look.row) values
+
+-- how many NULs stand in its row directly before the value behind these, and aren't printed yet
+abbrev pub held : Look → List ℤ → ℕ
+held look values = if look.trimmed then suffix_len is_nul (row_so_far look values) else 0
+
+-- a character behind so many NULs that aren't printed yet: a NUL waits for what follows where the row is trimmed
+abbrev pub char_text : Look → ℕ → ℤ → List ℕ
+char_text look nuls value =
+    if look.trimmed && is_nul value then [] else escaped_text (replicate nuls 0 ++ unsigned_abs value ∷ [])
+
+-- a character behind these values, with what stands before it
+unfoldable pub char_piece : Look → List ℤ → ℤ → List ℕ
+char_piece look values value =
+    (if begins_row look (length values) then char_lead look (length values) else [])
+    ++ char_text look (held look values) value
+
+-- ---- values
+
+-- a value with what stands before it, by all text and all values before
+unfoldable pub piece : Look → List ℕ → List ℤ → ℤ → List ℕ
+piece look before values value =
+    if is_char look.ty then char_piece look values value else number_piece look before (length values) value
+
+-- values, each with what stands before it, by all text and all values before the first of them
+unfoldable pub pieces : Look → List ℕ → List ℤ → List ℤ → List ℕ
+pieces look before values [] = []
+pieces look before values (value ∷ others) =
+    piece look before values value
+    ++ pieces look (before ++ piece look before values value) (values ++ value ∷ []) others
+
+-- what stands before a variable's values
+unfoldable pub opening : Look → List ℕ
+opening look = text (codes "\n " ∷ escaped_name look.name ∷ codes " =" ∷ [])
+
+-- what stands behind them
+unfoldable pub closing : Look → List ℕ
+closing look = if is_char look.ty then codes "\" ;\n" else codes " ;\n"
+
+-- the opening and a variable's first values
+unfoldable pub variable_front : Look → List ℤ → List ℕ
+variable_front look values = opening look ++ pieces look (opening look) [] values
+
+-- a variable's values, from its opening to its closing
+unfoldable pub variable_text : Look → List ℤ → List ℕ
+variable_text look values = variable_front look values ++ closing look
