@@ -3,3 +3,6 @@ pub mod Runs
 pub mod Orders
 pub mod Slabs
 pub mod OneRead
+pub mod Missing
+pub mod Stored
+pub mod Walked

@@ -6,9 +6,13 @@
 
 mod fault;
 mod fill;
+pub mod laws;
 mod line;
 mod reading;
 mod walk;
 
 pub use fault::WalkFault;
 pub use walk::Walk;
+
+#[cfg(test)]
+mod tests;

@@ -1,0 +1,88 @@
+-- The bytes of whole values, and their numbers.
+use Rattle.std.proofs.Common.{◌≡◌, ℕ, ◌+◌, ◌*◌, ◌/◌, List, [], ◌∷◌, ◌++◌, length, take, drop, map, sym, ◌∙◌, ap, refl, arith, length-append, length-take, length-drop}
+use Rattle.std.specs.Prelude.{All}
+use Rattle.std.specs.List.{concat}
+use Rattle.std.proofs.Math.Nat.{mul-div_cancel}
+use Rattle.std.proofs.Math.Seq.{take-add}
+use Rattle.std.proofs.lemmas.List.{take_at, drop_at, take-map, drop-map}
+use Rattle.std.proofs.lemmas.List.Folds.{concat-append}
+use Rattle.std.proofs.lemmas.List.Elements.{All-head, All-tail, All-map, All-weaker}
+use Rattle.nc_base.specs.declared.nc_type.NcType.{NcType}
+use Rattle.nc_base.specs.declared.header.Header.{Header}
+use Rattle.nc_base.specs.declared.header.Var.{Var}
+use Rattle.nc_base.specs.Types.{size_of}
+use Rattle.nc_base.specs.Numbers.{number_of, numbers_from, numbers}
+use Rattle.nc_base.specs.Places.{bytes_at, value_offsets, stored_bytes, stored_values}
+use Rattle.nc_base.proofs.SoundLaws.{some_size}
+use Rattle.nc_walk.specs.Walks.{IsWhole}
+use Rattle.nc_walk.specs.Walked.{StoredNumbers}
+use Rattle.nc_walk.proofs.Missing.{whole_before}
+
+-- ---- values one behind the other
+
+length-concat : (size : ℕ) (xss : List (List ℕ)) → All (λ xs. length xs ≡ size) xss → length (concat xss) ≡ length xss * size
+length-concat size [] all = omega arith
+length-concat size (xs ∷ xss) all =
+    let here : length xs ≡ size = All-head (λ (x : List ℕ). length x ≡ size) xs xss all in
+    let rest = length-concat size xss (All-tail (λ (x : List ℕ). length x ≡ size) xs xss all) in
+    omega (arith, length-append xs (concat xss), here, rest)
+
+numbers_from-concat : (ty : NcType) (xss : List (List ℕ)) → All (λ xs. length xs ≡ size_of ty) xss → numbers_from ty (length xss) (concat xss) ≡ map (number_of ty) xss
+numbers_from-concat ty [] all = refl
+numbers_from-concat ty (xs ∷ xss) all =
+    let here : length xs ≡ size_of ty = All-head (λ (x : List ℕ). length x ≡ size_of ty) xs xss all in
+    ap (λ (x : List ℕ). number_of ty x ∷ numbers_from ty (length xss) (drop (size_of ty) (xs ++ concat xss))) (take_at xs (concat xss) (size_of ty) here)
+    ∙ ap (λ (x : List ℕ). number_of ty xs ∷ numbers_from ty (length xss) x) (drop_at xs (concat xss) (size_of ty) here)
+    ∙ ap (λ zs. number_of ty xs ∷ zs) (numbers_from-concat ty xss (All-tail (λ (x : List ℕ). length x ≡ size_of ty) xs xss all))
+
+numbers-concat : (ty : NcType) (xss : List (List ℕ)) → All (λ xs. length xs ≡ size_of ty) xss → numbers ty (concat xss) ≡ map (number_of ty) xss
+unfolding numbers
+numbers-concat ty xss all =
+    let count : length (concat xss) / size_of ty ≡ length xss = ap (λ (m : ℕ). m / size_of ty) (length-concat (size_of ty) xss all) ∙ mul-div_cancel (length xss) (some_size ty) in
+    ap (λ (m : ℕ). numbers_from ty m (concat xss)) count ∙ numbers_from-concat ty xss all
+
+-- ---- whole values
+
+length-whole : (size : ℕ) (b : List ℕ) (offset : ℕ) → IsWhole size b offset → length (bytes_at size b offset) ≡ size
+length-whole size b offset whole = omega (arith, length-take size (drop offset b), length-drop offset b)
+
+whole_chunks : (size : ℕ) (b offsets : List ℕ) → All (IsWhole size b) offsets → All (λ xs. length xs ≡ size) (map (bytes_at size b) offsets)
+whole_chunks size b offsets whole =
+    All-map (λ (xs : List ℕ). length xs ≡ size) (bytes_at size b) offsets
+    (All-weaker (IsWhole size b) (λ (offset : ℕ). length (bytes_at size b offset) ≡ size) (length-whole size b) offsets whole)
+
+-- the numbers of whole values
+pub numbers-whole : (ty : NcType) (b offsets : List ℕ) → All (IsWhole (size_of ty) b) offsets
+    → numbers ty (concat (map (bytes_at (size_of ty) b) offsets)) ≡ map (number_of ty) (map (bytes_at (size_of ty) b) offsets)
+numbers-whole ty b offsets whole = numbers-concat ty (map (bytes_at (size_of ty) b) offsets) (whole_chunks (size_of ty) b offsets whole)
+
+pub stored_numbers : StoredNumbers
+stored_numbers h b var n k le =
+    let f = bytes_at (size_of var.ty) b in
+    let xs = value_offsets h var n in
+    let front : take k (map f xs) ≡ map f (take k xs) = take-map f k xs in
+    ap (λ (yss : List (List ℕ)). numbers var.ty (concat yss)) front
+    ∙ numbers-whole var.ty b (take k xs) (whole_before h var n b k le)
+    ∙ ap (map (number_of var.ty)) (sym front)
+    ∙ sym (take-map (number_of var.ty) k (map f xs))
+
+-- ---- a piece of them
+
+pub piece_bytes : (h : Header) (b : List ℕ) (var : Var) (n k j : ℕ) → concat (map (bytes_at (size_of var.ty) b) (take j (drop k (value_offsets h var n)))) ≡ concat (take j (drop k (stored_bytes h b var n)))
+piece_bytes h b var n k j =
+    let f = bytes_at (size_of var.ty) b in
+    let xs = value_offsets h var n in
+    ap concat (sym (take-map f j (drop k xs)) ∙ ap (take j) (sym (drop-map f k xs)))
+
+pub piece_values : (h : Header) (b : List ℕ) (var : Var) (n k j : ℕ) → map (number_of var.ty) (map (bytes_at (size_of var.ty) b) (take j (drop k (value_offsets h var n)))) ≡ take j (drop k (stored_values h b var n))
+piece_values h b var n k j =
+    let f = bytes_at (size_of var.ty) b in
+    let g = number_of var.ty in
+    let xs = value_offsets h var n in
+    ap (map g) (sym (take-map f j (drop k xs)) ∙ ap (take j) (sym (drop-map f k xs)))
+    ∙ sym (take-map g j (drop k (map f xs)))
+    ∙ ap (take j) (sym (drop-map g k (map f xs)))
+
+-- the first k and the j behind them
+pub joined_bytes : (xss : List (List ℕ)) (k j : ℕ) → concat (take k xss) ++ concat (take j (drop k xss)) ≡ concat (take (k + j) xss)
+joined_bytes xss k j = sym (ap concat (take-add k j xss) ∙ concat-append (take k xss) (take j (drop k xss)))
