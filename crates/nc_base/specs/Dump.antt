@@ -121,7 +121,7 @@ values_of h content n width v vars marks = no_section
 
 -- the same of all variables, but of none where the header alone is asked for
 abbrev pub shown_values : Header → Options → (ℕ → Var → Content) → ℕ → List Bool → Section
-shown_values h o content n marks = if o.head_only then no_section else values_of h content n o.width 0 h.vars marks
+shown_values h o content n marks = values_of h content n o.width 0 h.vars (if o.head_only then [] else marks)
 
 -- what stands before the values: nothing where there are no variables, or the header alone is asked for
 unfoldable pub data_word : Header → Options → List ℕ

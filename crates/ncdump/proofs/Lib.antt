@@ -1,4 +1,4 @@
-pub mod DumpLaws
 pub mod NameSets
-pub mod Shown
 pub mod Unknown
+pub mod Fronts
+pub mod Held

@@ -1,0 +1,57 @@
+-- Fronts of a variable's text.
+use Rattle.std.proofs.Common.{◌≡◌, ℕ, zero, suc, ◌+◌, ◌-◌, ◌≤◌, List, [], ◌++◌, length, take, drop, refl, sym, ap, ◌∙◌, append_assoc, subst, arith, Option, Some, None}
+use Rattle.std.specs.Prelude.{ℤ, unwrap_or}
+use Rattle.std.proofs.Math.Seq.{take-add}
+use Rattle.std.proofs.lemmas.List.{append-nil, take_all, length-map}
+use Rattle.nc_base.specs.declared.header.Var.{Var}
+use Rattle.nc_base.specs.Headers.{value_count}
+use Rattle.nc_base.specs.Numbers.{numbers, numbers_from}
+use Rattle.nc_base.specs.Types.{size_of}
+use Rattle.nc_base.specs.declared.nc_type.NcType.{NcType}
+use Rattle.nc_base.specs.Places.{stored_values, stored_bytes, value_offsets, first_missing}
+use Rattle.nc_base.specs.ValueText.{Look, look_of, variable_front, variable_text, later_pieces, closing}
+use Rattle.nc_base.specs.Dump.{Section, no_section, values_before}
+use Rattle.nc_base.proofs.ValueLaws.{front-append}
+use Rattle.nc_walk.specs.Walks.{count}
+use Rattle.nc_walk.proofs.Orders.{count_of_offsets}
+use Rattle.ncdump.specs.Shows.{Dumped, front_text, values_alone, whole_values}
+
+-- how many numbers are in so many bytes
+pub count-numbers : (ty : NcType) (bytes : List ℕ) → length (numbers ty bytes) ≡ count (size_of ty) bytes
+unfolding numbers
+count-numbers ty bytes = counted (count (size_of ty) bytes) bytes
+  where
+    counted : (n : ℕ) (rest : List ℕ) → length (numbers_from ty n rest) ≡ n
+    counted zero rest = refl
+    counted (suc n) rest = ap suc (counted n (drop (size_of ty) rest))
+
+-- as many values are stored as the variable has
+pub count-stored : (d : Dumped) (var : Var) → length (stored_values d.header d.bytes var d.records) ≡ value_count d.header.dims var d.records
+count-stored d var = length-map _ (stored_bytes d.header d.bytes var d.records) ∙ length-map _ (value_offsets d.header var d.records) ∙ count_of_offsets d.header var d.records
+
+-- a front of the first values is a front of more of them
+front-more : (look : Look) (xs : List ℤ) (k i : ℕ) → (rest : List ℕ) × (variable_front look (take (k + i) xs) ≡ variable_front look (take k xs) ++ rest)
+front-more look xs k i =
+    (later_pieces look (take k xs) (take i (drop k xs)), ap (variable_front look) (take-add k i xs) ∙ front-append look (take k xs) (take i (drop k xs)))
+
+-- the front of a variable's first values is a front of its text
+front-of-section : (look : Look) (xs : List ℤ) (missing : Option ℕ) (v k total : ℕ) → length xs ≡ total → k ≤ unwrap_or missing total
+    → (rest : List ℕ) × ((values_before look xs missing v no_section).text ≡ variable_front look (take k xs) ++ rest)
+unfolding variable_text
+front-of-section look xs None v k total all few =
+    let more = front-more look xs k (total - k) in
+    let whole : take (k + (total - k)) xs ≡ xs = take_all (k + (total - k)) xs (omega (arith, few, all)) in
+    let front : variable_front look xs ≡ variable_front look (take k xs) ++ more.0 = ap (variable_front look) (sym whole) ∙ more.1 in
+    (more.0 ++ (closing look ++ []),
+    ap (λ (t : List ℕ). (t ++ closing look) ++ []) front
+    ∙ append_assoc (variable_front look (take k xs) ++ more.0) (closing look) []
+    ∙ append_assoc (variable_front look (take k xs)) more.0 (closing look ++ []))
+front-of-section look xs (Some m) v k total all few =
+    let more = front-more look xs k (m - k) in
+    let e : k + (m - k) ≡ m = omega (arith, few) in
+    (more.0, ap (λ (i : ℕ). variable_front look (take i xs)) (sym e) ∙ more.1)
+
+pub front-in-text : (d : Dumped) (v : ℕ) (var : Var) (k : ℕ) → k ≤ whole_values d var → (rest : List ℕ) × ((values_alone d v var).text ≡ front_text d var k ++ rest)
+front-in-text d v var k few =
+    front-of-section (look_of d.header var d.records d.width) (stored_values d.header d.bytes var d.records) (first_missing d.header d.bytes var d.records)
+    v k (value_count d.header.dims var d.records) (count-stored d var) few

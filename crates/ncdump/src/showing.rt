@@ -1,0 +1,133 @@
+//! The text of a dump, written while the values are read.
+
+ghost use Rattle.std.specs.Prelude.{◌≡◌, ◌≤◌, ◌<◌, ◌∷◌, [], length, slice_get, IfSome};
+ghost use Rattle.std.specs.Bool.{OnTrue};
+ghost use Rattle.nc_base.specs.Headers.{IsSound};
+ghost use Rattle.nc_base.specs.Sizes.{has_slabs, record_count};
+ghost use Rattle.nc_base.specs.Dump.{data_word};
+ghost use Rattle.nc_file.specs.Sinks.{Wrote};
+ghost use Rattle.ncdump.specs.Dumps.{options_of};
+ghost use Rattle.ncdump.specs.Shows.{dumped, ReadFailsOnly, WriteFailsOnly, ShowsOne, ShowsMarked, Shows};
+
+use crate::fault::DumpFault;
+use crate::options::DumpOptions;
+use cdl_print::{ValuePrinter, put_head};
+use nc_base::{Dim, Header, Var, has_records, records};
+use nc_file::{Sink, Source, WriteFailed, put};
+use nc_walk::{Walk, WalkFault};
+
+/// Writes the dump of a file with this header, and reads its values through the lent buffer of at least 16 bytes: the head,
+/// and behind `data:` the values of the variables that are marked in `shown`, none where the options ask for the head alone.
+///
+/// It takes no memory. A variable's opening is written before its first value is read, and no value waits for more than one
+/// buffer.
+///
+/// # Errors
+///
+/// [`DumpFault::WriteFailed`] where the sink failed, and [`DumpFault::ReadFailed`] where the source failed; and
+/// [`DumpFault::DataTruncated`] at the first value of a shown variable that isn't in the file. What was written by then is a
+/// front of the text.
+pub fn show<S: Source, W: Sink>(
+    source: &mut S,
+    header: &Header,
+    shown: &[bool],
+    options: &DumpOptions,
+    buf: &mut [u8],
+    sink: &mut W,
+) -> Result<(), DumpFault>
+    requires sound { IsSound header.now }
+    requires marks { length shown.now ≡ length header.now.vars }
+    requires width { (20 ≤ options.now.width) × (options.now.width ≤ 1000) }
+    requires room { 16 ≤ length buf.old }
+    ensures source { ReadFailsOnly (S.seen source.old) (S.seen source.new) result }
+    ensures sink { WriteFailsOnly (W.seen sink.old) (W.seen sink.new) result }
+    ensures shows { OnTrue S.told (Shows (options_of options.now) header.now (record_count header.now (length (S.seen source.old).bytes)) shown.now (length buf.old) (S.seen source.old) (S.seen source.new) (W.seen sink.old) (W.seen sink.new) result) }
+{
+    let count = records(header, source.len());
+    put_head(sink, options.name.as_slice(), header, count)?;
+    put(sink, data_word(options, header))?;
+    let marks = if options.head_only { &[] } else { shown };
+    show_marked(source, header, count, marks, options.width, buf, sink)?;
+    put(sink, b"}\n")?;
+    Ok(())
+}
+
+/// What stands before the values.
+#[tactic(auto, unfolding(nc_base::specs::Dump::data_word))]
+fn data_word(options: &DumpOptions, header: &Header) -> &'static [u8]
+    ensures { result.now ≡ data_word header.now (options_of options.now) }
+{
+    if options.head_only || header.vars.is_empty() {
+        b""
+    } else {
+        b"data:\n"
+    }
+}
+
+/// Shows the marked variables that have values, one after the other.
+fn show_marked<S: Source, W: Sink>(
+    source: &mut S,
+    header: &Header,
+    count: u64,
+    marks: &[bool],
+    width: usize,
+    buf: &mut [u8],
+    sink: &mut W,
+) -> Result<(), DumpFault>
+    requires sound { IsSound header.now }
+    requires marks { length marks.now ≤ length header.now.vars }
+    requires room { 16 ≤ length buf.old }
+    ensures source { ReadFailsOnly (S.seen source.old) (S.seen source.new) result }
+    ensures sink { WriteFailsOnly (W.seen sink.old) (W.seen sink.new) result }
+    ensures shows { OnTrue S.told (ShowsMarked (dumped header.now (S.seen source.old) count width) marks.now (length buf.old) (S.seen source.old) (S.seen source.new) (W.seen sink.old) (W.seen sink.new) result) }
+{
+    for v in 0..marks.len() {
+        if marks[v] && has_slabs(header, v, count) {
+            show_variable(source, header, v, count, width, buf, sink)?;
+        }
+    }
+    Ok(())
+}
+
+/// Says whether the variable in place `v` has a slab over so many records. A slab of a sound header has at least one value.
+fn has_slabs(header: &Header, v: usize, count: u64) -> bool
+    requires { v < length header.now.vars }
+    ensures { IfSome (slice_get header.now.vars v) (λ var. result ≡ has_slabs header.now.dims count var) }
+{
+    let dimids = header.vars.as_slice()[v].dimids.as_slice();
+    count > 0 || !has_records(header.dims.as_slice(), dimids)
+}
+
+/// Shows the variable in place `v`: its opening, its values as they are read, and its closing.
+fn show_variable<S: Source, W: Sink>(
+    source: &mut S,
+    header: &Header,
+    v: usize,
+    count: u64,
+    width: usize,
+    buf: &mut [u8],
+    sink: &mut W,
+) -> Result<(), DumpFault>
+    requires sound { IsSound header.now }
+    requires there { v < length header.now.vars }
+    requires room { 16 ≤ length buf.old }
+    ensures source { ReadFailsOnly (S.seen source.old) (S.seen source.new) result }
+    ensures sink { WriteFailsOnly (W.seen sink.old) (W.seen sink.new) result }
+    ensures shows { OnTrue S.told (IfSome (slice_get header.now.vars v) (λ var. ShowsOne (dumped header.now (S.seen source.old) count width) v var (length buf.old) (S.seen source.old) (S.seen source.new) (W.seen sink.old) (W.seen sink.new) result)) }
+{
+    let mut walk = Walk::new(header, v, count, buf);
+    let mut printer = ValuePrinter::new(header, v, count, width);
+    printer.start(sink)?;
+    loop {
+        match walk.next(source) {
+            Ok(Some(piece)) => printer.values(sink, piece)?,
+            Ok(None) => break,
+            Err(WalkFault::ReadFailed) => return Err(DumpFault::ReadFailed),
+            Err(WalkFault::DataTruncated(value)) => {
+                return Err(DumpFault::DataTruncated { var: v, value });
+            }
+        }
+    }
+    printer.finish(sink)?;
+    Ok(())
+}
