@@ -29,7 +29,7 @@ unfolding dim_text text
 joined_names-cons dims id ids rest is_last e last =
     rw e (joined-cons (dim_name dims id) (map (dim_name dims) ids) is_last (rw length-map last) ∙ simp (append_assoc, append-nil))
 
-size_some : (ty : NcType) → 0 < size_of ty
+pub size_some : (ty : NcType) → 0 < size_of ty
 size_some Byte = omega arith
 size_some Char = omega arith
 size_some Short = omega arith
@@ -46,11 +46,11 @@ count-cons size bytes some le = rw (length-drop size bytes) (div-eq-sub-div some
 numbers_from-cons : (ty : NcType) (n k : ℕ) (bytes : List ℕ) → n ≡ suc k → numbers_from ty n bytes ≡ number_of ty (take (size_of ty) bytes) ∷ numbers_from ty k (drop (size_of ty) bytes)
 numbers_from-cons ty n k bytes e = rw e refl
 
-numbers-cons : (ty : NcType) (bytes : List ℕ) → size_of ty ≤ length bytes → numbers ty bytes ≡ number_of ty (take (size_of ty) bytes) ∷ numbers ty (drop (size_of ty) bytes)
+pub numbers-cons : (ty : NcType) (bytes : List ℕ) → size_of ty ≤ length bytes → numbers ty bytes ≡ number_of ty (take (size_of ty) bytes) ∷ numbers ty (drop (size_of ty) bytes)
 unfolding numbers
 numbers-cons ty bytes le = numbers_from-cons ty (length bytes / size_of ty) (length (drop (size_of ty) bytes) / size_of ty) bytes (count-cons (size_of ty) bytes (size_some ty) le)
 
-numbers-none : (ty : NcType) (bytes : List ℕ) → length bytes < size_of ty → numbers ty bytes ≡ []
+pub numbers-none : (ty : NcType) (bytes : List ℕ) → length bytes < size_of ty → numbers ty bytes ≡ []
 unfolding numbers
 numbers-none ty bytes lt = rw (div-eq_of_lt lt) refl
 
@@ -92,3 +92,11 @@ number_values-parts ty size rest value others is_last is le front back last =
     let others_is : others ≡ drop (size_of ty) rest = rw (← is) back in
     let last_is : nat_lt (length (drop (size_of ty) rest)) (size_of ty) ≡ is_last = cc in
     rw (value_is, others_is) (number_values-cons ty rest is_last long last_is)
+
+-- the first number and the others
+pub numbers_parts : (ty : NcType) (size : ℕ) (rest value others : List ℕ) → size ≡ size_of ty → size ≤ length rest → value ≡ take size rest → others ≡ drop size rest
+    → numbers ty rest ≡ number_of ty value ∷ numbers ty others
+numbers_parts ty size rest value others is le front back =
+    let value_is : value ≡ take (size_of ty) rest = rw (← is) front in
+    let others_is : others ≡ drop (size_of ty) rest = rw (← is) back in
+    rw (value_is, others_is) (numbers-cons ty rest (omega arith))

@@ -1,3 +1,9 @@
 pub mod Begun
 pub mod Pieces
 pub mod Joined
+pub mod NumberRows
+pub mod PrintingLaws
+pub mod CharRows
+pub mod Openings
+pub mod PrinterLaws
+pub mod Showing

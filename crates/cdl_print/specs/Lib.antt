@@ -1,2 +1,5 @@
 pub mod Pieces
 pub mod Words
+pub mod Leads
+pub mod Printing
+pub mod Printer

@@ -5,16 +5,26 @@
 #![tactic(auto)]
 
 mod attribute;
+mod char_row;
 mod decimal;
 mod head;
+mod layout;
+mod lead;
 mod name;
 mod number;
+mod number_row;
+mod opening;
+mod printer;
+mod progress;
 mod string;
 mod variable;
 mod word;
 
 pub use head::put_head;
 pub use name::put_name;
+pub use printer::ValuePrinter;
 
 #[cfg(test)]
 mod tests;
+#[cfg(test)]
+mod value_tests;

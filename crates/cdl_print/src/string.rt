@@ -68,7 +68,7 @@ fn put_escaped_text<W: Sink>(sink: &mut W, bytes: &[u8]) -> Result<(), WriteFail
 }
 
 /// Writes one byte of a string, or some that stand for themselves.
-fn put_piece<W: Sink>(sink: &mut W, piece: &[u8]) -> Result<(), WriteFailed>
+pub fn put_piece<W: Sink>(sink: &mut W, piece: &[u8]) -> Result<(), WriteFailed>
     requires { IsPiece is_literal piece.now }
     ensures { Wrote (W.seen sink.old) (W.seen sink.new) (flat_map escaped_in_string piece.now) result }
 {
@@ -99,7 +99,7 @@ fn put_byte<W: Sink>(sink: &mut W, b: u8) -> Result<(), WriteFailed>
 }
 
 /// The length of what goes out next: of the front of bytes that stand for themselves, or one byte.
-fn piece_len(bytes: &[u8]) -> usize
+pub fn piece_len(bytes: &[u8]) -> usize
     ensures { result ≡ max 1 (prefix_len is_literal bytes.now) }
 {
     literal_len(bytes).max(1)

@@ -10,7 +10,7 @@ use Rattle.std.proofs.lemmas.List.{reverse-append, length-reverse, drop-append-l
 use Rattle.std.proofs.lemmas.List.Folds.{prefix_len-append}
 use Rattle.std.proofs.lemmas.List.Sums.{prefix_len-le-length}
 use Rattle.std.proofs.lemmas.Nat.{mod-mul-add}
-use Rattle.nc_base.specs.ValueText.{Look, column, number_text, is_nul, row_so_far, held, piece, pieces, opening, variable_front}
+use Rattle.nc_base.specs.ValueText.{Look, column, number_text, is_nul, row_so_far, held, piece, pieces, opening, variable_front, later_pieces}
 
 -- ---- cutting the values
 
@@ -21,10 +21,6 @@ pieces-append look before values [] ys = simp append-nil
 pieces-append look before values (x ∷ xs) ys =
     let p = piece look before values x in
     ap (λ (r : List ℕ). p ++ r) (pieces-append look (before ++ p) (values ++ x ∷ []) xs ys) ∙ simp append_assoc
-
--- the pieces of values behind a variable's first values
-abbrev pub later_pieces : Look → List ℤ → List ℤ → List ℕ
-later_pieces look xs ys = pieces look (variable_front look xs) xs ys
 
 pub front-append : (look : Look) (xs ys : List ℤ) → variable_front look (xs ++ ys) ≡ variable_front look xs ++ later_pieces look xs ys
 unfolding variable_front

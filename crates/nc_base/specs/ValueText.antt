@@ -38,11 +38,10 @@ abbrev pub is_char : NcType → Bool
 is_char Char = true
 is_char ty = false
 
--- how many values a row has: all at rank 0 and 1, and at rank 2 and up as many as the last dimension is long
-abbrev pub row_len : List Dim → Var → ℕ → ℕ
-row_len dims var records =
-    if nat_lt (length var.dimids) 2 then value_count dims var records
-    else dim_len dims (slice_index var.dimids (length var.dimids - 1))
+-- how many of all values a row has: all at rank 0 and 1, and at rank 2 and up as many as the last dimension is long
+abbrev pub row_len : List Dim → List ℕ → ℕ → ℕ
+row_len dims dimids total =
+    if nat_lt (length dimids) 2 then total else dim_len dims (slice_index dimids (length dimids - 1))
 
 -- the fill value is NUL, and the variable isn't a record variable of rank 1
 abbrev pub is_trimmed : List Dim → Var → Bool
@@ -54,7 +53,7 @@ look_of h var records width = record {
   name = var.name;
   ty = var.ty;
   in_rows = not (nat_lt (length var.dimids) 2);
-  row = row_len h.dims var records;
+  row = row_len h.dims var.dimids (value_count h.dims var records);
   total = value_count h.dims var records;
   fill = fill_value var;
   blanks = has_blanks var.ty (is_some (own_fill var));
@@ -145,6 +144,10 @@ closing look = if is_char look.ty then codes "\" ;\n" else codes " ;\n"
 -- the opening and a variable's first values
 unfoldable pub variable_front : Look → List ℤ → List ℕ
 variable_front look values = opening look ++ pieces look (opening look) [] values
+
+-- the pieces of the values ys behind those of a variable's first values xs
+abbrev pub later_pieces : Look → List ℤ → List ℤ → List ℕ
+later_pieces look xs ys = pieces look (variable_front look xs) xs ys
 
 -- a variable's values, from its opening to its closing
 unfoldable pub variable_text : Look → List ℤ → List ℕ

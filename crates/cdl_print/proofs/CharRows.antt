@@ -1,0 +1,277 @@
+-- The characters of a variable, some behind others.
+use Rattle.std.proofs.Common.{◌≡◌, ℕ, zero, suc, ℤ, pos, ◌+◌, ◌-◌, ◌%◌, ◌<◌, ◌≤◌, Bool, true, false, cond, not, ◌&&◌, ◌||◌, List, [], ◌∷◌, ◌++◌, length, map, max, take, drop, replicate, sym, ◌∙◌, ap, refl, subst, arith, append_assoc, append-nil, length-append, Result, Ok, Err}
+use Rattle.std.specs.Prelude.{◌==◌, OnOk}
+use Rattle.std.specs.List.{list_all, prefix_len}
+use Rattle.std.proofs.lemmas.Bool.{false≢true, cond-false, cond-true}
+use Rattle.std.proofs.lemmas.Bool.Decides.{nat_tests}
+use Rattle.std.proofs.lemmas.Grind.{flat_map-append}
+use Rattle.std.proofs.lemmas.List.{length-map, length-take-le, map-append, take-append-drop}
+use Rattle.std.proofs.lemmas.List.Sums.{prefix_len-le-length}
+use Rattle.nc_base.specs.Escapes.{escaped_in_string, escaped_text}
+use Rattle.nc_base.specs.ValueText.{Look, is_char, begins_row, char_lead, char_text, char_piece, held, piece, pieces, variable_front, later_pieces}
+use Rattle.nc_base.proofs.ValueLaws.{place-add, held_other, held_nul, held_first, held_untrimmed}
+use Rattle.nc_file.specs.Sinks.{SinkView, Grew, Broke, Wrote}
+use Rattle.cdl_print.specs.Pieces.{is_literal, IsPiece}
+use Rattle.cdl_print.specs.Leads.{next_char_lead}
+use Rattle.cdl_print.specs.Printing.{run_text, run_bytes, place_behind_run, IsBehindRun, IsBehind, Goes}
+use Rattle.cdl_print.specs.declared.progress.Progress.{Progress}
+use Rattle.cdl_print.proofs.Begun.{IsBegun, begun_at_first}
+use Rattle.cdl_print.proofs.Pieces.{flat_map_itself, literal_itself, front_is_piece}
+
+and_parts : (a b : Bool) → (a && b) ≡ true → (a ≡ true) × (b ≡ true)
+and_parts true b h = (refl, h)
+and_parts false b h = absurd (false≢true h)
+
+-- a byte that stands for itself is no NUL
+literal_some : (b : ℕ) → is_literal b ≡ true → (b == 0) ≡ false
+literal_some zero h = absurd (false≢true h)
+literal_some (suc b) h = grind (arith, nat_tests)
+
+escaped-append : (a b : List ℕ) → escaped_text (a ++ b) ≡ escaped_text a ++ escaped_text b
+unfolding escaped_text
+escaped-append a b = flat_map-append escaped_in_string a b
+
+escaped_itself : (run : List ℕ) → list_all is_literal run ≡ true → escaped_text run ≡ run
+unfolding escaped_text
+escaped_itself run all = flat_map_itself is_literal escaped_in_string literal_itself run all
+
+-- the text of a character behind NULs that are held
+char_text_is : (look : Look) (nuls b : ℕ) → char_text look nuls (pos b) ≡ cond (look.trimmed && (b == 0)) [] (escaped_text (replicate nuls 0) ++ escaped_text (b ∷ []))
+char_text_is look nuls b = ap (λ (t : List ℕ). cond (look.trimmed && (b == 0)) [] t) (escaped-append (replicate nuls 0) (b ∷ []))
+
+and_false : (a b : Bool) → b ≡ false → (a && b) ≡ false
+and_false true b h = h
+and_false false b h = refl
+
+-- the text of one that stands for itself
+literal_text : (look : Look) (nuls b : ℕ) → is_literal b ≡ true → char_text look nuls (pos b) ≡ escaped_text (replicate nuls 0) ++ (b ∷ [])
+literal_text look nuls b lit =
+    char_text_is look nuls b ∙ cond-false _ [] _ (and_false look.trimmed (b == 0) (literal_some b lit))
+    ∙ ap (λ (t : List ℕ). escaped_text (replicate nuls 0) ++ t) (escaped_itself (b ∷ []) (ap (λ x. x && true) lit))
+
+none_held : escaped_text (replicate 0 0) ≡ []
+unfolding escaped_text
+none_held = refl
+
+piece_is : (look : Look) (before : List ℕ) (xs : List ℤ) (x : ℤ) → is_char look.ty ≡ true
+    → piece look before xs x ≡ cond (begins_row look (length xs)) (char_lead look (length xs)) [] ++ char_text look (held look xs) x
+unfolding piece char_piece
+piece_is look before xs x is = cond-true (is_char look.ty) _ _ is
+
+-- one that stands for itself, inside its row and behind no NUL
+literal_piece : (look : Look) (before : List ℕ) (xs : List ℤ) (b : ℕ) → is_char look.ty ≡ true → is_literal b ≡ true → 0 < length xs % look.row → held look xs ≡ 0
+    → piece look before xs (pos b) ≡ b ∷ []
+literal_piece look before xs b is lit inside none =
+    let begun : begins_row look (length xs) ≡ false = grind (arith, nat_tests) in
+    piece_is look before xs (pos b) is
+    ∙ ap (λ (t : List ℕ). t ++ char_text look (held look xs) (pos b)) (cond-false _ (char_lead look (length xs)) [] begun)
+    ∙ ap (λ n. char_text look n (pos b)) none ∙ literal_text look 0 b lit ∙ ap (λ (t : List ℕ). t ++ (b ∷ [])) none_held
+
+-- the place behind one value more
+place_push : (look : Look) (xs : List ℤ) (x : ℤ) → length (xs ++ x ∷ []) % look.row ≡ cond (length xs % look.row + 1 == look.row) 0 (length xs % look.row + 1)
+place_push look xs x = ap (λ n. n % look.row) (length-append xs (x ∷ [])) ∙ place-add (length xs) 1 look.row (omega arith) (λ h. absurd (omega arith))
+
+-- the place behind one value more that isn't the last of its row
+place_inside : (look : Look) (xs : List ℤ) (x : ℤ) → length xs % look.row + 1 < look.row → length (xs ++ x ∷ []) % look.row ≡ length xs % look.row + 1
+place_inside look xs x lt =
+    let e : (length xs % look.row + 1 == look.row) ≡ false = grind (arith, nat_tests) in
+    place_push look xs x ∙ cond-false _ 0 _ e
+
+-- some that stand for themselves, in one row
+literal_pieces : (look : Look) (before : List ℕ) (xs : List ℤ) (run : List ℕ) → is_char look.ty ≡ true → list_all is_literal run ≡ true → held look xs ≡ 0
+    → (0 < length run → 0 < length xs % look.row) → (0 < length run → length xs % look.row + length run ≤ look.row)
+    → (pieces look before xs (map pos run) ≡ run) × (held look (xs ++ map pos run) ≡ 0)
+unfolding pieces
+literal_pieces look before xs [] is all none inside fits = (refl, ap (held look) (append-nil xs) ∙ none)
+literal_pieces look before xs (b ∷ run) is all none inside fits =
+    let parts = and_parts (is_literal b) (list_all is_literal run) all in
+    let first = literal_piece look before xs b is parts.0 (inside (omega arith)) none in
+    let place = λ (h : 0 < length run). place_inside look xs (pos b) (let f = fits (omega arith) in omega arith) in
+    let others = literal_pieces look (before ++ piece look before xs (pos b)) (xs ++ pos b ∷ []) run is parts.1
+    (held_other look xs (pos b) (literal_some b parts.0))
+    (λ h. omega (arith, place h)) (λ h. let f = fits (omega arith) in omega (arith, place h)) in (
+      ap (λ (t : List ℕ). t ++ pieces look (before ++ piece look before xs (pos b)) (xs ++ pos b ∷ []) (map pos run)) first ∙ ap (λ (t : List ℕ). b ∷ t) others.0,
+      ap (held look) (sym (append_assoc xs (pos b ∷ []) (map pos run))) ∙ others.1,
+    )
+
+-- ---- a run: one character, or some that stand for themselves, in one row
+
+abbrev IsInRow : Look → List ℤ → List ℕ → Type 0
+IsInRow look xs run = 1 < length run → length xs % look.row + length run ≤ look.row
+
+or_second : (a b : Bool) → (a || b) ≡ true → a ≡ false → b ≡ true
+or_second true b h none = absurd (false≢true (sym none))
+or_second false b h none = h
+
+all_literal : (b c : ℕ) (run : List ℕ) → IsPiece is_literal (b ∷ c ∷ run) → list_all is_literal (b ∷ c ∷ run) ≡ true
+all_literal b c run literal =
+    let long : (length (b ∷ c ∷ run) == 1) ≡ false = grind (arith, nat_tests) in
+    or_second _ _ literal long
+
+-- what stands before the run
+lead_is : (look : Look) (xs : List ℤ) (p : Progress) → IsBehind look xs p → next_char_lead look p ≡ cond (begins_row look (length xs)) (char_lead look (length xs)) []
+lead_is look xs p behind =
+    ap (λ n. cond (n == 0) (char_lead look p.position) []) behind.place
+    ∙ ap (λ n. cond (begins_row look (length xs)) (char_lead look n) []) behind.position
+
+one_text : (look : Look) (nuls b : ℕ) → run_text (look.trimmed && (b == 0)) nuls (b ∷ []) ≡ char_text look nuls (pos b)
+unfolding run_text
+one_text look nuls b = sym (char_text_is look nuls b)
+
+some_text : (look : Look) (nuls b c : ℕ) (run : List ℕ) → list_all is_literal (b ∷ c ∷ run) ≡ true
+    → run_text (look.trimmed && false) nuls (b ∷ c ∷ run) ≡ char_text look nuls (pos b) ++ (c ∷ run)
+unfolding run_text
+some_text look nuls b c run all =
+    let first = (and_parts (is_literal b) (list_all is_literal (c ∷ run)) all).0 in
+    cond-false _ [] _ (and_false look.trimmed false refl)
+    ∙ ap (λ (t : List ℕ). escaped_text (replicate nuls 0) ++ t) (escaped_itself (b ∷ c ∷ run) all)
+    ∙ sym (append_assoc (escaped_text (replicate nuls 0)) (b ∷ []) (c ∷ run))
+    ∙ ap (λ (t : List ℕ). t ++ (c ∷ run)) (sym (literal_text look nuls b first))
+
+-- the others of a run behind its first character
+others_are : (look : Look) (before : List ℕ) (xs : List ℤ) (b c : ℕ) (run : List ℕ) → is_char look.ty ≡ true → list_all is_literal (b ∷ c ∷ run) ≡ true → IsInRow look xs (b ∷ c ∷ run)
+    → (pieces look before (xs ++ pos b ∷ []) (map pos (c ∷ run)) ≡ c ∷ run) × (held look ((xs ++ pos b ∷ []) ++ map pos (c ∷ run)) ≡ 0)
+others_are look before xs b c run is all fits =
+    let parts = and_parts (is_literal b) (list_all is_literal (c ∷ run)) all in
+    let in_row : length xs % look.row + length (b ∷ c ∷ run) ≤ look.row = fits (omega arith) in
+    let place = place_inside look xs (pos b) (omega arith) in
+    literal_pieces look before (xs ++ pos b ∷ []) (c ∷ run) is parts.1 (held_other look xs (pos b) (literal_some b parts.0)) (λ _. omega (arith, place)) (λ _. omega (arith, place))
+
+-- the run's text is the pieces of its characters
+bytes_are : (look : Look) (xs : List ℤ) (p : Progress) (run : List ℕ) → is_char look.ty ≡ true → 0 < length run → IsPiece is_literal run → IsInRow look xs run → IsBehind look xs p
+    → run_bytes look p run ≡ later_pieces look xs (map pos run)
+unfolding pieces
+bytes_are look xs p [] is some literal fits behind = absurd (omega arith)
+bytes_are look xs p (b ∷ []) is some literal fits behind =
+    let first = piece_is look (variable_front look xs) xs (pos b) is in
+    ap (λ (t : List ℕ). t ++ run_text (look.trimmed && (b == 0)) p.held (b ∷ [])) (lead_is look xs p behind)
+    ∙ ap (λ (t : List ℕ). cond (begins_row look (length xs)) (char_lead look (length xs)) [] ++ t) (one_text look p.held b ∙ ap (λ n. char_text look n (pos b)) (behind.held is))
+    ∙ sym first ∙ sym (append-nil (piece look (variable_front look xs) xs (pos b)))
+bytes_are look xs p (b ∷ c ∷ run) is some literal fits behind =
+    let all = all_literal b c run literal in
+    let front = variable_front look xs in
+    let first = piece_is look front xs (pos b) is in
+    let others = (others_are look (front ++ piece look front xs (pos b)) xs b c run is all fits).0 in
+    let lead = cond (begins_row look (length xs)) (char_lead look (length xs)) [] in
+    ap (λ (t : List ℕ). t ++ run_text (look.trimmed && false) p.held (b ∷ c ∷ run)) (lead_is look xs p behind)
+    ∙ ap (λ (t : List ℕ). lead ++ t) (some_text look p.held b c run all ∙ ap (λ n. char_text look n (pos b) ++ (c ∷ run)) (behind.held is))
+    ∙ sym (append_assoc lead (char_text look (held look xs) (pos b)) (c ∷ run))
+    ∙ ap (λ (t : List ℕ). t ++ (c ∷ run)) (sym first)
+    ∙ ap (λ (t : List ℕ). piece look front xs (pos b) ++ t) (sym others)
+
+-- the NULs that are held behind one character
+held_one : (look : Look) (xs : List ℤ) (h b place : ℕ) → h ≡ held look xs → place ≡ cond (length xs % look.row + 1 == look.row) 0 (length xs % look.row + 1)
+    → cond ((place == 0) || not (look.trimmed && (b == 0))) 0 (h + 1) ≡ held look (xs ++ pos b ∷ [])
+held_one look xs h b place same at = by (place == 0) look.trimmed (b == 0) refl refl refl
+  where
+    here : length (xs ++ pos b ∷ []) % look.row ≡ place
+    here = place_push look xs (pos b) ∙ sym at
+
+    inside : (t : Bool) → cond t 0 (length xs % look.row + 1) ≡ place → (place == 0) ≡ false → place ≡ length xs % look.row + 1
+    inside true e none = let z : (place == 0) ≡ true = grind (arith, nat_tests) in absurd (false≢true (sym none ∙ z))
+    inside false e none = sym e
+
+    by : (first trimmed nul : Bool) → (place == 0) ≡ first → look.trimmed ≡ trimmed → (b == 0) ≡ nul → cond (first || not (trimmed && nul)) 0 (h + 1) ≡ held look (xs ++ pos b ∷ [])
+    by true trimmed nul e f k = sym (held_first look (xs ++ pos b ∷ []) (here ∙ (let z : place ≡ 0 = grind (arith, nat_tests) in z)))
+    by false false nul e f k = sym (held_untrimmed look (xs ++ pos b ∷ []) f)
+    by false true false e f k = sym (held_other look xs (pos b) k)
+    by false true true e f k =
+        let next : (length xs + 1) % look.row ≡ length xs % look.row + 1
+        = ap (λ n. n % look.row) (sym (length-append xs (pos b ∷ []))) ∙ here ∙ inside (length xs % look.row + 1 == look.row) (sym at) e in
+        ap (λ n. n + 1) same ∙ sym (held_nul look xs (pos b) f k next)
+
+or_true : (a t : Bool) → (a || not (t && false)) ≡ true
+or_true true t = refl
+or_true false true = refl
+or_true false false = refl
+
+held_next : (look : Look) (xs : List ℤ) (p q : Progress) (run : List ℕ) → is_char look.ty ≡ true → 0 < length run → IsPiece is_literal run → IsInRow look xs run → IsBehind look xs p → IsBehindRun look p run q
+    → q.held ≡ held look (xs ++ map pos run)
+held_next look xs p q [] is some literal fits behind next = absurd (omega arith)
+held_next look xs p q (b ∷ []) is some literal fits behind next =
+    next.held ∙ held_one look xs p.held b (place_behind_run look p (b ∷ [])) (behind.held is) (ap (λ n. cond (n + 1 == look.row) 0 (n + 1)) behind.place)
+held_next look xs p q (b ∷ c ∷ run) is some literal fits behind next =
+    next.held ∙ cond-true _ 0 _ (or_true (place_behind_run look p (b ∷ c ∷ run) == 0) look.trimmed)
+    ∙ sym (ap (held look) (sym (append_assoc xs (pos b ∷ []) (map pos (c ∷ run)))) ∙ (others_are look [] xs b c run is (all_literal b c run literal) fits).1)
+
+place_next : (look : Look) (xs : List ℤ) (p q : Progress) (run : List ℕ) → 0 < length run → IsInRow look xs run → IsBehind look xs p → IsBehindRun look p run q → q.place ≡ length (xs ++ map pos run) % look.row
+place_next look xs p q run some fits behind next =
+    next.place ∙ ap (λ n. cond (n + length run == look.row) 0 (n + length run)) behind.place
+    ∙ sym (place-add (length xs) (length run) look.row some fits)
+    ∙ ap (λ n. n % look.row) (sym (length-append xs (map pos run) ∙ ap (λ n. length xs + n) (length-map run pos)))
+
+behind_next : (look : Look) (xs : List ℤ) (p q : Progress) (run : List ℕ) → is_char look.ty ≡ true → 0 < length run → IsPiece is_literal run → IsInRow look xs run → IsBehind look xs p → IsBehindRun look p run q
+    → IsBehind look (xs ++ map pos run) q
+behind_next look xs p q run is some literal fits behind next = record {
+  position = omega (arith, next.position, behind.position, length-append xs (map pos run), length-map run pos);
+  place = place_next look xs p q run some fits behind next;
+  room = λ n. absurd (false≢true (sym n ∙ is));
+  held = λ _. held_next look xs p q run is some literal fits behind next;
+}
+
+in_row_at : (look : Look) (xs : List ℤ) (p : Progress) (run : List ℕ) → IsBehind look xs p → (1 < length run → p.place + length run ≤ look.row) → IsInRow look xs run
+in_row_at look xs p run behind fits = λ long. let f = fits long in omega (arith, behind.place)
+
+-- a run is printed, or the sink failed inside of its text
+pub goes_run : {X E : Type 0} (look : Look) (run : List ℕ) (p q : Progress) (old new : SinkView) (r : Result X E) → is_char look.ty ≡ true → 0 < length run → IsPiece is_literal run
+    → (1 < length run → p.place + length run ≤ look.row) → Wrote old new (run_bytes look p run) r → OnOk r (IsBehindRun look p run q) → Goes look (map pos run) p q old new r
+goes_run look run p q old new (Ok done) is some literal fits wrote next = record {
+  position = omega (arith, next.position, length-map run pos);
+  failures = wrote.failures;
+  behind = λ xs behind. behind_next look xs p q run is some literal (in_row_at look xs p run behind fits) behind next;
+  grew = λ xs behind. subst (Grew old new) (bytes_are look xs p run is some literal (in_row_at look xs p run behind fits) behind) wrote;
+}
+goes_run look run p q old new (Err failure) is some literal fits wrote next = record {
+  failures = wrote.failures;
+  broke = λ xs behind. subst (Broke old new) (bytes_are look xs p run is some literal (in_row_at look xs p run behind fits) behind) wrote;
+}
+
+-- ---- NULs
+
+one_nul : escaped_text (0 ∷ []) ≡ 92 ∷ 48 ∷ 48 ∷ 48 ∷ []
+unfolding escaped_text
+one_nul = refl
+
+-- the first of some NULs, and the others
+pub nuls_parts : (n k : ℕ) → k < n → escaped_text (replicate (n - k) 0) ≡ (92 ∷ 48 ∷ 48 ∷ 48 ∷ []) ++ escaped_text (replicate (n - (k + 1)) 0)
+nuls_parts n k h = ap (λ m. escaped_text (replicate m 0)) (let e : n - k ≡ suc (n - (k + 1)) = omega arith in e) ∙ escaped-append (0 ∷ []) (replicate (n - (k + 1)) 0) ∙ ap (λ (t : List ℕ). t ++ escaped_text (replicate (n - (k + 1)) 0)) one_nul
+
+pub nuls_none : (n : ℕ) → escaped_text (replicate (n - n) 0) ≡ []
+nuls_none n = ap (λ m. escaped_text (replicate m 0)) (let e : n - n ≡ 0 = omega arith in e) ∙ none_held
+
+pub nuls_first : (s : SinkView) (n : ℕ) → IsBegun s s (escaped_text (replicate (n - 0) 0)) (escaped_text (replicate n 0))
+nuls_first s n = subst (λ m. IsBegun s s (escaped_text (replicate m 0)) (escaped_text (replicate n 0))) (let e : n ≡ n - 0 = omega arith in e) (begun_at_first s (escaped_text (replicate n 0)))
+
+-- ---- the length of a run
+
+take_take : (n k : ℕ) (xs : List ℕ) → n ≤ k → take n (take k xs) ≡ take n xs
+take_take zero k xs le = refl
+take_take (suc n) zero xs le = absurd (omega arith)
+take_take (suc n) (suc k) [] le = refl
+take_take (suc n) (suc k) (x ∷ xs) le = ap (λ (ys : List ℕ). x ∷ ys) (take_take n k xs (omega arith))
+
+first_alone : (xs : List ℕ) → 0 < length xs → IsPiece is_literal (take 1 xs)
+first_alone [] some = absurd (omega arith)
+first_alone (x ∷ xs) some = refl
+
+-- what goes out next, by how many bytes are left in the row
+pub run_is : (n k row place : ℕ) (bytes : List ℕ) → 0 < length bytes → k ≤ length bytes → k ≤ row - place → n ≡ max 1 (prefix_len is_literal (take k bytes))
+    → (n ≤ length bytes) × IsPiece is_literal (take n bytes) × (1 < n → place + n ≤ row)
+run_is n zero row place bytes some within fits is =
+    let one : n ≡ 1 = is in
+    (omega arith, subst (λ m. IsPiece is_literal (take m bytes)) (sym one) (first_alone bytes some), λ h. absurd (omega arith))
+run_is n (suc k) row place bytes some within fits is =
+    let front = take (suc k) bytes in
+    let len : length front ≡ suc k = length-take-le (suc k) bytes within in
+    let le : n ≤ suc k = omega (arith, prefix_len-le-length is_literal front) in
+    let piece : IsPiece is_literal (take n front) = subst (λ m. IsPiece is_literal (take m front)) (sym is) (front_is_piece is_literal front (omega arith)) in
+    (omega arith, subst (IsPiece is_literal) (take_take n (suc k) bytes le) piece, λ h. omega arith)
+
+-- ---- the loop over characters
+
+pub chars_parts : (n : ℕ) (rest front back : List ℕ) → front ≡ take n rest → back ≡ drop n rest → map pos rest ≡ map pos front ++ map pos back
+chars_parts n rest front back f b = ap (map pos) (sym (take-append-drop n rest) ∙ ap (λ (x : List ℕ). x ++ drop n rest) (sym f) ∙ ap (λ (x : List ℕ). front ++ x) (sym b)) ∙ map-append pos front back
+
+-- no more characters are to come than the variable has
+pub chars_room : (rest bytes : List ℕ) (m n : ℕ) → m + length (map pos rest) ≡ n + length (map pos bytes) → m + length rest ≡ n + length bytes
+chars_room rest bytes m n e = omega (arith, e, length-map rest pos, length-map bytes pos)

@@ -1,0 +1,109 @@
+-- The numbers of a variable, one behind another.
+use Rattle.std.proofs.Common.{◌≡◌, ℕ, ℤ, ◌+◌, ◌-◌, ◌%◌, ◌<◌, ◌≤◌, Bool, true, false, cond, List, [], ◌∷◌, ◌++◌, length, sym, ◌∙◌, ap, refl, subst, arith, append_assoc, length-append, ⊎_elim, nat_lt, Result, Ok, Err}
+use Rattle.std.specs.Prelude.{codes, ◌==◌, OnOk}
+use Rattle.std.proofs.lemmas.Bool.{false≢true, cases_lt, cond-false, lt-ltb}
+use Rattle.std.proofs.lemmas.Bool.Decides.{nat_tests}
+use Rattle.nc_base.specs.ValueText.{Look, is_char, begins_row, column, number_text, number_lead, separator, number_piece, piece, variable_front, later_pieces}
+use Rattle.nc_base.proofs.ValueLaws.{front-append, later_one, column-flat, column-broken, column_comma, number_flat, place-add}
+use Rattle.nc_file.specs.Sinks.{SinkView, Grew, Broke, Wrote}
+use Rattle.cdl_print.specs.Leads.{lead_bytes, next_lead, separator_at, room_behind}
+use Rattle.cdl_print.specs.Printing.{number_bytes, IsBehindNumber, IsBehind, Goes}
+use Rattle.cdl_print.specs.declared.lead.Lead.{Lead}
+use Rattle.cdl_print.specs.declared.lead.Lead.TheVariants.{Space, FirstRow, NextRow, Comma, Break}
+use Rattle.cdl_print.specs.declared.progress.Progress.{Progress}
+
+-- the text that a call put together
+pub number_bytes_is : (look : Look) (p : Progress) (value : ℤ) (lead : Lead) (bytes text : List ℕ) (len : ℕ)
+    → bytes ≡ lead_bytes lead → lead ≡ next_lead look p len → len ≡ length text → text ≡ number_text look value → bytes ++ text ≡ number_bytes look p value
+number_bytes_is look p value lead bytes text len b l n t =
+    let whole : len ≡ length (number_text look value) = n ∙ ap length t in
+    ap (λ (x : List ℕ). x ++ text) (b ∙ ap lead_bytes l ∙ ap (λ k. lead_bytes (next_lead look p k)) whole) ∙ ap (λ (x : List ℕ). lead_bytes (next_lead look p (length (number_text look value))) ++ x) t
+
+-- a line that is full, by its room and by its columns
+room_test : (width col len : ℕ) → nat_lt (width - col) (len + 4) ≡ nat_lt width (col + 2 + len + 2)
+room_test width col len =
+    ⊎_elim
+    (λ (h : width < col + 2 + len + 2). let a : nat_lt (width - col) (len + 4) ≡ true = lt-ltb _ _ (omega arith) in a ∙ sym (lt-ltb _ _ h))
+    (λ (h : col + 2 + len + 2 ≤ width). not_less (width - col) (len + 4) (omega arith) ∙ sym (not_less _ _ h))
+    (cases_lt width (col + 2 + len + 2))
+  where
+    not_less : (a b : ℕ) → b ≤ a → nat_lt a b ≡ false
+    not_less a b h = grind (arith, nat_tests)
+
+separator_is : (look : Look) (before : List ℕ) (room len : ℕ) → room ≡ look.width - column before → lead_bytes (separator_at room len) ≡ separator look before len
+separator_is look before room len e =
+    both (nat_lt room (len + 4))
+    ∙ ap (λ (b : Bool). cond b (codes ", \n    ") (codes ", "))
+    (ap (λ r. nat_lt r (len + 4)) e ∙ room_test look.width (column before) len ∙ ap (λ c. nat_lt look.width (c + len + 2)) (sym (column_comma before)))
+  where
+    both : (b : Bool) → lead_bytes (cond b Break Comma) ≡ cond b (codes ", \n    ") (codes ", ")
+    both true = refl
+    both false = refl
+
+-- the lead is what stands before the number
+lead_is : (look : Look) (before : List ℕ) (p : Progress) (len : ℕ) → p.room ≡ look.width - column before
+    → lead_bytes (next_lead look p len) ≡ cond (p.place == 0) (number_lead look p.position) (separator look before len)
+lead_is look before p len e = by (p.place == 0)
+  where
+    rows : (b c : Bool) → lead_bytes (cond b (cond c FirstRow NextRow) Space) ≡ cond b (cond c (codes "\n  ") (codes ",\n  ")) (codes " ")
+    rows true true = refl
+    rows true false = refl
+    rows false c = refl
+
+    by : (b : Bool) → lead_bytes (cond b (cond look.in_rows (cond (p.position == 0) FirstRow NextRow) Space) (separator_at p.room len)) ≡ cond b (number_lead look p.position) (separator look before len)
+    by true = rows look.in_rows (p.position == 0)
+    by false = separator_is look before p.room len e
+
+-- the room behind a lead
+room_is : (lead : Lead) (before : List ℕ) (room width : ℕ) → room ≡ width - column before → room_behind lead room width ≡ width - column (before ++ lead_bytes lead)
+room_is Space before room width e = let c = column-flat before (codes " ") refl in omega (arith, e, c)
+room_is FirstRow before room width e = let c = column-broken before (codes "\n  ") (omega arith) in omega (arith, c)
+room_is NextRow before room width e = let c = column-broken before (codes ",\n  ") (omega arith) in omega (arith, c)
+room_is Comma before room width e = let c = column-flat before (codes ", ") refl in omega (arith, e, c)
+room_is Break before room width e = let c = column-broken before (codes ", \n    ") (omega arith) in omega (arith, c)
+
+-- the next number's text is the next value's piece
+bytes_are : (look : Look) (xs : List ℤ) (p : Progress) (x : ℤ) → is_char look.ty ≡ false → IsBehind look xs p → number_bytes look p x ≡ later_pieces look xs (x ∷ [])
+unfolding piece number_piece
+bytes_are look xs p x is behind =
+    let front = variable_front look xs in
+    let lead = lead_is look front p (length (number_text look x)) (behind.room is) in
+    let place = ap (λ n. cond (n == 0) (number_lead look p.position) (separator look front (length (number_text look x)))) behind.place in
+    let position = ap (λ n. cond (begins_row look (length xs)) (number_lead look n) (separator look front (length (number_text look x)))) behind.position in
+    ap (λ (t : List ℕ). t ++ number_text look x) (lead ∙ place ∙ position) ∙ sym (later_one look xs x ∙ cond-false (is_char look.ty) _ _ is)
+
+room_next : (look : Look) (xs : List ℤ) (p q : Progress) (x : ℤ) → is_char look.ty ≡ false → IsBehind look xs p → IsBehindNumber look p x q
+    → q.room ≡ look.width - column (variable_front look (xs ++ x ∷ []))
+room_next look xs p q x is behind next =
+    let front = variable_front look xs in
+    let text = number_text look x in
+    let lead = next_lead look p (length text) in
+    let whole : variable_front look (xs ++ x ∷ []) ≡ (front ++ lead_bytes lead) ++ text
+    = front-append look xs (x ∷ []) ∙ ap (λ (t : List ℕ). front ++ t) (sym (bytes_are look xs p x is behind)) ∙ sym (append_assoc front (lead_bytes lead) text) in
+    let col = ap column whole ∙ column-flat (front ++ lead_bytes lead) text (number_flat look x) in
+    let room = room_is lead front p.room look.width (behind.room is) in
+    omega (arith, col, room, next.room)
+
+behind_next : (look : Look) (xs : List ℤ) (p q : Progress) (x : ℤ) → is_char look.ty ≡ false → IsBehind look xs p → IsBehindNumber look p x q → IsBehind look (xs ++ x ∷ []) q
+behind_next look xs p q x is behind next =
+    let n = length-append xs (x ∷ []) in
+    record {
+      position = omega (arith, next.position, behind.position, n);
+      place = next.place ∙ ap (λ m. cond (m + 1 == look.row) 0 (m + 1)) behind.place ∙ sym (place-add (length xs) 1 look.row (omega arith) (λ h. absurd (omega arith))) ∙ ap (λ m. m % look.row) (sym n);
+      room = λ _. room_next look xs p q x is behind next;
+      held = λ c. absurd (false≢true (sym is ∙ c));
+    }
+
+-- a number is printed, or the sink failed inside of its text
+pub goes_number : {X E : Type 0} (look : Look) (x : ℤ) (p q : Progress) (old new : SinkView) (r : Result X E) → is_char look.ty ≡ false
+    → Wrote old new (number_bytes look p x) r → OnOk r (IsBehindNumber look p x q) → Goes look (x ∷ []) p q old new r
+goes_number look x p q old new (Ok done) is wrote next = record {
+  position = next.position;
+  failures = wrote.failures;
+  behind = λ xs behind. behind_next look xs p q x is behind next;
+  grew = λ xs behind. subst (Grew old new) (bytes_are look xs p x is behind) wrote;
+}
+goes_number look x p q old new (Err failure) is wrote next = record {
+  failures = wrote.failures;
+  broke = λ xs behind. subst (Broke old new) (bytes_are look xs p x is behind) wrote;
+}

@@ -1,0 +1,10 @@
+use Rattle.std.proofs.Common.{length, map, pos}
+use Rattle.cdl_print.specs.Leads.{look_at}
+use Rattle.cdl_print.proofs.PrintingLaws.{IsUnderway}
+use Rattle.cdl_print.proofs.char_row.put_char_values.Given as goal
+
+abbrev pub invariant-loop-rest : goal.invariant-loop-rest
+invariant-loop-rest g l = IsUnderway (look_at l.layout) l.fn.progress l.progress (g.W.Sink.seen l.fn.sink) (g.W.Sink.seen l.sink) (map pos l.rest) (map pos l.bytes)
+
+abbrev pub decreases-loop-rest : goal.decreases-loop-rest
+decreases-loop-rest g l = length l.rest

@@ -1,0 +1,7 @@
+use Rattle.std.proofs.Common.{◌-◌, replicate}
+use Rattle.nc_base.specs.Escapes.{escaped_text}
+use Rattle.cdl_print.proofs.Begun.{IsBegun}
+use Rattle.cdl_print.proofs.char_row.put_nuls.Given as goal
+
+abbrev pub invariant-loop : goal.invariant-loop
+invariant-loop g l = IsBegun (g.W.Sink.seen l.fn.sink) (g.W.Sink.seen l.sink) (escaped_text (replicate (l.count - l.counter) 0)) (escaped_text (replicate l.count 0))

@@ -1,0 +1,64 @@
+-- What the printer of a variable's values has done, in words for its callers.
+use Rattle.std.specs.Bool.{OnTrue}
+use Rattle.std.specs.Prelude.{ℕ, ◌≡◌, ◌+◌, ◌*◌, ◌≤◌, ℤ, Bool, true, false, List, ◌++◌, length, Result, Ok, Err}
+use Rattle.nc_base.specs.Numbers.{numbers}
+use Rattle.nc_base.specs.Types.{size_of}
+use Rattle.nc_base.specs.ValueText.{Look, variable_front, later_pieces}
+use Rattle.nc_file.specs.Sinks.{SinkView, append, count, told, Grew, Broke, HasFailed}
+use Rattle.cdl_print.specs.Leads.{look_at}
+use Rattle.cdl_print.specs.Printing.{IsBehind}
+use Rattle.cdl_print.specs.declared.printer.ValuePrinter.{ValuePrinter}
+
+-- the look of the printer's variable
+abbrev pub look_in : ValuePrinter → Look
+look_in printer = look_at printer.layout
+
+-- how many values it has printed
+abbrev pub position_of : ValuePrinter → ℕ
+position_of printer = printer.progress.position
+
+-- a write of it has failed
+abbrev pub has_failed : ValuePrinter → Bool
+has_failed printer = printer.has_failed
+
+-- the bytes are whole values, and no more than the variable has beside those printed
+pub record Takes (printer : ValuePrinter) (bytes : List ℕ) : Type 0 where
+  pub whole : length bytes ≡ length (numbers (look_in printer).ty bytes) * size_of (look_in printer).ty
+  pub room : position_of printer + length (numbers (look_in printer).ty bytes) ≤ (look_in printer).total
+
+-- the printer of a variable of this look has printed the values xs, and no write of it has failed
+pub record Stands (look : Look) (xs : List ℤ) (printer : ValuePrinter) : Type 0 where
+  pub same_look : look_in printer ≡ look
+  pub behind : IsBehind look xs printer.progress
+  pub unfailed : has_failed printer ≡ false
+
+-- it has printed the values ys more, whichever stand before them
+pub record Printed (ys : List ℤ) (p q : ValuePrinter) (old new : SinkView) : Type 0 where
+  pub same_look : look_in q ≡ look_in p
+  pub position : position_of q ≡ position_of p + length ys
+  pub unfailed : has_failed q ≡ false
+  pub failures : new.failures ≡ old.failures
+  pub stands : (look : Look) (xs : List ℤ) → Stands look xs p → Stands look (xs ++ ys) q
+  pub grew : (look : Look) (xs : List ℤ) → Stands look xs p → Grew old new (later_pieces look xs ys)
+
+-- a write has failed inside the text of the values ys, or one had failed before
+pub record Stopped (ys : List ℤ) (p q : ValuePrinter) (old new : SinkView) : Type 0 where
+  pub failed : has_failed q ≡ true
+  pub failures : has_failed p ≡ false → HasFailed old.failures new
+  pub broke : (look : Look) (xs : List ℤ) → Stands look xs p → Broke old new (later_pieces look xs ys)
+
+-- what a call that prints the values ys has done
+abbrev pub Prints : {X E : Type 0} → List ℤ → ValuePrinter → ValuePrinter → SinkView → SinkView → Result X E → Type 0
+Prints ys p q old new (Ok done) = Printed ys p q old new
+Prints ys p q old new (Err failure) = Stopped ys p q old new
+
+-- the sink has taken the front of a variable's text up to the values xs, behind what it had taken at base
+pub record Shown (look : Look) (xs : List ℤ) (printer : ValuePrinter) (base now : SinkView) : Type 0 where
+  pub stands : Stands look xs printer
+  pub grew : Grew base now (variable_front look xs)
+
+-- The sink has failed: behind what it had taken at base it has taken some of the whole text of the values xs and ys, and
+-- no less than the front up to the values xs.
+pub record ShownInPart (look : Look) (xs ys : List ℤ) (base now : SinkView) : Type 0 where
+  pub broke : Broke base now (variable_front look (xs ++ ys))
+  pub no_less : OnTrue (told base) (count (append base (variable_front look xs)) ≤ count now)

@@ -1,0 +1,136 @@
+//! The characters of a variable as CDL writes them.
+
+ghost use Rattle.std.specs.Prelude.{◌≡◌, ◌+◌, ◌<◌, ◌≤◌, ◌==◌, ◌||◌, ◌&&◌, ◌^◌, true, not, pos, map, length, take, replicate, if◌then◌else◌, OnOk};
+ghost use Rattle.nc_base.specs.Escapes.{escaped_text};
+ghost use Rattle.nc_base.specs.ValueText.{is_char};
+ghost use Rattle.nc_file.specs.Sinks.{Wrote};
+ghost use Rattle.cdl_print.specs.Leads.{look_at};
+ghost use Rattle.cdl_print.specs.Pieces.{is_literal, IsPiece};
+ghost use Rattle.cdl_print.specs.Printing.{is_one_nul, run_bytes, run_text, Goes, IsBehindRun};
+
+use crate::layout::Layout;
+use crate::progress::{Progress, place_behind};
+use crate::string::{piece_len, put_piece};
+use nc_file::{Sink, WriteFailed, put};
+
+/// Writes characters of a variable, each with what stands before it.
+pub fn put_char_values<W: Sink>(
+    sink: &mut W,
+    layout: &Layout<'_>,
+    progress: &mut Progress,
+    bytes: &[u8],
+) -> Result<(), WriteFailed>
+    requires character { is_char layout.now.ty ≡ true }
+    requires room { progress.old.position + length bytes.now ≤ layout.now.total }
+    ensures { Goes (look_at layout.now) (map pos bytes.now) progress.old progress.new (W.seen sink.old) (W.seen sink.new) result }
+{
+    let mut rest = bytes;
+    while !rest.is_empty() {
+        let (run, others) = rest.split_at(run_len(layout.row, progress.place, rest));
+        put_next_run(sink, layout, progress, run)?;
+        rest = others;
+    }
+    Ok(())
+}
+
+/// The length of what goes out next, from this place of a row on: of the front of bytes that stand for themselves, up to
+/// the row's end, or one byte.
+fn run_len(row: u128, place: u128, bytes: &[u8]) -> usize
+    requires { 0 < length bytes.now }
+    ensures some { 0 < result }
+    ensures within { result ≤ length bytes.now }
+    ensures piece { IsPiece is_literal (take result bytes.now) }
+    ensures in_row { 1 < result → place + result ≤ row }
+{
+    let in_row = row.saturating_sub(place).min(bytes.len() as u128) as usize;
+    piece_len(&bytes[..in_row])
+}
+
+/// Writes the next characters and goes on behind them.
+fn put_next_run<W: Sink>(
+    sink: &mut W,
+    layout: &Layout<'_>,
+    progress: &mut Progress,
+    run: &[u8],
+) -> Result<(), WriteFailed>
+    requires character { is_char layout.now.ty ≡ true }
+    requires room { progress.old.position + length run.now ≤ layout.now.total }
+    requires some { 0 < length run.now }
+    requires piece { IsPiece is_literal run.now }
+    requires in_row { 1 < length run.now → progress.old.place + length run.now ≤ layout.now.row }
+    ensures { Goes (look_at layout.now) (map pos run.now) progress.old progress.new (W.seen sink.old) (W.seen sink.new) result }
+{
+    put_run(sink, layout, progress, run)
+}
+
+/// Writes the next characters with what stands before them.
+#[tactic(auto, using(nc_file::proofs::Writes::writes))]
+fn put_run<W: Sink>(
+    sink: &mut W,
+    layout: &Layout<'_>,
+    progress: &mut Progress,
+    run: &[u8],
+) -> Result<(), WriteFailed>
+    requires room { progress.old.position + length run.now ≤ layout.now.total }
+    requires some { 0 < length run.now }
+    requires piece { IsPiece is_literal run.now }
+    ensures wrote { Wrote (W.seen sink.old) (W.seen sink.new) (run_bytes (look_at layout.now) progress.old run.now) result }
+    ensures behind { OnOk result (IsBehindRun (look_at layout.now) progress.old run.now progress.new) }
+{
+    let waits = layout.trimmed && is_one_nul(run);
+    put(sink, layout.char_lead(progress))?;
+    put_run_text(sink, waits, progress.held, run)?;
+    let count = run.len() as u128;
+    let place = place_behind(layout.row, progress.place, count);
+    *progress = Progress {
+        position: progress.position + count,
+        place,
+        room: progress.room,
+        held: held_behind(progress.held, place, waits),
+    };
+    Ok(())
+}
+
+/// How many NULs are held back at this place, where so many were before and the last character waits or not.
+fn held_behind(held: u128, place: u128, waits: bool) -> u128
+    requires { held + 1 < 2 ^ 128 }
+    ensures held { result ≡ (if (place == 0) || not waits then 0 else held + 1) }
+    ensures few { result ≤ held + 1 }
+{
+    if place == 0 || !waits { 0 } else { held + 1 }
+}
+
+/// Writes characters behind so many NULs that were held back: nothing, where they wait too.
+#[tactic(auto, using(nc_file::proofs::Writes::writes), unfolding(crate::specs::Printing::run_text, nc_base::specs::Escapes::escaped_text))]
+fn put_run_text<W: Sink>(
+    sink: &mut W,
+    waits: bool,
+    held: u128,
+    run: &[u8],
+) -> Result<(), WriteFailed>
+    requires { IsPiece is_literal run.now }
+    ensures { Wrote (W.seen sink.old) (W.seen sink.new) (run_text waits held run.now) result }
+{
+    if waits {
+        return Ok(());
+    }
+    put_nuls(sink, held)?;
+    put_piece(sink, run)
+}
+
+/// Says whether this is a single NUL.
+fn is_one_nul(run: &[u8]) -> bool
+    ensures { result ≡ is_one_nul run.now }
+{
+    matches!(run, [0])
+}
+
+/// Writes so many NULs.
+fn put_nuls<W: Sink>(sink: &mut W, count: u128) -> Result<(), WriteFailed>
+    ensures { Wrote (W.seen sink.old) (W.seen sink.new) (escaped_text (replicate count 0)) result }
+{
+    for _ in 0..count {
+        put(sink, b"\\000")?;
+    }
+    Ok(())
+}

@@ -1,0 +1,156 @@
+//! What the text of a variable's values depends on.
+
+ghost use Rattle.std.specs.Prelude.{ℕ, ◌≡◌, ◌<◌, ◌≤◌, ◌&&◌, ◌==◌, IfSome, IsTrue, if◌then◌else◌, length, slice_get};
+ghost use Rattle.nc_base.specs.Headers.{IsSound, value_count};
+ghost use Rattle.nc_base.specs.Sizes.{is_record_var};
+ghost use Rattle.nc_base.specs.ValueText.{closing, is_char, is_trimmed, look_of, number_text, row_len};
+ghost use Rattle.cdl_print.specs.Leads.{look_at, next_char_lead, next_lead, separator_at};
+
+use crate::lead::Lead;
+use crate::progress::Progress;
+use itoa::Buffer;
+use nc_base::{Dim, Header, NcType, Var, dim_len, fill_of, has_blanks, has_records, value_count};
+
+/// All that the text of a variable's values depends on, but for the values.
+#[derive(Clone, Copy)]
+pub struct Layout<'a> {
+    /// The variable's name, without escapes.
+    pub name: &'a [u8],
+    /// The type of its values.
+    pub ty: NcType,
+    /// The rank is 2 or more.
+    pub in_rows: bool,
+    /// How many values a row has.
+    pub row: u128,
+    /// How many values there are.
+    pub total: u128,
+    /// The fill value.
+    pub fill: i128,
+    /// A value that equals the fill value prints as `_`.
+    pub blanks: bool,
+    /// The NULs at the end of a row of characters aren't printed.
+    pub trimmed: bool,
+    /// The greatest length of a line of numbers.
+    pub width: usize,
+}
+
+/// The layout of the variable in place `v` over so many records, in lines of this width.
+pub fn layout_of(header: &Header, v: usize, records: u64, width: usize) -> Layout<'_>
+    requires sound { IsSound header.now }
+    requires there { v < length header.now.vars }
+    ensures { IfSome (slice_get header.now.vars v) (λ var. look_at result ≡ look_of header.now var records width) }
+{
+    let var = &header.vars.as_slice()[v];
+    layout_of_var(header, var, value_count(header, v, records), width)
+}
+
+/// The layout of a variable with so many values, in lines of this width.
+#[tactic(auto, unfolding(nc_base::specs::ValueText::look_of))]
+fn layout_of_var<'a>(header: &'a Header, var: &'a Var, total: u128, width: usize) -> Layout<'a>
+    ensures { (records : ℕ) → total ≡ value_count header.now.dims var.now records → look_at result ≡ look_of header.now var.now records width }
+{
+    let dims = header.dims.as_slice();
+    Layout {
+        name: var.name.as_slice(),
+        ty: var.ty,
+        in_rows: var.dimids.len() >= 2,
+        row: row_len(dims, var.dimids.as_slice(), total),
+        total,
+        fill: fill_of(var),
+        blanks: has_blanks(var),
+        trimmed: is_trimmed(dims, var),
+        width,
+    }
+}
+
+/// How many values a row has: all of them at rank 0 and 1, and else as many as the last dimension is long.
+fn row_len(dims: &[Dim], dimids: &[u64], total: u128) -> u128
+    ensures { result ≡ row_len dims.now dimids.now total }
+{
+    match dimids {
+        [] | [_] => total,
+        [.., last] => dim_len(dims, *last) as u128,
+    }
+}
+
+/// Says whether the NULs at the end of a row of characters aren't printed: the fill value is NUL, and the variable isn't
+/// a record variable of rank 1.
+fn is_trimmed(dims: &[Dim], var: &Var) -> bool
+    ensures { result ≡ is_trimmed dims.now var.now }
+{
+    let dimids = var.dimids.as_slice();
+    fill_of(var) == 0 && !(has_records(dims, dimids) && dimids.len() == 1)
+}
+
+impl Layout<'_> {
+    /// Says whether the values are characters.
+    pub fn is_char(&self) -> bool
+        ensures { result ≡ is_char self.now.ty }
+    {
+        matches!(self.ty, NcType::Char)
+    }
+
+    /// What stands behind the values.
+    #[tactic(auto, unfolding(nc_base::specs::ValueText::closing))]
+    pub fn closing(&self) -> &'static [u8]
+        ensures { result.now ≡ closing (look_at self.now) }
+    {
+        if self.is_char() { b"\" ;\n" } else { b" ;\n" }
+    }
+
+    /// A number in decimal, or `_` for a blank.
+    pub fn number_text<'b>(&self, value: i128, digits: &'b mut Buffer) -> &'b [u8]
+        ensures text { result.now ≡ number_text (look_at self.now) value }
+        ensures short { length result.now ≤ 40 }
+    {
+        if self.blanks && value == self.fill {
+            b"_"
+        } else {
+            digits.format(value).as_bytes()
+        }
+    }
+
+    /// What stands before the next number, whose text has `len` bytes.
+    pub fn number_lead(&self, progress: &Progress, len: usize) -> Lead
+        requires { len ≤ 40 }
+        ensures { result ≡ next_lead (look_at self.now) progress.now len }
+    {
+        if progress.place != 0 {
+            separator(progress.room, len)
+        } else if !self.in_rows {
+            Lead::Space
+        } else if progress.position == 0 {
+            Lead::FirstRow
+        } else {
+            Lead::NextRow
+        }
+    }
+
+    /// What stands before the next character.
+    pub fn char_lead(&self, progress: &Progress) -> &'static [u8]
+        ensures { result.now ≡ next_char_lead (look_at self.now) progress.now }
+    {
+        if progress.place != 0 {
+            b""
+        } else if !self.in_rows {
+            b" \""
+        } else if progress.position == 0 {
+            b"\n  \""
+        } else {
+            b"\",\n  \""
+        }
+    }
+}
+
+/// What stands between two numbers of a row, where the line may have this many bytes more and the second number has `len`.
+/// A comma and a space stand before the number, and a comma or ` ;` behind it.
+fn separator(room: usize, len: usize) -> Lead
+    requires { len ≤ 40 }
+    ensures { result ≡ separator_at room len }
+{
+    if room < len + 4 {
+        Lead::Break
+    } else {
+        Lead::Comma
+    }
+}

@@ -1,0 +1,158 @@
+//! The printer of a variable's values.
+
+ghost use Rattle.std.specs.Prelude.{◌≡◌, ◌↔◌, ◌+◌, ◌<◌, ◌≤◌, [], true, false, length, slice_get, IfSome, IsErr, IsTrue, OnOk, OnErr};
+ghost use Rattle.nc_base.specs.Headers.{IsSound};
+ghost use Rattle.nc_base.specs.Numbers.{numbers};
+ghost use Rattle.nc_base.specs.ValueText.{look_of, opening, closing};
+ghost use Rattle.nc_file.specs.Sinks.{Wrote};
+ghost use Rattle.cdl_print.specs.Leads.{look_at};
+ghost use Rattle.cdl_print.specs.Printing.{Goes};
+ghost use Rattle.cdl_print.specs.Printer.{look_in, position_of, has_failed, Stands, Takes, Prints};
+
+use crate::char_row::put_char_values;
+use crate::layout::{Layout, layout_of};
+use crate::number_row::put_number_values;
+use crate::opening::{put_opening, room_behind_opening};
+use crate::progress::Progress;
+use nc_base::Header;
+use nc_file::{Sink, WriteFailed, put};
+
+/// Prints the values of one variable.
+///
+/// [`start`](ValuePrinter::start) writes what stands before the values, [`values`](ValuePrinter::values) writes them, in
+/// as many calls as they come in, and [`finish`](ValuePrinter::finish) what stands behind them. The text is that of
+/// ncdump(1), however the values are cut into calls. The printer keeps none of it, and takes no memory.
+///
+/// After a failed write each later call fails too, and writes nothing.
+#[derive(Drop)]
+pub struct ValuePrinter<'a> {
+    layout: Layout<'a>,
+    progress: Progress,
+    has_failed: bool,
+}
+
+impl<'a> ValuePrinter<'a> {
+    /// The printer of the variable in place `v` over so many records, in lines of numbers of this width.
+    pub fn new(header: &'a Header, v: usize, records: u64, width: usize) -> ValuePrinter<'a>
+        requires sound { IsSound header.now }
+        requires there { v < length header.now.vars }
+        ensures { IfSome (slice_get header.now.vars v) (λ var. Stands (look_of header.now var records width) [] result) }
+    {
+        let layout = layout_of(header, v, records, width);
+        let room = room_behind_opening(layout.width, layout.name);
+        ValuePrinter {
+            layout,
+            progress: Progress {
+                position: 0,
+                place: 0,
+                room,
+                held: 0,
+            },
+            has_failed: false,
+        }
+    }
+
+    /// Writes what stands before the values.
+    ///
+    /// # Errors
+    ///
+    /// The sink failed, and took some front of the text; or an earlier call failed, and nothing is written.
+    #[tactic(auto, unfolding(nc_base::specs::ValueText::opening))]
+    pub fn start<W: Sink>(&mut self, sink: &mut W) -> Result<(), WriteFailed>
+        ensures wrote { has_failed self.old ≡ false → Wrote (W.seen sink.old) (W.seen sink.new) (opening (look_in self.old)) result }
+        ensures ok { OnOk result (self.new ≡ self.old) }
+        ensures failed { OnErr result (has_failed self.new ≡ true) }
+        ensures repeats { has_failed self.old ≡ true → IsErr result × (W.seen sink.new ≡ W.seen sink.old) }
+    {
+        if self.has_failed {
+            return Err(WriteFailed);
+        }
+        match put_opening(sink, self.layout.name) {
+            Ok(()) => Ok(()),
+            Err(e) => {
+                self.has_failed = true;
+                Err(e)
+            }
+        }
+    }
+
+    /// Says whether the bytes are whole values, and no more than the variable has beside those printed.
+    pub fn takes(&self, bytes: &[u8]) -> bool
+        ensures { IsTrue result ↔ Takes self.now bytes.now }
+    {
+        let size = self.layout.ty.size() as usize;
+        bytes.len() % size == 0 && self.has_room((bytes.len() / size) as u128)
+    }
+
+    /// Says whether the variable has so many values beside those printed.
+    fn has_room(&self, count: u128) -> bool
+        ensures { IsTrue result ↔ (position_of self.now + count ≤ (look_in self.now).total) }
+    {
+        let total = self.layout.total;
+        let position = self.progress.position;
+        position <= total && count <= total - position
+    }
+
+    /// Writes these values, which come behind those of the calls before: big-endian and one behind the other. They are
+    /// whole, and no more than the variable has.
+    ///
+    /// # Errors
+    ///
+    /// The sink failed, and took some front of the text; or an earlier call failed, and nothing is written.
+    pub fn values<W: Sink>(&mut self, sink: &mut W, bytes: &[u8]) -> Result<(), WriteFailed>
+        requires { Takes self.old bytes.now }
+        ensures prints { Prints (numbers (look_in self.old).ty bytes.now) self.old self.new (W.seen sink.old) (W.seen sink.new) result }
+        ensures repeats { has_failed self.old ≡ true → IsErr result × (W.seen sink.new ≡ W.seen sink.old) }
+    {
+        if self.has_failed {
+            return Err(WriteFailed);
+        }
+        match put_values(sink, &self.layout, &mut self.progress, bytes) {
+            Ok(()) => Ok(()),
+            Err(e) => {
+                self.has_failed = true;
+                Err(e)
+            }
+        }
+    }
+
+    /// Writes what stands behind the values.
+    ///
+    /// # Errors
+    ///
+    /// The sink failed, and took some front of the text; or an earlier call failed, and nothing is written.
+    pub fn finish<W: Sink>(&mut self, sink: &mut W) -> Result<(), WriteFailed>
+        ensures wrote { has_failed self.old ≡ false → Wrote (W.seen sink.old) (W.seen sink.new) (closing (look_in self.old)) result }
+        ensures ok { OnOk result (self.new ≡ self.old) }
+        ensures failed { OnErr result (has_failed self.new ≡ true) }
+        ensures repeats { has_failed self.old ≡ true → IsErr result × (W.seen sink.new ≡ W.seen sink.old) }
+    {
+        if self.has_failed {
+            return Err(WriteFailed);
+        }
+        match put(sink, self.layout.closing()) {
+            Ok(()) => Ok(()),
+            Err(e) => {
+                self.has_failed = true;
+                Err(e)
+            }
+        }
+    }
+}
+
+/// Writes values of a variable, each with what stands before it.
+fn put_values<W: Sink>(
+    sink: &mut W,
+    layout: &Layout<'_>,
+    progress: &mut Progress,
+    bytes: &[u8],
+) -> Result<(), WriteFailed>
+    requires { progress.old.position + length (numbers layout.now.ty bytes.now) ≤ layout.now.total }
+    ensures { Goes (look_at layout.now) (numbers layout.now.ty bytes.now) progress.old progress.new (W.seen sink.old) (W.seen sink.new) result }
+{
+    if layout.is_char() {
+        put_char_values(sink, layout, progress, bytes)
+    } else {
+        put_number_values(sink, layout, progress, bytes)
+    }
+}
