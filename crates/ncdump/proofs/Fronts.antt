@@ -5,10 +5,10 @@ use Rattle.std.proofs.Math.Seq.{take-add}
 use Rattle.std.proofs.lemmas.List.{append-nil, take_all, length-map}
 use Rattle.nc_base.specs.declared.header.Var.{Var}
 use Rattle.nc_base.specs.Headers.{value_count}
-use Rattle.nc_base.specs.Numbers.{numbers, numbers_from}
+use Rattle.nc_base.specs.Numbers.{numbers, numbers_from, number_of}
 use Rattle.nc_base.specs.Types.{size_of}
 use Rattle.nc_base.specs.declared.nc_type.NcType.{NcType}
-use Rattle.nc_base.specs.Places.{stored_values, stored_bytes, value_offsets, first_missing}
+use Rattle.nc_base.specs.Places.{bytes_at, stored_values, stored_bytes, value_offsets, first_missing}
 use Rattle.nc_base.specs.ValueText.{Look, look_of, variable_front, variable_text, later_pieces, closing}
 use Rattle.nc_base.specs.Dump.{Section, no_section, values_before}
 use Rattle.nc_base.proofs.ValueLaws.{front-append}
@@ -27,7 +27,9 @@ count-numbers ty bytes = counted (count (size_of ty) bytes) bytes
 
 -- as many values are stored as the variable has
 pub count-stored : (d : Dumped) (var : Var) → length (stored_values d.header d.bytes var d.records) ≡ value_count d.header.dims var d.records
-count-stored d var = length-map _ (stored_bytes d.header d.bytes var d.records) ∙ length-map _ (value_offsets d.header var d.records) ∙ count_of_offsets d.header var d.records
+count-stored d var =
+    length-map (stored_bytes d.header d.bytes var d.records) (number_of var.ty) ∙ length-map (value_offsets d.header var d.records) (bytes_at (size_of var.ty) d.bytes)
+    ∙ count_of_offsets d.header var d.records
 
 -- a front of the first values is a front of more of them
 front-more : (look : Look) (xs : List ℤ) (k i : ℕ) → (rest : List ℕ) × (variable_front look (take (k + i) xs) ≡ variable_front look (take k xs) ++ rest)

@@ -5,7 +5,7 @@ use Rattle.std.specs.Prelude.{is_some, option_map, unwrap_or}
 use Rattle.std.proofs.lemmas.Bool.{OnTrue_at, OnTrue_from}
 use Rattle.std.proofs.lemmas.List.{append-nil}
 use Rattle.nc_file.specs.Sinks.{SinkView, append, count, told, IsFront, IsFrontIf, IsCut, BrokeOff, Grew, Broke}
-use Rattle.nc_file.proofs.Writes.{append-++, cut-append, split_front, told-append}
+use Rattle.nc_file.proofs.Writes.{append-++, append-none, cut-append, split_front, told-append}
 use Rattle.ncdump.specs.Shows.{Holds}
 
 front-trans : (a b c : Option (List ℕ)) → IsFrontIf a b → IsFrontIf b c → IsFrontIf a c
@@ -93,3 +93,15 @@ holds-behind old mid new a b grew holds = OnTrue_from _ _ (λ tells.
     let same = OnTrue_at {P = mid ≡ append old a} tells grew.taken in
     let cut = OnTrue_at {P = IsCut (append mid b) new} (ap told same ∙ told-append old a ∙ tells) holds in
     subst (λ (s : SinkView). IsCut s new) (ap (λ (s : SinkView). append s b) same ∙ sym (append-++ old a b)) cut)
+
+-- a call that broke off fell short of a longer text too
+pub broke-longer : (s t : SinkView) (bytes more : List ℕ) → Broke s t bytes → Broke s t (bytes ++ more)
+broke-longer s t bytes more broke = record {
+  failures = broke.failures;
+  taken = OnTrue_from _ _ (λ tells.
+      let b = OnTrue_at {P = BrokeOff s t (append s bytes)} tells broke.taken in
+      record { cut = subst (IsCut t) (sym (append-++ s bytes more)) (cut-append t (append s bytes) more b.cut); no_less = b.no_less });
+}
+
+pub grew-nothing : (s : SinkView) → Grew s s []
+grew-nothing s = record { failures = refl; taken = OnTrue_from _ _ (λ tells. sym (append-none s)) }

@@ -2,3 +2,8 @@ pub mod NameSets
 pub mod Unknown
 pub mod Fronts
 pub mod Held
+pub mod OneVariable
+pub mod Marked
+pub mod Blame
+pub mod WholeText
+pub mod DumpLaws

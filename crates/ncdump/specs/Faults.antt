@@ -6,7 +6,7 @@ use Rattle.nc_base.specs.declared.fault.FormatFault.TheVariants.{NotNetcdf, Unkn
 use Rattle.nc_file.specs.declared.head_fault.HeadFault.{HeadFault}
 use Rattle.nc_file.specs.declared.head_fault.HeadFault.TheVariants as head
 use Rattle.ncdump.specs.declared.fault.DumpFault.{DumpFault}
-use Rattle.ncdump.specs.declared.fault.DumpFault.TheVariants.{OutOfMemory, ReadFailed, WriteFailed, Format, NoSuchVariable, DataTruncated, NotYet}
+use Rattle.ncdump.specs.declared.fault.DumpFault.TheVariants.{OutOfMemory, ReadFailed, WriteFailed, Format, NoSuchVariable, DataTruncated}
 
 -- why reading the header failed, as a fault of the dump
 abbrev pub fault_of_head : HeadFault → DumpFault
@@ -37,7 +37,6 @@ fault_words WriteFailed = codes "write failed"
 fault_words (Format fault) = format_words fault
 fault_words (NoSuchVariable index) = codes "no such variable: item "
 fault_words (DataTruncated var value) = codes "variable "
-fault_words NotYet = codes "not yet"
 
 unfoldable pub truncated_words : List ℕ
 truncated_words = codes ": data truncated at value "

@@ -9,6 +9,8 @@ use Rattle.nc_base.specs.Places.{stored_values, first_missing}
 use Rattle.nc_base.specs.ValueText.{look_of, variable_front}
 use Rattle.nc_base.specs.Dump.{Options, Ending, whole, data_truncated, Section, no_section, content_in, has_values, values_before, values_of, data_word, closing_word, dump_text}
 use Rattle.nc_file.specs.Sources.{SourceView, after}
+use Rattle.nc_file.specs.Sources as sources
+use Rattle.nc_file.specs.Sinks as sinks
 use Rattle.nc_file.specs.Sinks.{SinkView, append, told, Grew, Broke, IsCut}
 use Rattle.nc_walk.specs.Walked.{whole_count}
 use Rattle.ncdump.specs.declared.fault.DumpFault.{DumpFault}
@@ -28,6 +30,19 @@ dumped h source n width = record { header = h; bytes = source.bytes; records = n
 -- the sink holds a text behind what it held
 abbrev pub Holds : SinkView → SinkView → List ℕ → Type 0
 Holds old new bytes = OnTrue (told old) (IsCut (append old bytes) new)
+
+-- the source has failed exactly where the answer says so
+abbrev pub ReadFailsOnly : {A : Type 0} → SourceView → SourceView → Result A DumpFault → Type 0
+ReadFailsOnly old new (Err ReadFailed) = sources.HasFailed old.failures new
+ReadFailsOnly old new _ = new.failures ≡ old.failures
+
+-- the sink has failed exactly where the answer says so, and there is no other fault than a device's or a missing value
+abbrev pub ShowsOrFails : {A : Type 0} → SinkView → SinkView → Result A DumpFault → Type 0
+ShowsOrFails old new (Ok done) = new.failures ≡ old.failures
+ShowsOrFails old new (Err WriteFailed) = sinks.HasFailed old.failures new
+ShowsOrFails old new (Err ReadFailed) = new.failures ≡ old.failures
+ShowsOrFails old new (Err (DataTruncated v k)) = new.failures ≡ old.failures
+ShowsOrFails old new (Err _) = ⊥
 
 -- ---- one variable
 
@@ -142,9 +157,14 @@ pub record AreUnwritten (d : Dumped) (marks : List Bool) (room : ℕ) (before no
   pub broke : Cut (marked_values d marks)
   pub keeps_up : (now ≡ before) ⊎ KeepsUpIn d marks room before now Taken
 
+-- no value waits: no value was read, or what was read is written but for a buffer
+abbrev pub IsUpToDate : Dumped → List Bool → ℕ → SourceView → SourceView → (List ℕ → Type 0) → Type 0
+IsUpToDate d marks room before now Taken = (now ≡ before) ⊎ KeepsUpIn d marks room before now Taken
+
 -- what showing the marked variables has done
 abbrev pub ShowsMarked : {A : Type 0} → Dumped → List Bool → ℕ → SourceView → SourceView → SinkView → SinkView → Result A DumpFault → Type 0
-ShowsMarked d marks room before now old new (Ok done) = AreShown d marks whole before now (λ (section : Section). Grew old new section.text)
+ShowsMarked d marks room before now old new (Ok done) =
+    AreShown d marks whole before now (λ (section : Section). Grew old new section.text) × IsUpToDate d marks room before now (Holds old new)
 ShowsMarked d marks room before now old new (Err (DataTruncated v k)) = AreShown d marks (data_truncated v k) before now (λ (section : Section). Grew old new section.text)
 ShowsMarked d marks room before now old new (Err ReadFailed) = AreUnread d marks room before now (Grew old new)
 ShowsMarked d marks room before now old new (Err WriteFailed) = AreUnwritten d marks room before now (λ (section : Section). Broke old new section.text) (Holds old new)

@@ -29,8 +29,6 @@ pub enum DumpFault {
         /// The value.
         value: u128,
     },
-    /// What can't be shown yet: values. Nothing was written.
-    NotYet,
 }
 
 impl From<HeadFault> for DumpFault {

@@ -10,9 +10,11 @@ mod line;
 mod names;
 mod options;
 mod selection;
+mod showing;
 
 pub use dumping::dump;
 pub use fault::DumpFault;
 pub use line::fault_line;
 pub use options::DumpOptions;
 pub use selection::select;
+pub use showing::show;

@@ -87,7 +87,6 @@ fn fault_words(fault: &DumpFault) -> &'static [u8]
         DumpFault::Format(fault) => format_words(*fault),
         DumpFault::NoSuchVariable(_) => b"no such variable: item ",
         DumpFault::DataTruncated { .. } => b"variable ",
-        DumpFault::NotYet => b"not yet",
     }
 }
 

@@ -1,19 +1,18 @@
 //! The text of a dump, written while the values are read.
 
-ghost use Rattle.std.specs.Prelude.{◌≡◌, ◌≤◌, ◌<◌, ◌∷◌, [], length, slice_get, IfSome};
+ghost use Rattle.std.specs.Prelude.{◌≡◌, ◌≤◌, ◌<◌, ◌&&◌, [], if◌then◌else◌, length, slice_get, IfSome};
 ghost use Rattle.std.specs.Bool.{OnTrue};
 ghost use Rattle.nc_base.specs.Headers.{IsSound};
 ghost use Rattle.nc_base.specs.Sizes.{has_slabs, record_count};
-ghost use Rattle.nc_base.specs.Dump.{data_word};
-ghost use Rattle.nc_file.specs.Sinks.{Wrote};
+ghost use Rattle.nc_base.specs.Dump.{data_word, has_values};
 ghost use Rattle.ncdump.specs.Dumps.{options_of};
-ghost use Rattle.ncdump.specs.Shows.{dumped, ReadFailsOnly, WriteFailsOnly, ShowsOne, ShowsMarked, Shows};
+ghost use Rattle.ncdump.specs.Shows.{dumped, marks_in, ReadFailsOnly, ShowsOrFails, ShowsOne, ShowsMarked, Shows};
 
 use crate::fault::DumpFault;
 use crate::options::DumpOptions;
 use cdl_print::{ValuePrinter, put_head};
-use nc_base::{Dim, Header, Var, has_records, records};
-use nc_file::{Sink, Source, WriteFailed, put};
+use nc_base::{Header, has_records, records};
+use nc_file::{Sink, Source, put};
 use nc_walk::{Walk, WalkFault};
 
 /// Writes the dump of a file with this header, and reads its values through the lent buffer of at least 16 bytes: the head,
@@ -40,16 +39,23 @@ pub fn show<S: Source, W: Sink>(
     requires width { (20 ≤ options.now.width) × (options.now.width ≤ 1000) }
     requires room { 16 ≤ length buf.old }
     ensures source { ReadFailsOnly (S.seen source.old) (S.seen source.new) result }
-    ensures sink { WriteFailsOnly (W.seen sink.old) (W.seen sink.new) result }
+    ensures sink { ShowsOrFails (W.seen sink.old) (W.seen sink.new) result }
     ensures shows { OnTrue S.told (Shows (options_of options.now) header.now (record_count header.now (length (S.seen source.old).bytes)) shown.now (length buf.old) (S.seen source.old) (S.seen source.new) (W.seen sink.old) (W.seen sink.new) result) }
 {
     let count = records(header, source.len());
     put_head(sink, options.name.as_slice(), header, count)?;
     put(sink, data_word(options, header))?;
-    let marks = if options.head_only { &[] } else { shown };
+    let marks = marks_in(options, shown);
     show_marked(source, header, count, marks, options.width, buf, sink)?;
     put(sink, b"}\n")?;
     Ok(())
+}
+
+/// The marks that count: none where the header alone is asked for.
+fn marks_in<'a>(options: &DumpOptions, shown: &'a [bool]) -> &'a [bool]
+    ensures { result.now ≡ marks_in (options_of options.now) shown.now }
+{
+    if options.head_only { &[] } else { shown }
 }
 
 /// What stands before the values.
@@ -78,18 +84,29 @@ fn show_marked<S: Source, W: Sink>(
     requires marks { length marks.now ≤ length header.now.vars }
     requires room { 16 ≤ length buf.old }
     ensures source { ReadFailsOnly (S.seen source.old) (S.seen source.new) result }
-    ensures sink { WriteFailsOnly (W.seen sink.old) (W.seen sink.new) result }
+    ensures sink { ShowsOrFails (W.seen sink.old) (W.seen sink.new) result }
     ensures shows { OnTrue S.told (ShowsMarked (dumped header.now (S.seen source.old) count width) marks.now (length buf.old) (S.seen source.old) (S.seen source.new) (W.seen sink.old) (W.seen sink.new) result) }
 {
     for v in 0..marks.len() {
-        if marks[v] && has_slabs(header, v, count) {
-            show_variable(source, header, v, count, width, buf, sink)?;
+        if !is_shown(header, v, count, marks[v]) {
+            continue;
         }
+        show_variable(source, header, v, count, width, buf, sink)?;
     }
     Ok(())
 }
 
-/// Says whether the variable in place `v` has a slab over so many records. A slab of a sound header has at least one value.
+/// Says whether the variable in place `v` is marked and has a value over so many records: a slab of a sound header has at
+/// least one.
+fn is_shown(header: &Header, v: usize, count: u64, is_marked: bool) -> bool
+    requires sound { IsSound header.now }
+    requires there { v < length header.now.vars }
+    ensures { IfSome (slice_get header.now.vars v) (λ var. result ≡ (is_marked && has_values header.now.dims count var)) }
+{
+    is_marked && has_slabs(header, v, count)
+}
+
+/// Says whether the variable in place `v` has a slab over so many records.
 fn has_slabs(header: &Header, v: usize, count: u64) -> bool
     requires { v < length header.now.vars }
     ensures { IfSome (slice_get header.now.vars v) (λ var. result ≡ has_slabs header.now.dims count var) }
@@ -112,7 +129,7 @@ fn show_variable<S: Source, W: Sink>(
     requires there { v < length header.now.vars }
     requires room { 16 ≤ length buf.old }
     ensures source { ReadFailsOnly (S.seen source.old) (S.seen source.new) result }
-    ensures sink { WriteFailsOnly (W.seen sink.old) (W.seen sink.new) result }
+    ensures sink { ShowsOrFails (W.seen sink.old) (W.seen sink.new) result }
     ensures shows { OnTrue S.told (IfSome (slice_get header.now.vars v) (λ var. ShowsOne (dumped header.now (S.seen source.old) count width) v var (length buf.old) (S.seen source.old) (S.seen source.new) (W.seen sink.old) (W.seen sink.new) result)) }
 {
     let mut walk = Walk::new(header, v, count, buf);

@@ -1,0 +1,256 @@
+-- Showing one variable: a walk and a printer that go on together.
+use Rattle.std.proofs.Common.{◌≡◌, ℕ, ◌+◌, ◌*◌, ◌<◌, ◌≤◌, ◌⊎◌, inl, inr, Bool, true, false, List, [], ◌++◌, length, take, drop, refl, sym, ap, ◌∙◌, append_assoc, subst, arith, Option, Some, None, Ok, Err}
+use Rattle.std.specs.Prelude.{ℤ, slice_get, unwrap_or, IfSome, All}
+use Rattle.std.proofs.lemmas.List.Elements.{All-get_or}
+use Rattle.std.proofs.lemmas.Option.{get_or_from_slice_get, slice_get_within}
+use Rattle.std.specs.Bool.{OnTrue}
+use Rattle.std.proofs.Math.Nat.{mul-le-mul_right}
+use Rattle.std.proofs.Math.Seq.{take-add}
+use Rattle.std.proofs.lemmas.List.{append-nil, take_all, length-append}
+use Rattle.nc_base.specs.declared.header.Header.{Header}
+use Rattle.nc_base.specs.declared.header.Var.{Var}
+use Rattle.nc_base.specs.Types.{size_of}
+use Rattle.nc_base.specs.Numbers.{numbers}
+use Rattle.nc_base.specs.Headers.{value_count}
+use Rattle.nc_base.specs.Places.{stored_values, first_missing, value_offsets}
+use Rattle.nc_base.specs.ValueText.{Look, look_of, opening, closing, variable_front, variable_text, later_pieces}
+use Rattle.nc_base.specs.Dump.{Section, no_section, whole, data_truncated, values_before}
+use Rattle.nc_base.proofs.ValueLaws.{front-append, front_nil}
+use Rattle.nc_file.specs.Sources.{SourceView, after, HasFailed}
+use Rattle.nc_file.specs.Sinks.{SinkView, Grew, Broke}
+use Rattle.nc_file.proofs.Writes.{grew_then, grew_broke}
+use Rattle.nc_walk.specs.Walks.{WalkView, Starts, Steps, Moved, count}
+use Rattle.nc_walk.specs.Walked.{Walked, HasRead, IsPiece, GivesPiece, GivesEnd, GivesCut, GivesFailure, whole_count}
+use Rattle.nc_walk.specs.declared.fault.WalkFault.TheVariants as walk
+use Rattle.nc_walk.proofs.Fills.{told_any, told_map, told_both}
+use Rattle.nc_walk.proofs.Missing.{whole_count-ge}
+use Rattle.nc_walk.proofs.Walked.{begun, gives, walked_on}
+use Rattle.cdl_print.specs.Printer.{look_in, position_of, Stands, Printed, Stopped, Takes}
+use Rattle.cdl_print.specs.declared.printer.ValuePrinter.{ValuePrinter}
+use Rattle.ncdump.specs.Shows.{Dumped, dumped, front_text, values_and, values_alone, whole_values, whole_bytes, Holds, KeepsUp, IsShown, IsUnread, IsUnwritten}
+use Rattle.ncdump.proofs.Fronts.{count-numbers, count-stored, front-in-text}
+use Rattle.ncdump.proofs.Held.{holds-all, holds-broke, broke-longer}
+
+-- a walk and a printer stand behind the same first values xs, whose front is written
+pub record Showing (told : Bool) (h : Header) (v n width room : ℕ) (w : WalkView) (p : ValuePrinter) (a b : SourceView) (old new : SinkView) : Type 0 where
+  pub var : Var
+  pub at : slice_get h.vars v ≡ Some var
+  pub xs : List ℤ
+  pub walked : Walked told h var n room w a b (length xs)
+  pub stands : Stands (look_of h var n width) xs p
+  pub values : OnTrue told (xs ≡ take (length xs) (stored_values h a.bytes var n))
+  pub grew : Grew old new (variable_front (look_of h var n width) xs)
+
+-- what holds of an element that is there
+pub some-at : {X : Type 0} (P : X → Type 0) (o : Option X) (x : X) → o ≡ Some x → IfSome o P → P x
+some-at P (Some y) x is holds = subst P (cc) holds
+some-at P None x is holds = absurd cc
+
+pub at-some : {X : Type 0} (P : X → Type 0) (o : Option X) (x : X) → o ≡ Some x → P x → IfSome o P
+at-some {X = X} P o x is holds = subst (λ (q : Option X). IfSome q P) (sym is) holds
+
+pub if-some : {X : Type 0} (P Q : X → Type 0) (o : Option X) → ((x : X) → o ≡ Some x → P x → Q x) → IfSome o P → IfSome o Q
+if-some P Q (Some x) f holds = f x refl holds
+if-some P Q None f holds = tt
+
+-- what holds of all elements
+pub all-at : {X : Type 0} (P : X → Type 0) (xs : List X) (i : ℕ) (x : X) → All P xs → slice_get xs i ≡ Some x → P x
+all-at P xs i x all is = subst P (get_or_from_slice_get xs i x x is) (All-get_or P xs i x (slice_get_within xs i x is) all)
+
+type-of : (h : Header) (var : Var) (n width : ℕ) → (look_of h var n width).ty ≡ var.ty
+unfolding look_of
+type-of h var n width = refl
+
+total-of : (h : Header) (var : Var) (n width : ℕ) → (look_of h var n width).total ≡ value_count h.dims var n
+unfolding look_of
+total-of h var n width = refl
+
+-- where both begin
+pub showing-begins : (told : Bool) (h : Header) (v n width room : ℕ) (w : WalkView) (p : ValuePrinter) (a : SourceView) (old new : SinkView) (s : Starts h v n room w)
+    → Stands (look_of h s.var n width) [] p → Grew old new (opening (look_of h s.var n width)) → Showing told h v n width room w p a a old new
+showing-begins told h v n width room w p a old new s stands grew = record {
+  var = s.var;
+  at = s.at;
+  xs = [];
+  walked = begun told h v n room w a s;
+  stands = stands;
+  values = told_any told refl;
+  grew = subst (Grew old new) (sym (front_nil (look_of h s.var n width))) grew;
+}
+
+module _ (told : Bool) (h : Header) (v n width room : ℕ) (w : WalkView) (p : ValuePrinter) (a b : SourceView) (old new : SinkView)
+    (s : Showing told h v n width room w p a b old new) where
+  abbrev pub d : Dumped
+  d = dumped h a n width
+
+  abbrev pub look : Look
+  look = look_of h s.var n width
+
+  abbrev pub stored : List ℤ
+  stored = stored_values h a.bytes s.var n
+
+  type-in : (look_in p).ty ≡ s.var.ty
+  type-in = ap (λ (l : Look). l.ty) s.stands.same_look ∙ type-of h s.var n width
+
+  module _ (c : SourceView) (piece : List ℕ) (steps : Steps told w b c (Ok (Some piece))) where
+    abbrev pub size : ℕ
+    size = size_of s.var.ty
+
+    abbrev pub j : ℕ
+    j = count size piece
+
+    given : GivesPiece told h s.var n room a c (length s.xs) piece j
+    given = gives told h s.var n room w a b c (length s.xs) (Ok (Some piece)) s.walked steps
+
+    abbrev pub ys : List ℤ
+    ys = numbers (look_in p).ty piece
+
+    ys-are : ys ≡ numbers s.var.ty piece
+    ys-are = ap (λ t. numbers t piece) type-in
+
+    ys-count : length ys ≡ j
+    ys-count = ap (λ (zs : List ℤ). length zs) ys-are ∙ count-numbers s.var.ty piece
+
+    -- the printer can take the piece
+    pub takes-piece : Takes p piece
+    takes-piece = record {
+      whole = given.length_is ∙ ap (λ (i : ℕ). i * size) (sym ys-count) ∙ ap (λ t. length ys * size_of t) (sym type-in);
+      room = omega (arith, given.within, ys-count, s.stands.behind.position,
+          ap (λ (l : Look). l.total) s.stands.same_look, total-of h s.var n width);
+    }
+
+    counted : length s.xs + j ≡ length (s.xs ++ ys)
+    counted = omega (arith, length-append s.xs ys, ys-count)
+
+    -- both have gone on
+    pub showing-on : (u : WalkView) (q : ValuePrinter) (newer : SinkView) → Moved w u (Ok (Some piece)) → Printed ys p q new newer
+        → Showing told h v n width room u q a c old newer
+    showing-on u q newer moved printed = record {
+      var = s.var;
+      at = s.at;
+      xs = s.xs ++ ys;
+      walked = subst (Walked told h s.var n room u a c) counted (walked_on told h s.var n room w u a b c (length s.xs) piece s.walked steps moved);
+      stands = printed.stands look s.xs s.stands;
+      values = told_both told (λ e g.
+          ap (λ (zs : List ℤ). zs ++ ys) e ∙ ap (λ (zs : List ℤ). take (length s.xs) stored ++ zs) (ys-are ∙ g.numbers_are)
+          ∙ sym (take-add (length s.xs) j stored) ∙ ap (λ (i : ℕ). take i stored) counted) s.values given.piece_is;
+      grew = subst (Grew old newer) (sym (front-append look s.xs ys)) (grew_then old new newer (variable_front look s.xs) (later_pieces look s.xs ys) s.grew (printed.grew look s.xs s.stands));
+    }
+
+    -- the printer stopped inside of the piece
+    pub unwritten-piece : (q : ValuePrinter) (newer : SinkView) → Stopped ys p q new newer → OnTrue told (IsUnwritten d v s.var room a c old newer)
+    unwritten-piece q newer stopped = told_both told (λ e (pg : IsPiece h a.bytes s.var n (length s.xs) piece j × HasRead h s.var n a c (length s.xs + j)).
+        let g = pg.1 in
+        let k = length s.xs in
+        let broke = stopped.broke look s.xs s.stands in
+        let few : k + j ≤ whole_values d s.var = whole_count-ge h s.var n a.bytes (k + j) given.within g.whole in
+        let most : (k + j) * size ≤ whole_values d s.var * size = mul-le-mul_right size few in
+        let handed : c.handed ≡ a.handed + (k + j) * size = ap (λ (x : SourceView). x.handed) g.handed in
+        let values : s.xs ++ ys ≡ take (k + j) stored =
+            ap (λ (zs : List ℤ). zs ++ ys) e ∙ ap (λ (zs : List ℤ). take k stored ++ zs) (ys-are ∙ pg.0.numbers_are) ∙ sym (take-add k j stored) in
+        let text = front-in-text d v s.var (k + j) few in
+        let front : variable_front look (take (k + j) stored) ≡ variable_front look s.xs ++ later_pieces look s.xs ys = ap (variable_front look) (sym values) ∙ front-append look s.xs ys in
+        record {
+          bytes = ap (λ (x : SourceView). x.bytes) g.handed;
+          most = omega (arith, handed, most);
+          broke = subst (Broke old newer) (sym (text.1 ∙ ap (λ (t : List ℕ). t ++ text.0) front ∙ append_assoc (variable_front look s.xs) (later_pieces look s.xs ys) text.0))
+              (grew_broke old new newer (variable_front look s.xs) (later_pieces look s.xs ys) text.0 s.grew broke);
+          keeps_up = inr (record {
+            k = k;
+            few = omega (arith, few);
+            taken = subst (λ (zs : List ℤ). Holds old newer (variable_front look zs)) e (holds-broke old new newer (variable_front look s.xs) _ (holds-all old new (variable_front look s.xs) s.grew) broke);
+            handed = omega (arith, handed, given.room, given.length_is);
+          });
+        }) s.values (told_both told (λ piece_is read. (piece_is, read)) given.piece_is given.read)
+
+  -- no value is left, and the closing is written, or not
+  module _ (c : SourceView) (steps : Steps told w b c (Ok None)) where
+    ended : GivesEnd told h s.var n a c (length s.xs)
+    ended = gives told h s.var n room w a b c (length s.xs) (Ok None) s.walked steps
+
+    all-stored : OnTrue told (s.xs ≡ stored)
+    all-stored = told_map told (λ e. e ∙ take_all (length s.xs) stored (omega (arith, ended.all, count-stored d s.var))) s.values
+
+    closing-of : closing (look_in p) ≡ closing look
+    closing-of = ap closing s.stands.same_look
+
+    pub shown-whole : (newer : SinkView) → Grew new newer (closing (look_in p)) → OnTrue told (IsShown d v s.var whole a c old newer)
+    unfolding variable_text
+    shown-whole newer grew = told_both told (λ e (ng : (first_missing h a.bytes s.var n ≡ None) × HasRead h s.var n a c (length s.xs)).
+        let none : first_missing h a.bytes s.var n ≡ None = ng.0 in
+        let text : variable_front look s.xs ++ closing (look_in p) ≡ (values_before look stored None v no_section).text =
+            ap (λ (zs : List ℤ). variable_front look zs ++ closing (look_in p)) e ∙ ap (λ (t : List ℕ). variable_front look stored ++ t) closing-of ∙ sym (append-nil (variable_text look stored)) in
+        record {
+          ends = ap (λ (m : Option ℕ). (values_before look stored m v no_section).ending) none;
+          grew = subst (Grew old newer) (text ∙ ap (λ (m : Option ℕ). (values_before look stored m v no_section).text) (sym none))
+              (grew_then old new newer (variable_front look s.xs) (closing (look_in p)) s.grew grew);
+          handed = ng.1.handed ∙ ap (λ (i : ℕ). after a (i * size_of s.var.ty)) (ended.all ∙ sym (ap (λ (m : Option ℕ). unwrap_or m (value_count h.dims s.var n)) none));
+        }) all-stored (told_both told (λ none read. (none, read)) ended.none_missing ended.read)
+
+    pub unwritten-closing : (newer : SinkView) → Broke new newer (closing (look_in p)) → OnTrue told (IsUnwritten d v s.var room a c old newer)
+    unfolding variable_text
+    unwritten-closing newer broke = told_both told (λ e (ng : (first_missing h a.bytes s.var n ≡ None) × HasRead h s.var n a c (length s.xs)).
+        let none : first_missing h a.bytes s.var n ≡ None = ng.0 in
+        let count-is : whole_values d s.var ≡ length s.xs = ap (λ (m : Option ℕ). unwrap_or m (value_count h.dims s.var n)) none ∙ sym ended.all in
+        let text : variable_front look s.xs ++ (closing (look_in p) ++ []) ≡ (values_before look stored None v no_section).text =
+            sym (append_assoc (variable_front look s.xs) (closing (look_in p)) [])
+            ∙ ap (λ (zs : List ℤ). (variable_front look zs ++ closing (look_in p)) ++ []) e ∙ ap (λ (t : List ℕ). (variable_front look stored ++ t) ++ []) closing-of in
+        let handed : c.handed ≡ a.handed + length s.xs * size_of s.var.ty = ap (λ (x : SourceView). x.handed) ng.1.handed in
+        let whole-is : whole_bytes d s.var ≡ length s.xs * size_of s.var.ty = ap (λ (i : ℕ). i * size_of s.var.ty) count-is in
+        record {
+          bytes = ap (λ (x : SourceView). x.bytes) ng.1.handed;
+          most = omega (arith, handed, whole-is);
+          broke = subst (Broke old newer) (text ∙ ap (λ (m : Option ℕ). (values_before look stored m v no_section).text) (sym none))
+              (grew_broke old new newer (variable_front look s.xs) (closing (look_in p)) [] s.grew broke);
+          keeps_up = inr (record {
+            k = length s.xs;
+            few = omega (arith, count-is);
+            taken = subst (λ (zs : List ℤ). Holds old newer (variable_front look zs)) (e ∙ sym (take_all (length s.xs) stored (omega (arith, ended.all, count-stored d s.var))))
+                (holds-broke old new newer (variable_front look s.xs) _ (holds-all old new (variable_front look s.xs) s.grew) broke);
+            handed = omega (arith, handed);
+          });
+        }) all-stored (told_both told (λ none read. (none, read)) ended.none_missing ended.read)
+
+  -- the next value is missing
+  pub shown-front : (c : SourceView) (k : ℕ) → Steps told w b c (Err (walk.DataTruncated k)) → OnTrue told (IsShown d v s.var (data_truncated v k) a c old new)
+  shown-front c k steps =
+      let cut : GivesCut told h s.var n a c (length s.xs) k = gives told h s.var n room w a b c (length s.xs) (Err (walk.DataTruncated k)) s.walked steps in
+      told_both told (λ e (mr : (first_missing h a.bytes s.var n ≡ Some (length s.xs)) × HasRead h s.var n a c (length s.xs)).
+        let missing : first_missing h a.bytes s.var n ≡ Some k = mr.0 ∙ ap Some (sym cut.value_is) in
+        let value : variable_front look s.xs ≡ variable_front look (take k stored) = ap (variable_front look) (e ∙ ap (λ (i : ℕ). take i stored) (sym cut.value_is)) in
+        record {
+          ends = ap (λ (m : Option ℕ). (values_before look stored m v no_section).ending) missing;
+          grew = subst (Grew old new) (value ∙ ap (λ (m : Option ℕ). (values_before look stored m v no_section).text) (sym missing)) s.grew;
+          handed = mr.1.handed ∙ ap (λ (i : ℕ). after a (i * size_of s.var.ty)) (sym (ap (λ (m : Option ℕ). unwrap_or m (value_count h.dims s.var n)) mr.0));
+        }) s.values (told_both told (λ missing read. (missing, read)) cut.missing cut.read)
+
+  -- a read failed
+  pub unread : (c : SourceView) → Steps told w b c (Err walk.ReadFailed) → OnTrue told (IsUnread d s.var room a c old new)
+  unread c steps =
+      let failure : GivesFailure told h s.var n room a c (length s.xs) = gives told h s.var n room w a b c (length s.xs) (Err walk.ReadFailed) s.walked steps in
+      told_both told (λ e (r : HasRead h s.var n a b (length s.xs) × ((c.bytes ≡ a.bytes) × ((c.handed ≤ a.handed + whole_bytes d s.var) × (c.handed ≤ a.handed + length s.xs * size_of s.var.ty + room)))).
+        let few : length s.xs ≤ whole_values d s.var = whole_count-ge h s.var n a.bytes (length s.xs) s.walked.within r.0.whole in
+        record {
+          bytes = r.1.0;
+          most = r.1.1.0;
+          keeps_up = record {
+            k = length s.xs;
+            few = few;
+            taken = subst (λ (zs : List ℤ). Grew old new (variable_front look zs)) e s.grew;
+            handed = r.1.1.1;
+          };
+        }) s.values (told_both told (λ read rest. (read, rest)) s.walked.read (told_both told (λ bytes most_room. (bytes, most_room)) failure.bytes (told_both told (λ most room. (most, room)) failure.whole failure.room)))
+
+-- the opening wasn't written
+pub unwritten-opening : (told : Bool) (h : Header) (v n width room : ℕ) (w : WalkView) (p : ValuePrinter) (a : SourceView) (old new : SinkView) (s : Starts h v n room w)
+    → Stands (look_of h s.var n width) [] p → Broke old new (opening (look_of h s.var n width)) → OnTrue told (IsUnwritten (dumped h a n width) v s.var room a a old new)
+unwritten-opening told h v n width room w p a old new s stands broke =
+    let d = dumped h a n width in
+    let text = front-in-text d v s.var 0 (omega arith) in
+    told_any told (record {
+      bytes = refl;
+      most = omega arith;
+      broke = subst (Broke old new) (sym (text.1 ∙ ap (λ (t : List ℕ). t ++ text.0) (front_nil (look_of h s.var n width))))
+          (broke-longer old new (opening (look_of h s.var n width)) text.0 broke);
+      keeps_up = inl refl;
+    })

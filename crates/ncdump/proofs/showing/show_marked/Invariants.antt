@@ -1,0 +1,14 @@
+use Rattle.std.proofs.Common.{◌≡◌, length}
+use Rattle.std.specs.Bool.{OnTrue}
+use Rattle.ncdump.specs.Shows.{dumped}
+use Rattle.ncdump.proofs.Marked.{Marked}
+use Rattle.ncdump.proofs.showing.show_marked.Given as goal
+
+-- no device has failed, and the marked variables before this place are shown
+abbrev pub invariant-loop-v : goal.invariant-loop-v
+invariant-loop-v g l = record {
+  source : (g.S.Source.seen l.source).failures ≡ (g.S.Source.seen l.fn.source).failures;
+  sink : (g.W.Sink.seen l.sink).failures ≡ (g.W.Sink.seen l.fn.sink).failures;
+  room : length l.buf ≡ length l.fn.buf;
+  marked : OnTrue g.S.Source.told (Marked (dumped l.header (g.S.Source.seen l.fn.source) l.count l.width) l.marks (length l.fn.buf) l.v (g.S.Source.seen l.fn.source) (g.S.Source.seen l.source) (g.W.Sink.seen l.fn.sink) (g.W.Sink.seen l.sink));
+}
