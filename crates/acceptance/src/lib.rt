@@ -1,4 +1,4 @@
-//! Tests that go across the crates: whole files, read and dumped through every lent buffer.
+//! Tests that go across the crates: whole files, read, walked and dumped through every lent buffer.
 #![tactic(auto)]
 
 #[cfg(test)]
@@ -7,3 +7,5 @@ mod dumps;
 mod files;
 #[cfg(test)]
 mod headers;
+#[cfg(test)]
+mod walks;
