@@ -1,6 +1,6 @@
 //! Bytes of a file that are read ahead.
 
-ghost use Rattle.std.specs.Prelude.{◌≡◌, ◌≤◌, ◌-◌, IfOk, length, take, drop};
+ghost use Rattle.std.specs.Prelude.{◌≡◌, ◌≤◌, ◌-◌, IfOk, OnOk, OnErr, length, take, drop};
 
 use std::fs::File;
 use std::io;
@@ -44,7 +44,10 @@ impl Ahead {
     }
 
     /// Reads from the offset `at` on, in place of the bytes before. Where the file fails, no bytes are left.
-    pub(crate) fn read(&mut self, file: &File, at: u64) -> io::Result<()> {
+    pub(crate) fn read(&mut self, file: &File, at: u64) -> io::Result<()>
+        ensures ok { OnOk result (self.new.at ≡ at) }
+        ensures err { OnErr result (self.new.len ≡ 0) }
+    {
         self.len = 0;
         self.len = file.read_at(&mut self.bytes, at)?;
         self.at = at;
