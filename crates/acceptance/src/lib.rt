@@ -8,4 +8,6 @@ mod files;
 #[cfg(test)]
 mod headers;
 #[cfg(test)]
+mod stretches;
+#[cfg(test)]
 mod walks;
