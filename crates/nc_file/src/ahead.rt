@@ -6,23 +6,23 @@ use std::fs::File;
 use std::io;
 use std::os::unix::fs::FileExt;
 
-/// How many bytes are read ahead at most: 64 KiB.
-pub(crate) const AHEAD_LEN: usize = 65536;
+/// How many bytes are read ahead at most: 16 KiB. A read of so many takes little longer than one of a few.
+pub(crate) const AHEAD_LEN: usize = 16384;
 
 /// The bytes of a file from one place on that were read ahead.
 #[derive(Drop)]
 pub(crate) struct Ahead {
-    bytes: [u8; 65536],
+    bytes: [u8; 16384],
     at: u64,
     len: usize,
-    ghost within: { len ≤ 65536 },
+    ghost within: { len ≤ 16384 },
 }
 
 impl Ahead {
     /// No bytes.
     pub(crate) fn new() -> Ahead {
         Ahead {
-            bytes: [0; 65536],
+            bytes: [0; 16384],
             at: 0,
             len: 0,
         }
