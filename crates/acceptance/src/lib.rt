@@ -11,3 +11,7 @@ mod headers;
 mod runs;
 #[cfg(test)]
 mod selections;
+#[cfg(test)]
+mod stretches;
+#[cfg(test)]
+mod walks;

@@ -3,20 +3,22 @@
 ghost use Rattle.std.specs.Prelude.{◌≡◌, ◌+◌, ◌^◌, ◌-◌, [], false, min, replicate, IfOk, IsErr};
 ghost use Rattle.nc_file.specs.Sinks.{Wrote};
 
+use crate::ahead::{Ahead, read_some};
 use crate::{OpenFailed, Sink, SinkFailed, Source, SourceFailed};
 use std::fs::File;
 use std::io;
 use std::io::{ErrorKind, Write};
-use std::os::unix::fs::FileExt;
 use std::rt::Files;
 
 /// A source over a file of the system, which does not tell its bytes.
 ///
-/// Its length is the file's at the time when it was opened. Each read is one call of the system, which is
-/// not tried again where it fails.
+/// Its length is the file's at the time when it was opened. A read of few bytes is one from a stretch of the file that
+/// is read ahead, so that reads which lie near each other take few calls of the system. A call that fails is not tried
+/// again.
 #[derive(Drop)]
 pub struct FileSource {
     file: File,
+    ahead: Ahead,
     len: u64,
     failures: u128,
     handed: u128,
@@ -39,6 +41,7 @@ impl FileSource {
         }
         Ok(FileSource {
             file,
+            ahead: Ahead::new(),
             len: metadata.len(),
             failures: 0,
             handed: 0,
@@ -60,7 +63,7 @@ impl Source for FileSource {
         if u128::MAX - self.handed < into.len() as u128 {
             return Err(SourceFailed);
         }
-        match self.file.read_at(into, at) {
+        match read_some(&self.file, &mut self.ahead, at, into) {
             Ok(n) => {
                 self.handed += n as u128;
                 Ok(n)

@@ -10,6 +10,7 @@
 //! slice, a few bytes a call. [`put`] writes all of the bytes that it is given.
 #![tactic(auto)]
 
+mod ahead;
 mod drip;
 mod fault;
 mod file;

@@ -3,7 +3,7 @@ use Rattle.std.specs.Prelude.{◌≡◌, ℕ, ◌≤◌, Bool, List, length, tak
 use Rattle.std.specs.Bool.{OnTrue}
 use Rattle.nc_file.specs.Sources.{SourceView, after, Failed}
 
--- n bytes from this place on stand in front of the slice: where the source tells its bytes, they fill it
+-- n bytes from this place on stand in front of the slice; where the source tells its bytes, they fill it
 pub record Filled (told : Bool) (old new : SourceView) (at : ℕ) (behind : List ℕ) (n : ℕ) : Type 0 where
   pub within : n ≤ length behind
   pub same : new ≡ after old n
@@ -16,6 +16,7 @@ pub record BrokeOff (old new : SourceView) (most : ℕ) : Type 0 where
   pub within : n ≤ most
   pub failed : Failed (after old n) new
 
+-- what filling a slice has done
 abbrev pub Fills : {E : Type 0} → Bool → SourceView → SourceView → ℕ → List ℕ → Result ℕ E → Type 0
 Fills told old new at behind (Ok n) = Filled told old new at behind n
 Fills told old new at behind (Err failure) = BrokeOff old new (length behind)

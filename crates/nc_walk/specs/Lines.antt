@@ -7,6 +7,7 @@ use Rattle.nc_base.specs.Types.{size_of}
 use Rattle.nc_base.specs.Sizes.{is_record_var, slab_count, record_size}
 use Rattle.nc_walk.specs.declared.line.Line.{Line}
 
+-- the number of values
 abbrev pub total : Line → ℕ
 total l = l.slabs * l.per
 

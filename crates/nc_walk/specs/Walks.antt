@@ -58,6 +58,7 @@ counted size (Ok (Some piece)) = count size piece
 counted size (Ok None) = 0
 counted size (Err fault) = 0
 
+-- the fault that an answer tells
 abbrev pub fault_of : Answer → Option WalkFault
 fault_of (Ok answer) = None
 fault_of (Err fault) = Some fault
@@ -132,7 +133,7 @@ stopped l done fault buf = record { size = l.size; left = offsets_behind l done;
 abbrev pub standing : Line → ℕ → List ℕ → WalkView
 standing l done buf = stopped l done None buf
 
--- the fields of a walk
+-- what holds of the fields of every walk
 pub record IsInOrder (l : Line) (done : ℕ) (buf : List ℕ) : Type 0 where
   pub sized : IsSized l
   pub within : done ≤ total l

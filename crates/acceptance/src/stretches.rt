@@ -1,0 +1,44 @@
+//! A file of the system, read at many places.
+
+use nc_file::{FileSource, Source};
+use std::alloc::{AllocError, Global};
+use std::fs;
+use std::process::Abort;
+use std::test::Fail;
+
+/// So many bytes, of which no two that are a power of two apart are the same.
+fn distinct_bytes(alloc: Global, len: u32) -> Result<Vec<u8>, AllocError> {
+    let mut bytes = Vec::new(alloc);
+    for i in 0..len {
+        bytes.push((i % 251) as u8)?;
+    }
+    Ok(bytes)
+}
+
+/// Reads once, and asserts that the source hands over bytes of this file: one at least, but at its end.
+fn reads(rt: &impl Abort, source: &mut FileSource, file: &[u8], at: usize, into: &mut [u8]) {
+    let answer = source.read_at(at as u64, into);
+    let n = answer.unwrap_or(usize::MAX);
+    assert!(rt; at <= file.len() && n <= file.len() - at && n <= into.len());
+    assert!(rt; into[..n] == file[at..at + n]);
+    assert!(rt; 0 < n || at == file.len());
+}
+
+#[test]
+fn places_of_a_file(rt: HostRuntime) -> Result<(), Fail> {
+    let file = distinct_bytes(rt.alloc(), 200000)?;
+    let path = "acceptance_stretches.nc";
+    fs::write(&rt, path, file.as_slice())?;
+    let mut source = FileSource::open(&rt, path)?;
+    fs::remove_file(&rt, path)?;
+    let mut few = [0; 16];
+    let mut many = [0; 20000];
+    for at in [
+        0, 5, 16380, 16383, 16384, 131071, 3, 199990, 199999, 200000, 70000, 10,
+    ] {
+        reads(&rt, &mut source, file.as_slice(), at, &mut few);
+        reads(&rt, &mut source, file.as_slice(), at, &mut many);
+        reads(&rt, &mut source, file.as_slice(), at, &mut few);
+    }
+    Ok(())
+}
