@@ -98,9 +98,6 @@ pub const LARGE_SLAB: &[u8] = b"CDF\x01\0\0\0\0\
 
 /// `t = UNLIMITED`, `int v(t)`, and no records: the header alone.
 pub const NO_RECORDS: &[u8] = b"CDF\x01\0\0\0\0\
-
-/// The record dimension `t`, `byte b(t)` alone and three records: 80 bytes of header, and a byte a record.
-pub const RECORD_BYTES: &[u8] = b"CDF\x01\0\0\0\x03\
     \0\0\0\x0a\0\0\0\x01\
     \0\0\0\x01t\0\0\0\0\0\0\0\
     \0\0\0\0\0\0\0\0\
@@ -175,6 +172,12 @@ pub const UNSIGNED_FILLS: &[u8] = b"CDF\x05\0\0\0\0\0\0\0\0\
     \xff\xff\xff\xff\
     \xff\xff\xff\xff\xff\xff\xff\xfe";
 
+/// The record dimension `t`, `byte b(t)` alone and three records: 80 bytes of header, and a byte a record.
+pub const RECORD_BYTES: &[u8] = b"CDF\x01\0\0\0\x03\
+    \0\0\0\x0a\0\0\0\x01\
+    \0\0\0\x01t\0\0\0\0\0\0\0\
+    \0\0\0\0\0\0\0\0\
+    \0\0\0\x0b\0\0\0\x01\
     \0\0\0\x01b\0\0\0\
     \0\0\0\x01\0\0\0\0\
     \0\0\0\0\0\0\0\0\
