@@ -67,18 +67,6 @@ fn refused_headers(rt: HostRuntime) -> Result<(), Fail> {
 }
 
 #[test]
-fn values_are_not_yet_shown(rt: HostRuntime) -> Result<(), Fail> {
-    dumps(
-        &rt,
-        rt.alloc(),
-        files::GENERATED,
-        Err(DumpFault::NotYet),
-        b"",
-    )?;
-    Ok(())
-}
-
-#[test]
 fn head_of_a_generated_file(rt: HostRuntime) -> Result<(), Fail> {
     let text = b"netcdf t {\ndimensions:\n\tx = 3 ;\nvariables:\n\tshort s(x) ;\n}\n";
     let options = options(rt.alloc(), true)?;

@@ -14,4 +14,6 @@ mod selections;
 #[cfg(test)]
 mod stretches;
 #[cfg(test)]
+mod values;
+#[cfg(test)]
 mod walks;

@@ -98,3 +98,10 @@ pub fn choosing(alloc: Global, names: &[&[u8]]) -> Result<DumpOptions, AllocErro
     options.chosen = Some(chosen);
     Ok(options)
 }
+
+/// The options of a plain dump in lines of this width.
+pub fn with_width(alloc: Global, width: usize) -> Result<DumpOptions, AllocError> {
+    let mut options = options(alloc, false)?;
+    options.width = width;
+    Ok(options)
+}

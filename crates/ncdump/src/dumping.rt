@@ -12,7 +12,7 @@ use crate::showing::show;
 use nc_file::{Sink, Source, read_header};
 use std::alloc::Global;
 
-/// Writes the dump of the file that the source has, through a lent buffer of at least 16 bytes, in lines of 20 to 1000 bytes.
+/// Writes the dump of the file that the source has, through a lent buffer of at least 16 bytes.
 ///
 /// The text is that of ncdump(1): the header in CDL, and behind `data:` the values of the shown variables. It takes memory
 /// for the header and for chosen names, and none for values.
@@ -29,8 +29,7 @@ pub fn dump<S: Source, W: Sink>(
     buf: &mut [u8],
     sink: &mut W,
 ) -> Result<(), DumpFault>
-    requires width { (20 ≤ options.now.width) × (options.now.width ≤ 1000) }
-    requires room { 16 ≤ length buf.old }
+    requires { 16 ≤ length buf.old }
     ensures source { ReadFailsOnly (S.seen source.old) (S.seen source.new) result }
     ensures sink { WriteFailsOnly (W.seen sink.old) (W.seen sink.new) result }
     ensures answer { OnTrue S.told (Dumps (S.seen source.old).bytes (options_of options.now) (W.seen sink.old) (W.seen sink.new) result) }

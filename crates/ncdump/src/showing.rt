@@ -36,7 +36,6 @@ pub fn show<S: Source, W: Sink>(
 ) -> Result<(), DumpFault>
     requires sound { IsSound header.now }
     requires marks { length shown.now ≡ length header.now.vars }
-    requires width { (20 ≤ options.now.width) × (options.now.width ≤ 1000) }
     requires room { 16 ≤ length buf.old }
     ensures source { ReadFailsOnly (S.seen source.old) (S.seen source.new) result }
     ensures sink { ShowsOrFails (W.seen sink.old) (W.seen sink.new) result }
