@@ -1,3 +1,4 @@
+pub mod CommandLines
 pub mod DumpLaws
 pub mod NameSets
 pub mod Shown

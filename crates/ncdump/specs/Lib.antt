@@ -2,3 +2,6 @@ pub mod Faults
 pub mod Dumps
 pub mod Names
 pub mod Selections
+pub mod CommandLine
+pub mod Failures
+pub mod Runs
