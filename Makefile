@@ -3,7 +3,11 @@
 sample = samples/records.nc
 # where rt leaves the program that it has proved and built
 built = crates/ncdump_cli/out/ncdump_cli
-install = mkdir -p bin && cp $(built) bin/ncdump
+keep = mkdir -p bin && cp $(built) bin/ncdump
+# where `make install` puts the program and its manual page
+PREFIX = /usr/local
+programs = $(DESTDIR)$(PREFIX)/bin
+pages = $(DESTDIR)$(PREFIX)/share/man/man1
 
 # Proves and builds the program, and prints the sample as CDL.
 all: bin/ncdump
@@ -12,14 +16,21 @@ all: bin/ncdump
 # Proves and builds the program. rt sees what has changed, and runs what it has built, here on the sample.
 bin/ncdump: FORCE
 	cd crates/ncdump_cli && rt run -- ../../$(sample) >/dev/null
-	$(install)
+	$(keep)
 
 # The merge gate: every proof from nothing, the must-fail edits, the tests and the program's stored run, and then the
 # end-to-end tests of the program that the gate has built.
 test:
 	rt ci
-	$(install)
+	$(keep)
 	tests/run.sh
+
+# Installs the program and its manual page, and proves and builds the program first where that isn't done.
+install:
+	test -x bin/ncdump || $(MAKE) bin/ncdump
+	install -d $(programs) $(pages)
+	install -m 755 bin/ncdump $(programs)/ncdump
+	install -m 644 man/ncdump.1 $(pages)/ncdump.1
 
 # Proves every crate, over what earlier runs kept.
 check:
@@ -31,4 +42,4 @@ clean:
 
 FORCE:
 
-.PHONY: all test check clean FORCE
+.PHONY: all test install check clean FORCE

@@ -87,12 +87,12 @@ smallest() {
     { printf 'CDF\001' && zeros 28; } >"$1"
 }
 
-# large NAME: makes a file whose attribute `note` is a line of 20000 bytes, more than the writer holds back.
+# large NAME: makes a file whose attribute `note` is a line of 100000 bytes, more than the writer holds back.
 large() {
     {
         printf 'CDF\001' && zeros 12
-        printf '\000\000\000\014\000\000\000\001\000\000\000\004note\000\000\000\002\000\000\116\040'
-        zeros 20000 | tr '\000' a
+        printf '\000\000\000\014\000\000\000\001\000\000\000\004note\000\000\000\002\000\001\206\240'
+        zeros 100000 | tr '\000' a
         zeros 8
     } >"$1"
 }
@@ -127,7 +127,7 @@ cdl text_attribute_of_two_lines "$samples/note.nc" \
 
 large large.nc
 cdl long_text large.nc \
-    "netcdf large {\\n\\n// global attributes:\\n\\t\\t:note = \"$(zeros 20000 | tr '\000' a)\" ;\\n}\\n"
+    "netcdf large {\\n\\n// global attributes:\\n\\t\\t:note = \"$(zeros 100000 | tr '\000' a)\" ;\\n}\\n"
 
 # The head alone.
 head_of head_of_a_file_without_variables "$samples/records.nc" \
@@ -183,13 +183,59 @@ verdict no_word 1
 stderr "$usage"
 run "$ncdump" data.nc data.nc
 verdict two_words 1
-for words in '-h' '-h -h' '-h data.nc data.nc' '-c data.nc'; do
+for words in '-h' '-h -h' '-h data.nc data.nc' '-h -h data.nc' '-hh data.nc' '-c -h data.nc' '-ch data.nc' \
+    '-l 19 data.nc' '-l 1001 data.nc' '-l 20x data.nc' '-l +20 data.nc' '-l 80 -l 80 data.nc' 'data.nc -l' \
+    '-n a -n b data.nc' '-v' '-V data.nc' '-k data.nc' '--help' '--version' '--help data.nc'; do
     stderr "$usage"
     # The words are meant to be split.
     # shellcheck disable=SC2086
     run "$ncdump" $words
     verdict "usage_of_$(printf '%s' "$words" | tr ' ' '_')" 1
 done
+stderr "$usage"
+run "$ncdump" -l '' data.nc
+verdict usage_of_an_empty_width 1
+stderr "$usage"
+run "$ncdump" "$(printf 'a\377.nc')"
+verdict word_that_is_not_utf_8 1
+
+# options NAME TEXT WORD..: the words give the text, with printf's escapes, and nothing else is written.
+options() {
+    stdout "$2"
+    name=$1
+    shift 2
+    run "$ncdump" "$@"
+    verdict "$name" 0
+}
+
+{
+    printf 'CDF\001' && zeros 20
+    printf '\000\000\000\013\000\000\000\002'
+    printf '\000\000\000\001a\000\000\000' && zeros 12
+    printf '\000\000\000\001\000\000\000\004\000\000\000\140'
+    printf '\000\000\000\001b\000\000\000' && zeros 12
+    printf '\000\000\000\001\000\000\000\004\000\000\000\144'
+    printf '\007\200\200\200\010\200\200\200'
+} >ab.nc
+head='variables:\n\tbyte a ;\n\tbyte b ;\n}\n'
+options head_of_two_variables "netcdf ab {\\n$head" -h ab.nc
+options name_of_the_option "netcdf other {\\n$head" -n other -h ab.nc
+options name_behind_the_path "netcdf other {\\n$head" ab.nc -hnother
+options chosen_names "netcdf ab {\\n$head" -h ab.nc -v a,b
+options no_coordinates "netcdf ab {\\n${head%\}*}data:\\n}\\n" -c ab.nc
+options smallest_width 'netcdf a.b {\n}\n' -l 20 dir/a.b.nc
+options greatest_width 'netcdf a.b {\n}\n' -l 1000 dir/a.b.nc
+options width_with_zeros 'netcdf a.b {\n}\n' -l 0080 dir/a.b.nc
+options path_behind_two_dashes 'netcdf a.b {\n}\n' -- dir/a.b.nc
+stderr 'ncdump: ab.nc: no such variable: item 1 of -v\n'
+run "$ncdump" -v a,,b ab.nc
+verdict empty_name_between_commas 1
+stderr 'ncdump: ab.nc: no such variable: item 0 of -v\n'
+run "$ncdump" -v '' ab.nc
+verdict empty_name 1
+stderr 'ncdump: missing.nc: cannot open\n'
+run "$ncdump" -h -n other missing.nc
+verdict missing_path_with_options 1
 
 # Devices that take nothing.
 run to_full_device "$samples/records.nc"

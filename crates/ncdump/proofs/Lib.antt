@@ -1,3 +1,4 @@
+pub mod CommandLines
 pub mod NameSets
 pub mod Unknown
 pub mod Fronts

@@ -3,3 +3,6 @@ pub mod Dumps
 pub mod Names
 pub mod Selections
 pub mod Shows
+pub mod CommandLine
+pub mod Failures
+pub mod Runs

@@ -1,20 +1,27 @@
-//! The dump of a netCDF classic file as CDL text.
+//! The dump of a netCDF classic file as CDL text, and the command line of the program `ncdump`.
 //!
 //! [`dump`] reads a file and writes its text, and [`fault_line`] says why it could not. What is shown, and under which
-//! name, is said by [`DumpOptions`].
+//! name, is said by [`DumpOptions`], which [`options_of`] reads from the matches of [`command`]. [`run`] is the whole
+//! program, but for the flush of its streams.
 #![tactic(auto)]
 
+mod command_line;
 mod dumping;
+mod failure;
 mod fault;
 mod line;
 mod names;
 mod options;
+mod running;
 mod selection;
 mod showing;
 
+pub use command_line::{OptFault, command, options_of};
 pub use dumping::dump;
+pub use failure::opt_fault_line;
 pub use fault::DumpFault;
 pub use line::fault_line;
 pub use options::DumpOptions;
+pub use running::run;
 pub use selection::select;
 pub use showing::show;

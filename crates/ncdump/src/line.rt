@@ -111,8 +111,9 @@ fn format_words(fault: FormatFault) -> &'static [u8]
     }
 }
 
+/// What each line of the program begins with.
 #[tactic(auto, unfolding(crate::specs::Faults::program_words))]
-fn program_words() -> &'static [u8]
+pub(crate) fn program_words() -> &'static [u8]
     ensures { result.now ≡ program_words }
 {
     b"ncdump: "

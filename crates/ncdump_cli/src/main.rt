@@ -1,38 +1,47 @@
-//! `ncdump FILE` writes a netCDF classic file as CDL text to standard output, and `ncdump -h FILE` its header alone.
+//! The program `ncdump [-h] [-c] [-v names] [-n name] [-l width] file`: a netCDF classic file as CDL text.
 //!
-//! Where it can't, one line on standard error says why, and the status is 1.
+//! Where it can't write the text to standard output, one line on standard error says why, and the status is 1. All of this
+//! is done by [`ncdump::run`]; here are the words and the standard streams.
 #![tactic(auto)]
 
-mod dumping;
-mod failure;
+mod status;
 mod words;
 
-use dumping::dump_path;
-use failure::{Failure, put_failure};
-use nc_file::IoSink;
-use std::env;
+use nc_file::{IoSink, Sink};
+use ncdump::{OptFault, opt_fault_line, run};
+use status::flushed;
 use std::fs::File;
+use std::io::BufWriter;
 use std::process::ExitCode;
 use std::rt::{Env, Files};
-use words::{command_of, options_of, unread};
+use std::{env, io};
+use words::unread;
+
+/// How many bytes are held back before standard output.
+const HELD_BACK: usize = 65536;
 
 fn main(rt: HostRuntime) -> ExitCode {
-    match run(&rt) {
-        Ok(()) => ExitCode::SUCCESS,
-        Err(failure) => {
+    let mut err = IoSink::new(rt.stderr());
+    match run_words(&rt, &mut err) {
+        Ok(status) => ExitCode::from(status),
+        Err(fault) => {
             // A line that standard error doesn't take changes no status.
-            let _ = put_failure(&mut IoSink::new(rt.stderr()), &failure);
+            let _ = opt_fault_line(&mut err, fault);
             ExitCode::FAILURE
         }
     }
 }
 
-/// Writes the dump of the file that the program's words name.
-fn run<R: Env + Files<File = File> + Print + AllocGlobal>(rt: &R) -> Result<(), Failure> {
-    let command = command_of(env::args(rt).map_err(unread)?)?;
-    let options = options_of(rt.alloc(), command)?;
-    match dump_path(rt, &options) {
-        Ok(()) => Ok(()),
-        Err(fault) => Err(Failure::File(options.file, fault)),
-    }
+/// Runs the program on the words that it was called with, and gives its exit status.
+fn run_words<R: Env + Files<File = File> + Print + AllocGlobal, E: Sink>(
+    rt: &R,
+    err: &mut E,
+) -> Result<u8, OptFault> {
+    let alloc = rt.alloc();
+    let words: Vec<String> = env::args(rt).map_err(unread)?.collect(alloc)?;
+    let texts: Vec<&str> = words.iter().map(|word| word.as_str()).collect(alloc)?;
+    let writer = BufWriter::with_capacity(alloc, HELD_BACK, io::writer(rt)).map_err(unread)?;
+    let mut out = IoSink::new(writer);
+    let status = run(rt, alloc, texts.as_slice(), &mut out, err);
+    Ok(flushed(&mut out, status))
 }

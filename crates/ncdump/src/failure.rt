@@ -1,20 +1,21 @@
-//! Why the program failed, and the line that says so.
+//! Why a run failed, and the line that says so.
 
 ghost use Rattle.std.specs.Prelude.{◌≡◌};
 ghost use Rattle.nc_file.specs.Sinks.{Wrote};
-ghost use Rattle.ncdump_cli.specs.Failures.{cannot_open_line, cannot_open_words, file_line, line_of_failure, usage_line};
-ghost use Rattle.ncdump_cli.specs.declared.failure.FileFault.TheVariants.{CannotOpen, Dump, FlushFailed as flush_failed};
+ghost use Rattle.ncdump.specs.Failures.{cannot_open_line, cannot_open_words, file_line, line_of_failure, opt_fault_line, usage_line};
+ghost use Rattle.ncdump.specs.declared.failure.Failure.TheVariants.{CommandLine as command_line};
+ghost use Rattle.ncdump.specs.declared.failure.FileFault.TheVariants.{CannotOpen, Dump};
 
-use nc_file::{OpenFailed, Sink, SinkFailed, WriteFailed, put};
-use ncdump::{DumpFault, fault_line};
+use crate::command_line::OptFault;
+use crate::fault::DumpFault;
+use crate::line::{fault_line, program_words};
+use nc_file::{OpenFailed, Sink, WriteFailed, put};
 
-/// Why the program failed.
+/// Why a run failed.
 #[derive(Debug, Drop)]
 pub enum Failure {
-    /// The words are not those that the program takes.
-    Usage,
-    /// Memory was refused before the file was known.
-    OutOfMemory,
+    /// What is wrong with the command line.
+    CommandLine(OptFault),
     /// What is wrong with the file at this path, or with the writing of its dump.
     File(String, FileFault),
 }
@@ -26,8 +27,14 @@ pub enum FileFault {
     CannotOpen,
     /// The file could not be dumped.
     Dump(DumpFault),
-    /// Standard output didn't take the end of the text.
-    FlushFailed,
+}
+
+impl From<OptFault> for Failure {
+    ghost from_gives = { λ fault e. e ≡ command_line fault };
+
+    fn from(fault: OptFault) -> Failure {
+        Failure::CommandLine(fault)
+    }
 }
 
 impl From<OpenFailed> for FileFault {
@@ -46,15 +53,7 @@ impl From<DumpFault> for FileFault {
     }
 }
 
-impl From<SinkFailed> for FileFault {
-    ghost from_gives = { λ _ e. e ≡ flush_failed };
-
-    fn from(_failure: SinkFailed) -> FileFault {
-        FileFault::FlushFailed
-    }
-}
-
-/// Writes the line that tells a failure. None tells a failed flush.
+/// Writes the line that tells a failure.
 ///
 /// # Errors
 ///
@@ -64,21 +63,32 @@ pub fn put_failure<W: Sink>(sink: &mut W, failure: &Failure) -> Result<(), Write
     ensures { Wrote (W.seen sink.old) (W.seen sink.new) (line_of_failure failure.now) result }
 {
     match failure {
-        Failure::Usage => put_usage(sink),
-        Failure::OutOfMemory => put(sink, b"ncdump: out of memory\n"),
+        Failure::CommandLine(fault) => opt_fault_line(sink, *fault),
         Failure::File(path, fault) => put_file_fault(sink, path.as_bytes(), *fault),
     }
 }
 
-/// Writes the line that tells how the program is used.
-#[tactic(auto, unfolding(crate::specs::Failures::usage_line))]
-fn put_usage<W: Sink>(sink: &mut W) -> Result<(), WriteFailed>
-    ensures { Wrote (W.seen sink.old) (W.seen sink.new) usage_line result }
+/// Writes the line that tells a fault of the command line: `ncdump: out of memory`, or how the program is used.
+///
+/// # Errors
+///
+/// The sink failed. It took some front of the line.
+#[tactic(auto, unfolding(crate::specs::Failures::opt_fault_line))]
+pub fn opt_fault_line<W: Sink>(sink: &mut W, fault: OptFault) -> Result<(), WriteFailed>
+    ensures { Wrote (W.seen sink.old) (W.seen sink.new) (opt_fault_line fault) result }
 {
-    put(
-        sink,
-        b"usage: ncdump [-h] [-c] [-v names] [-n name] [-l width] file\n",
-    )
+    match fault {
+        OptFault::OutOfMemory => put(sink, b"ncdump: out of memory\n"),
+        OptFault::Usage => put(sink, usage_line()),
+    }
+}
+
+/// The line that tells how the program is used.
+#[tactic(auto, unfolding(crate::specs::Failures::usage_line))]
+fn usage_line() -> &'static [u8]
+    ensures { result.now ≡ usage_line }
+{
+    b"usage: ncdump [-h] [-c] [-v names] [-n name] [-l width] file\n"
 }
 
 /// Writes the line that tells a fault of the file at this path.
@@ -89,7 +99,6 @@ fn put_file_fault<W: Sink>(sink: &mut W, path: &[u8], fault: FileFault) -> Resul
     match fault {
         FileFault::CannotOpen => put_cannot_open(sink, path),
         FileFault::Dump(fault) => fault_line(sink, path, &fault),
-        FileFault::FlushFailed => put(sink, b""),
     }
 }
 
@@ -98,7 +107,7 @@ fn put_file_fault<W: Sink>(sink: &mut W, path: &[u8], fault: FileFault) -> Resul
 fn put_cannot_open<W: Sink>(sink: &mut W, path: &[u8]) -> Result<(), WriteFailed>
     ensures { Wrote (W.seen sink.old) (W.seen sink.new) (cannot_open_line path.now) result }
 {
-    put(sink, b"ncdump: ")?;
+    put(sink, program_words())?;
     put(sink, path)?;
     put(sink, cannot_open_words())
 }

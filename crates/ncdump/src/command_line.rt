@@ -1,0 +1,213 @@
+//! The words of the command line.
+
+ghost use Rattle.std.specs.Prelude.{◌≡◌, ◌≢◌, [], ◌∷◌, false, IfOk, map, option_map, unwrap_or};
+ghost use Rattle.std.specs.Char.{is_ascii_digit};
+ghost use Rattle.std.specs.Int.{is_in_range};
+ghost use Rattle.std.specs.List.{list_all};
+ghost use Rattle.clap.specs.Words.{app_of, found_of, first_of, kind_of, rows_of, rule_of};
+ghost use Rattle.clap.specs.declared.error.kind.ErrorKind.TheVariants as kind;
+ghost use Rattle.nc_base.specs.Paths.{stem_of};
+ghost use Rattle.ncdump.specs.CommandLine.{ncdump, asked_by, asked_in, flag, option, is_given, names_in, width_in, width_of, Answers};
+ghost use Rattle.ncdump.specs.declared.command_line.OptFault.TheVariants.{OutOfMemory as out_of_memory, Usage as usage};
+
+use crate::options::DumpOptions;
+use clap::error::ErrorKind;
+use clap::{Arg, ArgAction, ArgMatches, Command, Error};
+use nc_base::{Sequence, stem};
+use std::alloc::{AllocError, Global};
+
+/// Why the command line could not be read.
+#[derive(Clone, Copy, Debug, PartialEq, Eq)]
+pub enum OptFault {
+    /// Memory was refused.
+    OutOfMemory,
+    /// The words are not those that the program takes.
+    Usage,
+}
+
+impl From<AllocError> for OptFault {
+    ghost from_gives = { λ _ e. e ≡ out_of_memory };
+
+    fn from(_refusal: AllocError) -> OptFault {
+        OptFault::OutOfMemory
+    }
+}
+
+impl From<Error> for OptFault {
+    ghost from_gives = { λ error e. (kind_of error ≡ kind.OutOfMemory → e ≡ out_of_memory) × (kind_of error ≢ kind.OutOfMemory → e ≡ usage) };
+
+    fn from(error: Error) -> OptFault {
+        match error.kind() {
+            ErrorKind::OutOfMemory => OptFault::OutOfMemory,
+            _ => OptFault::Usage,
+        }
+    }
+}
+
+/// The command `ncdump [-h] [-c] [-v names] [-n name] [-l width] file` of ncdump(1).
+///
+/// It takes each option once, before the file or behind it. What the words ask for is said by [`options_of`].
+///
+/// # Errors
+///
+/// Memory was refused.
+pub fn command<'a>(alloc: Global) -> Result<Command<'a>, AllocError>
+    ensures { IfOk result (λ command. app_of command ≡ ncdump) }
+{
+    Command::new(alloc, "ncdump")
+        .disable_help_flag(true)
+        .disable_version_flag(true)
+        .arg(flag(alloc, "head", 'h'))?
+        .arg(flag(alloc, "coords", 'c'))?
+        .arg(option(alloc, "names", 'v'))?
+        .arg(option(alloc, "name", 'n'))?
+        .arg(option(alloc, "width", 'l'))?
+        .arg(Arg::new(alloc, "file"))
+}
+
+/// An option of one letter that takes no value.
+fn flag<'a>(alloc: Global, id: &'a str, letter: char) -> Arg<'a>
+    ensures rule { rule_of result ≡ flag id.entry.now (letter ∷ []) }
+    ensures local { result.global ≡ false }
+{
+    Arg::new(alloc, id).short(letter).action(ArgAction::SetTrue)
+}
+
+/// An option of one letter that takes a value.
+fn option<'a>(alloc: Global, id: &'a str, letter: char) -> Arg<'a>
+    ensures rule { rule_of result ≡ option id.entry.now (letter ∷ []) }
+    ensures local { result.global ≡ false }
+{
+    Arg::new(alloc, id).short(letter).action(ArgAction::Set)
+}
+
+/// What the words ask for, the first of which is the program's name.
+///
+/// # Errors
+///
+/// Those of [`options_of`], and [`OptFault::Usage`] for words that the command doesn't take.
+pub(crate) fn options_by(alloc: Global, words: &[&str]) -> Result<DumpOptions, OptFault>
+    ensures { Answers (asked_by (map (λ word. word.now) words.now)) result }
+{
+    let matches = command(alloc)?.try_get_matches_from(words)?;
+    options_of(alloc, &matches)
+}
+
+/// What the matches of [`command`] ask for.
+///
+/// The file is the path; the name that of `-n`, or else the [`stem`] of the path; the header alone is `-h`, and the values
+/// of coordinate variables `-c`. The chosen names are those of `-v`, between its commas, also empty ones; the width is that
+/// of `-l`, or else 80 bytes.
+///
+/// # Errors
+///
+/// [`OptFault::Usage`] where there is no file, where both `-c` and `-h` are given, and for a width that is not of decimal
+/// digits alone, or not from 20 to 1000; [`OptFault::OutOfMemory`] only where memory was refused.
+#[tactic(auto, unfolding(crate::specs::CommandLine::asked_in))]
+pub fn options_of(alloc: Global, matches: &ArgMatches) -> Result<DumpOptions, OptFault>
+    ensures { Answers (asked_in (rows_of (found_of matches.now))) result }
+{
+    let head_only = is_given(matches, "head");
+    let coords = is_given(matches, "coords");
+    if head_only && coords {
+        return Err(OptFault::Usage);
+    }
+    let path = value_of(matches, "file").ok_or(OptFault::Usage)?;
+    let width = width_in(value_of(matches, "width")).ok_or(OptFault::Usage)?;
+    Ok(DumpOptions {
+        file: String::from_str(alloc, path)?,
+        name: name_of(alloc, value_of(matches, "name"), path)?,
+        head_only,
+        coords,
+        chosen: chosen_in(alloc, value_of(matches, "names"))?,
+        width,
+    })
+}
+
+/// Says whether the flag with this id is given.
+fn is_given(matches: &ArgMatches, id: &str) -> bool
+    ensures { result ≡ is_given (rows_of (found_of matches.now)) id.now }
+{
+    matches.get_one(id).unwrap_or(false)
+}
+
+/// The value of the argument with this id, if it is given.
+fn value_of<'a>(matches: &ArgMatches<'a>, id: &str) -> Option<&'a str>
+    ensures { option_map (λ value. value.now) result ≡ first_of id.now (rows_of (found_of matches.now)) }
+{
+    matches.get_str(id)
+}
+
+/// The width that `-l` asks for, or else 80, in bytes.
+fn width_in(word: Option<&str>) -> Option<usize>
+    ensures { result ≡ width_in (option_map (λ value. value.now) word.entry) }
+{
+    match word {
+        Some(word) => width_of(word),
+        None => Some(80),
+    }
+}
+
+/// The width that a word writes.
+fn width_of(word: &str) -> Option<usize>
+    ensures { result ≡ width_of word.now }
+{
+    if !is_of_digits(word) {
+        return None;
+    }
+    let width = word.parse().ok()?;
+    is_width(width).then_some(width)
+}
+
+/// Says whether a line may be so many bytes wide.
+fn is_width(width: usize) -> bool
+    ensures { result ≡ is_in_range 20 1000 width }
+{
+    20 <= width && width <= 1000
+}
+
+/// Says whether the word is of decimal digits alone.
+fn is_of_digits(word: &str) -> bool
+    ensures { result ≡ list_all is_ascii_digit word.now }
+{
+    word.as_bytes().iter().all(|byte| byte.is_ascii_digit())
+}
+
+/// The name that `-n` asks for, or else the stem of the path.
+fn name_of(alloc: Global, word: Option<&str>, path: &str) -> Result<Sequence<u8>, AllocError>
+    ensures { IfOk result (λ name. name ≡ unwrap_or (option_map (λ value. value.now) word.entry) (stem_of path.now)) }
+{
+    bytes_of(alloc, word.unwrap_or(stem(path)))
+}
+
+/// The names that `-v` asks for.
+fn chosen_in(
+    alloc: Global,
+    word: Option<&str>,
+) -> Result<Option<Sequence<Sequence<u8>>>, AllocError>
+    ensures { IfOk result (λ chosen. chosen ≡ option_map names_in (option_map (λ value. value.now) word.entry)) }
+{
+    match word {
+        Some(word) => Ok(Some(names_in(alloc, word)?)),
+        None => Ok(None),
+    }
+}
+
+/// The names in a word, between its commas.
+fn names_in(alloc: Global, word: &str) -> Result<Sequence<Sequence<u8>>, AllocError>
+    ensures { IfOk result (λ names. names ≡ names_in word.now) }
+{
+    let mut names = Sequence::new(alloc);
+    for name in word.split(',') {
+        names.push(bytes_of(alloc, name)?)?;
+    }
+    Ok(names)
+}
+
+/// The bytes of a text.
+fn bytes_of(alloc: Global, text: &str) -> Result<Sequence<u8>, AllocError>
+    ensures { IfOk result (λ bytes. bytes ≡ text.now) }
+{
+    let bytes = Vec::from_slice(alloc, text.as_bytes())?;
+    Ok(Sequence::from_vec(bytes))
+}

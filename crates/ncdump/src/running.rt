@@ -1,0 +1,88 @@
+//! A run of the program.
+
+ghost use Rattle.std.specs.Prelude.{◌≡◌, ◌⊎◌, map};
+ghost use Rattle.std.specs.Bool.{OnTrue};
+ghost use Rattle.ncdump.specs.CommandLine.{asked_by};
+ghost use Rattle.ncdump.specs.Dumps.{options_of, Dumps};
+ghost use Rattle.ncdump.specs.Dumps as dumps;
+ghost use Rattle.ncdump.specs.Runs.{OfDump, WriteFailsOnly, Ends, Succeeded, Failed};
+ghost use Rattle.ncdump.specs.Shows.{ReadFailsOnly};
+
+use crate::command_line::options_by;
+use crate::dumping::dump;
+use crate::failure::{Failure, FileFault, put_failure};
+use crate::options::DumpOptions;
+use nc_file::{FileSource, Sink, Source};
+use std::alloc::Global;
+use std::fs::File;
+use std::rt::Files;
+
+/// Runs the program on its words, the first of which is its name, and gives its exit status.
+///
+/// The status is 0 where the dump that the words ask for was written to standard output, and 1 otherwise. Then a line is
+/// written to standard error that tells why: the first fault of the command line, of opening the file, and of its dump. A
+/// line that standard error doesn't take changes no status. Neither device is flushed.
+pub fn run<O: Sink, E: Sink>(
+    rt: &impl Files<File = File>,
+    alloc: Global,
+    words: &[&str],
+    out: &mut O,
+    err: &mut E,
+) -> u8
+    ensures status { (result ≡ 0) ⊎ (result ≡ 1) }
+    ensures success { result ≡ 0 → Succeeded (asked_by (map (λ word. word.now) words.now)) (O.seen out.old) (O.seen out.new) (E.seen err.old) (E.seen err.new) }
+    ensures failure { result ≡ 1 → Failed (asked_by (map (λ word. word.now) words.now)) (O.seen out.old) (O.seen out.new) (E.seen err.old) (E.seen err.new) }
+{
+    match dump_asked(rt, alloc, words, out) {
+        Ok(()) => 0,
+        Err(failure) => {
+            let _ = put_failure(err, &failure);
+            1
+        }
+    }
+}
+
+/// Writes the dump that the words ask for.
+fn dump_asked<O: Sink>(
+    rt: &impl Files<File = File>,
+    alloc: Global,
+    words: &[&str],
+    out: &mut O,
+) -> Result<(), Failure>
+    ensures { Ends (asked_by (map (λ word. word.now) words.now)) (O.seen out.old) (O.seen out.new) result }
+{
+    let options = options_by(alloc, words)?;
+    match dump_path(rt, alloc, &options, out) {
+        Ok(()) => Ok(()),
+        Err(fault) => Err(Failure::File(options.file, fault)),
+    }
+}
+
+/// Writes the dump of the file that the options name.
+fn dump_path<O: Sink>(
+    rt: &impl Files<File = File>,
+    alloc: Global,
+    options: &DumpOptions,
+    out: &mut O,
+) -> Result<(), FileFault>
+    ensures { WriteFailsOnly (O.seen out.old) (O.seen out.new) result }
+{
+    let mut source = FileSource::open(rt, options.file.as_str())?;
+    dump_whole(alloc, &mut source, options, out)
+}
+
+/// Writes the dump of the file that the source has, through a buffer of its own.
+fn dump_whole<S: Source, W: Sink>(
+    alloc: Global,
+    source: &mut S,
+    options: &DumpOptions,
+    sink: &mut W,
+) -> Result<(), FileFault>
+    ensures reads { OfDump (ReadFailsOnly (S.seen source.old) (S.seen source.new)) result }
+    ensures writes { OfDump (dumps.WriteFailsOnly (W.seen sink.old) (W.seen sink.new)) result }
+    ensures shows { OnTrue S.told (OfDump (Dumps (S.seen source.old).bytes (options_of options.now) (W.seen sink.old) (W.seen sink.new)) result) }
+{
+    let mut buf = [0u8; 4096];
+    dump(alloc, source, options, &mut buf, sink)?;
+    Ok(())
+}
