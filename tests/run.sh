@@ -141,7 +141,16 @@ head_of head_of_a_file_without_variables "$samples/records.nc" \
 } >generated.nc
 head_of head_of_a_file_with_a_variable generated.nc \
     'netcdf generated {\ndimensions:\n\tx = 3 ;\nvariables:\n\tshort s(x) ;\n}\n'
-fault values_are_not_yet_shown generated.nc 'not yet'
+cdl values_of_a_generated_file generated.nc \
+    'netcdf generated {\ndimensions:\n\tx = 3 ;\nvariables:\n\tshort s(x) ;\ndata:\n\n s = 1, _, 3 ;\n}\n'
+head -c 83 generated.nc >short.nc
+stdout 'netcdf short {\ndimensions:\n\tx = 3 ;\nvariables:\n\tshort s(x) ;\ndata:\n\n s = 1'
+stderr 'ncdump: short.nc: variable 0: data truncated at value 1\n'
+run "$ncdump" short.nc
+verdict values_up_to_the_first_missing_one 1
+stderr 'ncdump: generated.nc: no such variable: item 1 of -v\n'
+run "$ncdump" -v s,nope generated.nc
+verdict name_that_no_variable_has 1
 
 # The name of the dataset.
 smallest dir/a.b.nc

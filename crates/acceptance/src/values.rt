@@ -293,7 +293,8 @@ fn truncated_data(rt: HostRuntime) -> Result<(), Fail> {
 
 #[test]
 fn truncated_records(rt: HostRuntime) -> Result<(), Fail> {
-    let head = b"netcdf t {\ndimensions:\n\tt = UNLIMITED ; // (3 currently)\nvariables:\n\tbyte b(t) ;\n\tshort s(t) ;\ndata:\n\n";
+    let head =
+        b"netcdf t {\ndimensions:\n\tt = UNLIMITED ; // (3 currently)\nvariables:\n\tbyte b(t) ;\n\tshort s(t) ;\ndata:\n\n";
     let rows: [(usize, usize, u128, &[u8]); 7] = [
         (116, 0, 0, b" b ="),
         (117, 0, 1, b" b = 1"),
