@@ -143,10 +143,10 @@ head_of head_of_a_file_with_a_variable generated.nc \
     'netcdf generated {\ndimensions:\n\tx = 3 ;\nvariables:\n\tshort s(x) ;\n}\n'
 cdl values_of_a_generated_file generated.nc \
     'netcdf generated {\ndimensions:\n\tx = 3 ;\nvariables:\n\tshort s(x) ;\ndata:\n\n s = 1, _, 3 ;\n}\n'
-head -c 83 generated.nc >short.nc
-stdout 'netcdf short {\ndimensions:\n\tx = 3 ;\nvariables:\n\tshort s(x) ;\ndata:\n\n s = 1'
-stderr 'ncdump: short.nc: variable 0: data truncated at value 1\n'
-run "$ncdump" short.nc
+head -c 83 generated.nc >cut.nc
+stdout 'netcdf cut {\ndimensions:\n\tx = 3 ;\nvariables:\n\tshort s(x) ;\ndata:\n\n s = 1'
+stderr 'ncdump: cut.nc: variable 0: data truncated at value 1\n'
+run "$ncdump" cut.nc
 verdict values_up_to_the_first_missing_one 1
 stderr 'ncdump: generated.nc: no such variable: item 1 of -v\n'
 run "$ncdump" -v s,nope generated.nc
