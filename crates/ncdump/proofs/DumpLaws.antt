@@ -61,12 +61,13 @@ front-of-all d marks room a b Taken k =
     let yes : true ≡ (true && has_values d.header.dims d.records k.var) = sym k.some in
     let here = values-at d marks k.v k.var true true k.at k.marked yes in
     let more = more-and _ _ _ k.v (values_from d marks (k.v + 1)) in
-    let front = front-in-text d k.v k.var k.keeps_up.k k.keeps_up.few in
-    (front.0 ++ more.0,
-    k.is_before.text_is ∙ ap (λ (s : Section). k.front ++ s.text) here ∙ ap (λ (t : List ℕ). k.front ++ t) more.1
-    ∙ ap (λ (t : List ℕ). k.front ++ (t ++ more.0)) front.1
-    ∙ ap (λ (t : List ℕ). k.front ++ t) (append_assoc (front_text d k.var k.keeps_up.k) front.0 more.0)
-    ∙ sym (append_assoc k.front (front_text d k.var k.keeps_up.k) (front.0 ++ more.0)))
+    let front = front-in-text d k.v k.var k.keeps_up.k k.keeps_up.few in (
+      front.0 ++ more.0,
+      k.is_before.text_is ∙ ap (λ (s : Section). k.front ++ s.text) here ∙ ap (λ (t : List ℕ). k.front ++ t) more.1
+          ∙ ap (λ (t : List ℕ). k.front ++ (t ++ more.0)) front.1
+          ∙ ap (λ (t : List ℕ). k.front ++ t) (append_assoc (front_text d k.var k.keeps_up.k) front.0 more.0)
+          ∙ sym (append_assoc k.front (front_text d k.var k.keeps_up.k) (front.0 ++ more.0)),
+    )
 
 module _ (o : Options) (bytes : List ℕ) (h : Header) (rest : List ℕ) (room : ℕ) (b c : SourceView) (old new : SinkView)
     (spelled : SpellsHeader bytes h rest) (knows : KnowsChosen h o.chosen) (same : b.bytes ≡ bytes) where
@@ -99,10 +100,10 @@ module _ (o : Options) (bytes : List ℕ) (h : Header) (rest : List ℕ) (room :
       let before = text_before o h (record_count h (length bytes)) in
       let values = s.keeps_up.front ++ front_text _ s.keeps_up.var s.keeps_up.keeps_up.k in
       let text : dump_text h o (record_count h (length bytes)) section ≡ (before ++ values) ++ (front.0 ++ closing_word section.ending) =
-          parts h o (record_count h (length bytes)) section
-          ∙ ap (λ (t : List ℕ). before ++ (t ++ closing_word section.ending)) front.1
-          ∙ ap (λ (t : List ℕ). before ++ t) (append_assoc values front.0 (closing_word section.ending))
-          ∙ sym (append_assoc before values (front.0 ++ closing_word section.ending)) in
+      parts h o (record_count h (length bytes)) section
+      ∙ ap (λ (t : List ℕ). before ++ (t ++ closing_word section.ending)) front.1
+      ∙ ap (λ (t : List ℕ). before ++ t) (append_assoc values front.0 (closing_word section.ending))
+      ∙ sym (append_assoc before values (front.0 ++ closing_word section.ending)) in
       inr (record {
         front = before ++ values;
         rest = front.0 ++ closing_word section.ending;
@@ -132,17 +133,18 @@ told-shown told o a b c room buf old new h marks result answered knows is same w
     let read = x.answer in
     let s1 = subst (λ (ms : List Bool). Shows o h (record_count h (length b.bytes)) ms buf b c old new result) is s0 in
     let s2 = subst (λ (n : ℕ). Shows o h (record_count h (length b.bytes)) (selection_of h o) n b c old new result) wide s1 in
-    let s = subst (λ (bs : List ℕ). Shows o h (record_count h (length bs)) (selection_of h o) room b c old new result) same s2 in
-    (written o a.bytes h read.rest room b c old new read.spelled knows same result s,
-    forward o room a c old new result (record {
-      h = h;
-      rest = read.rest;
-      end = read.end;
-      between = b;
-      spelled = read.spelled;
-      ends = read.ends;
-      knows = knows;
-      bytes = same;
-      handed = read.handed;
-      shows = s;
-    }))) answered shows
+    let s = subst (λ (bs : List ℕ). Shows o h (record_count h (length bs)) (selection_of h o) room b c old new result) same s2 in (
+      written o a.bytes h read.rest room b c old new read.spelled knows same result s,
+      forward o room a c old new result (record {
+        h = h;
+        rest = read.rest;
+        end = read.end;
+        between = b;
+        spelled = read.spelled;
+        ends = read.ends;
+        knows = knows;
+        bytes = same;
+        handed = read.handed;
+        shows = s;
+      }),
+    )) answered shows

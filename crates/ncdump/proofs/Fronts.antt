@@ -43,11 +43,12 @@ unfolding variable_text
 front-of-section look xs None v k total all few =
     let more = front-more look xs k (total - k) in
     let whole : take (k + (total - k)) xs ≡ xs = take_all (k + (total - k)) xs (omega (arith, few, all)) in
-    let front : variable_front look xs ≡ variable_front look (take k xs) ++ more.0 = ap (variable_front look) (sym whole) ∙ more.1 in
-    (more.0 ++ (closing look ++ []),
-    ap (λ (t : List ℕ). (t ++ closing look) ++ []) front
-    ∙ append_assoc (variable_front look (take k xs) ++ more.0) (closing look) []
-    ∙ append_assoc (variable_front look (take k xs)) more.0 (closing look ++ []))
+    let front : variable_front look xs ≡ variable_front look (take k xs) ++ more.0 = ap (variable_front look) (sym whole) ∙ more.1 in (
+      more.0 ++ (closing look ++ []),
+      ap (λ (t : List ℕ). (t ++ closing look) ++ []) front
+          ∙ append_assoc (variable_front look (take k xs) ++ more.0) (closing look) []
+          ∙ append_assoc (variable_front look (take k xs)) more.0 (closing look ++ []),
+    )
 front-of-section look xs (Some m) v k total all few =
     let more = front-more look xs k (m - k) in
     let e : k + (m - k) ≡ m = omega (arith, few) in

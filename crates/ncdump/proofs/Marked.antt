@@ -209,7 +209,7 @@ module _ (d : Dumped) (marks : List Bool) (room v : ℕ) (a b : SourceView) (old
           most = omega (arith, s.most, m.is_before.spent_is, bytes-here);
           broke = subst (Broke old newer) (sym text) (grew_broke old new newer m.front (values_alone d v var).text more.0 m.grew s.broke);
           keeps_up = elim s.keeps_up [
-            inl same ↦ still s same
+            | inl same ↦ still s same
             | inr k ↦ inr (keeps-up-in (Holds old newer) (record {
               k = k.k;
               few = k.few;
@@ -246,14 +246,16 @@ pub marked-all : (d : Dumped) (marks : List Bool) (room v : ℕ) (a b : SourceVi
 marked-all d marks room v a b old new all m =
     let none : drop v marks ≡ [] = drop_all v marks all in
     let nothing : values_from d marks v ≡ no_section =
-        ap (λ (ms : List Bool). values_of d.header (content_in d.header d.bytes d.records) d.records d.width v (drop v d.header.vars) ms) none ∙ no-marks d v (drop v d.header.vars) in
-    let no-more : bytes_of d (drop v d.header.vars) (drop v marks) ≡ 0 = ap (bytes_of d (drop v d.header.vars)) none ∙ no-bytes d (drop v d.header.vars) in
-    (record {
-      ends = m.is_before.ending_is ∙ ap (λ (x : Section). x.ending) nothing;
-      taken = subst (Grew old new) (sym (m.is_before.text_is ∙ ap (λ (x : Section). m.front ++ x.text) nothing ∙ append-nil m.front)) m.grew;
-      bytes = ap (λ (x : SourceView). x.bytes) m.handed;
-      most = omega (arith, ap (λ (x : SourceView). x.handed) m.handed, m.is_before.spent_is, no-more);
-    }, m.keeps_up)
+    ap (λ (ms : List Bool). values_of d.header (content_in d.header d.bytes d.records) d.records d.width v (drop v d.header.vars) ms) none ∙ no-marks d v (drop v d.header.vars) in
+    let no-more : bytes_of d (drop v d.header.vars) (drop v marks) ≡ 0 = ap (bytes_of d (drop v d.header.vars)) none ∙ no-bytes d (drop v d.header.vars) in (
+      record {
+        ends = m.is_before.ending_is ∙ ap (λ (x : Section). x.ending) nothing;
+        taken = subst (Grew old new) (sym (m.is_before.text_is ∙ ap (λ (x : Section). m.front ++ x.text) nothing ∙ append-nil m.front)) m.grew;
+        bytes = ap (λ (x : SourceView). x.bytes) m.handed;
+        most = omega (arith, ap (λ (x : SourceView). x.handed) m.handed, m.is_before.spent_is, no-more);
+      },
+      m.keeps_up,
+    )
 
 -- ---- a turn of the loop
 

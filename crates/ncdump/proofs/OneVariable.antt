@@ -115,8 +115,14 @@ module _ (told : Bool) (h : Header) (v n width room : ℕ) (w : WalkView) (p : V
     pub takes-piece : Takes p piece
     takes-piece = record {
       whole = given.length_is ∙ ap (λ (i : ℕ). i * size) (sym ys-count) ∙ ap (λ t. length ys * size_of t) (sym type-in);
-      room = omega (arith, given.within, ys-count, s.stands.behind.position,
-          ap (λ (l : Look). l.total) s.stands.same_look, total-of h s.var n width);
+      room = omega (
+        arith,
+        given.within,
+        ys-count,
+        s.stands.behind.position,
+        ap (λ (l : Look). l.total) s.stands.same_look,
+        total-of h s.var n width,
+      );
     }
 
     counted : length s.xs + j ≡ length (s.xs ++ ys)
@@ -147,7 +153,7 @@ module _ (told : Bool) (h : Header) (v n width room : ℕ) (w : WalkView) (p : V
         let most : (k + j) * size ≤ whole_values d s.var * size = mul-le-mul_right size few in
         let handed : c.handed ≡ a.handed + (k + j) * size = ap (λ (x : SourceView). x.handed) g.handed in
         let values : s.xs ++ ys ≡ take (k + j) stored =
-            ap (λ (zs : List ℤ). zs ++ ys) e ∙ ap (λ (zs : List ℤ). take k stored ++ zs) (ys-are ∙ pg.0.numbers_are) ∙ sym (take-add k j stored) in
+        ap (λ (zs : List ℤ). zs ++ ys) e ∙ ap (λ (zs : List ℤ). take k stored ++ zs) (ys-are ∙ pg.0.numbers_are) ∙ sym (take-add k j stored) in
         let text = front-in-text d v s.var (k + j) few in
         let front : variable_front look (take (k + j) stored) ≡ variable_front look s.xs ++ later_pieces look s.xs ys = ap (variable_front look) (sym values) ∙ front-append look s.xs ys in
         record {
@@ -179,7 +185,7 @@ module _ (told : Bool) (h : Header) (v n width room : ℕ) (w : WalkView) (p : V
     shown-whole newer grew = told_both told (λ e (ng : (first_missing h a.bytes s.var n ≡ None) × HasRead h s.var n a c (length s.xs)).
         let none : first_missing h a.bytes s.var n ≡ None = ng.0 in
         let text : variable_front look s.xs ++ closing (look_in p) ≡ (values_before look stored None v no_section).text =
-            ap (λ (zs : List ℤ). variable_front look zs ++ closing (look_in p)) e ∙ ap (λ (t : List ℕ). variable_front look stored ++ t) closing-of ∙ sym (append-nil (variable_text look stored)) in
+        ap (λ (zs : List ℤ). variable_front look zs ++ closing (look_in p)) e ∙ ap (λ (t : List ℕ). variable_front look stored ++ t) closing-of ∙ sym (append-nil (variable_text look stored)) in
         record {
           ends = ap (λ (m : Option ℕ). (values_before look stored m v no_section).ending) none;
           grew = subst (Grew old newer) (text ∙ ap (λ (m : Option ℕ). (values_before look stored m v no_section).text) (sym none))
@@ -193,8 +199,8 @@ module _ (told : Bool) (h : Header) (v n width room : ℕ) (w : WalkView) (p : V
         let none : first_missing h a.bytes s.var n ≡ None = ng.0 in
         let count-is : whole_values d s.var ≡ length s.xs = ap (λ (m : Option ℕ). unwrap_or m (value_count h.dims s.var n)) none ∙ sym ended.all in
         let text : variable_front look s.xs ++ (closing (look_in p) ++ []) ≡ (values_before look stored None v no_section).text =
-            sym (append_assoc (variable_front look s.xs) (closing (look_in p)) [])
-            ∙ ap (λ (zs : List ℤ). (variable_front look zs ++ closing (look_in p)) ++ []) e ∙ ap (λ (t : List ℕ). (variable_front look stored ++ t) ++ []) closing-of in
+        sym (append_assoc (variable_front look s.xs) (closing (look_in p)) [])
+        ∙ ap (λ (zs : List ℤ). (variable_front look zs ++ closing (look_in p)) ++ []) e ∙ ap (λ (t : List ℕ). (variable_front look stored ++ t) ++ []) closing-of in
         let handed : c.handed ≡ a.handed + length s.xs * size_of s.var.ty = ap (λ (x : SourceView). x.handed) ng.1.handed in
         let whole-is : whole_bytes d s.var ≡ length s.xs * size_of s.var.ty = ap (λ (i : ℕ). i * size_of s.var.ty) count-is in
         record {
@@ -216,30 +222,30 @@ module _ (told : Bool) (h : Header) (v n width room : ℕ) (w : WalkView) (p : V
   shown-front c k steps =
       let cut : GivesCut told h s.var n a c (length s.xs) k = gives told h s.var n room w a b c (length s.xs) (Err (walk.DataTruncated k)) s.walked steps in
       told_both told (λ e (mr : (first_missing h a.bytes s.var n ≡ Some (length s.xs)) × HasRead h s.var n a c (length s.xs)).
-        let missing : first_missing h a.bytes s.var n ≡ Some k = mr.0 ∙ ap Some (sym cut.value_is) in
-        let value : variable_front look s.xs ≡ variable_front look (take k stored) = ap (variable_front look) (e ∙ ap (λ (i : ℕ). take i stored) (sym cut.value_is)) in
-        record {
-          ends = ap (λ (m : Option ℕ). (values_before look stored m v no_section).ending) missing;
-          grew = subst (Grew old new) (value ∙ ap (λ (m : Option ℕ). (values_before look stored m v no_section).text) (sym missing)) s.grew;
-          handed = mr.1.handed ∙ ap (λ (i : ℕ). after a (i * size_of s.var.ty)) (sym (ap (λ (m : Option ℕ). unwrap_or m (value_count h.dims s.var n)) mr.0));
-        }) s.values (told_both told (λ missing read. (missing, read)) cut.missing cut.read)
+      let missing : first_missing h a.bytes s.var n ≡ Some k = mr.0 ∙ ap Some (sym cut.value_is) in
+      let value : variable_front look s.xs ≡ variable_front look (take k stored) = ap (variable_front look) (e ∙ ap (λ (i : ℕ). take i stored) (sym cut.value_is)) in
+      record {
+        ends = ap (λ (m : Option ℕ). (values_before look stored m v no_section).ending) missing;
+        grew = subst (Grew old new) (value ∙ ap (λ (m : Option ℕ). (values_before look stored m v no_section).text) (sym missing)) s.grew;
+        handed = mr.1.handed ∙ ap (λ (i : ℕ). after a (i * size_of s.var.ty)) (sym (ap (λ (m : Option ℕ). unwrap_or m (value_count h.dims s.var n)) mr.0));
+      }) s.values (told_both told (λ missing read. (missing, read)) cut.missing cut.read)
 
   -- a read failed
   pub unread : (c : SourceView) → Steps told w b c (Err walk.ReadFailed) → OnTrue told (IsUnread d s.var room a c old new)
   unread c steps =
       let failure : GivesFailure told h s.var n room a c (length s.xs) = gives told h s.var n room w a b c (length s.xs) (Err walk.ReadFailed) s.walked steps in
       told_both told (λ e (r : HasRead h s.var n a b (length s.xs) × ((c.bytes ≡ a.bytes) × ((c.handed ≤ a.handed + whole_bytes d s.var) × (c.handed ≤ a.handed + length s.xs * size_of s.var.ty + room)))).
-        let few : length s.xs ≤ whole_values d s.var = whole_count-ge h s.var n a.bytes (length s.xs) s.walked.within r.0.whole in
-        record {
-          bytes = r.1.0;
-          most = r.1.1.0;
-          keeps_up = record {
-            k = length s.xs;
-            few = few;
-            taken = subst (λ (zs : List ℤ). Grew old new (variable_front look zs)) e s.grew;
-            handed = r.1.1.1;
-          };
-        }) s.values (told_both told (λ read rest. (read, rest)) s.walked.read (told_both told (λ bytes most_room. (bytes, most_room)) failure.bytes (told_both told (λ most room. (most, room)) failure.whole failure.room)))
+      let few : length s.xs ≤ whole_values d s.var = whole_count-ge h s.var n a.bytes (length s.xs) s.walked.within r.0.whole in
+      record {
+        bytes = r.1.0;
+        most = r.1.1.0;
+        keeps_up = record {
+          k = length s.xs;
+          few = few;
+          taken = subst (λ (zs : List ℤ). Grew old new (variable_front look zs)) e s.grew;
+          handed = r.1.1.1;
+        };
+      }) s.values (told_both told (λ read rest. (read, rest)) s.walked.read (told_both told (λ bytes most_room. (bytes, most_room)) failure.bytes (told_both told (λ most room. (most, room)) failure.whole failure.room)))
 
 -- the opening wasn't written
 pub unwritten-opening : (told : Bool) (h : Header) (v n width room : ℕ) (w : WalkView) (p : ValuePrinter) (a : SourceView) (old new : SinkView) (s : Starts h v n room w)

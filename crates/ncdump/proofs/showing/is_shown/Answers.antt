@@ -12,5 +12,5 @@ returns-then-is_marked c =
     let h = c.args.header.now in
     if-some (λ var. c.has_slabs.result ≡ has_slabs h.dims c.args.count var) (λ var. c.has_slabs.result ≡ (c.args.is_marked && has_values h.dims c.args.count var)) (slice_get h.vars c.args.v)
     (λ var at slabs. slabs ∙ sym (has_values-has_slabs h.dims var c.args.count (all-at (IsSoundVar h.version h.dims) h.vars c.args.v var c.requires.sound.vars at).shape)
-        ∙ ap (λ (b : Bool). b && has_values h.dims c.args.count var) (sym c.if-is_marked.true))
+    ∙ ap (λ (b : Bool). b && has_values h.dims c.args.count var) (sym c.if-is_marked.true))
     c.has_slabs.ensures
