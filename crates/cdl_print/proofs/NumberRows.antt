@@ -1,9 +1,9 @@
 -- The numbers of a variable, one behind another.
 use Rattle.std.proofs.Common.{◌≡◌, ℕ, ℤ, ◌+◌, ◌-◌, ◌%◌, ◌<◌, ◌≤◌, Bool, true, false, cond, List, [], ◌∷◌, ◌++◌, length, sym, ◌∙◌, ap, refl, subst, arith, append_assoc, length-append, ⊎_elim, nat_lt, Result, Ok, Err}
-use Rattle.std.specs.Prelude.{codes, ◌==◌, OnOk}
+use Rattle.std.specs.Prelude.{codes, ◌==◌, ◌&&◌, OnOk}
 use Rattle.std.proofs.lemmas.Bool.{false≢true, cases_lt, cond-false, lt-ltb}
 use Rattle.std.proofs.lemmas.Bool.Decides.{nat_tests}
-use Rattle.nc_base.specs.ValueText.{Look, is_char, begins_row, column, number_text, number_lead, separator, number_piece, piece, variable_front, later_pieces}
+use Rattle.nc_base.specs.ValueText.{Look, is_char, begins_row, column, number_text, number_lead, separator, passes, ends_row, number_piece, piece, variable_front, later_pieces}
 use Rattle.nc_base.proofs.ValueLaws.{front-append, later_one, column-flat, column-broken, column_comma, number_flat, place-add}
 use Rattle.nc_file.specs.Sinks.{SinkView, Grew, Broke, Wrote}
 use Rattle.cdl_print.specs.Leads.{lead_bytes, next_lead, separator_at, room_behind}
@@ -20,29 +20,36 @@ number_bytes_is look p value lead bytes text len b l n t =
     ap (λ (x : List ℕ). x ++ text) (b ∙ ap lead_bytes l ∙ ap (λ k. lead_bytes (next_lead look p k)) whole) ∙ ap (λ (x : List ℕ). lead_bytes (next_lead look p (length (number_text look value))) ++ x) t
 
 -- a line that is full, by its room and by its columns
-room_test : (width col len : ℕ) → nat_lt (width - col) (len + 4) ≡ nat_lt width (col + 2 + len + 2)
-room_test width col len =
+room_test : (width col len free : ℕ) → 0 < free → nat_lt (width - col) (len + (2 + free)) ≡ nat_lt width (col + 2 + len + free)
+room_test width col len free some =
     ⊎_elim
-    (λ (h : width < col + 2 + len + 2). let a : nat_lt (width - col) (len + 4) ≡ true = lt-ltb _ _ (omega arith) in a ∙ sym (lt-ltb _ _ h))
-    (λ (h : col + 2 + len + 2 ≤ width). not_less (width - col) (len + 4) (omega arith) ∙ sym (not_less _ _ h))
-    (cases_lt width (col + 2 + len + 2))
+    (λ (h : width < col + 2 + len + free). let a : nat_lt (width - col) (len + (2 + free)) ≡ true = lt-ltb _ _ (omega arith) in a ∙ sym (lt-ltb _ _ h))
+    (λ (h : col + 2 + len + free ≤ width). not_less (width - col) (len + (2 + free)) (omega arith) ∙ sym (not_less _ _ h))
+    (cases_lt width (col + 2 + len + free))
   where
     not_less : (a b : ℕ) → b ≤ a → nat_lt a b ≡ false
     not_less a b h = grind (arith, nat_tests)
 
-separator_is : (look : Look) (before : List ℕ) (room len : ℕ) → room ≡ look.width - column before → lead_bytes (separator_at room len) ≡ separator look before len
-separator_is look before room len e =
-    both (nat_lt room (len + 4))
-    ∙ ap (λ (b : Bool). cond b (codes ", \n    ") (codes ", "))
-    (ap (λ r. nat_lt r (len + 4)) e ∙ room_test look.width (column before) len ∙ ap (λ c. nat_lt look.width (c + len + 2)) (sym (column_comma before)))
+separator_is : (look : Look) (before : List ℕ) (room len : ℕ) (is_last : Bool) → room ≡ look.width - column before
+    → lead_bytes (separator_at room len is_last) ≡ separator look before len is_last
+separator_is look before room len is_last e =
+    both (cond is_last (nat_lt 2 len && nat_lt room (len + 4)) (nat_lt room (len + 6)))
+    ∙ ap (λ (b : Bool). cond b (codes ", \n    ") (codes ", ")) (by is_last)
   where
     both : (b : Bool) → lead_bytes (cond b Break Comma) ≡ cond b (codes ", \n    ") (codes ", ")
     both true = refl
     both false = refl
 
+    free : (n : ℕ) → 0 < n → nat_lt room (len + (2 + n)) ≡ nat_lt look.width (column (before ++ codes ", ") + len + n)
+    free n some = ap (λ r. nat_lt r (len + (2 + n))) e ∙ room_test look.width (column before) len n some ∙ ap (λ c. nat_lt look.width (c + len + n)) (sym (column_comma before))
+
+    by : (b : Bool) → cond b (nat_lt 2 len && nat_lt room (len + 4)) (nat_lt room (len + 6)) ≡ passes look.width (column (before ++ codes ", ")) len b
+    by true = ap (λ c. nat_lt 2 len && c) (free 2 (omega arith))
+    by false = free 4 (omega arith)
+
 -- the lead is what stands before the number
 lead_is : (look : Look) (before : List ℕ) (p : Progress) (len : ℕ) → p.room ≡ look.width - column before
-    → lead_bytes (next_lead look p len) ≡ cond (p.place == 0) (number_lead look p.position) (separator look before len)
+    → lead_bytes (next_lead look p len) ≡ cond (p.place == 0) (number_lead look p.position) (separator look before len (p.place + 1 == look.row))
 lead_is look before p len e = by (p.place == 0)
   where
     rows : (b c : Bool) → lead_bytes (cond b (cond c FirstRow NextRow) Space) ≡ cond b (cond c (codes "\n  ") (codes ",\n  ")) (codes " ")
@@ -50,9 +57,9 @@ lead_is look before p len e = by (p.place == 0)
     rows true false = refl
     rows false c = refl
 
-    by : (b : Bool) → lead_bytes (cond b (cond look.in_rows (cond (p.position == 0) FirstRow NextRow) Space) (separator_at p.room len)) ≡ cond b (number_lead look p.position) (separator look before len)
+    by : (b : Bool) → lead_bytes (cond b (cond look.in_rows (cond (p.position == 0) FirstRow NextRow) Space) (separator_at p.room len (p.place + 1 == look.row))) ≡ cond b (number_lead look p.position) (separator look before len (p.place + 1 == look.row))
     by true = rows look.in_rows (p.position == 0)
-    by false = separator_is look before p.room len e
+    by false = separator_is look before p.room len (p.place + 1 == look.row) e
 
 -- the room behind a lead
 room_is : (lead : Lead) (before : List ℕ) (room width : ℕ) → room ≡ width - column before → room_behind lead room width ≡ width - column (before ++ lead_bytes lead)
@@ -62,15 +69,28 @@ room_is NextRow before room width e = let c = column-broken before (codes ",\n  
 room_is Comma before room width e = let c = column-flat before (codes ", ") refl in omega (arith, e, c)
 room_is Break before room width e = let c = column-broken before (codes ", \n    ") (omega arith) in omega (arith, c)
 
+one_more : (m : ℕ) → (m + 1 == 0) ≡ false
+one_more m = grind (arith, nat_tests)
+
+-- the value in the last place of a row is the row's last
+last_is : (look : Look) (n : ℕ) → (n % look.row + 1 == look.row) ≡ ends_row look n
+last_is look n = sym (ap (λ m. m == 0) (place-add n 1 look.row (omega arith) (λ h. absurd (omega arith))) ∙ by (n % look.row + 1 == look.row))
+  where
+    by : (b : Bool) → (cond b 0 (n % look.row + 1) == 0) ≡ b
+    by true = refl
+    by false = one_more (n % look.row)
+
 -- the next number's text is the next value's piece
 bytes_are : (look : Look) (xs : List ℤ) (p : Progress) (x : ℤ) → is_char look.ty ≡ false → IsBehind look xs p → number_bytes look p x ≡ later_pieces look xs (x ∷ [])
 unfolding piece number_piece
 bytes_are look xs p x is behind =
     let front = variable_front look xs in
     let lead = lead_is look front p (length (number_text look x)) (behind.room is) in
-    let place = ap (λ n. cond (n == 0) (number_lead look p.position) (separator look front (length (number_text look x)))) behind.place in
-    let position = ap (λ n. cond (begins_row look (length xs)) (number_lead look n) (separator look front (length (number_text look x)))) behind.position in
-    ap (λ (t : List ℕ). t ++ number_text look x) (lead ∙ place ∙ position) ∙ sym (later_one look xs x ∙ cond-false (is_char look.ty) _ _ is)
+    let sep = separator look front (length (number_text look x)) in
+    let place = ap (λ n. cond (n == 0) (number_lead look p.position) (sep (n + 1 == look.row))) behind.place in
+    let position = ap (λ n. cond (begins_row look (length xs)) (number_lead look n) (sep (length xs % look.row + 1 == look.row))) behind.position in
+    let last = ap (λ b. cond (begins_row look (length xs)) (number_lead look (length xs)) (sep b)) (last_is look (length xs)) in
+    ap (λ (t : List ℕ). t ++ number_text look x) (lead ∙ place ∙ position ∙ last) ∙ sym (later_one look xs x ∙ cond-false (is_char look.ty) _ _ is)
 
 room_next : (look : Look) (xs : List ℤ) (p q : Progress) (x : ℤ) → is_char look.ty ≡ false → IsBehind look xs p → IsBehindNumber look p x q
     → q.room ≡ look.width - column (variable_front look (xs ++ x ∷ []))

@@ -1,5 +1,5 @@
 -- What stands before the next value, by how far the values before it are printed.
-use Rattle.std.specs.Prelude.{ℕ, ◌+◌, ◌-◌, ◌==◌, nat_lt, if◌then◌else◌, List, [], codes}
+use Rattle.std.specs.Prelude.{ℕ, ◌+◌, ◌-◌, ◌==◌, ◌&&◌, Bool, nat_lt, if◌then◌else◌, List, [], codes}
 use Rattle.nc_base.specs.ValueText.{Look, char_lead}
 use Rattle.cdl_print.specs.declared.layout.Layout.{Layout}
 use Rattle.cdl_print.specs.declared.lead.Lead.{Lead}
@@ -35,15 +35,16 @@ room_behind NextRow room width = width - 2
 room_behind Comma room width = room - 2
 room_behind Break room width = width - 4
 
--- between two numbers of a row
-abbrev pub separator_at : ℕ → ℕ → Lead
-separator_at room len = if nat_lt room (len + 4) then Break else Comma
+-- between two numbers of a row, by the room of the line, the length of the second, and whether it is the row's last
+abbrev pub separator_at : ℕ → ℕ → Bool → Lead
+separator_at room len is_last =
+    if (if is_last then nat_lt 2 len && nat_lt room (len + 4) else nat_lt room (len + 6)) then Break else Comma
 
 -- before the next number, which has so many bytes
 abbrev pub next_lead : Look → Progress → ℕ → Lead
 next_lead look p len =
     if p.place == 0 then (if look.in_rows then (if p.position == 0 then FirstRow else NextRow) else Space)
-    else separator_at p.room len
+    else separator_at p.room len (p.place + 1 == look.row)
 
 -- before the next character
 abbrev pub next_char_lead : Look → Progress → List ℕ

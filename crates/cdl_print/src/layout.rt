@@ -112,11 +112,12 @@ impl Layout<'_> {
 
     /// What stands before the next number, whose text has `len` bytes.
     pub fn number_lead(&self, progress: &Progress, len: usize) -> Lead
-        requires { len ≤ 40 }
+        requires short { len ≤ 40 }
+        requires room { progress.now.position < self.now.total }
         ensures { result ≡ next_lead (look_at self.now) progress.now len }
     {
         if progress.place != 0 {
-            separator(progress.room, len)
+            separator(progress.room, len, progress.place + 1 == self.row)
         } else if !self.in_rows {
             Lead::Space
         } else if progress.position == 0 {
@@ -143,14 +144,16 @@ impl Layout<'_> {
 }
 
 /// What stands between two numbers of a row, where the line may have this many bytes more and the second number has `len`.
-/// A comma and a space stand before the number, and a comma or ` ;` behind it.
-fn separator(room: usize, len: usize) -> Lead
+/// A comma and a space stand before the number. Four bytes are kept free behind it, or two behind the row's last; and a last
+/// number of one or two bytes takes no new line.
+fn separator(room: usize, len: usize, is_last: bool) -> Lead
     requires { len ≤ 40 }
-    ensures { result ≡ separator_at room len }
+    ensures { result ≡ separator_at room len is_last }
 {
-    if room < len + 4 {
-        Lead::Break
+    let passes = if is_last {
+        len > 2 && room < len + 4
     } else {
-        Lead::Comma
-    }
+        room < len + 6
+    };
+    if passes { Lead::Break } else { Lead::Comma }
 }

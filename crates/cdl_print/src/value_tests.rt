@@ -191,6 +191,20 @@ fn lines_are_filled(rt: HostRuntime) -> Result<(), Fail> {
             b"\x27\x10\x4e\x20\x75\x30\0\x01\0\x02\0\x03",
             b"\n m =\n  10000, 20000, \n    30000,\n  1, 2, 3 ;\n",
         ),
+        row_of(
+            b"v",
+            NcType::Int,
+            &[3],
+            b"\0\0\0\x64\0\x12\xd6\x87\0\0\0\x01",
+            b"\n v = 100, \n    1234567, 1 ;\n",
+        ),
+        row_of(
+            b"v",
+            NcType::Int,
+            &[3],
+            b"\0\0\x03\xe8\0\0\x4e\x20\0\0\0\x42",
+            b"\n v = 1000, 20000, 66 ;\n",
+        ),
     ];
     for row in rows {
         shows(&rt, rt.alloc(), &Row { width: 20, ..row })?;

@@ -79,16 +79,26 @@ number_text look value = if look.blanks && int_eq value look.fill then codes "_"
 abbrev pub number_lead : Look → ℕ → List ℕ
 number_lead look i = if look.in_rows then (if i == 0 then codes "\n  " else codes ",\n  ") else codes " "
 
--- What stands between two numbers of a row, by all text before and the length of the second: a new line begins where the
--- second, with two bytes behind it, would pass the width.
-abbrev pub separator : Look → List ℕ → ℕ → List ℕ
-separator look before len =
-    if nat_lt look.width (column (before ++ codes ", ") + len + 2) then codes ", \n    " else codes ", "
+-- value i is its row's last
+abbrev pub ends_row : Look → ℕ → Bool
+ends_row look i = (i + 1) % look.row == 0
+
+-- A number of this length, behind so many bytes of its line, would pass the width: with four bytes behind it where another
+-- number of the row follows, and with two where it is the last. A last number of one or two bytes never does.
+abbrev pub passes : ℕ → ℕ → ℕ → Bool → Bool
+passes width column len is_last =
+    if is_last then nat_lt 2 len && nat_lt width (column + len + 2) else nat_lt width (column + len + 4)
+
+-- What stands between two numbers of a row, by all text before, the length of the second, and whether it is the row's
+-- last: a new line begins where the second would pass the width.
+abbrev pub separator : Look → List ℕ → ℕ → Bool → List ℕ
+separator look before len is_last =
+    if passes look.width (column (before ++ codes ", ")) len is_last then codes ", \n    " else codes ", "
 
 -- value i, a number, with what stands before it, by all text before
 unfoldable pub number_piece : Look → List ℕ → ℕ → ℤ → List ℕ
 number_piece look before i value =
-    (if begins_row look i then number_lead look i else separator look before (length (number_text look value)))
+    (if begins_row look i then number_lead look i else separator look before (length (number_text look value)) (ends_row look i))
     ++ number_text look value
 
 -- ---- characters
