@@ -486,8 +486,8 @@ fn names_stand_in_front(rt: HostRuntime) -> Result<(), Fail> {
     let name = [b'n'; 1000];
     let mut text = Vec::from_slice(rt.alloc(), b"\n ")?;
     text.extend_from_slice(&name)?;
-    text.extend_from_slice(b" = 1, \n    2 ;\n")?;
-    let row = row_of(&name, NcType::Byte, &[2], b"\x01\x02", text.as_slice());
+    text.extend_from_slice(b" = 1, \n    2, 3 ;\n")?;
+    let row = row_of(&name, NcType::Byte, &[3], b"\x01\x02\x03", text.as_slice());
     shows(&rt, rt.alloc(), &row)
 }
 
