@@ -16,7 +16,12 @@ struct Row<'a> {
     bytes: &'a [u8],
     options: &'a DumpOptions,
     text: &'a [u8],
-    shown: u128,
+    shown: u64,
+}
+
+/// Says whether these are the same bytes.
+fn is_same(bytes: &[u8], text: &[u8]) -> bool {
+    bytes == text
 }
 
 /// Dumps through a buffer of 16 bytes, from a source that fails so, and says whether it did. A front of the text is written,
@@ -27,7 +32,7 @@ fn fails_to_read(rt: &impl Abort, alloc: Global, row: &Row<'_>, step: usize, fai
     let mut source = DripSource::new(row.bytes, step, fail);
     let mut sink = MemSink::new(alloc);
     let answer = dump(alloc, &mut source, row.options, &mut [0; 16], &mut sink);
-    assert!(rt; source.handed() <= row.shown + 16);
+    assert!(rt; source.handed() <= row.shown as u128 + 16);
     assert!(rt; row.text.starts_with(sink.as_slice()));
     match answer {
         Ok(()) => {
@@ -70,10 +75,10 @@ fn fails_to_write(
     let answer = dump(alloc, &mut source, row.options, &mut [0; 16], &mut sink);
     if room < row.text.len() {
         assert!(rt; answer == Err(DumpFault::WriteFailed));
-        assert!(rt; sink.taken() == &row.text[..room]);
+        assert!(rt; is_same(sink.taken(), &row.text[..room]));
     } else {
         assert!(rt; answer == Ok(()));
-        assert!(rt; sink.taken() == row.text);
+        assert!(rt; is_same(sink.taken(), row.text));
     }
     Ok(())
 }
