@@ -6,4 +6,4 @@ pub mod PrintingLaws
 pub mod CharRows
 pub mod Openings
 pub mod PrinterLaws
-pub mod Showing
+pub mod Takes

@@ -1,10 +1,9 @@
 -- What the printer of a variable's values has done, in words for its callers.
-use Rattle.std.specs.Bool.{OnTrue}
 use Rattle.std.specs.Prelude.{ℕ, ◌≡◌, ◌+◌, ◌*◌, ◌≤◌, ℤ, Bool, true, false, List, ◌++◌, length, Result, Ok, Err}
 use Rattle.nc_base.specs.Numbers.{numbers}
 use Rattle.nc_base.specs.Types.{size_of}
-use Rattle.nc_base.specs.ValueText.{Look, variable_front, later_pieces}
-use Rattle.nc_file.specs.Sinks.{SinkView, append, count, told, Grew, Broke, HasFailed}
+use Rattle.nc_base.specs.ValueText.{Look, later_pieces}
+use Rattle.nc_file.specs.Sinks.{SinkView, Grew, Broke, HasFailed}
 use Rattle.cdl_print.specs.Leads.{look_at}
 use Rattle.cdl_print.specs.Printing.{IsBehind}
 use Rattle.cdl_print.specs.declared.printer.ValuePrinter.{ValuePrinter}
@@ -51,14 +50,3 @@ pub record Stopped (ys : List ℤ) (p q : ValuePrinter) (old new : SinkView) : T
 abbrev pub Prints : {X E : Type 0} → List ℤ → ValuePrinter → ValuePrinter → SinkView → SinkView → Result X E → Type 0
 Prints ys p q old new (Ok done) = Printed ys p q old new
 Prints ys p q old new (Err failure) = Stopped ys p q old new
-
--- the sink has taken the front of a variable's text up to the values xs, behind what it had taken at base
-pub record Shown (look : Look) (xs : List ℤ) (printer : ValuePrinter) (base now : SinkView) : Type 0 where
-  pub stands : Stands look xs printer
-  pub grew : Grew base now (variable_front look xs)
-
--- The sink has failed: behind what it had taken at base it has taken some of the whole text of the values xs and ys, and
--- no less than the front up to the values xs.
-pub record ShownInPart (look : Look) (xs ys : List ℤ) (base now : SinkView) : Type 0 where
-  pub broke : Broke base now (variable_front look (xs ++ ys))
-  pub no_less : OnTrue (told base) (count (append base (variable_front look xs)) ≤ count now)

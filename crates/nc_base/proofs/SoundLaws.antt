@@ -185,7 +185,7 @@ sound_shape dims (id ∷ ids) some known = (
   λ h. shape_fixed dims (id ∷ []) ids (λ e. cc) h.1,
 )
 
-whole_part : (n size : ℕ) → n % size ≡ 0 → n ≡ n / size * size
+pub whole_part : (n size : ℕ) → n % size ≡ 0 → n ≡ n / size * size
 whole_part n size none = omega (arith, mod-eq-sub-div-mul n size, div-mul-le_self n size)
 
 part_whole : (n size count : ℕ) → 0 < size → n ≡ count * size → (n % size ≡ 0) × (n / size ≡ count)

@@ -1,5 +1,5 @@
--- Fill values, and which values print as `_`.
-use Rattle.std.specs.Prelude.{◌≡◌, ℤ, Bool, true, false, ◌==◌, ◌&&◌, length, find, Option, Some, None, is_some, if◌then◌else◌, codes}
+-- Fill values, and which types print them as `_`.
+use Rattle.std.specs.Prelude.{ℤ, Bool, true, false, ◌==◌, ◌&&◌, length, find, Option, Some, None, if◌then◌else◌, codes}
 use Rattle.std.specs.Str.{bytes_eq}
 use Rattle.nc_base.specs.declared.header.Att.{Att}
 use Rattle.nc_base.specs.declared.header.Var.{Var}
@@ -38,8 +38,3 @@ has_blanks Char has_own = false
 has_blanks Byte has_own = has_own
 has_blanks Ubyte has_own = has_own
 has_blanks ty has_own = true
-
--- the value prints as `_`
-pub record PrintsBlank (var : Var) (value : ℤ) : Type 0 where
-  pub is_fill : value ≡ fill_value var
-  pub blanks : has_blanks var.ty (is_some (own_fill var)) ≡ true

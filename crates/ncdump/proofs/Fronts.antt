@@ -16,15 +16,6 @@ use Rattle.nc_walk.specs.Walks.{count}
 use Rattle.nc_walk.proofs.Orders.{count_of_offsets}
 use Rattle.ncdump.specs.Shows.{Dumped, front_text, values_alone, whole_values}
 
--- how many numbers are in so many bytes
-pub count-numbers : (ty : NcType) (bytes : List ℕ) → length (numbers ty bytes) ≡ count (size_of ty) bytes
-unfolding numbers
-count-numbers ty bytes = counted (count (size_of ty) bytes) bytes
-  where
-    counted : (n : ℕ) (rest : List ℕ) → length (numbers_from ty n rest) ≡ n
-    counted zero rest = refl
-    counted (suc n) rest = ap suc (counted n (drop (size_of ty) rest))
-
 -- as many values are stored as the variable has
 pub count-stored : (d : Dumped) (var : Var) → length (stored_values d.header d.bytes var d.records) ≡ value_count d.header.dims var d.records
 count-stored d var =

@@ -102,6 +102,3 @@ broke-longer s t bytes more broke = record {
       let b = OnTrue_at {P = BrokeOff s t (append s bytes)} tells broke.taken in
       record { cut = subst (IsCut t) (sym (append-++ s bytes more)) (cut-append t (append s bytes) more b.cut); no_less = b.no_less });
 }
-
-pub grew-nothing : (s : SinkView) → Grew s s []
-grew-nothing s = record { failures = refl; taken = OnTrue_from _ _ (λ tells. sym (append-none s)) }

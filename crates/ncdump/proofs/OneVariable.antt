@@ -28,7 +28,8 @@ use Rattle.nc_walk.proofs.Walked.{begun, gives, walked_on}
 use Rattle.cdl_print.specs.Printer.{look_in, position_of, Stands, Printed, Stopped, Takes}
 use Rattle.cdl_print.specs.declared.printer.ValuePrinter.{ValuePrinter}
 use Rattle.ncdump.specs.Shows.{Dumped, dumped, front_text, values_and, values_alone, whole_values, whole_bytes, Holds, KeepsUp, IsShown, IsUnread, IsUnwritten}
-use Rattle.ncdump.proofs.Fronts.{count-numbers, count-stored, front-in-text}
+use Rattle.cdl_print.proofs.Takes.{length-numbers}
+use Rattle.ncdump.proofs.Fronts.{count-stored, front-in-text}
 use Rattle.ncdump.proofs.Held.{holds-all, holds-broke, broke-longer}
 
 -- a walk and a printer stand behind the same first values xs, whose front is written
@@ -109,7 +110,7 @@ module _ (told : Bool) (h : Header) (v n width room : ℕ) (w : WalkView) (p : V
     ys-are = ap (λ t. numbers t piece) type-in
 
     ys-count : length ys ≡ j
-    ys-count = ap (λ (zs : List ℤ). length zs) ys-are ∙ count-numbers s.var.ty piece
+    ys-count = ap (λ (zs : List ℤ). length zs) ys-are ∙ length-numbers s.var.ty piece
 
     -- the printer can take the piece
     pub takes-piece : Takes p piece

@@ -150,16 +150,16 @@ pub record AreUnread (d : Dumped) (marks : List Bool) (room : ℕ) (before now :
   pub most : now.handed ≤ before.handed + bytes_of d d.header.vars marks
   pub keeps_up : KeepsUpIn d marks room before now Taken
 
+-- no value waits: no value was read, or what was read is written but for a buffer
+abbrev pub IsUpToDate : Dumped → List Bool → ℕ → SourceView → SourceView → (List ℕ → Type 0) → Type 0
+IsUpToDate d marks room before now Taken = (now ≡ before) ⊎ KeepsUpIn d marks room before now Taken
+
 -- a write failed, before a value was read or behind some values
 pub record AreUnwritten (d : Dumped) (marks : List Bool) (room : ℕ) (before now : SourceView) (Cut : Section → Type 0) (Taken : List ℕ → Type 0) : Type 0 where
   pub bytes : now.bytes ≡ before.bytes
   pub most : now.handed ≤ before.handed + bytes_of d d.header.vars marks
   pub broke : Cut (marked_values d marks)
-  pub keeps_up : (now ≡ before) ⊎ KeepsUpIn d marks room before now Taken
-
--- no value waits: no value was read, or what was read is written but for a buffer
-abbrev pub IsUpToDate : Dumped → List Bool → ℕ → SourceView → SourceView → (List ℕ → Type 0) → Type 0
-IsUpToDate d marks room before now Taken = (now ≡ before) ⊎ KeepsUpIn d marks room before now Taken
+  pub keeps_up : IsUpToDate d marks room before now Taken
 
 -- what showing the marked variables has done
 abbrev pub ShowsMarked : {A : Type 0} → Dumped → List Bool → ℕ → SourceView → SourceView → SinkView → SinkView → Result A DumpFault → Type 0

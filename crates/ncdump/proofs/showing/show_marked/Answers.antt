@@ -7,7 +7,7 @@ use Rattle.nc_base.specs.Dump.{has_values}
 use Rattle.nc_file.specs.Sources.{SourceView, after}
 use Rattle.nc_walk.proofs.Fills.{told_any, told_map}
 use Rattle.ncdump.specs.Shows.{dumped, ShowsOne, ShowsMarked}
-use Rattle.ncdump.proofs.Held.{grew-nothing}
+use Rattle.cdl_print.proofs.Begun.{grew_none}
 use Rattle.ncdump.proofs.Marked.{Marked, marked-begins, place-skips, place-shown, place-failed, marked-all}
 use Rattle.ncdump.proofs.Blame.{fails-after}
 use Rattle.ncdump.proofs.showing.show_marked.Goals as goal
@@ -17,7 +17,7 @@ loop-v-init g c = record {
   source = refl;
   sink = refl;
   room = refl;
-  marked = told_any g.S.Source.told (marked-begins _ _ _ _ _ (grew-nothing _));
+  marked = told_any g.S.Source.told (marked-begins _ _ _ _ _ (grew_none _));
 }
 
 pub loop-v-preserved-then-not-is_shown : goal.loop-v-preserved-then-not-is_shown

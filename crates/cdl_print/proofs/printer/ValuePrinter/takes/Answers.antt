@@ -1,4 +1,4 @@
-use Rattle.cdl_print.proofs.Showing.{takes_iff}
+use Rattle.cdl_print.proofs.Takes.{takes_iff}
 use Rattle.cdl_print.proofs.printer.ValuePrinter.takes.Goals as goal
 
 pub returns-then-bytes-size-eq0 : goal.returns-then-bytes-size-eq0

@@ -1,0 +1,29 @@
+-- How many values so many bytes are, and when a printer takes them.
+use Rattle.std.proofs.Common.{◌≡◌, ℕ, ℤ, ◌+◌, ◌*◌, ◌/◌, ◌%◌, ◌≤◌, List, length, zero, suc, sym, ◌∙◌, ap, refl, subst}
+use Rattle.nc_base.specs.Numbers.{numbers, numbers_from}
+use Rattle.nc_base.specs.Types.{size_of}
+use Rattle.nc_base.specs.declared.nc_type.NcType.{NcType}
+use Rattle.nc_base.proofs.SoundLaws.{whole_part}
+use Rattle.cdl_print.specs.Printer.{look_in, position_of, Takes}
+use Rattle.cdl_print.specs.declared.printer.ValuePrinter.{ValuePrinter}
+
+length-from : (ty : NcType) (n : ℕ) (bytes : List ℕ) → length (numbers_from ty n bytes) ≡ n
+length-from ty zero bytes = refl
+length-from ty (suc n) bytes = ap suc (length-from ty n _)
+
+pub length-numbers : (ty : NcType) (bytes : List ℕ) → length (numbers ty bytes) ≡ length bytes / size_of ty
+unfolding numbers
+length-numbers ty bytes = length-from ty (length bytes / size_of ty) bytes
+
+-- whole values, for which there is room
+pub takes_iff : (printer : ValuePrinter) (bytes : List ℕ) (size : ℕ) (P : Type 0) → size ≡ size_of (look_in printer).ty → length bytes % size ≡ 0
+    → (P → position_of printer + length bytes / size ≤ (look_in printer).total) × (position_of printer + length bytes / size ≤ (look_in printer).total → P)
+    → (P → Takes printer bytes) × (Takes printer bytes → P)
+takes_iff printer bytes size P is none room =
+    let ty = (look_in printer).ty in
+    let count = length-numbers ty bytes ∙ ap (λ k. length bytes / k) (sym is) in
+    let whole : length bytes ≡ length (numbers ty bytes) * size_of ty
+    = whole_part (length bytes) size none ∙ ap (λ n. n * size) (sym count) ∙ ap (λ k. length (numbers ty bytes) * k) is in (
+      λ p. record { whole = whole; room = subst (λ n. position_of printer + n ≤ (look_in printer).total) (sym count) (room.0 p) },
+      λ takes. room.1 (subst (λ n. position_of printer + n ≤ (look_in printer).total) count takes.room),
+    )
