@@ -1,6 +1,6 @@
 # ncdump for the netCDF classic formats. Everything is proved before it is built.
 
-sample = samples/records.nc
+sample = samples/stations.nc
 # where rt leaves the program that it has proved and built
 built = crates/ncdump_cli/out/ncdump_cli
 keep = mkdir -p bin && cp $(built) bin/ncdump

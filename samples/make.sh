@@ -1,5 +1,6 @@
 #!/bin/sh
-# Writes the sample files, byte by byte, into the folder where this script lies.
+# Writes the sample files into the folder where this script lies: the small ones byte by byte, and those that hold values
+# from their CDL texts, with Unidata's ncgen.
 set -eu
 cd "$(dirname "$0")"
 
@@ -27,3 +28,7 @@ zeros() {
     printf '\000\000\000\004note\000\000\000\002\000\000\000\004a\nb\n'
     zeros 8 # no variables
 } >note.nc
+
+# CDF-2 and CDF-5: each beside its text.
+ncgen -k nc6 -o stations.nc stations.cdl
+ncgen -k nc5 -o counters.nc counters.cdl

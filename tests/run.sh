@@ -70,6 +70,13 @@ head_of() {
     verdict "$1_with_the_option_behind" 0
 }
 
+# sample NAME: the sample was made by Unidata's ncgen from the text beside it, and its dump is that text.
+sample() {
+    cp "$samples/$1.cdl" "$work/want/stdout"
+    run "$ncdump" "$samples/$1.nc"
+    verdict "dump_of_$1" 0
+}
+
 # fault NAME FILE TEXT: the file has no dump, and one line says why.
 fault() {
     stderr "ncdump: $2: $3\\n"
@@ -124,6 +131,9 @@ cdl record_dimension "$samples/records.nc" \
     'netcdf records {\ndimensions:\n\tt = UNLIMITED ; // (2 currently)\n}\n'
 cdl text_attribute_of_two_lines "$samples/note.nc" \
     'netcdf note {\n\n// global attributes:\n\t\t:note = "a\\n",\n\t\t\t"b\\n" ;\n}\n'
+
+sample stations
+sample counters
 
 large large.nc
 cdl long_text large.nc \
