@@ -7,3 +7,4 @@ pub mod CharRows
 pub mod Openings
 pub mod PrinterLaws
 pub mod Takes
+pub mod Batches

@@ -1,13 +1,13 @@
 -- The numbers of a variable, one behind another.
 use Rattle.std.proofs.Common.{◌≡◌, ℕ, ℤ, ◌+◌, ◌-◌, ◌%◌, ◌<◌, ◌≤◌, Bool, true, false, cond, List, [], ◌∷◌, ◌++◌, length, sym, ◌∙◌, ap, refl, subst, arith, append_assoc, length-append, ⊎_elim, nat_lt, Result, Ok, Err}
-use Rattle.std.specs.Prelude.{codes, ◌==◌, ◌&&◌, OnOk}
-use Rattle.std.proofs.lemmas.Bool.{false≢true, cases_lt, cond-false, lt-ltb}
+use Rattle.std.specs.Prelude.{codes, ◌==◌, ◌&&◌, unwrap_or}
+use Rattle.std.proofs.lemmas.Bool.{OnTrue_at, OnTrue_from, false≢true, cases_lt, cond-false, lt-ltb}
 use Rattle.std.proofs.lemmas.Bool.Decides.{nat_tests}
 use Rattle.nc_base.specs.ValueText.{Look, is_char, begins_row, column, number_text, number_lead, separator, passes, ends_row, number_piece, piece, variable_front, later_pieces}
 use Rattle.nc_base.proofs.ValueLaws.{front-append, later_one, column-flat, column-broken, column_comma, number_flat, place-add}
-use Rattle.nc_file.specs.Sinks.{SinkView, Grew, Broke, Wrote}
+use Rattle.nc_file.specs.Sinks.{SinkView, append, told, Grew, Broke, Wrote}
 use Rattle.cdl_print.specs.Leads.{lead_bytes, next_lead, separator_at, room_behind}
-use Rattle.cdl_print.specs.Printing.{number_bytes, IsBehindNumber, IsBehind, Goes}
+use Rattle.cdl_print.specs.Printing.{gathered, number_bytes, IsBehindNumber, IsBehind, Went, Goes}
 use Rattle.cdl_print.specs.declared.lead.Lead.{Lead}
 use Rattle.cdl_print.specs.declared.lead.Lead.TheVariants.{Space, FirstRow, NextRow, Comma, Break}
 use Rattle.cdl_print.specs.declared.progress.Progress.{Progress}
@@ -114,16 +114,36 @@ behind_next look xs p q x is behind next =
       held = λ c. absurd (false≢true (sym is ∙ c));
     }
 
--- a number is printed, or the sink failed inside of its text
-pub goes_number : {X E : Type 0} (look : Look) (x : ℤ) (p q : Progress) (old new : SinkView) (r : Result X E) → is_char look.ty ≡ false
-    → Wrote old new (number_bytes look p x) r → OnOk r (IsBehindNumber look p x q) → Goes look (x ∷ []) p q old new r
-goes_number look x p q old new (Ok done) is wrote next = record {
+-- ---- what is gathered
+
+gathered_grew : (old new text : List ℕ) → new ≡ old ++ text → Grew (gathered old) (gathered new) text
+unfolding append
+gathered_grew old new text is = record { failures = refl; taken = OnTrue_from _ _ (λ _. ap gathered is) }
+
+gathered_is : (text pieces : List ℕ) → Grew (gathered []) (gathered text) pieces → text ≡ pieces
+unfolding append told
+gathered_is text pieces grew = ap (λ (s : SinkView). unwrap_or s.taken []) (OnTrue_at {P = gathered text ≡ append (gathered []) pieces} refl grew.taken)
+
+-- a number is gathered
+pub went_number : (look : Look) (x : ℤ) (p q : Progress) (old new : List ℕ) → is_char look.ty ≡ false
+    → new ≡ old ++ number_bytes look p x → IsBehindNumber look p x q → Went look (x ∷ []) p q (gathered old) (gathered new)
+went_number look x p q old new is text next = record {
   position = next.position;
-  failures = wrote.failures;
+  failures = refl;
   behind = λ xs behind. behind_next look xs p q x is behind next;
-  grew = λ xs behind. subst (Grew old new) (bytes_are look xs p x is behind) wrote;
+  grew = λ xs behind. subst (Grew (gathered old) (gathered new)) (bytes_are look xs p x is behind) (gathered_grew old new (number_bytes look p x) text);
 }
-goes_number look x p q old new (Err failure) is wrote next = record {
+
+-- what was gathered is written in one piece
+pub goes_gathered : {X E : Type 0} (look : Look) (ys : List ℤ) (p q : Progress) (text : List ℕ) (old new : SinkView) (r : Result X E)
+    → Went look ys p q (gathered []) (gathered text) → Wrote old new text r → Goes look ys p q old new r
+goes_gathered look ys p q text old new (Ok done) went wrote = record {
+  position = went.position;
   failures = wrote.failures;
-  broke = λ xs behind. subst (Broke old new) (bytes_are look xs p x is behind) wrote;
+  behind = went.behind;
+  grew = λ xs behind. subst (Grew old new) (gathered_is text _ (went.grew xs behind)) wrote;
+}
+goes_gathered look ys p q text old new (Err failure) went wrote = record {
+  failures = wrote.failures;
+  broke = λ xs behind. subst (Broke old new) (gathered_is text _ (went.grew xs behind)) wrote;
 }

@@ -1,5 +1,5 @@
 -- What a call that prints values has done.
-use Rattle.std.specs.Prelude.{ℕ, ◌≡◌, ◌+◌, ◌-◌, ◌%◌, ◌==◌, ◌&&◌, ◌||◌, ℤ, Bool, true, false, not, if◌then◌else◌, List, [], ◌∷◌, ◌++◌, length, replicate, Result, Ok, Err}
+use Rattle.std.specs.Prelude.{ℕ, ◌≡◌, ◌+◌, ◌-◌, ◌%◌, ◌==◌, ◌&&◌, ◌||◌, ℤ, Bool, true, false, not, if◌then◌else◌, List, [], ◌∷◌, ◌++◌, length, replicate, Option, Some, Result, Ok, Err}
 use Rattle.nc_base.specs.Escapes.{escaped_text}
 use Rattle.nc_base.specs.ValueText.{Look, is_char, column, held, number_text, variable_front, later_pieces}
 use Rattle.nc_file.specs.Sinks.{SinkView, Grew, Broke, HasFailed}
@@ -7,6 +7,10 @@ use Rattle.cdl_print.specs.Leads.{lead_bytes, next_lead, next_char_lead, room_be
 use Rattle.cdl_print.specs.declared.progress.Progress.{Progress}
 
 -- ---- one number
+
+-- a text that is gathered, seen as a sink
+abbrev pub gathered : List ℕ → SinkView
+gathered text = record { taken = Some text; failures = 0 }
 
 -- the next number with what stands before it
 abbrev pub number_bytes : Look → Progress → ℤ → List ℕ

@@ -1,86 +1,108 @@
 //! The numbers of a variable as CDL writes them.
 
-ghost use Rattle.std.specs.Prelude.{◌≡◌, ◌∷◌, ◌++◌, [], ◌+◌, ◌<◌, ◌≤◌, false, length, OnOk};
+ghost use Rattle.std.specs.Prelude.{◌≡◌, ◌∷◌, ◌++◌, [], ◌+◌, ◌*◌, ◌<◌, ◌≤◌, false, length};
 ghost use Rattle.nc_base.specs.Numbers.{number_of, numbers};
 ghost use Rattle.nc_base.specs.Types.{size_of};
 ghost use Rattle.nc_base.specs.ValueText.{is_char};
-ghost use Rattle.nc_file.specs.Sinks.{Wrote};
 ghost use Rattle.cdl_print.specs.Leads.{look_at};
-ghost use Rattle.cdl_print.specs.Printing.{number_bytes, Goes, IsBehindNumber};
+ghost use Rattle.cdl_print.specs.Printing.{gathered, number_bytes, Goes, Went, IsBehindNumber};
 
 use crate::layout::Layout;
 use crate::progress::{Progress, place_behind};
+use arrayvec::ArrayVec;
 use itoa::Buffer;
 use nc_base::number_of;
 use nc_file::{Sink, WriteFailed, put};
 
-/// Writes numbers of a variable, each with what stands before it.
+/// How many numbers are written in one piece. Each takes at most 47 bytes: 40 of its own, and 7 that stand before it.
+const AT_ONCE: usize = 21;
+
+/// The text of numbers that are written in one piece.
+pub type Gathered = ArrayVec<u8, 1024>;
+
+/// Writes numbers of a variable, each with what stands before it. They are gathered in `text`, a few at a time.
 pub fn put_number_values<W: Sink>(
     sink: &mut W,
     layout: &Layout<'_>,
     progress: &mut Progress,
+    text: &mut Gathered,
     bytes: &[u8],
 ) -> Result<(), WriteFailed>
     requires number { is_char layout.now.ty ≡ false }
     requires room { progress.old.position + length (numbers layout.now.ty bytes.now) ≤ layout.now.total }
     ensures { Goes (look_at layout.now) (numbers layout.now.ty bytes.now) progress.old progress.new (W.seen sink.old) (W.seen sink.new) result }
 {
-    let size = layout.ty.size() as usize;
+    let most = AT_ONCE * layout.ty.size() as usize;
     let mut rest = bytes;
-    while size <= rest.len() {
-        let (value, others) = rest.split_at(size);
-        put_next_number(sink, layout, progress, value)?;
+    while !rest.is_empty() {
+        let (front, others) = rest.split_at(most.min(rest.len()));
+        put_few_numbers(sink, layout, progress, text, front)?;
         rest = others;
     }
     Ok(())
 }
 
-/// Writes the next number and goes on behind it.
-fn put_next_number<W: Sink>(
+/// Writes a few numbers in one piece, each with what stands before it.
+fn put_few_numbers<W: Sink>(
     sink: &mut W,
     layout: &Layout<'_>,
     progress: &mut Progress,
-    value: &[u8],
+    text: &mut Gathered,
+    bytes: &[u8],
 ) -> Result<(), WriteFailed>
     requires number { is_char layout.now.ty ≡ false }
-    requires whole { length value.now ≡ size_of layout.now.ty }
-    requires room { progress.old.position < layout.now.total }
-    ensures { Goes (look_at layout.now) (number_of layout.now.ty value.now ∷ []) progress.old progress.new (W.seen sink.old) (W.seen sink.new) result }
+    requires few { length (numbers layout.now.ty bytes.now) ≤ 21 }
+    requires room { progress.old.position + length (numbers layout.now.ty bytes.now) ≤ layout.now.total }
+    ensures { Goes (look_at layout.now) (numbers layout.now.ty bytes.now) progress.old progress.new (W.seen sink.old) (W.seen sink.new) result }
 {
-    put_number(sink, layout, progress, value)
+    text.clear();
+    gather_numbers(text, layout, progress, bytes);
+    put(sink, text.as_slice())
 }
 
-/// Writes the next number with what stands before it.
-fn put_number<W: Sink>(
-    sink: &mut W,
-    layout: &Layout<'_>,
-    progress: &mut Progress,
-    value: &[u8],
-) -> Result<(), WriteFailed>
+/// Adds numbers to the text, each with what stands before it.
+fn gather_numbers(text: &mut Gathered, layout: &Layout<'_>, progress: &mut Progress, bytes: &[u8])
+    requires number { is_char layout.now.ty ≡ false }
+    requires fits { length text.old.items + 47 * length (numbers layout.now.ty bytes.now) ≤ 1024 }
+    requires room { progress.old.position + length (numbers layout.now.ty bytes.now) ≤ layout.now.total }
+    ensures { Went (look_at layout.now) (numbers layout.now.ty bytes.now) progress.old progress.new (gathered text.old.items) (gathered text.new.items) }
+{
+    let size = layout.ty.size() as usize;
+    let mut rest = bytes;
+    while size <= rest.len() {
+        let (value, others) = rest.split_at(size);
+        gather_number(text, layout, progress, value);
+        rest = others;
+    }
+}
+
+/// Adds the next number to the text, with what stands before it, and goes on behind it.
+fn gather_number(text: &mut Gathered, layout: &Layout<'_>, progress: &mut Progress, value: &[u8])
     requires whole { length value.now ≡ size_of layout.now.ty }
+    requires fits { length text.old.items + 47 ≤ 1024 }
     requires room { progress.old.position < layout.now.total }
-    ensures wrote { Wrote (W.seen sink.old) (W.seen sink.new) (number_bytes (look_at layout.now) progress.old (number_of layout.now.ty value.now)) result }
-    ensures behind { OnOk result (IsBehindNumber (look_at layout.now) progress.old (number_of layout.now.ty value.now) progress.new) }
+    ensures text { text.new.items ≡ text.old.items ++ number_bytes (look_at layout.now) progress.old (number_of layout.now.ty value.now) }
+    ensures short { length text.new.items ≤ length text.old.items + 47 }
+    ensures behind { IsBehindNumber (look_at layout.now) progress.old (number_of layout.now.ty value.now) progress.new }
 {
     let mut digits = Buffer::new();
-    let text = layout.number_text(number_of(layout.ty, value), &mut digits);
-    let lead = layout.number_lead(progress, text.len());
-    put_both(sink, lead.bytes(), text)?;
+    let number = layout.number_text(number_of(layout.ty, value), &mut digits);
+    let lead = layout.number_lead(progress, number.len());
+    gather_both(text, lead.bytes(), number);
     let room = lead.room_behind(progress.room, layout.width);
     *progress = Progress {
         position: progress.position + 1,
         place: place_behind(layout.row, progress.place, 1),
-        room: room.saturating_sub(text.len()),
+        room: room.saturating_sub(number.len()),
         held: progress.held,
     };
-    Ok(())
 }
 
-/// Writes one text and then another.
-#[tactic(auto, using(nc_file::proofs::Writes::writes))]
-fn put_both<W: Sink>(sink: &mut W, first: &[u8], second: &[u8]) -> Result<(), WriteFailed>
-    ensures { Wrote (W.seen sink.old) (W.seen sink.new) (first.now ++ second.now) result }
+/// Adds one text and then another.
+fn gather_both(text: &mut Gathered, first: &[u8], second: &[u8])
+    requires { length text.old.items + (length first.now + length second.now) ≤ 1024 }
+    ensures { text.new.items ≡ text.old.items ++ (first.now ++ second.now) }
 {
-    put(sink, first)?;
-    put(sink, second)
+    text.try_extend_from_slice(first).unwrap();
+    text.try_extend_from_slice(second).unwrap();
 }

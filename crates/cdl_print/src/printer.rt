@@ -11,7 +11,7 @@ ghost use Rattle.cdl_print.specs.Printer.{look_in, position_of, has_failed, Stan
 
 use crate::char_row::put_char_values;
 use crate::layout::{Layout, layout_of};
-use crate::number_row::put_number_values;
+use crate::number_row::{Gathered, put_number_values};
 use crate::opening::{put_opening, room_behind_opening};
 use crate::progress::Progress;
 use nc_base::Header;
@@ -29,6 +29,7 @@ pub struct ValuePrinter<'a> {
     layout: Layout<'a>,
     progress: Progress,
     has_failed: bool,
+    text: Gathered,
 }
 
 impl<'a> ValuePrinter<'a> {
@@ -49,6 +50,7 @@ impl<'a> ValuePrinter<'a> {
                 held: 0,
             },
             has_failed: false,
+            text: Gathered::new(),
         }
     }
 
@@ -107,7 +109,13 @@ impl<'a> ValuePrinter<'a> {
         if self.has_failed {
             return Err(WriteFailed);
         }
-        match put_values(sink, &self.layout, &mut self.progress, bytes) {
+        match put_values(
+            sink,
+            &self.layout,
+            &mut self.progress,
+            &mut self.text,
+            bytes,
+        ) {
             Ok(()) => Ok(()),
             Err(e) => {
                 self.has_failed = true;
@@ -145,6 +153,7 @@ fn put_values<W: Sink>(
     sink: &mut W,
     layout: &Layout<'_>,
     progress: &mut Progress,
+    text: &mut Gathered,
     bytes: &[u8],
 ) -> Result<(), WriteFailed>
     requires { progress.old.position + length (numbers layout.now.ty bytes.now) ≤ layout.now.total }
@@ -153,6 +162,6 @@ fn put_values<W: Sink>(
     if layout.is_char() {
         put_char_values(sink, layout, progress, bytes)
     } else {
-        put_number_values(sink, layout, progress, bytes)
+        put_number_values(sink, layout, progress, text, bytes)
     }
 }

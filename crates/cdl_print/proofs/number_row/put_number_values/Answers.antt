@@ -1,29 +1,38 @@
-use Rattle.std.proofs.Common.{arith, ap, length}
+use Rattle.std.proofs.Common.{rules, arith, ap, length, ◌∙◌, length-append}
+use Rattle.std.proofs.lemmas.List.{nil_from_length}
 use Rattle.std.proofs.lemmas.Result.{err_from_is_err_and}
-use Rattle.cdl_print.proofs.Joined.{numbers_parts, numbers-none}
+use Rattle.nc_base.specs.Numbers.{numbers}
+use Rattle.cdl_print.proofs.Batches.{batch_parts, batch_few}
+use Rattle.cdl_print.proofs.Joined.{numbers-none, size_some}
 use Rattle.cdl_print.proofs.PrintingLaws.{underway_at_first, underway_next, underway_fell, underway_all, underway_room}
 use Rattle.cdl_print.proofs.number_row.put_number_values.Goals as goal
 
 pub loop-rest-init : goal.loop-rest-init
 loop-rest-init g c = underway_at_first _ _ _ _
 
-pub put_next_number-requires-clause-room : goal.put_next_number-requires-clause-room
-put_next_number-requires-clause-room g c =
-    let parts = numbers_parts c.args.layout.now.ty c.size-size.result c.loop-rest.rest.now _ _ c.size-size.ensures c.loop-rest-test.true c.split_at.ensures.front c.split_at.ensures.back in
-    omega (arith, underway_room _ _ _ _ _ _ _ c.loop-rest.invariant, ap length parts, c.requires.room)
+pub put_few_numbers-requires-clause-few : goal.put_few_numbers-requires-clause-few
+put_few_numbers-requires-clause-few g c =
+    batch_few c.args.layout.now.ty c.size.result c.min.result c.loop-rest.rest.now _ c.size.ensures c.min.ensures c.split_at.ensures.front
+
+pub put_few_numbers-requires-clause-room : goal.put_few_numbers-requires-clause-room
+put_few_numbers-requires-clause-room g c =
+    let ty = c.args.layout.now.ty in
+    let parts = batch_parts ty c.size.result c.min.result c.loop-rest.rest.now _ _ c.size.ensures c.min.ensures c.split_at.ensures.front c.split_at.ensures.back in
+    omega (arith, underway_room _ _ _ _ _ _ _ c.loop-rest.invariant, ap length parts, length-append (numbers ty c.split_at.result.0.now) (numbers ty c.split_at.result.1.now), c.requires.room)
+
+pub returns-in_err-put_few_numbers : goal.returns-in_err-put_few_numbers
+returns-in_err-put_few_numbers g c =
+    let p = err_from_is_err_and c.from_residual.result c.from_residual.ensures.1 in
+    let parts = batch_parts c.args.layout.now.ty c.size.result c.min.result c.loop-rest.rest.now _ _ c.size.ensures c.min.ensures c.split_at.ensures.front c.split_at.ensures.back in
+    rw p.1 (underway_fell _ _ _ _ _ _ _ _ _ _ c.loop-rest.invariant parts c.in_err-put_few_numbers.ensures)
 
 pub loop-rest-preserved : goal.loop-rest-preserved
 loop-rest-preserved g c =
-    let parts = numbers_parts c.args.layout.now.ty c.size-size.result c.loop-rest.rest.now _ _ c.size-size.ensures c.loop-rest-test.true c.split_at.ensures.front c.split_at.ensures.back in
-    underway_next _ _ _ _ _ _ _ _ _ _ _ c.loop-rest.invariant parts c.in_ok-put_next_number.ensures
-
-pub returns-in_err-put_next_number : goal.returns-in_err-put_next_number
-returns-in_err-put_next_number g c =
-    let p = err_from_is_err_and c.from_residual.result c.from_residual.ensures.1 in
-    let parts = numbers_parts c.args.layout.now.ty c.size-size.result c.loop-rest.rest.now _ _ c.size-size.ensures c.loop-rest-test.true c.split_at.ensures.front c.split_at.ensures.back in
-    rw p.1 (underway_fell _ _ _ _ _ _ _ _ _ _ c.loop-rest.invariant parts c.in_err-put_next_number.ensures)
+    let parts = batch_parts c.args.layout.now.ty c.size.result c.min.result c.loop-rest.rest.now _ _ c.size.ensures c.min.ensures c.split_at.ensures.front c.split_at.ensures.back in
+    underway_next _ _ _ _ _ _ _ _ _ _ _ c.loop-rest.invariant parts c.in_ok-put_few_numbers.ensures
 
 pub returns : goal.returns
 returns g c =
-    let none = numbers-none c.args.layout.now.ty c.loop-rest.rest.now (omega arith) in
+    let empty = nil_from_length c.loop-rest.rest.now (search rules) in
+    let none = numbers-none c.args.layout.now.ty c.loop-rest.rest.now (omega (arith, ap length empty, size_some c.args.layout.now.ty)) in
     underway_all _ _ _ _ _ _ (rw none at c.loop-rest.invariant)

@@ -1,0 +1,54 @@
+-- Numbers that are printed a few at a time.
+use Rattle.std.proofs.Common.{◌≡◌, ℕ, ℤ, zero, suc, ◌+◌, ◌*◌, ◌/◌, ◌<◌, ◌≤◌, min, ⊎_elim, List, [], ◌∷◌, ◌++◌, length, take, drop, sym, ◌∙◌, ap, refl, arith, length-take, append-nil}
+use Rattle.std.proofs.lemmas.List.{take-take, drop-take, drop-drop, take_all, length-drop}
+use Rattle.std.proofs.Math.Nat.{div-mul-le_self, le_of_mul-le-mul_right}
+use Rattle.std.proofs.lemmas.Bool.{cases_lt}
+use Rattle.nc_base.specs.Numbers.{number_of, numbers}
+use Rattle.nc_base.specs.Types.{size_of}
+use Rattle.nc_base.specs.declared.nc_type.NcType.{NcType}
+use Rattle.cdl_print.proofs.Joined.{numbers-cons, numbers-none, size_some}
+use Rattle.cdl_print.proofs.Takes.{length-numbers}
+
+numbers-split : (ty : NcType) (k : ℕ) (bytes : List ℕ) → k * size_of ty ≤ length bytes
+    → numbers ty bytes ≡ numbers ty (take (k * size_of ty) bytes) ++ numbers ty (drop (k * size_of ty) bytes)
+numbers-split ty zero bytes le =
+    let none : 0 * size_of ty ≡ 0 = omega arith in
+    rw none (ap (λ (xs : List ℤ). xs ++ numbers ty bytes) (sym (numbers-none ty [] (size_some ty))))
+numbers-split ty (suc k) bytes le =
+    let size = size_of ty in
+    let more : suc k * size ≡ size + k * size = omega arith in
+    let rest = drop size bytes in
+    let long : length (take (size + k * size) bytes) ≡ size + k * size = omega (arith, le, length-take (size + k * size) bytes) in
+    let first : numbers ty (take (size + k * size) bytes) ≡ number_of ty (take size bytes) ∷ numbers ty (take (k * size) rest)
+    = numbers-cons ty (take (size + k * size) bytes) (omega (arith, long))
+    ∙ ap (λ (x : List ℕ). number_of ty x ∷ numbers ty (drop size (take (size + k * size) bytes))) (take-take size (size + k * size) bytes (omega arith))
+    ∙ ap (λ (x : List ℕ). number_of ty (take size bytes) ∷ numbers ty x) (drop-take size (k * size) bytes) in
+    rw more
+    (numbers-cons ty bytes (omega (arith, le))
+    ∙ ap (λ (xs : List ℤ). number_of ty (take size bytes) ∷ xs) (numbers-split ty k rest (omega (arith, le, length-drop size bytes)))
+    ∙ ap (λ (x : List ℕ). number_of ty (take size bytes) ∷ (numbers ty (take (k * size) rest) ++ numbers ty x)) (drop-drop (k * size) size bytes)
+    ∙ ap (λ (xs : List ℤ). xs ++ numbers ty (drop (size + k * size) bytes)) (sym first))
+
+-- the next few numbers and the others
+pub batch_parts : (ty : NcType) (size n : ℕ) (rest front others : List ℕ) → size ≡ size_of ty → n ≡ min (21 * size) (length rest) → front ≡ take n rest → others ≡ drop n rest
+    → numbers ty rest ≡ numbers ty front ++ numbers ty others
+batch_parts ty size n rest front others is least f o =
+    rw (f, o)
+    (⊎_elim
+    (λ (h : 21 * size_of ty < length rest).
+    let all : n ≡ 21 * size_of ty = omega (arith, is, least) in
+    rw all (numbers-split ty 21 rest (omega arith)))
+    (λ (h : length rest ≤ 21 * size_of ty).
+    let all : n ≡ length rest = omega (arith, is, least) in
+    let front_is : take n rest ≡ rest = take_all n rest (omega (arith, all)) in
+    let none : numbers ty (drop n rest) ≡ [] = numbers-none ty (drop n rest) (omega (arith, all, length-drop n rest, size_some ty)) in
+    rw (front_is, none) (sym (append-nil (numbers ty rest))))
+    (cases_lt (21 * size_of ty) (length rest)))
+
+-- are few
+pub batch_few : (ty : NcType) (size n : ℕ) (rest front : List ℕ) → size ≡ size_of ty → n ≡ min (21 * size) (length rest) → front ≡ take n rest → length (numbers ty front) ≤ 21
+batch_few ty size n rest front is least f =
+    let short : length front ≤ 21 * size_of ty = omega (arith, is, least, ap length f, length-take n rest) in
+    let whole = div-mul-le_self (length front) (size_of ty) in
+    let few : length front / size_of ty * size_of ty ≤ 21 * size_of ty = omega (arith, short, whole) in
+    omega (arith, length-numbers ty front, le_of_mul-le-mul_right {k = size_of ty} few (size_some ty))
