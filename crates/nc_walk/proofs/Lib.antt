@@ -1,4 +1,5 @@
 pub mod Fills
+pub mod Places
 pub mod Runs
 pub mod Orders
 pub mod Slabs

@@ -10,7 +10,7 @@ use Rattle.nc_walk.specs.declared.fault.WalkFault.{WalkFault}
 use Rattle.nc_walk.specs.declared.line.Line.{Line}
 use Rattle.nc_walk.specs.Fills.{Filled, BrokeOff}
 use Rattle.nc_walk.specs.Lines.{total, offset, offsets_from, offsets_behind, Ready, IsSized}
-use Rattle.nc_walk.specs.Walks.{IsWhole, IsInOrder, Exactly, Hands, Failing, Truncated, Steps, Moved, standing, stopped, in_front, count}
+use Rattle.nc_walk.specs.Walks.{IsWhole, Exactly, Hands, Failing, Truncated, Steps, Moved, standing, stopped, in_front, count}
 use Rattle.nc_walk.proofs.Fills.{told_any, told_map, told_both}
 use Rattle.nc_walk.proofs.Runs.{length-offsets, take-offsets, drop-offsets, first_offset, run_bytes, run_within, ready_whole}
 
@@ -21,9 +21,9 @@ pub none_left : (l : Line) (done : ℕ) → done ≡ total l → length (offsets
 none_left l done e = omega (arith, length-offsets l done (total l - done))
 
 -- no value is ready
-pub not_ready : (told : Bool) (l : Line) (done : ℕ) (buf : List ℕ) (before : SourceView) (n : ℕ) → done < total l
-    → Ready l done (length buf) (length before.bytes) n → n ≡ 0 → Truncated told (standing l done buf) before before done
-not_ready told l done buf before n more ready none = record {
+pub not_ready : (told : Bool) (l : Line) (done room : ℕ) (buf : List ℕ) (before : SourceView) (n : ℕ) → done < total l
+    → Ready l done room (length before.bytes) n → n ≡ 0 → Truncated told (standing l done buf) before before done
+not_ready told l done room buf before n more ready none = record {
   value = refl;
   some = some_left l done more;
   failures = refl;
@@ -35,10 +35,10 @@ not_ready told l done buf before n more ready none = record {
 }
 
 -- n values that were asked for, of which so many bytes came
-module _ (told : Bool) (l : Line) (done : ℕ) (buf : List ℕ) (before now : SourceView) (ys rest : List ℕ) (n got : ℕ)
-    (sized : IsSized l) (more : done < total l) (ready : Ready l done (length buf) (length before.bytes) n) (some : 0 < n)
+module _ (told : Bool) (l : Line) (done room : ℕ) (buf : List ℕ) (before now : SourceView) (ys rest : List ℕ) (n got : ℕ)
+    (sized : IsSized l) (more : done < total l) (fits : room ≤ length buf) (ready : Ready l done room (length before.bytes) n) (some : 0 < n)
     (len : length ys ≡ n * l.size) where
-  few : got ≤ length ys → got / l.size ≤ n
+  pub few : got ≤ length ys → got / l.size ≤ n
   few le = le_of_mul-le-mul_right {k = l.size} (let up : got / l.size * l.size ≤ n * l.size = omega (arith, div-mul-le_self got l.size) in up) sized.some
 
   end : done + n ≤ total l
@@ -48,7 +48,7 @@ module _ (told : Bool) (l : Line) (done : ℕ) (buf : List ℕ) (before now : So
   next = take-offsets l done (total l - done) n (omega (arith, end))
 
   whole : All (IsWhole l.size before.bytes) (take n (offsets_behind l done))
-  whole = subst (All (IsWhole l.size before.bytes)) (sym next) (ready_whole l before.bytes done (length buf) n ready)
+  whole = subst (All (IsWhole l.size before.bytes)) (sym next) (ready_whole l before.bytes done room n ready)
 
   all_of : got ≡ length ys → take got ys ≡ take got (drop (offset l done) before.bytes) → now ≡ after before got
       → Exactly (standing l done buf) before now (take (got / l.size * l.size) (ys ++ rest)) (got / l.size)
@@ -77,11 +77,19 @@ module _ (told : Bool) (l : Line) (done : ℕ) (buf : List ℕ) (before now : So
           some = some_came;
           len = (let h : length (take (w * l.size) (ys ++ rest)) ≡ w * l.size = omega (arith, le, length-take (w * l.size) (ys ++ rest)) in h);
           within = omega (arith, end, few f.within, length-offsets l done (total l - done));
-          room = omega (arith, most, f.within, len, ready.in_room);
+          room = omega (arith, most, f.within, len, ready.in_room, fits);
           failures = ap (λ (v : SourceView). v.failures) f.same;
           exactly = told_both told (λ e b. all_of e b f.same) f.all f.bytes;
         },
       )
+
+  -- all of them came
+  pub came_all : Filled told before now (offset l done) ys got → got ≡ n * l.size
+      → (n * l.size ≤ length (ys ++ rest)) × Hands told (standing l done buf) before now (take (n * l.size) (ys ++ rest)) n
+  came_all f all =
+      let k : got / l.size ≡ n = ap (λ (m : ℕ). m / l.size) all ∙ mul-div_cancel n sized.some in
+      subst (λ (m : ℕ). (m * l.size ≤ length (ys ++ rest)) × Hands told (standing l done buf) before now (take (m * l.size) (ys ++ rest)) m) k
+      (came f (omega (arith, k)))
 
   pub came_none : Filled told before now (offset l done) ys got → got / l.size ≡ 0 → Truncated told (standing l done buf) before now done
   came_none f none = record {
@@ -100,7 +108,7 @@ module _ (told : Bool) (l : Line) (done : ℕ) (buf : List ℕ) (before now : So
       some = some_left l done more;
       within = omega (arith, end, length-offsets l done (total l - done));
       whole = whole;
-      room = ready.in_room;
+      room = omega (arith, ready.in_room, fits);
       broke = subst (BrokeOff before now) len b;
     },
   )
@@ -120,7 +128,7 @@ module _ (told : Bool) (l : Line) (done : ℕ) (had buf : List ℕ) (before now 
   answer : in_front buf (Ok (n * l.size)) ≡ Ok (Some (take (n * l.size) buf))
   answer = front buf (n * l.size) (let up : 1 * l.size ≤ n * l.size = mul-le-mul_right l.size (let w : 1 ≤ n = omega (arith, h.1.some) in w) in omega (arith, up, sized.some))
 
-  reached : done + n ≤ total l
+  pub reached : done + n ≤ total l
   reached = omega (arith, h.1.within, length-offsets l done (total l - done))
 
   pub steps : (fault : Option WalkFault) → Steps told (stopped l done fault had) before now (in_front buf (Ok (n * l.size)))
@@ -144,6 +152,3 @@ module _ (told : Bool) (l : Line) (done : ℕ) (had buf : List ℕ) (before now 
     fault = none;
     buf = room;
   })
-
-  pub in_order : length buf ≡ length had → 16 ≤ length had → IsInOrder l (done + n) buf
-  in_order room long = record { sized = sized; within = reached; room = omega (arith, room, long) }

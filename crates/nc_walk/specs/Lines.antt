@@ -6,10 +6,15 @@ use Rattle.nc_base.specs.declared.header.Header.{Header}
 use Rattle.nc_base.specs.Types.{size_of}
 use Rattle.nc_base.specs.Sizes.{is_record_var, slab_count, record_size}
 use Rattle.nc_walk.specs.declared.line.Line.{Line}
+use Rattle.nc_walk.specs.declared.place.Place.{Place}
 
 -- the number of values
 abbrev pub total : Line → ℕ
 total l = l.slabs * l.per
+
+-- the number of the value in a place
+abbrev pub number_at : Line → Place → ℕ
+number_at l place = place.slab * l.per + place.within
 
 -- the offset of value number i: i / per slabs stand before its own, and i % per values before it in there
 abbrev pub offset : Line → ℕ → ℕ
@@ -40,6 +45,11 @@ pub record IsSized (l : Line) : Type 0 where
   pub per : 0 < l.per
   pub slab : l.per * l.size ≤ 2 ^ 48
   pub stride : l.stride ≤ 2 ^ 62
+
+-- the place of a value, or the one behind the last value
+pub record IsPlace (l : Line) (place : Place) : Type 0 where
+  pub within : place.within < l.per
+  pub reached : number_at l place ≤ total l
 
 -- the slabs of the variable in this place over n records
 pub record IsLineOf (h : Header) (v n : ℕ) (l : Line) : Type 0 where

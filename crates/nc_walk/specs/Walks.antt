@@ -13,7 +13,8 @@ use Rattle.nc_file.specs.Sources.{SourceView, after}
 use Rattle.nc_walk.specs.declared.fault.WalkFault.{WalkFault}
 use Rattle.nc_walk.specs.declared.fault.WalkFault.TheVariants.{ReadFailed, DataTruncated}
 use Rattle.nc_walk.specs.declared.line.Line.{Line}
-use Rattle.nc_walk.specs.Lines.{total, offsets_behind, IsSized}
+use Rattle.nc_walk.specs.declared.place.Place.{Place}
+use Rattle.nc_walk.specs.Lines.{offsets_behind, IsSized, IsPlace}
 use Rattle.nc_walk.specs.Fills.{BrokeOff}
 
 -- the bytes of a value, the offsets of the values that it has still to hand out, how many it has handed out, the fault
@@ -134,10 +135,11 @@ abbrev pub standing : Line → ℕ → List ℕ → WalkView
 standing l done buf = stopped l done None buf
 
 -- what holds of the fields of every walk
-pub record IsInOrder (l : Line) (done : ℕ) (buf : List ℕ) : Type 0 where
+pub record IsInOrder (l : Line) (place : Place) (room : ℕ) (buf : List ℕ) : Type 0 where
   pub sized : IsSized l
-  pub within : done ≤ total l
-  pub room : 16 ≤ length buf
+  pub is_place : IsPlace l place
+  pub some : 0 < room
+  pub fits : room * l.size ≤ length buf
 
 -- the next n values stand in front of the buffer
 abbrev pub Reads : Bool → WalkView → List ℕ → SourceView → SourceView → Result ℕ WalkFault → Type 0

@@ -1,10 +1,11 @@
-//! Where a variable's values lie, by their number.
+//! Where a variable's values lie, by their place.
 
 ghost use Rattle.std.specs.Prelude.{◌≡◌, ◌+◌, ◌*◌, ◌<◌, ◌≤◌, ◌^◌, if◌then◌else◌, length};
 ghost use Rattle.nc_base.specs.Headers.{IsSound};
 ghost use Rattle.nc_base.specs.Sizes.{is_record_var, record_size, record_limit, slab_count, slab_size, slab_limit};
-ghost use Rattle.nc_walk.specs.Lines.{total, offset, IsSized, IsLineOf, Ready};
+ghost use Rattle.nc_walk.specs.Lines.{number_at, offset, IsSized, IsLineOf, Ready};
 
+use crate::place::Place;
 use nc_base::{Dim, Header, Var, has_records, rec_size, slab_of};
 
 /// The slabs of a variable: values side by side in each, and one slab behind the other at the same distance.
@@ -41,40 +42,33 @@ impl Line {
         }
     }
 
-    /// The number of values.
-    pub(crate) fn total(&self) -> u128
-        ensures { result ≡ total self.now }
-    {
-        self.slabs as u128 * self.per as u128
-    }
-
-    /// The offset of the value of this number.
-    pub(crate) fn offset(&self, i: u128) -> u128
+    /// The offset of the value in this place.
+    pub(crate) fn offset(&self, place: Place) -> u128
         requires sized { IsSized self.now }
-        requires within { i < total self.now }
-        ensures value { result ≡ offset self.now i }
+        requires within { place.within < self.now.per }
+        ensures value { result ≡ offset self.now (number_at self.now place) }
         ensures bound { result < 2 ^ 127 }
     {
-        let per = self.per as u128;
-        self.begin as u128 + i / per * self.stride as u128 + i % per * self.size as u128
+        let slab = self.begin as u128 + place.slab as u128 * self.stride as u128;
+        slab + place.within as u128 * self.size as u128
     }
 
-    /// How many values from the one of this number on lie side by side, fill at most `room` bytes and end inside of `len`
-    /// bytes.
-    pub(crate) fn ready(&self, i: u128, room: usize, len: u64) -> u64
+    /// How many values from the one in this place on lie side by side, are at most `room` and end inside of `len` bytes.
+    pub(crate) fn ready(&self, place: Place, room: u64, len: u64) -> u64
         requires sized { IsSized self.now }
-        requires within { i < total self.now }
-        requires room { self.now.size ≤ room }
-        ensures { Ready self.now i room len result }
+        requires within { place.within < self.now.per }
+        requires some { 0 < room }
+        ensures { Ready self.now (number_at self.now place) (room * self.now.size) len result }
     {
-        let at = self.offset(i);
-        if len as u128 <= at {
-            return 0;
+        let at = self.offset(place);
+        let wanted = (self.per - place.within).min(room);
+        if at + wanted as u128 * self.size as u128 <= len as u128 {
+            wanted
+        } else if at < len as u128 {
+            (len - at as u64) / self.size
+        } else {
+            0
         }
-        let in_slab = self.per - (i % self.per as u128) as u64;
-        let in_source = (len - at as u64) / self.size;
-        let in_room = room as u64 / self.size;
-        in_slab.min(in_source).min(in_room)
     }
 }
 

@@ -9,6 +9,7 @@ ghost use Rattle.nc_walk.specs.contracts.walk.Walk.{the_row};
 
 use crate::fault::WalkFault;
 use crate::line::Line;
+use crate::place::Place;
 use crate::reading::read_values;
 use nc_base::Header;
 use nc_file::Source;
@@ -21,19 +22,23 @@ use std::marker::Model;
 #[derive(Drop)]
 pub struct Walk<'a> {
     line: Line,
-    done: u128,
+    /// The place of the next value, or the one behind the last.
+    place: Place,
+    /// How many values fill the buffer.
+    room: u64,
     fault: Option<WalkFault>,
     buf: &'a mut [u8],
 }
 
 impl<'a> Model for Walk<'a> {
+    ghost use Rattle.nc_walk.specs.Lines.{number_at};
     ghost use Rattle.nc_walk.specs.Walks.{WalkView, IsInOrder, stopped};
 
     ghost Value = { WalkView };
 
-    ghost view = { λ w. stopped w.line w.done w.fault w.buf.now };
+    ghost view = { λ w. stopped w.line (number_at w.line w.place) w.fault w.buf.now };
 
-    ghost invariant = { λ w. IsInOrder w.line w.done w.buf.now };
+    ghost invariant = { λ w. IsInOrder w.line w.place w.room w.buf.now };
 }
 
 impl<'a> Walk<'a> {
@@ -45,9 +50,12 @@ impl<'a> Walk<'a> {
         requires room { 16 ≤ length buf.old }
         ensures { Starts header.now v records (length buf.old) result }
     {
+        let line = Line::of(header, v, records);
+        let room = buf.len() as u64 / line.size;
         Walk {
-            line: Line::of(header, v, records),
-            done: 0,
+            line,
+            place: Place { slab: 0, within: 0 },
+            room,
             fault: None,
             buf,
         }
@@ -72,12 +80,12 @@ impl<'a> Walk<'a> {
         if let Some(fault) = self.fault {
             return Err(fault);
         }
-        if self.done == self.line.total() {
+        if self.place.is_end(self.line) {
             return Ok(0);
         }
-        match read_values(&self.line, self.done, source, self.buf) {
+        match read_values(&self.line, self.place, self.room, source, self.buf) {
             Ok(n) => {
-                self.done += n as u128;
+                self.place = self.place.behind(self.line, n);
                 Ok((n * self.line.size) as usize)
             }
             Err(fault) => {

@@ -1,5 +1,10 @@
+use Rattle.std.proofs.Common.{◌≡◌, ℕ, ◌+◌, ◌*◌, length, subst, arith}
+use Rattle.nc_walk.specs.Walks.{Starts, standing}
 use Rattle.nc_walk.proofs.Orders.{starts}
 use Rattle.nc_walk.proofs.walk.Walk.new.Goals as goal
 
 pub returns : goal.returns
-returns c = starts c.args.header.now c.args.v c.args.records c.of.result c.args.buf.now c.of.ensures
+returns c =
+    let first : 0 ≡ 0 * c.of-line.result.per + 0 = omega arith in
+    subst (λ (k : ℕ). Starts c.args.header.now c.args.v c.args.records (length c.args.buf.now) (standing c.of-line.result k c.args.buf.now)) first
+    (starts c.args.header.now c.args.v c.args.records c.of-line.result c.args.buf.now c.of-line.ensures)
