@@ -1,6 +1,7 @@
 #!/usr/bin/env bash
 # Makes files of several kinds with Unidata's ncgen, and times bin/ncdump beside Unidata's ncdump on each, in one run. It
-# wants both on the path (Debian's netcdf-bin) and bin/ncdump built. Each figure is the least of five runs, in milliseconds.
+# wants both on the path (Debian's netcdf-bin) and bin/ncdump built. Each figure is the least of seven runs in turn, in
+# milliseconds; with them stands the most memory that ours took.
 set -eu
 top=$(cd "$(dirname "$0")/.." && pwd)
 ours=$top/bin/ncdump
@@ -44,24 +45,41 @@ rows() {
     printf ' ;\n}\n'
 }
 
-# least COMMAND..: the least time of five runs, in milliseconds.
-least() {
-    for _ in 1 2 3 4 5; do
-        local before after
-        before=$(date +%s%N)
-        "$@" >/dev/null
-        after=$(date +%s%N)
-        echo $(((after - before) / 1000))
-    done | sort -n | head -1 | awk '{ printf "%.1f", $1 / 1000 }'
+# microseconds COMMAND..: how long the command takes.
+microseconds() {
+    local before after
+    before=$(date +%s%N)
+    "$@" >/dev/null
+    after=$(date +%s%N)
+    echo $(((after - before) / 1000))
 }
 
-printf '%-8s %10s %10s %7s %s\n' file Unidata ours times text
+# least NUMBER..: the least of these microseconds, in milliseconds.
+least() {
+    printf '%s\n' "$@" | sort -n | awk 'NR == 1 { printf "%.1f", $1 / 1000 }'
+}
+
+# peak FILE: the most memory that our dump of the file takes, in KiB, where GNU time is installed.
+peak() {
+    if [ -x /usr/bin/time ]; then
+        { /usr/bin/time -f %M "$ours" "$1" >/dev/null; } 2>&1
+    else
+        echo -
+    fi
+}
+
+printf '%-8s %10s %10s %7s %7s %s\n' file Unidata ours times KiB text
 for name in ints cube bytes records rows; do
     "$name" >"$name.cdl"
     ncgen -k nc3 -o "$name.nc" "$name.cdl"
-    them=$(least "$theirs" "$name.nc")
-    us=$(least "$ours" "$name.nc")
+    them=()
+    us=()
+    for _ in 1 2 3 4 5 6 7; do
+        them+=("$(microseconds "$theirs" "$name.nc")")
+        us+=("$(microseconds "$ours" "$name.nc")")
+    done
     same=differs
     if cmp -s <("$theirs" "$name.nc") <("$ours" "$name.nc"); then same=same; fi
-    printf '%-8s %10s %10s %7s %s\n' "$name" "$them" "$us" "$(awk -v a="$them" -v b="$us" 'BEGIN { printf "%.1f", a / b }')" "$same"
+    printf '%-8s %10s %10s %7s %7s %s\n' "$name" "$(least "${them[@]}")" "$(least "${us[@]}")" \
+        "$(awk -v a="$(least "${them[@]}")" -v b="$(least "${us[@]}")" 'BEGIN { printf "%.1f", a / b }')" "$(peak "$name.nc")" "$same"
 done

@@ -111,6 +111,12 @@ limited() (
     exec "$@"
 )
 
+# in_little_memory COMMAND..: runs the command with 8 MiB of memory.
+in_little_memory() (
+    ulimit -v 8192
+    exec "$@"
+)
+
 # to_full_device FILE, without_stdout FILE, without_stderr FILE: the dump where a device takes nothing.
 to_full_device() {
     "$ncdump" "$1" >/dev/full
@@ -161,6 +167,17 @@ verdict values_up_to_the_first_missing_one 1
 stderr 'ncdump: generated.nc: no such variable: item 1 of -v\n'
 run "$ncdump" -v s,nope generated.nc
 verdict name_that_no_variable_has 1
+
+{
+    printf 'CDF\001' && zeros 4
+    printf '\000\000\000\012\000\000\000\001\000\000\000\001x\000\000\000\001\000\000\000' && zeros 8
+    printf '\000\000\000\013\000\000\000\001\000\000\000\001s\000\000\000'
+    printf '\000\000\000\001\000\000\000\000' && zeros 8
+    printf '\000\000\000\002\001\000\000\000\000\000\000\120' && zeros 16777216
+} >nuls.nc
+stdout 'netcdf nuls {\ndimensions:\n\tx = 16777216 ;\nvariables:\n\tchar s(x) ;\ndata:\n\n s = "" ;\n}\n'
+run in_little_memory "$ncdump" nuls.nc
+verdict values_of_16_mib_in_8_mib_of_memory 0
 
 # The name of the dataset.
 smallest dir/a.b.nc

@@ -4,8 +4,8 @@ ghost use Rattle.std.specs.Prelude.{◌≤◌, length};
 
 use crate::files;
 use crate::runs::{choosing, options};
-use nc_file::{DripSource, FailWhen, MemSink, MemSource, SliceSink};
-use ncdump::{DumpFault, DumpOptions, dump};
+use nc_file::{DripSource, FailWhen, MemSink, MemSource, SliceSink, read_header};
+use ncdump::{DumpFault, DumpOptions, dump, select};
 use std::alloc::{AllocError, Global};
 use std::process::Abort;
 use std::test::Fail;
@@ -222,6 +222,30 @@ fn refused_growth_writes_nothing(rt: HostRuntime) -> Result<(), Fail> {
             assert!(rt; fault == DumpFault::OutOfMemory);
             assert!(rt; sink.taken().is_empty());
         }
+    }
+    Ok(())
+}
+
+/// Grows as often as the test below: a dump takes no memory for values (`tests/growths.sh` counts).
+#[test]
+fn growths_of_a_dump(rt: HostRuntime) -> Result<(), Fail> {
+    let chosen = choosing(rt.alloc(), &[b"b"])?;
+    let mut into = [0; 256];
+    let mut sink = SliceSink::new(&mut into, 256);
+    let mut source = MemSource::new(files::THREE_VARIABLES);
+    let answer = dump(rt.alloc(), &mut source, &chosen, &mut [0; 16], &mut sink);
+    assert!(rt; answer.is_ok());
+    Ok(())
+}
+
+/// Reads the header and selects its variables, as a dump does first.
+#[test]
+fn growths_of_a_header_and_a_selection(rt: HostRuntime) -> Result<(), Fail> {
+    let chosen = choosing(rt.alloc(), &[b"b"])?;
+    let mut source = MemSource::new(files::THREE_VARIABLES);
+    match read_header(rt.alloc(), &mut source, &mut [0; 16]) {
+        Ok(header) => assert!(rt; select(rt.alloc(), &header, &chosen).is_ok()),
+        Err(_) => assert!(rt; false),
     }
     Ok(())
 }
