@@ -1,73 +1,72 @@
 -- The numbers of a variable, one behind another.
-use Rattle.std.proofs.Common.{◌≡◌, ℕ, ℤ, ◌+◌, ◌-◌, ◌%◌, ◌<◌, ◌≤◌, Bool, true, false, cond, List, [], ◌∷◌, ◌++◌, length, sym, ◌∙◌, ap, refl, subst, arith, append_assoc, length-append, ⊎_elim, nat_lt, Result, Ok, Err}
+use Rattle.std.proofs.Common.{◌≡◌, ℕ, ℤ, ◌+◌, ◌-◌, ◌%◌, ◌<◌, ◌≤◌, Bool, true, false, cond, List, [], ◌∷◌, ◌++◌, length, sym, ◌∙◌, ap, refl, subst, arith, append_assoc, append-nil, length-append, ⊎_elim, nat_lt, Result, Ok, Err}
 use Rattle.std.specs.Prelude.{codes, ◌==◌, ◌&&◌, unwrap_or}
 use Rattle.std.proofs.lemmas.Bool.{OnTrue_at, OnTrue_from, false≢true, cases_lt, cond-false, lt-ltb}
 use Rattle.std.proofs.lemmas.Bool.Decides.{nat_tests}
-use Rattle.nc_base.specs.ValueText.{Look, is_char, begins_row, column, number_text, number_lead, separator, passes, ends_row, number_piece, piece, variable_front, later_pieces}
-use Rattle.nc_base.proofs.ValueLaws.{front-append, later_one, column-flat, column-broken, column_comma, number_flat, place-add}
+use Rattle.nc_base.specs.ValueText.{Look, is_char, begins_row, column, number_text, number_lead, line_break, passes, ends_row, number_piece, piece, variable_front, later_pieces}
+use Rattle.nc_base.proofs.ValueLaws.{front-append, later_one, column-flat, column-broken, number_flat, place-add}
 use Rattle.nc_file.specs.Sinks.{SinkView, append, told, Grew, Broke, Wrote}
-use Rattle.cdl_print.specs.Leads.{lead_bytes, next_lead, separator_at, room_behind}
+use Rattle.cdl_print.specs.Leads.{lead_bytes, lead_room, gap_bytes, next_lead, next_gap, passes_at, room_behind}
 use Rattle.cdl_print.specs.Printing.{gathered, number_bytes, IsBehindNumber, IsBehind, Went, Goes}
+use Rattle.cdl_print.specs.declared.lead.Gap.{Gap}
 use Rattle.cdl_print.specs.declared.lead.Lead.{Lead}
-use Rattle.cdl_print.specs.declared.lead.Lead.TheVariants.{Space, FirstRow, NextRow, Comma, Break}
+use Rattle.cdl_print.specs.declared.lead.Lead.TheVariants.{Space, FirstRow, NextRow, Comma}
 use Rattle.cdl_print.specs.declared.progress.Progress.{Progress}
 
 -- the text that a call put together
-pub number_bytes_is : (look : Look) (p : Progress) (value : ℤ) (lead : Lead) (bytes text : List ℕ) (len : ℕ)
-    → bytes ≡ lead_bytes lead → lead ≡ next_lead look p len → len ≡ length text → text ≡ number_text look value → bytes ++ text ≡ number_bytes look p value
-number_bytes_is look p value lead bytes text len b l n t =
+pub number_bytes_is : (look : Look) (p : Progress) (value : ℤ) (gap : Gap) (bytes text : List ℕ) (len : ℕ)
+    → bytes ≡ gap_bytes gap → gap ≡ next_gap look p len → len ≡ length text → text ≡ number_text look value → bytes ++ text ≡ number_bytes look p value
+number_bytes_is look p value gap bytes text len b l n t =
     let whole : len ≡ length (number_text look value) = n ∙ ap length t in
-    ap (λ (x : List ℕ). x ++ text) (b ∙ ap lead_bytes l ∙ ap (λ k. lead_bytes (next_lead look p k)) whole) ∙ ap (λ (x : List ℕ). lead_bytes (next_lead look p (length (number_text look value))) ++ x) t
+    ap (λ (x : List ℕ). x ++ text) (b ∙ ap gap_bytes l ∙ ap (λ k. gap_bytes (next_gap look p k)) whole) ∙ ap (λ (x : List ℕ). gap_bytes (next_gap look p (length (number_text look value))) ++ x) t
 
 -- a line that is full, by its room and by its columns
-room_test : (width col len free : ℕ) → 0 < free → nat_lt (width - col) (len + (2 + free)) ≡ nat_lt width (col + 2 + len + free)
+room_test : (width col len free : ℕ) → 0 < free → nat_lt (width - col) (len + free) ≡ nat_lt width (col + len + free)
 room_test width col len free some =
     ⊎_elim
-    (λ (h : width < col + 2 + len + free). let a : nat_lt (width - col) (len + (2 + free)) ≡ true = lt-ltb _ _ (omega arith) in a ∙ sym (lt-ltb _ _ h))
-    (λ (h : col + 2 + len + free ≤ width). not_less (width - col) (len + (2 + free)) (omega arith) ∙ sym (not_less _ _ h))
-    (cases_lt width (col + 2 + len + free))
+    (λ (h : width < col + len + free). let a : nat_lt (width - col) (len + free) ≡ true = lt-ltb _ _ (omega arith) in a ∙ sym (lt-ltb _ _ h))
+    (λ (h : col + len + free ≤ width). not_less (width - col) (len + free) (omega arith) ∙ sym (not_less _ _ h))
+    (cases_lt width (col + len + free))
   where
     not_less : (a b : ℕ) → b ≤ a → nat_lt a b ≡ false
     not_less a b h = grind (arith, nat_tests)
 
-separator_is : (look : Look) (before : List ℕ) (room len : ℕ) (is_last : Bool) → room ≡ look.width - column before
-    → lead_bytes (separator_at room len is_last) ≡ separator look before len is_last
-separator_is look before room len is_last e =
-    both (cond is_last (nat_lt 2 len && nat_lt room (len + 4)) (nat_lt room (len + 6)))
-    ∙ ap (λ (b : Bool). cond b (codes ", \n    ") (codes ", ")) (by is_last)
+passes_is : (width col room len : ℕ) (is_last : Bool) → room ≡ width - col → passes_at room len is_last ≡ passes width col len is_last
+passes_is width col room len true e = ap (λ c. nat_lt 2 len && c) (ap (λ r. nat_lt r (len + 2)) e ∙ room_test width col len 2 (omega arith))
+passes_is width col room len false e = ap (λ r. nat_lt r (len + 4)) e ∙ room_test width col len 4 (omega arith)
+
+-- the lead is what stands before the number on its line
+lead_is : (look : Look) (p : Progress) (i : ℕ) → p.position ≡ i → (p.place == 0) ≡ begins_row look i → lead_bytes (next_lead look p) ≡ number_lead look i
+lead_is look p i at first = by (p.place == 0) ∙ ap (λ b. cond b (rows p.position) (codes ", ")) first ∙ ap (λ n. cond (begins_row look i) (rows n) (codes ", ")) at
   where
-    both : (b : Bool) → lead_bytes (cond b Break Comma) ≡ cond b (codes ", \n    ") (codes ", ")
-    both true = refl
-    both false = refl
+    rows : ℕ → List ℕ
+    rows n = cond look.in_rows (cond (n == 0) (codes "\n  ") (codes ",\n  ")) (codes " ")
 
-    free : (n : ℕ) → 0 < n → nat_lt room (len + (2 + n)) ≡ nat_lt look.width (column (before ++ codes ", ") + len + n)
-    free n some = ap (λ r. nat_lt r (len + (2 + n))) e ∙ room_test look.width (column before) len n some ∙ ap (λ c. nat_lt look.width (c + len + n)) (sym (column_comma before))
+    row : (b c : Bool) → lead_bytes (cond b (cond c FirstRow NextRow) Space) ≡ cond b (cond c (codes "\n  ") (codes ",\n  ")) (codes " ")
+    row true true = refl
+    row true false = refl
+    row false c = refl
 
-    by : (b : Bool) → cond b (nat_lt 2 len && nat_lt room (len + 4)) (nat_lt room (len + 6)) ≡ passes look.width (column (before ++ codes ", ")) len b
-    by true = ap (λ c. nat_lt 2 len && c) (free 2 (omega arith))
-    by false = free 4 (omega arith)
-
--- the lead is what stands before the number
-lead_is : (look : Look) (before : List ℕ) (p : Progress) (len : ℕ) → p.room ≡ look.width - column before
-    → lead_bytes (next_lead look p len) ≡ cond (p.place == 0) (number_lead look p.position) (separator look before len (p.place + 1 == look.row))
-lead_is look before p len e = by (p.place == 0)
-  where
-    rows : (b c : Bool) → lead_bytes (cond b (cond c FirstRow NextRow) Space) ≡ cond b (cond c (codes "\n  ") (codes ",\n  ")) (codes " ")
-    rows true true = refl
-    rows true false = refl
-    rows false c = refl
-
-    by : (b : Bool) → lead_bytes (cond b (cond look.in_rows (cond (p.position == 0) FirstRow NextRow) Space) (separator_at p.room len (p.place + 1 == look.row))) ≡ cond b (number_lead look p.position) (separator look before len (p.place + 1 == look.row))
-    by true = rows look.in_rows (p.position == 0)
-    by false = separator_is look before p.room len (p.place + 1 == look.row) e
+    by : (b : Bool) → lead_bytes (cond b (cond look.in_rows (cond (p.position == 0) FirstRow NextRow) Space) Comma) ≡ cond b (rows p.position) (codes ", ")
+    by true = row look.in_rows (p.position == 0)
+    by false = refl
 
 -- the room behind a lead
-room_is : (lead : Lead) (before : List ℕ) (room width : ℕ) → room ≡ width - column before → room_behind lead room width ≡ width - column (before ++ lead_bytes lead)
-room_is Space before room width e = let c = column-flat before (codes " ") refl in omega (arith, e, c)
-room_is FirstRow before room width e = let c = column-broken before (codes "\n  ") (omega arith) in omega (arith, c)
-room_is NextRow before room width e = let c = column-broken before (codes ",\n  ") (omega arith) in omega (arith, c)
-room_is Comma before room width e = let c = column-flat before (codes ", ") refl in omega (arith, e, c)
-room_is Break before room width e = let c = column-broken before (codes ", \n    ") (omega arith) in omega (arith, c)
+lead_room_is : (lead : Lead) (before : List ℕ) (room width : ℕ) → room ≡ width - column before → lead_room lead room width ≡ width - column (before ++ lead_bytes lead)
+lead_room_is Space before room width e = let c = column-flat before (codes " ") refl in omega (arith, e, c)
+lead_room_is FirstRow before room width e = let c = column-broken before (codes "\n  ") (omega arith) in omega (arith, c)
+lead_room_is NextRow before room width e = let c = column-broken before (codes ",\n  ") (omega arith) in omega (arith, c)
+lead_room_is Comma before room width e = let c = column-flat before (codes ", ") refl in omega (arith, e, c)
+
+-- and behind a gap
+room_is : (lead : Lead) (breaks : Bool) (before : List ℕ) (room width : ℕ) → room ≡ width - column before
+    → room_behind (record { lead = lead; breaks = breaks }) room width ≡ width - column (before ++ gap_bytes (record { lead = lead; breaks = breaks }))
+room_is lead true before room width e =
+    let c = column-broken (before ++ lead_bytes lead) (codes "\n    ") (omega arith) in
+    let whole = ap column (sym (append_assoc before (lead_bytes lead) (codes "\n    "))) in
+    omega (arith, c, whole)
+room_is lead false before room width e =
+    lead_room_is lead before room width e ∙ ap (λ (t : List ℕ). width - column (before ++ t)) (sym (append-nil (lead_bytes lead)))
 
 one_more : (m : ℕ) → (m + 1 == 0) ≡ false
 one_more m = grind (arith, nat_tests)
@@ -80,28 +79,36 @@ last_is look n = sym (ap (λ m. m == 0) (place-add n 1 look.row (omega arith) (�
     by true = refl
     by false = one_more (n % look.row)
 
+-- the gap is what stands before the number
+gap_is : (look : Look) (xs : List ℤ) (p : Progress) (len : ℕ) → is_char look.ty ≡ false → IsBehind look xs p
+    → gap_bytes (next_gap look p len) ≡ number_lead look (length xs) ++ line_break look (variable_front look xs ++ number_lead look (length xs)) len (ends_row look (length xs))
+gap_is look xs p len is behind =
+    let front = variable_front look xs in
+    let lead = next_lead look p in
+    let first = ap (λ n. n == 0) behind.place in
+    let room = lead_room_is lead front p.room look.width (behind.room is) in
+    let last = ap (λ n. n + 1 == look.row) behind.place ∙ last_is look (length xs) in
+    let wide : (before : List ℕ) (is_last : Bool) → List ℕ = λ before is_last. cond (passes look.width (column before) len is_last) (codes "\n    ") [] in
+    ap (λ b. lead_bytes lead ++ cond b (codes "\n    ") []) (passes_is look.width (column (front ++ lead_bytes lead)) _ len (p.place + 1 == look.row) room)
+    ∙ ap (λ b. lead_bytes lead ++ wide (front ++ lead_bytes lead) b) last
+    ∙ ap (λ (t : List ℕ). t ++ wide (front ++ t) (ends_row look (length xs))) (lead_is look p (length xs) behind.position first)
+
 -- the next number's text is the next value's piece
 bytes_are : (look : Look) (xs : List ℤ) (p : Progress) (x : ℤ) → is_char look.ty ≡ false → IsBehind look xs p → number_bytes look p x ≡ later_pieces look xs (x ∷ [])
 unfolding piece number_piece
 bytes_are look xs p x is behind =
-    let front = variable_front look xs in
-    let lead = lead_is look front p (length (number_text look x)) (behind.room is) in
-    let sep = separator look front (length (number_text look x)) in
-    let place = ap (λ n. cond (n == 0) (number_lead look p.position) (sep (n + 1 == look.row))) behind.place in
-    let position = ap (λ n. cond (begins_row look (length xs)) (number_lead look n) (sep (length xs % look.row + 1 == look.row))) behind.position in
-    let last = ap (λ b. cond (begins_row look (length xs)) (number_lead look (length xs)) (sep b)) (last_is look (length xs)) in
-    ap (λ (t : List ℕ). t ++ number_text look x) (lead ∙ place ∙ position ∙ last) ∙ sym (later_one look xs x ∙ cond-false (is_char look.ty) _ _ is)
+    ap (λ (t : List ℕ). t ++ number_text look x) (gap_is look xs p (length (number_text look x)) is behind) ∙ sym (later_one look xs x ∙ cond-false (is_char look.ty) _ _ is)
 
 room_next : (look : Look) (xs : List ℤ) (p q : Progress) (x : ℤ) → is_char look.ty ≡ false → IsBehind look xs p → IsBehindNumber look p x q
     → q.room ≡ look.width - column (variable_front look (xs ++ x ∷ []))
 room_next look xs p q x is behind next =
     let front = variable_front look xs in
     let text = number_text look x in
-    let lead = next_lead look p (length text) in
-    let whole : variable_front look (xs ++ x ∷ []) ≡ (front ++ lead_bytes lead) ++ text
-    = front-append look xs (x ∷ []) ∙ ap (λ (t : List ℕ). front ++ t) (sym (bytes_are look xs p x is behind)) ∙ sym (append_assoc front (lead_bytes lead) text) in
-    let col = ap column whole ∙ column-flat (front ++ lead_bytes lead) text (number_flat look x) in
-    let room = room_is lead front p.room look.width (behind.room is) in
+    let gap = next_gap look p (length text) in
+    let whole : variable_front look (xs ++ x ∷ []) ≡ (front ++ gap_bytes gap) ++ text
+    = front-append look xs (x ∷ []) ∙ ap (λ (t : List ℕ). front ++ t) (sym (bytes_are look xs p x is behind)) ∙ sym (append_assoc front (gap_bytes gap) text) in
+    let col = ap column whole ∙ column-flat (front ++ gap_bytes gap) text (number_flat look x) in
+    let room = room_is gap.lead gap.breaks front p.room look.width (behind.room is) in
     omega (arith, col, room, next.room)
 
 behind_next : (look : Look) (xs : List ℤ) (p q : Progress) (x : ℤ) → is_char look.ty ≡ false → IsBehind look xs p → IsBehindNumber look p x q → IsBehind look (xs ++ x ∷ []) q

@@ -3,7 +3,7 @@ use Rattle.std.specs.Prelude.{ℕ, ◌≡◌, ◌+◌, ◌-◌, ◌%◌, ◌==�
 use Rattle.nc_base.specs.Escapes.{escaped_text}
 use Rattle.nc_base.specs.ValueText.{Look, is_char, column, held, number_text, variable_front, later_pieces}
 use Rattle.nc_file.specs.Sinks.{SinkView, Grew, Broke, HasFailed}
-use Rattle.cdl_print.specs.Leads.{lead_bytes, next_lead, next_char_lead, room_behind}
+use Rattle.cdl_print.specs.Leads.{gap_bytes, next_gap, next_char_lead, room_behind}
 use Rattle.cdl_print.specs.declared.progress.Progress.{Progress}
 
 -- ---- one number
@@ -14,13 +14,13 @@ gathered text = record { taken = Some text; failures = 0 }
 
 -- the next number with what stands before it
 abbrev pub number_bytes : Look → Progress → ℤ → List ℕ
-number_bytes look p value = lead_bytes (next_lead look p (length (number_text look value))) ++ number_text look value
+number_bytes look p value = gap_bytes (next_gap look p (length (number_text look value))) ++ number_text look value
 
 -- behind the next number
 pub record IsBehindNumber (look : Look) (p : Progress) (value : ℤ) (q : Progress) : Type 0 where
   pub position : q.position ≡ p.position + 1
   pub place : q.place ≡ (if p.place + 1 == look.row then 0 else p.place + 1)
-  pub room : q.room ≡ room_behind (next_lead look p (length (number_text look value))) p.room look.width - length (number_text look value)
+  pub room : q.room ≡ room_behind (next_gap look p (length (number_text look value))) p.room look.width - length (number_text look value)
 
 -- ---- characters of one row: one, or some that stand for themselves
 

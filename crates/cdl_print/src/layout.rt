@@ -4,9 +4,9 @@ ghost use Rattle.std.specs.Prelude.{ℕ, ◌≡◌, ◌<◌, ◌≤◌, ◌&&◌
 ghost use Rattle.nc_base.specs.Headers.{IsSound, value_count};
 ghost use Rattle.nc_base.specs.Sizes.{is_record_var};
 ghost use Rattle.nc_base.specs.ValueText.{closing, is_char, is_trimmed, look_of, number_text, row_len};
-ghost use Rattle.cdl_print.specs.Leads.{look_at, next_char_lead, next_lead, separator_at};
+ghost use Rattle.cdl_print.specs.Leads.{look_at, next_char_lead, next_gap, next_lead, passes_at};
 
-use crate::lead::Lead;
+use crate::lead::{Gap, Lead};
 use crate::progress::Progress;
 use itoa::Buffer;
 use nc_base::{Dim, Header, NcType, Var, dim_len, fill_of, has_blanks, has_records, value_count};
@@ -111,13 +111,23 @@ impl Layout<'_> {
     }
 
     /// What stands before the next number, whose text has `len` bytes.
-    pub fn number_lead(&self, progress: &Progress, len: usize) -> Lead
+    pub fn number_gap(&self, progress: &Progress, len: usize) -> Gap
         requires short { len ≤ 40 }
         requires room { progress.now.position < self.now.total }
-        ensures { result ≡ next_lead (look_at self.now) progress.now len }
+        ensures { result ≡ next_gap (look_at self.now) progress.now len }
+    {
+        let lead = self.number_lead(progress);
+        let room = lead.room_behind(progress.room, self.width);
+        let breaks = passes(room, len, progress.place + 1 == self.row);
+        Gap { lead, breaks }
+    }
+
+    /// What stands before the next number on its line.
+    fn number_lead(&self, progress: &Progress) -> Lead
+        ensures { result ≡ next_lead (look_at self.now) progress.now }
     {
         if progress.place != 0 {
-            separator(progress.room, len, progress.place + 1 == self.row)
+            Lead::Comma
         } else if !self.in_rows {
             Lead::Space
         } else if progress.position == 0 {
@@ -143,17 +153,15 @@ impl Layout<'_> {
     }
 }
 
-/// What stands between two numbers of a row, where the line may have this many bytes more and the second number has `len`.
-/// A comma and a space stand before the number. Four bytes are kept free behind it, or two behind the row's last; and a last
-/// number of one or two bytes takes no new line.
-fn separator(room: usize, len: usize, is_last: bool) -> Lead
+/// Says whether a number of `len` bytes would pass the width, on a line that may have this many bytes more. Four bytes are kept
+/// free behind it, or two behind its row's last; and a last number of one or two bytes never passes.
+fn passes(room: usize, len: usize, is_last: bool) -> bool
     requires { len ≤ 40 }
-    ensures { result ≡ separator_at room len is_last }
+    ensures { result ≡ passes_at room len is_last }
 {
-    let passes = if is_last {
-        len > 2 && room < len + 4
+    if is_last {
+        len > 2 && room < len + 2
     } else {
-        room < len + 6
-    };
-    if passes { Lead::Break } else { Lead::Comma }
+        room < len + 4
+    }
 }

@@ -1,9 +1,9 @@
 //! What stands before a number.
 
-ghost use Rattle.std.specs.Prelude.{◌≡◌};
-ghost use Rattle.cdl_print.specs.Leads.{lead_bytes, room_behind};
+ghost use Rattle.std.specs.Prelude.{◌≡◌, ◌≤◌, length};
+ghost use Rattle.cdl_print.specs.Leads.{gap_bytes, lead_room, room_behind};
 
-/// What stands before a number.
+/// What stands before a number on its line.
 #[derive(Clone, Copy)]
 pub enum Lead {
     /// Before all values of a variable without rows.
@@ -12,35 +12,58 @@ pub enum Lead {
     FirstRow,
     /// Before a later row.
     NextRow,
-    /// Between two numbers of a line.
+    /// Between two numbers of a row.
     Comma,
-    /// Between the last number of a line and the first of the next, in one row.
-    Break,
 }
 
 impl Lead {
-    /// The bytes of the lead.
-    pub fn bytes(self) -> &'static [u8]
-        ensures { result.now ≡ lead_bytes self }
-    {
-        match self {
-            Lead::Space => b" ",
-            Lead::FirstRow => b"\n  ",
-            Lead::NextRow => b",\n  ",
-            Lead::Comma => b", ",
-            Lead::Break => b", \n    ",
-        }
-    }
-
     /// How many bytes more a line of this width may have behind the lead, where it had this room before.
     pub fn room_behind(self, room: usize, width: usize) -> usize
-        ensures { result ≡ room_behind self room width }
+        ensures { result ≡ lead_room self room width }
     {
         match self {
             Lead::Space => room.saturating_sub(1),
             Lead::Comma => room.saturating_sub(2),
             Lead::FirstRow | Lead::NextRow => width.saturating_sub(2),
-            Lead::Break => width.saturating_sub(4),
+        }
+    }
+}
+
+/// What stands before a number: its lead, and behind that the beginning of a new line where the number would pass the width.
+#[derive(Clone, Copy)]
+pub struct Gap {
+    /// What stands before the number on its line.
+    pub lead: Lead,
+    /// A new line begins.
+    pub breaks: bool,
+}
+
+impl Gap {
+    /// The bytes of the gap.
+    pub fn bytes(self) -> &'static [u8]
+        ensures bytes { result.now ≡ gap_bytes self }
+        ensures short { length result.now ≤ 9 }
+    {
+        match (self.lead, self.breaks) {
+            (Lead::Space, false) => b" ",
+            (Lead::Space, true) => b" \n    ",
+            (Lead::FirstRow, false) => b"\n  ",
+            (Lead::FirstRow, true) => b"\n  \n    ",
+            (Lead::NextRow, false) => b",\n  ",
+            (Lead::NextRow, true) => b",\n  \n    ",
+            (Lead::Comma, false) => b", ",
+            (Lead::Comma, true) => b", \n    ",
+        }
+    }
+
+    /// How many bytes more a line of this width may have behind the gap, where it had this room before.
+    pub fn room_behind(self, room: usize, width: usize) -> usize
+        ensures { result ≡ room_behind self room width }
+    {
+        if self.breaks {
+            width.saturating_sub(4)
+        } else {
+            self.lead.room_behind(room, width)
         }
     }
 }

@@ -14,8 +14,8 @@ use itoa::Buffer;
 use nc_base::number_of;
 use nc_file::{Sink, WriteFailed, put};
 
-/// How many numbers are written in one piece. Each takes at most 47 bytes: 40 of its own, and 7 that stand before it.
-const AT_ONCE: usize = 21;
+/// How many numbers are written in one piece. Each takes at most 49 bytes: 40 of its own, and 9 that stand before it.
+const AT_ONCE: usize = 20;
 
 /// The text of numbers that are written in one piece.
 pub type Gathered = ArrayVec<u8, 1024>;
@@ -51,7 +51,7 @@ fn put_few_numbers<W: Sink>(
     bytes: &[u8],
 ) -> Result<(), WriteFailed>
     requires number { is_char layout.now.ty ≡ false }
-    requires few { length (numbers layout.now.ty bytes.now) ≤ 21 }
+    requires few { length (numbers layout.now.ty bytes.now) ≤ 20 }
     requires room { progress.old.position + length (numbers layout.now.ty bytes.now) ≤ layout.now.total }
     ensures { Goes (look_at layout.now) (numbers layout.now.ty bytes.now) progress.old progress.new (W.seen sink.old) (W.seen sink.new) result }
 {
@@ -63,7 +63,7 @@ fn put_few_numbers<W: Sink>(
 /// Adds numbers to the text, each with what stands before it.
 fn gather_numbers(text: &mut Gathered, layout: &Layout<'_>, progress: &mut Progress, bytes: &[u8])
     requires number { is_char layout.now.ty ≡ false }
-    requires fits { length text.old.items + 47 * length (numbers layout.now.ty bytes.now) ≤ 1024 }
+    requires fits { length text.old.items + 49 * length (numbers layout.now.ty bytes.now) ≤ 1024 }
     requires room { progress.old.position + length (numbers layout.now.ty bytes.now) ≤ layout.now.total }
     ensures { Went (look_at layout.now) (numbers layout.now.ty bytes.now) progress.old progress.new (gathered text.old.items) (gathered text.new.items) }
 {
@@ -79,17 +79,17 @@ fn gather_numbers(text: &mut Gathered, layout: &Layout<'_>, progress: &mut Progr
 /// Adds the next number to the text, with what stands before it, and goes on behind it.
 fn gather_number(text: &mut Gathered, layout: &Layout<'_>, progress: &mut Progress, value: &[u8])
     requires whole { length value.now ≡ size_of layout.now.ty }
-    requires fits { length text.old.items + 47 ≤ 1024 }
+    requires fits { length text.old.items + 49 ≤ 1024 }
     requires room { progress.old.position < layout.now.total }
     ensures text { text.new.items ≡ text.old.items ++ number_bytes (look_at layout.now) progress.old (number_of layout.now.ty value.now) }
-    ensures short { length text.new.items ≤ length text.old.items + 47 }
+    ensures short { length text.new.items ≤ length text.old.items + 49 }
     ensures behind { IsBehindNumber (look_at layout.now) progress.old (number_of layout.now.ty value.now) progress.new }
 {
     let mut digits = Buffer::new();
     let number = layout.number_text(number_of(layout.ty, value), &mut digits);
-    let lead = layout.number_lead(progress, number.len());
-    gather_both(text, lead.bytes(), number);
-    let room = lead.room_behind(progress.room, layout.width);
+    let gap = layout.number_gap(progress, number.len());
+    gather_both(text, gap.bytes(), number);
+    let room = gap.room_behind(progress.room, layout.width);
     *progress = Progress {
         position: progress.position + 1,
         place: place_behind(layout.row, progress.place, 1),

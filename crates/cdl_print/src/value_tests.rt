@@ -213,6 +213,45 @@ fn lines_are_filled(rt: HostRuntime) -> Result<(), Fail> {
 }
 
 #[test]
+fn first_numbers_begin_a_line(rt: HostRuntime) -> Result<(), Fail> {
+    let name = b"abcdefghijklmnopqrstuvwxy";
+    let rows = [
+        row_of(
+            name,
+            NcType::Byte,
+            &[3],
+            b"\x01\x02\x03",
+            b"\n abcdefghijklmnopqrstuvwxy = \n    1, 2, 3 ;\n",
+        ),
+        row_of(
+            name,
+            NcType::Byte,
+            &[],
+            b"\x11",
+            b"\n abcdefghijklmnopqrstuvwxy = 17 ;\n",
+        ),
+        row_of(
+            name,
+            NcType::Short,
+            &[],
+            b"\0\xac",
+            b"\n abcdefghijklmnopqrstuvwxy = \n    172 ;\n",
+        ),
+        row_of(
+            b"v",
+            NcType::Uint64,
+            &[2, 2],
+            b"\xff\xff\xff\xff\xff\xff\xff\xfd\0\0\0\0\0\0\0\x01\0\0\0\0\0\0\0\x03\xff\xff\xff\xff\xff\xff\xff\xfd",
+            b"\n v =\n  \n    18446744073709551613, 1,\n  3, \n    18446744073709551613 ;\n",
+        ),
+    ];
+    for row in rows {
+        shows(&rt, rt.alloc(), &Row { width: 20, ..row })?;
+    }
+    Ok(())
+}
+
+#[test]
 fn rows_are_those_of_the_last_dimension(rt: HostRuntime) -> Result<(), Fail> {
     let rows = [
         row_of(
@@ -486,7 +525,7 @@ fn names_stand_in_front(rt: HostRuntime) -> Result<(), Fail> {
     let name = [b'n'; 1000];
     let mut text = Vec::from_slice(rt.alloc(), b"\n ")?;
     text.extend_from_slice(&name)?;
-    text.extend_from_slice(b" = 1, \n    2, 3 ;\n")?;
+    text.extend_from_slice(b" = \n    1, 2, 3 ;\n")?;
     let row = row_of(&name, NcType::Byte, &[3], b"\x01\x02\x03", text.as_slice());
     shows(&rt, rt.alloc(), &row)
 }

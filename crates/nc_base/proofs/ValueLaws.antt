@@ -69,9 +69,6 @@ column-broken s t broken = column-append s t ∙ cond-false _ _ _ (not_equal (co
     not_equal : (m n : ℕ) → m < n → eqb m n ≡ false
     not_equal m n h = grind arith
 
-pub column_comma : (s : List ℕ) → column (s ++ codes ", ") ≡ column s + 2
-column_comma s = column-flat s (codes ", ") refl
-
 -- ---- numbers have no line feeds
 
 flat_cons : (b : ℕ) (t : List ℕ) → (b == 10) ≡ false → column t ≡ length t → column (b ∷ t) ≡ length (b ∷ t)

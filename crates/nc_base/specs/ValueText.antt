@@ -75,9 +75,11 @@ column before = suffix_len (λ b. not (b == 10)) before
 abbrev pub number_text : Look → ℤ → List ℕ
 number_text look value = if look.blanks && int_eq value look.fill then codes "_" else signed_decimal value
 
--- what stands before value i, the first number of its row
+-- what stands before value i, a number, on its line
 abbrev pub number_lead : Look → ℕ → List ℕ
-number_lead look i = if look.in_rows then (if i == 0 then codes "\n  " else codes ",\n  ") else codes " "
+number_lead look i =
+    if begins_row look i then (if look.in_rows then (if i == 0 then codes "\n  " else codes ",\n  ") else codes " ")
+    else codes ", "
 
 -- value i is its row's last
 abbrev pub ends_row : Look → ℕ → Bool
@@ -89,16 +91,15 @@ abbrev pub passes : ℕ → ℕ → ℕ → Bool → Bool
 passes width column len is_last =
     if is_last then nat_lt 2 len && nat_lt width (column + len + 2) else nat_lt width (column + len + 4)
 
--- What stands between two numbers of a row, by all text before, the length of the second, and whether it is the row's
--- last: a new line begins where the second would pass the width.
-abbrev pub separator : Look → List ℕ → ℕ → Bool → List ℕ
-separator look before len is_last =
-    if passes look.width (column (before ++ codes ", ")) len is_last then codes ", \n    " else codes ", "
+-- What stands between a lead and its number, by all text before, the length of the number, and whether it is its row's last:
+-- a new line begins where the number would pass the width.
+abbrev pub line_break : Look → List ℕ → ℕ → Bool → List ℕ
+line_break look before len is_last = if passes look.width (column before) len is_last then codes "\n    " else []
 
 -- value i, a number, with what stands before it, by all text before
 unfoldable pub number_piece : Look → List ℕ → ℕ → ℤ → List ℕ
 number_piece look before i value =
-    (if begins_row look i then number_lead look i else separator look before (length (number_text look value)) (ends_row look i))
+    (number_lead look i ++ line_break look (before ++ number_lead look i) (length (number_text look value)) (ends_row look i))
     ++ number_text look value
 
 -- ---- characters
