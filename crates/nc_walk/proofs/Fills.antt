@@ -2,7 +2,7 @@
 use Rattle.std.proofs.Common.{◌≡◌, ℕ, ◌+◌, ◌-◌, ◌≤◌, Bool, true, false, List, ◌++◌, length, take, drop, sym, ◌∙◌, ap, arith, length-append, length-take}
 use Rattle.std.specs.Bool.{OnTrue}
 use Rattle.std.proofs.lemmas.List.{drop-drop, take-append-le}
-use Rattle.std.proofs.Math.Seq.{take-add, take-append-add}
+use Rattle.std.proofs.Math.Seq.{take-add, take-append-add, take-append_seam}
 use borrow.Rule.Slice.PartMut.{put_mid, post_of}
 use Rattle.nc_file.specs.Sources.{SourceView, after, Handed}
 
@@ -31,15 +31,28 @@ told_both false f p q = tt
 pub after_after : (s : SourceView) (m n : ℕ) → after (after s m) n ≡ after s (m + n)
 after_after s m n = let e : s.handed + m + n ≡ s.handed + (m + n) = omega arith in ap (λ (k : ℕ). record s { handed = k }) e
 
-more_bytes : (b xs ys : List ℕ) (at got k n : ℕ) → got ≤ length xs → n ≤ length ys
-    → take got xs ≡ take got (drop at b) → take n ys ≡ take n (drop (at + got) b)
-    → take (got + n) (put_mid got k xs ys) ≡ take (got + n) (drop at b)
-more_bytes b xs ys at got k n within fits front next =
+-- what was put behind the first bytes stands behind them
+pub front_then : (xs ys : List ℕ) (got k n : ℕ) → got ≤ length xs → n ≤ length ys → take (got + n) (put_mid got k xs ys) ≡ take got xs ++ take n ys
+front_then xs ys got k n within fits =
     let len : length (take got xs) ≡ got = omega (arith, length-take got xs) in
     let rest = ys ++ post_of got k xs in
     ap (λ (m : ℕ). take (m + n) (take got xs ++ rest)) (sym len)
     ∙ take-append-add (take got xs) rest n
-    ∙ ap (λ (zs : List ℕ). take got xs ++ zs) (take-append-le n ys (post_of got k xs) fits ∙ next ∙ ap (take n) (sym (drop-drop got at b)))
+    ∙ ap (λ (zs : List ℕ). take got xs ++ zs) (take-append-le n ys (post_of got k xs) fits)
+
+-- and these stay
+pub front_still : (xs ys : List ℕ) (got k : ℕ) → got ≤ length xs → take got (put_mid got k xs ys) ≡ take got xs
+front_still xs ys got k within =
+    let len : length (take got xs) ≡ got = omega (arith, length-take got xs) in
+    let rest = ys ++ post_of got k xs in
+    ap (λ (m : ℕ). take m (take got xs ++ rest)) (sym len) ∙ take-append_seam (take got xs) rest
+
+more_bytes : (b xs ys : List ℕ) (at got k n : ℕ) → got ≤ length xs → n ≤ length ys
+    → take got xs ≡ take got (drop at b) → take n ys ≡ take n (drop (at + got) b)
+    → take (got + n) (put_mid got k xs ys) ≡ take (got + n) (drop at b)
+more_bytes b xs ys at got k n within fits front next =
+    front_then xs ys got k n within fits
+    ∙ ap (λ (zs : List ℕ). take got xs ++ zs) (next ∙ ap (take n) (sym (drop-drop got at b)))
     ∙ ap (λ (zs : List ℕ). zs ++ take n (drop got (drop at b))) front
     ∙ sym (take-add got n (drop at b))
 

@@ -4,6 +4,7 @@ pub mod Runs
 pub mod Orders
 pub mod Slabs
 pub mod OneRead
+pub mod Pieces
 pub mod Missing
 pub mod Stored
 pub mod Walked

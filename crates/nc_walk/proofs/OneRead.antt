@@ -10,7 +10,7 @@ use Rattle.nc_walk.specs.declared.fault.WalkFault.{WalkFault}
 use Rattle.nc_walk.specs.declared.line.Line.{Line}
 use Rattle.nc_walk.specs.Fills.{Filled, BrokeOff}
 use Rattle.nc_walk.specs.Lines.{total, offset, offsets_from, offsets_behind, Ready, IsSized}
-use Rattle.nc_walk.specs.Walks.{IsWhole, Exactly, Hands, Failing, Truncated, Steps, Moved, standing, stopped, in_front, count}
+use Rattle.nc_walk.specs.Walks.{IsWhole, Exactly, Hands, Failing, Truncated, Ran, Steps, Moved, standing, stopped, in_front, count}
 use Rattle.nc_walk.proofs.Fills.{told_any, told_map, told_both}
 use Rattle.nc_walk.proofs.Runs.{length-offsets, take-offsets, drop-offsets, first_offset, run_bytes, run_within, ready_whole}
 
@@ -90,6 +90,16 @@ module _ (told : Bool) (l : Line) (done room : ℕ) (buf : List ℕ) (before now
       let k : got / l.size ≡ n = ap (λ (m : ℕ). m / l.size) all ∙ mul-div_cancel n sized.some in
       subst (λ (m : ℕ). (m * l.size ≤ length (ys ++ rest)) × Hands told (standing l done buf) before now (take (m * l.size) (ys ++ rest)) m) k
       (came f (omega (arith, k)))
+
+  -- and where all came, these bytes alone were handed over
+  pub ran_all : Filled told before now (offset l done) ys got → got ≡ n * l.size → Ran (standing l done buf) before now n
+  ran_all f all = record { whole = whole; handed = f.same ∙ ap (after before) all }
+
+  pub ran : Filled told before now (offset l done) ys got → n ≤ got / l.size → Ran (standing l done buf) before now (got / l.size)
+  ran f all =
+      let e : got / l.size ≡ n = omega (arith, few f.within, all) in
+      let up : n * l.size ≤ got / l.size * l.size = mul-le-mul_right l.size all in
+      subst (Ran (standing l done buf) before now) (sym e) (ran_all f (omega (arith, up, div-mul-le_self got l.size, f.within, len)))
 
   pub came_none : Filled told before now (offset l done) ys got → got / l.size ≡ 0 → Truncated told (standing l done buf) before now done
   came_none f none = record {

@@ -141,6 +141,11 @@ pub record IsInOrder (l : Line) (place : Place) (room : ℕ) (buf : List ℕ) : 
   pub some : 0 < room
   pub fits : room * l.size ≤ length buf
 
+-- the next n values are whole in the source, which handed over as many bytes as they have
+pub record Ran (w : WalkView) (before now : SourceView) (n : ℕ) : Type 0 where
+  pub whole : All (IsWhole w.size before.bytes) (take n w.left)
+  pub handed : now ≡ after before (n * w.size)
+
 -- the next n values stand in front of the buffer
 abbrev pub Reads : Bool → WalkView → List ℕ → SourceView → SourceView → Result ℕ WalkFault → Type 0
 Reads told w buf before now (Ok n) = (n * w.size ≤ length buf) × Hands told w before now (take (n * w.size) buf) n

@@ -8,6 +8,7 @@ mod fault;
 mod fill;
 pub mod laws;
 mod line;
+mod piece;
 mod place;
 mod reading;
 mod walk;

@@ -2,7 +2,7 @@
 
 ghost use Rattle.std.specs.Prelude.{◌≡◌, ◌+◌, ◌*◌, ◌<◌, ◌≤◌, ◌^◌, length, IfOk};
 ghost use Rattle.nc_walk.specs.Lines.{total, number_at, IsSized};
-ghost use Rattle.nc_walk.specs.Walks.{standing, Reads};
+ghost use Rattle.nc_walk.specs.Walks.{standing, Ran, Reads};
 
 use crate::fault::WalkFault;
 use crate::fill::fill;
@@ -30,6 +30,8 @@ pub(crate) fn read_values<S: Source>(
     requires room { room * line.now.size ≤ length into.old }
     ensures reads { Reads S.told (standing line.now (number_at line.now place) into.old) into.new (S.seen source.old) (S.seen source.new) result }
     ensures in_slab { IfOk result (λ n. place.within + n ≤ line.now.per) }
+    ensures ran { IfOk result (λ n. place.within + n ≡ line.now.per
+        → Ran (standing line.now (number_at line.now place) into.old) (S.seen source.old) (S.seen source.new) n) }
 {
     let ready = line.ready(place, room, source.len());
     if ready == 0 {

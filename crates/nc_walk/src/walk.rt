@@ -9,8 +9,8 @@ ghost use Rattle.nc_walk.specs.contracts.walk.Walk.{the_row};
 
 use crate::fault::WalkFault;
 use crate::line::Line;
+use crate::piece::read_piece;
 use crate::place::Place;
-use crate::reading::read_values;
 use nc_base::Header;
 use nc_file::Source;
 use std::marker::Model;
@@ -83,10 +83,10 @@ impl<'a> Walk<'a> {
         if self.place.is_end(self.line) {
             return Ok(0);
         }
-        match read_values(&self.line, self.place, self.room, source, self.buf) {
-            Ok(n) => {
-                self.place = self.place.behind(self.line, n);
-                Ok((n * self.line.size) as usize)
+        match read_piece(&self.line, self.place, self.room, source, self.buf) {
+            Ok(piece) => {
+                self.place = piece.next;
+                Ok((piece.values * self.line.size) as usize)
             }
             Err(fault) => {
                 self.fault = Some(fault);

@@ -1,5 +1,6 @@
 use Rattle.std.proofs.Common.{◌*◌, drop, arith, length-take}
-use Rattle.nc_walk.proofs.OneRead.{not_ready, came, came_all, came_none, broke}
+use Rattle.std.proofs.lemmas.Nat.{mod-mul-add}
+use Rattle.nc_walk.proofs.OneRead.{not_ready, came, came_all, came_none, ran, ran_all, broke}
 use Rattle.nc_walk.proofs.reading.read_values.Goals as goal
 
 pub returns-then-ready-eq0-clause-reads : goal.returns-then-ready-eq0-clause-reads
@@ -35,3 +36,18 @@ returns-clause-reads g c =
     c.requires.sized c.requires.more c.requires.room (rw c.len.ensures.length at c.ready-ready.ensures) (omega arith)
     (omega (arith, c.fill.auto.into, c.ready-ready.ensures.in_room, length-take (c.ready-ready.result * c.args.line.now.size) c.args.into.now))
     (rw c.offset-at.ensures.value at c.in-Ok.ensures) (omega arith)
+
+pub returns-then-got-wanted-clause-ran : goal.returns-then-got-wanted-clause-ran
+returns-then-got-wanted-clause-ran g c = λ full.
+    ran_all g.S.Source.told _ _ _ c.args.into.now _ _ c.fill.new.into (drop (c.ready-ready.result * c.args.line.now.size) c.args.into.now) c.ready-ready.result c.in-Ok.n
+    c.requires.sized c.requires.more c.requires.room (rw c.len.ensures.length at c.ready-ready.ensures) (omega arith)
+    (omega (arith, c.fill.auto.into, c.ready-ready.ensures.in_room, length-take (c.ready-ready.result * c.args.line.now.size) c.args.into.now))
+    (rw c.offset-at.ensures.value at c.in-Ok.ensures) c.if-got-wanted.true
+
+pub returns-clause-ran : goal.returns-clause-ran
+returns-clause-ran g c = λ full.
+    ran g.S.Source.told _ _ _ c.args.into.now _ _ c.fill.new.into (drop (c.ready-ready.result * c.args.line.now.size) c.args.into.now) c.ready-ready.result c.in-Ok.n
+    c.requires.sized c.requires.more c.requires.room (rw c.len.ensures.length at c.ready-ready.ensures) (omega arith)
+    (omega (arith, c.fill.auto.into, c.ready-ready.ensures.in_room, length-take (c.ready-ready.result * c.args.line.now.size) c.args.into.now))
+    (rw c.offset-at.ensures.value at c.in-Ok.ensures)
+    (omega (arith, full, c.ready-ready.ensures.in_slab, mod-mul-add c.args.place.slab c.args.line.now.per c.args.place.within c.requires.within))
