@@ -77,13 +77,8 @@ pub(crate) fn read_piece<S: Source>(
     let mut piece = read_run(line, place, room, source, into)?;
     while piece.goes_on(*line, room) {
         let front = (piece.values * line.size) as usize;
-        match read_run(
-            line,
-            piece.next,
-            room - piece.values,
-            source,
-            &mut into[front..],
-        ) {
+        let rest = &mut into[front..];
+        match read_run(line, piece.next, room - piece.values, source, rest) {
             Ok(more) => {
                 piece = Piece {
                     values: piece.values + more.values,

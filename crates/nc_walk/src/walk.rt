@@ -17,8 +17,9 @@ use std::marker::Model;
 
 /// A walk over the values of one variable, through a lent buffer of at least 16 bytes.
 ///
-/// It hands out the values in row-major order, in pieces of one or more whole values, and each piece as the file has it:
-/// big-endian, without padding. Of a walk that has stopped each call answers the same fault.
+/// It hands out the values in row-major order, in pieces of one or more whole values, and each value as the file has it:
+/// big-endian. A piece goes on from slab to slab, without the padding between them, until the buffer is full or a value
+/// isn't whole in the source. Of a walk that has stopped each call answers the same fault.
 #[derive(Drop)]
 pub struct Walk<'a> {
     line: Line,
@@ -95,15 +96,15 @@ impl<'a> Walk<'a> {
         }
     }
 
-    /// The next values, one or more, lent out of the buffer; none behind the last value.
+    /// The next values, one or more, of one slab or of several, lent out of the buffer; none behind the last value.
     ///
     /// A source that tells its bytes hands over the bytes of the piece and no others.
     ///
     /// # Errors
     ///
-    /// [`WalkFault::ReadFailed`] at once where the source fails, and [`WalkFault::DataTruncated`] where the next value isn't
-    /// whole in the source, without a read. An end of the source before its length is the file's end. From then on each call
-    /// answers the same, and touches nothing.
+    /// [`WalkFault::ReadFailed`] at once where the source fails, and the values that this call has read before are not handed
+    /// out; [`WalkFault::DataTruncated`] where the next value isn't whole in the source, without a read. An end of the source
+    /// before its length is the file's end. From then on each call answers the same, and touches nothing.
     pub fn next<S: Source>(&mut self, source: &mut S) -> Result<Option<&[u8]>, WalkFault>
         ensures steps { self.old.fault ≡ None
             → Steps S.told self.old (S.seen source.old) (S.seen source.new) (lent result) }
