@@ -1,5 +1,5 @@
 -- How many values so many bytes are, and when a printer takes them.
-use Rattle.std.proofs.Common.{◌≡◌, ℕ, ℤ, ◌+◌, ◌*◌, ◌/◌, ◌%◌, ◌≤◌, List, length, zero, suc, sym, ◌∙◌, ap, refl, subst}
+use Rattle.std.proofs.Common.{◌≡◌, ℕ, ◌+◌, ◌*◌, ◌/◌, ◌%◌, ◌≤◌, List, length, zero, suc, sym, ◌∙◌, ap, refl, subst}
 use Rattle.nc_base.specs.Numbers.{numbers, numbers_from}
 use Rattle.nc_base.specs.Types.{size_of}
 use Rattle.nc_base.specs.declared.nc_type.NcType.{NcType}

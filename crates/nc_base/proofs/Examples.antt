@@ -1,5 +1,5 @@
 -- What the definitions give for a few names and texts: a change of a table that changes one of these is refused.
-use Rattle.std.proofs.Common.{◌≡◌, List, [], ◌∷◌, ◌++◌, refl}
+use Rattle.std.proofs.Common.{◌≡◌, [], ◌∷◌, refl}
 use Rattle.std.specs.Prelude.{codes}
 use Rattle.nc_base.specs.Escapes.{escaped_name, escaped_text, is_reserved, begins_with_digit_or_mark}
 

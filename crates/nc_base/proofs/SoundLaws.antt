@@ -13,11 +13,11 @@ use Rattle.nc_base.specs.Types.{size_of}
 use Rattle.nc_base.specs.Sizes.{dim_len, product, is_record_dim, is_record_var, is_narrow, slab_lens, slab_size, padded_size, packed_size, record_vars, record_size, slab_limit, record_limit, has_small_slab, checked_record_size, HasKnownDims, HasKnownShapes, first_begin, slab_at, is_fixed_dim}
 use Rattle.nc_base.specs.Dump.{has_values}
 use Rattle.nc_base.specs.Sizes.{has_slabs}
-use Rattle.nc_base.specs.Headers.{IsSound, IsSoundVar, IsSoundAtt, HasWholeValues, AreDimids}
+use Rattle.nc_base.specs.Headers.{IsSound, IsSoundVar, HasWholeValues, AreDimids}
 use Rattle.nc_base.specs.declared.nc_type.NcType.{NcType}
 use Rattle.nc_base.specs.declared.nc_type.NcType.TheVariants.{Byte, Char, Short, Int, Ubyte, Ushort, Uint, Int64, Uint64}
 use Rattle.nc_base.specs.declared.version.Version.{Version}
-use Rattle.nc_base.specs.Versions.{count_limit, has_type}
+use Rattle.nc_base.specs.Versions.{count_limit}
 use Rattle.nc_base.specs.declared.header.Att.{Att}
 use Rattle.nc_base.specs.declared.header.Dim.{Dim}
 use Rattle.nc_base.specs.declared.header.Var.{Var}

@@ -1,13 +1,13 @@
 -- A dump from reading the header, selecting variables and showing them.
-use Rattle.std.proofs.Common.{◌≡◌, ℕ, ◌+◌, ◌⊎◌, inl, inr, Bool, true, false, List, [], ◌++◌, length, Option, Result, Ok, Err, refl, sym, ap, subst, ◌∙◌, append_assoc}
+use Rattle.std.proofs.Common.{◌≡◌, ℕ, ◌+◌, inl, inr, Bool, true, List, ◌++◌, length, Result, Ok, Err, refl, sym, ap, subst, ◌∙◌, append_assoc}
 use Rattle.std.specs.Bool.{OnTrue}
 use Rattle.std.specs.Prelude.{◌&&◌}
 use Rattle.nc_base.specs.declared.header.Header.{Header}
 use Rattle.nc_base.specs.Grammar.{SpellsHeader}
 use Rattle.nc_base.specs.Sizes.{record_count}
-use Rattle.nc_base.specs.Dump.{Options, Section, Ending, whole, data_truncated, closing_word, KnowsChosen, selection_of, dump_text, has_values, IsDump, stopped, unknown, shown}
+use Rattle.nc_base.specs.Dump.{Options, Section, closing_word, KnowsChosen, selection_of, dump_text, has_values, IsDump, stopped, unknown, shown}
 use Rattle.nc_file.specs.Sources.{SourceView}
-use Rattle.nc_file.specs.Sinks.{SinkView, Grew}
+use Rattle.nc_file.specs.Sinks.{SinkView}
 use Rattle.nc_file.specs.Answers.{IsRead, Answers, HasAnswered, header_end, fault_end}
 use Rattle.nc_file.specs.declared.head_fault.HeadFault.{HeadFault}
 use Rattle.nc_file.specs.declared.head_fault.HeadFault.TheVariants as head
@@ -16,7 +16,7 @@ use Rattle.ncdump.specs.declared.fault.DumpFault.{DumpFault}
 use Rattle.ncdump.specs.declared.fault.DumpFault.TheVariants.{OutOfMemory, ReadFailed, WriteFailed, Format, NoSuchVariable, DataTruncated}
 use Rattle.ncdump.specs.Faults.{fault_of_head}
 use Rattle.ncdump.specs.Selections.{Selects}
-use Rattle.ncdump.specs.Shows.{Dumped, dumped, front_text, marked_values, values_from, values_alone, marks_in, text_before, KeepsUpIn, Shows}
+use Rattle.ncdump.specs.Shows.{Dumped, dumped, front_text, marked_values, values_from, marks_in, text_before, KeepsUpIn, Shows}
 use Rattle.ncdump.specs.Dumps.{Dumps, GoesForward, IsBehindHeader, in_header, behind_header}
 use Rattle.ncdump.proofs.Fronts.{front-in-text}
 use Rattle.ncdump.proofs.Marked.{values-at, more-and}

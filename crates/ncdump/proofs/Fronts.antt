@@ -1,18 +1,16 @@
 -- Fronts of a variable's text.
-use Rattle.std.proofs.Common.{◌≡◌, ℕ, zero, suc, ◌+◌, ◌-◌, ◌≤◌, List, [], ◌++◌, length, take, drop, refl, sym, ap, ◌∙◌, append_assoc, subst, arith, Option, Some, None}
+use Rattle.std.proofs.Common.{◌≡◌, ℕ, ◌+◌, ◌-◌, ◌≤◌, List, [], ◌++◌, length, take, drop, sym, ap, ◌∙◌, append_assoc, arith, Option, Some, None}
 use Rattle.std.specs.Prelude.{ℤ, unwrap_or}
 use Rattle.std.proofs.Math.Seq.{take-add}
-use Rattle.std.proofs.lemmas.List.{append-nil, take_all, length-map}
+use Rattle.std.proofs.lemmas.List.{take_all, length-map}
 use Rattle.nc_base.specs.declared.header.Var.{Var}
 use Rattle.nc_base.specs.Headers.{value_count}
-use Rattle.nc_base.specs.Numbers.{numbers, numbers_from, number_of}
+use Rattle.nc_base.specs.Numbers.{number_of}
 use Rattle.nc_base.specs.Types.{size_of}
-use Rattle.nc_base.specs.declared.nc_type.NcType.{NcType}
 use Rattle.nc_base.specs.Places.{bytes_at, stored_values, stored_bytes, value_offsets, first_missing}
 use Rattle.nc_base.specs.ValueText.{Look, look_of, variable_front, variable_text, later_pieces, closing}
-use Rattle.nc_base.specs.Dump.{Section, no_section, values_before}
+use Rattle.nc_base.specs.Dump.{no_section, values_before}
 use Rattle.nc_base.proofs.ValueLaws.{front-append}
-use Rattle.nc_walk.specs.Walks.{count}
 use Rattle.nc_walk.proofs.Orders.{count_of_offsets}
 use Rattle.ncdump.specs.Shows.{Dumped, front_text, values_alone, whole_values}
 

@@ -1,11 +1,10 @@
 -- What a sink goes on to hold.
-use Rattle.std.proofs.Common.{◌≡◌, ℕ, ◌≤◌, Bool, true, List, [], ◌++◌, length, refl, sym, ap, ◌∙◌, append_assoc, subst, arith, Option, Some, None}
-use Rattle.std.specs.Bool.{OnTrue}
+use Rattle.std.proofs.Common.{◌≡◌, ℕ, ◌≤◌, true, List, [], ◌++◌, length, refl, sym, ap, ◌∙◌, append_assoc, subst, Option, Some, None}
 use Rattle.std.specs.Prelude.{is_some, option_map, unwrap_or}
 use Rattle.std.proofs.lemmas.Bool.{OnTrue_at, OnTrue_from}
 use Rattle.std.proofs.lemmas.List.{append-nil}
-use Rattle.nc_file.specs.Sinks.{SinkView, append, count, told, IsFront, IsFrontIf, IsCut, BrokeOff, Grew, Broke}
-use Rattle.nc_file.proofs.Writes.{append-++, append-none, cut-append, split_front, told-append}
+use Rattle.nc_file.specs.Sinks.{SinkView, append, count, told, IsFrontIf, IsCut, BrokeOff, Grew, Broke}
+use Rattle.nc_file.proofs.Writes.{append-++, cut-append, split_front, told-append}
 use Rattle.ncdump.specs.Shows.{Holds}
 
 front-trans : (a b c : Option (List ℕ)) → IsFrontIf a b → IsFrontIf b c → IsFrontIf a c

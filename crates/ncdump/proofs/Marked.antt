@@ -1,14 +1,13 @@
 -- Showing one marked variable after the other.
-use Rattle.std.proofs.Common.{◌≡◌, ℕ, suc, ◌+◌, ◌*◌, ◌<◌, ◌≤◌, ◌⊎◌, inl, inr, Bool, true, false, List, [], ◌∷◌, ◌++◌, length, take, drop, get_or, refl, sym, ap, ◌∙◌, append_assoc, subst, arith, Option, Some, None, Result, Ok, Err}
-use Rattle.std.specs.Prelude.{ℤ, slice_get, unwrap_or, ◌&&◌, if◌then◌else◌, IfSome}
+use Rattle.std.proofs.Common.{◌≡◌, ℕ, suc, ◌+◌, ◌<◌, ◌≤◌, ◌⊎◌, inl, inr, Bool, true, false, List, [], ◌∷◌, ◌++◌, length, drop, get_or, refl, sym, ap, ◌∙◌, append_assoc, subst, arith, Option, Some, None, Result, Ok, Err}
+use Rattle.std.specs.Prelude.{ℤ, slice_get, ◌&&◌, if◌then◌else◌, IfSome}
 use Rattle.std.specs.Bool.{OnTrue}
 use Rattle.std.proofs.Math.Seq.{drop-cons}
 use Rattle.std.proofs.lemmas.List.{append-nil, drop_all}
 use Rattle.std.proofs.lemmas.Option.{get_or_from_slice_get, slice_get_within, slice_get-get_or}
 use Rattle.nc_base.specs.declared.header.Var.{Var}
-use Rattle.nc_base.specs.Types.{size_of}
 use Rattle.nc_base.specs.ValueText.{Look, look_of}
-use Rattle.nc_base.specs.Dump.{Section, Ending, no_section, whole, data_truncated, content_in, has_values, values_before, values_of}
+use Rattle.nc_base.specs.Dump.{Section, no_section, whole, data_truncated, content_in, has_values, values_before, values_of}
 use Rattle.nc_file.specs.Sources.{SourceView, after}
 use Rattle.nc_file.specs.Sinks.{SinkView, Grew, Broke}
 use Rattle.nc_file.proofs.Writes.{grew_then, grew_broke}
@@ -17,9 +16,9 @@ use Rattle.ncdump.specs.declared.fault.DumpFault.{DumpFault}
 use Rattle.ncdump.specs.declared.fault.DumpFault.TheVariants.{OutOfMemory, ReadFailed, WriteFailed, Format, NoSuchVariable, DataTruncated}
 use Rattle.ncdump.proofs.OneVariable.{some-at}
 use Rattle.nc_base.specs.declared.nc_type.NcType.TheVariants.{Byte}
-use Rattle.ncdump.specs.Shows.{Dumped, dumped, front_text, ShowsOne, ShowsMarked, values_and, values_alone, values_from, marked_values, whole_values, whole_bytes, bytes_of, Holds, KeepsUp, KeepsUpIn, IsBefore, IsShown, IsUnread, IsUnwritten, IsUpToDate, AreShown, AreUnread, AreUnwritten}
+use Rattle.ncdump.specs.Shows.{Dumped, dumped, front_text, ShowsOne, ShowsMarked, values_and, values_alone, values_from, whole_values, whole_bytes, bytes_of, Holds, KeepsUp, KeepsUpIn, IsBefore, IsShown, IsUnread, IsUnwritten, IsUpToDate, AreShown, AreUnread, AreUnwritten}
 use Rattle.ncdump.proofs.Fronts.{front-in-text}
-use Rattle.ncdump.proofs.Held.{holds-all, holds-front, holds-behind, holds-grew, holds-broke}
+use Rattle.ncdump.proofs.Held.{holds-all, holds-front, holds-behind, holds-broke}
 
 -- ---- the list from a place on
 

@@ -1,5 +1,5 @@
 -- Showing one variable: a walk and a printer that go on together.
-use Rattle.std.proofs.Common.{◌≡◌, ℕ, ◌+◌, ◌*◌, ◌<◌, ◌≤◌, ◌⊎◌, inl, inr, Bool, true, false, List, [], ◌++◌, length, take, drop, refl, sym, ap, ◌∙◌, append_assoc, subst, arith, Option, Some, None, Ok, Err}
+use Rattle.std.proofs.Common.{◌≡◌, ℕ, ◌+◌, ◌*◌, ◌≤◌, inl, inr, Bool, List, [], ◌++◌, length, take, refl, sym, ap, ◌∙◌, append_assoc, subst, arith, Option, Some, None, Ok, Err}
 use Rattle.std.specs.Prelude.{ℤ, slice_get, unwrap_or, IfSome, All}
 use Rattle.std.proofs.lemmas.List.Elements.{All-get_or}
 use Rattle.std.proofs.lemmas.Option.{get_or_from_slice_get, slice_get_within}
@@ -12,22 +12,22 @@ use Rattle.nc_base.specs.declared.header.Var.{Var}
 use Rattle.nc_base.specs.Types.{size_of}
 use Rattle.nc_base.specs.Numbers.{numbers}
 use Rattle.nc_base.specs.Headers.{value_count}
-use Rattle.nc_base.specs.Places.{stored_values, first_missing, value_offsets}
+use Rattle.nc_base.specs.Places.{stored_values, first_missing}
 use Rattle.nc_base.specs.ValueText.{Look, look_of, opening, closing, variable_front, variable_text, later_pieces}
-use Rattle.nc_base.specs.Dump.{Section, no_section, whole, data_truncated, values_before}
+use Rattle.nc_base.specs.Dump.{no_section, whole, data_truncated, values_before}
 use Rattle.nc_base.proofs.ValueLaws.{front-append, front_nil}
-use Rattle.nc_file.specs.Sources.{SourceView, after, HasFailed}
+use Rattle.nc_file.specs.Sources.{SourceView, after}
 use Rattle.nc_file.specs.Sinks.{SinkView, Grew, Broke}
 use Rattle.nc_file.proofs.Writes.{grew_then, grew_broke}
 use Rattle.nc_walk.specs.Walks.{WalkView, Starts, Steps, Moved, count}
-use Rattle.nc_walk.specs.Walked.{Walked, HasRead, IsPiece, GivesPiece, GivesEnd, GivesCut, GivesFailure, whole_count}
+use Rattle.nc_walk.specs.Walked.{Walked, HasRead, IsPiece, GivesPiece, GivesEnd, GivesCut, GivesFailure}
 use Rattle.nc_walk.specs.declared.fault.WalkFault.TheVariants as walk
 use Rattle.nc_walk.proofs.Fills.{told_any, told_map, told_both}
 use Rattle.nc_walk.proofs.Missing.{whole_count-ge}
 use Rattle.nc_walk.proofs.Walked.{begun, gives, walked_on}
-use Rattle.cdl_print.specs.Printer.{look_in, position_of, Stands, Printed, Stopped, Takes}
+use Rattle.cdl_print.specs.Printer.{look_in, Stands, Printed, Stopped, Takes}
 use Rattle.cdl_print.specs.declared.printer.ValuePrinter.{ValuePrinter}
-use Rattle.ncdump.specs.Shows.{Dumped, dumped, front_text, values_and, values_alone, whole_values, whole_bytes, Holds, KeepsUp, IsShown, IsUnread, IsUnwritten}
+use Rattle.ncdump.specs.Shows.{Dumped, dumped, whole_values, whole_bytes, Holds, IsShown, IsUnread, IsUnwritten}
 use Rattle.cdl_print.proofs.Takes.{length-numbers}
 use Rattle.ncdump.proofs.Fronts.{count-stored, front-in-text}
 use Rattle.ncdump.proofs.Held.{holds-all, holds-broke, broke-longer}

@@ -1,5 +1,5 @@
 -- The text of a dump from its parts.
-use Rattle.std.proofs.Common.{◌≡◌, ℕ, ◌+◌, ◌≤◌, ◌⊎◌, inl, inr, Bool, List, [], ◌∷◌, ◌++◌, refl, sym, ap, ◌∙◌, append_assoc, subst, arith, Result, Ok, Err}
+use Rattle.std.proofs.Common.{◌≡◌, ℕ, inl, inr, Bool, List, [], ◌∷◌, ◌++◌, refl, sym, ap, ◌∙◌, append_assoc, subst, arith, Ok, Err}
 use Rattle.std.proofs.lemmas.List.{append-nil}
 use Rattle.nc_base.specs.Bytes.{text}
 use Rattle.nc_base.specs.declared.header.Header.{Header}
@@ -10,7 +10,7 @@ use Rattle.nc_file.specs.Sinks.{SinkView, Grew, Broke}
 use Rattle.nc_file.proofs.Writes.{grew_then, grew_broke}
 use Rattle.ncdump.specs.declared.fault.DumpFault.{DumpFault}
 use Rattle.ncdump.specs.declared.fault.DumpFault.TheVariants.{OutOfMemory, ReadFailed, WriteFailed, Format, NoSuchVariable, DataTruncated}
-use Rattle.ncdump.specs.Shows.{Dumped, dumped, front_text, marked_values, bytes_of, text_before, marks_in, KeepsUp, KeepsUpIn, IsUpToDate, AreShown, AreUnread, AreUnwritten, Holds, ShowsMarked, Shows}
+use Rattle.ncdump.specs.Shows.{Dumped, dumped, front_text, marked_values, text_before, marks_in, KeepsUpIn, IsUpToDate, Holds, ShowsMarked, Shows}
 use Rattle.ncdump.proofs.Held.{holds-behind, holds-broke, broke-longer}
 
 -- the parts of a dump's text

@@ -1,5 +1,5 @@
 -- What showing the values of variables has done.
-use Rattle.std.specs.Prelude.{◌≡◌, ℕ, ◌+◌, ◌*◌, ◌≤◌, ◌&&◌, ◌⊎◌, Bool, true, if◌then◌else◌, List, [], ◌∷◌, ◌++◌, take, drop, Option, Some, slice_get, Result, Ok, Err}
+use Rattle.std.specs.Prelude.{◌≡◌, ℕ, ◌+◌, ◌*◌, ◌≤◌, ◌&&◌, ◌⊎◌, Bool, true, if◌then◌else◌, List, [], ◌∷◌, ◌++◌, take, drop, Some, slice_get, Result, Ok, Err}
 use Rattle.std.specs.Bool.{OnTrue}
 use Rattle.nc_base.specs.declared.header.Header.{Header}
 use Rattle.nc_base.specs.declared.header.Var.{Var}
@@ -7,7 +7,7 @@ use Rattle.nc_base.specs.Types.{size_of}
 use Rattle.nc_base.specs.HeadText.{head_text}
 use Rattle.nc_base.specs.Places.{stored_values, first_missing}
 use Rattle.nc_base.specs.ValueText.{look_of, variable_front}
-use Rattle.nc_base.specs.Dump.{Options, Ending, whole, data_truncated, Section, no_section, content_in, has_values, values_before, values_of, data_word, closing_word, dump_text}
+use Rattle.nc_base.specs.Dump.{Options, Ending, whole, data_truncated, Section, no_section, content_in, has_values, values_before, values_of, data_word, dump_text}
 use Rattle.nc_file.specs.Sources.{SourceView, after}
 use Rattle.nc_file.specs.Sources as sources
 use Rattle.nc_file.specs.Sinks as sinks

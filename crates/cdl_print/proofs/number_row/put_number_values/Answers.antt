@@ -1,4 +1,4 @@
-use Rattle.std.proofs.Common.{rules, arith, ap, length, ◌∙◌, length-append}
+use Rattle.std.proofs.Common.{rules, arith, ap, length, length-append}
 use Rattle.std.proofs.lemmas.List.{nil_from_length}
 use Rattle.std.proofs.lemmas.Result.{err_from_is_err_and}
 use Rattle.nc_base.specs.Numbers.{numbers}

@@ -1,5 +1,4 @@
-use Rattle.std.proofs.Common.{◌≡◌, ℕ, Bool, List, length, sym, ap, ◌∙◌, subst, Ok, Err}
-use Rattle.std.specs.Bool.{OnTrue}
+use Rattle.std.proofs.Common.{ℕ, Bool, List, length, ap, ◌∙◌, subst, Ok, Err}
 use Rattle.std.proofs.lemmas.Result.{err_from_is_err_and}
 use Rattle.nc_base.specs.HeadText.{head_text}
 use Rattle.nc_base.specs.Sizes.{record_count}

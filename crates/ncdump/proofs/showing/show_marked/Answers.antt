@@ -1,14 +1,9 @@
-use Rattle.std.proofs.Common.{◌≡◌, ◌<◌, Bool, true, false, [], length, refl, sym, ap, ◌∙◌, subst, arith, Some, Ok, Err}
-use Rattle.std.specs.Bool.{OnTrue}
-use Rattle.std.specs.Prelude.{slice_get, ◌&&◌}
+use Rattle.std.proofs.Common.{◌<◌, length, refl, ◌∙◌, arith}
 use Rattle.std.proofs.lemmas.Result.{err_from_is_err_and}
-use Rattle.std.proofs.lemmas.Option.{slice_get-get_or}
-use Rattle.nc_base.specs.Dump.{has_values}
-use Rattle.nc_file.specs.Sources.{SourceView, after}
 use Rattle.nc_walk.proofs.Fills.{told_any, told_map}
-use Rattle.ncdump.specs.Shows.{dumped, ShowsOne, ShowsMarked}
+use Rattle.ncdump.specs.Shows.{dumped}
 use Rattle.cdl_print.proofs.Begun.{grew_none}
-use Rattle.ncdump.proofs.Marked.{Marked, marked-begins, place-skips, place-shown, place-failed, marked-all}
+use Rattle.ncdump.proofs.Marked.{marked-begins, place-skips, place-shown, place-failed, marked-all}
 use Rattle.ncdump.proofs.Blame.{fails-after}
 use Rattle.ncdump.proofs.showing.show_marked.Goals as goal
 

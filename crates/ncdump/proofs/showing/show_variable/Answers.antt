@@ -1,13 +1,10 @@
-use Rattle.std.proofs.Common.{◌≡◌, [], length, sym, ap, ◌∙◌, subst, Ok, Err}
-use Rattle.std.specs.Bool.{OnTrue}
+use Rattle.std.proofs.Common.{[], sym, ap, ◌∙◌, subst, Ok}
 use Rattle.std.specs.Prelude.{slice_get}
 use Rattle.std.proofs.lemmas.Result.{err_from_is_err_and}
 use Rattle.nc_base.specs.ValueText.{look_of, opening, Look}
 use Rattle.nc_file.specs.Sinks.{Grew, Broke}
 use Rattle.nc_walk.proofs.Fills.{told_map}
-use Rattle.cdl_print.specs.Printer.{Stands, look_in}
-use Rattle.ncdump.specs.declared.fault.DumpFault.TheVariants.{ReadFailed, WriteFailed, DataTruncated}
-use Rattle.ncdump.specs.Shows.{dumped, ShowsOne}
+use Rattle.cdl_print.specs.Printer.{Stands}
 use Rattle.ncdump.proofs.OneVariable.{some-at, at-some, showing-begins, takes-piece, showing-on, unwritten-piece, shown-whole, unwritten-closing, shown-front, unread, unwritten-opening}
 use Rattle.ncdump.proofs.showing.show_variable.Goals as goal
 
