@@ -48,10 +48,10 @@ rows() {
 # microseconds COMMAND..: how long the command takes.
 microseconds() {
     local before after
-    before=$(date +%s%N)
+    before=${EPOCHREALTIME/./}
     "$@" >/dev/null
-    after=$(date +%s%N)
-    echo $(((after - before) / 1000))
+    after=${EPOCHREALTIME/./}
+    echo $((after - before))
 }
 
 # least NUMBER..: the least of these microseconds, in milliseconds.
