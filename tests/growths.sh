@@ -1,18 +1,49 @@
 #!/usr/bin/env bash
-# Counts how often a dump takes memory, and how often the header and the selection do that it begins with, by refusing
-# each growth in turn. They are as many: a dump takes no memory for values. It takes some minutes, and proves nothing.
+# Runs the tests of growths with the first growth of memory refused, then with the second, and so on until none is left to
+# refuse. A test has to end with the error of memory as often as it grows, and to pass from then on. A dump has to grow as
+# often as the header and the selection that it begins with: it takes no memory for values. It proves nothing.
 set -u
 cd "$(dirname "$0")/../crates/acceptance" || exit 1
+rows='one_variable one_variable_of_version_5 a_rank_three_selection padded_records nuls_in_a_row
+    a_text_attribute a_hidden_variable'
+at_once=4
+work=$(mktemp -d)
+trap 'rm -rf "$work"' EXIT
+trap 'exit 1' HUP INT TERM
 
-dumps=0
-heads=0
-for n in $(seq 1 100); do
-    found=$(rt try --test --fail-alloc "$n" -- growths_of)
-    dump=$(grep -c 'growths_of_a_dump .* FAILED' <<<"$found")
-    head=$(grep -c 'growths_of_a_header_and_a_selection .* FAILED' <<<"$found")
-    dumps=$((dumps + dump))
-    heads=$((heads + head))
-    if [ "$dump" -eq 0 ] && [ "$head" -eq 0 ]; then break; fi
+# refuse N: runs the tests with growth N refused, and keeps what they say.
+refuse() {
+    rt try --test --fail-alloc "$1" -- growths:: >"$work/$1" 2>&1
+}
+
+# growths TEST: the number of runs in which the test had too little memory.
+growths() {
+    grep -l "^test growths::$1 \.\.\. FAILED" "$work"/* | wc -l
+}
+
+n=0
+until [ "$n" -gt 0 ] && grep -q '^test result: ok' "$work/$n"; do
+    if [ "$n" -ge 100 ]; then break; fi
+    for _ in $(seq "$at_once"); do
+        n=$((n + 1))
+        refuse "$n" &
+    done
+    wait
 done
-echo "growths of a dump: $dumps; of its header and selection: $heads"
-[ "$dumps" -eq "$heads" ] && [ "$dumps" -gt 0 ]
+
+failed=0
+for run in "$work"/*; do
+    if ! grep -q '^test result: ' "$run" || grep -qE 'assertion failed|panicked' "$run" ||
+        [ "$(grep -c 'FAILED$' "$run")" -ne "$(grep -c '^    error: AllocError$' "$run")" ]; then
+        failed=1
+        echo "growth $(basename "$run") refused:"
+        cat "$run"
+    fi
+done
+for row in $rows; do
+    dump=$(growths "dump_of_$row")
+    begins=$(growths "header_and_selection_of_$row")
+    echo "growths of $row: $dump by the dump, $begins by its header and selection"
+    if [ "$dump" -eq 0 ] || [ "$dump" -ne "$begins" ] || [ "$dump" -ge "$n" ]; then failed=1; fi
+done
+exit "$failed"

@@ -3,26 +3,13 @@
 ghost use Rattle.std.specs.Prelude.{◌≤◌, length};
 
 use crate::files;
+use crate::rows::{self, Row, is_same};
 use crate::runs::{choosing, options};
-use nc_file::{DripSource, FailWhen, MemSink, MemSource, SliceSink, read_header};
-use ncdump::{DumpFault, DumpOptions, dump, select};
+use nc_file::{DripSource, FailWhen, MemSink, MemSource, SliceSink};
+use ncdump::{DumpFault, DumpOptions, dump};
 use std::alloc::{AllocError, Global};
 use std::process::Abort;
 use std::test::Fail;
-
-/// A dump: the file, what to show of it, the text, and how many bytes of the header and of shown values there are.
-#[derive(Clone, Copy)]
-struct Row<'a> {
-    bytes: &'a [u8],
-    options: &'a DumpOptions,
-    text: &'a [u8],
-    shown: u64,
-}
-
-/// Says whether these are the same bytes.
-fn is_same(bytes: &[u8], text: &[u8]) -> bool {
-    bytes == text
-}
 
 /// Dumps through a buffer of 16 bytes, from a source that fails so, and says whether it did. A front of the text is written,
 /// and no more is handed over than the header, the shown values and one buffer.
@@ -59,7 +46,7 @@ fn each_read_fails(rt: &impl Abort, alloc: Global, row: &Row<'_>, step: usize)
     assert!(rt; false);
 }
 
-/// Dumps into a slice of this length, which is too short for the text: that many bytes of it are written.
+/// Dumps into a slice of this length: as much of the text as it has room for is written.
 fn fails_to_write(
     rt: &impl Abort,
     alloc: Global,
@@ -71,8 +58,9 @@ fn fails_to_write(
 {
     let mut into = Vec::from_elem(alloc, 0, room)?;
     let mut sink = SliceSink::new(into.as_mut_slice(), step);
-    let mut source = MemSource::new(row.bytes);
+    let mut source = DripSource::new(row.bytes, step, FailWhen::Never);
     let answer = dump(alloc, &mut source, row.options, &mut [0; 16], &mut sink);
+    assert!(rt; source.handed() <= row.shown as u128 + 16);
     if room < row.text.len() {
         assert!(rt; answer == Err(DumpFault::WriteFailed));
         assert!(rt; is_same(sink.taken(), &row.text[..room]));
@@ -96,67 +84,31 @@ fn each_call_fails(rt: &impl Abort, alloc: Global, row: &Row<'_>) -> Result<(), 
 }
 
 #[test]
-fn one_variable(rt: HostRuntime) -> Result<(), Fail> {
+fn each_call_fails_in_the_dump_of_one_variable(rt: HostRuntime) -> Result<(), Fail> {
     let all = options(rt.alloc(), false)?;
-    let text =
-        b"netcdf t {\ndimensions:\n\tx = 3 ;\nvariables:\n\tshort s(x) ;\ndata:\n\n s = 1, _, 3 ;\n}\n";
-    let row = Row {
-        bytes: files::GENERATED,
-        options: &all,
-        text,
-        shown: 80 + 6,
-    };
-    each_call_fails(&rt, rt.alloc(), &row)?;
-    let row = Row {
-        bytes: files::GENERATED_CDF5,
-        options: &all,
-        text,
-        shown: 128 + 6,
-    };
-    each_call_fails(&rt, rt.alloc(), &row)?;
+    each_call_fails(&rt, rt.alloc(), &rows::one_variable(&all))?;
+    each_call_fails(&rt, rt.alloc(), &rows::one_variable_of_version_5(&all))?;
     Ok(())
 }
 
-/// The dump of the chosen one of three variables.
-const SELECTION_TEXT: &[u8] =
-    b"netcdf t {\ndimensions:\n\tt = UNLIMITED ; // (2 currently)\n\ty = 2 ;\n\tx = 2 ;\nvariables:\n\tint a(t) ;\n\tint b(t, y, x) ;\n\tint c ;\ndata:\n\n b =\n  1, 2,\n  3, 4,\n  5, 6,\n  7, 8 ;\n}\n";
-
 #[test]
-fn rank_three_selection(rt: HostRuntime) -> Result<(), Fail> {
+fn each_call_fails_in_a_rank_three_selection(rt: HostRuntime) -> Result<(), Fail> {
     let chosen = choosing(rt.alloc(), &[b"b"])?;
-    let row = Row {
-        bytes: files::THREE_VARIABLES,
-        options: &chosen,
-        text: SELECTION_TEXT,
-        shown: 180 + 32,
-    };
-    each_call_fails(&rt, rt.alloc(), &row)?;
+    each_call_fails(&rt, rt.alloc(), &rows::rank_three(&chosen))?;
     Ok(())
 }
 
 #[test]
-fn two_record_variables(rt: HostRuntime) -> Result<(), Fail> {
+fn each_call_fails_in_the_dump_of_padded_records(rt: HostRuntime) -> Result<(), Fail> {
     let all = options(rt.alloc(), false)?;
-    let row = Row {
-        bytes: files::PADDED_RECORDS,
-        options: &all,
-        text: b"netcdf t {\ndimensions:\n\tt = UNLIMITED ; // (3 currently)\nvariables:\n\tbyte b(t) ;\n\tshort s(t) ;\ndata:\n\n b = 1, 2, 3 ;\n\n s = 4, 5, 6 ;\n}\n",
-        shown: 116 + 9,
-    };
-    each_call_fails(&rt, rt.alloc(), &row)?;
+    each_call_fails(&rt, rt.alloc(), &rows::padded_records(&all))?;
     Ok(())
 }
 
 #[test]
-fn held_back_nuls(rt: HostRuntime) -> Result<(), Fail> {
+fn each_call_fails_in_the_dump_of_nuls_in_a_row(rt: HostRuntime) -> Result<(), Fail> {
     let all = options(rt.alloc(), false)?;
-    let row = Row {
-        bytes: files::HELD_NULS,
-        options: &all,
-        text: b"netcdf t {\ndimensions:\n\tx = 5 ;\nvariables:\n\tchar c(x) ;\ndata:\n\n c = \"a\\000\\000b\" ;\n}\n",
-        shown: 80 + 5,
-    };
-    each_call_fails(&rt, rt.alloc(), &row)?;
+    each_call_fails(&rt, rt.alloc(), &rows::nuls_in_a_row(&all))?;
     Ok(())
 }
 
@@ -170,7 +122,7 @@ fn selection_through(rt: &impl Abort, alloc: Global, chosen: &DumpOptions, buf: 
         let room = buf.len() as u128;
         let answer = dump(alloc, &mut source, chosen, buf, &mut sink);
         assert!(rt; answer == Ok(()));
-        assert!(rt; sink.as_slice() == SELECTION_TEXT);
+        assert!(rt; sink.as_slice() == rows::SELECTION_TEXT);
         assert!(rt; source.handed() <= 180 + 32 + room);
     }
 }
@@ -206,46 +158,5 @@ fn failing_sink(rt: HostRuntime) -> Result<(), Fail> {
     let answer = dump(rt.alloc(), &mut source, &all, &mut [0; 16], &mut sink);
     assert!(rt; answer == Err(DumpFault::WriteFailed));
     assert_eq!(rt; sink.taken(), b"netcdf t {\nd".as_slice());
-    Ok(())
-}
-
-/// To be run with each growth refused in turn, too: nothing is written then.
-#[test]
-fn refused_growth_writes_nothing(rt: HostRuntime) -> Result<(), Fail> {
-    let chosen = choosing(rt.alloc(), &[b"b"])?;
-    let mut into = [0; 256];
-    let mut sink = SliceSink::new(&mut into, 256);
-    let mut source = MemSource::new(files::THREE_VARIABLES);
-    match dump(rt.alloc(), &mut source, &chosen, &mut [0; 16], &mut sink) {
-        Ok(()) => assert!(rt; sink.taken() == SELECTION_TEXT),
-        Err(fault) => {
-            assert!(rt; fault == DumpFault::OutOfMemory);
-            assert!(rt; sink.taken().is_empty());
-        }
-    }
-    Ok(())
-}
-
-/// Grows as often as the test below: a dump takes no memory for values (`tests/growths.sh` counts).
-#[test]
-fn growths_of_a_dump(rt: HostRuntime) -> Result<(), Fail> {
-    let chosen = choosing(rt.alloc(), &[b"b"])?;
-    let mut into = [0; 256];
-    let mut sink = SliceSink::new(&mut into, 256);
-    let mut source = MemSource::new(files::THREE_VARIABLES);
-    let answer = dump(rt.alloc(), &mut source, &chosen, &mut [0; 16], &mut sink);
-    assert!(rt; answer.is_ok());
-    Ok(())
-}
-
-/// Reads the header and selects its variables, as a dump does first.
-#[test]
-fn growths_of_a_header_and_a_selection(rt: HostRuntime) -> Result<(), Fail> {
-    let chosen = choosing(rt.alloc(), &[b"b"])?;
-    let mut source = MemSource::new(files::THREE_VARIABLES);
-    match read_header(rt.alloc(), &mut source, &mut [0; 16]) {
-        Ok(header) => assert!(rt; select(rt.alloc(), &header, &chosen).is_ok()),
-        Err(_) => assert!(rt; false),
-    }
     Ok(())
 }

@@ -386,20 +386,3 @@ fn twenty_thousand_variables(rt: HostRuntime) -> Result<(), Fail> {
     reads_variables(&rt, rt.alloc(), bytes.as_slice(), 20_000)?;
     Ok(())
 }
-
-/// Reads a header in steps of three bytes: it can be read, or memory is refused.
-fn read_or_out_of_memory(rt: &impl Abort, alloc: Global, bytes: &[u8]) {
-    let mut source = DripSource::new(bytes, 3, FailWhen::Never);
-    let answer = read_header(alloc, &mut source, &mut [0; 16]);
-    if let Err(fault) = answer {
-        assert!(rt; fault == HeadFault::OutOfMemory);
-    }
-}
-
-/// To be run with each growth refused in turn, too.
-#[test]
-fn refused_growth_is_out_of_memory(rt: HostRuntime) {
-    read_or_out_of_memory(&rt, rt.alloc(), files::TEXT_ATTRIBUTE);
-    read_or_out_of_memory(&rt, rt.alloc(), files::GENERATED);
-    read_or_out_of_memory(&rt, rt.alloc(), files::GENERATED_CDF5);
-}

@@ -10,7 +10,11 @@ mod failures;
 #[cfg(test)]
 mod files;
 #[cfg(test)]
+mod growths;
+#[cfg(test)]
 mod headers;
+#[cfg(test)]
+mod rows;
 #[cfg(test)]
 mod runs;
 #[cfg(test)]

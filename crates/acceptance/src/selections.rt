@@ -1,7 +1,7 @@
 //! Dumps that show no value: of the header alone, of no records, and of variables that aren't chosen.
 
-use crate::files;
 use crate::runs::{choosing, dumps, dumps_as, options};
+use crate::{files, rows};
 use nc_base::Sequence;
 use nc_file::{MemSource, SliceSink};
 use ncdump::{DumpFault, DumpOptions, dump, select};
@@ -12,10 +12,6 @@ use std::test::Fail;
 /// The dump of a file without records.
 const NO_RECORDS_TEXT: &[u8] =
     b"netcdf t {\ndimensions:\n\tt = UNLIMITED ; // (0 currently)\nvariables:\n\tint v(t) ;\ndata:\n}\n";
-
-/// The dump of two coordinates' variables, where no value is shown.
-const COORDINATES_TEXT: &[u8] =
-    b"netcdf t {\ndimensions:\n\tx = 2 ;\nvariables:\n\tint x(x) ;\n\tint y(x) ;\ndata:\n}\n";
 
 #[test]
 fn no_records(rt: HostRuntime) -> Result<(), Fail> {
@@ -71,7 +67,7 @@ fn coordinate_variables_that_are_not_chosen(rt: HostRuntime) -> Result<(), Fail>
         files::COORDINATES,
         &options,
         Ok(()),
-        COORDINATES_TEXT,
+        rows::COORDINATES_TEXT,
     );
     Ok(())
 }
@@ -85,7 +81,7 @@ fn no_name_is_chosen(rt: HostRuntime) -> Result<(), Fail> {
         files::COORDINATES,
         &options,
         Ok(()),
-        COORDINATES_TEXT,
+        rows::COORDINATES_TEXT,
     );
     Ok(())
 }
@@ -208,25 +204,5 @@ fn twenty_thousand_names(rt: HostRuntime) -> Result<(), Fail> {
         Ok(()),
         NO_RECORDS_TEXT,
     );
-    Ok(())
-}
-
-/// Dumps with names looked up: it can be done, or memory is refused and nothing is written.
-fn dumped_or_out_of_memory(rt: &impl Abort, alloc: Global, options: &DumpOptions) {
-    let mut into = [0; 128];
-    let mut sink = SliceSink::new(&mut into, 128);
-    let mut source = MemSource::new(files::COORDINATES);
-    if let Err(fault) = dump(alloc, &mut source, options, &mut [0; 16], &mut sink) {
-        assert!(rt; fault == DumpFault::OutOfMemory);
-        assert!(rt; sink.taken().is_empty());
-    }
-}
-
-/// To be run with each growth refused in turn, too.
-#[test]
-fn refused_growth_is_out_of_memory(rt: HostRuntime) -> Result<(), Fail> {
-    let mut options = choosing(rt.alloc(), &[b"y"])?;
-    options.coords = true;
-    dumped_or_out_of_memory(&rt, rt.alloc(), &options);
     Ok(())
 }
