@@ -30,6 +30,8 @@ impl Ahead {
 
     /// Copies the bytes from the offset `at` on to the front of `into`, as many as there are and fit, and gives their
     /// number: 0 where the byte at this offset wasn't read ahead.
+    // Inside of a caller's loop, the test for slices that overlap would be prepared anew for each read.
+    #[inline(never)]
     pub(crate) fn copy(&self, at: u64, into: &mut [u8]) -> usize
         ensures within { result ≤ length into.old }
         ensures bytes { take result into.new ≡ take result (drop (at - self.now.at) self.now.bytes) }
@@ -55,8 +57,8 @@ impl Ahead {
     }
 }
 
-/// Reads bytes from the offset `at` on into the front of `into`, and gives their number. A read of fewer bytes than are
-/// read ahead is one from those.
+/// Reads bytes from the offset `at` on into the front of `into`, and gives their number. In place of a few bytes so many are
+/// read as are read ahead, and the first of them copied.
 pub(crate) fn read_some(
     file: &File,
     ahead: &mut Ahead,
@@ -68,9 +70,8 @@ pub(crate) fn read_some(
     if AHEAD_LEN <= into.len() {
         return file.read_at(into, at);
     }
-    let n = ahead.copy(at, into);
-    if 0 < n || into.is_empty() {
-        return Ok(n);
+    if into.is_empty() {
+        return Ok(0);
     }
     ahead.read(file, at)?;
     Ok(ahead.copy(at, into))

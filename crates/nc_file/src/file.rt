@@ -1,7 +1,8 @@
 //! Devices over the files and writers of the standard library.
 
-ghost use Rattle.std.specs.Prelude.{◌≡◌, ◌+◌, ◌^◌, ◌-◌, [], false, min, replicate, IfOk, IsErr};
+ghost use Rattle.std.specs.Prelude.{◌≡◌, ◌+◌, ◌^◌, ◌-◌, ◌<◌, [], false, length, min, replicate, IfOk, IsErr};
 ghost use Rattle.nc_file.specs.Sinks.{Wrote};
+ghost use Rattle.nc_file.specs.Sources.{ReadSome};
 
 use crate::ahead::{Ahead, read_some};
 use crate::{OpenFailed, Sink, SinkFailed, Source, SourceFailed};
@@ -47,6 +48,25 @@ impl FileSource {
             handed: 0,
         })
     }
+
+    /// Reads bytes that weren't read ahead.
+    #[inline(never)]
+    #[tactic(auto, unfolding(crate::specs::Sources::HasFailed))]
+    fn read_on(&mut self, at: u64, into: &mut [u8]) -> Result<usize, SourceFailed>
+        requires { self.old.handed + length into.old < 2 ^ 128 }
+        ensures { ReadSome false (⟦<FileSource as Source>⟧.seen self.old) (⟦<FileSource as Source>⟧.seen self.new) at into.old into.new result }
+    {
+        match read_some(&self.file, &mut self.ahead, at, into) {
+            Ok(read) => {
+                self.handed += read as u128;
+                Ok(read)
+            }
+            Err(_) => {
+                self.failures = self.failures.saturating_add(1);
+                Err(SourceFailed)
+            }
+        }
+    }
 }
 
 impl Source for FileSource {
@@ -63,16 +83,12 @@ impl Source for FileSource {
         if u128::MAX - self.handed < into.len() as u128 {
             return Err(SourceFailed);
         }
-        match read_some(&self.file, &mut self.ahead, at, into) {
-            Ok(n) => {
-                self.handed += n as u128;
-                Ok(n)
-            }
-            Err(_) => {
-                self.failures = self.failures.saturating_add(1);
-                Err(SourceFailed)
-            }
+        let n = self.ahead.copy(at, into);
+        if 0 < n {
+            self.handed += n as u128;
+            return Ok(n);
         }
+        self.read_on(at, into)
     }
 }
 

@@ -11,6 +11,7 @@ use nc_file::{Source, SourceFailed};
 /// # Errors
 ///
 /// The source failed.
+#[inline(always)]
 pub(crate) fn fill<S: Source>(
     source: &mut S,
     at: u64,

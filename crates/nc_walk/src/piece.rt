@@ -34,6 +34,7 @@ impl Piece {
 /// # Errors
 ///
 /// The source failed, or it has no whole value in this place.
+#[inline(always)]
 fn read_run<S: Source>(
     line: &Line,
     place: Place,
@@ -60,6 +61,8 @@ fn read_run<S: Source>(
 /// # Errors
 ///
 /// The source failed, or it has no whole value in this place.
+// One loop with all of a run inside of it: where a slab has few values, calls would take longer than the reads.
+#[inline(never)]
 pub(crate) fn read_piece<S: Source>(
     line: &Line,
     place: Place,

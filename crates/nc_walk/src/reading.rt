@@ -16,6 +16,7 @@ use nc_file::Source;
 /// # Errors
 ///
 /// The source failed, or it has no whole value in this place.
+#[inline(always)]
 pub(crate) fn read_values<S: Source>(
     line: &Line,
     place: Place,
