@@ -3,8 +3,8 @@ use Rattle.std.proofs.Common.{◌≡◌, ℕ, ℤ, ◌+◌, ◌-◌, ◌%◌, �
 use Rattle.std.specs.Prelude.{codes, ◌==◌, ◌&&◌, unwrap_or}
 use Rattle.std.proofs.lemmas.Bool.{OnTrue_at, OnTrue_from, false≢true, cases_lt, cond-false, lt-ltb}
 use Rattle.std.proofs.lemmas.Bool.Decides.{nat_tests}
-use Rattle.nc_base.specs.ValueText.{Look, is_char, begins_row, column, number_text, number_lead, line_break, passes, ends_row, number_piece, piece, variable_front, later_pieces}
-use Rattle.nc_base.proofs.ValueLaws.{front-append, later_one, column-flat, column-broken, number_flat, place-add}
+use Rattle.nc_base.specs.ValueText.{Look, is_char, begins_row, column, number_text, number_lead, line_break, passes, ends_row, number_piece, piece, measured_front, later_pieces}
+use Rattle.nc_base.proofs.ValueLaws.{measured-append, later_one, column-flat, column-broken, number_flat, place-add}
 use Rattle.nc_file.specs.Sinks.{SinkView, append, told, Grew, Broke, Wrote}
 use Rattle.cdl_print.specs.Leads.{lead_bytes, lead_room, gap_bytes, next_lead, next_gap, passes_at, room_behind}
 use Rattle.cdl_print.specs.Printing.{gathered, number_bytes, IsBehindNumber, IsBehind, Went, Goes}
@@ -81,9 +81,9 @@ last_is look n = sym (ap (λ m. m == 0) (place-add n 1 look.row (omega arith) (�
 
 -- the gap is what stands before the number
 gap_is : (look : Look) (xs : List ℤ) (p : Progress) (len : ℕ) → is_char look.ty ≡ false → IsBehind look xs p
-    → gap_bytes (next_gap look p len) ≡ number_lead look (length xs) ++ line_break look (variable_front look xs ++ number_lead look (length xs)) len (ends_row look (length xs))
+    → gap_bytes (next_gap look p len) ≡ number_lead look (length xs) ++ line_break look (measured_front look xs ++ number_lead look (length xs)) len (ends_row look (length xs))
 gap_is look xs p len is behind =
-    let front = variable_front look xs in
+    let front = measured_front look xs in
     let lead = next_lead look p in
     let first = ap (λ n. n == 0) behind.place in
     let room = lead_room_is lead front p.room look.width (behind.room is) in
@@ -100,13 +100,13 @@ bytes_are look xs p x is behind =
     ap (λ (t : List ℕ). t ++ number_text look x) (gap_is look xs p (length (number_text look x)) is behind) ∙ sym (later_one look xs x ∙ cond-false (is_char look.ty) _ _ is)
 
 room_next : (look : Look) (xs : List ℤ) (p q : Progress) (x : ℤ) → is_char look.ty ≡ false → IsBehind look xs p → IsBehindNumber look p x q
-    → q.room ≡ look.width - column (variable_front look (xs ++ x ∷ []))
+    → q.room ≡ look.width - column (measured_front look (xs ++ x ∷ []))
 room_next look xs p q x is behind next =
-    let front = variable_front look xs in
+    let front = measured_front look xs in
     let text = number_text look x in
     let gap = next_gap look p (length text) in
-    let whole : variable_front look (xs ++ x ∷ []) ≡ (front ++ gap_bytes gap) ++ text
-    = front-append look xs (x ∷ []) ∙ ap (λ (t : List ℕ). front ++ t) (sym (bytes_are look xs p x is behind)) ∙ sym (append_assoc front (gap_bytes gap) text) in
+    let whole : measured_front look (xs ++ x ∷ []) ≡ (front ++ gap_bytes gap) ++ text
+    = measured-append look xs (x ∷ []) ∙ ap (λ (t : List ℕ). front ++ t) (sym (bytes_are look xs p x is behind)) ∙ sym (append_assoc front (gap_bytes gap) text) in
     let col = ap column whole ∙ column-flat (front ++ gap_bytes gap) text (number_flat look x) in
     let room = room_is gap.lead gap.breaks front p.room look.width (behind.room is) in
     omega (arith, col, room, next.room)

@@ -1,7 +1,7 @@
 -- What a call that prints values has done.
 use Rattle.std.specs.Prelude.{ℕ, ◌≡◌, ◌+◌, ◌-◌, ◌%◌, ◌==◌, ◌&&◌, ◌||◌, ℤ, Bool, true, false, not, if◌then◌else◌, List, [], ◌∷◌, ◌++◌, length, replicate, Some, Result, Ok, Err}
 use Rattle.nc_base.specs.Escapes.{escaped_text}
-use Rattle.nc_base.specs.ValueText.{Look, is_char, column, held, number_text, variable_front, later_pieces}
+use Rattle.nc_base.specs.ValueText.{Look, is_char, column, held, number_text, measured_front, later_pieces}
 use Rattle.nc_file.specs.Sinks.{SinkView, Grew, Broke, HasFailed}
 use Rattle.cdl_print.specs.Leads.{gap_bytes, next_gap, next_char_lead, room_behind}
 use Rattle.cdl_print.specs.declared.progress.Progress.{Progress}
@@ -53,7 +53,7 @@ pub record IsBehindRun (look : Look) (p : Progress) (run : List ℕ) (q : Progre
 pub record IsBehind (look : Look) (xs : List ℤ) (p : Progress) : Type 0 where
   pub position : p.position ≡ length xs
   pub place : p.place ≡ length xs % look.row
-  pub room : is_char look.ty ≡ false → p.room ≡ look.width - column (variable_front look xs)
+  pub room : is_char look.ty ≡ false → p.room ≡ look.width - column (measured_front look xs)
   pub held : is_char look.ty ≡ true → p.held ≡ held look xs
 
 -- the values ys more are printed, whichever stand before them

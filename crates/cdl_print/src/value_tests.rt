@@ -252,6 +252,37 @@ fn first_numbers_begin_a_line(rt: HostRuntime) -> Result<(), Fail> {
 }
 
 #[test]
+fn names_count_without_their_escapes(rt: HostRuntime) -> Result<(), Fail> {
+    let rows = [
+        row_of(
+            b"a:b:c",
+            NcType::Byte,
+            &[3],
+            b"\x0a\x14\x1e",
+            b"\n a\\:b\\:c = 10, 20, 30 ;\n",
+        ),
+        row_of(
+            b"2 b c",
+            NcType::Byte,
+            &[4],
+            b"\x01\x02\x03\x04",
+            b"\n \\2\\ b\\ c = 1, 2, 3, 4 ;\n",
+        ),
+        row_of(
+            b"a::::b",
+            NcType::Byte,
+            &[3],
+            b"\x64\x01\x02",
+            b"\n a\\:\\:\\:\\:b = 100, 1, 2 ;\n",
+        ),
+    ];
+    for row in rows {
+        shows(&rt, rt.alloc(), &Row { width: 20, ..row })?;
+    }
+    Ok(())
+}
+
+#[test]
 fn rows_are_those_of_the_last_dimension(rt: HostRuntime) -> Result<(), Fail> {
     let rows = [
         row_of(

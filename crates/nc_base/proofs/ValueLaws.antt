@@ -10,7 +10,7 @@ use Rattle.std.proofs.lemmas.List.{reverse-append, length-reverse, drop-append-l
 use Rattle.std.proofs.lemmas.List.Folds.{prefix_len-append}
 use Rattle.std.proofs.lemmas.List.Sums.{prefix_len-le-length}
 use Rattle.std.proofs.lemmas.Nat.{mod-mul-add}
-use Rattle.nc_base.specs.ValueText.{Look, column, number_text, is_nul, row_so_far, held, piece, pieces, opening, variable_front, later_pieces}
+use Rattle.nc_base.specs.ValueText.{Look, column, number_text, is_nul, row_so_far, held, piece, pieces, opening, measured_opening, variable_front, measured_front, later_pieces}
 
 -- ---- cutting the values
 
@@ -22,21 +22,32 @@ pieces-append look before values (x ∷ xs) ys =
     let p = piece look before values x in
     ap (λ (r : List ℕ). p ++ r) (pieces-append look (before ++ p) (values ++ x ∷ []) xs ys) ∙ simp append_assoc
 
+-- the values' pieces behind some opening
+behind_opening : (look : Look) (first : List ℕ) (xs ys : List ℤ)
+    → first ++ pieces look (measured_opening look) [] (xs ++ ys)
+    ≡ (first ++ pieces look (measured_opening look) [] xs) ++ pieces look (measured_opening look ++ pieces look (measured_opening look) [] xs) xs ys
+behind_opening look first xs ys =
+    let start = measured_opening look in
+    ap (λ (r : List ℕ). first ++ r) (pieces-append look start [] xs ys)
+    ∙ sym (append_assoc first (pieces look start [] xs) (pieces look (start ++ pieces look start [] xs) xs ys))
+
 pub front-append : (look : Look) (xs ys : List ℤ) → variable_front look (xs ++ ys) ≡ variable_front look xs ++ later_pieces look xs ys
-unfolding variable_front
-front-append look xs ys =
-    ap (λ (r : List ℕ). opening look ++ r) (pieces-append look (opening look) [] xs ys)
-    ∙ sym (append_assoc (opening look) (pieces look (opening look) [] xs) (pieces look (opening look ++ pieces look (opening look) [] xs) xs ys))
+unfolding variable_front measured_front
+front-append look xs ys = behind_opening look (opening look) xs ys
+
+pub measured-append : (look : Look) (xs ys : List ℤ) → measured_front look (xs ++ ys) ≡ measured_front look xs ++ later_pieces look xs ys
+unfolding measured_front
+measured-append look xs ys = behind_opening look (measured_opening look) xs ys
 
 pub later-append : (look : Look) (xs ys zs : List ℤ) → later_pieces look xs (ys ++ zs) ≡ later_pieces look xs ys ++ later_pieces look (xs ++ ys) zs
 later-append look xs ys zs =
-    pieces-append look (variable_front look xs) xs ys zs
-    ∙ ap (λ (t : List ℕ). later_pieces look xs ys ++ pieces look t (xs ++ ys) zs) (sym (front-append look xs ys))
+    pieces-append look (measured_front look xs) xs ys zs
+    ∙ ap (λ (t : List ℕ). later_pieces look xs ys ++ pieces look t (xs ++ ys) zs) (sym (measured-append look xs ys))
 
 -- one value alone
-pub later_one : (look : Look) (xs : List ℤ) (x : ℤ) → later_pieces look xs (x ∷ []) ≡ piece look (variable_front look xs) xs x
+pub later_one : (look : Look) (xs : List ℤ) (x : ℤ) → later_pieces look xs (x ∷ []) ≡ piece look (measured_front look xs) xs x
 unfolding pieces
-later_one look xs x = append-nil (piece look (variable_front look xs) xs x)
+later_one look xs x = append-nil (piece look (measured_front look xs) xs x)
 
 -- no value
 pub later_none : (look : Look) (xs : List ℤ) → later_pieces look xs [] ≡ []
@@ -47,8 +58,9 @@ pub front_nil : (look : Look) → variable_front look [] ≡ opening look
 unfolding pieces variable_front
 front_nil look = append-nil (opening look)
 
-pub front_push : (look : Look) (xs : List ℤ) (x : ℤ) → variable_front look (xs ++ x ∷ []) ≡ variable_front look xs ++ piece look (variable_front look xs) xs x
-front_push look xs x = front-append look xs (x ∷ []) ∙ ap (λ (r : List ℕ). variable_front look xs ++ r) (later_one look xs x)
+pub measured_nil : (look : Look) → measured_front look [] ≡ measured_opening look
+unfolding pieces measured_front
+measured_nil look = append-nil (measured_opening look)
 
 -- ---- columns
 

@@ -91,12 +91,12 @@ abbrev pub passes : ℕ → ℕ → ℕ → Bool → Bool
 passes width column len is_last =
     if is_last then nat_lt 2 len && nat_lt width (column + len + 2) else nat_lt width (column + len + 4)
 
--- What stands between a lead and its number, by all text before, the length of the number, and whether it is its row's last:
--- a new line begins where the number would pass the width.
+-- What stands between a lead and its number, by the text before, the length of the number, and whether it is its row's last: a
+-- new line begins where the number would pass the width.
 abbrev pub line_break : Look → List ℕ → ℕ → Bool → List ℕ
 line_break look before len is_last = if passes look.width (column before) len is_last then codes "\n    " else []
 
--- value i, a number, with what stands before it, by all text before
+-- value i, a number, with what stands before it, by the text before
 unfoldable pub number_piece : Look → List ℕ → ℕ → ℤ → List ℕ
 number_piece look before i value =
     (number_lead look i ++ line_break look (before ++ number_lead look i) (length (number_text look value)) (ends_row look i))
@@ -132,12 +132,12 @@ char_piece look values value =
 
 -- ---- values
 
--- a value with what stands before it, by all text and all values before
+-- a value with what stands before it, by the text and all values before
 unfoldable pub piece : Look → List ℕ → List ℤ → ℤ → List ℕ
 piece look before values value =
     if is_char look.ty then char_piece look values value else number_piece look before (length values) value
 
--- values, each with what stands before it, by all text and all values before the first of them
+-- values, each with what stands before it, by the text and all values before the first of them
 unfoldable pub pieces : Look → List ℕ → List ℤ → List ℤ → List ℕ
 pieces look before values [] = []
 pieces look before values (value ∷ others) =
@@ -152,13 +152,21 @@ opening look = text (codes "\n " ∷ escaped_name look.name ∷ codes " =" ∷ [
 unfoldable pub closing : Look → List ℕ
 closing look = if is_char look.ty then codes "\" ;\n" else codes " ;\n"
 
+-- the same as lines are measured: the name counts without its escapes
+unfoldable pub measured_opening : Look → List ℕ
+measured_opening look = text (codes "\n " ∷ look.name ∷ codes " =" ∷ [])
+
 -- the opening and a variable's first values
 unfoldable pub variable_front : Look → List ℤ → List ℕ
-variable_front look values = opening look ++ pieces look (opening look) [] values
+variable_front look values = opening look ++ pieces look (measured_opening look) [] values
+
+-- the same as lines are measured
+unfoldable pub measured_front : Look → List ℤ → List ℕ
+measured_front look values = measured_opening look ++ pieces look (measured_opening look) [] values
 
 -- the pieces of the values ys behind those of a variable's first values xs
 abbrev pub later_pieces : Look → List ℤ → List ℤ → List ℕ
-later_pieces look xs ys = pieces look (variable_front look xs) xs ys
+later_pieces look xs ys = pieces look (measured_front look xs) xs ys
 
 -- a variable's values, from its opening to its closing
 unfoldable pub variable_text : Look → List ℤ → List ℕ
