@@ -1,6 +1,6 @@
 #!/usr/bin/env bash
 # Makes files of several kinds with Unidata's ncgen, and times bin/ncdump beside Unidata's ncdump on each, in one run. It
-# wants both on the path (Debian's netcdf-bin) and bin/ncdump built. Each figure is the least of seven runs in turn, in
+# wants both on the path (Debian's netcdf-bin) and bin/ncdump built. Each figure is the least of 15 runs in turn, in
 # milliseconds; with them stands the most memory that ours took.
 set -eu
 top=$(cd "$(dirname "$0")/.." && pwd)
@@ -74,7 +74,7 @@ for name in ints cube bytes records rows; do
     ncgen -k nc3 -o "$name.nc" "$name.cdl"
     them=()
     us=()
-    for _ in 1 2 3 4 5 6 7; do
+    for _ in {1..15}; do
         them+=("$(microseconds "$theirs" "$name.nc")")
         us+=("$(microseconds "$ours" "$name.nc")")
     done

@@ -210,6 +210,10 @@ verdict hostile_count_in_little_memory_and_time 1
 # Paths that can't be opened.
 fault missing_path missing.nc 'cannot open'
 fault directory dir 'cannot open'
+mkfifo pipe
+stderr 'ncdump: pipe: cannot open\n'
+run timeout 10 "$ncdump" pipe
+verdict pipe_without_a_writer 1
 
 # The words.
 usage='usage: ncdump [-h] [-c] [-v names] [-n name] [-l width] file\n'

@@ -7,11 +7,16 @@ ghost use Rattle.nc_file.specs.Sinks.{Wrote};
 use itoa::Buffer;
 use nc_file::{Sink, WriteFailed, put};
 
-/// Writes a count in decimal.
-pub fn put_decimal<W: Sink>(sink: &mut W, n: u64) -> Result<(), WriteFailed>
+/// Writes a number in decimal.
+///
+/// # Errors
+///
+/// The sink failed, and took some front of the text.
+pub fn put_decimal<W: Sink>(sink: &mut W, n: u128) -> Result<(), WriteFailed>
     ensures { Wrote (W.seen sink.old) (W.seen sink.new) (decimal n) result }
 {
-    put(sink, Buffer::new().format(n).as_bytes())
+    let mut digits = Buffer::new();
+    put(sink, digits.format(n).as_bytes())
 }
 
 /// Writes an integer in decimal.

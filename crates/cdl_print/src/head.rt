@@ -97,7 +97,7 @@ fn put_records<W: Sink>(sink: &mut W, records: u64) -> Result<(), WriteFailed>
     ensures { Wrote (W.seen sink.old) (W.seen sink.new) (text (unlimited_word ∷ decimal records ∷ currently_word ∷ [])) result }
 {
     put(sink, Word::Unlimited.bytes())?;
-    put_decimal(sink, records)?;
+    put_decimal(sink, records as u128)?;
     put(sink, Word::Currently.bytes())
 }
 
@@ -106,7 +106,7 @@ fn put_records<W: Sink>(sink: &mut W, records: u64) -> Result<(), WriteFailed>
 fn put_length<W: Sink>(sink: &mut W, len: u64) -> Result<(), WriteFailed>
     ensures { Wrote (W.seen sink.old) (W.seen sink.new) (text (decimal len ∷ codes " ;\n" ∷ [])) result }
 {
-    put_decimal(sink, len)?;
+    put_decimal(sink, len as u128)?;
     put(sink, b" ;\n")
 }
 

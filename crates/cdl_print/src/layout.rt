@@ -30,7 +30,7 @@ pub struct Layout<'a> {
     pub blanks: bool,
     /// The NULs at the end of a row of characters aren't printed.
     pub trimmed: bool,
-    /// The greatest length of a line of numbers.
+    /// The width at which lines of numbers are broken.
     pub width: usize,
 }
 

@@ -1,4 +1,4 @@
-//! CDL, the text form of netCDF, as it is printed: names, attributes and the head of a dump.
+//! CDL, the text form of netCDF, as it is printed: names, attributes, the head of a dump and values.
 //!
 //! Each function writes a text to a [`Sink`](nc_file::Sink), from the front on and without memory of its own, and
 //! stops at the sink's first failure.
@@ -20,6 +20,7 @@ mod string;
 mod variable;
 mod word;
 
+pub use decimal::put_decimal;
 pub use head::put_head;
 pub use name::put_name;
 pub use printer::ValuePrinter;

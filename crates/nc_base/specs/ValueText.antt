@@ -31,7 +31,7 @@ pub record Look : Type 0 where
   pub blanks : Bool
   -- the NULs at the end of a row of characters aren't printed
   pub trimmed : Bool
-  -- the greatest length of a line of numbers
+  -- the width at which lines of numbers are broken
   pub width : ℕ
 
 abbrev pub is_char : NcType → Bool

@@ -31,7 +31,8 @@ pub use number::number_of;
 pub use path::stem;
 pub use sequence::Sequence;
 pub use sizes::{
-    dim_len, extent_end, has_records, rec_size, records, slab_bytes, slab_of, value_count,
+    RECORD_LIMIT, dim_len, extent_end, has_records, rec_size, records, slab_bytes, slab_of,
+    sound_rec_size, value_count,
 };
 pub use version::Version;
 pub use weights::weight;

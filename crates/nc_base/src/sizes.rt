@@ -3,7 +3,7 @@
 ghost use Rattle.std.specs.Prelude.{◌≡◌, ◌+◌, ◌*◌, ◌/◌, ◌<◌, ◌≤◌, ◌^◌, ◌&&◌, IfSome, if◌then◌else◌, length, map, min, slice_get, SomeIff};
 ghost use Rattle.nc_base.specs.Types.{size_of};
 ghost use Rattle.nc_base.specs.Bytes.{padding_len};
-ghost use Rattle.nc_base.specs.Sizes.{dim_len, is_record_dim, has_records, is_record_var, is_narrow, product, slab_of, slab_at, slab_size, padded_size, slab_limit, record_size, checked_record_size, record_vars, record_count, first_begin, lesser, end_at};
+ghost use Rattle.nc_base.specs.Sizes.{dim_len, is_record_dim, has_records, is_record_var, is_narrow, product, slab_of, slab_at, slab_size, padded_size, slab_limit, record_size, checked_record_size, record_limit, record_vars, record_count, first_begin, lesser, end_at};
 ghost use Rattle.nc_base.specs.Headers.{IsSound, value_count};
 
 use crate::header::{Dim, Header, NumRecs, Var};
@@ -13,7 +13,7 @@ use crate::nc_type::NcType;
 const SLAB_LIMIT: u64 = 1 << 48;
 
 /// The greatest record in bytes: 2^62.
-const RECORD_LIMIT: u128 = 1 << 62;
+pub const RECORD_LIMIT: u128 = 1 << 62;
 
 /// The bytes of the slab of the variable in place `v`, without padding: of its values in one record for a record
 /// variable, and of all its values for any other (`vsize` of the NetCDF Classic Format Specification before it is
@@ -115,10 +115,11 @@ pub fn value_count(header: &Header, v: usize, records: u64) -> u128
     }
 }
 
-/// The record size of a sound header.
-fn sound_rec_size(header: &Header) -> u64
+/// The record size of a sound header: that of [`rec_size`], which is at most 2^62 bytes.
+pub fn sound_rec_size(header: &Header) -> u64
     requires { IsSound header.now }
-    ensures { result ≡ record_size header.now }
+    ensures size { result ≡ record_size header.now }
+    ensures small { result ≤ record_limit }
 {
     rec_size(header).unwrap()
 }

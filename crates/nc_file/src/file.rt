@@ -7,9 +7,9 @@ ghost use Rattle.nc_file.specs.Sources.{ReadSome};
 use crate::ahead::{Ahead, read_some};
 use crate::{OpenFailed, Sink, SinkFailed, Source, SourceFailed};
 use std::fs::File;
-use std::io;
 use std::io::{ErrorKind, Write};
 use std::rt::Files;
+use std::{fs, io};
 
 /// A source over a file of the system, which does not tell its bytes.
 ///
@@ -35,11 +35,13 @@ impl FileSource {
         ensures failures { IfOk result (λ source. (⟦<FileSource as Source>⟧.seen source).failures ≡ 0) }
         ensures handed { IfOk result (λ source. (⟦<FileSource as Source>⟧.seen source).handed ≡ 0) }
     {
-        let file = File::open(rt, path).map_err(|_| OpenFailed)?;
-        let metadata = file.metadata().map_err(|_| OpenFailed)?;
-        if !metadata.is_file() {
+        // asked of the path, since to open a pipe is to wait for its writer
+        let named = fs::metadata(rt, path).map_err(|_| OpenFailed)?;
+        if !named.is_file() {
             return Err(OpenFailed);
         }
+        let file = File::open(rt, path).map_err(|_| OpenFailed)?;
+        let metadata = file.metadata().map_err(|_| OpenFailed)?;
         Ok(FileSource {
             file,
             ahead: Ahead::new(),

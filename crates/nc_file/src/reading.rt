@@ -11,8 +11,8 @@ use crate::sized_var::SizedVar;
 use crate::source::Source;
 use crate::window::{Window, padding_len};
 use nc_base::{
-    Att, Dim, FormatFault, Header, NcType, NumRecs, Sequence, Var, Version, check_name,
-    has_records, slab_of,
+    Att, Dim, FormatFault, Header, NcType, NumRecs, RECORD_LIMIT, Sequence, Var, Version,
+    check_name, has_records, slab_of,
 };
 use std::alloc::Global;
 
@@ -22,9 +22,6 @@ const DIMENSION_TAG: u32 = 10;
 const VARIABLE_TAG: u32 = 11;
 
 const ATTRIBUTE_TAG: u32 = 12;
-
-/// The greatest record in bytes: 2^62.
-const RECORD_LIMIT: u128 = 1 << 62;
 
 impl<S: Source> Window<'_, S> {
     /// A name: its length, its bytes and their padding.

@@ -2,11 +2,11 @@
 
 ghost use Rattle.std.specs.Prelude.{◌≡◌, ◌+◌, ◌*◌, ◌<◌, ◌≤◌, ◌^◌, if◌then◌else◌, length};
 ghost use Rattle.nc_base.specs.Headers.{IsSound};
-ghost use Rattle.nc_base.specs.Sizes.{is_record_var, record_size, record_limit, slab_count, slab_size, slab_limit};
+ghost use Rattle.nc_base.specs.Sizes.{is_record_var, slab_count, slab_size, slab_limit};
 ghost use Rattle.nc_walk.specs.Lines.{number_at, offset, IsSized, IsLineOf, Ready};
 
 use crate::place::Place;
-use nc_base::{Dim, Header, Var, has_records, rec_size, slab_of};
+use nc_base::{Dim, Header, Var, has_records, slab_of, sound_rec_size};
 
 /// The slabs of a variable: values side by side in each, and one slab behind the other at the same distance.
 #[derive(Clone, Copy)]
@@ -70,15 +70,6 @@ impl Line {
             0
         }
     }
-}
-
-/// The record size of a sound header.
-fn sound_rec_size(header: &Header) -> u64
-    requires { IsSound header.now }
-    ensures size { result ≡ record_size header.now }
-    ensures small { result ≤ record_limit }
-{
-    rec_size(header).unwrap()
 }
 
 /// The number of slabs over so many records.

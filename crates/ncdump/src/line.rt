@@ -6,7 +6,7 @@ ghost use Rattle.nc_file.specs.Sinks.{Wrote};
 ghost use Rattle.ncdump.specs.Faults.{line_of, program_words, fault_text, fault_words, fault_numbers, format_words, truncated_words};
 
 use crate::fault::DumpFault;
-use itoa::Buffer;
+use cdl_print::put_decimal;
 use nc_base::FormatFault;
 use nc_file::{Sink, WriteFailed, put};
 
@@ -65,14 +65,6 @@ fn put_place<W: Sink>(sink: &mut W, var: usize, value: u128) -> Result<(), Write
     put_decimal(sink, var as u128)?;
     put(sink, truncated_words())?;
     put_decimal(sink, value)
-}
-
-/// Writes a number in decimal.
-fn put_decimal<W: Sink>(sink: &mut W, n: u128) -> Result<(), WriteFailed>
-    ensures { Wrote (W.seen sink.old) (W.seen sink.new) (decimal n) result }
-{
-    let mut buffer = Buffer::new();
-    put(sink, buffer.format(n).as_bytes())
 }
 
 /// What a fault says, up to its first number.

@@ -15,6 +15,6 @@ pub struct DumpOptions {
     pub coords: bool,
     /// The names of the variables whose values are shown, if not all: `-v`.
     pub chosen: Option<Sequence<Sequence<u8>>>,
-    /// The greatest length of a line of values that aren't characters, from 20 to 1000 bytes: `-l`.
+    /// The width, in bytes, at which lines of values that aren't characters are broken, from 20 to 1000: `-l`.
     pub width: usize,
 }
