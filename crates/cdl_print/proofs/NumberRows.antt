@@ -13,12 +13,19 @@ use Rattle.cdl_print.specs.declared.lead.Lead.{Lead}
 use Rattle.cdl_print.specs.declared.lead.Lead.TheVariants.{Space, FirstRow, NextRow, Comma}
 use Rattle.cdl_print.specs.declared.progress.Progress.{Progress}
 
--- the text that a call put together
-pub number_bytes_is : (look : Look) (p : Progress) (value : ℤ) (gap : Gap) (bytes text : List ℕ) (len : ℕ)
-    → bytes ≡ gap_bytes gap → gap ≡ next_gap look p len → len ≡ length text → text ≡ number_text look value → bytes ++ text ≡ number_bytes look p value
-number_bytes_is look p value gap bytes text len b l n t =
-    let whole : len ≡ length (number_text look value) = n ∙ ap length t in
-    ap (λ (x : List ℕ). x ++ text) (b ∙ ap gap_bytes l ∙ ap (λ k. gap_bytes (next_gap look p k)) whole) ∙ ap (λ (x : List ℕ). gap_bytes (next_gap look p (length (number_text look value))) ++ x) t
+-- a gap is short
+pub gap_short : (gap : Gap) → length (gap_bytes gap) ≤ 9
+gap_short gap = by gap.lead gap.breaks
+  where
+    by : (lead : Lead) (breaks : Bool) → length (lead_bytes lead ++ cond breaks (codes "\n    ") []) ≤ 9
+    by Space true = omega arith
+    by Space false = omega arith
+    by FirstRow true = omega arith
+    by FirstRow false = omega arith
+    by NextRow true = omega arith
+    by NextRow false = omega arith
+    by Comma true = omega arith
+    by Comma false = omega arith
 
 -- a line that is full, by its room and by its columns
 room_test : (width col len free : ℕ) → 0 < free → nat_lt (width - col) (len + free) ≡ nat_lt width (col + len + free)

@@ -114,7 +114,7 @@ fn plain_len(name: &[u8]) -> usize
 }
 
 /// Says whether the byte stands for itself in a name.
-pub fn is_plain(b: u8) -> bool
+fn is_plain(b: u8) -> bool
     ensures { result ≡ is_plain b }
 {
     b.is_ascii_alphanumeric() || b == b'_' || is_name_mark(b) || b >= 0x80
@@ -128,7 +128,7 @@ fn is_name_mark(b: u8) -> bool
 }
 
 /// Says whether the name could be read as a number.
-pub fn begins_with_digit_or_mark(name: &[u8]) -> bool
+fn begins_with_digit_or_mark(name: &[u8]) -> bool
     ensures { result ≡ begins_with_digit_or_mark name.now }
 {
     match name.first() {
@@ -138,7 +138,7 @@ pub fn begins_with_digit_or_mark(name: &[u8]) -> bool
 }
 
 /// Says whether the name is a reserved word.
-pub fn is_reserved(name: &[u8]) -> bool
+fn is_reserved(name: &[u8]) -> bool
     ensures { result ≡ is_reserved name.now }
 {
     is_one_of(name, &RESERVED_WORDS)

@@ -4,10 +4,11 @@ ghost use Rattle.std.specs.Prelude.{◌≡◌, ◌∷◌, ◌++◌, [], ◌+◌,
 ghost use Rattle.nc_base.specs.Numbers.{number_of, numbers};
 ghost use Rattle.nc_base.specs.Types.{size_of};
 ghost use Rattle.nc_base.specs.ValueText.{is_char};
-ghost use Rattle.cdl_print.specs.Leads.{look_at};
+ghost use Rattle.cdl_print.specs.Leads.{gap_bytes, look_at};
 ghost use Rattle.cdl_print.specs.Printing.{gathered, number_bytes, Goes, Went, IsBehindNumber};
 
 use crate::layout::Layout;
+use crate::lead::{Gap, Lead};
 use crate::progress::{Progress, place_behind};
 use arrayvec::ArrayVec;
 use itoa::Buffer;
@@ -68,12 +69,14 @@ fn gather_numbers(text: &mut Gathered, layout: &Layout<'_>, progress: &mut Progr
     ensures { Went (look_at layout.now) (numbers layout.now.ty bytes.now) progress.old progress.new (gathered text.old.items) (gathered text.new.items) }
 {
     let size = layout.ty.size() as usize;
+    let mut at = *progress;
     let mut rest = bytes;
     while size <= rest.len() {
         let (value, others) = rest.split_at(size);
-        gather_number(text, layout, progress, value);
+        gather_number(text, layout, &mut at, value);
         rest = others;
     }
+    *progress = at;
 }
 
 /// Adds the next number to the text, with what stands before it, and goes on behind it.
@@ -88,7 +91,7 @@ fn gather_number(text: &mut Gathered, layout: &Layout<'_>, progress: &mut Progre
     let mut digits = Buffer::new();
     let number = layout.number_text(number_of(layout.ty, value), &mut digits);
     let gap = layout.number_gap(progress, number.len());
-    gather_both(text, gap.bytes(), number);
+    gather_both(text, gap, number);
     let room = gap.room_behind(progress.room, layout.width);
     *progress = Progress {
         position: progress.position + 1,
@@ -98,11 +101,25 @@ fn gather_number(text: &mut Gathered, layout: &Layout<'_>, progress: &mut Progre
     };
 }
 
-/// Adds one text and then another.
-fn gather_both(text: &mut Gathered, first: &[u8], second: &[u8])
-    requires { length text.old.items + (length first.now + length second.now) ≤ 1024 }
-    ensures { text.new.items ≡ text.old.items ++ (first.now ++ second.now) }
+/// Adds a gap and then a number.
+fn gather_both(text: &mut Gathered, gap: Gap, number: &[u8])
+    requires { length text.old.items + (length (gap_bytes gap) + length number.now) ≤ 1024 }
+    ensures { text.new.items ≡ text.old.items ++ (gap_bytes gap ++ number.now) }
 {
-    text.try_extend_from_slice(first).unwrap();
-    text.try_extend_from_slice(second).unwrap();
+    gather_gap(text, gap);
+    text.try_extend_from_slice(number).unwrap();
+}
+
+/// Adds a gap. That between most numbers has a length of its own here, so that no call is needed to copy it.
+fn gather_gap(text: &mut Gathered, gap: Gap)
+    requires { length text.old.items + length (gap_bytes gap) ≤ 1024 }
+    ensures { text.new.items ≡ text.old.items ++ gap_bytes gap }
+{
+    match gap {
+        Gap {
+            lead: Lead::Comma,
+            breaks: false,
+        } => text.try_extend_from_slice(b", ").unwrap(),
+        _ => text.try_extend_from_slice(gap.bytes()).unwrap(),
+    }
 }
