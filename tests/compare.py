@@ -68,8 +68,12 @@ class Files:
             return self.random.randint(least, most)
         return self.random.randint(max(least, -999), min(most, 999))
 
-    def attribute(self, owner, of, name=None):
-        name = escaped(name or self.name())
+    def value(self, of):
+        """A number with its suffix, or a blank."""
+        return "_" if self.random.random() < 0.1 else f"{self.number(of)}{NUMBERS[of][2]}"
+
+    def attribute(self, owner, of):
+        name = escaped(self.name())
         if of == "char":
             values = [quoted(self.characters(self.random.randint(0, 30)))]
         else:
@@ -92,58 +96,63 @@ class Files:
             least = 1 if padded else row
             rows = [self.characters(self.random.randint(least, row)) for _ in range(count // row)]
             return ", ".join(quoted(row) for row in rows)
-        suffix = NUMBERS[of][2]
-        blank = lambda: self.random.random() < 0.1
-        return ", ".join("_" if blank() else f"{self.number(of)}{suffix}" for _ in range(count))
+        return ", ".join(self.value(of) for _ in range(count))
+
+    def variable(self, types, dims, record, names):
+        """A variable beside those of these names: its name, its declaration, and its values where it has any."""
+        pick = self.random
+        of = pick.choice(types)
+        shape = [pick.choice(dims) for _ in range(pick.randint(0, 3))] if dims else []
+        is_record = record is not None and pick.random() < 0.5
+        if is_record:
+            shape.insert(0, record)
+        name = self.name()
+        if len(shape) == 1 and pick.random() < 0.5 and shape[0][0] not in names:
+            name = shape[0][0]
+        axes = ", ".join(escaped(dim) for dim, _ in shape)
+        head = [f"\t{of} {escaped(name)}{f'({axes})' if axes else ''} ;"]
+        is_filled = pick.random() < 0.3
+        if is_filled:
+            head.append(self.fill(escaped(name), of))
+        head += [self.attribute(escaped(name), pick.choice(types)) for _ in range(pick.randint(0, 2))]
+        if not (is_record or is_filled and of == "char" or pick.random() < 0.85):
+            return name, head, []
+        padded = not is_filled and not (is_record and len(shape) == 1)
+        values = self.values(of, [length for _, length in shape], padded)
+        return name, head, [f" {escaped(name)} = {values} ;"]
 
     def file(self, types):
         """A file as CDL text, and the names of its variables."""
         pick = self.random
         dims = [(self.name(), pick.randint(1, 7)) for _ in range(pick.randint(0, 4))]
-        record = self.name() if pick.random() < 0.6 else None
-        records = pick.randint(1, 5)
+        record = (self.name(), pick.randint(1, 5)) if pick.random() < 0.6 else None
         head, data, names = [], [], []
         for _ in range(pick.randint(0, 5)):
-            of = pick.choice(types)
-            shape = [pick.choice(dims) for _ in range(pick.randint(0, 3))] if dims else []
-            if record and pick.random() < 0.5:
-                shape.insert(0, (record, records))
-            name = self.name()
-            if len(shape) == 1 and pick.random() < 0.5 and shape[0][0] not in names:
-                name = shape[0][0]
+            name, declared, values = self.variable(types, dims, record, names)
             names.append(name)
-            axes = ", ".join(escaped(dim) for dim, _ in shape)
-            head.append(f"\t{of} {escaped(name)}{f'({axes})' if axes else ''} ;")
-            filled = pick.random() < 0.3
-            if filled:
-                head.append(self.fill(escaped(name), of))
-            head += [self.attribute(escaped(name), pick.choice(types)) for _ in range(pick.randint(0, 2))]
-            is_record = bool(shape) and shape[0][0] == record
-            if is_record or filled and of == "char" or pick.random() < 0.85:
-                padded = not filled and not (is_record and len(shape) == 1)
-                values = self.values(of, [length for _, length in shape], padded)
-                data.append(f" {escaped(name)} = {values} ;")
+            head += declared
+            data += values
         head += [self.attribute("", pick.choice(types)) for _ in range(pick.randint(0, 3))]
-        lines = ["netcdf random {"]
-        if dims or record:
-            lines.append("dimensions:")
-            lines += [f"\t{escaped(dim)} = {length} ;" for dim, length in dims]
+        lengths = [f"\t{escaped(dim)} = {length} ;" for dim, length in dims]
         if record:
-            lines.insert(pick.randint(2, len(lines)), f"\t{escaped(record)} = UNLIMITED ;")
-        if head:
-            lines += ["variables:", *head]
-        if data:
-            lines += ["data:", *data]
-        return "\n".join([*lines, "}", ""]), names
+            lengths.insert(pick.randint(0, len(dims)), f"\t{escaped(record[0])} = UNLIMITED ;")
+        parts = {"dimensions:": lengths, "variables:": head, "data:": data}
+        lines = [line for part, found in parts.items() if found for line in (part, *found)]
+        return "\n".join(["netcdf random {", *lines, "}", ""]), names
 
     def options(self, names):
         """Sets of options for a file with these variables."""
-        some = lambda: ",".join(self.random.sample(names, self.random.randint(1, len(names))))
         width = str(self.random.choice([20, 40, 79, 133, 1000]))
         sets = [[], ["-h"], ["-c"], ["-l", width], ["-n", self.name()]]
         if names and not any("," in name for name in names):
-            sets += [["-v", some()], ["-c", "-v", some()], ["-v", some(), "-l", "30", "-n", "x"]]
+            sets.append(["-v", self.some(names)])
+            sets.append(["-c", "-v", self.some(names)])
+            sets.append(["-v", self.some(names), "-l", "30", "-n", "x"])
         return sets
+
+    def some(self, names):
+        """One or more of the names, joined by commas."""
+        return ",".join(self.random.sample(names, self.random.randint(1, len(names))))
 
 
 def escaped(name):
@@ -161,7 +170,7 @@ def dump(program, options, path):
     return subprocess.run([program, *options, path], capture_output=True)
 
 
-def main(count, seed):
+def main(count=200, seed=1):
     files = Files(seed)
     made = compared = differ = 0
     with tempfile.TemporaryDirectory() as folder:
@@ -186,5 +195,4 @@ def main(count, seed):
 
 
 if __name__ == "__main__":
-    numbers = [int(word) for word in sys.argv[1:]]
-    sys.exit(main(*(numbers + [200, 1][len(numbers) :])))
+    sys.exit(main(*map(int, sys.argv[1:3])))
