@@ -17,8 +17,8 @@ pub fn is_same(bytes: &[u8], text: &[u8]) -> bool {
     bytes == text
 }
 
-/// The dump of a generated file of version 1 or 5.
-const GENERATED_TEXT: &[u8] =
+/// The dump of the variable `s` with one fill value.
+pub const GENERATED_TEXT: &[u8] =
     b"netcdf t {\ndimensions:\n\tx = 3 ;\nvariables:\n\tshort s(x) ;\ndata:\n\n s = 1, _, 3 ;\n}\n";
 
 /// The dump of the chosen one of three variables.

@@ -1,15 +1,12 @@
 //! Dumps of values, through every lent buffer.
 
 use crate::files;
+use crate::rows::GENERATED_TEXT;
 use crate::runs::{choosing, dumps, dumps_as, options, with_width};
 use ncdump::DumpFault;
 use std::alloc::{AllocError, Global};
 use std::process::Abort;
 use std::test::Fail;
-
-/// The dump of the variable `s` with one fill value.
-const GENERATED_TEXT: &[u8] =
-    b"netcdf t {\ndimensions:\n\tx = 3 ;\nvariables:\n\tshort s(x) ;\ndata:\n\n s = 1, _, 3 ;\n}\n";
 
 #[test]
 fn dumped_again(rt: HostRuntime) -> Result<(), Fail> {

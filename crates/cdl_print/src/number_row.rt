@@ -110,7 +110,7 @@ fn gather_both(text: &mut Gathered, gap: Gap, number: &[u8])
     text.try_extend_from_slice(number).unwrap();
 }
 
-/// Adds a gap. That between most numbers has a length of its own here, so that no call is needed to copy it.
+/// Adds a gap. The one between most numbers stands here by itself, since text of a known length is copied without a call.
 fn gather_gap(text: &mut Gathered, gap: Gap)
     requires { length text.old.items + length (gap_bytes gap) ≤ 1024 }
     ensures { text.new.items ≡ text.old.items ++ gap_bytes gap }

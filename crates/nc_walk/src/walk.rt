@@ -104,7 +104,8 @@ impl<'a> Walk<'a> {
     ///
     /// [`WalkFault::ReadFailed`] at once where the source fails, and the values that this call has read before are not handed
     /// out; [`WalkFault::DataTruncated`] where the next value isn't whole in the source, without a read where its length
-    /// says so. An end of the source before its length is the file's end. From then on each call answers the same, and touches nothing.
+    /// says so. An end of the source before its length is the file's end. From then on each call answers the same, and
+    /// touches nothing.
     pub fn next<S: Source>(&mut self, source: &mut S) -> Result<Option<&[u8]>, WalkFault>
         ensures steps { self.old.fault ≡ None
             → Steps S.told self.old (S.seen source.old) (S.seen source.new) (lent result) }
