@@ -1,6 +1,7 @@
 //! The numbers of an attribute as CDL writes them.
 
 ghost use Rattle.std.specs.Prelude.{◌≡◌, length};
+ghost use Rattle.std.specs.Fmt.{signed_decimal};
 ghost use Rattle.nc_base.specs.HeadText.{number_values};
 ghost use Rattle.nc_base.specs.Numbers.{number_of};
 ghost use Rattle.nc_base.specs.Types.{number_suffix, size_of};
@@ -36,12 +37,20 @@ fn put_number<W: Sink>(
     requires { length value.now ≡ size_of ty }
     ensures { Wrote (W.seen sink.old) (W.seen sink.new) (number_text ty value.now is_last) result }
 {
-    put_integer(sink, number_of(ty, value))?;
+    put_value(sink, ty, value)?;
     put(sink, suffix(ty))?;
     if is_last {
         return Ok(());
     }
     put(sink, b", ")
+}
+
+/// Writes a number in decimal.
+fn put_value<W: Sink>(sink: &mut W, ty: NcType, value: &[u8]) -> Result<(), WriteFailed>
+    requires { length value.now ≡ size_of ty }
+    ensures { Wrote (W.seen sink.old) (W.seen sink.new) (signed_decimal (number_of ty value.now)) result }
+{
+    put_integer(sink, number_of(ty, value))
 }
 
 /// The suffix of a number of this type.

@@ -7,3 +7,11 @@ pub mod SoundSpelling
 pub mod SpelledWeight
 pub mod ValueLaws
 pub mod Examples
+pub mod WholeValues
+pub mod SlabBytes
+pub mod Stands
+pub mod FilePlaces
+pub mod HeaderSpelled
+pub mod FileHolds
+pub mod HeldDump
+mod FileExamples

@@ -58,7 +58,7 @@ abbrev pub is_none : List Var → Bool
 is_none [] = true
 is_none (var ∷ vars) = false
 
-is_none-push : (xs : List Var) (x : Var) → is_none (xs ++ x ∷ []) ≡ false
+pub is_none-push : (xs : List Var) (x : Var) → is_none (xs ++ x ∷ []) ≡ false
 is_none-push [] x = refl
 is_none-push (y ∷ ys) x = refl
 
@@ -103,7 +103,7 @@ seen_skipped : (dims : List Dim) (vars : List Var) (i : ℕ) (d : Var) → i < l
 seen_skipped dims vars i d lt fixed =
     filter_more (is_record_var dims) vars i d lt ∙ ap (λ b. seen dims vars i ++ cond b (get_or vars i d ∷ []) []) fixed ∙ append-nil _
 
-seen_more : (dims : List Dim) (vars : List Var) (i : ℕ) (d : Var) → i < length vars → is_record_var dims (get_or vars i d) ≡ true
+pub seen_more : (dims : List Dim) (vars : List Var) (i : ℕ) (d : Var) → i < length vars → is_record_var dims (get_or vars i d) ≡ true
     → seen dims vars (i + 1) ≡ seen dims vars i ++ get_or vars i d ∷ []
 seen_more dims vars i d lt growing =
     filter_more (is_record_var dims) vars i d lt ∙ ap (λ b. seen dims vars i ++ cond b (get_or vars i d ∷ []) []) growing

@@ -15,4 +15,7 @@ pub mod Escapes
 pub mod HeadText
 pub mod ValueText
 pub mod Dump
+pub mod GeneratedFile
+pub mod FileLaws
+pub mod Sayable
 pub mod Weight

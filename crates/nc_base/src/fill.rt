@@ -2,6 +2,7 @@
 
 ghost use Rattle.std.specs.Prelude.{◌≡◌, find, is_some, option_map};
 ghost use Rattle.nc_base.specs.Fill.{fill_value, has_blanks, is_fill_att, is_one_of_type, own_fill};
+ghost use Rattle.nc_base.specs.Numbers.{IsInRange};
 
 use crate::header::{Att, Var};
 use crate::nc_type::NcType;
@@ -12,7 +13,8 @@ use crate::number::number_of;
 /// User's Guide, and `NC_FILL_BYTE` and its like in `netcdf.h`).
 #[tactic(auto, unfolding(crate::specs::Fill::fill_value))]
 pub fn fill_of(var: &Var) -> i128
-    ensures { result ≡ fill_value var.now }
+    ensures fill { result ≡ fill_value var.now }
+    ensures in_range { IsInRange var.now.ty result }
 {
     match fill_att(var.atts.as_slice()) {
         Some(att) if is_one_of_type(var.ty, att) => number_of(var.ty, att.vals.as_slice()),

@@ -1,7 +1,7 @@
 //! Values as numbers.
 
 ghost use Rattle.std.specs.Prelude.{◌≡◌, length};
-ghost use Rattle.nc_base.specs.Numbers.{number_of};
+ghost use Rattle.nc_base.specs.Numbers.{IsInRange, number_of};
 ghost use Rattle.nc_base.specs.Types.{size_of};
 
 use crate::nc_type::NcType;
@@ -10,7 +10,8 @@ use crate::nc_type::NcType;
 /// (NetCDF Classic Format Specification).
 pub fn number_of(ty: NcType, bytes: &[u8]) -> i128
     requires { length bytes.now ≡ size_of ty }
-    ensures { result ≡ number_of ty bytes.now }
+    ensures number { result ≡ number_of ty bytes.now }
+    ensures in_range { IsInRange ty result }
 {
     match ty {
         NcType::Byte => i8::from_be_bytes([bytes[0]]) as i128,

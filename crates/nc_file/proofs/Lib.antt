@@ -13,3 +13,4 @@ pub mod VariablesAgain
 pub mod HeadersAgain
 pub mod OneOutcome
 pub mod Answered
+pub mod FileLaws

@@ -46,11 +46,11 @@ same-refused fault other rest more e =
     (same-format fault other (ap (λ (x : HeadFault × List ℕ). x.0) both), ap (λ (x : HeadFault × List ℕ). x.1) both)
 
 -- no reading gives both
-not-both : (h : Header) (fault : FormatFault) (rest more : List ℕ) → ¬ (read h rest ≡ refused fault more)
+pub not-both : (h : Header) (fault : FormatFault) (rest more : List ℕ) → ¬ (read h rest ≡ refused fault more)
 not-both h fault rest more e = cc
 
 -- no two headers
-one-header : (bytes : List ℕ) (h k : Header) (rest more : List ℕ) → SpellsHeader bytes h rest → SpellsHeader bytes k more → (h ≡ k) × (rest ≡ more)
+pub one-header : (bytes : List ℕ) (h k : Header) (rest more : List ℕ) → SpellsHeader bytes h rest → SpellsHeader bytes k more → (h ≡ k) × (rest ≡ more)
 one-header bytes h k rest more s t = same-read h k rest more (sym (header-again bytes h rest s) ∙ header-again bytes k more t)
 
 -- no two first wrong fields
@@ -68,3 +68,7 @@ one-outcome bytes fits = record {
   one_fault = one-fault bytes;
   not_both = λ x y. not-both x.0 y.0 x.1 y.2.rest (sym (header-again bytes x.0 x.1 x.2) ∙ header-stops-again bytes y.0 y.2.rest y.2.stops);
 }
+
+-- bytes that begin with a header have no first wrong field
+pub header-fine : (bytes : List ℕ) (h : Header) (rest : List ℕ) (fault : FormatFault) (end : ℕ) → SpellsHeader bytes h rest → ¬ StopsAt bytes fault end
+header-fine bytes h rest fault end s t = not-both h fault rest t.rest (sym (header-again bytes h rest s) ∙ header-stops-again bytes fault t.rest t.stops)

@@ -2,6 +2,7 @@
 
 ghost use Rattle.std.specs.Prelude.{ℕ, List};
 ghost use Rattle.nc_base.specs.Bytes.{AreBytes};
+ghost use Rattle.nc_base.specs.FileLaws.{FilesHoldTheirDatasets, FilesHoldOneDataset, FilesAreDumpedAsTheirText, GeneratedFilesAreDumped};
 ghost use Rattle.nc_file.specs.OneOutcome.{HasOneOutcome};
 
 /// Each list of bytes begins with exactly one header and has one rest behind it, or it has exactly one first wrong field,
@@ -9,4 +10,14 @@ ghost use Rattle.nc_file.specs.OneOutcome.{HasOneOutcome};
 /// read, leaves no choice.
 pub fn one_header_or_one_fault()
     ensures { (bytes : List ℕ) → AreBytes bytes → HasOneOutcome bytes }
+{}
+
+/// The file of each good dataset that fits holds that dataset, and no other; and the dump of a file that holds a dataset is
+/// the text of that dataset, under all options. Where the values lie is said twice, by offsets for a reader and as one
+/// concatenation for a writer: this law says that both agree.
+pub fn file_reads_back()
+    ensures holds { FilesHoldTheirDatasets }
+    ensures one { FilesHoldOneDataset }
+    ensures dumped { FilesAreDumpedAsTheirText }
+    ensures generated { GeneratedFilesAreDumped }
 {}

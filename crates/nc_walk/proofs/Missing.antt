@@ -13,6 +13,7 @@ use Rattle.nc_base.specs.Headers.{value_count}
 use Rattle.nc_base.specs.Places.{ends_behind, value_offsets, first_missing}
 use Rattle.nc_walk.specs.Walks.{IsWhole}
 use Rattle.nc_walk.specs.Walked.{whole_count}
+use Rattle.nc_base.proofs.WholeValues.{none-found}
 use Rattle.nc_walk.proofs.Orders.{count_of_offsets}
 
 -- ---- a list of offsets
@@ -41,9 +42,6 @@ position-ge size b xs k le whole =
 
 found : (p : ℕ → Bool) (xs : List ℕ) (k : ℕ) → k < length xs → position_or_len p xs ≡ k → position p xs ≡ Some k
 found p xs k lt e = rw e (ap (λ (t : Bool). cond t (Some k) None) (lt-ltb k (length xs) lt))
-
-found_none : (p : ℕ → Bool) (xs : List ℕ) → position_or_len p xs ≡ length xs → position p xs ≡ None
-found_none p xs e = rw e (ap (λ (t : Bool). cond t (Some (length xs)) None) (le-ltb (length xs) (length xs) (omega arith)))
 
 -- the values before the first missing one are whole
 before_first : (size : ℕ) (b xs : List ℕ) (k : ℕ) → k ≤ position_or_len (ends_behind size (length b)) xs → All (IsWhole size b) (take k xs)
@@ -74,7 +72,7 @@ none_missing h var n b k all whole =
     let xs = value_offsets h var n in
     let len = count_of_offsets h var n in
     let same : k ≡ length xs = omega (arith, len) in
-    found_none (ends_behind (size_of var.ty) (length b)) xs (position_at (size_of var.ty) b xs k (omega arith) whole (λ lt. absurd (omega arith)) ∙ same)
+    none-found (ends_behind (size_of var.ty) (length b)) xs (position_at (size_of var.ty) b xs k (omega arith) whole (λ lt. absurd (omega arith)) ∙ same)
 
 whole_count-is : (h : Header) (var : Var) (n : ℕ) (b : List ℕ) → whole_count h b var n ≡ position_or_len (ends_behind (size_of var.ty) (length b)) (value_offsets h var n)
 whole_count-is h var n b =

@@ -14,6 +14,7 @@ use Rattle.nc_base.specs.Places.{vectors_below, slab_strides, distance, value_of
 use Rattle.nc_walk.specs.declared.line.Line.{Line}
 use Rattle.nc_walk.specs.Lines.{total, offset, offsets_from, offsets_behind, line_of, IsLineOf}
 use Rattle.nc_walk.specs.Walks.{Starts, standing}
+use Rattle.nc_base.proofs.WholeValues.{map-map}
 use Rattle.nc_walk.proofs.Runs.{offset_at}
 
 -- the i-th index vector in row-major order
@@ -87,10 +88,6 @@ range-add k (suc m) n =
     let f : k + 1 + m ≡ k + suc m = omega arith in
     ap (range_with_len k) e ∙ ap (λ (xs : List ℕ). k ∷ xs) (range-add (k + 1) m n ∙ ap (λ (j : ℕ). range_with_len (k + 1) m ++ range_with_len j n) f)
 
-map_map : {A B C : Type 0} (g : B → C) (f : A → B) (xs : List A) → map g (map f xs) ≡ map (λ x. g (f x)) xs
-map_map g f [] = refl
-map_map g f (x ∷ xs) = ap (λ ys. g (f x) ∷ ys) (map_map g f xs)
-
 rows : (ns : List ℕ) (a n : ℕ) → flat_map (λ i. map (λ (index : List ℕ). i ∷ index) (map (vector_at ns) (range_with_len 0 (product ns)))) (range_with_len a n)
     ≡ map (λ (j : ℕ). j / product ns ∷ vector_at ns (j % product ns)) (range_with_len (a * product ns) (n * product ns))
 rows ns a zero = let e : 0 ≡ 0 * product ns = omega arith in ap (λ (k : ℕ). map (λ (j : ℕ). j / product ns ∷ vector_at ns (j % product ns)) (range_with_len (a * product ns) k)) e
@@ -103,7 +100,7 @@ rows ns a (suc n) =
     let next : (a + 1) * p ≡ a * p + p = omega arith in
     let all : p + n * p ≡ suc n * p = omega arith in
     ap (λ xs. xs ++ flat_map (λ i. map (λ (index : List ℕ). i ∷ index) (map (vector_at ns) (range_with_len 0 p))) (range_with_len (a + 1) n))
-    (map_map (λ (index : List ℕ). a ∷ index) (vector_at ns) (range_with_len 0 p) ∙ shifted f g (a * p) 0 p same ∙ ap (λ (k : ℕ). map g (range_with_len k p)) start)
+    (map-map (λ (index : List ℕ). a ∷ index) (vector_at ns) (range_with_len 0 p) ∙ shifted f g (a * p) 0 p same ∙ ap (λ (k : ℕ). map g (range_with_len k p)) start)
     ∙ ap (λ xs. map g (range_with_len (a * p) p) ++ xs) (rows ns (a + 1) n ∙ ap (λ (k : ℕ). map g (range_with_len k (n * p))) next)
     ∙ sym (map-append g (range_with_len (a * p) p) (range_with_len (a * p + p) (n * p)))
     ∙ ap (map g) (sym (range-add (a * p) p (n * p)) ∙ ap (range_with_len (a * p)) all)
@@ -125,7 +122,7 @@ offsets_in_order h var n =
     let same : (q : ℕ) → q < 0 + total l → value_offset h var (vector_at ns q) ≡ offset l (0 + q) = λ q lt. let e : q ≡ 0 + q = omega arith in value_offset_at h var n q (omega arith) ∙ ap (offset l) e in
     let count : product ns ≡ total l = shaped_total var.begin_at (size_of var.ty) (record_size h) (is_record_var h.dims var) (slab_lens h.dims var.dimids) n in
     sym (
-    ap (map (value_offset h var)) (vectors_in_order ns) ∙ map_map (value_offset h var) (vector_at ns) (range_with_len 0 (product ns))
+    ap (map (value_offset h var)) (vectors_in_order ns) ∙ map-map (value_offset h var) (vector_at ns) (range_with_len 0 (product ns))
     ∙ ap (λ (k : ℕ). map (λ (q : ℕ). value_offset h var (vector_at ns q)) (range_with_len 0 k)) count
     ∙ shifted (λ q. value_offset h var (vector_at ns q)) (offset l) 0 0 (total l) same
     )

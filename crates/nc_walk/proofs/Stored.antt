@@ -1,50 +1,23 @@
 -- The bytes of whole values, and their numbers.
-use Rattle.std.proofs.Common.{◌≡◌, ℕ, ◌+◌, ◌*◌, ◌/◌, List, [], ◌∷◌, ◌++◌, length, take, drop, map, sym, ◌∙◌, ap, refl, arith, length-append, length-take, length-drop}
+use Rattle.std.proofs.Common.{◌≡◌, ℕ, ◌+◌, List, ◌++◌, length, take, drop, map, sym, ◌∙◌, ap}
 use Rattle.std.specs.Prelude.{All}
 use Rattle.std.specs.List.{concat}
-use Rattle.std.proofs.Math.Nat.{mul-div_cancel}
 use Rattle.std.proofs.Math.Seq.{take-add}
-use Rattle.std.proofs.lemmas.List.{take_at, drop_at, take-map, drop-map}
+use Rattle.std.proofs.lemmas.List.{take-map, drop-map}
 use Rattle.std.proofs.lemmas.List.Folds.{concat-append}
-use Rattle.std.proofs.lemmas.List.Elements.{All-head, All-tail, All-map, All-weaker}
+use Rattle.std.proofs.lemmas.List.Elements.{All-map, All-weaker}
 use Rattle.nc_base.specs.declared.nc_type.NcType.{NcType}
 use Rattle.nc_base.specs.declared.header.Header.{Header}
 use Rattle.nc_base.specs.declared.header.Var.{Var}
 use Rattle.nc_base.specs.Types.{size_of}
-use Rattle.nc_base.specs.Numbers.{number_of, numbers_from, numbers}
+use Rattle.nc_base.specs.Numbers.{number_of, numbers}
 use Rattle.nc_base.specs.Places.{bytes_at, value_offsets, stored_bytes, stored_values}
-use Rattle.nc_base.proofs.SoundLaws.{some_size}
+use Rattle.nc_base.proofs.WholeValues.{numbers-concat, length-whole}
 use Rattle.nc_walk.specs.Walks.{IsWhole}
 use Rattle.nc_walk.specs.Walked.{StoredNumbers}
 use Rattle.nc_walk.proofs.Missing.{whole_before}
 
--- ---- values one behind the other
-
-length-concat : (size : ℕ) (xss : List (List ℕ)) → All (λ xs. length xs ≡ size) xss → length (concat xss) ≡ length xss * size
-length-concat size [] all = omega arith
-length-concat size (xs ∷ xss) all =
-    let here : length xs ≡ size = All-head (λ (x : List ℕ). length x ≡ size) xs xss all in
-    let rest = length-concat size xss (All-tail (λ (x : List ℕ). length x ≡ size) xs xss all) in
-    omega (arith, length-append xs (concat xss), here, rest)
-
-numbers_from-concat : (ty : NcType) (xss : List (List ℕ)) → All (λ xs. length xs ≡ size_of ty) xss → numbers_from ty (length xss) (concat xss) ≡ map (number_of ty) xss
-numbers_from-concat ty [] all = refl
-numbers_from-concat ty (xs ∷ xss) all =
-    let here : length xs ≡ size_of ty = All-head (λ (x : List ℕ). length x ≡ size_of ty) xs xss all in
-    ap (λ (x : List ℕ). number_of ty x ∷ numbers_from ty (length xss) (drop (size_of ty) (xs ++ concat xss))) (take_at xs (concat xss) (size_of ty) here)
-    ∙ ap (λ (x : List ℕ). number_of ty xs ∷ numbers_from ty (length xss) x) (drop_at xs (concat xss) (size_of ty) here)
-    ∙ ap (λ zs. number_of ty xs ∷ zs) (numbers_from-concat ty xss (All-tail (λ (x : List ℕ). length x ≡ size_of ty) xs xss all))
-
-numbers-concat : (ty : NcType) (xss : List (List ℕ)) → All (λ xs. length xs ≡ size_of ty) xss → numbers ty (concat xss) ≡ map (number_of ty) xss
-unfolding numbers
-numbers-concat ty xss all =
-    let count : length (concat xss) / size_of ty ≡ length xss = ap (λ (m : ℕ). m / size_of ty) (length-concat (size_of ty) xss all) ∙ mul-div_cancel (length xss) (some_size ty) in
-    ap (λ (m : ℕ). numbers_from ty m (concat xss)) count ∙ numbers_from-concat ty xss all
-
 -- ---- whole values
-
-length-whole : (size : ℕ) (b : List ℕ) (offset : ℕ) → IsWhole size b offset → length (bytes_at size b offset) ≡ size
-length-whole size b offset whole = omega (arith, length-take size (drop offset b), length-drop offset b)
 
 whole_chunks : (size : ℕ) (b offsets : List ℕ) → All (IsWhole size b) offsets → All (λ xs. length xs ≡ size) (map (bytes_at size b) offsets)
 whole_chunks size b offsets whole =

@@ -1,0 +1,190 @@
+-- A generated file holds its dataset.
+use Rattle.std.proofs.Common.{◌≡◌, ℕ, suc, ◌+◌, ◌*◌, ◌<◌, Bool, true, false, cond, List, [], ◌∷◌, ◌++◌, length, map, refl, sym, ◌∙◌, ap, subst, arith, length-append}
+use Rattle.std.specs.Prelude.{All, sum}
+use Rattle.std.specs.Int.{to_be_bytes}
+use Rattle.std.specs.List.{flat_map, range_with_len}
+use Rattle.std.proofs.lemmas.List.{append-nil, length-map}
+use Rattle.std.proofs.lemmas.List.Elements.{All-nil, All-cons, All-head, All-tail}
+use Rattle.nc_base.specs.declared.header.Att.{Att}
+use Rattle.nc_base.specs.declared.header.Dim.{Dim}
+use Rattle.nc_base.specs.declared.header.Var.{Var}
+use Rattle.nc_base.specs.declared.header.Header.{Header}
+use Rattle.nc_base.specs.declared.header.NumRecs.{NumRecs}
+use Rattle.nc_base.specs.declared.header.NumRecs.TheVariants.{Known}
+use Rattle.nc_base.specs.declared.dataset.Dataset.{Dataset}
+use Rattle.nc_base.specs.declared.version.Version.{Version}
+use Rattle.nc_base.specs.declared.version.Version.TheVariants.{Cdf1, Cdf2, Cdf5}
+use Rattle.nc_base.specs.Types.{code_of}
+use Rattle.nc_base.specs.Versions.{offset_width, count_limit}
+use Rattle.nc_base.specs.Names.{IsName}
+use Rattle.nc_base.specs.Sizes.{is_record_var, padded_size, packed_size, record_vars, record_size, record_count}
+use Rattle.nc_base.specs.Headers.{IsSoundVar, IsSound, HasValidNames, bare_var, AreArrays, IsGood}
+use Rattle.nc_base.specs.Grammar.{dimension_tag, variable_tag}
+use Rattle.nc_base.specs.Places.{HoldsDataset}
+use Rattle.nc_base.specs.GeneratedFile.{word_spelling, magic_spelling, count_spelling, name_spelling, list_front, list_spelling, dim_spelling, atts_spelling, vsize_of, var_spelling, numrecs_spelling, header_spelling, blocks, is_sole_narrow, record_of, known_records, data_of, begin_behind, vars_behind, with_begins, Fits, file_of}
+use Rattle.nc_base.proofs.Stands.{Stands, stands-here, stands-behind, stands-in, stands-at, stands-first, stands-second, stands-row}
+use Rattle.nc_base.proofs.FilePlaces.{slots, fixed_total, packed-slots, length-blocks, length-record, IsPlaced, agree-all, agree-arrays, agree-whole}
+use Rattle.nc_base.proofs.HeaderSpelled.{header-spelled}
+use Rattle.nc_base.proofs.WholeValues.{map-map}
+
+-- ---- begins change nothing else
+
+bare-behind : (h : Header) (before vars : List Var) → map bare_var (vars_behind h before vars) ≡ map bare_var vars
+bare-behind h before [] = refl
+bare-behind h before (var ∷ vars) = ap (λ (vs : List Var). bare_var var ∷ vs) (bare-behind h (before ++ var ∷ []) vars)
+
+-- what doesn't speak of begins holds of each variable with its begin
+all-behind : (P : Var → Type 0) → ((var : Var) (at : ℕ) → P var → P (record var { begin_at = at })) → (h : Header) (before vars : List Var) → All P vars → All P (vars_behind h before vars)
+all-behind P same h before [] all = All-nil P
+all-behind P same h before (var ∷ vars) all =
+    All-cons P (record var { begin_at = begin_behind h before var }) (vars_behind h (before ++ var ∷ []) vars) (same var _ (All-head P var vars all))
+    (all-behind P same h (before ++ var ∷ []) vars (All-tail P var vars all))
+
+-- ---- the record size
+
+records-bare : (dims : List Dim) (vars : List Var) → record_vars dims (map bare_var vars) ≡ map bare_var (record_vars dims vars)
+records-bare dims [] = refl
+records-bare dims (var ∷ vars) =
+    ap (λ (vs : List Var). cond (is_record_var dims var) (bare_var var ∷ vs) vs) (records-bare dims vars) ∙ at (is_record_var dims var)
+  where
+    at : (b : Bool) → cond b (bare_var var ∷ map bare_var (record_vars dims vars)) (map bare_var (record_vars dims vars)) ≡ map bare_var (cond b (var ∷ record_vars dims vars) (record_vars dims vars))
+    at true = refl
+    at false = refl
+
+packed-bare : (dims : List Dim) (vars : List Var) → packed_size dims (map bare_var vars) ≡ packed_size dims vars
+packed-bare dims [] = refl
+packed-bare dims (var ∷ []) = refl
+packed-bare dims (var ∷ next ∷ vars) = ap (λ (ns : List ℕ). sum ns) (map-map (padded_size dims) bare_var (var ∷ next ∷ vars))
+
+size-bare : (h : Header) (vars : List Var) → record_size (record h { vars = map bare_var vars }) ≡ record_size (record h { vars = vars })
+size-bare h vars = ap (packed_size h.dims) (records-bare h.dims vars) ∙ packed-bare h.dims (record_vars h.dims vars)
+
+size-behind : (h : Header) → record_size (record h { vars = vars_behind h [] h.vars }) ≡ record_size h
+size-behind h = sym (size-bare h (vars_behind h [] h.vars)) ∙ ap (λ (vs : List Var). record_size (record h { vars = vs })) (bare-behind h [] h.vars) ∙ size-bare h h.vars
+
+-- ---- the length of the header
+
+longer : (a x y : List ℕ) → length x ≡ length y → length (a ++ x) ≡ length (a ++ y)
+longer a x y e = length-append a x ∙ ap (λ (n : ℕ). length a + n) e ∙ sym (length-append a y)
+
+both : (a b x y : List ℕ) → length a ≡ length b → length x ≡ length y → length (a ++ x) ≡ length (b ++ y)
+both a b x y e f = length-append a x ∙ ap (λ (n : ℕ). n + length x) e ∙ ap (λ (n : ℕ). length b + n) f ∙ sym (length-append b y)
+
+offset-len : (v : Version) (m n : ℕ) → length (to_be_bytes (offset_width v) m) ≡ length (to_be_bytes (offset_width v) n)
+offset-len Cdf1 m n = refl
+offset-len Cdf2 m n = refl
+offset-len Cdf5 m n = refl
+
+var-len : (v : Version) (dims : List Dim) (var : Var) → length (var_spelling v dims (bare_var var)) ≡ length (var_spelling v dims var)
+unfolding var_spelling
+var-len v dims var =
+    longer (name_spelling v var.name) _ _
+    (longer (count_spelling v (length var.dimids) ++ flat_map (count_spelling v) var.dimids) _ _
+    (longer (atts_spelling v var.atts) _ _
+    (longer (word_spelling (code_of var.ty)) _ _
+    (longer (count_spelling v (vsize_of v (padded_size dims var))) _ _ (offset-len v 0 var.begin_at)))))
+
+each-len : (f : Var → List ℕ) (xs : List Var) → ((x : Var) → length (f (bare_var x)) ≡ length (f x)) → length (flat_map f (map bare_var xs)) ≡ length (flat_map f xs)
+each-len f [] same = refl
+each-len f (x ∷ xs) same = both (f (bare_var x)) (f x) (flat_map f (map bare_var xs)) (flat_map f xs) (same x) (each-len f xs same)
+
+list-len : (v : Version) (tag : ℕ) (f : Var → List ℕ) (xs : List Var) → ((x : Var) → length (f (bare_var x)) ≡ length (f x)) → length (list_spelling v tag f (map bare_var xs)) ≡ length (list_spelling v tag f xs)
+list-len v tag f xs same =
+    both (list_front v tag (length (map bare_var xs))) (list_front v tag (length xs)) (flat_map f (map bare_var xs)) (flat_map f xs)
+    (ap (λ (n : ℕ). length (list_front v tag n)) (length-map xs bare_var)) (each-len f xs same)
+
+header-len-bare : (h : Header) (vars : List Var) → length (header_spelling (record h { vars = map bare_var vars })) ≡ length (header_spelling (record h { vars = vars }))
+unfolding header_spelling
+header-len-bare h vars =
+    let v = h.version in
+    longer (magic_spelling v) _ _
+    (longer (numrecs_spelling v h.numrecs) _ _
+    (longer (list_spelling v dimension_tag (dim_spelling v) h.dims) _ _
+    (longer (atts_spelling v h.gatts) _ _ (list-len v variable_tag (var_spelling v h.dims) vars (var-len v h.dims)))))
+
+pub len-behind : (h : Header) → length (header_spelling (record h { vars = vars_behind h [] h.vars })) ≡ length (header_spelling h)
+len-behind h =
+    sym (header-len-bare h (vars_behind h [] h.vars)) ∙ ap (λ (vs : List Var). length (header_spelling (record h { vars = vs }))) (bare-behind h [] h.vars) ∙ header-len-bare h h.vars
+
+-- ---- the header with begins is sound
+
+abbrev HasNames : Var → Type 0
+HasNames var = IsName var.name × All (λ (att : Att). IsName att.name) var.atts
+
+sound-behind : (h : Header) → IsSound h → IsSound (record h { vars = vars_behind h [] h.vars })
+sound-behind h s = record {
+  numrecs = s.numrecs;
+  dim_count = s.dim_count;
+  dims = s.dims;
+  one_record_dim = s.one_record_dim;
+  gatt_count = s.gatt_count;
+  gatts = s.gatts;
+  var_count = subst (λ (n : ℕ). n < count_limit h.version) (sym (count h [] h.vars)) s.var_count;
+  vars = all-behind (IsSoundVar h.version h.dims)
+      (λ var at t. record { name_len = t.name_len; rank = t.rank; shape = t.shape; att_count = t.att_count; atts = t.atts; ty = t.ty; slab = t.slab }) h [] h.vars s.vars;
+  small_records = omega (arith, s.small_records, size-behind h);
+}
+  where
+    count : (k : Header) (before vars : List Var) → length (vars_behind k before vars) ≡ length vars
+    count k before [] = refl
+    count k before (var ∷ vars) = ap suc (count k (before ++ var ∷ []) vars)
+
+names-behind : (h : Header) → HasValidNames h → HasValidNames (record h { vars = vars_behind h [] h.vars })
+names-behind h s = record { dims = s.dims; gatts = s.gatts; vars = all-behind HasNames (λ var at t. t) h [] h.vars s.vars }
+
+-- ---- the data part stands behind the header
+
+all-placed : (d : Dataset) (n : ℕ) → AreArrays d.header.dims n d.header.vars d.arrays → known_records d.header.numrecs ≡ n
+    → IsPlaced d.header (file_of d) n (record_size (record d.header { vars = vars_behind d.header [] d.header.vars })) (is_sole_narrow (record_vars d.header.dims d.header.vars)) [] d.header.vars d.arrays
+unfolding file_of data_of with_begins
+all-placed d n are known =
+    let h = d.header in
+    let dims = h.dims in
+    let is_sole = is_sole_narrow (record_vars dims h.vars) in
+    let stride : ℕ = record_size (record h { vars = vars_behind h [] h.vars }) in
+    let stride_is : slots is_sole dims h.vars ≡ stride = sym (packed-slots dims h.vars) ∙ sym (size-behind h) in
+    let head = header_spelling (record h { vars = vars_behind h [] h.vars }) in
+    let head_len = len-behind h in
+    let front = blocks dims h.vars d.arrays in
+    let f : ℕ → List ℕ = λ r. record_of is_sole dims r h.vars d.arrays in
+    let back = flat_map f (range_with_len 0 (known_records h.numrecs)) in
+    let file = head ++ (front ++ back) in
+    let data_stands : Stands (front ++ back) (length head + 0) file = stands-behind head (front ++ back) 0 (front ++ back)
+    (subst (Stands (front ++ back) 0) (append-nil (front ++ back)) (stands-here (front ++ back) [])) in
+    let front_len = length-blocks dims n h.vars d.arrays are in
+    record {
+      fixed = stands-at front file (length head + 0) (length (header_spelling h) + 0) (omega (arith, head_len)) (stands-first front back file (length head + 0) data_stands);
+      growing = λ r lt.
+          let rows : Stands (f (0 + r)) (r * stride) back =
+          subst (λ (m : ℕ). Stands (f (0 + r)) (r * stride) (flat_map f (range_with_len 0 m))) (sym known)
+          (stands-row f stride 0 n r (λ i low high. length-record is_sole dims n i h.vars d.arrays (omega arith) are ∙ stride_is) lt) in
+          let same : 0 + r ≡ r = omega arith in
+          stands-at (f r) file (length head + 0 + length front + r * stride) (length (header_spelling h) + (fixed_total dims h.vars + (0 + r * stride))) (omega (arith, head_len, front_len))
+          (stands-in (f r) back file (r * stride) (length head + 0 + length front)
+          (subst (λ (i : ℕ). Stands (f i) (r * stride) back) same rows) (stands-second front back file (length head + 0) data_stands));
+    }
+
+-- ---- the whole
+
+counted : (h : Header) (n len : ℕ) → h.numrecs ≡ Known n → n ≡ record_count h len
+counted h n len e = subst (λ (k : NumRecs). n ≡ record_count (record h { numrecs = k }) len) (sym e) refl
+
+pub file-holds : (d : Dataset) → IsGood d → Fits d.header → HoldsDataset (file_of d) d
+unfolding file_of with_begins
+file-holds d good fits =
+    let h = d.header in
+    let n = good.records in
+    let k : Header = record h { vars = vars_behind h [] h.vars } in
+    let known : h.numrecs ≡ Known n = ap (λ (x : Header). x.numrecs) good.is_bare in
+    let agree = agree-all h (vars_behind h [] h.vars) (file_of d) n [] h.vars d.arrays refl good.arrays
+    (all-placed d n good.arrays (ap known_records known)) in
+    record {
+      header = k;
+      rest = data_of d.header d.arrays;
+      records = n;
+      spelled = header-spelled k (data_of d.header d.arrays) (sound-behind h good.is_sound) (names-behind h good.names) fits;
+      counted = counted k n (length (file_of d)) known;
+      is_bare = good.is_bare ∙ ap (λ (vs : List Var). let x : Header = record h { numrecs = Known n; vars = vs } in x) (sym (bare-behind h [] h.vars));
+      whole = agree-whole k (file_of d) n (vars_behind h [] h.vars) d.arrays agree;
+      arrays = agree-arrays k (file_of d) n (vars_behind h [] h.vars) d.arrays agree;
+    }

@@ -1,0 +1,373 @@
+-- Each value of a generated file stands where the offsets by index vectors say.
+use Rattle.std.proofs.Common.{◌≡◌, ℕ, zero, suc, ◌+◌, ◌*◌, ◌/◌, ◌<◌, ◌≤◌, Bool, true, false, cond, not, List, [], ◌∷◌, ◌++◌, length, take, drop, replicate, map, refl, sym, ◌∙◌, ap, arith, append_assoc, length-append, length-take, length-drop, None}
+use Rattle.std.specs.Prelude.{if◌then◌else◌, All}
+use Rattle.std.specs.List.{concat, flat_map, range_with_len, sum_by}
+use Rattle.std.proofs.Math.Nat.{mul-le-mul_right}
+use Rattle.std.proofs.lemmas.List.Elements.{filter-append, All-nil, All-cons}
+use Rattle.std.proofs.lemmas.List.Sums.{sum-map, sum_by-append}
+use Rattle.nc_base.specs.declared.header.Dim.{Dim}
+use Rattle.nc_base.specs.declared.header.Var.{Var}
+use Rattle.nc_base.specs.declared.header.Header.{Header}
+use Rattle.nc_base.specs.declared.nc_type.NcType.{NcType}
+use Rattle.nc_base.specs.declared.nc_type.NcType.TheVariants.{Byte, Char, Short, Int, Ubyte, Ushort, Uint, Int64, Uint64}
+use Rattle.nc_base.specs.Bytes.{padding_len}
+use Rattle.nc_base.specs.Types.{size_of}
+use Rattle.nc_base.specs.Numbers.{bytes_of_number}
+use Rattle.nc_base.specs.Fill.{fill_value}
+use Rattle.nc_base.specs.Sizes.{is_record_var, is_narrow, slab_count, slab_size, padded_size, padded_total, packed_size, record_vars, record_size}
+use Rattle.nc_base.specs.Headers.{IsArray, AreArrays}
+use Rattle.nc_base.specs.Places.{stored_bytes, first_missing}
+use Rattle.nc_base.specs.GeneratedFile.{header_spelling, fill_bytes, padded_slab, blocks, is_sole_narrow, slab_in, record_of, fixed_vars, begin_behind, vars_behind}
+use Rattle.nc_base.proofs.SlabBytes.{fixed-bytes, record-bytes, fixed-whole, record-whole}
+use Rattle.nc_base.proofs.Stands.{Stands, stands-at, stands-first, stands-second, stands-read, stands-within, runs-all}
+
+-- ---- padding
+
+pub length-number : (ty : NcType) (n : _) → length (bytes_of_number ty n) ≡ size_of ty
+length-number Byte n = refl
+length-number Char n = refl
+length-number Short n = refl
+length-number Int n = refl
+length-number Ubyte n = refl
+length-number Ushort n = refl
+length-number Uint n = refl
+length-number Int64 n = refl
+length-number Uint64 n = refl
+
+-- the padding of whole values is whole values
+whole-padding : (ty : NcType) (c : ℕ) → padding_len (c * size_of ty) / size_of ty * size_of ty ≡ padding_len (c * size_of ty)
+whole-padding Byte c = omega arith
+whole-padding Char c = omega arith
+whole-padding Short c = omega arith
+whole-padding Int c = omega arith
+whole-padding Ubyte c = omega arith
+whole-padding Ushort c = omega arith
+whole-padding Uint c = omega arith
+whole-padding Int64 c = omega arith
+whole-padding Uint64 c = omega arith
+
+length-replicated : (n : ℕ) (xs : List ℕ) → length (concat (replicate n xs)) ≡ n * length xs
+length-replicated zero xs = omega arith
+length-replicated (suc n) xs = omega (arith, length-append xs (concat (replicate n xs)), length-replicated n xs)
+
+pub length-padded : (dims : List Dim) (var : Var) (slab : List ℕ) → length slab ≡ slab_size dims var → length (padded_slab var slab) ≡ padded_size dims var
+unfolding padded_slab fill_bytes
+length-padded dims var slab len =
+    let size = size_of var.ty in
+    let p : ℕ = padding_len (length slab) in
+    let e : p ≡ padding_len (slab_size dims var) = ap (λ (n : ℕ). padding_len n) len in
+    let fill = bytes_of_number var.ty (fill_value var) in
+    length-append slab (concat (replicate (p / size) fill))
+    ∙ ap (λ (n : ℕ). length slab + n) (length-replicated (p / size) fill ∙ ap (λ (n : ℕ). p / size * n) (length-number var.ty (fill_value var)))
+    ∙ ap (λ (n : ℕ). length slab + n / size * size) e
+    ∙ ap (λ (n : ℕ). length slab + n) (whole-padding var.ty (slab_count dims var))
+    ∙ ap (λ (n : ℕ). n + padding_len (slab_size dims var)) len
+
+-- ---- totals
+
+padded_total-append : (dims : List Dim) (xs ys : List Var) → padded_total dims (xs ++ ys) ≡ padded_total dims xs + padded_total dims ys
+padded_total-append dims xs ys =
+    let f = padded_size dims in
+    sum-map f (xs ++ ys) ∙ sum_by-append f xs ys ∙ ap (λ n. n + sum_by f ys) (sym (sum-map f xs)) ∙ ap (λ n. padded_total dims xs + n) (sym (sum-map f ys))
+
+-- how much of a record a record variable takes
+abbrev pub slot : Bool → List Dim → Var → ℕ
+slot is_sole dims var = if is_sole then slab_size dims var else padded_size dims var
+
+abbrev pub slots : Bool → List Dim → List Var → ℕ
+slots is_sole dims vars = sum_by (slot is_sole dims) (record_vars dims vars)
+
+abbrev pub fixed_total : List Dim → List Var → ℕ
+fixed_total dims vars = padded_total dims (fixed_vars dims vars)
+
+one-fixed : (dims : List Dim) (var : Var) (kind : Bool) → padded_total dims (cond (not kind) (var ∷ []) []) ≡ (if kind then 0 else padded_size dims var)
+one-fixed dims var true = refl
+one-fixed dims var false = omega arith
+
+fixed-cons : (dims : List Dim) (var : Var) (vars : List Var) → fixed_total dims (var ∷ vars) ≡ (if is_record_var dims var then 0 else padded_size dims var) + fixed_total dims vars
+fixed-cons dims var vars =
+    ap (padded_total dims) (filter-append (λ (v : Var). not (is_record_var dims v)) (var ∷ []) vars)
+    ∙ padded_total-append dims (fixed_vars dims (var ∷ [])) (fixed_vars dims vars)
+    ∙ ap (λ (n : ℕ). n + fixed_total dims vars) (one-fixed dims var (is_record_var dims var))
+
+pub fixed-push : (dims : List Dim) (before : List Var) (var : Var) → fixed_total dims (before ++ var ∷ []) ≡ fixed_total dims before + (if is_record_var dims var then 0 else padded_size dims var)
+fixed-push dims before var =
+    ap (padded_total dims) (filter-append (λ (v : Var). not (is_record_var dims v)) before (var ∷ []))
+    ∙ padded_total-append dims (fixed_vars dims before) (fixed_vars dims (var ∷ []))
+    ∙ ap (λ (n : ℕ). fixed_total dims before + n) (one-fixed dims var (is_record_var dims var))
+
+one-slot : (is_sole : Bool) (dims : List Dim) (var : Var) (kind : Bool) → sum_by (slot is_sole dims) (cond kind (var ∷ []) []) ≡ (if kind then slot is_sole dims var else 0)
+one-slot is_sole dims var true = omega arith
+one-slot is_sole dims var false = refl
+
+slots-cons : (is_sole : Bool) (dims : List Dim) (var : Var) (vars : List Var) → slots is_sole dims (var ∷ vars) ≡ (if is_record_var dims var then slot is_sole dims var else 0) + slots is_sole dims vars
+slots-cons is_sole dims var vars =
+    ap (sum_by (slot is_sole dims)) (filter-append (is_record_var dims) (var ∷ []) vars)
+    ∙ sum_by-append (slot is_sole dims) (record_vars dims (var ∷ [])) (record_vars dims vars)
+    ∙ ap (λ (n : ℕ). n + slots is_sole dims vars) (one-slot is_sole dims var (is_record_var dims var))
+
+pub slots-push : (is_sole : Bool) (dims : List Dim) (before : List Var) (var : Var) → slots is_sole dims (before ++ var ∷ []) ≡ slots is_sole dims before + (if is_record_var dims var then slot is_sole dims var else 0)
+slots-push is_sole dims before var =
+    ap (sum_by (slot is_sole dims)) (filter-append (is_record_var dims) before (var ∷ []))
+    ∙ sum_by-append (slot is_sole dims) (record_vars dims before) (record_vars dims (var ∷ []))
+    ∙ ap (λ (n : ℕ). slots is_sole dims before + n) (one-slot is_sole dims var (is_record_var dims var))
+
+-- a record is its slots
+sole-size : (dims : List Dim) (var : Var) (narrow : Bool) → (if narrow then slab_size dims var else padded_size dims var) ≡ slot narrow dims var
+sole-size dims var true = refl
+sole-size dims var false = refl
+
+pub packed-slots : (dims : List Dim) (vars : List Var) → packed_size dims (record_vars dims vars) ≡ slots (is_sole_narrow (record_vars dims vars)) dims vars
+packed-slots dims vars = of (record_vars dims vars)
+  where
+    of : (xs : List Var) → packed_size dims xs ≡ sum_by (slot (is_sole_narrow xs) dims) xs
+    of [] = refl
+    of (x ∷ []) = let e : slot (is_narrow x) dims x ≡ sum_by (slot (is_narrow x) dims) (x ∷ []) = omega arith in sole-size dims x (is_narrow x) ∙ e
+    of (x ∷ y ∷ xs) = sum-map (padded_size dims) (x ∷ y ∷ xs)
+
+-- where the slabs stand without padding, no record variable stands before another
+sole-first : (xs : List Var) (x : Var) (ys : List Var) → is_sole_narrow (xs ++ x ∷ ys) ≡ true → xs ≡ []
+sole-first [] x ys e = refl
+sole-first (w ∷ []) x ys e = absurd cc
+sole-first (w ∷ z ∷ xs) x ys e = absurd cc
+
+slots-before : (is_sole : Bool) (dims : List Dim) (xs : List Var) → (is_sole ≡ true → xs ≡ []) → padded_total dims xs ≡ sum_by (slot is_sole dims) xs
+slots-before false dims xs none = sum-map (padded_size dims) xs
+slots-before true dims xs none =
+    let e = none refl in
+    ap (padded_total dims) e ∙ ap (sum_by (slot true dims)) (sym e)
+
+kept-cons : (dims : List Dim) (var : Var) (vars : List Var) → is_record_var dims var ≡ true → record_vars dims (var ∷ vars) ≡ var ∷ record_vars dims vars
+kept-cons dims var vars growing = ap (λ (b : Bool). cond b (var ∷ record_vars dims vars) (record_vars dims vars)) growing
+
+-- what stands before a record variable in a record
+pub before-slots : (dims : List Dim) (all before : List Var) (var : Var) (vars : List Var) → all ≡ before ++ var ∷ vars → is_record_var dims var ≡ true
+    → padded_total dims (record_vars dims before) ≡ slots (is_sole_narrow (record_vars dims all)) dims before
+before-slots dims all before var vars is growing =
+    let cut : record_vars dims all ≡ record_vars dims before ++ var ∷ record_vars dims vars =
+    ap (record_vars dims) is ∙ filter-append (is_record_var dims) before (var ∷ vars) ∙ ap (λ (xs : List Var). record_vars dims before ++ xs) (kept-cons dims var vars growing) in
+    slots-before (is_sole_narrow (record_vars dims all)) dims (record_vars dims before)
+    (λ sole. sole-first (record_vars dims before) var (record_vars dims vars) (ap is_sole_narrow (sym cut) ∙ sole))
+
+-- ---- slabs of an array
+
+fixed-len : (dims : List Dim) (n : ℕ) (var : Var) (array : List ℕ) → IsArray dims n var array → is_record_var dims var ≡ false → length array ≡ slab_size dims var
+fixed-len dims n var array is fixed =
+    let e = is.whole ∙ ap (λ (b : Bool). slab_count dims var * (if b then n else 1) * size_of var.ty) fixed in omega (arith, e)
+
+pub record-len : (dims : List Dim) (n : ℕ) (var : Var) (array : List ℕ) → IsArray dims n var array → is_record_var dims var ≡ true → length array ≡ n * slab_size dims var
+record-len dims n var array is growing =
+    let e = is.whole ∙ ap (λ (b : Bool). slab_count dims var * (if b then n else 1) * size_of var.ty) growing in
+    let f : slab_count dims var * n * size_of var.ty ≡ n * (slab_count dims var * size_of var.ty) = omega arith in e ∙ f
+
+length-slab : (dims : List Dim) (n : ℕ) (var : Var) (array : List ℕ) (r : ℕ) → IsArray dims n var array → is_record_var dims var ≡ true → r < n → length (slab_in dims var array r) ≡ slab_size dims var
+length-slab dims n var array r is growing lt =
+    let s = slab_size dims var in
+    let len = record-len dims n var array is growing in
+    let up : (r + 1) * s ≤ n * s = mul-le-mul_right s (let h : r + 1 ≤ n = omega arith in h) in
+    let more : (r + 1) * s ≡ r * s + s = omega arith in
+    omega (arith, length-take s (drop (r * s) array), length-drop (r * s) array)
+
+abbrev placed_slab : Bool → Var → List ℕ → List ℕ
+placed_slab is_sole var slab = if is_sole then slab else padded_slab var slab
+
+length-placed : (is_sole : Bool) (dims : List Dim) (var : Var) (slab : List ℕ) → length slab ≡ slab_size dims var → length (placed_slab is_sole var slab) ≡ slot is_sole dims var
+length-placed true dims var slab len = len
+length-placed false dims var slab len = length-padded dims var slab len
+
+stands-placed : (is_sole : Bool) (var : Var) (slab bytes : List ℕ) (at : ℕ) → Stands (placed_slab is_sole var slab) at bytes → Stands slab at bytes
+unfolding padded_slab
+stands-placed true var slab bytes at s = s
+stands-placed false var slab bytes at s = stands-first slab (fill_bytes var (padding_len (length slab))) bytes at s
+
+-- ---- lengths
+
+length-if : (kind : Bool) (slab : List ℕ) (len : ℕ) → (kind ≡ true → length slab ≡ len) → length (if kind then slab else []) ≡ (if kind then len else 0)
+length-if true slab len h = h refl
+length-if false slab len h = refl
+
+length-unless : (kind : Bool) (slab : List ℕ) (len : ℕ) → (kind ≡ false → length slab ≡ len) → length (if kind then [] else slab) ≡ (if kind then 0 else len)
+length-unless true slab len h = refl
+length-unless false slab len h = h refl
+
+length-block : (dims : List Dim) (n : ℕ) (var : Var) (array : List ℕ) → IsArray dims n var array
+    → length (if is_record_var dims var then [] else padded_slab var array) ≡ (if is_record_var dims var then 0 else padded_size dims var)
+length-block dims n var array is =
+    length-unless (is_record_var dims var) (padded_slab var array) (padded_size dims var) (λ fixed. length-padded dims var array (fixed-len dims n var array is fixed))
+
+length-part : (is_sole : Bool) (dims : List Dim) (n : ℕ) (var : Var) (array : List ℕ) (r : ℕ) → r < n → IsArray dims n var array
+    → length (if is_record_var dims var then placed_slab is_sole var (slab_in dims var array r) else []) ≡ (if is_record_var dims var then slot is_sole dims var else 0)
+length-part is_sole dims n var array r lt is =
+    length-if (is_record_var dims var) (placed_slab is_sole var (slab_in dims var array r)) (slot is_sole dims var)
+    (λ growing. length-placed is_sole dims var (slab_in dims var array r) (length-slab dims n var array r is growing lt))
+
+pub length-blocks : (dims : List Dim) (n : ℕ) (vars : List Var) (arrays : List (List ℕ)) → AreArrays dims n vars arrays → length (blocks dims vars arrays) ≡ fixed_total dims vars
+length-blocks dims n [] [] are = refl
+length-blocks dims n [] (array ∷ arrays) are = absurd are
+length-blocks dims n (var ∷ vars) [] are = absurd are
+length-blocks dims n (var ∷ vars) (array ∷ arrays) are =
+    length-append (if is_record_var dims var then [] else padded_slab var array) (blocks dims vars arrays)
+    ∙ ap (λ (k : ℕ). k + length (blocks dims vars arrays)) (length-block dims n var array are.0)
+    ∙ ap (λ (k : ℕ). (if is_record_var dims var then 0 else padded_size dims var) + k) (length-blocks dims n vars arrays are.1)
+    ∙ sym (fixed-cons dims var vars)
+
+pub length-record : (is_sole : Bool) (dims : List Dim) (n r : ℕ) (vars : List Var) (arrays : List (List ℕ)) → r < n → AreArrays dims n vars arrays
+    → length (record_of is_sole dims r vars arrays) ≡ slots is_sole dims vars
+length-record is_sole dims n r [] [] lt are = refl
+length-record is_sole dims n r [] (array ∷ arrays) lt are = absurd are
+length-record is_sole dims n r (var ∷ vars) [] lt are = absurd are
+length-record is_sole dims n r (var ∷ vars) (array ∷ arrays) lt are =
+    length-append (if is_record_var dims var then placed_slab is_sole var (slab_in dims var array r) else []) (record_of is_sole dims r vars arrays)
+    ∙ ap (λ (k : ℕ). k + length (record_of is_sole dims r vars arrays)) (length-part is_sole dims n var array r lt are.0)
+    ∙ ap (λ (k : ℕ). (if is_record_var dims var then slot is_sole dims var else 0) + k) (length-record is_sole dims n r vars arrays lt are.1)
+    ∙ sym (slots-cons is_sole dims var vars)
+
+-- ---- each variable
+
+-- the variable's array is its stored bytes, and no value of it is missing
+pub record Agrees (h : Header) (bytes : List ℕ) (n : ℕ) (var : Var) (array : List ℕ) : Type 0 where
+  pub array_is : array ≡ concat (stored_bytes h bytes var n)
+  pub whole : first_missing h bytes var n ≡ None
+
+pub Agree : Header → List ℕ → ℕ → List Var → List (List ℕ) → Type 0
+Agree h bytes n [] [] = Unit {0}
+Agree h bytes n [] (array ∷ arrays) = ⊥
+Agree h bytes n (var ∷ vars) [] = ⊥
+Agree h bytes n (var ∷ vars) (array ∷ arrays) = Agrees h bytes n var array × Agree h bytes n vars arrays
+
+flat_map-below : (f g : ℕ → List ℕ) (k n : ℕ) → ((r : ℕ) → k ≤ r → r < k + n → f r ≡ g r) → flat_map f (range_with_len k n) ≡ flat_map g (range_with_len k n)
+flat_map-below f g k zero same = refl
+flat_map-below f g k (suc n) same =
+    ap (λ (xs : List ℕ). xs ++ flat_map f (range_with_len (k + 1) n)) (same k (omega arith) (omega arith))
+    ∙ ap (λ (xs : List ℕ). g k ++ xs) (flat_map-below f g (k + 1) n (λ r low high. same r (omega arith) (omega arith)))
+
+-- what is left of the variables stands behind those before them
+pub record IsPlaced (h : Header) (bytes : List ℕ) (n stride : ℕ) (is_sole : Bool) (before vars : List Var) (arrays : List (List ℕ)) : Type 0 where
+  pub fixed : Stands (blocks h.dims vars arrays) (length (header_spelling h) + fixed_total h.dims before) bytes
+  pub growing : (r : ℕ) → r < n
+      → Stands (record_of is_sole h.dims r vars arrays) (length (header_spelling h) + (fixed_total h.dims h.vars + (slots is_sole h.dims before + r * stride))) bytes
+
+placed-next : (h : Header) (bytes : List ℕ) (n stride : ℕ) (is_sole : Bool) (before : List Var) (var : Var) (vars : List Var) (array : List ℕ) (arrays : List (List ℕ))
+    → IsArray h.dims n var array → IsPlaced h bytes n stride is_sole before (var ∷ vars) (array ∷ arrays) → IsPlaced h bytes n stride is_sole (before ++ var ∷ []) vars arrays
+placed-next h bytes n stride is_sole before var vars array arrays is placed =
+    let dims = h.dims in
+    let head : ℕ = length (header_spelling h) in
+    let a = fixed-push dims before var in
+    let b = length-block dims n var array is in
+    record {
+      fixed = stands-at (blocks dims vars arrays) bytes _ _ (omega (arith, a, b))
+          (stands-second (if is_record_var dims var then [] else padded_slab var array) (blocks dims vars arrays) bytes (head + fixed_total dims before) placed.fixed);
+      growing = λ r lt.
+          let c = slots-push is_sole dims before var in
+          let d = length-part is_sole dims n var array r lt is in
+          stands-at (record_of is_sole dims r vars arrays) bytes _ _ (omega (arith, c, d))
+          (stands-second (if is_record_var dims var then placed_slab is_sole var (slab_in dims var array r) else []) (record_of is_sole dims r vars arrays) bytes
+          (head + (fixed_total dims h.vars + (slots is_sole dims before + r * stride))) (placed.growing r lt));
+    }
+
+-- a variable without records, whose array stands at its begin
+agrees-fixed : (h : Header) (bytes : List ℕ) (n : ℕ) (var : Var) (array : List ℕ) → is_record_var h.dims var ≡ false
+    → length array ≡ slab_size h.dims var → Stands array var.begin_at bytes → Agrees h bytes n var array
+agrees-fixed h bytes n var array fixed len s = record {
+  array_is = sym (stands-read array var.begin_at bytes (slab_size h.dims var) s len) ∙ sym (fixed-bytes h bytes var n fixed);
+  whole = fixed-whole h bytes var n fixed (omega (arith, stands-within array var.begin_at bytes s, len));
+}
+
+-- a record variable, whose slabs stand a record size apart
+agrees-record : (h : Header) (bytes : List ℕ) (n : ℕ) (var : Var) (array : List ℕ) → is_record_var h.dims var ≡ true
+    → IsArray h.dims n var array → ((r : ℕ) → r < n → Stands (slab_in h.dims var array r) (var.begin_at + r * record_size h) bytes) → Agrees h bytes n var array
+agrees-record h bytes n var array growing is stands =
+    let s = slab_size h.dims var in
+    record {
+      array_is =
+          sym (runs-all array s n (record-len h.dims n var array is growing))
+          ∙ flat_map-below (slab_in h.dims var array) (λ r. take s (drop (var.begin_at + r * record_size h) bytes)) 0 n
+          (λ r low lt0. let lt : r < n = omega arith in
+          sym (stands-read (slab_in h.dims var array r) (var.begin_at + r * record_size h) bytes s (stands r lt) (length-slab h.dims n var array r is growing lt)))
+          ∙ sym (record-bytes h bytes var n growing);
+      whole = record-whole h bytes var n growing (λ r lt.
+          omega (arith, stands-within (slab_in h.dims var array r) (var.begin_at + r * record_size h) bytes (stands r lt), length-slab h.dims n var array r is growing lt));
+    }
+
+-- the front of what stands there, of either kind
+front-unless : (kind : Bool) (piece rest bytes : List ℕ) (at : ℕ) → kind ≡ false → Stands ((if kind then [] else piece) ++ rest) at bytes → Stands piece at bytes
+front-unless true piece rest bytes at e s = absurd cc
+front-unless false piece rest bytes at e s = stands-first piece rest bytes at s
+
+front-if : (kind : Bool) (piece rest bytes : List ℕ) (at : ℕ) → kind ≡ true → Stands ((if kind then piece else []) ++ rest) at bytes → Stands piece at bytes
+front-if true piece rest bytes at e s = stands-first piece rest bytes at s
+front-if false piece rest bytes at e s = absurd cc
+
+agrees-one : (h : Header) (vs : List Var) (bytes : List ℕ) (n : ℕ) (before : List Var) (var : Var) (vars : List Var) (array : List ℕ) (arrays : List (List ℕ))
+    → h.vars ≡ before ++ var ∷ vars → IsArray h.dims n var array
+    → IsPlaced h bytes n (record_size (record h { vars = vs })) (is_sole_narrow (record_vars h.dims h.vars)) before (var ∷ vars) (array ∷ arrays)
+    → Agrees (record h { vars = vs }) bytes n (record var { begin_at = begin_behind h before var }) array
+agrees-one h vs bytes n before var vars array arrays all is placed = of_kind (is_record_var h.dims var) refl
+  where
+    dims : List Dim
+    dims = h.dims
+
+    is_sole : Bool
+    is_sole = is_sole_narrow (record_vars h.dims h.vars)
+
+    head : ℕ
+    head = length (header_spelling h)
+
+    stride : ℕ
+    stride = record_size (record h { vars = vs })
+
+    begin-is : (kind : Bool) → is_record_var dims var ≡ kind
+        → begin_behind h before var ≡ head + (if kind then fixed_total dims h.vars + padded_total dims (record_vars dims before) else fixed_total dims before)
+    begin-is kind e = ap (λ (b : Bool). head + (if b then fixed_total dims h.vars + padded_total dims (record_vars dims before) else fixed_total dims before)) e
+
+    of_kind : (kind : Bool) → is_record_var dims var ≡ kind → Agrees (record h { vars = vs }) bytes n (record var { begin_at = begin_behind h before var }) array
+    of_kind false e =
+        let len = fixed-len dims n var array is e in
+        let block : Stands (padded_slab var array) (head + fixed_total dims before) bytes =
+        front-unless (is_record_var dims var) (padded_slab var array) (blocks dims vars arrays) bytes (head + fixed_total dims before) e placed.fixed in
+        let own = stands-placed false var array bytes (head + fixed_total dims before) block in
+        agrees-fixed (record h { vars = vs }) bytes n (record var { begin_at = begin_behind h before var }) array e len
+        (stands-at array bytes (head + fixed_total dims before) (begin_behind h before var) (sym (begin-is false e)) own)
+    of_kind true e =
+        agrees-record (record h { vars = vs }) bytes n (record var { begin_at = begin_behind h before var }) array e
+        (record { bytes = is.bytes; whole = is.whole; small = is.small })
+        (λ r lt.
+        let at : ℕ = head + (fixed_total dims h.vars + (slots is_sole dims before + r * stride)) in
+        let slab = slab_in dims var array r in
+        let part = front-if (is_record_var dims var) (placed_slab is_sole var slab) (record_of is_sole dims r vars arrays) bytes at e (placed.growing r lt) in
+        let own = stands-placed is_sole var slab bytes at part in
+        let sum_is = before-slots dims h.vars before var vars all e in
+        let begin = begin-is true e in
+        stands-at slab bytes at (begin_behind h before var + r * stride) (omega (arith, sum_is, begin)) own)
+
+pub agree-all : (h : Header) (vs : List Var) (bytes : List ℕ) (n : ℕ) (before vars : List Var) (arrays : List (List ℕ))
+    → h.vars ≡ before ++ vars → AreArrays h.dims n vars arrays
+    → IsPlaced h bytes n (record_size (record h { vars = vs })) (is_sole_narrow (record_vars h.dims h.vars)) before vars arrays
+    → Agree (record h { vars = vs }) bytes n (vars_behind h before vars) arrays
+unfolding Agree
+agree-all h vs bytes n before [] [] all are placed = tt
+agree-all h vs bytes n before [] (array ∷ arrays) all are placed = absurd are
+agree-all h vs bytes n before (var ∷ vars) [] all are placed = absurd are
+agree-all h vs bytes n before (var ∷ vars) (array ∷ arrays) all are placed = (
+  agrees-one h vs bytes n before var vars array arrays all are.0 placed,
+  agree-all h vs bytes n (before ++ var ∷ []) vars arrays (all ∙ sym (append_assoc before (var ∷ []) vars)) are.1
+      (placed-next h bytes n (record_size (record h { vars = vs })) (is_sole_narrow (record_vars h.dims h.vars)) before var vars array arrays are.0 placed),
+)
+
+pub agree-arrays : (h : Header) (bytes : List ℕ) (n : ℕ) (vars : List Var) (arrays : List (List ℕ)) → Agree h bytes n vars arrays
+    → arrays ≡ map (λ (var : Var). concat (stored_bytes h bytes var n)) vars
+unfolding Agree
+agree-arrays h bytes n [] [] are = refl
+agree-arrays h bytes n [] (array ∷ arrays) are = absurd are
+agree-arrays h bytes n (var ∷ vars) [] are = absurd are
+agree-arrays h bytes n (var ∷ vars) (array ∷ arrays) are =
+    ap (λ (x : List ℕ). x ∷ arrays) are.0.array_is ∙ ap (λ (xs : List (List ℕ)). concat (stored_bytes h bytes var n) ∷ xs) (agree-arrays h bytes n vars arrays are.1)
+
+pub agree-whole : (h : Header) (bytes : List ℕ) (n : ℕ) (vars : List Var) (arrays : List (List ℕ)) → Agree h bytes n vars arrays
+    → All (λ (var : Var). first_missing h bytes var n ≡ None) vars
+unfolding Agree
+agree-whole h bytes n [] [] are = All-nil _
+agree-whole h bytes n [] (array ∷ arrays) are = absurd are
+agree-whole h bytes n (var ∷ vars) [] are = absurd are
+agree-whole h bytes n (var ∷ vars) (array ∷ arrays) are =
+    All-cons (λ (v : Var). first_missing h bytes v n ≡ None) var vars are.0.whole (agree-whole h bytes n vars arrays are.1)

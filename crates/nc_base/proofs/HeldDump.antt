@@ -1,0 +1,225 @@
+-- The dump of a file that holds a dataset is the text of that dataset.
+use Rattle.std.proofs.Common.{◌≡◌, ℕ, ℤ, suc, ◌+◌, ◌≤◌, Bool, ◌&&◌, ◌||◌, cond, List, [], ◌∷◌, length, get_or, map, refl, sym, ◌∙◌, ap, subst, arith, Option, Some, None, inl, inr}
+use Rattle.std.proofs.Math.Path.{fun_ext}
+use Rattle.nc_base.specs.Sizes.{record_count}
+use Rattle.std.specs.Prelude.{◌==◌, codes, All, IsTrue, if◌then◌else◌, slice_index_or}
+use Rattle.std.specs.List.{concat, list_all, position, position_or_len}
+use Rattle.std.specs.Str.{bytes_eq}
+use Rattle.std.proofs.lemmas.Bool.{cases_lt, lt-ltb, ltb-false}
+use Rattle.std.proofs.lemmas.List.{length-map}
+use Rattle.std.proofs.lemmas.List.Elements.{All-head, All-tail, All-map, All-weaker, All-from_get_or}
+use Rattle.std.proofs.lemmas.List.Sums.{fails_before_first}
+use Rattle.nc_base.specs.declared.header.Dim.{Dim}
+use Rattle.nc_base.specs.declared.header.Header.{Header}
+use Rattle.nc_base.specs.declared.header.NumRecs.TheVariants.{Known}
+use Rattle.nc_base.specs.declared.header.Var.{Var}
+use Rattle.nc_base.specs.declared.dataset.Dataset.{Dataset}
+use Rattle.nc_base.specs.Types.{size_of}
+use Rattle.nc_base.specs.Numbers.{numbers}
+use Rattle.nc_base.specs.Headers.{bare_var, bare}
+use Rattle.nc_base.specs.Escapes.{escaped_name}
+use Rattle.nc_base.specs.HeadText.{vars_text, var_lines, head_text, netcdf_word, variables_word, dims_text, gatts_text}
+use Rattle.nc_base.specs.Fill.{fill_value}
+use Rattle.nc_base.specs.ValueText.{Look, look_of}
+use Rattle.nc_base.specs.Bytes.{text}
+use Rattle.nc_base.specs.Grammar.{SpellsHeader}
+use Rattle.nc_base.specs.FirstFault.{StopsAt}
+use Rattle.nc_base.specs.declared.fault.FormatFault.{FormatFault}
+use Rattle.nc_base.specs.Places.{bytes_at, value_offsets, stored_bytes, stored_values, ends_behind, first_missing, HoldsDataset}
+use Rattle.nc_base.specs.Dump.{Options, Ending, Section, Content, has_variable, has_values, IsFirstUnknown, KnowsChosen, IsFirstUnknownOf, is_selected, selection_of, content_in, content_of, values_before, values_of, shown_values, data_word, closing_word, dump_text, IsDump, IsText}
+use Rattle.nc_base.specs.Dump.{stopped, unknown, shown}
+use Rattle.nc_base.proofs.WholeValues.{map-map, numbers-concat, length-whole}
+
+-- ---- whole values
+
+-- where none is found, each passes
+passes-all : (p : ℕ → Bool) (xs : List ℕ) → position p xs ≡ None → length xs ≤ position_or_len p xs
+passes-all p xs e =
+    elim (cases_lt (position_or_len p xs) (length xs)) [
+      | inl lt ↦ absurd (let f : position p xs ≡ Some (position_or_len p xs) = ap (λ (t : Bool). cond t (Some (position_or_len p xs)) None) (lt-ltb _ _ lt) in cc)
+      | inr le ↦ le
+    ]
+
+all-whole : (size : ℕ) (b xs : List ℕ) → position (ends_behind size (length b)) xs ≡ None → All (λ offset. offset + size ≤ length b) xs
+all-whole size b xs none =
+    let behind = passes-all (ends_behind size (length b)) xs none in
+    All-from_get_or (λ (offset : ℕ). offset + size ≤ length b) xs 0
+    (λ i lt. ltb-false (length b) (get_or xs i 0 + size) (fails_before_first (ends_behind size (length b)) xs i 0 (omega arith)))
+
+-- the numbers of a variable of which no value is missing
+pub whole-numbers : (h : Header) (b : List ℕ) (var : Var) (n : ℕ) → first_missing h b var n ≡ None → numbers var.ty (concat (stored_bytes h b var n)) ≡ stored_values h b var n
+whole-numbers h b var n none =
+    let size = size_of var.ty in
+    numbers-concat var.ty (stored_bytes h b var n)
+    (All-map (λ (xs : List ℕ). length xs ≡ size) (bytes_at size b) (value_offsets h var n)
+    (All-weaker (λ (offset : ℕ). offset + size ≤ length b) (λ (offset : ℕ). length (bytes_at size b offset) ≡ size) (length-whole size b) (value_offsets h var n)
+    (all-whole size b (value_offsets h var n) none)))
+
+-- ---- a header without its begins
+
+lines-bare : (dims : List Dim) (vars : List Var) → map (var_lines dims) (map bare_var vars) ≡ map (var_lines dims) vars
+unfolding var_lines
+lines-bare dims vars = map-map (var_lines dims) bare_var vars
+
+vars-bare : (dims : List Dim) (vars : List Var) → vars_text dims (map bare_var vars) ≡ vars_text dims vars
+unfolding vars_text
+vars-bare dims vars =
+    ap (λ (k : ℕ). if k == 0 then [] else text (variables_word ∷ text (map (var_lines dims) (map bare_var vars)) ∷ [])) (length-map vars bare_var)
+    ∙ ap (λ (t : List (List ℕ)). if length vars == 0 then [] else text (variables_word ∷ text t ∷ [])) (lines-bare dims vars)
+
+head-bare : (name : List ℕ) (h : Header) (n : ℕ) → head_text name (bare h n) n ≡ head_text name h n
+unfolding head_text
+head-bare name h n =
+    ap (λ (t : List ℕ). text (netcdf_word ∷ escaped_name name ∷ codes " {\n" ∷ dims_text n h.dims ∷ t ∷ gatts_text h.gatts ∷ [])) (vars-bare h.dims h.vars)
+
+word-bare : (h : Header) (o : Options) (n : ℕ) → data_word (bare h n) o ≡ data_word h o
+unfolding data_word
+word-bare h o n = ap (λ (k : ℕ). if o.head_only || (k == 0) then [] else codes "data:\n") (length-map h.vars bare_var)
+
+any-bare : (name : List ℕ) (vars : List Var) → has_variable (map bare_var vars) name ≡ has_variable vars name
+any-bare name [] = refl
+any-bare name (var ∷ vars) = ap (λ (b : Bool). bytes_eq var.name name || b) (any-bare name vars)
+
+variables-bare : (vars : List Var) → has_variable (map bare_var vars) ≡ has_variable vars
+variables-bare vars = fun_ext (λ name. any-bare name vars)
+
+selection-bare : (h : Header) (o : Options) (n : ℕ) → selection_of (bare h n) o ≡ selection_of h o
+selection-bare h o n = map-map (is_selected (bare h n) o) bare_var h.vars
+
+-- ---- the values
+
+look-bare : (h : Header) (var : Var) (n width : ℕ) → look_of (bare h n) (bare_var var) n width ≡ look_of h var n width
+unfolding look_of fill_value
+look-bare h var n width = refl
+
+-- a variable's values, if they are shown, and those behind it
+abbrev row : Bool → ℕ → Look → Content → Section → Section
+row shows v look content others = if shows then values_before look content.values content.missing v others else others
+
+values-held : (h : Header) (bytes : List ℕ) (n width : ℕ) (d : Dataset) (vars : List Var) (v : ℕ) (marks : List Bool)
+    → ((k : ℕ) → slice_index_or d.arrays (v + k) [] ≡ slice_index_or (map (λ (var : Var). concat (stored_bytes h bytes var n)) vars) k [])
+    → All (λ (var : Var). first_missing h bytes var n ≡ None) vars
+    → values_of (bare h n) (content_of d) n width v (map bare_var vars) marks ≡ values_of h (content_in h bytes n) n width v vars marks
+values-held h bytes n width d [] v marks arrays whole = refl
+values-held h bytes n width d (var ∷ vars) v [] arrays whole = refl
+values-held h bytes n width d (var ∷ vars) v (mark ∷ marks) arrays whole =
+    let Whole : Var → Type 0 = λ x. first_missing h bytes x n ≡ None in
+    let none : first_missing h bytes var n ≡ None = All-head Whole var vars whole in
+    let here : slice_index_or d.arrays v [] ≡ concat (stored_bytes h bytes var n) =
+    ap (λ (k : ℕ). slice_index_or d.arrays k []) (let e : v ≡ v + 0 = omega arith in e) ∙ arrays 0 in
+    let values : numbers var.ty (slice_index_or d.arrays v []) ≡ stored_values h bytes var n = ap (numbers var.ty) here ∙ whole-numbers h bytes var n none in
+    let content : content_of d v (bare_var var) ≡ content_in h bytes n v var =
+    ap (λ (xs : List ℤ). let c : Content = record { values = xs; missing = None } in c) values
+    ∙ ap (λ (m : Option ℕ). let c : Content = record { values = stored_values h bytes var n; missing = m } in c) (sym none) in
+    let rest = values-held h bytes n width d vars (v + 1) marks
+    (λ k. ap (λ (i : ℕ). slice_index_or d.arrays i []) (let e : v + 1 + k ≡ v + suc k = omega arith in e) ∙ arrays (suc k)) (All-tail Whole var vars whole) in
+    let shows : Bool = mark && has_values h.dims n var in
+    ap (λ (s : Section). row shows v (look_of (bare h n) (bare_var var) n width) (content_of d v (bare_var var)) s) rest
+    ∙ ap (λ (c : Content). row shows v (look_of (bare h n) (bare_var var) n width) c (values_of h (content_in h bytes n) n width (v + 1) vars marks)) content
+    ∙ ap (λ (l : Look). row shows v l (content_in h bytes n v var) (values_of h (content_in h bytes n) n width (v + 1) vars marks)) (look-bare h var n width)
+
+-- ---- the dump
+
+-- the dataset of this header and these bytes
+abbrev held : Header → List ℕ → ℕ → Dataset
+held h bytes n = record { header = bare h n; arrays = map (λ (var : Var). concat (stored_bytes h bytes var n)) h.vars }
+
+held-is : (bytes : List ℕ) (d : Dataset) (s : HoldsDataset bytes d) → d ≡ held s.header bytes s.records
+held-is bytes d s = ap (λ (h : Header). let x : Dataset = record { header = h; arrays = d.arrays } in x) s.is_bare
+    ∙ ap (λ (xs : List (List ℕ)). let x : Dataset = record { header = bare s.header s.records; arrays = xs } in x) s.arrays
+
+shown-held : (h : Header) (bytes : List ℕ) (n : ℕ) (o : Options) → All (λ (var : Var). first_missing h bytes var n ≡ None) h.vars
+    → shown_values (bare h n) o (content_of (held h bytes n)) n (selection_of (bare h n) o) ≡ shown_values h o (content_in h bytes n) n (selection_of h o)
+shown-held h bytes n o whole =
+    ap (λ (marks : List Bool). shown_values (bare h n) o (content_of (held h bytes n)) n marks) (selection-bare h o n)
+    ∙ values-held h bytes n o.width (held h bytes n) h.vars 0 (if o.head_only then [] else selection_of h o)
+    (λ k. ap (λ (i : ℕ). slice_index_or (held h bytes n).arrays i []) (let e : 0 + k ≡ k = omega arith in e)) whole
+
+text-held : (h : Header) (o : Options) (n : ℕ) (section : Section) → dump_text (bare h n) o n section ≡ dump_text h o n section
+text-held h o n section =
+    ap (λ (t : List ℕ). text (t ∷ data_word (bare h n) o ∷ section.text ∷ closing_word section.ending ∷ [])) (head-bare o.name h n)
+    ∙ ap (λ (t : List ℕ). text (head_text o.name h n ∷ t ∷ section.text ∷ closing_word section.ending ∷ [])) (word-bare h o n)
+
+knows-bare : (h : Header) (n : ℕ) (chosen : Option (List (List ℕ))) → KnowsChosen (bare h n) chosen ≡ KnowsChosen h chosen
+knows-bare h n None = refl
+knows-bare h n (Some names) = ap (λ (f : List ℕ → Bool). IsTrue (list_all f names)) (variables-bare h.vars)
+
+unknown-bare : (vars : List Var) (names : List (List ℕ)) (index : ℕ) → IsFirstUnknown (map bare_var vars) names index → IsFirstUnknown vars names index
+unknown-bare vars names index u = record {
+  name = u.name;
+  at = u.at;
+  unknown = sym (any-bare u.name vars) ∙ u.unknown;
+  others = λ k other lt at. sym (any-bare other vars) ∙ u.others k other lt at;
+}
+
+unknown-held : (h : Header) (n : ℕ) (chosen : Option (List (List ℕ))) (index : ℕ) → IsFirstUnknownOf (bare h n) chosen index → IsFirstUnknownOf h chosen index
+unknown-held h n None index u = u
+unknown-held h n (Some names) index u = unknown-bare h.vars names index u
+
+same-known : (m n : ℕ) → Known m ≡ Known n → m ≡ n
+same-known m n e = cc
+
+dump-of-held : (h : Header) (bytes rest : List ℕ) (n : ℕ) (o : Options) (t : List ℕ) (ending : Ending) → SpellsHeader bytes h rest → n ≡ record_count h (length bytes)
+    → All (λ (var : Var). first_missing h bytes var n ≡ None) h.vars → IsText (held h bytes n) o t ending → IsDump bytes o t ending
+dump-of-held h bytes rest n o t ending spelled counted whole (unknown index u) = unknown h rest index spelled (unknown-held h n o.chosen index u)
+dump-of-held h bytes rest n o t ending spelled counted whole (shown m section knows known is) =
+    let same : m ≡ n = same-known m n (sym known) in
+    let all : section ≡ shown_values h o (content_in h bytes n) n (selection_of h o) =
+    is ∙ ap (λ (k : ℕ). shown_values (bare h n) o (content_of (held h bytes n)) k (selection_of (bare h n) o)) same ∙ shown-held h bytes n o whole in
+    subst (λ (x : List ℕ). IsDump bytes o x section.ending) (sym (ap (λ (k : ℕ). dump_text (bare h n) o k section) same ∙ text-held h o n section))
+    (shown h rest n section spelled (subst (λ (X : Type 0). X) (knows-bare h n o.chosen) knows) counted all)
+
+-- the text of the dataset is the dump of each file that holds it
+pub held-dump : (bytes : List ℕ) (d : Dataset) (o : Options) (t : List ℕ) (ending : Ending) → HoldsDataset bytes d → IsText d o t ending → IsDump bytes o t ending
+held-dump bytes d o t ending s is =
+    dump-of-held s.header bytes s.rest s.records o t ending s.spelled s.counted s.whole (subst (λ (x : Dataset). IsText x o t ending) (held-is bytes d s) is)
+
+-- ---- back
+
+unknown-from_held : (h : Header) (n : ℕ) (chosen : Option (List (List ℕ))) (index : ℕ) → IsFirstUnknownOf h chosen index → IsFirstUnknownOf (bare h n) chosen index
+unknown-from_held h n None index u = u
+unknown-from_held h n (Some names) index u = record {
+  name = u.name;
+  at = u.at;
+  unknown = any-bare u.name h.vars ∙ u.unknown;
+  others = λ k other lt at. any-bare other h.vars ∙ u.others k other lt at;
+}
+
+-- bytes have one header
+abbrev pub HasOneHeader : List ℕ → Type 0
+HasOneHeader bytes = (h k : Header) (rest more : List ℕ) → SpellsHeader bytes h rest → SpellsHeader bytes k more → h ≡ k
+
+-- and no fault where they have one
+abbrev pub HasNoFault : List ℕ → Type 0
+HasNoFault bytes = (h : Header) (rest : List ℕ) (fault : FormatFault) (end : ℕ) → SpellsHeader bytes h rest → ¬ StopsAt bytes fault end
+
+text-of-dump : (h : Header) (bytes rest : List ℕ) (n : ℕ) (o : Options) (t : List ℕ) (ending : Ending) → HasOneHeader bytes → HasNoFault bytes
+    → SpellsHeader bytes h rest → n ≡ record_count h (length bytes)
+    → All (λ (var : Var). first_missing h bytes var n ≡ None) h.vars → IsDump bytes o t ending → IsText (held h bytes n) o t ending
+text-of-dump h bytes rest n o t ending one fine spelled counted whole (stopped fault end stops) = absurd (fine h rest fault end spelled stops)
+text-of-dump h bytes rest n o t ending one fine spelled counted whole (unknown k more index s u) =
+    unknown index (unknown-from_held h n o.chosen index (subst (λ (x : Header). IsFirstUnknownOf x o.chosen index) (one k h more rest s spelled) u))
+text-of-dump h bytes rest n o t ending one fine spelled counted whole (shown k more m section s knows count is) =
+    let same : k ≡ h = one k h more rest s spelled in
+    let knows_h : KnowsChosen h o.chosen = subst (λ (x : Header). KnowsChosen x o.chosen) same knows in
+    let m_is : m ≡ n = count ∙ ap (λ (x : Header). record_count x (length bytes)) same ∙ sym counted in
+    let all : section ≡ shown_values (bare h n) o (content_of (held h bytes n)) n (selection_of (bare h n) o) =
+    is ∙ ap (λ (x : Header). shown_values x o (content_in x bytes m) m (selection_of x o)) same
+    ∙ ap (λ (i : ℕ). shown_values h o (content_in h bytes i) i (selection_of h o)) m_is ∙ sym (shown-held h bytes n o whole) in
+    let words : dump_text k o m section ≡ dump_text (bare h n) o n section =
+    ap (λ (x : Header). dump_text x o m section) same ∙ ap (λ (i : ℕ). dump_text h o i section) m_is ∙ sym (text-held h o n section) in
+    subst (λ (x : List ℕ). IsText (held h bytes n) o x section.ending) (sym words)
+    (shown n section (subst (λ (X : Type 0). X) (sym (knows-bare h n o.chosen)) knows_h) refl all)
+
+pub dump-held : (bytes : List ℕ) (d : Dataset) (o : Options) (t : List ℕ) (ending : Ending) → HasOneHeader bytes → HasNoFault bytes
+    → HoldsDataset bytes d → IsDump bytes o t ending → IsText d o t ending
+dump-held bytes d o t ending one fine s is =
+    subst (λ (x : Dataset). IsText x o t ending) (sym (held-is bytes d s))
+    (text-of-dump s.header bytes s.rest s.records o t ending one fine s.spelled s.counted s.whole is)
+
+-- one header is one dataset
+pub one-held : (bytes : List ℕ) (d e : Dataset) → HasOneHeader bytes → HoldsDataset bytes d → HoldsDataset bytes e → d ≡ e
+one-held bytes d e one s t =
+    let same : s.header ≡ t.header = one s.header t.header s.rest t.rest s.spelled t.spelled in
+    let count : s.records ≡ t.records = s.counted ∙ ap (λ (h : Header). record_count h (length bytes)) same ∙ sym t.counted in
+    held-is bytes d s ∙ ap (λ (h : Header). held h bytes s.records) same ∙ ap (λ (n : ℕ). held t.header bytes n) count ∙ sym (held-is bytes e t)

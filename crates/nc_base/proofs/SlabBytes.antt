@@ -1,0 +1,195 @@
+-- Where the values of a variable lie, slab by slab: the bytes of all values, one behind the other, are the slabs as the
+-- file has them, and no value is missing where each slab lies inside of the file.
+use Rattle.std.proofs.Common.{◌≡◌, ℕ, zero, suc, ◌+◌, ◌*◌, ◌<◌, ◌≤◌, Bool, true, false, List, [], ◌∷◌, ◌++◌, length, get_or, take, drop, map, refl, sym, ◌∙◌, ap, subst, arith, append-nil, None}
+use Rattle.std.specs.Prelude.{All, if◌then◌else◌}
+use Rattle.std.specs.List.{concat, flat_map, range_with_len, position}
+use Rattle.std.proofs.Math.Seq.{take-add}
+use Rattle.std.proofs.Math.Nat.{mul-le-mul_right}
+use Rattle.std.proofs.lemmas.Bool.{le-ltb}
+use Rattle.std.proofs.lemmas.List.{drop-drop, map-append}
+use Rattle.std.proofs.lemmas.List.Folds.{concat-append}
+use Rattle.std.proofs.lemmas.List.Sums.{position_or_len_is}
+use Rattle.std.proofs.lemmas.List.Elements.{All-nil, All-cons, All-append, All-get_or}
+use Rattle.nc_base.specs.declared.header.Header.{Header}
+use Rattle.nc_base.specs.declared.header.Var.{Var}
+use Rattle.nc_base.specs.Types.{size_of}
+use Rattle.nc_base.specs.Sizes.{product, is_record_var, slab_lens, slab_size, record_size}
+use Rattle.nc_base.proofs.WholeValues.{none-found}
+use Rattle.nc_base.specs.Places.{vectors_below, slab_strides, distance, value_offsets, bytes_at, stored_bytes, ends_behind, first_missing}
+
+-- ---- index vectors whose first index goes over some rows
+
+-- the offset of a value behind a base
+abbrev at : ℕ → List ℕ → List ℕ → ℕ
+at base strides index = base + distance index strides
+
+-- the bytes of the values at these index vectors
+abbrev joined : ℕ → List ℕ → ℕ → List ℕ → List (List ℕ) → List ℕ
+joined size b base strides vectors = concat (map (bytes_at size b) (map (at base strides) vectors))
+
+joined-append : (size : ℕ) (b : List ℕ) (base : ℕ) (strides : List ℕ) (xs ys : List (List ℕ))
+    → joined size b base strides (xs ++ ys) ≡ joined size b base strides xs ++ joined size b base strides ys
+joined-append size b base strides xs ys =
+    ap (λ zs. concat (map (bytes_at size b) zs)) (map-append (at base strides) xs ys)
+    ∙ ap concat (map-append (bytes_at size b) (map (at base strides) xs) (map (at base strides) ys))
+    ∙ concat-append (map (bytes_at size b) (map (at base strides) xs)) (map (bytes_at size b) (map (at base strides) ys))
+
+-- one row
+joined-row : (size : ℕ) (b : List ℕ) (base i stride : ℕ) (strides : List ℕ) (vs : List (List ℕ))
+    → joined size b base (stride ∷ strides) (map (λ (index : List ℕ). i ∷ index) vs) ≡ joined size b (base + i * stride) strides vs
+joined-row size b base i stride strides [] = refl
+joined-row size b base i stride strides (v ∷ vs) =
+    let e : base + (i * stride + distance v strides) ≡ base + i * stride + distance v strides = omega arith in
+    ap (λ (o : ℕ). bytes_at size b o ++ joined size b base (stride ∷ strides) (map (λ (index : List ℕ). i ∷ index) vs)) e
+    ∙ ap (λ (xs : List ℕ). bytes_at size b (base + i * stride + distance v strides) ++ xs) (joined-row size b base i stride strides vs)
+
+-- all rows
+joined-rows : (size : ℕ) (b : List ℕ) (base stride : ℕ) (strides : List ℕ) (vs : List (List ℕ)) (k n : ℕ)
+    → joined size b base (stride ∷ strides) (flat_map (λ i. map (λ (index : List ℕ). i ∷ index) vs) (range_with_len k n))
+    ≡ flat_map (λ i. joined size b (base + i * stride) strides vs) (range_with_len k n)
+joined-rows size b base stride strides vs k zero = refl
+joined-rows size b base stride strides vs k (suc n) =
+    joined-append size b base (stride ∷ strides) (map (λ (index : List ℕ). k ∷ index) vs) (flat_map (λ i. map (λ (index : List ℕ). i ∷ index) vs) (range_with_len (k + 1) n))
+    ∙ ap (λ (xs : List ℕ). xs ++ joined size b base (stride ∷ strides) (flat_map (λ i. map (λ (index : List ℕ). i ∷ index) vs) (range_with_len (k + 1) n))) (joined-row size b base k stride strides vs)
+    ∙ ap (λ (xs : List ℕ). joined size b (base + k * stride) strides vs ++ xs) (joined-rows size b base stride strides vs (k + 1) n)
+
+flat_map-same : (f g : ℕ → List ℕ) (xs : List ℕ) → ((x : ℕ) → f x ≡ g x) → flat_map f xs ≡ flat_map g xs
+flat_map-same f g [] same = refl
+flat_map-same f g (x ∷ xs) same = ap (λ (ys : List ℕ). ys ++ flat_map f xs) (same x) ∙ ap (λ (ys : List ℕ). g x ++ ys) (flat_map-same f g xs same)
+
+-- ---- one slab
+
+-- runs that lie side by side are one run
+runs : (b : List ℕ) (base len : ℕ) (k n : ℕ) → flat_map (λ i. take len (drop (base + i * len) b)) (range_with_len k n) ≡ take (n * len) (drop (base + k * len) b)
+runs b base len k zero = let e : 0 ≡ 0 * len = omega arith in ap (λ (m : ℕ). take m (drop (base + k * len) b)) e
+runs b base len k (suc n) =
+    let o = base + k * len in
+    let next : base + (k + 1) * len ≡ o + len = omega arith in
+    let all : len + n * len ≡ suc n * len = omega arith in
+    ap (λ (xs : List ℕ). take len (drop o b) ++ xs) (runs b base len (k + 1) n ∙ ap (λ (m : ℕ). take (n * len) (drop m b)) next ∙ ap (take (n * len)) (sym (drop-drop len o b)))
+    ∙ sym (take-add len (n * len) (drop o b))
+    ∙ ap (λ (m : ℕ). take m (drop o b)) all
+
+-- the values of a slab are one run of bytes
+slab-run : (size : ℕ) (b : List ℕ) (base : ℕ) (lens : List ℕ) → joined size b base (slab_strides size lens) (vectors_below lens) ≡ take (product lens * size) (drop base b)
+slab-run size b base [] =
+    let e : base + 0 ≡ base = omega arith in
+    let f : size ≡ 1 * size = omega arith in
+    append-nil (bytes_at size b (base + 0)) ∙ ap (bytes_at size b) e ∙ ap (λ (m : ℕ). take m (drop base b)) f
+slab-run size b base (n ∷ lens) =
+    let len = size * product lens in
+    let f : product lens * size ≡ len = omega arith in
+    let g : n * len ≡ n * product lens * size = omega arith in
+    let h : base + 0 * len ≡ base = omega arith in
+    joined-rows size b base len (slab_strides size lens) (vectors_below lens) 0 n
+    ∙ flat_map-same _ (λ i. take len (drop (base + i * len) b)) (range_with_len 0 n)
+    (λ i. slab-run size b (base + i * len) lens ∙ ap (λ (m : ℕ). take m (drop (base + i * len) b)) f)
+    ∙ runs b base len 0 n
+    ∙ ap (λ (m : ℕ). take (n * len) (drop m b)) h ∙ ap (λ (m : ℕ). take m (drop base b)) g
+
+-- ---- of a variable
+
+-- the bytes of the values of a variable without records are its one slab
+pub fixed-bytes : (h : Header) (b : List ℕ) (var : Var) (n : ℕ) → is_record_var h.dims var ≡ false
+    → concat (stored_bytes h b var n) ≡ take (slab_size h.dims var) (drop var.begin_at b)
+unfolding value_offsets
+fixed-bytes h b var n fixed = at_kind (is_record_var h.dims var) fixed
+  where
+    at_kind : (kind : Bool) → kind ≡ false
+        → joined (size_of var.ty) b var.begin_at (if kind then record_size h ∷ slab_strides (size_of var.ty) (slab_lens h.dims var.dimids) else slab_strides (size_of var.ty) (slab_lens h.dims var.dimids))
+        (vectors_below (if kind then n ∷ slab_lens h.dims var.dimids else slab_lens h.dims var.dimids))
+        ≡ take (slab_size h.dims var) (drop var.begin_at b)
+    at_kind true e = cc
+    at_kind false e = slab-run (size_of var.ty) b var.begin_at (slab_lens h.dims var.dimids)
+
+-- those of a record variable are its slabs, a record size apart
+pub record-bytes : (h : Header) (b : List ℕ) (var : Var) (n : ℕ) → is_record_var h.dims var ≡ true
+    → concat (stored_bytes h b var n) ≡ flat_map (λ r. take (slab_size h.dims var) (drop (var.begin_at + r * record_size h) b)) (range_with_len 0 n)
+unfolding value_offsets
+record-bytes h b var n growing = at_kind (is_record_var h.dims var) growing
+  where
+    at_kind : (kind : Bool) → kind ≡ true
+        → joined (size_of var.ty) b var.begin_at (if kind then record_size h ∷ slab_strides (size_of var.ty) (slab_lens h.dims var.dimids) else slab_strides (size_of var.ty) (slab_lens h.dims var.dimids))
+        (vectors_below (if kind then n ∷ slab_lens h.dims var.dimids else slab_lens h.dims var.dimids))
+        ≡ flat_map (λ r. take (slab_size h.dims var) (drop (var.begin_at + r * record_size h) b)) (range_with_len 0 n)
+    at_kind false e = cc
+    at_kind true e =
+        let lens = slab_lens h.dims var.dimids in
+        let size = size_of var.ty in
+        joined-rows size b var.begin_at (record_size h) (slab_strides size lens) (vectors_below lens) 0 n
+        ∙ flat_map-same _ (λ r. take (product lens * size) (drop (var.begin_at + r * record_size h) b)) (range_with_len 0 n)
+        (λ r. slab-run size b (var.begin_at + r * record_size h) lens)
+
+-- ---- missing values
+
+-- the value of this size at an offset ends within so many bytes
+abbrev EndsIn : ℕ → ℕ → ℕ → Type 0
+EndsIn size len offset = offset + size ≤ len
+
+abbrev AllEnd : ℕ → ℕ → ℕ → List ℕ → List (List ℕ) → Type 0
+AllEnd size len base strides vectors = All (EndsIn size len) (map (at base strides) vectors)
+
+end-append : (size len base : ℕ) (strides : List ℕ) (xs ys : List (List ℕ)) → AllEnd size len base strides xs → AllEnd size len base strides ys → AllEnd size len base strides (xs ++ ys)
+end-append size len base strides xs ys p q =
+    subst (All (EndsIn size len)) (sym (map-append (at base strides) xs ys)) (All-append (EndsIn size len) (map (at base strides) xs) (map (at base strides) ys) p q)
+
+rows-same : (base i stride : ℕ) (strides : List ℕ) (vs : List (List ℕ)) → map (at base (stride ∷ strides)) (map (λ (index : List ℕ). i ∷ index) vs) ≡ map (at (base + i * stride) strides) vs
+rows-same base i stride strides [] = refl
+rows-same base i stride strides (v ∷ vs) =
+    let e : base + (i * stride + distance v strides) ≡ base + i * stride + distance v strides = omega arith in
+    ap (λ (o : ℕ). o ∷ map (at base (stride ∷ strides)) (map (λ (index : List ℕ). i ∷ index) vs)) e
+    ∙ ap (λ (xs : List ℕ). (base + i * stride + distance v strides) ∷ xs) (rows-same base i stride strides vs)
+
+end-rows : (size len base stride : ℕ) (strides : List ℕ) (vs : List (List ℕ)) (k n : ℕ)
+    → ((i : ℕ) → i < k + n → AllEnd size len (base + i * stride) strides vs)
+    → AllEnd size len base (stride ∷ strides) (flat_map (λ i. map (λ (index : List ℕ). i ∷ index) vs) (range_with_len k n))
+end-rows size len base stride strides vs k zero each = All-nil _
+end-rows size len base stride strides vs k (suc n) each =
+    end-append size len base (stride ∷ strides) (map (λ (index : List ℕ). k ∷ index) vs) (flat_map (λ i. map (λ (index : List ℕ). i ∷ index) vs) (range_with_len (k + 1) n))
+    (subst (All (EndsIn size len)) (sym (rows-same base k stride strides vs)) (each k (omega arith)))
+    (end-rows size len base stride strides vs (k + 1) n (λ i lt. each i (omega arith)))
+
+slab-ends : (size len base : ℕ) (lens : List ℕ) → base + product lens * size ≤ len → AllEnd size len base (slab_strides size lens) (vectors_below lens)
+slab-ends size len base [] within = All-cons (EndsIn size len) (base + 0) [] (omega arith) (All-nil _)
+slab-ends size len base (n ∷ lens) within =
+    let s = size * product lens in
+    end-rows size len base s (slab_strides size lens) (vectors_below lens) 0 n (λ i lt.
+    let up : (i + 1) * s ≤ n * s = mul-le-mul_right s (let h : i + 1 ≤ n = omega arith in h) in
+    let a : (i + 1) * s ≡ i * s + s = omega arith in
+    let b : n * s ≡ n * product lens * size = omega arith in
+    let c : product lens * size ≡ s = omega arith in
+    slab-ends size len (base + i * s) lens (omega arith))
+
+none-missing : (size len : ℕ) (xs : List ℕ) → All (EndsIn size len) xs → position (ends_behind size len) xs ≡ None
+none-missing size len xs all =
+    none-found (ends_behind size len) xs (position_or_len_is (ends_behind size len) xs (length xs) 0 (omega arith)
+    (λ j lt. le-ltb len (get_or xs j 0 + size) (All-get_or (EndsIn size len) xs j 0 lt all)) (λ lt. absurd (omega arith)))
+
+pub fixed-whole : (h : Header) (b : List ℕ) (var : Var) (n : ℕ) → is_record_var h.dims var ≡ false
+    → var.begin_at + slab_size h.dims var ≤ length b → first_missing h b var n ≡ None
+unfolding value_offsets
+fixed-whole h b var n fixed within = none-missing (size_of var.ty) (length b) _ (at_kind (is_record_var h.dims var) fixed)
+  where
+    lens : List ℕ
+    lens = slab_lens h.dims var.dimids
+
+    at_kind : (kind : Bool) → kind ≡ false
+        → AllEnd (size_of var.ty) (length b) var.begin_at (if kind then record_size h ∷ slab_strides (size_of var.ty) lens else slab_strides (size_of var.ty) lens)
+        (vectors_below (if kind then n ∷ lens else lens))
+    at_kind true e = cc
+    at_kind false e = slab-ends (size_of var.ty) (length b) var.begin_at lens within
+
+pub record-whole : (h : Header) (b : List ℕ) (var : Var) (n : ℕ) → is_record_var h.dims var ≡ true
+    → ((r : ℕ) → r < n → var.begin_at + r * record_size h + slab_size h.dims var ≤ length b) → first_missing h b var n ≡ None
+unfolding value_offsets
+record-whole h b var n growing within = none-missing (size_of var.ty) (length b) _ (at_kind (is_record_var h.dims var) growing)
+  where
+    lens : List ℕ
+    lens = slab_lens h.dims var.dimids
+
+    at_kind : (kind : Bool) → kind ≡ true
+        → AllEnd (size_of var.ty) (length b) var.begin_at (if kind then record_size h ∷ slab_strides (size_of var.ty) lens else slab_strides (size_of var.ty) lens)
+        (vectors_below (if kind then n ∷ lens else lens))
+    at_kind false e = cc
+    at_kind true e = end-rows (size_of var.ty) (length b) var.begin_at (record_size h) (slab_strides (size_of var.ty) lens) (vectors_below lens) 0 n
+        (λ r lt. slab-ends (size_of var.ty) (length b) (var.begin_at + r * record_size h) lens (within r (omega arith)))

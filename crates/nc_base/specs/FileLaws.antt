@@ -1,0 +1,25 @@
+-- What holds of the file of a dataset.
+use Rattle.std.specs.Prelude.{ℕ, ◌≡◌, ◌↔◌, List}
+use Rattle.nc_base.specs.declared.dataset.Dataset.{Dataset}
+use Rattle.nc_base.specs.Headers.{IsGood}
+use Rattle.nc_base.specs.Places.{HoldsDataset}
+use Rattle.nc_base.specs.Dump.{Options, Ending, IsDump, IsText}
+use Rattle.nc_base.specs.GeneratedFile.{Fits, file_of}
+
+-- the file of each good dataset that fits holds that dataset
+abbrev pub FilesHoldTheirDatasets : Type 0
+FilesHoldTheirDatasets = (d : Dataset) → IsGood d → Fits d.header → HoldsDataset (file_of d) d
+
+-- no bytes hold two datasets
+abbrev pub FilesHoldOneDataset : Type 0
+FilesHoldOneDataset = (bytes : List ℕ) (d other : Dataset) → HoldsDataset bytes d → HoldsDataset bytes other → d ≡ other
+
+-- the dump of a file that holds a dataset is the text of that dataset, under all options
+abbrev pub FilesAreDumpedAsTheirText : Type 0
+FilesAreDumpedAsTheirText = (bytes : List ℕ) (d : Dataset) → HoldsDataset bytes d
+    → (o : Options) (text : List ℕ) (ending : Ending) → IsDump bytes o text ending ↔ IsText d o text ending
+
+-- and so is the dump of the file of a good dataset that fits
+abbrev pub GeneratedFilesAreDumped : Type 0
+GeneratedFilesAreDumped = (d : Dataset) → IsGood d → Fits d.header
+    → (o : Options) (text : List ℕ) (ending : Ending) → IsDump (file_of d) o text ending ↔ IsText d o text ending

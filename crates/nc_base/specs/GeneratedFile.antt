@@ -1,0 +1,152 @@
+-- The file of a dataset: the one spelling of its header, and its values as one concatenation.
+use Rattle.std.specs.Prelude.{ℕ, ◌+◌, ◌-◌, ◌*◌, ◌/◌, ◌^◌, ◌<◌, ◌==◌, Bool, false, nat_lt, not, if◌then◌else◌, List, [], ◌∷◌, ◌++◌, length, filter, take, drop, replicate, All}
+use Rattle.std.specs.Int.{w32, to_be_bytes}
+use Rattle.std.specs.List.{concat, flat_map, range_with_len}
+use Rattle.nc_base.specs.declared.header.Att.{Att}
+use Rattle.nc_base.specs.declared.header.Dim.{Dim}
+use Rattle.nc_base.specs.declared.header.Var.{Var}
+use Rattle.nc_base.specs.declared.header.Header.{Header}
+use Rattle.nc_base.specs.declared.header.NumRecs.{NumRecs}
+use Rattle.nc_base.specs.declared.header.NumRecs.TheVariants.{Known, Streaming}
+use Rattle.nc_base.specs.declared.dataset.Dataset.{Dataset}
+use Rattle.nc_base.specs.declared.version.Version.{Version}
+use Rattle.nc_base.specs.declared.version.Version.TheVariants.{Cdf5}
+use Rattle.nc_base.specs.Bytes.{padding_len}
+use Rattle.nc_base.specs.Types.{code_of, size_of}
+use Rattle.nc_base.specs.Numbers.{bytes_of_number}
+use Rattle.nc_base.specs.Versions.{version_byte, count_width, offset_width, offset_limit, streaming_mark}
+use Rattle.nc_base.specs.Sizes.{is_record_var, is_narrow, slab_size, padded_size, padded_total, record_vars}
+use Rattle.nc_base.specs.Fill.{fill_value}
+use Rattle.nc_base.specs.Grammar.{dimension_tag, variable_tag, attribute_tag}
+
+-- ---- the spelling of a header
+
+abbrev pub count_spelling : Version → ℕ → List ℕ
+count_spelling v n = to_be_bytes (count_width v) n
+
+-- a number of 32 bits in every version: a tag or the code of a type
+unfoldable pub word_spelling : ℕ → List ℕ
+word_spelling n = to_be_bytes w32 n
+
+-- magic
+unfoldable pub magic_spelling : Version → List ℕ
+magic_spelling v = 67 ∷ 68 ∷ 70 ∷ version_byte v ∷ []
+
+-- bytes, and zeros up to the next multiple of four
+abbrev pub zero_padded : List ℕ → List ℕ
+zero_padded bytes = bytes ++ replicate (padding_len (length bytes)) 0
+
+abbrev pub name_spelling : Version → List ℕ → List ℕ
+name_spelling v name = count_spelling v (length name) ++ zero_padded name
+
+-- what stands before n elements: their tag, and their number; of none ABSENT, whose tag is 0 too
+abbrev pub list_front : Version → ℕ → ℕ → List ℕ
+list_front v tag n = word_spelling (if n == 0 then 0 else tag) ++ count_spelling v n
+
+-- a list
+abbrev pub list_spelling : {A : Type 0} → Version → ℕ → (A → List ℕ) → List A → List ℕ
+list_spelling v tag spelling xs = list_front v tag (length xs) ++ flat_map spelling xs
+
+unfoldable pub dim_spelling : Version → Dim → List ℕ
+dim_spelling v dim = name_spelling v dim.name ++ count_spelling v dim.len
+
+unfoldable pub att_spelling : Version → Att → List ℕ
+att_spelling v att =
+    name_spelling v att.name ++ (word_spelling (code_of att.ty) ++ (count_spelling v (length att.vals / size_of att.ty) ++ zero_padded att.vals))
+
+abbrev pub atts_spelling : Version → List Att → List ℕ
+atts_spelling v atts = list_spelling v attribute_tag (att_spelling v) atts
+
+-- vsize: the padded slab, or the greatest number of 32 bits where it doesn't fit them
+abbrev pub vsize_of : Version → ℕ → ℕ
+vsize_of Cdf5 padded = padded
+vsize_of v padded = if nat_lt padded (2 ^ 32) then padded else (2 ^ 32 - 1)
+
+unfoldable pub var_spelling : Version → List Dim → Var → List ℕ
+var_spelling v dims var =
+    name_spelling v var.name ++ ((count_spelling v (length var.dimids) ++ flat_map (count_spelling v) var.dimids)
+    ++ (atts_spelling v var.atts ++ (word_spelling (code_of var.ty)
+    ++ (count_spelling v (vsize_of v (padded_size dims var)) ++ to_be_bytes (offset_width v) var.begin_at))))
+
+abbrev pub numrecs_spelling : Version → NumRecs → List ℕ
+numrecs_spelling v (Known n) = count_spelling v n
+numrecs_spelling v Streaming = count_spelling v (streaming_mark v)
+
+unfoldable pub header_spelling : Header → List ℕ
+header_spelling h =
+    magic_spelling h.version ++ (numrecs_spelling h.version h.numrecs
+    ++ (list_spelling h.version dimension_tag (dim_spelling h.version) h.dims
+    ++ (atts_spelling h.version h.gatts ++ list_spelling h.version variable_tag (var_spelling h.version h.dims) h.vars)))
+
+-- ---- the values
+
+-- so many bytes of a variable's fill value
+unfoldable pub fill_bytes : Var → ℕ → List ℕ
+fill_bytes var n = concat (replicate (n / size_of var.ty) (bytes_of_number var.ty (fill_value var)))
+
+-- a slab, and fill values up to the next multiple of four
+unfoldable pub padded_slab : Var → List ℕ → List ℕ
+padded_slab var slab = slab ++ fill_bytes var (padding_len (length slab))
+
+-- the blocks of the variables that aren't record variables, in header order
+abbrev pub blocks : List Dim → List Var → List (List ℕ) → List ℕ
+blocks dims (var ∷ vars) (array ∷ arrays) = (if is_record_var dims var then [] else padded_slab var array) ++ blocks dims vars arrays
+blocks dims vars arrays = []
+
+-- there is one record variable alone, and its values take less than four bytes: its slabs stand without padding
+abbrev pub is_sole_narrow : List Var → Bool
+is_sole_narrow (var ∷ []) = is_narrow var
+is_sole_narrow vars = false
+
+-- the slab of record r in a variable's array
+abbrev pub slab_in : List Dim → Var → List ℕ → ℕ → List ℕ
+slab_in dims var array r = take (slab_size dims var) (drop (r * slab_size dims var) array)
+
+-- record r: the slabs of the record variables, in header order
+abbrev pub record_of : Bool → List Dim → ℕ → List Var → List (List ℕ) → List ℕ
+record_of is_sole dims r (var ∷ vars) (array ∷ arrays) =
+    (if is_record_var dims var then (if is_sole then slab_in dims var array r else padded_slab var (slab_in dims var array r)) else [])
+    ++ record_of is_sole dims r vars arrays
+record_of is_sole dims r vars arrays = []
+
+-- how many records a header tells
+abbrev pub known_records : NumRecs → ℕ
+known_records (Known n) = n
+known_records Streaming = 0
+
+-- the values of a header's variables: the blocks, and behind them one record after the other
+unfoldable pub data_of : Header → List (List ℕ) → List ℕ
+data_of h arrays =
+    blocks h.dims h.vars arrays
+    ++ flat_map (λ r. record_of (is_sole_narrow (record_vars h.dims h.vars)) h.dims r h.vars arrays) (range_with_len 0 (known_records h.numrecs))
+
+-- ---- the file
+
+abbrev pub fixed_vars : List Dim → List Var → List Var
+fixed_vars dims vars = filter (λ (var : Var). not (is_record_var dims var)) vars
+
+-- How many bytes stand before the first value of a variable: the header, and the padded slabs that stand before it. Those
+-- are the slabs of the other variables before it, and for a record variable those of all the others and, in the first
+-- record, of the record variables before it.
+abbrev pub begin_behind : Header → List Var → Var → ℕ
+begin_behind h before var =
+    length (header_spelling h)
+    + (if is_record_var h.dims var then padded_total h.dims (fixed_vars h.dims h.vars) + padded_total h.dims (record_vars h.dims before)
+    else padded_total h.dims (fixed_vars h.dims before))
+
+-- these variables, behind those before them, each with its begin
+abbrev pub vars_behind : Header → List Var → List Var → List Var
+vars_behind h before [] = []
+vars_behind h before (var ∷ vars) = record var { begin_at = begin_behind h before var } ∷ vars_behind h (before ++ var ∷ []) vars
+
+-- the header with the begin of each variable
+unfoldable pub with_begins : Header → Header
+with_begins h = record h { vars = vars_behind h [] h.vars }
+
+-- each begin fits its field
+abbrev pub Fits : Header → Type 0
+Fits h = All (λ (var : Var). var.begin_at < offset_limit h.version) (with_begins h).vars
+
+-- the file of a dataset
+unfoldable pub file_of : Dataset → List ℕ
+file_of d = header_spelling (with_begins d.header) ++ data_of d.header d.arrays
