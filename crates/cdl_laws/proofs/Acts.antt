@@ -1,0 +1,232 @@
+-- What the statements of a dump make of a state.
+use Rattle.std.proofs.Common.{◌≡◌, ℕ, zero, suc, ◌-◌, ◌<◌, ◌≤◌, true, false, List, [], ◌∷◌, ◌++◌, length, map, sym, ◌∙◌, ap, refl, arith, append_assoc, append-nil}
+use Rattle.std.specs.Prelude.{ℤ, pos, unsigned_abs, IsTrue, ◌&&◌, ◌==◌, if◌then◌else◌, nat_lt, nat_le, None, Some, Result, Ok}
+use Rattle.std.specs.List.{flat_map, list_any, position, position_or_len}
+use Rattle.std.specs.Ordering.{int_eq}
+use Rattle.std.specs.Str.{bytes_eq}
+use Rattle.std.proofs.lemmas.Bool.{false≢true, eqb-true}
+use Rattle.std.proofs.lemmas.Bool.Decides.{Decides-int_eq}
+use Rattle.std.proofs.lemmas.Slice.Eq.{bytes_eq-Decides}
+use Rattle.nc_base.specs.declared.header.Att.{Att}
+use Rattle.nc_base.specs.declared.header.Dim.{Dim}
+use Rattle.nc_base.specs.declared.nc_type.NcType.{NcType}
+use Rattle.nc_base.specs.declared.nc_type.NcType.TheVariants.{Byte, Char, Short, Int, Ubyte, Ushort, Uint, Int64, Uint64}
+use Rattle.nc_base.specs.declared.version.Version.{Version}
+use Rattle.nc_base.specs.declared.version.Version.TheVariants.{Cdf1, Cdf2, Cdf5}
+use Rattle.nc_base.specs.Dump.{has_name}
+use Rattle.nc_base.specs.Headers.{has_record_dim, IsDimid, AreDimids}
+use Rattle.nc_base.specs.Names.{IsName, is_name}
+use Rattle.nc_base.specs.Sizes.{is_record_dim}
+use Rattle.nc_base.specs.Types.{type_word}
+use Rattle.nc_base.specs.Versions.{count_limit, has_type}
+use Rattle.cdl_text.specs.declared.fault.CdlKind.{CdlKind}
+use Rattle.cdl_text.specs.declared.fault.CdlKind.TheVariants.{UnknownDimension, BadShape}
+use Rattle.cdl_text.specs.Shapes.{Value, Number, Characters}
+use Rattle.cdl_parse.specs.State.{Draft, add_dim, dim_len_of, add_dimid, add_var, type_of, add_att, add_constant, first_type, same_type, at_named, at_variable, in_turn, when, found, ◌>>=◌, between, fits}
+use Rattle.cdl_laws.proofs.Bools.{and_both, or_left, or_right}
+use Rattle.cdl_laws.proofs.Lists.{Each}
+use Rattle.cdl_laws.proofs.Texts.{word}
+use Rattle.cdl_laws.proofs.Words.{and_false}
+use Rattle.cdl_laws.proofs.ValueTexts.{turn}
+use Rattle.cdl_laws.proofs.Declarations.{numbers_said}
+use Rattle.cdl_laws.specs.PieceLaws.{extent_said, said_dim}
+use Rattle.nc_base.specs.Sayable.{AreDistinct}
+use Rattle.nc_base.specs.Numbers.{bytes_of_number}
+
+-- ---- names that don't stand before
+
+abbrev pub dim_names : List Dim → List (List ℕ)
+dim_names dims = map (λ (d : Dim). d.name) dims
+
+-- ---- dimensions
+
+abbrev pub record_once : List Dim → ℕ → Type 0
+record_once dims len = len ≡ 0 → has_record_dim dims ≡ false
+
+between_is : (m n : ℕ) → 0 < n → n ≤ m → between (pos 1) (pos m) (pos n) ≡ true
+between_is m n some small = and_both (nat_le 1 n) (nat_le n m) (grind (arith, some)) (grind (arith, small))
+
+not_zero : (n : ℕ) → (n == 0) ≡ false → int_eq (pos n) (pos 0) ≡ false
+not_zero n h =
+    elim (int_eq (pos n) (pos 0)) as (λ b. int_eq (pos n) (pos 0) ≡ b → b ≡ false) [
+      | true ↦ (λ e. absurd (false≢true (sym h ∙ ap (λ z. unsigned_abs z == 0) ((Decides-int_eq (pos n) (pos 0)).0 e))))
+      | false ↦ (λ e. refl)
+    ] refl
+
+positive : (n : ℕ) → (n == 0) ≡ false → 0 < n
+positive n h = grind (arith, h)
+
+len_is : (v : Version) (dims : List Dim) (len : ℕ) → len < count_limit v → record_once dims len → dim_len_of v dims (extent_said len) ≡ Ok len
+len_is v dims len small once =
+    elim (len == 0) as (λ w. (len == 0) ≡ w → dim_len_of v dims (if w then None else Some (pos len)) ≡ Ok len) [
+      | true ↦ (λ e. rw (once (eqb-true len 0 e)) (ap (λ n. Ok n) (sym (eqb-true len 0 e))))
+      | false ↦ (λ e. rw (not_zero len e) (rw (between_is (count_limit v - 1) len (positive len e) (omega (arith, small))) refl))
+    ] refl
+
+pub dim_added : (v : Version) (dims : List Dim) (dim : Dim) → IsName dim.name → list_any (λ (e : Dim). bytes_eq e.name dim.name) dims ≡ false → dim.len < count_limit v → record_once dims dim.len →
+    add_dim v dims (said_dim dim) ≡ Ok (dims ++ dim ∷ [])
+unfolding add_dim
+dim_added v dims dim name new small once =
+    let named : is_name dim.name ≡ true = name in
+    rw (named) (rw (new) (ap (λ r. r >>= (λ len. Ok (dims ++ record { name = dim.name; len = len } ∷ []))) (len_is v dims dim.len small once)))
+
+-- ---- attributes
+
+abbrev pub is_new_att : List Att → Att → Type 0
+is_new_att atts att = list_any (λ (a : Att). bytes_eq a.name att.name) atts ≡ false
+
+-- each value fits, and its bytes are these
+abbrev pub numbers_bytes : NcType → List ℤ → List ℕ
+numbers_bytes ty xs = flat_map (bytes_of_number ty) xs
+
+same_self : (ty : NcType) → same_type ty ty ≡ true
+same_self Byte = refl
+same_self Char = refl
+same_self Short = refl
+same_self Int = refl
+same_self Ubyte = refl
+same_self Ushort = refl
+same_self Uint = refl
+same_self Int64 = refl
+same_self Uint64 = refl
+
+number_added : (ty : NcType) (before : List ℕ) (x : ℤ) → fits ty x ≡ true → add_constant ty before (Number (record { value = x; ty = ty })) ≡ Ok (before ++ bytes_of_number ty x)
+number_added ty before x fit = rw (same_self ty) (rw (fit) refl)
+
+pub numbers_added : (ty : NcType) (before : List ℕ) (xs : List ℤ) → Each (λ x. fits ty x ≡ true) xs → in_turn (add_constant ty) before (numbers_said ty xs) ≡ Ok (before ++ numbers_bytes ty xs)
+numbers_added ty before [] fit = ap (λ bs. Ok bs) (sym (append-nil before))
+numbers_added ty before (x ∷ xs) fit =
+    turn (add_constant ty) before (before ++ bytes_of_number ty x) (Number (record { value = x; ty = ty })) (numbers_said ty xs) (number_added ty before x fit.0) ∙
+    numbers_added ty (before ++ bytes_of_number ty x) xs fit.1 ∙ ap (λ bs. Ok bs) (append_assoc before (bytes_of_number ty x) (numbers_bytes ty xs))
+
+pub chars_added : (before : List ℕ) (all : List (List ℕ)) → in_turn (add_constant Char) before (map Characters all) ≡ Ok (before ++ flat_map (λ (b : List ℕ). b) all)
+chars_added before [] = ap (λ bs. Ok bs) (sym (append-nil before))
+chars_added before (b ∷ all) =
+    turn (add_constant Char) before (before ++ b) (Characters b) (map Characters all) refl ∙ chars_added (before ++ b) all ∙ ap (λ bs. Ok bs) (append_assoc before b (flat_map (λ (c : List ℕ). c) all))
+
+-- an attribute that its constants give
+pub att_added : (atts : List Att) (att : Att) (said : List Value) → IsName att.name → is_new_att atts att → first_type said ≡ att.ty → in_turn (add_constant att.ty) [] said ≡ Ok att.vals →
+    add_att att.name said atts ≡ Ok (atts ++ att ∷ [])
+unfolding add_att
+att_added atts att said name new ty vals =
+    let named : is_name att.name ≡ true = name in
+    rw (named) (rw (new) (
+    ap (λ t. in_turn (add_constant t) [] said >>= (λ vs. Ok (atts ++ record { name = att.name; ty = t; vals = vs } ∷ []))) ty ∙
+    ap (λ r. r >>= (λ vs. Ok (atts ++ record { name = att.name; ty = att.ty; vals = vs } ∷ []))) vals))
+
+-- ---- the variable of a name
+
+-- no variable before has the name
+abbrev pub no_draft : List ℕ → List Draft → Type 0
+no_draft name ds = list_any (λ (d : Draft). bytes_eq d.var.name name) ds ≡ false
+
+named_past : (name : List ℕ) (f : Draft → Result Draft CdlKind) (before ds es : List Draft) → no_draft name before → at_named name f ds ≡ Ok es → at_named name f (before ++ ds) ≡ Ok (before ++ es)
+named_past name f [] ds es new h = h
+named_past name f (b ∷ before) ds es new h =
+    rw (or_left (bytes_eq b.var.name name) (list_any (λ (d : Draft). bytes_eq d.var.name name) before) new)
+    (ap (λ r. r >>= (λ xs. Ok (b ∷ xs))) (named_past name f before ds es (or_right (bytes_eq b.var.name name) (list_any (λ (d : Draft). bytes_eq d.var.name name) before) new) h))
+
+same_bytes : (name : List ℕ) → bytes_eq name name ≡ true
+same_bytes name = (bytes_eq-Decides name name).1 refl
+
+named_here : (f : Draft → Result Draft CdlKind) (d e : Draft) (ds : List Draft) → f d ≡ Ok e → at_named d.var.name f (d ∷ ds) ≡ Ok (e ∷ ds)
+named_here f d e ds h = rw (same_bytes d.var.name) (ap (λ r. r >>= (λ x. Ok (x ∷ ds))) h)
+
+-- what becomes of the variable behind others
+pub variable_is : (f : Draft → Result Draft CdlKind) (before : List Draft) (d e : Draft) (after : List Draft) → IsName d.var.name → no_draft d.var.name before → f d ≡ Ok e →
+    at_variable d.var.name f (before ++ d ∷ after) ≡ Ok (before ++ e ∷ after)
+unfolding at_variable
+variable_is f before d e after name new h =
+    let named : is_name d.var.name ≡ true = name in
+    rw (named) (named_past d.var.name f before (d ∷ after) (e ∷ after) new (named_here f d e after h))
+
+-- ---- declarations
+
+pub type_is : (v : Version) (ty : NcType) → has_type v ty ≡ true → type_of v (word (type_word ty)) ≡ Ok ty
+unfolding type_of
+type_is Cdf5 Byte h = refl
+type_is Cdf5 Char h = refl
+type_is Cdf5 Short h = refl
+type_is Cdf5 Int h = refl
+type_is Cdf5 Ubyte h = refl
+type_is Cdf5 Ushort h = refl
+type_is Cdf5 Uint h = refl
+type_is Cdf5 Int64 h = refl
+type_is Cdf5 Uint64 h = refl
+type_is Cdf1 Byte h = refl
+type_is Cdf1 Char h = refl
+type_is Cdf1 Short h = refl
+type_is Cdf1 Int h = refl
+type_is Cdf1 _ h = cc
+type_is Cdf2 Byte h = refl
+type_is Cdf2 Char h = refl
+type_is Cdf2 Short h = refl
+type_is Cdf2 Int h = refl
+type_is Cdf2 _ h = cc
+
+-- the name of a dimension
+abbrev pub name_at : List Dim → ℕ → List ℕ
+name_at [] k = []
+name_at (d ∷ dims) zero = d.name
+name_at (d ∷ dims) (suc k) = name_at dims k
+
+abbrev pub AreDistinctDims : List Dim → Type 0
+AreDistinctDims dims = AreDistinct (dim_names dims)
+
+other_name : (d : Dim) (dims : List Dim) (k : ℕ) → has_name (dim_names dims) d.name ≡ false → k < length dims → bytes_eq d.name (name_at dims k) ≡ false
+other_name d [] k new h = absurd (omega (arith, h))
+other_name d (e ∷ dims) zero new h =
+    elim (bytes_eq d.name e.name) as (λ b. bytes_eq d.name e.name ≡ b → b ≡ false) [
+      | true ↦ (λ q. absurd (false≢true (sym (or_left (bytes_eq e.name d.name) (has_name (dim_names dims) d.name) new) ∙ (bytes_eq-Decides e.name d.name).1 (sym ((bytes_eq-Decides d.name e.name).0 q)))))
+      | false ↦ (λ q. refl)
+    ] refl
+other_name d (e ∷ dims) (suc k) new h = other_name d dims k (or_right (bytes_eq e.name d.name) (has_name (dim_names dims) d.name) new) (omega (arith, h))
+
+place_is : (dims : List Dim) (k : ℕ) → AreDistinctDims dims → k < length dims → position_or_len (λ (d : Dim). bytes_eq d.name (name_at dims k)) dims ≡ k
+place_is [] k distinct h = absurd (omega (arith, h))
+place_is (d ∷ dims) zero distinct h = rw (same_bytes d.name) refl
+place_is (d ∷ dims) (suc k) distinct h =
+    rw (other_name d dims k distinct.0 (omega (arith, h))) (let ih = place_is dims k distinct.1 (omega (arith, h)) in omega (arith, ih))
+
+position_is : (dims : List Dim) (k : ℕ) → AreDistinctDims dims → k < length dims → position (λ (d : Dim). bytes_eq d.name (name_at dims k)) dims ≡ Some k
+position_is dims k distinct h = rw (place_is dims k distinct h) (let e : nat_lt k (length dims) ≡ true = grind (arith, h) in rw (e) refl)
+
+later_fixed : (dims : List Dim) (before : List ℕ) (k : ℕ) → (IsTrue (is_record_dim dims k) → before ≡ []) → (nat_lt 0 (length before) && is_record_dim dims k) ≡ false
+later_fixed dims before k first =
+    elim (is_record_dim dims k) as (λ b. is_record_dim dims k ≡ b → (nat_lt 0 (length before) && b) ≡ false) [
+      | true ↦ (λ e. ap (λ (bs : List ℕ). nat_lt 0 (length bs) && true) (first e))
+      | false ↦ (λ e. and_false (nat_lt 0 (length before)))
+    ] refl
+
+-- the names of the dimensions are valid
+abbrev pub HaveNames : List Dim → Type 0
+HaveNames dims = Each (λ (d : Dim). IsName d.name) dims
+
+pub name_valid : (dims : List Dim) (k : ℕ) → HaveNames dims → k < length dims → IsName (name_at dims k)
+name_valid [] k names h = absurd (omega (arith, h))
+name_valid (d ∷ dims) zero names h = names.0
+name_valid (d ∷ dims) (suc k) names h = name_valid dims k names.1 (omega (arith, h))
+
+id_added : (dims : List Dim) (before : List ℕ) (k : ℕ) → AreDistinctDims dims → HaveNames dims → IsDimid dims before k → add_dimid dims before (name_at dims k) ≡ Ok (before ++ k ∷ [])
+unfolding add_dimid
+id_added dims before k distinct names is =
+    let named : is_name (name_at dims k) ≡ true = name_valid dims k names is.known in
+    rw (named) (
+    ap (λ o. found o UnknownDimension >>= (λ j. when (nat_lt 0 (length before) && is_record_dim dims j) BadShape >>= (λ u. Ok (before ++ j ∷ [])))) (position_is dims k distinct is.known) ∙
+    rw (later_fixed dims before k is.record_first) refl)
+
+pub ids_added : (dims : List Dim) (before ids : List ℕ) → AreDistinctDims dims → HaveNames dims → AreDimids dims before ids → in_turn (add_dimid dims) before (map (name_at dims) ids) ≡ Ok (before ++ ids)
+ids_added dims before [] distinct names are = ap (λ bs. Ok bs) (sym (append-nil before))
+ids_added dims before (k ∷ ids) distinct names are =
+    turn (add_dimid dims) before (before ++ k ∷ []) (name_at dims k) (map (name_at dims) ids) (id_added dims before k distinct names are.0) ∙
+    ids_added dims (before ++ k ∷ []) ids distinct names are.1 ∙ ap (λ bs. Ok bs) (append_assoc before (k ∷ []) ids)
+
+abbrev pub bare_draft : List ℕ → List ℕ → List Att → NcType → Draft
+bare_draft name ids atts ty = record { var = record { name = name; dimids = ids; atts = atts; ty = ty; begin_at = 0 }; listed = None }
+
+pub var_added : (dims : List Dim) (ty : NcType) (drafts : List Draft) (name ids : List ℕ) → IsName name → no_draft name drafts → AreDistinctDims dims → HaveNames dims → AreDimids dims [] ids →
+    add_var dims ty drafts (record { name = name; dimensions = map (name_at dims) ids }) ≡ Ok (drafts ++ bare_draft name ids [] ty ∷ [])
+unfolding add_var
+var_added dims ty drafts name ids valid new distinct names are =
+    let named : is_name name ≡ true = valid in
+    rw (named) (rw (new) (ap (λ r. r >>= (λ is. Ok (drafts ++ bare_draft name is [] ty ∷ []))) (ids_added dims [] ids distinct names are)))

@@ -1,0 +1,182 @@
+-- The values of an attribute are read back.
+use Rattle.std.proofs.Common.{◌≡◌, ℕ, zero, suc, ◌+◌, ◌*◌, ◌/◌, ◌^◌, ◌<◌, ◌≤◌, true, false, List, [], ◌∷◌, ◌++◌, length, drop, take, map, sym, ◌∙◌, ap, refl, subst, arith, length-take, length-drop}
+use Rattle.std.specs.Prelude.{ℤ, pos, negsuc, unsigned_abs, if◌then◌else◌, nat_le, Ok}
+use Rattle.std.specs.List.{flat_map}
+use Rattle.std.proofs.Math.Nat.{mul-div_cancel}
+use Rattle.std.proofs.lemmas.Int.{ints}
+use Rattle.std.proofs.lemmas.List.{take-append-drop, get_or-drop}
+use Rattle.nc_base.specs.Bytes.{AreBytes}
+use Rattle.nc_base.specs.declared.header.Att.{Att}
+use Rattle.nc_base.specs.declared.nc_type.NcType.{NcType}
+use Rattle.nc_base.specs.declared.nc_type.NcType.TheVariants.{Byte, Char, Short, Int, Ubyte, Ushort, Uint, Int64, Uint64}
+use Rattle.nc_base.specs.declared.version.Version.{Version}
+use Rattle.nc_base.specs.Numbers.{numbers, numbers_from, number_of, bytes_of_number, IsInRange}
+use Rattle.nc_base.specs.Types.{size_of}
+use Rattle.nc_base.proofs.NumberLaws.{bytes_read_back, numbers_in_range}
+use Rattle.nc_base.specs.Headers.{IsSoundAtt}
+use Rattle.nc_base.specs.HeadText.{att_values, number_values, joined, without_trailing_nuls}
+use Rattle.nc_base.specs.Names.{IsName}
+use Rattle.nc_base.specs.ValueText.{is_char}
+use Rattle.nc_base.specs.Versions.{has_type}
+use Rattle.nc_base.specs.Sayable.{trimmed_att, HasSomeNumber}
+use Rattle.cdl_text.specs.Shapes.{Characters}
+use Rattle.cdl_parse.specs.State.{fits, in_turn, add_constant}
+use Rattle.cdl_laws.proofs.Acts.{numbers_added, chars_added}
+use Rattle.cdl_laws.proofs.Declarations.{IsListOf, chars_list, numbers_list, numbers_said, suffixed, first, others, all_bytes}
+use Rattle.cdl_laws.proofs.Wholes.{Speaks}
+use Rattle.cdl_laws.proofs.Lists.{Each, each_map}
+use Rattle.cdl_laws.proofs.Bools.{and_both}
+
+nat_le_true : (m n : ℕ) → m ≤ n → nat_le m n ≡ true
+nat_le_true m n h = grind (arith, h)
+
+fits_is : (ty : NcType) (z : ℤ) → IsInRange ty z → fits ty z ≡ true
+unfolding fits
+fits_is Byte (pos n) h = nat_le_true n 127 (let f : n < 128 = h.sfits in omega (arith, f))
+fits_is Byte (negsuc n) h = and_both (nat_le n 127) true (nat_le_true n 127 (let f : n < 128 = h.sfits in omega (arith, f))) refl
+fits_is Short (pos n) h = nat_le_true n 32767 (let f : n < 32768 = h.sfits in omega (arith, f))
+fits_is Short (negsuc n) h = and_both (nat_le n 32767) true (nat_le_true n 32767 (let f : n < 32768 = h.sfits in omega (arith, f))) refl
+fits_is Int (pos n) h = nat_le_true n 2147483647 (let f : n < 2147483648 = h.sfits in omega (arith, f))
+fits_is Int (negsuc n) h = and_both (nat_le n 2147483647) true (nat_le_true n 2147483647 (let f : n < 2147483648 = h.sfits in omega (arith, f))) refl
+fits_is Int64 (pos n) h = nat_le_true n 9223372036854775807 (let f : n < 9223372036854775808 = h.sfits in omega (arith, f))
+fits_is Int64 (negsuc n) h = and_both (nat_le n 9223372036854775807) true (nat_le_true n 9223372036854775807 (let f : n < 9223372036854775808 = h.sfits in omega (arith, f))) refl
+fits_is Char (pos n) h = and_both (nat_le 0 n) (nat_le n 255) (nat_le_true 0 n (omega arith)) (nat_le_true n 255 (omega (arith, ints, h.0, h.1)))
+fits_is Char (negsuc n) h = absurd (omega (arith, ints, h.0))
+fits_is Ubyte (pos n) h = and_both (nat_le 0 n) (nat_le n 255) (nat_le_true 0 n (omega arith)) (nat_le_true n 255 (omega (arith, ints, h.0, h.1)))
+fits_is Ubyte (negsuc n) h = absurd (omega (arith, ints, h.0))
+fits_is Ushort (pos n) h = and_both (nat_le 0 n) (nat_le n 65535) (nat_le_true 0 n (omega arith)) (nat_le_true n 65535 (omega (arith, ints, h.0, h.1)))
+fits_is Ushort (negsuc n) h = absurd (omega (arith, ints, h.0))
+fits_is Uint (pos n) h = and_both (nat_le 0 n) (nat_le n 4294967295) (nat_le_true 0 n (omega arith)) (nat_le_true n 4294967295 (omega (arith, ints, h.0, h.1)))
+fits_is Uint (negsuc n) h = absurd (omega (arith, ints, h.0))
+fits_is Uint64 (pos n) h = and_both (nat_le 0 n) (nat_le n 18446744073709551615) (nat_le_true 0 n (omega arith)) (nat_le_true n 18446744073709551615 (omega (arith, ints, h.0, h.1)))
+fits_is Uint64 (negsuc n) h = absurd (omega (arith, ints, h.0))
+
+small_is : (ty : NcType) (z : ℤ) → IsInRange ty z → unsigned_abs z < 2 ^ 64
+small_is Byte (pos n) h = let f : n < 128 = h.sfits in omega (arith, f)
+small_is Byte (negsuc n) h = let f : n < 128 = h.sfits in omega (arith, f)
+small_is Short (pos n) h = let f : n < 32768 = h.sfits in omega (arith, f)
+small_is Short (negsuc n) h = let f : n < 32768 = h.sfits in omega (arith, f)
+small_is Int (pos n) h = let f : n < 2147483648 = h.sfits in omega (arith, f)
+small_is Int (negsuc n) h = let f : n < 2147483648 = h.sfits in omega (arith, f)
+small_is Int64 (pos n) h = let f : n < 9223372036854775808 = h.sfits in omega (arith, f)
+small_is Int64 (negsuc n) h = let f : n < 9223372036854775808 = h.sfits in omega (arith, f)
+small_is Char (pos n) h = omega (arith, ints, h.0, h.1)
+small_is Char (negsuc n) h = absurd (omega (arith, ints, h.0))
+small_is Ubyte (pos n) h = omega (arith, ints, h.0, h.1)
+small_is Ubyte (negsuc n) h = absurd (omega (arith, ints, h.0))
+small_is Ushort (pos n) h = omega (arith, ints, h.0, h.1)
+small_is Ushort (negsuc n) h = absurd (omega (arith, ints, h.0))
+small_is Uint (pos n) h = omega (arith, ints, h.0, h.1)
+small_is Uint (negsuc n) h = absurd (omega (arith, ints, h.0))
+small_is Uint64 (pos n) h = omega (arith, ints, h.0, h.1)
+small_is Uint64 (negsuc n) h = absurd (omega (arith, ints, h.0))
+
+-- ---- the numbers that stand in bytes
+
+drop_bytes : (n : ℕ) (bytes : List ℕ) → AreBytes bytes → AreBytes (drop n bytes)
+drop_bytes n bytes h i = subst (λ b. b < 256) (sym (get_or-drop n bytes i 0)) (h (n + i))
+
+pub take_bytes : (n : ℕ) (bytes : List ℕ) → AreBytes bytes → AreBytes (take n bytes)
+take_bytes zero bytes h i = omega arith
+take_bytes (suc n) [] h i = omega arith
+take_bytes (suc n) (b ∷ bytes) h zero = h 0
+take_bytes (suc n) (b ∷ bytes) h (suc i) = take_bytes n bytes (λ j. h (suc j)) i
+
+size_some : (ty : NcType) → 0 < size_of ty
+size_some Byte = omega arith
+size_some Char = omega arith
+size_some Short = omega arith
+size_some Int = omega arith
+size_some Ubyte = omega arith
+size_some Ushort = omega arith
+size_some Uint = omega arith
+size_some Int64 = omega arith
+size_some Uint64 = omega arith
+
+len_take : (ty : NcType) (n : ℕ) (bytes : List ℕ) → length bytes ≡ suc n * size_of ty → length (take (size_of ty) bytes) ≡ size_of ty
+len_take ty n bytes h = let e = length-take (size_of ty) bytes in let g : suc n * size_of ty ≡ size_of ty + n * size_of ty = grind arith in omega (arith, e, h, g)
+
+len_drop : (ty : NcType) (n : ℕ) (bytes : List ℕ) → length bytes ≡ suc n * size_of ty → length (drop (size_of ty) bytes) ≡ n * size_of ty
+len_drop ty n bytes h = let e = length-drop (size_of ty) bytes in let g : suc n * size_of ty ≡ size_of ty + n * size_of ty = grind arith in omega (arith, e, h, g)
+
+pub numbers_back : (ty : NcType) (n : ℕ) (bytes : List ℕ) → AreBytes bytes → length bytes ≡ n * size_of ty → flat_map (bytes_of_number ty) (numbers_from ty n bytes) ≡ bytes
+numbers_back ty zero [] small h = refl
+numbers_back ty zero (b ∷ bytes) small h = absurd (let e : suc (length bytes) ≡ 0 * size_of ty = h in omega (arith, e))
+numbers_back ty (suc n) bytes small h =
+    ap (λ bs. bs ++ flat_map (bytes_of_number ty) (numbers_from ty n (drop (size_of ty) bytes))) (bytes_read_back ty (take (size_of ty) bytes) (take_bytes (size_of ty) bytes small) (len_take ty n bytes h)) ∙
+    ap (λ bs. take (size_of ty) bytes ++ bs) (numbers_back ty n (drop (size_of ty) bytes) (drop_bytes (size_of ty) bytes small) (len_drop ty n bytes h)) ∙
+    take-append-drop (size_of ty) bytes
+
+pub numbers_range : (ty : NcType) (n : ℕ) (bytes : List ℕ) → AreBytes bytes → length bytes ≡ n * size_of ty → Each (IsInRange ty) (numbers_from ty n bytes)
+numbers_range ty zero bytes small h = tt
+numbers_range ty (suc n) bytes small h =
+    (numbers_in_range ty (take (size_of ty) bytes) (take_bytes (size_of ty) bytes small) (len_take ty n bytes h), numbers_range ty n (drop (size_of ty) bytes) (drop_bytes (size_of ty) bytes small) (len_drop ty n bytes h))
+
+pub all_fit : (ty : NcType) (xs : List ℤ) → Each (IsInRange ty) xs → Each (λ x. fits ty x ≡ true) xs
+all_fit ty xs h = each_map (IsInRange ty) (λ x. fits ty x ≡ true) xs (fits_is ty) h
+
+pub all_small : (ty : NcType) (xs : List ℤ) → Each (IsInRange ty) xs → Each (λ x. unsigned_abs x < 2 ^ 64) xs
+all_small ty xs h = each_map (IsInRange ty) (λ x. unsigned_abs x < 2 ^ 64) xs (small_is ty) h
+
+-- a list of whole values has so many
+pub count_is : (ty : NcType) (n : ℕ) (bytes : List ℕ) → length bytes ≡ n * size_of ty → numbers ty bytes ≡ numbers_from ty n bytes
+unfolding numbers
+count_is ty n bytes h = ap (λ k. numbers_from ty k bytes) (ap (λ m. m / size_of ty) h ∙ mul-div_cancel n (size_some ty))
+
+pub numbers_len : (ty : NcType) (n : ℕ) (bytes : List ℕ) → length (numbers_from ty n bytes) ≡ n
+numbers_len ty zero bytes = refl
+numbers_len ty (suc n) bytes = ap suc (numbers_len ty n (drop (size_of ty) bytes))
+
+-- ---- attributes
+
+pub char_speaks : (v : Version) (att : Att) → att.ty ≡ Char → IsName att.name → Speaks v att
+char_speaks v att e name = record {
+  name = name;
+  said = map Characters (first (without_trailing_nuls att.vals) ∷ others (without_trailing_nuls att.vals));
+  list = subst (λ ty. IsListOf v (att_values ty att.vals) (map Characters (first (without_trailing_nuls att.vals) ∷ others (without_trailing_nuls att.vals)))) (sym e) (chars_list v att.vals);
+  type = sym e;
+  are = subst (λ ty. in_turn (add_constant ty) [] (map Characters (first (without_trailing_nuls att.vals) ∷ others (without_trailing_nuls att.vals))) ≡ Ok (if is_char ty then without_trailing_nuls att.vals else att.vals)) (sym e)
+      (chars_added [] (first (without_trailing_nuls att.vals) ∷ others (without_trailing_nuls att.vals)) ∙ ap (λ bs. Ok bs) (all_bytes (without_trailing_nuls att.vals)));
+}
+
+values_text : (ty : NcType) (vals : List ℕ) → is_char ty ≡ false → att_values ty vals ≡ joined (map (suffixed ty) (numbers ty vals))
+unfolding number_values
+values_text Byte vals h = refl
+values_text Char vals h = cc
+values_text Short vals h = refl
+values_text Int vals h = refl
+values_text Ubyte vals h = refl
+values_text Ushort vals h = refl
+values_text Uint vals h = refl
+values_text Int64 vals h = refl
+values_text Uint64 vals h = refl
+
+some_speak : (v : Version) (att : Att) (x : ℤ) (xs : List ℤ) → numbers att.ty att.vals ≡ x ∷ xs → is_char att.ty ≡ false → has_type v att.ty ≡ true → Each (IsInRange att.ty) (x ∷ xs) → flat_map (bytes_of_number att.ty) (x ∷ xs) ≡ att.vals → IsName att.name → Speaks v att
+some_speak v att x xs are other known range back name = record {
+  name = name;
+  said = numbers_said att.ty (x ∷ xs);
+  list = subst (λ bs. IsListOf v bs (numbers_said att.ty (x ∷ xs))) (sym (values_text att.ty att.vals other ∙ ap (λ ys. joined (map (suffixed att.ty) ys)) are))
+      (numbers_list v att.ty x xs (all_small att.ty (x ∷ xs) range) known other);
+  type = refl;
+  are = numbers_added att.ty [] (x ∷ xs) (all_fit att.ty (x ∷ xs) range) ∙ ap (λ bs. Ok bs) (back ∙ (let e : att.vals ≡ (trimmed_att att).vals = rw (other) refl in e));
+}
+
+number_speaks : (v : Version) (att : Att) (n : ℕ) → AreBytes att.vals → length att.vals ≡ suc n * size_of att.ty → is_char att.ty ≡ false → has_type v att.ty ≡ true → IsName att.name → Speaks v att
+number_speaks v att n small len other known name =
+    some_speak v att (number_of att.ty (take (size_of att.ty) att.vals)) (numbers_from att.ty n (drop (size_of att.ty) att.vals)) (count_is att.ty (suc n) att.vals len) other known
+    (numbers_range att.ty (suc n) att.vals small len) (numbers_back att.ty (suc n) att.vals small len) name
+
+is_char_type : (ty : NcType) → is_char ty ≡ true → ty ≡ Char
+is_char_type Char h = refl
+is_char_type _ h = cc
+
+pub speaks : (v : Version) (att : Att) → IsSoundAtt v att → AreBytes att.vals → HasSomeNumber att → IsName att.name → Speaks v att
+speaks v att sound small some name =
+    elim (is_char att.ty) as (λ b. is_char att.ty ≡ b → Speaks v att) [
+      | true ↦ (λ e. char_speaks v att (is_char_type att.ty e) name)
+      | false ↦ (λ e. counted e sound.values.count sound.values.whole)
+    ] refl
+  where
+    counted : is_char att.ty ≡ false → (n : ℕ) → length att.vals ≡ n * size_of att.ty → Speaks v att
+    counted e zero len = absurd (let s = some e in omega (arith, s, len))
+    counted e (suc n) len = number_speaks v att n small len e sound.ty name

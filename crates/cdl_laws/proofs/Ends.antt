@@ -1,0 +1,213 @@
+-- The opening, the section marks and the closing brace of a dump.
+use Rattle.std.proofs.Common.{◌≡◌, ℕ, ◌+◌, ◌<◌, true, false, List, [], ◌∷◌, ◌++◌, length, map, sym, ◌∙◌, ap, refl, subst, arith, append_assoc, append-nil, length-append}
+use Rattle.std.specs.Prelude.{◌==◌, if◌then◌else◌, nat_lt, Some, Ok, codes}
+use Rattle.std.specs.List.{list_all}
+use Rattle.std.proofs.lemmas.Bool.{false≢true, eqb-true}
+use Rattle.nc_base.specs.Bytes.{text}
+use Rattle.nc_base.specs.declared.header.Att.{Att}
+use Rattle.nc_base.specs.declared.header.Dim.{Dim}
+use Rattle.nc_base.specs.declared.header.Var.{Var}
+use Rattle.nc_base.specs.declared.version.Version.{Version}
+use Rattle.nc_base.specs.Escapes.{escaped_name, is_plain}
+use Rattle.nc_base.specs.HeadText.{dim_line, dim_lines, dims_text, att_line, att_lines, var_lines, vars_text, gatts_text, dimensions_word, variables_word, global_word}
+use Rattle.nc_base.specs.Names.{IsName, may_follow_in_name, may_begin_name}
+use Rattle.cdl_text.specs.declared.section.Section.{Section}
+use Rattle.cdl_text.specs.declared.section.Section.TheVariants.{Globals, Dimensions, Variables, Values, Ended}
+use Rattle.cdl_text.specs.declared.section.Section.TheVariants as sections
+use Rattle.cdl_text.specs.declared.token.TokenKind.TheVariants as kinds
+use Rattle.cdl_text.specs.declared.piece.Place.TheVariants as places
+use Rattle.cdl_text.specs.Front.{front, word_len, until, opening_front, token}
+use Rattle.cdl_text.specs.Lexemes.{Lexeme, role}
+use Rattle.cdl_parse.specs.Meaning.{piece_read, empty}
+use Rattle.cdl_text.specs.Pieces.{pieces_at, is_section}
+use Rattle.cdl_laws.specs.Reading.{lexemes_at, lexemes, pieces_of}
+use Rattle.nc_base.specs.Sayable.{trimmed_att}
+use Rattle.cdl_text.specs.Shapes.{Mark, shape}
+use Rattle.cdl_parse.specs.State.{State, Draft, act, in_turn}
+use Rattle.cdl_laws.proofs.Bools.{and_left}
+use Rattle.cdl_laws.proofs.Lists.{Each}
+use Rattle.cdl_laws.proofs.NameTexts.{rest_of, begins_goes_on, Begins, marked, bare, begins}
+use Rattle.cdl_laws.proofs.Words.{until_front}
+use Rattle.cdl_laws.proofs.Texts.{mark, word, front_again, some_name}
+use Rattle.cdl_laws.proofs.ValueTexts.{turn}
+use Rattle.cdl_laws.proofs.Heads.{feed_closed}
+use Rattle.cdl_laws.proofs.Strings.{until_plain}
+use Rattle.cdl_laws.proofs.Takes.{Takes, Says, says_takes, takes_both, takes_nothing, is_open}
+use Rattle.cdl_laws.specs.PieceLaws.{IsBeforeData, globals, dimensions, variables}
+use Rattle.cdl_laws.proofs.Acts as acts
+use Rattle.cdl_laws.proofs.Wholes.{state, dims_taken, AreNewDims, Speaks, AreNewAtts, globals_taken, AreFit, vars_taken, draft_of, not_none}
+
+-- ---- section marks
+
+pub dimensions_says : (v : Version) → Says v Globals dimensions_word (Mark Dimensions)
+unfolding dimensions_word lexemes_at front word_len pieces_at is_section shape
+dimensions_says v = record { piece = word (codes "dimensions") ∷ mark 58 ∷ []; reads = λ rest. refl; cut = λ rest. refl; sound = refl; shaped = refl }
+
+pub variables_says : (v : Version) (section : Section) → IsBeforeData section → shape v section (word (codes "variables") ∷ mark 58 ∷ []) ≡ Some (Mark Variables) → Says v section variables_word (Mark Variables)
+unfolding variables_word lexemes_at front word_len pieces_at is_section shape
+variables_says v section before h = record { piece = word (codes "variables") ∷ mark 58 ∷ []; reads = λ rest. refl; cut = λ rest. refl; sound = refl; shaped = h }
+
+pub data_says : (v : Version) → Says v Variables (codes "data:\n") (Mark Values)
+unfolding lexemes_at front word_len pieces_at is_section shape
+data_says v = record { piece = word (codes "data") ∷ mark 58 ∷ []; reads = λ rest. refl; cut = λ rest. refl; sound = refl; shaped = refl }
+
+mark_act : (v : Version) (from to : Section) (dims : List Dim) (gatts : List Att) (drafts : List Draft) → act v (state from dims gatts drafts) (Mark to) ≡ Ok (state to dims gatts drafts)
+unfolding act
+mark_act v from to dims gatts drafts = refl
+
+-- ---- the head's parts
+
+abbrev pub after_dims : List Dim → Section
+after_dims [] = Globals
+after_dims (d ∷ dims) = Dimensions
+
+abbrev pub after_vars : Section → List Var → Section
+after_vars section [] = section
+after_vars section (var ∷ vars) = Variables
+
+two_texts : (a b : List ℕ) → text (a ∷ b ∷ []) ≡ a ++ b
+unfolding text
+two_texts a b = ap (λ bs. a ++ bs) (append-nil b)
+
+pub dims_part : (v : Version) (n : ℕ) (dims : List Dim) (gatts : List Att) (drafts : List Draft) → AreNewDims v [] dims →
+    Takes v (dims_text n dims) (state Globals [] gatts drafts) (state (after_dims dims) dims gatts drafts)
+unfolding dims_text dim_lines
+dims_part v n [] gatts drafts h = takes_nothing v (state Globals [] gatts drafts)
+dims_part v n (d ∷ dims) gatts drafts h =
+    rw (not_none (length dims)) (subst (λ bs. Takes v bs (state Globals [] gatts drafts) (state Dimensions (d ∷ dims) gatts drafts)) (sym (two_texts dimensions_word (text (map (dim_line n) (d ∷ dims)))))
+    (takes_both v dimensions_word (text (map (dim_line n) (d ∷ dims))) (state Globals [] gatts drafts) (state Dimensions [] gatts drafts) (state Dimensions (d ∷ dims) gatts drafts)
+    (says_takes v dimensions_word (Mark Dimensions) (state Globals [] gatts drafts) (state Dimensions [] gatts drafts) (dimensions_says v) (mark_act v Globals Dimensions [] gatts drafts))
+    (dims_taken v n [] (d ∷ dims) gatts drafts h)))
+
+before_of : (dims : List Dim) → IsBeforeData (after_dims dims)
+before_of [] = globals
+before_of (d ∷ dims) = dimensions
+
+variables_shape : (v : Version) (dims : List Dim) → shape v (after_dims dims) (word (codes "variables") ∷ mark 58 ∷ []) ≡ Some (Mark Variables)
+unfolding shape
+variables_shape v [] = refl
+variables_shape v (d ∷ dims) = refl
+
+pub vars_part : (v : Version) (dims : List Dim) (vars : List Var) (gatts : List Att) → acts.AreDistinctDims dims → acts.HaveNames dims → AreFit v dims [] vars →
+    Takes v (vars_text dims vars) (state (after_dims dims) dims gatts []) (state (after_vars (after_dims dims) vars) dims gatts (map draft_of vars))
+unfolding vars_text
+vars_part v dims [] gatts distinct names fit = takes_nothing v (state (after_dims dims) dims gatts [])
+vars_part v dims (var ∷ vars) gatts distinct names fit =
+    let s = state (after_dims dims) dims gatts [] in
+    let t = state Variables dims gatts [] in
+    let u = state Variables dims gatts (map draft_of (var ∷ vars)) in
+    rw (not_none (length vars)) (subst (λ bs. Takes v bs s u) (sym (two_texts variables_word (text (map (var_lines dims) (var ∷ vars)))))
+    (takes_both v variables_word (text (map (var_lines dims) (var ∷ vars))) s t u
+    (says_takes v variables_word (Mark Variables) s t (variables_says v (after_dims dims) (before_of dims) (variables_shape v dims)) (mark_act v (after_dims dims) Variables dims gatts []))
+    (vars_taken v dims gatts [] (var ∷ vars) distinct names fit)))
+
+before_vars : (dims : List Dim) (vars : List Var) → IsBeforeData (after_vars (after_dims dims) vars)
+before_vars dims [] = before_of dims
+before_vars dims (var ∷ vars) = variables
+
+-- the line that tells of global attributes is a comment
+global_word_taken : (v : Version) (s : State) → Takes v global_word s s
+unfolding pieces_of global_word lexemes_at front
+global_word_taken v s rest = refl
+
+pub gatts_part : (v : Version) (dims : List Dim) (vars : List Var) (gatts : List Att) (drafts : List Draft) → Each (Speaks v) gatts → AreNewAtts [] gatts →
+    Takes v (gatts_text gatts) (state (after_vars (after_dims dims) vars) dims [] drafts) (state (after_vars (after_dims dims) vars) dims (map trimmed_att gatts) drafts)
+unfolding gatts_text att_lines
+gatts_part v dims vars [] drafts speak new = takes_nothing v (state (after_vars (after_dims dims) vars) dims [] drafts)
+gatts_part v dims vars (a ∷ gatts) drafts speak new =
+    let s = state (after_vars (after_dims dims) vars) dims [] drafts in
+    let t = state (after_vars (after_dims dims) vars) dims (map trimmed_att (a ∷ gatts)) drafts in
+    rw (not_none (length gatts)) (subst (λ bs. Takes v bs s t) (sym (two_texts global_word (text (map (att_line []) (a ∷ gatts)))))
+    (takes_both v global_word (text (map (att_line []) (a ∷ gatts))) s s t (global_word_taken v s)
+    (globals_taken v (after_vars (after_dims dims) vars) dims [] (a ∷ gatts) drafts (before_vars dims vars) speak new)))
+
+pub data_mark : (v : Version) (dims : List Dim) (gatts : List Att) (drafts : List Draft) → Takes v (codes "data:\n") (state Variables dims gatts drafts) (state Values dims gatts drafts)
+data_mark v dims gatts drafts = says_takes v (codes "data:\n") (Mark Values) (state Variables dims gatts drafts) (state Values dims gatts drafts) (data_says v) (mark_act v Variables Values dims gatts drafts)
+
+-- ---- the end
+
+pub end_taken : (v : Version) (section : Section) (dims : List Dim) (gatts : List Att) (drafts : List Draft) → is_open section ≡ true → in_turn (piece_read v) (state section dims gatts drafts) (pieces_of (codes "}\n")) ≡ Ok (state Ended dims gatts drafts)
+unfolding pieces_of lexemes_at front pieces_at piece_read shape act
+end_taken v Globals dims gatts drafts h = refl
+end_taken v Dimensions dims gatts drafts h = refl
+end_taken v Variables dims gatts drafts h = refl
+end_taken v Values dims gatts drafts h = refl
+end_taken v sections.Unopened dims gatts drafts h = cc
+end_taken v sections.Closed dims gatts drafts h = cc
+end_taken v sections.Ended dims gatts drafts h = cc
+
+-- ---- the opening
+
+no_brace : (b : ℕ) → is_plain b ≡ true → (b == 0x7b) ≡ false
+no_brace b h = elim (b == 0x7b) as (λ w. (b == 0x7b) ≡ w → w ≡ false) [ true ↦ (λ e. absurd (false≢true (subst (λ n. is_plain n ≡ true) (eqb-true b 0x7b e) h))) | false ↦ (λ e. refl) ] refl
+
+no_backslash : (b : ℕ) → is_plain b ≡ true → (b == 0x5c) ≡ false
+no_backslash b h = elim (b == 0x5c) as (λ w. (b == 0x5c) ≡ w → w ≡ false) [ true ↦ (λ e. absurd (false≢true (subst (λ n. is_plain n ≡ true) (eqb-true b 0x5c e) h))) | false ↦ (λ e. refl) ] refl
+
+until_plainly : (b : ℕ) (rest : List ℕ) → is_plain b ≡ true → until 0x7b (b ∷ rest) ≡ 1 + until 0x7b rest
+until_plainly b rest h = until_plain 0x7b b rest (no_backslash b h) (no_brace b h)
+
+until_escape : (b : ℕ) (rest : List ℕ) → until 0x7b (0x5c ∷ b ∷ rest) ≡ 2 + until 0x7b rest
+unfolding until
+until_escape b rest = refl
+
+until_rest : (bs rest : List ℕ) → until 0x7b (rest_of bs ++ 32 ∷ 123 ∷ rest) ≡ length (rest_of bs) + 1
+until_rest [] rest = until_plain 0x7b 32 (123 ∷ rest) refl refl ∙ ap (λ n. 1 + n) (until_front 0x7b 123 rest)
+until_rest (b ∷ bs) rest =
+    let ih = until_rest bs rest in
+    elim (is_plain b) as (λ w. is_plain b ≡ w → until 0x7b (((if w then b ∷ [] else 0x5c ∷ b ∷ []) ++ rest_of bs) ++ 32 ∷ 123 ∷ rest) ≡ length ((if w then b ∷ [] else 0x5c ∷ b ∷ []) ++ rest_of bs) + 1) [
+      | true ↦ (λ g. until_plainly b (rest_of bs ++ 32 ∷ 123 ∷ rest) g ∙ omega (arith, ih))
+      | false ↦ (λ g. until_escape b (rest_of bs ++ 32 ∷ 123 ∷ rest) ∙ omega (arith, ih))
+    ] refl
+
+until_name : (b : ℕ) (bs rest : List ℕ) → Begins b bs → until 0x7b (escaped_name (b ∷ bs) ++ 32 ∷ 123 ∷ rest) ≡ length (escaped_name (b ∷ bs)) + 1
+until_name b bs rest (marked one is) = let ih = until_rest bs rest in rw (is) (until_escape b (rest_of bs ++ 32 ∷ 123 ∷ rest) ∙ omega (arith, ih))
+until_name b bs rest (bare one free is) = let ih = until_rest bs rest in rw (is) (until_plainly b (rest_of bs ++ 32 ∷ 123 ∷ rest) (begins_goes_on b one) ∙ omega (arith, ih))
+
+until_valid : (name rest : List ℕ) → IsName name → until 0x7b (escaped_name name ++ 32 ∷ 123 ∷ rest) ≡ length (escaped_name name) + 1
+until_valid [] rest h = absurd (false≢true (some_name [] h))
+until_valid (b ∷ bs) rest h = until_name b bs rest (begins b bs (and_left (may_begin_name b) (list_all may_follow_in_name bs) (some_name (b ∷ bs) h)))
+
+-- the dataset's name, which is looked at no further
+abbrev pub opening_bytes : List ℕ → List ℕ
+opening_bytes name = codes "netcdf " ++ (escaped_name name ++ codes " {")
+
+fits_in : (n m : ℕ) → n < m → nat_lt n m ≡ true
+fits_in n m h = grind (arith, h)
+
+opening_is : (e rest : List ℕ) → until 0x7b (e ++ 32 ∷ 123 ∷ 10 ∷ rest) ≡ length e + 1 →
+    opening_front (32 ∷ (e ++ 32 ∷ 123 ∷ 10 ∷ rest)) (until 0x7b (32 ∷ (e ++ 32 ∷ 123 ∷ 10 ∷ rest))) ≡ record { kind = Some kinds.Opening; len = length (codes "netcdf " ++ (e ++ codes " {")) }
+opening_is e rest h =
+    let all = length-append e (32 ∷ 123 ∷ 10 ∷ rest) in
+    let some = length-append e (codes " {") in
+    let n : until 0x7b (32 ∷ (e ++ 32 ∷ 123 ∷ 10 ∷ rest)) ≡ 1 + (length e + 1) = until_plain 0x7b 32 (e ++ 32 ∷ 123 ∷ 10 ∷ rest) refl refl ∙ ap (λ m. 1 + m) h in
+    ap (opening_front (32 ∷ (e ++ 32 ∷ 123 ∷ 10 ∷ rest))) n ∙
+    rw (fits_in (1 + (length e + 1)) (length (32 ∷ (e ++ 32 ∷ 123 ∷ 10 ∷ rest))) (omega (arith, all)))
+    (ap (token kinds.Opening) (let f : 6 + (1 + (length e + 1)) + 1 ≡ length (codes "netcdf " ++ (e ++ codes " {")) = omega (arith, some) in f))
+
+opening_front_is : (name rest : List ℕ) → IsName name → front true (opening_bytes name ++ 10 ∷ rest) ≡ record { kind = Some kinds.Opening; len = length (opening_bytes name) }
+unfolding front
+opening_front_is name rest h =
+    ap (λ bs. opening_front (32 ∷ bs) (until 0x7b (32 ∷ bs))) (append_assoc (escaped_name name) (codes " {") (10 ∷ rest)) ∙ opening_is (escaped_name name) rest (until_valid name (10 ∷ rest) h)
+
+pub opening_lexemes : (name rest : List ℕ) → IsName name → lexemes (opening_bytes name ++ 10 ∷ rest) ≡ record { kind = kinds.Opening; bytes = opening_bytes name } ∷ lexemes_at false 0 rest
+opening_lexemes name rest h =
+    front_again true (Some kinds.Opening) 110 (codes "etcdf " ++ (escaped_name name ++ codes " {")) (10 ∷ rest) (opening_front_is name rest h) ∙
+    ap (λ ls. record { kind = kinds.Opening; bytes = opening_bytes name } ∷ ls) (feed_closed rest)
+
+pub opening_piece : (l : List ℕ) (ls : List Lexeme) → pieces_at role places.Begins (record { kind = kinds.Opening; bytes = l } ∷ ls) ≡ (record { kind = kinds.Opening; bytes = l } ∷ []) ∷ pieces_at role places.Begins ls
+unfolding pieces_at
+opening_piece l ls = refl
+
+opening_read : (v : Version) (l : List ℕ) → piece_read v empty (record { kind = kinds.Opening; bytes = l } ∷ []) ≡ Ok (state Globals [] [] [])
+unfolding piece_read shape act
+opening_read v l = refl
+
+-- all that stands behind the opening decides
+pub opened : (v : Version) (name rest : List ℕ) → IsName name →
+    in_turn (piece_read v) empty (pieces_at role places.Begins (lexemes (opening_bytes name ++ 10 ∷ rest))) ≡ in_turn (piece_read v) (state Globals [] [] []) (pieces_of rest)
+unfolding pieces_of
+opened v name rest h =
+    ap (λ ls. in_turn (piece_read v) empty (pieces_at role places.Begins ls)) (opening_lexemes name rest h) ∙
+    ap (in_turn (piece_read v) empty) (opening_piece (opening_bytes name) (lexemes_at false 0 rest)) ∙
+    turn (piece_read v) empty (state Globals [] [] []) (record { kind = kinds.Opening; bytes = opening_bytes name } ∷ []) (pieces_at role places.Begins (lexemes_at false 0 rest)) (opening_read v (opening_bytes name))

@@ -1,0 +1,144 @@
+-- What a row shows, filled up, is the row.
+use Rattle.std.proofs.Common.{◌≡◌, ℕ, zero, suc, ◌+◌, ◌-◌, ◌<◌, ◌≤◌, Bool, true, false, List, [], ◌∷◌, ◌++◌, length, map, sym, ◌∙◌, ap, refl, arith, append_assoc, append-nil, length-append}
+use Rattle.std.specs.Prelude.{ℤ, pos, unsigned_abs, ◌&&◌, ◌||◌, if◌then◌else◌, nat_le, replicate, Some, Ok}
+use Rattle.std.specs.List.{flat_map}
+use Rattle.std.proofs.lemmas.Bool.{eqb-true}
+use Rattle.std.proofs.lemmas.List.{map-append, length-replicate, replicate_more}
+use Rattle.nc_base.specs.declared.version.Version.{Version}
+use Rattle.nc_base.specs.Escapes.{escaped_in_string}
+use Rattle.nc_base.specs.ValueText.{is_nul, is_char}
+use Rattle.cdl_text.specs.Escapes.{stands}
+use Rattle.cdl_text.proofs.Strings.{stands_for}
+use Rattle.cdl_text.specs.Shapes.{Characters, each, both, constant, constants}
+use Rattle.cdl_parse.specs.State.{Room, add_value, in_turn, filled}
+use Rattle.cdl_laws.proofs.Lists.{Each}
+use Rattle.cdl_laws.proofs.Characters.{shown, flat}
+use Rattle.cdl_laws.proofs.Strings.{string, unescape_all, between_quotes}
+use Rattle.cdl_laws.proofs.ValueTexts.{commas, constants_all, turn, room_for}
+
+-- a value of a character
+abbrev pub IsCharacter : ℤ → Type 0
+IsCharacter x = pos (unsigned_abs x) ≡ x
+
+map_zeros : (n : ℕ) → map pos (replicate n 0) ≡ replicate n (pos 0)
+map_zeros zero = refl
+map_zeros (suc n) = ap (λ xs. pos 0 ∷ xs) (map_zeros n)
+
+is_zero : (x : ℤ) → is_nul x ≡ true → IsCharacter x → x ≡ pos 0
+is_zero x h c = sym c ∙ ap pos (eqb-true (unsigned_abs x) 0 h)
+
+pub shown_len : (t : Bool) (n : ℕ) (xs : List ℤ) → length (shown t n xs) ≤ n + length xs
+unfolding shown
+shown_len t n [] = omega arith
+shown_len t n (x ∷ xs) =
+    elim (t && is_nul x) as (λ w. length (if w then shown t (n + 1) xs else (replicate n 0 ++ unsigned_abs x ∷ []) ++ shown t 0 xs) ≤ n + suc (length xs)) [
+      | true ↦ (let ih = shown_len t (n + 1) xs in omega (arith, ih))
+      | false ↦ (let ih = shown_len t 0 xs in
+          let a = length-append (replicate n 0 ++ unsigned_abs x ∷ []) (shown t 0 xs) in
+          let b = length-append (replicate n 0) (unsigned_abs x ∷ []) in
+          let c = length-replicate {A = ℕ} n 0 in
+          omega (arith, ih, a, b, c))
+    ]
+
+-- in front of a character
+in_front : (n : ℕ) (x : ℤ) (bs : List ℕ) → IsCharacter x → map pos ((replicate n 0 ++ unsigned_abs x ∷ []) ++ bs) ≡ (replicate n (pos 0) ++ x ∷ []) ++ map pos bs
+in_front n x bs c =
+    map-append pos (replicate n 0 ++ unsigned_abs x ∷ []) bs ∙
+    ap (λ xs. xs ++ map pos bs) (map-append pos (replicate n 0) (unsigned_abs x ∷ []) ∙ ap (λ xs. xs ++ pos (unsigned_abs x) ∷ []) (map_zeros n) ∙ ap (λ y. replicate n (pos 0) ++ y ∷ []) c)
+
+pub back_trimmed : (n : ℕ) (xs : List ℤ) → Each IsCharacter xs →
+    map pos (shown true n xs) ++ replicate (n + length xs - length (shown true n xs)) (pos 0) ≡ replicate n (pos 0) ++ xs
+unfolding shown
+back_trimmed n [] all = ap (λ m. replicate m (pos 0)) (let e : n + 0 - 0 ≡ n = omega arith in e) ∙ sym (append-nil (replicate n (pos 0)))
+back_trimmed n (x ∷ xs) all =
+    let z : ℤ = pos 0 in
+    elim (is_nul x) as (λ w. is_nul x ≡ w →
+    map pos (if w then shown true (n + 1) xs else (replicate n 0 ++ unsigned_abs x ∷ []) ++ shown true 0 xs) ++ replicate (n + suc (length xs) - length (if w then shown true (n + 1) xs else (replicate n 0 ++ unsigned_abs x ∷ []) ++ shown true 0 xs)) z ≡ replicate n z ++ x ∷ xs) [
+      | true ↦ (λ e.
+          ap (λ m. map pos (shown true (n + 1) xs) ++ replicate m z) (let f : n + suc (length xs) - length (shown true (n + 1) xs) ≡ n + 1 + length xs - length (shown true (n + 1) xs) = omega arith in f) ∙
+          back_trimmed (n + 1) xs all.1 ∙
+          ap (λ ys. ys ++ xs) (sym (replicate_more n z)) ∙ append_assoc (replicate n z) (z ∷ []) xs ∙ ap (λ y. replicate n z ++ y ∷ xs) (sym (is_zero x e all.0)))
+      | false ↦ (λ e.
+          let s = shown true 0 xs in
+          let front = replicate n 0 ++ unsigned_abs x ∷ [] in
+          let a = length-append front s in
+          let b = length-append (replicate n 0) (unsigned_abs x ∷ []) in
+          let c = length-replicate {A = ℕ} n 0 in
+          ap (λ m. map pos (front ++ s) ++ replicate m z) (let f : n + suc (length xs) - length (front ++ s) ≡ 0 + length xs - length s = omega (arith, a, b, c) in f) ∙
+          ap (λ ys. ys ++ replicate (0 + length xs - length s) z) (in_front n x s all.0) ∙
+          append_assoc (replicate n z ++ x ∷ []) (map pos s) (replicate (0 + length xs - length s) z) ∙
+          ap (λ ys. (replicate n z ++ x ∷ []) ++ ys) (back_trimmed 0 xs all.1) ∙
+          append_assoc (replicate n z) (x ∷ []) xs)
+    ] refl
+
+pub back_whole : (xs : List ℤ) → Each IsCharacter xs → map pos (shown false 0 xs) ≡ xs
+unfolding shown
+back_whole [] all = refl
+back_whole (x ∷ xs) all = in_front 0 x (shown false 0 xs) all.0 ∙ ap (λ ys. x ∷ ys) (back_whole xs all.1)
+
+pub filled_whole : (n : ℕ) (fill : ℤ) (xs : List ℤ) → length xs ≡ n → filled n fill xs ≡ xs
+filled_whole n fill xs h = ap (λ m. xs ++ replicate m fill) (let e : n - length xs ≡ 0 = omega (arith, h) in e) ∙ append-nil xs
+
+length_map : (bs : List ℕ) → length (map pos bs) ≡ length bs
+length_map [] = refl
+length_map (b ∷ bs) = ap suc (length_map bs)
+
+-- what a row shows, filled up: the fill value is NUL where it is trimmed
+pub row_back : (t : Bool) (n : ℕ) (fill : ℤ) (xs : List ℤ) → (t ≡ true → fill ≡ pos 0) → length xs ≡ n → Each IsCharacter xs → filled n fill (map pos (shown t 0 xs)) ≡ xs
+row_back true n fill xs h len all =
+    ap (λ f. filled n f (map pos (shown true 0 xs))) (h refl) ∙
+    ap (λ m. map pos (shown true 0 xs) ++ replicate m (pos 0)) (let l = length_map (shown true 0 xs) in let e : n - length (map pos (shown true 0 xs)) ≡ 0 + length xs - length (shown true 0 xs) = omega (arith, l, len) in e) ∙
+    back_trimmed 0 xs all
+row_back false n fill xs h len all = ap (filled n fill) (back_whole xs all) ∙ filled_whole n fill xs len
+
+-- ---- what the strings say
+
+pub string_said : (v : Version) (blanks : Bool) (bytes : List ℕ) → constant v blanks (string bytes) ≡ Some (Characters bytes)
+string_said v blanks bytes = ap (λ (bs : List ℕ). Some (Characters (stands bs))) (between_quotes (flat_map escaped_in_string bytes)) ∙ ap (λ (bs : List ℕ). Some (Characters bs)) (stands_for 0 (flat_map escaped_in_string bytes) bytes (unescape_all bytes))
+
+strings_each : (v : Version) (blanks : Bool) (all : List (List ℕ)) → each (constant v blanks) (map string all) ≡ Some (map Characters all)
+strings_each v blanks [] = refl
+strings_each v blanks (bytes ∷ all) =
+    ap (both (λ y ys. y ∷ ys) (constant v blanks (string bytes))) (strings_each v blanks all) ∙
+    ap (λ y. both (λ y ys. y ∷ ys) y (Some (map Characters all))) (string_said v blanks bytes)
+
+pub strings_said : (v : Version) (blanks : Bool) (bytes : List ℕ) (all : List (List ℕ)) → constants v blanks (string bytes ∷ commas (map string all)) ≡ Some (map Characters (bytes ∷ all))
+strings_said v blanks bytes all = constants_all v blanks (string bytes) (map string all) ∙ strings_each v blanks (bytes ∷ all)
+
+-- ---- what becomes of them
+
+le_true : (m n : ℕ) → m ≤ n → nat_le m n ≡ true
+le_true m n h = grind (arith, h)
+
+row_added : (room : Room) (t : Bool) (before r : List ℤ) → is_char room.ty ≡ true → room.in_rows ≡ true → (t ≡ true → room.fill ≡ pos 0) → (room.is_open ≡ false → length before < room.count) → length r ≡ room.row → Each IsCharacter r →
+    add_value room before (Characters (shown t 0 r)) ≡ Ok (before ++ r)
+unfolding add_value
+row_added room t before r ty rows fill wide len all =
+    rw (ty) (rw (rows) (rw (room_for room.is_open (length before) room.count wide)
+    (rw (le_true (length (shown t 0 r)) room.row (let s = shown_len t 0 r in omega (arith, s, len)))
+    (ap (λ xs. Ok (before ++ xs)) (row_back t room.row room.fill r fill len all)))))
+
+pub rows_added : (room : Room) (t : Bool) (before : List ℤ) (rows : List (List ℤ)) → is_char room.ty ≡ true → room.in_rows ≡ true → (t ≡ true → room.fill ≡ pos 0) → 0 < room.row →
+    (room.is_open ≡ false → length before + length (flat rows) ≤ room.count) → Each (λ (r : List ℤ). (length r ≡ room.row) × Each IsCharacter r) rows →
+    in_turn (add_value room) before (map Characters (map (shown t 0) rows)) ≡ Ok (before ++ flat rows)
+rows_added room t before [] ty h fill some wide all = ap Ok (sym (append-nil before))
+rows_added room t before (r ∷ rows) ty h fill some wide all =
+    let len = length-append r (flat rows) in
+    let more = length-append before r in
+    let is = all.0.0 in
+    turn (add_value room) before (before ++ r) (Characters (shown t 0 r)) (map Characters (map (shown t 0) rows))
+    (row_added room t before r ty h fill (λ e. let f = wide e in omega (arith, f, len, is, some)) is all.0.1) ∙
+    rows_added room t (before ++ r) rows ty h fill some (λ e. let f = wide e in omega (arith, f, len, more)) all.1 ∙ ap Ok (append_assoc before r (flat rows))
+
+enough : (is_open : Bool) (m n : ℕ) → (is_open ≡ false → m ≤ n) → (is_open || nat_le m n) ≡ true
+enough true m n f = refl
+enough false m n f = le_true m n (f refl)
+
+line_one : (room : Room) (t : Bool) (r : List ℤ) → is_char room.ty ≡ true → room.in_rows ≡ false → (room.is_open ≡ false → length r ≤ room.count) → add_value room [] (Characters (shown t 0 r)) ≡ Ok (map pos (shown t 0 r))
+unfolding add_value
+line_one room t r ty h wide =
+    rw (ty) (rw (h) (rw (enough room.is_open (0 + length (shown t 0 r)) room.count (λ e. let s = shown_len t 0 r in let f = wide e in omega (arith, s, f))) refl))
+
+pub line_added : (room : Room) (t : Bool) (r : List ℤ) → is_char room.ty ≡ true → room.in_rows ≡ false → (room.is_open ≡ false → length r ≤ room.count) →
+    in_turn (add_value room) [] (Characters (shown t 0 r) ∷ []) ≡ Ok (map pos (shown t 0 r))
+line_added room t r ty h wide = turn (add_value room) [] (map pos (shown t 0 r)) (Characters (shown t 0 r)) [] (line_one room t r ty h wide)

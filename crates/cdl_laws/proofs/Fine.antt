@@ -1,0 +1,449 @@
+-- What holds of the dataset so far, of its attributes, dimensions and declarations.
+use Rattle.std.proofs.Common.{◌≡◌, ℕ, ◌+◌, ◌-◌, ◌*◌, ◌≤◌, ◌<◌, Bool, true, false, List, [], ◌∷◌, ◌++◌, length, map, sym, ◌∙◌, ap, refl, subst, arith, zero, suc, append_assoc, append-nil}
+use Rattle.std.proofs.lemmas.Bool.{false≢true, eqb-true}
+use Rattle.std.proofs.lemmas.List.{length-append, map-append}
+use Rattle.std.proofs.lemmas.List.Folds.{list_any-append}
+use Rattle.std.specs.Prelude.{ℤ, pos, negsuc, IsTrue, if◌then◌else◌, Option, None, Some, Result, Ok, Err, ◌&&◌, ◌||◌, ◌==◌, filter, nat_lt, nat_le, unsigned_abs}
+use Rattle.std.specs.Int.{w8, w16, w32, w64, to_be_bytes, cast_unsigned}
+use Rattle.std.specs.List.{list_any, position, position_or_len}
+use Rattle.std.specs.Ordering.{int_eq}
+use Rattle.std.specs.Str.{bytes_eq}
+use Rattle.nc_base.specs.declared.header.Att.{Att}
+use Rattle.nc_base.specs.declared.header.Dim.{Dim}
+use Rattle.nc_base.specs.declared.nc_type.NcType.{NcType}
+use Rattle.nc_base.specs.declared.nc_type.NcType.TheVariants.{Byte, Char, Short, Int, Ubyte, Ushort, Uint, Int64, Uint64}
+use Rattle.nc_base.specs.declared.version.Version.{Version}
+use Rattle.nc_base.specs.declared.version.Version.TheVariants.{Cdf1, Cdf2, Cdf5}
+use Rattle.nc_base.specs.Dump.{has_name}
+use Rattle.nc_base.specs.Headers.{has_record_dim, IsDimid, AreDimids, value_count}
+use Rattle.nc_base.specs.Names.{IsName, is_name}
+use Rattle.nc_base.specs.Numbers.{bytes_of_number}
+use Rattle.nc_base.specs.Sizes.{is_record_dim}
+use Rattle.nc_base.specs.Types.{size_of}
+use Rattle.nc_base.specs.ValueText.{is_char}
+use Rattle.nc_base.specs.Versions.{count_limit, has_type}
+use Rattle.nc_base.specs.Sayable.{AreDistinct}
+use Rattle.cdl_text.specs.Shapes.{Value, Number, Characters, Blank, Dimension, Variable}
+use Rattle.cdl_parse.specs.State.{Draft, in_turn, unless, when, found, ◌>>=◌, between, fits, same_type, dim_len_of, add_dim, add_dimid, add_var, at_named, at_variable, add_constant, first_type, add_att, with_att}
+use Rattle.cdl_parse.specs.Meaning.{values_of}
+use Rattle.cdl_text.specs.declared.fault.CdlKind.{CdlKind}
+use Rattle.cdl_text.specs.declared.fault.CdlKind.TheVariants.{BadName, DuplicateName, UnknownDimension, ZeroDimension, TwoRecordDims, BadShape, MixedConstants, NumberRange}
+use Rattle.cdl_laws.proofs.Bools.{and_left, and_right, or_left, or_right}
+use Rattle.cdl_laws.proofs.Lists.{Each, each_map}
+use Rattle.cdl_laws.proofs.Outcomes.{SomeIs, OkIs, ok_then, ok_unless, ok_when, ok_found, total, each_under, turns, each_more}
+use Rattle.cdl_laws.proofs.Said.{IsByte, cost, IsFineValue, dim_cost, name_cost, var_cost}
+use Rattle.cdl_laws.proofs.Sayables.{swapped, any_map, att_name, dim_name, draft_name, is_record, filter_append}
+use Rattle.cdl_laws.proofs.Uttered.{AreFineValues}
+
+-- ---- names
+
+distinct_more : (names : List (List ℕ)) (n : List ℕ) → AreDistinct names → has_name names n ≡ false → AreDistinct (names ++ n ∷ [])
+distinct_more [] n d new = (refl, tt)
+distinct_more (m ∷ names) n d new = (
+  list_any-append (λ (other : List ℕ). bytes_eq other m) names (n ∷ []) ∙ rw (d.0) (rw (swapped m n (or_left (bytes_eq m n) (has_name names n) new)) refl),
+  distinct_more names n d.1 (or_right (bytes_eq m n) (has_name names n) new),
+)
+
+-- a thing more, of a name that none has
+named_more : {X : Type 0} (name : X → List ℕ) (xs : List X) (x : X) → AreDistinct (map name xs) → list_any (λ y. bytes_eq (name y) (name x)) xs ≡ false → AreDistinct (map name (xs ++ x ∷ []))
+named_more name xs x d new =
+    subst AreDistinct (sym (map-append name xs (x ∷ []))) (distinct_more (map name xs) (name x) d (sym (any_map name (name x) xs) ∙ new))
+
+pub one_more : {X : Type 0} (xs : List X) (x : X) → length (xs ++ x ∷ []) ≡ suc (length xs)
+one_more xs x = let a = length-append xs (x ∷ []) in omega (arith, a)
+
+-- ---- attributes
+
+pub record IsFineAtt (v : Version) (N : ℕ) (att : Att) : Type 0 where
+  pub name : IsName att.name
+  pub short : length att.name ≤ N
+  pub ty : has_type v att.ty ≡ true
+  pub count : ℕ
+  pub few : count ≤ N
+  pub whole : length att.vals ≡ count * size_of att.ty
+  pub bytes : Each IsByte att.vals
+  pub some : is_char att.ty ≡ false → 0 < length att.vals
+
+pub record AreFineAtts (v : Version) (N n : ℕ) (atts : List Att) : Type 0 where
+  pub count : length atts ≤ n
+  pub fine : Each (IsFineAtt v N) atts
+  pub names : AreDistinct (map att_name atts)
+
+-- the values so far, of constants of this cost
+record IsPart (ty : NcType) (k : ℕ) (vals : List ℕ) : Type 0 where
+  count : ℕ
+  few : count ≤ k
+  many : is_char ty ≡ false → k ≤ count
+  whole : length vals ≡ count * size_of ty
+  bytes : Each IsByte vals
+
+bytes_8 : (n : ℕ) → Each IsByte (to_be_bytes w8 n)
+bytes_8 n = (omega arith, tt)
+
+bytes_16 : (n : ℕ) → Each IsByte (to_be_bytes w16 n)
+bytes_16 n = (omega arith, (omega arith, tt))
+
+bytes_32 : (n : ℕ) → Each IsByte (to_be_bytes w32 n)
+bytes_32 n = (omega arith, (omega arith, (omega arith, (omega arith, tt))))
+
+bytes_64 : (n : ℕ) → Each IsByte (to_be_bytes w64 n)
+bytes_64 n = (omega arith, (omega arith, (omega arith, (omega arith, (omega arith, (omega arith, (omega arith, (omega arith, tt))))))))
+
+pub number_bytes : (ty : NcType) (x : ℤ) → Each IsByte (bytes_of_number ty x)
+number_bytes Byte x = bytes_8 (cast_unsigned w8 x)
+number_bytes Char x = bytes_8 (cast_unsigned w8 x)
+number_bytes Short x = bytes_16 (cast_unsigned w16 x)
+number_bytes Int x = bytes_32 (cast_unsigned w32 x)
+number_bytes Ubyte x = bytes_8 (cast_unsigned w8 x)
+number_bytes Ushort x = bytes_16 (cast_unsigned w16 x)
+number_bytes Uint x = bytes_32 (cast_unsigned w32 x)
+number_bytes Int64 x = bytes_64 (cast_unsigned w64 x)
+number_bytes Uint64 x = bytes_64 (cast_unsigned w64 x)
+
+pub number_size : (ty : NcType) (x : ℤ) → length (bytes_of_number ty x) ≡ size_of ty
+number_size Byte x = omega arith
+number_size Char x = omega arith
+number_size Short x = omega arith
+number_size Int x = omega arith
+number_size Ubyte x = omega arith
+number_size Ushort x = omega arith
+number_size Uint x = omega arith
+number_size Int64 x = omega arith
+number_size Uint64 x = omega arith
+
+is_same_char : (ty : NcType) → same_type Char ty ≡ true → ty ≡ Char
+is_same_char Char h = refl
+is_same_char Byte h = cc
+is_same_char Short h = cc
+is_same_char Int h = cc
+is_same_char Ubyte h = cc
+is_same_char Ushort h = cc
+is_same_char Uint h = cc
+is_same_char Int64 h = cc
+is_same_char Uint64 h = cc
+
+pub one_times : (n m : ℕ) → suc n * m ≡ n * m + m
+one_times n m = grind arith
+
+constant_step : (v : Version) (ty : NcType) (k : ℕ) (vals : List ℕ) (x : Value) → IsPart ty k vals → IsFineValue v x → OkIs (IsPart ty (k + cost x)) (add_constant ty vals x)
+constant_step v ty k vals Blank part fine = tt
+constant_step v ty k vals (Number n) part fine =
+    ok_unless (IsPart ty (k + 1)) (same_type n.ty ty) MixedConstants (λ u. unless (fits ty n.value) NumberRange >>= (λ w. Ok (vals ++ bytes_of_number ty n.value))) (λ same.
+    ok_unless (IsPart ty (k + 1)) (fits ty n.value) NumberRange (λ w. Ok (vals ++ bytes_of_number ty n.value)) (λ fit.
+    record {
+      count = suc part.count;
+      few = (let a = part.few in omega (arith, a));
+      many = (λ e. let a = part.many e in omega (arith, a));
+      whole = (let a = length-append vals (bytes_of_number ty n.value) in let b = number_size ty n.value in let c = part.whole in let d = one_times part.count (size_of ty) in omega (arith, a, b, c, d));
+      bytes = each_more IsByte vals (bytes_of_number ty n.value) part.bytes (number_bytes ty n.value);
+    }))
+constant_step v ty k vals (Characters bytes) part fine =
+    ok_unless (IsPart ty (k + suc (length bytes))) (same_type Char ty) MixedConstants (λ u. Ok (vals ++ bytes)) (λ same.
+    let e : ty ≡ Char = is_same_char ty same in
+    let one : size_of ty ≡ 1 = ap size_of e in
+    record {
+      count = part.count + length bytes;
+      few = (let a = part.few in omega (arith, a));
+      many = (λ h. absurd (false≢true (sym h ∙ ap is_char e)));
+      whole = (
+          let a = length-append vals bytes in
+          let c : length vals ≡ part.count * 1 = part.whole ∙ ap (λ m. part.count * m) one in
+          let d : (part.count + length bytes) * size_of ty ≡ (part.count + length bytes) * 1 = ap (λ m. (part.count + length bytes) * m) one in
+          omega (arith, a, c, d));
+      bytes = each_more IsByte vals bytes part.bytes fine;
+    })
+
+has_char : (v : Version) → has_type v Char ≡ true
+has_char Cdf1 = refl
+has_char Cdf2 = refl
+has_char Cdf5 = refl
+
+type_fine : (v : Version) (cs : List Value) → Each (IsFineValue v) cs → has_type v (first_type cs) ≡ true
+type_fine v [] h = has_char v
+type_fine v (Number n ∷ cs) h = h.0
+type_fine v (Characters bytes ∷ cs) h = has_char v
+type_fine v (Blank ∷ cs) h = has_char v
+
+some_cost : (cs : List Value) → is_char (first_type cs) ≡ false → 0 < total cost cs
+some_cost [] h = cc
+some_cost (Number n ∷ cs) h = omega arith
+some_cost (Characters bytes ∷ cs) h = omega arith
+some_cost (Blank ∷ cs) h = omega arith
+
+size_some : (ty : NcType) → 0 < size_of ty
+size_some Byte = omega arith
+size_some Char = omega arith
+size_some Short = omega arith
+size_some Int = omega arith
+size_some Ubyte = omega arith
+size_some Ushort = omega arith
+size_some Uint = omega arith
+size_some Int64 = omega arith
+size_some Uint64 = omega arith
+
+times_some : (a b : ℕ) → 0 < a → 0 < b → 0 < a * b
+times_some (suc a) (suc b) h k = let e = one_times a (suc b) in omega (arith, e)
+times_some zero b h k = absurd (omega (arith, h))
+times_some (suc a) zero h k = absurd (omega (arith, k))
+
+pub att_keeps : (v : Version) (N n m : ℕ) (name : List ℕ) (cs : List Value) (atts : List Att) → m ≤ N → AreFineValues v m name cs → AreFineAtts v N n atts → OkIs (AreFineAtts v N (n + m)) (add_att name cs atts)
+unfolding add_att
+att_keeps v N n m name cs atts small said fine =
+    let Q : List Att → Type 0 = AreFineAtts v N (n + m) in
+    let ty = first_type cs in
+    let made : List ℕ → Att = λ vals. record { name = name; ty = ty; vals = vals } in
+    let last : List ℕ → Result (List Att) CdlKind = λ vals. Ok (atts ++ made vals ∷ []) in
+    ok_unless Q (is_name name) BadName (λ u. when (list_any (λ (a : Att). bytes_eq a.name name) atts) DuplicateName >>= (λ w. in_turn (add_constant ty) [] cs >>= last)) (λ named.
+    ok_when Q (list_any (λ (a : Att). bytes_eq a.name name) atts) DuplicateName (λ w. in_turn (add_constant ty) [] cs >>= last) (λ new.
+    ok_then (IsPart ty (0 + total cost cs)) Q (in_turn (add_constant ty) [] cs) last
+    (turns (add_constant ty) (IsPart ty) cost (IsFineValue v) (constant_step v ty) 0 [] cs (record { count = 0; few = omega arith; many = (λ e. omega arith); whole = omega arith; bytes = tt }) said.2)
+    (λ vals part. record {
+      count = (let a = one_more atts (made vals) in let b = fine.count in let c = said.0 in omega (arith, a, b, c));
+      fine = each_more (IsFineAtt v N) atts (made vals ∷ []) fine.fine (
+        record {
+          name = named;
+          short = (let c = said.0 in omega (arith, c, small));
+          ty = type_fine v cs said.2;
+          count = part.count;
+          few = (let a = part.few in let c = said.1 in omega (arith, a, c, small));
+          whole = part.whole;
+          bytes = part.bytes;
+          some = (λ e. let a = some_cost cs e in let b = part.many e in let c = times_some part.count (size_of ty) (omega (arith, a, b)) (size_some ty) in let d = part.whole in omega (arith, c, d));
+        },
+        tt,
+      );
+      names = named_more att_name atts (made vals) fine.names new;
+    })))
+
+-- ---- dimensions
+
+pub record IsFineDim (v : Version) (N : ℕ) (d : Dim) : Type 0 where
+  pub name : IsName d.name
+  pub short : length d.name ≤ N
+  pub len : d.len < count_limit v
+
+pub record AreFineDims (v : Version) (N n : ℕ) (dims : List Dim) : Type 0 where
+  pub count : length dims ≤ n
+  pub fine : Each (IsFineDim v N) dims
+  pub names : AreDistinct (map dim_name dims)
+  pub once : length (filter is_record dims) ≤ 1
+
+no_record : (dims : List Dim) → has_record_dim dims ≡ false → length (filter is_record dims) ≡ 0
+no_record [] h = refl
+no_record (d ∷ dims) h =
+    elim (d.len == 0) as (λ w. (w || has_record_dim dims) ≡ false → length (if w then d ∷ filter is_record dims else filter is_record dims) ≡ 0) [
+      | true ↦ (λ e. cc)
+      | false ↦ (λ e. no_record dims e)
+    ] h
+
+record IsFineLen (v : Version) (dims : List Dim) (len : ℕ) : Type 0 where
+  small : len < count_limit v
+  once : len ≡ 0 → has_record_dim dims ≡ false
+
+limit_some : (v : Version) → 0 < count_limit v
+limit_some Cdf1 = omega arith
+limit_some Cdf2 = omega arith
+limit_some Cdf5 = omega arith
+
+extent_fine : (v : Version) (dims : List Dim) (n : ℤ) → between (pos 1) (pos (count_limit v - 1)) n ≡ true → IsFineLen v dims (unsigned_abs n)
+extent_fine v dims (pos n) h =
+    let a : 1 ≤ n = grind (arith, and_left (nat_le 1 n) (nat_le n (count_limit v - 1)) h) in
+    let b : n ≤ count_limit v - 1 = grind (arith, and_right (nat_le 1 n) (nat_le n (count_limit v - 1)) h) in
+    let c = limit_some v in
+    record { small = omega (arith, a, b, c); once = (λ e. absurd (omega (arith, a, e))) }
+extent_fine v dims (negsuc n) h = cc
+
+len_fine : (v : Version) (dims : List Dim) (o : Option ℤ) → OkIs (IsFineLen v dims) (dim_len_of v dims o)
+len_fine v dims None = ok_when (IsFineLen v dims) (has_record_dim dims) TwoRecordDims (λ u. Ok 0) (λ e. record { small = limit_some v; once = (λ z. e) })
+len_fine v dims (Some n) =
+    ok_when (IsFineLen v dims) (int_eq n (pos 0)) ZeroDimension (λ u. unless (between (pos 1) (pos (count_limit v - 1)) n) NumberRange >>= (λ w. Ok (unsigned_abs n))) (λ e.
+    ok_unless (IsFineLen v dims) (between (pos 1) (pos (count_limit v - 1)) n) NumberRange (λ w. Ok (unsigned_abs n)) (λ h. extent_fine v dims n h))
+
+once_more : (v : Version) (dims : List Dim) (d : Dim) → length (filter is_record dims) ≤ 1 → IsFineLen v dims d.len → length (filter is_record (dims ++ d ∷ [])) ≤ 1
+once_more v dims d once fine =
+    let a = filter_append dims (d ∷ []) in
+    elim (d.len == 0) as (λ w. (d.len == 0) ≡ w → length (filter is_record (dims ++ d ∷ [])) ≡ length (filter is_record dims) + length (if w then d ∷ [] else []) → length (filter is_record (dims ++ d ∷ [])) ≤ 1) [
+      | true ↦ (λ e h. let b = no_record dims (fine.once (eqb-true d.len 0 e)) in omega (arith, h, b))
+      | false ↦ (λ e h. omega (arith, h, once))
+    ] refl a
+
+dim_step : (v : Version) (N : ℕ) (n : ℕ) (dims : List Dim) (d : Dimension) → AreFineDims v N n dims → dim_cost d ≤ N → OkIs (AreFineDims v N (n + dim_cost d)) (add_dim v dims d)
+unfolding add_dim
+dim_step v N n dims d fine small =
+    let Q : List Dim → Type 0 = AreFineDims v N (n + dim_cost d) in
+    let made : ℕ → Dim = λ len. record { name = d.name; len = len } in
+    let last : ℕ → Result (List Dim) CdlKind = λ len. Ok (dims ++ made len ∷ []) in
+    ok_unless Q (is_name d.name) BadName (λ u. when (list_any (λ (e : Dim). bytes_eq e.name d.name) dims) DuplicateName >>= (λ w. dim_len_of v dims d.len >>= last)) (λ named.
+    ok_when Q (list_any (λ (e : Dim). bytes_eq e.name d.name) dims) DuplicateName (λ w. dim_len_of v dims d.len >>= last) (λ new.
+    ok_then (IsFineLen v dims) Q (dim_len_of v dims d.len) last (len_fine v dims d.len) (λ len is.
+    record {
+      count = (let a = one_more dims (made len) in let b = fine.count in omega (arith, a, b));
+      fine = each_more (IsFineDim v N) dims (made len ∷ []) fine.fine (record { name = named; short = omega (arith, small); len = is.small }, tt);
+      names = named_more dim_name dims (made len) fine.names new;
+      once = once_more v dims (made len) fine.once is;
+    })))
+
+pub dims_keep : (v : Version) (N n m : ℕ) (dims : List Dim) (ds : List Dimension) → m ≤ N → total dim_cost ds ≤ m → AreFineDims v N n dims → OkIs (AreFineDims v N (n + m)) (in_turn (add_dim v) dims ds)
+dims_keep v N n m dims ds small said fine =
+    weaker (in_turn (add_dim v) dims ds) (turns (add_dim v) (AreFineDims v N) dim_cost (λ d. dim_cost d ≤ N) (dim_step v N) n dims ds fine (each_under dim_cost N ds (omega (arith, small, said))))
+  where
+    weaker : (r : Result (List Dim) CdlKind) → OkIs (AreFineDims v N (n + total dim_cost ds)) r → OkIs (AreFineDims v N (n + m)) r
+    weaker (Ok x) f = record { count = (let a = f.count in omega (arith, a, said)); fine = f.fine; names = f.names; once = f.once }
+    weaker (Err e) f = tt
+
+-- ---- shapes
+
+dimids_more : (dims : List Dim) (before ids : List ℕ) (k : ℕ) → AreDimids dims before ids → IsDimid dims (before ++ ids) k → AreDimids dims before (ids ++ k ∷ [])
+dimids_more dims before [] k are is = (subst (λ b. IsDimid dims b k) (append-nil before) is, tt)
+dimids_more dims before (i ∷ ids) k are is = (are.0, dimids_more dims (before ++ i ∷ []) ids k are.1 (subst (λ b. IsDimid dims b k) (sym (append_assoc before (i ∷ []) ids)) is))
+
+position_under : {X : Type 0} (p : X → Bool) (xs : List X) → SomeIs (λ k. k < length xs) (position p xs)
+position_under p xs =
+    let k = position_or_len p xs in
+    elim (nat_lt k (length xs)) as (λ b. nat_lt k (length xs) ≡ b → SomeIs (λ j. j < length xs) (if b then Some k else None)) [ true ↦ (λ e. grind (arith, e)) | false ↦ (λ e. tt) ] refl
+
+-- a shape so far
+abbrev IsShape : List Dim → ℕ → List ℕ → Type 0
+IsShape dims n ids = AreDimids dims [] ids × (length ids ≤ n)
+
+first_alone : (ids : List ℕ) (b : Bool) → (nat_lt 0 (length ids) && b) ≡ false → IsTrue b → ids ≡ []
+first_alone [] b h t = refl
+first_alone (i ∷ ids) true h t = absurd (false≢true (sym h ∙ let e : nat_lt 0 (length (i ∷ ids)) ≡ true = grind arith in ap (λ w. w && true) e))
+first_alone (i ∷ ids) false h t = cc
+
+id_step : (dims : List Dim) (n : ℕ) (ids name : List ℕ) → IsShape dims n ids → Unit {0} → OkIs (IsShape dims (n + name_cost name)) (add_dimid dims ids name)
+unfolding add_dimid
+id_step dims n ids name shape u =
+    let Q : List ℕ → Type 0 = IsShape dims (n + name_cost name) in
+    let last : ℕ → Result (List ℕ) CdlKind = λ k. when (nat_lt 0 (length ids) && is_record_dim dims k) BadShape >>= (λ w. Ok (ids ++ k ∷ [])) in
+    let p : Dim → Bool = λ d. bytes_eq d.name name in
+    ok_unless Q (is_name name) BadName (λ w. found (position p dims) UnknownDimension >>= last) (λ named.
+    ok_found (λ k. k < length dims) Q (position p dims) UnknownDimension last (position_under p dims) (λ k known.
+    ok_when Q (nat_lt 0 (length ids) && is_record_dim dims k) BadShape (λ w. Ok (ids ++ k ∷ [])) (λ e. (
+      dimids_more dims [] ids k shape.0 (record { known = known; record_first = first_alone ids (is_record_dim dims k) e }),
+      (let a = one_more ids k in let b = shape.1 in omega (arith, a, b)),
+    ))))
+
+pub any_each : {X : Type 0} (xs : List X) → Each (λ x. Unit {0}) xs
+any_each [] = tt
+any_each (x ∷ xs) = (tt, any_each xs)
+
+shape_fine : (dims : List Dim) (names : List (List ℕ)) → OkIs (IsShape dims (0 + total name_cost names)) (in_turn (add_dimid dims) [] names)
+shape_fine dims names = turns (add_dimid dims) (IsShape dims) name_cost (λ name. Unit {0}) (id_step dims) 0 [] names (tt, omega arith) (any_each names)
+
+-- ---- variables
+
+pub record IsFineDraft (v : Version) (N n : ℕ) (dims : List Dim) (d : Draft) : Type 0 where
+  pub name : IsName d.var.name
+  pub short : length d.var.name ≤ N
+  pub rank : length d.var.dimids ≤ N
+  pub shape : AreDimids dims [] d.var.dimids
+  pub ty : has_type v d.var.ty ≡ true
+  pub atts : AreFineAtts v N n d.var.atts
+  pub bare : d.var.begin_at ≡ 0
+  -- no more than over so many records
+  pub listed : length (values_of d) ≤ value_count dims d.var N
+
+pub record AreFineDrafts (v : Version) (N n : ℕ) (dims : List Dim) (drafts : List Draft) : Type 0 where
+  pub count : length drafts ≤ n
+  pub fine : Each (IsFineDraft v N n dims) drafts
+  pub names : AreDistinct (map draft_name drafts)
+
+pub later : (v : Version) (N n m : ℕ) (dims : List Dim) (d : Draft) → n ≤ m → IsFineDraft v N n dims d → IsFineDraft v N m dims d
+later v N n m dims d le f = record {
+  name = f.name;
+  short = f.short;
+  rank = f.rank;
+  shape = f.shape;
+  ty = f.ty;
+  bare = f.bare;
+  listed = f.listed;
+  atts = record { count = (let a = f.atts.count in omega (arith, a, le)); fine = f.atts.fine; names = f.atts.names };
+}
+
+pub all_later : (v : Version) (N n m : ℕ) (dims : List Dim) (ds : List Draft) → n ≤ m → AreFineDrafts v N n dims ds → AreFineDrafts v N m dims ds
+all_later v N n m dims ds le f = record {
+  count = (let a = f.count in omega (arith, a, le));
+  fine = each_map (IsFineDraft v N n dims) (IsFineDraft v N m dims) ds (λ d g. later v N n m dims d le g) f.fine;
+  names = f.names;
+}
+
+var_step : (v : Version) (N : ℕ) (dims : List Dim) (ty : NcType) → has_type v ty ≡ true → (n : ℕ) (drafts : List Draft) (x : Variable) → AreFineDrafts v N n dims drafts → var_cost x ≤ N →
+    OkIs (AreFineDrafts v N (n + var_cost x) dims) (add_var dims ty drafts x)
+unfolding add_var
+var_step v N dims ty has n drafts x fine small =
+    let m = n + var_cost x in
+    let Q : List Draft → Type 0 = AreFineDrafts v N m dims in
+    let made : List ℕ → Draft = λ ids. record { var = record { name = x.name; dimids = ids; atts = []; ty = ty; begin_at = 0 }; listed = None } in
+    let last : List ℕ → Result (List Draft) CdlKind = λ ids. Ok (drafts ++ made ids ∷ []) in
+    let f = all_later v N n m dims drafts (omega arith) fine in
+    ok_unless Q (is_name x.name) BadName (λ u. when (list_any (λ (w : Draft). bytes_eq w.var.name x.name) drafts) DuplicateName >>= (λ w. in_turn (add_dimid dims) [] x.dimensions >>= last)) (λ named.
+    ok_when Q (list_any (λ (w : Draft). bytes_eq w.var.name x.name) drafts) DuplicateName (λ w. in_turn (add_dimid dims) [] x.dimensions >>= last) (λ new.
+    ok_then (IsShape dims (0 + total name_cost x.dimensions)) Q (in_turn (add_dimid dims) [] x.dimensions) last (shape_fine dims x.dimensions) (λ ids is.
+    record {
+      count = (let a = one_more drafts (made ids) in let b = fine.count in omega (arith, a, b));
+      fine = each_more (IsFineDraft v N m dims) drafts (made ids ∷ []) f.fine (
+        record {
+          name = named;
+          short = omega (arith, small);
+          rank = (let a = is.1 in omega (arith, small, a));
+          shape = is.0;
+          ty = has;
+          atts = record { count = omega arith; fine = tt; names = tt };
+          bare = refl;
+          listed = omega arith;
+        },
+        tt,
+      );
+      names = named_more draft_name drafts (made ids) fine.names new;
+    })))
+
+pub vars_keep : (v : Version) (N n m : ℕ) (dims : List Dim) (ty : NcType) (drafts : List Draft) (xs : List Variable) → has_type v ty ≡ true → m ≤ N → total var_cost xs ≤ m → AreFineDrafts v N n dims drafts →
+    OkIs (AreFineDrafts v N (n + m) dims) (in_turn (add_var dims ty) drafts xs)
+vars_keep v N n m dims ty drafts xs has small said fine =
+    weaker (in_turn (add_var dims ty) drafts xs) (turns (add_var dims ty) (λ k ds. AreFineDrafts v N k dims ds) var_cost (λ x. var_cost x ≤ N) (var_step v N dims ty has) n drafts xs fine (each_under var_cost N xs (omega (arith, small, said))))
+  where
+    weaker : (r : Result (List Draft) CdlKind) → OkIs (AreFineDrafts v N (n + total var_cost xs) dims) r → OkIs (AreFineDrafts v N (n + m) dims) r
+    weaker (Ok x) f = all_later v N (n + total var_cost xs) (n + m) dims x (omega (arith, said)) f
+    weaker (Err e) f = tt
+
+-- ---- the variable of a name
+
+abbrev Renewed : (Draft → Type 0) → Draft → Draft → Type 0
+Renewed P d e = P e × (e.var.name ≡ d.var.name)
+
+record AreRenewed (P : Draft → Type 0) (ds es : List Draft) : Type 0 where
+  fine : Each P es
+  names : map draft_name es ≡ map draft_name ds
+  count : length es ≡ length ds
+
+named_keeps : (P P' : Draft → Type 0) (name : List ℕ) (f : Draft → Result Draft CdlKind) → ((d : Draft) → P d → P' d) → ((d : Draft) → P d → OkIs (Renewed P' d) (f d)) →
+    (ds : List Draft) → Each P ds → OkIs (AreRenewed P' ds) (at_named name f ds)
+named_keeps P P' name f more step [] h = tt
+named_keeps P P' name f more step (d ∷ ds) h =
+    elim (bytes_eq d.var.name name) as (λ b. OkIs (AreRenewed P' (d ∷ ds)) (if b then f d >>= (λ e. Ok (e ∷ ds)) else at_named name f ds >>= (λ es. Ok (d ∷ es)))) [
+      | true ↦ ok_then (Renewed P' d) (AreRenewed P' (d ∷ ds)) (f d) (λ e. Ok (e ∷ ds)) (step d h.0)
+          (λ e r. record { fine = (r.0, each_map P P' ds more h.1); names = ap (λ n. n ∷ map draft_name ds) r.1; count = refl })
+      | false ↦ ok_then (AreRenewed P' ds) (AreRenewed P' (d ∷ ds)) (at_named name f ds) (λ es. Ok (d ∷ es)) (named_keeps P P' name f more step ds h.1)
+          (λ es r. record { fine = (more d h.0, r.fine); names = ap (λ ns. d.var.name ∷ ns) r.names; count = ap suc r.count })
+    ]
+
+-- what keeps its draft fine keeps all, and adds none
+pub at_keeps : (v : Version) (N n m : ℕ) (dims : List Dim) (name : List ℕ) (f : Draft → Result Draft CdlKind) → ((d : Draft) → IsFineDraft v N n dims d → OkIs (λ e. IsFineDraft v N (n + m) dims e × (e.var.name ≡ d.var.name)) (f d)) →
+    (ds : List Draft) → AreFineDrafts v N n dims ds → OkIs (λ es. AreFineDrafts v N (n + m) dims es × (length es ≡ length ds)) (at_variable name f ds)
+unfolding at_variable
+at_keeps v N n m dims name f step ds fine =
+    let Q : List Draft → Type 0 = λ es. AreFineDrafts v N (n + m) dims es × (length es ≡ length ds) in
+    ok_unless Q (is_name name) BadName (λ u. at_named name f ds) (λ named.
+    end (at_named name f ds) (named_keeps (IsFineDraft v N n dims) (IsFineDraft v N (n + m) dims) name f (λ d g. later v N n (n + m) dims d (omega arith) g) step ds fine.fine))
+  where
+    end : (r : Result (List Draft) CdlKind) → OkIs (AreRenewed (IsFineDraft v N (n + m) dims) ds) r → OkIs (λ es. AreFineDrafts v N (n + m) dims es × (length es ≡ length ds)) r
+    end (Err e) h = tt
+    end (Ok es) h = (record { count = (let a = h.count in let b = fine.count in omega (arith, a, b)); fine = h.fine; names = subst AreDistinct (sym h.names) fine.names }, h.count)
+
+pub with_att_keeps : (v : Version) (N n m : ℕ) (dims : List Dim) (name : List ℕ) (cs : List Value) → m ≤ N → AreFineValues v m name cs → (d : Draft) → IsFineDraft v N n dims d →
+    OkIs (λ e. IsFineDraft v N (n + m) dims e × (e.var.name ≡ d.var.name)) (with_att name cs d)
+with_att_keeps v N n m dims name cs small said d f =
+    ok_then (AreFineAtts v N (n + m)) (λ e. IsFineDraft v N (n + m) dims e × (e.var.name ≡ d.var.name)) (add_att name cs d.var.atts) (λ atts. Ok (record d { var = record d.var { atts = atts } }))
+    (att_keeps v N n m name cs d.var.atts small said f.atts)
+    (λ atts fine. (record { name = f.name; short = f.short; rank = f.rank; shape = f.shape; ty = f.ty; bare = f.bare; listed = f.listed; atts = fine }, refl))

@@ -1,0 +1,226 @@
+-- The array of a variable is given back by the text of its values.
+use Rattle.std.proofs.Common.{◌≡◌, ℕ, zero, suc, ◌+◌, ◌*◌, ◌<◌, ◌≤◌, Bool, true, false, List, [], ◌∷◌, ◌++◌, length, drop, take, map, sym, ◌∙◌, ap, refl, subst, arith, length-take, length-drop}
+use Rattle.std.specs.Prelude.{ℤ, pos, negsuc, ◌&&◌, ◌==◌, not, if◌then◌else◌, nat_lt, find, None, Some}
+use Rattle.std.specs.List.{flat_map}
+use Rattle.std.specs.Ordering.{int_eq}
+use Rattle.std.proofs.lemmas.Bool.Decides.{Decides-int_eq}
+use Rattle.std.proofs.lemmas.Int.{ints}
+use Rattle.std.proofs.lemmas.List.{take-append-drop}
+use Rattle.nc_base.specs.declared.header.Att.{Att}
+use Rattle.nc_base.specs.declared.header.Dim.{Dim}
+use Rattle.nc_base.specs.declared.header.Header.{Header}
+use Rattle.nc_base.specs.declared.header.Var.{Var}
+use Rattle.nc_base.specs.declared.nc_type.NcType.{NcType}
+use Rattle.nc_base.specs.declared.nc_type.NcType.TheVariants.{Byte, Char, Short, Int, Ubyte, Ushort, Uint, Int64, Uint64}
+use Rattle.nc_base.specs.declared.version.Version.{Version}
+use Rattle.nc_base.specs.Fill.{fill_value, fill_of_att, fill_or_default, is_fill_att}
+use Rattle.nc_base.specs.Headers.{value_count, IsArray}
+use Rattle.nc_base.specs.Names.{IsName}
+use Rattle.nc_base.specs.Numbers.{numbers, bytes_of_number, IsInRange}
+use Rattle.nc_base.specs.Sizes.{is_record_var, slab_count}
+use Rattle.nc_base.specs.ValueText.{Look, look_of, is_char}
+use Rattle.nc_base.specs.Sayable.{trimmed_att, trimmed_var}
+use Rattle.cdl_parse.specs.State.{room_of, filled, fits}
+use Rattle.cdl_parse.specs.Meaning.{array_of}
+use Rattle.cdl_laws.proofs.Attributes.{numbers_back, numbers_range, all_fit, all_small, count_is, numbers_len}
+use Rattle.cdl_laws.proofs.Bools.{and_left, off}
+use Rattle.cdl_laws.proofs.Characters.{flat}
+use Rattle.cdl_laws.proofs.DataTexts.{Gives, IsRoomFor, gives_numbers, gives_table, gives_line, given_draft}
+use Rattle.cdl_laws.proofs.Filled.{IsCharacter}
+use Rattle.cdl_laws.proofs.Lists.{Each, each_map}
+
+-- ---- the fill value
+
+-- what a number type takes from an attribute is the same of a trimmed one
+same_of_type : (ty : NcType) (name : List ℕ) (att_ty : NcType) (vals : List ℕ) → is_char ty ≡ false →
+    fill_of_att ty (Some (trimmed_att (record { name = name; ty = att_ty; vals = vals }))) ≡ fill_of_att ty (Some (record { name = name; ty = att_ty; vals = vals }))
+same_of_type Char name Char vals h = cc
+same_of_type Byte name Char vals h = refl
+same_of_type Short name Char vals h = refl
+same_of_type Int name Char vals h = refl
+same_of_type Ubyte name Char vals h = refl
+same_of_type Ushort name Char vals h = refl
+same_of_type Uint name Char vals h = refl
+same_of_type Int64 name Char vals h = refl
+same_of_type Uint64 name Char vals h = refl
+same_of_type ty name _ vals h = refl
+
+same_own : (ty : NcType) (atts : List Att) → is_char ty ≡ false → fill_of_att ty (find is_fill_att (map trimmed_att atts)) ≡ fill_of_att ty (find is_fill_att atts)
+same_own ty [] h = refl
+same_own ty (a ∷ atts) h =
+    elim (is_fill_att a) as (λ w. fill_of_att ty (if w then Some (trimmed_att a) else find is_fill_att (map trimmed_att atts)) ≡ fill_of_att ty (if w then Some a else find is_fill_att atts)) [
+      | true ↦ same_of_type ty a.name a.ty a.vals h
+      | false ↦ same_own ty atts h
+    ]
+
+pub same_fill : (var : Var) → is_char var.ty ≡ false → fill_value (trimmed_var var) ≡ fill_value var
+unfolding fill_value
+same_fill var h = ap (fill_or_default var.ty) (same_own var.ty var.atts h)
+
+-- ---- rooms
+
+wide_enough : (c n : ℕ) (b : Bool) → b ≡ false → c * (if b then n else 1) ≤ c
+wide_enough c n true h = cc
+wide_enough c n false h = omega arith
+
+room_is : (h : Header) (var : Var) (n width m : ℕ) → m ≡ value_count h.dims var n → IsName var.name → fill_value (trimmed_var var) ≡ fill_value var → IsRoomFor (look_of h var n width) (room_of h.dims (trimmed_var var)) var m
+unfolding look_of room_of
+room_is h var n width m is name fill = record {
+  name = refl;
+  valid = name;
+  ty = refl;
+  fill = fill;
+  rows = refl;
+  wide = λ e. subst (λ k. k ≤ slab_count h.dims var) (sym is) (wide_enough (slab_count h.dims var) n (is_record_var h.dims var) e);
+}
+
+pub not_off : (b : Bool) → not b ≡ false → b ≡ true
+not_off true e = refl
+not_off false e = cc
+
+row_all : (h : Header) (var : Var) (n width : ℕ) → (look_of h var n width).in_rows ≡ false → (look_of h var n width).row ≡ value_count h.dims var n
+unfolding look_of
+row_all h var n width e = rw (not_off (nat_lt (length var.dimids) 2) e) refl
+
+-- ---- numbers
+
+abbrev look_ty : Header → Var → ℕ → ℕ → NcType
+look_ty h var n width = (look_of h var n width).ty
+
+look_type : (h : Header) (var : Var) (n width : ℕ) → (look_of h var n width).ty ≡ var.ty
+unfolding look_of
+look_type h var n width = refl
+
+room_type : (dims : List Dim) (var : Var) → (room_of dims (trimmed_var var)).ty ≡ var.ty
+unfolding room_of
+room_type dims var = refl
+
+listed_numbers : (v : Version) (h : Header) (var : Var) (n width : ℕ) (xs : List ℤ) → 0 < length xs → length xs ≡ value_count h.dims var n → Each (IsInRange var.ty) xs → is_char var.ty ≡ false → IsName var.name →
+    Gives v h.dims (look_of h var n width) var xs
+listed_numbers v h var n width [] some len range other name = absurd (omega (arith, some))
+listed_numbers v h var n width (x ∷ xs) some len range other name =
+    gives_numbers v h.dims (look_of h var n width) var x xs (room_is h var n width (length (x ∷ xs)) len name (same_fill var other)) (ap is_char (look_type h var n width) ∙ other)
+    (λ e. let r = row_all h var n width e in omega (arith, r, len)) (all_small var.ty (x ∷ xs) range)
+    (subst (λ ty. Each (λ y. fits ty y ≡ true) (x ∷ xs)) (sym (room_type h.dims var)) (all_fit var.ty (x ∷ xs) range))
+
+-- ---- characters at rank 0 and 1
+
+character_is : (x : ℤ) → IsInRange Char x → IsCharacter x
+character_is (pos n) h = refl
+character_is (negsuc n) h = absurd (omega (arith, ints, h.0))
+
+are_characters : (ty : NcType) (xs : List ℤ) → is_char ty ≡ true → Each (IsInRange ty) xs → Each IsCharacter xs
+are_characters Char xs h range = each_map (IsInRange Char) IsCharacter xs character_is range
+are_characters _ xs h range = cc
+
+trimmed_fill : (h : Header) (var : Var) (n width : ℕ) → (look_of h var n width).trimmed ≡ true → fill_value var ≡ pos 0
+unfolding look_of
+trimmed_fill h var n width e = (Decides-int_eq (fill_value var) (pos 0)).0 (and_left (int_eq (fill_value var) (pos 0)) (not (is_record_var h.dims var && (length var.dimids == 1))) e)
+
+listed_line : (v : Version) (h : Header) (var : Var) (n width : ℕ) (xs : List ℤ) → 0 < length xs → length xs ≡ value_count h.dims var n → Each (IsInRange var.ty) xs → is_char var.ty ≡ true → IsName var.name →
+    fill_value (trimmed_var var) ≡ fill_value var → (look_of h var n width).in_rows ≡ false → (is_record_var h.dims var ≡ true → (look_of h var n width).trimmed ≡ false) → Gives v h.dims (look_of h var n width) var xs
+listed_line v h var n width [] some len range char name fill rank whole = absurd (omega (arith, some))
+listed_line v h var n width (x ∷ xs) some len range char name fill rank whole =
+    gives_line v h.dims (look_of h var n width) var x xs (room_is h var n width (length (x ∷ xs)) len name fill) (ap is_char (look_type h var n width) ∙ char) rank
+    (let r = row_all h var n width rank in omega (arith, r, len)) (λ e. fill ∙ trimmed_fill h var n width e) whole (are_characters var.ty (x ∷ xs) char range)
+
+-- ---- characters at rank 2 and up
+
+rows_of : ℕ → ℕ → List ℤ → List (List ℤ)
+rows_of zero row xs = []
+rows_of (suc k) row xs = take row xs ∷ rows_of k row (drop row xs)
+
+flat_rows : (k row : ℕ) (xs : List ℤ) → length xs ≡ k * row → flat (rows_of k row xs) ≡ xs
+unfolding rows_of
+flat_rows zero row [] h = refl
+flat_rows zero row (x ∷ xs) h = absurd (let e : suc (length xs) ≡ 0 * row = h in omega (arith, e))
+flat_rows (suc k) row xs h =
+    ap (λ ys. take row xs ++ ys) (flat_rows k row (drop row xs) (let e = length-drop row xs in let g : suc k * row ≡ row + k * row = grind arith in omega (arith, e, g, h))) ∙ take-append-drop row xs
+
+each_take : (P : ℤ → Type 0) (n : ℕ) (xs : List ℤ) → Each P xs → Each P (take n xs)
+each_take P zero xs h = tt
+each_take P (suc n) [] h = tt
+each_take P (suc n) (x ∷ xs) h = (h.0, each_take P n xs h.1)
+
+each_drop : (P : ℤ → Type 0) (n : ℕ) (xs : List ℤ) → Each P xs → Each P (drop n xs)
+each_drop P zero xs h = h
+each_drop P (suc n) [] h = tt
+each_drop P (suc n) (x ∷ xs) h = each_drop P n xs h.1
+
+rows_are : (k row : ℕ) (xs : List ℤ) → length xs ≡ k * row → Each IsCharacter xs → Each (λ (s : List ℤ). (length s ≡ row) × Each IsCharacter s) (rows_of k row xs)
+unfolding rows_of
+rows_are zero row xs h all = tt
+rows_are (suc k) row xs h all =
+    let g : suc k * row ≡ row + k * row = grind arith in (
+      ((let e = length-take row xs in omega (arith, e, g, h)), each_take IsCharacter row xs all),
+      rows_are k row (drop row xs) (let e = length-drop row xs in omega (arith, e, g, h)) (each_drop IsCharacter row xs all),
+    )
+
+rank_row : (h : Header) (var : Var) (n width : ℕ) → (look_of h var n width).in_rows ≡ true → (look_of h var n width).row ≡ (room_of h.dims (trimmed_var var)).row
+unfolding look_of room_of
+rank_row h var n width e = let f = off (nat_lt (length var.dimids) 2) e in rw (f) refl
+
+look_fill : (h : Header) (var : Var) (n width : ℕ) → (look_of h var n width).fill ≡ fill_value var
+unfolding look_of
+look_fill h var n width = refl
+
+listed_table : (v : Version) (h : Header) (var : Var) (n width k : ℕ) (xs : List ℤ) → length xs ≡ suc k * (look_of h var n width).row → 0 < (look_of h var n width).row → length xs ≡ value_count h.dims var n → Each (IsInRange var.ty) xs → is_char var.ty ≡ true → IsName var.name →
+    fill_value (trimmed_var var) ≡ fill_value var → (look_of h var n width).in_rows ≡ true → Gives v h.dims (look_of h var n width) var xs
+unfolding rows_of
+listed_table v h var n width k xs split some len range char name fill rank =
+    let look = look_of h var n width in
+    let same = flat_rows (suc k) look.row xs split in
+    subst (λ ys. Gives v h.dims look var ys) same
+    (gives_table v h.dims look var (take look.row xs) (rows_of k look.row (drop look.row xs)) (room_is h var n width (length (flat (rows_of (suc k) look.row xs))) (ap (λ (ys : List ℤ). length ys) same ∙ len) name fill) (ap is_char (look_type h var n width) ∙ char) rank
+    (λ e. look_fill h var n width ∙ trimmed_fill h var n width e) (rank_row h var n width rank) some (rows_are (suc k) look.row xs split (are_characters var.ty xs char range)))
+
+-- ---- arrays
+
+-- a listed variable has its array again
+array_valued : (v : Version) (dims : List Dim) (look : Look) (var : Var) (values : List ℤ) (n : ℕ) (array : List ℕ) (g : Gives v dims look var values) → length values ≡ value_count dims var n → flat_map (bytes_of_number var.ty) values ≡ array →
+    array_of dims n (given_draft var (Some g.ys)) ≡ array
+array_valued v dims look var values n array g len bytes =
+    ap (λ m. flat_map (bytes_of_number var.ty) (filled m (fill_value (trimmed_var var)) g.ys)) (sym len) ∙ ap (flat_map (bytes_of_number var.ty)) g.full ∙ bytes
+
+-- and one without values has none
+pub array_none : (dims : List Dim) (var : Var) (n : ℕ) → value_count dims var n ≡ 0 → array_of dims n (given_draft var None) ≡ []
+array_none dims var n none = ap (λ m. flat_map (bytes_of_number var.ty) (filled m (fill_value (trimmed_var var)) [])) none
+
+-- an array's numbers
+array_numbers : (dims : List Dim) (n : ℕ) (var : Var) (array : List ℕ) → IsArray dims n var array → flat_map (bytes_of_number var.ty) (numbers var.ty array) ≡ array
+array_numbers dims n var array is =
+    ap (flat_map (bytes_of_number var.ty)) (count_is var.ty (value_count dims var n) array is.whole) ∙ numbers_back var.ty (value_count dims var n) array is.bytes is.whole
+
+pub array_len : (dims : List Dim) (n : ℕ) (var : Var) (array : List ℕ) → IsArray dims n var array → length (numbers var.ty array) ≡ value_count dims var n
+array_len dims n var array is =
+    ap (λ (xs : List ℤ). length xs) (count_is var.ty (value_count dims var n) array is.whole) ∙ numbers_len var.ty (value_count dims var n) array
+
+array_range : (dims : List Dim) (n : ℕ) (var : Var) (array : List ℕ) → IsArray dims n var array → Each (IsInRange var.ty) (numbers var.ty array)
+array_range dims n var array is =
+    subst (λ xs. Each (IsInRange var.ty) xs) (sym (count_is var.ty (value_count dims var n) array is.whole)) (numbers_range var.ty (value_count dims var n) array is.bytes is.whole)
+
+-- the array of a number variable is read back: all of it, for every width and wherever the breaks are
+pub number_row_reads_back : (v : Version) (h : Header) (var : Var) (n width : ℕ) (array : List ℕ) → IsArray h.dims n var array → 0 < value_count h.dims var n → is_char var.ty ≡ false → IsName var.name →
+    (g : Gives v h.dims (look_of h var n width) var (numbers var.ty array)) × (array_of h.dims n (given_draft var (Some g.ys)) ≡ array)
+number_row_reads_back v h var n width array is some other name =
+    let len = array_len h.dims n var array is in
+    let g = listed_numbers v h var n width (numbers var.ty array) (omega (arith, len, some)) len (array_range h.dims n var array is) other name in
+    (g, array_valued v h.dims (look_of h var n width) var (numbers var.ty array) n array g len (array_numbers h.dims n var array is))
+
+-- that of a variable of characters at rank 0 or 1
+pub line_reads_back : (v : Version) (h : Header) (var : Var) (n width : ℕ) (array : List ℕ) → IsArray h.dims n var array → 0 < value_count h.dims var n → is_char var.ty ≡ true → IsName var.name → fill_value (trimmed_var var) ≡ fill_value var →
+    (look_of h var n width).in_rows ≡ false → (is_record_var h.dims var ≡ true → (look_of h var n width).trimmed ≡ false) →
+    (g : Gives v h.dims (look_of h var n width) var (numbers var.ty array)) × (array_of h.dims n (given_draft var (Some g.ys)) ≡ array)
+line_reads_back v h var n width array is some char name fill rank whole =
+    let len = array_len h.dims n var array is in
+    let g = listed_line v h var n width (numbers var.ty array) (omega (arith, len, some)) len (array_range h.dims n var array is) char name fill rank whole in
+    (g, array_valued v h.dims (look_of h var n width) var (numbers var.ty array) n array g len (array_numbers h.dims n var array is))
+
+-- and that of one at rank 2 and up, where the rows divide it
+pub table_reads_back : (v : Version) (h : Header) (var : Var) (n width k : ℕ) (array : List ℕ) → IsArray h.dims n var array → value_count h.dims var n ≡ suc k * (look_of h var n width).row → 0 < (look_of h var n width).row → is_char var.ty ≡ true → IsName var.name →
+    fill_value (trimmed_var var) ≡ fill_value var → (look_of h var n width).in_rows ≡ true →
+    (g : Gives v h.dims (look_of h var n width) var (numbers var.ty array)) × (array_of h.dims n (given_draft var (Some g.ys)) ≡ array)
+table_reads_back v h var n width k array is split some char name fill rank =
+    let len = array_len h.dims n var array is in
+    let g = listed_table v h var n width k (numbers var.ty array) (len ∙ split) some len (array_range h.dims n var array is) char name fill rank in
+    (g, array_valued v h.dims (look_of h var n width) var (numbers var.ty array) n array g len (array_numbers h.dims n var array is))

@@ -1,0 +1,216 @@
+-- The statements of a dump, and what they say.
+use Rattle.std.proofs.Common.{◌≡◌, ℕ, suc, ◌+◌, ◌^◌, ◌<◌, ◌≤◌, Bool, true, false, List, [], ◌∷◌, ◌++◌, length, get_or, map, sym, ◌∙◌, ap, refl, subst, arith, append_assoc}
+use Rattle.std.specs.Prelude.{ℤ, unsigned_abs, ◌==◌, not, if◌then◌else◌, None, Some, codes}
+use Rattle.std.specs.Fmt.{signed_decimal}
+use Rattle.std.specs.List.{list_all, list_any, prefix_len}
+use Rattle.std.specs.Str.{bytes_eq}
+use Rattle.std.proofs.lemmas.Bool.{false≢true}
+use Rattle.std.proofs.lemmas.Slice.Eq.{bytes_eq-Decides}
+use Rattle.nc_base.specs.declared.nc_type.NcType.{NcType}
+use Rattle.nc_base.specs.declared.nc_type.NcType.TheVariants.{Byte, Char, Short, Int, Ubyte, Ushort, Uint, Int64, Uint64}
+use Rattle.nc_base.specs.declared.version.Version.{Version}
+use Rattle.nc_base.specs.Escapes.{escaped_name, is_plain, is_reserved, reserved_words}
+use Rattle.nc_base.specs.HeadText.{joined}
+use Rattle.nc_base.specs.Names.{IsName}
+use Rattle.nc_base.specs.Types.{type_word}
+use Rattle.nc_base.specs.ValueText.{Look, is_char, variable_text}
+use Rattle.cdl_text.specs.declared.section.Section.TheVariants.{Values}
+use Rattle.cdl_text.specs.Bytes.{begins_word, goes_on_word}
+use Rattle.cdl_text.specs.Front.{front, word_len}
+use Rattle.cdl_text.specs.Lexemes.{Lexeme, role}
+use Rattle.cdl_text.specs.Pieces.{is_section}
+use Rattle.cdl_laws.specs.Reading.{lexemes_at}
+use Rattle.cdl_text.specs.Shapes.{Value, Characters, Listed, both, constants, body}
+use Rattle.cdl_laws.proofs.Bools.{and_left, and_right, and_both}
+use Rattle.cdl_laws.proofs.Lists.{Each}
+use Rattle.cdl_laws.proofs.NameTexts.{no_escape}
+use Rattle.cdl_laws.proofs.Words.{word_front}
+use Rattle.cdl_laws.proofs.Texts.{Closed, Reads, stops, then_reads, reads_both, mark, word, number, name_word, word_reads, stop_word, front_again}
+use Rattle.cdl_laws.proofs.Numerals.{value_again}
+use Rattle.cdl_laws.proofs.Strings.{string}
+use Rattle.cdl_laws.proofs.ValueTexts.{comma, commas, AreSmall, value_lexeme, value_said, is_blank_value, numbers_closed, values_said}
+use Rattle.cdl_laws.proofs.Characters.{shown, flat, table_closed, line_closed}
+use Rattle.cdl_laws.proofs.Filled.{strings_said}
+use Rattle.cdl_laws.proofs.Takes.{Says, statement_says, semicolon, is_fine, word_fine, is_starter}
+
+-- ---- words
+
+-- none of the reserved words is this
+pub not_word : (w u : List ℕ) (words : List (List ℕ)) → list_any (bytes_eq w) words ≡ false → list_any (bytes_eq u) words ≡ true → bytes_eq w u ≡ false
+not_word w u words h k =
+    elim (bytes_eq w u) as (λ b. bytes_eq w u ≡ b → b ≡ false) [
+      | true ↦ (λ e. absurd (false≢true (sym h ∙ ap (λ x. list_any (bytes_eq x) words) ((bytes_eq-Decides w u).0 e) ∙ k)))
+      | false ↦ (λ e. refl)
+    ] refl
+
+pub no_section : (w : List ℕ) → is_reserved w ≡ false → is_section w ≡ false
+unfolding is_reserved is_section
+no_section w h =
+    rw (not_word w (codes "dimensions") reserved_words h refl) (rw (not_word w (codes "variables") reserved_words h refl) (rw (not_word w (codes "data") reserved_words h refl) refl))
+
+pub name_starts : (name : List ℕ) → IsName name → is_starter (role (word (escaped_name name))) ≡ true
+name_starts name h = rw (no_section (escaped_name name) (name_word name h).free) refl
+
+plain_len : (w rest : List ℕ) → list_all is_plain w ≡ true → stops rest ≡ true → word_len (w ++ rest) ≡ length w
+plain_len [] rest h k = stop_word rest k
+plain_len (b ∷ w) rest h k =
+    let one : goes_on_word b ≡ true = and_left (is_plain b) (list_all is_plain w) h in
+    let ih = plain_len w rest (and_right (is_plain b) (list_all is_plain w) h) k in
+    word_front b (w ++ rest) ∙ rw (no_escape b (get_or (w ++ rest) 0 0) one) (rw (one) (omega (arith, ih)))
+
+-- a word without escapes
+pub bare_word : (b : ℕ) (w : List ℕ) → begins_word b ≡ true → list_all is_plain (b ∷ w) ≡ true → Reads (b ∷ w) (word (b ∷ w) ∷ [])
+bare_word b w h all = word_reads b w (λ rest. rw (h) refl) (λ rest stop. plain_len (b ∷ w) rest all stop)
+
+pub type_reads : (ty : NcType) → Reads (type_word ty) (word (type_word ty) ∷ [])
+type_reads Byte = bare_word 98 (codes "yte") refl refl
+type_reads Char = bare_word 99 (codes "har") refl refl
+type_reads Short = bare_word 115 (codes "hort") refl refl
+type_reads Int = bare_word 105 (codes "nt") refl refl
+type_reads Ubyte = bare_word 117 (codes "byte") refl refl
+type_reads Ushort = bare_word 117 (codes "short") refl refl
+type_reads Uint = bare_word 117 (codes "int") refl refl
+type_reads Int64 = bare_word 105 (codes "nt64") refl refl
+type_reads Uint64 = bare_word 117 (codes "int64") refl refl
+
+pub type_starts : (ty : NcType) → is_starter (role (word (type_word ty))) ≡ true
+unfolding is_section
+type_starts Byte = refl
+type_starts Char = refl
+type_starts Short = refl
+type_starts Int = refl
+type_starts Ubyte = refl
+type_starts Ushort = refl
+type_starts Uint = refl
+type_starts Int64 = refl
+type_starts Uint64 = refl
+
+-- ---- fixed bytes
+
+pub tab_closed : Closed (codes "\t") []
+unfolding lexemes_at front
+tab_closed rest = refl
+
+pub tabs_closed : Closed (codes "\t\t") []
+unfolding lexemes_at front
+tabs_closed rest = refl
+
+pub is_closed : Closed (codes " = ") (mark 61 ∷ [])
+unfolding lexemes_at front
+is_closed rest = refl
+
+pub blank_closed : Closed (codes " ") []
+unfolding lexemes_at front
+blank_closed rest = refl
+
+pub colon_closed : Closed (codes ":") (mark 58 ∷ [])
+unfolding lexemes_at front
+colon_closed rest = refl
+
+pub paren_closed : Closed (codes "(") (mark 40 ∷ [])
+unfolding lexemes_at front
+paren_closed rest = refl
+
+pub end_closed : Closed (codes ")") (mark 41 ∷ [])
+unfolding lexemes_at front
+end_closed rest = refl
+
+next_closed : Closed (codes ", ") (comma ∷ [])
+unfolding lexemes_at front
+next_closed rest = refl
+
+pub stop_closed : Closed (codes " ; ") (semicolon ∷ [])
+unfolding lexemes_at front
+stop_closed rest = refl
+
+pub feed_closed : Closed (codes "\n") []
+unfolding lexemes_at front
+feed_closed rest = refl
+
+-- ---- lists
+
+-- pieces that are one lexeme each, joined
+pub joined_reads : {A : Type 0} (bytes : A → List ℕ) (lex : A → Lexeme) (x : A) (xs : List A) → Each (λ y. Reads (bytes y) (lex y ∷ [])) (x ∷ xs) →
+    Reads (joined (map bytes (x ∷ xs))) (lex x ∷ commas (map lex xs))
+joined_reads bytes lex x [] all = all.0
+joined_reads bytes lex x (y ∷ ys) all =
+    reads_both (bytes x) (codes ", " ++ joined (map bytes (y ∷ ys))) (lex x ∷ []) (commas (map lex (y ∷ ys))) all.0 (λ rest h. refl)
+    (then_reads (codes ", ") (joined (map bytes (y ∷ ys))) (comma ∷ []) (lex y ∷ commas (map lex ys)) next_closed (joined_reads bytes lex y ys all.1))
+
+pub fine_commas : (v : Version) (ls : List Lexeme) → list_all (is_fine v) ls ≡ true → list_all (is_fine v) (commas ls) ≡ true
+fine_commas v [] h = refl
+fine_commas v (l ∷ ls) h = and_both (is_fine v l) (list_all (is_fine v) (commas ls)) (and_left (is_fine v l) (list_all (is_fine v) ls) h) (fine_commas v ls (and_right (is_fine v l) (list_all (is_fine v) ls) h))
+
+-- ---- data
+
+value_fine : (v : Version) (look : Look) (x : ℤ) → unsigned_abs x < 2 ^ 64 → is_fine v (value_lexeme look x) ≡ true
+value_fine v look x h =
+    elim (is_blank_value look x) as (λ b. is_fine v (if b then word (codes "_") else number (signed_decimal x)) ≡ true) [
+      | true ↦ word_fine v (codes "_")
+      | false ↦ rw (value_again v x h) refl
+    ]
+
+values_fine : (v : Version) (look : Look) (xs : List ℤ) → AreSmall xs → list_all (is_fine v) (map (value_lexeme look) xs) ≡ true
+values_fine v look [] h = refl
+values_fine v look (x ∷ xs) h = and_both (is_fine v (value_lexeme look x)) (list_all (is_fine v) (map (value_lexeme look) xs)) (value_fine v look x h.0) (values_fine v look xs h.1)
+
+-- NAME = VALUE, ..
+listed_fine : (v : Version) (name : List ℕ) (l : Lexeme) (ls : List Lexeme) → list_all (is_fine v) (l ∷ ls) ≡ true → list_all (is_fine v) (word name ∷ mark 61 ∷ l ∷ commas ls) ≡ true
+listed_fine v name l ls h =
+    and_both (is_fine v (word name)) (list_all (is_fine v) (mark 61 ∷ l ∷ commas ls)) (word_fine v name)
+    (and_both (is_fine v l) (list_all (is_fine v) (commas ls)) (and_left (is_fine v l) (list_all (is_fine v) ls) h) (fine_commas v ls (and_right (is_fine v l) (list_all (is_fine v) ls) h)))
+
+listed_is : (v : Version) (name : List ℕ) (ls : List Lexeme) (values : List Value) → IsName name → constants v true ls ≡ Some values →
+    body v Values (word (escaped_name name) ∷ mark 61 ∷ ls) ≡ Some (Listed name values)
+listed_is v name ls values h e = ap (λ o. both Listed o (constants v true ls)) (name_word name h).stands ∙ ap (both Listed (Some name)) e
+
+pub numbers_say : (v : Version) (look : Look) (x : ℤ) (xs : List ℤ) → IsName look.name → is_char look.ty ≡ false → (look.in_rows ≡ false → length (x ∷ xs) ≤ look.row) → AreSmall (x ∷ xs) →
+    Says v Values (variable_text look (x ∷ xs)) (Listed look.name (map (value_said look) (x ∷ xs)))
+numbers_say v look x xs name ty small fit =
+    let ls = value_lexeme look x ∷ commas (map (value_lexeme look) xs) in
+    statement_says v Values (variable_text look (x ∷ xs)) (word (escaped_name look.name)) (mark 61) ls (Listed look.name (map (value_said look) (x ∷ xs))) refl
+    (numbers_closed look x xs name ty small fit) (name_starts look.name name)
+    (listed_fine v (escaped_name look.name) (value_lexeme look x) (map (value_lexeme look) xs) (values_fine v look (x ∷ xs) fit))
+    (listed_is v look.name ls (map (value_said look) (x ∷ xs)) name (values_said v look x xs fit))
+
+pub strings_fine : (v : Version) (all : List (List ℕ)) → list_all (is_fine v) (map string all) ≡ true
+strings_fine v [] = refl
+strings_fine v (bytes ∷ all) = strings_fine v all
+
+map_map : (t : Bool) (rows : List (List ℤ)) → map (λ (r : List ℤ). string (shown t 0 r)) rows ≡ map string (map (shown t 0) rows)
+map_map t [] = refl
+map_map t (r ∷ rows) = ap (λ ls. string (shown t 0 r) ∷ ls) (map_map t rows)
+
+pub table_says : (v : Version) (look : Look) (r : List ℤ) (rows : List (List ℤ)) → IsName look.name → is_char look.ty ≡ true → look.in_rows ≡ true → 0 < look.row → Each (λ (s : List ℤ). length s ≡ look.row) (r ∷ rows) →
+    Says v Values (variable_text look (flat (r ∷ rows))) (Listed look.name (map Characters (map (shown look.trimmed 0) (r ∷ rows))))
+table_says v look r rows name ty h wide all =
+    let shows = map (shown look.trimmed 0) rows in
+    let ls = string (shown look.trimmed 0 r) ∷ commas (map string shows) in
+    statement_says v Values (variable_text look (flat (r ∷ rows))) (word (escaped_name look.name)) (mark 61) ls (Listed look.name (map Characters (shown look.trimmed 0 r ∷ shows))) refl
+    (subst (λ l. Closed (variable_text look (flat (r ∷ rows))) (word (escaped_name look.name) ∷ mark 61 ∷ (string (shown look.trimmed 0 r) ∷ commas l ++ semicolon ∷ []))) (map_map look.trimmed rows) (table_closed look r rows name ty h wide all))
+    (name_starts look.name name)
+    (listed_fine v (escaped_name look.name) (string (shown look.trimmed 0 r)) (map string shows) (strings_fine v shows))
+    (listed_is v look.name ls (map Characters (shown look.trimmed 0 r ∷ shows)) name (strings_said v true (shown look.trimmed 0 r) shows))
+
+pub line_says : (v : Version) (look : Look) (x : ℤ) (xs : List ℤ) → IsName look.name → is_char look.ty ≡ true → look.in_rows ≡ false → length (x ∷ xs) ≤ look.row →
+    Says v Values (variable_text look (x ∷ xs)) (Listed look.name (Characters (shown look.trimmed 0 (x ∷ xs)) ∷ []))
+line_says v look x xs name ty h small =
+    let r = shown look.trimmed 0 (x ∷ xs) in
+    statement_says v Values (variable_text look (x ∷ xs)) (word (escaped_name look.name)) (mark 61) (string r ∷ []) (Listed look.name (Characters r ∷ [])) refl
+    (line_closed look x xs name ty h small) (name_starts look.name name)
+    (listed_fine v (escaped_name look.name) (string r) [] refl)
+    (listed_is v look.name (string r ∷ []) (Characters r ∷ []) name (strings_said v true r []))
+
+-- ---- dimensions
+
+no_feed : (w rest : List ℕ) → list_all (λ b. not (b == 10)) w ≡ true → prefix_len (λ b. not (b == 10)) (w ++ 10 ∷ rest) ≡ length w
+no_feed [] rest h = refl
+no_feed (b ∷ w) rest h = rw (and_left (not (b == 10)) (list_all (λ c. not (c == 10)) w) h) (let ih = no_feed w rest (and_right (not (b == 10)) (list_all (λ c. not (c == 10)) w) h) in omega (arith, ih))
+
+-- a comment to the end of its line
+pub comment_closed : (w : List ℕ) → list_all (λ b. not (b == 10)) w ≡ true → Closed (47 ∷ 47 ∷ (w ++ 10 ∷ [])) []
+unfolding front
+comment_closed w h rest =
+    ap (λ bs. lexemes_at false 0 (47 ∷ 47 ∷ bs)) (append_assoc w (10 ∷ []) rest) ∙
+    front_again false None 47 (47 ∷ w) (10 ∷ rest) (ap (λ n. record { kind = None; len = n }) (let ih = no_feed w rest h in let e : 1 + (1 + prefix_len (λ b. not (b == 10)) (w ++ 10 ∷ rest)) ≡ suc (suc (length w)) = omega (arith, ih) in e)) ∙
+    feed_closed rest

@@ -1,0 +1,88 @@
+-- Tokens have places and lines, and lexemes have none: what all pieces make of a state is the same.
+use Rattle.std.proofs.Common.{◌≡◌, ℕ, zero, suc, ◌+◌, ◌-◌, Bool, true, false, List, [], ◌∷◌, drop, take, map, sym, ◌∙◌, ap, refl, arith}
+use Rattle.std.specs.Prelude.{◌&&◌, Option, None, Some, is_none, Result, Ok, Err}
+use Rattle.std.proofs.lemmas.List.{drop-drop}
+use Rattle.nc_base.specs.declared.version.Version.{Version}
+use Rattle.cdl_text.specs.declared.fault.CdlFault.{CdlFault}
+use Rattle.cdl_text.specs.declared.fault.CdlKind.{CdlKind}
+use Rattle.cdl_text.specs.declared.token.TokenKind.{TokenKind}
+use Rattle.cdl_text.specs.declared.token.TokenKind.TheVariants as kinds
+use Rattle.cdl_text.specs.declared.piece.Role.{Role}
+use Rattle.cdl_text.specs.declared.piece.Place.{Place}
+use Rattle.cdl_text.specs.declared.piece.Place.TheVariants as places
+use Rattle.cdl_text.specs.declared.token.Token.{Token}
+use Rattle.cdl_text.specs.Front.{front}
+use Rattle.cdl_text.specs.Lexemes.{Lexeme, lexeme, role}
+use Rattle.cdl_parse.specs.Meaning.{run, piece_read, line_of}
+use Rattle.cdl_text.specs.Statements.{statements}
+use Rattle.cdl_text.specs.Pieces.{pieces_at, in_front, first_role, step}
+use Rattle.cdl_laws.specs.Reading.{lexemes_at, lexemes, with_lexeme}
+use Rattle.cdl_parse.specs.State.{State, in_turn}
+use Rattle.cdl_text.specs.Tokens.{tokens_at, tokens, with_token, token_at}
+
+-- ---- tokens
+
+none_on : (at n : ℕ) → at + n - at ≡ n
+none_on at n = omega arith
+
+one_lexeme : (text : List ℕ) (at : ℕ) (kind : TokenKind) (n : ℕ) (bytes : List ℕ) → drop at text ≡ bytes → lexeme text (token_at text at kind n) ≡ record { kind = kind; bytes = take n bytes }
+one_lexeme text at kind n bytes e =
+    let l : List ℕ → Lexeme = λ bs. record { kind = kind; bytes = bs } in
+    ap (λ m. l (take m (drop at text))) (none_on at n) ∙ ap (λ bs. l (take n bs)) e
+
+with_same : (text : List ℕ) (at : ℕ) (k : Option TokenKind) (n : ℕ) (bytes : List ℕ) (ts : List Token) (ls : List Lexeme) → drop at text ≡ bytes → map (lexeme text) ts ≡ ls →
+    map (lexeme text) (with_token text at k n ts) ≡ with_lexeme k (take n bytes) ls
+with_same text at None n bytes ts ls e h = h
+with_same text at (Some kind) n bytes ts ls e h = ap (λ l. l ∷ map (lexeme text) ts) (one_lexeme text at kind n bytes e) ∙ ap (λ xs. record { kind = kind; bytes = take n bytes } ∷ xs) h
+
+pub tail_at : (text : List ℕ) (at b : ℕ) (bytes : List ℕ) → drop at text ≡ b ∷ bytes → drop (at + 1) text ≡ bytes
+tail_at text at b bytes e = sym (drop-drop 1 at text) ∙ ap (drop 1) e
+
+lexemes_are : (text : List ℕ) (fresh : Bool) (at more : ℕ) (bytes : List ℕ) → drop at text ≡ bytes → map (lexeme text) (tokens_at text fresh at more bytes) ≡ lexemes_at fresh more bytes
+unfolding tokens_at lexemes_at
+lexemes_are text fresh at more [] e = ap (λ (l : Lexeme). l ∷ []) (one_lexeme text at kinds.End 0 [] e)
+lexemes_are text fresh at (suc more) (b ∷ bytes) e = lexemes_are text fresh (at + 1) more bytes (tail_at text at b bytes e)
+lexemes_are text fresh at zero (b ∷ bytes) e =
+    let f = front fresh (b ∷ bytes) in
+    with_same text at f.kind f.len (b ∷ bytes) _ _ e (lexemes_are text (fresh && is_none f.kind) (at + 1) (f.len - 1) bytes (tail_at text at b bytes e))
+
+-- ---- pieces
+
+in_front_map : {X Y : Type 0} (f : X → Y) (b : Bool) (t : X) (ps : List (List X)) → map (map f) (in_front b t ps) ≡ in_front b (f t) (map (map f) ps)
+in_front_map f true t ps = refl
+in_front_map f false t [] = refl
+in_front_map f false t (p ∷ ps) = refl
+
+first_map : {X Y : Type 0} (f : X → Y) (role : Y → Role) (ts : List X) → first_role (λ t. role (f t)) ts ≡ first_role role (map f ts)
+first_map f role [] = refl
+first_map f role (t ∷ ts) = refl
+
+pieces_map : {X Y : Type 0} (f : X → Y) (role : Y → Role) (place : Place) (ts : List X) → map (map f) (pieces_at (λ t. role (f t)) place ts) ≡ pieces_at role place (map f ts)
+unfolding pieces_at
+pieces_map f role place [] = refl
+pieces_map f role place (t ∷ ts) =
+    let rest : Role → List (List _) = λ n. in_front (step place (role (f t)) n).ends (f t) (pieces_at role (step place (role (f t)) n).place (map f ts)) in
+    let n = first_role (λ u. role (f u)) ts in
+    in_front_map f (step place (role (f t)) n).ends t (pieces_at (λ u. role (f u)) (step place (role (f t)) n).place ts) ∙
+    ap (in_front (step place (role (f t)) n).ends (f t)) (pieces_map f role (step place (role (f t)) n).place ts) ∙
+    ap rest (first_map f role ts)
+
+pub pieces_are : (text : List ℕ) → map (map (lexeme text)) (statements text) ≡ pieces_at role places.Begins (lexemes text)
+pieces_are text = pieces_map (lexeme text) role places.Begins (tokens text) ∙ ap (pieces_at role places.Begins) (lexemes_are text true 0 0 text refl)
+
+-- ---- what they make of a state
+
+held : State → Result State CdlKind → State
+held s (Ok u) = u
+held s (Err e) = s
+
+pub run_is : (text : List ℕ) (v : Version) (s t : State) (ps : List (List Token)) → in_turn (piece_read v) s (map (map (lexeme text)) ps) ≡ Ok t → run text v s ps ≡ Ok t
+unfolding run held
+run_is text v s t [] h = ap (λ u. Ok u) (ap (held s) h)
+run_is text v s t (p ∷ ps) h =
+    elim (piece_read v s (map (lexeme text) p)) as (λ r.
+    elim r as (λ x. Result State CdlKind) [ Ok u ↦ in_turn (piece_read v) u (map (map (lexeme text)) ps) | Err e ↦ Err e ] ≡ Ok t →
+    elim r as (λ x. Result State CdlFault) [ Ok u ↦ run text v u ps | Err kind ↦ Err (record { line = line_of p; kind = kind }) ] ≡ Ok t) [
+      | Ok u ↦ (λ k. run_is text v u t ps k)
+      | Err e ↦ (λ k. cc)
+    ] h

@@ -1,0 +1,126 @@
+-- The limit is needed: a text with an attribute of 2^31 characters has a meaning in the first version, which no file can hold.
+use Rattle.std.proofs.Common.{◌≡◌, ℕ, ◌-◌, ◌*◌, ◌^◌, ◌≤◌, ◌<◌, false, List, [], ◌∷◌, ◌++◌, length, sym, ◌∙◌, ap, refl, subst, arith, zero, suc, take, get_or, replicate}
+use Rattle.std.proofs.Math.Seq.{take-length}
+use Rattle.std.proofs.lemmas.List.{length-replicate, get_or-replicate}
+use Rattle.std.proofs.lemmas.List.Sums.{suffix_len-take_no}
+use Rattle.std.specs.Prelude.{codes, None, Ok, ◌==◌, nat_lt, true}
+use Rattle.std.specs.List.{list_all, suffix_len}
+use Rattle.std.specs.Str.{is_utf8, chars}
+use lib.Utf8.{encode}
+use Rattle.nc_base.specs.declared.dataset.Dataset.{Dataset}
+use Rattle.nc_base.specs.declared.header.Att.{Att}
+use Rattle.nc_base.specs.declared.header.NumRecs.TheVariants.{Known}
+use Rattle.nc_base.specs.declared.nc_type.NcType.TheVariants.{Char}
+use Rattle.nc_base.specs.declared.version.Version.TheVariants.{Cdf1}
+use Rattle.nc_base.specs.Dump.{Options, Section, shown_values, content_of, selection_of, dump_text}
+use Rattle.nc_base.specs.Headers.{IsGood}
+use Rattle.nc_base.specs.HeadText.{without_trailing_nuls}
+use Rattle.nc_base.specs.Names.{IsName}
+use Rattle.cdl_parse.specs.Meaning.{meaning, is_small_enough}
+use Rattle.cdl_laws.specs.RoundTrip.{IsFull}
+use Rattle.nc_base.specs.Sayable.{trimmed}
+use Rattle.nc_base.specs.Bytes.{text}
+use Rattle.nc_base.specs.Escapes.{is_reserved, escaped_name}
+use Rattle.nc_base.specs.HeadText.{netcdf_word, global_word, number_values, char_values, att_line, att_lines, dim_lines, dims_text, vars_text, gatts_text, head_text, broken_text}
+use Rattle.nc_base.specs.Dump.{data_word, closing_word}
+use Rattle.cdl_laws.specs.Goods.{LimitIsNeeded}
+use Rattle.cdl_laws.proofs.MeaningsAreGood.{are_bytes}
+use Rattle.cdl_laws.proofs.Bools.{and_left, and_right}
+use Rattle.cdl_laws.proofs.Lists.{Each}
+use Rattle.cdl_laws.proofs.Outcomes.{each_more}
+use Rattle.cdl_laws.proofs.Said.{IsByte}
+use Rattle.cdl_laws.proofs.Attributes.{char_speaks}
+use Rattle.cdl_laws.proofs.Dumps.{IsReadable, text_back}
+
+abbrev att : ℕ → Att
+att n = record { name = codes "a"; ty = Char; vals = replicate n 97 }
+
+abbrev long : ℕ → Dataset
+long n = record { header = record { version = Cdf1; numrecs = Known 0; dims = []; gatts = att n ∷ []; vars = [] }; arrays = [] }
+
+abbrev options : Options
+options = record { name = codes "a"; head_only = false; coords = false; chosen = None; width = 80 }
+
+a_name : IsName (codes "a")
+unfolding is_utf8 chars encode
+a_name = refl
+
+full : IsFull options
+full = record { name = a_name; values = refl; coords = refl; chosen = refl }
+
+abbrev section : ℕ → Section
+section n = shown_values (long n).header options (content_of (long n)) 0 (selection_of (long n).header options)
+
+-- the text of it
+abbrev long_text : ℕ → List ℕ
+long_text n = dump_text (long n).header options 0 (section n)
+
+readable : (n : ℕ) → IsReadable (long n) 0 80 []
+unfolding is_small_enough
+readable n = record {
+  dims = tt;
+  distinct = tt;
+  names = tt;
+  vars = tt;
+  gatts = (char_speaks Cdf1 (att n) refl a_name, tt);
+  fresh = (refl, tt);
+  given = tt;
+  small = refl;
+  back = refl;
+}
+
+long_means : (n : ℕ) → meaning (long_text n) Cdf1 ≡ Ok (trimmed (long n))
+long_means n = text_back (long n) options 0 [] full (readable n) (section n) refl
+
+no_nuls : (n : ℕ) → 0 < n → without_trailing_nuls (replicate n 97) ≡ replicate n 97
+no_nuls n some =
+    let xs : List ℕ = replicate n 97 in
+    let len : length xs ≡ n = length-replicate n 97 in
+    let last : get_or xs (length xs - 1) 0 ≡ 97 = ap (λ k. get_or xs (k - 1) 0) len ∙ get_or-replicate n (n - 1) 97 0 (omega (arith, some)) in
+    let s : suffix_len (λ b. b == 0) xs ≡ 0 =
+    ap (suffix_len (λ b. b == 0)) (sym (take-length xs)) ∙ suffix_len-take_no (λ b. b == 0) xs (length xs) 0 (omega (arith, len, some)) (omega arith) (ap (λ b. b == 0) last) in
+    let e : length xs - suffix_len (λ b. b == 0) xs ≡ length xs = omega (arith, s) in
+    ap (λ k. take k xs) e ∙ take-length xs
+
+-- no file of the version can hold it
+long_is_bad : (n : ℕ) → 2 ^ 31 ≤ n → IsGood (trimmed (long n)) → ⊥
+long_is_bad n big good =
+    let values = (good.is_sound.gatts 0 (att n) (omega arith)).values in
+    let a = values.counted in
+    let b : length (without_trailing_nuls (replicate n 97)) ≡ values.count * 1 = values.whole in
+    let c : length (without_trailing_nuls (replicate n 97)) ≡ n = ap (λ (xs : List ℕ). length xs) (no_nuls n (omega (arith, big))) ∙ length-replicate n 97 in
+    absurd (omega (arith, a, b, c, big))
+
+broken_bytes : (n : ℕ) → Each IsByte (broken_text (replicate n 97))
+broken_bytes zero = tt
+broken_bytes (suc zero) = (omega arith, tt)
+broken_bytes (suc (suc n)) = (omega arith, broken_bytes (suc n))
+
+constant : (bytes : List ℕ) → list_all (λ b. nat_lt b 256) bytes ≡ true → Each IsByte bytes
+constant [] h = tt
+constant (b ∷ bytes) h = (grind (arith, and_left (nat_lt b 256) (list_all (λ c. nat_lt c 256) bytes) h), constant bytes (and_right (nat_lt b 256) (list_all (λ c. nat_lt c 256) bytes) h))
+
+-- what follows an attribute's characters
+behind : (bytes : List ℕ) → Each IsByte bytes → Each IsByte (bytes ++ codes "\"" ++ codes " ;\n" ++ [] ++ [] ++ [] ++ codes "}\n")
+behind bytes h =
+    closed (bytes ++ codes "\"" ++ codes " ;\n" ++ [] ++ [] ++ []) (codes "}\n") refl (
+    closed (bytes ++ codes "\"" ++ codes " ;\n" ++ [] ++ []) [] refl (
+    closed (bytes ++ codes "\"" ++ codes " ;\n" ++ []) [] refl (
+    closed (bytes ++ codes "\"" ++ codes " ;\n") [] refl (
+    closed (bytes ++ codes "\"") (codes " ;\n") refl (
+    closed bytes (codes "\"") refl h)))))
+  where
+    closed : (front end : List ℕ) → list_all (λ b. nat_lt b 256) end ≡ true → Each IsByte front → Each IsByte (front ++ end)
+    closed front end e k = each_more IsByte front end k (constant end e)
+
+-- though it is a text of bytes
+long_bytes : (n : ℕ) → 0 < n → Each IsByte (long_text n)
+unfolding text number_values char_values att_line att_lines dim_lines dims_text vars_text gatts_text head_text global_word netcdf_word data_word closing_word escaped_name is_reserved
+long_bytes n some =
+    let xs = without_trailing_nuls (replicate n 97) in
+    let h : Each IsByte (broken_text xs) = subst (λ (ys : List ℕ). Each IsByte (broken_text ys)) (sym (no_nuls n some)) (broken_bytes n) in
+    each_more IsByte (codes "netcdf a {\n\n// global attributes:\n\t\t:a = \"") (broken_text xs ++ codes "\"" ++ codes " ;\n" ++ [] ++ [] ++ [] ++ codes "}\n")
+    (constant (codes "netcdf a {\n\n// global attributes:\n\t\t:a = \"") refl) (behind (broken_text xs) h)
+
+pub limit_is_needed : LimitIsNeeded
+limit_is_needed n big = (long_text n, trimmed (long n), are_bytes (long_text n) (long_bytes n (omega (arith, big))), long_means n, long_is_bad n big)

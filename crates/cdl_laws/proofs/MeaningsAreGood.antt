@@ -1,0 +1,410 @@
+-- What a text means is good.
+use Rattle.std.proofs.Common.{◌≡◌, ℕ, ◌+◌, ◌-◌, ◌*◌, ◌/◌, ◌≤◌, ◌<◌, Bool, true, false, List, [], ◌∷◌, length, map, max, sym, ◌∙◌, ap, refl, subst, arith, zero, suc}
+use Rattle.std.proofs.lemmas.List.{length-append, length-map}
+use Rattle.std.proofs.Math.Nat.{div-lt_iff_lt-mul, lt-div-mul-add, mul_comm, mul-le-mul_left}
+use Rattle.std.specs.Prelude.{ℤ, if◌then◌else◌, Option, None, Some, Result, Ok, Err, ◌||◌, find, nat_le, codes, All}
+use Rattle.std.specs.List.{flat_map, list_all}
+use Rattle.nc_base.specs.Bytes.{AreBytes}
+use Rattle.nc_base.specs.declared.dataset.Dataset.{Dataset}
+use Rattle.nc_base.specs.declared.header.Att.{Att}
+use Rattle.nc_base.specs.declared.header.Dim.{Dim}
+use Rattle.nc_base.specs.declared.header.NumRecs.TheVariants.{Known}
+use Rattle.nc_base.specs.declared.header.Var.{Var}
+use Rattle.nc_base.specs.declared.nc_type.NcType.{NcType}
+use Rattle.nc_base.specs.declared.nc_type.NcType.TheVariants.{Int}
+use Rattle.nc_base.specs.declared.version.Version.{Version}
+use Rattle.nc_base.specs.declared.version.Version.TheVariants.{Cdf1, Cdf2, Cdf5}
+use Rattle.nc_base.specs.Fill.{fill_value}
+use Rattle.nc_base.specs.Headers.{IsGood, IsSound, IsSoundAtt, IsSoundVar, IsSoundDim, IsArray, AreArrays, bare_var, value_count}
+use Rattle.nc_base.specs.Names.{IsName}
+use Rattle.nc_base.specs.Numbers.{bytes_of_number}
+use Rattle.nc_base.specs.Sizes.{is_record_var, record_vars, slab_count, slab_size, record_size, slab_limit, array_limit, record_limit}
+use Rattle.nc_base.specs.Types.{size_of, all_types, type_word}
+use Rattle.nc_base.specs.Versions.{count_limit, has_type}
+use Rattle.cdl_laws.specs.Goods.{MeaningsAreGood, MeaningsAreNearlySayable, IsNearlySayable, NearlyIsSayable}
+use Rattle.cdl_parse.specs.Meaning.{text_limit}
+use Rattle.cdl_text.specs.Lexemes.{Lexeme, lexeme, is_word}
+use Rattle.cdl_text.specs.Statements.{statements}
+use Rattle.cdl_parse.specs.Meaning.{shaped, checked, piece_read, line_of, run, empty, values_of, records_of, records_in, array_of, header_of, dataset_of, is_small, is_small_enough, closing_line, finished, meaning}
+use Rattle.nc_base.specs.Sayable.{AreDistinct, AreSayableAtts, HasSomeNumber}
+use Rattle.cdl_text.specs.Shapes.{Statement, Opening, Mark, Declared, Typed, Attribute, Listed, Brace, End, shape, first_bad}
+use Rattle.cdl_parse.specs.State.{State, Draft, act, add_dim, add_var, add_att, at_variable, with_att, with_values, type_of, is_word_of, found, in_turn, ◌>>=◌, filled}
+use Rattle.cdl_text.specs.declared.fault.CdlFault.{CdlFault}
+use Rattle.cdl_text.specs.declared.fault.CdlKind.{CdlKind}
+use Rattle.cdl_text.specs.declared.fault.CdlKind.TheVariants.{FloatingType, UnknownType, TooLarge}
+use Rattle.cdl_text.specs.declared.section.Section.{Section}
+use Rattle.cdl_text.specs.declared.token.Token.{Token}
+use Rattle.cdl_laws.proofs.Bools.{and_left, and_right}
+use Rattle.cdl_laws.proofs.Limits.{slab_some}
+use Rattle.cdl_laws.proofs.Lists.{Each, each_map}
+use Rattle.cdl_laws.proofs.Outcomes.{SomeIs, OkIs, ok_then, in_if, total, each_more, all_of}
+use Rattle.cdl_laws.proofs.Sayables.{draft_name}
+use Rattle.cdl_laws.proofs.Said.{IsByte, HasBytes, mass}
+use Rattle.cdl_laws.proofs.Uttered.{late, IsSaid, shape_says, token_mass, all_mass, mass_is, piece_bytes}
+use Rattle.cdl_laws.proofs.Fine.{IsFineAtt, AreFineAtts, IsFineDim, AreFineDims, IsFineDraft, AreFineDrafts, att_keeps, dims_keep, vars_keep, at_keeps, with_att_keeps, all_later, number_bytes, number_size, one_times}
+use Rattle.cdl_laws.proofs.Roomy.{with_values_keeps, filled_len, up_to}
+
+-- ---- states
+
+pub record IsFineState (v : Version) (N n : ℕ) (s : State) : Type 0 where
+  pub dims : AreFineDims v N n s.dims
+  pub gatts : AreFineAtts v N n s.gatts
+  pub drafts : AreFineDrafts v N n s.dims s.drafts
+  -- no variable stands before the section of variables
+  pub early : late s.section < 3 → s.drafts ≡ []
+
+dims_later : (v : Version) (N n m : ℕ) (dims : List Dim) → AreFineDims v N n dims → AreFineDims v N (n + m) dims
+dims_later v N n m dims f = record { count = (let a = f.count in omega (arith, a)); fine = f.fine; names = f.names; once = f.once }
+
+atts_later : (v : Version) (N n m : ℕ) (atts : List Att) → AreFineAtts v N n atts → AreFineAtts v N (n + m) atts
+atts_later v N n m atts f = record { count = (let a = f.count in omega (arith, a)); fine = f.fine; names = f.names }
+
+drafts_later : (v : Version) (N n m : ℕ) (dims : List Dim) (ds : List Draft) → AreFineDrafts v N n dims ds → AreFineDrafts v N (n + m) dims ds
+drafts_later v N n m dims ds f = all_later v N n (n + m) dims ds (omega arith) f
+
+-- the same dataset in another section
+moved : (v : Version) (N n m : ℕ) (s : State) (next : Section) → (late next < 3 → late s.section < 3) → IsFineState v N n s → IsFineState v N (n + m) (record s { section = next })
+moved v N n m s next back f = record {
+  dims = dims_later v N n m s.dims f.dims;
+  gatts = atts_later v N n m s.gatts f.gatts;
+  drafts = drafts_later v N n m s.dims s.drafts f.drafts;
+  early = λ h. f.early (back h);
+}
+
+found_passes : {A : Type 0} (p : A → Bool) (xs : List A) → SomeIs (λ x. p x ≡ true) (find p xs)
+found_passes p [] = tt
+found_passes p (x ∷ xs) =
+    elim (p x) as (λ b. p x ≡ b → SomeIs (λ y. p y ≡ true) (if b then Some x else find p xs)) [ true ↦ (λ e. e) | false ↦ (λ e. found_passes p xs) ] refl
+
+has_int : (v : Version) → has_type v Int ≡ true
+has_int Cdf1 = refl
+has_int Cdf2 = refl
+has_int Cdf5 = refl
+
+type_has : (v : Version) (word : Lexeme) → OkIs (λ ty. has_type v ty ≡ true) (type_of v word)
+unfolding type_of
+type_has v word =
+    in_if (OkIs (λ ty. has_type v ty ≡ true)) (is_word (codes "float") word || is_word (codes "real") word || is_word (codes "double") word) (Err FloatingType)
+    (if is_word (codes "long") word then Ok Int else found (find (is_word_of v word) all_types) UnknownType) tt
+    (in_if (OkIs (λ ty. has_type v ty ≡ true)) (is_word (codes "long") word) (Ok Int) (found (find (is_word_of v word) all_types) UnknownType) (has_int v) (of_find (find (is_word_of v word) all_types) (found_passes (is_word_of v word) all_types)))
+  where
+    of_find : (o : Option NcType) → SomeIs (λ ty. is_word_of v word ty ≡ true) o → OkIs (λ ty. has_type v ty ≡ true) (found o UnknownType)
+    of_find None h = tt
+    of_find (Some ty) h = and_left (has_type v ty) (is_word (type_word ty) word) h
+
+none_left : (n : ℕ) (ds es : List Draft) → (n < 3 → ds ≡ []) → length es ≡ length ds → n < 3 → es ≡ []
+none_left n ds [] early len h = refl
+none_left n ds (e ∷ es) early len h = absurd (let a : length ds ≡ 0 = ap (λ (xs : List Draft). length xs) (early h) in omega (arith, a, len))
+
+act_keeps : (v : Version) (N n m : ℕ) (s : State) (st : Statement) → m ≤ N → IsFineState v N n s → IsSaid v s.section m st → OkIs (IsFineState v N (n + m)) (act v s st)
+unfolding act
+act_keeps v N n m s Opening small f said = moved v N n m s _ (λ h. omega (arith, said)) f
+act_keeps v N n m s (Mark next) small f said = moved v N n m s next (λ h. omega (arith, said, h)) f
+act_keeps v N n m s Brace small f said = moved v N n m s _ (λ h. absurd (omega (arith, h))) f
+act_keeps v N n m s End small f said = moved v N n m s _ (λ h. absurd (omega (arith, h))) f
+act_keeps v N n m s (Declared ds) small f said =
+    let none : s.drafts ≡ [] = f.early (let a = said.0 in omega (arith, a)) in
+    ok_then (AreFineDims v N (n + m)) (IsFineState v N (n + m)) (in_turn (add_dim v) s.dims ds) (λ dims. Ok (record s { dims = dims })) (dims_keep v N n m s.dims ds small said.1 f.dims) (λ dims fine.
+    record {
+      dims = fine;
+      gatts = atts_later v N n m s.gatts f.gatts;
+      drafts = subst (AreFineDrafts v N (n + m) dims) (sym none) (record { count = omega arith; fine = tt; names = tt });
+      early = λ h. none;
+    })
+act_keeps v N n m s (Typed word vs) small f said =
+    ok_then (λ ty. has_type v ty ≡ true) (IsFineState v N (n + m)) (type_of v word) (λ ty. in_turn (add_var s.dims ty) s.drafts vs >>= (λ drafts. Ok (record s { drafts = drafts }))) (type_has v word) (λ ty has.
+    ok_then (AreFineDrafts v N (n + m) s.dims) (IsFineState v N (n + m)) (in_turn (add_var s.dims ty) s.drafts vs) (λ drafts. Ok (record s { drafts = drafts })) (vars_keep v N n m s.dims ty s.drafts vs has small said.1 f.drafts) (λ drafts fine.
+    record {
+      dims = dims_later v N n m s.dims f.dims;
+      gatts = atts_later v N n m s.gatts f.gatts;
+      drafts = fine;
+      early = λ h. absurd (let a = said.0 in omega (arith, a, h));
+    }))
+act_keeps v N n m s (Attribute None name cs) small f said =
+    ok_then (AreFineAtts v N (n + m)) (IsFineState v N (n + m)) (add_att name cs s.gatts) (λ atts. Ok (record s { gatts = atts })) (att_keeps v N n m name cs s.gatts small said f.gatts) (λ atts fine.
+    record { dims = dims_later v N n m s.dims f.dims; gatts = fine; drafts = drafts_later v N n m s.dims s.drafts f.drafts; early = f.early })
+act_keeps v N n m s (Attribute (Some variable) name cs) small f said =
+    ok_then (λ es. AreFineDrafts v N (n + m) s.dims es × (length es ≡ length s.drafts)) (IsFineState v N (n + m)) (at_variable variable (with_att name cs) s.drafts) (λ drafts. Ok (record s { drafts = drafts }))
+    (at_keeps v N n m s.dims variable (with_att name cs) (with_att_keeps v N n m s.dims name cs small said) s.drafts f.drafts) (λ es h.
+    record { dims = dims_later v N n m s.dims f.dims; gatts = atts_later v N n m s.gatts f.gatts; drafts = h.0; early = none_left (late s.section) s.drafts es f.early h.1 })
+act_keeps v N n m s (Listed variable xs) small f said =
+    ok_then (λ es. AreFineDrafts v N (n + m) s.dims es × (length es ≡ length s.drafts)) (IsFineState v N (n + m)) (at_variable variable (with_values s.dims xs) s.drafts) (λ drafts. Ok (record s { drafts = drafts }))
+    (at_keeps v N n m s.dims variable (with_values s.dims xs) (with_values_keeps v N n m s.dims variable xs small said) s.drafts f.drafts) (λ es h.
+    record { dims = dims_later v N n m s.dims f.dims; gatts = atts_later v N n m s.gatts f.gatts; drafts = h.0; early = none_left (late s.section) s.drafts es f.early h.1 })
+
+-- ---- the run
+
+piece_keeps : (v : Version) (N n : ℕ) (s : State) (piece : List Lexeme) → mass piece ≤ N → Each HasBytes piece → IsFineState v N n s → OkIs (IsFineState v N (n + mass piece)) (piece_read v s piece)
+unfolding piece_read
+piece_keeps v N n s piece small bytes f = of_bad (first_bad v piece)
+  where
+    of_shape : (o : Option Statement) → SomeIs (IsSaid v s.section (mass piece)) o → OkIs (IsFineState v N (n + mass piece)) (shaped v s o)
+    of_shape None h = tt
+    of_shape (Some st) h = act_keeps v N n (mass piece) s st small f h
+
+    of_bad : (o : Option CdlKind) → OkIs (IsFineState v N (n + mass piece)) (checked v s o piece)
+    of_bad (Some bad) = tt
+    of_bad None = of_shape (shape v s.section piece) (shape_says v s.section piece bytes)
+
+run_keeps : (text : List ℕ) (v : Version) (N n : ℕ) (s : State) (ps : List (List Token)) → Each IsByte text → total (token_mass text) ps ≤ N → IsFineState v N n s →
+    OkIs (IsFineState v N (n + total (token_mass text) ps)) (run text v s ps)
+unfolding run
+run_keeps text v N n s [] bytes small f = let e : n ≡ n + 0 = omega arith in subst (λ m. IsFineState v N m s) e f
+run_keeps text v N n s (p ∷ ps) bytes small f =
+    let m = token_mass text p in
+    let rest = total (token_mass text) ps in
+    let e : n + m + rest ≡ n + (m + rest) = omega arith in
+    let is = mass_is text p in
+    elim (piece_read v s (map (lexeme text) p)) as (λ r. OkIs (IsFineState v N (n + m)) r →
+    OkIs (IsFineState v N (n + (m + rest))) (elim r as (λ x. Result State CdlFault) [ Ok u ↦ run text v u ps | Err kind ↦ Err (record { line = line_of p; kind = kind }) ])) [
+      | Ok u ↦ (λ h. subst (λ k. OkIs (IsFineState v N k) (run text v u ps)) e (run_keeps text v N (n + m) u ps bytes (omega (arith, small)) h))
+      | Err kind ↦ (λ h. tt)
+    ] (subst (λ k. OkIs (IsFineState v N (n + k)) (piece_read v s (map (lexeme text) p))) is
+    (piece_keeps v N n s (map (lexeme text) p) (omega (arith, small, is)) (piece_bytes text p bytes) f))
+
+-- ---- records and arrays
+
+records_small : (v : Version) (N n : ℕ) (dims : List Dim) (d : Draft) → IsFineDraft v N n dims d → records_of dims d ≤ N
+records_small v N n dims d f =
+    let slab = slab_count dims d.var in
+    let some = slab_some dims d.var f.shape in
+    elim (is_record_var dims d.var) as (λ b. length (values_of d) ≤ slab * (if b then N else 1) → (if b then (length (values_of d) + slab - 1) / slab else 0) ≤ N) [
+      | true ↦ (λ h.
+          let a = one_times N slab in
+          let c = mul_comm slab N in
+          let e = (div-lt_iff_lt-mul {k = slab} {x = length (values_of d) + slab - 1} {y = suc N} some).1 (omega (arith, a, c, h, some)) in
+          omega (arith, e))
+      | false ↦ (λ h. omega arith)
+    ] f.listed
+
+all_records_small : (v : Version) (N n : ℕ) (dims : List Dim) (ds : List Draft) → Each (IsFineDraft v N n dims) ds → records_in dims ds ≤ N
+all_records_small v N n dims [] f = omega arith
+all_records_small v N n dims (d ∷ ds) f = let a = records_small v N n dims d f.0 in let b = all_records_small v N n dims ds f.1 in omega (arith, a, b)
+
+-- what is listed has room over the records
+listed_fits : (v : Version) (N n : ℕ) (dims : List Dim) (r : ℕ) (d : Draft) → IsFineDraft v N n dims d → records_of dims d ≤ r → length (values_of d) ≤ value_count dims d.var r
+listed_fits v N n dims r d f h =
+    let slab = slab_count dims d.var in
+    let some = slab_some dims d.var f.shape in
+    elim (is_record_var dims d.var) as (λ b. length (values_of d) ≤ slab * (if b then N else 1) → (if b then (length (values_of d) + slab - 1) / slab else 0) ≤ r → length (values_of d) ≤ slab * (if b then r else 1)) [
+      | true ↦ (λ l k.
+          let q = (length (values_of d) + slab - 1) / slab in
+          let a = lt-div-mul-add {a = length (values_of d) + slab - 1} {b = slab} some in
+          let b = mul-le-mul_left slab k in
+          let c = mul_comm slab q in
+          omega (arith, a, b, c, some))
+      | false ↦ (λ l k. l)
+    ] f.listed h
+
+bytes_each : (bs : List ℕ) → AreBytes bs → Each IsByte bs
+bytes_each [] h = tt
+bytes_each (b ∷ bs) h = (h 0, bytes_each bs (λ i. h (suc i)))
+
+pub are_bytes : (bs : List ℕ) → Each IsByte bs → AreBytes bs
+are_bytes [] h i = omega arith
+are_bytes (b ∷ bs) h zero = h.0
+are_bytes (b ∷ bs) h (suc i) = are_bytes bs h.1 i
+
+numbers_len : (ty : NcType) (xs : List ℤ) → length (flat_map (bytes_of_number ty) xs) ≡ length xs * size_of ty
+numbers_len ty [] = omega arith
+numbers_len ty (x ∷ xs) =
+    let a = length-append (bytes_of_number ty x) (flat_map (bytes_of_number ty) xs) in let b = number_size ty x in let c = numbers_len ty xs in let d = one_times (length xs) (size_of ty) in
+    omega (arith, a, b, c, d)
+
+numbers_bytes : (ty : NcType) (xs : List ℤ) → Each IsByte (flat_map (bytes_of_number ty) xs)
+numbers_bytes ty [] = tt
+numbers_bytes ty (x ∷ xs) = each_more IsByte (bytes_of_number ty x) (flat_map (bytes_of_number ty) xs) (number_bytes ty x) (numbers_bytes ty xs)
+
+-- what the limits say of a variable
+abbrev IsSmall : List Dim → ℕ → Draft → Type 0
+IsSmall dims r d = (slab_size dims d.var ≤ slab_limit) × (value_count dims d.var r * size_of d.var.ty ≤ array_limit)
+
+each_small : (dims : List Dim) (r : ℕ) (ds : List Draft) → list_all (is_small dims r) ds ≡ true → Each (IsSmall dims r) ds
+each_small dims r [] h = tt
+each_small dims r (d ∷ ds) h =
+    let a = and_left (is_small dims r d) (list_all (is_small dims r) ds) h in
+    let slab = nat_le (slab_size dims d.var) slab_limit in
+    let all = nat_le (value_count dims d.var r * size_of d.var.ty) array_limit in (
+      (up_to (slab_size dims d.var) slab_limit (and_left slab all a), up_to (value_count dims d.var r * size_of d.var.ty) array_limit (and_right slab all a)),
+      each_small dims r ds (and_right (is_small dims r d) (list_all (is_small dims r) ds) h),
+    )
+
+array_is : (v : Version) (N n : ℕ) (dims : List Dim) (r : ℕ) (d : Draft) → IsFineDraft v N n dims d → IsSmall dims r d → records_of dims d ≤ r → IsArray dims r d.var (array_of dims r d)
+array_is v N n dims r d f small h =
+    let count = value_count dims d.var r in
+    let all = filled count (fill_value d.var) (values_of d) in
+    let len : length (array_of dims r d) ≡ count * size_of d.var.ty =
+    numbers_len d.var.ty all ∙ ap (λ m. m * size_of d.var.ty) (filled_len count (fill_value d.var) (values_of d) (listed_fits v N n dims r d f h)) in
+    record {
+      bytes = are_bytes (array_of dims r d) (numbers_bytes d.var.ty all);
+      whole = len;
+      small = (let a = small.1 in omega (arith, a, len));
+    }
+
+arrays_are : (v : Version) (N n : ℕ) (dims : List Dim) (r : ℕ) (ds : List Draft) → Each (IsFineDraft v N n dims) ds → Each (IsSmall dims r) ds → records_in dims ds ≤ r →
+    AreArrays dims r (map (λ (d : Draft). d.var) ds) (map (array_of dims r) ds)
+arrays_are v N n dims r [] f small h = tt
+arrays_are v N n dims r (d ∷ ds) f small h = (array_is v N n dims r d f.0 small.0 (omega (arith, h)), arrays_are v N n dims r ds f.1 small.1 (omega (arith, h)))
+
+-- ---- the parts
+
+pub each_of_map : {X Y : Type 0} (P : Y → Type 0) (f : X → Y) (xs : List X) → Each (λ x. P (f x)) xs → Each P (map f xs)
+each_of_map P f [] h = tt
+each_of_map P f (x ∷ xs) h = (h.0, each_of_map P f xs h.1)
+
+each_both : {X : Type 0} (P Q R : X → Type 0) (xs : List X) → ((x : X) → P x → Q x → R x) → Each P xs → Each Q xs → Each R xs
+each_both P Q R [] f p q = tt
+each_both P Q R (x ∷ xs) f p q = (f x p.0 q.0, each_both P Q R xs f p.1 q.1)
+
+bare_same : (v : Version) (N n : ℕ) (dims : List Dim) (ds : List Draft) → Each (IsFineDraft v N n dims) ds → map (λ (d : Draft). d.var) ds ≡ map bare_var (map (λ (d : Draft). d.var) ds)
+bare_same v N n dims [] f = refl
+bare_same v N n dims (d ∷ ds) f =
+    ap (λ b. record d.var { begin_at = b } ∷ map (λ (e : Draft). e.var) ds) f.0.bare ∙ ap (λ vs. bare_var d.var ∷ vs) (bare_same v N n dims ds f.1)
+
+att_sound : (v : Version) (N : ℕ) → N < count_limit v → (a : Att) → IsFineAtt v N a → IsSoundAtt v a
+att_sound v N lim a f = record {
+  name_len = (let b = f.short in omega (arith, b, lim));
+  ty = f.ty;
+  values = record { count = f.count; counted = (let b = f.few in omega (arith, b, lim)); whole = f.whole };
+}
+
+atts_sound : (v : Version) (N n : ℕ) → N < count_limit v → (atts : List Att) → AreFineAtts v N n atts → All (IsSoundAtt v) atts
+atts_sound v N n lim atts f = all_of (IsSoundAtt v) atts (each_map (IsFineAtt v N) (IsSoundAtt v) atts (att_sound v N lim) f.fine)
+
+var_sound : (v : Version) (N n : ℕ) (dims : List Dim) (r : ℕ) → N < count_limit v → n ≤ N → (d : Draft) → IsFineDraft v N n dims d → IsSmall dims r d → IsSoundVar v dims d.var
+var_sound v N n dims r lim under d f small = record {
+  name_len = (let b = f.short in omega (arith, b, lim));
+  rank = (let b = f.rank in omega (arith, b, lim));
+  shape = f.shape;
+  att_count = (let b = f.atts.count in omega (arith, b, lim, under));
+  atts = atts_sound v N n lim d.var.atts f.atts;
+  ty = f.ty;
+  slab = small.0;
+}
+
+sound : (v : Version) (N n : ℕ) (s : State) → N < count_limit v → n ≤ N → IsFineState v N n s → is_small_enough v s ≡ true → IsSound (header_of v s)
+unfolding is_small_enough
+sound v N n s lim under f small =
+    let r = records_in s.dims s.drafts in
+    let all = list_all (is_small s.dims r) s.drafts in
+    let rec_ = nat_le (record_size (header_of v s)) record_limit in
+    let smalls = each_small s.dims r s.drafts (and_left all rec_ small) in
+    record {
+      numrecs = (let a = all_records_small v N n s.dims s.drafts f.drafts.fine in omega (arith, a, lim));
+      dim_count = (let a = f.dims.count in omega (arith, a, lim, under));
+      dims = all_of (IsSoundDim v) s.dims (each_map (IsFineDim v N) (IsSoundDim v) s.dims (λ d g. record { name_len = (let b = g.short in omega (arith, b, lim)); len = g.len }) f.dims.fine);
+      one_record_dim = f.dims.once;
+      gatt_count = (let a = f.gatts.count in omega (arith, a, lim, under));
+      gatts = atts_sound v N n lim s.gatts f.gatts;
+      var_count = (let a = f.drafts.count in let b = length-map s.drafts (λ (d : Draft). d.var) in omega (arith, a, b, lim, under));
+      vars = all_of (IsSoundVar v s.dims) (map (λ (d : Draft). d.var) s.drafts) (each_of_map (IsSoundVar v s.dims) (λ (d : Draft). d.var) s.drafts
+          (each_both (IsFineDraft v N n s.dims) (IsSmall s.dims r) (λ (d : Draft). IsSoundVar v s.dims d.var) s.drafts (var_sound v N n s.dims r lim under) f.drafts.fine smalls));
+      small_records = up_to (record_size (header_of v s)) record_limit (and_right all rec_ small);
+    }
+
+abbrev all_named : (v : Version) (N n : ℕ) (atts : List Att) → AreFineAtts v N n atts → All (λ (a : Att). IsName a.name) atts
+all_named v N n atts f = all_of (λ (a : Att). IsName a.name) atts (each_map (IsFineAtt v N) (λ (a : Att). IsName a.name) atts (λ a g. g.name) f.fine)
+
+abbrev all_bytes : (v : Version) (N n : ℕ) (atts : List Att) → AreFineAtts v N n atts → All (λ (a : Att). AreBytes a.vals) atts
+all_bytes v N n atts f = all_of (λ (a : Att). AreBytes a.vals) atts (each_map (IsFineAtt v N) (λ (a : Att). AreBytes a.vals) atts (λ a g. are_bytes a.vals g.bytes) f.fine)
+
+over_drafts : (v : Version) (N n : ℕ) (s : State) (P : Var → Type 0) → IsFineState v N n s → ((d : Draft) → IsFineDraft v N n s.dims d → P d.var) → All P (map (λ (d : Draft). d.var) s.drafts)
+over_drafts v N n s P f g =
+    all_of P (map (λ (d : Draft). d.var) s.drafts) (each_of_map P (λ (d : Draft). d.var) s.drafts (each_map (IsFineDraft v N n s.dims) (λ (d : Draft). P d.var) s.drafts g f.drafts.fine))
+
+good : (v : Version) (N n : ℕ) (s : State) → N < count_limit v → n ≤ N → IsFineState v N n s → is_small_enough v s ≡ true → IsGood (dataset_of v s)
+unfolding is_small_enough
+good v N n s lim under f small =
+    let r = records_in s.dims s.drafts in
+    record {
+      records = r;
+      is_bare = ap (λ (vs : List Var). record (header_of v s) { vars = vs }) (bare_same v N n s.dims s.drafts f.drafts.fine);
+      is_sound = sound v N n s lim under f small;
+      names = record {
+        dims = all_of (λ (d : Dim). IsName d.name) s.dims (each_map (IsFineDim v N) (λ (d : Dim). IsName d.name) s.dims (λ d g. g.name) f.dims.fine);
+        gatts = all_named v N n s.gatts f.gatts;
+        vars = over_drafts v N n s (λ (var : Var). IsName var.name × All (λ (a : Att). IsName a.name) var.atts) f (λ d g. (g.name, all_named v N n d.var.atts g.atts));
+      };
+      values = record {
+        gatts = all_bytes v N n s.gatts f.gatts;
+        vars = over_drafts v N n s (λ (var : Var). All (λ (a : Att). AreBytes a.vals) var.atts) f (λ d g. all_bytes v N n d.var.atts g.atts);
+      };
+      arrays = arrays_are v N n s.dims r s.drafts f.drafts.fine (each_small s.dims r s.drafts (and_left (list_all (is_small s.dims r) s.drafts) (nat_le (record_size (header_of v s)) record_limit) small)) (omega arith);
+    }
+
+-- ---- nearly sayable
+
+sayable_atts : (v : Version) (N n : ℕ) (atts : List Att) → AreFineAtts v N n atts → AreSayableAtts atts
+sayable_atts v N n atts f = record { names = f.names; some = all_of HasSomeNumber atts (each_map (IsFineAtt v N) HasSomeNumber atts (λ a g. g.some) f.fine) }
+
+no_records : (dims : List Dim) (ds : List Draft) → record_vars dims (map (λ (d : Draft). d.var) ds) ≡ [] → records_in dims ds ≡ 0
+no_records dims [] h = refl
+no_records dims (d ∷ ds) h =
+    elim (is_record_var dims d.var) as (λ b. (if b then d.var ∷ record_vars dims (map (λ (e : Draft). e.var) ds) else record_vars dims (map (λ (e : Draft). e.var) ds)) ≡ [] →
+    max (if b then (length (values_of d) + slab_count dims d.var - 1) / slab_count dims d.var else 0) (records_in dims ds) ≡ 0) [
+      | true ↦ (λ e. absurd (let a = ap (λ (xs : List Var). length xs) e in omega (arith, a)))
+      | false ↦ (λ e. let a = no_records dims ds e in omega (arith, a))
+    ] h
+
+draft_names : (ds : List Draft) → map draft_name ds ≡ map (λ (var : Var). var.name) (map (λ (d : Draft). d.var) ds)
+draft_names [] = refl
+draft_names (d ∷ ds) = ap (λ ns. d.var.name ∷ ns) (draft_names ds)
+
+nearly : (v : Version) (N n : ℕ) (s : State) → N < count_limit v → n ≤ N → IsFineState v N n s → is_small_enough v s ≡ true → IsNearlySayable (dataset_of v s)
+nearly v N n s lim under f small = record {
+  good = good v N n s lim under f small;
+  dims = f.dims.names;
+  gatts = sayable_atts v N n s.gatts f.gatts;
+  names = subst AreDistinct (draft_names s.drafts) f.drafts.names;
+  atts = over_drafts v N n s (λ (var : Var). AreSayableAtts var.atts) f (λ d g. sayable_atts v N n d.var.atts g.atts);
+  records = λ h. ap Known (no_records s.dims s.drafts h);
+}
+
+-- ---- the laws
+
+limit_large : (v : Version) (n : ℕ) → n ≤ text_limit → 1 + 2 * n < count_limit v
+limit_large Cdf1 n h = omega (arith, h)
+limit_large Cdf2 n h = omega (arith, h)
+limit_large Cdf5 n h = omega (arith, h)
+
+abbrev pub IsRight : Version → Dataset → Type 0
+IsRight v d = IsNearlySayable d × (d.header.version ≡ v)
+
+end_right : (v : Version) (N n line : ℕ) (r : Result State CdlFault) → N < count_limit v → n ≤ N → OkIs (IsFineState v N n) r → OkIs (IsRight v) (finished v line r)
+unfolding finished
+end_right v N n line (Err e) lim under f = tt
+end_right v N n line (Ok s) lim under f =
+    elim (is_small_enough v s) as (λ b. is_small_enough v s ≡ b → OkIs {F = CdlFault} (IsRight v) (if b then Ok (dataset_of v s) else Err (record { line = line; kind = TooLarge }))) [
+      | true ↦ (λ e. (nearly v N n s lim under f e, refl))
+      | false ↦ (λ e. tt)
+    ] refl
+
+-- of any text whose bytes the version can count twice
+pub right : (text : List ℕ) (v : Version) → AreBytes text → 1 + 2 * length text < count_limit v → OkIs (IsRight v) (meaning text v)
+right text v bytes lim =
+    let ps = statements text in
+    let N = 1 + 2 * length text in
+    let small = all_mass text in
+    end_right v N (0 + total (token_mass text) ps) (closing_line ps) (run text v empty ps) lim (omega (arith, small))
+    (run_keeps text v N 0 empty ps (bytes_each text bytes) small (record {
+      dims = record { count = omega arith; fine = tt; names = tt; once = omega arith };
+      gatts = record { count = omega arith; fine = tt; names = tt };
+      drafts = record { count = omega arith; fine = tt; names = tt };
+      early = λ h. refl;
+    }))
+
+pub meanings_are_nearly_sayable : MeaningsAreNearlySayable
+meanings_are_nearly_sayable text v d bytes short e = (subst (OkIs (IsRight v)) e (right text v bytes (limit_large v (length text) short))).0
+
+pub meanings_are_good : MeaningsAreGood
+meanings_are_good text v d bytes short e = let r = subst (OkIs (IsRight v)) e (right text v bytes (limit_large v (length text) short)) in (r.0.good, r.1)
+
+pub nearly_is_sayable : NearlyIsSayable
+nearly_is_sayable d near fill = record {
+  good = near.good;
+  dims = near.dims;
+  gatts = near.gatts;
+  names = near.names;
+  vars = λ k x h. record { atts = near.atts k x h; fill = fill k x h };
+  records = near.records;
+}

@@ -1,0 +1,207 @@
+-- A decimal number is read again.
+use Rattle.std.proofs.Common.{◌≡◌, ℕ, zero, suc, ◌+◌, ◌*◌, ◌/◌, ◌%◌, ◌^◌, ◌<◌, ◌≤◌, Bool, true, false, List, [], ◌∷◌, ◌++◌, length, get_or, drop, sym, ◌∙◌, ap, refl, arith, append-nil}
+use Rattle.std.specs.Prelude.{ℤ, pos, negsuc, unsigned_abs, decimal, ◌==◌, not, if◌then◌else◌, Some, nat_lt, Option}
+use Rattle.std.specs.Fmt.{signed_decimal, digits_onto, digits, digit_glyph}
+use Rattle.std.specs.List.{prefix_len, list_all}
+use native.Mathlib.Numerals.{unary_clauses}
+use Rattle.std.proofs.lemmas.Bool.{eqb-true}
+use Rattle.std.proofs.lemmas.Fmt.{first_decimal, decimal_nonempty}
+use Rattle.std.proofs.Math.Seq.{drop-append_seam, take-append_seam}
+use Rattle.nc_base.specs.declared.nc_type.NcType.{NcType}
+use Rattle.nc_base.specs.declared.nc_type.NcType.TheVariants.{Byte, Char, Short, Int, Ubyte, Ushort, Uint, Int64, Uint64}
+use Rattle.nc_base.specs.declared.version.Version.{Version}
+use Rattle.nc_base.specs.declared.version.Version.TheVariants.{Cdf1, Cdf2, Cdf5}
+use Rattle.nc_base.specs.Types.{number_suffix}
+use Rattle.nc_base.specs.ValueText.{is_char}
+use Rattle.nc_base.specs.Versions.{has_type}
+use Rattle.cdl_text.specs.Bytes.{is_digit, is_sign, goes_on_number}
+use Rattle.cdl_text.specs.Escapes.{digit}
+use Rattle.cdl_text.specs.Numerals.{number as number_of}
+use Rattle.cdl_text.specs.Numerals.{number_in, suffix, with_suffix, in_base, unsigned, numeral, parts, Parts}
+use Rattle.std.specs.Option.{option_map}
+use Rattle.cdl_laws.proofs.Bools.{and_left, and_right, and_both, off}
+use Rattle.cdl_laws.proofs.Texts.{Reads, number, digits_read, minus_reads}
+use Rattle.std.proofs.lemmas.List.Folds.{list_all-append}
+
+-- ---- the digits of a number
+
+glyph : (n : ℕ) → digit_glyph false (n % 10) ≡ 48 + n % 10
+glyph n = let e : nat_lt (n % 10) 10 ≡ true = grind arith in rw (e) refl
+
+glyph_digit : (n : ℕ) → is_digit (digit_glyph false (n % 10)) ≡ true
+glyph_digit n = rw (glyph n) (grind arith)
+
+glyph_value : (n : ℕ) → digit (digit_glyph false (n % 10)) ≡ n % 10
+glyph_value n = rw (glyph n) (let e : is_digit (48 + n % 10) ≡ true = grind arith in rw (e) (omega arith))
+
+onto_digits : (k n : ℕ) (acc : List ℕ) → list_all is_digit acc ≡ true → list_all is_digit (digits_onto k 10 false n acc) ≡ true
+onto_digits zero n acc h = h
+onto_digits (suc k) n acc h =
+    let more : list_all is_digit (digit_glyph false (n % 10) ∷ acc) ≡ true = rw (glyph_digit n) h in
+    elim (n / 10 == 0) as (λ w. list_all is_digit (if w then digit_glyph false (n % 10) ∷ acc else digits_onto k 10 false (n / 10) (digit_glyph false (n % 10) ∷ acc)) ≡ true) [
+      | true ↦ more
+      | false ↦ onto_digits k (n / 10) (digit_glyph false (n % 10) ∷ acc) more
+    ]
+
+onto_value : (k n : ℕ) (acc : List ℕ) → n < 10 ^ k → number_in 10 0 (digits_onto k 10 false n acc) ≡ number_in 10 n acc
+onto_value zero n acc h = ap (λ m. number_in 10 m acc) (let e : 0 ≡ n = (let f : n < 1 = h in omega (arith, f)) in e)
+onto_value (suc k) n acc h =
+    elim (n / 10 == 0) as (λ w. (n / 10 == 0) ≡ w → number_in 10 0 (if w then digit_glyph false (n % 10) ∷ acc else digits_onto k 10 false (n / 10) (digit_glyph false (n % 10) ∷ acc)) ≡ number_in 10 n acc) [
+      | true ↦ (λ e. ap (λ m. number_in 10 m acc) (ap (λ m. 10 * 0 + m) (glyph_value n) ∙ (let z : n / 10 ≡ 0 = eqb-true (n / 10) 0 e in omega (arith, z))))
+      | false ↦ (λ e.
+          let smaller : n / 10 < 10 ^ k = (let f = simp unary_clauses at h in grind (arith, f)) in
+          onto_value k (n / 10) (digit_glyph false (n % 10) ∷ acc) smaller ∙
+          ap (λ m. number_in 10 m acc) (ap (λ m. 10 * (n / 10) + m) (glyph_value n) ∙ omega arith))
+    ] refl
+
+pub decimal_digits : (n : ℕ) → list_all is_digit (decimal n) ≡ true
+unfolding digits
+decimal_digits n = onto_digits 64 n [] refl
+
+pub decimal_value : (n : ℕ) → n < 2 ^ 64 → number_in 10 0 (decimal n) ≡ n
+unfolding digits
+decimal_value n h = onto_value 64 n [] (let e : 2 ^ 64 ≤ 10 ^ 64 = omega arith in omega (arith, h, e))
+
+-- ---- a decimal with a suffix
+
+-- no digit stands in front
+abbrev pub no_digit : List ℕ → Bool
+no_digit [] = true
+no_digit (b ∷ bs) = not (is_digit b)
+
+digits_then : (ds suf : List ℕ) → list_all is_digit ds ≡ true → no_digit suf ≡ true → prefix_len is_digit (ds ++ suf) ≡ length ds
+digits_then [] [] h k = refl
+digits_then [] (b ∷ suf) h k = rw (off (is_digit b) k) refl
+digits_then (d ∷ ds) suf h k = rw (and_left (is_digit d) (list_all is_digit ds) h) (let ih = digits_then ds suf (and_right (is_digit d) (list_all is_digit ds) h) k in omega (arith, ih))
+
+not_zero : (d : ℕ) → 48 < d → (d == 48) ≡ false
+not_zero d h = grind (arith, h)
+
+no_sign : (d : ℕ) → is_digit d ≡ true → is_sign d ≡ false
+no_sign d h = grind (arith, h)
+
+some_one : (n : ℕ) → (suc n == 0) ≡ false
+some_one n = grind arith
+
+based : (v : Version) (minus : Bool) (d : ℕ) (ds suf : List ℕ) (n : ℕ) → n ≡ length (d ∷ ds) →
+    in_base v minus 10 n ((d ∷ ds) ++ suf) ≡ with_suffix minus (number_in 10 0 (d ∷ ds)) (suffix v suf)
+based v minus d ds suf n e =
+    rw (e) (rw (some_one (length ds)) (ap (λ xs. with_suffix minus (number_in 10 0 xs) (suffix v (drop (length (d ∷ ds)) ((d ∷ ds) ++ suf)))) (take-append_seam (d ∷ ds) suf) ∙
+    ap (λ xs. with_suffix minus (number_in 10 0 (d ∷ ds)) (suffix v xs)) (drop-append_seam (d ∷ ds) suf)))
+
+big_back : (v : Version) (minus : Bool) (ds suf : List ℕ) → list_all is_digit ds ≡ true → 48 < get_or ds 0 0 → no_digit suf ≡ true →
+    unsigned v minus (ds ++ suf) ≡ with_suffix minus (number_in 10 0 ds) (suffix v suf)
+big_back v minus [] suf h big k = absurd (omega (arith, big))
+big_back v minus (d ∷ ds) suf h big k = rw (not_zero d big) (based v minus d ds suf (prefix_len is_digit ((d ∷ ds) ++ suf)) (digits_then (d ∷ ds) suf h k))
+
+zero_back : (v : Version) (minus : Bool) (ty : NcType) → unsigned v minus (48 ∷ number_suffix ty) ≡ with_suffix minus 0 (suffix v (number_suffix ty))
+zero_back v minus Byte = refl
+zero_back v minus Char = refl
+zero_back v minus Short = refl
+zero_back v minus Int = refl
+zero_back v minus Ubyte = refl
+zero_back v minus Ushort = refl
+zero_back v minus Uint = refl
+zero_back v minus Int64 = refl
+zero_back v minus Uint64 = refl
+
+suffix_back : (v : Version) (ty : NcType) → has_type v ty ≡ true → is_char ty ≡ false → suffix v (number_suffix ty) ≡ Some ty
+unfolding suffix
+suffix_back v Byte h k = rw (h) refl
+suffix_back v Char h k = cc
+suffix_back v Short h k = rw (h) refl
+suffix_back v Int h k = rw (h) refl
+suffix_back v Ubyte h k = rw (h) refl
+suffix_back v Ushort h k = rw (h) refl
+suffix_back v Uint h k = rw (h) refl
+suffix_back v Int64 h k = rw (h) refl
+suffix_back v Uint64 h k = rw (h) refl
+
+no_digit_suffix : (ty : NcType) → no_digit (number_suffix ty) ≡ true
+no_digit_suffix Byte = refl
+no_digit_suffix Char = refl
+no_digit_suffix Short = refl
+no_digit_suffix Int = refl
+no_digit_suffix Ubyte = refl
+no_digit_suffix Ushort = refl
+no_digit_suffix Uint = refl
+no_digit_suffix Int64 = refl
+no_digit_suffix Uint64 = refl
+
+pub on_suffix : (ty : NcType) → list_all goes_on_number (number_suffix ty) ≡ true
+on_suffix Byte = refl
+on_suffix Char = refl
+on_suffix Short = refl
+on_suffix Int = refl
+on_suffix Ubyte = refl
+on_suffix Ushort = refl
+on_suffix Uint = refl
+on_suffix Int64 = refl
+on_suffix Uint64 = refl
+
+unsigned_some : (v : Version) (minus : Bool) (ty : NcType) (n : ℕ) → n < 2 ^ 64 →
+    unsigned v minus (decimal n ++ number_suffix ty) ≡ with_suffix minus n (suffix v (number_suffix ty))
+unfolding digits
+unsigned_some v minus ty zero h = zero_back v minus ty
+unsigned_some v minus ty (suc n) h =
+    big_back v minus (decimal (suc n)) (number_suffix ty) (decimal_digits (suc n)) (first_decimal (suc n) (omega arith) h) (no_digit_suffix ty) ∙
+    ap (λ m. with_suffix minus m (suffix v (number_suffix ty))) (decimal_value (suc n) h)
+
+unsigned_again : (v : Version) (minus : Bool) (ty : NcType) (n : ℕ) → n < 2 ^ 64 → has_type v ty ≡ true → is_char ty ≡ false →
+    unsigned v minus (decimal n ++ number_suffix ty) ≡ Some (record { minus = minus; magnitude = n; ty = ty })
+unsigned_again v minus ty n h k l = unsigned_some v minus ty n h ∙ ap (with_suffix minus n) (suffix_back v ty k l)
+
+first_sign : (ds suf : List ℕ) → list_all is_digit ds ≡ true → 0 < length ds → is_sign (get_or (ds ++ suf) 0 0) ≡ false
+first_sign [] suf h k = absurd (omega (arith, k))
+first_sign (d ∷ ds) suf h k = no_sign d (and_left (is_digit d) (list_all is_digit ds) h)
+
+parts_positive : (v : Version) (ty : NcType) (n : ℕ) → n < 2 ^ 64 → has_type v ty ≡ true → is_char ty ≡ false →
+    parts v (decimal n ++ number_suffix ty) ≡ Some (record { minus = false; magnitude = n; ty = ty })
+unfolding parts
+parts_positive v ty n h k l = rw (first_sign (decimal n) (number_suffix ty) (decimal_digits n) (decimal_nonempty n h)) (unsigned_again v false ty n h k l)
+
+parts_negative : (v : Version) (ty : NcType) (n : ℕ) → n < 2 ^ 64 → has_type v ty ≡ true → is_char ty ≡ false →
+    parts v (45 ∷ (decimal n ++ number_suffix ty)) ≡ Some (record { minus = true; magnitude = n; ty = ty })
+unfolding parts
+parts_negative v ty n h k l = unsigned_again v true ty n h k l
+
+-- a number of a type with the type's suffix
+pub numeral_again : (v : Version) (ty : NcType) (n : ℤ) → unsigned_abs n < 2 ^ 64 → has_type v ty ≡ true → is_char ty ≡ false →
+    numeral v (signed_decimal n ++ number_suffix ty) ≡ Some (record { value = n; ty = ty })
+unfolding numeral
+numeral_again v ty (pos n) h k l = ap (λ (r : Option Parts). option_map number_of r) (parts_positive v ty n h k l)
+numeral_again v ty (negsuc n) h k l = ap (λ (r : Option Parts). option_map number_of r) (parts_negative v ty (suc n) h k l)
+
+-- a number as a value
+int_known : (v : Version) → has_type v Int ≡ true
+int_known Cdf1 = refl
+int_known Cdf2 = refl
+int_known Cdf5 = refl
+
+pub value_again : (v : Version) (n : ℤ) → unsigned_abs n < 2 ^ 64 → numeral v (signed_decimal n) ≡ Some (record { value = n; ty = Int })
+value_again v n h = ap (numeral v) (sym (append-nil (signed_decimal n))) ∙ numeral_again v Int n h (int_known v) refl
+
+-- ---- its token
+
+pub goes_on : (ds : List ℕ) → list_all is_digit ds ≡ true → list_all goes_on_number ds ≡ true
+goes_on [] h = refl
+goes_on (d ∷ ds) h = and_both (goes_on_number d) (list_all goes_on_number ds) (digit_goes_on d (and_left (is_digit d) (list_all is_digit ds) h)) (goes_on ds (and_right (is_digit d) (list_all is_digit ds) h))
+  where
+    digit_goes_on : (d : ℕ) → is_digit d ≡ true → goes_on_number d ≡ true
+    digit_goes_on d h = grind (arith, h)
+
+unsigned_reads : (ds suf : List ℕ) → list_all is_digit ds ≡ true → 0 < length ds → list_all goes_on_number suf ≡ true → Reads (ds ++ suf) (number (ds ++ suf) ∷ [])
+unsigned_reads [] suf h some k = absurd (omega (arith, some))
+unsigned_reads (d ∷ ds) suf h some k =
+    digits_read d (ds ++ suf) (and_left (is_digit d) (list_all is_digit ds) h)
+    (list_all-append goes_on_number ds suf ∙ and_both (list_all goes_on_number ds) (list_all goes_on_number suf) (goes_on ds (and_right (is_digit d) (list_all is_digit ds) h)) k)
+
+signed_reads : (ds suf : List ℕ) → list_all is_digit ds ≡ true → 0 < length ds → list_all goes_on_number suf ≡ true → Reads (45 ∷ (ds ++ suf)) (number (45 ∷ (ds ++ suf)) ∷ [])
+signed_reads [] suf h some k = absurd (omega (arith, some))
+signed_reads (d ∷ ds) suf h some k =
+    minus_reads d (ds ++ suf) (and_left (is_digit d) (list_all is_digit ds) h)
+    (list_all-append goes_on_number (d ∷ ds) suf ∙ and_both (list_all goes_on_number (d ∷ ds)) (list_all goes_on_number suf) (goes_on (d ∷ ds) h) k)
+
+pub number_reads : (n : ℤ) (suf : List ℕ) → unsigned_abs n < 2 ^ 64 → list_all goes_on_number suf ≡ true → Reads (signed_decimal n ++ suf) (number (signed_decimal n ++ suf) ∷ [])
+number_reads (pos n) suf h k = unsigned_reads (decimal n) suf (decimal_digits n) (decimal_nonempty n h) k
+number_reads (negsuc n) suf h k = signed_reads (decimal (suc n)) suf (decimal_digits (suc n)) (decimal_nonempty (suc n) h) k

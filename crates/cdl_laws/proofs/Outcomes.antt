@@ -1,0 +1,117 @@
+-- What holds of what an option or a result has, and of lists by totals.
+use Rattle.std.proofs.Common.{◌≡◌, ℕ, ◌+◌, ◌≤◌, Bool, true, false, List, [], ◌∷◌, ◌++◌, refl, subst, arith, zero, suc}
+use Rattle.std.specs.Prelude.{All, if◌then◌else◌, Option, None, Some, Result, Ok, Err, ⊤, take, drop}
+use Rattle.std.specs.Option.{option_map, option_and_then}
+use Rattle.cdl_parse.specs.State.{in_turn, unless, when, found, ◌>>=◌}
+use Rattle.cdl_text.specs.Shapes.{both, each, either, given}
+use Rattle.cdl_text.specs.declared.fault.CdlKind.{CdlKind}
+use Rattle.cdl_laws.proofs.Lists.{Each}
+
+-- ---- options
+
+abbrev pub SomeIs : {A : Type 0} → (A → Type 0) → Option A → Type 0
+SomeIs P None = Unit {0}
+SomeIs P (Some a) = P a
+
+pub some_map : {A B : Type 0} (P : B → Type 0) (f : A → B) (o : Option A) → SomeIs (λ a. P (f a)) o → SomeIs P (option_map f o)
+some_map P f None h = tt
+some_map P f (Some a) h = h
+
+pub some_then : {A B : Type 0} (P : A → Type 0) (Q : B → Type 0) (f : A → Option B) (o : Option A) → SomeIs P o → ((a : A) → P a → SomeIs Q (f a)) → SomeIs Q (option_and_then f o)
+some_then P Q f None h g = tt
+some_then P Q f (Some a) h g = g a h
+
+pub some_weaker : {A : Type 0} (P Q : A → Type 0) (o : Option A) → SomeIs P o → ((a : A) → P a → Q a) → SomeIs Q o
+some_weaker P Q None h g = tt
+some_weaker P Q (Some a) h g = g a h
+
+pub some_both : {A B C : Type 0} (P : A → Type 0) (Q : B → Type 0) (R : C → Type 0) (f : A → B → C) (a : Option A) (b : Option B) → SomeIs P a → SomeIs Q b → ((x : A) (y : B) → P x → Q y → R (f x y)) → SomeIs R (both f a b)
+some_both P Q R f None b p q g = tt
+some_both P Q R f (Some a) None p q g = tt
+some_both P Q R f (Some a) (Some b) p q g = g a b p q
+
+pub some_first : {A : Type 0} (P : A → Type 0) (a b : Option A) → SomeIs P a → SomeIs P b → SomeIs P (either a b)
+some_first P None b p q = q
+some_first P (Some a) b p q = p
+
+pub some_given : {A : Type 0} (P : A → Type 0) (b : Bool) (o : Option A) → (b ≡ true → SomeIs P o) → SomeIs P (given b o)
+some_given P true o h = h refl
+some_given P false o h = tt
+
+pub some_and : {A : Type 0} (P Q : A → Type 0) (o : Option A) → SomeIs P o → SomeIs Q o → SomeIs (λ a. P a × Q a) o
+some_and P Q None p q = tt
+some_and P Q (Some a) p q = (p, q)
+
+pub in_if : {A : Type 0} (P : A → Type 0) (b : Bool) (x y : A) → P x → P y → P (if b then x else y)
+in_if P true x y p q = p
+in_if P false x y p q = q
+
+-- ---- results
+
+abbrev pub OkIs : {A F : Type 0} → (A → Type 0) → Result A F → Type 0
+OkIs P (Ok a) = P a
+OkIs P (Err e) = Unit {0}
+
+pub ok_then : {A B F : Type 0} (P : A → Type 0) (Q : B → Type 0) (r : Result A F) (f : A → Result B F) → OkIs P r → ((a : A) → P a → OkIs Q (f a)) → OkIs Q (r >>= f)
+ok_then P Q (Ok a) f p g = g a p
+ok_then P Q (Err e) f p g = tt
+
+pub ok_unless : {B : Type 0} (Q : B → Type 0) (b : Bool) (e : CdlKind) (f : ⊤ → Result B CdlKind) → (b ≡ true → OkIs Q (f tt)) → OkIs Q (unless b e >>= f)
+ok_unless Q true e f g = g refl
+ok_unless Q false e f g = tt
+
+pub ok_when : {B : Type 0} (Q : B → Type 0) (b : Bool) (e : CdlKind) (f : ⊤ → Result B CdlKind) → (b ≡ false → OkIs Q (f tt)) → OkIs Q (when b e >>= f)
+ok_when Q true e f g = tt
+ok_when Q false e f g = g refl
+
+pub ok_found : {A B : Type 0} (P : A → Type 0) (Q : B → Type 0) (o : Option A) (e : CdlKind) (f : A → Result B CdlKind) → SomeIs P o → ((a : A) → P a → OkIs Q (f a)) → OkIs Q (found o e >>= f)
+ok_found P Q None e f p g = tt
+ok_found P Q (Some a) e f p g = g a p
+
+-- ---- totals
+
+abbrev pub total : {X : Type 0} → (X → ℕ) → List X → ℕ
+total f [] = 0
+total f (x ∷ xs) = f x + total f xs
+
+pub each_under : {X : Type 0} (f : X → ℕ) (n : ℕ) (xs : List X) → total f xs ≤ n → Each (λ x. f x ≤ n) xs
+each_under f n [] h = tt
+each_under f n (x ∷ xs) h = (omega (arith, h), each_under f n xs (omega (arith, h)))
+
+-- what keeps P at each step, and pays for each, keeps it over all
+pub turns : {S A : Type 0} (f : S → A → Result S CdlKind) (P : ℕ → S → Type 0) (cost : A → ℕ) (Q : A → Type 0) →
+    ((n : ℕ) (s : S) (x : A) → P n s → Q x → OkIs (P (n + cost x)) (f s x)) →
+    (n : ℕ) (s : S) (xs : List A) → P n s → Each Q xs → OkIs (P (n + total cost xs)) (in_turn f s xs)
+turns f P cost Q step n s [] p q = let e : n ≡ n + 0 = omega arith in subst (λ m. P m s) e p
+turns {S = S} f P cost Q step n s (x ∷ xs) p q =
+    elim (f s x) as (λ r. OkIs (P (n + cost x)) r → OkIs (P (n + (cost x + total cost xs))) (elim r as (λ z. Result S CdlKind) [ Ok t ↦ in_turn f t xs | Err e ↦ Err e ])) [
+      | Ok t ↦ (λ h. let e : n + cost x + total cost xs ≡ n + (cost x + total cost xs) = omega arith in subst (λ m. OkIs (P m) (in_turn f t xs)) e (turns f P cost Q step (n + cost x) t xs h q.1))
+      | Err e ↦ (λ h. tt)
+    ] (step n s x p q.0)
+
+-- each of a list has its shape, of no greater total
+pub each_total : {A B : Type 0} (w : A → ℕ) (c : B → ℕ) (f : A → Option B) → ((a : A) → SomeIs (λ b. c b ≤ w a) (f a)) → (xs : List A) → SomeIs (λ ys. total c ys ≤ total w xs) (each f xs)
+each_total w c f g [] = omega arith
+each_total w c f g (x ∷ xs) =
+    some_both (λ b. c b ≤ w x) (λ ys. total c ys ≤ total w xs) (λ ys. total c ys ≤ w x + total w xs) (λ y ys. y ∷ ys) (f x) (each f xs) (g x) (each_total w c f g xs) (λ y ys a b. omega (arith, a, b))
+
+-- ---- lists
+
+pub each_more : {X : Type 0} (P : X → Type 0) (xs ys : List X) → Each P xs → Each P ys → Each P (xs ++ ys)
+each_more P [] ys p q = q
+each_more P (x ∷ xs) ys p q = (p.0, each_more P xs ys p.1 q)
+
+pub each_take : {X : Type 0} (P : X → Type 0) (n : ℕ) (xs : List X) → Each P xs → Each P (take n xs)
+each_take P zero xs p = tt
+each_take P (suc n) [] p = tt
+each_take P (suc n) (x ∷ xs) p = (p.0, each_take P n xs p.1)
+
+pub each_drop : {X : Type 0} (P : X → Type 0) (n : ℕ) (xs : List X) → Each P xs → Each P (drop n xs)
+each_drop P zero xs p = p
+each_drop P (suc n) [] p = tt
+each_drop P (suc n) (x ∷ xs) p = each_drop P n xs p.1
+
+pub all_of : {X : Type 0} (P : X → Type 0) (xs : List X) → Each P xs → All P xs
+all_of P [] e k d h = absurd (omega (arith, h))
+all_of P (x ∷ xs) e zero d h = e.0
+all_of P (x ∷ xs) e (suc k) d h = all_of P xs e.1 k d (omega (arith, h))

@@ -1,0 +1,177 @@
+-- A dump is cut into the statements that it was put together from.
+use Rattle.std.proofs.Common.{◌≡◌, ℕ, true, false, List, [], ◌∷◌, ◌++◌, map, sym, ◌∙◌, ap, refl, subst, arith, append-nil}
+use Rattle.std.specs.Prelude.{slice_index_or, None, Some, codes}
+use Rattle.nc_base.specs.Bytes.{text}
+use Rattle.nc_base.specs.declared.header.Att.{Att}
+use Rattle.nc_base.specs.declared.header.Dim.{Dim}
+use Rattle.nc_base.specs.declared.header.Var.{Var}
+use Rattle.nc_base.specs.declared.version.Version.{Version}
+use Rattle.nc_base.specs.Escapes.{escaped_name}
+use Rattle.nc_base.specs.Headers.{AreDimids}
+use Rattle.nc_base.specs.HeadText.{netcdf_word, dim_line, global_word, var_lines, att_line, att_lines, shape_text}
+use Rattle.nc_base.specs.Names.{IsName}
+use Rattle.nc_base.specs.Types.{type_word}
+use Rattle.nc_base.specs.Versions.{has_type}
+use Rattle.cdl_text.specs.declared.piece.Place.TheVariants.{Begins}
+use Rattle.cdl_text.specs.declared.section.Section.{Section}
+use Rattle.cdl_text.specs.declared.section.Section.TheVariants.{Unopened, Globals, Dimensions, Variables, Values, Closed}
+use Rattle.cdl_text.specs.declared.token.TokenKind.TheVariants as kinds
+use Rattle.cdl_text.specs.Front.{front}
+use Rattle.cdl_text.specs.Lexemes.{role}
+use Rattle.cdl_text.specs.Pieces.{pieces_at}
+use Rattle.cdl_text.specs.Shapes.{Statement, Opening, Mark, Brace, End, Declared, Typed, Attribute, shape}
+use Rattle.cdl_laws.specs.PieceLaws.{SaysStatement, IsStatement, PiecesAreStatements, MarksReadBack, opening_line, opening_piece, brace_piece, end_piece, said_dim, DimensionsReadBack, declaration, DeclarationReadsBack, DeclarationsReadBack, IsBeforeData, globals, dimensions, AttributeReadsBack, AttributesReadBack, GlobalAttributesReadBack}
+use Rattle.cdl_laws.specs.Reading.{lexemes, lexemes_at, pieces_of}
+use Rattle.cdl_laws.proofs.Acts.{AreDistinctDims, HaveNames, ids_added, name_at, type_is}
+use Rattle.cdl_laws.proofs.Declarations.{dim_says, global_says, owned_says}
+use Rattle.cdl_laws.proofs.Ends.{dimensions_says, variables_says, data_says, opening_lexemes, opening_piece as opening_cut}
+use Rattle.cdl_laws.proofs.Lines.{pieces_are}
+use Rattle.cdl_laws.proofs.Lists.{Each, each_of, each_map, all_of}
+use Rattle.cdl_laws.proofs.Sayables.{atts_speak, limit_small}
+use Rattle.cdl_laws.proofs.Takes.{Says}
+use Rattle.cdl_laws.proofs.Texts.{word}
+use Rattle.cdl_laws.proofs.Typings.{typed_line, shape_of, typed_says}
+use Rattle.cdl_laws.proofs.Wholes.{Speaks, shape_is, text_append, text_more, text_none, valid_names}
+
+-- what says a statement is one
+pub is_statement : (v : Version) (section : Section) (bytes : List ℕ) (statement : Statement) → Says v section bytes statement → IsStatement v section bytes statement
+unfolding pieces_of
+is_statement v section bytes statement says = record {
+  piece = says.piece;
+  cut = λ rest. ap (pieces_at role Begins) (says.reads rest) ∙ says.cut (lexemes_at false 0 rest);
+  says = record { sound = says.sound; shaped = says.shaped };
+}
+
+pub pieces_are_statements : PiecesAreStatements
+pieces_are_statements text = pieces_are text
+
+-- ---- marks
+
+line_is : (name : List ℕ) → opening_line name ≡ codes "netcdf " ++ (escaped_name name ++ codes " {")
+unfolding text netcdf_word
+line_is name = ap (λ bs. codes "netcdf " ++ (escaped_name name ++ bs)) (append-nil (codes " {"))
+
+opening_back : (name rest : List ℕ) → IsName name →
+    pieces_at role Begins (lexemes (opening_line name ++ 10 ∷ rest)) ≡ opening_piece name ∷ pieces_of rest
+unfolding pieces_of
+opening_back name rest h =
+    subst (λ l. pieces_at role Begins (lexemes (l ++ 10 ∷ rest)) ≡ (record { kind = kinds.Opening; bytes = l } ∷ []) ∷ pieces_of rest) (sym (line_is name))
+    (ap (pieces_at role Begins) (opening_lexemes name rest h) ∙ opening_cut (codes "netcdf " ++ (escaped_name name ++ codes " {")) (lexemes_at false 0 rest))
+
+after_globals : (v : Version) → shape v Globals (record { kind = kinds.Word; bytes = codes "variables" } ∷ record { kind = kinds.Mark; bytes = codes ":" } ∷ []) ≡ Some (Mark Variables)
+unfolding shape
+after_globals v = refl
+
+after_dimensions : (v : Version) → shape v Dimensions (record { kind = kinds.Word; bytes = codes "variables" } ∷ record { kind = kinds.Mark; bytes = codes ":" } ∷ []) ≡ Some (Mark Variables)
+unfolding shape
+after_dimensions v = refl
+
+comment_back : (rest : List ℕ) → pieces_of (global_word ++ rest) ≡ pieces_of rest
+unfolding pieces_of global_word lexemes_at front
+comment_back rest = refl
+
+closing_back : pieces_of (codes "}\n") ≡ brace_piece ∷ end_piece ∷ []
+unfolding pieces_of lexemes_at front pieces_at
+closing_back = refl
+
+opens : (v : Version) (name : List ℕ) → SaysStatement v Unopened (opening_piece name) Opening
+unfolding shape
+opens v name = record { sound = refl; shaped = refl }
+
+closes : (v : Version) → Each (λ (section : Section). SaysStatement v section brace_piece Brace) (Globals ∷ Dimensions ∷ Variables ∷ Values ∷ [])
+unfolding shape
+closes v = (record { sound = refl; shaped = refl }, (record { sound = refl; shaped = refl }, (record { sound = refl; shaped = refl }, (record { sound = refl; shaped = refl }, tt))))
+
+ends : (v : Version) → SaysStatement v Closed end_piece End
+unfolding shape
+ends v = record { sound = refl; shaped = refl }
+
+pub marks_read_back : (v : Version) → MarksReadBack v
+marks_read_back v = record {
+  opening = opening_back;
+  opens = opens v;
+  dimensions = is_statement v Globals _ _ (dimensions_says v);
+  variables = is_statement v Dimensions _ _ (variables_says v Dimensions dimensions (after_dimensions v));
+  variables_alone = is_statement v Globals _ _ (variables_says v Globals globals (after_globals v));
+  values = is_statement v Variables _ _ (data_says v);
+  comment = comment_back;
+  closing = closing_back;
+  closes = all_of (λ (section : Section). SaysStatement v section brace_piece Brace) (Globals ∷ Dimensions ∷ Variables ∷ Values ∷ []) (closes v);
+  ends = ends v;
+}
+
+-- ---- dimensions
+
+pub dimensions_read_back : DimensionsReadBack
+dimensions_read_back d records s k dim h =
+    let v = d.header.version in
+    let x = slice_index_or d.header.dims k dim in
+    is_statement v Dimensions (dim_line records x) (Declared (said_dim x ∷ []))
+    (dim_says v records x (s.good.names.dims k dim h) (let a = limit_small v in let b = (s.good.is_sound.dims k dim h).len in omega (arith, a, b)))
+
+-- ---- declarations
+
+declaration_is : (dims : List Dim) (var : Var) → AreDimids dims [] var.dimids → declaration dims var ≡ typed_line (type_word var.ty) var.name (shape_of (map (name_at dims) var.dimids))
+unfolding typed_line
+declaration_is dims var are = ap (λ shape. text (codes "\t" ∷ type_word var.ty ∷ codes " " ∷ escaped_name var.name ∷ shape ∷ codes " ;\n" ∷ [])) (shape_is dims var.dimids are)
+
+lines_are : (dims : List Dim) (var : Var) → var_lines dims var ≡ declaration dims var ++ att_lines (escaped_name var.name) var.atts
+unfolding var_lines
+lines_are dims var =
+    let atts = att_lines (escaped_name var.name) var.atts in
+    text_append (codes "\t" ∷ type_word var.ty ∷ codes " " ∷ escaped_name var.name ∷ shape_text dims var.dimids ∷ codes " ;\n" ∷ []) (atts ∷ []) ∙
+    ap (λ bs. declaration dims var ++ bs) (text_more atts [] ∙ ap (λ bs. atts ++ bs) text_none ∙ append-nil atts)
+
+declaration_back : (v : Version) (dims : List Dim) (var : Var) → IsName var.name → AreDimids dims [] var.dimids → has_type v var.ty ≡ true → AreDistinctDims dims → HaveNames dims → DeclarationReadsBack v dims var
+declaration_back v dims var name are known distinct names =
+    let shape = map (name_at dims) var.dimids in
+    let said = Typed (word (type_word var.ty)) (record { name = var.name; dimensions = shape } ∷ []) in
+    record {
+      lines = lines_are dims var;
+      names = shape;
+      statement = subst (λ bs. IsStatement v Variables bs said) (sym (declaration_is dims var are))
+          (is_statement v Variables (typed_line (type_word var.ty) var.name (shape_of shape)) said (typed_says v var.ty var.name shape name (valid_names dims [] var.dimids names are)));
+      ty = type_is v var.ty known;
+      dimids = ids_added dims [] var.dimids distinct names are;
+    }
+
+pub declarations_read_back : DeclarationsReadBack
+declarations_read_back d s k var h =
+    let g = s.good in
+    let sound = g.is_sound.vars k var h in
+    declaration_back d.header.version d.header.dims (slice_index_or d.header.vars k var) (g.names.vars k var h).0 sound.shape sound.ty s.dims (each_of (λ (dim : Dim). IsName dim.name) d.header.dims g.names.dims)
+
+-- ---- attributes
+
+own_back : (v : Version) (owner : List ℕ) → IsName owner → (att : Att) → Speaks v att → AttributeReadsBack v Variables (Some owner) att
+own_back v owner own att speaks = record {
+  constants = speaks.said;
+  statement = is_statement v Variables (att_line (escaped_name owner) att) (Attribute (Some owner) att.name speaks.said) (owned_says v owner att speaks.said speaks.list own speaks.name);
+  ty = speaks.type;
+  vals = speaks.are;
+}
+
+global_back : (v : Version) (section : Section) → IsBeforeData section → (att : Att) → Speaks v att → AttributeReadsBack v section None att
+global_back v section before att speaks = record {
+  constants = speaks.said;
+  statement = is_statement v section (att_line [] att) (Attribute None att.name speaks.said) (global_says v section att speaks.said before speaks.list speaks.name);
+  ty = speaks.type;
+  vals = speaks.are;
+}
+
+pub attributes_read_back : AttributesReadBack
+attributes_read_back d s k var h =
+    let g = s.good in
+    let v = d.header.version in
+    let x = slice_index_or d.header.vars k var in
+    let name = (g.names.vars k var h).0 in
+    let speak = atts_speak v x.atts (g.is_sound.vars k var h).atts (g.values.vars k var h) (s.vars k var h).atts.some (g.names.vars k var h).1 in
+    all_of (AttributeReadsBack v Variables (Some x.name)) x.atts (each_map (Speaks v) (AttributeReadsBack v Variables (Some x.name)) x.atts (own_back v x.name name) speak)
+
+pub global_attributes_read_back : GlobalAttributesReadBack
+global_attributes_read_back d section s before =
+    let g = s.good in
+    let v = d.header.version in
+    let atts = d.header.gatts in
+    all_of (AttributeReadsBack v section None) atts
+    (each_map (Speaks v) (AttributeReadsBack v section None) atts (global_back v section before) (atts_speak v atts g.is_sound.gatts g.values.gatts s.gatts.some g.names.gatts))

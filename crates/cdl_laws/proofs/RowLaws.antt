@@ -1,0 +1,95 @@
+-- The values that the text of a variable lists give its array.
+use Rattle.std.proofs.Common.{◌≡◌, ℕ, zero, suc, true, false, List, [], ◌∷◌, length, sym, ◌∙◌, ap, refl, subst, arith}
+use Rattle.std.specs.Prelude.{ℤ, All, Some, slice_get, slice_index_or}
+use Rattle.std.specs.List.{flat_map}
+use Rattle.nc_base.specs.declared.dataset.Dataset.{Dataset}
+use Rattle.nc_base.specs.declared.header.Att.{Att}
+use Rattle.nc_base.specs.declared.header.Dim.{Dim}
+use Rattle.nc_base.specs.declared.header.Header.{Header}
+use Rattle.nc_base.specs.declared.header.NumRecs.TheVariants.{Known}
+use Rattle.nc_base.specs.declared.header.Var.{Var}
+use Rattle.nc_base.specs.Dump.{content_of}
+use Rattle.nc_base.specs.Fill.{fill_value}
+use Rattle.nc_base.specs.Headers.{IsArray, AreArrays, value_count}
+use Rattle.nc_base.specs.Names.{IsName}
+use Rattle.nc_base.specs.Numbers.{bytes_of_number}
+use Rattle.nc_base.specs.Sayable.{IsSayable, IsSayableVar, trimmed_var}
+use Rattle.nc_base.specs.ValueText.{is_char, look_of, variable_text}
+use Rattle.cdl_text.specs.declared.section.Section.TheVariants.{Values}
+use Rattle.cdl_text.specs.Shapes.{Listed}
+use Rattle.cdl_parse.specs.Meaning.{array_of}
+use Rattle.cdl_parse.specs.State.{Room, room_of, in_turn, add_value, filled}
+use Rattle.cdl_laws.specs.PieceLaws.{DataReadsBack}
+use Rattle.cdl_laws.specs.RowLaws.{RowReadsBack, RowsReadBack, EmptyRowsReadBack}
+use Rattle.cdl_laws.proofs.Arrays.{row_back, no_bytes}
+use Rattle.cdl_laws.proofs.DataTexts.{Gives, given_draft}
+use Rattle.cdl_laws.proofs.Given.{same_fill, array_len}
+use Rattle.cdl_laws.proofs.PieceLaws.{is_statement}
+
+-- ---- the parts of a dataset
+
+-- what holds of each holds of the one in a place
+in_place : {X : Type 0} (P : X → Type 0) (xs : List X) (k : ℕ) (x : X) → All P xs → slice_get xs k ≡ Some x → P x
+in_place P [] k x all at = cc
+in_place P (y ∷ xs) zero x all at = let e : y ≡ x = cc in subst P e (all 0 y (omega arith))
+in_place P (y ∷ xs) (suc k) x all at = in_place P xs k x (λ j d h. all (suc j) d (omega (arith, h))) at
+
+array_in_place : (dims : List Dim) (n : ℕ) (vars : List Var) (arrays : List (List ℕ)) (k : ℕ) (var : Var) → AreArrays dims n vars arrays → slice_get vars k ≡ Some var → IsArray dims n var (slice_index_or arrays k [])
+array_in_place dims n [] arrays k var are at = cc
+array_in_place dims n (w ∷ vars) [] k var are at = absurd are
+array_in_place dims n (w ∷ vars) (a ∷ arrays) zero var are at = let e : w ≡ var = cc in subst (λ u. IsArray dims n u a) e are.0
+array_in_place dims n (w ∷ vars) (a ∷ arrays) (suc k) var are at = array_in_place dims n vars arrays k var are.1 at
+
+-- a dataset has one number of records
+records_are : (d : Dataset) (records : ℕ) (s : IsSayable d) → d.header.numrecs ≡ Known records → s.good.records ≡ records
+records_are d records s known =
+    let e : Known s.good.records ≡ Known records = sym (ap (λ (h : Header). h.numrecs) s.good.is_bare) ∙ known in cc
+
+is_array : (d : Dataset) (records place : ℕ) (var : Var) → IsSayable d → d.header.numrecs ≡ Known records → slice_get d.header.vars place ≡ Some var → IsArray d.header.dims records var (slice_index_or d.arrays place [])
+is_array d records place var s known at =
+    array_in_place d.header.dims records d.header.vars d.arrays place var
+    (subst (λ n. AreArrays d.header.dims n d.header.vars d.arrays) (records_are d records s known) s.good.arrays) at
+
+-- ---- the fill value
+
+same_value : (var : Var) → (is_char var.ty ≡ true → fill_value (trimmed_var var) ≡ fill_value var) → fill_value (trimmed_var var) ≡ fill_value var
+same_value var char =
+    elim (is_char var.ty) as (λ b. is_char var.ty ≡ b → fill_value (trimmed_var var) ≡ fill_value var) [ true ↦ char | false ↦ same_fill var ] refl
+
+same_room : (dims : List Dim) (var : Var) → fill_value (trimmed_var var) ≡ fill_value var → room_of dims (trimmed_var var) ≡ room_of dims var
+unfolding room_of
+same_room dims var fill = ap (λ (f : ℤ). record (room_of dims var) { fill = f }) fill
+
+-- ---- rows
+
+-- what gives the values of a variable gives its array
+row_of : (d : Dataset) (records width place : ℕ) (var : Var) → IsArray d.header.dims records var (slice_index_or d.arrays place []) → fill_value (trimmed_var var) ≡ fill_value var →
+    (g : Gives d.header.version d.header.dims (look_of d.header var records width) var (content_of d place var).values) → array_of d.header.dims records (given_draft var (Some g.ys)) ≡ slice_index_or d.arrays place [] →
+    RowReadsBack d records width place var
+row_of d records width place var is fill g back = record {
+  values = g.said;
+  statement = is_statement d.header.version Values (variable_text (look_of d.header var records width) (content_of d place var).values) (Listed var.name g.said) g.says;
+  listed = g.ys;
+  added = ap (λ (r : Room). in_turn (add_value r) [] g.said) (sym (same_room d.header.dims var fill)) ∙ g.added;
+  array = ap (λ (f : ℤ). flat_map (bytes_of_number var.ty) (filled (value_count d.header.dims var records) f g.ys)) (sym fill) ∙ back;
+  whole = λ e. ap (λ (ys : List ℤ). length ys) (g.exact e) ∙ array_len d.header.dims records var (slice_index_or d.arrays place []) is;
+}
+
+pub rows_read_back : RowsReadBack
+rows_read_back d records width place var s known at some =
+    let h = d.header in
+    let array = slice_index_or d.arrays place [] in
+    let is = is_array d records place var s known at in
+    let name = (in_place (λ (w : Var). IsName w.name × All (λ (att : Att). IsName att.name) w.atts) h.vars place var s.good.names.vars at).0 in
+    let keeps = (in_place IsSayableVar h.vars place var s.vars at).fill in
+    let back = row_back h.version h records width var array is (grind (arith, some)) name keeps in
+    row_of d records width place var is (same_value var keeps) back.0 back.1
+
+pub empty_rows_read_back : EmptyRowsReadBack
+empty_rows_read_back d records place var s known at none =
+    let is = is_array d records place var s known at in
+    no_bytes (slice_index_or d.arrays place []) (value_count d.header.dims var records) _ is.whole (grind (arith, none))
+
+pub data_reads_back : DataReadsBack
+data_reads_back d records width place var s known at some =
+    let row = rows_read_back d records width place var s known at some in (row.values, row.statement)

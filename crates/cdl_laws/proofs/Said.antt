@@ -1,0 +1,305 @@
+-- What the shapes give: names, counts and types of what a statement says, against the bytes of its tokens.
+use Rattle.std.proofs.Common.{◌≡◌, ℕ, ◌+◌, ◌-◌, ◌*◌, ◌≤◌, ◌<◌, Bool, true, false, List, [], ◌∷◌, length, refl, arith, zero, suc}
+use Rattle.std.proofs.lemmas.List.{length-take, length-drop}
+use Rattle.std.specs.Prelude.{if◌then◌else◌, Option, None, Some, take, drop, ◌&&◌, ◌||◌, not, ◌==◌, slice_index, codes, ℤ, map, nat_lt}
+use Rattle.std.specs.Option.{option_map, option_and_then}
+use Rattle.std.specs.List.{prefix_len}
+use Rattle.nc_base.specs.Escapes.{is_reserved}
+use Rattle.nc_base.specs.declared.nc_type.NcType.{NcType}
+use Rattle.nc_base.specs.declared.version.Version.{Version}
+use Rattle.nc_base.specs.Versions.{has_type}
+use Rattle.cdl_text.specs.Bytes.{is_digit, is_octal, is_hex, is_escape, is_sign}
+use Rattle.cdl_text.specs.Escapes.{or_zero, stands_at, character, byte, octal_number, octal_escape, hex_escape, escape, plain_escape, digit}
+use Rattle.cdl_text.specs.Lexemes.{Lexeme, is_word_kind, is_mark, is_word, name_of, word_value}
+use Rattle.cdl_text.specs.Numerals.{Parts, parts, number, Numeral, numeral, suffix, of_version, type_of_suffix, with_suffix, in_base, unsigned, lower, number_in}
+use Rattle.cdl_text.specs.Shapes.{Value, Number, Characters, Blank, Dimension, Variable, both, each, given, into_first, members_in, members, length_of, dimension, constant_of, constant, constants, dimensions, inner, name_alone, before_mark, variable}
+use Rattle.cdl_text.specs.declared.token.TokenKind.{TokenKind}
+use Rattle.cdl_text.specs.declared.token.TokenKind.TheVariants as kinds
+use Rattle.cdl_text.specs.declared.front.Character.{Character}
+use Rattle.cdl_laws.proofs.Lists.{Each}
+use Rattle.cdl_laws.proofs.Outcomes.{SomeIs, some_map, some_then, some_weaker, some_both, some_given, in_if, total, each_total, each_take, each_drop}
+
+-- ---- weights
+
+abbrev pub weight : Lexeme → ℕ
+weight l = suc (length l.bytes)
+
+abbrev pub mass : List Lexeme → ℕ
+mass ls = total weight ls
+
+abbrev pub IsByte : ℕ → Type 0
+IsByte b = b < 256
+
+-- the token's bytes are bytes
+abbrev pub HasBytes : Lexeme → Type 0
+HasBytes l = Each IsByte l.bytes
+
+-- ---- members
+
+first_mass : (l : Lexeme) (ms : List (List Lexeme)) → total mass (into_first l ms) ≡ weight l + total mass ms
+first_mass l [] = omega arith
+first_mass l (m ∷ ms) = omega arith
+
+members_mass : (parens : Bool) (ls : List Lexeme) → total mass (members_in parens ls) ≤ mass ls
+members_mass parens [] = omega arith
+members_mass parens (l ∷ ls) =
+    elim (is_mark 0x2c l && not parens) as (λ b. total mass (elim b as (λ z. List (List Lexeme)) [ true ↦ [] ∷ members_in parens ls | false ↦ into_first l (members_in (is_mark 0x28 l || parens && not (is_mark 0x29 l)) ls) ]) ≤ weight l + mass ls) [
+      | true ↦ (let ih = members_mass parens ls in omega (arith, ih))
+      | false ↦ (let q = is_mark 0x28 l || parens && not (is_mark 0x29 l) in let ih = members_mass q ls in let e = first_mass l (members_in q ls) in omega (arith, ih, e))
+    ]
+
+-- all but the last
+pub before_mass : (b : ℕ) (ls : List Lexeme) → SomeIs (λ xs. mass xs ≤ mass ls) (before_mark b ls)
+before_mass b [] = tt
+before_mass b (l ∷ []) = some_given (λ xs. mass xs ≤ mass (l ∷ [])) (is_mark b l) (Some []) (λ e. omega arith)
+before_mass b (l ∷ m ∷ ls) =
+    some_map (λ xs. mass xs ≤ mass (l ∷ m ∷ ls)) (λ xs. l ∷ xs) (before_mark b (m ∷ ls))
+    (some_weaker (λ xs. mass xs ≤ mass (m ∷ ls)) (λ xs. weight l + mass xs ≤ weight l + mass (m ∷ ls)) (before_mark b (m ∷ ls)) (before_mass b (m ∷ ls)) (λ xs h. omega (arith, h)))
+
+pub before_each : (P : Lexeme → Type 0) (b : ℕ) (ls : List Lexeme) → Each P ls → SomeIs (Each P) (before_mark b ls)
+before_each P b [] h = tt
+before_each P b (l ∷ []) h = some_given (Each P) (is_mark b l) (Some []) (λ e. tt)
+before_each P b (l ∷ m ∷ ls) h =
+    some_map (Each P) (λ xs. l ∷ xs) (before_mark b (m ∷ ls)) (some_weaker (Each P) (λ xs. Each P (l ∷ xs)) (before_mark b (m ∷ ls)) (before_each P b (m ∷ ls) h.1) (λ xs k. (h.0, k)))
+
+-- ---- words
+
+word_shorter : (bs : List ℕ) → length (word_value bs) ≤ length bs
+unfolding word_value
+word_shorter [] = omega arith
+word_shorter (b ∷ []) = omega arith
+word_shorter (b ∷ c ∷ rest) =
+    let short = word_shorter rest in let long = word_shorter (c ∷ rest) in
+    in_if (λ (w : List ℕ). length w ≤ length (b ∷ c ∷ rest)) (is_escape b c) (c ∷ word_value rest) (b ∷ word_value (c ∷ rest)) (omega (arith, short)) (omega (arith, long))
+
+pub name_short : (l : Lexeme) → SomeIs (λ name. length name ≤ length l.bytes) (name_of l)
+unfolding name_of
+name_short l = in_if (SomeIs (λ name. length name ≤ length l.bytes)) (is_word_kind l.kind && not (is_reserved l.bytes)) (Some (word_value l.bytes)) None (word_shorter l.bytes) tt
+
+-- ---- numbers
+
+abbrev pub HasTypeOf : Version → Numeral → Type 0
+HasTypeOf v n = has_type v n.ty ≡ true
+
+version_has : (v : Version) (o : Option NcType) → SomeIs (λ ty. has_type v ty ≡ true) (of_version v o)
+version_has v None = tt
+version_has v (Some ty) =
+    elim (has_type v ty) as (λ b. has_type v ty ≡ b → SomeIs (λ t. has_type v t ≡ true) (if b then Some ty else None)) [ true ↦ (λ e. e) | false ↦ (λ e. tt) ] refl
+
+-- the same of its parts
+abbrev HasType : Version → Parts → Type 0
+HasType v p = has_type v p.ty ≡ true
+
+suffix_has : (v : Version) (minus : Bool) (n : ℕ) (o : Option NcType) → SomeIs (λ ty. has_type v ty ≡ true) o → SomeIs (HasType v) (with_suffix minus n o)
+suffix_has v minus n None h = tt
+suffix_has v minus n (Some ty) h = h
+
+based : (v : Version) (minus : Bool) (base n : ℕ) (bs : List ℕ) → SomeIs (HasType v) (in_base v minus base n bs)
+unfolding suffix
+based v minus base n bs =
+    in_if (SomeIs (HasType v)) (n == 0) None (with_suffix minus (number_in base 0 (take n bs)) (suffix v (drop n bs))) tt
+    (suffix_has v minus (number_in base 0 (take n bs)) (suffix v (drop n bs)) (version_has v (type_of_suffix (map lower (drop n bs)))))
+
+unsigned_has : (v : Version) (minus : Bool) (bs : List ℕ) → SomeIs (HasType v) (unsigned v minus bs)
+unsigned_has v minus bs =
+    in_if (SomeIs (HasType v)) (slice_index bs 0 == 0x30 && (slice_index bs 1 == 0x78 || slice_index bs 1 == 0x58)) (in_base v minus 16 (prefix_len is_hex (drop 2 bs)) (drop 2 bs)) (if slice_index bs 0 == 0x30 then in_base v minus 8 (prefix_len is_octal bs) bs else in_base v minus 10 (prefix_len is_digit bs) bs)
+    (based v minus 16 (prefix_len is_hex (drop 2 bs)) (drop 2 bs))
+    (in_if (SomeIs (HasType v)) (slice_index bs 0 == 0x30) (in_base v minus 8 (prefix_len is_octal bs) bs) (in_base v minus 10 (prefix_len is_digit bs) bs)
+    (based v minus 8 (prefix_len is_octal bs) bs) (based v minus 10 (prefix_len is_digit bs) bs))
+
+parts_have : (v : Version) (bs : List ℕ) → SomeIs (HasType v) (parts v bs)
+unfolding parts
+parts_have v bs =
+    in_if (SomeIs (HasType v)) (is_sign (slice_index bs 0)) (unsigned v (slice_index bs 0 == 0x2d) (drop 1 bs)) (unsigned v false bs)
+    (unsigned_has v (slice_index bs 0 == 0x2d) (drop 1 bs)) (unsigned_has v false bs)
+
+numeral_has : (v : Version) (bs : List ℕ) → SomeIs (HasTypeOf v) (numeral v bs)
+unfolding numeral
+numeral_has v bs = some_map (HasTypeOf v) number (parts v bs) (parts_have v bs)
+
+-- ---- strings
+
+abbrev ByteOrNone : Option ℕ → Type 0
+ByteOrNone o = SomeIs IsByte o
+
+byte_is : (n : ℕ) → ByteOrNone (byte n)
+byte_is n =
+    elim (nat_lt 255 n) as (λ b. nat_lt 255 n ≡ b → ByteOrNone (if b then None else Some n)) [ true ↦ (λ e. tt) | false ↦ (λ e. grind (arith, e)) ] refl
+
+front_byte : (bs : List ℕ) → Each IsByte bs → slice_index bs 0 < 256
+front_byte [] h = omega arith
+front_byte (b ∷ bs) h = h.0
+
+plain_byte : (b : ℕ) → b < 256 → plain_escape b < 256
+plain_byte b h =
+    in_if (λ n. n < 256) (b == 0x61) 0x07 (if b == 0x62 then 0x08 else (if b == 0x66 then 0x0c else (if b == 0x6e then 0x0a else (if b == 0x72 then 0x0d else (if b == 0x74 then 0x09 else (if b == 0x76 then 0x0b else b)))))) (omega arith)
+    (in_if (λ n. n < 256) (b == 0x62) 0x08 (if b == 0x66 then 0x0c else (if b == 0x6e then 0x0a else (if b == 0x72 then 0x0d else (if b == 0x74 then 0x09 else (if b == 0x76 then 0x0b else b))))) (omega arith)
+    (in_if (λ n. n < 256) (b == 0x66) 0x0c (if b == 0x6e then 0x0a else (if b == 0x72 then 0x0d else (if b == 0x74 then 0x09 else (if b == 0x76 then 0x0b else b)))) (omega arith)
+    (in_if (λ n. n < 256) (b == 0x6e) 0x0a (if b == 0x72 then 0x0d else (if b == 0x74 then 0x09 else (if b == 0x76 then 0x0b else b))) (omega arith)
+    (in_if (λ n. n < 256) (b == 0x72) 0x0d (if b == 0x74 then 0x09 else (if b == 0x76 then 0x0b else b)) (omega arith)
+    (in_if (λ n. n < 256) (b == 0x74) 0x09 (if b == 0x76 then 0x0b else b) (omega arith)
+    (in_if (λ n. n < 256) (b == 0x76) 0x0b b (omega arith) h))))))
+
+abbrev IsFine : Character → Type 0
+IsFine c = ByteOrNone c.value
+
+hex_fine : (bs : List ℕ) (n : ℕ) → IsFine (hex_escape bs n)
+hex_fine bs n =
+    in_if IsFine (n == 0) (record { value = None; len = 2 }) (if n == 1 then record { value = byte (digit (slice_index bs 0)); len = 3 } else record { value = byte (16 * digit (slice_index bs 0) + digit (slice_index bs 1)); len = 4 }) tt
+    (in_if IsFine (n == 1) (record { value = byte (digit (slice_index bs 0)); len = 3 }) (record { value = byte (16 * digit (slice_index bs 0) + digit (slice_index bs 1)); len = 4 })
+    (byte_is (digit (slice_index bs 0))) (byte_is (16 * digit (slice_index bs 0) + digit (slice_index bs 1))))
+
+escape_fine : (bs : List ℕ) → Each IsByte bs → IsFine (escape bs)
+escape_fine bs h =
+    in_if IsFine (is_octal (slice_index bs 0)) (octal_escape bs (prefix_len is_octal (take 3 bs))) (if slice_index bs 0 == 0x78 then hex_escape (drop 1 bs) (prefix_len is_hex (take 2 (drop 1 bs))) else record { value = Some (plain_escape (slice_index bs 0)); len = 2 })
+    (byte_is (octal_number bs (prefix_len is_octal (take 3 bs))))
+    (in_if IsFine (slice_index bs 0 == 0x78) (hex_escape (drop 1 bs) (prefix_len is_hex (take 2 (drop 1 bs)))) (record { value = Some (plain_escape (slice_index bs 0)); len = 2 })
+    (hex_fine (drop 1 bs) (prefix_len is_hex (take 2 (drop 1 bs)))) (plain_byte (slice_index bs 0) (front_byte bs h)))
+
+character_fine : (bs : List ℕ) → Each IsByte bs → IsFine (character bs)
+unfolding character
+character_fine bs h =
+    in_if IsFine (slice_index bs 0 == 0x5c) (escape (drop 1 bs)) (record { value = Some (slice_index bs 0); len = 1 }) (escape_fine (drop 1 bs) (each_drop IsByte 1 bs h)) (front_byte bs h)
+
+zero_fine : (o : Option ℕ) → ByteOrNone o → or_zero o < 256
+zero_fine None h = omega arith
+zero_fine (Some b) h = h
+
+stands_fine : (more : ℕ) (bs : List ℕ) → Each IsByte bs → Each IsByte (stands_at more bs)
+unfolding stands_at
+stands_fine more [] h = tt
+stands_fine (suc more) (b ∷ bs) h = stands_fine more bs h.1
+stands_fine zero (b ∷ bs) h = (zero_fine (character (b ∷ bs)).value (character_fine (b ∷ bs) h), stands_fine ((character (b ∷ bs)).len - 1) bs h.1)
+
+stands_short : (more : ℕ) (bs : List ℕ) → length (stands_at more bs) ≤ length bs
+unfolding stands_at
+stands_short more [] = omega arith
+stands_short (suc more) (b ∷ bs) = let ih = stands_short more bs in omega (arith, ih)
+stands_short zero (b ∷ bs) = let ih = stands_short ((character (b ∷ bs)).len - 1) bs in omega (arith, ih)
+
+-- ---- constants
+
+-- what a constant takes at least in a text
+abbrev pub cost : Value → ℕ
+cost (Number n) = 1
+cost (Characters bytes) = suc (length bytes)
+cost Blank = 1
+
+abbrev pub IsFineValue : Version → Value → Type 0
+IsFineValue v (Number n) = HasTypeOf v n
+IsFineValue v (Characters bytes) = Each IsByte bytes
+IsFineValue v Blank = Unit {0}
+
+blank_fine : (v : Version) (b : Bool) → SomeIs (IsFineValue v) (given b (Some Blank))
+blank_fine v b = some_given (IsFineValue v) b (Some Blank) (λ e. tt)
+
+one_fine : (v : Version) (blanks : Bool) (l : Lexeme) (k : TokenKind) → HasBytes l → SomeIs (IsFineValue v) (constant_of v blanks l k)
+one_fine v blanks l kinds.Number h = some_map (IsFineValue v) Number (numeral v l.bytes) (numeral_has v l.bytes)
+one_fine v blanks l kinds.Text h =
+    stands_fine 0 (inner l.bytes) (each_take IsByte (length l.bytes - 2) (drop 1 l.bytes) (each_drop IsByte 1 l.bytes h))
+one_fine v blanks l kinds.Opening h = blank_fine v (blanks && is_word (codes "_") l)
+one_fine v blanks l kinds.Word h = blank_fine v (blanks && is_word (codes "_") l)
+one_fine v blanks l kinds.Mark h = blank_fine v (blanks && is_word (codes "_") l)
+one_fine v blanks l kinds.Bad h = blank_fine v (blanks && is_word (codes "_") l)
+one_fine v blanks l kinds.End h = blank_fine v (blanks && is_word (codes "_") l)
+
+blank_short : (n : ℕ) (b : Bool) → SomeIs (λ x. cost x ≤ suc n) (given b (Some Blank))
+blank_short n b = some_given (λ x. cost x ≤ suc n) b (Some Blank) (λ e. omega arith)
+
+inner_short : (bs : List ℕ) → length (inner bs) ≤ length bs
+inner_short bs = let a = length-take (length bs - 2) (drop 1 bs) in let b = length-drop 1 bs in omega (arith, a, b)
+
+number_short : (n : ℕ) (o : Option Numeral) → SomeIs (λ x. cost x ≤ suc n) (option_map Number o)
+number_short n None = tt
+number_short n (Some x) = omega arith
+
+one_short : (v : Version) (blanks : Bool) (l : Lexeme) (k : TokenKind) → SomeIs (λ x. cost x ≤ weight l) (constant_of v blanks l k)
+one_short v blanks l kinds.Number = number_short (length l.bytes) (numeral v l.bytes)
+one_short v blanks l kinds.Text = let a = stands_short 0 (inner l.bytes) in let b = inner_short l.bytes in omega (arith, a, b)
+one_short v blanks l kinds.Opening = blank_short (length l.bytes) (blanks && is_word (codes "_") l)
+one_short v blanks l kinds.Word = blank_short (length l.bytes) (blanks && is_word (codes "_") l)
+one_short v blanks l kinds.Mark = blank_short (length l.bytes) (blanks && is_word (codes "_") l)
+one_short v blanks l kinds.Bad = blank_short (length l.bytes) (blanks && is_word (codes "_") l)
+one_short v blanks l kinds.End = blank_short (length l.bytes) (blanks && is_word (codes "_") l)
+
+constant_fine : (v : Version) (blanks : Bool) (l : Lexeme) → HasBytes l → SomeIs (IsFineValue v) (constant v blanks l)
+constant_fine v blanks l h = one_fine v blanks l l.kind h
+
+constant_short : (v : Version) (blanks : Bool) (l : Lexeme) → SomeIs (λ x. cost x ≤ weight l) (constant v blanks l)
+constant_short v blanks l = one_short v blanks l l.kind
+
+pub constants_fine : (v : Version) (blanks : Bool) (ls : List Lexeme) → Each HasBytes ls → SomeIs (Each (IsFineValue v)) (constants v blanks ls)
+constants_fine v blanks [] h = tt
+constants_fine v blanks (l ∷ []) h =
+    some_both (IsFineValue v) (Each (IsFineValue v)) (Each (IsFineValue v)) (λ x xs. x ∷ xs) (constant v blanks l) (Some []) (constant_fine v blanks l h.0) tt (λ x xs a b. (a, b))
+constants_fine v blanks (l ∷ c ∷ ls) h =
+    some_given (Each (IsFineValue v)) (is_mark 0x2c c) (both (λ x xs. x ∷ xs) (constant v blanks l) (constants v blanks ls)) (λ q.
+    some_both (IsFineValue v) (Each (IsFineValue v)) (Each (IsFineValue v)) (λ x xs. x ∷ xs) (constant v blanks l) (constants v blanks ls) (constant_fine v blanks l h.0) (constants_fine v blanks ls h.1.1) (λ x xs a b. (a, b)))
+
+pub constants_short : (v : Version) (blanks : Bool) (ls : List Lexeme) → SomeIs (λ xs. total cost xs ≤ mass ls) (constants v blanks ls)
+constants_short v blanks [] = tt
+constants_short v blanks (l ∷ []) =
+    some_both (λ x. cost x ≤ weight l) (λ xs. total cost xs ≤ 0) (λ xs. total cost xs ≤ mass (l ∷ [])) (λ x xs. x ∷ xs) (constant v blanks l) (Some []) (constant_short v blanks l) (omega arith) (λ x xs a b. omega (arith, a, b))
+constants_short v blanks (l ∷ c ∷ ls) =
+    some_given (λ xs. total cost xs ≤ mass (l ∷ c ∷ ls)) (is_mark 0x2c c) (both (λ x xs. x ∷ xs) (constant v blanks l) (constants v blanks ls)) (λ q.
+    some_both (λ x. cost x ≤ weight l) (λ xs. total cost xs ≤ mass ls) (λ xs. total cost xs ≤ mass (l ∷ c ∷ ls)) (λ x xs. x ∷ xs) (constant v blanks l) (constants v blanks ls) (constant_short v blanks l) (constants_short v blanks ls) (λ x xs a b. omega (arith, a, b)))
+
+-- ---- dimensions and variables
+
+abbrev pub dim_cost : Dimension → ℕ
+dim_cost d = suc (length d.name)
+
+abbrev pub name_cost : List ℕ → ℕ
+name_cost name = suc (length name)
+
+abbrev pub var_cost : Variable → ℕ
+var_cost x = suc (length x.name + total name_cost x.dimensions)
+
+any_some : {A : Type 0} (o : Option A) → SomeIs (λ a. Unit {0}) o
+any_some None = tt
+any_some (Some a) = tt
+
+dimension_short : (v : Version) (n e l : Lexeme) → SomeIs (λ d. dim_cost d ≤ weight n) (dimension v n e l)
+dimension_short v n e l =
+    let P : Dimension → Type 0 = λ d. dim_cost d ≤ weight n in
+    some_given P (is_mark 0x3d e) (both (λ name len. record { name = name; len = len }) (name_of n) (length_of v l)) (λ q.
+    some_both (λ (name : List ℕ). length name ≤ length n.bytes) (λ (len : Option ℤ). Unit {0}) P (λ name len. record { name = name; len = len }) (name_of n) (length_of v l) (name_short n) (any_some (length_of v l)) (λ name len h k. omega (arith, h)))
+
+pub dimensions_short : (v : Version) (ls : List Lexeme) → SomeIs (λ ds. total dim_cost ds ≤ mass ls) (dimensions v ls)
+dimensions_short v [] = tt
+dimensions_short v (n ∷ []) = tt
+dimensions_short v (n ∷ e ∷ []) = tt
+dimensions_short v (n ∷ e ∷ l ∷ []) =
+    some_both (λ d. dim_cost d ≤ weight n) (λ ds. total dim_cost ds ≤ 0) (λ ds. total dim_cost ds ≤ mass (n ∷ e ∷ l ∷ [])) (λ d ds. d ∷ ds) (dimension v n e l) (Some []) (dimension_short v n e l) (omega arith) (λ d ds a b. omega (arith, a, b))
+dimensions_short v (n ∷ e ∷ l ∷ c ∷ ls) =
+    some_given (λ ds. total dim_cost ds ≤ mass (n ∷ e ∷ l ∷ c ∷ ls)) (is_mark 0x2c c) (both (λ d ds. d ∷ ds) (dimension v n e l) (dimensions v ls)) (λ q.
+    some_both (λ d. dim_cost d ≤ weight n) (λ ds. total dim_cost ds ≤ mass ls) (λ ds. total dim_cost ds ≤ mass (n ∷ e ∷ l ∷ c ∷ ls)) (λ d ds. d ∷ ds) (dimension v n e l) (dimensions v ls) (dimension_short v n e l) (dimensions_short v ls) (λ d ds a b. omega (arith, a, b)))
+
+alone_short : (ls : List Lexeme) → SomeIs (λ name. name_cost name ≤ mass ls) (name_alone ls)
+alone_short [] = tt
+alone_short (l ∷ []) = some_weaker (λ (name : List ℕ). length name ≤ length l.bytes) (λ name. name_cost name ≤ mass (l ∷ [])) (name_of l) (name_short l) (λ name h. omega (arith, h))
+alone_short (l ∷ m ∷ ls) = tt
+
+names_short : (ls : List Lexeme) → SomeIs (λ ns. total name_cost ns ≤ mass ls) (each name_alone (members ls))
+names_short ls =
+    some_weaker (λ ns. total name_cost ns ≤ total mass (members ls)) (λ ns. total name_cost ns ≤ mass ls) (each name_alone (members ls)) (each_total mass name_cost name_alone alone_short (members ls))
+    (λ ns h. let a = members_mass false ls in omega (arith, h, a))
+
+variable_short : (ls : List Lexeme) → SomeIs (λ x. var_cost x ≤ mass ls) (variable ls)
+variable_short [] = tt
+variable_short (n ∷ []) =
+    some_map (λ x. var_cost x ≤ mass (n ∷ [])) (λ name. record { name = name; dimensions = [] }) (name_of n)
+    (some_weaker (λ (name : List ℕ). length name ≤ length n.bytes) (λ name. suc (length name + 0) ≤ mass (n ∷ [])) (name_of n) (name_short n) (λ name h. omega (arith, h)))
+variable_short (n ∷ p ∷ ls) =
+    let P : Variable → Type 0 = λ x. var_cost x ≤ mass (n ∷ p ∷ ls) in
+    let inner : Option (List (List ℕ)) = option_and_then (λ xs. each name_alone (members xs)) (before_mark 0x29 ls) in
+    some_given P (is_mark 0x28 p) (both (λ name ds. record { name = name; dimensions = ds }) (name_of n) inner) (λ q.
+    some_both (λ (name : List ℕ). length name ≤ length n.bytes) (λ ns. total name_cost ns ≤ mass ls) P (λ name ds. record { name = name; dimensions = ds }) (name_of n) inner (name_short n)
+    (some_then (λ xs. mass xs ≤ mass ls) (λ ns. total name_cost ns ≤ mass ls) (λ xs. each name_alone (members xs)) (before_mark 0x29 ls) (before_mass 0x29 ls)
+    (λ xs h. some_weaker (λ ns. total name_cost ns ≤ mass xs) (λ ns. total name_cost ns ≤ mass ls) (each name_alone (members xs)) (names_short xs) (λ ns k. omega (arith, h, k))))
+    (λ name ns h k. omega (arith, h, k)))
+
+pub variables_short : (ls : List Lexeme) → SomeIs (λ xs. total var_cost xs ≤ mass ls) (each variable (members ls))
+variables_short ls =
+    some_weaker (λ xs. total var_cost xs ≤ total mass (members ls)) (λ xs. total var_cost xs ≤ mass ls) (each variable (members ls)) (each_total mass var_cost variable variable_short (members ls))
+    (λ xs h. let a = members_mass false ls in omega (arith, h, a))

@@ -1,0 +1,173 @@
+-- What a dataset that a text can declare gives for each of its parts.
+use Rattle.std.proofs.Common.{◌≡◌, ℕ, suc, ◌+◌, ◌^◌, ◌<◌, ◌≤◌, Bool, true, false, List, [], ◌∷◌, ◌++◌, length, map, sym, ◌∙◌, ap, refl, subst, arith, append_assoc}
+use Rattle.std.specs.Prelude.{◌||◌, ◌==◌, if◌then◌else◌, All, filter}
+use Rattle.std.specs.List.{list_any}
+use Rattle.std.specs.Str.{bytes_eq}
+use Rattle.std.proofs.lemmas.Bool.{false≢true}
+use Rattle.std.proofs.lemmas.List.{map-append}
+use Rattle.std.proofs.lemmas.List.Folds.{list_any-append}
+use Rattle.std.proofs.lemmas.Slice.Eq.{bytes_eq-Decides}
+use Rattle.nc_base.specs.Bytes.{AreBytes}
+use Rattle.nc_base.specs.declared.header.Att.{Att}
+use Rattle.nc_base.specs.declared.header.Dim.{Dim}
+use Rattle.nc_base.specs.declared.header.Var.{Var}
+use Rattle.nc_base.specs.declared.version.Version.{Version}
+use Rattle.nc_base.specs.declared.version.Version.TheVariants.{Cdf1, Cdf2, Cdf5}
+use Rattle.nc_base.specs.Dump.{has_name}
+use Rattle.nc_base.specs.Headers.{has_record_dim, IsSoundAtt, IsSoundVar, IsSoundDim}
+use Rattle.nc_base.specs.Names.{IsName}
+use Rattle.nc_base.specs.Versions.{count_limit}
+use Rattle.nc_base.specs.Sayable.{AreDistinct, IsSayableVar, HasSomeNumber, trimmed_att}
+use Rattle.cdl_parse.specs.State.{Draft}
+use Rattle.cdl_laws.proofs.Acts.{record_once, no_draft}
+use Rattle.cdl_laws.proofs.Attributes.{speaks}
+use Rattle.cdl_laws.proofs.Bools.{or_left, or_right}
+use Rattle.cdl_laws.proofs.Lists.{Each, each_of}
+use Rattle.cdl_laws.proofs.Wholes.{AreNewDims, AreNewAtts, Speaks, IsFit, AreFit, draft_of}
+
+-- ---- names
+
+pub swapped : (a b : List ℕ) → bytes_eq a b ≡ false → bytes_eq b a ≡ false
+swapped a b h =
+    elim (bytes_eq b a) as (λ w. bytes_eq b a ≡ w → w ≡ false) [
+      | true ↦ (λ e. absurd (false≢true (sym h ∙ (bytes_eq-Decides a b).1 (sym ((bytes_eq-Decides b a).0 e)))))
+      | false ↦ (λ e. refl)
+    ] refl
+
+-- none of the names stands among those before
+abbrev pub AreFresh : List (List ℕ) → List (List ℕ) → Type 0
+AreFresh done names = Each (λ name. has_name done name ≡ false) names
+
+pub fresh_more : (done : List (List ℕ)) (n : List ℕ) (names : List (List ℕ)) → AreFresh done names → has_name names n ≡ false → AreFresh (done ++ n ∷ []) names
+fresh_more done n [] fresh new = tt
+fresh_more done n (m ∷ names) fresh new = (
+  list_any-append (λ (other : List ℕ). bytes_eq other m) done (n ∷ []) ∙ rw (fresh.0) (rw (swapped m n (or_left (bytes_eq m n) (has_name names n) new)) refl),
+  fresh_more done n names fresh.1 (or_right (bytes_eq m n) (has_name names n) new),
+)
+
+pub any_map : {X : Type 0} (name : X → List ℕ) (n : List ℕ) (xs : List X) → list_any (λ x. bytes_eq (name x) n) xs ≡ has_name (map name xs) n
+any_map name n [] = refl
+any_map name n (x ∷ xs) = ap (λ b. bytes_eq (name x) n || b) (any_map name n xs)
+
+pub none_before : (names : List (List ℕ)) → AreFresh [] names
+none_before [] = tt
+none_before (n ∷ names) = (refl, none_before names)
+
+-- ---- attributes
+
+abbrev pub att_name : Att → List ℕ
+att_name a = a.name
+
+new_atts : (done atts : List Att) → AreFresh (map att_name done) (map att_name atts) → AreDistinct (map att_name atts) → AreNewAtts done atts
+new_atts done [] fresh distinct = tt
+new_atts done (a ∷ atts) fresh distinct = (
+  any_map att_name a.name done ∙ fresh.0,
+  new_atts (done ++ trimmed_att a ∷ []) atts
+      (subst (λ names. AreFresh names (map att_name atts)) (sym (map-append att_name done (trimmed_att a ∷ []))) (fresh_more (map att_name done) a.name (map att_name atts) fresh.1 distinct.0))
+      distinct.1,
+)
+
+pub atts_new : (atts : List Att) → AreDistinct (map att_name atts) → AreNewAtts [] atts
+atts_new atts distinct = new_atts [] atts (none_before (map att_name atts)) distinct
+
+all_speak : (v : Version) (atts : List Att) → Each (IsSoundAtt v) atts → Each (λ (a : Att). AreBytes a.vals) atts → Each HasSomeNumber atts → Each (λ (a : Att). IsName a.name) atts → Each (Speaks v) atts
+all_speak v [] sound small some names = tt
+all_speak v (a ∷ atts) sound small some names = (speaks v a sound.0 small.0 some.0 names.0, all_speak v atts sound.1 small.1 some.1 names.1)
+
+pub atts_speak : (v : Version) (atts : List Att) → All (IsSoundAtt v) atts → All (λ (a : Att). AreBytes a.vals) atts → All HasSomeNumber atts → All (λ (a : Att). IsName a.name) atts → Each (Speaks v) atts
+atts_speak v atts sound small some names =
+    all_speak v atts (each_of (IsSoundAtt v) atts sound) (each_of (λ (a : Att). AreBytes a.vals) atts small) (each_of HasSomeNumber atts some) (each_of (λ (a : Att). IsName a.name) atts names)
+
+-- ---- dimensions
+
+abbrev pub is_record : Dim → Bool
+is_record d = d.len == 0
+
+some_record : (dims : List Dim) → has_record_dim dims ≡ true → 0 < length (filter is_record dims)
+some_record [] h = absurd (false≢true h)
+some_record (d ∷ dims) h =
+    elim (d.len == 0) as (λ w. (w || has_record_dim dims) ≡ true → 0 < length (if w then d ∷ filter is_record dims else filter is_record dims)) [
+      | true ↦ (λ e. omega arith)
+      | false ↦ (λ e. some_record dims e)
+    ] h
+
+pub filter_append : (a b : List Dim) → length (filter is_record (a ++ b)) ≡ length (filter is_record a) + length (filter is_record b)
+filter_append [] b = omega arith
+filter_append (d ∷ a) b =
+    let ih = filter_append a b in
+    elim (d.len == 0) as (λ w. length (if w then d ∷ filter is_record (a ++ b) else filter is_record (a ++ b)) ≡ length (if w then d ∷ filter is_record a else filter is_record a) + length (filter is_record b)) [
+      | true ↦ omega (arith, ih)
+      | false ↦ ih
+    ]
+
+once : (done : List Dim) (d : Dim) (ds : List Dim) → length (filter is_record (done ++ d ∷ ds)) ≤ 1 → record_once done d.len
+once done d ds h zero_len =
+    elim (has_record_dim done) as (λ w. has_record_dim done ≡ w → w ≡ false) [
+      | true ↦ (λ e. absurd (let a = some_record done e in let b = filter_append done (d ∷ ds) in let c : length (filter is_record (d ∷ ds)) ≡ suc (length (filter is_record ds)) = rw (zero_len) refl in omega (arith, a, b, c, h)))
+      | false ↦ (λ e. refl)
+    ] refl
+
+pub limit_small : (v : Version) → count_limit v < 2 ^ 64
+limit_small Cdf1 = omega arith
+limit_small Cdf2 = omega arith
+limit_small Cdf5 = omega arith
+
+abbrev pub dim_name : Dim → List ℕ
+dim_name d = d.name
+
+new_dims : (v : Version) (done ds : List Dim) → AreFresh (map dim_name done) (map dim_name ds) → AreDistinct (map dim_name ds) → Each (IsSoundDim v) ds → Each (λ (d : Dim). IsName d.name) ds → length (filter is_record (done ++ ds)) ≤ 1 → AreNewDims v done ds
+new_dims v done [] fresh distinct sound names few = tt
+new_dims v done (d ∷ ds) fresh distinct sound names few = (
+  names.0,
+  any_map dim_name d.name done ∙ fresh.0,
+  sound.0.len,
+  (let a = limit_small v in let b = sound.0.len in omega (arith, a, b)),
+  once done d ds few,
+  new_dims v (done ++ d ∷ []) ds
+      (subst (λ ns. AreFresh ns (map dim_name ds)) (sym (map-append dim_name done (d ∷ []))) (fresh_more (map dim_name done) d.name (map dim_name ds) fresh.1 distinct.0))
+      distinct.1 sound.1 names.1 (subst (λ xs. length (filter is_record xs) ≤ 1) (sym (append_assoc done (d ∷ []) ds)) few),
+)
+
+pub dims_new : (v : Version) (ds : List Dim) → AreDistinct (map dim_name ds) → All (IsSoundDim v) ds → All (λ (d : Dim). IsName d.name) ds → length (filter is_record ds) ≤ 1 → AreNewDims v [] ds
+dims_new v ds distinct sound names few =
+    new_dims v [] ds (none_before (map dim_name ds)) distinct (each_of (IsSoundDim v) ds sound) (each_of (λ (d : Dim). IsName d.name) ds names) few
+
+-- ---- variables
+
+abbrev pub draft_name : Draft → List ℕ
+draft_name d = d.var.name
+
+abbrev pub var_name : Var → List ℕ
+var_name var = var.name
+
+-- what soundness and the rest say of a variable's head
+pub record IsSayableHead (v : Version) (dims : List Dim) (var : Var) : Type 0 where
+  pub name : IsName var.name
+  pub sound : IsSoundVar v dims var
+  pub names : All (λ (a : Att). IsName a.name) var.atts
+  pub bytes : All (λ (a : Att). AreBytes a.vals) var.atts
+  pub sayable : IsSayableVar var
+  pub bare : var.begin_at ≡ 0
+
+fit : (v : Version) (dims : List Dim) (before : List Draft) (var : Var) → IsSayableHead v dims var → no_draft var.name before → IsFit v dims before var
+fit v dims before var head new = record {
+  name = head.name;
+  new = new;
+  shape = head.sound.shape;
+  ty = head.sound.ty;
+  atts = atts_speak v var.atts head.sound.atts head.bytes head.sayable.atts.some head.names;
+  fresh = atts_new var.atts head.sayable.atts.names;
+  bare = head.bare;
+}
+
+fits_all : (v : Version) (dims : List Dim) (before : List Draft) (vars : List Var) → AreFresh (map draft_name before) (map var_name vars) → AreDistinct (map var_name vars) → Each (IsSayableHead v dims) vars → AreFit v dims before vars
+fits_all v dims before [] fresh distinct heads = tt
+fits_all v dims before (var ∷ vars) fresh distinct heads = (
+  fit v dims before var heads.0 (any_map draft_name var.name before ∙ fresh.0),
+  fits_all v dims (before ++ draft_of var ∷ []) vars
+      (subst (λ ns. AreFresh ns (map var_name vars)) (sym (map-append draft_name before (draft_of var ∷ []))) (fresh_more (map draft_name before) var.name (map var_name vars) fresh.1 distinct.0))
+      distinct.1 heads.1,
+)
+
+pub vars_fit : (v : Version) (dims : List Dim) (vars : List Var) → AreDistinct (map var_name vars) → Each (IsSayableHead v dims) vars → AreFit v dims [] vars
+vars_fit v dims vars distinct heads = fits_all v dims [] vars (none_before (map var_name vars)) distinct heads

@@ -1,0 +1,147 @@
+-- An escaped string between quotes is one token that stands for it.
+use Rattle.std.proofs.Common.{◌≡◌, ℕ, suc, ◌+◌, ◌*◌, ◌-◌, ◌/◌, ◌%◌, ◌<◌, true, false, List, [], ◌∷◌, ◌++◌, length, drop, take, sym, ◌∙◌, ap, refl, subst, arith, append_assoc, length-append}
+use Rattle.std.specs.Prelude.{◌==◌, nat_lt, Some, is_some}
+use Rattle.std.specs.Char.{is_ascii_control}
+use Rattle.std.specs.List.{flat_map}
+use Rattle.std.proofs.lemmas.Bool.{false≢true, eqb-true}
+use Rattle.std.proofs.Math.Seq.{take-append_seam}
+use Rattle.nc_base.specs.Escapes.{escaped_in_string, octal_escape}
+use Rattle.cdl_text.specs.declared.token.TokenKind.TheVariants as kinds
+use Rattle.cdl_text.specs.Bytes.{is_octal, is_digit}
+use Rattle.cdl_text.specs.Front.{until, front, text_front}
+use Rattle.cdl_text.specs.Escapes.{character, byte, digit, plain_escape, unescape, unescape_at, joined}
+use Rattle.cdl_text.specs.Lexemes.{Lexeme}
+use Rattle.cdl_laws.proofs.Words.{until_front}
+use Rattle.cdl_laws.proofs.Texts.{Closed, front_again}
+
+-- ---- the characters
+
+not_octal : (b c : ℕ) → is_octal c ≡ false → is_octal b ≡ true → (b == c) ≡ false
+not_octal b c o on = elim (b == c) as (λ w. (b == c) ≡ w → w ≡ false) [ true ↦ (λ e. absurd (false≢true (sym o ∙ subst (λ n. is_octal n ≡ true) (eqb-true b c e) on))) | false ↦ (λ e. refl) ] refl
+
+pub until_plain : (close b : ℕ) (rest : List ℕ) → (b == 0x5c) ≡ false → (b == close) ≡ false → until close (b ∷ rest) ≡ 1 + until close rest
+until_plain close b rest h k = until_front close b rest ∙ rw (h) (rw (k) refl)
+
+until_octal : (d e f : ℕ) (rest : List ℕ) → is_octal e ≡ true → is_octal f ≡ true → until 0x22 (0x5c ∷ d ∷ e ∷ f ∷ rest) ≡ 4 + until 0x22 rest
+unfolding until
+until_octal d e f rest h k =
+    ap (λ n. 2 + n) (until_plain 0x22 e (f ∷ rest) (not_octal e 0x5c refl h) (not_octal e 0x22 refl h) ∙ ap (λ n. 1 + n) (until_plain 0x22 f rest (not_octal f 0x5c refl k) (not_octal f 0x22 refl k))) ∙ (omega arith)
+
+character_octal : (d e f : ℕ) (rest : List ℕ) → is_octal d ≡ true → is_octal e ≡ true → is_octal f ≡ true →
+    character (0x5c ∷ d ∷ e ∷ f ∷ rest) ≡ record { value = byte (64 * digit d + 8 * digit e + digit f); len = 4 }
+unfolding character
+character_octal d e f rest h k l = rw (h) (rw (k) (rw (l) refl))
+
+unescape_octal : (d e f n : ℕ) (rest : List ℕ) → is_octal d ≡ true → is_octal e ≡ true → is_octal f ≡ true → byte (64 * digit d + 8 * digit e + digit f) ≡ Some n →
+    unescape (0x5c ∷ d ∷ e ∷ f ∷ rest) ≡ joined (Some n) (unescape rest)
+unfolding unescape_at
+unescape_octal d e f n rest h k l is = rw (character_octal d e f rest h k l) (rw (is) refl)
+
+-- how a byte stands in a string: as an escape of one letter, in octal, or as it is
+data Stands (b : ℕ) : Type 0 where
+  letter : (c : ℕ) → is_octal c ≡ false → (c == 0x78) ≡ false → plain_escape c ≡ b → escaped_in_string b ≡ 0x5c ∷ c ∷ [] → Stands b
+  octal : b < 256 → escaped_in_string b ≡ octal_escape b → Stands b
+  bare : (b == 0x5c) ≡ false → (b == 0x22) ≡ false → escaped_in_string b ≡ b ∷ [] → Stands b
+
+at_literal : (n b : ℕ) → (b == n) ≡ true → Stands n → Stands b
+at_literal n b e s = subst Stands (sym (eqb-true b n e)) s
+
+control_byte : (b : ℕ) → is_ascii_control b ≡ true → b < 256
+control_byte b h = grind (arith, h)
+
+split : (b n : ℕ) → ((b == n) ≡ true → Stands b) → ((b == n) ≡ false → Stands b) → Stands b
+split b n on other = elim (b == n) as (λ w. (b == n) ≡ w → Stands b) [ true ↦ on | false ↦ other ] refl
+
+stands : (b : ℕ) → Stands b
+stands b =
+    split b 8 (λ e. at_literal 8 b e (letter 98 refl refl refl refl)) (λ e8.
+    split b 9 (λ e. at_literal 9 b e (letter 116 refl refl refl refl)) (λ e9.
+    split b 10 (λ e. at_literal 10 b e (letter 110 refl refl refl refl)) (λ e10.
+    split b 11 (λ e. at_literal 11 b e (letter 118 refl refl refl refl)) (λ e11.
+    split b 12 (λ e. at_literal 12 b e (letter 102 refl refl refl refl)) (λ e12.
+    split b 13 (λ e. at_literal 13 b e (letter 114 refl refl refl refl)) (λ e13.
+    split b 34 (λ e. at_literal 34 b e (letter 34 refl refl refl refl)) (λ e34.
+    split b 39 (λ e. at_literal 39 b e (letter 39 refl refl refl refl)) (λ e39.
+    split b 92 (λ e. at_literal 92 b e (letter 92 refl refl refl refl)) (λ e92.
+    elim (is_ascii_control b) as (λ w. is_ascii_control b ≡ w → Stands b) [
+      | true ↦ (λ e. octal (control_byte b e) (rw (e8) (rw (e9) (rw (e10) (rw (e11) (rw (e12) (rw (e13) (rw (e34) (rw (e39) (rw (e92) (rw (e) refl)))))))))))
+      | false ↦ (λ e. bare e92 e34 (rw (e8) (rw (e9) (rw (e10) (rw (e11) (rw (e12) (rw (e13) (rw (e34) (rw (e39) (rw (e92) (rw (e) refl)))))))))))
+    ] refl)))))))))
+
+-- the three digits
+high_octal : (b : ℕ) → b < 256 → is_octal (48 + b / 64) ≡ true
+high_octal b h = grind arith
+
+middle_octal : (b : ℕ) → is_octal (48 + b / 8 % 8) ≡ true
+middle_octal b = grind arith
+
+low_octal : (b : ℕ) → is_octal (48 + b % 8) ≡ true
+low_octal b = grind arith
+
+digit_octal : (n : ℕ) → n < 8 → digit (48 + n) ≡ n
+digit_octal n h = let e : is_digit (48 + n) ≡ true = grind arith in rw (e) (omega arith)
+
+octal_value : (b : ℕ) → b < 256 → byte (64 * digit (48 + b / 64) + 8 * digit (48 + b / 8 % 8) + digit (48 + b % 8)) ≡ Some b
+octal_value b h =
+    rw (digit_octal (b / 64) (omega arith)) (rw (digit_octal (b / 8 % 8) (omega arith)) (rw (digit_octal (b % 8) (omega arith))
+    (let e : 64 * (b / 64) + 8 * (b / 8 % 8) + b % 8 ≡ b = omega arith in rw (e) (let f : nat_lt 255 b ≡ false = grind arith in rw (f) refl))))
+
+-- one byte
+until_one : (b : ℕ) (rest : List ℕ) → Stands b → until 0x22 (escaped_in_string b ++ rest) ≡ length (escaped_in_string b) + until 0x22 rest
+unfolding until
+until_one b rest (letter c o x is same) = rw (same) refl
+until_one b rest (octal small same) = rw (same) (until_octal (48 + b / 64) (48 + b / 8 % 8) (48 + b % 8) rest (middle_octal b) (low_octal b))
+until_one b rest (bare h k same) = rw (same) (until_plain 0x22 b rest h k)
+
+letter_again : (c : ℕ) (rest : List ℕ) → is_octal c ≡ false → (c == 0x78) ≡ false → unescape (0x5c ∷ c ∷ rest) ≡ joined (Some (plain_escape c)) (unescape rest)
+unfolding unescape_at character
+letter_again c rest o x = rw (o) (rw (x) refl)
+
+unescape_one : (b : ℕ) (rest : List ℕ) → Stands b → unescape (escaped_in_string b ++ rest) ≡ joined (Some b) (unescape rest)
+unfolding unescape_at character
+unescape_one b rest (letter c o x is same) = rw (same) (letter_again c rest o x ∙ ap (λ n. joined (Some n) (unescape rest)) is)
+unescape_one b rest (octal small same) =
+    rw (same) (unescape_octal (48 + b / 64) (48 + b / 8 % 8) (48 + b % 8) b rest (high_octal b small) (middle_octal b) (low_octal b) (octal_value b small))
+unescape_one b rest (bare h k same) = rw (same) (rw (h) refl)
+
+-- ---- strings
+
+pub until_all : (bytes rest : List ℕ) → until 0x22 (flat_map escaped_in_string bytes ++ 0x22 ∷ rest) ≡ length (flat_map escaped_in_string bytes)
+unfolding until
+until_all [] [] = refl
+until_all [] (c ∷ rest) = refl
+until_all (b ∷ bytes) rest =
+    ap (until 0x22) (append_assoc (escaped_in_string b) (flat_map escaped_in_string bytes) (0x22 ∷ rest)) ∙
+    until_one b (flat_map escaped_in_string bytes ++ 0x22 ∷ rest) (stands b) ∙
+    ap (λ n. length (escaped_in_string b) + n) (until_all bytes rest) ∙ sym (length-append (escaped_in_string b) (flat_map escaped_in_string bytes))
+
+pub unescape_all : (bytes : List ℕ) → unescape (flat_map escaped_in_string bytes) ≡ Some bytes
+unfolding unescape_at
+unescape_all [] = refl
+unescape_all (b ∷ bytes) = unescape_one b (flat_map escaped_in_string bytes) (stands b) ∙ ap (joined (Some b)) (unescape_all bytes)
+
+-- between quotes
+abbrev pub quoted : List ℕ → List ℕ
+quoted bytes = 0x22 ∷ (flat_map escaped_in_string bytes ++ 0x22 ∷ [])
+
+abbrev pub string : List ℕ → Lexeme
+string bytes = record { kind = kinds.Text; bytes = quoted bytes }
+
+pub text_len : (w rest : List ℕ) (n : ℕ) → n ≡ length w → is_some (unescape w) ≡ true → text_front (w ++ 0x22 ∷ rest) n ≡ record { kind = Some kinds.Text; len = length w + 2 }
+text_len w rest n e h = rw (e) (let f : nat_lt (length w) (length (w ++ 0x22 ∷ rest)) ≡ true = (let g = length-append w (0x22 ∷ rest) in grind (arith, g)) in rw (f) (rw (take-append_seam w (0x22 ∷ rest)) (rw (h) refl)))
+
+quoted_front : (w rest : List ℕ) → until 0x22 (w ++ 0x22 ∷ rest) ≡ length w → is_some (unescape w) ≡ true → front false (0x22 ∷ (w ++ 0x22 ∷ rest)) ≡ record { kind = Some kinds.Text; len = length w + 2 }
+unfolding front
+quoted_front w rest h k = text_len w rest (until 0x22 (w ++ 0x22 ∷ rest)) h k
+
+pub string_closed : (bytes : List ℕ) → Closed (quoted bytes) (string bytes ∷ [])
+string_closed bytes rest =
+    let w = flat_map escaped_in_string bytes in
+    front_again false (Some kinds.Text) 0x22 (w ++ 0x22 ∷ []) rest
+    (ap (λ xs. front false (0x22 ∷ xs)) (append_assoc w (0x22 ∷ []) rest) ∙ quoted_front w rest (until_all bytes rest) (ap is_some (unescape_all bytes)) ∙
+    ap (λ n. record { kind = Some kinds.Text; len = n }) (let g = length-append w (0x22 ∷ []) in let e : length w + 2 ≡ suc (length (w ++ 0x22 ∷ [])) = omega (arith, g) in e))
+
+-- what is between its quotes
+pub between_quotes : (w : List ℕ) → take (length (0x22 ∷ (w ++ 0x22 ∷ [])) - 2) (drop 1 (0x22 ∷ (w ++ 0x22 ∷ []))) ≡ w
+between_quotes w =
+    ap (λ n. take n (w ++ 0x22 ∷ [])) (let g = length-append w (0x22 ∷ []) in let e : suc (length (w ++ 0x22 ∷ [])) - 2 ≡ length w = omega (arith, g) in e) ∙ take-append_seam w (0x22 ∷ [])

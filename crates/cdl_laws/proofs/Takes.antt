@@ -1,0 +1,192 @@
+-- What a text makes of a state, statement by statement.
+use Rattle.std.proofs.Common.{◌≡◌, ℕ, Bool, true, false, List, [], ◌∷◌, ◌++◌, ◌∙◌, ap, refl, append_assoc}
+use Rattle.std.specs.Prelude.{◌&&◌, if◌then◌else◌, Option, None, Some, is_none, Ok}
+use Rattle.std.specs.List.{list_all}
+use Rattle.std.specs.Option.{option_map, option_and_then}
+use Rattle.nc_base.specs.declared.version.Version.{Version}
+use Rattle.cdl_text.specs.declared.fault.CdlKind.{CdlKind}
+use Rattle.cdl_text.specs.declared.section.Section.{Section}
+use Rattle.cdl_text.specs.declared.section.Section.TheVariants.{Globals, Dimensions, Variables, Values}
+use Rattle.cdl_text.specs.declared.section.Section.TheVariants as sections
+use Rattle.cdl_text.specs.declared.piece.Role.{Role}
+use Rattle.cdl_text.specs.declared.piece.Role.TheVariants as roles
+use Rattle.cdl_text.specs.declared.piece.Place.TheVariants.{Begins, Inside}
+use Rattle.cdl_text.specs.Lexemes.{Lexeme, role}
+use Rattle.cdl_parse.specs.Meaning.{piece_read}
+use Rattle.cdl_text.specs.Pieces.{pieces_at, step, going, unless_end, in_front, first_role, is_end_role, is_section}
+use Rattle.cdl_laws.specs.Reading.{lexemes_at, pieces_of}
+use Rattle.cdl_text.specs.Shapes.{Statement, first_bad, token_fault, shape, before_mark, body}
+use Rattle.cdl_parse.specs.State.{State, act, in_turn}
+use Rattle.cdl_laws.proofs.Bools.{and_left, and_right, and_both}
+use Rattle.cdl_laws.proofs.Texts as texts
+use Rattle.cdl_laws.proofs.Texts.{mark, word, number}
+use Rattle.cdl_laws.proofs.ValueTexts.{turn}
+
+-- ---- a statement is one piece, whatever follows
+
+-- neither `;` nor the end
+abbrev pub is_plain : Role → Bool
+is_plain roles.Semicolon = false
+is_plain roles.End = false
+is_plain _ = true
+
+abbrev pub all_plain : List Lexeme → Bool
+all_plain ls = list_all (λ l. is_plain (role l)) ls
+
+-- what no piece of its own begins with
+abbrev pub is_starter : Role → Bool
+is_starter roles.Colon = true
+is_starter roles.Other = true
+is_starter _ = false
+
+unless_going : (n : Role) → is_end_role n ≡ false → unless_end n Inside ≡ going Inside
+unless_going roles.Opening h = refl
+unless_going roles.Section h = refl
+unless_going roles.Colon h = refl
+unless_going roles.Semicolon h = refl
+unless_going roles.Brace h = refl
+unless_going roles.End h = cc
+unless_going roles.Other h = refl
+
+inside_going : (r n : Role) → is_plain r ≡ true → is_end_role n ≡ false → step Inside r n ≡ going Inside
+inside_going roles.Opening n p h = unless_going n h
+inside_going roles.Section n p h = unless_going n h
+inside_going roles.Colon n p h = unless_going n h
+inside_going roles.Semicolon n p h = cc
+inside_going roles.Brace n p h = unless_going n h
+inside_going roles.End n p h = cc
+inside_going roles.Other n p h = unless_going n h
+
+begins_going : (r n : Role) → is_starter r ≡ true → is_end_role n ≡ false → step Begins r n ≡ going Inside
+begins_going roles.Opening n p h = cc
+begins_going roles.Section n p h = cc
+begins_going roles.Colon n p h = unless_going n h
+begins_going roles.Semicolon n p h = cc
+begins_going roles.Brace n p h = cc
+begins_going roles.End n p h = cc
+begins_going roles.Other n p h = unless_going n h
+
+plain_no_end : (r : Role) → is_plain r ≡ true → is_end_role r ≡ false
+plain_no_end roles.Opening h = refl
+plain_no_end roles.Section h = refl
+plain_no_end roles.Colon h = refl
+plain_no_end roles.Semicolon h = refl
+plain_no_end roles.Brace h = refl
+plain_no_end roles.End h = cc
+plain_no_end roles.Other h = refl
+
+abbrev pub semicolon : Lexeme
+semicolon = mark 59
+
+next_no_end : (p rest : List Lexeme) → all_plain p ≡ true → is_end_role (first_role role (p ++ semicolon ∷ rest)) ≡ false
+next_no_end [] rest h = refl
+next_no_end (t ∷ p) rest h = plain_no_end (role t) (and_left (is_plain (role t)) (all_plain p) h)
+
+inside_one : (p rest : List Lexeme) → all_plain p ≡ true → pieces_at role Inside (p ++ semicolon ∷ rest) ≡ (p ++ semicolon ∷ []) ∷ pieces_at role Begins rest
+unfolding pieces_at
+inside_one [] rest h = refl
+inside_one (t ∷ p) rest h =
+    let one : is_plain (role t) ≡ true = and_left (is_plain (role t)) (all_plain p) h in
+    let more : all_plain p ≡ true = and_right (is_plain (role t)) (all_plain p) h in
+    rw (inside_going (role t) (first_role role (p ++ semicolon ∷ rest)) one (next_no_end p rest more)) (ap (in_front false t) (inside_one p rest more))
+
+pub one_piece : (t : Lexeme) (p rest : List Lexeme) → is_starter (role t) ≡ true → all_plain p ≡ true →
+    pieces_at role Begins ((t ∷ p ++ semicolon ∷ []) ++ rest) ≡ (t ∷ p ++ semicolon ∷ []) ∷ pieces_at role Begins rest
+unfolding pieces_at
+one_piece t p rest start h =
+    ap (λ ls. pieces_at role Begins (t ∷ ls)) (append_assoc p (semicolon ∷ []) rest) ∙
+    rw (begins_going (role t) (first_role role (p ++ semicolon ∷ rest)) start (next_no_end p rest h)) (ap (in_front false t) (inside_one p rest h))
+
+-- ---- what a text makes of a state
+
+-- the bytes make t of the state s, whatever follows
+abbrev pub Takes : Version → List ℕ → State → State → Type 0
+Takes v bytes s t = (rest : List ℕ) → in_turn (piece_read v) s (pieces_of (bytes ++ rest)) ≡ in_turn (piece_read v) t (pieces_of rest)
+
+pub takes_nothing : (v : Version) (s : State) → Takes v [] s s
+takes_nothing v s rest = refl
+
+pub takes_both : (v : Version) (a b : List ℕ) (s t u : State) → Takes v a s t → Takes v b t u → Takes v (a ++ b) s u
+takes_both v a b s t u p q rest = ap (λ bs. in_turn (piece_read v) s (pieces_of bs)) (append_assoc a b rest) ∙ p (b ++ rest) ∙ q rest
+
+-- a statement's bytes
+pub record Says (v : Version) (section : Section) (bytes : List ℕ) (statement : Statement) : Type 0 where
+  pub piece : List Lexeme
+  pub reads : texts.Closed bytes piece
+  pub cut : (rest : List Lexeme) → pieces_at role Begins (piece ++ rest) ≡ piece ∷ pieces_at role Begins rest
+  pub sound : first_bad v piece ≡ None
+  pub shaped : shape v section piece ≡ Some statement
+
+piece_is : (v : Version) (s t : State) (piece : List Lexeme) (statement : Statement) → first_bad v piece ≡ None → shape v s.section piece ≡ Some statement → act v s statement ≡ Ok t → piece_read v s piece ≡ Ok t
+unfolding piece_read
+piece_is v s t piece statement h k a = rw (h) (rw (k) a)
+
+pub says_takes : (v : Version) (bytes : List ℕ) (statement : Statement) (s t : State) → Says v s.section bytes statement → act v s statement ≡ Ok t → Takes v bytes s t
+unfolding pieces_of
+says_takes v bytes statement s t says a rest =
+    ap (λ ls. in_turn (piece_read v) s (pieces_at role Begins ls)) (says.reads rest) ∙
+    ap (in_turn (piece_read v) s) (says.cut (lexemes_at false 0 rest)) ∙
+    turn (piece_read v) s t says.piece (pieces_at role Begins (lexemes_at false 0 rest)) (piece_is v s t says.piece statement says.sound says.shaped a)
+
+-- ---- lexemes that are no fault and end no statement
+
+abbrev pub is_fine : Version → Lexeme → Bool
+is_fine v l = is_plain (role l) && is_none (token_fault v l.kind l.bytes)
+
+pub word_fine : (v : Version) (bytes : List ℕ) → is_fine v (word bytes) ≡ true
+word_fine v bytes = elim (is_section bytes) as (λ b. is_plain (if b then roles.Section else roles.Other) && true ≡ true) [ true ↦ refl | false ↦ refl ]
+
+fine_plain : (v : Version) (ls : List Lexeme) → list_all (is_fine v) ls ≡ true → all_plain ls ≡ true
+fine_plain v [] h = refl
+fine_plain v (l ∷ ls) h =
+    let one = and_left (is_fine v l) (list_all (is_fine v) ls) h in
+    and_both (is_plain (role l)) (all_plain ls) (and_left (is_plain (role l)) (is_none (token_fault v l.kind l.bytes)) one) (fine_plain v ls (and_right (is_fine v l) (list_all (is_fine v) ls) h))
+
+none_is : (o : Option CdlKind) → is_none o ≡ true → o ≡ None
+none_is None h = refl
+none_is (Some k) h = cc
+
+fine_sound : (v : Version) (ls : List Lexeme) → list_all (is_fine v) ls ≡ true → first_bad v (ls ++ semicolon ∷ []) ≡ None
+fine_sound v [] h = refl
+fine_sound v (l ∷ ls) h =
+    let one = and_left (is_fine v l) (list_all (is_fine v) ls) h in
+    let clean = none_is (token_fault v l.kind l.bytes) (and_right (is_plain (role l)) (is_none (token_fault v l.kind l.bytes)) one) in
+    rw (clean) (fine_sound v ls (and_right (is_fine v l) (list_all (is_fine v) ls) h))
+
+pub before_semicolon : (p : List Lexeme) → before_mark 0x3b (p ++ semicolon ∷ []) ≡ Some p
+before_semicolon [] = refl
+before_semicolon (l ∷ []) = refl
+before_semicolon (l ∷ m ∷ p) = ap (option_map (λ xs. l ∷ xs)) (before_semicolon (m ∷ p))
+
+-- the sections that have statements to a semicolon
+abbrev pub is_open : Section → Bool
+is_open Globals = true
+is_open Dimensions = true
+is_open Variables = true
+is_open Values = true
+is_open _ = false
+
+shape_is : (v : Version) (section : Section) (a b : Lexeme) (p : List Lexeme) → is_open section ≡ true → shape v section ((a ∷ b ∷ p) ++ semicolon ∷ []) ≡ body v section (a ∷ b ∷ p)
+unfolding shape
+shape_is v Globals a b [] h = ap (option_and_then (body v Globals)) (before_semicolon (a ∷ b ∷ []))
+shape_is v Globals a b (c ∷ p) h = ap (option_and_then (body v Globals)) (before_semicolon (a ∷ b ∷ c ∷ p))
+shape_is v Dimensions a b [] h = ap (option_and_then (body v Dimensions)) (before_semicolon (a ∷ b ∷ []))
+shape_is v Dimensions a b (c ∷ p) h = ap (option_and_then (body v Dimensions)) (before_semicolon (a ∷ b ∷ c ∷ p))
+shape_is v Variables a b [] h = ap (option_and_then (body v Variables)) (before_semicolon (a ∷ b ∷ []))
+shape_is v Variables a b (c ∷ p) h = ap (option_and_then (body v Variables)) (before_semicolon (a ∷ b ∷ c ∷ p))
+shape_is v Values a b [] h = ap (option_and_then (body v Values)) (before_semicolon (a ∷ b ∷ []))
+shape_is v Values a b (c ∷ p) h = ap (option_and_then (body v Values)) (before_semicolon (a ∷ b ∷ c ∷ p))
+shape_is v sections.Unopened a b p h = cc
+shape_is v sections.Closed a b p h = cc
+shape_is v sections.Ended a b p h = cc
+
+-- a statement to its semicolon
+pub statement_says : (v : Version) (section : Section) (bytes : List ℕ) (a b : Lexeme) (p : List Lexeme) (statement : Statement) → is_open section ≡ true →
+    texts.Closed bytes ((a ∷ b ∷ p) ++ semicolon ∷ []) → is_starter (role a) ≡ true → list_all (is_fine v) (a ∷ b ∷ p) ≡ true → body v section (a ∷ b ∷ p) ≡ Some statement → Says v section bytes statement
+statement_says v section bytes a b p statement h reads start fine is = record {
+  piece = (a ∷ b ∷ p) ++ semicolon ∷ [];
+  reads = reads;
+  cut = λ rest. one_piece a (b ∷ p) rest start (and_right (is_plain (role a)) (all_plain (b ∷ p)) (fine_plain v (a ∷ b ∷ p) fine));
+  sound = fine_sound v (a ∷ b ∷ p) fine;
+  shaped = shape_is v section a b p h ∙ is;
+}

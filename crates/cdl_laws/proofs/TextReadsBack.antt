@@ -1,0 +1,116 @@
+-- The full dump of a dataset that a text can declare means that dataset, trimmed.
+use Rattle.std.proofs.Common.{◌≡◌, ℕ, ◌<◌, ◌≤◌, true, List, [], ◌∷◌, ◌++◌, map, sym, ◌∙◌, ap, refl, subst, arith}
+use Rattle.std.specs.Prelude.{ℤ, nat_le, All, Option, Ok}
+use Rattle.std.specs.List.{list_all}
+use Rattle.std.proofs.lemmas.List.{map-append}
+use Rattle.nc_base.specs.Bytes.{AreBytes}
+use Rattle.nc_base.specs.declared.dataset.Dataset.{Dataset}
+use Rattle.nc_base.specs.declared.header.Att.{Att}
+use Rattle.nc_base.specs.declared.header.Dim.{Dim}
+use Rattle.nc_base.specs.declared.header.Header.{Header}
+use Rattle.nc_base.specs.declared.header.NumRecs.{NumRecs}
+use Rattle.nc_base.specs.declared.header.NumRecs.TheVariants.{Known, Streaming}
+use Rattle.nc_base.specs.declared.header.Var.{Var}
+use Rattle.nc_base.specs.declared.version.Version.{Version}
+use Rattle.nc_base.specs.Dump.{Options, Ending, whole, IsText, unknown, shown, Section, dump_text, shown_values, content_of, selection_of}
+use Rattle.nc_base.specs.Headers.{IsGood, IsSoundVar, bare, bare_var}
+use Rattle.nc_base.specs.Names.{IsName}
+use Rattle.nc_base.specs.Sizes.{slab_count, slab_size, slab_limit, record_limit, record_vars, packed_size}
+use Rattle.cdl_text.specs.declared.section.Section.TheVariants.{Ended}
+use Rattle.cdl_parse.specs.Meaning.{meaning, is_small, is_small_enough, dataset_of, array_of, records_in}
+use Rattle.cdl_laws.specs.RoundTrip.{IsFull, TextReadsBack}
+use Rattle.nc_base.specs.Sayable.{trimmed, trimmed_att, trimmed_var, AreDistinct, IsSayable, IsSayableVar}
+use Rattle.cdl_parse.specs.State.{Draft}
+use Rattle.cdl_laws.proofs.Bools.{and_both}
+use Rattle.cdl_laws.proofs.DataTexts.{given_draft, given_drafts}
+use Rattle.cdl_laws.proofs.Datasets.{keeps_fill, are_back, listings, stand_behind, AreNewVars, all_given, arrays_back, vars_back, records_back}
+use Rattle.cdl_laws.proofs.Dumps.{text_back}
+use Rattle.cdl_laws.proofs.Limits.{slab_some, all_small, same_record}
+use Rattle.cdl_laws.proofs.Lists.{Each, each_of, each_map}
+use Rattle.cdl_laws.proofs.Sayables.{AreFresh, fresh_more, any_map, none_before, draft_name, var_name, atts_new, atts_speak, dims_new, IsSayableHead, vars_fit}
+use Rattle.cdl_laws.proofs.Wholes.{state}
+
+new_vars : (before : List Draft) (vars : List Var) (os : List (Option (List ℤ))) → AreFresh (map draft_name before) (map var_name vars) → AreDistinct (map var_name vars) → Each (λ (var : Var). IsName var.name) vars → AreNewVars before vars os
+new_vars before [] os fresh distinct names = tt
+new_vars before (var ∷ vars) [] fresh distinct names = tt
+new_vars before (var ∷ vars) (o ∷ os) fresh distinct names = (
+  names.0,
+  any_map draft_name var.name before ∙ fresh.0,
+  new_vars (before ++ given_draft var o ∷ []) vars os
+      (subst (λ ns. AreFresh ns (map var_name vars)) (sym (map-append draft_name before (given_draft var o ∷ []))) (fresh_more (map draft_name before) var.name (map var_name vars) fresh.1 distinct.0))
+      distinct.1 names.1,
+)
+
+all_bare : (vars : List Var) → Each (λ (var : Var). var.begin_at ≡ 0) (map bare_var vars)
+all_bare [] = tt
+all_bare (var ∷ vars) = (refl, all_bare vars)
+
+abbrev number : NumRecs → ℕ
+number (Known n) = n
+number Streaming = 0
+
+-- the heads of all variables
+heads : (v : Version) (dims : List Dim) (vars : List Var) → Each (IsSoundVar v dims) vars → Each (λ (var : Var). IsName var.name × All (λ (att : Att). IsName att.name) var.atts) vars → Each (λ (var : Var). All (λ (att : Att). AreBytes att.vals) var.atts) vars →
+    Each IsSayableVar vars → Each (λ (var : Var). var.begin_at ≡ 0) vars → Each (IsSayableHead v dims) vars
+heads v dims [] sound names bytes say bare = tt
+heads v dims (var ∷ vars) sound names bytes say bare =
+    (record { name = names.0.0; sound = sound.0; names = names.0.1; bytes = bytes.0; sayable = say.0; bare = bare.0 }, heads v dims vars sound.1 names.1 bytes.1 say.1 bare.1)
+
+same_dataset : (v : Version) (dims : List Dim) (gatts : List Att) (drafts : List Draft) (vars : List Var) (arrays : List (List ℕ)) (n : ℕ) →
+    records_in dims drafts ≡ n → map (λ (d : Draft). d.var) drafts ≡ vars → map (array_of dims n) drafts ≡ arrays →
+    dataset_of v (state Ended dims gatts drafts) ≡ record { header = record { version = v; numrecs = Known n; dims = dims; gatts = gatts; vars = vars }; arrays = arrays }
+same_dataset v dims gatts drafts vars arrays n r vs xs =
+    ap (λ (k : ℕ). record { header = record { version = v; numrecs = Known k; dims = dims; gatts = gatts; vars = map (λ (d : Draft). d.var) drafts }; arrays = map (array_of dims k) drafts }) r ∙
+    ap (λ (ws : List Var). record { header = record { version = v; numrecs = Known n; dims = dims; gatts = gatts; vars = ws }; arrays = map (array_of dims n) drafts }) vs ∙
+    ap (λ (ys : List (List ℕ)). record { header = record { version = v; numrecs = Known n; dims = dims; gatts = gatts; vars = vars }; arrays = ys }) xs
+
+small_all : (v : Version) (dims : List Dim) (gatts : List Att) (drafts : List Draft) (vars : List Var) (n : ℕ) → records_in dims drafts ≡ n → map (λ (d : Draft). d.var) drafts ≡ vars →
+    list_all (is_small dims n) drafts ≡ true → packed_size dims (record_vars dims vars) ≤ record_limit → is_small_enough v (state Ended dims gatts drafts) ≡ true
+unfolding is_small_enough
+small_all v dims gatts drafts vars n r vs small limit =
+    and_both (list_all (is_small dims (records_in dims drafts)) drafts) (nat_le (packed_size dims (record_vars dims (map (λ (d : Draft). d.var) drafts))) record_limit)
+    (ap (λ k. list_all (is_small dims k) drafts) r ∙ small)
+    (ap (λ ws. nat_le (packed_size dims (record_vars dims ws)) record_limit) vs ∙ grind (arith, limit))
+
+ready : (d : Dataset) (o : Options) → IsSayable d → IsFull o → (section : Section) → (g : IsGood d) → section ≡ shown_values d.header o (content_of d) g.records (selection_of d.header o) →
+    meaning (dump_text d.header o g.records section) d.header.version ≡ Ok (trimmed d)
+ready d o s full section g is =
+    let h = d.header in
+    let v = h.version in
+    let n = g.records in
+    let sound = each_of (IsSoundVar v h.dims) h.vars g.is_sound.vars in
+    let names = each_of (λ (var : Var). IsName var.name × All (λ (att : Att). IsName att.name) var.atts) h.vars g.names.vars in
+    let say = each_of IsSayableVar h.vars s.vars in
+    let bares = subst (λ vars. Each (λ (var : Var). var.begin_at ≡ 0) vars) (sym (ap (λ (k : Header). k.vars) g.is_bare)) (all_bare h.vars) in
+    let head = heads v h.dims h.vars sound names (each_of (λ (var : Var). All (λ (att : Att). AreBytes att.vals) var.atts) h.vars g.values.vars) say bares in
+    let valid = each_map (IsSayableHead v h.dims) (λ (var : Var). IsName var.name × keeps_fill var) h.vars (λ var x. (x.name, x.sayable.fill)) head in
+    let backs = are_back v h n o.width h.vars d.arrays g.arrays valid in
+    let os = listings v h n o.width h.vars d.arrays backs in
+    let drafts = given_drafts h.vars os in
+    let gatts = map trimmed_att h.gatts in
+    let known : h.numrecs ≡ Known n = ap (λ (k : Header). k.numrecs) g.is_bare in
+    let slabs = each_map (IsSoundVar v h.dims) (λ (var : Var). 0 < slab_count h.dims var) h.vars (λ var x. slab_some h.dims var x.shape) sound in
+    let count : records_in h.dims drafts ≡ n = records_back v h n o.width h.vars d.arrays backs slabs (λ none. ap number (sym known ∙ s.records none)) in
+    let limits = each_map (IsSoundVar v h.dims) (λ (var : Var). slab_size h.dims var ≤ slab_limit) h.vars (λ var x. x.slab) sound in
+    let vars = vars_back v h n o.width h.vars d.arrays backs in
+    text_back d o n os full (record {
+      dims = dims_new v h.dims s.dims g.is_sound.dims g.names.dims g.is_sound.one_record_dim;
+      distinct = s.dims;
+      names = each_of (λ (dim : Dim). IsName dim.name) h.dims g.names.dims;
+      vars = vars_fit v h.dims h.vars s.names head;
+      gatts = atts_speak v h.gatts g.is_sound.gatts g.values.gatts s.gatts.some g.names.gatts;
+      fresh = atts_new h.gatts s.gatts.names;
+      given = all_given v d n o.width 0 [] h.vars d.arrays backs (stand_behind [] d.arrays) (new_vars [] h.vars os (none_before (map var_name h.vars)) s.names (each_map (IsSayableHead v h.dims) (λ (var : Var). IsName var.name) h.vars (λ var x. x.name) head));
+      small = small_all v h.dims gatts drafts (map trimmed_var h.vars) n count vars (all_small v h n o.width h.vars d.arrays backs g.arrays limits) (subst (λ m. m ≤ record_limit) (sym (same_record h.dims h.vars)) g.is_sound.small_records);
+      back = same_dataset v h.dims gatts drafts (map trimmed_var h.vars) d.arrays n count vars (arrays_back v h n o.width h.vars d.arrays backs) ∙
+          ap (λ (r : NumRecs). record { header = record { version = v; numrecs = r; dims = h.dims; gatts = gatts; vars = map trimmed_var h.vars }; arrays = d.arrays }) (sym known);
+    }) section is
+
+back_of : (d : Dataset) (o : Options) (text : List ℕ) (e : Ending) → IsSayable d → IsFull o → IsText d o text e → e ≡ whole → meaning text d.header.version ≡ Ok (trimmed d)
+back_of d o text e s full (unknown index known) h = cc
+back_of d o text e s full (shown n section knows numrecs is) h =
+    let same : s.good.records ≡ n = ap number (sym (ap (λ (k : Header). k.numrecs) s.good.is_bare) ∙ numrecs) in
+    subst (λ k. (x : Section) → x ≡ shown_values d.header o (content_of d) k (selection_of d.header o) → meaning (dump_text d.header o k x) d.header.version ≡ Ok (trimmed d)) same (λ x y. ready d o s full x s.good y) section is
+
+pub text_reads_back : TextReadsBack
+text_reads_back d o text s full is = back_of d o text whole s full is refl

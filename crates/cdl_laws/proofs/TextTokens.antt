@@ -1,0 +1,120 @@
+-- The strings of a text stand for bytes.
+use Rattle.std.proofs.Common.{◌≡◌, ℕ, zero, suc, ◌+◌, ◌-◌, ◌<◌, Bool, true, false, List, [], ◌∷◌, length, get_or, take, drop, sym, ◌∙◌, ap, refl, subst, arith, length-take}
+use Rattle.std.specs.Prelude.{◌&&◌, ◌==◌, nat_lt, not, if◌then◌else◌, Option, None, Some, is_none, is_some}
+use Rattle.std.specs.List.{prefix_len}
+use Rattle.cdl_text.specs.Bytes.{is_blank, goes_on_number, is_mark}
+use Rattle.cdl_text.specs.Escapes.{unescape, stands}
+use Rattle.cdl_text.specs.Front.{front, gap, token, text_front, opening_front, until, word_len, begins_opening, begins_a_word, begins_number, begins_comment}
+use Rattle.cdl_text.specs.Pieces.{raw}
+use Rattle.cdl_text.specs.Shapes.{inner}
+use Rattle.cdl_text.specs.Tokens.{tokens_at, tokens, with_token, token_at}
+use Rattle.cdl_text.specs.declared.front.Front.{Front}
+use Rattle.cdl_text.specs.declared.token.Token.{Token}
+use Rattle.cdl_text.specs.declared.token.TokenKind.{TokenKind}
+use Rattle.cdl_text.specs.declared.token.TokenKind.TheVariants as kinds
+use Rattle.cdl_text.proofs.Strings.{stands_for}
+use Rattle.cdl_laws.specs.TokenLaws.{StandsForBytes, StringsStandForBytes}
+use Rattle.cdl_laws.proofs.Lines.{tail_at}
+use Rattle.cdl_laws.proofs.Lists.{Each, all_of}
+
+-- ---- what a string token is made of
+
+-- a closing quote, behind bytes each of whose characters stands for a byte
+record IsString (bytes : List ℕ) (len : ℕ) : Type 0 where
+  pub body : ℕ
+  pub inside : body < length bytes
+  pub sound : is_some (unescape (take body bytes)) ≡ true
+  pub past : len ≡ body + 2
+
+-- what a front says of these bytes if it is a string
+abbrev SaysString : List ℕ → Front → Type 0
+SaysString bytes f = f.kind ≡ Some kinds.Text → IsString bytes f.len
+
+either : (bytes : List ℕ) (b : Bool) (f g : Front) → SaysString bytes f → SaysString bytes g → SaysString bytes (if b then f else g)
+either bytes true f g p q = p
+either bytes false f g p q = q
+
+inside : (m n : ℕ) → nat_lt m n ≡ true → m < n
+inside m n h = grind (arith, h)
+
+text_says : (bytes : List ℕ) (n : ℕ) → SaysString bytes (text_front bytes n)
+text_says bytes n =
+    elim (nat_lt n (length bytes)) as (λ b. nat_lt n (length bytes) ≡ b → SaysString bytes (if b then token (if is_some (unescape (take n bytes)) then kinds.Text else kinds.Bad) (n + 2) else token kinds.Bad (1 + length bytes))) [
+      | true ↦ (λ h. elim (is_some (unescape (take n bytes))) as (λ b. is_some (unescape (take n bytes)) ≡ b → SaysString bytes (token (if b then kinds.Text else kinds.Bad) (n + 2))) [
+        | true ↦ (λ k e. record { body = n; inside = inside n (length bytes) h; sound = k; past = refl })
+        | false ↦ (λ k e. cc)
+      ] refl)
+      | false ↦ (λ h e. cc)
+    ] refl
+
+opening_says : (bytes bs : List ℕ) (n : ℕ) → SaysString bytes (opening_front bs n)
+opening_says bytes bs n = either bytes (nat_lt n (length bs)) (token kinds.Opening (6 + n + 1)) (token kinds.Bad (6 + length bs)) (λ e. cc) (λ e. cc)
+
+front_says : (fresh : Bool) (bs : List ℕ) → SaysString (drop 1 bs) (front fresh bs)
+unfolding front
+front_says fresh bs =
+    let bytes = drop 1 bs in
+    let marks = if is_mark (get_or bs 0 0) then token kinds.Mark 1 else token kinds.Bad 1 in
+    let strings = if get_or bs 0 0 == 0x22 then text_front bytes (until 0x22 bytes) else marks in
+    let comments = if begins_comment bs then gap (prefix_len (λ b. not (b == 0x0a)) bs) else strings in
+    let blanks = if is_blank (get_or bs 0 0) then gap 1 else comments in
+    let numbers = if begins_number bs then token kinds.Number (1 + prefix_len goes_on_number bytes) else blanks in
+    let words = if begins_a_word bs then token kinds.Word (word_len bs) else numbers in
+    either bytes (fresh && begins_opening bs) (opening_front (drop 6 bs) (until 0x7b (drop 6 bs))) words (opening_says bytes (drop 6 bs) (until 0x7b (drop 6 bs)))
+    (either bytes (begins_a_word bs) (token kinds.Word (word_len bs)) numbers (λ e. cc)
+    (either bytes (begins_number bs) (token kinds.Number (1 + prefix_len goes_on_number bytes)) blanks (λ e. cc)
+    (either bytes (is_blank (get_or bs 0 0)) (gap 1) comments (λ e. cc)
+    (either bytes (begins_comment bs) (gap (prefix_len (λ b. not (b == 0x0a)) bs)) strings (λ e. cc)
+    (either bytes (get_or bs 0 0 == 0x22) (text_front bytes (until 0x22 bytes)) marks (text_says bytes (until 0x22 bytes))
+    (either bytes (is_mark (get_or bs 0 0)) (token kinds.Mark 1) (token kinds.Bad 1) (λ e. cc) (λ e. cc)))))))
+
+-- ---- what it stands for
+
+take_less : (n : ℕ) (xs : List ℕ) → take n (take (suc n) xs) ≡ take n xs
+take_less zero [] = refl
+take_less zero (x ∷ xs) = refl
+take_less (suc n) [] = refl
+take_less (suc n) (x ∷ xs) = ap (λ ys. x ∷ ys) (take_less n xs)
+
+-- the bytes between its quotes
+string_inner : (b n : ℕ) (bytes : List ℕ) → n < length bytes → inner (take (n + 2) (b ∷ bytes)) ≡ take n bytes
+string_inner b n bytes h =
+    let len : length (take (suc n) bytes) ≡ suc n = (let e = length-take (suc n) bytes in omega (arith, e, h)) in
+    ap (λ m. inner (take m (b ∷ bytes))) (let e : n + 2 ≡ suc (suc n) = omega arith in e) ∙
+    ap (λ m. take m (take (suc n) bytes)) (let e : suc (length (take (suc n) bytes)) - 2 ≡ n = omega (arith, len) in e) ∙ take_less n bytes
+
+some_stands : (xs : List ℕ) → is_some (unescape xs) ≡ true → unescape xs ≡ Some (stands xs)
+some_stands xs h =
+    elim (unescape xs) as (λ o. unescape xs ≡ o → is_some o ≡ true → unescape xs ≡ Some (stands xs)) [
+      | None ↦ (λ e k. cc)
+      | Some ys ↦ (λ e k. e ∙ ap (λ (bs : List ℕ). Some bs) (sym (stands_for 0 xs ys e)))
+    ] refl h
+
+string_stands : (b len : ℕ) (bytes : List ℕ) → IsString bytes len → unescape (inner (take len (b ∷ bytes))) ≡ Some (stands (inner (take len (b ∷ bytes))))
+string_stands b len bytes s =
+    let same : inner (take len (b ∷ bytes)) ≡ take s.body bytes = ap (λ n. inner (take n (b ∷ bytes))) s.past ∙ string_inner b s.body bytes s.inside in
+    subst (λ xs. unescape xs ≡ Some (stands xs)) (sym same) (some_stands (take s.body bytes) s.sound)
+
+-- ---- the tokens of a text
+
+-- a token of a kind and a length, in front of others
+with_one : (text : List ℕ) (at : ℕ) (k : Option TokenKind) (n : ℕ) (rest : List Token) → (k ≡ Some kinds.Text → unescape (inner (raw text (token_at text at kinds.Text n))) ≡ Some (stands (inner (raw text (token_at text at kinds.Text n))))) →
+    Each (StandsForBytes text) rest → Each (StandsForBytes text) (with_token text at k n rest)
+with_one text at None n rest h all = all
+with_one text at (Some kind) n rest h all = ((λ e. h (ap (λ (x : TokenKind). Some x) e)), all)
+
+raw_is : (text : List ℕ) (at n : ℕ) (bytes : List ℕ) → drop at text ≡ bytes → raw text (token_at text at kinds.Text n) ≡ take n bytes
+raw_is text at n bytes e = ap (λ m. take m (drop at text)) (let f : at + n - at ≡ n = omega arith in f) ∙ ap (take n) e
+
+strings_stand : (text : List ℕ) (fresh : Bool) (at more : ℕ) (bytes : List ℕ) → drop at text ≡ bytes → Each (StandsForBytes text) (tokens_at text fresh at more bytes)
+unfolding tokens_at
+strings_stand text fresh at more [] e = ((λ h. cc), tt)
+strings_stand text fresh at (suc more) (b ∷ bytes) e = strings_stand text fresh (at + 1) more bytes (tail_at text at b bytes e)
+strings_stand text fresh at zero (b ∷ bytes) e =
+    let f = front fresh (b ∷ bytes) in
+    with_one text at f.kind f.len (tokens_at text (fresh && is_none f.kind) (at + 1) (f.len - 1) bytes)
+    (λ is. subst (λ xs. unescape (inner xs) ≡ Some (stands (inner xs))) (sym (raw_is text at f.len (b ∷ bytes) e)) (string_stands b f.len bytes (front_says fresh (b ∷ bytes) is)))
+    (strings_stand text (fresh && is_none f.kind) (at + 1) (f.len - 1) bytes (tail_at text at b bytes e))
+
+pub strings_stand_for_bytes : StringsStandForBytes
+strings_stand_for_bytes text = all_of (StandsForBytes text) (tokens text) (strings_stand text true 0 0 text refl)

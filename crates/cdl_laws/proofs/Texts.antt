@@ -1,0 +1,182 @@
+-- Texts that are put together are read apart again, token by token.
+use Rattle.std.proofs.Common.{◌≡◌, ℕ, zero, suc, ◌+◌, ◌-◌, Bool, true, false, List, [], ◌∷◌, ◌++◌, length, get_or, drop, sym, ◌∙◌, ap, refl, arith, append_assoc}
+use Rattle.std.specs.Prelude.{◌&&◌, ◌||◌, ◌==◌, not, Option, Some, is_none}
+use Rattle.std.specs.List.{prefix_len, list_all}
+use Rattle.std.proofs.lemmas.Bool.{false≢true}
+use Rattle.std.proofs.Math.Seq.{drop-append_seam, take-append_seam}
+use Rattle.std.specs.Char.{is_ascii_digit}
+use Rattle.std.specs.Int.{is_in_range}
+use Rattle.nc_base.specs.Escapes.{escaped_name, is_reserved}
+use Rattle.nc_base.specs.Names.{IsName, has_name_bytes, may_begin_name, may_follow_in_name, ends_with_space, is_beyond_ascii}
+use Rattle.std.specs.Str.{is_utf8}
+use Rattle.cdl_text.specs.declared.token.TokenKind.TheVariants as kinds
+use Rattle.cdl_text.specs.Bytes.{is_digit, is_escape, goes_on_word, goes_on_number, begins_word}
+use Rattle.cdl_text.specs.Front.{word_len, front, begins_a_word, token}
+use Rattle.cdl_text.specs.Lexemes.{Lexeme, name_of}
+use Rattle.cdl_laws.specs.Reading.{lexemes_at, with_lexeme}
+use Rattle.cdl_text.specs.declared.token.TokenKind.{TokenKind}
+use Rattle.cdl_laws.proofs.Words.{word_front}
+use Rattle.cdl_laws.proofs.Bools.{and_left, and_right, off}
+use Rattle.cdl_laws.proofs.NameTexts.{rest_of, marked_plain, no_escape, Begins, marked, bare, begins, name_len, name_begins, name_value, name_free}
+
+-- ---- one token, whatever follows
+
+pub lexemes_skip : (fresh : Bool) (more : ℕ) (bytes : List ℕ) → lexemes_at fresh more bytes ≡ lexemes_at fresh 0 (drop more bytes)
+unfolding lexemes_at
+lexemes_skip fresh zero bytes = refl
+lexemes_skip fresh (suc more) [] = refl
+lexemes_skip fresh (suc more) (b ∷ bytes) = lexemes_skip fresh more bytes
+
+pub front_again : (fresh : Bool) (k : Option TokenKind) (b : ℕ) (w rest : List ℕ) → front fresh ((b ∷ w) ++ rest) ≡ record { kind = k; len = length (b ∷ w) } →
+    lexemes_at fresh 0 ((b ∷ w) ++ rest) ≡ with_lexeme k (b ∷ w) (lexemes_at (fresh && is_none k) 0 rest)
+unfolding lexemes_at
+front_again fresh kind b w rest h =
+    let k : length (b ∷ w) - 1 ≡ length w = (let e : suc (length w) - 1 ≡ length w = omega arith in e) in
+    rw (h)
+    (ap (λ bs. with_lexeme kind bs (lexemes_at (fresh && is_none kind) (length (b ∷ w) - 1) (w ++ rest))) (take-append_seam (b ∷ w) rest) ∙
+    ap (with_lexeme kind (b ∷ w))
+    (ap (λ n. lexemes_at (fresh && is_none kind) n (w ++ rest)) k ∙ lexemes_skip (fresh && is_none kind) (length w) (w ++ rest) ∙ ap (lexemes_at (fresh && is_none kind) 0) (drop-append_seam w rest)))
+
+-- ---- texts
+
+-- no byte that goes on a word, a number or an escape
+abbrev pub is_stop : ℕ → Bool
+is_stop b = not (goes_on_word b) && not (b == 0x5c)
+
+abbrev pub stops : List ℕ → Bool
+stops [] = true
+stops (b ∷ bytes) = is_stop b
+
+-- these bytes are these lexemes, whatever follows
+abbrev pub Closed : List ℕ → List Lexeme → Type 0
+Closed bytes ls = (rest : List ℕ) → lexemes_at false 0 (bytes ++ rest) ≡ ls ++ lexemes_at false 0 rest
+
+-- where what follows can't go on a word or a number
+abbrev pub Reads : List ℕ → List Lexeme → Type 0
+Reads bytes ls = (rest : List ℕ) → stops rest ≡ true → lexemes_at false 0 (bytes ++ rest) ≡ ls ++ lexemes_at false 0 rest
+
+-- what stops even where it is followed by what stops
+abbrev pub Stops : List ℕ → Type 0
+Stops bytes = (rest : List ℕ) → stops rest ≡ true → stops (bytes ++ rest) ≡ true
+
+pub closed_nothing : Closed [] []
+closed_nothing rest = refl
+
+pub closed_both : (a b : List ℕ) (la lb : List Lexeme) → Closed a la → Closed b lb → Closed (a ++ b) (la ++ lb)
+closed_both a b la lb p q rest =
+    ap (lexemes_at false 0) (append_assoc a b rest) ∙ p (b ++ rest) ∙ ap (λ ls. la ++ ls) (q rest) ∙ sym (append_assoc la lb (lexemes_at false 0 rest))
+
+pub then_reads : (a b : List ℕ) (la lb : List Lexeme) → Closed a la → Reads b lb → Reads (a ++ b) (la ++ lb)
+then_reads a b la lb p q rest h =
+    ap (lexemes_at false 0) (append_assoc a b rest) ∙ p (b ++ rest) ∙ ap (λ ls. la ++ ls) (q rest h) ∙ sym (append_assoc la lb (lexemes_at false 0 rest))
+
+pub closed_by : (a b : List ℕ) (la lb : List Lexeme) → Reads a la → ((rest : List ℕ) → stops (b ++ rest) ≡ true) → Closed b lb → Closed (a ++ b) (la ++ lb)
+closed_by a b la lb p s q rest =
+    ap (lexemes_at false 0) (append_assoc a b rest) ∙ p (b ++ rest) (s rest) ∙ ap (λ ls. la ++ ls) (q rest) ∙ sym (append_assoc la lb (lexemes_at false 0 rest))
+
+pub reads_both : (a b : List ℕ) (la lb : List Lexeme) → Reads a la → Stops b → Reads b lb → Reads (a ++ b) (la ++ lb)
+reads_both a b la lb p s q rest h =
+    ap (lexemes_at false 0) (append_assoc a b rest) ∙ p (b ++ rest) (s rest h) ∙ ap (λ ls. la ++ ls) (q rest h) ∙ sym (append_assoc la lb (lexemes_at false 0 rest))
+
+pub reads_closed : (a : List ℕ) (la : List Lexeme) → Closed a la → Reads a la
+reads_closed a la p rest h = p rest
+
+-- ---- marks
+
+abbrev pub mark : ℕ → Lexeme
+mark b = record { kind = kinds.Mark; bytes = b ∷ [] }
+
+-- ---- what stops a word or a number
+
+bare_stop : (b : ℕ) → is_stop b ≡ true → goes_on_word b ≡ false
+bare_stop b h = off (goes_on_word b) (and_left (not (goes_on_word b)) (not (b == 0x5c)) h)
+
+no_backslash : (b : ℕ) → is_stop b ≡ true → (b == 0x5c) ≡ false
+no_backslash b h = off (b == 0x5c) (and_right (not (goes_on_word b)) (not (b == 0x5c)) h)
+
+pub stop_word : (rest : List ℕ) → stops rest ≡ true → word_len rest ≡ 0
+unfolding word_len
+stop_word [] h = refl
+stop_word (b ∷ rest) h = word_front b rest ∙ rw (no_backslash b h) (rw (bare_stop b h) refl)
+
+-- by the tests: digit, upper, lower, `_`, point, `@ + -`, beyond
+no_number : (d u l s p a c e x : Bool) → (((d || u) || l) || s || (p || a || c || e) || x) ≡ false → ((u || l) || d || s || p) ≡ false
+no_number true u l s p a c e x h = cc
+no_number false true l s p a c e x h = cc
+no_number false false true s p a c e x h = cc
+no_number false false false true p a c e x h = cc
+no_number false false false false true a c e x h = cc
+no_number false false false false false a c e x h = refl
+
+pub stop_number : (rest : List ℕ) → stops rest ≡ true → prefix_len goes_on_number rest ≡ 0
+stop_number [] h = refl
+stop_number (b ∷ rest) h =
+    rw (no_number (is_ascii_digit b) (is_in_range 65 90 b) (is_in_range 97 122 b) (b == 95) (b == 46) (b == 64) (b == 43) (b == 45) (is_beyond_ascii b) (bare_stop b h)) refl
+
+-- ---- names
+
+abbrev pub word : List ℕ → Lexeme
+word bytes = record { kind = kinds.Word; bytes = bytes }
+
+pub word_reads : (b : ℕ) (w : List ℕ) → ((rest : List ℕ) → begins_a_word ((b ∷ w) ++ rest) ≡ true) → ((rest : List ℕ) → stops rest ≡ true → word_len ((b ∷ w) ++ rest) ≡ length (b ∷ w)) →
+    Reads (b ∷ w) (word (b ∷ w) ∷ [])
+unfolding front
+word_reads b w some len rest h =
+    front_again false (Some kinds.Word) b w rest (rw (some rest) (ap (token kinds.Word) (len rest h)))
+
+pub some_name : (name : List ℕ) → IsName name → has_name_bytes name ≡ true
+some_name name h = and_left (has_name_bytes name) (not (ends_with_space name)) (and_left (has_name_bytes name && not (ends_with_space name)) (is_utf8 name) h)
+
+-- a name reads as one word, which stands for it
+pub record IsWordOf (name : List ℕ) : Type 0 where
+  pub reads : Reads (escaped_name name) (word (escaped_name name) ∷ [])
+  pub stands : name_of (word (escaped_name name)) ≡ Some name
+  pub free : is_reserved (escaped_name name) ≡ false
+
+begun_word : (b : ℕ) (bs : List ℕ) → Begins b bs → ((rest : List ℕ) → begins_a_word (escaped_name (b ∷ bs) ++ rest) ≡ true) →
+    ((rest : List ℕ) → stops rest ≡ true → word_len (escaped_name (b ∷ bs) ++ rest) ≡ length (escaped_name (b ∷ bs))) → Reads (escaped_name (b ∷ bs)) (word (escaped_name (b ∷ bs)) ∷ [])
+begun_word b bs (marked one is) some len = rw (is) (word_reads 0x5c (b ∷ rest_of bs) (rw is at some) (rw is at len))
+begun_word b bs (bare one free is) some len = rw (is) (word_reads b (rest_of bs) (rw is at some) (rw is at len))
+
+pub name_word : (name : List ℕ) → IsName name → IsWordOf name
+unfolding name_of
+name_word [] h = absurd (false≢true (some_name [] h))
+name_word (b ∷ bs) h =
+    let first = and_left (may_begin_name b) (list_all may_follow_in_name bs) (some_name (b ∷ bs) h) in
+    let more = and_right (may_begin_name b) (list_all may_follow_in_name bs) (some_name (b ∷ bs) h) in
+    let how = begins b bs first in
+    record {
+      reads = begun_word b bs how (λ rest. name_begins b bs rest how) (λ rest stop. name_len b bs rest how more (stop_word rest stop));
+      stands = rw (name_free b bs how more) (ap Some (name_value b bs how more));
+      free = name_free b bs how more;
+    }
+
+-- ---- numbers
+
+abbrev pub number : List ℕ → Lexeme
+number bytes = record { kind = kinds.Number; bytes = bytes }
+
+-- they are on a number, and what follows isn't
+pub all_on : (w rest : List ℕ) → list_all goes_on_number w ≡ true → prefix_len goes_on_number rest ≡ 0 → prefix_len goes_on_number (w ++ rest) ≡ length w
+all_on [] rest all h = h
+all_on (b ∷ w) rest all h = rw (and_left (goes_on_number b) (list_all goes_on_number w) all) (let ih = all_on w rest (and_right (goes_on_number b) (list_all goes_on_number w) all) h in omega (arith, ih))
+
+pub digit_no_word : (b : ℕ) → is_digit b ≡ true → begins_word b ≡ false
+digit_no_word b h = grind (arith, h)
+
+pub digit_no_escape : (b c : ℕ) → is_digit b ≡ true → is_escape b c ≡ false
+digit_no_escape b c h = no_escape b c (marked_plain b (rw (h) refl))
+
+-- a digit and what goes on a number
+pub digits_read : (b : ℕ) (w : List ℕ) → is_digit b ≡ true → list_all goes_on_number w ≡ true → Reads (b ∷ w) (number (b ∷ w) ∷ [])
+unfolding front
+digits_read b w h all rest stop =
+    front_again false (Some kinds.Number) b w rest
+    (rw (digit_no_word b h) (rw (digit_no_escape b (get_or (w ++ rest) 0 0) h) (rw (h) (ap (token kinds.Number) (ap (λ n. 1 + n) (all_on w rest all (stop_number rest stop)) ∙ (let e : 1 + length w ≡ suc (length w) = omega arith in e))))))
+
+-- the same behind a minus
+pub minus_reads : (b : ℕ) (w : List ℕ) → is_digit b ≡ true → list_all goes_on_number (b ∷ w) ≡ true → Reads (45 ∷ b ∷ w) (number (45 ∷ b ∷ w) ∷ [])
+unfolding front
+minus_reads b w h all rest stop =
+    front_again false (Some kinds.Number) 45 (b ∷ w) rest
+    (rw (h) (ap (token kinds.Number) (ap (λ n. 1 + n) (rw h at (all_on (b ∷ w) rest all (stop_number rest stop))) ∙ (let e : 1 + length (b ∷ w) ≡ suc (length (b ∷ w)) = omega arith in e))))

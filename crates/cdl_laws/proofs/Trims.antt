@@ -1,0 +1,215 @@
+-- A dataset without the NULs at the end of its attributes.
+use Rattle.std.proofs.Common.{◌≡◌, ℕ, ◌+◌, ◌-◌, ◌*◌, ◌≤◌, ◌<◌, Bool, true, false, List, [], ◌∷◌, length, map, sym, ◌∙◌, ap, refl, subst, arith, zero, suc, take, get_or}
+use Rattle.std.proofs.Math.Seq.{take-length}
+use Rattle.std.proofs.lemmas.List.{length-take, length-map}
+use Rattle.std.proofs.lemmas.List.Sums.{suffix_len-take_yes, suffix_len-take_no}
+use Rattle.std.specs.Prelude.{if◌then◌else◌, ◌==◌, All, Ok}
+use Rattle.std.specs.List.{suffix_len}
+use Rattle.nc_base.specs.Bytes.{AreBytes}
+use Rattle.nc_base.specs.declared.dataset.Dataset.{Dataset}
+use Rattle.nc_base.specs.declared.header.Att.{Att}
+use Rattle.nc_base.specs.declared.header.Dim.{Dim}
+use Rattle.nc_base.specs.declared.header.Header.{Header}
+use Rattle.nc_base.specs.declared.header.NumRecs.TheVariants.{Known}
+use Rattle.nc_base.specs.declared.header.Var.{Var}
+use Rattle.nc_base.specs.declared.nc_type.NcType.{NcType}
+use Rattle.nc_base.specs.declared.nc_type.NcType.TheVariants.{Byte, Char, Short, Int, Ubyte, Ushort, Uint, Int64, Uint64}
+use Rattle.nc_base.specs.declared.version.Version.{Version}
+use Rattle.nc_base.specs.Fill.{fill_value}
+use Rattle.nc_base.specs.Headers.{IsGood, IsSound, IsSoundAtt, IsSoundVar, AreArrays, bare, bare_var}
+use Rattle.nc_base.specs.HeadText.{without_trailing_nuls}
+use Rattle.nc_base.specs.Names.{IsName}
+use Rattle.nc_base.specs.Sizes.{record_vars, record_limit}
+use Rattle.nc_base.specs.Types.{size_of}
+use Rattle.nc_base.specs.ValueText.{is_char}
+use Rattle.nc_base.specs.Versions.{count_limit}
+use Rattle.cdl_laws.specs.Trims.{TrimsOnce, TrimmedIsSayable, SecondTripIsSame}
+use Rattle.nc_base.specs.Sayable.{AreDistinct, AreSayableAtts, IsSayableVar, HasSomeNumber, trimmed, trimmed_att, trimmed_var, trimmed_header}
+use Rattle.cdl_laws.proofs.Attributes.{take_bytes}
+use Rattle.cdl_laws.proofs.Limits.{same_record, record_trimmed}
+use Rattle.cdl_laws.proofs.Lists.{each_of, each_map}
+use Rattle.cdl_laws.proofs.MeaningsAreGood.{each_of_map}
+use Rattle.cdl_laws.proofs.Outcomes.{all_of}
+use Rattle.cdl_laws.proofs.TextReadsBack.{text_reads_back}
+
+-- ---- once
+
+abbrev nul : ℕ → Bool
+nul b = b == 0
+
+stripped : (xs : List ℕ) (n : ℕ) → n ≤ length xs → suffix_len nul (take (n - suffix_len nul (take n xs)) xs) ≡ 0
+stripped xs zero h = refl
+stripped xs (suc m) h =
+    let e : suc m - 1 ≡ m = omega arith in
+    elim (nul (get_or xs m 0)) as (λ b. nul (get_or xs m 0) ≡ b → suffix_len nul (take (suc m - suffix_len nul (take (suc m) xs)) xs) ≡ 0) [
+      | true ↦ (λ t.
+          let s = suffix_len nul (take m xs) in
+          let a : suffix_len nul (take (suc m) xs) ≡ 1 + s = suffix_len-take_yes nul xs (suc m) 0 (omega arith) h (ap (λ k. nul (get_or xs k 0)) e ∙ t) ∙ ap (λ k. 1 + suffix_len nul (take k xs)) e in
+          let b : suc m - suffix_len nul (take (suc m) xs) ≡ m - s = omega (arith, a) in
+          ap (λ k. suffix_len nul (take k xs)) b ∙ stripped xs m (omega (arith, h)))
+      | false ↦ (λ f.
+          let a : suffix_len nul (take (suc m) xs) ≡ 0 = suffix_len-take_no nul xs (suc m) 0 (omega arith) h (ap (λ k. nul (get_or xs k 0)) e ∙ f) in
+          let b : suc m - suffix_len nul (take (suc m) xs) ≡ suc m = omega (arith, a) in
+          ap (λ k. suffix_len nul (take k xs)) b ∙ a)
+    ] refl
+
+pub none_left : (xs : List ℕ) → suffix_len nul (without_trailing_nuls xs) ≡ 0
+none_left xs =
+    ap (λ (ys : List ℕ). suffix_len nul (take (length xs - suffix_len nul ys) xs)) (sym (take-length xs)) ∙ stripped xs (length xs) (omega arith)
+
+bytes_once : (xs : List ℕ) → without_trailing_nuls (without_trailing_nuls xs) ≡ without_trailing_nuls xs
+bytes_once xs =
+    let ys = without_trailing_nuls xs in
+    let n = none_left xs in
+    let e : length ys - suffix_len nul ys ≡ length ys = omega (arith, n) in
+    ap (λ k. take k ys) e ∙ take-length ys
+
+att_once : (att : Att) → trimmed_att (trimmed_att att) ≡ trimmed_att att
+att_once att =
+    ap (λ (vals : List ℕ). record att { vals = vals })
+    (elim (is_char att.ty) as (λ b. (if b then without_trailing_nuls (if b then without_trailing_nuls att.vals else att.vals) else (if b then without_trailing_nuls att.vals else att.vals)) ≡ (if b then without_trailing_nuls att.vals else att.vals)) [
+      | true ↦ bytes_once att.vals
+      | false ↦ refl
+    ])
+
+map_once : {X : Type 0} (f : X → X) → ((x : X) → f (f x) ≡ f x) → (xs : List X) → map f (map f xs) ≡ map f xs
+map_once f e [] = refl
+map_once f e (x ∷ xs) = ap (λ y. y ∷ map f (map f xs)) (e x) ∙ ap (λ ys. f x ∷ ys) (map_once f e xs)
+
+var_once : (var : Var) → trimmed_var (trimmed_var var) ≡ trimmed_var var
+var_once var = ap (λ (atts : List Att). record var { atts = atts }) (map_once trimmed_att att_once var.atts)
+
+pub trims_once : TrimsOnce
+trims_once d =
+    ap (λ (atts : List Att). record d { header = record d.header { gatts = atts; vars = map trimmed_var (map trimmed_var d.header.vars) } }) (map_once trimmed_att att_once d.header.gatts) ∙
+    ap (λ (vars : List Var). record d { header = record d.header { gatts = map trimmed_att d.header.gatts; vars = vars } }) (map_once trimmed_var var_once d.header.vars)
+
+-- ---- still sayable
+
+shorter : (xs : List ℕ) → length (without_trailing_nuls xs) ≤ length xs
+shorter xs = let a = length-take (length xs - suffix_len nul xs) xs in omega (arith, a)
+
+char_size : (ty : NcType) → is_char ty ≡ true → size_of ty ≡ 1
+char_size Char h = refl
+char_size Byte h = cc
+char_size Short h = cc
+char_size Int h = cc
+char_size Ubyte h = cc
+char_size Ushort h = cc
+char_size Uint h = cc
+char_size Int64 h = cc
+char_size Uint64 h = cc
+
+-- as many values as before, or fewer
+whole_still : (limit size : ℕ) (char : Bool) (vals : List ℕ) (n : ℕ) → (char ≡ true → size ≡ 1) → n < limit → length vals ≡ n * size →
+    (m : ℕ) × (m < limit) × (length (if char then without_trailing_nuls vals else vals) ≡ m * size)
+whole_still limit size false vals n one few whole = (n, few, whole)
+whole_still limit size true vals n one few whole =
+    let m = length (without_trailing_nuls vals) in
+    let a = shorter vals in
+    let b : n * size ≡ n * 1 = ap (λ k. n * k) (one refl) in
+    let c : m * size ≡ m * 1 = ap (λ k. m * k) (one refl) in
+    (m, omega (arith, a, b, few, whole), omega (arith, c))
+
+att_sound : (v : Version) (att : Att) → IsSoundAtt v att → IsSoundAtt v (trimmed_att att)
+att_sound v att s =
+    let r = whole_still (count_limit v) (size_of att.ty) (is_char att.ty) att.vals s.values.count (char_size att.ty) s.values.counted s.values.whole in
+    record { name_len = s.name_len; ty = s.ty; values = record { count = r.0; counted = r.1; whole = r.2 } }
+
+over_map : {X : Type 0} (P : X → Type 0) (f : X → X) (xs : List X) → ((x : X) → P x → P (f x)) → All P xs → All P (map f xs)
+over_map P f xs g all = all_of P (map f xs) (each_of_map P f xs (each_map P (λ x. P (f x)) xs g (each_of P xs all)))
+
+att_bytes : (att : Att) → AreBytes att.vals → AreBytes (trimmed_att att).vals
+att_bytes att h =
+    elim (is_char att.ty) as (λ b. AreBytes (if b then without_trailing_nuls att.vals else att.vals)) [
+      | true ↦ take_bytes (length att.vals - suffix_len nul att.vals) att.vals h
+      | false ↦ h
+    ]
+
+var_sound : (v : Version) (dims : List Dim) (var : Var) → IsSoundVar v dims var → IsSoundVar v dims (trimmed_var var)
+var_sound v dims var s = record {
+  name_len = s.name_len;
+  rank = s.rank;
+  shape = s.shape;
+  ty = s.ty;
+  slab = s.slab;
+  att_count = (let a = length-map var.atts trimmed_att in let b = s.att_count in omega (arith, a, b));
+  atts = over_map (IsSoundAtt v) trimmed_att var.atts (att_sound v) s.atts;
+}
+
+sound_still : (h : Header) → IsSound h → IsSound (trimmed_header h)
+sound_still h s = record {
+  numrecs = s.numrecs;
+  dim_count = s.dim_count;
+  dims = s.dims;
+  one_record_dim = s.one_record_dim;
+  gatt_count = (let a = length-map h.gatts trimmed_att in let b = s.gatt_count in omega (arith, a, b));
+  gatts = over_map (IsSoundAtt h.version) trimmed_att h.gatts (att_sound h.version) s.gatts;
+  var_count = (let a = length-map h.vars trimmed_var in let b = s.var_count in omega (arith, a, b));
+  vars = over_map (IsSoundVar h.version h.dims) trimmed_var h.vars (var_sound h.version h.dims) s.vars;
+  small_records = subst (λ n. n ≤ record_limit) (sym (same_record h.dims h.vars)) s.small_records;
+}
+
+bare_trimmed : (vars : List Var) → map trimmed_var (map bare_var vars) ≡ map bare_var (map trimmed_var vars)
+bare_trimmed [] = refl
+bare_trimmed (var ∷ vars) = ap (λ vs. bare_var (trimmed_var var) ∷ vs) (bare_trimmed vars)
+
+bare_still : (h : Header) (n : ℕ) → h ≡ bare h n → trimmed_header h ≡ bare (trimmed_header h) n
+bare_still h n e = ap trimmed_header e ∙ ap (λ (vs : List Var). record h { numrecs = Known n; gatts = map trimmed_att h.gatts; vars = vs }) (bare_trimmed h.vars)
+
+arrays_still : (dims : List Dim) (n : ℕ) (vars : List Var) (arrays : List (List ℕ)) → AreArrays dims n vars arrays → AreArrays dims n (map trimmed_var vars) arrays
+arrays_still dims n [] [] a = tt
+arrays_still dims n [] (x ∷ arrays) a = absurd a
+arrays_still dims n (var ∷ vars) [] a = absurd a
+arrays_still dims n (var ∷ vars) (x ∷ arrays) a = (record { bytes = a.0.bytes; whole = a.0.whole; small = a.0.small }, arrays_still dims n vars arrays a.1)
+
+good_still : (d : Dataset) → IsGood d → IsGood (trimmed d)
+good_still d g = record {
+  records = g.records;
+  is_bare = bare_still d.header g.records g.is_bare;
+  is_sound = sound_still d.header g.is_sound;
+  names = record {
+    dims = g.names.dims;
+    gatts = over_map (λ (a : Att). IsName a.name) trimmed_att d.header.gatts (λ a n. n) g.names.gatts;
+    vars = over_map (λ (var : Var). IsName var.name × All (λ (a : Att). IsName a.name) var.atts) trimmed_var d.header.vars (λ var n. (n.0, over_map (λ (a : Att). IsName a.name) trimmed_att var.atts (λ a m. m) n.1)) g.names.vars;
+  };
+  values = record {
+    gatts = over_map (λ (a : Att). AreBytes a.vals) trimmed_att d.header.gatts att_bytes g.values.gatts;
+    vars = over_map (λ (var : Var). All (λ (a : Att). AreBytes a.vals) var.atts) trimmed_var d.header.vars (λ var n. over_map (λ (a : Att). AreBytes a.vals) trimmed_att var.atts att_bytes n) g.values.vars;
+  };
+  arrays = arrays_still d.header.dims g.records d.header.vars d.arrays g.arrays;
+}
+
+names_same : {X : Type 0} (name : X → List ℕ) (f : X → X) → ((x : X) → name x ≡ name (f x)) → (xs : List X) → map name xs ≡ map name (map f xs)
+names_same name f e [] = refl
+names_same name f e (x ∷ xs) = ap (λ n. n ∷ map name xs) (e x) ∙ ap (λ ns. name (f x) ∷ ns) (names_same name f e xs)
+
+some_still : (att : Att) → HasSomeNumber att → HasSomeNumber (trimmed_att att)
+some_still att h e = subst (λ b. 0 < length (if b then without_trailing_nuls att.vals else att.vals)) (sym e) (h e)
+
+atts_still : (atts : List Att) → AreSayableAtts atts → AreSayableAtts (map trimmed_att atts)
+atts_still atts s = record {
+  names = subst AreDistinct (names_same (λ (a : Att). a.name) trimmed_att (λ a. refl) atts) s.names;
+  some = over_map HasSomeNumber trimmed_att atts some_still s.some;
+}
+
+var_still : (var : Var) → IsSayableVar var → IsSayableVar (trimmed_var var)
+var_still var s = record { atts = atts_still var.atts s.atts; fill = λ e. ap fill_value (var_once var) }
+
+no_vars : (vars : List Var) → map trimmed_var vars ≡ [] → vars ≡ []
+no_vars [] h = refl
+no_vars (var ∷ vars) h = absurd (let a = ap (λ (xs : List Var). length xs) h in omega (arith, a))
+
+pub trimmed_is_sayable : TrimmedIsSayable
+trimmed_is_sayable d s = record {
+  good = good_still d s.good;
+  dims = s.dims;
+  gatts = atts_still d.header.gatts s.gatts;
+  names = subst AreDistinct (names_same (λ (var : Var). var.name) trimmed_var (λ var. refl) d.header.vars) s.names;
+  vars = over_map IsSayableVar trimmed_var d.header.vars var_still s.vars;
+  records = λ e. s.records (no_vars (record_vars d.header.dims d.header.vars) (sym (record_trimmed d.header.dims d.header.vars) ∙ e));
+}
+
+pub second_trip_is_same : SecondTripIsSame
+second_trip_is_same d o p first second s full full_again text text_again =
+    (text_reads_back d o first s full text, text_reads_back (trimmed d) p second (trimmed_is_sayable d s) full_again text_again ∙ ap Ok (trims_once d))

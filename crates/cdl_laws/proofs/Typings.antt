@@ -1,0 +1,138 @@
+-- The declaration of a variable, and what it says.
+use Rattle.std.proofs.Common.{◌≡◌, ℕ, true, List, [], ◌∷◌, ◌++◌, map, ◌∙◌, ap, refl}
+use Rattle.std.specs.Prelude.{Some, codes}
+use Rattle.std.specs.List.{list_all}
+use Rattle.std.specs.Option.{option_map, option_and_then}
+use Rattle.std.proofs.lemmas.List.Folds.{list_all-append}
+use Rattle.nc_base.specs.Bytes.{text}
+use Rattle.nc_base.specs.declared.nc_type.NcType.{NcType}
+use Rattle.nc_base.specs.declared.version.Version.{Version}
+use Rattle.nc_base.specs.Escapes.{escaped_name}
+use Rattle.nc_base.specs.HeadText.{joined}
+use Rattle.nc_base.specs.Names.{IsName}
+use Rattle.nc_base.specs.Types.{type_word}
+use Rattle.cdl_text.specs.declared.section.Section.TheVariants.{Variables}
+use Rattle.cdl_text.specs.Lexemes.{Lexeme}
+use Rattle.cdl_text.specs.Shapes.{Typed, members, members_in, into_first, each, both, variable, name_alone, before_mark, body}
+use Rattle.cdl_laws.proofs.Bools.{and_both}
+use Rattle.cdl_laws.proofs.Lists.{Each}
+use Rattle.cdl_laws.proofs.Texts.{Closed, Reads, closed_both, closed_by, mark, word, name_word}
+use Rattle.cdl_laws.proofs.ValueTexts.{comma, commas, is_member, members_all, semicolon_closed}
+use Rattle.cdl_laws.proofs.Takes.{Says, statement_says, semicolon, is_fine, word_fine}
+use Rattle.cdl_laws.proofs.Heads.{type_reads, type_starts, tab_closed, blank_closed, paren_closed, end_closed, joined_reads, fine_commas}
+
+abbrev pub AreNames : List (List ℕ) → Type 0
+AreNames names = Each IsName names
+
+-- the text of a shape of dimensions with these names
+unfoldable pub shape_of : List (List ℕ) → List ℕ
+shape_of [] = []
+shape_of (n ∷ ns) = text (codes "(" ∷ joined (map escaped_name (n ∷ ns)) ∷ codes ")" ∷ [])
+
+-- the line of a declaration
+unfoldable pub typed_line : List ℕ → List ℕ → List ℕ → List ℕ
+typed_line ty name shape = text (codes "\t" ∷ ty ∷ codes " " ∷ escaped_name name ∷ shape ∷ codes " ;\n" ∷ [])
+
+abbrev pub name_lexemes : List (List ℕ) → List Lexeme
+name_lexemes names = map (λ name. word (escaped_name name)) names
+
+names_read : (names : List (List ℕ)) → AreNames names → Each (λ name. Reads (escaped_name name) (word (escaped_name name) ∷ [])) names
+names_read [] h = tt
+names_read (name ∷ names) h = ((name_word name h.0).reads, names_read names h.1)
+
+names_members : (names : List (List ℕ)) → list_all is_member (name_lexemes names) ≡ true
+names_members [] = refl
+names_members (name ∷ names) = names_members names
+
+names_fine : (v : Version) (names : List (List ℕ)) → list_all (is_fine v) (name_lexemes names) ≡ true
+names_fine v [] = refl
+names_fine v (name ∷ names) = and_both (is_fine v (word (escaped_name name))) (list_all (is_fine v) (name_lexemes names)) (word_fine v (escaped_name name)) (names_fine v names)
+
+names_each : (names : List (List ℕ)) → AreNames names → each name_alone (map (λ m. m ∷ []) (name_lexemes names)) ≡ Some names
+names_each [] h = refl
+names_each (name ∷ names) h = rw ((name_word name h.0).stands) (ap (both (λ y ys. y ∷ ys) (Some name)) (names_each names h.1))
+
+-- ---- without a shape
+
+scalar_closed : (ty : NcType) (name : List ℕ) → IsName name → Closed (typed_line (type_word ty) name []) (word (type_word ty) ∷ word (escaped_name name) ∷ semicolon ∷ [])
+unfolding typed_line text
+scalar_closed ty name h =
+    closed_both (codes "\t") (type_word ty ++ (codes " " ++ (escaped_name name ++ (codes " ;\n" ++ [])))) [] (word (type_word ty) ∷ word (escaped_name name) ∷ semicolon ∷ []) tab_closed
+    (closed_by (type_word ty) (codes " " ++ (escaped_name name ++ (codes " ;\n" ++ []))) (word (type_word ty) ∷ []) (word (escaped_name name) ∷ semicolon ∷ []) (type_reads ty) (λ rest. refl)
+    (closed_both (codes " ") (escaped_name name ++ (codes " ;\n" ++ [])) [] (word (escaped_name name) ∷ semicolon ∷ []) blank_closed
+    (closed_by (escaped_name name) (codes " ;\n" ++ []) (word (escaped_name name) ∷ []) (semicolon ∷ []) (name_word name h).reads (λ rest. refl) semicolon_closed)))
+
+two_fine : (v : Version) (a b : List ℕ) (ls : List Lexeme) → list_all (is_fine v) ls ≡ true → list_all (is_fine v) (word a ∷ word b ∷ ls) ≡ true
+two_fine v a b ls h = and_both (is_fine v (word a)) (list_all (is_fine v) (word b ∷ ls)) (word_fine v a) (and_both (is_fine v (word b)) (list_all (is_fine v) ls) (word_fine v b) h)
+
+scalar_is : (v : Version) (ty : NcType) (name : List ℕ) → IsName name → body v Variables (word (type_word ty) ∷ word (escaped_name name) ∷ []) ≡ Some (Typed (word (type_word ty)) (record { name = name; dimensions = [] } ∷ []))
+scalar_is v ty name h = rw ((name_word name h).stands) refl
+
+scalar_says : (v : Version) (ty : NcType) (name : List ℕ) → IsName name → Says v Variables (typed_line (type_word ty) name []) (Typed (word (type_word ty)) (record { name = name; dimensions = [] } ∷ []))
+scalar_says v ty name h =
+    statement_says v Variables (typed_line (type_word ty) name []) (word (type_word ty)) (word (escaped_name name)) [] (Typed (word (type_word ty)) (record { name = name; dimensions = [] } ∷ [])) refl
+    (scalar_closed ty name h) (type_starts ty) (two_fine v (type_word ty) (escaped_name name) [] refl) (scalar_is v ty name h)
+
+-- ---- with one
+
+abbrev shape_lexemes : List ℕ → List (List ℕ) → List Lexeme
+shape_lexemes n ns = word (escaped_name n) ∷ commas (name_lexemes ns)
+
+array_closed : (ty : NcType) (name n : List ℕ) (ns : List (List ℕ)) → IsName name → AreNames (n ∷ ns) →
+    Closed (typed_line (type_word ty) name (shape_of (n ∷ ns))) (word (type_word ty) ∷ word (escaped_name name) ∷ mark 40 ∷ (shape_lexemes n ns ++ mark 41 ∷ []) ++ semicolon ∷ [])
+unfolding typed_line shape_of text
+array_closed ty name n ns h all =
+    let inner = joined (map escaped_name (n ∷ ns)) in
+    let shape = codes "(" ++ (inner ++ (codes ")" ++ [])) in
+    let ls = mark 40 ∷ (shape_lexemes n ns ++ mark 41 ∷ []) in
+    closed_both (codes "\t") (type_word ty ++ (codes " " ++ (escaped_name name ++ (shape ++ (codes " ;\n" ++ []))))) [] (word (type_word ty) ∷ word (escaped_name name) ∷ ls ++ semicolon ∷ []) tab_closed
+    (closed_by (type_word ty) (codes " " ++ (escaped_name name ++ (shape ++ (codes " ;\n" ++ [])))) (word (type_word ty) ∷ []) (word (escaped_name name) ∷ ls ++ semicolon ∷ []) (type_reads ty) (λ rest. refl)
+    (closed_both (codes " ") (escaped_name name ++ (shape ++ (codes " ;\n" ++ []))) [] (word (escaped_name name) ∷ ls ++ semicolon ∷ []) blank_closed
+    (closed_by (escaped_name name) (shape ++ (codes " ;\n" ++ [])) (word (escaped_name name) ∷ []) (ls ++ semicolon ∷ []) (name_word name h).reads (λ rest. refl)
+    (closed_both shape (codes " ;\n" ++ []) ls (semicolon ∷ [])
+    (closed_both (codes "(") (inner ++ (codes ")" ++ [])) (mark 40 ∷ []) (shape_lexemes n ns ++ mark 41 ∷ []) paren_closed
+    (closed_by inner (codes ")" ++ []) (shape_lexemes n ns) (mark 41 ∷ []) (joined_reads escaped_name (λ m. word (escaped_name m)) n ns (names_read (n ∷ ns) all)) (λ rest. refl) end_closed))
+    semicolon_closed))))
+
+before_end : (p : List Lexeme) → before_mark 0x29 (p ++ mark 41 ∷ []) ≡ Some p
+before_end [] = refl
+before_end (l ∷ []) = refl
+before_end (l ∷ m ∷ p) = ap (option_map (λ xs. l ∷ xs)) (before_end (m ∷ p))
+
+-- what is in parentheses stays together
+inside_member : (names : List (List ℕ)) → members_in true (commas (name_lexemes names) ++ mark 41 ∷ []) ≡ (commas (name_lexemes names) ++ mark 41 ∷ []) ∷ []
+inside_member [] = refl
+inside_member (name ∷ names) = ap (λ ms. into_first comma (into_first (word (escaped_name name)) ms)) (inside_member names)
+
+array_is : (v : Version) (ty : NcType) (name n : List ℕ) (ns : List (List ℕ)) → IsName name → AreNames (n ∷ ns) →
+    body v Variables (word (type_word ty) ∷ word (escaped_name name) ∷ mark 40 ∷ (shape_lexemes n ns ++ mark 41 ∷ [])) ≡ Some (Typed (word (type_word ty)) (record { name = name; dimensions = n ∷ ns } ∷ []))
+array_is v ty name n ns h all =
+    let w = word (escaped_name name) in
+    let close = mark 41 ∷ [] in
+    let ls = shape_lexemes n ns ++ close in
+    let one : members (w ∷ mark 40 ∷ ls) ≡ (w ∷ mark 40 ∷ ls) ∷ [] = ap (λ ms. into_first w (into_first (mark 40) (into_first (word (escaped_name n)) ms))) (inside_member ns) in
+    let names : each name_alone (members (shape_lexemes n ns)) ≡ Some (n ∷ ns) = ap (each name_alone) (members_all (word (escaped_name n)) (name_lexemes ns) (names_members (n ∷ ns))) ∙ names_each (n ∷ ns) all in
+    let said : variable (w ∷ mark 40 ∷ ls) ≡ Some (record { name = name; dimensions = n ∷ ns }) =
+    ap (λ o. both (λ m ds. record { name = m; dimensions = ds }) o (option_and_then (λ inner. each name_alone (members inner)) (before_mark 0x29 ls))) (name_word name h).stands ∙
+    ap (λ o. both (λ m ds. record { name = m; dimensions = ds }) (Some name) (option_and_then (λ inner. each name_alone (members inner)) o)) (before_end (shape_lexemes n ns)) ∙
+    ap (both (λ m ds. record { name = m; dimensions = ds }) (Some name)) names in
+    ap (λ ms. option_map (Typed (word (type_word ty))) (each variable ms)) one ∙
+    ap (λ o. option_map (Typed (word (type_word ty))) (both (λ y ys. y ∷ ys) o (Some []))) said
+
+array_says : (v : Version) (ty : NcType) (name n : List ℕ) (ns : List (List ℕ)) → IsName name → AreNames (n ∷ ns) →
+    Says v Variables (typed_line (type_word ty) name (shape_of (n ∷ ns))) (Typed (word (type_word ty)) (record { name = name; dimensions = n ∷ ns } ∷ []))
+array_says v ty name n ns h all =
+    let ls = mark 40 ∷ (shape_lexemes n ns ++ mark 41 ∷ []) in
+    let inner = shape_lexemes n ns in
+    let fine : list_all (is_fine v) ls ≡ true =
+    list_all-append (is_fine v) inner (mark 41 ∷ []) ∙
+    and_both (list_all (is_fine v) inner) true (and_both (is_fine v (word (escaped_name n))) (list_all (is_fine v) (commas (name_lexemes ns))) (word_fine v (escaped_name n)) (fine_commas v (name_lexemes ns) (names_fine v ns))) refl in
+    statement_says v Variables (typed_line (type_word ty) name (shape_of (n ∷ ns))) (word (type_word ty)) (word (escaped_name name)) ls (Typed (word (type_word ty)) (record { name = name; dimensions = n ∷ ns } ∷ [])) refl
+    (array_closed ty name n ns h all) (type_starts ty) (two_fine v (type_word ty) (escaped_name name) ls fine) (array_is v ty name n ns h all)
+
+-- a declaration
+pub typed_says : (v : Version) (ty : NcType) (name : List ℕ) (names : List (List ℕ)) → IsName name → AreNames names →
+    Says v Variables (typed_line (type_word ty) name (shape_of names)) (Typed (word (type_word ty)) (record { name = name; dimensions = names } ∷ []))
+unfolding shape_of
+typed_says v ty name [] h all = scalar_says v ty name h
+typed_says v ty name (n ∷ ns) h all = array_says v ty name n ns h all

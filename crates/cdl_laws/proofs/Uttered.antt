@@ -1,0 +1,187 @@
+-- What each statement of a text says, and how many bytes and tokens all of them have.
+use Rattle.std.proofs.Common.{◌≡◌, ℕ, ◌+◌, ◌-◌, ◌*◌, ◌≤◌, ◌<◌, Bool, true, false, List, [], ◌∷◌, length, map, ◌∙◌, ap, refl, arith, zero, suc}
+use Rattle.std.proofs.lemmas.List.{length-take, length-drop}
+use Rattle.std.specs.Prelude.{Option, None, Some, drop, ◌&&◌, nat_lt, is_none}
+use Rattle.std.specs.Option.{option_map, option_and_then}
+use Rattle.nc_base.specs.declared.version.Version.{Version}
+use Rattle.cdl_text.specs.Front.{front}
+use Rattle.cdl_text.specs.Lexemes.{Lexeme, lexeme, role, is_mark, is_word_kind, name_of}
+use Rattle.cdl_text.specs.Pieces.{pieces_at, in_front, step, first_role}
+use Rattle.cdl_text.specs.Shapes as shapes
+use Rattle.cdl_text.specs.Shapes.{Value, Dimension, Variable, Statement, Opening, Mark, Declared, Typed, Attribute, Listed, Brace, End, each, either, given, members, dimensions, variable, constants, assigned, global, typed, attribute, body, section_number, section_of, mark_after, section_mark, alone, shape, before_mark, is_kind_opening, is_kind_end}
+use Rattle.cdl_text.specs.Tokens.{tokens, tokens_at, with_token}
+use Rattle.cdl_text.specs.Statements.{statements}
+use Rattle.cdl_text.specs.declared.section.Section.{Section}
+use Rattle.cdl_text.specs.declared.section.Section.TheVariants.{Unopened, Globals, Dimensions, Variables, Values, Closed, Ended}
+use Rattle.cdl_text.specs.declared.piece.Place.{Place}
+use Rattle.cdl_text.specs.declared.piece.Place.TheVariants as places
+use Rattle.cdl_text.specs.declared.piece.Role.{Role}
+use Rattle.cdl_text.specs.declared.token.Token.{Token}
+use Rattle.cdl_text.specs.declared.token.TokenKind.{TokenKind}
+use Rattle.cdl_laws.proofs.Lists.{Each}
+use Rattle.cdl_laws.proofs.Outcomes.{SomeIs, some_map, some_then, some_weaker, some_both, some_first, some_given, some_and, total, each_take, each_drop}
+use Rattle.cdl_laws.proofs.Said.{weight, mass, IsByte, HasBytes, before_mass, before_each, name_short, cost, IsFineValue, constants_fine, constants_short, dim_cost, dimensions_short, var_cost, variables_short}
+
+-- ---- statements
+
+-- how late a section stands
+abbrev pub late : Section → ℕ
+late s = section_number s
+
+abbrev pub AreFineValues : Version → ℕ → List ℕ → List Value → Type 0
+AreFineValues v n name cs = (suc (length name) ≤ n) × (total cost cs ≤ n) × Each (IsFineValue v) cs
+
+-- what a statement of tokens of this mass says, in a section
+abbrev pub IsSaid : Version → Section → ℕ → Statement → Type 0
+IsSaid v section n Opening = late section ≡ 0
+IsSaid v section n (Mark next) = late section < late next
+IsSaid v section n (Declared ds) = (late section ≡ 2) × (total dim_cost ds ≤ n)
+IsSaid v section n (Typed ty vs) = (late section ≡ 3) × (total var_cost vs ≤ n)
+IsSaid v section n (Attribute o name cs) = AreFineValues v n name cs
+IsSaid v section n (Listed name cs) = AreFineValues v n name cs
+IsSaid v section n Brace = Unit {0}
+IsSaid v section n End = Unit {0}
+
+assigned_says : {A : Type 0} (P : A → Type 0) (v : Version) (blanks : Bool) (f : List ℕ → List Value → A) (ls : List Lexeme) → Each HasBytes ls →
+    ((name : List ℕ) (cs : List Value) → AreFineValues v (mass ls) name cs → P (f name cs)) → SomeIs P (assigned v blanks f ls)
+assigned_says P v blanks f [] h g = tt
+assigned_says P v blanks f (n ∷ []) h g = tt
+assigned_says P v blanks f (n ∷ e ∷ ls) h g =
+    some_given P (is_mark 0x3d e) (shapes.both f (name_of n) (constants v blanks ls)) (λ q.
+    some_both (λ (name : List ℕ). length name ≤ length n.bytes) (λ cs. (total cost cs ≤ mass ls) × Each (IsFineValue v) cs) P f (name_of n) (constants v blanks ls) (name_short n)
+    (some_and (λ cs. total cost cs ≤ mass ls) (Each (IsFineValue v)) (constants v blanks ls) (constants_short v blanks ls) (constants_fine v blanks ls h.1.1))
+    (λ name cs short fine. let a = short in let b = fine.0 in g name cs (omega (arith, a), omega (arith, b), fine.1)))
+
+global_says : (v : Version) (section : Section) (ls : List Lexeme) → Each HasBytes ls → SomeIs (IsSaid v section (mass ls)) (global v ls)
+global_says v section [] h = tt
+global_says v section (c ∷ ls) h =
+    some_given (IsSaid v section (mass (c ∷ ls))) (is_mark 0x3a c) (assigned v false (Attribute None) ls) (λ q.
+    assigned_says (IsSaid v section (mass (c ∷ ls))) v false (Attribute None) ls h.1 (λ name cs k. let a = k.0 in let b = k.1 in (omega (arith, a), omega (arith, b), k.2)))
+
+attribute_says : (v : Version) (section : Section) (ls : List Lexeme) → Each HasBytes ls → SomeIs (IsSaid v section (mass ls)) (attribute v ls)
+attribute_says v section [] h = tt
+attribute_says v section (n ∷ []) h = tt
+attribute_says v section (n ∷ c ∷ ls) h =
+    let P : Statement → Type 0 = IsSaid v section (mass (n ∷ c ∷ ls)) in
+    some_given P (is_mark 0x3a c) (option_and_then (λ name. assigned v false (Attribute (Some name)) ls) (name_of n)) (λ q.
+    some_then (λ (name : List ℕ). length name ≤ length n.bytes) P (λ name. assigned v false (Attribute (Some name)) ls) (name_of n) (name_short n)
+    (λ var short. assigned_says P v false (Attribute (Some var)) ls h.1.1 (λ name cs k. let a = k.0 in let b = k.1 in (omega (arith, a), omega (arith, b), k.2))))
+
+typed_says : (v : Version) (ls : List Lexeme) → SomeIs (IsSaid v Variables (mass ls)) (typed ls)
+typed_says v [] = tt
+typed_says v (ty ∷ ls) =
+    let P : Statement → Type 0 = IsSaid v Variables (mass (ty ∷ ls)) in
+    some_given P (is_word_kind ty.kind) (option_map (Typed ty) (each variable (members ls))) (λ q.
+    some_map P (Typed ty) (each variable (members ls)) (some_weaker (λ xs. total var_cost xs ≤ mass ls) (λ xs. P (Typed ty xs)) (each variable (members ls)) (variables_short ls) (λ xs h. (refl, omega (arith, h)))))
+
+declared_says : (v : Version) (ls : List Lexeme) → SomeIs (IsSaid v Dimensions (mass ls)) (option_map Declared (dimensions v ls))
+declared_says v ls =
+    some_map (IsSaid v Dimensions (mass ls)) Declared (dimensions v ls)
+    (some_weaker (λ ds. total dim_cost ds ≤ mass ls) (λ ds. IsSaid v Dimensions (mass ls) (Declared ds)) (dimensions v ls) (dimensions_short v ls) (λ ds h. (refl, h)))
+
+body_says : (v : Version) (section : Section) (ls : List Lexeme) → Each HasBytes ls → SomeIs (IsSaid v section (mass ls)) (body v section ls)
+body_says v Globals ls h = global_says v Globals ls h
+body_says v Dimensions ls h = some_first (IsSaid v Dimensions (mass ls)) (global v ls) (option_map Declared (dimensions v ls)) (global_says v Dimensions ls h) (declared_says v ls)
+body_says v Variables ls h =
+    some_first (IsSaid v Variables (mass ls)) (global v ls) (either (attribute v ls) (typed ls)) (global_says v Variables ls h)
+    (some_first (IsSaid v Variables (mass ls)) (attribute v ls) (typed ls) (attribute_says v Variables ls h) (typed_says v ls))
+body_says v Values ls h = assigned_says (IsSaid v Values (mass ls)) v true Listed ls h (λ name cs k. k)
+body_says v Unopened ls h = tt
+body_says v Closed ls h = tt
+body_says v Ended ls h = tt
+
+said_more : (v : Version) (section : Section) (m n : ℕ) (s : Statement) → m ≤ n → IsSaid v section m s → IsSaid v section n s
+said_more v section m n Opening le h = h
+said_more v section m n (Mark next) le h = h
+said_more v section m n (Declared ds) le h = let a = h.1 in (h.0, omega (arith, le, a))
+said_more v section m n (Typed ty vs) le h = let a = h.1 in (h.0, omega (arith, le, a))
+said_more v section m n (Attribute o name cs) le h = let a = h.0 in let b = h.1 in (omega (arith, le, a), omega (arith, le, b), h.2)
+said_more v section m n (Listed name cs) le h = let a = h.0 in let b = h.1 in (omega (arith, le, a), omega (arith, le, b), h.2)
+said_more v section m n Brace le h = tt
+said_more v section m n End le h = tt
+
+mark_says : (v : Version) (n : ℕ) (before s : Section) → SomeIs (IsSaid v before n) (mark_after before s)
+mark_says v n before s = some_given (IsSaid v before n) (nat_lt (section_number before) (section_number s)) (Some (Mark s)) (λ e. grind (arith, e))
+
+marks_say : (v : Version) (n : ℕ) (before : Section) (ls : List Lexeme) → SomeIs (IsSaid v before n) (section_mark before ls)
+marks_say v n before [] = tt
+marks_say v n before (l ∷ []) = tt
+marks_say v n before (l ∷ c ∷ d ∷ ls) = tt
+marks_say v n before (l ∷ c ∷ []) =
+    some_given (IsSaid v before n) (is_mark 0x3a c) (option_and_then (mark_after before) (section_of l)) (λ q.
+    some_then (λ (s : Section). Unit {0}) (IsSaid v before n) (mark_after before) (section_of l) (any (section_of l)) (λ s u. mark_says v n before s))
+  where
+    any : (o : Option Section) → SomeIs (λ (s : Section). Unit {0}) o
+    any None = tt
+    any (Some s) = tt
+
+alone_says : {A : Type 0} (P : A → Type 0) (test : Lexeme → Bool) (a : A) (ls : List Lexeme) → P a → SomeIs P (alone test a ls)
+alone_says P test a [] p = tt
+alone_says P test a (l ∷ []) p = some_given P (test l) (Some a) (λ e. p)
+alone_says P test a (l ∷ m ∷ ls) p = tt
+
+inside : (v : Version) (section : Section) (ls : List Lexeme) → Each HasBytes ls →
+    SomeIs (IsSaid v section (mass ls)) (either (alone (is_mark 0x7d) Brace ls) (either (section_mark section ls) (option_and_then (body v section) (before_mark 0x3b ls))))
+inside v section ls h =
+    let P : Statement → Type 0 = IsSaid v section (mass ls) in
+    let rest : Option Statement = option_and_then (body v section) (before_mark 0x3b ls) in
+    some_first P (alone (is_mark 0x7d) Brace ls) (either (section_mark section ls) rest) (alone_says P (is_mark 0x7d) Brace ls tt)
+    (some_first P (section_mark section ls) rest (marks_say v (mass ls) section ls)
+    (some_then (λ xs. (mass xs ≤ mass ls) × Each HasBytes xs) P (body v section) (before_mark 0x3b ls) (some_and (λ xs. mass xs ≤ mass ls) (Each HasBytes) (before_mark 0x3b ls) (before_mass 0x3b ls) (before_each HasBytes 0x3b ls h))
+    (λ xs k. some_weaker (IsSaid v section (mass xs)) P (body v section xs) (body_says v section xs k.1) (λ s said. said_more v section (mass xs) (mass ls) s k.0 said))))
+
+pub shape_says : (v : Version) (section : Section) (ls : List Lexeme) → Each HasBytes ls → SomeIs (IsSaid v section (mass ls)) (shape v section ls)
+unfolding shape
+shape_says v Unopened ls h = alone_says (IsSaid v Unopened (mass ls)) (λ l. is_kind_opening l.kind) Opening ls refl
+shape_says v Closed ls h = alone_says (IsSaid v Closed (mass ls)) (λ l. is_kind_end l.kind) End ls tt
+shape_says v Ended ls h = tt
+shape_says v Globals ls h = inside v Globals ls h
+shape_says v Dimensions ls h = inside v Dimensions ls h
+shape_says v Variables ls h = inside v Variables ls h
+shape_says v Values ls h = inside v Values ls h
+
+-- ---- the bytes of all
+
+abbrev pub token_mass : List ℕ → List Token → ℕ
+token_mass text ts = total (λ t. weight (lexeme text t)) ts
+
+with_mass : (text : List ℕ) (at n m : ℕ) (k : Option TokenKind) (ts : List Token) → length text ≤ at + suc m → token_mass text ts ≤ 1 + 2 * (m - (n - 1)) → token_mass text (with_token text at k n ts) ≤ 1 + 2 * suc m
+with_mass text at n m None ts h k = omega (arith, k)
+with_mass text at n m (Some kind) ts h k =
+    let a = length-take (at + n - at) (drop at text) in let b = length-drop at text in omega (arith, a, b, h, k)
+
+mass_at : (text : List ℕ) (fresh : Bool) (at more : ℕ) (bytes : List ℕ) → length text ≤ at + length bytes → token_mass text (tokens_at text fresh at more bytes) ≤ 1 + 2 * (length bytes - more)
+unfolding tokens_at
+mass_at text fresh at more [] h = let a = length-take (at + 0 - at) (drop at text) in omega (arith, a)
+mass_at text fresh at (suc more) (b ∷ bytes) h = let ih = mass_at text fresh (at + 1) more bytes (omega (arith, h)) in omega (arith, ih)
+mass_at text fresh at zero (b ∷ bytes) h =
+    let f = front fresh (b ∷ bytes) in
+    let ih = mass_at text (fresh && is_none f.kind) (at + 1) (f.len - 1) bytes (omega (arith, h)) in
+    let r = with_mass text at f.len (length bytes) f.kind (tokens_at text (fresh && is_none f.kind) (at + 1) (f.len - 1) bytes) (omega (arith, h)) ih in
+    omega (arith, r)
+
+pieces_total : {X : Type 0} (w : X → ℕ) (ends : Bool) (t : X) (ps : List (List X)) → total (total w) (in_front ends t ps) ≡ w t + total (total w) ps
+pieces_total w true t ps = omega arith
+pieces_total w false t [] = omega arith
+pieces_total w false t (p ∷ ps) = omega arith
+
+all_pieces : {X : Type 0} (w : X → ℕ) (role : X → Role) (place : Place) (ts : List X) → total (total w) (pieces_at role place ts) ≡ total w ts
+unfolding pieces_at
+all_pieces w role place [] = refl
+all_pieces w role place (t ∷ ts) =
+    let s = step place (role t) (first_role role ts) in
+    pieces_total w s.ends t (pieces_at role s.place ts) ∙ ap (λ n. w t + n) (all_pieces w role s.place ts)
+
+pub all_mass : (text : List ℕ) → total (token_mass text) (statements text) ≤ 1 + 2 * length text
+all_mass text =
+    let a = all_pieces (λ t. weight (lexeme text t)) (λ t. role (lexeme text t)) places.Begins (tokens text) in
+    let b = mass_at text true 0 0 text (omega arith) in
+    omega (arith, a, b)
+
+pub mass_is : (text : List ℕ) (p : List Token) → mass (map (lexeme text) p) ≡ token_mass text p
+mass_is text [] = refl
+mass_is text (t ∷ p) = ap (λ n. weight (lexeme text t) + n) (mass_is text p)
+
+pub piece_bytes : (text : List ℕ) (p : List Token) → Each IsByte text → Each HasBytes (map (lexeme text) p)
+piece_bytes text [] h = tt
+piece_bytes text (t ∷ p) h = (each_take IsByte (t.past - t.first) (drop t.first text) (each_drop IsByte t.first text h), piece_bytes text p h)

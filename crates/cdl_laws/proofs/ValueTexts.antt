@@ -1,0 +1,297 @@
+-- The listed numbers of a variable are read back, wherever the breaks are.
+use Rattle.std.proofs.Common.{◌≡◌, ℕ, ◌+◌, ◌^◌, ◌<◌, ◌≤◌, Bool, true, false, List, [], ◌∷◌, ◌++◌, length, map, sym, ◌∙◌, ap, refl, subst, arith, append_assoc, append-nil, length-append}
+use Rattle.std.specs.Prelude.{ℤ, unsigned_abs, ◌&&◌, ◌||◌, ◌==◌, not, if◌then◌else◌, nat_lt, Some, Result, Ok, codes}
+use Rattle.std.specs.Fmt.{signed_decimal}
+use Rattle.std.specs.List.{flat_map, list_all}
+use Rattle.std.specs.Ordering.{int_eq}
+use Rattle.std.proofs.Math.Nat.{mod-eq_of_lt, zero-mod}
+use Rattle.std.proofs.lemmas.Bool.{false≢true}
+use Rattle.std.proofs.lemmas.Bool.Decides.{Decides-int_eq}
+use Rattle.nc_base.specs.Bytes.{text}
+use Rattle.nc_base.specs.Escapes.{escaped_name}
+use Rattle.nc_base.specs.declared.nc_type.NcType.TheVariants.{Int}
+use Rattle.nc_base.specs.declared.version.Version.{Version}
+use Rattle.nc_base.specs.Names.{IsName}
+use Rattle.nc_base.specs.ValueText.{Look, is_char, number_text, number_lead, line_break, ends_row, begins_row, passes, column, number_piece, piece, pieces, opening, closing, measured_opening, variable_front, variable_text}
+use Rattle.cdl_text.specs.declared.fault.CdlKind.{CdlKind}
+use Rattle.cdl_text.specs.Lexemes.{Lexeme, is_mark}
+use Rattle.cdl_laws.specs.Reading.{lexemes_at}
+use Rattle.cdl_text.specs.Front.{front}
+use Rattle.cdl_text.specs.Shapes.{Value, Number, Blank, members_in, members, each, both, constant, constants}
+use Rattle.cdl_parse.specs.State.{Room, add_value, in_turn, fits, add_number}
+use Rattle.cdl_laws.proofs.Bools.{and_left, and_right, and_both, off}
+use Rattle.cdl_laws.proofs.Lists.{Each}
+use Rattle.cdl_laws.proofs.Words.{word_front}
+use Rattle.cdl_laws.proofs.Texts.{Closed, Reads, Stops, closed_both, then_reads, closed_by, reads_both, closed_nothing, mark, word, number, name_word, word_reads, stop_word}
+use Rattle.cdl_laws.proofs.Numerals.{number_reads, value_again}
+
+-- one turn
+pub turn : {S A : Type 0} (f : S → A → Result S CdlKind) (s t : S) (x : A) (xs : List A) → f s x ≡ Ok t → in_turn f s (x ∷ xs) ≡ in_turn f t xs
+turn f s t x xs e = rw (in_turn, e) refl
+
+-- ---- lists joined by commas
+
+abbrev pub comma : Lexeme
+comma = mark 44
+
+-- the lexemes behind the first
+abbrev pub commas : List Lexeme → List Lexeme
+commas ls = flat_map (λ l. comma ∷ l ∷ []) ls
+
+-- neither a comma nor an opening parenthesis
+abbrev pub is_member : Lexeme → Bool
+is_member l = not (is_mark 0x2c l) && not (is_mark 0x28 l)
+
+pub members_last : (l : Lexeme) → is_member l ≡ true → members (l ∷ []) ≡ (l ∷ []) ∷ []
+members_last l h =
+    let p : is_mark 0x2c l ≡ false = off (is_mark 0x2c l) (and_left (not (is_mark 0x2c l)) (not (is_mark 0x28 l)) h) in
+    rw (members_in, p) refl
+
+pub members_more : (l : Lexeme) (ls : List Lexeme) → is_member l ≡ true → members (l ∷ comma ∷ ls) ≡ (l ∷ []) ∷ members ls
+members_more l ls h =
+    let p : is_mark 0x2c l ≡ false = off (is_mark 0x2c l) (and_left (not (is_mark 0x2c l)) (not (is_mark 0x28 l)) h) in
+    let q : is_mark 0x28 l ≡ false = off (is_mark 0x28 l) (and_right (not (is_mark 0x2c l)) (not (is_mark 0x28 l)) h) in
+    rw (members_in, p) (rw (q) (ap (λ b. (l ∷ []) ∷ members_in (b || false) ls) q))
+
+pub members_all : (l : Lexeme) (ls : List Lexeme) → list_all is_member (l ∷ ls) ≡ true → members (l ∷ commas ls) ≡ map (λ m. m ∷ []) (l ∷ ls)
+members_all l [] h = members_last l (and_left (is_member l) true h)
+members_all l (m ∷ ls) h =
+    members_more l (m ∷ commas ls) (and_left (is_member l) (list_all is_member (m ∷ ls)) h) ∙
+    ap (λ ms. (l ∷ []) ∷ ms) (members_all m ls (and_right (is_member l) (list_all is_member (m ∷ ls)) h))
+
+-- a list of constants
+pub constants_all : (v : Version) (blanks : Bool) (l : Lexeme) (ls : List Lexeme) → constants v blanks (l ∷ commas ls) ≡ each (constant v blanks) (l ∷ ls)
+constants_all v blanks l [] = refl
+constants_all v blanks l (m ∷ ls) = ap (both (λ x xs. x ∷ xs) (constant v blanks l)) (constants_all v blanks m ls)
+
+-- ---- the text of numbers
+
+-- the value prints as `_`
+abbrev pub is_blank_value : Look → ℤ → Bool
+is_blank_value look x = look.blanks && int_eq x look.fill
+
+abbrev pub value_lexeme : Look → ℤ → Lexeme
+value_lexeme look x = if is_blank_value look x then word (codes "_") else number (signed_decimal x)
+
+abbrev pub value_said : Look → ℤ → Value
+value_said look x = if is_blank_value look x then Blank else Number (record { value = x; ty = Int })
+
+blank_reads : Reads (codes "_") (word (codes "_") ∷ [])
+blank_reads = word_reads 95 [] (λ rest. refl) (λ rest stop. word_front 95 rest ∙ ap (λ n. 1 + n) (stop_word rest stop))
+
+text_reads : (look : Look) (x : ℤ) → unsigned_abs x < 2 ^ 64 → Reads (number_text look x) (value_lexeme look x ∷ [])
+text_reads look x h =
+    elim (is_blank_value look x) as (λ w. Reads (if w then codes "_" else signed_decimal x) ((if w then word (codes "_") else number (signed_decimal x)) ∷ [])) [
+      | true ↦ blank_reads
+      | false ↦ subst (λ bs. Reads bs (number bs ∷ [])) (append-nil (signed_decimal x)) (number_reads x [] h refl)
+    ]
+
+-- ---- what stands before a number
+
+broken : Closed (codes "\n    ") []
+unfolding lexemes_at front
+broken rest = refl
+
+either_closed : (b : Bool) → Closed (if b then codes "\n    " else []) []
+either_closed true = broken
+either_closed false = closed_nothing
+
+break_closed : (look : Look) (before : List ℕ) (len : ℕ) (is_last : Bool) → Closed (line_break look before len is_last) []
+break_closed look before len is_last = either_closed (passes look.width (column before) len is_last)
+
+-- what stands before a number that isn't the first: a comma and a blank, or a comma and the beginning of a row
+data Gap (lead : List ℕ) : Type 0 where
+  next : lead ≡ codes ", " → Gap lead
+  row : lead ≡ codes ",\n  " → Gap lead
+
+no_row : (look : Look) (i : ℕ) → 0 < i → i < look.row → begins_row look i ≡ false
+no_row look i some small = rw (mod-eq_of_lt small) (grind (arith, some))
+
+gap : (look : Look) (i : ℕ) → 0 < i → (look.in_rows ≡ false → i < look.row) → Gap (number_lead look i)
+gap look i some small =
+    elim (begins_row look i) as (λ w. begins_row look i ≡ w → Gap (if w then (if look.in_rows then (if i == 0 then codes "\n  " else codes ",\n  ") else codes " ") else codes ", ")) [
+      | true ↦ (λ e. elim (look.in_rows) as (λ r. look.in_rows ≡ r → Gap (if r then (if i == 0 then codes "\n  " else codes ",\n  ") else codes " ")) [
+        | true ↦ (λ f. let z : (i == 0) ≡ false = grind (arith, some) in row (rw (z) refl))
+        | false ↦ (λ f. absurd (false≢true (sym (no_row look i some (small f)) ∙ e)))
+      ] refl)
+      | false ↦ (λ e. next refl)
+    ] refl
+
+next_closed : Closed (codes ", ") (comma ∷ [])
+unfolding lexemes_at front
+next_closed rest = refl
+
+pub row_closed : Closed (codes ",\n  ") (comma ∷ [])
+unfolding lexemes_at front
+row_closed rest = refl
+
+gap_closed : (lead : List ℕ) → Gap lead → Closed lead (comma ∷ [])
+gap_closed lead (next e) = subst (λ bs. Closed bs (comma ∷ [])) (sym e) next_closed
+gap_closed lead (row e) = subst (λ bs. Closed bs (comma ∷ [])) (sym e) row_closed
+
+gap_stops : (lead more : List ℕ) → Gap lead → Stops (lead ++ more)
+gap_stops lead more (next e) = rw (e) (λ rest h. refl)
+gap_stops lead more (row e) = rw (e) (λ rest h. refl)
+
+-- ---- the numbers behind the first
+
+piece_reads : (look : Look) (before : List ℕ) (i : ℕ) (x : ℤ) → 0 < i → (look.in_rows ≡ false → i < look.row) → unsigned_abs x < 2 ^ 64 →
+    Reads (number_piece look before i x) (comma ∷ value_lexeme look x ∷ [])
+unfolding number_piece
+piece_reads look before i x some small fits =
+    then_reads (number_lead look i ++ line_break look (before ++ number_lead look i) (length (number_text look x)) (ends_row look i)) (number_text look x) (comma ∷ []) (value_lexeme look x ∷ [])
+    (closed_both (number_lead look i) (line_break look (before ++ number_lead look i) (length (number_text look x)) (ends_row look i)) (comma ∷ []) []
+    (gap_closed (number_lead look i) (gap look i some small)) (break_closed look (before ++ number_lead look i) (length (number_text look x)) (ends_row look i)))
+    (text_reads look x fits)
+
+piece_stops : (look : Look) (before : List ℕ) (i : ℕ) (x : ℤ) (more : List ℕ) → 0 < i → (look.in_rows ≡ false → i < look.row) → Stops (number_piece look before i x ++ more)
+unfolding number_piece
+piece_stops look before i x more some small =
+    let lead = number_lead look i in
+    let gone = line_break look (before ++ lead) (length (number_text look x)) (ends_row look i) in
+    subst Stops (sym (append_assoc (lead ++ gone) (number_text look x) more ∙ append_assoc lead gone (number_text look x ++ more))) (gap_stops lead (gone ++ (number_text look x ++ more)) (gap look i some small))
+
+-- the values fit
+abbrev pub AreSmall : List ℤ → Type 0
+AreSmall xs = Each (λ x. unsigned_abs x < 2 ^ 64) xs
+
+is_number_piece : (look : Look) (before : List ℕ) (values : List ℤ) (x : ℤ) → is_char look.ty ≡ false → piece look before values x ≡ number_piece look before (length values) x
+unfolding piece
+is_number_piece look before values x h = rw (h) refl
+
+pieces_first : (look : Look) (before : List ℕ) (values : List ℤ) (x : ℤ) (xs : List ℤ) → is_char look.ty ≡ false →
+    pieces look before values (x ∷ xs) ≡ number_piece look before (length values) x ++ pieces look (before ++ piece look before values x) (values ++ x ∷ []) xs
+unfolding pieces
+pieces_first look before values x xs h = ap (λ p. p ++ pieces look (before ++ piece look before values x) (values ++ x ∷ []) xs) (is_number_piece look before values x h)
+
+pieces_none : (look : Look) (before : List ℕ) (values : List ℤ) → pieces look before values [] ≡ []
+unfolding pieces
+pieces_none look before values = refl
+
+more_stop : (look : Look) (before : List ℕ) (values xs : List ℤ) → is_char look.ty ≡ false → 0 < length values → (look.in_rows ≡ false → length values + length xs ≤ look.row) → Stops (pieces look before values xs)
+more_stop look before values [] h some small = rw (pieces_none look before values) (λ rest e. e)
+more_stop look before values (x ∷ xs) h some small =
+    rw (pieces_first look before values x xs h)
+    (piece_stops look before (length values) x (pieces look (before ++ piece look before values x) (values ++ x ∷ []) xs) some (λ e. let f = small e in omega (arith, f)))
+
+pub more_read : (look : Look) (before : List ℕ) (values xs : List ℤ) → is_char look.ty ≡ false → 0 < length values → (look.in_rows ≡ false → length values + length xs ≤ look.row) → AreSmall xs →
+    Reads (pieces look before values xs) (commas (map (value_lexeme look) xs))
+more_read look before values [] h some small fit = rw (pieces_none look before values) (λ rest e. refl)
+more_read look before values (x ∷ xs) h some small fit =
+    let after = before ++ piece look before values x in
+    let len = length-append values (x ∷ []) in
+    let some2 : 0 < length (values ++ x ∷ []) = omega (arith, len) in
+    let small2 : look.in_rows ≡ false → length (values ++ x ∷ []) + length xs ≤ look.row = λ e. let f = small e in omega (arith, f, len) in
+    rw (pieces_first look before values x xs h)
+    (reads_both (number_piece look before (length values) x) (pieces look after (values ++ x ∷ []) xs) (comma ∷ value_lexeme look x ∷ []) (commas (map (value_lexeme look) xs))
+    (piece_reads look before (length values) x some (λ e. let f = small e in omega (arith, f)) (fit.0))
+    (more_stop look after (values ++ x ∷ []) xs h some2 small2)
+    (more_read look after (values ++ x ∷ []) xs h some2 small2 (fit.1)))
+
+-- ---- a variable's numbers
+
+first_lead : (look : Look) → Closed (number_lead look 0) []
+unfolding lexemes_at front
+first_lead look = rw (zero-mod look.row) (elim (look.in_rows) as (λ w. Closed (if w then codes "\n  " else codes " ") []) [ true ↦ (λ rest. refl) | false ↦ (λ rest. refl) ])
+
+first_reads : (look : Look) (before : List ℕ) (x : ℤ) → unsigned_abs x < 2 ^ 64 → Reads (number_piece look before 0 x) (value_lexeme look x ∷ [])
+unfolding number_piece
+first_reads look before x fits =
+    then_reads (number_lead look 0 ++ line_break look (before ++ number_lead look 0) (length (number_text look x)) (ends_row look 0)) (number_text look x) [] (value_lexeme look x ∷ [])
+    (closed_both (number_lead look 0) (line_break look (before ++ number_lead look 0) (length (number_text look x)) (ends_row look 0)) [] []
+    (first_lead look) (break_closed look (before ++ number_lead look 0) (length (number_text look x)) (ends_row look 0)))
+    (text_reads look x fits)
+
+pub all_read : (look : Look) (before : List ℕ) (x : ℤ) (xs : List ℤ) → is_char look.ty ≡ false → (look.in_rows ≡ false → length (x ∷ xs) ≤ look.row) → AreSmall (x ∷ xs) →
+    Reads (pieces look before [] (x ∷ xs)) (value_lexeme look x ∷ commas (map (value_lexeme look) xs))
+all_read look before x xs h small fit =
+    let after = before ++ piece look before [] x in
+    let small2 : look.in_rows ≡ false → 1 + length xs ≤ look.row = λ e. let f = small e in omega (arith, f) in
+    rw (pieces_first look before [] x xs h)
+    (reads_both (number_piece look before 0 x) (pieces look after (x ∷ []) xs) (value_lexeme look x ∷ []) (commas (map (value_lexeme look) xs))
+    (first_reads look before x fit.0) (more_stop look after (x ∷ []) xs h (omega arith) small2) (more_read look after (x ∷ []) xs h (omega arith) small2 fit.1))
+
+pub equals_closed : Closed (codes " =") (mark 61 ∷ [])
+unfolding lexemes_at front
+equals_closed rest = refl
+
+pub feed_closed : Closed (codes "\n ") []
+unfolding lexemes_at front
+feed_closed rest = refl
+
+pub semicolon_closed : Closed (codes " ;\n") (mark 59 ∷ [])
+unfolding lexemes_at front
+semicolon_closed rest = refl
+
+pub opening_closed : (look : Look) → IsName look.name → Closed (opening look) (word (escaped_name look.name) ∷ mark 61 ∷ [])
+unfolding opening text
+opening_closed look h =
+    closed_both (codes "\n ") (escaped_name look.name ++ (codes " =" ++ [])) [] (word (escaped_name look.name) ∷ mark 61 ∷ []) feed_closed
+    (closed_by (escaped_name look.name) (codes " =" ++ []) (word (escaped_name look.name) ∷ []) (mark 61 ∷ []) (name_word look.name h).reads (λ rest. refl) equals_closed)
+
+number_closing : (look : Look) → is_char look.ty ≡ false → closing look ≡ codes " ;\n"
+unfolding closing
+number_closing look h = rw (h) refl
+
+-- the lexemes of a variable's numbers
+abbrev pub listed : Look → ℤ → List ℤ → List Lexeme
+listed look x xs = word (escaped_name look.name) ∷ mark 61 ∷ value_lexeme look x ∷ commas (map (value_lexeme look) xs)
+
+pub numbers_closed : (look : Look) (x : ℤ) (xs : List ℤ) → IsName look.name → is_char look.ty ≡ false → (look.in_rows ≡ false → length (x ∷ xs) ≤ look.row) → AreSmall (x ∷ xs) →
+    Closed (variable_text look (x ∷ xs)) (listed look x xs ++ mark 59 ∷ [])
+unfolding variable_text variable_front
+numbers_closed look x xs name h small fit =
+    closed_by (opening look ++ pieces look (measured_opening look) [] (x ∷ xs)) (closing look) (listed look x xs) (mark 59 ∷ [])
+    (then_reads (opening look) (pieces look (measured_opening look) [] (x ∷ xs)) (word (escaped_name look.name) ∷ mark 61 ∷ []) (value_lexeme look x ∷ commas (map (value_lexeme look) xs))
+    (opening_closed look name) (all_read look (measured_opening look) x xs h small fit))
+    (rw (number_closing look h) (λ rest. refl))
+    (rw (number_closing look h) semicolon_closed)
+
+-- ---- what they say
+
+values_all : (v : Version) (look : Look) (xs : List ℤ) → AreSmall xs → each (constant v true) (map (value_lexeme look) xs) ≡ Some (map (value_said look) xs)
+values_all v look [] fit = refl
+values_all v look (x ∷ xs) fit =
+    ap (both (λ y ys. y ∷ ys) (constant v true (value_lexeme look x))) (values_all v look xs fit.1) ∙
+    ap (λ y. both (λ y ys. y ∷ ys) y (Some (map (value_said look) xs))) (one (is_blank_value look x))
+  where
+    one : (b : Bool) → constant v true (if b then word (codes "_") else number (signed_decimal x)) ≡ Some (if b then Blank else Number (record { value = x; ty = Int }))
+    one true = refl
+    one false = rw (value_again v x fit.0) refl
+
+is_value : (look : Look) (x : ℤ) → is_member (value_lexeme look x) ≡ true
+is_value look x = elim (is_blank_value look x) as (λ b. is_member (if b then word (codes "_") else number (signed_decimal x)) ≡ true) [ true ↦ refl | false ↦ refl ]
+
+are_values : (look : Look) (xs : List ℤ) → list_all is_member (map (value_lexeme look) xs) ≡ true
+are_values look [] = refl
+are_values look (x ∷ xs) = and_both (is_member (value_lexeme look x)) (list_all is_member (map (value_lexeme look) xs)) (is_value look x) (are_values look xs)
+
+pub values_said : (v : Version) (look : Look) (x : ℤ) (xs : List ℤ) → AreSmall (x ∷ xs) → constants v true (value_lexeme look x ∷ commas (map (value_lexeme look) xs)) ≡ Some (map (value_said look) (x ∷ xs))
+values_said v look x xs fit =
+    constants_all v true (value_lexeme look x) (map (value_lexeme look) xs) ∙ values_all v look (x ∷ xs) fit
+
+-- ---- what becomes of them
+
+lt_true : (m n : ℕ) → m < n → nat_lt m n ≡ true
+lt_true m n h = grind (arith, h)
+
+pub room_for : (is_open : Bool) (m n : ℕ) → (is_open ≡ false → m < n) → (is_open || nat_lt m n) ≡ true
+room_for true m n h = refl
+room_for false m n h = lt_true m n (h refl)
+
+one_added : (look : Look) (room : Room) (before : List ℤ) (x : ℤ) → is_char room.ty ≡ false → room.fill ≡ look.fill → (room.is_open ≡ false → length before < room.count) → fits room.ty x ≡ true →
+    add_value room before (value_said look x) ≡ Ok (before ++ x ∷ [])
+unfolding add_value
+one_added look room before x h same wide fit =
+    rw (h) (elim (is_blank_value look x) as (λ b. is_blank_value look x ≡ b → add_number room before (if b then Blank else Number (record { value = x; ty = Int })) ≡ Ok (before ++ x ∷ [])) [
+      | true ↦ (λ e. rw (room_for room.is_open (length before) room.count wide) (ap (λ y. Ok (before ++ y ∷ [])) (same ∙ sym ((Decides-int_eq x look.fill).0 (and_right look.blanks (int_eq x look.fill) e)))))
+      | false ↦ (λ e. rw (room_for room.is_open (length before) room.count wide) (rw (fit) refl))
+    ] refl)
+
+pub all_added : (look : Look) (room : Room) (before xs : List ℤ) → is_char room.ty ≡ false → room.fill ≡ look.fill → (room.is_open ≡ false → length before + length xs ≤ room.count) → Each (λ x. fits room.ty x ≡ true) xs →
+    in_turn (add_value room) before (map (value_said look) xs) ≡ Ok (before ++ xs)
+all_added look room before [] h same wide fit = ap Ok (sym (append-nil before))
+all_added look room before (x ∷ xs) h same wide fit =
+    let len = length-append before (x ∷ []) in
+    turn (add_value room) before (before ++ x ∷ []) (value_said look x) (map (value_said look) xs) (one_added look room before x h same (λ e. let f = wide e in omega (arith, f)) fit.0) ∙
+    (all_added look room (before ++ x ∷ []) xs h same (λ e. let f = wide e in omega (arith, f, len)) fit.1 ∙ ap Ok (append_assoc before (x ∷ []) xs))

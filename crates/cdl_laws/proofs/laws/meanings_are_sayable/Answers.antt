@@ -1,0 +1,5 @@
+use Rattle.cdl_laws.proofs.Fills.{meanings_are_sayable}
+use Rattle.cdl_laws.proofs.laws.meanings_are_sayable.Goals as goal
+
+pub returns : goal.returns
+returns c = meanings_are_sayable

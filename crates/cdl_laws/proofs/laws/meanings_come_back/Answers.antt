@@ -1,0 +1,5 @@
+use Rattle.cdl_laws.proofs.Fills.{meanings_come_back}
+use Rattle.cdl_laws.proofs.laws.meanings_come_back.Goals as goal
+
+pub returns : goal.returns
+returns c = meanings_come_back

@@ -1,0 +1,5 @@
+use Rattle.cdl_laws.proofs.Trims.{second_trip_is_same}
+use Rattle.cdl_laws.proofs.laws.second_trip_is_same.Goals as goal
+
+pub returns : goal.returns
+returns c = second_trip_is_same

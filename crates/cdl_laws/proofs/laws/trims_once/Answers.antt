@@ -1,0 +1,5 @@
+use Rattle.cdl_laws.proofs.Trims.{trims_once}
+use Rattle.cdl_laws.proofs.laws.trims_once.Goals as goal
+
+pub returns : goal.returns
+returns c = trims_once

@@ -1,0 +1,7 @@
+pub mod Reading
+pub mod RoundTrip
+pub mod Goods
+pub mod Trims
+pub mod TokenLaws
+pub mod PieceLaws
+pub mod RowLaws

@@ -1,0 +1,18 @@
+-- The text of a dataset is read back.
+use Rattle.std.specs.Prelude.{◌≡◌, ℕ, false, List, None, Ok}
+use Rattle.nc_base.specs.declared.dataset.Dataset.{Dataset}
+use Rattle.nc_base.specs.Dump.{Options, whole, IsText}
+use Rattle.nc_base.specs.Names.{IsName}
+use Rattle.nc_base.specs.Sayable.{IsSayable, trimmed}
+use Rattle.cdl_parse.specs.Meaning.{meaning}
+
+-- a full dump under a valid name
+pub record IsFull (o : Options) : Type 0 where
+  pub name : IsName o.name
+  pub values : o.head_only ≡ false
+  pub coords : o.coords ≡ false
+  pub chosen : o.chosen ≡ None
+
+abbrev pub TextReadsBack : Type 0
+TextReadsBack = (d : Dataset) (o : Options) (text : List ℕ) → IsSayable d → IsFull o → IsText d o text whole
+    → meaning text d.header.version ≡ Ok (trimmed d)

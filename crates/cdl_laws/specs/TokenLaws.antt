@@ -1,0 +1,98 @@
+-- Names, strings and numbers are read back, each as one token; and the strings of a text stand for bytes.
+use Rattle.std.specs.Prelude.{◌≡◌, ◌||◌, true, ◌∷◌, ℕ, ℤ, Bool, true, false, List, ◌++◌, length, All, slice_index, codes, Some}
+use Rattle.std.specs.Fmt.{signed_decimal}
+use Rattle.nc_base.specs.declared.nc_type.NcType.{NcType}
+use Rattle.nc_base.specs.declared.nc_type.NcType.TheVariants.{Int}
+use Rattle.nc_base.specs.declared.version.Version.{Version}
+use Rattle.nc_base.specs.Escapes.{escaped_name, escaped_text, is_reserved}
+use Rattle.nc_base.specs.Names.{IsName}
+use Rattle.nc_base.specs.Numbers.{IsInRange}
+use Rattle.nc_base.specs.Types.{number_suffix}
+use Rattle.nc_base.specs.ValueText.{is_char}
+use Rattle.nc_base.specs.Versions.{has_type}
+use Rattle.cdl_text.specs.Bytes.{is_blank, is_mark, goes_on_word, goes_on_number, is_escape}
+use Rattle.cdl_text.specs.Escapes.{unescape, stands}
+use Rattle.cdl_text.specs.Front.{front, token}
+use Rattle.cdl_text.specs.Lexemes.{word_value, name_of}
+use Rattle.cdl_text.specs.Numerals.{numeral}
+use Rattle.cdl_text.specs.Pieces.{raw, is_section}
+use Rattle.cdl_text.specs.Shapes.{inner}
+use Rattle.cdl_text.specs.Tokens.{tokens}
+use Rattle.cdl_text.specs.declared.token.Token.{Token}
+use Rattle.cdl_text.specs.declared.token.TokenKind.{TokenKind}
+use Rattle.cdl_text.specs.declared.token.TokenKind.TheVariants.{Word, Number, Text}
+
+-- where the rest follows, exactly these bytes are one token of this kind, whether or not a token stands before
+abbrev pub AreToken : TokenKind → List ℕ → List ℕ → Type 0
+AreToken kind bytes rest = (fresh : Bool) → front fresh (bytes ++ rest) ≡ token kind (length bytes)
+
+-- ---- names
+
+-- The bytes begin with nothing that goes on a word: neither with such a byte nor with an escape. Past the end of a text stands a
+-- 0 byte, which goes on nothing.
+pub record StopsWord (rest : List ℕ) : Type 0 where
+  pub byte : goes_on_word (slice_index rest 0) ≡ false
+  pub escape : is_escape (slice_index rest 0) (slice_index rest 1) ≡ false
+
+-- a name, escaped, is one word, which is no reserved word and stands for the name
+pub record NameReadsBack (name : List ℕ) : Type 0 where
+  pub token : (rest : List ℕ) → StopsWord rest → AreToken Word (escaped_name name) rest
+  pub free : is_reserved (escaped_name name) ≡ false
+  pub no_section : is_section (escaped_name name) ≡ false
+  pub value : word_value (escaped_name name) ≡ name
+  pub says : name_of (record { kind = Word; bytes = escaped_name name }) ≡ Some name
+
+abbrev pub NamesReadBack : Type 0
+NamesReadBack = (name : List ℕ) → IsName name → NameReadsBack name
+
+-- ---- strings
+
+-- escaped, between quotes
+abbrev pub quoted : List ℕ → List ℕ
+quoted bytes = codes "\"" ++ (escaped_text bytes ++ codes "\"")
+
+-- the bytes, escaped and between quotes, are one string, which stands for them
+pub record StringReadsBack (bytes : List ℕ) : Type 0 where
+  pub token : (rest : List ℕ) → AreToken Text (quoted bytes) rest
+  pub between : inner (quoted bytes) ≡ escaped_text bytes
+  pub value : unescape (inner (quoted bytes)) ≡ Some bytes
+  pub stand : stands (inner (quoted bytes)) ≡ bytes
+
+abbrev pub StringsReadBack : Type 0
+StringsReadBack = (bytes : List ℕ) → StringReadsBack bytes
+
+-- ---- numbers
+
+-- the bytes begin with no byte that goes on a number
+abbrev pub StopsNumber : List ℕ → Type 0
+StopsNumber rest = goes_on_number (slice_index rest 0) ≡ false
+
+-- a blank and a mark stop both, and one of them stands behind each name and each number of a dump
+abbrev pub BlanksAndMarksStop : Type 0
+BlanksAndMarksStop = (b : ℕ) (rest : List ℕ) → (is_blank b || is_mark b) ≡ true → StopsWord (b ∷ rest) × StopsNumber (b ∷ rest)
+
+-- these bytes are one number token, which says this number of this type
+pub record ReadsAsNumber (version : Version) (bytes : List ℕ) (number : ℤ) (ty : NcType) : Type 0 where
+  pub token : (rest : List ℕ) → StopsNumber rest → AreToken Number bytes rest
+  pub value : numeral version bytes ≡ Some (record { value = number; ty = ty })
+
+-- a number of a type, with the type's suffix, as a constant of an attribute has it
+abbrev pub ConstantsReadBack : Type 0
+ConstantsReadBack = (version : Version) (ty : NcType) (number : ℤ)
+    → is_char ty ≡ false → has_type version ty ≡ true → IsInRange ty number
+    → ReadsAsNumber version (signed_decimal number ++ number_suffix ty) number ty
+
+-- the same without a suffix, as a value of a variable has it: it says no type, which counts as `int`
+abbrev pub ValuesReadBack : Type 0
+ValuesReadBack = (version : Version) (ty : NcType) (number : ℤ)
+    → is_char ty ≡ false → has_type version ty ≡ true → IsInRange ty number
+    → ReadsAsNumber version (signed_decimal number) number Int
+
+-- ---- the strings of a text
+
+-- where the token is a string, each character between its quotes stands for a byte, and these are the bytes
+abbrev pub StandsForBytes : List ℕ → Token → Type 0
+StandsForBytes text t = t.kind ≡ Text → unescape (inner (raw text t)) ≡ Some (stands (inner (raw text t)))
+
+abbrev pub StringsStandForBytes : Type 0
+StringsStandForBytes = (text : List ℕ) → All (StandsForBytes text) (tokens text)

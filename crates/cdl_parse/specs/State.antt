@@ -1,0 +1,256 @@
+-- The dataset so far, and what each statement makes of it. A fault is the first from the left.
+use Rattle.std.specs.Prelude.{ℕ, ℤ, pos, neg_ℤ, Bool, true, false, List, [], ◌∷◌, ◌++◌, ◌+◌, ◌-◌, ◌^◌, ◌&&◌, ◌||◌, ◌==◌, not, nat_lt, nat_le, if◌then◌else◌, length, codes, map, replicate, find, Option, None, Some, Result, Ok, Err, ⊤, int_le, unsigned_abs}
+use Rattle.std.specs.List.{list_any, position}
+use Rattle.std.specs.Ordering.{int_eq}
+use Rattle.std.specs.Str.{bytes_eq}
+use mir.Val.{bits, hbits}
+use Rattle.nc_base.specs.declared.header.Att.{Att}
+use Rattle.nc_base.specs.declared.header.Dim.{Dim}
+use Rattle.nc_base.specs.declared.header.Var.{Var}
+use Rattle.nc_base.specs.declared.nc_type.NcType.{NcType}
+use Rattle.nc_base.specs.declared.nc_type.NcType.TheVariants.{Char, Int}
+use Rattle.nc_base.specs.declared.version.Version.{Version}
+use Rattle.nc_base.specs.Fill.{fill_value}
+use Rattle.nc_base.specs.Headers.{has_record_dim}
+use Rattle.nc_base.specs.Names.{is_name}
+use Rattle.nc_base.specs.Numbers.{bytes_of_number}
+use Rattle.nc_base.specs.Sizes.{is_record_dim, is_record_var, slab_count}
+use Rattle.nc_base.specs.Types.{all_types, code_of, type_word, width_of, is_signed}
+use Rattle.nc_base.specs.ValueText.{row_len, is_char}
+use Rattle.nc_base.specs.Versions.{count_limit, has_type}
+use Rattle.cdl_text.specs.Lexemes.{Lexeme, is_word}
+use Rattle.cdl_text.specs.Shapes.{Value, Number, Characters, Blank, Dimension, Variable, Statement, Opening, Mark, Declared, Typed, Attribute, Listed, Brace, End}
+use Rattle.cdl_text.specs.declared.fault.CdlKind.{CdlKind}
+use Rattle.cdl_text.specs.declared.fault.CdlKind.TheVariants.{BadName, DuplicateName, UnknownDimension, UnknownVariable, FloatingType, UnknownType, ZeroDimension, TwoRecordDims, BadShape, MixedConstants, NumberRange, WrongKind, TooManyValues, StringTooLong, DuplicateData}
+use Rattle.cdl_text.specs.declared.section.Section.{Section}
+use Rattle.cdl_text.specs.declared.section.Section.TheVariants.{Globals, Closed, Ended}
+
+-- a variable, and what the data section has listed of it, rows of characters filled
+pub record Draft : Type 0 where
+  pub var : Var
+  pub listed : Option (List ℤ)
+
+pub record State : Type 0 where
+  pub section : Section
+  pub dims : List Dim
+  pub gatts : List Att
+  pub drafts : List Draft
+
+infixl 10 ◌>>=◌
+abbrev pub ◌>>=◌ : {A B F : Type 0} → Result A F → (A → Result B F) → Result B F
+(Ok x) >>= f = f x
+(Err e) >>= f = Err e
+
+-- each in turn, up to the first that has a fault
+abbrev pub in_turn : {S A : Type 0} → (S → A → Result S CdlKind) → S → List A → Result S CdlKind
+in_turn f s [] = Ok s
+in_turn f s (x ∷ xs) = elim (f s x) [ Ok t ↦ in_turn f t xs | Err e ↦ Err e ]
+
+abbrev pub unless : Bool → CdlKind → Result ⊤ CdlKind
+unless true e = Ok tt
+unless false e = Err e
+
+abbrev pub when : Bool → CdlKind → Result ⊤ CdlKind
+when true e = Err e
+when false e = Ok tt
+
+abbrev pub found : {A : Type 0} → Option A → CdlKind → Result A CdlKind
+found None e = Err e
+found (Some a) e = Ok a
+
+-- from one number up to and with another
+abbrev pub between : ℤ → ℤ → ℤ → Bool
+between low high n = int_le low n && int_le n high
+
+-- the type has the number
+unfoldable pub fits : NcType → ℤ → Bool
+fits ty n =
+    if is_signed ty then between (neg_ℤ (pos (2 ^ hbits (width_of ty)))) (pos (2 ^ hbits (width_of ty) - 1)) n
+    else between (pos 0) (pos (2 ^ bits (width_of ty) - 1)) n
+
+abbrev pub same_type : NcType → NcType → Bool
+same_type a b = code_of a == code_of b
+
+-- ---- dimensions: the name, then the length
+
+abbrev pub dim_len_of : Version → List Dim → Option ℤ → Result ℕ CdlKind
+dim_len_of v dims None = do
+  _ ← when (has_record_dim dims) TwoRecordDims
+  Ok 0
+dim_len_of v dims (Some n) = do
+  _ ← when (int_eq n (pos 0)) ZeroDimension
+  _ ← unless (between (pos 1) (pos (count_limit v - 1)) n) NumberRange
+  Ok (unsigned_abs n)
+
+unfoldable pub add_dim : Version → List Dim → Dimension → Result (List Dim) CdlKind
+add_dim v dims d = do
+  _ ← unless (is_name d.name) BadName
+  _ ← when (list_any (λ (e : Dim). bytes_eq e.name d.name) dims) DuplicateName
+  len ← dim_len_of v dims d.len
+  Ok (dims ++ record { name = d.name; len = len } ∷ [])
+
+-- ---- declarations: the type word, then for each variable its name and its dimensions
+
+abbrev pub is_word_of : Version → Lexeme → NcType → Bool
+is_word_of v word ty = has_type v ty && is_word (type_word ty) word
+
+unfoldable pub type_of : Version → Lexeme → Result NcType CdlKind
+type_of v word =
+    if is_word (codes "float") word || is_word (codes "real") word || is_word (codes "double") word then Err FloatingType
+    else (if is_word (codes "long") word then Ok Int else found (find (is_word_of v word) all_types) UnknownType)
+
+unfoldable pub add_dimid : List Dim → List ℕ → List ℕ → Result (List ℕ) CdlKind
+add_dimid dims ids name = do
+  _ ← unless (is_name name) BadName
+  k ← found (position (λ (d : Dim). bytes_eq d.name name) dims) UnknownDimension
+  _ ← when (nat_lt 0 (length ids) && is_record_dim dims k) BadShape
+  Ok (ids ++ k ∷ [])
+
+unfoldable pub add_var : List Dim → NcType → List Draft → Variable → Result (List Draft) CdlKind
+add_var dims ty drafts v = do
+  _ ← unless (is_name v.name) BadName
+  _ ← when (list_any (λ (w : Draft). bytes_eq w.var.name v.name) drafts) DuplicateName
+  ids ← in_turn (add_dimid dims) [] v.dimensions
+  Ok (drafts ++ record { var = record { name = v.name; dimids = ids; atts = []; ty = ty; begin_at = 0 }; listed = None } ∷ [])
+
+-- the variables, the one of this name changed, if there is one
+abbrev pub at_named : List ℕ → (Draft → Result Draft CdlKind) → List Draft → Result (List Draft) CdlKind
+at_named name f [] = Err UnknownVariable
+at_named name f (d ∷ ds) =
+    if bytes_eq d.var.name name then (do
+      e ← f d
+      Ok (e ∷ ds))
+    else (do
+      es ← at_named name f ds
+      Ok (d ∷ es))
+
+-- the same, where the name is one
+unfoldable pub at_variable : List ℕ → (Draft → Result Draft CdlKind) → List Draft → Result (List Draft) CdlKind
+at_variable name f ds = do
+  _ ← unless (is_name name) BadName
+  at_named name f ds
+
+-- ---- attributes: the name, then each constant. Strings are joined.
+
+abbrev pub type_said : Value → NcType
+type_said (Number n) = n.ty
+type_said (Characters bytes) = Char
+type_said Blank = Char
+
+abbrev pub add_constant : NcType → List ℕ → Value → Result (List ℕ) CdlKind
+add_constant ty vals (Number n) = do
+  _ ← unless (same_type n.ty ty) MixedConstants
+  _ ← unless (fits ty n.value) NumberRange
+  Ok (vals ++ bytes_of_number ty n.value)
+add_constant ty vals (Characters bytes) = do
+  _ ← unless (same_type Char ty) MixedConstants
+  Ok (vals ++ bytes)
+add_constant ty vals Blank = Err MixedConstants
+
+abbrev pub first_type : List Value → NcType
+first_type [] = Char
+first_type (c ∷ cs) = type_said c
+
+unfoldable pub add_att : List ℕ → List Value → List Att → Result (List Att) CdlKind
+add_att name cs atts = do
+  _ ← unless (is_name name) BadName
+  _ ← when (list_any (λ (a : Att). bytes_eq a.name name) atts) DuplicateName
+  vals ← in_turn (add_constant (first_type cs)) [] cs
+  Ok (atts ++ record { name = name; ty = first_type cs; vals = vals } ∷ [])
+
+abbrev pub with_att : List ℕ → List Value → Draft → Result Draft CdlKind
+with_att name cs d = do
+  atts ← add_att name cs d.var.atts
+  Ok (record d { var = record d.var { atts = atts } })
+
+-- ---- data: the variable, then each value
+
+-- what the values of a variable are checked against, and filled with
+pub record Room : Type 0 where
+  pub ty : NcType
+  pub fill : ℤ
+  -- a record variable, which has no limit on values
+  pub is_open : Bool
+  -- how many values a variable that isn't one has
+  pub count : ℕ
+  -- the rank is 2 or more
+  pub in_rows : Bool
+  -- how many values a row has then
+  pub row : ℕ
+
+unfoldable pub room_of : List Dim → Var → Room
+room_of dims var = record {
+  ty = var.ty;
+  fill = fill_value var;
+  is_open = is_record_var dims var;
+  count = slab_count dims var;
+  in_rows = not (nat_lt (length var.dimids) 2);
+  row = row_len dims var.dimids 0;
+}
+
+-- with the fill value up to so many
+abbrev pub filled : ℕ → ℤ → List ℤ → List ℤ
+filled n fill values = values ++ replicate (n - length values) fill
+
+-- a string more
+abbrev pub add_string : Room → List ℤ → List ℕ → Result (List ℤ) CdlKind
+add_string room before bytes =
+    if room.in_rows then (do
+      _ ← unless (room.is_open || nat_lt (length before) room.count) TooManyValues
+      _ ← unless (nat_le (length bytes) room.row) StringTooLong
+      Ok (before ++ filled room.row room.fill (map pos bytes)))
+    else (do
+      _ ← unless (room.is_open || nat_le (length before + length bytes) room.count) StringTooLong
+      Ok (before ++ map pos bytes))
+
+abbrev pub add_number : Room → List ℤ → Value → Result (List ℤ) CdlKind
+add_number room before (Characters bytes) = Err WrongKind
+add_number room before Blank = do
+  _ ← unless (room.is_open || nat_lt (length before) room.count) TooManyValues
+  Ok (before ++ room.fill ∷ [])
+add_number room before (Number n) = do
+  _ ← unless (room.is_open || nat_lt (length before) room.count) TooManyValues
+  _ ← unless (fits room.ty n.value) NumberRange
+  Ok (before ++ n.value ∷ [])
+
+abbrev pub add_character : Room → List ℤ → Value → Result (List ℤ) CdlKind
+add_character room before (Characters bytes) = add_string room before bytes
+add_character room before _ = Err WrongKind
+
+unfoldable pub add_value : Room → List ℤ → Value → Result (List ℤ) CdlKind
+add_value room before x = if is_char room.ty then add_character room before x else add_number room before x
+
+abbrev pub is_listed : Option (List ℤ) → Bool
+is_listed None = false
+is_listed (Some values) = true
+
+abbrev pub with_values : List Dim → List Value → Draft → Result Draft CdlKind
+with_values dims xs d = do
+  _ ← when (is_listed d.listed) DuplicateData
+  values ← in_turn (add_value (room_of dims d.var)) [] xs
+  Ok (record d { listed = Some values })
+
+-- ---- statements
+
+-- what a statement of the right shape makes of the state
+unfoldable pub act : Version → State → Statement → Result State CdlKind
+act v s Opening = Ok (record s { section = Globals })
+act v s (Mark section) = Ok (record s { section = section })
+act v s (Declared ds) = do
+  dims ← in_turn (add_dim v) s.dims ds
+  Ok (record s { dims = dims })
+act v s (Typed word vs) = do
+  ty ← type_of v word
+  drafts ← in_turn (add_var s.dims ty) s.drafts vs
+  Ok (record s { drafts = drafts })
+act v s (Attribute None name cs) = do
+  atts ← add_att name cs s.gatts
+  Ok (record s { gatts = atts })
+act v s (Attribute (Some variable) name cs) = do
+  drafts ← at_variable variable (with_att name cs) s.drafts
+  Ok (record s { drafts = drafts })
+act v s (Listed variable xs) = do
+  drafts ← at_variable variable (with_values s.dims xs) s.drafts
+  Ok (record s { drafts = drafts })
+act v s Brace = Ok (record s { section = Closed })
+act v s End = Ok (record s { section = Ended })

@@ -1,0 +1,9 @@
+pub mod Bytes
+pub mod Escapes
+pub mod Front
+pub mod Tokens
+pub mod Pieces
+pub mod Lexemes
+pub mod Numerals
+pub mod Shapes
+pub mod Statements

@@ -1,0 +1,18 @@
+//! What the bytes of a CDL text say, up to its statements (the CDL chapter of the NetCDF User's Guide, and ncgen(1)).
+//!
+//! `specs/` has the definitions, from bytes to statements: classes of bytes, escapes, what bytes begin with, the tokens of
+//! a text, their cut into statements, numbers, and the shapes of statements. The types that the definitions and their
+//! readers share stand here. What statements mean together is the matter of `cdl_parse`.
+#![tactic(auto)]
+
+mod fault;
+mod front;
+mod piece;
+mod section;
+mod token;
+
+pub use fault::{CdlFault, CdlKind};
+pub use front::{Character, Front};
+pub use piece::{Place, Role, Step};
+pub use section::Section;
+pub use token::{Token, TokenKind};

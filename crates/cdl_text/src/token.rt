@@ -1,0 +1,32 @@
+//! Tokens.
+
+/// What a token is.
+#[derive(Clone, Copy, Debug, PartialEq, Eq)]
+pub enum TokenKind {
+    /// `netcdf`, the dataset's name and the opening brace.
+    Opening,
+    /// A name, a type, the word of a section, `unlimited` or `_`.
+    Word,
+    /// A number, good or bad.
+    Number,
+    /// A string with its quotes, each of whose characters stands for a byte.
+    Text,
+    /// One of `: ; = , ( ) }`.
+    Mark,
+    /// Bytes that are no token.
+    Bad,
+    /// The end of the text.
+    End,
+}
+
+/// A token of a text.
+#[derive(Clone, Copy, Debug, PartialEq, Eq)]
+pub struct Token {
+    pub kind: TokenKind,
+    /// Its line: 1 plus the number of line feeds before it.
+    pub line: u64,
+    /// The offset of its first byte in the text.
+    pub first: usize,
+    /// The offset of the first byte after it.
+    pub past: usize,
+}
