@@ -18,11 +18,13 @@ bin/ncdump: FORCE
 	cd crates/ncdump_cli && rt run -- ../../$(sample) >/dev/null
 	$(keep)
 
-# The merge gate: every proof from nothing, the must-fail edits, the tests and the program's stored run; then the tests with
-# each growth of memory refused in turn, and the end-to-end tests of the program that the gate has built.
+# The merge gate: every proof from nothing, the must-fail edits, the tests and the program's stored run; then wrong definitions,
+# which the laws have to refuse, the tests with each growth of memory refused in turn, and the end-to-end tests of the program
+# that the gate has built.
 test:
 	rt ci
 	$(keep)
+	tests/definitions.py
 	tests/growths.sh
 	tests/run.sh
 
