@@ -10,7 +10,7 @@ work=$(mktemp -d)
 trap 'rm -rf "$work"' EXIT
 cd "$work"
 
-# values TYPE COUNT: so many numbers for a variable of this type, joined by commas.
+# values TYPE COUNT: n numbers for a variable of this type, joined by commas.
 values() {
     awk -v type="$1" -v count="$2" 'BEGIN {
         limit = type == "byte" ? 255 : type == "short" ? 65535 : 2147483647;

@@ -60,7 +60,7 @@ cdl() {
     verdict "$1" 0
 }
 
-# head_of NAME FILE TEXT: the same of the file's head, with `-h` before the path and behind it.
+# head_of NAME FILE TEXT: the same of the file's head, with `-h` before the path and after it.
 head_of() {
     stdout "$3"
     run "$ncdump" -h "$2"

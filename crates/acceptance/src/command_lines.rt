@@ -73,8 +73,8 @@ fn every_option(rt: HostRuntime) -> Result<(), Fail> {
     let before = [
         "ncdump", "-c", "-v", "v", "-n", "other", "-l", "100", "f.nc",
     ];
-    let behind = ["ncdump", "f.nc", "-cv", "v", "-nother", "-l=100"];
-    for words in [before.as_slice(), behind.as_slice()] {
+    let following = ["ncdump", "f.nc", "-cv", "v", "-nother", "-l=100"];
+    for words in [before.as_slice(), following.as_slice()] {
         let options = options(rt.alloc(), words)?;
         assert!(rt; options.file.as_str() == "f.nc");
         assert!(rt; options.name.as_slice() == b"other".as_slice());

@@ -1,4 +1,4 @@
-//! Dumps of whole files, through every lent buffer.
+//! Dumps of whole files, through buffers of every length.
 
 ghost use Rattle.std.specs.Prelude.{◌≤◌, length};
 
@@ -134,7 +134,7 @@ fn failed_read_writes_nothing(rt: HostRuntime) -> Result<(), Fail> {
 /// The dump of two records.
 const TWO_RECORDS_TEXT: &[u8] = b"netcdf t {\ndimensions:\n\tt = UNLIMITED ; // (2 currently)\n}\n";
 
-/// Dumps into a slice that has too little room for the text, and asserts that a front of it was taken.
+/// Dumps into a slice that has too little room for the text, and asserts that a prefix of it was taken.
 fn cut_off(
     rt: &impl Abort,
     alloc: Global,
@@ -160,7 +160,7 @@ fn cut_off(
 }
 
 #[test]
-fn failed_write_leaves_a_front(rt: HostRuntime) -> Result<(), Fail> {
+fn failed_write_leaves_a_prefix(rt: HostRuntime) -> Result<(), Fail> {
     let options = options(rt.alloc(), false)?;
     for room in 0..TWO_RECORDS_TEXT.len() {
         let mut into = Vec::from_elem(rt.alloc(), 0, room)?;

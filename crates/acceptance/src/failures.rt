@@ -11,8 +11,8 @@ use std::alloc::{AllocError, Global};
 use std::process::Abort;
 use std::test::Fail;
 
-/// Dumps through a buffer of 16 bytes, from a source that fails so, and says whether it did. A front of the text is written,
-/// and no more is handed over than the header, the shown values and one buffer.
+/// Dumps through a buffer of 16 bytes, from a source that fails so, and says whether it did. A prefix of the text is written,
+/// and no more is read than the header, the shown values and one buffer.
 fn fails_to_read(rt: &impl Abort, alloc: Global, row: &Row<'_>, step: usize, fail: FailWhen) -> bool
     requires { 1 ≤ step }
 {
@@ -112,7 +112,7 @@ fn each_call_fails_in_the_dump_of_nuls_in_a_row(rt: HostRuntime) -> Result<(), F
     Ok(())
 }
 
-/// Dumps the selection through this buffer in steps of 1 to 9 bytes, and asserts the text and the bytes handed over.
+/// Dumps the selection through this buffer in steps of 1 to 9 bytes, and asserts the text and the bytes read.
 fn selection_through(rt: &impl Abort, alloc: Global, chosen: &DumpOptions, buf: &mut [u8])
     requires { 16 ≤ length buf.old }
 {
@@ -144,8 +144,8 @@ fn failing_source(rt: HostRuntime) -> Result<(), Fail> {
     let mut sink = MemSink::new(rt.alloc());
     let answer = dump(rt.alloc(), &mut source, &all, &mut [0; 16], &mut sink);
     assert!(rt; answer == Err(DumpFault::ReadFailed));
-    let front = b"netcdf t {\ndimensions:\n\tx = 3 ;\nvariables:\n\tshort s(x) ;\ndata:\n\n s =";
-    assert_eq!(rt; sink.as_slice(), front.as_slice());
+    let prefix = b"netcdf t {\ndimensions:\n\tx = 3 ;\nvariables:\n\tshort s(x) ;\ndata:\n\n s =";
+    assert_eq!(rt; sink.as_slice(), prefix.as_slice());
     Ok(())
 }
 

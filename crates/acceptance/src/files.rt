@@ -241,7 +241,7 @@ pub const THREE_VARIABLES: &[u8] = b"CDF\x01\0\0\0\x02\
     \0\0\0\x0a\0\0\0\x01\0\0\0\x02\0\0\0\x03\0\0\0\x04\
     \0\0\0\x14\0\0\0\x05\0\0\0\x06\0\0\0\x07\0\0\0\x08";
 
-/// `char c(x)`, x = 5, with NULs between two characters and behind the last: 80 bytes of header and 8 of data.
+/// `char c(x)`, x = 5, with NULs between two characters and after the last: 80 bytes of header and 8 of data.
 pub const HELD_NULS: &[u8] = b"CDF\x01\0\0\0\0\
     \0\0\0\x0a\0\0\0\x01\
     \0\0\0\x01x\0\0\0\0\0\0\x05\

@@ -1,4 +1,4 @@
-//! Headers, read through every lent buffer.
+//! Headers, read through buffers of every length.
 
 ghost use Rattle.std.specs.Prelude.{◌≤◌, ◌<◌, length};
 
@@ -23,7 +23,7 @@ fn refused_through<S: Source>(
     assert!(rt; matches!(answer, Err(found) if found == HeadFault::Format(fault)));
 }
 
-/// The same of bytes in memory, of which each read hands over as many as there are, at most 1, 3, or 7.
+/// The same of bytes in memory, of which each read gives as many as there are, at most 1, 3, or 7.
 fn refused_in_steps(
     rt: &impl Abort,
     alloc: Global,
@@ -277,7 +277,7 @@ fn large_slab(rt: HostRuntime) {
     refused(&rt, rt.alloc(), files::LARGE_SLAB, FormatFault::TooLarge);
 }
 
-/// Every front of the header is refused.
+/// Every prefix of the header is refused.
 fn truncated(rt: &impl Abort, alloc: Global, bytes: &[u8], header_len: usize) {
     for n in 0..header_len.min(bytes.len()) {
         let fault = if n < 3 {
@@ -319,7 +319,7 @@ fn failed_reads(rt: &impl Abort, alloc: Global, bytes: &[u8], header_len: u64, b
     }
 }
 
-/// The header is read, though each read behind it would fail, and little more than it is handed over.
+/// The header is read, though each read after it would fail, and little more than it is read.
 fn read_alone(
     rt: &impl Abort,
     alloc: Global,
@@ -345,7 +345,7 @@ fn each_read_fails_in_turn(rt: HostRuntime) {
 }
 
 #[test]
-fn no_read_begins_behind_the_header(rt: HostRuntime) {
+fn no_read_begins_after_the_header(rt: HostRuntime) {
     read_alone(&rt, rt.alloc(), files::GENERATED, 1, 80, &mut [0; 16]);
     read_alone(&rt, rt.alloc(), files::GENERATED, 3, 80, &mut [0; 17]);
     read_alone(&rt, rt.alloc(), files::GENERATED, 7, 80, &mut [0; 31]);

@@ -1,4 +1,4 @@
-//! Tests that go across the crates: whole files, read and dumped through every lent buffer.
+//! Tests that go across the crates: whole files, read and dumped through buffers of every length.
 #![tactic(auto)]
 
 #[cfg(test)]

@@ -69,7 +69,7 @@ pub fn padded_records<'a>(all: &'a DumpOptions) -> Row<'a> {
     }
 }
 
-/// NULs in the midst of a row, which wait for the byte behind them.
+/// NULs in the midst of a row, which wait for the byte after them.
 pub fn nuls_in_a_row<'a>(all: &'a DumpOptions) -> Row<'a> {
     Row {
         bytes: files::HELD_NULS,

@@ -1,4 +1,4 @@
-//! What the tests of dumps have in common: a dump through every lent buffer, and in reads of several lengths.
+//! What the tests of dumps have in common: a dump through buffers of every length, and in reads of several lengths.
 
 ghost use Rattle.std.specs.Prelude.{◌≤◌, length};
 
@@ -38,7 +38,7 @@ pub fn dumps_through<S: Source>(
     assert!(rt; sink.as_slice() == text);
 }
 
-/// The same of bytes in memory, of which each read hands over as many as there are, at most 1, 3, or 7.
+/// The same of bytes in memory, of which each read gives as many as there are, at most 1, 3, or 7.
 pub fn dumps_in_steps(
     rt: &impl Abort,
     alloc: Global,

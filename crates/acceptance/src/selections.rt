@@ -156,7 +156,7 @@ fn unsigned_fills(rt: HostRuntime) -> Result<(), Fail> {
     Ok(())
 }
 
-/// A file with one dimension of length 1, whose name is so many letters (a multiple of four, so that no padding follows).
+/// A file with one dimension of length 1, whose name is n letters (a multiple of four, so that no padding follows).
 fn with_long_name(alloc: Global, letters: u32) -> Result<Vec<u8>, AllocError> {
     let mut bytes = Vec::from_slice(alloc, b"CDF\x01\0\0\0\0\0\0\0\x0a\0\0\0\x01")?;
     bytes.extend_from_slice(&letters.to_be_bytes())?;

@@ -6,7 +6,7 @@ use std::fs;
 use std::process::Abort;
 use std::test::Fail;
 
-/// So many bytes, of which no two that are a power of two apart are the same.
+/// This number of bytes, of which no two that are a power of two apart are the same.
 fn distinct_bytes(alloc: Global, len: u32) -> Result<Vec<u8>, AllocError> {
     let mut bytes = Vec::new(alloc);
     for i in 0..len {
@@ -15,7 +15,7 @@ fn distinct_bytes(alloc: Global, len: u32) -> Result<Vec<u8>, AllocError> {
     Ok(bytes)
 }
 
-/// Reads once, and asserts that the source hands over bytes of this file: one at least, but at its end.
+/// Reads once, and asserts that the source gives bytes of this file: one at least, but at its end.
 fn reads(rt: &impl Abort, source: &mut FileSource, file: &[u8], at: usize, into: &mut [u8]) {
     let answer = source.read_at(at as u64, into);
     let n = answer.unwrap_or(usize::MAX);

@@ -1,4 +1,4 @@
-//! Dumps of values, through every lent buffer.
+//! Dumps of values, through buffers of every length.
 
 use crate::files;
 use crate::rows::GENERATED_TEXT;
@@ -231,18 +231,18 @@ fn coordinate_variables(rt: HostRuntime) -> Result<(), Fail> {
     Ok(())
 }
 
-/// The dump of the first `len` bytes of the file ends at this value of this variable, with a front of the whole text.
+/// The dump of the first `len` bytes of the file ends at this value of this variable, with a prefix of the whole text.
 fn truncated(
     rt: &impl Abort,
     alloc: Global,
     bytes: &[u8],
     len: usize,
     place: (usize, u128),
-    front: &[u8],
+    prefix: &[u8],
 ) -> Result<(), AllocError> {
     let (var, value) = place;
     let fault = Err(DumpFault::DataTruncated { var, value });
-    dumps(rt, alloc, &bytes[..len.min(bytes.len())], fault, front)
+    dumps(rt, alloc, &bytes[..len.min(bytes.len())], fault, prefix)
 }
 
 #[test]
@@ -256,18 +256,18 @@ fn truncated_data(rt: HostRuntime) -> Result<(), Fail> {
         (85, 2, b" s = 1, _"),
     ];
     for (len, value, line) in rows {
-        let mut front = Vec::from_slice(
+        let mut prefix = Vec::from_slice(
             rt.alloc(),
             b"netcdf t {\ndimensions:\n\tx = 3 ;\nvariables:\n\tshort s(x) ;\ndata:\n\n",
         )?;
-        front.extend_from_slice(line)?;
+        prefix.extend_from_slice(line)?;
         truncated(
             &rt,
             rt.alloc(),
             files::GENERATED,
             len,
             (0, value),
-            front.as_slice(),
+            prefix.as_slice(),
         )?;
         truncated(
             &rt,
@@ -275,7 +275,7 @@ fn truncated_data(rt: HostRuntime) -> Result<(), Fail> {
             files::GENERATED_CDF5,
             len + 48,
             (0, value),
-            front.as_slice(),
+            prefix.as_slice(),
         )?;
     }
     dumps(
@@ -302,15 +302,15 @@ fn truncated_records(rt: HostRuntime) -> Result<(), Fail> {
         (137, 1, 2, b" b = 1, 2, 3 ;\n\n s = 4, 5"),
     ];
     for (len, var, value, line) in rows {
-        let mut front = Vec::from_slice(rt.alloc(), head.as_slice())?;
-        front.extend_from_slice(line)?;
+        let mut prefix = Vec::from_slice(rt.alloc(), head.as_slice())?;
+        prefix.extend_from_slice(line)?;
         truncated(
             &rt,
             rt.alloc(),
             files::PADDED_RECORDS,
             len,
             (var, value),
-            front.as_slice(),
+            prefix.as_slice(),
         )?;
     }
     Ok(())

@@ -1,4 +1,4 @@
-//! Walks over the values of whole files, through every lent buffer and in reads of every length.
+//! Walks over the values of whole files, through buffers of every length and in reads of every length.
 
 ghost use Rattle.std.specs.Prelude.{◌≤◌, ◌<◌, length};
 
@@ -30,10 +30,10 @@ fn walks_through(
     let mut walk = Walk::new(&header, v, records(&header, source.len()), buf);
     let mut got = 0;
     for _ in 0..=values.len() {
-        if let Ok(Some(piece)) = walk.next(source) {
-            assert!(rt; piece.len() <= values.len() && got <= values.len() - piece.len());
-            assert!(rt; !piece.is_empty() && piece == &values[got..got + piece.len()]);
-            got += piece.len();
+        if let Ok(Some(chunk)) = walk.next(source) {
+            assert!(rt; chunk.len() <= values.len() && got <= values.len() - chunk.len());
+            assert!(rt; !chunk.is_empty() && chunk == &values[got..got + chunk.len()]);
+            got += chunk.len();
         }
     }
     assert_eq!(rt; got, values.len());

@@ -132,7 +132,7 @@ same_bytes name = (bytes_eq-Decides name name).1 refl
 named_here : (f : Draft → Result Draft CdlKind) (d e : Draft) (ds : List Draft) → f d ≡ Ok e → at_named d.var.name f (d ∷ ds) ≡ Ok (e ∷ ds)
 named_here f d e ds h = rw (same_bytes d.var.name) (ap (λ r. r >>= (λ x. Ok (x ∷ ds))) h)
 
--- what becomes of the variable behind others
+-- what becomes of the variable after others
 pub variable_is : (f : Draft → Result Draft CdlKind) (before : List Draft) (d e : Draft) (after : List Draft) → IsName d.var.name → no_draft d.var.name before → f d ≡ Ok e →
     at_variable d.var.name f (before ++ d ∷ after) ≡ Ok (before ++ e ∷ after)
 unfolding at_variable

@@ -9,10 +9,10 @@ use Rattle.std.proofs.Math.Nat.{mul-mod_left}
 use Rattle.std.proofs.Math.Seq.{drop-append_seam}
 use Rattle.nc_base.specs.Escapes.{escaped_name, escaped_in_string, escaped_text}
 use Rattle.nc_base.specs.Names.{IsName}
-use Rattle.nc_base.specs.ValueText.{Look, is_char, begins_row, char_lead, char_text, char_piece, held, row_so_far, is_nul, piece, pieces, opening, closing, measured_opening, variable_front, variable_text}
+use Rattle.nc_base.specs.ValueText.{Look, is_char, begins_row, char_lead, char_text, char_piece, held, row_so_far, is_nul, piece, pieces, opening, closing, measured_opening, variable_prefix, variable_text}
 use Rattle.cdl_text.specs.Lexemes.{Lexeme}
 use Rattle.cdl_laws.specs.Reading.{lexemes_at}
-use Rattle.cdl_text.specs.Front.{front}
+use Rattle.cdl_text.specs.Scan.{scan}
 use Rattle.cdl_laws.proofs.Bools.{and_left, and_right}
 use Rattle.cdl_laws.proofs.Lists.{Each}
 use Rattle.cdl_laws.proofs.Texts.{Closed, closed_both, mark, word}
@@ -34,12 +34,12 @@ pieces_are look before values (x ∷ xs) h =
 
 -- ---- one row
 
--- the bytes that a row shows, of which so many NULs wait
+-- the bytes that a row shows, of which n NULs wait
 unfoldable pub shown : Bool → ℕ → List ℤ → List ℕ
 shown trimmed n [] = []
 shown trimmed n (x ∷ xs) = if trimmed && is_nul x then shown trimmed (n + 1) xs else (replicate n 0 ++ unsigned_abs x ∷ []) ++ shown trimmed 0 xs
 
--- how many NULs wait behind these of a row
+-- how many NULs wait after these of a row
 abbrev waits : Look → List ℤ → ℕ
 waits look p = if look.trimmed then suffix_len is_nul p else 0
 
@@ -87,7 +87,7 @@ pub shown_more : (t : Bool) (n : ℕ) (x : ℤ) (xs : List ℤ) → shown t n (x
 unfolding shown
 shown_more t n x xs = refl
 
--- a character and what its row shows behind it
+-- a character and what its row shows after it
 joins : (look : Look) (n m : ℕ) (x : ℤ) (xs : List ℤ) (tail : List ℕ) → ((look.trimmed && is_nul x) ≡ true → m ≡ n + 1) → ((look.trimmed && is_nul x) ≡ false → m ≡ 0) →
     char_text look n x ++ (escaped_text (shown look.trimmed m xs) ++ tail) ≡ escaped_text (shown look.trimmed n (x ∷ xs)) ++ tail
 joins look n m x xs tail on other =
@@ -166,11 +166,11 @@ alone_lead : (look : Look) → look.in_rows ≡ false → char_lead look 0 ≡ c
 alone_lead look h = rw (h) refl
 
 space_closed : Closed (codes " ") []
-unfolding lexemes_at front
+unfolding lexemes_at scan
 space_closed rest = refl
 
 row_blank_closed : Closed (codes "\n  ") []
-unfolding lexemes_at front
+unfolding lexemes_at scan
 row_blank_closed rest = refl
 
 -- a string that is closed at once
@@ -215,7 +215,7 @@ unfolding closing
 char_closing look h = rw (h) refl
 
 char_variable : (look : Look) (values : List ℤ) → is_char look.ty ≡ true → variable_text look values ≡ opening look ++ (chars look [] values ++ closing_bytes)
-unfolding variable_text variable_front
+unfolding variable_text variable_prefix
 char_variable look values h =
     append_assoc (opening look) (pieces look (measured_opening look) [] values) (closing look) ∙
     ap (λ p. opening look ++ (p ++ closing look)) (pieces_are look (measured_opening look) [] values h) ∙

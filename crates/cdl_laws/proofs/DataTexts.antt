@@ -121,7 +121,7 @@ listed_act v dims gatts before after look var values g valid new =
     (variable_is (with_values dims g.said) before (draft_of var) (given_draft var (Some g.ys)) after valid new
     (ap (λ r. r >>= (λ ys. Ok (given_draft var (Some ys)))) g.added))
 
--- one variable in front of others
+-- one variable before others
 one_taken : (v : Version) (h : Header) (gatts : List Att) (before after : List Draft) (look : Look) (var : Var) (c : Content) (o : Option (List ℤ)) (place : ℕ) (others : Section) (t : State) (b : Bool) →
     IsName var.name → no_draft var.name before → c.missing ≡ None → IsGivenBy b v h.dims look var c.values o →
     Takes v others.text (state Values h.dims gatts (before ++ given_draft var o ∷ after)) t →

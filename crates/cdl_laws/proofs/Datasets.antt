@@ -55,12 +55,12 @@ index_past : (before : List (List ℕ)) (a : List ℕ) (arrays : List (List ℕ)
 index_past [] a arrays = refl
 index_past (b ∷ before) a arrays = index_past before a arrays
 
-pub stand_behind : (before arrays : List (List ℕ)) → StandAt (before ++ arrays) (length before) arrays
-stand_behind before [] = tt
-stand_behind before (a ∷ arrays) = (
+pub stand_after : (before arrays : List (List ℕ)) → StandAt (before ++ arrays) (length before) arrays
+stand_after before [] = tt
+stand_after before (a ∷ arrays) = (
   index_past before a arrays,
   subst (λ all. StandAt all (length before + 1) arrays) (append_assoc before (a ∷ []) arrays)
-      (subst (λ k. StandAt ((before ++ a ∷ []) ++ arrays) k arrays) (length-append before (a ∷ [])) (stand_behind (before ++ a ∷ []) arrays)),
+      (subst (λ k. StandAt ((before ++ a ∷ []) ++ arrays) k arrays) (length-append before (a ∷ [])) (stand_after (before ++ a ∷ []) arrays)),
 )
 
 -- no variable before or in the list has another's name

@@ -20,7 +20,7 @@ use Rattle.nc_base.specs.Versions.{has_type}
 use Rattle.cdl_text.specs.declared.section.Section.{Section}
 use Rattle.cdl_text.specs.declared.section.Section.TheVariants.{Globals, Dimensions, Variables}
 use Rattle.cdl_text.specs.Bytes.{is_digit}
-use Rattle.cdl_text.specs.Front.{front}
+use Rattle.cdl_text.specs.Scan.{scan}
 use Rattle.cdl_text.specs.Lexemes.{Lexeme}
 use Rattle.cdl_laws.specs.PieceLaws.{extent_said, said_dim, IsBeforeData, globals, dimensions, variables}
 use Rattle.cdl_laws.specs.Reading.{lexemes_at}
@@ -135,7 +135,7 @@ numbers_fine : (v : Version) (ty : NcType) (xs : List ℤ) → AreSmall xs → h
 numbers_fine v ty [] fit h k = refl
 numbers_fine v ty (x ∷ xs) fit h k = rw (numeral_again v ty x fit.0 h k) (numbers_fine v ty xs fit.1 h k)
 
--- ---- strings that are broken behind line feeds
+-- ---- strings that are broken after line feeds
 
 pub first : List ℕ → List ℕ
 first [] = []
@@ -167,7 +167,7 @@ esc_more : (pre : List ℕ) (b : ℕ) → esc (pre ++ b ∷ []) ≡ esc pre ++ e
 esc_more pre b = flat_map-append escaped_in_string pre (b ∷ []) ∙ ap (λ bs. esc pre ++ bs) (append-nil (escaped_in_string b))
 
 break_closed : Closed (codes ",\n\t\t\t") (comma ∷ [])
-unfolding lexemes_at front
+unfolding lexemes_at scan
 break_closed rest = refl
 
 broken_more : (b c : ℕ) (bytes : List ℕ) → broken_text (b ∷ c ∷ bytes) ≡ escaped_in_string b ++ ((if b == 10 then string_break else []) ++ broken_text (c ∷ bytes))
@@ -186,7 +186,7 @@ broken_here pre b bytes l ls ih =
     (closed_both (quoted (pre ++ b ∷ [])) x (string (pre ++ b ∷ []) ∷ []) (comma ∷ l ∷ ls) (string_closed (pre ++ b ∷ []))
     (closed_both (codes ",\n\t\t\t") (34 ∷ (t ++ 34 ∷ [])) (comma ∷ []) (l ∷ ls) break_closed ih))
 
--- behind the bytes of a string that is open
+-- after the bytes of a string that is open
 broken_closed : (pre bytes : List ℕ) → Closed (34 ∷ (esc pre ++ (broken_text bytes ++ 34 ∷ []))) (string (pre ++ first bytes) ∷ commas (map string (others bytes)))
 unfolding first others
 broken_closed pre [] = subst (λ bs. Closed (quoted pre) (string bs ∷ [])) (sym (append-nil pre)) (string_closed pre)
@@ -233,7 +233,7 @@ numbers_list v ty x xs fit h k = record {
   are = numbers_are v ty x xs fit h k;
 }
 
--- behind the owner
+-- after the owner
 abbrev rest_of_att : Att → List ℕ
 rest_of_att att = codes ":" ++ (escaped_name att.name ++ (codes " = " ++ (att_values att.ty att.vals ++ (codes " ;\n" ++ []))))
 

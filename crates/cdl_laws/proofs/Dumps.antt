@@ -12,7 +12,7 @@ use Rattle.nc_base.specs.Dump.{Options, Content, Section, dump_text, shown_value
 use Rattle.nc_base.specs.Escapes.{escaped_name}
 use Rattle.nc_base.specs.HeadText.{head_text, netcdf_word, dims_text, vars_text, gatts_text}
 use Rattle.cdl_text.specs.declared.section.Section.TheVariants.{Globals, Variables, Values, Ended}
-use Rattle.cdl_text.specs.declared.piece.Place.TheVariants as places
+use Rattle.cdl_text.specs.declared.piece.CutState.TheVariants as places
 use Rattle.cdl_text.specs.Lexemes.{role}
 use Rattle.cdl_parse.specs.Meaning.{meaning, run, piece_read, empty, finished, is_small_enough, dataset_of, closing_line}
 use Rattle.cdl_text.specs.Statements.{statements}
@@ -56,7 +56,7 @@ shown_is h o content n full =
     ap (λ b. values_of h content n o.width 0 h.vars (if b then [] else selection_of h o)) full.values ∙
     ap (values_of h content n o.width 0 h.vars) (selected h o h.vars full.chosen full.coords)
 
--- behind the head
+-- after the head
 data_read : (v : Version) (h : Header) (o : Options) (content : ℕ → Var → Content) (n : ℕ) (gatts : List Att) (os : List (Option (List ℤ))) → IsFull o → (vars : List Var) → h.vars ≡ vars → AreGiven v h content n o.width 0 [] vars os →
     in_turn (piece_read v) (state (after_vars (after_dims h.dims) vars) h.dims gatts (map draft_of vars)) (pieces_of (data_word h o ++ ((values_of h content n o.width 0 vars (all_marked vars)).text ++ codes "}\n"))) ≡ Ok (state Ended h.dims gatts (given_drafts vars os))
 unfolding data_word
@@ -120,5 +120,5 @@ text_back d o n os full ready section is =
     let v = d.header.version in
     let bytes = dump_text d.header o n section in
     let s = state Ended d.header.dims (map trimmed_att d.header.gatts) (given_drafts d.header.vars os) in
-    let ran : run bytes v empty (statements bytes) ≡ Ok s = run_is bytes v empty s (statements bytes) (ap (in_turn (piece_read v) empty) (pieces_are bytes) ∙ state_read d o n os full ready section is) in
-    ap (finished v (closing_line (statements bytes))) ran ∙ rw (ready.small) (ap (λ (x : Dataset). Ok x) ready.back)
+    let values_read : run bytes v empty (statements bytes) ≡ Ok s = run_is bytes v empty s (statements bytes) (ap (in_turn (piece_read v) empty) (pieces_are bytes) ∙ state_read d o n os full ready section is) in
+    ap (finished v (closing_line (statements bytes))) values_read ∙ rw (ready.small) (ap (λ (x : Dataset). Ok x) ready.back)

@@ -15,8 +15,8 @@ use Rattle.cdl_text.specs.declared.section.Section.{Section}
 use Rattle.cdl_text.specs.declared.section.Section.TheVariants.{Globals, Dimensions, Variables, Values, Ended}
 use Rattle.cdl_text.specs.declared.section.Section.TheVariants as sections
 use Rattle.cdl_text.specs.declared.token.TokenKind.TheVariants as kinds
-use Rattle.cdl_text.specs.declared.piece.Place.TheVariants as places
-use Rattle.cdl_text.specs.Front.{front, word_len, until, opening_front, token}
+use Rattle.cdl_text.specs.declared.piece.CutState.TheVariants as places
+use Rattle.cdl_text.specs.Scan.{scan, word_len, until, scan_opening, token}
 use Rattle.cdl_text.specs.Lexemes.{Lexeme, role}
 use Rattle.cdl_parse.specs.Meaning.{piece_read, empty}
 use Rattle.cdl_text.specs.Pieces.{pieces_at, is_section}
@@ -27,8 +27,8 @@ use Rattle.cdl_parse.specs.State.{State, Draft, act, in_turn}
 use Rattle.cdl_laws.proofs.Bools.{and_left}
 use Rattle.cdl_laws.proofs.Lists.{Each}
 use Rattle.cdl_laws.proofs.NameTexts.{rest_of, begins_goes_on, Begins, marked, bare, begins}
-use Rattle.cdl_laws.proofs.Words.{until_front}
-use Rattle.cdl_laws.proofs.Texts.{mark, word, front_again, some_name}
+use Rattle.cdl_laws.proofs.Words.{until_prefix}
+use Rattle.cdl_laws.proofs.Texts.{mark, word, prefix_again, some_name}
 use Rattle.cdl_laws.proofs.ValueTexts.{turn}
 use Rattle.cdl_laws.proofs.Heads.{feed_closed}
 use Rattle.cdl_laws.proofs.Strings.{until_plain}
@@ -40,15 +40,15 @@ use Rattle.cdl_laws.proofs.Wholes.{state, dims_taken, AreNewDims, Speaks, AreNew
 -- ---- section marks
 
 pub dimensions_says : (v : Version) → Says v Globals dimensions_word (Mark Dimensions)
-unfolding dimensions_word lexemes_at front word_len pieces_at is_section shape
+unfolding dimensions_word lexemes_at scan word_len pieces_at is_section shape
 dimensions_says v = record { piece = word (codes "dimensions") ∷ mark 58 ∷ []; reads = λ rest. refl; cut = λ rest. refl; sound = refl; shaped = refl }
 
 pub variables_says : (v : Version) (section : Section) → IsBeforeData section → shape v section (word (codes "variables") ∷ mark 58 ∷ []) ≡ Some (Mark Variables) → Says v section variables_word (Mark Variables)
-unfolding variables_word lexemes_at front word_len pieces_at is_section shape
+unfolding variables_word lexemes_at scan word_len pieces_at is_section shape
 variables_says v section before h = record { piece = word (codes "variables") ∷ mark 58 ∷ []; reads = λ rest. refl; cut = λ rest. refl; sound = refl; shaped = h }
 
 pub data_says : (v : Version) → Says v Variables (codes "data:\n") (Mark Values)
-unfolding lexemes_at front word_len pieces_at is_section shape
+unfolding lexemes_at scan word_len pieces_at is_section shape
 data_says v = record { piece = word (codes "data") ∷ mark 58 ∷ []; reads = λ rest. refl; cut = λ rest. refl; sound = refl; shaped = refl }
 
 mark_act : (v : Version) (from to : Section) (dims : List Dim) (gatts : List Att) (drafts : List Draft) → act v (state from dims gatts drafts) (Mark to) ≡ Ok (state to dims gatts drafts)
@@ -107,7 +107,7 @@ before_vars dims (var ∷ vars) = variables
 
 -- the line that tells of global attributes is a comment
 global_word_taken : (v : Version) (s : State) → Takes v global_word s s
-unfolding pieces_of global_word lexemes_at front
+unfolding pieces_of global_word lexemes_at scan
 global_word_taken v s rest = refl
 
 pub gatts_part : (v : Version) (dims : List Dim) (vars : List Var) (gatts : List Att) (drafts : List Draft) → Each (Speaks v) gatts → AreNewAtts [] gatts →
@@ -127,7 +127,7 @@ data_mark v dims gatts drafts = says_takes v (codes "data:\n") (Mark Values) (st
 -- ---- the end
 
 pub end_taken : (v : Version) (section : Section) (dims : List Dim) (gatts : List Att) (drafts : List Draft) → is_open section ≡ true → in_turn (piece_read v) (state section dims gatts drafts) (pieces_of (codes "}\n")) ≡ Ok (state Ended dims gatts drafts)
-unfolding pieces_of lexemes_at front pieces_at piece_read shape act
+unfolding pieces_of lexemes_at scan pieces_at piece_read shape act
 end_taken v Globals dims gatts drafts h = refl
 end_taken v Dimensions dims gatts drafts h = refl
 end_taken v Variables dims gatts drafts h = refl
@@ -152,7 +152,7 @@ unfolding until
 until_escape b rest = refl
 
 until_rest : (bs rest : List ℕ) → until 0x7b (rest_of bs ++ 32 ∷ 123 ∷ rest) ≡ length (rest_of bs) + 1
-until_rest [] rest = until_plain 0x7b 32 (123 ∷ rest) refl refl ∙ ap (λ n. 1 + n) (until_front 0x7b 123 rest)
+until_rest [] rest = until_plain 0x7b 32 (123 ∷ rest) refl refl ∙ ap (λ n. 1 + n) (until_prefix 0x7b 123 rest)
 until_rest (b ∷ bs) rest =
     let ih = until_rest bs rest in
     elim (is_plain b) as (λ w. is_plain b ≡ w → until 0x7b (((if w then b ∷ [] else 0x5c ∷ b ∷ []) ++ rest_of bs) ++ 32 ∷ 123 ∷ rest) ≡ length ((if w then b ∷ [] else 0x5c ∷ b ∷ []) ++ rest_of bs) + 1) [
@@ -176,23 +176,23 @@ fits_in : (n m : ℕ) → n < m → nat_lt n m ≡ true
 fits_in n m h = grind (arith, h)
 
 opening_is : (e rest : List ℕ) → until 0x7b (e ++ 32 ∷ 123 ∷ 10 ∷ rest) ≡ length e + 1 →
-    opening_front (32 ∷ (e ++ 32 ∷ 123 ∷ 10 ∷ rest)) (until 0x7b (32 ∷ (e ++ 32 ∷ 123 ∷ 10 ∷ rest))) ≡ record { kind = Some kinds.Opening; len = length (codes "netcdf " ++ (e ++ codes " {")) }
+    scan_opening (32 ∷ (e ++ 32 ∷ 123 ∷ 10 ∷ rest)) (until 0x7b (32 ∷ (e ++ 32 ∷ 123 ∷ 10 ∷ rest))) ≡ record { kind = Some kinds.Opening; len = length (codes "netcdf " ++ (e ++ codes " {")) }
 opening_is e rest h =
     let all = length-append e (32 ∷ 123 ∷ 10 ∷ rest) in
     let some = length-append e (codes " {") in
     let n : until 0x7b (32 ∷ (e ++ 32 ∷ 123 ∷ 10 ∷ rest)) ≡ 1 + (length e + 1) = until_plain 0x7b 32 (e ++ 32 ∷ 123 ∷ 10 ∷ rest) refl refl ∙ ap (λ m. 1 + m) h in
-    ap (opening_front (32 ∷ (e ++ 32 ∷ 123 ∷ 10 ∷ rest))) n ∙
+    ap (scan_opening (32 ∷ (e ++ 32 ∷ 123 ∷ 10 ∷ rest))) n ∙
     rw (fits_in (1 + (length e + 1)) (length (32 ∷ (e ++ 32 ∷ 123 ∷ 10 ∷ rest))) (omega (arith, all)))
     (ap (token kinds.Opening) (let f : 6 + (1 + (length e + 1)) + 1 ≡ length (codes "netcdf " ++ (e ++ codes " {")) = omega (arith, some) in f))
 
-opening_front_is : (name rest : List ℕ) → IsName name → front true (opening_bytes name ++ 10 ∷ rest) ≡ record { kind = Some kinds.Opening; len = length (opening_bytes name) }
-unfolding front
-opening_front_is name rest h =
-    ap (λ bs. opening_front (32 ∷ bs) (until 0x7b (32 ∷ bs))) (append_assoc (escaped_name name) (codes " {") (10 ∷ rest)) ∙ opening_is (escaped_name name) rest (until_valid name (10 ∷ rest) h)
+opening_prefix_is : (name rest : List ℕ) → IsName name → scan true (opening_bytes name ++ 10 ∷ rest) ≡ record { kind = Some kinds.Opening; len = length (opening_bytes name) }
+unfolding scan
+opening_prefix_is name rest h =
+    ap (λ bs. scan_opening (32 ∷ bs) (until 0x7b (32 ∷ bs))) (append_assoc (escaped_name name) (codes " {") (10 ∷ rest)) ∙ opening_is (escaped_name name) rest (until_valid name (10 ∷ rest) h)
 
 pub opening_lexemes : (name rest : List ℕ) → IsName name → lexemes (opening_bytes name ++ 10 ∷ rest) ≡ record { kind = kinds.Opening; bytes = opening_bytes name } ∷ lexemes_at false 0 rest
 opening_lexemes name rest h =
-    front_again true (Some kinds.Opening) 110 (codes "etcdf " ++ (escaped_name name ++ codes " {")) (10 ∷ rest) (opening_front_is name rest h) ∙
+    prefix_again true (Some kinds.Opening) 110 (codes "etcdf " ++ (escaped_name name ++ codes " {")) (10 ∷ rest) (opening_prefix_is name rest h) ∙
     ap (λ ls. record { kind = kinds.Opening; bytes = opening_bytes name } ∷ ls) (feed_closed rest)
 
 pub opening_piece : (l : List ℕ) (ls : List Lexeme) → pieces_at role places.Begins (record { kind = kinds.Opening; bytes = l } ∷ ls) ≡ (record { kind = kinds.Opening; bytes = l } ∷ []) ∷ pieces_at role places.Begins ls
@@ -203,7 +203,7 @@ opening_read : (v : Version) (l : List ℕ) → piece_read v empty (record { kin
 unfolding piece_read shape act
 opening_read v l = refl
 
--- all that stands behind the opening decides
+-- all that stands after the opening decides
 pub opened : (v : Version) (name rest : List ℕ) → IsName name →
     in_turn (piece_read v) empty (pieces_at role places.Begins (lexemes (opening_bytes name ++ 10 ∷ rest))) ≡ in_turn (piece_read v) (state Globals [] [] []) (pieces_of rest)
 unfolding pieces_of

@@ -40,9 +40,9 @@ shown_len t n (x ∷ xs) =
           omega (arith, ih, a, b, c))
     ]
 
--- in front of a character
-in_front : (n : ℕ) (x : ℤ) (bs : List ℕ) → IsCharacter x → map pos ((replicate n 0 ++ unsigned_abs x ∷ []) ++ bs) ≡ (replicate n (pos 0) ++ x ∷ []) ++ map pos bs
-in_front n x bs c =
+-- before a character
+with_first : (n : ℕ) (x : ℤ) (bs : List ℕ) → IsCharacter x → map pos ((replicate n 0 ++ unsigned_abs x ∷ []) ++ bs) ≡ (replicate n (pos 0) ++ x ∷ []) ++ map pos bs
+with_first n x bs c =
     map-append pos (replicate n 0 ++ unsigned_abs x ∷ []) bs ∙
     ap (λ xs. xs ++ map pos bs) (map-append pos (replicate n 0) (unsigned_abs x ∷ []) ∙ ap (λ xs. xs ++ pos (unsigned_abs x) ∷ []) (map_zeros n) ∙ ap (λ y. replicate n (pos 0) ++ y ∷ []) c)
 
@@ -60,12 +60,12 @@ back_trimmed n (x ∷ xs) all =
           ap (λ ys. ys ++ xs) (sym (replicate_more n z)) ∙ append_assoc (replicate n z) (z ∷ []) xs ∙ ap (λ y. replicate n z ++ y ∷ xs) (sym (is_zero x e all.0)))
       | false ↦ (λ e.
           let s = shown true 0 xs in
-          let front = replicate n 0 ++ unsigned_abs x ∷ [] in
-          let a = length-append front s in
+          let scan = replicate n 0 ++ unsigned_abs x ∷ [] in
+          let a = length-append scan s in
           let b = length-append (replicate n 0) (unsigned_abs x ∷ []) in
           let c = length-replicate {A = ℕ} n 0 in
-          ap (λ m. map pos (front ++ s) ++ replicate m z) (let f : n + suc (length xs) - length (front ++ s) ≡ 0 + length xs - length s = omega (arith, a, b, c) in f) ∙
-          ap (λ ys. ys ++ replicate (0 + length xs - length s) z) (in_front n x s all.0) ∙
+          ap (λ m. map pos (scan ++ s) ++ replicate m z) (let f : n + suc (length xs) - length (scan ++ s) ≡ 0 + length xs - length s = omega (arith, a, b, c) in f) ∙
+          ap (λ ys. ys ++ replicate (0 + length xs - length s) z) (with_first n x s all.0) ∙
           append_assoc (replicate n z ++ x ∷ []) (map pos s) (replicate (0 + length xs - length s) z) ∙
           ap (λ ys. (replicate n z ++ x ∷ []) ++ ys) (back_trimmed 0 xs all.1) ∙
           append_assoc (replicate n z) (x ∷ []) xs)
@@ -74,7 +74,7 @@ back_trimmed n (x ∷ xs) all =
 pub back_whole : (xs : List ℤ) → Each IsCharacter xs → map pos (shown false 0 xs) ≡ xs
 unfolding shown
 back_whole [] all = refl
-back_whole (x ∷ xs) all = in_front 0 x (shown false 0 xs) all.0 ∙ ap (λ ys. x ∷ ys) (back_whole xs all.1)
+back_whole (x ∷ xs) all = with_first 0 x (shown false 0 xs) all.0 ∙ ap (λ ys. x ∷ ys) (back_whole xs all.1)
 
 pub filled_whole : (n : ℕ) (fill : ℤ) (xs : List ℤ) → length xs ≡ n → filled n fill xs ≡ xs
 filled_whole n fill xs h = ap (λ m. xs ++ replicate m fill) (let e : n - length xs ≡ 0 = omega (arith, h) in e) ∙ append-nil xs
@@ -93,17 +93,17 @@ row_back false n fill xs h len all = ap (filled n fill) (back_whole xs all) ∙ 
 
 -- ---- what the strings say
 
-pub string_said : (v : Version) (blanks : Bool) (bytes : List ℕ) → constant v blanks (string bytes) ≡ Some (Characters bytes)
-string_said v blanks bytes = ap (λ (bs : List ℕ). Some (Characters (stands bs))) (between_quotes (flat_map escaped_in_string bytes)) ∙ ap (λ (bs : List ℕ). Some (Characters bs)) (stands_for 0 (flat_map escaped_in_string bytes) bytes (unescape_all bytes))
+pub string_said : (v : Version) (takes_fill : Bool) (bytes : List ℕ) → constant v takes_fill (string bytes) ≡ Some (Characters bytes)
+string_said v takes_fill bytes = ap (λ (bs : List ℕ). Some (Characters (stands bs))) (between_quotes (flat_map escaped_in_string bytes)) ∙ ap (λ (bs : List ℕ). Some (Characters bs)) (stands_for 0 (flat_map escaped_in_string bytes) bytes (unescape_all bytes))
 
-strings_each : (v : Version) (blanks : Bool) (all : List (List ℕ)) → each (constant v blanks) (map string all) ≡ Some (map Characters all)
-strings_each v blanks [] = refl
-strings_each v blanks (bytes ∷ all) =
-    ap (both (λ y ys. y ∷ ys) (constant v blanks (string bytes))) (strings_each v blanks all) ∙
-    ap (λ y. both (λ y ys. y ∷ ys) y (Some (map Characters all))) (string_said v blanks bytes)
+strings_each : (v : Version) (takes_fill : Bool) (all : List (List ℕ)) → each (constant v takes_fill) (map string all) ≡ Some (map Characters all)
+strings_each v takes_fill [] = refl
+strings_each v takes_fill (bytes ∷ all) =
+    ap (both (λ y ys. y ∷ ys) (constant v takes_fill (string bytes))) (strings_each v takes_fill all) ∙
+    ap (λ y. both (λ y ys. y ∷ ys) y (Some (map Characters all))) (string_said v takes_fill bytes)
 
-pub strings_said : (v : Version) (blanks : Bool) (bytes : List ℕ) (all : List (List ℕ)) → constants v blanks (string bytes ∷ commas (map string all)) ≡ Some (map Characters (bytes ∷ all))
-strings_said v blanks bytes all = constants_all v blanks (string bytes) (map string all) ∙ strings_each v blanks (bytes ∷ all)
+pub strings_said : (v : Version) (takes_fill : Bool) (bytes : List ℕ) (all : List (List ℕ)) → constants v takes_fill (string bytes ∷ commas (map string all)) ≡ Some (map Characters (bytes ∷ all))
+strings_said v takes_fill bytes all = constants_all v takes_fill (string bytes) (map string all) ∙ strings_each v takes_fill (bytes ∷ all)
 
 -- ---- what becomes of them
 

@@ -23,7 +23,7 @@ use Rattle.nc_base.specs.Types.{size_of}
 use Rattle.nc_base.specs.ValueText.{is_char}
 use Rattle.nc_base.specs.Versions.{count_limit, has_type}
 use Rattle.nc_base.specs.Sayable.{AreDistinct}
-use Rattle.cdl_text.specs.Shapes.{Value, Number, Characters, Blank, Dimension, Variable}
+use Rattle.cdl_text.specs.Shapes.{Value, Number, Characters, Underscore, Dimension, Variable}
 use Rattle.cdl_parse.specs.State.{Draft, in_turn, unless, when, found, ◌>>=◌, between, fits, same_type, dim_len_of, add_dim, add_dimid, add_var, at_named, at_variable, add_constant, first_type, add_att, with_att}
 use Rattle.cdl_parse.specs.Meaning.{values_of}
 use Rattle.cdl_text.specs.declared.fault.CdlKind.{CdlKind}
@@ -126,7 +126,7 @@ pub one_times : (n m : ℕ) → suc n * m ≡ n * m + m
 one_times n m = grind arith
 
 constant_step : (v : Version) (ty : NcType) (k : ℕ) (vals : List ℕ) (x : Value) → IsPart ty k vals → IsFineValue v x → OkIs (IsPart ty (k + cost x)) (add_constant ty vals x)
-constant_step v ty k vals Blank part fine = tt
+constant_step v ty k vals Underscore part fine = tt
 constant_step v ty k vals (Number n) part fine =
     ok_unless (IsPart ty (k + 1)) (same_type n.ty ty) MixedConstants (λ u. unless (fits ty n.value) NumberRange >>= (λ w. Ok (vals ++ bytes_of_number ty n.value))) (λ same.
     ok_unless (IsPart ty (k + 1)) (fits ty n.value) NumberRange (λ w. Ok (vals ++ bytes_of_number ty n.value)) (λ fit.
@@ -162,13 +162,13 @@ type_fine : (v : Version) (cs : List Value) → Each (IsFineValue v) cs → has_
 type_fine v [] h = has_char v
 type_fine v (Number n ∷ cs) h = h.0
 type_fine v (Characters bytes ∷ cs) h = has_char v
-type_fine v (Blank ∷ cs) h = has_char v
+type_fine v (Underscore ∷ cs) h = has_char v
 
 some_cost : (cs : List Value) → is_char (first_type cs) ≡ false → 0 < total cost cs
 some_cost [] h = cc
 some_cost (Number n ∷ cs) h = omega arith
 some_cost (Characters bytes ∷ cs) h = omega arith
-some_cost (Blank ∷ cs) h = omega arith
+some_cost (Underscore ∷ cs) h = omega arith
 
 size_some : (ty : NcType) → 0 < size_of ty
 size_some Byte = omega arith
@@ -341,7 +341,7 @@ pub record IsFineDraft (v : Version) (N n : ℕ) (dims : List Dim) (d : Draft) :
   pub ty : has_type v d.var.ty ≡ true
   pub atts : AreFineAtts v N n d.var.atts
   pub bare : d.var.begin_at ≡ 0
-  -- no more than over so many records
+  -- no more than over n records
   pub listed : length (values_of d) ≤ value_count dims d.var N
 
 pub record AreFineDrafts (v : Version) (N n : ℕ) (dims : List Dim) (drafts : List Draft) : Type 0 where

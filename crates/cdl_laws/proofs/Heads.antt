@@ -16,7 +16,7 @@ use Rattle.nc_base.specs.Types.{type_word}
 use Rattle.nc_base.specs.ValueText.{Look, is_char, variable_text}
 use Rattle.cdl_text.specs.declared.section.Section.TheVariants.{Values}
 use Rattle.cdl_text.specs.Bytes.{begins_word, goes_on_word}
-use Rattle.cdl_text.specs.Front.{front, word_len}
+use Rattle.cdl_text.specs.Scan.{scan, word_len}
 use Rattle.cdl_text.specs.Lexemes.{Lexeme, role}
 use Rattle.cdl_text.specs.Pieces.{is_section}
 use Rattle.cdl_laws.specs.Reading.{lexemes_at}
@@ -24,11 +24,11 @@ use Rattle.cdl_text.specs.Shapes.{Value, Characters, Listed, both, constants, bo
 use Rattle.cdl_laws.proofs.Bools.{and_left, and_right, and_both}
 use Rattle.cdl_laws.proofs.Lists.{Each}
 use Rattle.cdl_laws.proofs.NameTexts.{no_escape}
-use Rattle.cdl_laws.proofs.Words.{word_front}
-use Rattle.cdl_laws.proofs.Texts.{Closed, Reads, stops, then_reads, reads_both, mark, word, number, name_word, word_reads, stop_word, front_again}
+use Rattle.cdl_laws.proofs.Words.{word_prefix}
+use Rattle.cdl_laws.proofs.Texts.{Closed, Reads, stops, then_reads, reads_both, mark, word, number, name_word, word_reads, stop_word, prefix_again}
 use Rattle.cdl_laws.proofs.Numerals.{value_again}
 use Rattle.cdl_laws.proofs.Strings.{string}
-use Rattle.cdl_laws.proofs.ValueTexts.{comma, commas, AreSmall, value_lexeme, value_said, is_blank_value, numbers_closed, values_said}
+use Rattle.cdl_laws.proofs.ValueTexts.{comma, commas, AreSmall, value_lexeme, value_said, is_fill_value, numbers_closed, values_said}
 use Rattle.cdl_laws.proofs.Characters.{shown, flat, table_closed, line_closed}
 use Rattle.cdl_laws.proofs.Filled.{strings_said}
 use Rattle.cdl_laws.proofs.Takes.{Says, statement_says, semicolon, is_fine, word_fine, is_starter}
@@ -56,7 +56,7 @@ plain_len [] rest h k = stop_word rest k
 plain_len (b ∷ w) rest h k =
     let one : goes_on_word b ≡ true = and_left (is_plain b) (list_all is_plain w) h in
     let ih = plain_len w rest (and_right (is_plain b) (list_all is_plain w) h) k in
-    word_front b (w ++ rest) ∙ rw (no_escape b (get_or (w ++ rest) 0 0) one) (rw (one) (omega (arith, ih)))
+    word_prefix b (w ++ rest) ∙ rw (no_escape b (get_or (w ++ rest) 0 0) one) (rw (one) (omega (arith, ih)))
 
 -- a word without escapes
 pub bare_word : (b : ℕ) (w : List ℕ) → begins_word b ≡ true → list_all is_plain (b ∷ w) ≡ true → Reads (b ∷ w) (word (b ∷ w) ∷ [])
@@ -88,43 +88,43 @@ type_starts Uint64 = refl
 -- ---- fixed bytes
 
 pub tab_closed : Closed (codes "\t") []
-unfolding lexemes_at front
+unfolding lexemes_at scan
 tab_closed rest = refl
 
 pub tabs_closed : Closed (codes "\t\t") []
-unfolding lexemes_at front
+unfolding lexemes_at scan
 tabs_closed rest = refl
 
 pub is_closed : Closed (codes " = ") (mark 61 ∷ [])
-unfolding lexemes_at front
+unfolding lexemes_at scan
 is_closed rest = refl
 
 pub blank_closed : Closed (codes " ") []
-unfolding lexemes_at front
+unfolding lexemes_at scan
 blank_closed rest = refl
 
 pub colon_closed : Closed (codes ":") (mark 58 ∷ [])
-unfolding lexemes_at front
+unfolding lexemes_at scan
 colon_closed rest = refl
 
 pub paren_closed : Closed (codes "(") (mark 40 ∷ [])
-unfolding lexemes_at front
+unfolding lexemes_at scan
 paren_closed rest = refl
 
 pub end_closed : Closed (codes ")") (mark 41 ∷ [])
-unfolding lexemes_at front
+unfolding lexemes_at scan
 end_closed rest = refl
 
 next_closed : Closed (codes ", ") (comma ∷ [])
-unfolding lexemes_at front
+unfolding lexemes_at scan
 next_closed rest = refl
 
 pub stop_closed : Closed (codes " ; ") (semicolon ∷ [])
-unfolding lexemes_at front
+unfolding lexemes_at scan
 stop_closed rest = refl
 
 pub feed_closed : Closed (codes "\n") []
-unfolding lexemes_at front
+unfolding lexemes_at scan
 feed_closed rest = refl
 
 -- ---- lists
@@ -145,7 +145,7 @@ fine_commas v (l ∷ ls) h = and_both (is_fine v l) (list_all (is_fine v) (comma
 
 value_fine : (v : Version) (look : Look) (x : ℤ) → unsigned_abs x < 2 ^ 64 → is_fine v (value_lexeme look x) ≡ true
 value_fine v look x h =
-    elim (is_blank_value look x) as (λ b. is_fine v (if b then word (codes "_") else number (signed_decimal x)) ≡ true) [
+    elim (is_fill_value look x) as (λ b. is_fine v (if b then word (codes "_") else number (signed_decimal x)) ≡ true) [
       | true ↦ word_fine v (codes "_")
       | false ↦ rw (value_again v x h) refl
     ]
@@ -209,8 +209,8 @@ no_feed (b ∷ w) rest h = rw (and_left (not (b == 10)) (list_all (λ c. not (c 
 
 -- a comment to the end of its line
 pub comment_closed : (w : List ℕ) → list_all (λ b. not (b == 10)) w ≡ true → Closed (47 ∷ 47 ∷ (w ++ 10 ∷ [])) []
-unfolding front
+unfolding scan
 comment_closed w h rest =
     ap (λ bs. lexemes_at false 0 (47 ∷ 47 ∷ bs)) (append_assoc w (10 ∷ []) rest) ∙
-    front_again false None 47 (47 ∷ w) (10 ∷ rest) (ap (λ n. record { kind = None; len = n }) (let ih = no_feed w rest h in let e : 1 + (1 + prefix_len (λ b. not (b == 10)) (w ++ 10 ∷ rest)) ≡ suc (suc (length w)) = omega (arith, ih) in e)) ∙
+    prefix_again false None 47 (47 ∷ w) (10 ∷ rest) (ap (λ n. record { kind = None; len = n }) (let ih = no_feed w rest h in let e : 1 + (1 + prefix_len (λ b. not (b == 10)) (w ++ 10 ∷ rest)) ≡ suc (suc (length w)) = omega (arith, ih) in e)) ∙
     feed_closed rest

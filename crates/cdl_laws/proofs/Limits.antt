@@ -7,7 +7,7 @@ use Rattle.nc_base.specs.declared.header.Header.{Header}
 use Rattle.nc_base.specs.declared.header.Var.{Var}
 use Rattle.nc_base.specs.declared.version.Version.{Version}
 use Rattle.nc_base.specs.Headers.{value_count, AreArrays, AreDimids, IsDimid}
-use Rattle.nc_base.specs.Sizes.{is_record_var, is_record_dim, slab_count, slab_lens, slab_size, product, dim_len, record_vars, packed_size, padded_size, padded_total, slab_limit, array_limit}
+use Rattle.nc_base.specs.Sizes.{is_record_var, is_record_dim, slab_count, slab_lens, slab_size, product, dim_len, record_vars, record_size_of, padded_size, padded_total, slab_limit, array_limit}
 use Rattle.nc_base.specs.Types.{size_of}
 use Rattle.nc_base.specs.Sayable.{trimmed_var}
 use Rattle.cdl_parse.specs.Meaning.{is_small}
@@ -89,10 +89,10 @@ sizes_trimmed dims (var ∷ vars) = ap (λ ss. padded_size dims var ∷ ss) (siz
 total_trimmed : (dims : List Dim) (vars : List Var) → padded_total dims (map trimmed_var vars) ≡ padded_total dims vars
 total_trimmed dims vars = ap sum (sizes_trimmed dims vars)
 
-packed_trimmed : (dims : List Dim) (vars : List Var) → packed_size dims (map trimmed_var vars) ≡ packed_size dims vars
-packed_trimmed dims [] = refl
-packed_trimmed dims (var ∷ []) = refl
-packed_trimmed dims (var ∷ w ∷ vars) = total_trimmed dims (var ∷ w ∷ vars)
+record_size_of_trimmed : (dims : List Dim) (vars : List Var) → record_size_of dims (map trimmed_var vars) ≡ record_size_of dims vars
+record_size_of_trimmed dims [] = refl
+record_size_of_trimmed dims (var ∷ []) = refl
+record_size_of_trimmed dims (var ∷ w ∷ vars) = total_trimmed dims (var ∷ w ∷ vars)
 
-pub same_record : (dims : List Dim) (vars : List Var) → packed_size dims (record_vars dims (map trimmed_var vars)) ≡ packed_size dims (record_vars dims vars)
-same_record dims vars = ap (packed_size dims) (record_trimmed dims vars) ∙ packed_trimmed dims (record_vars dims vars)
+pub same_record : (dims : List Dim) (vars : List Var) → record_size_of dims (record_vars dims (map trimmed_var vars)) ≡ record_size_of dims (record_vars dims vars)
+same_record dims vars = ap (record_size_of dims) (record_trimmed dims vars) ∙ record_size_of_trimmed dims (record_vars dims vars)

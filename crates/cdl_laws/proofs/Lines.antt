@@ -8,14 +8,14 @@ use Rattle.cdl_text.specs.declared.fault.CdlKind.{CdlKind}
 use Rattle.cdl_text.specs.declared.token.TokenKind.{TokenKind}
 use Rattle.cdl_text.specs.declared.token.TokenKind.TheVariants as kinds
 use Rattle.cdl_text.specs.declared.piece.Role.{Role}
-use Rattle.cdl_text.specs.declared.piece.Place.{Place}
-use Rattle.cdl_text.specs.declared.piece.Place.TheVariants as places
+use Rattle.cdl_text.specs.declared.piece.CutState.{CutState}
+use Rattle.cdl_text.specs.declared.piece.CutState.TheVariants as places
 use Rattle.cdl_text.specs.declared.token.Token.{Token}
-use Rattle.cdl_text.specs.Front.{front}
+use Rattle.cdl_text.specs.Scan.{scan}
 use Rattle.cdl_text.specs.Lexemes.{Lexeme, lexeme, role}
 use Rattle.cdl_parse.specs.Meaning.{run, piece_read, line_of}
 use Rattle.cdl_text.specs.Statements.{statements}
-use Rattle.cdl_text.specs.Pieces.{pieces_at, in_front, first_role, step}
+use Rattle.cdl_text.specs.Pieces.{pieces_at, with_first, first_role, step}
 use Rattle.cdl_laws.specs.Reading.{lexemes_at, lexemes, with_lexeme}
 use Rattle.cdl_parse.specs.State.{State, in_turn}
 use Rattle.cdl_text.specs.Tokens.{tokens_at, tokens, with_token, token_at}
@@ -43,28 +43,28 @@ unfolding tokens_at lexemes_at
 lexemes_are text fresh at more [] e = ap (λ (l : Lexeme). l ∷ []) (one_lexeme text at kinds.End 0 [] e)
 lexemes_are text fresh at (suc more) (b ∷ bytes) e = lexemes_are text fresh (at + 1) more bytes (tail_at text at b bytes e)
 lexemes_are text fresh at zero (b ∷ bytes) e =
-    let f = front fresh (b ∷ bytes) in
+    let f = scan fresh (b ∷ bytes) in
     with_same text at f.kind f.len (b ∷ bytes) _ _ e (lexemes_are text (fresh && is_none f.kind) (at + 1) (f.len - 1) bytes (tail_at text at b bytes e))
 
 -- ---- pieces
 
-in_front_map : {X Y : Type 0} (f : X → Y) (b : Bool) (t : X) (ps : List (List X)) → map (map f) (in_front b t ps) ≡ in_front b (f t) (map (map f) ps)
-in_front_map f true t ps = refl
-in_front_map f false t [] = refl
-in_front_map f false t (p ∷ ps) = refl
+with_first_map : {X Y : Type 0} (f : X → Y) (b : Bool) (t : X) (ps : List (List X)) → map (map f) (with_first b t ps) ≡ with_first b (f t) (map (map f) ps)
+with_first_map f true t ps = refl
+with_first_map f false t [] = refl
+with_first_map f false t (p ∷ ps) = refl
 
 first_map : {X Y : Type 0} (f : X → Y) (role : Y → Role) (ts : List X) → first_role (λ t. role (f t)) ts ≡ first_role role (map f ts)
 first_map f role [] = refl
 first_map f role (t ∷ ts) = refl
 
-pieces_map : {X Y : Type 0} (f : X → Y) (role : Y → Role) (place : Place) (ts : List X) → map (map f) (pieces_at (λ t. role (f t)) place ts) ≡ pieces_at role place (map f ts)
+pieces_map : {X Y : Type 0} (f : X → Y) (role : Y → Role) (place : CutState) (ts : List X) → map (map f) (pieces_at (λ t. role (f t)) place ts) ≡ pieces_at role place (map f ts)
 unfolding pieces_at
 pieces_map f role place [] = refl
 pieces_map f role place (t ∷ ts) =
-    let rest : Role → List (List _) = λ n. in_front (step place (role (f t)) n).ends (f t) (pieces_at role (step place (role (f t)) n).place (map f ts)) in
+    let rest : Role → List (List _) = λ n. with_first (step place (role (f t)) n).ends (f t) (pieces_at role (step place (role (f t)) n).place (map f ts)) in
     let n = first_role (λ u. role (f u)) ts in
-    in_front_map f (step place (role (f t)) n).ends t (pieces_at (λ u. role (f u)) (step place (role (f t)) n).place ts) ∙
-    ap (in_front (step place (role (f t)) n).ends (f t)) (pieces_map f role (step place (role (f t)) n).place ts) ∙
+    with_first_map f (step place (role (f t)) n).ends t (pieces_at (λ u. role (f u)) (step place (role (f t)) n).place ts) ∙
+    ap (with_first (step place (role (f t)) n).ends (f t)) (pieces_map f role (step place (role (f t)) n).place ts) ∙
     ap rest (first_map f role ts)
 
 pub pieces_are : (text : List ℕ) → map (map (lexeme text)) (statements text) ≡ pieces_at role places.Begins (lexemes text)

@@ -101,8 +101,8 @@ constant [] h = tt
 constant (b ∷ bytes) h = (grind (arith, and_left (nat_lt b 256) (list_all (λ c. nat_lt c 256) bytes) h), constant bytes (and_right (nat_lt b 256) (list_all (λ c. nat_lt c 256) bytes) h))
 
 -- what follows an attribute's characters
-behind : (bytes : List ℕ) → Each IsByte bytes → Each IsByte (bytes ++ codes "\"" ++ codes " ;\n" ++ [] ++ [] ++ [] ++ codes "}\n")
-behind bytes h =
+following : (bytes : List ℕ) → Each IsByte bytes → Each IsByte (bytes ++ codes "\"" ++ codes " ;\n" ++ [] ++ [] ++ [] ++ codes "}\n")
+following bytes h =
     closed (bytes ++ codes "\"" ++ codes " ;\n" ++ [] ++ [] ++ []) (codes "}\n") refl (
     closed (bytes ++ codes "\"" ++ codes " ;\n" ++ [] ++ []) [] refl (
     closed (bytes ++ codes "\"" ++ codes " ;\n" ++ []) [] refl (
@@ -110,8 +110,8 @@ behind bytes h =
     closed (bytes ++ codes "\"") (codes " ;\n") refl (
     closed bytes (codes "\"") refl h)))))
   where
-    closed : (front end : List ℕ) → list_all (λ b. nat_lt b 256) end ≡ true → Each IsByte front → Each IsByte (front ++ end)
-    closed front end e k = each_more IsByte front end k (constant end e)
+    closed : (scan end : List ℕ) → list_all (λ b. nat_lt b 256) end ≡ true → Each IsByte scan → Each IsByte (scan ++ end)
+    closed scan end e k = each_more IsByte scan end k (constant end e)
 
 -- though it is a text of bytes
 long_bytes : (n : ℕ) → 0 < n → Each IsByte (long_text n)
@@ -120,7 +120,7 @@ long_bytes n some =
     let xs = without_trailing_nuls (replicate n 97) in
     let h : Each IsByte (broken_text xs) = subst (λ (ys : List ℕ). Each IsByte (broken_text ys)) (sym (no_nuls n some)) (broken_bytes n) in
     each_more IsByte (codes "netcdf a {\n\n// global attributes:\n\t\t:a = \"") (broken_text xs ++ codes "\"" ++ codes " ;\n" ++ [] ++ [] ++ [] ++ codes "}\n")
-    (constant (codes "netcdf a {\n\n// global attributes:\n\t\t:a = \"") refl) (behind (broken_text xs) h)
+    (constant (codes "netcdf a {\n\n// global attributes:\n\t\t:a = \"") refl) (following (broken_text xs) h)
 
 pub limit_is_needed : LimitIsNeeded
 limit_is_needed n big = (long_text n, trimmed (long n), are_bytes (long_text n) (long_bytes n (omega (arith, big))), long_means n, long_is_bad n big)

@@ -63,8 +63,8 @@ drafts_later : (v : Version) (N n m : ℕ) (dims : List Dim) (ds : List Draft) �
 drafts_later v N n m dims ds f = all_later v N n (n + m) dims ds (omega arith) f
 
 -- the same dataset in another section
-moved : (v : Version) (N n m : ℕ) (s : State) (next : Section) → (late next < 3 → late s.section < 3) → IsFineState v N n s → IsFineState v N (n + m) (record s { section = next })
-moved v N n m s next back f = record {
+advanced : (v : Version) (N n m : ℕ) (s : State) (next : Section) → (late next < 3 → late s.section < 3) → IsFineState v N n s → IsFineState v N (n + m) (record s { section = next })
+advanced v N n m s next back f = record {
   dims = dims_later v N n m s.dims f.dims;
   gatts = atts_later v N n m s.gatts f.gatts;
   drafts = drafts_later v N n m s.dims s.drafts f.drafts;
@@ -98,10 +98,10 @@ none_left n ds (e ∷ es) early len h = absurd (let a : length ds ≡ 0 = ap (λ
 
 act_keeps : (v : Version) (N n m : ℕ) (s : State) (st : Statement) → m ≤ N → IsFineState v N n s → IsSaid v s.section m st → OkIs (IsFineState v N (n + m)) (act v s st)
 unfolding act
-act_keeps v N n m s Opening small f said = moved v N n m s _ (λ h. omega (arith, said)) f
-act_keeps v N n m s (Mark next) small f said = moved v N n m s next (λ h. omega (arith, said, h)) f
-act_keeps v N n m s Brace small f said = moved v N n m s _ (λ h. absurd (omega (arith, h))) f
-act_keeps v N n m s End small f said = moved v N n m s _ (λ h. absurd (omega (arith, h))) f
+act_keeps v N n m s Opening small f said = advanced v N n m s _ (λ h. omega (arith, said)) f
+act_keeps v N n m s (Mark next) small f said = advanced v N n m s next (λ h. omega (arith, said, h)) f
+act_keeps v N n m s Brace small f said = advanced v N n m s _ (λ h. absurd (omega (arith, h))) f
+act_keeps v N n m s End small f said = advanced v N n m s _ (λ h. absurd (omega (arith, h))) f
 act_keeps v N n m s (Declared ds) small f said =
     let none : s.drafts ≡ [] = f.early (let a = said.0 in omega (arith, a)) in
     ok_then (AreFineDims v N (n + m)) (IsFineState v N (n + m)) (in_turn (add_dim v) s.dims ds) (λ dims. Ok (record s { dims = dims })) (dims_keep v N n m s.dims ds small said.1 f.dims) (λ dims fine.

@@ -10,9 +10,9 @@ use Rattle.std.proofs.lemmas.Slice.Eq.{bytes_eq-Decides}
 use Rattle.nc_base.specs.Escapes.{is_plain, is_name_mark, escaped_in_name, escaped_name, is_reserved, reserved_words, begins_with_digit_or_mark}
 use Rattle.nc_base.specs.Names.{may_begin_name, may_follow_in_name, is_beyond_ascii}
 use Rattle.cdl_text.specs.Bytes.{is_escape, is_escapable, goes_on_word, begins_word}
-use Rattle.cdl_text.specs.Front.{word_len, begins_a_word}
+use Rattle.cdl_text.specs.Scan.{word_len, begins_a_word}
 use Rattle.cdl_text.specs.Lexemes.{word_value}
-use Rattle.cdl_laws.proofs.Words.{word_front, and_false}
+use Rattle.cdl_laws.proofs.Words.{word_prefix, and_false}
 use Rattle.cdl_laws.proofs.Bools.{and_left, and_right, or_left, or_right, of_any}
 
 -- ---- bytes
@@ -71,7 +71,7 @@ begins_goes_on b h = begins_plainly (is_ascii_digit b) (is_in_range 65 90 b) (is
 first_may_follow : (b : ℕ) → may_begin_name b ≡ true → may_follow_in_name b ≡ true
 first_may_follow b h = grind (arith, h)
 
--- ---- the bytes behind the first
+-- ---- the bytes after the first
 
 abbrev pub rest_of : List ℕ → List ℕ
 rest_of name = flat_map escaped_in_name name
@@ -83,14 +83,14 @@ rest_len (b ∷ name) rest h e =
     let one : is_escapable b ≡ true = escapable b (and_left (may_follow_in_name b) (list_all may_follow_in_name name) h) in
     let ih = rest_len name rest more e in
     elim (is_plain b) as (λ w. is_plain b ≡ w → word_len (((if w then b ∷ [] else 0x5c ∷ b ∷ []) ++ rest_of name) ++ rest) ≡ length ((if w then b ∷ [] else 0x5c ∷ b ∷ []) ++ rest_of name)) [
-      | true ↦ (λ g. word_front b (rest_of name ++ rest) ∙ rw (no_escape b (get_or (rest_of name ++ rest) 0 0) g) (rw (g) (omega (arith, ih))))
-      | false ↦ (λ g. word_front 0x5c (b ∷ rest_of name ++ rest) ∙ rw (one) (omega (arith, ih)))
+      | true ↦ (λ g. word_prefix b (rest_of name ++ rest) ∙ rw (no_escape b (get_or (rest_of name ++ rest) 0 0) g) (rw (g) (omega (arith, ih))))
+      | false ↦ (λ g. word_prefix 0x5c (b ∷ rest_of name ++ rest) ∙ rw (one) (omega (arith, ih)))
     ] refl
 
-pub value_front : (b : ℕ) (rest : List ℕ) → word_value (b ∷ rest) ≡ (if is_escape b (get_or rest 0 0) then get_or rest 0 0 ∷ word_value (drop 1 rest) else b ∷ word_value rest)
+pub value_prefix : (b : ℕ) (rest : List ℕ) → word_value (b ∷ rest) ≡ (if is_escape b (get_or rest 0 0) then get_or rest 0 0 ∷ word_value (drop 1 rest) else b ∷ word_value rest)
 unfolding word_value
-value_front b [] = rw (and_false (b == 0x5c)) refl
-value_front b (c ∷ rest) = refl
+value_prefix b [] = rw (and_false (b == 0x5c)) refl
+value_prefix b (c ∷ rest) = refl
 
 pub rest_value : (name : List ℕ) → list_all may_follow_in_name name ≡ true → word_value (rest_of name) ≡ name
 unfolding word_value
@@ -100,8 +100,8 @@ rest_value (b ∷ name) h =
     let one : is_escapable b ≡ true = escapable b (and_left (may_follow_in_name b) (list_all may_follow_in_name name) h) in
     let ih = rest_value name more in
     elim (is_plain b) as (λ w. is_plain b ≡ w → word_value ((if w then b ∷ [] else 0x5c ∷ b ∷ []) ++ rest_of name) ≡ b ∷ name) [
-      | true ↦ (λ g. value_front b (rest_of name) ∙ rw (no_escape b (get_or (rest_of name) 0 0) g) (ap (λ xs. b ∷ xs) ih))
-      | false ↦ (λ g. value_front 0x5c (b ∷ rest_of name) ∙ rw (one) (ap (λ xs. b ∷ xs) ih))
+      | true ↦ (λ g. value_prefix b (rest_of name) ∙ rw (no_escape b (get_or (rest_of name) 0 0) g) (ap (λ xs. b ∷ xs) ih))
+      | false ↦ (λ g. value_prefix 0x5c (b ∷ rest_of name) ∙ rw (one) (ap (λ xs. b ∷ xs) ih))
     ] refl
 
 -- ---- the first byte
@@ -144,19 +144,19 @@ begins b bs h =
 -- ---- names
 
 pub name_len : (b : ℕ) (bs rest : List ℕ) → Begins b bs → list_all may_follow_in_name bs ≡ true → word_len rest ≡ 0 → word_len (escaped_name (b ∷ bs) ++ rest) ≡ length (escaped_name (b ∷ bs))
-name_len b bs rest (marked one is) h stop = let ih = rest_len bs rest h stop in rw (is) (word_front 0x5c (b ∷ rest_of bs ++ rest) ∙ rw (one) (omega (arith, ih)))
+name_len b bs rest (marked one is) h stop = let ih = rest_len bs rest h stop in rw (is) (word_prefix 0x5c (b ∷ rest_of bs ++ rest) ∙ rw (one) (omega (arith, ih)))
 name_len b bs rest (bare one free is) h stop =
     let ih = rest_len bs rest h stop in
-    rw (is) (word_front b (rest_of bs ++ rest) ∙ rw (no_escape b (get_or (rest_of bs ++ rest) 0 0) (begins_goes_on b one)) (rw (begins_goes_on b one) (omega (arith, ih))))
+    rw (is) (word_prefix b (rest_of bs ++ rest) ∙ rw (no_escape b (get_or (rest_of bs ++ rest) 0 0) (begins_goes_on b one)) (rw (begins_goes_on b one) (omega (arith, ih))))
 
 pub name_begins : (b : ℕ) (bs rest : List ℕ) → Begins b bs → begins_a_word (escaped_name (b ∷ bs) ++ rest) ≡ true
 name_begins b bs rest (marked one is) = rw (is) one
 name_begins b bs rest (bare one free is) = rw (is) (rw (one) refl)
 
 pub name_value : (b : ℕ) (bs : List ℕ) → Begins b bs → list_all may_follow_in_name bs ≡ true → word_value (escaped_name (b ∷ bs)) ≡ b ∷ bs
-name_value b bs (marked one is) h = rw (is) (value_front 0x5c (b ∷ rest_of bs) ∙ rw (one) (ap (λ xs. b ∷ xs) (rest_value bs h)))
+name_value b bs (marked one is) h = rw (is) (value_prefix 0x5c (b ∷ rest_of bs) ∙ rw (one) (ap (λ xs. b ∷ xs) (rest_value bs h)))
 name_value b bs (bare one free is) h =
-    rw (is) (value_front b (rest_of bs) ∙ rw (no_escape b (get_or (rest_of bs) 0 0) (begins_goes_on b one)) (ap (λ xs. b ∷ xs) (rest_value bs h)))
+    rw (is) (value_prefix b (rest_of bs) ∙ rw (no_escape b (get_or (rest_of bs) 0 0) (begins_goes_on b one)) (ap (λ xs. b ∷ xs) (rest_value bs h)))
 
 -- a reserved word stands for itself
 stands : List ℕ → Bool

@@ -64,7 +64,7 @@ decimal_value n h = onto_value 64 n [] (let e : 2 ^ 64 ≤ 10 ^ 64 = omega arith
 
 -- ---- a decimal with a suffix
 
--- no digit stands in front
+-- no digit stands at the start
 abbrev pub no_digit : List ℕ → Bool
 no_digit [] = true
 no_digit (b ∷ bs) = not (is_digit b)

@@ -12,11 +12,11 @@ use Rattle.nc_base.specs.HeadText.{netcdf_word, dim_line, global_word, var_lines
 use Rattle.nc_base.specs.Names.{IsName}
 use Rattle.nc_base.specs.Types.{type_word}
 use Rattle.nc_base.specs.Versions.{has_type}
-use Rattle.cdl_text.specs.declared.piece.Place.TheVariants.{Begins}
+use Rattle.cdl_text.specs.declared.piece.CutState.TheVariants.{Begins}
 use Rattle.cdl_text.specs.declared.section.Section.{Section}
 use Rattle.cdl_text.specs.declared.section.Section.TheVariants.{Unopened, Globals, Dimensions, Variables, Values, Closed}
 use Rattle.cdl_text.specs.declared.token.TokenKind.TheVariants as kinds
-use Rattle.cdl_text.specs.Front.{front}
+use Rattle.cdl_text.specs.Scan.{scan}
 use Rattle.cdl_text.specs.Lexemes.{role}
 use Rattle.cdl_text.specs.Pieces.{pieces_at}
 use Rattle.cdl_text.specs.Shapes.{Statement, Opening, Mark, Brace, End, Declared, Typed, Attribute, shape}
@@ -67,11 +67,11 @@ unfolding shape
 after_dimensions v = refl
 
 comment_back : (rest : List ℕ) → pieces_of (global_word ++ rest) ≡ pieces_of rest
-unfolding pieces_of global_word lexemes_at front
+unfolding pieces_of global_word lexemes_at scan
 comment_back rest = refl
 
 closing_back : pieces_of (codes "}\n") ≡ brace_piece ∷ end_piece ∷ []
-unfolding pieces_of lexemes_at front pieces_at
+unfolding pieces_of lexemes_at scan pieces_at
 closing_back = refl
 
 opens : (v : Version) (name : List ℕ) → SaysStatement v Unopened (opening_piece name) Opening

@@ -8,7 +8,7 @@ use Rattle.nc_base.specs.declared.header.Var.{Var}
 use Rattle.nc_base.specs.declared.version.Version.{Version}
 use Rattle.nc_base.specs.Sizes.{dim_len, product, slab_lens, slab_count}
 use Rattle.nc_base.specs.ValueText.{is_char, row_len}
-use Rattle.cdl_text.specs.Shapes.{Value, Number, Characters, Blank}
+use Rattle.cdl_text.specs.Shapes.{Value, Number, Characters, Underscore}
 use Rattle.cdl_parse.specs.State.{Draft, Room, room_of, in_turn, unless, ◌>>=◌, fits, filled, add_string, add_number, add_character, add_value, is_listed, with_values}
 use Rattle.cdl_text.specs.declared.fault.CdlKind.TheVariants.{TooManyValues, StringTooLong, DuplicateData, NumberRange}
 use Rattle.cdl_laws.proofs.Arrays.{rows_in, last_place}
@@ -105,7 +105,7 @@ single room k before x number units is t = next_row room k before (x ∷ []) uni
 
 number_step : (room : Room) (k : ℕ) (before : List ℤ) (x : Value) → is_char room.ty ≡ false → HasUnits room → IsRoomy room k before → OkIs (IsRoomy room (k + cost x)) (add_number room before x)
 number_step room k before (Characters bytes) number units is = tt
-number_step room k before Blank number units is =
+number_step room k before Underscore number units is =
     ok_unless (IsRoomy room (k + 1)) (room.is_open || nat_lt (length before) room.count) TooManyValues (λ u. Ok (before ++ room.fill ∷ [])) (λ t. single room k before room.fill number units is t)
 number_step room k before (Number n) number units is =
     ok_unless (IsRoomy room (k + 1)) (room.is_open || nat_lt (length before) room.count) TooManyValues (λ u. unless (fits room.ty n.value) NumberRange >>= (λ w. Ok (before ++ n.value ∷ []))) (λ t.
@@ -113,7 +113,7 @@ number_step room k before (Number n) number units is =
 
 character_step : (room : Room) (k : ℕ) (before : List ℤ) (x : Value) → is_char room.ty ≡ true → HasUnits room → IsRoomy room k before → OkIs (IsRoomy room (k + cost x)) (add_character room before x)
 character_step room k before (Characters bytes) char units is = string_step room k before bytes char units is
-character_step room k before Blank char units is = tt
+character_step room k before Underscore char units is = tt
 character_step room k before (Number n) char units is = tt
 
 value_step : (room : Room) → HasUnits room → (k : ℕ) (before : List ℤ) (x : Value) → IsRoomy room k before → Unit {0} → OkIs (IsRoomy room (k + cost x)) (add_value room before x)

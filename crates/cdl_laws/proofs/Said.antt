@@ -12,10 +12,10 @@ use Rattle.cdl_text.specs.Bytes.{is_digit, is_octal, is_hex, is_escape, is_sign}
 use Rattle.cdl_text.specs.Escapes.{or_zero, stands_at, character, byte, octal_number, octal_escape, hex_escape, escape, plain_escape, digit}
 use Rattle.cdl_text.specs.Lexemes.{Lexeme, is_word_kind, is_mark, is_word, name_of, word_value}
 use Rattle.cdl_text.specs.Numerals.{Parts, parts, number, Numeral, numeral, suffix, of_version, type_of_suffix, with_suffix, in_base, unsigned, lower, number_in}
-use Rattle.cdl_text.specs.Shapes.{Value, Number, Characters, Blank, Dimension, Variable, both, each, given, into_first, members_in, members, length_of, dimension, constant_of, constant, constants, dimensions, inner, name_alone, before_mark, variable}
+use Rattle.cdl_text.specs.Shapes.{Value, Number, Characters, Underscore, Dimension, Variable, both, each, given, into_first, members_in, members, length_of, dimension, constant_of, constant, constants, dimensions, inner, name_alone, before_mark, variable}
 use Rattle.cdl_text.specs.declared.token.TokenKind.{TokenKind}
 use Rattle.cdl_text.specs.declared.token.TokenKind.TheVariants as kinds
-use Rattle.cdl_text.specs.declared.front.Character.{Character}
+use Rattle.cdl_text.specs.declared.scan.Character.{Character}
 use Rattle.cdl_laws.proofs.Lists.{Each}
 use Rattle.cdl_laws.proofs.Outcomes.{SomeIs, some_map, some_then, some_weaker, some_both, some_given, in_if, total, each_total, each_take, each_drop}
 
@@ -126,9 +126,9 @@ byte_is : (n : ℕ) → ByteOrNone (byte n)
 byte_is n =
     elim (nat_lt 255 n) as (λ b. nat_lt 255 n ≡ b → ByteOrNone (if b then None else Some n)) [ true ↦ (λ e. tt) | false ↦ (λ e. grind (arith, e)) ] refl
 
-front_byte : (bs : List ℕ) → Each IsByte bs → slice_index bs 0 < 256
-front_byte [] h = omega arith
-front_byte (b ∷ bs) h = h.0
+prefix_byte : (bs : List ℕ) → Each IsByte bs → slice_index bs 0 < 256
+prefix_byte [] h = omega arith
+prefix_byte (b ∷ bs) h = h.0
 
 plain_byte : (b : ℕ) → b < 256 → plain_escape b < 256
 plain_byte b h =
@@ -154,12 +154,12 @@ escape_fine bs h =
     in_if IsFine (is_octal (slice_index bs 0)) (octal_escape bs (prefix_len is_octal (take 3 bs))) (if slice_index bs 0 == 0x78 then hex_escape (drop 1 bs) (prefix_len is_hex (take 2 (drop 1 bs))) else record { value = Some (plain_escape (slice_index bs 0)); len = 2 })
     (byte_is (octal_number bs (prefix_len is_octal (take 3 bs))))
     (in_if IsFine (slice_index bs 0 == 0x78) (hex_escape (drop 1 bs) (prefix_len is_hex (take 2 (drop 1 bs)))) (record { value = Some (plain_escape (slice_index bs 0)); len = 2 })
-    (hex_fine (drop 1 bs) (prefix_len is_hex (take 2 (drop 1 bs)))) (plain_byte (slice_index bs 0) (front_byte bs h)))
+    (hex_fine (drop 1 bs) (prefix_len is_hex (take 2 (drop 1 bs)))) (plain_byte (slice_index bs 0) (prefix_byte bs h)))
 
 character_fine : (bs : List ℕ) → Each IsByte bs → IsFine (character bs)
 unfolding character
 character_fine bs h =
-    in_if IsFine (slice_index bs 0 == 0x5c) (escape (drop 1 bs)) (record { value = Some (slice_index bs 0); len = 1 }) (escape_fine (drop 1 bs) (each_drop IsByte 1 bs h)) (front_byte bs h)
+    in_if IsFine (slice_index bs 0 == 0x5c) (escape (drop 1 bs)) (record { value = Some (slice_index bs 0); len = 1 }) (escape_fine (drop 1 bs) (each_drop IsByte 1 bs h)) (prefix_byte bs h)
 
 zero_fine : (o : Option ℕ) → ByteOrNone o → or_zero o < 256
 zero_fine None h = omega arith
@@ -183,28 +183,28 @@ stands_short zero (b ∷ bs) = let ih = stands_short ((character (b ∷ bs)).len
 abbrev pub cost : Value → ℕ
 cost (Number n) = 1
 cost (Characters bytes) = suc (length bytes)
-cost Blank = 1
+cost Underscore = 1
 
 abbrev pub IsFineValue : Version → Value → Type 0
 IsFineValue v (Number n) = HasTypeOf v n
 IsFineValue v (Characters bytes) = Each IsByte bytes
-IsFineValue v Blank = Unit {0}
+IsFineValue v Underscore = Unit {0}
 
-blank_fine : (v : Version) (b : Bool) → SomeIs (IsFineValue v) (given b (Some Blank))
-blank_fine v b = some_given (IsFineValue v) b (Some Blank) (λ e. tt)
+blank_fine : (v : Version) (b : Bool) → SomeIs (IsFineValue v) (given b (Some Underscore))
+blank_fine v b = some_given (IsFineValue v) b (Some Underscore) (λ e. tt)
 
-one_fine : (v : Version) (blanks : Bool) (l : Lexeme) (k : TokenKind) → HasBytes l → SomeIs (IsFineValue v) (constant_of v blanks l k)
-one_fine v blanks l kinds.Number h = some_map (IsFineValue v) Number (numeral v l.bytes) (numeral_has v l.bytes)
-one_fine v blanks l kinds.Text h =
+one_fine : (v : Version) (takes_fill : Bool) (l : Lexeme) (k : TokenKind) → HasBytes l → SomeIs (IsFineValue v) (constant_of v takes_fill l k)
+one_fine v takes_fill l kinds.Number h = some_map (IsFineValue v) Number (numeral v l.bytes) (numeral_has v l.bytes)
+one_fine v takes_fill l kinds.Text h =
     stands_fine 0 (inner l.bytes) (each_take IsByte (length l.bytes - 2) (drop 1 l.bytes) (each_drop IsByte 1 l.bytes h))
-one_fine v blanks l kinds.Opening h = blank_fine v (blanks && is_word (codes "_") l)
-one_fine v blanks l kinds.Word h = blank_fine v (blanks && is_word (codes "_") l)
-one_fine v blanks l kinds.Mark h = blank_fine v (blanks && is_word (codes "_") l)
-one_fine v blanks l kinds.Bad h = blank_fine v (blanks && is_word (codes "_") l)
-one_fine v blanks l kinds.End h = blank_fine v (blanks && is_word (codes "_") l)
+one_fine v takes_fill l kinds.Opening h = blank_fine v (takes_fill && is_word (codes "_") l)
+one_fine v takes_fill l kinds.Word h = blank_fine v (takes_fill && is_word (codes "_") l)
+one_fine v takes_fill l kinds.Mark h = blank_fine v (takes_fill && is_word (codes "_") l)
+one_fine v takes_fill l kinds.Bad h = blank_fine v (takes_fill && is_word (codes "_") l)
+one_fine v takes_fill l kinds.End h = blank_fine v (takes_fill && is_word (codes "_") l)
 
-blank_short : (n : ℕ) (b : Bool) → SomeIs (λ x. cost x ≤ suc n) (given b (Some Blank))
-blank_short n b = some_given (λ x. cost x ≤ suc n) b (Some Blank) (λ e. omega arith)
+blank_short : (n : ℕ) (b : Bool) → SomeIs (λ x. cost x ≤ suc n) (given b (Some Underscore))
+blank_short n b = some_given (λ x. cost x ≤ suc n) b (Some Underscore) (λ e. omega arith)
 
 inner_short : (bs : List ℕ) → length (inner bs) ≤ length bs
 inner_short bs = let a = length-take (length bs - 2) (drop 1 bs) in let b = length-drop 1 bs in omega (arith, a, b)
@@ -213,36 +213,36 @@ number_short : (n : ℕ) (o : Option Numeral) → SomeIs (λ x. cost x ≤ suc n
 number_short n None = tt
 number_short n (Some x) = omega arith
 
-one_short : (v : Version) (blanks : Bool) (l : Lexeme) (k : TokenKind) → SomeIs (λ x. cost x ≤ weight l) (constant_of v blanks l k)
-one_short v blanks l kinds.Number = number_short (length l.bytes) (numeral v l.bytes)
-one_short v blanks l kinds.Text = let a = stands_short 0 (inner l.bytes) in let b = inner_short l.bytes in omega (arith, a, b)
-one_short v blanks l kinds.Opening = blank_short (length l.bytes) (blanks && is_word (codes "_") l)
-one_short v blanks l kinds.Word = blank_short (length l.bytes) (blanks && is_word (codes "_") l)
-one_short v blanks l kinds.Mark = blank_short (length l.bytes) (blanks && is_word (codes "_") l)
-one_short v blanks l kinds.Bad = blank_short (length l.bytes) (blanks && is_word (codes "_") l)
-one_short v blanks l kinds.End = blank_short (length l.bytes) (blanks && is_word (codes "_") l)
+one_short : (v : Version) (takes_fill : Bool) (l : Lexeme) (k : TokenKind) → SomeIs (λ x. cost x ≤ weight l) (constant_of v takes_fill l k)
+one_short v takes_fill l kinds.Number = number_short (length l.bytes) (numeral v l.bytes)
+one_short v takes_fill l kinds.Text = let a = stands_short 0 (inner l.bytes) in let b = inner_short l.bytes in omega (arith, a, b)
+one_short v takes_fill l kinds.Opening = blank_short (length l.bytes) (takes_fill && is_word (codes "_") l)
+one_short v takes_fill l kinds.Word = blank_short (length l.bytes) (takes_fill && is_word (codes "_") l)
+one_short v takes_fill l kinds.Mark = blank_short (length l.bytes) (takes_fill && is_word (codes "_") l)
+one_short v takes_fill l kinds.Bad = blank_short (length l.bytes) (takes_fill && is_word (codes "_") l)
+one_short v takes_fill l kinds.End = blank_short (length l.bytes) (takes_fill && is_word (codes "_") l)
 
-constant_fine : (v : Version) (blanks : Bool) (l : Lexeme) → HasBytes l → SomeIs (IsFineValue v) (constant v blanks l)
-constant_fine v blanks l h = one_fine v blanks l l.kind h
+constant_fine : (v : Version) (takes_fill : Bool) (l : Lexeme) → HasBytes l → SomeIs (IsFineValue v) (constant v takes_fill l)
+constant_fine v takes_fill l h = one_fine v takes_fill l l.kind h
 
-constant_short : (v : Version) (blanks : Bool) (l : Lexeme) → SomeIs (λ x. cost x ≤ weight l) (constant v blanks l)
-constant_short v blanks l = one_short v blanks l l.kind
+constant_short : (v : Version) (takes_fill : Bool) (l : Lexeme) → SomeIs (λ x. cost x ≤ weight l) (constant v takes_fill l)
+constant_short v takes_fill l = one_short v takes_fill l l.kind
 
-pub constants_fine : (v : Version) (blanks : Bool) (ls : List Lexeme) → Each HasBytes ls → SomeIs (Each (IsFineValue v)) (constants v blanks ls)
-constants_fine v blanks [] h = tt
-constants_fine v blanks (l ∷ []) h =
-    some_both (IsFineValue v) (Each (IsFineValue v)) (Each (IsFineValue v)) (λ x xs. x ∷ xs) (constant v blanks l) (Some []) (constant_fine v blanks l h.0) tt (λ x xs a b. (a, b))
-constants_fine v blanks (l ∷ c ∷ ls) h =
-    some_given (Each (IsFineValue v)) (is_mark 0x2c c) (both (λ x xs. x ∷ xs) (constant v blanks l) (constants v blanks ls)) (λ q.
-    some_both (IsFineValue v) (Each (IsFineValue v)) (Each (IsFineValue v)) (λ x xs. x ∷ xs) (constant v blanks l) (constants v blanks ls) (constant_fine v blanks l h.0) (constants_fine v blanks ls h.1.1) (λ x xs a b. (a, b)))
+pub constants_fine : (v : Version) (takes_fill : Bool) (ls : List Lexeme) → Each HasBytes ls → SomeIs (Each (IsFineValue v)) (constants v takes_fill ls)
+constants_fine v takes_fill [] h = tt
+constants_fine v takes_fill (l ∷ []) h =
+    some_both (IsFineValue v) (Each (IsFineValue v)) (Each (IsFineValue v)) (λ x xs. x ∷ xs) (constant v takes_fill l) (Some []) (constant_fine v takes_fill l h.0) tt (λ x xs a b. (a, b))
+constants_fine v takes_fill (l ∷ c ∷ ls) h =
+    some_given (Each (IsFineValue v)) (is_mark 0x2c c) (both (λ x xs. x ∷ xs) (constant v takes_fill l) (constants v takes_fill ls)) (λ q.
+    some_both (IsFineValue v) (Each (IsFineValue v)) (Each (IsFineValue v)) (λ x xs. x ∷ xs) (constant v takes_fill l) (constants v takes_fill ls) (constant_fine v takes_fill l h.0) (constants_fine v takes_fill ls h.1.1) (λ x xs a b. (a, b)))
 
-pub constants_short : (v : Version) (blanks : Bool) (ls : List Lexeme) → SomeIs (λ xs. total cost xs ≤ mass ls) (constants v blanks ls)
-constants_short v blanks [] = tt
-constants_short v blanks (l ∷ []) =
-    some_both (λ x. cost x ≤ weight l) (λ xs. total cost xs ≤ 0) (λ xs. total cost xs ≤ mass (l ∷ [])) (λ x xs. x ∷ xs) (constant v blanks l) (Some []) (constant_short v blanks l) (omega arith) (λ x xs a b. omega (arith, a, b))
-constants_short v blanks (l ∷ c ∷ ls) =
-    some_given (λ xs. total cost xs ≤ mass (l ∷ c ∷ ls)) (is_mark 0x2c c) (both (λ x xs. x ∷ xs) (constant v blanks l) (constants v blanks ls)) (λ q.
-    some_both (λ x. cost x ≤ weight l) (λ xs. total cost xs ≤ mass ls) (λ xs. total cost xs ≤ mass (l ∷ c ∷ ls)) (λ x xs. x ∷ xs) (constant v blanks l) (constants v blanks ls) (constant_short v blanks l) (constants_short v blanks ls) (λ x xs a b. omega (arith, a, b)))
+pub constants_short : (v : Version) (takes_fill : Bool) (ls : List Lexeme) → SomeIs (λ xs. total cost xs ≤ mass ls) (constants v takes_fill ls)
+constants_short v takes_fill [] = tt
+constants_short v takes_fill (l ∷ []) =
+    some_both (λ x. cost x ≤ weight l) (λ xs. total cost xs ≤ 0) (λ xs. total cost xs ≤ mass (l ∷ [])) (λ x xs. x ∷ xs) (constant v takes_fill l) (Some []) (constant_short v takes_fill l) (omega arith) (λ x xs a b. omega (arith, a, b))
+constants_short v takes_fill (l ∷ c ∷ ls) =
+    some_given (λ xs. total cost xs ≤ mass (l ∷ c ∷ ls)) (is_mark 0x2c c) (both (λ x xs. x ∷ xs) (constant v takes_fill l) (constants v takes_fill ls)) (λ q.
+    some_both (λ x. cost x ≤ weight l) (λ xs. total cost xs ≤ mass ls) (λ xs. total cost xs ≤ mass (l ∷ c ∷ ls)) (λ x xs. x ∷ xs) (constant v takes_fill l) (constants v takes_fill ls) (constant_short v takes_fill l) (constants_short v takes_fill ls) (λ x xs a b. omega (arith, a, b)))
 
 -- ---- dimensions and variables
 

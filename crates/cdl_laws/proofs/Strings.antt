@@ -8,11 +8,11 @@ use Rattle.std.proofs.Math.Seq.{take-append_seam}
 use Rattle.nc_base.specs.Escapes.{escaped_in_string, octal_escape}
 use Rattle.cdl_text.specs.declared.token.TokenKind.TheVariants as kinds
 use Rattle.cdl_text.specs.Bytes.{is_octal, is_digit}
-use Rattle.cdl_text.specs.Front.{until, front, text_front}
+use Rattle.cdl_text.specs.Scan.{until, scan, scan_text}
 use Rattle.cdl_text.specs.Escapes.{character, byte, digit, plain_escape, unescape, unescape_at, joined}
 use Rattle.cdl_text.specs.Lexemes.{Lexeme}
-use Rattle.cdl_laws.proofs.Words.{until_front}
-use Rattle.cdl_laws.proofs.Texts.{Closed, front_again}
+use Rattle.cdl_laws.proofs.Words.{until_prefix}
+use Rattle.cdl_laws.proofs.Texts.{Closed, prefix_again}
 
 -- ---- the characters
 
@@ -20,7 +20,7 @@ not_octal : (b c : ℕ) → is_octal c ≡ false → is_octal b ≡ true → (b 
 not_octal b c o on = elim (b == c) as (λ w. (b == c) ≡ w → w ≡ false) [ true ↦ (λ e. absurd (false≢true (sym o ∙ subst (λ n. is_octal n ≡ true) (eqb-true b c e) on))) | false ↦ (λ e. refl) ] refl
 
 pub until_plain : (close b : ℕ) (rest : List ℕ) → (b == 0x5c) ≡ false → (b == close) ≡ false → until close (b ∷ rest) ≡ 1 + until close rest
-until_plain close b rest h k = until_front close b rest ∙ rw (h) (rw (k) refl)
+until_plain close b rest h k = until_prefix close b rest ∙ rw (h) (rw (k) refl)
 
 until_octal : (d e f : ℕ) (rest : List ℕ) → is_octal e ≡ true → is_octal f ≡ true → until 0x22 (0x5c ∷ d ∷ e ∷ f ∷ rest) ≡ 4 + until 0x22 rest
 unfolding until
@@ -38,21 +38,21 @@ unfolding unescape_at
 unescape_octal d e f n rest h k l is = rw (character_octal d e f rest h k l) (rw (is) refl)
 
 -- how a byte stands in a string: as an escape of one letter, in octal, or as it is
-data Stands (b : ℕ) : Type 0 where
-  letter : (c : ℕ) → is_octal c ≡ false → (c == 0x78) ≡ false → plain_escape c ≡ b → escaped_in_string b ≡ 0x5c ∷ c ∷ [] → Stands b
-  octal : b < 256 → escaped_in_string b ≡ octal_escape b → Stands b
-  bare : (b == 0x5c) ≡ false → (b == 0x22) ≡ false → escaped_in_string b ≡ b ∷ [] → Stands b
+data IsEscapedAs (b : ℕ) : Type 0 where
+  letter : (c : ℕ) → is_octal c ≡ false → (c == 0x78) ≡ false → plain_escape c ≡ b → escaped_in_string b ≡ 0x5c ∷ c ∷ [] → IsEscapedAs b
+  octal : b < 256 → escaped_in_string b ≡ octal_escape b → IsEscapedAs b
+  bare : (b == 0x5c) ≡ false → (b == 0x22) ≡ false → escaped_in_string b ≡ b ∷ [] → IsEscapedAs b
 
-at_literal : (n b : ℕ) → (b == n) ≡ true → Stands n → Stands b
-at_literal n b e s = subst Stands (sym (eqb-true b n e)) s
+at_literal : (n b : ℕ) → (b == n) ≡ true → IsEscapedAs n → IsEscapedAs b
+at_literal n b e s = subst IsEscapedAs (sym (eqb-true b n e)) s
 
 control_byte : (b : ℕ) → is_ascii_control b ≡ true → b < 256
 control_byte b h = grind (arith, h)
 
-split : (b n : ℕ) → ((b == n) ≡ true → Stands b) → ((b == n) ≡ false → Stands b) → Stands b
-split b n on other = elim (b == n) as (λ w. (b == n) ≡ w → Stands b) [ true ↦ on | false ↦ other ] refl
+split : (b n : ℕ) → ((b == n) ≡ true → IsEscapedAs b) → ((b == n) ≡ false → IsEscapedAs b) → IsEscapedAs b
+split b n on other = elim (b == n) as (λ w. (b == n) ≡ w → IsEscapedAs b) [ true ↦ on | false ↦ other ] refl
 
-stands : (b : ℕ) → Stands b
+stands : (b : ℕ) → IsEscapedAs b
 stands b =
     split b 8 (λ e. at_literal 8 b e (letter 98 refl refl refl refl)) (λ e8.
     split b 9 (λ e. at_literal 9 b e (letter 116 refl refl refl refl)) (λ e9.
@@ -63,7 +63,7 @@ stands b =
     split b 34 (λ e. at_literal 34 b e (letter 34 refl refl refl refl)) (λ e34.
     split b 39 (λ e. at_literal 39 b e (letter 39 refl refl refl refl)) (λ e39.
     split b 92 (λ e. at_literal 92 b e (letter 92 refl refl refl refl)) (λ e92.
-    elim (is_ascii_control b) as (λ w. is_ascii_control b ≡ w → Stands b) [
+    elim (is_ascii_control b) as (λ w. is_ascii_control b ≡ w → IsEscapedAs b) [
       | true ↦ (λ e. octal (control_byte b e) (rw (e8) (rw (e9) (rw (e10) (rw (e11) (rw (e12) (rw (e13) (rw (e34) (rw (e39) (rw (e92) (rw (e) refl)))))))))))
       | false ↦ (λ e. bare e92 e34 (rw (e8) (rw (e9) (rw (e10) (rw (e11) (rw (e12) (rw (e13) (rw (e34) (rw (e39) (rw (e92) (rw (e) refl)))))))))))
     ] refl)))))))))
@@ -87,7 +87,7 @@ octal_value b h =
     (let e : 64 * (b / 64) + 8 * (b / 8 % 8) + b % 8 ≡ b = omega arith in rw (e) (let f : nat_lt 255 b ≡ false = grind arith in rw (f) refl))))
 
 -- one byte
-until_one : (b : ℕ) (rest : List ℕ) → Stands b → until 0x22 (escaped_in_string b ++ rest) ≡ length (escaped_in_string b) + until 0x22 rest
+until_one : (b : ℕ) (rest : List ℕ) → IsEscapedAs b → until 0x22 (escaped_in_string b ++ rest) ≡ length (escaped_in_string b) + until 0x22 rest
 unfolding until
 until_one b rest (letter c o x is same) = rw (same) refl
 until_one b rest (octal small same) = rw (same) (until_octal (48 + b / 64) (48 + b / 8 % 8) (48 + b % 8) rest (middle_octal b) (low_octal b))
@@ -97,7 +97,7 @@ letter_again : (c : ℕ) (rest : List ℕ) → is_octal c ≡ false → (c == 0x
 unfolding unescape_at character
 letter_again c rest o x = rw (o) (rw (x) refl)
 
-unescape_one : (b : ℕ) (rest : List ℕ) → Stands b → unescape (escaped_in_string b ++ rest) ≡ joined (Some b) (unescape rest)
+unescape_one : (b : ℕ) (rest : List ℕ) → IsEscapedAs b → unescape (escaped_in_string b ++ rest) ≡ joined (Some b) (unescape rest)
 unfolding unescape_at character
 unescape_one b rest (letter c o x is same) = rw (same) (letter_again c rest o x ∙ ap (λ n. joined (Some n) (unescape rest)) is)
 unescape_one b rest (octal small same) =
@@ -127,18 +127,18 @@ quoted bytes = 0x22 ∷ (flat_map escaped_in_string bytes ++ 0x22 ∷ [])
 abbrev pub string : List ℕ → Lexeme
 string bytes = record { kind = kinds.Text; bytes = quoted bytes }
 
-pub text_len : (w rest : List ℕ) (n : ℕ) → n ≡ length w → is_some (unescape w) ≡ true → text_front (w ++ 0x22 ∷ rest) n ≡ record { kind = Some kinds.Text; len = length w + 2 }
+pub text_len : (w rest : List ℕ) (n : ℕ) → n ≡ length w → is_some (unescape w) ≡ true → scan_text (w ++ 0x22 ∷ rest) n ≡ record { kind = Some kinds.Text; len = length w + 2 }
 text_len w rest n e h = rw (e) (let f : nat_lt (length w) (length (w ++ 0x22 ∷ rest)) ≡ true = (let g = length-append w (0x22 ∷ rest) in grind (arith, g)) in rw (f) (rw (take-append_seam w (0x22 ∷ rest)) (rw (h) refl)))
 
-quoted_front : (w rest : List ℕ) → until 0x22 (w ++ 0x22 ∷ rest) ≡ length w → is_some (unescape w) ≡ true → front false (0x22 ∷ (w ++ 0x22 ∷ rest)) ≡ record { kind = Some kinds.Text; len = length w + 2 }
-unfolding front
-quoted_front w rest h k = text_len w rest (until 0x22 (w ++ 0x22 ∷ rest)) h k
+quoted_prefix : (w rest : List ℕ) → until 0x22 (w ++ 0x22 ∷ rest) ≡ length w → is_some (unescape w) ≡ true → scan false (0x22 ∷ (w ++ 0x22 ∷ rest)) ≡ record { kind = Some kinds.Text; len = length w + 2 }
+unfolding scan
+quoted_prefix w rest h k = text_len w rest (until 0x22 (w ++ 0x22 ∷ rest)) h k
 
 pub string_closed : (bytes : List ℕ) → Closed (quoted bytes) (string bytes ∷ [])
 string_closed bytes rest =
     let w = flat_map escaped_in_string bytes in
-    front_again false (Some kinds.Text) 0x22 (w ++ 0x22 ∷ []) rest
-    (ap (λ xs. front false (0x22 ∷ xs)) (append_assoc w (0x22 ∷ []) rest) ∙ quoted_front w rest (until_all bytes rest) (ap is_some (unescape_all bytes)) ∙
+    prefix_again false (Some kinds.Text) 0x22 (w ++ 0x22 ∷ []) rest
+    (ap (λ xs. scan false (0x22 ∷ xs)) (append_assoc w (0x22 ∷ []) rest) ∙ quoted_prefix w rest (until_all bytes rest) (ap is_some (unescape_all bytes)) ∙
     ap (λ n. record { kind = Some kinds.Text; len = n }) (let g = length-append w (0x22 ∷ []) in let e : length w + 2 ≡ suc (length (w ++ 0x22 ∷ [])) = omega (arith, g) in e))
 
 -- what is between its quotes

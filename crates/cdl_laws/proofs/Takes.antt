@@ -10,10 +10,10 @@ use Rattle.cdl_text.specs.declared.section.Section.TheVariants.{Globals, Dimensi
 use Rattle.cdl_text.specs.declared.section.Section.TheVariants as sections
 use Rattle.cdl_text.specs.declared.piece.Role.{Role}
 use Rattle.cdl_text.specs.declared.piece.Role.TheVariants as roles
-use Rattle.cdl_text.specs.declared.piece.Place.TheVariants.{Begins, Inside}
+use Rattle.cdl_text.specs.declared.piece.CutState.TheVariants.{Begins, Inside}
 use Rattle.cdl_text.specs.Lexemes.{Lexeme, role}
 use Rattle.cdl_parse.specs.Meaning.{piece_read}
-use Rattle.cdl_text.specs.Pieces.{pieces_at, step, going, unless_end, in_front, first_role, is_end_role, is_section}
+use Rattle.cdl_text.specs.Pieces.{pieces_at, step, going, unless_end, with_first, first_role, is_end_role, is_section}
 use Rattle.cdl_laws.specs.Reading.{lexemes_at, pieces_of}
 use Rattle.cdl_text.specs.Shapes.{Statement, first_bad, token_fault, shape, before_mark, body}
 use Rattle.cdl_parse.specs.State.{State, act, in_turn}
@@ -88,14 +88,14 @@ inside_one [] rest h = refl
 inside_one (t ∷ p) rest h =
     let one : is_plain (role t) ≡ true = and_left (is_plain (role t)) (all_plain p) h in
     let more : all_plain p ≡ true = and_right (is_plain (role t)) (all_plain p) h in
-    rw (inside_going (role t) (first_role role (p ++ semicolon ∷ rest)) one (next_no_end p rest more)) (ap (in_front false t) (inside_one p rest more))
+    rw (inside_going (role t) (first_role role (p ++ semicolon ∷ rest)) one (next_no_end p rest more)) (ap (with_first false t) (inside_one p rest more))
 
 pub one_piece : (t : Lexeme) (p rest : List Lexeme) → is_starter (role t) ≡ true → all_plain p ≡ true →
     pieces_at role Begins ((t ∷ p ++ semicolon ∷ []) ++ rest) ≡ (t ∷ p ++ semicolon ∷ []) ∷ pieces_at role Begins rest
 unfolding pieces_at
 one_piece t p rest start h =
     ap (λ ls. pieces_at role Begins (t ∷ ls)) (append_assoc p (semicolon ∷ []) rest) ∙
-    rw (begins_going (role t) (first_role role (p ++ semicolon ∷ rest)) start (next_no_end p rest h)) (ap (in_front false t) (inside_one p rest h))
+    rw (begins_going (role t) (first_role role (p ++ semicolon ∷ rest)) start (next_no_end p rest h)) (ap (with_first false t) (inside_one p rest h))
 
 -- ---- what a text makes of a state
 

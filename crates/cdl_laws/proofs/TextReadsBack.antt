@@ -15,7 +15,7 @@ use Rattle.nc_base.specs.declared.version.Version.{Version}
 use Rattle.nc_base.specs.Dump.{Options, Ending, whole, IsText, unknown, shown, Section, dump_text, shown_values, content_of, selection_of}
 use Rattle.nc_base.specs.Headers.{IsGood, IsSoundVar, bare, bare_var}
 use Rattle.nc_base.specs.Names.{IsName}
-use Rattle.nc_base.specs.Sizes.{slab_count, slab_size, slab_limit, record_limit, record_vars, packed_size}
+use Rattle.nc_base.specs.Sizes.{slab_count, slab_size, slab_limit, record_limit, record_vars, record_size_of}
 use Rattle.cdl_text.specs.declared.section.Section.TheVariants.{Ended}
 use Rattle.cdl_parse.specs.Meaning.{meaning, is_small, is_small_enough, dataset_of, array_of, records_in}
 use Rattle.cdl_laws.specs.RoundTrip.{IsFull, TextReadsBack}
@@ -23,7 +23,7 @@ use Rattle.nc_base.specs.Sayable.{trimmed, trimmed_att, trimmed_var, AreDistinct
 use Rattle.cdl_parse.specs.State.{Draft}
 use Rattle.cdl_laws.proofs.Bools.{and_both}
 use Rattle.cdl_laws.proofs.DataTexts.{given_draft, given_drafts}
-use Rattle.cdl_laws.proofs.Datasets.{keeps_fill, are_back, listings, stand_behind, AreNewVars, all_given, arrays_back, vars_back, records_back}
+use Rattle.cdl_laws.proofs.Datasets.{keeps_fill, are_back, listings, stand_after, AreNewVars, all_given, arrays_back, vars_back, records_back}
 use Rattle.cdl_laws.proofs.Dumps.{text_back}
 use Rattle.cdl_laws.proofs.Limits.{slab_some, all_small, same_record}
 use Rattle.cdl_laws.proofs.Lists.{Each, each_of, each_map}
@@ -65,12 +65,12 @@ same_dataset v dims gatts drafts vars arrays n r vs xs =
     ap (λ (ys : List (List ℕ)). record { header = record { version = v; numrecs = Known n; dims = dims; gatts = gatts; vars = vars }; arrays = ys }) xs
 
 small_all : (v : Version) (dims : List Dim) (gatts : List Att) (drafts : List Draft) (vars : List Var) (n : ℕ) → records_in dims drafts ≡ n → map (λ (d : Draft). d.var) drafts ≡ vars →
-    list_all (is_small dims n) drafts ≡ true → packed_size dims (record_vars dims vars) ≤ record_limit → is_small_enough v (state Ended dims gatts drafts) ≡ true
+    list_all (is_small dims n) drafts ≡ true → record_size_of dims (record_vars dims vars) ≤ record_limit → is_small_enough v (state Ended dims gatts drafts) ≡ true
 unfolding is_small_enough
 small_all v dims gatts drafts vars n r vs small limit =
-    and_both (list_all (is_small dims (records_in dims drafts)) drafts) (nat_le (packed_size dims (record_vars dims (map (λ (d : Draft). d.var) drafts))) record_limit)
+    and_both (list_all (is_small dims (records_in dims drafts)) drafts) (nat_le (record_size_of dims (record_vars dims (map (λ (d : Draft). d.var) drafts))) record_limit)
     (ap (λ k. list_all (is_small dims k) drafts) r ∙ small)
-    (ap (λ ws. nat_le (packed_size dims (record_vars dims ws)) record_limit) vs ∙ grind (arith, limit))
+    (ap (λ ws. nat_le (record_size_of dims (record_vars dims ws)) record_limit) vs ∙ grind (arith, limit))
 
 ready : (d : Dataset) (o : Options) → IsSayable d → IsFull o → (section : Section) → (g : IsGood d) → section ≡ shown_values d.header o (content_of d) g.records (selection_of d.header o) →
     meaning (dump_text d.header o g.records section) d.header.version ≡ Ok (trimmed d)
@@ -100,7 +100,7 @@ ready d o s full section g is =
       vars = vars_fit v h.dims h.vars s.names head;
       gatts = atts_speak v h.gatts g.is_sound.gatts g.values.gatts s.gatts.some g.names.gatts;
       fresh = atts_new h.gatts s.gatts.names;
-      given = all_given v d n o.width 0 [] h.vars d.arrays backs (stand_behind [] d.arrays) (new_vars [] h.vars os (none_before (map var_name h.vars)) s.names (each_map (IsSayableHead v h.dims) (λ (var : Var). IsName var.name) h.vars (λ var x. x.name) head));
+      given = all_given v d n o.width 0 [] h.vars d.arrays backs (stand_after [] d.arrays) (new_vars [] h.vars os (none_before (map var_name h.vars)) s.names (each_map (IsSayableHead v h.dims) (λ (var : Var). IsName var.name) h.vars (λ var x. x.name) head));
       small = small_all v h.dims gatts drafts (map trimmed_var h.vars) n count vars (all_small v h n o.width h.vars d.arrays backs g.arrays limits) (subst (λ m. m ≤ record_limit) (sym (same_record h.dims h.vars)) g.is_sound.small_records);
       back = same_dataset v h.dims gatts drafts (map trimmed_var h.vars) d.arrays n count vars (arrays_back v h n o.width h.vars d.arrays backs) ∙
           ap (λ (r : NumRecs). record { header = record { version = v; numrecs = r; dims = h.dims; gatts = gatts; vars = map trimmed_var h.vars }; arrays = d.arrays }) (sym known);

@@ -4,11 +4,11 @@ use Rattle.std.specs.Prelude.{◌&&◌, ◌==◌, nat_lt, not, if◌then◌else�
 use Rattle.std.specs.List.{prefix_len}
 use Rattle.cdl_text.specs.Bytes.{is_blank, goes_on_number, is_mark}
 use Rattle.cdl_text.specs.Escapes.{unescape, stands}
-use Rattle.cdl_text.specs.Front.{front, gap, token, text_front, opening_front, until, word_len, begins_opening, begins_a_word, begins_number, begins_comment}
+use Rattle.cdl_text.specs.Scan.{scan, gap, token, scan_text, scan_opening, until, word_len, begins_opening, begins_a_word, begins_number, begins_comment}
 use Rattle.cdl_text.specs.Pieces.{raw}
 use Rattle.cdl_text.specs.Shapes.{inner}
 use Rattle.cdl_text.specs.Tokens.{tokens_at, tokens, with_token, token_at}
-use Rattle.cdl_text.specs.declared.front.Front.{Front}
+use Rattle.cdl_text.specs.declared.scan.Scanned.{Scanned}
 use Rattle.cdl_text.specs.declared.token.Token.{Token}
 use Rattle.cdl_text.specs.declared.token.TokenKind.{TokenKind}
 use Rattle.cdl_text.specs.declared.token.TokenKind.TheVariants as kinds
@@ -19,25 +19,25 @@ use Rattle.cdl_laws.proofs.Lists.{Each, all_of}
 
 -- ---- what a string token is made of
 
--- a closing quote, behind bytes each of whose characters stands for a byte
+-- a closing quote, after bytes each of whose characters stands for a byte
 record IsString (bytes : List ℕ) (len : ℕ) : Type 0 where
   pub body : ℕ
   pub inside : body < length bytes
   pub sound : is_some (unescape (take body bytes)) ≡ true
   pub past : len ≡ body + 2
 
--- what a front says of these bytes if it is a string
-abbrev SaysString : List ℕ → Front → Type 0
+-- what a prefix says of these bytes if it is a string
+abbrev SaysString : List ℕ → Scanned → Type 0
 SaysString bytes f = f.kind ≡ Some kinds.Text → IsString bytes f.len
 
-either : (bytes : List ℕ) (b : Bool) (f g : Front) → SaysString bytes f → SaysString bytes g → SaysString bytes (if b then f else g)
+either : (bytes : List ℕ) (b : Bool) (f g : Scanned) → SaysString bytes f → SaysString bytes g → SaysString bytes (if b then f else g)
 either bytes true f g p q = p
 either bytes false f g p q = q
 
 inside : (m n : ℕ) → nat_lt m n ≡ true → m < n
 inside m n h = grind (arith, h)
 
-text_says : (bytes : List ℕ) (n : ℕ) → SaysString bytes (text_front bytes n)
+text_says : (bytes : List ℕ) (n : ℕ) → SaysString bytes (scan_text bytes n)
 text_says bytes n =
     elim (nat_lt n (length bytes)) as (λ b. nat_lt n (length bytes) ≡ b → SaysString bytes (if b then token (if is_some (unescape (take n bytes)) then kinds.Text else kinds.Bad) (n + 2) else token kinds.Bad (1 + length bytes))) [
       | true ↦ (λ h. elim (is_some (unescape (take n bytes))) as (λ b. is_some (unescape (take n bytes)) ≡ b → SaysString bytes (token (if b then kinds.Text else kinds.Bad) (n + 2))) [
@@ -47,25 +47,25 @@ text_says bytes n =
       | false ↦ (λ h e. cc)
     ] refl
 
-opening_says : (bytes bs : List ℕ) (n : ℕ) → SaysString bytes (opening_front bs n)
+opening_says : (bytes bs : List ℕ) (n : ℕ) → SaysString bytes (scan_opening bs n)
 opening_says bytes bs n = either bytes (nat_lt n (length bs)) (token kinds.Opening (6 + n + 1)) (token kinds.Bad (6 + length bs)) (λ e. cc) (λ e. cc)
 
-front_says : (fresh : Bool) (bs : List ℕ) → SaysString (drop 1 bs) (front fresh bs)
-unfolding front
-front_says fresh bs =
+prefix_says : (fresh : Bool) (bs : List ℕ) → SaysString (drop 1 bs) (scan fresh bs)
+unfolding scan
+prefix_says fresh bs =
     let bytes = drop 1 bs in
     let marks = if is_mark (get_or bs 0 0) then token kinds.Mark 1 else token kinds.Bad 1 in
-    let strings = if get_or bs 0 0 == 0x22 then text_front bytes (until 0x22 bytes) else marks in
+    let strings = if get_or bs 0 0 == 0x22 then scan_text bytes (until 0x22 bytes) else marks in
     let comments = if begins_comment bs then gap (prefix_len (λ b. not (b == 0x0a)) bs) else strings in
-    let blanks = if is_blank (get_or bs 0 0) then gap 1 else comments in
-    let numbers = if begins_number bs then token kinds.Number (1 + prefix_len goes_on_number bytes) else blanks in
+    let takes_fill = if is_blank (get_or bs 0 0) then gap 1 else comments in
+    let numbers = if begins_number bs then token kinds.Number (1 + prefix_len goes_on_number bytes) else takes_fill in
     let words = if begins_a_word bs then token kinds.Word (word_len bs) else numbers in
-    either bytes (fresh && begins_opening bs) (opening_front (drop 6 bs) (until 0x7b (drop 6 bs))) words (opening_says bytes (drop 6 bs) (until 0x7b (drop 6 bs)))
+    either bytes (fresh && begins_opening bs) (scan_opening (drop 6 bs) (until 0x7b (drop 6 bs))) words (opening_says bytes (drop 6 bs) (until 0x7b (drop 6 bs)))
     (either bytes (begins_a_word bs) (token kinds.Word (word_len bs)) numbers (λ e. cc)
-    (either bytes (begins_number bs) (token kinds.Number (1 + prefix_len goes_on_number bytes)) blanks (λ e. cc)
+    (either bytes (begins_number bs) (token kinds.Number (1 + prefix_len goes_on_number bytes)) takes_fill (λ e. cc)
     (either bytes (is_blank (get_or bs 0 0)) (gap 1) comments (λ e. cc)
     (either bytes (begins_comment bs) (gap (prefix_len (λ b. not (b == 0x0a)) bs)) strings (λ e. cc)
-    (either bytes (get_or bs 0 0 == 0x22) (text_front bytes (until 0x22 bytes)) marks (text_says bytes (until 0x22 bytes))
+    (either bytes (get_or bs 0 0 == 0x22) (scan_text bytes (until 0x22 bytes)) marks (text_says bytes (until 0x22 bytes))
     (either bytes (is_mark (get_or bs 0 0)) (token kinds.Mark 1) (token kinds.Bad 1) (λ e. cc) (λ e. cc)))))))
 
 -- ---- what it stands for
@@ -97,7 +97,7 @@ string_stands b len bytes s =
 
 -- ---- the tokens of a text
 
--- a token of a kind and a length, in front of others
+-- a token of a kind and a length, before others
 with_one : (text : List ℕ) (at : ℕ) (k : Option TokenKind) (n : ℕ) (rest : List Token) → (k ≡ Some kinds.Text → unescape (inner (raw text (token_at text at kinds.Text n))) ≡ Some (stands (inner (raw text (token_at text at kinds.Text n))))) →
     Each (StandsForBytes text) rest → Each (StandsForBytes text) (with_token text at k n rest)
 with_one text at None n rest h all = all
@@ -111,9 +111,9 @@ unfolding tokens_at
 strings_stand text fresh at more [] e = ((λ h. cc), tt)
 strings_stand text fresh at (suc more) (b ∷ bytes) e = strings_stand text fresh (at + 1) more bytes (tail_at text at b bytes e)
 strings_stand text fresh at zero (b ∷ bytes) e =
-    let f = front fresh (b ∷ bytes) in
+    let f = scan fresh (b ∷ bytes) in
     with_one text at f.kind f.len (tokens_at text (fresh && is_none f.kind) (at + 1) (f.len - 1) bytes)
-    (λ is. subst (λ xs. unescape (inner xs) ≡ Some (stands (inner xs))) (sym (raw_is text at f.len (b ∷ bytes) e)) (string_stands b f.len bytes (front_says fresh (b ∷ bytes) is)))
+    (λ is. subst (λ xs. unescape (inner xs) ≡ Some (stands (inner xs))) (sym (raw_is text at f.len (b ∷ bytes) e)) (string_stands b f.len bytes (prefix_says fresh (b ∷ bytes) is)))
     (strings_stand text (fresh && is_none f.kind) (at + 1) (f.len - 1) bytes (tail_at text at b bytes e))
 
 pub strings_stand_for_bytes : StringsStandForBytes

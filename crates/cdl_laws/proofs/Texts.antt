@@ -11,11 +11,11 @@ use Rattle.nc_base.specs.Names.{IsName, has_name_bytes, may_begin_name, may_foll
 use Rattle.std.specs.Str.{is_utf8}
 use Rattle.cdl_text.specs.declared.token.TokenKind.TheVariants as kinds
 use Rattle.cdl_text.specs.Bytes.{is_digit, is_escape, goes_on_word, goes_on_number, begins_word}
-use Rattle.cdl_text.specs.Front.{word_len, front, begins_a_word, token}
+use Rattle.cdl_text.specs.Scan.{word_len, scan, begins_a_word, token}
 use Rattle.cdl_text.specs.Lexemes.{Lexeme, name_of}
 use Rattle.cdl_laws.specs.Reading.{lexemes_at, with_lexeme}
 use Rattle.cdl_text.specs.declared.token.TokenKind.{TokenKind}
-use Rattle.cdl_laws.proofs.Words.{word_front}
+use Rattle.cdl_laws.proofs.Words.{word_prefix}
 use Rattle.cdl_laws.proofs.Bools.{and_left, and_right, off}
 use Rattle.cdl_laws.proofs.NameTexts.{rest_of, marked_plain, no_escape, Begins, marked, bare, begins, name_len, name_begins, name_value, name_free}
 
@@ -27,10 +27,10 @@ lexemes_skip fresh zero bytes = refl
 lexemes_skip fresh (suc more) [] = refl
 lexemes_skip fresh (suc more) (b ∷ bytes) = lexemes_skip fresh more bytes
 
-pub front_again : (fresh : Bool) (k : Option TokenKind) (b : ℕ) (w rest : List ℕ) → front fresh ((b ∷ w) ++ rest) ≡ record { kind = k; len = length (b ∷ w) } →
+pub prefix_again : (fresh : Bool) (k : Option TokenKind) (b : ℕ) (w rest : List ℕ) → scan fresh ((b ∷ w) ++ rest) ≡ record { kind = k; len = length (b ∷ w) } →
     lexemes_at fresh 0 ((b ∷ w) ++ rest) ≡ with_lexeme k (b ∷ w) (lexemes_at (fresh && is_none k) 0 rest)
 unfolding lexemes_at
-front_again fresh kind b w rest h =
+prefix_again fresh kind b w rest h =
     let k : length (b ∷ w) - 1 ≡ length w = (let e : suc (length w) - 1 ≡ length w = omega arith in e) in
     rw (h)
     (ap (λ bs. with_lexeme kind bs (lexemes_at (fresh && is_none kind) (length (b ∷ w) - 1) (w ++ rest))) (take-append_seam (b ∷ w) rest) ∙
@@ -97,7 +97,7 @@ no_backslash b h = off (b == 0x5c) (and_right (not (goes_on_word b)) (not (b == 
 pub stop_word : (rest : List ℕ) → stops rest ≡ true → word_len rest ≡ 0
 unfolding word_len
 stop_word [] h = refl
-stop_word (b ∷ rest) h = word_front b rest ∙ rw (no_backslash b h) (rw (bare_stop b h) refl)
+stop_word (b ∷ rest) h = word_prefix b rest ∙ rw (no_backslash b h) (rw (bare_stop b h) refl)
 
 -- by the tests: digit, upper, lower, `_`, point, `@ + -`, beyond
 no_number : (d u l s p a c e x : Bool) → (((d || u) || l) || s || (p || a || c || e) || x) ≡ false → ((u || l) || d || s || p) ≡ false
@@ -120,9 +120,9 @@ word bytes = record { kind = kinds.Word; bytes = bytes }
 
 pub word_reads : (b : ℕ) (w : List ℕ) → ((rest : List ℕ) → begins_a_word ((b ∷ w) ++ rest) ≡ true) → ((rest : List ℕ) → stops rest ≡ true → word_len ((b ∷ w) ++ rest) ≡ length (b ∷ w)) →
     Reads (b ∷ w) (word (b ∷ w) ∷ [])
-unfolding front
+unfolding scan
 word_reads b w some len rest h =
-    front_again false (Some kinds.Word) b w rest (rw (some rest) (ap (token kinds.Word) (len rest h)))
+    prefix_again false (Some kinds.Word) b w rest (rw (some rest) (ap (token kinds.Word) (len rest h)))
 
 pub some_name : (name : List ℕ) → IsName name → has_name_bytes name ≡ true
 some_name name h = and_left (has_name_bytes name) (not (ends_with_space name)) (and_left (has_name_bytes name && not (ends_with_space name)) (is_utf8 name) h)
@@ -169,14 +169,14 @@ digit_no_escape b c h = no_escape b c (marked_plain b (rw (h) refl))
 
 -- a digit and what goes on a number
 pub digits_read : (b : ℕ) (w : List ℕ) → is_digit b ≡ true → list_all goes_on_number w ≡ true → Reads (b ∷ w) (number (b ∷ w) ∷ [])
-unfolding front
+unfolding scan
 digits_read b w h all rest stop =
-    front_again false (Some kinds.Number) b w rest
+    prefix_again false (Some kinds.Number) b w rest
     (rw (digit_no_word b h) (rw (digit_no_escape b (get_or (w ++ rest) 0 0) h) (rw (h) (ap (token kinds.Number) (ap (λ n. 1 + n) (all_on w rest all (stop_number rest stop)) ∙ (let e : 1 + length w ≡ suc (length w) = omega arith in e))))))
 
--- the same behind a minus
+-- the same after a minus
 pub minus_reads : (b : ℕ) (w : List ℕ) → is_digit b ≡ true → list_all goes_on_number (b ∷ w) ≡ true → Reads (45 ∷ b ∷ w) (number (45 ∷ b ∷ w) ∷ [])
-unfolding front
+unfolding scan
 minus_reads b w h all rest stop =
-    front_again false (Some kinds.Number) 45 (b ∷ w) rest
+    prefix_again false (Some kinds.Number) 45 (b ∷ w) rest
     (rw (h) (ap (token kinds.Number) (ap (λ n. 1 + n) (rw h at (all_on (b ∷ w) rest all (stop_number rest stop))) ∙ (let e : 1 + length (b ∷ w) ≡ suc (length (b ∷ w)) = omega arith in e))))

@@ -16,7 +16,7 @@ use Rattle.nc_base.specs.Numbers.{IsInRange}
 use Rattle.nc_base.specs.Types.{number_suffix}
 use Rattle.cdl_text.specs.Bytes.{within, is_digit, is_blank, is_mark, goes_on_word, goes_on_number}
 use Rattle.cdl_text.specs.Escapes.{unescape}
-use Rattle.cdl_text.specs.Front.{word_len, until, front, token, begins_opening, begins_a_word, begins_number}
+use Rattle.cdl_text.specs.Scan.{word_len, until, scan, token, begins_opening, begins_a_word, begins_number}
 use Rattle.cdl_text.specs.declared.token.TokenKind.TheVariants.{Word, Number, Text}
 use Rattle.cdl_text.specs.Shapes.{inner}
 use Rattle.cdl_text.proofs.Strings.{stands_for}
@@ -28,18 +28,18 @@ use Rattle.cdl_laws.proofs.NameTexts.{begins, name_len, name_begins, name_value,
 use Rattle.cdl_laws.proofs.Numerals.{decimal_digits, goes_on, on_suffix, numeral_again, value_again}
 use Rattle.cdl_laws.proofs.Strings.{until_all, unescape_all, text_len, between_quotes}
 use Rattle.cdl_laws.proofs.Texts.{all_on, digit_no_word, digit_no_escape, name_word, some_name}
-use Rattle.cdl_laws.proofs.Words.{word_front, and_false}
+use Rattle.cdl_laws.proofs.Words.{word_prefix, and_false}
 
 -- ---- what begins with a word or a number
 
-front_word : (fresh : Bool) (bs : List ℕ) → begins_opening bs ≡ false → begins_a_word bs ≡ true → front fresh bs ≡ token Word (word_len bs)
-unfolding front
-front_word fresh bs h k = rw (h) (rw (and_false fresh) (rw (k) refl))
+prefix_word : (fresh : Bool) (bs : List ℕ) → begins_opening bs ≡ false → begins_a_word bs ≡ true → scan fresh bs ≡ token Word (word_len bs)
+unfolding scan
+prefix_word fresh bs h k = rw (h) (rw (and_false fresh) (rw (k) refl))
 
-front_number : (fresh : Bool) (bs : List ℕ) → begins_opening bs ≡ false → begins_a_word bs ≡ false → begins_number bs ≡ true →
-    front fresh bs ≡ token Number (1 + prefix_len goes_on_number (drop 1 bs))
-unfolding front
-front_number fresh bs h k l = rw (h) (rw (and_false fresh) (rw (k) (rw (l) refl)))
+prefix_number : (fresh : Bool) (bs : List ℕ) → begins_opening bs ≡ false → begins_a_word bs ≡ false → begins_number bs ≡ true →
+    scan fresh bs ≡ token Number (1 + prefix_len goes_on_number (drop 1 bs))
+unfolding scan
+prefix_number fresh bs h k l = rw (h) (rw (and_false fresh) (rw (k) (rw (l) refl)))
 
 -- an opening begins with six letters
 opening_word : (bs : List ℕ) → begins_opening bs ≡ true → codes "netcdf" ≡ take 6 bs
@@ -95,7 +95,7 @@ mark_stop b h =
     (literal b 0x29 (record { word = refl; slash = refl; number = refl })))
     (literal b 0x7d (record { word = refl; slash = refl; number = refl })) h
 
--- what stands behind the word of an opening
+-- what stands after the word of an opening
 opens_stop : (b : ℕ) → (is_blank b || b == 0x7b) ≡ true → IsStop b
 opens_stop b h = one_of (is_blank b) (b == 0x7b) (blank_stop b) (literal b 0x7b (record { word = refl; slash = refl; number = refl })) h
 
@@ -109,16 +109,16 @@ blanks_and_marks_stop b rest h =
 stop_word : (rest : List ℕ) → StopsWord rest → word_len rest ≡ 0
 unfolding word_len
 stop_word [] stop = refl
-stop_word (b ∷ rest) stop = word_front b rest ∙ rw (stop.escape) (rw (stop.byte) refl)
+stop_word (b ∷ rest) stop = word_prefix b rest ∙ rw (stop.escape) (rw (stop.byte) refl)
 
 ends_word : (bs : List ℕ) → (is_blank (get_or bs 0 0) || get_or bs 0 0 == 0x7b) ≡ true → word_len bs ≡ 0
 unfolding word_len
 ends_word [] h = refl
-ends_word (b ∷ bs) h = word_front b bs ∙ rw ((opens_stop b h).slash) (rw ((opens_stop b h).word) refl)
+ends_word (b ∷ bs) h = word_prefix b bs ∙ rw ((opens_stop b h).slash) (rw ((opens_stop b h).word) refl)
 
 six_letters : (bs : List ℕ) → word_len (codes "netcdf" ++ bs) ≡ 6 + word_len bs
 unfolding word_len
-six_letters bs = ap (λ n. 1 + (1 + (1 + (1 + (1 + n))))) (word_front 102 bs) ∙ omega arith
+six_letters bs = ap (λ n. 1 + (1 + (1 + (1 + (1 + n))))) (word_prefix 102 bs) ∙ omega arith
 
 -- the word that an opening begins with is `netcdf`
 opening_len : (bs : List ℕ) → begins_opening bs ≡ true → word_len bs ≡ 6
@@ -153,7 +153,7 @@ name_back b bs h =
     record {
       token = λ rest stop fresh.
           let len = name_len b bs rest how more (stop_word rest stop) in
-          front_word fresh (w ++ rest) (free_begins w rest free len) (name_begins b bs rest how) ∙ ap (token Word) len;
+          prefix_word fresh (w ++ rest) (free_begins w rest free len) (name_begins b bs rest how) ∙ ap (token Word) len;
       free = free;
       no_section = no_section w free;
       value = name_value b bs how more;
@@ -166,15 +166,15 @@ names_read_back (b ∷ bs) h = name_back b bs h
 
 -- ---- strings
 
-quote_front : (fresh : Bool) (w rest : List ℕ) → until 0x22 (w ++ 0x22 ∷ rest) ≡ length w → is_some (unescape w) ≡ true → front fresh (0x22 ∷ (w ++ 0x22 ∷ rest)) ≡ token Text (length w + 2)
-unfolding front
-quote_front fresh w rest h k = rw (and_false fresh) (text_len w rest (until 0x22 (w ++ 0x22 ∷ rest)) h k)
+quote_prefix : (fresh : Bool) (w rest : List ℕ) → until 0x22 (w ++ 0x22 ∷ rest) ≡ length w → is_some (unescape w) ≡ true → scan fresh (0x22 ∷ (w ++ 0x22 ∷ rest)) ≡ token Text (length w + 2)
+unfolding scan
+quote_prefix fresh w rest h k = rw (and_false fresh) (text_len w rest (until 0x22 (w ++ 0x22 ∷ rest)) h k)
 
 string_token : (bytes rest : List ℕ) → AreToken Text (quoted bytes) rest
 unfolding escaped_text
 string_token bytes rest fresh =
     let w = flat_map escaped_in_string bytes in
-    ap (λ xs. front fresh (0x22 ∷ xs)) (append_assoc w (0x22 ∷ []) rest) ∙ quote_front fresh w rest (until_all bytes rest) (ap is_some (unescape_all bytes)) ∙
+    ap (λ xs. scan fresh (0x22 ∷ xs)) (append_assoc w (0x22 ∷ []) rest) ∙ quote_prefix fresh w rest (until_all bytes rest) (ap is_some (unescape_all bytes)) ∙
     ap (token Text) (let g = length-append w (0x22 ∷ []) in let e : length w + 2 ≡ suc (length (w ++ 0x22 ∷ [])) = omega (arith, g) in e)
 
 inner_is : (bytes : List ℕ) → inner (quoted bytes) ≡ flat_map escaped_in_string bytes
@@ -201,13 +201,13 @@ digit_opens_none b h = grind (arith, h)
 
 digits_token : (b : ℕ) (w rest : List ℕ) → is_digit b ≡ true → list_all goes_on_number w ≡ true → StopsNumber rest → AreToken Number (b ∷ w) rest
 digits_token b w rest h all stop fresh =
-    front_number fresh ((b ∷ w) ++ rest) (other_begins ((b ∷ w) ++ rest) (digit_opens_none b h))
+    prefix_number fresh ((b ∷ w) ++ rest) (other_begins ((b ∷ w) ++ rest) (digit_opens_none b h))
     (rw (digit_no_word b h) (digit_no_escape b (get_or (w ++ rest) 0 0) h)) (rw (h) refl) ∙
     ap (token Number) (ap (λ n. 1 + n) (all_on w rest all (stop_number rest stop)) ∙ (let e : 1 + length w ≡ suc (length w) = omega arith in e))
 
 minus_token : (b : ℕ) (w rest : List ℕ) → is_digit b ≡ true → list_all goes_on_number (b ∷ w) ≡ true → StopsNumber rest → AreToken Number (45 ∷ b ∷ w) rest
 minus_token b w rest h all stop fresh =
-    front_number fresh ((45 ∷ b ∷ w) ++ rest) (other_begins ((45 ∷ b ∷ w) ++ rest) refl) refl (rw (h) refl) ∙
+    prefix_number fresh ((45 ∷ b ∷ w) ++ rest) (other_begins ((45 ∷ b ∷ w) ++ rest) refl) refl (rw (h) refl) ∙
     ap (token Number) (ap (λ n. 1 + n) (all_on (b ∷ w) rest all (stop_number rest stop)) ∙ (let e : 1 + length (b ∷ w) ≡ suc (length (b ∷ w)) = omega arith in e))
 
 unsigned_token : (ds suf rest : List ℕ) → list_all is_digit ds ≡ true → 0 < length ds → list_all goes_on_number suf ≡ true → StopsNumber rest → AreToken Number (ds ++ suf) rest

@@ -4,17 +4,17 @@ use Rattle.std.proofs.lemmas.List.{length-take, length-drop}
 use Rattle.std.specs.Prelude.{Option, None, Some, drop, ◌&&◌, nat_lt, is_none}
 use Rattle.std.specs.Option.{option_map, option_and_then}
 use Rattle.nc_base.specs.declared.version.Version.{Version}
-use Rattle.cdl_text.specs.Front.{front}
+use Rattle.cdl_text.specs.Scan.{scan}
 use Rattle.cdl_text.specs.Lexemes.{Lexeme, lexeme, role, is_mark, is_word_kind, name_of}
-use Rattle.cdl_text.specs.Pieces.{pieces_at, in_front, step, first_role}
+use Rattle.cdl_text.specs.Pieces.{pieces_at, with_first, step, first_role}
 use Rattle.cdl_text.specs.Shapes as shapes
 use Rattle.cdl_text.specs.Shapes.{Value, Dimension, Variable, Statement, Opening, Mark, Declared, Typed, Attribute, Listed, Brace, End, each, either, given, members, dimensions, variable, constants, assigned, global, typed, attribute, body, section_number, section_of, mark_after, section_mark, alone, shape, before_mark, is_kind_opening, is_kind_end}
 use Rattle.cdl_text.specs.Tokens.{tokens, tokens_at, with_token}
 use Rattle.cdl_text.specs.Statements.{statements}
 use Rattle.cdl_text.specs.declared.section.Section.{Section}
 use Rattle.cdl_text.specs.declared.section.Section.TheVariants.{Unopened, Globals, Dimensions, Variables, Values, Closed, Ended}
-use Rattle.cdl_text.specs.declared.piece.Place.{Place}
-use Rattle.cdl_text.specs.declared.piece.Place.TheVariants as places
+use Rattle.cdl_text.specs.declared.piece.CutState.{CutState}
+use Rattle.cdl_text.specs.declared.piece.CutState.TheVariants as places
 use Rattle.cdl_text.specs.declared.piece.Role.{Role}
 use Rattle.cdl_text.specs.declared.token.Token.{Token}
 use Rattle.cdl_text.specs.declared.token.TokenKind.{TokenKind}
@@ -42,14 +42,14 @@ IsSaid v section n (Listed name cs) = AreFineValues v n name cs
 IsSaid v section n Brace = Unit {0}
 IsSaid v section n End = Unit {0}
 
-assigned_says : {A : Type 0} (P : A → Type 0) (v : Version) (blanks : Bool) (f : List ℕ → List Value → A) (ls : List Lexeme) → Each HasBytes ls →
-    ((name : List ℕ) (cs : List Value) → AreFineValues v (mass ls) name cs → P (f name cs)) → SomeIs P (assigned v blanks f ls)
-assigned_says P v blanks f [] h g = tt
-assigned_says P v blanks f (n ∷ []) h g = tt
-assigned_says P v blanks f (n ∷ e ∷ ls) h g =
-    some_given P (is_mark 0x3d e) (shapes.both f (name_of n) (constants v blanks ls)) (λ q.
-    some_both (λ (name : List ℕ). length name ≤ length n.bytes) (λ cs. (total cost cs ≤ mass ls) × Each (IsFineValue v) cs) P f (name_of n) (constants v blanks ls) (name_short n)
-    (some_and (λ cs. total cost cs ≤ mass ls) (Each (IsFineValue v)) (constants v blanks ls) (constants_short v blanks ls) (constants_fine v blanks ls h.1.1))
+assigned_says : {A : Type 0} (P : A → Type 0) (v : Version) (takes_fill : Bool) (f : List ℕ → List Value → A) (ls : List Lexeme) → Each HasBytes ls →
+    ((name : List ℕ) (cs : List Value) → AreFineValues v (mass ls) name cs → P (f name cs)) → SomeIs P (assigned v takes_fill f ls)
+assigned_says P v takes_fill f [] h g = tt
+assigned_says P v takes_fill f (n ∷ []) h g = tt
+assigned_says P v takes_fill f (n ∷ e ∷ ls) h g =
+    some_given P (is_mark 0x3d e) (shapes.both f (name_of n) (constants v takes_fill ls)) (λ q.
+    some_both (λ (name : List ℕ). length name ≤ length n.bytes) (λ cs. (total cost cs ≤ mass ls) × Each (IsFineValue v) cs) P f (name_of n) (constants v takes_fill ls) (name_short n)
+    (some_and (λ cs. total cost cs ≤ mass ls) (Each (IsFineValue v)) (constants v takes_fill ls) (constants_short v takes_fill ls) (constants_fine v takes_fill ls h.1.1))
     (λ name cs short fine. let a = short in let b = fine.0 in g name cs (omega (arith, a), omega (arith, b), fine.1)))
 
 global_says : (v : Version) (section : Section) (ls : List Lexeme) → Each HasBytes ls → SomeIs (IsSaid v section (mass ls)) (global v ls)
@@ -155,17 +155,17 @@ unfolding tokens_at
 mass_at text fresh at more [] h = let a = length-take (at + 0 - at) (drop at text) in omega (arith, a)
 mass_at text fresh at (suc more) (b ∷ bytes) h = let ih = mass_at text fresh (at + 1) more bytes (omega (arith, h)) in omega (arith, ih)
 mass_at text fresh at zero (b ∷ bytes) h =
-    let f = front fresh (b ∷ bytes) in
+    let f = scan fresh (b ∷ bytes) in
     let ih = mass_at text (fresh && is_none f.kind) (at + 1) (f.len - 1) bytes (omega (arith, h)) in
     let r = with_mass text at f.len (length bytes) f.kind (tokens_at text (fresh && is_none f.kind) (at + 1) (f.len - 1) bytes) (omega (arith, h)) ih in
     omega (arith, r)
 
-pieces_total : {X : Type 0} (w : X → ℕ) (ends : Bool) (t : X) (ps : List (List X)) → total (total w) (in_front ends t ps) ≡ w t + total (total w) ps
+pieces_total : {X : Type 0} (w : X → ℕ) (ends : Bool) (t : X) (ps : List (List X)) → total (total w) (with_first ends t ps) ≡ w t + total (total w) ps
 pieces_total w true t ps = omega arith
 pieces_total w false t [] = omega arith
 pieces_total w false t (p ∷ ps) = omega arith
 
-all_pieces : {X : Type 0} (w : X → ℕ) (role : X → Role) (place : Place) (ts : List X) → total (total w) (pieces_at role place ts) ≡ total w ts
+all_pieces : {X : Type 0} (w : X → ℕ) (role : X → Role) (place : CutState) (ts : List X) → total (total w) (pieces_at role place ts) ≡ total w ts
 unfolding pieces_at
 all_pieces w role place [] = refl
 all_pieces w role place (t ∷ ts) =

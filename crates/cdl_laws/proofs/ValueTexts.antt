@@ -12,16 +12,16 @@ use Rattle.nc_base.specs.Escapes.{escaped_name}
 use Rattle.nc_base.specs.declared.nc_type.NcType.TheVariants.{Int}
 use Rattle.nc_base.specs.declared.version.Version.{Version}
 use Rattle.nc_base.specs.Names.{IsName}
-use Rattle.nc_base.specs.ValueText.{Look, is_char, number_text, number_lead, line_break, ends_row, begins_row, passes, column, number_piece, piece, pieces, opening, closing, measured_opening, variable_front, variable_text}
+use Rattle.nc_base.specs.ValueText.{Look, is_char, number_text, number_lead, line_break, ends_row, begins_row, passes, column, number_piece, piece, pieces, opening, closing, measured_opening, variable_prefix, variable_text}
 use Rattle.cdl_text.specs.declared.fault.CdlKind.{CdlKind}
 use Rattle.cdl_text.specs.Lexemes.{Lexeme, is_mark}
 use Rattle.cdl_laws.specs.Reading.{lexemes_at}
-use Rattle.cdl_text.specs.Front.{front}
-use Rattle.cdl_text.specs.Shapes.{Value, Number, Blank, members_in, members, each, both, constant, constants}
+use Rattle.cdl_text.specs.Scan.{scan}
+use Rattle.cdl_text.specs.Shapes.{Value, Number, Underscore, members_in, members, each, both, constant, constants}
 use Rattle.cdl_parse.specs.State.{Room, add_value, in_turn, fits, add_number}
 use Rattle.cdl_laws.proofs.Bools.{and_left, and_right, and_both, off}
 use Rattle.cdl_laws.proofs.Lists.{Each}
-use Rattle.cdl_laws.proofs.Words.{word_front}
+use Rattle.cdl_laws.proofs.Words.{word_prefix}
 use Rattle.cdl_laws.proofs.Texts.{Closed, Reads, Stops, closed_both, then_reads, closed_by, reads_both, closed_nothing, mark, word, number, name_word, word_reads, stop_word}
 use Rattle.cdl_laws.proofs.Numerals.{number_reads, value_again}
 
@@ -34,7 +34,7 @@ turn f s t x xs e = rw (in_turn, e) refl
 abbrev pub comma : Lexeme
 comma = mark 44
 
--- the lexemes behind the first
+-- the lexemes after the first
 abbrev pub commas : List Lexeme → List Lexeme
 commas ls = flat_map (λ l. comma ∷ l ∷ []) ls
 
@@ -60,28 +60,28 @@ members_all l (m ∷ ls) h =
     ap (λ ms. (l ∷ []) ∷ ms) (members_all m ls (and_right (is_member l) (list_all is_member (m ∷ ls)) h))
 
 -- a list of constants
-pub constants_all : (v : Version) (blanks : Bool) (l : Lexeme) (ls : List Lexeme) → constants v blanks (l ∷ commas ls) ≡ each (constant v blanks) (l ∷ ls)
-constants_all v blanks l [] = refl
-constants_all v blanks l (m ∷ ls) = ap (both (λ x xs. x ∷ xs) (constant v blanks l)) (constants_all v blanks m ls)
+pub constants_all : (v : Version) (takes_fill : Bool) (l : Lexeme) (ls : List Lexeme) → constants v takes_fill (l ∷ commas ls) ≡ each (constant v takes_fill) (l ∷ ls)
+constants_all v takes_fill l [] = refl
+constants_all v takes_fill l (m ∷ ls) = ap (both (λ x xs. x ∷ xs) (constant v takes_fill l)) (constants_all v takes_fill m ls)
 
 -- ---- the text of numbers
 
 -- the value prints as `_`
-abbrev pub is_blank_value : Look → ℤ → Bool
-is_blank_value look x = look.blanks && int_eq x look.fill
+abbrev pub is_fill_value : Look → ℤ → Bool
+is_fill_value look x = look.takes_fill && int_eq x look.fill
 
 abbrev pub value_lexeme : Look → ℤ → Lexeme
-value_lexeme look x = if is_blank_value look x then word (codes "_") else number (signed_decimal x)
+value_lexeme look x = if is_fill_value look x then word (codes "_") else number (signed_decimal x)
 
 abbrev pub value_said : Look → ℤ → Value
-value_said look x = if is_blank_value look x then Blank else Number (record { value = x; ty = Int })
+value_said look x = if is_fill_value look x then Underscore else Number (record { value = x; ty = Int })
 
 blank_reads : Reads (codes "_") (word (codes "_") ∷ [])
-blank_reads = word_reads 95 [] (λ rest. refl) (λ rest stop. word_front 95 rest ∙ ap (λ n. 1 + n) (stop_word rest stop))
+blank_reads = word_reads 95 [] (λ rest. refl) (λ rest stop. word_prefix 95 rest ∙ ap (λ n. 1 + n) (stop_word rest stop))
 
 text_reads : (look : Look) (x : ℤ) → unsigned_abs x < 2 ^ 64 → Reads (number_text look x) (value_lexeme look x ∷ [])
 text_reads look x h =
-    elim (is_blank_value look x) as (λ w. Reads (if w then codes "_" else signed_decimal x) ((if w then word (codes "_") else number (signed_decimal x)) ∷ [])) [
+    elim (is_fill_value look x) as (λ w. Reads (if w then codes "_" else signed_decimal x) ((if w then word (codes "_") else number (signed_decimal x)) ∷ [])) [
       | true ↦ blank_reads
       | false ↦ subst (λ bs. Reads bs (number bs ∷ [])) (append-nil (signed_decimal x)) (number_reads x [] h refl)
     ]
@@ -89,7 +89,7 @@ text_reads look x h =
 -- ---- what stands before a number
 
 broken : Closed (codes "\n    ") []
-unfolding lexemes_at front
+unfolding lexemes_at scan
 broken rest = refl
 
 either_closed : (b : Bool) → Closed (if b then codes "\n    " else []) []
@@ -118,11 +118,11 @@ gap look i some small =
     ] refl
 
 next_closed : Closed (codes ", ") (comma ∷ [])
-unfolding lexemes_at front
+unfolding lexemes_at scan
 next_closed rest = refl
 
 pub row_closed : Closed (codes ",\n  ") (comma ∷ [])
-unfolding lexemes_at front
+unfolding lexemes_at scan
 row_closed rest = refl
 
 gap_closed : (lead : List ℕ) → Gap lead → Closed lead (comma ∷ [])
@@ -133,7 +133,7 @@ gap_stops : (lead more : List ℕ) → Gap lead → Stops (lead ++ more)
 gap_stops lead more (next e) = rw (e) (λ rest h. refl)
 gap_stops lead more (row e) = rw (e) (λ rest h. refl)
 
--- ---- the numbers behind the first
+-- ---- the numbers after the first
 
 piece_reads : (look : Look) (before : List ℕ) (i : ℕ) (x : ℤ) → 0 < i → (look.in_rows ≡ false → i < look.row) → unsigned_abs x < 2 ^ 64 →
     Reads (number_piece look before i x) (comma ∷ value_lexeme look x ∷ [])
@@ -191,7 +191,7 @@ more_read look before values (x ∷ xs) h some small fit =
 -- ---- a variable's numbers
 
 first_lead : (look : Look) → Closed (number_lead look 0) []
-unfolding lexemes_at front
+unfolding lexemes_at scan
 first_lead look = rw (zero-mod look.row) (elim (look.in_rows) as (λ w. Closed (if w then codes "\n  " else codes " ") []) [ true ↦ (λ rest. refl) | false ↦ (λ rest. refl) ])
 
 first_reads : (look : Look) (before : List ℕ) (x : ℤ) → unsigned_abs x < 2 ^ 64 → Reads (number_piece look before 0 x) (value_lexeme look x ∷ [])
@@ -212,15 +212,15 @@ all_read look before x xs h small fit =
     (first_reads look before x fit.0) (more_stop look after (x ∷ []) xs h (omega arith) small2) (more_read look after (x ∷ []) xs h (omega arith) small2 fit.1))
 
 pub equals_closed : Closed (codes " =") (mark 61 ∷ [])
-unfolding lexemes_at front
+unfolding lexemes_at scan
 equals_closed rest = refl
 
 pub feed_closed : Closed (codes "\n ") []
-unfolding lexemes_at front
+unfolding lexemes_at scan
 feed_closed rest = refl
 
 pub semicolon_closed : Closed (codes " ;\n") (mark 59 ∷ [])
-unfolding lexemes_at front
+unfolding lexemes_at scan
 semicolon_closed rest = refl
 
 pub opening_closed : (look : Look) → IsName look.name → Closed (opening look) (word (escaped_name look.name) ∷ mark 61 ∷ [])
@@ -239,7 +239,7 @@ listed look x xs = word (escaped_name look.name) ∷ mark 61 ∷ value_lexeme lo
 
 pub numbers_closed : (look : Look) (x : ℤ) (xs : List ℤ) → IsName look.name → is_char look.ty ≡ false → (look.in_rows ≡ false → length (x ∷ xs) ≤ look.row) → AreSmall (x ∷ xs) →
     Closed (variable_text look (x ∷ xs)) (listed look x xs ++ mark 59 ∷ [])
-unfolding variable_text variable_front
+unfolding variable_text variable_prefix
 numbers_closed look x xs name h small fit =
     closed_by (opening look ++ pieces look (measured_opening look) [] (x ∷ xs)) (closing look) (listed look x xs) (mark 59 ∷ [])
     (then_reads (opening look) (pieces look (measured_opening look) [] (x ∷ xs)) (word (escaped_name look.name) ∷ mark 61 ∷ []) (value_lexeme look x ∷ commas (map (value_lexeme look) xs))
@@ -253,14 +253,14 @@ values_all : (v : Version) (look : Look) (xs : List ℤ) → AreSmall xs → eac
 values_all v look [] fit = refl
 values_all v look (x ∷ xs) fit =
     ap (both (λ y ys. y ∷ ys) (constant v true (value_lexeme look x))) (values_all v look xs fit.1) ∙
-    ap (λ y. both (λ y ys. y ∷ ys) y (Some (map (value_said look) xs))) (one (is_blank_value look x))
+    ap (λ y. both (λ y ys. y ∷ ys) y (Some (map (value_said look) xs))) (one (is_fill_value look x))
   where
-    one : (b : Bool) → constant v true (if b then word (codes "_") else number (signed_decimal x)) ≡ Some (if b then Blank else Number (record { value = x; ty = Int }))
+    one : (b : Bool) → constant v true (if b then word (codes "_") else number (signed_decimal x)) ≡ Some (if b then Underscore else Number (record { value = x; ty = Int }))
     one true = refl
     one false = rw (value_again v x fit.0) refl
 
 is_value : (look : Look) (x : ℤ) → is_member (value_lexeme look x) ≡ true
-is_value look x = elim (is_blank_value look x) as (λ b. is_member (if b then word (codes "_") else number (signed_decimal x)) ≡ true) [ true ↦ refl | false ↦ refl ]
+is_value look x = elim (is_fill_value look x) as (λ b. is_member (if b then word (codes "_") else number (signed_decimal x)) ≡ true) [ true ↦ refl | false ↦ refl ]
 
 are_values : (look : Look) (xs : List ℤ) → list_all is_member (map (value_lexeme look) xs) ≡ true
 are_values look [] = refl
@@ -283,8 +283,8 @@ one_added : (look : Look) (room : Room) (before : List ℤ) (x : ℤ) → is_cha
     add_value room before (value_said look x) ≡ Ok (before ++ x ∷ [])
 unfolding add_value
 one_added look room before x h same wide fit =
-    rw (h) (elim (is_blank_value look x) as (λ b. is_blank_value look x ≡ b → add_number room before (if b then Blank else Number (record { value = x; ty = Int })) ≡ Ok (before ++ x ∷ [])) [
-      | true ↦ (λ e. rw (room_for room.is_open (length before) room.count wide) (ap (λ y. Ok (before ++ y ∷ [])) (same ∙ sym ((Decides-int_eq x look.fill).0 (and_right look.blanks (int_eq x look.fill) e)))))
+    rw (h) (elim (is_fill_value look x) as (λ b. is_fill_value look x ≡ b → add_number room before (if b then Underscore else Number (record { value = x; ty = Int })) ≡ Ok (before ++ x ∷ [])) [
+      | true ↦ (λ e. rw (room_for room.is_open (length before) room.count wide) (ap (λ y. Ok (before ++ y ∷ [])) (same ∙ sym ((Decides-int_eq x look.fill).0 (and_right look.takes_fill (int_eq x look.fill) e)))))
       | false ↦ (λ e. rw (room_for room.is_open (length before) room.count wide) (rw (fit) refl))
     ] refl)
 

@@ -54,7 +54,7 @@ none_taken v s t e = subst (λ bs. Takes v bs s t) (sym text_none) (subst (Takes
 
 -- ---- dimensions
 
--- dimensions that can stand behind these
+-- dimensions that can stand after these
 abbrev pub AreNewDims : Version → List Dim → List Dim → Type 0
 AreNewDims v done [] = Unit {0}
 AreNewDims v done (d ∷ ds) =
@@ -137,7 +137,7 @@ pub record IsFit (v : Version) (dims : List Dim) (before : List Draft) (var : Va
   pub fresh : AreNewAtts [] var.atts
   pub bare : var.begin_at ≡ 0
 
--- more the state has it behind its declaration and attributes
+-- more the state has it after its declaration and attributes
 abbrev pub draft_of : Var → Draft
 draft_of var = record { var = trimmed_var var; listed = None }
 

@@ -14,7 +14,7 @@ use Rattle.nc_base.specs.Names.{IsName}
 use Rattle.nc_base.specs.Sayable.{IsSayable, trimmed_att}
 use Rattle.nc_base.specs.Types.{type_word}
 use Rattle.nc_base.specs.ValueText.{look_of, variable_text}
-use Rattle.cdl_text.specs.declared.piece.Place.TheVariants.{Begins}
+use Rattle.cdl_text.specs.declared.piece.CutState.TheVariants.{Begins}
 use Rattle.cdl_text.specs.declared.section.Section.{Section}
 use Rattle.cdl_text.specs.declared.section.Section.TheVariants.{Unopened, Globals, Dimensions, Variables, Values, Closed}
 use Rattle.cdl_text.specs.declared.token.TokenKind.TheVariants as kinds

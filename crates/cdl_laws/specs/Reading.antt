@@ -1,9 +1,9 @@
 -- The tokens without their places, for texts that are put together, and the pieces that they are cut into.
 use Rattle.std.specs.Prelude.{ℕ, zero, suc, Bool, true, false, List, [], ◌∷◌, ◌-◌, ◌&&◌, take, Option, None, Some, is_none}
-use Rattle.cdl_text.specs.Front.{front}
+use Rattle.cdl_text.specs.Scan.{scan}
 use Rattle.cdl_text.specs.Lexemes.{Lexeme, role}
 use Rattle.cdl_text.specs.Pieces.{pieces_at}
-use Rattle.cdl_text.specs.declared.piece.Place.TheVariants.{Begins}
+use Rattle.cdl_text.specs.declared.piece.CutState.TheVariants.{Begins}
 use Rattle.cdl_text.specs.declared.token.TokenKind.{TokenKind}
 use Rattle.cdl_text.specs.declared.token.TokenKind.TheVariants.{End}
 
@@ -15,12 +15,12 @@ unfoldable pub lexemes_at : Bool → ℕ → List ℕ → List Lexeme
 lexemes_at fresh more [] = record { kind = End; bytes = [] } ∷ []
 lexemes_at fresh (suc more) (b ∷ bytes) = lexemes_at fresh more bytes
 lexemes_at fresh zero (b ∷ bytes) =
-    with_lexeme (front fresh (b ∷ bytes)).kind (take (front fresh (b ∷ bytes)).len (b ∷ bytes))
-    (lexemes_at (fresh && is_none (front fresh (b ∷ bytes)).kind) ((front fresh (b ∷ bytes)).len - 1) bytes)
+    with_lexeme (scan fresh (b ∷ bytes)).kind (take (scan fresh (b ∷ bytes)).len (b ∷ bytes))
+    (lexemes_at (fresh && is_none (scan fresh (b ∷ bytes)).kind) ((scan fresh (b ∷ bytes)).len - 1) bytes)
 
 abbrev pub lexemes : List ℕ → List Lexeme
 lexemes text = lexemes_at true 0 text
 
--- the pieces of the bytes behind a whole piece
+-- the pieces of the bytes after a whole piece
 unfoldable pub pieces_of : List ℕ → List (List Lexeme)
 pieces_of bytes = pieces_at role Begins (lexemes_at false 0 bytes)

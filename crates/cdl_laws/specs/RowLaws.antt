@@ -15,7 +15,7 @@ use Rattle.cdl_parse.specs.State.{in_turn, add_value, room_of}
 use Rattle.cdl_laws.specs.PieceLaws.{IsStatement}
 
 -- The text of the values of the variable in this place is one statement, which lists values for it. Added in turn, they give
--- numbers; and these, with the fill value behind them where the variable has more, are the numbers of its array. Those of a
+-- numbers; and these, with the fill value after them where the variable has more, are the numbers of its array. Those of a
 -- record variable are all that its records have, so that they tell how many records there are.
 pub record RowReadsBack (d : Dataset) (records width place : ℕ) (var : Var) : Type 0 where
   pub values : List Value

@@ -12,7 +12,7 @@ use Rattle.nc_base.specs.ValueText.{is_char}
 use Rattle.nc_base.specs.Versions.{has_type}
 use Rattle.cdl_text.specs.Bytes.{is_blank, is_mark, goes_on_word, goes_on_number, is_escape}
 use Rattle.cdl_text.specs.Escapes.{unescape, stands}
-use Rattle.cdl_text.specs.Front.{front, token}
+use Rattle.cdl_text.specs.Scan.{scan, token}
 use Rattle.cdl_text.specs.Lexemes.{word_value, name_of}
 use Rattle.cdl_text.specs.Numerals.{numeral}
 use Rattle.cdl_text.specs.Pieces.{raw, is_section}
@@ -24,7 +24,7 @@ use Rattle.cdl_text.specs.declared.token.TokenKind.TheVariants.{Word, Number, Te
 
 -- where the rest follows, exactly these bytes are one token of this kind, whether or not a token stands before
 abbrev pub AreToken : TokenKind → List ℕ → List ℕ → Type 0
-AreToken kind bytes rest = (fresh : Bool) → front fresh (bytes ++ rest) ≡ token kind (length bytes)
+AreToken kind bytes rest = (fresh : Bool) → scan fresh (bytes ++ rest) ≡ token kind (length bytes)
 
 -- ---- names
 
@@ -67,7 +67,7 @@ StringsReadBack = (bytes : List ℕ) → StringReadsBack bytes
 abbrev pub StopsNumber : List ℕ → Type 0
 StopsNumber rest = goes_on_number (slice_index rest 0) ≡ false
 
--- a blank and a mark stop both, and one of them stands behind each name and each number of a dump
+-- a blank and a mark stop both, and one of them stands after each name and each number of a dump
 abbrev pub BlanksAndMarksStop : Type 0
 BlanksAndMarksStop = (b : ℕ) (rest : List ℕ) → (is_blank b || is_mark b) ≡ true → StopsWord (b ∷ rest) × StopsNumber (b ∷ rest)
 

@@ -12,7 +12,7 @@ ghost use Rattle.cdl_laws.specs.Trims.{FillsAreKept, MeaningsAreSayable, Meaning
 /// token says what was printed: an escaped name is one word that is not reserved and stands for the name; an escaped string
 /// between quotes is one string that stands for its bytes, whatever follows; and a number of a type that the version has is
 /// one number token of that value, and with the type's suffix of that type. A word and a number have to be followed by what
-/// can't go on them, as a blank or a mark, one of which stands behind each in a dump.
+/// can't go on them, as a blank or a mark, one of which stands after each in a dump.
 pub fn token_reads_back()
     ensures names { NamesReadBack }
     ensures strings { StringsReadBack }
@@ -42,7 +42,7 @@ pub fn piece_reads_back()
 {}
 
 /// The text of a variable's values in the dump of a dataset that a text can declare, at any width, is a statement that lists
-/// values; and these values, added one after the other, with the fill value behind them, give the variable's array.
+/// values; and these values, added one after the other, with the fill value after them, give the variable's array.
 pub fn row_reads_back()
     ensures rows { RowsReadBack }
     ensures empty { EmptyRowsReadBack }

@@ -19,7 +19,7 @@ use Rattle.nc_base.specs.Types.{all_types, code_of, type_word, width_of, is_sign
 use Rattle.nc_base.specs.ValueText.{row_len, is_char}
 use Rattle.nc_base.specs.Versions.{count_limit, has_type}
 use Rattle.cdl_text.specs.Lexemes.{Lexeme, is_word}
-use Rattle.cdl_text.specs.Shapes.{Value, Number, Characters, Blank, Dimension, Variable, Statement, Opening, Mark, Declared, Typed, Attribute, Listed, Brace, End}
+use Rattle.cdl_text.specs.Shapes.{Value, Number, Characters, Underscore, Dimension, Variable, Statement, Opening, Mark, Declared, Typed, Attribute, Listed, Brace, End}
 use Rattle.cdl_text.specs.declared.fault.CdlKind.{CdlKind}
 use Rattle.cdl_text.specs.declared.fault.CdlKind.TheVariants.{BadName, DuplicateName, UnknownDimension, UnknownVariable, FloatingType, UnknownType, ZeroDimension, TwoRecordDims, BadShape, MixedConstants, NumberRange, WrongKind, TooManyValues, StringTooLong, DuplicateData}
 use Rattle.cdl_text.specs.declared.section.Section.{Section}
@@ -135,7 +135,7 @@ at_variable name f ds = do
 abbrev pub type_said : Value → NcType
 type_said (Number n) = n.ty
 type_said (Characters bytes) = Char
-type_said Blank = Char
+type_said Underscore = Char
 
 abbrev pub add_constant : NcType → List ℕ → Value → Result (List ℕ) CdlKind
 add_constant ty vals (Number n) = do
@@ -145,7 +145,7 @@ add_constant ty vals (Number n) = do
 add_constant ty vals (Characters bytes) = do
   _ ← unless (same_type Char ty) MixedConstants
   Ok (vals ++ bytes)
-add_constant ty vals Blank = Err MixedConstants
+add_constant ty vals Underscore = Err MixedConstants
 
 abbrev pub first_type : List Value → NcType
 first_type [] = Char
@@ -205,7 +205,7 @@ add_string room before bytes =
 
 abbrev pub add_number : Room → List ℤ → Value → Result (List ℤ) CdlKind
 add_number room before (Characters bytes) = Err WrongKind
-add_number room before Blank = do
+add_number room before Underscore = do
   _ ← unless (room.is_open || nat_lt (length before) room.count) TooManyValues
   Ok (before ++ room.fill ∷ [])
 add_number room before (Number n) = do

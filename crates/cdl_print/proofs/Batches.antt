@@ -30,9 +30,9 @@ numbers-split ty (suc k) bytes le =
     ∙ ap (λ (xs : List ℤ). xs ++ numbers ty (drop (size + k * size) bytes)) (sym first))
 
 -- the next few numbers and the others
-pub batch_parts : (ty : NcType) (size n : ℕ) (rest front others : List ℕ) → size ≡ size_of ty → n ≡ min (20 * size) (length rest) → front ≡ take n rest → others ≡ drop n rest
-    → numbers ty rest ≡ numbers ty front ++ numbers ty others
-batch_parts ty size n rest front others is least f o =
+pub batch_parts : (ty : NcType) (size n : ℕ) (rest prefix others : List ℕ) → size ≡ size_of ty → n ≡ min (20 * size) (length rest) → prefix ≡ take n rest → others ≡ drop n rest
+    → numbers ty rest ≡ numbers ty prefix ++ numbers ty others
+batch_parts ty size n rest prefix others is least f o =
     rw (f, o)
     (⊎_elim
     (λ (h : 20 * size_of ty < length rest).
@@ -40,15 +40,15 @@ batch_parts ty size n rest front others is least f o =
     rw all (numbers-split ty 20 rest (omega arith)))
     (λ (h : length rest ≤ 20 * size_of ty).
     let all : n ≡ length rest = omega (arith, is, least) in
-    let front_is : take n rest ≡ rest = take_all n rest (omega (arith, all)) in
+    let prefix_is : take n rest ≡ rest = take_all n rest (omega (arith, all)) in
     let none : numbers ty (drop n rest) ≡ [] = numbers-none ty (drop n rest) (omega (arith, all, length-drop n rest, size_some ty)) in
-    rw (front_is, none) (sym (append-nil (numbers ty rest))))
+    rw (prefix_is, none) (sym (append-nil (numbers ty rest))))
     (cases_lt (20 * size_of ty) (length rest)))
 
 -- are few
-pub batch_few : (ty : NcType) (size n : ℕ) (rest front : List ℕ) → size ≡ size_of ty → n ≡ min (20 * size) (length rest) → front ≡ take n rest → length (numbers ty front) ≤ 20
-batch_few ty size n rest front is least f =
-    let short : length front ≤ 20 * size_of ty = omega (arith, is, least, ap length f, length-take n rest) in
-    let whole = div-mul-le_self (length front) (size_of ty) in
-    let few : length front / size_of ty * size_of ty ≤ 20 * size_of ty = omega (arith, short, whole) in
-    omega (arith, length-numbers ty front, le_of_mul-le-mul_right {k = size_of ty} few (size_some ty))
+pub batch_few : (ty : NcType) (size n : ℕ) (rest prefix : List ℕ) → size ≡ size_of ty → n ≡ min (20 * size) (length rest) → prefix ≡ take n rest → length (numbers ty prefix) ≤ 20
+batch_few ty size n rest prefix is least f =
+    let short : length prefix ≤ 20 * size_of ty = omega (arith, is, least, ap length f, length-take n rest) in
+    let whole = div-mul-le_self (length prefix) (size_of ty) in
+    let few : length prefix / size_of ty * size_of ty ≤ 20 * size_of ty = omega (arith, short, whole) in
+    omega (arith, length-numbers ty prefix, le_of_mul-le-mul_right {k = size_of ty} few (size_some ty))

@@ -1,4 +1,4 @@
--- The characters of a variable, some behind others.
+-- The characters of a variable, some after others.
 use Rattle.std.proofs.Common.{◌≡◌, ℕ, zero, suc, ℤ, pos, ◌+◌, ◌-◌, ◌%◌, ◌<◌, ◌≤◌, Bool, true, false, cond, not, ◌&&◌, ◌||◌, List, [], ◌∷◌, ◌++◌, length, map, max, take, drop, replicate, sym, ◌∙◌, ap, refl, subst, arith, append_assoc, append-nil, length-append, Result, Ok, Err}
 use Rattle.std.specs.Prelude.{◌==◌, OnOk}
 use Rattle.std.specs.List.{list_all, prefix_len}
@@ -8,15 +8,15 @@ use Rattle.std.proofs.lemmas.Grind.{flat_map-append}
 use Rattle.std.proofs.lemmas.List.{length-map, length-take-le, map-append, take-append-drop}
 use Rattle.std.proofs.lemmas.List.Sums.{prefix_len-le-length}
 use Rattle.nc_base.specs.Escapes.{escaped_in_string, escaped_text}
-use Rattle.nc_base.specs.ValueText.{Look, is_char, begins_row, char_lead, char_text, char_piece, held, piece, pieces, measured_front, later_pieces}
-use Rattle.nc_base.proofs.ValueLaws.{place-add, held_other, held_nul, held_first, held_untrimmed}
-use Rattle.nc_file.specs.Sinks.{SinkView, Grew, Broke, Wrote}
+use Rattle.nc_base.specs.ValueText.{Look, is_char, begins_row, char_lead, char_text, char_piece, held, piece, pieces, measured_prefix, later_pieces}
+use Rattle.nc_base.proofs.ValueLaws.{row_index-add, held_other, held_nul, held_first, held_untrimmed}
+use Rattle.nc_file.specs.Sinks.{SinkView, Appended, FailedPartway, Wrote}
 use Rattle.cdl_print.specs.Pieces.{is_literal, IsPiece}
 use Rattle.cdl_print.specs.Leads.{next_char_lead}
-use Rattle.cdl_print.specs.Printing.{run_text, run_bytes, place_behind_run, IsBehindRun, IsBehind, Goes}
+use Rattle.cdl_print.specs.Printing.{run_text, run_bytes, row_index_after_run, IsAfterRun, IsAfter, PrintsMore}
 use Rattle.cdl_print.specs.declared.progress.Progress.{Progress}
 use Rattle.cdl_print.proofs.Begun.{IsBegun, begun_at_first}
-use Rattle.cdl_print.proofs.Pieces.{flat_map_itself, literal_itself, front_is_piece}
+use Rattle.cdl_print.proofs.Pieces.{flat_map_itself, literal_itself, prefix_is_piece}
 
 and_parts : (a b : Bool) → (a && b) ≡ true → (a ≡ true) × (b ≡ true)
 and_parts true b h = (refl, h)
@@ -35,7 +35,7 @@ escaped_itself : (run : List ℕ) → list_all is_literal run ≡ true → escap
 unfolding escaped_text
 escaped_itself run all = flat_map_itself is_literal escaped_in_string literal_itself run all
 
--- the text of a character behind NULs that are held
+-- the text of a character after NULs that are held
 char_text_is : (look : Look) (nuls b : ℕ) → char_text look nuls (pos b) ≡ cond (look.trimmed && (b == 0)) [] (escaped_text (replicate nuls 0) ++ escaped_text (b ∷ []))
 char_text_is look nuls b = ap (λ (t : List ℕ). cond (look.trimmed && (b == 0)) [] t) (escaped-append (replicate nuls 0) (b ∷ []))
 
@@ -58,7 +58,7 @@ piece_is : (look : Look) (before : List ℕ) (xs : List ℤ) (x : ℤ) → is_ch
 unfolding piece char_piece
 piece_is look before xs x is = cond-true (is_char look.ty) _ _ is
 
--- one that stands for itself, inside its row and behind no NUL
+-- one that stands for itself, inside its row and after no NUL
 literal_piece : (look : Look) (before : List ℕ) (xs : List ℤ) (b : ℕ) → is_char look.ty ≡ true → is_literal b ≡ true → 0 < length xs % look.row → held look xs ≡ 0
     → piece look before xs (pos b) ≡ b ∷ []
 literal_piece look before xs b is lit inside none =
@@ -67,15 +67,15 @@ literal_piece look before xs b is lit inside none =
     ∙ ap (λ (t : List ℕ). t ++ char_text look (held look xs) (pos b)) (cond-false _ (char_lead look (length xs)) [] begun)
     ∙ ap (λ n. char_text look n (pos b)) none ∙ literal_text look 0 b lit ∙ ap (λ (t : List ℕ). t ++ (b ∷ [])) none_held
 
--- the place behind one value more
-place_push : (look : Look) (xs : List ℤ) (x : ℤ) → length (xs ++ x ∷ []) % look.row ≡ cond (length xs % look.row + 1 == look.row) 0 (length xs % look.row + 1)
-place_push look xs x = ap (λ n. n % look.row) (length-append xs (x ∷ [])) ∙ place-add (length xs) 1 look.row (omega arith) (λ h. absurd (omega arith))
+-- the place after one value more
+row_index_push : (look : Look) (xs : List ℤ) (x : ℤ) → length (xs ++ x ∷ []) % look.row ≡ cond (length xs % look.row + 1 == look.row) 0 (length xs % look.row + 1)
+row_index_push look xs x = ap (λ n. n % look.row) (length-append xs (x ∷ [])) ∙ row_index-add (length xs) 1 look.row (omega arith) (λ h. absurd (omega arith))
 
--- the place behind one value more that isn't the last of its row
-place_inside : (look : Look) (xs : List ℤ) (x : ℤ) → length xs % look.row + 1 < look.row → length (xs ++ x ∷ []) % look.row ≡ length xs % look.row + 1
-place_inside look xs x lt =
+-- the place after one value more that isn't the last of its row
+row_index_inside : (look : Look) (xs : List ℤ) (x : ℤ) → length xs % look.row + 1 < look.row → length (xs ++ x ∷ []) % look.row ≡ length xs % look.row + 1
+row_index_inside look xs x lt =
     let e : (length xs % look.row + 1 == look.row) ≡ false = grind (arith, nat_tests) in
-    place_push look xs x ∙ cond-false _ 0 _ e
+    row_index_push look xs x ∙ cond-false _ 0 _ e
 
 -- some that stand for themselves, in one row
 literal_pieces : (look : Look) (before : List ℕ) (xs : List ℤ) (run : List ℕ) → is_char look.ty ≡ true → list_all is_literal run ≡ true → held look xs ≡ 0
@@ -86,10 +86,10 @@ literal_pieces look before xs [] is all none inside fits = (refl, ap (held look)
 literal_pieces look before xs (b ∷ run) is all none inside fits =
     let parts = and_parts (is_literal b) (list_all is_literal run) all in
     let first = literal_piece look before xs b is parts.0 (inside (omega arith)) none in
-    let place = λ (h : 0 < length run). place_inside look xs (pos b) (let f = fits (omega arith) in omega arith) in
+    let row_index = λ (h : 0 < length run). row_index_inside look xs (pos b) (let f = fits (omega arith) in omega arith) in
     let others = literal_pieces look (before ++ piece look before xs (pos b)) (xs ++ pos b ∷ []) run is parts.1
     (held_other look xs (pos b) (literal_some b parts.0))
-    (λ h. omega (arith, place h)) (λ h. let f = fits (omega arith) in omega (arith, place h)) in (
+    (λ h. omega (arith, row_index h)) (λ h. let f = fits (omega arith) in omega (arith, row_index h)) in (
       ap (λ (t : List ℕ). t ++ pieces look (before ++ piece look before xs (pos b)) (xs ++ pos b ∷ []) (map pos run)) first ∙ ap (λ (t : List ℕ). b ∷ t) others.0,
       ap (held look) (sym (append_assoc xs (pos b ∷ []) (map pos run))) ∙ others.1,
     )
@@ -109,10 +109,10 @@ all_literal b c run literal =
     or_second _ _ literal long
 
 -- what stands before the run
-lead_is : (look : Look) (xs : List ℤ) (p : Progress) → IsBehind look xs p → next_char_lead look p ≡ cond (begins_row look (length xs)) (char_lead look (length xs)) []
-lead_is look xs p behind =
-    ap (λ n. cond (n == 0) (char_lead look p.position) []) behind.place
-    ∙ ap (λ n. cond (begins_row look (length xs)) (char_lead look n) []) behind.position
+lead_is : (look : Look) (xs : List ℤ) (p : Progress) → IsAfter look xs p → next_char_lead look p ≡ cond (begins_row look (length xs)) (char_lead look (length xs)) []
+lead_is look xs p following =
+    ap (λ n. cond (n == 0) (char_lead look p.position) []) following.row_index
+    ∙ ap (λ n. cond (begins_row look (length xs)) (char_lead look n) []) following.position
 
 one_text : (look : Look) (nuls b : ℕ) → run_text (look.trimmed && (b == 0)) nuls (b ∷ []) ≡ char_text look nuls (pos b)
 unfolding run_text
@@ -128,51 +128,51 @@ some_text look nuls b c run all =
     ∙ sym (append_assoc (escaped_text (replicate nuls 0)) (b ∷ []) (c ∷ run))
     ∙ ap (λ (t : List ℕ). t ++ (c ∷ run)) (sym (literal_text look nuls b first))
 
--- the others of a run behind its first character
+-- the others of a run after its first character
 others_are : (look : Look) (before : List ℕ) (xs : List ℤ) (b c : ℕ) (run : List ℕ) → is_char look.ty ≡ true → list_all is_literal (b ∷ c ∷ run) ≡ true → IsInRow look xs (b ∷ c ∷ run)
     → (pieces look before (xs ++ pos b ∷ []) (map pos (c ∷ run)) ≡ c ∷ run) × (held look ((xs ++ pos b ∷ []) ++ map pos (c ∷ run)) ≡ 0)
 others_are look before xs b c run is all fits =
     let parts = and_parts (is_literal b) (list_all is_literal (c ∷ run)) all in
     let in_row : length xs % look.row + length (b ∷ c ∷ run) ≤ look.row = fits (omega arith) in
-    let place = place_inside look xs (pos b) (omega arith) in
-    literal_pieces look before (xs ++ pos b ∷ []) (c ∷ run) is parts.1 (held_other look xs (pos b) (literal_some b parts.0)) (λ _. omega (arith, place)) (λ _. omega (arith, place))
+    let row_index = row_index_inside look xs (pos b) (omega arith) in
+    literal_pieces look before (xs ++ pos b ∷ []) (c ∷ run) is parts.1 (held_other look xs (pos b) (literal_some b parts.0)) (λ _. omega (arith, row_index)) (λ _. omega (arith, row_index))
 
 -- the run's text is the pieces of its characters
-bytes_are : (look : Look) (xs : List ℤ) (p : Progress) (run : List ℕ) → is_char look.ty ≡ true → 0 < length run → IsPiece is_literal run → IsInRow look xs run → IsBehind look xs p
+bytes_are : (look : Look) (xs : List ℤ) (p : Progress) (run : List ℕ) → is_char look.ty ≡ true → 0 < length run → IsPiece is_literal run → IsInRow look xs run → IsAfter look xs p
     → run_bytes look p run ≡ later_pieces look xs (map pos run)
 unfolding pieces
-bytes_are look xs p [] is some literal fits behind = absurd (omega arith)
-bytes_are look xs p (b ∷ []) is some literal fits behind =
-    let first = piece_is look (measured_front look xs) xs (pos b) is in
-    ap (λ (t : List ℕ). t ++ run_text (look.trimmed && (b == 0)) p.held (b ∷ [])) (lead_is look xs p behind)
-    ∙ ap (λ (t : List ℕ). cond (begins_row look (length xs)) (char_lead look (length xs)) [] ++ t) (one_text look p.held b ∙ ap (λ n. char_text look n (pos b)) (behind.held is))
-    ∙ sym first ∙ sym (append-nil (piece look (measured_front look xs) xs (pos b)))
-bytes_are look xs p (b ∷ c ∷ run) is some literal fits behind =
+bytes_are look xs p [] is some literal fits following = absurd (omega arith)
+bytes_are look xs p (b ∷ []) is some literal fits following =
+    let first = piece_is look (measured_prefix look xs) xs (pos b) is in
+    ap (λ (t : List ℕ). t ++ run_text (look.trimmed && (b == 0)) p.held (b ∷ [])) (lead_is look xs p following)
+    ∙ ap (λ (t : List ℕ). cond (begins_row look (length xs)) (char_lead look (length xs)) [] ++ t) (one_text look p.held b ∙ ap (λ n. char_text look n (pos b)) (following.held is))
+    ∙ sym first ∙ sym (append-nil (piece look (measured_prefix look xs) xs (pos b)))
+bytes_are look xs p (b ∷ c ∷ run) is some literal fits following =
     let all = all_literal b c run literal in
-    let front = measured_front look xs in
-    let first = piece_is look front xs (pos b) is in
-    let others = (others_are look (front ++ piece look front xs (pos b)) xs b c run is all fits).0 in
+    let prefix = measured_prefix look xs in
+    let first = piece_is look prefix xs (pos b) is in
+    let others = (others_are look (prefix ++ piece look prefix xs (pos b)) xs b c run is all fits).0 in
     let lead = cond (begins_row look (length xs)) (char_lead look (length xs)) [] in
-    ap (λ (t : List ℕ). t ++ run_text (look.trimmed && false) p.held (b ∷ c ∷ run)) (lead_is look xs p behind)
-    ∙ ap (λ (t : List ℕ). lead ++ t) (some_text look p.held b c run all ∙ ap (λ n. char_text look n (pos b) ++ (c ∷ run)) (behind.held is))
+    ap (λ (t : List ℕ). t ++ run_text (look.trimmed && false) p.held (b ∷ c ∷ run)) (lead_is look xs p following)
+    ∙ ap (λ (t : List ℕ). lead ++ t) (some_text look p.held b c run all ∙ ap (λ n. char_text look n (pos b) ++ (c ∷ run)) (following.held is))
     ∙ sym (append_assoc lead (char_text look (held look xs) (pos b)) (c ∷ run))
     ∙ ap (λ (t : List ℕ). t ++ (c ∷ run)) (sym first)
-    ∙ ap (λ (t : List ℕ). piece look front xs (pos b) ++ t) (sym others)
+    ∙ ap (λ (t : List ℕ). piece look prefix xs (pos b) ++ t) (sym others)
 
--- the NULs that are held behind one character
-held_one : (look : Look) (xs : List ℤ) (h b place : ℕ) → h ≡ held look xs → place ≡ cond (length xs % look.row + 1 == look.row) 0 (length xs % look.row + 1)
-    → cond ((place == 0) || not (look.trimmed && (b == 0))) 0 (h + 1) ≡ held look (xs ++ pos b ∷ [])
-held_one look xs h b place same at = by (place == 0) look.trimmed (b == 0) refl refl refl
+-- the NULs that are held after one character
+held_one : (look : Look) (xs : List ℤ) (h b row_index : ℕ) → h ≡ held look xs → row_index ≡ cond (length xs % look.row + 1 == look.row) 0 (length xs % look.row + 1)
+    → cond ((row_index == 0) || not (look.trimmed && (b == 0))) 0 (h + 1) ≡ held look (xs ++ pos b ∷ [])
+held_one look xs h b row_index same at = by (row_index == 0) look.trimmed (b == 0) refl refl refl
   where
-    here : length (xs ++ pos b ∷ []) % look.row ≡ place
-    here = place_push look xs (pos b) ∙ sym at
+    here : length (xs ++ pos b ∷ []) % look.row ≡ row_index
+    here = row_index_push look xs (pos b) ∙ sym at
 
-    inside : (t : Bool) → cond t 0 (length xs % look.row + 1) ≡ place → (place == 0) ≡ false → place ≡ length xs % look.row + 1
-    inside true e none = let z : (place == 0) ≡ true = grind (arith, nat_tests) in absurd (false≢true (sym none ∙ z))
+    inside : (t : Bool) → cond t 0 (length xs % look.row + 1) ≡ row_index → (row_index == 0) ≡ false → row_index ≡ length xs % look.row + 1
+    inside true e none = let z : (row_index == 0) ≡ true = grind (arith, nat_tests) in absurd (false≢true (sym none ∙ z))
     inside false e none = sym e
 
-    by : (first trimmed nul : Bool) → (place == 0) ≡ first → look.trimmed ≡ trimmed → (b == 0) ≡ nul → cond (first || not (trimmed && nul)) 0 (h + 1) ≡ held look (xs ++ pos b ∷ [])
-    by true trimmed nul e f k = sym (held_first look (xs ++ pos b ∷ []) (here ∙ (let z : place ≡ 0 = grind (arith, nat_tests) in z)))
+    by : (first trimmed nul : Bool) → (row_index == 0) ≡ first → look.trimmed ≡ trimmed → (b == 0) ≡ nul → cond (first || not (trimmed && nul)) 0 (h + 1) ≡ held look (xs ++ pos b ∷ [])
+    by true trimmed nul e f k = sym (held_first look (xs ++ pos b ∷ []) (here ∙ (let z : row_index ≡ 0 = grind (arith, nat_tests) in z)))
     by false false nul e f k = sym (held_untrimmed look (xs ++ pos b ∷ []) f)
     by false true false e f k = sym (held_other look xs (pos b) k)
     by false true true e f k =
@@ -185,45 +185,45 @@ or_true true t = refl
 or_true false true = refl
 or_true false false = refl
 
-held_next : (look : Look) (xs : List ℤ) (p q : Progress) (run : List ℕ) → is_char look.ty ≡ true → 0 < length run → IsPiece is_literal run → IsInRow look xs run → IsBehind look xs p → IsBehindRun look p run q
+held_next : (look : Look) (xs : List ℤ) (p q : Progress) (run : List ℕ) → is_char look.ty ≡ true → 0 < length run → IsPiece is_literal run → IsInRow look xs run → IsAfter look xs p → IsAfterRun look p run q
     → q.held ≡ held look (xs ++ map pos run)
-held_next look xs p q [] is some literal fits behind next = absurd (omega arith)
-held_next look xs p q (b ∷ []) is some literal fits behind next =
-    next.held ∙ held_one look xs p.held b (place_behind_run look p (b ∷ [])) (behind.held is) (ap (λ n. cond (n + 1 == look.row) 0 (n + 1)) behind.place)
-held_next look xs p q (b ∷ c ∷ run) is some literal fits behind next =
-    next.held ∙ cond-true _ 0 _ (or_true (place_behind_run look p (b ∷ c ∷ run) == 0) look.trimmed)
+held_next look xs p q [] is some literal fits following next = absurd (omega arith)
+held_next look xs p q (b ∷ []) is some literal fits following next =
+    next.held ∙ held_one look xs p.held b (row_index_after_run look p (b ∷ [])) (following.held is) (ap (λ n. cond (n + 1 == look.row) 0 (n + 1)) following.row_index)
+held_next look xs p q (b ∷ c ∷ run) is some literal fits following next =
+    next.held ∙ cond-true _ 0 _ (or_true (row_index_after_run look p (b ∷ c ∷ run) == 0) look.trimmed)
     ∙ sym (ap (held look) (sym (append_assoc xs (pos b ∷ []) (map pos (c ∷ run)))) ∙ (others_are look [] xs b c run is (all_literal b c run literal) fits).1)
 
-place_next : (look : Look) (xs : List ℤ) (p q : Progress) (run : List ℕ) → 0 < length run → IsInRow look xs run → IsBehind look xs p → IsBehindRun look p run q → q.place ≡ length (xs ++ map pos run) % look.row
-place_next look xs p q run some fits behind next =
-    next.place ∙ ap (λ n. cond (n + length run == look.row) 0 (n + length run)) behind.place
-    ∙ sym (place-add (length xs) (length run) look.row some fits)
+row_index_next : (look : Look) (xs : List ℤ) (p q : Progress) (run : List ℕ) → 0 < length run → IsInRow look xs run → IsAfter look xs p → IsAfterRun look p run q → q.row_index ≡ length (xs ++ map pos run) % look.row
+row_index_next look xs p q run some fits following next =
+    next.row_index ∙ ap (λ n. cond (n + length run == look.row) 0 (n + length run)) following.row_index
+    ∙ sym (row_index-add (length xs) (length run) look.row some fits)
     ∙ ap (λ n. n % look.row) (sym (length-append xs (map pos run) ∙ ap (λ n. length xs + n) (length-map run pos)))
 
-behind_next : (look : Look) (xs : List ℤ) (p q : Progress) (run : List ℕ) → is_char look.ty ≡ true → 0 < length run → IsPiece is_literal run → IsInRow look xs run → IsBehind look xs p → IsBehindRun look p run q
-    → IsBehind look (xs ++ map pos run) q
-behind_next look xs p q run is some literal fits behind next = record {
-  position = omega (arith, next.position, behind.position, length-append xs (map pos run), length-map run pos);
-  place = place_next look xs p q run some fits behind next;
-  room = λ n. absurd (false≢true (sym n ∙ is));
-  held = λ _. held_next look xs p q run is some literal fits behind next;
+after_next : (look : Look) (xs : List ℤ) (p q : Progress) (run : List ℕ) → is_char look.ty ≡ true → 0 < length run → IsPiece is_literal run → IsInRow look xs run → IsAfter look xs p → IsAfterRun look p run q
+    → IsAfter look (xs ++ map pos run) q
+after_next look xs p q run is some literal fits following next = record {
+  position = omega (arith, next.position, following.position, length-append xs (map pos run), length-map run pos);
+  row_index = row_index_next look xs p q run some fits following next;
+  columns_left = λ n. absurd (false≢true (sym n ∙ is));
+  held = λ _. held_next look xs p q run is some literal fits following next;
 }
 
-in_row_at : (look : Look) (xs : List ℤ) (p : Progress) (run : List ℕ) → IsBehind look xs p → (1 < length run → p.place + length run ≤ look.row) → IsInRow look xs run
-in_row_at look xs p run behind fits = λ long. let f = fits long in omega (arith, behind.place)
+in_row_at : (look : Look) (xs : List ℤ) (p : Progress) (run : List ℕ) → IsAfter look xs p → (1 < length run → p.row_index + length run ≤ look.row) → IsInRow look xs run
+in_row_at look xs p run following fits = λ long. let f = fits long in omega (arith, following.row_index)
 
 -- a run is printed, or the sink failed inside of its text
 pub goes_run : {X E : Type 0} (look : Look) (run : List ℕ) (p q : Progress) (old new : SinkView) (r : Result X E) → is_char look.ty ≡ true → 0 < length run → IsPiece is_literal run
-    → (1 < length run → p.place + length run ≤ look.row) → Wrote old new (run_bytes look p run) r → OnOk r (IsBehindRun look p run q) → Goes look (map pos run) p q old new r
+    → (1 < length run → p.row_index + length run ≤ look.row) → Wrote old new (run_bytes look p run) r → OnOk r (IsAfterRun look p run q) → PrintsMore look (map pos run) p q old new r
 goes_run look run p q old new (Ok done) is some literal fits wrote next = record {
   position = omega (arith, next.position, length-map run pos);
   failures = wrote.failures;
-  behind = λ xs behind. behind_next look xs p q run is some literal (in_row_at look xs p run behind fits) behind next;
-  grew = λ xs behind. subst (Grew old new) (bytes_are look xs p run is some literal (in_row_at look xs p run behind fits) behind) wrote;
+  following = λ xs following. after_next look xs p q run is some literal (in_row_at look xs p run following fits) following next;
+  appended = λ xs following. subst (Appended old new) (bytes_are look xs p run is some literal (in_row_at look xs p run following fits) following) wrote;
 }
 goes_run look run p q old new (Err failure) is some literal fits wrote next = record {
   failures = wrote.failures;
-  broke = λ xs behind. subst (Broke old new) (bytes_are look xs p run is some literal (in_row_at look xs p run behind fits) behind) wrote;
+  partway = λ xs following. subst (FailedPartway old new) (bytes_are look xs p run is some literal (in_row_at look xs p run following fits) following) wrote;
 }
 
 -- ---- NULs
@@ -255,23 +255,23 @@ first_alone [] some = absurd (omega arith)
 first_alone (x ∷ xs) some = refl
 
 -- what goes out next, by how many bytes are left in the row
-pub run_is : (n k row place : ℕ) (bytes : List ℕ) → 0 < length bytes → k ≤ length bytes → k ≤ row - place → n ≡ max 1 (prefix_len is_literal (take k bytes))
-    → (n ≤ length bytes) × IsPiece is_literal (take n bytes) × (1 < n → place + n ≤ row)
-run_is n zero row place bytes some within fits is =
+pub run_is : (n k row row_index : ℕ) (bytes : List ℕ) → 0 < length bytes → k ≤ length bytes → k ≤ row - row_index → n ≡ max 1 (prefix_len is_literal (take k bytes))
+    → (n ≤ length bytes) × IsPiece is_literal (take n bytes) × (1 < n → row_index + n ≤ row)
+run_is n zero row row_index bytes some within fits is =
     let one : n ≡ 1 = is in
     (omega arith, subst (λ m. IsPiece is_literal (take m bytes)) (sym one) (first_alone bytes some), λ h. absurd (omega arith))
-run_is n (suc k) row place bytes some within fits is =
-    let front = take (suc k) bytes in
-    let len : length front ≡ suc k = length-take-le (suc k) bytes within in
-    let le : n ≤ suc k = omega (arith, prefix_len-le-length is_literal front) in
-    let piece : IsPiece is_literal (take n front) = subst (λ m. IsPiece is_literal (take m front)) (sym is) (front_is_piece is_literal front (omega arith)) in
+run_is n (suc k) row row_index bytes some within fits is =
+    let prefix = take (suc k) bytes in
+    let len : length prefix ≡ suc k = length-take-le (suc k) bytes within in
+    let le : n ≤ suc k = omega (arith, prefix_len-le-length is_literal prefix) in
+    let piece : IsPiece is_literal (take n prefix) = subst (λ m. IsPiece is_literal (take m prefix)) (sym is) (prefix_is_piece is_literal prefix (omega arith)) in
     (omega arith, subst (IsPiece is_literal) (take_take n (suc k) bytes le) piece, λ h. omega arith)
 
 -- ---- the loop over characters
 
-pub chars_parts : (n : ℕ) (rest front back : List ℕ) → front ≡ take n rest → back ≡ drop n rest → map pos rest ≡ map pos front ++ map pos back
-chars_parts n rest front back f b = ap (map pos) (sym (take-append-drop n rest) ∙ ap (λ (x : List ℕ). x ++ drop n rest) (sym f) ∙ ap (λ (x : List ℕ). front ++ x) (sym b)) ∙ map-append pos front back
+pub chars_parts : (n : ℕ) (rest prefix back : List ℕ) → prefix ≡ take n rest → back ≡ drop n rest → map pos rest ≡ map pos prefix ++ map pos back
+chars_parts n rest prefix back f b = ap (map pos) (sym (take-append-drop n rest) ∙ ap (λ (x : List ℕ). x ++ drop n rest) (sym f) ∙ ap (λ (x : List ℕ). prefix ++ x) (sym b)) ∙ map-append pos prefix back
 
 -- no more characters are to come than the variable has
-pub chars_room : (rest bytes : List ℕ) (m n : ℕ) → m + length (map pos rest) ≡ n + length (map pos bytes) → m + length rest ≡ n + length bytes
-chars_room rest bytes m n e = omega (arith, e, length-map rest pos, length-map bytes pos)
+pub chars_columns_left : (rest bytes : List ℕ) (m n : ℕ) → m + length (map pos rest) ≡ n + length (map pos bytes) → m + length rest ≡ n + length bytes
+chars_columns_left rest bytes m n e = omega (arith, e, length-map rest pos, length-map bytes pos)

@@ -14,11 +14,11 @@ use Rattle.nc_base.specs.Types.{size_of}
 use Rattle.cdl_print.specs.Pieces.{dim_text, number_text}
 use Rattle.std.proofs.Math.Nat.{div-eq-sub-div, div-eq_of_lt}
 
--- what stands behind a piece
-abbrev pub behind : Bool → List ℕ
-behind is_last = if is_last then [] else codes ", "
+-- what stands after a piece
+abbrev pub following : Bool → List ℕ
+following is_last = if is_last then [] else codes ", "
 
-pub joined-cons : (x : List ℕ) (xs : List (List ℕ)) (is_last : Bool) → is_last ≡ (length xs == 0) → joined (x ∷ xs) ≡ x ++ (behind is_last ++ joined xs)
+pub joined-cons : (x : List ℕ) (xs : List (List ℕ)) (is_last : Bool) → is_last ≡ (length xs == 0) → joined (x ∷ xs) ≡ x ++ (following is_last ++ joined xs)
 joined-cons x [] is_last e = rw e (sym (append-nil x))
 joined-cons x (y ∷ xs) is_last e =
     let more : is_last ≡ false = grind (arith, nat_tests) in
@@ -83,12 +83,12 @@ number_values-cons ty bytes is_last le last =
     let none = is_none ty (drop (size_of ty) bytes) is_last last in
     ap (λ (ns : List ℤ). joined (texts ty ns)) (numbers-cons ty bytes le)
     ∙ joined-cons (signed_decimal n ++ number_suffix ty) (texts ty others) is_last (rw length-map none)
-    ∙ regroup (signed_decimal n) (number_suffix ty) (behind is_last) (joined (texts ty others))
+    ∙ regroup (signed_decimal n) (number_suffix ty) (following is_last) (joined (texts ty others))
 
 pub number_values-parts : (ty : NcType) (size : ℕ) (rest value others : List ℕ) (is_last : Bool) → size ≡ size_of ty → size ≤ length rest → value ≡ take size rest → others ≡ drop size rest → is_last ≡ nat_lt (length others) size → number_values ty rest ≡ number_text ty value is_last ++ number_values ty others
-number_values-parts ty size rest value others is_last is le front back last =
+number_values-parts ty size rest value others is_last is le prefix back last =
     let long : size_of ty ≤ length rest = omega arith in
-    let value_is : value ≡ take (size_of ty) rest = rw (← is) front in
+    let value_is : value ≡ take (size_of ty) rest = rw (← is) prefix in
     let others_is : others ≡ drop (size_of ty) rest = rw (← is) back in
     let last_is : nat_lt (length (drop (size_of ty) rest)) (size_of ty) ≡ is_last = cc in
     rw (value_is, others_is) (number_values-cons ty rest is_last long last_is)
@@ -96,7 +96,7 @@ number_values-parts ty size rest value others is_last is le front back last =
 -- the first number and the others
 pub numbers_parts : (ty : NcType) (size : ℕ) (rest value others : List ℕ) → size ≡ size_of ty → size ≤ length rest → value ≡ take size rest → others ≡ drop size rest
     → numbers ty rest ≡ number_of ty value ∷ numbers ty others
-numbers_parts ty size rest value others is le front back =
-    let value_is : value ≡ take (size_of ty) rest = rw (← is) front in
+numbers_parts ty size rest value others is le prefix back =
+    let value_is : value ≡ take (size_of ty) rest = rw (← is) prefix in
     let others_is : others ≡ drop (size_of ty) rest = rw (← is) back in
     rw (value_is, others_is) (numbers-cons ty rest (omega arith))

@@ -23,19 +23,19 @@ list_all-prefix p (x ∷ xs) =
     let later = list_all-prefix p xs in
     elim (p x) as (λ b. p x ≡ b → list_all p (take (cond b (1 + prefix_len p xs) 0) (x ∷ xs)) ≡ true) [ true ↦ λ e. grind (arith, common_steps, later) | false ↦ λ e. refl ] refl
 
-front_is_piece_at : (p : ℕ → Bool) (xs : List ℕ) (n : ℕ) → 0 < length xs → n ≡ prefix_len p xs → IsPiece p (take (max 1 n) xs)
-front_is_piece_at p [] zero h is = elim h [ ]
-front_is_piece_at p (x ∷ xs) zero h is = refl
-front_is_piece_at p xs (suc n) h is =
+prefix_is_piece_at : (p : ℕ → Bool) (xs : List ℕ) (n : ℕ) → 0 < length xs → n ≡ prefix_len p xs → IsPiece p (take (max 1 n) xs)
+prefix_is_piece_at p [] zero h is = elim h [ ]
+prefix_is_piece_at p (x ∷ xs) zero h is = refl
+prefix_is_piece_at p xs (suc n) h is =
     let all : list_all p (take (suc n) xs) ≡ true = rw is (list_all-prefix p xs) in
     let longer : max 1 (suc n) ≡ suc n = omega arith in
     rw (longer, all) (grind arith)
 
-pub front_is_piece : (p : ℕ → Bool) (xs : List ℕ) → 0 < length xs → IsPiece p (take (piece_len_of p xs) xs)
-front_is_piece p xs h = front_is_piece_at p xs (prefix_len p xs) h refl
+pub prefix_is_piece : (p : ℕ → Bool) (xs : List ℕ) → 0 < length xs → IsPiece p (take (piece_len_of p xs) xs)
+prefix_is_piece p xs h = prefix_is_piece_at p xs (prefix_len p xs) h refl
 
-pub flat_map_parts : (f : ℕ → List ℕ) (n : ℕ) (xs front back : List ℕ) → front ≡ take n xs → back ≡ drop n xs → flat_map f xs ≡ flat_map f front ++ flat_map f back
-flat_map_parts f n xs front back e d =
+pub flat_map_parts : (f : ℕ → List ℕ) (n : ℕ) (xs prefix back : List ℕ) → prefix ≡ take n xs → back ≡ drop n xs → flat_map f xs ≡ flat_map f prefix ++ flat_map f back
+flat_map_parts f n xs prefix back e d =
     rw (e, d) (ap (flat_map f) (sym (take-append-drop n xs)) ∙ flat_map-append f (take n xs) (drop n xs))
 
 pub flat_map_itself : (p : ℕ → Bool) (f : ℕ → List ℕ) → ((b : ℕ) → p b ≡ true → f b ≡ b ∷ []) → (piece : List ℕ) → list_all p piece ≡ true → flat_map f piece ≡ piece
@@ -84,9 +84,9 @@ line_len-some xs some = omega (arith, line_len-position xs)
 pub literal_itself : (b : ℕ) → is_literal b ≡ true → escaped_in_string b ≡ b ∷ []
 literal_itself b h = grind (arith, nat_tests)
 
-pub escaped_text-parts : (n : ℕ) (xs front back : List ℕ) → front ≡ take n xs → back ≡ drop n xs → escaped_text xs ≡ flat_map escaped_in_string front ++ escaped_text back
+pub escaped_text-parts : (n : ℕ) (xs prefix back : List ℕ) → prefix ≡ take n xs → back ≡ drop n xs → escaped_text xs ≡ flat_map escaped_in_string prefix ++ escaped_text back
 unfolding escaped_text
-escaped_text-parts n xs front back e d = flat_map_parts escaped_in_string n xs front back e d
+escaped_text-parts n xs prefix back e d = flat_map_parts escaped_in_string n xs prefix back e d
 
 line_text-cons : (b : ℕ) (line : List ℕ) (is_last : Bool) → line_text (b ∷ line) is_last ≡ escaped_in_string b ++ line_text line is_last
 unfolding line_text escaped_text text
@@ -102,7 +102,7 @@ last_line b = rw (line_text-cons b [] true, line_text-none true) (sym (append-ni
 feed_line : (b : ℕ) (is_last : Bool) (others : List ℕ) → is_last ≡ false → escaped_in_string b ++ (string_break ++ others) ≡ line_text (b ∷ []) is_last ++ others
 feed_line b is_last others e = rw (e, line_text-cons b [] false, line_text-none false) (sym (append_assoc (escaped_in_string b) string_break others))
 
--- the first line, and the lines behind it
+-- the first line, and the lines after it
 broken_text-line : (xs : List ℕ) → 0 < length xs → broken_text xs ≡ line_text (take (line_len xs) xs) (length (drop (line_len xs) xs) == 0) ++ broken_text (drop (line_len xs) xs)
 broken_text-line [] h = elim h [ ]
 broken_text-line (b ∷ []) h =
@@ -120,5 +120,5 @@ broken_text-line (b ∷ c ∷ bytes) h =
           ∙ ap (λ (x : List ℕ). x ++ broken_text (drop n (c ∷ bytes))) (sym (line_text-cons b (take n (c ∷ bytes)) last))
     ] refl
 
-pub broken_text-parts : (n : ℕ) (xs front back : List ℕ) (is_last : Bool) → 0 < length xs → n ≡ line_len xs → front ≡ take n xs → back ≡ drop n xs → is_last ≡ (length back == 0) → broken_text xs ≡ line_text front is_last ++ broken_text back
-broken_text-parts n xs front back is_last some is e d last = rw (last, e, d, is) (broken_text-line xs some)
+pub broken_text-parts : (n : ℕ) (xs prefix back : List ℕ) (is_last : Bool) → 0 < length xs → n ≡ line_len xs → prefix ≡ take n xs → back ≡ drop n xs → is_last ≡ (length back == 0) → broken_text xs ≡ line_text prefix is_last ++ broken_text back
+broken_text-parts n xs prefix back is_last some is e d last = rw (last, e, d, is) (broken_text-line xs some)

@@ -9,28 +9,28 @@ use Rattle.nc_base.specs.ValueText.{Look, is_char, column, measured_opening}
 use Rattle.nc_base.specs.declared.nc_type.NcType.{NcType}
 use Rattle.nc_base.specs.declared.nc_type.NcType.TheVariants.{Byte, Char, Short, Int, Ubyte, Ushort, Uint, Int64, Uint64}
 use Rattle.nc_base.proofs.ValueLaws.{measured_nil, held_first}
-use Rattle.cdl_print.specs.Printing.{IsBehind}
-use Rattle.cdl_print.specs.Printer.{look_in, Stands}
+use Rattle.cdl_print.specs.Printing.{IsAfter}
+use Rattle.cdl_print.specs.Printer.{look_in, HasPrinted}
 use Rattle.cdl_print.specs.declared.progress.Progress.{Progress}
 use Rattle.cdl_print.specs.declared.printer.ValuePrinter.{ValuePrinter}
 
 -- before the first value
-behind_none : (look : Look) (p : Progress) → p.position ≡ 0 → p.place ≡ 0 → p.held ≡ 0 → p.room ≡ look.width - column (measured_opening look) → IsBehind look [] p
-behind_none look p position place held room = record {
+after_none : (look : Look) (p : Progress) → p.position ≡ 0 → p.row_index ≡ 0 → p.held ≡ 0 → p.columns_left ≡ look.width - column (measured_opening look) → IsAfter look [] p
+after_none look p position row_index held columns_left = record {
   position = position;
-  place = place ∙ sym (zero-mod look.row);
-  room = λ _. room ∙ ap (λ (t : List ℕ). look.width - column t) (sym (measured_nil look));
+  row_index = row_index ∙ sym (zero-mod look.row);
+  columns_left = λ _. columns_left ∙ ap (λ (t : List ℕ). look.width - column t) (sym (measured_nil look));
   held = λ _. held ∙ sym (held_first look [] (zero-mod look.row));
 }
 
 -- a new printer
-pub stands_first : (look : Look) (printer : ValuePrinter) → printer.progress.position ≡ 0 → printer.progress.place ≡ 0 → printer.progress.held ≡ 0
-    → printer.progress.room ≡ printer.layout.width - column (text (codes "\n " ∷ printer.layout.name.now ∷ codes " =" ∷ []))
-    → printer.has_failed ≡ false → look_in printer ≡ look → Stands look [] printer
+pub stands_first : (look : Look) (printer : ValuePrinter) → printer.progress.position ≡ 0 → printer.progress.row_index ≡ 0 → printer.progress.held ≡ 0
+    → printer.progress.columns_left ≡ printer.layout.width - column (text (codes "\n " ∷ printer.layout.name.now ∷ codes " =" ∷ []))
+    → printer.has_failed ≡ false → look_in printer ≡ look → HasPrinted look [] printer
 unfolding measured_opening
-stands_first look printer position place held room unfailed same = record {
+stands_first look printer position row_index held columns_left unfailed same = record {
   same_look = same;
-  behind = subst (λ (l : Look). IsBehind l [] printer.progress) same (behind_none (look_in printer) printer.progress position place held room);
+  following = subst (λ (l : Look). IsAfter l [] printer.progress) same (after_none (look_in printer) printer.progress position row_index held columns_left);
   unfailed = unfailed;
 }
 

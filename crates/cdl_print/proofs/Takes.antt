@@ -1,4 +1,4 @@
--- How many values so many bytes are, and when a printer takes them.
+-- How many values n bytes are, and when a printer takes them.
 use Rattle.std.proofs.Common.{◌≡◌, ℕ, ◌+◌, ◌*◌, ◌/◌, ◌%◌, ◌≤◌, List, length, zero, suc, sym, ◌∙◌, ap, refl, subst}
 use Rattle.nc_base.specs.Numbers.{numbers, numbers_from}
 use Rattle.nc_base.specs.Types.{size_of}
@@ -15,15 +15,15 @@ pub length-numbers : (ty : NcType) (bytes : List ℕ) → length (numbers ty byt
 unfolding numbers
 length-numbers ty bytes = length-from ty (length bytes / size_of ty) bytes
 
--- whole values, for which there is room
+-- whole values, which the variable still has
 pub takes_iff : (printer : ValuePrinter) (bytes : List ℕ) (size : ℕ) (P : Type 0) → size ≡ size_of (look_in printer).ty → length bytes % size ≡ 0
     → (P → position_of printer + length bytes / size ≤ (look_in printer).total) × (position_of printer + length bytes / size ≤ (look_in printer).total → P)
     → (P → Takes printer bytes) × (Takes printer bytes → P)
-takes_iff printer bytes size P is none room =
+takes_iff printer bytes size P is none columns_left =
     let ty = (look_in printer).ty in
     let count = length-numbers ty bytes ∙ ap (λ k. length bytes / k) (sym is) in
     let whole : length bytes ≡ length (numbers ty bytes) * size_of ty
     = whole_part (length bytes) size none ∙ ap (λ n. n * size) (sym count) ∙ ap (λ k. length (numbers ty bytes) * k) is in (
-      λ p. record { whole = whole; room = subst (λ n. position_of printer + n ≤ (look_in printer).total) (sym count) (room.0 p) },
-      λ takes. room.1 (subst (λ n. position_of printer + n ≤ (look_in printer).total) count takes.room),
+      λ p. record { whole = whole; columns_left = subst (λ n. position_of printer + n ≤ (look_in printer).total) (sym count) (columns_left.0 p) },
+      λ takes. columns_left.1 (subst (λ n. position_of printer + n ≤ (look_in printer).total) count takes.columns_left),
     )

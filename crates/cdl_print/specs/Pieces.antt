@@ -13,8 +13,8 @@ use Rattle.nc_base.specs.declared.header.Var.{Var}
 use Rattle.nc_base.specs.declared.nc_type.NcType.{NcType}
 
 -- the backslash before a name that could be read as a number or a reserved word
-unfoldable pub front_escape : List ℕ → List ℕ
-front_escape name = if begins_with_digit_or_mark name || is_reserved name then 92 ∷ [] else []
+unfoldable pub prefix_escape : List ℕ → List ℕ
+prefix_escape name = if begins_with_digit_or_mark name || is_reserved name then 92 ∷ [] else []
 
 -- one byte, or bytes that all pass the test
 abbrev pub IsPiece : (ℕ → Bool) → List ℕ → Type 0
@@ -29,7 +29,7 @@ abbrev pub line_len : List ℕ → ℕ
 line_len [] = 0
 line_len (b ∷ bytes) = if b == 10 then 1 else suc (line_len bytes)
 
--- a line of a string, with the break behind each but the last
+-- a line of a string, with the break after each but the last
 unfoldable pub line_text : List ℕ → Bool → List ℕ
 line_text line is_last = text (escaped_text line ∷ (if is_last then [] else string_break) ∷ [])
 

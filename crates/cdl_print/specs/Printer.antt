@@ -3,9 +3,9 @@ use Rattle.std.specs.Prelude.{ℕ, ◌≡◌, ◌+◌, ◌*◌, ◌≤◌, ℤ, 
 use Rattle.nc_base.specs.Numbers.{numbers}
 use Rattle.nc_base.specs.Types.{size_of}
 use Rattle.nc_base.specs.ValueText.{Look, later_pieces}
-use Rattle.nc_file.specs.Sinks.{SinkView, Grew, Broke, HasFailed}
+use Rattle.nc_file.specs.Sinks.{SinkView, Appended, FailedPartway, HasFailed}
 use Rattle.cdl_print.specs.Leads.{look_at}
-use Rattle.cdl_print.specs.Printing.{IsBehind}
+use Rattle.cdl_print.specs.Printing.{IsAfter}
 use Rattle.cdl_print.specs.declared.printer.ValuePrinter.{ValuePrinter}
 
 -- the look of the printer's variable
@@ -23,12 +23,12 @@ has_failed printer = printer.has_failed
 -- the bytes are whole values, and no more than the variable has beside those printed
 pub record Takes (printer : ValuePrinter) (bytes : List ℕ) : Type 0 where
   pub whole : length bytes ≡ length (numbers (look_in printer).ty bytes) * size_of (look_in printer).ty
-  pub room : position_of printer + length (numbers (look_in printer).ty bytes) ≤ (look_in printer).total
+  pub columns_left : position_of printer + length (numbers (look_in printer).ty bytes) ≤ (look_in printer).total
 
 -- the printer of a variable of this look has printed the values xs, and no write of it has failed
-pub record Stands (look : Look) (xs : List ℤ) (printer : ValuePrinter) : Type 0 where
+pub record HasPrinted (look : Look) (xs : List ℤ) (printer : ValuePrinter) : Type 0 where
   pub same_look : look_in printer ≡ look
-  pub behind : IsBehind look xs printer.progress
+  pub following : IsAfter look xs printer.progress
   pub unfailed : has_failed printer ≡ false
 
 -- it has printed the values ys more, whichever stand before them
@@ -37,14 +37,14 @@ pub record Printed (ys : List ℤ) (p q : ValuePrinter) (old new : SinkView) : T
   pub position : position_of q ≡ position_of p + length ys
   pub unfailed : has_failed q ≡ false
   pub failures : new.failures ≡ old.failures
-  pub stands : (look : Look) (xs : List ℤ) → Stands look xs p → Stands look (xs ++ ys) q
-  pub grew : (look : Look) (xs : List ℤ) → Stands look xs p → Grew old new (later_pieces look xs ys)
+  pub has_printed : (look : Look) (xs : List ℤ) → HasPrinted look xs p → HasPrinted look (xs ++ ys) q
+  pub appended : (look : Look) (xs : List ℤ) → HasPrinted look xs p → Appended old new (later_pieces look xs ys)
 
 -- a write has failed inside the text of the values ys, or one had failed before
 pub record Stopped (ys : List ℤ) (p q : ValuePrinter) (old new : SinkView) : Type 0 where
   pub failed : has_failed q ≡ true
   pub failures : has_failed p ≡ false → HasFailed old.failures new
-  pub broke : (look : Look) (xs : List ℤ) → Stands look xs p → Broke old new (later_pieces look xs ys)
+  pub partway : (look : Look) (xs : List ℤ) → HasPrinted look xs p → FailedPartway old new (later_pieces look xs ys)
 
 -- what a call that prints the values ys has done
 abbrev pub Prints : {X E : Type 0} → List ℤ → ValuePrinter → ValuePrinter → SinkView → SinkView → Result X E → Type 0

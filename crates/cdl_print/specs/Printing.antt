@@ -1,9 +1,9 @@
 -- What a call that prints values has done.
 use Rattle.std.specs.Prelude.{ℕ, ◌≡◌, ◌+◌, ◌-◌, ◌%◌, ◌==◌, ◌&&◌, ◌||◌, ℤ, Bool, true, false, not, if◌then◌else◌, List, [], ◌∷◌, ◌++◌, length, replicate, Some, Result, Ok, Err}
 use Rattle.nc_base.specs.Escapes.{escaped_text}
-use Rattle.nc_base.specs.ValueText.{Look, is_char, column, held, number_text, measured_front, later_pieces}
-use Rattle.nc_file.specs.Sinks.{SinkView, Grew, Broke, HasFailed}
-use Rattle.cdl_print.specs.Leads.{gap_bytes, next_gap, next_char_lead, room_behind}
+use Rattle.nc_base.specs.ValueText.{Look, is_char, column, held, number_text, measured_prefix, later_pieces}
+use Rattle.nc_file.specs.Sinks.{SinkView, Appended, FailedPartway, HasFailed}
+use Rattle.cdl_print.specs.Leads.{gap_bytes, next_gap, next_char_lead, columns_left_after}
 use Rattle.cdl_print.specs.declared.progress.Progress.{Progress}
 
 -- ---- one number
@@ -16,11 +16,11 @@ gathered text = record { taken = Some text; failures = 0 }
 abbrev pub number_bytes : Look → Progress → ℤ → List ℕ
 number_bytes look p value = gap_bytes (next_gap look p (length (number_text look value))) ++ number_text look value
 
--- behind the next number
-pub record IsBehindNumber (look : Look) (p : Progress) (value : ℤ) (q : Progress) : Type 0 where
+-- after the next number
+pub record IsAfterNumber (look : Look) (p : Progress) (value : ℤ) (q : Progress) : Type 0 where
   pub position : q.position ≡ p.position + 1
-  pub place : q.place ≡ (if p.place + 1 == look.row then 0 else p.place + 1)
-  pub room : q.room ≡ room_behind (next_gap look p (length (number_text look value))) p.room look.width - length (number_text look value)
+  pub row_index : q.row_index ≡ (if p.row_index + 1 == look.row then 0 else p.row_index + 1)
+  pub columns_left : q.columns_left ≡ columns_left_after (next_gap look p (length (number_text look value))) p.columns_left look.width - length (number_text look value)
 
 -- ---- characters of one row: one, or some that stand for themselves
 
@@ -29,7 +29,7 @@ is_one_nul [] = false
 is_one_nul (b ∷ []) = b == 0
 is_one_nul (b ∷ c ∷ bytes) = false
 
--- characters behind so many NULs that aren't printed yet: nothing, where they wait too
+-- characters after n NULs that aren't printed yet: nothing, where they wait too
 unfoldable pub run_text : Bool → ℕ → List ℕ → List ℕ
 run_text waits nuls run = if waits then [] else escaped_text (replicate nuls 0) ++ escaped_text run
 
@@ -37,38 +37,38 @@ run_text waits nuls run = if waits then [] else escaped_text (replicate nuls 0) 
 abbrev pub run_bytes : Look → Progress → List ℕ → List ℕ
 run_bytes look p run = next_char_lead look p ++ run_text (look.trimmed && is_one_nul run) p.held run
 
--- the place behind the next characters
-abbrev pub place_behind_run : Look → Progress → List ℕ → ℕ
-place_behind_run look p run = if p.place + length run == look.row then 0 else p.place + length run
+-- the place after the next characters
+abbrev pub row_index_after_run : Look → Progress → List ℕ → ℕ
+row_index_after_run look p run = if p.row_index + length run == look.row then 0 else p.row_index + length run
 
--- behind the next characters
-pub record IsBehindRun (look : Look) (p : Progress) (run : List ℕ) (q : Progress) : Type 0 where
+-- after the next characters
+pub record IsAfterRun (look : Look) (p : Progress) (run : List ℕ) (q : Progress) : Type 0 where
   pub position : q.position ≡ p.position + length run
-  pub place : q.place ≡ place_behind_run look p run
-  pub held : q.held ≡ (if (place_behind_run look p run == 0) || not (look.trimmed && is_one_nul run) then 0 else p.held + 1)
+  pub row_index : q.row_index ≡ row_index_after_run look p run
+  pub held : q.held ≡ (if (row_index_after_run look p run == 0) || not (look.trimmed && is_one_nul run) then 0 else p.held + 1)
 
 -- ---- values
 
 -- the values xs are printed
-pub record IsBehind (look : Look) (xs : List ℤ) (p : Progress) : Type 0 where
+pub record IsAfter (look : Look) (xs : List ℤ) (p : Progress) : Type 0 where
   pub position : p.position ≡ length xs
-  pub place : p.place ≡ length xs % look.row
-  pub room : is_char look.ty ≡ false → p.room ≡ look.width - column (measured_front look xs)
+  pub row_index : p.row_index ≡ length xs % look.row
+  pub columns_left : is_char look.ty ≡ false → p.columns_left ≡ look.width - column (measured_prefix look xs)
   pub held : is_char look.ty ≡ true → p.held ≡ held look xs
 
 -- the values ys more are printed, whichever stand before them
-pub record Went (look : Look) (ys : List ℤ) (p q : Progress) (old new : SinkView) : Type 0 where
+pub record PrintedMore (look : Look) (ys : List ℤ) (p q : Progress) (old new : SinkView) : Type 0 where
   pub position : q.position ≡ p.position + length ys
   pub failures : new.failures ≡ old.failures
-  pub behind : (xs : List ℤ) → IsBehind look xs p → IsBehind look (xs ++ ys) q
-  pub grew : (xs : List ℤ) → IsBehind look xs p → Grew old new (later_pieces look xs ys)
+  pub following : (xs : List ℤ) → IsAfter look xs p → IsAfter look (xs ++ ys) q
+  pub appended : (xs : List ℤ) → IsAfter look xs p → Appended old new (later_pieces look xs ys)
 
 -- the sink failed inside the text of the values ys
-pub record Fell (look : Look) (ys : List ℤ) (p : Progress) (old new : SinkView) : Type 0 where
+pub record FailedPrinting (look : Look) (ys : List ℤ) (p : Progress) (old new : SinkView) : Type 0 where
   pub failures : HasFailed old.failures new
-  pub broke : (xs : List ℤ) → IsBehind look xs p → Broke old new (later_pieces look xs ys)
+  pub partway : (xs : List ℤ) → IsAfter look xs p → FailedPartway old new (later_pieces look xs ys)
 
 -- what a call that prints the values ys has done
-abbrev pub Goes : {X E : Type 0} → Look → List ℤ → Progress → Progress → SinkView → SinkView → Result X E → Type 0
-Goes look ys p q old new (Ok done) = Went look ys p q old new
-Goes look ys p q old new (Err failure) = Fell look ys p old new
+abbrev pub PrintsMore : {X E : Type 0} → Look → List ℤ → Progress → Progress → SinkView → SinkView → Result X E → Type 0
+PrintsMore look ys p q old new (Ok done) = PrintedMore look ys p q old new
+PrintsMore look ys p q old new (Err failure) = FailedPrinting look ys p old new

@@ -6,10 +6,10 @@ ghost use Rattle.nc_base.specs.ValueText.{is_char};
 ghost use Rattle.nc_file.specs.Sinks.{Wrote};
 ghost use Rattle.cdl_print.specs.Leads.{look_at};
 ghost use Rattle.cdl_print.specs.Pieces.{is_literal, IsPiece};
-ghost use Rattle.cdl_print.specs.Printing.{is_one_nul, run_bytes, run_text, Goes, IsBehindRun};
+ghost use Rattle.cdl_print.specs.Printing.{is_one_nul, run_bytes, run_text, PrintsMore, IsAfterRun};
 
 use crate::layout::Layout;
-use crate::progress::{Progress, place_behind};
+use crate::progress::{Progress, row_index_after};
 use crate::string::{piece_len, put_piece};
 use nc_file::{Sink, WriteFailed, put};
 
@@ -21,32 +21,32 @@ pub fn put_char_values<W: Sink>(
     bytes: &[u8],
 ) -> Result<(), WriteFailed>
     requires character { is_char layout.now.ty ≡ true }
-    requires room { progress.old.position + length bytes.now ≤ layout.now.total }
-    ensures { Goes (look_at layout.now) (map pos bytes.now) progress.old progress.new (W.seen sink.old) (W.seen sink.new) result }
+    requires columns_left { progress.old.position + length bytes.now ≤ layout.now.total }
+    ensures { PrintsMore (look_at layout.now) (map pos bytes.now) progress.old progress.new (W.view sink.old) (W.view sink.new) result }
 {
     let mut rest = bytes;
     while !rest.is_empty() {
-        let (run, others) = rest.split_at(run_len(layout.row, progress.place, rest));
+        let (run, others) = rest.split_at(run_len(layout.row, progress.row_index, rest));
         put_next_run(sink, layout, progress, run)?;
         rest = others;
     }
     Ok(())
 }
 
-/// The length of what goes out next, from this place of a row on: of the front of bytes that stand for themselves, up to
+/// The length of what goes out next, from this place of a row on: of the prefix of bytes that stand for themselves, up to
 /// the row's end, or one byte.
-fn run_len(row: u128, place: u128, bytes: &[u8]) -> usize
+fn run_len(row: u128, row_index: u128, bytes: &[u8]) -> usize
     requires { 0 < length bytes.now }
     ensures some { 0 < result }
     ensures within { result ≤ length bytes.now }
     ensures piece { IsPiece is_literal (take result bytes.now) }
-    ensures in_row { 1 < result → place + result ≤ row }
+    ensures in_row { 1 < result → row_index + result ≤ row }
 {
-    let in_row = row.saturating_sub(place).min(bytes.len() as u128) as usize;
+    let in_row = row.saturating_sub(row_index).min(bytes.len() as u128) as usize;
     piece_len(&bytes[..in_row])
 }
 
-/// Writes the next characters and goes on behind them.
+/// Writes the next characters and goes on after them.
 fn put_next_run<W: Sink>(
     sink: &mut W,
     layout: &Layout<'_>,
@@ -54,11 +54,11 @@ fn put_next_run<W: Sink>(
     run: &[u8],
 ) -> Result<(), WriteFailed>
     requires character { is_char layout.now.ty ≡ true }
-    requires room { progress.old.position + length run.now ≤ layout.now.total }
+    requires columns_left { progress.old.position + length run.now ≤ layout.now.total }
     requires some { 0 < length run.now }
     requires piece { IsPiece is_literal run.now }
-    requires in_row { 1 < length run.now → progress.old.place + length run.now ≤ layout.now.row }
-    ensures { Goes (look_at layout.now) (map pos run.now) progress.old progress.new (W.seen sink.old) (W.seen sink.new) result }
+    requires in_row { 1 < length run.now → progress.old.row_index + length run.now ≤ layout.now.row }
+    ensures { PrintsMore (look_at layout.now) (map pos run.now) progress.old progress.new (W.view sink.old) (W.view sink.new) result }
 {
     put_run(sink, layout, progress, run)
 }
@@ -71,36 +71,36 @@ fn put_run<W: Sink>(
     progress: &mut Progress,
     run: &[u8],
 ) -> Result<(), WriteFailed>
-    requires room { progress.old.position + length run.now ≤ layout.now.total }
+    requires columns_left { progress.old.position + length run.now ≤ layout.now.total }
     requires some { 0 < length run.now }
     requires piece { IsPiece is_literal run.now }
-    ensures wrote { Wrote (W.seen sink.old) (W.seen sink.new) (run_bytes (look_at layout.now) progress.old run.now) result }
-    ensures behind { OnOk result (IsBehindRun (look_at layout.now) progress.old run.now progress.new) }
+    ensures wrote { Wrote (W.view sink.old) (W.view sink.new) (run_bytes (look_at layout.now) progress.old run.now) result }
+    ensures following { OnOk result (IsAfterRun (look_at layout.now) progress.old run.now progress.new) }
 {
     let waits = layout.trimmed && is_one_nul(run);
     put(sink, layout.char_lead(progress))?;
     put_run_text(sink, waits, progress.held, run)?;
     let count = run.len() as u128;
-    let place = place_behind(layout.row, progress.place, count);
+    let row_index = row_index_after(layout.row, progress.row_index, count);
     *progress = Progress {
         position: progress.position + count,
-        place,
-        room: progress.room,
-        held: held_behind(progress.held, place, waits),
+        row_index,
+        columns_left: progress.columns_left,
+        held: held_after(progress.held, row_index, waits),
     };
     Ok(())
 }
 
 /// How many NULs are held back at this place, where so many were before and the last character waits or not.
-fn held_behind(held: u128, place: u128, waits: bool) -> u128
+fn held_after(held: u128, row_index: u128, waits: bool) -> u128
     requires { held + 1 < 2 ^ 128 }
-    ensures held { result ≡ (if (place == 0) || not waits then 0 else held + 1) }
+    ensures held { result ≡ (if (row_index == 0) || not waits then 0 else held + 1) }
     ensures few { result ≤ held + 1 }
 {
-    if place == 0 || !waits { 0 } else { held + 1 }
+    if row_index == 0 || !waits { 0 } else { held + 1 }
 }
 
-/// Writes characters behind so many NULs that were held back: nothing, where they wait too.
+/// Writes characters after n NULs that were held back: nothing, where they wait too.
 #[tactic(auto, using(nc_file::proofs::Writes::writes), unfolding(crate::specs::Printing::run_text, nc_base::specs::Escapes::escaped_text))]
 fn put_run_text<W: Sink>(
     sink: &mut W,
@@ -109,7 +109,7 @@ fn put_run_text<W: Sink>(
     run: &[u8],
 ) -> Result<(), WriteFailed>
     requires { IsPiece is_literal run.now }
-    ensures { Wrote (W.seen sink.old) (W.seen sink.new) (run_text waits held run.now) result }
+    ensures { Wrote (W.view sink.old) (W.view sink.new) (run_text waits held run.now) result }
 {
     if waits {
         return Ok(());
@@ -125,9 +125,9 @@ fn is_one_nul(run: &[u8]) -> bool
     matches!(run, [0])
 }
 
-/// Writes so many NULs.
+/// Writes n NULs.
 fn put_nuls<W: Sink>(sink: &mut W, count: u128) -> Result<(), WriteFailed>
-    ensures { Wrote (W.seen sink.old) (W.seen sink.new) (escaped_text (replicate count 0)) result }
+    ensures { Wrote (W.view sink.old) (W.view sink.new) (escaped_text (replicate count 0)) result }
 {
     for _ in 0..count {
         put(sink, b"\\000")?;

@@ -11,9 +11,9 @@ use nc_file::{Sink, WriteFailed, put};
 ///
 /// # Errors
 ///
-/// The sink failed, and took some front of the text.
+/// The sink failed, and took some prefix of the text.
 pub fn put_decimal<W: Sink>(sink: &mut W, n: u128) -> Result<(), WriteFailed>
-    ensures { Wrote (W.seen sink.old) (W.seen sink.new) (decimal n) result }
+    ensures { Wrote (W.view sink.old) (W.view sink.new) (decimal n) result }
 {
     let mut digits = Buffer::new();
     put(sink, digits.format(n).as_bytes())
@@ -21,7 +21,7 @@ pub fn put_decimal<W: Sink>(sink: &mut W, n: u128) -> Result<(), WriteFailed>
 
 /// Writes an integer in decimal.
 pub fn put_integer<W: Sink>(sink: &mut W, n: i128) -> Result<(), WriteFailed>
-    ensures { Wrote (W.seen sink.old) (W.seen sink.new) (signed_decimal n) result }
+    ensures { Wrote (W.view sink.old) (W.view sink.new) (signed_decimal n) result }
 {
     put(sink, Buffer::new().format(n).as_bytes())
 }

@@ -9,7 +9,7 @@ ghost use Rattle.cdl_print.specs.Leads.{look_at, next_char_lead, next_gap, next_
 use crate::lead::{Gap, Lead};
 use crate::progress::Progress;
 use itoa::Buffer;
-use nc_base::{Dim, Header, NcType, Var, dim_len, fill_of, has_blanks, has_records, value_count};
+use nc_base::{Dim, Header, NcType, Var, dim_len, fill_of, prints_fill, has_records, value_count};
 
 /// All that the text of a variable's values depends on, but for the values.
 #[derive(Clone, Copy)]
@@ -27,14 +27,14 @@ pub struct Layout<'a> {
     /// The fill value.
     pub fill: i128,
     /// A value that equals the fill value prints as `_`.
-    pub blanks: bool,
+    pub prints_fill: bool,
     /// The NULs at the end of a row of characters aren't printed.
     pub trimmed: bool,
     /// The width at which lines of numbers are broken.
     pub width: usize,
 }
 
-/// The layout of the variable in place `v` over so many records, in lines of this width.
+/// The layout of the variable at index `v` over n records, in lines of this width.
 pub fn layout_of(header: &Header, v: usize, records: u64, width: usize) -> Layout<'_>
     requires sound { IsSound header.now }
     requires there { v < length header.now.vars }
@@ -44,7 +44,7 @@ pub fn layout_of(header: &Header, v: usize, records: u64, width: usize) -> Layou
     layout_of_var(header, var, value_count(header, v, records), width)
 }
 
-/// The layout of a variable with so many values, in lines of this width.
+/// The layout of a variable with n values, in lines of this width.
 #[tactic(auto, unfolding(nc_base::specs::ValueText::look_of))]
 fn layout_of_var<'a>(header: &'a Header, var: &'a Var, total: u128, width: usize) -> Layout<'a>
     ensures { (records : ℕ) → total ≡ value_count header.now.dims var.now records → look_at result ≡ look_of header.now var.now records width }
@@ -57,7 +57,7 @@ fn layout_of_var<'a>(header: &'a Header, var: &'a Var, total: u128, width: usize
         row: row_len(dims, var.dimids.as_slice(), total),
         total,
         fill: fill_of(var),
-        blanks: has_blanks(var),
+        prints_fill: prints_fill(var),
         trimmed: is_trimmed(dims, var),
         width,
     }
@@ -90,7 +90,7 @@ impl Layout<'_> {
         matches!(self.ty, NcType::Char)
     }
 
-    /// What stands behind the values.
+    /// What stands after the values.
     #[tactic(auto, unfolding(nc_base::specs::ValueText::closing))]
     pub fn closing(&self) -> &'static [u8]
         ensures { result.now ≡ closing (look_at self.now) }
@@ -103,7 +103,7 @@ impl Layout<'_> {
         ensures text { result.now ≡ number_text (look_at self.now) value }
         ensures short { length result.now ≤ 40 }
     {
-        if self.blanks && value == self.fill {
+        if self.prints_fill && value == self.fill {
             b"_"
         } else {
             digits.format(value).as_bytes()
@@ -113,12 +113,12 @@ impl Layout<'_> {
     /// What stands before the next number, whose text has `len` bytes.
     pub fn number_gap(&self, progress: &Progress, len: usize) -> Gap
         requires short { len ≤ 40 }
-        requires room { progress.now.position < self.now.total }
+        requires columns_left { progress.now.position < self.now.total }
         ensures { result ≡ next_gap (look_at self.now) progress.now len }
     {
         let lead = self.number_lead(progress);
-        let room = lead.room_behind(progress.room, self.width);
-        let breaks = passes(room, len, progress.place + 1 == self.row);
+        let columns_left = lead.columns_left_after(progress.columns_left, self.width);
+        let breaks = passes(columns_left, len, progress.row_index + 1 == self.row);
         Gap { lead, breaks }
     }
 
@@ -126,7 +126,7 @@ impl Layout<'_> {
     fn number_lead(&self, progress: &Progress) -> Lead
         ensures { result ≡ next_lead (look_at self.now) progress.now }
     {
-        if progress.place != 0 {
+        if progress.row_index != 0 {
             Lead::Comma
         } else if !self.in_rows {
             Lead::Space
@@ -141,7 +141,7 @@ impl Layout<'_> {
     pub fn char_lead(&self, progress: &Progress) -> &'static [u8]
         ensures { result.now ≡ next_char_lead (look_at self.now) progress.now }
     {
-        if progress.place != 0 {
+        if progress.row_index != 0 {
             b""
         } else if !self.in_rows {
             b" \""
@@ -154,14 +154,14 @@ impl Layout<'_> {
 }
 
 /// Says whether a number of `len` bytes would pass the width, on a line that may have this many bytes more. Four bytes are kept
-/// free behind it, or two behind its row's last; and a last number of one or two bytes never passes.
-fn passes(room: usize, len: usize, is_last: bool) -> bool
+/// free after it, or two after its row's last; and a last number of one or two bytes never passes.
+fn passes(columns_left: usize, len: usize, is_last: bool) -> bool
     requires { len ≤ 40 }
-    ensures { result ≡ passes_at room len is_last }
+    ensures { result ≡ passes_at columns_left len is_last }
 {
     if is_last {
-        len > 2 && room < len + 2
+        len > 2 && columns_left < len + 2
     } else {
-        room < len + 4
+        columns_left < len + 4
     }
 }

@@ -1,7 +1,7 @@
 //! What stands before a number.
 
 ghost use Rattle.std.specs.Prelude.{◌≡◌, ◌≤◌, length};
-ghost use Rattle.cdl_print.specs.Leads.{gap_bytes, lead_room, room_behind};
+ghost use Rattle.cdl_print.specs.Leads.{gap_bytes, lead_columns_left, columns_left_after};
 
 /// What stands before a number on its line.
 #[derive(Clone, Copy)]
@@ -17,19 +17,19 @@ pub enum Lead {
 }
 
 impl Lead {
-    /// How many bytes more a line of this width may have behind the lead, where it had this room before.
-    pub fn room_behind(self, room: usize, width: usize) -> usize
-        ensures { result ≡ lead_room self room width }
+    /// How many bytes more a line of this width may have after the lead, where it had these columns left before.
+    pub fn columns_left_after(self, columns_left: usize, width: usize) -> usize
+        ensures { result ≡ lead_columns_left self columns_left width }
     {
         match self {
-            Lead::Space => room.saturating_sub(1),
-            Lead::Comma => room.saturating_sub(2),
+            Lead::Space => columns_left.saturating_sub(1),
+            Lead::Comma => columns_left.saturating_sub(2),
             Lead::FirstRow | Lead::NextRow => width.saturating_sub(2),
         }
     }
 }
 
-/// What stands before a number: its lead, and behind that the beginning of a new line where the number would pass the width.
+/// What stands before a number: its lead, and after that the beginning of a new line where the number would pass the width.
 #[derive(Clone, Copy)]
 pub struct Gap {
     /// What stands before the number on its line.
@@ -56,14 +56,14 @@ impl Gap {
         }
     }
 
-    /// How many bytes more a line of this width may have behind the gap, where it had this room before.
-    pub fn room_behind(self, room: usize, width: usize) -> usize
-        ensures { result ≡ room_behind self room width }
+    /// How many bytes more a line of this width may have after the gap, where it had these columns left before.
+    pub fn columns_left_after(self, columns_left: usize, width: usize) -> usize
+        ensures { result ≡ columns_left_after self columns_left width }
     {
         if self.breaks {
             width.saturating_sub(4)
         } else {
-            self.lead.room_behind(room, width)
+            self.lead.columns_left_after(columns_left, width)
         }
     }
 }

@@ -5,7 +5,7 @@ ghost use Rattle.std.specs.List.{flat_map, list_any, prefix_len};
 ghost use Rattle.std.specs.Str.{bytes_eq};
 ghost use Rattle.nc_base.specs.Escapes.{begins_with_digit_or_mark, escaped_in_name, escaped_name, is_name_mark, is_plain, is_reserved};
 ghost use Rattle.nc_file.specs.Sinks.{Wrote};
-ghost use Rattle.cdl_print.specs.Pieces.{front_escape, IsPiece};
+ghost use Rattle.cdl_print.specs.Pieces.{prefix_escape, IsPiece};
 
 use nc_file::{Sink, WriteFailed, put};
 
@@ -40,19 +40,19 @@ const RESERVED_WORDS: [&[u8]; 20] = [
 ///
 /// # Errors
 ///
-/// The sink failed. It took some front of the text.
-#[tactic(auto, using(nc_file::proofs::Writes::writes), unfolding(nc_base::specs::Escapes::escaped_name, crate::specs::Pieces::front_escape))]
+/// The sink failed. It took some prefix of the text.
+#[tactic(auto, using(nc_file::proofs::Writes::writes), unfolding(nc_base::specs::Escapes::escaped_name, crate::specs::Pieces::prefix_escape))]
 pub fn put_name<W: Sink>(sink: &mut W, name: &[u8]) -> Result<(), WriteFailed>
-    ensures { Wrote (W.seen sink.old) (W.seen sink.new) (escaped_name name.now) result }
+    ensures { Wrote (W.view sink.old) (W.view sink.new) (escaped_name name.now) result }
 {
-    put_front_escape(sink, name)?;
+    put_prefix_escape(sink, name)?;
     put_name_bytes(sink, name)
 }
 
 /// Writes the backslash before a name that could be read as something else.
-#[tactic(auto, using(nc_file::proofs::Writes::writes), unfolding(crate::specs::Pieces::front_escape))]
-fn put_front_escape<W: Sink>(sink: &mut W, name: &[u8]) -> Result<(), WriteFailed>
-    ensures { Wrote (W.seen sink.old) (W.seen sink.new) (front_escape name.now) result }
+#[tactic(auto, using(nc_file::proofs::Writes::writes), unfolding(crate::specs::Pieces::prefix_escape))]
+fn put_prefix_escape<W: Sink>(sink: &mut W, name: &[u8]) -> Result<(), WriteFailed>
+    ensures { Wrote (W.view sink.old) (W.view sink.new) (prefix_escape name.now) result }
 {
     if begins_with_digit_or_mark(name) || is_reserved(name) {
         return put(sink, b"\\");
@@ -62,7 +62,7 @@ fn put_front_escape<W: Sink>(sink: &mut W, name: &[u8]) -> Result<(), WriteFaile
 
 /// Writes the bytes of a name, each with its escape.
 fn put_name_bytes<W: Sink>(sink: &mut W, name: &[u8]) -> Result<(), WriteFailed>
-    ensures { Wrote (W.seen sink.old) (W.seen sink.new) (flat_map escaped_in_name name.now) result }
+    ensures { Wrote (W.view sink.old) (W.view sink.new) (flat_map escaped_in_name name.now) result }
 {
     let mut rest = name;
     while !rest.is_empty() {
@@ -76,7 +76,7 @@ fn put_name_bytes<W: Sink>(sink: &mut W, name: &[u8]) -> Result<(), WriteFailed>
 /// Writes one byte of a name, or some that stand for themselves.
 fn put_piece<W: Sink>(sink: &mut W, piece: &[u8]) -> Result<(), WriteFailed>
     requires { IsPiece is_plain piece.now }
-    ensures { Wrote (W.seen sink.old) (W.seen sink.new) (flat_map escaped_in_name piece.now) result }
+    ensures { Wrote (W.view sink.old) (W.view sink.new) (flat_map escaped_in_name piece.now) result }
 {
     match *piece {
         [b] => put_byte(sink, b),
@@ -86,7 +86,7 @@ fn put_piece<W: Sink>(sink: &mut W, piece: &[u8]) -> Result<(), WriteFailed>
 
 /// Writes one byte of a name.
 fn put_byte<W: Sink>(sink: &mut W, b: u8) -> Result<(), WriteFailed>
-    ensures { Wrote (W.seen sink.old) (W.seen sink.new) (escaped_in_name b) result }
+    ensures { Wrote (W.view sink.old) (W.view sink.new) (escaped_in_name b) result }
 {
     if is_plain(b) {
         put(sink, &[b])
@@ -95,14 +95,14 @@ fn put_byte<W: Sink>(sink: &mut W, b: u8) -> Result<(), WriteFailed>
     }
 }
 
-/// The length of what goes out next: of the front of bytes that stand for themselves, or one byte.
+/// The length of what goes out next: of the prefix of bytes that stand for themselves, or one byte.
 fn piece_len(name: &[u8]) -> usize
     ensures { result ≡ max 1 (prefix_len is_plain name.now) }
 {
     plain_len(name).max(1)
 }
 
-/// The number of bytes at the front that stand for themselves.
+/// The number of bytes at the prefix that stand for themselves.
 fn plain_len(name: &[u8]) -> usize
     ensures { result ≡ prefix_len is_plain name.now }
 {
@@ -120,7 +120,7 @@ fn is_plain(b: u8) -> bool
     b.is_ascii_alphanumeric() || b == b'_' || is_name_mark(b) || b >= 0x80
 }
 
-/// Says whether the byte is one of the marks that a name has unescaped, but not in front.
+/// Says whether the byte is one of the marks that a name has unescaped, but not before.
 fn is_name_mark(b: u8) -> bool
     ensures { result ≡ is_name_mark b }
 {

@@ -5,11 +5,11 @@ ghost use Rattle.nc_base.specs.Numbers.{number_of, numbers};
 ghost use Rattle.nc_base.specs.Types.{size_of};
 ghost use Rattle.nc_base.specs.ValueText.{is_char};
 ghost use Rattle.cdl_print.specs.Leads.{gap_bytes, look_at};
-ghost use Rattle.cdl_print.specs.Printing.{gathered, number_bytes, Goes, Went, IsBehindNumber};
+ghost use Rattle.cdl_print.specs.Printing.{gathered, number_bytes, PrintsMore, PrintedMore, IsAfterNumber};
 
 use crate::layout::Layout;
 use crate::lead::{Gap, Lead};
-use crate::progress::{Progress, place_behind};
+use crate::progress::{Progress, row_index_after};
 use arrayvec::ArrayVec;
 use itoa::Buffer;
 use nc_base::number_of;
@@ -30,14 +30,14 @@ pub fn put_number_values<W: Sink>(
     bytes: &[u8],
 ) -> Result<(), WriteFailed>
     requires number { is_char layout.now.ty ≡ false }
-    requires room { progress.old.position + length (numbers layout.now.ty bytes.now) ≤ layout.now.total }
-    ensures { Goes (look_at layout.now) (numbers layout.now.ty bytes.now) progress.old progress.new (W.seen sink.old) (W.seen sink.new) result }
+    requires columns_left { progress.old.position + length (numbers layout.now.ty bytes.now) ≤ layout.now.total }
+    ensures { PrintsMore (look_at layout.now) (numbers layout.now.ty bytes.now) progress.old progress.new (W.view sink.old) (W.view sink.new) result }
 {
     let most = AT_ONCE * layout.ty.size() as usize;
     let mut rest = bytes;
     while !rest.is_empty() {
-        let (front, others) = rest.split_at(most.min(rest.len()));
-        put_few_numbers(sink, layout, progress, text, front)?;
+        let (prefix, others) = rest.split_at(most.min(rest.len()));
+        put_few_numbers(sink, layout, progress, text, prefix)?;
         rest = others;
     }
     Ok(())
@@ -53,8 +53,8 @@ fn put_few_numbers<W: Sink>(
 ) -> Result<(), WriteFailed>
     requires number { is_char layout.now.ty ≡ false }
     requires few { length (numbers layout.now.ty bytes.now) ≤ 20 }
-    requires room { progress.old.position + length (numbers layout.now.ty bytes.now) ≤ layout.now.total }
-    ensures { Goes (look_at layout.now) (numbers layout.now.ty bytes.now) progress.old progress.new (W.seen sink.old) (W.seen sink.new) result }
+    requires columns_left { progress.old.position + length (numbers layout.now.ty bytes.now) ≤ layout.now.total }
+    ensures { PrintsMore (look_at layout.now) (numbers layout.now.ty bytes.now) progress.old progress.new (W.view sink.old) (W.view sink.new) result }
 {
     text.clear();
     gather_numbers(text, layout, progress, bytes);
@@ -65,8 +65,8 @@ fn put_few_numbers<W: Sink>(
 fn gather_numbers(text: &mut Gathered, layout: &Layout<'_>, progress: &mut Progress, bytes: &[u8])
     requires number { is_char layout.now.ty ≡ false }
     requires fits { length text.old.items + 49 * length (numbers layout.now.ty bytes.now) ≤ 1024 }
-    requires room { progress.old.position + length (numbers layout.now.ty bytes.now) ≤ layout.now.total }
-    ensures { Went (look_at layout.now) (numbers layout.now.ty bytes.now) progress.old progress.new (gathered text.old.items) (gathered text.new.items) }
+    requires columns_left { progress.old.position + length (numbers layout.now.ty bytes.now) ≤ layout.now.total }
+    ensures { PrintedMore (look_at layout.now) (numbers layout.now.ty bytes.now) progress.old progress.new (gathered text.old.items) (gathered text.new.items) }
 {
     let size = layout.ty.size() as usize;
     let mut at = *progress;
@@ -79,24 +79,24 @@ fn gather_numbers(text: &mut Gathered, layout: &Layout<'_>, progress: &mut Progr
     *progress = at;
 }
 
-/// Adds the next number to the text, with what stands before it, and goes on behind it.
+/// Adds the next number to the text, with what stands before it, and goes on after it.
 fn gather_number(text: &mut Gathered, layout: &Layout<'_>, progress: &mut Progress, value: &[u8])
     requires whole { length value.now ≡ size_of layout.now.ty }
     requires fits { length text.old.items + 49 ≤ 1024 }
-    requires room { progress.old.position < layout.now.total }
+    requires columns_left { progress.old.position < layout.now.total }
     ensures text { text.new.items ≡ text.old.items ++ number_bytes (look_at layout.now) progress.old (number_of layout.now.ty value.now) }
     ensures short { length text.new.items ≤ length text.old.items + 49 }
-    ensures behind { IsBehindNumber (look_at layout.now) progress.old (number_of layout.now.ty value.now) progress.new }
+    ensures following { IsAfterNumber (look_at layout.now) progress.old (number_of layout.now.ty value.now) progress.new }
 {
     let mut digits = Buffer::new();
     let number = layout.number_text(number_of(layout.ty, value), &mut digits);
     let gap = layout.number_gap(progress, number.len());
     gather_both(text, gap, number);
-    let room = gap.room_behind(progress.room, layout.width);
+    let columns_left = gap.columns_left_after(progress.columns_left, layout.width);
     *progress = Progress {
         position: progress.position + 1,
-        place: place_behind(layout.row, progress.place, 1),
-        room: room.saturating_sub(number.len()),
+        row_index: row_index_after(layout.row, progress.row_index, 1),
+        columns_left: columns_left.saturating_sub(number.len()),
         held: progress.held,
     };
 }

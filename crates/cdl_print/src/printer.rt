@@ -6,13 +6,13 @@ ghost use Rattle.nc_base.specs.Numbers.{numbers};
 ghost use Rattle.nc_base.specs.ValueText.{look_of, opening, closing};
 ghost use Rattle.nc_file.specs.Sinks.{Wrote};
 ghost use Rattle.cdl_print.specs.Leads.{look_at};
-ghost use Rattle.cdl_print.specs.Printing.{Goes};
-ghost use Rattle.cdl_print.specs.Printer.{look_in, position_of, has_failed, Stands, Takes, Prints};
+ghost use Rattle.cdl_print.specs.Printing.{PrintsMore};
+ghost use Rattle.cdl_print.specs.Printer.{look_in, position_of, has_failed, HasPrinted, Takes, Prints};
 
 use crate::char_row::put_char_values;
 use crate::layout::{Layout, layout_of};
 use crate::number_row::{Gathered, put_number_values};
-use crate::opening::{put_opening, room_behind_opening};
+use crate::opening::{put_opening, columns_left_after_opening};
 use crate::progress::Progress;
 use nc_base::Header;
 use nc_file::{Sink, WriteFailed, put};
@@ -20,7 +20,7 @@ use nc_file::{Sink, WriteFailed, put};
 /// Prints the values of one variable.
 ///
 /// [`start`](ValuePrinter::start) writes what stands before the values, [`values`](ValuePrinter::values) writes them, in
-/// as many calls as they come in, and [`finish`](ValuePrinter::finish) what stands behind them. The text is that of
+/// as many calls as they come in, and [`finish`](ValuePrinter::finish) what stands after them. The text is that of
 /// ncdump(1), however the values are cut into calls. The printer keeps none of it, and takes no memory.
 ///
 /// After a failed write each later call fails too, and writes nothing.
@@ -33,20 +33,20 @@ pub struct ValuePrinter<'a> {
 }
 
 impl<'a> ValuePrinter<'a> {
-    /// The printer of the variable in place `v` over so many records, in lines of numbers of this width.
+    /// The printer of the variable at index `v` over n records, in lines of numbers of this width.
     pub fn new(header: &'a Header, v: usize, records: u64, width: usize) -> ValuePrinter<'a>
         requires sound { IsSound header.now }
         requires there { v < length header.now.vars }
-        ensures { IfSome (slice_get header.now.vars v) (λ var. Stands (look_of header.now var records width) [] result) }
+        ensures { IfSome (slice_get header.now.vars v) (λ var. HasPrinted (look_of header.now var records width) [] result) }
     {
         let layout = layout_of(header, v, records, width);
-        let room = room_behind_opening(layout.width, layout.name);
+        let columns_left = columns_left_after_opening(layout.width, layout.name);
         ValuePrinter {
             layout,
             progress: Progress {
                 position: 0,
-                place: 0,
-                room,
+                row_index: 0,
+                columns_left,
                 held: 0,
             },
             has_failed: false,
@@ -58,13 +58,13 @@ impl<'a> ValuePrinter<'a> {
     ///
     /// # Errors
     ///
-    /// The sink failed, and took some front of the text; or an earlier call failed, and nothing is written.
+    /// The sink failed, and took some prefix of the text; or an earlier call failed, and nothing is written.
     #[tactic(auto, unfolding(nc_base::specs::ValueText::opening))]
     pub fn start<W: Sink>(&mut self, sink: &mut W) -> Result<(), WriteFailed>
-        ensures wrote { has_failed self.old ≡ false → Wrote (W.seen sink.old) (W.seen sink.new) (opening (look_in self.old)) result }
+        ensures wrote { has_failed self.old ≡ false → Wrote (W.view sink.old) (W.view sink.new) (opening (look_in self.old)) result }
         ensures ok { OnOk result (self.new ≡ self.old) }
         ensures failed { OnErr result (has_failed self.new ≡ true) }
-        ensures repeats { has_failed self.old ≡ true → IsErr result × (W.seen sink.new ≡ W.seen sink.old) }
+        ensures repeats { has_failed self.old ≡ true → IsErr result × (W.view sink.new ≡ W.view sink.old) }
     {
         if self.has_failed {
             return Err(WriteFailed);
@@ -83,11 +83,11 @@ impl<'a> ValuePrinter<'a> {
         ensures { IsTrue result ↔ Takes self.now bytes.now }
     {
         let size = self.layout.ty.size() as usize;
-        bytes.len() % size == 0 && self.has_room((bytes.len() / size) as u128)
+        bytes.len() % size == 0 && self.has_values_left((bytes.len() / size) as u128)
     }
 
-    /// Says whether the variable has so many values beside those printed.
-    fn has_room(&self, count: u128) -> bool
+    /// Says whether the variable has n values beside those printed.
+    fn has_values_left(&self, count: u128) -> bool
         ensures { IsTrue result ↔ (position_of self.now + count ≤ (look_in self.now).total) }
     {
         let total = self.layout.total;
@@ -95,16 +95,16 @@ impl<'a> ValuePrinter<'a> {
         position <= total && count <= total - position
     }
 
-    /// Writes these values, which come behind those of the calls before: big-endian and one behind the other. They are
+    /// Writes these values, which come after those of the calls before: big-endian and one after the other. They are
     /// whole, and no more than the variable has.
     ///
     /// # Errors
     ///
-    /// The sink failed, and took some front of the text; or an earlier call failed, and nothing is written.
+    /// The sink failed, and took some prefix of the text; or an earlier call failed, and nothing is written.
     pub fn values<W: Sink>(&mut self, sink: &mut W, bytes: &[u8]) -> Result<(), WriteFailed>
         requires { Takes self.old bytes.now }
-        ensures prints { Prints (numbers (look_in self.old).ty bytes.now) self.old self.new (W.seen sink.old) (W.seen sink.new) result }
-        ensures repeats { has_failed self.old ≡ true → IsErr result × (W.seen sink.new ≡ W.seen sink.old) }
+        ensures prints { Prints (numbers (look_in self.old).ty bytes.now) self.old self.new (W.view sink.old) (W.view sink.new) result }
+        ensures repeats { has_failed self.old ≡ true → IsErr result × (W.view sink.new ≡ W.view sink.old) }
     {
         if self.has_failed {
             return Err(WriteFailed);
@@ -124,16 +124,16 @@ impl<'a> ValuePrinter<'a> {
         }
     }
 
-    /// Writes what stands behind the values.
+    /// Writes what stands after the values.
     ///
     /// # Errors
     ///
-    /// The sink failed, and took some front of the text; or an earlier call failed, and nothing is written.
+    /// The sink failed, and took some prefix of the text; or an earlier call failed, and nothing is written.
     pub fn finish<W: Sink>(&mut self, sink: &mut W) -> Result<(), WriteFailed>
-        ensures wrote { has_failed self.old ≡ false → Wrote (W.seen sink.old) (W.seen sink.new) (closing (look_in self.old)) result }
+        ensures wrote { has_failed self.old ≡ false → Wrote (W.view sink.old) (W.view sink.new) (closing (look_in self.old)) result }
         ensures ok { OnOk result (self.new ≡ self.old) }
         ensures failed { OnErr result (has_failed self.new ≡ true) }
-        ensures repeats { has_failed self.old ≡ true → IsErr result × (W.seen sink.new ≡ W.seen sink.old) }
+        ensures repeats { has_failed self.old ≡ true → IsErr result × (W.view sink.new ≡ W.view sink.old) }
     {
         if self.has_failed {
             return Err(WriteFailed);
@@ -157,7 +157,7 @@ fn put_values<W: Sink>(
     bytes: &[u8],
 ) -> Result<(), WriteFailed>
     requires { progress.old.position + length (numbers layout.now.ty bytes.now) ≤ layout.now.total }
-    ensures { Goes (look_at layout.now) (numbers layout.now.ty bytes.now) progress.old progress.new (W.seen sink.old) (W.seen sink.new) result }
+    ensures { PrintsMore (look_at layout.now) (numbers layout.now.ty bytes.now) progress.old progress.new (W.view sink.old) (W.view sink.new) result }
 {
     if layout.is_char() {
         put_char_values(sink, layout, progress, bytes)

@@ -8,24 +8,24 @@ pub struct Progress {
     /// How many values are printed.
     pub position: u128,
     /// The next value's place in its row.
-    pub place: u128,
+    pub row_index: u128,
     /// How many bytes more the line may have, where the values are numbers.
-    pub room: usize,
+    pub columns_left: usize,
     /// How many NULs stand in its row directly before the next value, and aren't printed yet.
     pub held: u128,
-    ghost in_row: { place ≤ position },
+    ghost in_row: { row_index ≤ position },
     ghost waiting: { held ≤ position },
 }
 
-/// The place in a row of this length behind `count` values from this place on.
-pub fn place_behind(row: u128, place: u128, count: u128) -> u128
-    requires { place + count < 2 ^ 128 }
-    ensures place { result ≡ (if place + count == row then 0 else place + count) }
-    ensures within { result ≤ place + count }
+/// The place in a row of this length after `count` values from this place on.
+pub fn row_index_after(row: u128, row_index: u128, count: u128) -> u128
+    requires { row_index + count < 2 ^ 128 }
+    ensures row_index { result ≡ (if row_index + count == row then 0 else row_index + count) }
+    ensures within { result ≤ row_index + count }
 {
-    if place + count == row {
+    if row_index + count == row {
         0
     } else {
-        place + count
+        row_index + count
     }
 }

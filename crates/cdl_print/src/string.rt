@@ -10,9 +10,9 @@ ghost use Rattle.cdl_print.specs.Pieces.{is_literal, IsPiece, line_len, line_tex
 use crate::word::Word;
 use nc_file::{Sink, WriteFailed, put};
 
-/// Writes the bytes of a string, which is closed and opened again behind each line feed but the last byte.
+/// Writes the bytes of a string, which is closed and opened again after each line feed but the last byte.
 pub fn put_broken_text<W: Sink>(sink: &mut W, bytes: &[u8]) -> Result<(), WriteFailed>
-    ensures { Wrote (W.seen sink.old) (W.seen sink.new) (broken_text bytes.now) result }
+    ensures { Wrote (W.view sink.old) (W.view sink.new) (broken_text bytes.now) result }
 {
     let mut rest = bytes;
     while !rest.is_empty() {
@@ -41,10 +41,10 @@ fn line_feed(bytes: &[u8]) -> Option<usize>
     bytes.iter().position(|b| *b == b'\n')
 }
 
-/// Writes a line of a string, and the break behind it.
+/// Writes a line of a string, and the break after it.
 #[tactic(auto, using(nc_file::proofs::Writes::writes), unfolding(crate::specs::Pieces::line_text))]
 fn put_line<W: Sink>(sink: &mut W, line: &[u8], is_last: bool) -> Result<(), WriteFailed>
-    ensures { Wrote (W.seen sink.old) (W.seen sink.new) (line_text line.now is_last) result }
+    ensures { Wrote (W.view sink.old) (W.view sink.new) (line_text line.now is_last) result }
 {
     put_escaped_text(sink, line)?;
     if is_last {
@@ -56,7 +56,7 @@ fn put_line<W: Sink>(sink: &mut W, line: &[u8], is_last: bool) -> Result<(), Wri
 /// Writes the bytes of a string, each with its escape.
 #[tactic(auto, unfolding(nc_base::specs::Escapes::escaped_text))]
 fn put_escaped_text<W: Sink>(sink: &mut W, bytes: &[u8]) -> Result<(), WriteFailed>
-    ensures { Wrote (W.seen sink.old) (W.seen sink.new) (escaped_text bytes.now) result }
+    ensures { Wrote (W.view sink.old) (W.view sink.new) (escaped_text bytes.now) result }
 {
     let mut rest = bytes;
     while !rest.is_empty() {
@@ -70,7 +70,7 @@ fn put_escaped_text<W: Sink>(sink: &mut W, bytes: &[u8]) -> Result<(), WriteFail
 /// Writes one byte of a string, or some that stand for themselves.
 pub fn put_piece<W: Sink>(sink: &mut W, piece: &[u8]) -> Result<(), WriteFailed>
     requires { IsPiece is_literal piece.now }
-    ensures { Wrote (W.seen sink.old) (W.seen sink.new) (flat_map escaped_in_string piece.now) result }
+    ensures { Wrote (W.view sink.old) (W.view sink.new) (flat_map escaped_in_string piece.now) result }
 {
     match *piece {
         [b] => put_byte(sink, b),
@@ -80,7 +80,7 @@ pub fn put_piece<W: Sink>(sink: &mut W, piece: &[u8]) -> Result<(), WriteFailed>
 
 /// Writes one byte of a string.
 fn put_byte<W: Sink>(sink: &mut W, b: u8) -> Result<(), WriteFailed>
-    ensures { Wrote (W.seen sink.old) (W.seen sink.new) (escaped_in_string b) result }
+    ensures { Wrote (W.view sink.old) (W.view sink.new) (escaped_in_string b) result }
 {
     match b {
         0x08 => put(sink, b"\\b"),
@@ -98,14 +98,14 @@ fn put_byte<W: Sink>(sink: &mut W, b: u8) -> Result<(), WriteFailed>
     }
 }
 
-/// The length of what goes out next: of the front of bytes that stand for themselves, or one byte.
+/// The length of what goes out next: of the prefix of bytes that stand for themselves, or one byte.
 pub fn piece_len(bytes: &[u8]) -> usize
     ensures { result ≡ max 1 (prefix_len is_literal bytes.now) }
 {
     literal_len(bytes).max(1)
 }
 
-/// The number of bytes at the front that stand for themselves.
+/// The number of bytes at the prefix that stand for themselves.
 fn literal_len(bytes: &[u8]) -> usize
     ensures { result ≡ prefix_len is_literal bytes.now }
 {

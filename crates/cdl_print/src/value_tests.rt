@@ -84,12 +84,12 @@ fn header_of(alloc: Global, row: &Row<'_>) -> Result<Header, AllocError> {
     })
 }
 
-/// Says whether the values are cut behind this one.
+/// Says whether the values are cut after this one.
 fn is_cut(cuts: u64, value: usize) -> bool {
     (cuts >> (value % 64) as u32) & 1 == 1
 }
 
-/// Cuts behind these two values.
+/// Cuts after these two values.
 fn two_cuts(first: u32, second: u32) -> u64 {
     (1u64 << (first % 64)) | (1u64 << (second % 64))
 }
@@ -135,7 +135,7 @@ fn is_shown(rt: &impl Abort, header: &Header, row: &Row<'_>, cuts: u64) {
     assert!(rt; is_same(sink.taken(), row.text));
 }
 
-/// Fails unless a sink of this length takes the front of the text.
+/// Fails unless a sink of this length takes the prefix of the text.
 fn is_cut_off(rt: &impl Abort, header: &Header, row: &Row<'_>, len: usize) {
     let mut into = [0u8; 1200];
     assert!(rt; len <= 1200 && len <= row.text.len());
@@ -145,8 +145,8 @@ fn is_cut_off(rt: &impl Abort, header: &Header, row: &Row<'_>, len: usize) {
     assert!(rt; is_same(sink.taken(), &row.text[..len]));
 }
 
-/// Fails unless each cutting gives the text, and a sink of each length the front of it. Of more than 10 values all
-/// cuttings in three are tried, and the one behind each value.
+/// Fails unless each cutting gives the text, and a sink of each length the prefix of it. Of more than 10 values all
+/// cuttings in three are tried, and the one after each value.
 fn shows(rt: &impl Abort, alloc: Global, row: &Row<'_>) -> Result<(), Fail> {
     let header = header_of(alloc, row)?;
     let count = row.bytes.len() as u64 / row.ty.size();
@@ -533,7 +533,7 @@ fn least_and_greatest(rt: HostRuntime) -> Result<(), Fail> {
 }
 
 #[test]
-fn names_stand_in_front(rt: HostRuntime) -> Result<(), Fail> {
+fn names_stand_in_prefix(rt: HostRuntime) -> Result<(), Fail> {
     let rows = [
         row_of(
             b"data",

@@ -12,7 +12,7 @@ pub enum Word {
     Dimensions,
     /// What stands before the number of records.
     Unlimited,
-    /// What stands behind the number of records.
+    /// What stands after the number of records.
     Currently,
     /// The title of the variables.
     Variables,

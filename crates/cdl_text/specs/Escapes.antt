@@ -1,7 +1,7 @@
 -- The escapes of strings.
 use Rattle.std.specs.Prelude.{ℕ, zero, suc, List, [], ◌∷◌, ◌+◌, ◌*◌, ◌-◌, ◌==◌, nat_lt, if◌then◌else◌, slice_index, take, drop, Option, None, Some}
 use Rattle.std.specs.List.{prefix_len}
-use Rattle.cdl_text.specs.declared.front.Character.{Character}
+use Rattle.cdl_text.specs.declared.scan.Character.{Character}
 use Rattle.cdl_text.specs.Bytes.{within, is_octal, is_hex, is_digit}
 
 abbrev pub digit : ℕ → ℕ
@@ -28,7 +28,7 @@ hex_escape bs n =
     else (if n == 1 then record { value = byte (digit (slice_index bs 0)); len = 3 }
     else record { value = byte (16 * digit (slice_index bs 0) + digit (slice_index bs 1)); len = 4 })
 
--- what the byte behind a backslash stands for
+-- what the byte after a backslash stands for
 abbrev pub plain_escape : ℕ → ℕ
 plain_escape b =
     if b == 0x61 then 0x07
@@ -40,7 +40,7 @@ plain_escape b =
     else (if b == 0x76 then 0x0b
     else b))))))
 
--- behind a backslash
+-- after a backslash
 abbrev pub escape : List ℕ → Character
 escape bs =
     if is_octal (slice_index bs 0) then octal_escape bs (prefix_len is_octal (take 3 bs))

@@ -1,6 +1,6 @@
 pub mod Bytes
 pub mod Escapes
-pub mod Front
+pub mod Scan
 pub mod Tokens
 pub mod Pieces
 pub mod Lexemes

@@ -6,8 +6,8 @@ use Rattle.cdl_text.specs.declared.token.TokenKind.{TokenKind}
 use Rattle.cdl_text.specs.declared.token.TokenKind.TheVariants as kinds
 use Rattle.cdl_text.specs.declared.piece.Role.{Role}
 use Rattle.cdl_text.specs.declared.piece.Role.TheVariants.{Opening, Section, Colon, Semicolon, Brace, End, Other}
-use Rattle.cdl_text.specs.declared.piece.Place.{Place}
-use Rattle.cdl_text.specs.declared.piece.Place.TheVariants.{Begins, Inside, Marked, Closed}
+use Rattle.cdl_text.specs.declared.piece.CutState.{CutState}
+use Rattle.cdl_text.specs.declared.piece.CutState.TheVariants.{Begins, Inside, Marked, Closed}
 use Rattle.cdl_text.specs.declared.piece.Step.{Step}
 
 -- a token's bytes
@@ -28,23 +28,23 @@ role_of kinds.Mark bytes = mark_role (slice_index bytes 0)
 role_of kinds.End bytes = End
 role_of _ bytes = Other
 
-abbrev pub ending : Place → Step
-ending place = record { ends = true; place = place }
+abbrev pub ending : CutState → Step
+ending state = record { ends = true; state = state }
 
-abbrev pub going : Place → Step
-going place = record { ends = false; place = place }
+abbrev pub going : CutState → Step
+going state = record { ends = false; state = state }
 
 -- a piece that is no mark of its own goes on, but for End
-abbrev pub unless_end : Role → Place → Step
-unless_end End place = ending Begins
-unless_end _ place = going place
+abbrev pub unless_end : Role → CutState → Step
+unless_end End state = ending Begins
+unless_end _ state = going state
 
 abbrev pub section_step : Role → Step
 section_step Colon = going Marked
 section_step next = unless_end next Inside
 
 -- at each place, by the token's role and the next token's role
-abbrev pub step : Place → Role → Role → Step
+abbrev pub step : CutState → Role → Role → Step
 step Begins Opening next = ending Begins
 step Begins Section next = section_step next
 step Begins Semicolon next = ending Begins
@@ -58,11 +58,11 @@ step Marked _ next = ending Begins
 step Closed End next = ending Begins
 step Closed _ next = unless_end next Closed
 
--- a token in front of the pieces, as a piece or as the first piece's first
-abbrev pub in_front : {X : Type 0} → Bool → X → List (List X) → List (List X)
-in_front true t ps = (t ∷ []) ∷ ps
-in_front false t [] = (t ∷ []) ∷ []
-in_front false t (p ∷ ps) = (t ∷ p) ∷ ps
+-- a token before the pieces, as a piece or as the first piece's first
+abbrev pub with_first : {X : Type 0} → Bool → X → List (List X) → List (List X)
+with_first true t ps = (t ∷ []) ∷ ps
+with_first false t [] = (t ∷ []) ∷ []
+with_first false t (p ∷ ps) = (t ∷ p) ∷ ps
 
 -- the first one's role, or End
 abbrev pub first_role : {X : Type 0} → (X → Role) → List X → Role
@@ -70,10 +70,10 @@ first_role role [] = End
 first_role role (t ∷ ts) = role t
 
 -- the pieces of what comes at a place
-unfoldable pub pieces_at : {X : Type 0} → (X → Role) → Place → List X → List (List X)
-pieces_at role place [] = []
-pieces_at role place (t ∷ ts) =
-    in_front (step place (role t) (first_role role ts)).ends t (pieces_at role (step place (role t) (first_role role ts)).place ts)
+unfoldable pub pieces_at : {X : Type 0} → (X → Role) → CutState → List X → List (List X)
+pieces_at role state [] = []
+pieces_at role state (t ∷ ts) =
+    with_first (step state (role t) (first_role role ts)).ends t (pieces_at role (step state (role t) (first_role role ts)).state ts)
 
 abbrev pub is_end_role : Role → Bool
 is_end_role End = true

@@ -16,7 +16,7 @@ use Rattle.cdl_text.specs.declared.section.Section.TheVariants.{Unopened, Global
 pub data Value : Type 0 where
   Number : (n : Numeral) → Value
   Characters : (bytes : List ℕ) → Value
-  Blank : Value
+  Underscore : Value
 
 pub record Dimension : Type 0 where
   pub name : List ℕ
@@ -109,18 +109,18 @@ inner bytes = take (length bytes - 2) (drop 1 bytes)
 
 -- CONST, or with blanks VALUE
 abbrev pub constant_of : Version → Bool → Lexeme → TokenKind → Option Value
-constant_of v blanks l kinds.Number = option_map Number (numeral v l.bytes)
-constant_of v blanks l kinds.Text = Some (Characters (stands (inner l.bytes)))
-constant_of v blanks l _ = given (blanks && is_word (codes "_") l) (Some Blank)
+constant_of v takes_fill l kinds.Number = option_map Number (numeral v l.bytes)
+constant_of v takes_fill l kinds.Text = Some (Characters (stands (inner l.bytes)))
+constant_of v takes_fill l _ = given (takes_fill && is_word (codes "_") l) (Some Underscore)
 
 abbrev pub constant : Version → Bool → Lexeme → Option Value
-constant v blanks l = constant_of v blanks l l.kind
+constant v takes_fill l = constant_of v takes_fill l l.kind
 
 -- joined by commas
 abbrev pub constants : Version → Bool → List Lexeme → Option (List Value)
-constants v blanks [] = None
-constants v blanks (l ∷ []) = both (λ x xs. x ∷ xs) (constant v blanks l) (Some [])
-constants v blanks (l ∷ c ∷ ls) = given (is_mark 0x2c c) (both (λ x xs. x ∷ xs) (constant v blanks l) (constants v blanks ls))
+constants v takes_fill [] = None
+constants v takes_fill (l ∷ []) = both (λ x xs. x ∷ xs) (constant v takes_fill l) (Some [])
+constants v takes_fill (l ∷ c ∷ ls) = given (is_mark 0x2c c) (both (λ x xs. x ∷ xs) (constant v takes_fill l) (constants v takes_fill ls))
 
 abbrev pub name_alone : List Lexeme → Option (List ℕ)
 name_alone (l ∷ []) = name_of l
@@ -141,8 +141,8 @@ variable (n ∷ p ∷ ls) =
 
 -- NAME = CONST, ..
 abbrev pub assigned : {A : Type 0} → Version → Bool → (List ℕ → List Value → A) → List Lexeme → Option A
-assigned v blanks f (n ∷ e ∷ ls) = given (is_mark 0x3d e) (both f (name_of n) (constants v blanks ls))
-assigned v blanks f _ = None
+assigned v takes_fill f (n ∷ e ∷ ls) = given (is_mark 0x3d e) (both f (name_of n) (constants v takes_fill ls))
+assigned v takes_fill f _ = None
 
 abbrev pub global : Version → List Lexeme → Option Statement
 global v (c ∷ ls) = given (is_mark 0x3a c) (assigned v false (Attribute None) ls)
@@ -164,7 +164,7 @@ body v Variables ls = either (global v ls) (either (attribute v ls) (typed ls))
 body v Values ls = assigned v true Listed ls
 body v _ ls = None
 
--- a section mark behind the sections before
+-- a section mark after the sections before
 abbrev pub section_number : Section → ℕ
 section_number Unopened = 0
 section_number Globals = 1

@@ -3,7 +3,7 @@ use Rattle.std.specs.Prelude.{ℕ, List}
 use Rattle.cdl_text.specs.Lexemes.{role, lexeme}
 use Rattle.cdl_text.specs.Pieces.{pieces_at}
 use Rattle.cdl_text.specs.Tokens.{tokens}
-use Rattle.cdl_text.specs.declared.piece.Place.TheVariants.{Begins}
+use Rattle.cdl_text.specs.declared.piece.CutState.TheVariants.{Begins}
 use Rattle.cdl_text.specs.declared.token.Token.{Token}
 
 abbrev pub statements : List ℕ → List (List Token)

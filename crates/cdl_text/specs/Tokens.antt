@@ -1,6 +1,6 @@
 -- The tokens of a text.
 use Rattle.std.specs.Prelude.{ℕ, zero, suc, Bool, true, List, [], ◌∷◌, ◌+◌, ◌-◌, ◌&&◌, ◌==◌, take, count_by, Option, None, Some, is_none}
-use Rattle.cdl_text.specs.Front.{front}
+use Rattle.cdl_text.specs.Scan.{scan}
 use Rattle.cdl_text.specs.declared.token.Token.{Token}
 use Rattle.cdl_text.specs.declared.token.TokenKind.{TokenKind}
 use Rattle.cdl_text.specs.declared.token.TokenKind.TheVariants.{End}
@@ -22,8 +22,8 @@ unfoldable pub tokens_at : List ℕ → Bool → ℕ → ℕ → List ℕ → Li
 tokens_at text fresh at more [] = token_at text at End 0 ∷ []
 tokens_at text fresh at (suc more) (b ∷ bytes) = tokens_at text fresh (at + 1) more bytes
 tokens_at text fresh at zero (b ∷ bytes) =
-    with_token text at (front fresh (b ∷ bytes)).kind (front fresh (b ∷ bytes)).len
-    (tokens_at text (fresh && is_none (front fresh (b ∷ bytes)).kind) (at + 1) ((front fresh (b ∷ bytes)).len - 1) bytes)
+    with_token text at (scan fresh (b ∷ bytes)).kind (scan fresh (b ∷ bytes)).len
+    (tokens_at text (fresh && is_none (scan fresh (b ∷ bytes)).kind) (at + 1) ((scan fresh (b ∷ bytes)).len - 1) bytes)
 
 abbrev pub tokens : List ℕ → List Token
 tokens text = tokens_at text true 0 0 text

@@ -6,13 +6,13 @@
 #![tactic(auto)]
 
 mod fault;
-mod front;
+mod scan;
 mod piece;
 mod section;
 mod token;
 
 pub use fault::{CdlFault, CdlKind};
-pub use front::{Character, Front};
-pub use piece::{Place, Role, Step};
+pub use scan::{Character, Scanned};
+pub use piece::{CutState, Role, Step};
 pub use section::Section;
 pub use token::{Token, TokenKind};

@@ -15,7 +15,7 @@ pub enum Role {
 
 /// What comes before the next token.
 #[derive(Clone, Copy, Debug, PartialEq, Eq)]
-pub enum Place {
+pub enum CutState {
     /// A whole statement, or nothing: the token begins the next one.
     Begins,
     /// The first part of a statement.
@@ -32,5 +32,5 @@ pub struct Step {
     /// It is the statement's last token.
     pub ends: bool,
     /// What comes before the token after it.
-    pub place: Place,
+    pub state: CutState,
 }

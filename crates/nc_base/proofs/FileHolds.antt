@@ -17,28 +17,28 @@ use Rattle.nc_base.specs.declared.version.Version.TheVariants.{Cdf1, Cdf2, Cdf5}
 use Rattle.nc_base.specs.Types.{code_of}
 use Rattle.nc_base.specs.Versions.{offset_width, count_limit}
 use Rattle.nc_base.specs.Names.{IsName}
-use Rattle.nc_base.specs.Sizes.{is_record_var, padded_size, packed_size, record_vars, record_size, record_count}
+use Rattle.nc_base.specs.Sizes.{is_record_var, padded_size, record_size_of, record_vars, record_size, record_count}
 use Rattle.nc_base.specs.Headers.{IsSoundVar, IsSound, HasValidNames, bare_var, AreArrays, IsGood}
 use Rattle.nc_base.specs.Grammar.{dimension_tag, variable_tag}
 use Rattle.nc_base.specs.Places.{HoldsDataset}
-use Rattle.nc_base.specs.GeneratedFile.{word_spelling, magic_spelling, count_spelling, name_spelling, list_front, list_spelling, dim_spelling, atts_spelling, vsize_of, var_spelling, numrecs_spelling, header_spelling, blocks, is_sole_narrow, record_of, known_records, data_of, begin_behind, vars_behind, with_begins, Fits, file_of}
-use Rattle.nc_base.proofs.Stands.{Stands, stands-here, stands-behind, stands-in, stands-at, stands-first, stands-second, stands-row}
-use Rattle.nc_base.proofs.FilePlaces.{slots, fixed_total, packed-slots, length-blocks, length-record, IsPlaced, agree-all, agree-arrays, agree-whole}
+use Rattle.nc_base.specs.GeneratedFile.{word_spelling, magic_spelling, count_spelling, name_spelling, list_head, list_spelling, dim_spelling, atts_spelling, vsize_of, var_spelling, numrecs_spelling, header_spelling, blocks, is_sole_narrow, record_of, known_records, data_of, begin_after, vars_after, with_begins, Fits, file_of}
+use Rattle.nc_base.proofs.IsAt.{IsAt, stands-here, stands-after, stands-in, stands-at, stands-first, stands-second, stands-row}
+use Rattle.nc_base.proofs.FilePlaces.{slots, fixed_total, record_size_of-slots, length-blocks, length-record, IsPlaced, agree-all, agree-arrays, agree-whole}
 use Rattle.nc_base.proofs.HeaderSpelled.{header-spelled}
 use Rattle.nc_base.proofs.WholeValues.{map-map}
 
 -- ---- begins change nothing else
 
-bare-behind : (h : Header) (before vars : List Var) → map bare_var (vars_behind h before vars) ≡ map bare_var vars
-bare-behind h before [] = refl
-bare-behind h before (var ∷ vars) = ap (λ (vs : List Var). bare_var var ∷ vs) (bare-behind h (before ++ var ∷ []) vars)
+bare-after : (h : Header) (before vars : List Var) → map bare_var (vars_after h before vars) ≡ map bare_var vars
+bare-after h before [] = refl
+bare-after h before (var ∷ vars) = ap (λ (vs : List Var). bare_var var ∷ vs) (bare-after h (before ++ var ∷ []) vars)
 
 -- what doesn't speak of begins holds of each variable with its begin
-all-behind : (P : Var → Type 0) → ((var : Var) (at : ℕ) → P var → P (record var { begin_at = at })) → (h : Header) (before vars : List Var) → All P vars → All P (vars_behind h before vars)
-all-behind P same h before [] all = All-nil P
-all-behind P same h before (var ∷ vars) all =
-    All-cons P (record var { begin_at = begin_behind h before var }) (vars_behind h (before ++ var ∷ []) vars) (same var _ (All-head P var vars all))
-    (all-behind P same h (before ++ var ∷ []) vars (All-tail P var vars all))
+all-after : (P : Var → Type 0) → ((var : Var) (at : ℕ) → P var → P (record var { begin_at = at })) → (h : Header) (before vars : List Var) → All P vars → All P (vars_after h before vars)
+all-after P same h before [] all = All-nil P
+all-after P same h before (var ∷ vars) all =
+    All-cons P (record var { begin_at = begin_after h before var }) (vars_after h (before ++ var ∷ []) vars) (same var _ (All-head P var vars all))
+    (all-after P same h (before ++ var ∷ []) vars (All-tail P var vars all))
 
 -- ---- the record size
 
@@ -51,16 +51,16 @@ records-bare dims (var ∷ vars) =
     at true = refl
     at false = refl
 
-packed-bare : (dims : List Dim) (vars : List Var) → packed_size dims (map bare_var vars) ≡ packed_size dims vars
-packed-bare dims [] = refl
-packed-bare dims (var ∷ []) = refl
-packed-bare dims (var ∷ next ∷ vars) = ap (λ (ns : List ℕ). sum ns) (map-map (padded_size dims) bare_var (var ∷ next ∷ vars))
+record_size_of-bare : (dims : List Dim) (vars : List Var) → record_size_of dims (map bare_var vars) ≡ record_size_of dims vars
+record_size_of-bare dims [] = refl
+record_size_of-bare dims (var ∷ []) = refl
+record_size_of-bare dims (var ∷ next ∷ vars) = ap (λ (ns : List ℕ). sum ns) (map-map (padded_size dims) bare_var (var ∷ next ∷ vars))
 
 size-bare : (h : Header) (vars : List Var) → record_size (record h { vars = map bare_var vars }) ≡ record_size (record h { vars = vars })
-size-bare h vars = ap (packed_size h.dims) (records-bare h.dims vars) ∙ packed-bare h.dims (record_vars h.dims vars)
+size-bare h vars = ap (record_size_of h.dims) (records-bare h.dims vars) ∙ record_size_of-bare h.dims (record_vars h.dims vars)
 
-size-behind : (h : Header) → record_size (record h { vars = vars_behind h [] h.vars }) ≡ record_size h
-size-behind h = sym (size-bare h (vars_behind h [] h.vars)) ∙ ap (λ (vs : List Var). record_size (record h { vars = vs })) (bare-behind h [] h.vars) ∙ size-bare h h.vars
+size-after : (h : Header) → record_size (record h { vars = vars_after h [] h.vars }) ≡ record_size h
+size-after h = sym (size-bare h (vars_after h [] h.vars)) ∙ ap (λ (vs : List Var). record_size (record h { vars = vs })) (bare-after h [] h.vars) ∙ size-bare h h.vars
 
 -- ---- the length of the header
 
@@ -90,8 +90,8 @@ each-len f (x ∷ xs) same = both (f (bare_var x)) (f x) (flat_map f (map bare_v
 
 list-len : (v : Version) (tag : ℕ) (f : Var → List ℕ) (xs : List Var) → ((x : Var) → length (f (bare_var x)) ≡ length (f x)) → length (list_spelling v tag f (map bare_var xs)) ≡ length (list_spelling v tag f xs)
 list-len v tag f xs same =
-    both (list_front v tag (length (map bare_var xs))) (list_front v tag (length xs)) (flat_map f (map bare_var xs)) (flat_map f xs)
-    (ap (λ (n : ℕ). length (list_front v tag n)) (length-map xs bare_var)) (each-len f xs same)
+    both (list_head v tag (length (map bare_var xs))) (list_head v tag (length xs)) (flat_map f (map bare_var xs)) (flat_map f xs)
+    (ap (λ (n : ℕ). length (list_head v tag n)) (length-map xs bare_var)) (each-len f xs same)
 
 header-len-bare : (h : Header) (vars : List Var) → length (header_spelling (record h { vars = map bare_var vars })) ≡ length (header_spelling (record h { vars = vars }))
 unfolding header_spelling
@@ -102,17 +102,17 @@ header-len-bare h vars =
     (longer (list_spelling v dimension_tag (dim_spelling v) h.dims) _ _
     (longer (atts_spelling v h.gatts) _ _ (list-len v variable_tag (var_spelling v h.dims) vars (var-len v h.dims)))))
 
-pub len-behind : (h : Header) → length (header_spelling (record h { vars = vars_behind h [] h.vars })) ≡ length (header_spelling h)
-len-behind h =
-    sym (header-len-bare h (vars_behind h [] h.vars)) ∙ ap (λ (vs : List Var). length (header_spelling (record h { vars = vs }))) (bare-behind h [] h.vars) ∙ header-len-bare h h.vars
+pub len-after : (h : Header) → length (header_spelling (record h { vars = vars_after h [] h.vars })) ≡ length (header_spelling h)
+len-after h =
+    sym (header-len-bare h (vars_after h [] h.vars)) ∙ ap (λ (vs : List Var). length (header_spelling (record h { vars = vs }))) (bare-after h [] h.vars) ∙ header-len-bare h h.vars
 
 -- ---- the header with begins is sound
 
 abbrev HasNames : Var → Type 0
 HasNames var = IsName var.name × All (λ (att : Att). IsName att.name) var.atts
 
-sound-behind : (h : Header) → IsSound h → IsSound (record h { vars = vars_behind h [] h.vars })
-sound-behind h s = record {
+sound-after : (h : Header) → IsSound h → IsSound (record h { vars = vars_after h [] h.vars })
+sound-after h s = record {
   numrecs = s.numrecs;
   dim_count = s.dim_count;
   dims = s.dims;
@@ -120,48 +120,48 @@ sound-behind h s = record {
   gatt_count = s.gatt_count;
   gatts = s.gatts;
   var_count = subst (λ (n : ℕ). n < count_limit h.version) (sym (count h [] h.vars)) s.var_count;
-  vars = all-behind (IsSoundVar h.version h.dims)
+  vars = all-after (IsSoundVar h.version h.dims)
       (λ var at t. record { name_len = t.name_len; rank = t.rank; shape = t.shape; att_count = t.att_count; atts = t.atts; ty = t.ty; slab = t.slab }) h [] h.vars s.vars;
-  small_records = omega (arith, s.small_records, size-behind h);
+  small_records = omega (arith, s.small_records, size-after h);
 }
   where
-    count : (k : Header) (before vars : List Var) → length (vars_behind k before vars) ≡ length vars
+    count : (k : Header) (before vars : List Var) → length (vars_after k before vars) ≡ length vars
     count k before [] = refl
     count k before (var ∷ vars) = ap suc (count k (before ++ var ∷ []) vars)
 
-names-behind : (h : Header) → HasValidNames h → HasValidNames (record h { vars = vars_behind h [] h.vars })
-names-behind h s = record { dims = s.dims; gatts = s.gatts; vars = all-behind HasNames (λ var at t. t) h [] h.vars s.vars }
+names-after : (h : Header) → HasValidNames h → HasValidNames (record h { vars = vars_after h [] h.vars })
+names-after h s = record { dims = s.dims; gatts = s.gatts; vars = all-after HasNames (λ var at t. t) h [] h.vars s.vars }
 
--- ---- the data part stands behind the header
+-- ---- the data part stands after the header
 
 all-placed : (d : Dataset) (n : ℕ) → AreArrays d.header.dims n d.header.vars d.arrays → known_records d.header.numrecs ≡ n
-    → IsPlaced d.header (file_of d) n (record_size (record d.header { vars = vars_behind d.header [] d.header.vars })) (is_sole_narrow (record_vars d.header.dims d.header.vars)) [] d.header.vars d.arrays
+    → IsPlaced d.header (file_of d) n (record_size (record d.header { vars = vars_after d.header [] d.header.vars })) (is_sole_narrow (record_vars d.header.dims d.header.vars)) [] d.header.vars d.arrays
 unfolding file_of data_of with_begins
 all-placed d n are known =
     let h = d.header in
     let dims = h.dims in
     let is_sole = is_sole_narrow (record_vars dims h.vars) in
-    let stride : ℕ = record_size (record h { vars = vars_behind h [] h.vars }) in
-    let stride_is : slots is_sole dims h.vars ≡ stride = sym (packed-slots dims h.vars) ∙ sym (size-behind h) in
-    let head = header_spelling (record h { vars = vars_behind h [] h.vars }) in
-    let head_len = len-behind h in
-    let front = blocks dims h.vars d.arrays in
+    let stride : ℕ = record_size (record h { vars = vars_after h [] h.vars }) in
+    let stride_is : slots is_sole dims h.vars ≡ stride = sym (record_size_of-slots dims h.vars) ∙ sym (size-after h) in
+    let head = header_spelling (record h { vars = vars_after h [] h.vars }) in
+    let head_len = len-after h in
+    let prefix = blocks dims h.vars d.arrays in
     let f : ℕ → List ℕ = λ r. record_of is_sole dims r h.vars d.arrays in
     let back = flat_map f (range_with_len 0 (known_records h.numrecs)) in
-    let file = head ++ (front ++ back) in
-    let data_stands : Stands (front ++ back) (length head + 0) file = stands-behind head (front ++ back) 0 (front ++ back)
-    (subst (Stands (front ++ back) 0) (append-nil (front ++ back)) (stands-here (front ++ back) [])) in
+    let file = head ++ (prefix ++ back) in
+    let data_stands : IsAt (prefix ++ back) (length head + 0) file = stands-after head (prefix ++ back) 0 (prefix ++ back)
+    (subst (IsAt (prefix ++ back) 0) (append-nil (prefix ++ back)) (stands-here (prefix ++ back) [])) in
     let front_len = length-blocks dims n h.vars d.arrays are in
     record {
-      fixed = stands-at front file (length head + 0) (length (header_spelling h) + 0) (omega (arith, head_len)) (stands-first front back file (length head + 0) data_stands);
+      fixed = stands-at prefix file (length head + 0) (length (header_spelling h) + 0) (omega (arith, head_len)) (stands-first prefix back file (length head + 0) data_stands);
       growing = λ r lt.
-          let rows : Stands (f (0 + r)) (r * stride) back =
-          subst (λ (m : ℕ). Stands (f (0 + r)) (r * stride) (flat_map f (range_with_len 0 m))) (sym known)
+          let rows : IsAt (f (0 + r)) (r * stride) back =
+          subst (λ (m : ℕ). IsAt (f (0 + r)) (r * stride) (flat_map f (range_with_len 0 m))) (sym known)
           (stands-row f stride 0 n r (λ i low high. length-record is_sole dims n i h.vars d.arrays (omega arith) are ∙ stride_is) lt) in
           let same : 0 + r ≡ r = omega arith in
-          stands-at (f r) file (length head + 0 + length front + r * stride) (length (header_spelling h) + (fixed_total dims h.vars + (0 + r * stride))) (omega (arith, head_len, front_len))
-          (stands-in (f r) back file (r * stride) (length head + 0 + length front)
-          (subst (λ (i : ℕ). Stands (f i) (r * stride) back) same rows) (stands-second front back file (length head + 0) data_stands));
+          stands-at (f r) file (length head + 0 + length prefix + r * stride) (length (header_spelling h) + (fixed_total dims h.vars + (0 + r * stride))) (omega (arith, head_len, front_len))
+          (stands-in (f r) back file (r * stride) (length head + 0 + length prefix)
+          (subst (λ (i : ℕ). IsAt (f i) (r * stride) back) same rows) (stands-second prefix back file (length head + 0) data_stands));
     }
 
 -- ---- the whole
@@ -174,17 +174,17 @@ unfolding file_of with_begins
 file-holds d good fits =
     let h = d.header in
     let n = good.records in
-    let k : Header = record h { vars = vars_behind h [] h.vars } in
+    let k : Header = record h { vars = vars_after h [] h.vars } in
     let known : h.numrecs ≡ Known n = ap (λ (x : Header). x.numrecs) good.is_bare in
-    let agree = agree-all h (vars_behind h [] h.vars) (file_of d) n [] h.vars d.arrays refl good.arrays
+    let agree = agree-all h (vars_after h [] h.vars) (file_of d) n [] h.vars d.arrays refl good.arrays
     (all-placed d n good.arrays (ap known_records known)) in
     record {
       header = k;
       rest = data_of d.header d.arrays;
       records = n;
-      spelled = header-spelled k (data_of d.header d.arrays) (sound-behind h good.is_sound) (names-behind h good.names) fits;
+      spelled = header-spelled k (data_of d.header d.arrays) (sound-after h good.is_sound) (names-after h good.names) fits;
       counted = counted k n (length (file_of d)) known;
-      is_bare = good.is_bare ∙ ap (λ (vs : List Var). let x : Header = record h { numrecs = Known n; vars = vs } in x) (sym (bare-behind h [] h.vars));
-      whole = agree-whole k (file_of d) n (vars_behind h [] h.vars) d.arrays agree;
-      arrays = agree-arrays k (file_of d) n (vars_behind h [] h.vars) d.arrays agree;
+      is_bare = good.is_bare ∙ ap (λ (vs : List Var). let x : Header = record h { numrecs = Known n; vars = vs } in x) (sym (bare-after h [] h.vars));
+      whole = agree-whole k (file_of d) n (vars_after h [] h.vars) d.arrays agree;
+      arrays = agree-arrays k (file_of d) n (vars_after h [] h.vars) d.arrays agree;
     }

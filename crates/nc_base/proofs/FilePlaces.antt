@@ -14,12 +14,12 @@ use Rattle.nc_base.specs.Bytes.{padding_len}
 use Rattle.nc_base.specs.Types.{size_of}
 use Rattle.nc_base.specs.Numbers.{bytes_of_number}
 use Rattle.nc_base.specs.Fill.{fill_value}
-use Rattle.nc_base.specs.Sizes.{is_record_var, is_narrow, slab_count, slab_size, padded_size, padded_total, packed_size, record_vars, record_size}
+use Rattle.nc_base.specs.Sizes.{is_record_var, is_narrow, slab_count, slab_size, padded_size, padded_total, record_size_of, record_vars, record_size}
 use Rattle.nc_base.specs.Headers.{IsArray, AreArrays}
 use Rattle.nc_base.specs.Places.{stored_bytes, first_missing}
-use Rattle.nc_base.specs.GeneratedFile.{header_spelling, fill_bytes, padded_slab, blocks, is_sole_narrow, slab_in, record_of, fixed_vars, begin_behind, vars_behind}
+use Rattle.nc_base.specs.GeneratedFile.{header_spelling, fill_bytes, padded_slab, blocks, is_sole_narrow, slab_in, record_of, fixed_vars, begin_after, vars_after}
 use Rattle.nc_base.proofs.SlabBytes.{fixed-bytes, record-bytes, fixed-whole, record-whole}
-use Rattle.nc_base.proofs.Stands.{Stands, stands-at, stands-first, stands-second, stands-read, stands-within, runs-all}
+use Rattle.nc_base.proofs.IsAt.{IsAt, stands-at, stands-first, stands-second, stands-read, stands-within, runs-all}
 
 -- ---- padding
 
@@ -117,10 +117,10 @@ sole-size : (dims : List Dim) (var : Var) (narrow : Bool) → (if narrow then sl
 sole-size dims var true = refl
 sole-size dims var false = refl
 
-pub packed-slots : (dims : List Dim) (vars : List Var) → packed_size dims (record_vars dims vars) ≡ slots (is_sole_narrow (record_vars dims vars)) dims vars
-packed-slots dims vars = of (record_vars dims vars)
+pub record_size_of-slots : (dims : List Dim) (vars : List Var) → record_size_of dims (record_vars dims vars) ≡ slots (is_sole_narrow (record_vars dims vars)) dims vars
+record_size_of-slots dims vars = of (record_vars dims vars)
   where
-    of : (xs : List Var) → packed_size dims xs ≡ sum_by (slot (is_sole_narrow xs) dims) xs
+    of : (xs : List Var) → record_size_of dims xs ≡ sum_by (slot (is_sole_narrow xs) dims) xs
     of [] = refl
     of (x ∷ []) = let e : slot (is_narrow x) dims x ≡ sum_by (slot (is_narrow x) dims) (x ∷ []) = omega arith in sole-size dims x (is_narrow x) ∙ e
     of (x ∷ y ∷ xs) = sum-map (padded_size dims) (x ∷ y ∷ xs)
@@ -175,7 +175,7 @@ length-placed : (is_sole : Bool) (dims : List Dim) (var : Var) (slab : List ℕ)
 length-placed true dims var slab len = len
 length-placed false dims var slab len = length-padded dims var slab len
 
-stands-placed : (is_sole : Bool) (var : Var) (slab bytes : List ℕ) (at : ℕ) → Stands (placed_slab is_sole var slab) at bytes → Stands slab at bytes
+stands-placed : (is_sole : Bool) (var : Var) (slab bytes : List ℕ) (at : ℕ) → IsAt (placed_slab is_sole var slab) at bytes → IsAt slab at bytes
 unfolding padded_slab
 stands-placed true var slab bytes at s = s
 stands-placed false var slab bytes at s = stands-first slab (fill_bytes var (padding_len (length slab))) bytes at s
@@ -241,11 +241,11 @@ flat_map-below f g k (suc n) same =
     ap (λ (xs : List ℕ). xs ++ flat_map f (range_with_len (k + 1) n)) (same k (omega arith) (omega arith))
     ∙ ap (λ (xs : List ℕ). g k ++ xs) (flat_map-below f g (k + 1) n (λ r low high. same r (omega arith) (omega arith)))
 
--- what is left of the variables stands behind those before them
+-- what is left of the variables stands after those before them
 pub record IsPlaced (h : Header) (bytes : List ℕ) (n stride : ℕ) (is_sole : Bool) (before vars : List Var) (arrays : List (List ℕ)) : Type 0 where
-  pub fixed : Stands (blocks h.dims vars arrays) (length (header_spelling h) + fixed_total h.dims before) bytes
+  pub fixed : IsAt (blocks h.dims vars arrays) (length (header_spelling h) + fixed_total h.dims before) bytes
   pub growing : (r : ℕ) → r < n
-      → Stands (record_of is_sole h.dims r vars arrays) (length (header_spelling h) + (fixed_total h.dims h.vars + (slots is_sole h.dims before + r * stride))) bytes
+      → IsAt (record_of is_sole h.dims r vars arrays) (length (header_spelling h) + (fixed_total h.dims h.vars + (slots is_sole h.dims before + r * stride))) bytes
 
 placed-next : (h : Header) (bytes : List ℕ) (n stride : ℕ) (is_sole : Bool) (before : List Var) (var : Var) (vars : List Var) (array : List ℕ) (arrays : List (List ℕ))
     → IsArray h.dims n var array → IsPlaced h bytes n stride is_sole before (var ∷ vars) (array ∷ arrays) → IsPlaced h bytes n stride is_sole (before ++ var ∷ []) vars arrays
@@ -267,7 +267,7 @@ placed-next h bytes n stride is_sole before var vars array arrays is placed =
 
 -- a variable without records, whose array stands at its begin
 agrees-fixed : (h : Header) (bytes : List ℕ) (n : ℕ) (var : Var) (array : List ℕ) → is_record_var h.dims var ≡ false
-    → length array ≡ slab_size h.dims var → Stands array var.begin_at bytes → Agrees h bytes n var array
+    → length array ≡ slab_size h.dims var → IsAt array var.begin_at bytes → Agrees h bytes n var array
 agrees-fixed h bytes n var array fixed len s = record {
   array_is = sym (stands-read array var.begin_at bytes (slab_size h.dims var) s len) ∙ sym (fixed-bytes h bytes var n fixed);
   whole = fixed-whole h bytes var n fixed (omega (arith, stands-within array var.begin_at bytes s, len));
@@ -275,7 +275,7 @@ agrees-fixed h bytes n var array fixed len s = record {
 
 -- a record variable, whose slabs stand a record size apart
 agrees-record : (h : Header) (bytes : List ℕ) (n : ℕ) (var : Var) (array : List ℕ) → is_record_var h.dims var ≡ true
-    → IsArray h.dims n var array → ((r : ℕ) → r < n → Stands (slab_in h.dims var array r) (var.begin_at + r * record_size h) bytes) → Agrees h bytes n var array
+    → IsArray h.dims n var array → ((r : ℕ) → r < n → IsAt (slab_in h.dims var array r) (var.begin_at + r * record_size h) bytes) → Agrees h bytes n var array
 agrees-record h bytes n var array growing is stands =
     let s = slab_size h.dims var in
     record {
@@ -289,19 +289,19 @@ agrees-record h bytes n var array growing is stands =
           omega (arith, stands-within (slab_in h.dims var array r) (var.begin_at + r * record_size h) bytes (stands r lt), length-slab h.dims n var array r is growing lt));
     }
 
--- the front of what stands there, of either kind
-front-unless : (kind : Bool) (piece rest bytes : List ℕ) (at : ℕ) → kind ≡ false → Stands ((if kind then [] else piece) ++ rest) at bytes → Stands piece at bytes
-front-unless true piece rest bytes at e s = absurd cc
-front-unless false piece rest bytes at e s = stands-first piece rest bytes at s
+-- the prefix of what stands there, of either kind
+prefix-unless : (kind : Bool) (piece rest bytes : List ℕ) (at : ℕ) → kind ≡ false → IsAt ((if kind then [] else piece) ++ rest) at bytes → IsAt piece at bytes
+prefix-unless true piece rest bytes at e s = absurd cc
+prefix-unless false piece rest bytes at e s = stands-first piece rest bytes at s
 
-front-if : (kind : Bool) (piece rest bytes : List ℕ) (at : ℕ) → kind ≡ true → Stands ((if kind then piece else []) ++ rest) at bytes → Stands piece at bytes
-front-if true piece rest bytes at e s = stands-first piece rest bytes at s
-front-if false piece rest bytes at e s = absurd cc
+prefix-if : (kind : Bool) (piece rest bytes : List ℕ) (at : ℕ) → kind ≡ true → IsAt ((if kind then piece else []) ++ rest) at bytes → IsAt piece at bytes
+prefix-if true piece rest bytes at e s = stands-first piece rest bytes at s
+prefix-if false piece rest bytes at e s = absurd cc
 
 agrees-one : (h : Header) (vs : List Var) (bytes : List ℕ) (n : ℕ) (before : List Var) (var : Var) (vars : List Var) (array : List ℕ) (arrays : List (List ℕ))
     → h.vars ≡ before ++ var ∷ vars → IsArray h.dims n var array
     → IsPlaced h bytes n (record_size (record h { vars = vs })) (is_sole_narrow (record_vars h.dims h.vars)) before (var ∷ vars) (array ∷ arrays)
-    → Agrees (record h { vars = vs }) bytes n (record var { begin_at = begin_behind h before var }) array
+    → Agrees (record h { vars = vs }) bytes n (record var { begin_at = begin_after h before var }) array
 agrees-one h vs bytes n before var vars array arrays all is placed = of_kind (is_record_var h.dims var) refl
   where
     dims : List Dim
@@ -317,33 +317,33 @@ agrees-one h vs bytes n before var vars array arrays all is placed = of_kind (is
     stride = record_size (record h { vars = vs })
 
     begin-is : (kind : Bool) → is_record_var dims var ≡ kind
-        → begin_behind h before var ≡ head + (if kind then fixed_total dims h.vars + padded_total dims (record_vars dims before) else fixed_total dims before)
+        → begin_after h before var ≡ head + (if kind then fixed_total dims h.vars + padded_total dims (record_vars dims before) else fixed_total dims before)
     begin-is kind e = ap (λ (b : Bool). head + (if b then fixed_total dims h.vars + padded_total dims (record_vars dims before) else fixed_total dims before)) e
 
-    of_kind : (kind : Bool) → is_record_var dims var ≡ kind → Agrees (record h { vars = vs }) bytes n (record var { begin_at = begin_behind h before var }) array
+    of_kind : (kind : Bool) → is_record_var dims var ≡ kind → Agrees (record h { vars = vs }) bytes n (record var { begin_at = begin_after h before var }) array
     of_kind false e =
         let len = fixed-len dims n var array is e in
-        let block : Stands (padded_slab var array) (head + fixed_total dims before) bytes =
-        front-unless (is_record_var dims var) (padded_slab var array) (blocks dims vars arrays) bytes (head + fixed_total dims before) e placed.fixed in
+        let block : IsAt (padded_slab var array) (head + fixed_total dims before) bytes =
+        prefix-unless (is_record_var dims var) (padded_slab var array) (blocks dims vars arrays) bytes (head + fixed_total dims before) e placed.fixed in
         let own = stands-placed false var array bytes (head + fixed_total dims before) block in
-        agrees-fixed (record h { vars = vs }) bytes n (record var { begin_at = begin_behind h before var }) array e len
-        (stands-at array bytes (head + fixed_total dims before) (begin_behind h before var) (sym (begin-is false e)) own)
+        agrees-fixed (record h { vars = vs }) bytes n (record var { begin_at = begin_after h before var }) array e len
+        (stands-at array bytes (head + fixed_total dims before) (begin_after h before var) (sym (begin-is false e)) own)
     of_kind true e =
-        agrees-record (record h { vars = vs }) bytes n (record var { begin_at = begin_behind h before var }) array e
+        agrees-record (record h { vars = vs }) bytes n (record var { begin_at = begin_after h before var }) array e
         (record { bytes = is.bytes; whole = is.whole; small = is.small })
         (λ r lt.
         let at : ℕ = head + (fixed_total dims h.vars + (slots is_sole dims before + r * stride)) in
         let slab = slab_in dims var array r in
-        let part = front-if (is_record_var dims var) (placed_slab is_sole var slab) (record_of is_sole dims r vars arrays) bytes at e (placed.growing r lt) in
+        let part = prefix-if (is_record_var dims var) (placed_slab is_sole var slab) (record_of is_sole dims r vars arrays) bytes at e (placed.growing r lt) in
         let own = stands-placed is_sole var slab bytes at part in
         let sum_is = before-slots dims h.vars before var vars all e in
         let begin = begin-is true e in
-        stands-at slab bytes at (begin_behind h before var + r * stride) (omega (arith, sum_is, begin)) own)
+        stands-at slab bytes at (begin_after h before var + r * stride) (omega (arith, sum_is, begin)) own)
 
 pub agree-all : (h : Header) (vs : List Var) (bytes : List ℕ) (n : ℕ) (before vars : List Var) (arrays : List (List ℕ))
     → h.vars ≡ before ++ vars → AreArrays h.dims n vars arrays
     → IsPlaced h bytes n (record_size (record h { vars = vs })) (is_sole_narrow (record_vars h.dims h.vars)) before vars arrays
-    → Agree (record h { vars = vs }) bytes n (vars_behind h before vars) arrays
+    → Agree (record h { vars = vs }) bytes n (vars_after h before vars) arrays
 unfolding Agree
 agree-all h vs bytes n before [] [] all are placed = tt
 agree-all h vs bytes n before [] (array ∷ arrays) all are placed = absurd are

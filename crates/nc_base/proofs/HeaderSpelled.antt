@@ -22,7 +22,7 @@ use Rattle.nc_base.specs.Bytes.{padding_len}
 use Rattle.nc_base.specs.Types.{code_of, size_of}
 use Rattle.nc_base.specs.Versions.{version_byte, count_width, offset_width, count_limit, offset_limit, streaming_mark, has_type}
 use Rattle.nc_base.specs.Names.{IsName}
-use Rattle.nc_base.specs.Sizes.{is_record_var, slab_size, padded_size, padded_total, packed_size, record_vars, slab_limit, record_limit}
+use Rattle.nc_base.specs.Sizes.{is_record_var, slab_size, padded_size, padded_total, record_size_of, record_vars, slab_limit, record_limit}
 use Rattle.nc_base.specs.Headers.{has_record_dim, IsDimid, AreDimids, IsSoundAtt, IsSoundVar, IsSoundDim, IsSoundNumRecs, IsSound, HasValidNames}
 use Rattle.nc_base.specs.Grammar.{dimension_tag, variable_tag, attribute_tag, SpellsNumber, SpellsCount, SpellsPadded, SpellsName, SpellsType, ElementSpelling, SpellsEach, SpellsCounted, SpellsList, absent, present, SpellsDim, SpellsAtt, SpellsAtts, SpellsDimid, IsWithinLimits, SpellsVar, SpellsNumRecs, SpellsHeader}
 use Rattle.nc_base.specs.GeneratedFile.{word_spelling, magic_spelling, count_spelling, zero_padded, name_spelling, list_spelling, dim_spelling, att_spelling, atts_spelling, vsize_of, var_spelling, numrecs_spelling, header_spelling}
@@ -82,7 +82,7 @@ name : (v : Version) (bytes rest : List ℕ) → length bytes < count_limit v �
 name v bytes rest lt valid =
     subst (λ (b : List ℕ). SpellsName v b bytes rest) (sym (append_assoc (count_spelling v (length bytes)) (zero_padded bytes) rest))
     (record {
-      behind_count = zero_padded bytes ++ rest;
+      after_count = zero_padded bytes ++ rest;
       count = count v (length bytes) (zero_padded bytes ++ rest) lt;
       valid = valid;
       padded = padded bytes rest;
@@ -92,7 +92,7 @@ name v bytes rest lt valid =
 
 -- at each place of a list the element's spelling is one
 abbrev pub Spelled : {A : Type 0} → ElementSpelling A → (A → List ℕ) → List A → Type 0
-Spelled {A = A} Element spelling all = (front : List A) (x : A) (back : List A) (rest : List ℕ) → all ≡ front ++ x ∷ back → Element front (spelling x ++ rest) x rest
+Spelled {A = A} Element spelling all = (prefix : List A) (x : A) (back : List A) (rest : List ℕ) → all ≡ prefix ++ x ∷ back → Element prefix (spelling x ++ rest) x rest
 
 each : {A : Type 0} (Element : ElementSpelling A) (spelling : A → List ℕ) (all before xs : List A) (rest : List ℕ)
     → Spelled Element spelling all → all ≡ before ++ xs → SpellsEach Element before (flat_map spelling xs ++ rest) xs rest
@@ -109,7 +109,7 @@ counted : {A : Type 0} (v : Version) (Element : ElementSpelling A) (spelling : A
 counted v Element spelling xs rest lt spelled =
     subst (λ (b : List ℕ). SpellsCounted v Element b xs rest) (sym (append_assoc (count_spelling v (length xs)) (flat_map spelling xs) rest))
     (record {
-      behind_count = flat_map spelling xs ++ rest;
+      after_count = flat_map spelling xs ++ rest;
       count = count v (length xs) (flat_map spelling xs ++ rest) lt;
       each = each Element spelling xs [] xs rest spelled refl;
     })
@@ -132,12 +132,12 @@ list v tag Element spelling (x ∷ xs) rest fits lt spelled =
     (present ((c ++ f) ++ rest) (word tag ((c ++ f) ++ rest) fits) (counted v Element spelling (x ∷ xs) rest lt spelled))
 
 -- what holds of each element holds of one
-pub at-split : {A : Type 0} (P : A → Type 0) (all front : List A) (x : A) (back : List A) → all ≡ front ++ x ∷ back → All P all → P x
-at-split {A = A} P all front x back is holds = behind front (subst (All P) is holds)
+pub at-split : {A : Type 0} (P : A → Type 0) (all prefix : List A) (x : A) (back : List A) → all ≡ prefix ++ x ∷ back → All P all → P x
+at-split {A = A} P all prefix x back is holds = following prefix (subst (All P) is holds)
   where
-    behind : (ys : List A) → All P (ys ++ x ∷ back) → P x
-    behind [] h = All-head P x back h
-    behind (y ∷ ys) h = behind ys (All-tail P y (ys ++ x ∷ back) h)
+    following : (ys : List A) → All P (ys ++ x ∷ back) → P x
+    following [] h = All-head P x back h
+    following (y ∷ ys) h = following ys (All-tail P y (ys ++ x ∷ back) h)
 
 -- ---- dimensions
 
@@ -151,50 +151,50 @@ filtered-none [] e = refl
 filtered-none (dim ∷ dims) e = none-here (dim.len == 0) dim dims (filtered-none dims) e
 
 -- no record dimension stands before one, where there is one at most
-first-record-dim : (all front : List Dim) (dim : Dim) (back : List Dim) → all ≡ front ++ dim ∷ back → length (filter (λ (d : Dim). d.len == 0) all) ≤ 1
-    → dim.len ≡ 0 → has_record_dim front ≡ false
-first-record-dim all front dim back is one none =
+first-record-dim : (all prefix : List Dim) (dim : Dim) (back : List Dim) → all ≡ prefix ++ dim ∷ back → length (filter (λ (d : Dim). d.len == 0) all) ≤ 1
+    → dim.len ≡ 0 → has_record_dim prefix ≡ false
+first-record-dim all prefix dim back is one none =
     let p : Dim → Bool = λ d. d.len == 0 in
-    let cut : length (filter p all) ≡ length (filter p front) + length (filter p (dim ∷ back)) =
-    ap (λ (ds : List Dim). length (filter p ds)) is ∙ ap (λ (ds : List Dim). length ds) (filter-append p front (dim ∷ back)) ∙ length-append (filter p front) (filter p (dim ∷ back)) in
+    let cut : length (filter p all) ≡ length (filter p prefix) + length (filter p (dim ∷ back)) =
+    ap (λ (ds : List Dim). length (filter p ds)) is ∙ ap (λ (ds : List Dim). length ds) (filter-append p prefix (dim ∷ back)) ∙ length-append (filter p prefix) (filter p (dim ∷ back)) in
     let here : length (filter p (dim ∷ back)) ≡ suc (length (filter p back)) =
     ap (λ (b : Bool). length (cond b (dim ∷ filter p back) (filter p back))) (eq-eqb dim.len 0 none) in
-    filtered-none front (omega arith)
+    filtered-none prefix (omega arith)
 
 dim-spelled : (v : Version) (dims : List Dim) → All (IsSoundDim v) dims → All (λ (dim : Dim). IsName dim.name) dims
     → length (filter (λ (dim : Dim). dim.len == 0) dims) ≤ 1 → Spelled (SpellsDim v) (dim_spelling v) dims
 unfolding dim_spelling
-dim-spelled v dims sound names one front dim back rest is =
-    let s = at-split (IsSoundDim v) dims front dim back is sound in
-    subst (λ (b : List ℕ). SpellsDim v front b dim rest) (sym (append_assoc (name_spelling v dim.name) (count_spelling v dim.len) rest))
+dim-spelled v dims sound names one prefix dim back rest is =
+    let s = at-split (IsSoundDim v) dims prefix dim back is sound in
+    subst (λ (b : List ℕ). SpellsDim v prefix b dim rest) (sym (append_assoc (name_spelling v dim.name) (count_spelling v dim.len) rest))
     (record {
-      behind_name = count_spelling v dim.len ++ rest;
-      name = name v dim.name (count_spelling v dim.len ++ rest) s.name_len (at-split (λ (d : Dim). IsName d.name) dims front dim back is names);
+      after_name = count_spelling v dim.len ++ rest;
+      name = name v dim.name (count_spelling v dim.len ++ rest) s.name_len (at-split (λ (d : Dim). IsName d.name) dims prefix dim back is names);
       len = count v dim.len rest s.len;
-      one_record_dim = first-record-dim dims front dim back is one;
+      one_record_dim = first-record-dim dims prefix dim back is one;
     })
 
 -- ---- attributes
 
 att-spelled : (v : Version) (atts : List Att) → All (IsSoundAtt v) atts → All (λ (att : Att). IsName att.name) atts → Spelled (SpellsAtt v) (att_spelling v) atts
 unfolding att_spelling
-att-spelled v atts sound names front att back rest is =
-    let s = at-split (IsSoundAtt v) atts front att back is sound in
+att-spelled v atts sound names prefix att back rest is =
+    let s = at-split (IsSoundAtt v) atts prefix att back is sound in
     let n : ℕ = length att.vals / size_of att.ty in
     let n_is : n ≡ s.values.count = ap (λ (m : ℕ). m / size_of att.ty) s.values.whole ∙ mul-div_cancel s.values.count (some_size att.ty) in
     let a = name_spelling v att.name in
     let b = word_spelling (code_of att.ty) in
     let c = count_spelling v n in
     let d = zero_padded att.vals in
-    subst (λ (x : List ℕ). SpellsAtt v front x att rest)
+    subst (λ (x : List ℕ). SpellsAtt v prefix x att rest)
     (sym (append_assoc a (b ++ (c ++ d)) rest ∙ ap (λ (x : List ℕ). a ++ x) (append_assoc b (c ++ d) rest) ∙ ap (λ (x : List ℕ). a ++ (b ++ x)) (append_assoc c d rest)))
     (record {
       count = n;
-      behind_count = d ++ rest;
-      front = record {
-        behind_name = b ++ (c ++ (d ++ rest));
-        behind_type = c ++ (d ++ rest);
-        named = name v att.name (b ++ (c ++ (d ++ rest))) s.name_len (at-split (λ (x : Att). IsName x.name) atts front att back is names);
+      after_count = d ++ rest;
+      prefix = record {
+        after_name = b ++ (c ++ (d ++ rest));
+        after_type = c ++ (d ++ rest);
+        named = name v att.name (b ++ (c ++ (d ++ rest))) s.name_len (at-split (λ (x : Att). IsName x.name) atts prefix att back is names);
         typed = type v att.ty (c ++ (d ++ rest)) s.ty;
         counted = count v n (d ++ rest) (subst (λ (m : ℕ). m < count_limit v) (sym n_is) s.values.counted);
       };
@@ -208,14 +208,14 @@ atts v xs rest lt sound names = list v attribute_tag (SpellsAtt v) (att_spelling
 
 -- ---- variables
 
-shape-at : (dims : List Dim) (before front : List ℕ) (id : ℕ) (back : List ℕ) → AreDimids dims before (front ++ id ∷ back) → IsDimid dims (before ++ front) id
+shape-at : (dims : List Dim) (before prefix : List ℕ) (id : ℕ) (back : List ℕ) → AreDimids dims before (prefix ++ id ∷ back) → IsDimid dims (before ++ prefix) id
 shape-at dims before [] id back are = subst (λ (xs : List ℕ). IsDimid dims xs id) (sym (append-nil before)) are.0
-shape-at dims before (x ∷ front) id back are =
-    subst (λ (xs : List ℕ). IsDimid dims xs id) (append_assoc before (x ∷ []) front) (shape-at dims (before ++ x ∷ []) front id back are.1)
+shape-at dims before (x ∷ prefix) id back are =
+    subst (λ (xs : List ℕ). IsDimid dims xs id) (append_assoc before (x ∷ []) prefix) (shape-at dims (before ++ x ∷ []) prefix id back are.1)
 
 dimid-spelled : (v : Version) (dims : List Dim) (ids : List ℕ) → length dims < count_limit v → AreDimids dims [] ids → Spelled (SpellsDimid v dims) (count_spelling v) ids
-dimid-spelled v dims ids few are front id back rest is =
-    let known = shape-at dims [] front id back (subst (AreDimids dims []) is are) in
+dimid-spelled v dims ids few are prefix id back rest is =
+    let known = shape-at dims [] prefix id back (subst (AreDimids dims []) is are) in
     let lt : id < length dims = known.known in
     record { number = number (count_width v) id rest (count-fits v id (omega arith)); known = known }
 
@@ -242,17 +242,17 @@ total-append dims xs ys =
     ∙ ap (λ n. n + sum_by f (record_vars dims ys)) (sym (sum-map f (record_vars dims xs))) ∙ ap (λ n. padded_total dims (record_vars dims xs) + n) (sym (sum-map f (record_vars dims ys)))
 
 -- the padded slabs of all record variables keep the limit too
-padded-limit : (dims : List Dim) (vars : List Var) → All (λ (var : Var). slab_size dims var ≤ slab_limit) vars → packed_size dims vars ≤ record_limit → padded_total dims vars ≤ record_limit
+padded-limit : (dims : List Dim) (vars : List Var) → All (λ (var : Var). slab_size dims var ≤ slab_limit) vars → record_size_of dims vars ≤ record_limit → padded_total dims vars ≤ record_limit
 padded-limit dims [] small packed = packed
 padded-limit dims (var ∷ []) small packed = let s = All-head (λ (v : Var). slab_size dims v ≤ slab_limit) var [] small in omega (arith, s)
 padded-limit dims (var ∷ next ∷ vars) small packed = packed
 
-limit-at : (dims : List Dim) (all front : List Var) (var : Var) (back : List Var) → all ≡ front ++ var ∷ back → padded_total dims (record_vars dims all) ≤ record_limit
-    → padded_total dims (record_vars dims (front ++ var ∷ [])) ≤ record_limit
-limit-at dims all front var back is small =
-    let whole : padded_total dims (record_vars dims all) ≡ padded_total dims (record_vars dims ((front ++ var ∷ []) ++ back)) =
-    ap (λ (vs : List Var). padded_total dims (record_vars dims vs)) (is ∙ sym (append_assoc front (var ∷ []) back)) in
-    omega (arith, whole, total-append dims (front ++ var ∷ []) back)
+limit-at : (dims : List Dim) (all prefix : List Var) (var : Var) (back : List Var) → all ≡ prefix ++ var ∷ back → padded_total dims (record_vars dims all) ≤ record_limit
+    → padded_total dims (record_vars dims (prefix ++ var ∷ [])) ≤ record_limit
+limit-at dims all prefix var back is small =
+    let whole : padded_total dims (record_vars dims all) ≡ padded_total dims (record_vars dims ((prefix ++ var ∷ []) ++ back)) =
+    ap (λ (vs : List Var). padded_total dims (record_vars dims vs)) (is ∙ sym (append_assoc prefix (var ∷ []) back)) in
+    omega (arith, whole, total-append dims (prefix ++ var ∷ []) back)
 
 -- ---- variables
 
@@ -263,10 +263,10 @@ HasNames var = IsName var.name × All (λ (att : Att). IsName att.name) var.atts
 abbrev HasPlace : Version → Var → Type 0
 HasPlace v var = var.begin_at < offset_limit v
 
-var-one : (v : Version) (dims : List Dim) (front : List Var) (var : Var) (rest : List ℕ) → length dims < count_limit v
-    → IsSoundVar v dims var → HasNames var → HasPlace v var → IsWithinLimits dims front var → SpellsVar v dims front (var_spelling v dims var ++ rest) var rest
+var-one : (v : Version) (dims : List Dim) (prefix : List Var) (var : Var) (rest : List ℕ) → length dims < count_limit v
+    → IsSoundVar v dims var → HasNames var → HasPlace v var → IsWithinLimits dims prefix var → SpellsVar v dims prefix (var_spelling v dims var ++ rest) var rest
 unfolding var_spelling
-var-one v dims front var rest few s names place limits =
+var-one v dims prefix var rest few s names place limits =
     let a = name_spelling v var.name in
     let b = count_spelling v (length var.dimids) ++ flat_map (count_spelling v) var.dimids in
     let c = atts_spelling v var.atts in
@@ -276,21 +276,21 @@ var-one v dims front var rest few s names place limits =
     let f = to_be_bytes (offset_width v) var.begin_at in
     let slab : slab_size dims var ≤ slab_limit = limits.slab in
     let small : padded_size dims var < 2 ^ 49 = omega arith in
-    subst (λ (x : List ℕ). SpellsVar v dims front x var rest)
+    subst (λ (x : List ℕ). SpellsVar v dims prefix x var rest)
     (sym (append_assoc a (b ++ (c ++ (d ++ (e ++ f)))) rest
     ∙ ap (λ (x : List ℕ). a ++ x) (append_assoc b (c ++ (d ++ (e ++ f))) rest)
     ∙ ap (λ (x : List ℕ). a ++ (b ++ x)) (append_assoc c (d ++ (e ++ f)) rest)
     ∙ ap (λ (x : List ℕ). a ++ (b ++ (c ++ x))) (append_assoc d (e ++ f) rest)
     ∙ ap (λ (x : List ℕ). a ++ (b ++ (c ++ (d ++ x)))) (append_assoc e f rest)))
     (record {
-      behind_type = e ++ (f ++ rest);
-      behind_vsize = f ++ rest;
+      after_type = e ++ (f ++ rest);
+      after_vsize = f ++ rest;
       vsize = n;
       typed = record {
-        behind_atts = d ++ (e ++ (f ++ rest));
-        front = record {
-          behind_name = b ++ (c ++ (d ++ (e ++ (f ++ rest))));
-          behind_shape = c ++ (d ++ (e ++ (f ++ rest)));
+        after_atts = d ++ (e ++ (f ++ rest));
+        prefix = record {
+          after_name = b ++ (c ++ (d ++ (e ++ (f ++ rest))));
+          after_shape = c ++ (d ++ (e ++ (f ++ rest)));
           name = name v var.name (b ++ (c ++ (d ++ (e ++ (f ++ rest))))) s.name_len names.0;
           shape = counted v (SpellsDimid v dims) (count_spelling v) var.dimids (c ++ (d ++ (e ++ (f ++ rest)))) s.rank (dimid-spelled v dims var.dimids few s.shape);
           atts = atts v var.atts (d ++ (e ++ (f ++ rest))) s.att_count s.atts names.1;
@@ -303,13 +303,13 @@ var-one v dims front var rest few s names place limits =
     })
 
 var-spelled : (v : Version) (dims : List Dim) (vars : List Var) → length dims < count_limit v → All (IsSoundVar v dims) vars → All HasNames vars
-    → All (HasPlace v) vars → packed_size dims (record_vars dims vars) ≤ record_limit → Spelled (SpellsVar v dims) (var_spelling v dims) vars
-var-spelled v dims vars few sound names places packed front var back rest is =
-    let s = at-split (IsSoundVar v dims) vars front var back is sound in
+    → All (HasPlace v) vars → record_size_of dims (record_vars dims vars) ≤ record_limit → Spelled (SpellsVar v dims) (var_spelling v dims) vars
+var-spelled v dims vars few sound names places packed prefix var back rest is =
+    let s = at-split (IsSoundVar v dims) vars prefix var back is sound in
     let slabs = All-weaker (IsSoundVar v dims) (λ (x : Var). slab_size dims x ≤ slab_limit) (λ x t. t.slab) vars sound in
     let total = padded-limit dims (record_vars dims vars) (All-filter (is_record_var dims) (λ (x : Var). slab_size dims x ≤ slab_limit) vars slabs) packed in
-    var-one v dims front var rest few s (at-split HasNames vars front var back is names) (at-split (HasPlace v) vars front var back is places)
-    (record { slab = s.slab; record_bytes = limit-at dims vars front var back is total })
+    var-one v dims prefix var rest few s (at-split HasNames vars prefix var back is names) (at-split (HasPlace v) vars prefix var back is places)
+    (record { slab = s.slab; record_bytes = limit-at dims vars prefix var back is total })
 
 -- ---- the whole
 
@@ -333,12 +333,12 @@ header-spelled h rest sound names places =
     subst (λ (x : List ℕ). SpellsHeader (67 ∷ 68 ∷ 70 ∷ version_byte v ∷ x) h rest)
     (sym (append_assoc a (b ++ (c ++ d)) rest ∙ ap (λ (x : List ℕ). a ++ x) (append_assoc b (c ++ d) rest) ∙ ap (λ (x : List ℕ). a ++ (b ++ x)) (append_assoc c d rest)))
     (record {
-      behind_gatts = d ++ rest;
-      front = record {
-        behind_dims = c ++ (d ++ rest);
-        front = record {
-          behind_start = b ++ (c ++ (d ++ rest));
-          start = record { behind_magic = a ++ (b ++ (c ++ (d ++ rest))); magic = refl; records = numrecs v h.numrecs (b ++ (c ++ (d ++ rest))) sound.numrecs };
+      after_gatts = d ++ rest;
+      prefix = record {
+        after_dims = c ++ (d ++ rest);
+        prefix = record {
+          after_start = b ++ (c ++ (d ++ rest));
+          start = record { after_magic = a ++ (b ++ (c ++ (d ++ rest))); magic = refl; records = numrecs v h.numrecs (b ++ (c ++ (d ++ rest))) sound.numrecs };
           dim_list = list v dimension_tag (SpellsDim v) (dim_spelling v) h.dims (c ++ (d ++ rest)) (omega arith) sound.dim_count
               (dim-spelled v h.dims sound.dims names.dims sound.one_record_dim);
         };

@@ -25,7 +25,7 @@ use Rattle.nc_base.specs.Bytes.{text}
 use Rattle.nc_base.specs.Grammar.{SpellsHeader}
 use Rattle.nc_base.specs.FirstFault.{StopsAt}
 use Rattle.nc_base.specs.declared.fault.FormatFault.{FormatFault}
-use Rattle.nc_base.specs.Places.{bytes_at, value_offsets, stored_bytes, stored_values, ends_behind, first_missing, HoldsDataset}
+use Rattle.nc_base.specs.Places.{bytes_at, value_offsets, stored_bytes, stored_values, ends_after, first_missing, HoldsDataset}
 use Rattle.nc_base.specs.Dump.{Options, Ending, Section, Content, has_variable, has_values, IsFirstUnknown, KnowsChosen, IsFirstUnknownOf, is_selected, selection_of, content_in, content_of, values_before, values_of, shown_values, data_word, closing_word, dump_text, IsDump, IsText}
 use Rattle.nc_base.specs.Dump.{stopped, unknown, shown}
 use Rattle.nc_base.proofs.WholeValues.{map-map, numbers-concat, length-whole}
@@ -40,11 +40,11 @@ passes-all p xs e =
       | inr le ↦ le
     ]
 
-all-whole : (size : ℕ) (b xs : List ℕ) → position (ends_behind size (length b)) xs ≡ None → All (λ offset. offset + size ≤ length b) xs
+all-whole : (size : ℕ) (b xs : List ℕ) → position (ends_after size (length b)) xs ≡ None → All (λ offset. offset + size ≤ length b) xs
 all-whole size b xs none =
-    let behind = passes-all (ends_behind size (length b)) xs none in
+    let following = passes-all (ends_after size (length b)) xs none in
     All-from_get_or (λ (offset : ℕ). offset + size ≤ length b) xs 0
-    (λ i lt. ltb-false (length b) (get_or xs i 0 + size) (fails_before_first (ends_behind size (length b)) xs i 0 (omega arith)))
+    (λ i lt. ltb-false (length b) (get_or xs i 0 + size) (fails_before_first (ends_after size (length b)) xs i 0 (omega arith)))
 
 -- the numbers of a variable of which no value is missing
 pub whole-numbers : (h : Header) (b : List ℕ) (var : Var) (n : ℕ) → first_missing h b var n ≡ None → numbers var.ty (concat (stored_bytes h b var n)) ≡ stored_values h b var n
@@ -92,7 +92,7 @@ look-bare : (h : Header) (var : Var) (n width : ℕ) → look_of (bare h n) (bar
 unfolding look_of fill_value
 look-bare h var n width = refl
 
--- a variable's values, if they are shown, and those behind it
+-- a variable's values, if they are shown, and those after it
 abbrev row : Bool → ℕ → Look → Content → Section → Section
 row shows v look content others = if shows then values_before look content.values content.missing v others else others
 

@@ -9,7 +9,7 @@ pub mod ValueLaws
 pub mod Examples
 pub mod WholeValues
 pub mod SlabBytes
-pub mod Stands
+pub mod IsAt
 pub mod FilePlaces
 pub mod HeaderSpelled
 pub mod FileHolds

@@ -17,7 +17,7 @@ is_no_byte c b other = grind (arith, nat_tests)
 pub record IsLastPlace (c : ℕ) (bytes : List ℕ) (k : ℕ) : Type 0 where
   pub within : k < length bytes
   pub at : get_or bytes k 0 ≡ c
-  pub behind : (i : ℕ) → k < i → i < length bytes → get_or bytes i 0 ≢ c
+  pub following : (i : ℕ) → k < i → i < length bytes → get_or bytes i 0 ≢ c
 
 -- c has no place
 abbrev pub HasNoPlace : ℕ → List ℕ → Type 0
@@ -27,7 +27,7 @@ suffix_len-IsLastPlace : (c : ℕ) (bytes : List ℕ) (k : ℕ) → IsLastPlace 
 suffix_len-IsLastPlace c bytes k last =
     let place : k + 1 - 1 ≡ k = omega arith in
     suffix_len_is (λ b. not (b == c)) bytes (k + 1) 0 (omega (arith, last.within))
-    (λ i from below. ap not (is_no_byte c _ (last.behind i (omega arith) below)))
+    (λ i from below. ap not (is_no_byte c _ (last.following i (omega arith) below)))
     (λ _. ap not (is_byte c _ (ap (λ i. get_or bytes i 0) place ∙ last.at)))
 
 pub after_last-IsLastPlace : (c : ℕ) (bytes : List ℕ) (k : ℕ) → IsLastPlace c bytes k → after_last (λ b. b == c) bytes ≡ drop (k + 1) bytes
@@ -49,18 +49,18 @@ list_any-HasNoPlace c [] none = refl
 list_any-HasNoPlace c (b ∷ bytes) none =
     rw (is_no_byte c b (none 0 (omega arith))) (list_any-HasNoPlace c bytes (λ i below. none (suc i) (omega arith)))
 
--- a name whose last dot stands behind its first byte
+-- a name whose last dot stands after its first byte
 pub without_extension-IsLastPlace : (name : List ℕ) (k : ℕ) → IsLastPlace 46 name k → 0 < k → without_extension name ≡ take k name
-without_extension-IsLastPlace name k last behind_first =
+without_extension-IsLastPlace name k last after_first =
     let place : 1 + (k - 1) ≡ k = omega arith in
     let dot : get_or (drop 1 name) (k - 1) 0 ≡ 46 = get_or-drop 1 name (k - 1) 0 ∙ ap (λ i. get_or name i 0) place ∙ last.at in
     let has : has_extension name ≡ true =
     list_any_at is_dot (drop 1 name) (k - 1) 0 (omega (arith, length-drop 1 name, last.within)) (is_byte 46 _ dot) in
     rw has (before_last-IsLastPlace 46 name k last)
 
--- a name without a dot behind its first byte
+-- a name without a dot after its first byte
 pub without_extension-same : (name : List ℕ) → ((i : ℕ) → 0 < i → i < length name → get_or name i 0 ≢ 46) → without_extension name ≡ name
 without_extension-same name none =
-    let none_behind : HasNoPlace 46 (drop 1 name) = λ i below same.
+    let none_after : HasNoPlace 46 (drop 1 name) = λ i below same.
     none (1 + i) (omega arith) (omega (arith, length-drop 1 name, below)) (sym (get_or-drop 1 name i 0) ∙ same) in
-    rw (list_any-HasNoPlace 46 (drop 1 name) none_behind) refl
+    rw (list_any-HasNoPlace 46 (drop 1 name) none_after) refl

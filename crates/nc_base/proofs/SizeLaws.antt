@@ -11,7 +11,7 @@ use Rattle.std.proofs.lemmas.List.Elements.{filter_more, filter-append}
 use Rattle.std.proofs.lemmas.List.Folds.{list_all-append}
 use Rattle.std.proofs.lemmas.List.Sums.{sum-map, sum_by_push}
 use Rattle.nc_base.specs.Bytes.{padding_len}
-use Rattle.nc_base.specs.Sizes.{product, is_record_var, is_narrow, slab_size, padded_size, padded_total, packed_size, record_vars, record_size, slab_limit, record_limit, has_small_slab, checked_record_size, least_begin, first_begin, lesser}
+use Rattle.nc_base.specs.Sizes.{product, is_record_var, is_narrow, slab_size, padded_size, padded_total, record_size_of, record_vars, record_size, slab_limit, record_limit, has_small_slab, checked_record_size, least_begin, first_begin, lesser}
 use Rattle.nc_base.specs.declared.header.Dim.{Dim}
 use Rattle.nc_base.specs.declared.header.Var.{Var}
 use Rattle.nc_base.specs.declared.header.Header.{Header}
@@ -73,7 +73,7 @@ picked-le false slab padded m p q = q
 
 -- what the sum over the first i variables keeps
 pub record AreSums (dims : List Dim) (vars : List Var) (i size padded : ℕ) (is_first : Bool) : Type 0 where
-  pub size_is : size ≡ packed_size dims (seen dims vars i)
+  pub size_is : size ≡ record_size_of dims (seen dims vars i)
   pub padded_is : padded ≡ padded_total dims (seen dims vars i)
   pub first_is : is_first ≡ is_none (seen dims vars i)
   pub small : list_all (has_small_slab dims) (seen dims vars i) ≡ true
@@ -85,15 +85,15 @@ padded_total-append dims xs x =
     let f = padded_size dims in
     sum-map f (xs ++ x ∷ []) ∙ sum_by_push f xs x ∙ ap (λ n. n + f x) (sym (sum-map f xs))
 
-packed_first : (b : Bool) (slab padded : ℕ) → (if b then slab else padded) ≡ (if true && b then slab else (0 + padded))
-packed_first true slab padded = refl
-packed_first false slab padded = omega arith
+record_size_of_first : (b : Bool) (slab padded : ℕ) → (if b then slab else padded) ≡ (if true && b then slab else (0 + padded))
+record_size_of_first true slab padded = refl
+record_size_of_first false slab padded = omega arith
 
-packed_size-append : (dims : List Dim) (xs : List Var) (x : Var)
-    → packed_size dims (xs ++ x ∷ []) ≡ (if is_none xs && is_narrow x then slab_size dims x else (padded_total dims xs + padded_size dims x))
-packed_size-append dims [] x = packed_first (is_narrow x) (slab_size dims x) (padded_size dims x)
-packed_size-append dims (y ∷ []) x = padded_total-append dims (y ∷ []) x
-packed_size-append dims (y ∷ z ∷ ys) x = padded_total-append dims (y ∷ z ∷ ys) x
+record_size_of-append : (dims : List Dim) (xs : List Var) (x : Var)
+    → record_size_of dims (xs ++ x ∷ []) ≡ (if is_none xs && is_narrow x then slab_size dims x else (padded_total dims xs + padded_size dims x))
+record_size_of-append dims [] x = record_size_of_first (is_narrow x) (slab_size dims x) (padded_size dims x)
+record_size_of-append dims (y ∷ []) x = padded_total-append dims (y ∷ []) x
+record_size_of-append dims (y ∷ z ∷ ys) x = padded_total-append dims (y ∷ z ∷ ys) x
 
 pub sums_none : (dims : List Dim) (vars : List Var) → AreSums dims vars 0 0 0 true
 sums_none dims vars = record { size_is = refl; padded_is = refl; first_is = refl; small = refl; bound = omega arith; size_bound = omega arith }
@@ -113,7 +113,7 @@ pub sums_skipped : (dims : List Dim) (vars : List Var) (i size padded : ℕ) (is
 sums_skipped dims vars i size padded is_first d lt fixed sums =
     let e = seen_skipped dims vars i d lt fixed in
     record {
-      size_is = sums.size_is ∙ ap (packed_size dims) (sym e);
+      size_is = sums.size_is ∙ ap (record_size_of dims) (sym e);
       padded_is = sums.padded_is ∙ ap (padded_total dims) (sym e);
       first_is = sums.first_is ∙ ap is_none (sym e);
       small = ap (list_all (has_small_slab dims)) e ∙ sums.small;
@@ -135,8 +135,8 @@ sums_more dims vars i size padded size' padded' is_first d lt growing fits padde
       size_is = size_is
           ∙ ap (λ n. if is_first && is_narrow x then slab_size dims x else n) (padded_is ∙ ap (λ n. n + padded_size dims x) sums.padded_is)
           ∙ ap (λ b. if b && is_narrow x then slab_size dims x else (padded_total dims (seen dims vars i) + padded_size dims x)) sums.first_is
-          ∙ sym (packed_size-append dims (seen dims vars i) x)
-          ∙ ap (packed_size dims) (sym e);
+          ∙ sym (record_size_of-append dims (seen dims vars i) x)
+          ∙ ap (record_size_of dims) (sym e);
       padded_is = padded_is ∙ ap (λ n. n + padded_size dims x) sums.padded_is ∙ sym (padded_total-append dims (seen dims vars i) x) ∙ ap (padded_total dims) (sym e);
       first_is = sym (is_none-push (seen dims vars i) x) ∙ ap is_none (sym e);
       small = ap (list_all (has_small_slab dims)) e ∙ list_all-append (has_small_slab dims) (seen dims vars i) (x ∷ []) ∙ both_pass _ _ sums.small (le-leb _ _ fits);
@@ -154,11 +154,11 @@ fails_along : (p test : Var → Bool) (xs : List Var) (i : ℕ) (d : Var) → i 
     → list_all test (filter p xs) ≡ false
 fails_along p test xs i d lt kept fails =
     let x = get_or xs i d in
-    let front : filter p (take (i + 1) xs) ≡ filter p (take i xs) ++ x ∷ [] =
+    let prefix : filter p (take (i + 1) xs) ≡ filter p (take i xs) ++ x ∷ [] =
     filter_more p xs i d lt ∙ ap (λ b. filter p (take i xs) ++ cond b (x ∷ []) []) kept in
     let whole : filter p xs ≡ (filter p (take i xs) ++ x ∷ []) ++ filter p (drop (i + 1) xs) =
     ap (filter p) (sym (take-append-drop (i + 1) xs)) ∙ filter-append p (take (i + 1) xs) (drop (i + 1) xs)
-    ∙ ap (λ (ys : List Var). ys ++ filter p (drop (i + 1) xs)) front in
+    ∙ ap (λ (ys : List Var). ys ++ filter p (drop (i + 1) xs)) prefix in
     ap (list_all test) whole
     ∙ list_all-append test (filter p (take i xs) ++ x ∷ []) (filter p (drop (i + 1) xs))
     ∙ ap (λ b. b && list_all test (filter p (drop (i + 1) xs))) (list_all-append test (filter p (take i xs)) (x ∷ []))

@@ -1,4 +1,4 @@
--- Where the values of a variable lie, slab by slab: the bytes of all values, one behind the other, are the slabs as the
+-- Where the values of a variable lie, slab by slab: the bytes of all values, one after the other, are the slabs as the
 -- file has them, and no value is missing where each slab lies inside of the file.
 use Rattle.std.proofs.Common.{◌≡◌, ℕ, zero, suc, ◌+◌, ◌*◌, ◌<◌, ◌≤◌, Bool, true, false, List, [], ◌∷◌, ◌++◌, length, get_or, take, drop, map, refl, sym, ◌∙◌, ap, subst, arith, append-nil, None}
 use Rattle.std.specs.Prelude.{All, if◌then◌else◌}
@@ -15,11 +15,11 @@ use Rattle.nc_base.specs.declared.header.Var.{Var}
 use Rattle.nc_base.specs.Types.{size_of}
 use Rattle.nc_base.specs.Sizes.{product, is_record_var, slab_lens, slab_size, record_size}
 use Rattle.nc_base.proofs.WholeValues.{none-found}
-use Rattle.nc_base.specs.Places.{vectors_below, slab_strides, distance, value_offsets, bytes_at, stored_bytes, ends_behind, first_missing}
+use Rattle.nc_base.specs.Places.{vectors_below, slab_strides, distance, value_offsets, bytes_at, stored_bytes, ends_after, first_missing}
 
 -- ---- index vectors whose first index goes over some rows
 
--- the offset of a value behind a base
+-- the offset of a value after a base
 abbrev at : ℕ → List ℕ → List ℕ → ℕ
 at base strides index = base + distance index strides
 
@@ -122,7 +122,7 @@ record-bytes h b var n growing = at_kind (is_record_var h.dims var) growing
 
 -- ---- missing values
 
--- the value of this size at an offset ends within so many bytes
+-- the value of this size at an offset ends within n bytes
 abbrev EndsIn : ℕ → ℕ → ℕ → Type 0
 EndsIn size len offset = offset + size ≤ len
 
@@ -160,9 +160,9 @@ slab-ends size len base (n ∷ lens) within =
     let c : product lens * size ≡ s = omega arith in
     slab-ends size len (base + i * s) lens (omega arith))
 
-none-missing : (size len : ℕ) (xs : List ℕ) → All (EndsIn size len) xs → position (ends_behind size len) xs ≡ None
+none-missing : (size len : ℕ) (xs : List ℕ) → All (EndsIn size len) xs → position (ends_after size len) xs ≡ None
 none-missing size len xs all =
-    none-found (ends_behind size len) xs (position_or_len_is (ends_behind size len) xs (length xs) 0 (omega arith)
+    none-found (ends_after size len) xs (position_or_len_is (ends_after size len) xs (length xs) 0 (omega arith)
     (λ j lt. le-ltb len (get_or xs j 0 + size) (All-get_or (EndsIn size len) xs j 0 lt all)) (λ lt. absurd (omega arith)))
 
 pub fixed-whole : (h : Header) (b : List ℕ) (var : Var) (n : ℕ) → is_record_var h.dims var ≡ false

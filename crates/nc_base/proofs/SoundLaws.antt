@@ -10,7 +10,7 @@ use Rattle.std.proofs.lemmas.Bool.Decides.{nat_tests}
 use Rattle.std.proofs.lemmas.List.Elements.{All-filter, All-head, All-tail, All-cons, All-nil, All-weaker, All-get_or, All-map}
 use Rattle.std.proofs.lemmas.List.Sums.{sum-map, sum_by-cons, length-filter}
 use Rattle.nc_base.specs.Types.{size_of}
-use Rattle.nc_base.specs.Sizes.{dim_len, product, is_record_dim, is_record_var, is_narrow, slab_lens, slab_size, padded_size, packed_size, record_vars, record_size, slab_limit, record_limit, has_small_slab, checked_record_size, HasKnownDims, HasKnownShapes, first_begin, slab_at, is_fixed_dim}
+use Rattle.nc_base.specs.Sizes.{dim_len, product, is_record_dim, is_record_var, is_narrow, slab_lens, slab_size, padded_size, record_size_of, record_vars, record_size, slab_limit, record_limit, has_small_slab, checked_record_size, HasKnownDims, HasKnownShapes, first_begin, slab_at, is_fixed_dim}
 use Rattle.nc_base.specs.Dump.{has_values}
 use Rattle.nc_base.specs.Sizes.{has_slabs}
 use Rattle.nc_base.specs.Headers.{IsSound, IsSoundVar, HasWholeValues, AreDimids}
@@ -97,7 +97,7 @@ later_len : (b : Bool) (before : List ℕ) → (before ≡ [] → ⊥) → (IsTr
 later_len true before some h = absurd (some (h refl))
 later_len false before some h = refl
 
--- the lengths of a sound shape behind its first place
+-- the lengths of a sound shape after its first place
 some_later : (dims : List Dim) (before ids : List ℕ) → (before ≡ [] → ⊥) → AreDimids dims before ids → 0 < product (map (dim_len dims) ids)
 some_later dims before [] some h = omega arith
 some_later dims before (id ∷ ids) some h =
@@ -127,24 +127,24 @@ some_size Uint = omega arith
 some_size Int64 = omega arith
 some_size Uint64 = omega arith
 
-some_packed : (dims : List Dim) (var : Var) (vars : List Var) → 0 < slab_size dims var → 0 < packed_size dims (var ∷ vars)
-some_packed dims var [] h = picked (is_narrow var) (slab_size dims var) (padded_size dims var) h (omega arith)
+some_record_size_of : (dims : List Dim) (var : Var) (vars : List Var) → 0 < slab_size dims var → 0 < record_size_of dims (var ∷ vars)
+some_record_size_of dims var [] h = picked (is_narrow var) (slab_size dims var) (padded_size dims var) h (omega arith)
   where
     picked : (b : Bool) (m n : ℕ) → 0 < m → 0 < n → 0 < (if b then m else n)
     picked true m n p q = p
     picked false m n p q = q
-some_packed dims var (next ∷ vars) h = omega (arith, sum-map (padded_size dims) (var ∷ next ∷ vars), sum_by-cons (padded_size dims) var (next ∷ vars))
+some_record_size_of dims var (next ∷ vars) h = omega (arith, sum-map (padded_size dims) (var ∷ next ∷ vars), sum_by-cons (padded_size dims) var (next ∷ vars))
 
 -- a record of a sound header with record variables has bytes
 pub some_record : (h : Header) → IsSound h → IsSome (first_begin (record_vars h.dims h.vars)) → 0 < record_size h
 some_record h sound some =
     go (record_vars h.dims h.vars) (All-filter (is_record_var h.dims) (IsSoundVar h.version h.dims) h.vars sound.vars) some
   where
-    go : (vars : List Var) → All (IsSoundVar h.version h.dims) vars → IsSome (first_begin vars) → 0 < packed_size h.dims vars
+    go : (vars : List Var) → All (IsSoundVar h.version h.dims) vars → IsSome (first_begin vars) → 0 < record_size_of h.dims vars
     go [] all some = cc
     go (var ∷ vars) all some =
         let s = All-head (IsSoundVar h.version h.dims) var vars all in
-        some_packed h.dims var vars (some_product _ _ (some_count h.dims var.dimids s.shape) (some_size var.ty))
+        some_record_size_of h.dims var vars (some_product _ _ (some_count h.dims var.dimids s.shape) (some_size var.ty))
 
 -- a slab of a sound header keeps the limit
 pub slab_at-small : (h : Header) (v : ℕ) → IsSound h → v < length h.vars → slab_at h v ≤ slab_limit
@@ -157,7 +157,7 @@ pub IsSome-from_SomeIff : (o : Option ℕ) (P : Type 0) (n : ℕ) → SomeIff o 
 IsSome-from_SomeIff None P n h p = absurd (h p)
 IsSome-from_SomeIff (Some x) P n h p = refl
 
--- a shape behind its first place
+-- a shape after its first place
 fixed_shape : (dims : List Dim) (before ids : List ℕ) → list_all (is_fixed_dim dims) ids ≡ true → AreDimids dims before ids
 fixed_shape dims before [] h = tt
 fixed_shape dims before (id ∷ ids) h =
@@ -209,7 +209,7 @@ values_whole v att w = (part_whole (length att.vals) (size_of att.ty) w.count (s
 pub one_record_dim : (dims : List Dim) → length (filter (λ (dim : Dim). dim.len == 0) dims) ≡ count_by (λ (dim : Dim). dim.len == 0) dims
 one_record_dim dims = length-filter (λ (dim : Dim). dim.len == 0) dims
 
--- the number of whole records behind the first begin
+-- the number of whole records after the first begin
 between : (size len begin : ℕ) (vars : List Var) → first_begin vars ≡ Some begin → records_between size vars len ≡ (len - begin) / size
 between size len begin [] e = absurd cc
 between size len begin (var ∷ vars) e = let same : least_begin var vars ≡ begin = cc in ap (λ (b : ℕ). (len - b) / size) same

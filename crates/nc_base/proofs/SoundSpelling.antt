@@ -15,7 +15,7 @@ use Rattle.nc_base.specs.declared.version.Version.{Version}
 use Rattle.nc_base.specs.Bytes.{padding_len}
 use Rattle.nc_base.specs.Versions.{count_limit}
 use Rattle.nc_base.specs.Names.{IsName}
-use Rattle.nc_base.specs.Sizes.{is_narrow, slab_size, padded_total, packed_size, record_vars, record_limit}
+use Rattle.nc_base.specs.Sizes.{is_narrow, slab_size, padded_total, record_size_of, record_vars, record_limit}
 use Rattle.nc_base.specs.Headers.{has_record_dim, AreDimids, IsSoundAtt, IsSoundVar, IsSoundDim, IsSoundNumRecs, IsSound, HasValidNames}
 use Rattle.nc_base.specs.Grammar.{ElementSpelling, SpellsEach, SpellsList, absent, present, SpellsDim, SpellsAtt, SpellsAtts, SpellsDimid, SpellsVar, SpellsNumRecs, SpellsHeader}
 
@@ -24,15 +24,15 @@ use Rattle.nc_base.specs.Grammar.{ElementSpelling, SpellsEach, SpellsList, absen
 -- the elements of a list, which the version can count
 pub record SpellsListed {A : Type 0} (v : Version) (Element : ElementSpelling A) (xs : List A) (rest : List ℕ) : Type 0 where
   pub count : length xs < count_limit v
-  pub front : List ℕ
-  pub each : SpellsEach Element [] front xs rest
+  pub prefix : List ℕ
+  pub each : SpellsEach Element [] prefix xs rest
 
 pub listed : {A : Type 0} (v : Version) (tag : ℕ) (Element : ElementSpelling A) (bytes : List ℕ) (xs : List A) (rest : List ℕ)
     → SpellsList v tag Element bytes xs rest → SpellsListed v Element xs rest
-listed {A = A} v tag Element bytes xs rest (absent behind_tag number count none) =
-    subst (λ (ys : List A). SpellsListed v Element ys rest) (sym none) (record { count = count.non_negative; front = rest; each = refl })
-listed v tag Element bytes xs rest (present behind_tag number counted) =
-    record { count = counted.count.non_negative; front = counted.behind_count; each = counted.each }
+listed {A = A} v tag Element bytes xs rest (absent after_tag number count none) =
+    subst (λ (ys : List A). SpellsListed v Element ys rest) (sym none) (record { count = count.non_negative; prefix = rest; each = refl })
+listed v tag Element bytes xs rest (present after_tag number counted) =
+    record { count = counted.count.non_negative; prefix = counted.after_count; each = counted.each }
 
 -- what each spelling of an element gives
 abbrev pub Gives : {A : Type 0} → ElementSpelling A → (A → Type 0) → Type 0
@@ -49,19 +49,19 @@ list-all : {A : Type 0} (v : Version) (tag : ℕ) (Element : ElementSpelling A) 
     → (bytes : List ℕ) (xs : List A) (rest : List ℕ) → SpellsList v tag Element bytes xs rest → All P xs
 list-all v tag Element P gives bytes xs rest s =
     let l = listed v tag Element bytes xs rest s in
-    All-from_recursion P xs (each-by_recursion Element P gives xs [] l.front rest l.each)
+    All-from_recursion P xs (each-by_recursion Element P gives xs [] l.prefix rest l.each)
 
 -- ---- attributes
 
 att-sound : (v : Version) → Gives (SpellsAtt v) (IsSoundAtt v)
 att-sound v before bytes att rest s = record {
-  name_len = s.front.named.count.non_negative;
-  ty = s.front.typed.has;
-  values = record { count = s.count; counted = s.front.counted.non_negative; whole = s.whole };
+  name_len = s.prefix.named.count.non_negative;
+  ty = s.prefix.typed.has;
+  values = record { count = s.count; counted = s.prefix.counted.non_negative; whole = s.whole };
 }
 
 att-name : (v : Version) → Gives (SpellsAtt v) (λ (att : Att). IsName att.name)
-att-name v before bytes att rest s = s.front.named.valid
+att-name v before bytes att rest s = s.prefix.named.valid
 
 -- ---- dimensions
 
@@ -112,12 +112,12 @@ atts-names v bytes atts rest s = list-all v _ (SpellsAtt v) (λ (att : Att). IsN
 
 var-sound : (v : Version) (dims : List Dim) → Gives (SpellsVar v dims) (IsSoundVar v dims)
 var-sound v dims before bytes var rest s =
-    let front = s.typed.front in record {
-      name_len = front.name.count.non_negative;
-      rank = front.shape.count.non_negative;
-      shape = shape-known v dims var.dimids [] front.shape.behind_count front.behind_shape front.shape.each;
-      att_count = (listed v _ (SpellsAtt v) front.behind_shape var.atts s.typed.behind_atts front.atts).count;
-      atts = atts-sound v front.behind_shape var.atts s.typed.behind_atts front.atts;
+    let prefix = s.typed.prefix in record {
+      name_len = prefix.name.count.non_negative;
+      rank = prefix.shape.count.non_negative;
+      shape = shape-known v dims var.dimids [] prefix.shape.after_count prefix.after_shape prefix.shape.each;
+      att_count = (listed v _ (SpellsAtt v) prefix.after_shape var.atts s.typed.after_atts prefix.atts).count;
+      atts = atts-sound v prefix.after_shape var.atts s.typed.after_atts prefix.atts;
       ty = s.typed.ty.has;
       slab = s.typed.small.slab;
     }
@@ -127,7 +127,7 @@ HasNames var = IsName var.name × All (λ (att : Att). IsName att.name) var.atts
 
 var-names : (v : Version) (dims : List Dim) → Gives (SpellsVar v dims) HasNames
 var-names v dims before bytes var rest s =
-    let front = s.typed.front in (front.name.valid, atts-names v front.behind_shape var.atts s.typed.behind_atts front.atts)
+    let prefix = s.typed.prefix in (prefix.name.valid, atts-names v prefix.after_shape var.atts s.typed.after_atts prefix.atts)
 
 -- ---- the record size
 
@@ -138,14 +138,14 @@ vars-small v dims (var ∷ vars) before bytes rest each small =
     subst (λ (vs : List Var). padded_total dims (record_vars dims vs) ≤ record_limit) (append_assoc before (var ∷ []) vars)
     (vars-small v dims vars (before ++ var ∷ []) each.0 rest each.2 each.1.typed.small.record_bytes)
 
-one-packed : (narrow : Bool) (slab padding : ℕ) → cond narrow slab (slab + padding) ≤ slab + padding
-one-packed true slab padding = omega arith
-one-packed false slab padding = omega arith
+one-record_size_of : (narrow : Bool) (slab padding : ℕ) → cond narrow slab (slab + padding) ≤ slab + padding
+one-record_size_of true slab padding = omega arith
+one-record_size_of false slab padding = omega arith
 
-packed-le-padded : (dims : List Dim) (vars : List Var) → packed_size dims vars ≤ padded_total dims vars
-packed-le-padded dims [] = omega arith
-packed-le-padded dims (var ∷ []) = omega (arith, one-packed (is_narrow var) (slab_size dims var) (padding_len (slab_size dims var)))
-packed-le-padded dims (var ∷ next ∷ vars) = omega arith
+record_size_of-le-padded : (dims : List Dim) (vars : List Var) → record_size_of dims vars ≤ padded_total dims vars
+record_size_of-le-padded dims [] = omega arith
+record_size_of-le-padded dims (var ∷ []) = omega (arith, one-record_size_of (is_narrow var) (slab_size dims var) (padding_len (slab_size dims var)))
+record_size_of-le-padded dims (var ∷ next ∷ vars) = omega arith
 
 -- ---- the whole
 
@@ -156,31 +156,31 @@ records-sound v bytes Streaming rest s = tt
 pub spelled-sound : (bytes : List ℕ) (h : Header) (rest : List ℕ) → SpellsHeader bytes h rest → IsSound h
 spelled-sound bytes h rest s =
     let v = h.version in
-    let gatts = s.front in
-    let dims = gatts.front in
-    let dim_list = listed v _ (SpellsDim v) dims.behind_start h.dims gatts.behind_dims dims.dim_list in
-    let var_list = listed v _ (SpellsVar v h.dims) s.behind_gatts h.vars rest s.var_list in
-    let records = vars-small v h.dims h.vars [] var_list.front rest var_list.each (omega arith) in
-    let packed = packed-le-padded h.dims (record_vars h.dims h.vars) in
+    let gatts = s.prefix in
+    let dims = gatts.prefix in
+    let dim_list = listed v _ (SpellsDim v) dims.after_start h.dims gatts.after_dims dims.dim_list in
+    let var_list = listed v _ (SpellsVar v h.dims) s.after_gatts h.vars rest s.var_list in
+    let records = vars-small v h.dims h.vars [] var_list.prefix rest var_list.each (omega arith) in
+    let packed = record_size_of-le-padded h.dims (record_vars h.dims h.vars) in
     record {
-      numrecs = records-sound v dims.start.behind_magic h.numrecs dims.behind_start dims.start.records;
+      numrecs = records-sound v dims.start.after_magic h.numrecs dims.after_start dims.start.records;
       dim_count = dim_list.count;
-      dims = list-all v _ (SpellsDim v) (IsSoundDim v) (dim-sound v) dims.behind_start h.dims gatts.behind_dims dims.dim_list;
-      one_record_dim = dims-one v h.dims [] dim_list.front gatts.behind_dims dim_list.each (omega arith);
-      gatt_count = (listed v _ (SpellsAtt v) gatts.behind_dims h.gatts s.behind_gatts gatts.gatt_list).count;
-      gatts = atts-sound v gatts.behind_dims h.gatts s.behind_gatts gatts.gatt_list;
+      dims = list-all v _ (SpellsDim v) (IsSoundDim v) (dim-sound v) dims.after_start h.dims gatts.after_dims dims.dim_list;
+      one_record_dim = dims-one v h.dims [] dim_list.prefix gatts.after_dims dim_list.each (omega arith);
+      gatt_count = (listed v _ (SpellsAtt v) gatts.after_dims h.gatts s.after_gatts gatts.gatt_list).count;
+      gatts = atts-sound v gatts.after_dims h.gatts s.after_gatts gatts.gatt_list;
       var_count = var_list.count;
-      vars = list-all v _ (SpellsVar v h.dims) (IsSoundVar v h.dims) (var-sound v h.dims) s.behind_gatts h.vars rest s.var_list;
+      vars = list-all v _ (SpellsVar v h.dims) (IsSoundVar v h.dims) (var-sound v h.dims) s.after_gatts h.vars rest s.var_list;
       small_records = omega (arith, packed, records);
     }
 
 pub spelled-names : (bytes : List ℕ) (h : Header) (rest : List ℕ) → SpellsHeader bytes h rest → HasValidNames h
 spelled-names bytes h rest s =
     let v = h.version in
-    let gatts = s.front in
-    let dims = gatts.front in
+    let gatts = s.prefix in
+    let dims = gatts.prefix in
     record {
-      dims = list-all v _ (SpellsDim v) (λ (dim : Dim). IsName dim.name) (dim-name v) dims.behind_start h.dims gatts.behind_dims dims.dim_list;
-      gatts = atts-names v gatts.behind_dims h.gatts s.behind_gatts gatts.gatt_list;
-      vars = list-all v _ (SpellsVar v h.dims) HasNames (var-names v h.dims) s.behind_gatts h.vars rest s.var_list;
+      dims = list-all v _ (SpellsDim v) (λ (dim : Dim). IsName dim.name) (dim-name v) dims.after_start h.dims gatts.after_dims dims.dim_list;
+      gatts = atts-names v gatts.after_dims h.gatts s.after_gatts gatts.gatt_list;
+      vars = list-all v _ (SpellsVar v h.dims) HasNames (var-names v h.dims) s.after_gatts h.vars rest s.var_list;
     }

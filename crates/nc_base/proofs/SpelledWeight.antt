@@ -46,11 +46,11 @@ padded-takes bytes content rest s =
 
 name-takes : (v : Version) (bytes name rest : List ℕ) → SpellsName v bytes name rest → length name + 1 + length rest ≤ length bytes
 name-takes v bytes name rest s =
-    omega (arith, count-takes v bytes (length name) s.behind_count s.count.number, padded-takes s.behind_count name rest s.padded)
+    omega (arith, count-takes v bytes (length name) s.after_count s.count.number, padded-takes s.after_count name rest s.padded)
 
 -- ---- lists
 
--- each spelling of an element takes so many bytes
+-- each spelling of an element takes n bytes
 abbrev pub Takes : {A : Type 0} → ElementSpelling A → (A → ℕ) → Type 0
 Takes {A = A} Element weight = (before : List A) (bytes : List ℕ) (x : A) (rest : List ℕ) → Element before bytes x rest → weight x + length rest ≤ length bytes
 
@@ -63,30 +63,30 @@ each-takes Element weight takes (x ∷ xs) before bytes rest each =
 counted-takes : {A : Type 0} (v : Version) (Element : ElementSpelling A) (weight : A → ℕ) → Takes Element weight
     → (bytes : List ℕ) (xs : List A) (rest : List ℕ) → SpellsCounted v Element bytes xs rest → sum_by weight xs + length rest ≤ length bytes
 counted-takes v Element weight takes bytes xs rest s =
-    omega (arith, count-takes v bytes (length xs) s.behind_count s.count.number, each-takes Element weight takes xs [] s.behind_count rest s.each)
+    omega (arith, count-takes v bytes (length xs) s.after_count s.count.number, each-takes Element weight takes xs [] s.after_count rest s.each)
 
 list-takes : {A : Type 0} (v : Version) (tag : ℕ) (Element : ElementSpelling A) (weight : A → ℕ) → Takes Element weight
     → (bytes : List ℕ) (xs : List A) (rest : List ℕ) → SpellsList v tag Element bytes xs rest → sum_by weight xs + length rest ≤ length bytes
-list-takes {A = A} v tag Element weight takes bytes xs rest (absent behind_tag number count none) =
-    omega (arith, ap (λ (ys : List A). sum_by weight ys) none, number-takes w32 bytes 0 behind_tag number, count-takes v behind_tag 0 rest count.number)
-list-takes v tag Element weight takes bytes xs rest (present behind_tag number counted) =
-    omega (arith, number-takes w32 bytes tag behind_tag number, counted-takes v Element weight takes behind_tag xs rest counted)
+list-takes {A = A} v tag Element weight takes bytes xs rest (absent after_tag number count none) =
+    omega (arith, ap (λ (ys : List A). sum_by weight ys) none, number-takes w32 bytes 0 after_tag number, count-takes v after_tag 0 rest count.number)
+list-takes v tag Element weight takes bytes xs rest (present after_tag number counted) =
+    omega (arith, number-takes w32 bytes tag after_tag number, counted-takes v Element weight takes after_tag xs rest counted)
 
 -- ---- dimensions, attributes and variables
 
 dim-takes : (v : Version) → Takes (SpellsDim v) dim_weight
 dim-takes v before bytes dim rest s =
-    omega (arith, name-takes v bytes dim.name s.behind_name s.name, count-takes v s.behind_name dim.len rest s.len.number)
+    omega (arith, name-takes v bytes dim.name s.after_name s.name, count-takes v s.after_name dim.len rest s.len.number)
 
 att-takes : (v : Version) → Takes (SpellsAtt v) att_weight
 att-takes v before bytes att rest s =
-    let front = s.front in
+    let prefix = s.prefix in
     omega (
       arith,
-      name-takes v bytes att.name front.behind_name front.named,
-      number-takes w32 front.behind_name (code_of att.ty) front.behind_type front.typed.number,
-      count-takes v front.behind_type s.count s.behind_count front.counted.number,
-      padded-takes s.behind_count att.vals rest s.values,
+      name-takes v bytes att.name prefix.after_name prefix.named,
+      number-takes w32 prefix.after_name (code_of att.ty) prefix.after_type prefix.typed.number,
+      count-takes v prefix.after_type s.count s.after_count prefix.counted.number,
+      padded-takes s.after_count att.vals rest s.values,
     )
 
 atts-take : (v : Version) (bytes : List ℕ) (atts : List Att) (rest : List ℕ) → SpellsAtts v bytes atts rest → sum_by att_weight atts + length rest ≤ length bytes
@@ -99,20 +99,20 @@ shape-each v dims (id ∷ ids) before bytes rest each =
 
 shape-takes : (v : Version) (dims : List Dim) (bytes ids rest : List ℕ) → SpellsCounted v (SpellsDimid v dims) bytes ids rest → length ids + length rest ≤ length bytes
 shape-takes v dims bytes ids rest s =
-    omega (arith, count-takes v bytes (length ids) s.behind_count s.count.number, shape-each v dims ids [] s.behind_count rest s.each)
+    omega (arith, count-takes v bytes (length ids) s.after_count s.count.number, shape-each v dims ids [] s.after_count rest s.each)
 
 var-takes : (v : Version) (dims : List Dim) → Takes (SpellsVar v dims) var_weight
 var-takes v dims before bytes var rest s =
     let typed = s.typed in
-    let front = typed.front in
+    let prefix = typed.prefix in
     omega (
       arith,
-      name-takes v bytes var.name front.behind_name front.name,
-      shape-takes v dims front.behind_name var.dimids front.behind_shape front.shape,
-      atts-take v front.behind_shape var.atts typed.behind_atts front.atts,
-      number-takes w32 typed.behind_atts (code_of var.ty) s.behind_type typed.ty.number,
-      count-takes v s.behind_type s.vsize s.behind_vsize s.any_vsize,
-      number-takes (offset_width v) s.behind_vsize var.begin_at rest s.begin.number,
+      name-takes v bytes var.name prefix.after_name prefix.name,
+      shape-takes v dims prefix.after_name var.dimids prefix.after_shape prefix.shape,
+      atts-take v prefix.after_shape var.atts typed.after_atts prefix.atts,
+      number-takes w32 typed.after_atts (code_of var.ty) s.after_type typed.ty.number,
+      count-takes v s.after_type s.vsize s.after_vsize s.any_vsize,
+      number-takes (offset_width v) s.after_vsize var.begin_at rest s.begin.number,
     )
 
 -- ---- the whole
@@ -122,17 +122,17 @@ records-take v bytes (Known n) rest s = omega (arith, count-takes v bytes n rest
 records-take v bytes Streaming rest s = omega (arith, count-takes v bytes (streaming_mark v) rest s)
 
 start-takes : (bytes : List ℕ) (v : Version) (numrecs : NumRecs) (rest : List ℕ) → SpellsStart bytes v numrecs rest → length rest ≤ length bytes
-start-takes bytes v numrecs rest s = omega (arith, ap (λ (bs : List ℕ). length bs) s.magic, records-take v s.behind_magic numrecs rest s.records)
+start-takes bytes v numrecs rest s = omega (arith, ap (λ (bs : List ℕ). length bs) s.magic, records-take v s.after_magic numrecs rest s.records)
 
 pub spelled-weight : (bytes : List ℕ) (h : Header) (rest : List ℕ) → SpellsHeader bytes h rest → weight_of h + length rest ≤ length bytes
 spelled-weight bytes h rest s =
     let v = h.version in
-    let gatts = s.front in
-    let dims = gatts.front in
+    let gatts = s.prefix in
+    let dims = gatts.prefix in
     omega (
       arith,
-      start-takes bytes v h.numrecs dims.behind_start dims.start,
-      list-takes v _ (SpellsDim v) dim_weight (dim-takes v) dims.behind_start h.dims gatts.behind_dims dims.dim_list,
-      atts-take v gatts.behind_dims h.gatts s.behind_gatts gatts.gatt_list,
-      list-takes v _ (SpellsVar v h.dims) var_weight (var-takes v h.dims) s.behind_gatts h.vars rest s.var_list,
+      start-takes bytes v h.numrecs dims.after_start dims.start,
+      list-takes v _ (SpellsDim v) dim_weight (dim-takes v) dims.after_start h.dims gatts.after_dims dims.dim_list,
+      atts-take v gatts.after_dims h.gatts s.after_gatts gatts.gatt_list,
+      list-takes v _ (SpellsVar v h.dims) var_weight (var-takes v h.dims) s.after_gatts h.vars rest s.var_list,
     )

@@ -10,7 +10,7 @@ use Rattle.std.proofs.lemmas.List.{reverse-append, length-reverse, drop-append-l
 use Rattle.std.proofs.lemmas.List.Folds.{prefix_len-append}
 use Rattle.std.proofs.lemmas.List.Sums.{prefix_len-le-length}
 use Rattle.std.proofs.lemmas.Nat.{mod-mul-add}
-use Rattle.nc_base.specs.ValueText.{Look, column, number_text, is_nul, row_so_far, held, piece, pieces, opening, measured_opening, variable_front, measured_front, later_pieces}
+use Rattle.nc_base.specs.ValueText.{Look, column, number_text, is_nul, row_so_far, held, piece, pieces, opening, measured_opening, variable_prefix, measured_prefix, later_pieces}
 
 -- ---- cutting the values
 
@@ -22,59 +22,59 @@ pieces-append look before values (x ∷ xs) ys =
     let p = piece look before values x in
     ap (λ (r : List ℕ). p ++ r) (pieces-append look (before ++ p) (values ++ x ∷ []) xs ys) ∙ simp append_assoc
 
--- the values' pieces behind some opening
-behind_opening : (look : Look) (first : List ℕ) (xs ys : List ℤ)
+-- the values' pieces after some opening
+after_opening : (look : Look) (first : List ℕ) (xs ys : List ℤ)
     → first ++ pieces look (measured_opening look) [] (xs ++ ys)
     ≡ (first ++ pieces look (measured_opening look) [] xs) ++ pieces look (measured_opening look ++ pieces look (measured_opening look) [] xs) xs ys
-behind_opening look first xs ys =
+after_opening look first xs ys =
     let start = measured_opening look in
     ap (λ (r : List ℕ). first ++ r) (pieces-append look start [] xs ys)
     ∙ sym (append_assoc first (pieces look start [] xs) (pieces look (start ++ pieces look start [] xs) xs ys))
 
-pub front-append : (look : Look) (xs ys : List ℤ) → variable_front look (xs ++ ys) ≡ variable_front look xs ++ later_pieces look xs ys
-unfolding variable_front measured_front
-front-append look xs ys = behind_opening look (opening look) xs ys
+pub prefix-append : (look : Look) (xs ys : List ℤ) → variable_prefix look (xs ++ ys) ≡ variable_prefix look xs ++ later_pieces look xs ys
+unfolding variable_prefix measured_prefix
+prefix-append look xs ys = after_opening look (opening look) xs ys
 
-pub measured-append : (look : Look) (xs ys : List ℤ) → measured_front look (xs ++ ys) ≡ measured_front look xs ++ later_pieces look xs ys
-unfolding measured_front
-measured-append look xs ys = behind_opening look (measured_opening look) xs ys
+pub measured-append : (look : Look) (xs ys : List ℤ) → measured_prefix look (xs ++ ys) ≡ measured_prefix look xs ++ later_pieces look xs ys
+unfolding measured_prefix
+measured-append look xs ys = after_opening look (measured_opening look) xs ys
 
 pub later-append : (look : Look) (xs ys zs : List ℤ) → later_pieces look xs (ys ++ zs) ≡ later_pieces look xs ys ++ later_pieces look (xs ++ ys) zs
 later-append look xs ys zs =
-    pieces-append look (measured_front look xs) xs ys zs
+    pieces-append look (measured_prefix look xs) xs ys zs
     ∙ ap (λ (t : List ℕ). later_pieces look xs ys ++ pieces look t (xs ++ ys) zs) (sym (measured-append look xs ys))
 
 -- one value alone
-pub later_one : (look : Look) (xs : List ℤ) (x : ℤ) → later_pieces look xs (x ∷ []) ≡ piece look (measured_front look xs) xs x
+pub later_one : (look : Look) (xs : List ℤ) (x : ℤ) → later_pieces look xs (x ∷ []) ≡ piece look (measured_prefix look xs) xs x
 unfolding pieces
-later_one look xs x = append-nil (piece look (measured_front look xs) xs x)
+later_one look xs x = append-nil (piece look (measured_prefix look xs) xs x)
 
 -- no value
 pub later_none : (look : Look) (xs : List ℤ) → later_pieces look xs [] ≡ []
 unfolding pieces
 later_none look xs = refl
 
-pub front_nil : (look : Look) → variable_front look [] ≡ opening look
-unfolding pieces variable_front
-front_nil look = append-nil (opening look)
+pub prefix_nil : (look : Look) → variable_prefix look [] ≡ opening look
+unfolding pieces variable_prefix
+prefix_nil look = append-nil (opening look)
 
-pub measured_nil : (look : Look) → measured_front look [] ≡ measured_opening look
-unfolding pieces measured_front
+pub measured_nil : (look : Look) → measured_prefix look [] ≡ measured_opening look
+unfolding pieces measured_prefix
 measured_nil look = append-nil (measured_opening look)
 
 -- ---- columns
 
--- the column behind one more text
+-- the column after one more text
 pub column-append : (s t : List ℕ) → column (s ++ t) ≡ cond (eqb (column t) (length t)) (length t + column s) (column t)
 column-append s t =
     rw (reverse-append s t) (prefix_len-append (λ b. not (b == 10)) (reverse t) (reverse s)
     ∙ ap (λ n. cond (eqb (column t) n) (n + column s) (column t)) (length-reverse t))
 
--- behind a text without line feeds
+-- after a text without line feeds
 pub column-flat : (s t : List ℕ) → column t ≡ length t → column (s ++ t) ≡ column s + length t
 column-flat s t flat = column-append s t ∙ cond-true _ _ _ (eq-eqb _ _ flat) ∙ omega arith
 
--- behind a text with a line feed
+-- after a text with a line feed
 pub column-broken : (s t : List ℕ) → column t < length t → column (s ++ t) ≡ column t
 column-broken s t broken = column-append s t ∙ cond-false _ _ _ (not_equal (column t) (length t) broken)
   where
@@ -114,7 +114,7 @@ signed_flat (pos n) = decimal_flat n
 signed_flat (negsuc n) = flat_cons 45 (decimal (suc n)) refl (decimal_flat (suc n))
 
 pub number_flat : (look : Look) (value : ℤ) → column (number_text look value) ≡ length (number_text look value)
-number_flat look value = either (look.blanks && int_eq value look.fill)
+number_flat look value = either (look.prints_fill && int_eq value look.fill)
   where
     either : (b : Bool) → column (cond b (codes "_") (signed_decimal value)) ≡ length (cond b (codes "_") (signed_decimal value))
     either true = refl
@@ -143,7 +143,7 @@ place-add n k (suc r) some in_row =
 suffix_push : (p : ℤ → Bool) (xs : List ℤ) (x : ℤ) → suffix_len p (xs ++ x ∷ []) ≡ cond (p x) (1 + suffix_len p xs) 0
 suffix_push p xs x = ap (prefix_len p) (reverse-append xs (x ∷ []))
 
--- behind a value that is no NUL none is held
+-- after a value that is no NUL none is held
 pub held_other : (look : Look) (xs : List ℤ) (x : ℤ) → is_nul x ≡ false → held look (xs ++ x ∷ []) ≡ 0
 held_other look xs x other = by look.trimmed (length (xs ++ x ∷ []) - length (xs ++ x ∷ []) % look.row)
   where
@@ -157,7 +157,7 @@ held_other look xs x other = by look.trimmed (length (xs ++ x ∷ []) - length (
     by true k = cut k
     by false k = refl
 
--- behind one more NUL in the row one more is held
+-- after one more NUL in the row one more is held
 pub held_nul : (look : Look) (xs : List ℤ) (x : ℤ) → look.trimmed ≡ true → is_nul x ≡ true → (length xs + 1) % look.row ≡ length xs % look.row + 1
     → held look (xs ++ x ∷ []) ≡ held look xs + 1
 held_nul look xs x trimmed nul place =
@@ -166,9 +166,9 @@ held_nul look xs x trimmed nul place =
     let row : row_so_far look (xs ++ x ∷ []) ≡ row_so_far look xs ++ x ∷ []
     = ap (λ k. drop k (xs ++ x ∷ [])) e ∙ drop-append-le (length xs - length xs % look.row) xs (x ∷ []) (omega arith) in
     let before = cond-true look.trimmed (suffix_len is_nul (row_so_far look xs)) 0 trimmed in
-    let behind = cond-true look.trimmed (suffix_len is_nul (row_so_far look (xs ++ x ∷ []))) 0 trimmed in
+    let following = cond-true look.trimmed (suffix_len is_nul (row_so_far look (xs ++ x ∷ []))) 0 trimmed in
     let more = ap (suffix_len is_nul) row ∙ suffix_push is_nul (row_so_far look xs) x ∙ cond-true (is_nul x) (1 + suffix_len is_nul (row_so_far look xs)) 0 nul in
-    omega (arith, before, behind, more)
+    omega (arith, before, following, more)
 
 -- at a row's beginning none is held
 pub held_first : (look : Look) (xs : List ℤ) → length xs % look.row ≡ 0 → held look xs ≡ 0

@@ -1,7 +1,7 @@
 -- Lists of bytes.
 use Rattle.std.specs.Prelude.{ℕ, ◌<◌, ◌-◌, ◌%◌, List, [], ◌∷◌, ◌++◌, slice_index}
 
--- each number of the list is a byte (behind the list's end `slice_index` is 0)
+-- each number of the list is a byte (after the list's end `slice_index` is 0)
 abbrev pub AreBytes : List ℕ → Type 0
 AreBytes bytes = (i : ℕ) → slice_index bytes i < 256
 
@@ -9,7 +9,7 @@ AreBytes bytes = (i : ℕ) → slice_index bytes i < 256
 abbrev pub padding_len : ℕ → ℕ
 padding_len n = (4 - n % 4) % 4
 
--- the pieces of a text, one behind the other
+-- the pieces of a text, one after the other
 unfoldable pub text : List (List ℕ) → List ℕ
 text [] = []
 text (piece ∷ pieces) = piece ++ text pieces

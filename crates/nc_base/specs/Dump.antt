@@ -16,7 +16,7 @@ use Rattle.nc_base.specs.Grammar.{SpellsHeader}
 use Rattle.nc_base.specs.FirstFault.{StopsAt}
 use Rattle.nc_base.specs.HeadText.{head_text}
 use Rattle.nc_base.specs.Places.{stored_values, first_missing}
-use Rattle.nc_base.specs.ValueText.{Look, look_of, variable_front, variable_text}
+use Rattle.nc_base.specs.ValueText.{Look, look_of, variable_prefix, variable_text}
 
 -- what to show of a dataset, and under which name
 pub record Options : Type 0 where
@@ -76,7 +76,7 @@ is_selected h o var = is_chosen o.chosen var.name && (not o.coords || has_dimens
 abbrev pub selection_of : Header → Options → List Bool
 selection_of h o = map (is_selected h o) h.vars
 
--- the variable has a value over so many records
+-- the variable has a value over n records
 abbrev pub has_values : List Dim → ℕ → Var → Bool
 has_values dims n var = nat_lt 0 (value_count dims var n)
 
@@ -104,11 +104,11 @@ content_in h bytes n v var = record { values = stored_values h bytes var n; miss
 abbrev pub content_of : Dataset → ℕ → Var → Content
 content_of d v var = record { values = numbers var.ty (slice_index_or d.arrays v []); missing = None }
 
--- The values of the variable in place v, and the section behind them: all values and that section; or those before the first
--- missing one, and nothing behind them.
+-- The values of the variable in place v, and the section after them: all values and that section; or those before the first
+-- missing one, and nothing after them.
 abbrev pub values_before : Look → List ℤ → Option ℕ → ℕ → Section → Section
 values_before look values None v others = record { text = variable_text look values ++ others.text; ending = others.ending }
-values_before look values (Some k) v others = record { text = variable_front look (take k values); ending = data_truncated v k }
+values_before look values (Some k) v others = record { text = variable_prefix look (take k values); ending = data_truncated v k }
 
 -- The values of the marked ones of these variables, the first of which has place v, over n records and in lines of this width.
 -- A variable that has no values has no text.
@@ -127,7 +127,7 @@ shown_values h o content n marks = values_of h content n o.width 0 h.vars (if o.
 unfoldable pub data_word : Header → Options → List ℕ
 data_word h o = if o.head_only || (length h.vars == 0) then [] else codes "data:\n"
 
--- what stands behind them: nothing where a value is missing
+-- what stands after them: nothing where a value is missing
 unfoldable pub closing_word : Ending → List ℕ
 closing_word whole = codes "}\n"
 closing_word other = []

@@ -5,7 +5,7 @@ use Rattle.std.specs.List.{flat_map, list_any}
 use Rattle.std.specs.Str.{bytes_eq}
 use Rattle.nc_base.specs.Names.{is_beyond_ascii}
 
--- one of `. @ + -`, which a name may have unescaped, but not in front
+-- one of `. @ + -`, which a name may have unescaped, but not before
 abbrev pub is_name_mark : ℕ → Bool
 is_name_mark b = (b == 46) || (b == 64) || (b == 43) || (b == 45)
 

@@ -33,8 +33,8 @@ unfoldable pub fill_value : Var → ℤ
 fill_value var = fill_or_default var.ty (own_fill var)
 
 -- characters never print as blanks, and numbers of one byte only where the variable has a fill value of its own
-abbrev pub has_blanks : NcType → Bool → Bool
-has_blanks Char has_own = false
-has_blanks Byte has_own = has_own
-has_blanks Ubyte has_own = has_own
-has_blanks ty has_own = true
+abbrev pub prints_fill : NcType → Bool → Bool
+prints_fill Char has_own = false
+prints_fill Byte has_own = has_own
+prints_fill Ubyte has_own = has_own
+prints_fill ty has_own = true

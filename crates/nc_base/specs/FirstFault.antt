@@ -1,4 +1,4 @@
--- The first wrong field of a header, from the left: what is wrong with it, and the rest behind it. Behind a field that
+-- The first wrong field of a header, from the left: what is wrong with it, and the rest after it. After a field that
 -- the file's end cuts short there is no rest.
 use Rattle.std.specs.Prelude.{ℕ, zero, suc, ◌≡◌, ◌≢◌, ◌+◌, ◌*◌, ◌<◌, ◌≤◌, true, false, ◌⊎◌, List, [], ◌∷◌, ◌++◌, length, None}
 use Rattle.std.specs.Int.{Width, w32, byte_len}
@@ -15,7 +15,7 @@ use Rattle.nc_base.specs.Types.{code_of, size_of}
 use Rattle.nc_base.specs.Versions.{count_width, offset_width, count_limit, offset_limit, version_of_byte, streaming_mark, has_type}
 use Rattle.nc_base.specs.Names.{is_name, IsName}
 use Rattle.nc_base.specs.Headers.{has_record_dim, IsDimid}
-use Rattle.nc_base.specs.Grammar.{ElementSpelling, dimension_tag, attribute_tag, variable_tag, SpellsNumber, SpellsCount, SpellsMagic, SpellsName, SpellsType, SpellsCounted, SpellsDim, SpellsAtt, SpellsAttFront, SpellsDimid, SpellsVar, SpellsVarFront, SpellsTypedVar, IsWithinLimits, SpellsStart, SpellsUpToDims, SpellsUpToGatts}
+use Rattle.nc_base.specs.Grammar.{ElementSpelling, dimension_tag, attribute_tag, variable_tag, SpellsNumber, SpellsCount, SpellsMagic, SpellsName, SpellsType, SpellsCounted, SpellsDim, SpellsAtt, SpellsAttPrefix, SpellsDimid, SpellsVar, SpellsVarPrefix, SpellsTypedVar, IsWithinLimits, SpellsStart, SpellsUpToDims, SpellsUpToGatts}
 
 -- ---- numbers
 
@@ -57,7 +57,7 @@ pub data StopsInType (v : Version) (bytes : List ℕ) : FormatFault → List ℕ
 
 -- ---- lists
 
--- the first wrong field of an element, behind those before it
+-- the first wrong field of an element, after those before it
 abbrev pub ElementStop : Type 0 → Type 1
 ElementStop A = List A → List ℕ → FormatFault → List ℕ → Type 0
 
@@ -68,28 +68,28 @@ StopsInEach {A = A} Element Stops (suc n) before bytes fault rest =
     Stops before bytes fault rest
     ⊎ ((x : A) × (middle : List ℕ) × Element before bytes x middle × StopsInEach Element Stops n (before ++ x ∷ []) middle fault rest)
 
--- a count, or one of so many elements
+-- a count, or one of n elements
 pub data StopsInCounted {A : Type 0} (v : Version) (Element : ElementSpelling A) (Stops : ElementStop A) (bytes : List ℕ) : FormatFault → List ℕ → Type 0 where
   in_count : (fault : FormatFault) (rest : List ℕ) → StopsInCount v bytes fault rest → StopsInCounted v Element Stops bytes fault rest
   in_element : (n : ℕ) (body : List ℕ) (fault : FormatFault) (rest : List ℕ)
       → SpellsCount v bytes n body → StopsInEach Element Stops n [] body fault rest
       → StopsInCounted v Element Stops bytes fault rest
 
--- a list: its tag is neither zero nor its own, or its count is wrong, which behind a zero tag is any but zero, or an
+-- a list: its tag is neither zero nor its own, or its count is wrong, which after a zero tag is any but zero, or an
 -- element is wrong
 pub data StopsInList {A : Type 0} (v : Version) (tag : ℕ) (Element : ElementSpelling A) (Stops : ElementStop A) (bytes : List ℕ) : FormatFault → List ℕ → Type 0 where
   cut_tag : IsCutNumber w32 bytes → StopsInList v tag Element Stops bytes HeaderTruncated []
   bad_tag : (found : ℕ) (rest : List ℕ)
       → SpellsNumber w32 bytes found rest → found ≢ 0 → found ≢ tag
       → StopsInList v tag Element Stops bytes BadTag rest
-  in_absent_count : (behind_tag : List ℕ) (fault : FormatFault) (rest : List ℕ)
-      → SpellsNumber w32 bytes 0 behind_tag → StopsInCount v behind_tag fault rest
+  in_absent_count : (after_tag : List ℕ) (fault : FormatFault) (rest : List ℕ)
+      → SpellsNumber w32 bytes 0 after_tag → StopsInCount v after_tag fault rest
       → StopsInList v tag Element Stops bytes fault rest
-  absent_elements : (behind_tag : List ℕ) (n : ℕ) (rest : List ℕ)
-      → SpellsNumber w32 bytes 0 behind_tag → SpellsCount v behind_tag n rest → n ≢ 0
+  absent_elements : (after_tag : List ℕ) (n : ℕ) (rest : List ℕ)
+      → SpellsNumber w32 bytes 0 after_tag → SpellsCount v after_tag n rest → n ≢ 0
       → StopsInList v tag Element Stops bytes BadCount rest
-  in_present : (behind_tag : List ℕ) (fault : FormatFault) (rest : List ℕ)
-      → SpellsNumber w32 bytes tag behind_tag → StopsInCounted v Element Stops behind_tag fault rest
+  in_present : (after_tag : List ℕ) (fault : FormatFault) (rest : List ℕ)
+      → SpellsNumber w32 bytes tag after_tag → StopsInCounted v Element Stops after_tag fault rest
       → StopsInList v tag Element Stops bytes fault rest
 
 -- ---- dimensions and attributes
@@ -97,27 +97,27 @@ pub data StopsInList {A : Type 0} (v : Version) (tag : ℕ) (Element : ElementSp
 -- a dimension
 pub data StopsInDim (v : Version) (before : List Dim) (bytes : List ℕ) : FormatFault → List ℕ → Type 0 where
   in_dim_name : (fault : FormatFault) (rest : List ℕ) → StopsInName v bytes fault rest → StopsInDim v before bytes fault rest
-  in_dim_len : (name behind_name : List ℕ) (fault : FormatFault) (rest : List ℕ)
-      → SpellsName v bytes name behind_name → StopsInCount v behind_name fault rest
+  in_dim_len : (name after_name : List ℕ) (fault : FormatFault) (rest : List ℕ)
+      → SpellsName v bytes name after_name → StopsInCount v after_name fault rest
       → StopsInDim v before bytes fault rest
-  second_record_dim : (name behind_name rest : List ℕ)
-      → SpellsName v bytes name behind_name → SpellsCount v behind_name 0 rest → has_record_dim before ≡ true
+  second_record_dim : (name after_name rest : List ℕ)
+      → SpellsName v bytes name after_name → SpellsCount v after_name 0 rest → has_record_dim before ≡ true
       → StopsInDim v before bytes TwoRecordDims rest
 
 -- an attribute, whatever stands before it: its values and their padding are two fields
 pub data StopsInAtt (v : Version) (before : List Att) (bytes : List ℕ) : FormatFault → List ℕ → Type 0 where
   in_att_name : (fault : FormatFault) (rest : List ℕ) → StopsInName v bytes fault rest → StopsInAtt v before bytes fault rest
-  in_att_type : (name behind_name : List ℕ) (fault : FormatFault) (rest : List ℕ)
-      → SpellsName v bytes name behind_name → StopsInType v behind_name fault rest
+  in_att_type : (name after_name : List ℕ) (fault : FormatFault) (rest : List ℕ)
+      → SpellsName v bytes name after_name → StopsInType v after_name fault rest
       → StopsInAtt v before bytes fault rest
-  in_att_count : (name behind_name behind_type : List ℕ) (ty : NcType) (fault : FormatFault) (rest : List ℕ)
-      → SpellsName v bytes name behind_name → SpellsType v behind_name ty behind_type → StopsInCount v behind_type fault rest
+  in_att_count : (name after_name after_type : List ℕ) (ty : NcType) (fault : FormatFault) (rest : List ℕ)
+      → SpellsName v bytes name after_name → SpellsType v after_name ty after_type → StopsInCount v after_type fault rest
       → StopsInAtt v before bytes fault rest
   cut_values : (name body : List ℕ) (ty : NcType) (count : ℕ)
-      → SpellsAttFront v bytes name ty count body → length body < count * size_of ty
+      → SpellsAttPrefix v bytes name ty count body → length body < count * size_of ty
       → StopsInAtt v before bytes HeaderTruncated []
   cut_value_padding : (name vals rest : List ℕ) (ty : NcType) (count : ℕ)
-      → SpellsAttFront v bytes name ty count (vals ++ rest) → length vals ≡ count * size_of ty
+      → SpellsAttPrefix v bytes name ty count (vals ++ rest) → length vals ≡ count * size_of ty
       → length rest < padding_len (length vals)
       → StopsInAtt v before bytes HeaderTruncated []
 
@@ -136,34 +136,34 @@ pub data StopsInDimid (v : Version) (dims : List Dim) (before : List ℕ) (bytes
 -- a variable: that it is too large shows at its type
 pub data StopsInVar (v : Version) (dims : List Dim) (before : List Var) (bytes : List ℕ) : FormatFault → List ℕ → Type 0 where
   in_var_name : (fault : FormatFault) (rest : List ℕ) → StopsInName v bytes fault rest → StopsInVar v dims before bytes fault rest
-  in_shape : (name behind_name : List ℕ) (fault : FormatFault) (rest : List ℕ)
-      → SpellsName v bytes name behind_name → StopsInCounted v (SpellsDimid v dims) (StopsInDimid v dims) behind_name fault rest
+  in_shape : (name after_name : List ℕ) (fault : FormatFault) (rest : List ℕ)
+      → SpellsName v bytes name after_name → StopsInCounted v (SpellsDimid v dims) (StopsInDimid v dims) after_name fault rest
       → StopsInVar v dims before bytes fault rest
-  in_var_atts : (name behind_name behind_shape dimids : List ℕ) (fault : FormatFault) (rest : List ℕ)
-      → SpellsName v bytes name behind_name → SpellsCounted v (SpellsDimid v dims) behind_name dimids behind_shape
-      → StopsInAtts v behind_shape fault rest
+  in_var_atts : (name after_name after_shape dimids : List ℕ) (fault : FormatFault) (rest : List ℕ)
+      → SpellsName v bytes name after_name → SpellsCounted v (SpellsDimid v dims) after_name dimids after_shape
+      → StopsInAtts v after_shape fault rest
       → StopsInVar v dims before bytes fault rest
-  in_var_type : (var : Var) (behind_atts : List ℕ) (fault : FormatFault) (rest : List ℕ)
-      → SpellsVarFront v dims bytes var behind_atts → StopsInType v behind_atts fault rest
+  in_var_type : (var : Var) (after_atts : List ℕ) (fault : FormatFault) (rest : List ℕ)
+      → SpellsVarPrefix v dims bytes var after_atts → StopsInType v after_atts fault rest
       → StopsInVar v dims before bytes fault rest
-  too_large : (var : Var) (behind_atts rest : List ℕ)
-      → SpellsVarFront v dims bytes var behind_atts → SpellsType v behind_atts var.ty rest → ¬ IsWithinLimits dims before var
+  too_large : (var : Var) (after_atts rest : List ℕ)
+      → SpellsVarPrefix v dims bytes var after_atts → SpellsType v after_atts var.ty rest → ¬ IsWithinLimits dims before var
       → StopsInVar v dims before bytes TooLarge rest
-  cut_vsize : (var : Var) (behind_type : List ℕ)
-      → SpellsTypedVar v dims before bytes var behind_type → IsCutNumber (count_width v) behind_type
+  cut_vsize : (var : Var) (after_type : List ℕ)
+      → SpellsTypedVar v dims before bytes var after_type → IsCutNumber (count_width v) after_type
       → StopsInVar v dims before bytes HeaderTruncated []
-  cut_begin : (var : Var) (behind_type behind_vsize : List ℕ) (vsize : ℕ)
-      → SpellsTypedVar v dims before bytes var behind_type → SpellsNumber (count_width v) behind_type vsize behind_vsize
-      → IsCutNumber (offset_width v) behind_vsize
+  cut_begin : (var : Var) (after_type after_vsize : List ℕ) (vsize : ℕ)
+      → SpellsTypedVar v dims before bytes var after_type → SpellsNumber (count_width v) after_type vsize after_vsize
+      → IsCutNumber (offset_width v) after_vsize
       → StopsInVar v dims before bytes HeaderTruncated []
-  negative_begin : (var : Var) (behind_type behind_vsize : List ℕ) (vsize begin : ℕ) (rest : List ℕ)
-      → SpellsTypedVar v dims before bytes var behind_type → SpellsNumber (count_width v) behind_type vsize behind_vsize
-      → SpellsNumber (offset_width v) behind_vsize begin rest → offset_limit v ≤ begin
+  negative_begin : (var : Var) (after_type after_vsize : List ℕ) (vsize begin : ℕ) (rest : List ℕ)
+      → SpellsTypedVar v dims before bytes var after_type → SpellsNumber (count_width v) after_type vsize after_vsize
+      → SpellsNumber (offset_width v) after_vsize begin rest → offset_limit v ≤ begin
       → StopsInVar v dims before bytes BadOffset rest
 
 -- ---- the whole
 
--- the magic: its three bytes, or the version byte behind them
+-- the magic: its three bytes, or the version byte after them
 pub data StopsInMagic (bytes : List ℕ) : FormatFault → List ℕ → Type 0 where
   cut_magic : length bytes < 3 → StopsInMagic bytes NotNetcdf []
   other_magic : (a b c : ℕ) (rest : List ℕ)
@@ -184,18 +184,18 @@ pub data StopsInNumRecs (v : Version) (bytes : List ℕ) : FormatFault → List 
 -- a header: the first wrong field of all
 pub data StopsWith (bytes : List ℕ) : FormatFault → List ℕ → Type 0 where
   in_magic : (fault : FormatFault) (rest : List ℕ) → StopsInMagic bytes fault rest → StopsWith bytes fault rest
-  in_numrecs : (v : Version) (behind_magic : List ℕ) (fault : FormatFault) (rest : List ℕ)
-      → SpellsMagic bytes v behind_magic → StopsInNumRecs v behind_magic fault rest
+  in_numrecs : (v : Version) (after_magic : List ℕ) (fault : FormatFault) (rest : List ℕ)
+      → SpellsMagic bytes v after_magic → StopsInNumRecs v after_magic fault rest
       → StopsWith bytes fault rest
-  in_dims : (v : Version) (numrecs : NumRecs) (behind_start : List ℕ) (fault : FormatFault) (rest : List ℕ)
-      → SpellsStart bytes v numrecs behind_start → StopsInList v dimension_tag (SpellsDim v) (StopsInDim v) behind_start fault rest
+  in_dims : (v : Version) (numrecs : NumRecs) (after_start : List ℕ) (fault : FormatFault) (rest : List ℕ)
+      → SpellsStart bytes v numrecs after_start → StopsInList v dimension_tag (SpellsDim v) (StopsInDim v) after_start fault rest
       → StopsWith bytes fault rest
-  in_gatts : (v : Version) (numrecs : NumRecs) (dims : List Dim) (behind_dims : List ℕ) (fault : FormatFault) (rest : List ℕ)
-      → SpellsUpToDims bytes v numrecs dims behind_dims → StopsInAtts v behind_dims fault rest
+  in_gatts : (v : Version) (numrecs : NumRecs) (dims : List Dim) (after_dims : List ℕ) (fault : FormatFault) (rest : List ℕ)
+      → SpellsUpToDims bytes v numrecs dims after_dims → StopsInAtts v after_dims fault rest
       → StopsWith bytes fault rest
-  in_vars : (v : Version) (numrecs : NumRecs) (dims : List Dim) (gatts : List Att) (behind_gatts : List ℕ) (fault : FormatFault) (rest : List ℕ)
-      → SpellsUpToGatts bytes v numrecs dims gatts behind_gatts
-      → StopsInList v variable_tag (SpellsVar v dims) (StopsInVar v dims) behind_gatts fault rest
+  in_vars : (v : Version) (numrecs : NumRecs) (dims : List Dim) (gatts : List Att) (after_gatts : List ℕ) (fault : FormatFault) (rest : List ℕ)
+      → SpellsUpToGatts bytes v numrecs dims gatts after_gatts
+      → StopsInList v variable_tag (SpellsVar v dims) (StopsInVar v dims) after_gatts fault rest
       → StopsWith bytes fault rest
 
 -- the same by the offset at which the first wrong field ends

@@ -40,12 +40,12 @@ abbrev pub name_spelling : Version → List ℕ → List ℕ
 name_spelling v name = count_spelling v (length name) ++ zero_padded name
 
 -- what stands before n elements: their tag, and their number; of none ABSENT, whose tag is 0 too
-abbrev pub list_front : Version → ℕ → ℕ → List ℕ
-list_front v tag n = word_spelling (if n == 0 then 0 else tag) ++ count_spelling v n
+abbrev pub list_head : Version → ℕ → ℕ → List ℕ
+list_head v tag n = word_spelling (if n == 0 then 0 else tag) ++ count_spelling v n
 
 -- a list
 abbrev pub list_spelling : {A : Type 0} → Version → ℕ → (A → List ℕ) → List A → List ℕ
-list_spelling v tag spelling xs = list_front v tag (length xs) ++ flat_map spelling xs
+list_spelling v tag spelling xs = list_head v tag (length xs) ++ flat_map spelling xs
 
 unfoldable pub dim_spelling : Version → Dim → List ℕ
 dim_spelling v dim = name_spelling v dim.name ++ count_spelling v dim.len
@@ -80,7 +80,7 @@ header_spelling h =
 
 -- ---- the values
 
--- so many bytes of a variable's fill value
+-- n bytes of a variable's fill value
 unfoldable pub fill_bytes : Var → ℕ → List ℕ
 fill_bytes var n = concat (replicate (n / size_of var.ty) (bytes_of_number var.ty (fill_value var)))
 
@@ -114,7 +114,7 @@ abbrev pub known_records : NumRecs → ℕ
 known_records (Known n) = n
 known_records Streaming = 0
 
--- the values of a header's variables: the blocks, and behind them one record after the other
+-- the values of a header's variables: the blocks, and after them one record after the other
 unfoldable pub data_of : Header → List (List ℕ) → List ℕ
 data_of h arrays =
     blocks h.dims h.vars arrays
@@ -128,20 +128,20 @@ fixed_vars dims vars = filter (λ (var : Var). not (is_record_var dims var)) var
 -- How many bytes stand before the first value of a variable: the header, and the padded slabs that stand before it. Those
 -- are the slabs of the other variables before it, and for a record variable those of all the others and, in the first
 -- record, of the record variables before it.
-abbrev pub begin_behind : Header → List Var → Var → ℕ
-begin_behind h before var =
+abbrev pub begin_after : Header → List Var → Var → ℕ
+begin_after h before var =
     length (header_spelling h)
     + (if is_record_var h.dims var then padded_total h.dims (fixed_vars h.dims h.vars) + padded_total h.dims (record_vars h.dims before)
     else padded_total h.dims (fixed_vars h.dims before))
 
--- these variables, behind those before them, each with its begin
-abbrev pub vars_behind : Header → List Var → List Var → List Var
-vars_behind h before [] = []
-vars_behind h before (var ∷ vars) = record var { begin_at = begin_behind h before var } ∷ vars_behind h (before ++ var ∷ []) vars
+-- these variables, after those before them, each with its begin
+abbrev pub vars_after : Header → List Var → List Var → List Var
+vars_after h before [] = []
+vars_after h before (var ∷ vars) = record var { begin_at = begin_after h before var } ∷ vars_after h (before ++ var ∷ []) vars
 
 -- the header with the begin of each variable
 unfoldable pub with_begins : Header → Header
-with_begins h = record h { vars = vars_behind h [] h.vars }
+with_begins h = record h { vars = vars_after h [] h.vars }
 
 -- each begin fits its field
 abbrev pub Fits : Header → Type 0

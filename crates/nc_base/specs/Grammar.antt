@@ -1,5 +1,5 @@
 -- The grammar of a header, as the NetCDF Classic Format Specification has it: for each of its lines a relation between
--- bytes, the value that stands at their front, and the rest behind it. Padding and vsize may be any.
+-- bytes, the value that stands at their start, and the rest after it. Padding and vsize may be any.
 use Rattle.std.specs.Prelude.{ℕ, ◌≡◌, ◌*◌, ◌^◌, ◌<◌, ◌≤◌, true, false, List, [], ◌∷◌, ◌++◌, length}
 use Rattle.std.specs.Int.{Width, w32, to_be_bytes, byte_len}
 use Rattle.nc_base.specs.declared.header.Att.{Att}
@@ -54,10 +54,10 @@ pub record SpellsPadded (bytes content rest : List ℕ) : Type 0 where
 
 -- name = nelems namestring
 pub record SpellsName (v : Version) (bytes name rest : List ℕ) : Type 0 where
-  pub behind_count : List ℕ
-  pub count : SpellsCount v bytes (length name) behind_count
+  pub after_count : List ℕ
+  pub count : SpellsCount v bytes (length name) after_count
   pub valid : IsName name
-  pub padded : SpellsPadded behind_count name rest
+  pub padded : SpellsPadded after_count name rest
 
 -- nc_type = NC_BYTE | NC_CHAR | .. : one of the types that files of the version may have
 pub record SpellsType (v : Version) (bytes : List ℕ) (ty : NcType) (rest : List ℕ) : Type 0 where
@@ -66,11 +66,11 @@ pub record SpellsType (v : Version) (bytes : List ℕ) (ty : NcType) (rest : Lis
 
 -- ---- lists
 
--- How an element stands at the front of bytes. Which elements may stand there can depend on those before it.
+-- How an element stands at the start of bytes. Which elements may stand there can depend on those before it.
 abbrev pub ElementSpelling : Type 0 → Type 1
 ElementSpelling A = List A → List ℕ → A → List ℕ → Type 0
 
--- [element ...]: one behind the other
+-- [element ...]: one after the other
 abbrev pub SpellsEach : {A : Type 0} → ElementSpelling A → List A → List ℕ → List A → List ℕ → Type 0
 SpellsEach Element before bytes [] rest = bytes ≡ rest
 SpellsEach Element before bytes (x ∷ xs) rest =
@@ -78,50 +78,50 @@ SpellsEach Element before bytes (x ∷ xs) rest =
 
 -- nelems [element ...]
 pub record SpellsCounted {A : Type 0} (v : Version) (Element : ElementSpelling A) (bytes : List ℕ) (xs : List A) (rest : List ℕ) : Type 0 where
-  pub behind_count : List ℕ
-  pub count : SpellsCount v bytes (length xs) behind_count
-  pub each : SpellsEach Element [] behind_count xs rest
+  pub after_count : List ℕ
+  pub count : SpellsCount v bytes (length xs) after_count
+  pub each : SpellsEach Element [] after_count xs rest
 
 -- a list = ABSENT | TAG nelems [element ...]
 pub data SpellsList {A : Type 0} (v : Version) (tag : ℕ) (Element : ElementSpelling A) (bytes : List ℕ) (xs : List A) (rest : List ℕ) : Type 0 where
-  absent : (behind_tag : List ℕ)
-      → SpellsNumber w32 bytes 0 behind_tag → SpellsCount v behind_tag 0 rest → xs ≡ []
+  absent : (after_tag : List ℕ)
+      → SpellsNumber w32 bytes 0 after_tag → SpellsCount v after_tag 0 rest → xs ≡ []
       → SpellsList v tag Element bytes xs rest
-  present : (behind_tag : List ℕ)
-      → SpellsNumber w32 bytes tag behind_tag → SpellsCounted v Element behind_tag xs rest
+  present : (after_tag : List ℕ)
+      → SpellsNumber w32 bytes tag after_tag → SpellsCounted v Element after_tag xs rest
       → SpellsList v tag Element bytes xs rest
 
 -- ---- dimensions and attributes
 
--- dim = name dim_length, behind the dimensions before it: no two are the record dimension
+-- dim = name dim_length, after the dimensions before it: no two are the record dimension
 pub record SpellsDim (v : Version) (before : List Dim) (bytes : List ℕ) (dim : Dim) (rest : List ℕ) : Type 0 where
-  pub behind_name : List ℕ
-  pub name : SpellsName v bytes dim.name behind_name
-  pub len : SpellsCount v behind_name dim.len rest
+  pub after_name : List ℕ
+  pub name : SpellsName v bytes dim.name after_name
+  pub len : SpellsCount v after_name dim.len rest
   pub one_record_dim : dim.len ≡ 0 → has_record_dim before ≡ false
 
 -- attr = name nc_type nelems ..
-pub record SpellsAttFront (v : Version) (bytes name : List ℕ) (ty : NcType) (count : ℕ) (rest : List ℕ) : Type 0 where
-  pub behind_name : List ℕ
-  pub behind_type : List ℕ
-  pub named : SpellsName v bytes name behind_name
-  pub typed : SpellsType v behind_name ty behind_type
-  pub counted : SpellsCount v behind_type count rest
+pub record SpellsAttPrefix (v : Version) (bytes name : List ℕ) (ty : NcType) (count : ℕ) (rest : List ℕ) : Type 0 where
+  pub after_name : List ℕ
+  pub after_type : List ℕ
+  pub named : SpellsName v bytes name after_name
+  pub typed : SpellsType v after_name ty after_type
+  pub counted : SpellsCount v after_type count rest
 
 -- attr = name nc_type nelems [values ...], whatever stands before it
 pub record SpellsAtt (v : Version) (before : List Att) (bytes : List ℕ) (att : Att) (rest : List ℕ) : Type 0 where
   pub count : ℕ
-  pub behind_count : List ℕ
-  pub front : SpellsAttFront v bytes att.name att.ty count behind_count
+  pub after_count : List ℕ
+  pub prefix : SpellsAttPrefix v bytes att.name att.ty count after_count
   pub whole : length att.vals ≡ count * size_of att.ty
-  pub values : SpellsPadded behind_count att.vals rest
+  pub values : SpellsPadded after_count att.vals rest
 
 abbrev pub SpellsAtts : Version → List ℕ → List Att → List ℕ → Type 0
 SpellsAtts v bytes atts rest = SpellsList v attribute_tag (SpellsAtt v) bytes atts rest
 
 -- ---- variables
 
--- dimid, behind those before it
+-- dimid, after those before it
 pub record SpellsDimid (v : Version) (dims : List Dim) (before : List ℕ) (bytes : List ℕ) (id : ℕ) (rest : List ℕ) : Type 0 where
   pub number : SpellsNumber (count_width v) bytes id rest
   pub known : IsDimid dims before id
@@ -132,28 +132,28 @@ pub record IsWithinLimits (dims : List Dim) (before : List Var) (var : Var) : Ty
   pub record_bytes : padded_total dims (record_vars dims (before ++ var ∷ [])) ≤ record_limit
 
 -- var = name nelems [dimid ...] vatt_list ..
-pub record SpellsVarFront (v : Version) (dims : List Dim) (bytes : List ℕ) (var : Var) (rest : List ℕ) : Type 0 where
-  pub behind_name : List ℕ
-  pub behind_shape : List ℕ
-  pub name : SpellsName v bytes var.name behind_name
-  pub shape : SpellsCounted v (SpellsDimid v dims) behind_name var.dimids behind_shape
-  pub atts : SpellsAtts v behind_shape var.atts rest
+pub record SpellsVarPrefix (v : Version) (dims : List Dim) (bytes : List ℕ) (var : Var) (rest : List ℕ) : Type 0 where
+  pub after_name : List ℕ
+  pub after_shape : List ℕ
+  pub name : SpellsName v bytes var.name after_name
+  pub shape : SpellsCounted v (SpellsDimid v dims) after_name var.dimids after_shape
+  pub atts : SpellsAtts v after_shape var.atts rest
 
--- var = name nelems [dimid ...] vatt_list nc_type .., behind the variables before it
+-- var = name nelems [dimid ...] vatt_list nc_type .., after the variables before it
 pub record SpellsTypedVar (v : Version) (dims : List Dim) (before : List Var) (bytes : List ℕ) (var : Var) (rest : List ℕ) : Type 0 where
-  pub behind_atts : List ℕ
-  pub front : SpellsVarFront v dims bytes var behind_atts
-  pub ty : SpellsType v behind_atts var.ty rest
+  pub after_atts : List ℕ
+  pub prefix : SpellsVarPrefix v dims bytes var after_atts
+  pub ty : SpellsType v after_atts var.ty rest
   pub small : IsWithinLimits dims before var
 
 -- var = name nelems [dimid ...] vatt_list nc_type vsize begin
 pub record SpellsVar (v : Version) (dims : List Dim) (before : List Var) (bytes : List ℕ) (var : Var) (rest : List ℕ) : Type 0 where
-  pub behind_type : List ℕ
-  pub behind_vsize : List ℕ
+  pub after_type : List ℕ
+  pub after_vsize : List ℕ
   pub vsize : ℕ
-  pub typed : SpellsTypedVar v dims before bytes var behind_type
-  pub any_vsize : SpellsNumber (count_width v) behind_type vsize behind_vsize
-  pub begin : SpellsOffset v behind_vsize var.begin_at rest
+  pub typed : SpellsTypedVar v dims before bytes var after_type
+  pub any_vsize : SpellsNumber (count_width v) after_type vsize after_vsize
+  pub begin : SpellsOffset v after_vsize var.begin_at rest
 
 -- ---- the whole
 
@@ -168,24 +168,24 @@ SpellsNumRecs v bytes Streaming rest = SpellsNumber (count_width v) bytes (strea
 
 -- header = magic numrecs ..
 pub record SpellsStart (bytes : List ℕ) (v : Version) (numrecs : NumRecs) (rest : List ℕ) : Type 0 where
-  pub behind_magic : List ℕ
-  pub magic : SpellsMagic bytes v behind_magic
-  pub records : SpellsNumRecs v behind_magic numrecs rest
+  pub after_magic : List ℕ
+  pub magic : SpellsMagic bytes v after_magic
+  pub records : SpellsNumRecs v after_magic numrecs rest
 
 -- header = magic numrecs dim_list ..
 pub record SpellsUpToDims (bytes : List ℕ) (v : Version) (numrecs : NumRecs) (dims : List Dim) (rest : List ℕ) : Type 0 where
-  pub behind_start : List ℕ
-  pub start : SpellsStart bytes v numrecs behind_start
-  pub dim_list : SpellsList v dimension_tag (SpellsDim v) behind_start dims rest
+  pub after_start : List ℕ
+  pub start : SpellsStart bytes v numrecs after_start
+  pub dim_list : SpellsList v dimension_tag (SpellsDim v) after_start dims rest
 
 -- header = magic numrecs dim_list gatt_list ..
 pub record SpellsUpToGatts (bytes : List ℕ) (v : Version) (numrecs : NumRecs) (dims : List Dim) (gatts : List Att) (rest : List ℕ) : Type 0 where
-  pub behind_dims : List ℕ
-  pub front : SpellsUpToDims bytes v numrecs dims behind_dims
-  pub gatt_list : SpellsAtts v behind_dims gatts rest
+  pub after_dims : List ℕ
+  pub prefix : SpellsUpToDims bytes v numrecs dims after_dims
+  pub gatt_list : SpellsAtts v after_dims gatts rest
 
 -- header = magic numrecs dim_list gatt_list var_list
 pub record SpellsHeader (bytes : List ℕ) (h : Header) (rest : List ℕ) : Type 0 where
-  pub behind_gatts : List ℕ
-  pub front : SpellsUpToGatts bytes h.version h.numrecs h.dims h.gatts behind_gatts
-  pub var_list : SpellsList h.version variable_tag (SpellsVar h.version h.dims) behind_gatts h.vars rest
+  pub after_gatts : List ℕ
+  pub prefix : SpellsUpToGatts bytes h.version h.numrecs h.dims h.gatts after_gatts
+  pub var_list : SpellsList h.version variable_tag (SpellsVar h.version h.dims) after_gatts h.vars rest

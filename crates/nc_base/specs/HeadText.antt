@@ -54,7 +54,7 @@ number_values ty vals = joined (map (λ (n : ℤ). signed_decimal n ++ number_su
 abbrev pub without_trailing_nuls : List ℕ → List ℕ
 without_trailing_nuls bytes = take (length bytes - suffix_len (λ b. b == 0) bytes) bytes
 
--- the bytes of an attribute's strings: broken behind each line feed that isn't the last byte
+-- the bytes of an attribute's strings: broken after each line feed that isn't the last byte
 abbrev pub broken_text : List ℕ → List ℕ
 broken_text [] = []
 broken_text (b ∷ []) = escaped_in_string b

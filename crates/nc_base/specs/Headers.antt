@@ -19,7 +19,7 @@ use Rattle.nc_base.specs.Sizes.{is_record_dim, is_record_var, slab_size, slab_co
 abbrev pub has_record_dim : List Dim → Bool
 has_record_dim dims = list_any (λ (dim : Dim). dim.len == 0) dims
 
--- a dimension id in a shape, behind those before it: it is that of a dimension, and that of the record dimension stands first
+-- a dimension id in a shape, after those before it: it is that of a dimension, and that of the record dimension stands first
 pub record IsDimid (dims : List Dim) (before : List ℕ) (id : ℕ) : Type 0 where
   pub known : id < length dims
   pub record_first : IsTrue (is_record_dim dims id) → before ≡ []

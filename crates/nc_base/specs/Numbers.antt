@@ -4,7 +4,7 @@ use Rattle.std.specs.Int.{FitsUnsigned, to_be_bytes, from_be_bytes, cast_signed,
 use Rattle.nc_base.specs.declared.nc_type.NcType.{NcType}
 use Rattle.nc_base.specs.Types.{width_of, size_of, is_signed}
 
--- the number that so many bytes are as the type's size
+-- the number that n bytes are as the type's size
 abbrev pub number_of : NcType → List ℕ → ℤ
 number_of ty bytes =
     let magnitude = from_be_bytes (width_of ty) bytes in
@@ -18,7 +18,7 @@ bytes_of_number ty number = to_be_bytes (width_of ty) (cast_unsigned (width_of t
 abbrev pub IsInRange : NcType → ℤ → Type 0
 IsInRange ty number = MatchBool (is_signed ty) (FitsSigned (width_of ty) number) (FitsUnsigned (width_of ty) number)
 
--- the first n numbers that stand in these bytes, one behind the other
+-- the first n numbers that stand in these bytes, one after the other
 abbrev pub numbers_from : NcType → ℕ → List ℕ → List ℤ
 numbers_from ty zero bytes = []
 numbers_from ty (suc n) bytes = number_of ty (take (size_of ty) bytes) ∷ numbers_from ty n (drop (size_of ty) bytes)

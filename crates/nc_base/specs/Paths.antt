@@ -12,11 +12,11 @@ is_dot b = b == 46
 abbrev pub file_name_of : List ℕ → List ℕ
 file_name_of path = after_last is_slash path
 
--- a dot stands behind the first byte
+-- a dot stands after the first byte
 abbrev pub has_extension : List ℕ → Bool
 has_extension name = list_any is_dot (drop 1 name)
 
--- what stands before the last dot of a name, where a dot stands behind its first byte
+-- what stands before the last dot of a name, where a dot stands after its first byte
 abbrev pub without_extension : List ℕ → List ℕ
 without_extension name = if has_extension name then before_last is_dot name else name
 

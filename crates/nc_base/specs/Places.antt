@@ -13,7 +13,7 @@ use Rattle.nc_base.specs.Grammar.{SpellsHeader}
 
 -- ---- index vectors
 
--- the lengths of a variable's dimensions, of which the record dimension, in front, goes over n records
+-- the lengths of a variable's dimensions, of which the record dimension, before, goes over n records
 abbrev pub lens_over : List Dim → Var → ℕ → List ℕ
 lens_over dims var n = if is_record_var dims var then n ∷ slab_lens dims var.dimids else slab_lens dims var.dimids
 
@@ -69,18 +69,18 @@ stored_bytes h bytes var n = map (bytes_at (size_of var.ty) bytes) (value_offset
 abbrev pub stored_values : Header → List ℕ → Var → ℕ → List ℤ
 stored_values h bytes var n = map (number_of var.ty) (stored_bytes h bytes var n)
 
--- the value of this size at an offset ends behind so many bytes
-abbrev pub ends_behind : ℕ → ℕ → ℕ → Bool
-ends_behind size file_len offset = nat_lt file_len (offset + size)
+-- the value of this size at an offset ends after n bytes
+abbrev pub ends_after : ℕ → ℕ → ℕ → Bool
+ends_after size file_len offset = nat_lt file_len (offset + size)
 
 -- the number of the first missing value, where one is missing: a value of which not all bytes lie inside of the file
 abbrev pub first_missing : Header → List ℕ → Var → ℕ → Option ℕ
-first_missing h bytes var n = position (ends_behind (size_of var.ty) (length bytes)) (value_offsets h var n)
+first_missing h bytes var n = position (ends_after (size_of var.ty) (length bytes)) (value_offsets h var n)
 
 -- ---- datasets
 
 -- The bytes of a file hold the dataset: its header is the one that they spell, with the file's number of records and
--- without offsets, no value is missing, and the array of each variable is its stored bytes, one value behind the other.
+-- without offsets, no value is missing, and the array of each variable is its stored bytes, one value after the other.
 pub record HoldsDataset (bytes : List ℕ) (d : Dataset) : Type 0 where
   pub header : Header
   pub rest : List ℕ

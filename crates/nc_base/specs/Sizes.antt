@@ -58,13 +58,13 @@ abbrev pub padded_total : List Dim → List Var → ℕ
 padded_total dims vars = sum (map (padded_size dims) vars)
 
 -- the bytes of a record of these variables: their padded slabs, but for a sole narrow one the slab without padding
-abbrev pub packed_size : List Dim → List Var → ℕ
-packed_size dims (var ∷ []) = if is_narrow var then slab_size dims var else padded_size dims var
-packed_size dims vars = padded_total dims vars
+abbrev pub record_size_of : List Dim → List Var → ℕ
+record_size_of dims (var ∷ []) = if is_narrow var then slab_size dims var else padded_size dims var
+record_size_of dims vars = padded_total dims vars
 
 -- the record size: the bytes from one record of a variable to its next
 abbrev pub record_size : Header → ℕ
-record_size h = packed_size h.dims (record_vars h.dims h.vars)
+record_size h = record_size_of h.dims (record_vars h.dims h.vars)
 
 -- the greatest slab, the greatest array of a dataset, and the greatest record, in bytes
 abbrev pub slab_limit : ℕ
@@ -87,7 +87,7 @@ abbrev pub records_between : ℕ → List Var → ℕ → ℕ
 records_between size [] file_len = 0
 records_between size (var ∷ vars) file_len = (file_len - least_begin var vars) / size
 
--- the number of records of a file of so many bytes
+-- the number of records of a file of n bytes
 abbrev pub record_count : Header → ℕ → ℕ
 record_count h file_len = of_numrecs h.numrecs
   where
@@ -111,7 +111,7 @@ is_fixed_dim dims id = nat_lt id (length dims) && not (is_record_dim dims id)
 abbrev pub slab_of : List Dim → List ℕ → NcType → ℕ
 slab_of dims ids ty = product (slab_lens dims ids) * size_of ty
 
--- the variable has a slab over so many records: one in each record, or one in all
+-- the variable has a slab over n records: one in each record, or one in all
 abbrev pub has_slabs : List Dim → ℕ → Var → Bool
 has_slabs dims records var = nat_lt 0 records || not (is_record_var dims var)
 
@@ -139,7 +139,7 @@ abbrev pub lesser : Option ℕ → ℕ → ℕ
 lesser None begin = begin
 lesser (Some offset) begin = min offset begin
 
--- the first offset behind the last value that a variable has over so many records: its begin, where it has none
+-- the first offset after the last value that a variable has over n records: its begin, where it has none
 abbrev pub end_of : Header → ℕ → Var → ℕ
 end_of h records var =
     if is_record_var h.dims var

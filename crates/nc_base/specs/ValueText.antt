@@ -10,7 +10,7 @@ use Rattle.nc_base.specs.declared.nc_type.NcType.{NcType}
 use Rattle.nc_base.specs.declared.nc_type.NcType.TheVariants.{Char}
 use Rattle.nc_base.specs.Bytes.{text}
 use Rattle.nc_base.specs.Escapes.{escaped_name, escaped_text}
-use Rattle.nc_base.specs.Fill.{fill_value, own_fill, has_blanks}
+use Rattle.nc_base.specs.Fill.{fill_value, own_fill, prints_fill}
 use Rattle.nc_base.specs.Headers.{value_count}
 use Rattle.nc_base.specs.Sizes.{dim_len, is_record_var}
 
@@ -28,7 +28,7 @@ pub record Look : Type 0 where
   pub total : ℕ
   pub fill : ℤ
   -- a value that equals the fill value prints as `_`
-  pub blanks : Bool
+  pub prints_fill : Bool
   -- the NULs at the end of a row of characters aren't printed
   pub trimmed : Bool
   -- the width at which lines of numbers are broken
@@ -47,7 +47,7 @@ row_len dims dimids total =
 abbrev pub is_trimmed : List Dim → Var → Bool
 is_trimmed dims var = int_eq (fill_value var) (pos 0) && not (is_record_var dims var && (length var.dimids == 1))
 
--- the look of a variable over so many records, in lines of this width
+-- the look of a variable over n records, in lines of this width
 unfoldable pub look_of : Header → Var → ℕ → ℕ → Look
 look_of h var records width = record {
   name = var.name;
@@ -56,7 +56,7 @@ look_of h var records width = record {
   row = row_len h.dims var.dimids (value_count h.dims var records);
   total = value_count h.dims var records;
   fill = fill_value var;
-  blanks = has_blanks var.ty (is_some (own_fill var));
+  prints_fill = prints_fill var.ty (is_some (own_fill var));
   trimmed = is_trimmed h.dims var;
   width = width;
 }
@@ -67,13 +67,13 @@ begins_row look i = i % look.row == 0
 
 -- ---- numbers
 
--- how many bytes stand behind the last line feed
+-- how many bytes stand after the last line feed
 abbrev pub column : List ℕ → ℕ
 column before = suffix_len (λ b. not (b == 10)) before
 
 -- a number in decimal, or `_` for a blank
 abbrev pub number_text : Look → ℤ → List ℕ
-number_text look value = if look.blanks && int_eq value look.fill then codes "_" else signed_decimal value
+number_text look value = if look.prints_fill && int_eq value look.fill then codes "_" else signed_decimal value
 
 -- what stands before value i, a number, on its line
 abbrev pub number_lead : Look → ℕ → List ℕ
@@ -85,7 +85,7 @@ number_lead look i =
 abbrev pub ends_row : Look → ℕ → Bool
 ends_row look i = (i + 1) % look.row == 0
 
--- A number of this length, behind so many bytes of its line, would pass the width: with four bytes behind it where another
+-- A number of this length, after n bytes of its line, would pass the width: with four bytes after it where another
 -- number of the row follows, and with two where it is the last. A last number of one or two bytes never does.
 abbrev pub passes : ℕ → ℕ → ℕ → Bool → Bool
 passes width column len is_last =
@@ -111,20 +111,20 @@ char_lead look i = if look.in_rows then (if i == 0 then codes "\n  \"" else code
 abbrev pub is_nul : ℤ → Bool
 is_nul value = unsigned_abs value == 0
 
--- the values that stand in its row before the value behind these
+-- the values that stand in its row before the value after these
 abbrev pub row_so_far : Look → List ℤ → List ℤ
 row_so_far look values = drop (length values - length values % look.row) values
 
--- how many NULs stand in its row directly before the value behind these, and aren't printed yet
+-- how many NULs stand in its row directly before the value after these, and aren't printed yet
 abbrev pub held : Look → List ℤ → ℕ
 held look values = if look.trimmed then suffix_len is_nul (row_so_far look values) else 0
 
--- a character behind so many NULs that aren't printed yet: a NUL waits for what follows where the row is trimmed
+-- a character after n NULs that aren't printed yet: a NUL waits for what follows where the row is trimmed
 abbrev pub char_text : Look → ℕ → ℤ → List ℕ
 char_text look nuls value =
     if look.trimmed && is_nul value then [] else escaped_text (replicate nuls 0 ++ unsigned_abs value ∷ [])
 
--- a character behind these values, with what stands before it
+-- a character after these values, with what stands before it
 unfoldable pub char_piece : Look → List ℤ → ℤ → List ℕ
 char_piece look values value =
     (if begins_row look (length values) then char_lead look (length values) else [])
@@ -148,7 +148,7 @@ pieces look before values (value ∷ others) =
 unfoldable pub opening : Look → List ℕ
 opening look = text (codes "\n " ∷ escaped_name look.name ∷ codes " =" ∷ [])
 
--- what stands behind them
+-- what stands after them
 unfoldable pub closing : Look → List ℕ
 closing look = if is_char look.ty then codes "\" ;\n" else codes " ;\n"
 
@@ -157,17 +157,17 @@ unfoldable pub measured_opening : Look → List ℕ
 measured_opening look = text (codes "\n " ∷ look.name ∷ codes " =" ∷ [])
 
 -- the opening and a variable's first values
-unfoldable pub variable_front : Look → List ℤ → List ℕ
-variable_front look values = opening look ++ pieces look (measured_opening look) [] values
+unfoldable pub variable_prefix : Look → List ℤ → List ℕ
+variable_prefix look values = opening look ++ pieces look (measured_opening look) [] values
 
 -- the same as lines are measured
-unfoldable pub measured_front : Look → List ℤ → List ℕ
-measured_front look values = measured_opening look ++ pieces look (measured_opening look) [] values
+unfoldable pub measured_prefix : Look → List ℤ → List ℕ
+measured_prefix look values = measured_opening look ++ pieces look (measured_opening look) [] values
 
--- the pieces of the values ys behind those of a variable's first values xs
+-- the pieces of the values ys after those of a variable's first values xs
 abbrev pub later_pieces : Look → List ℤ → List ℤ → List ℕ
-later_pieces look xs ys = pieces look (measured_front look xs) xs ys
+later_pieces look xs ys = pieces look (measured_prefix look xs) xs ys
 
 -- a variable's values, from its opening to its closing
 unfoldable pub variable_text : Look → List ℤ → List ℕ
-variable_text look values = variable_front look values ++ closing look
+variable_text look values = variable_prefix look values ++ closing look

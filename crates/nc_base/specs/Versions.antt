@@ -7,7 +7,7 @@ use Rattle.nc_base.specs.declared.nc_type.NcType.TheVariants.{Byte, Char, Short,
 use Rattle.nc_base.specs.declared.version.Version.{Version}
 use Rattle.nc_base.specs.declared.version.Version.TheVariants.{Cdf1, Cdf2, Cdf5}
 
--- the byte behind `CDF`
+-- the byte after `CDF`
 abbrev pub version_byte : Version → ℕ
 version_byte Cdf1 = 1
 version_byte Cdf2 = 2

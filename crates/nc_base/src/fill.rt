@@ -1,7 +1,7 @@
 //! The fill value of a variable.
 
 ghost use Rattle.std.specs.Prelude.{◌≡◌, find, is_some, option_map};
-ghost use Rattle.nc_base.specs.Fill.{fill_value, has_blanks, is_fill_att, is_one_of_type, own_fill};
+ghost use Rattle.nc_base.specs.Fill.{fill_value, prints_fill, is_fill_att, is_one_of_type, own_fill};
 ghost use Rattle.nc_base.specs.Numbers.{IsInRange};
 
 use crate::header::{Att, Var};
@@ -24,8 +24,8 @@ pub fn fill_of(var: &Var) -> i128
 
 /// Says whether a value of the variable that equals its fill value prints as `_`: a character never does, and a number of
 /// one byte only where the variable has a fill value of its own (ncdump(1), on `_FillValue`).
-pub fn has_blanks(var: &Var) -> bool
-    ensures { result ≡ has_blanks var.now.ty (is_some (own_fill var.now)) }
+pub fn prints_fill(var: &Var) -> bool
+    ensures { result ≡ prints_fill var.now.ty (is_some (own_fill var.now)) }
 {
     match var.ty {
         NcType::Char => false,

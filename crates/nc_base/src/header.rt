@@ -20,7 +20,7 @@ pub struct Att {
     pub name: Sequence<u8>,
     /// The type of its values.
     pub ty: NcType,
-    /// The values as the file has them, big-endian and one behind the other, without padding.
+    /// The values as the file has them, big-endian and one after the other, without padding.
     pub vals: Sequence<u8>,
 }
 
@@ -42,7 +42,7 @@ pub struct Var {
 /// The number of records (`numrecs` of the specification).
 #[derive(Clone, Copy, Debug, PartialEq, Eq)]
 pub enum NumRecs {
-    /// So many records.
+    /// This number of records.
     Known(u64),
     /// As many records as the file has room for: `STREAMING`.
     Streaming,

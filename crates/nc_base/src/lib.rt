@@ -23,7 +23,7 @@ mod weights;
 
 pub use dataset::Dataset;
 pub use fault::FormatFault;
-pub use fill::{fill_of, has_blanks};
+pub use fill::{fill_of, prints_fill};
 pub use header::{Att, Dim, Header, NumRecs, Var};
 pub use name::check_name;
 pub use nc_type::NcType;

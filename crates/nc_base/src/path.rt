@@ -3,7 +3,7 @@
 ghost use Rattle.std.specs.Prelude.{◌≡◌};
 ghost use Rattle.nc_base.specs.Paths.{file_name_of, without_extension, stem_of};
 
-/// The part of a path after its last `/`, without its extension, which begins at the last `.` behind the first byte of
+/// The part of a path after its last `/`, without its extension, which begins at the last `.` after the first byte of
 /// that part: the name that a dump gives the dataset of a file (`-n` in ncdump(1)).
 pub fn stem(path: &str) -> &str
     ensures { result.now ≡ stem_of path.now }

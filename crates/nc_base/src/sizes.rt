@@ -41,7 +41,7 @@ pub fn rec_size(header: &Header) -> Option<u64>
         if is_record_var(dims, var) {
             let slab = slab_of(dims, var.dimids.as_slice(), var.ty)?;
             let with_padding = padded + padded_bytes(slab);
-            size = packed_bytes(is_first, var, slab, with_padding);
+            size = record_size_of_bytes(is_first, var, slab, with_padding);
             padded = with_padding;
             is_first = false;
         }
@@ -69,7 +69,7 @@ pub fn records(header: &Header, len: u64) -> u64
     }
 }
 
-/// How many whole records of this size so many bytes have; none where the size isn't known.
+/// How many whole records of this size n bytes have; none where the size isn't known.
 fn whole_records(bytes: u64, size: Option<u64>) -> u64
     ensures { IfSome size (λ size. result ≡ bytes / size) }
 {
@@ -79,8 +79,8 @@ fn whole_records(bytes: u64, size: Option<u64>) -> u64
     }
 }
 
-/// The first offset behind the last value that the variable in place `v` has over so many records: its begin and the
-/// bytes of its slab, and for a record variable one record size more for each record behind the first. A record variable
+/// The first offset after the last value that the variable in place `v` has over n records: its begin and the
+/// bytes of its slab, and for a record variable one record size more for each record after the first. A record variable
 /// has no value over no records, and ends where it begins. In bytes from the file's start, without padding.
 pub fn extent_end(header: &Header, v: usize, records: u64) -> u128
     requires sound { IsSound header.now }
@@ -99,7 +99,7 @@ pub fn extent_end(header: &Header, v: usize, records: u64) -> u128
     }
 }
 
-/// How many values the variable in place `v` has over so many records: a record variable has as many as a slab for each
+/// How many values the variable in place `v` has over n records: a record variable has as many as a slab for each
 /// record, and any other those of its one slab.
 pub fn value_count(header: &Header, v: usize, records: u64) -> u128
     requires sound { IsSound header.now }
@@ -159,7 +159,7 @@ fn lesser(least: Option<u64>, begin: u64) -> u64
 
 /// The size of a record that ends with this variable's slab: the slab alone where the variable is the first and
 /// narrow, and else all slabs with their padding.
-fn packed_bytes(is_first: bool, var: &Var, slab: u64, with_padding: u128) -> u128
+fn record_size_of_bytes(is_first: bool, var: &Var, slab: u64, with_padding: u128) -> u128
     ensures { result ≡ (if is_first && is_narrow var.now then slab else with_padding) }
 {
     if is_first && is_narrow(var) {

@@ -4,7 +4,7 @@ ghost use Rattle.std.specs.Prelude.{◌≡◌};
 
 use crate::nc_type::NcType;
 
-/// A version of the classic format: the byte behind `CDF` at a file's start.
+/// A version of the classic format: the byte after `CDF` at a file's start.
 #[derive(Clone, Copy, Debug, PartialEq, Eq)]
 pub enum Version {
     /// CDF-1, the classic format: all counts and offsets have 32 bits.

@@ -22,7 +22,7 @@ use Rattle.nc_file.proofs.FieldLaws.{code-known, type_of_code-code_of}
 
 -- ---- steps
 
--- a part that reads a value, and what is read behind it
+-- a part that reads a value, and what is read after it
 pub then-ok : {A B : Type 0} {r : Outcome A} (f : A → Part B) {x : A} {rest : List ℕ} {o : Outcome B} → r ≡ Ok (x, rest) → (f x).run rest ≡ o → next r f ≡ o
 then-ok f e h = ap (λ q. next q f) e ∙ h
 
@@ -116,25 +116,25 @@ count-stops-again v bytes fault rest (negative_count n r number high) =
 
 -- ---- bytes
 
--- bytes behind others are read
-bytes-behind : (content front rest : List ℕ) → (bytes_at (length content) front).run (content ++ rest) ≡ Ok (front ++ content, rest)
+-- bytes after others are read
+bytes-after : (content prefix rest : List ℕ) → (bytes_at (length content) prefix).run (content ++ rest) ≡ Ok (prefix ++ content, rest)
 unfolding bytes_at ◌>>=◌ byte_or done
-bytes-behind [] front rest = ap (λ (x : List ℕ). Ok (x, rest)) (sym (append-nil front))
-bytes-behind (b ∷ content) front rest = bytes-behind content (front ++ b ∷ []) rest ∙ ap (λ (x : List ℕ). Ok (x, rest)) (append_assoc front (b ∷ []) content)
+bytes-after [] prefix rest = ap (λ (x : List ℕ). Ok (x, rest)) (sym (append-nil prefix))
+bytes-after (b ∷ content) prefix rest = bytes-after content (prefix ++ b ∷ []) rest ∙ ap (λ (x : List ℕ). Ok (x, rest)) (append_assoc prefix (b ∷ []) content)
 
--- so many bytes are read
+-- n bytes are read
 pub bytes-again : (n : ℕ) (bytes content rest : List ℕ) → length content ≡ n → bytes ≡ content ++ rest → (bytes_at n []).run bytes ≡ Ok (content, rest)
 bytes-again n bytes content rest count spelled =
-    ap (bytes_at n []).run spelled ∙ ap (λ (k : ℕ). (bytes_at k []).run (content ++ rest)) (sym count) ∙ bytes-behind content [] rest
+    ap (bytes_at n []).run spelled ∙ ap (λ (k : ℕ). (bytes_at k []).run (content ++ rest)) (sym count) ∙ bytes-after content [] rest
 
 -- where the file ends in them, reading stops
-pub bytes-stops-again : (n : ℕ) (front bytes : List ℕ) → length bytes < n → (bytes_at n front).run bytes ≡ Err (Format HeaderTruncated, [])
+pub bytes-stops-again : (n : ℕ) (prefix bytes : List ℕ) → length bytes < n → (bytes_at n prefix).run bytes ≡ Err (Format HeaderTruncated, [])
 unfolding bytes_at ◌>>=◌ byte_or
-bytes-stops-again zero front bytes cut = absurd (omega (arith, cut))
-bytes-stops-again (suc n) front [] cut = refl
-bytes-stops-again (suc n) front (b ∷ bytes) cut = bytes-stops-again n (front ++ b ∷ []) bytes (omega (arith, cut))
+bytes-stops-again zero prefix bytes cut = absurd (omega (arith, cut))
+bytes-stops-again (suc n) prefix [] cut = refl
+bytes-stops-again (suc n) prefix (b ∷ bytes) cut = bytes-stops-again n (prefix ++ b ∷ []) bytes (omega (arith, cut))
 
--- so many bytes are skipped
+-- n bytes are skipped
 pub skip-again : (n : ℕ) (content rest : List ℕ) → length content ≡ n → (skip_at n).run (content ++ rest) ≡ Ok (tt, rest)
 unfolding skip_at ◌>>=◌ byte_or done
 skip-again zero [] rest count = refl
@@ -155,8 +155,8 @@ skip-stops-again (suc n) (b ∷ bytes) cut = skip-stops-again n bytes (omega (ar
 pub name-again : (v : Version) (bytes name rest : List ℕ) → SpellsName v bytes name rest → (name_at v).run bytes ≡ Ok (name, rest)
 unfolding name_at ◌>>=◌ done
 name-again v bytes name rest s =
-    then-ok _ (count-again v bytes (length name) s.behind_count s.count)
-    (then-ok _ (bytes-again (length name) s.behind_count name (s.padded.padding ++ rest) refl s.padded.spelled) (if-so _ _ s.valid
+    then-ok _ (count-again v bytes (length name) s.after_count s.count)
+    (then-ok _ (bytes-again (length name) s.after_count name (s.padded.padding ++ rest) refl s.padded.spelled) (if-so _ _ s.valid
     (then-ok _ (skip-again (padding_len (length name)) s.padded.padding rest s.padded.padded) refl)))
 
 -- reading a name stops with its first wrong field

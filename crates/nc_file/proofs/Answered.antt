@@ -14,8 +14,8 @@ use Rattle.nc_file.specs.declared.head_fault.HeadFault.TheVariants.{OutOfMemory,
 use Rattle.nc_file.specs.declared.window.Window.{Window}
 use Rattle.nc_file.specs.Sources.{SourceView}
 use Rattle.nc_file.specs.Reading.{Outcome, Reads, left_over, header_at}
-use Rattle.nc_file.specs.Window.{State, state, left, Kept, Did}
-use Rattle.nc_file.specs.Answers.{EndsAt, header_end, fault_end, HandedUpTo, IsBrokenOff, Answers, HasAnswered}
+use Rattle.nc_file.specs.Window.{State, state, left, Kept, ReadPart}
+use Rattle.nc_file.specs.Answers.{EndsAt, header_end, fault_end, ReadUpTo, IsInterrupted, Answers, HasAnswered}
 use Rattle.nc_file.proofs.Means.{Means, spells, stops}
 use Rattle.nc_file.proofs.HeaderLaws.{means-header}
 
@@ -29,14 +29,14 @@ left-length : (now : State) (bytes : List ℕ) → now.source.bytes ≡ bytes �
 left-length now bytes same = ap (λ (bs : List ℕ). length (drop (now.base + now.pos) bs)) same ∙ length-drop (now.base + now.pos) bytes
 
 -- what is left begins where reading has ended
-ends-at : (told : Bool) (start now : State) → Kept told start now → (length start.source.bytes - length (left now)) + length (left now) ≡ length start.source.bytes
-ends-at told start now kept = omega (arith, left-length now start.source.bytes kept.bytes)
+ends-at : (is_transparent : Bool) (start now : State) → Kept is_transparent start now → (length start.source.bytes - length (left now)) + length (left now) ≡ length start.source.bytes
+ends-at is_transparent start now kept = omega (arith, left-length now start.source.bytes kept.bytes)
 
-handed-up-to : (told : Bool) (start now : State) → start.base ≡ 0 → start.filled ≡ 0 → Kept told start now
-    → HandedUpTo start.source.handed now.source.handed (length start.source.bytes - length (left now)) (length start.buf)
-handed-up-to told start now base filled kept =
+handed-up-to : (is_transparent : Bool) (start now : State) → start.base ≡ 0 → start.filled ≡ 0 → Kept is_transparent start now
+    → ReadUpTo start.source.handed now.source.handed (length start.source.bytes - length (left now)) (length start.buf)
+handed-up-to is_transparent start now base filled kept =
     let within : now.base + now.filled ≤ length start.source.bytes = omega (arith, kept.is_open.within, ap (λ (bs : List ℕ). length bs) kept.bytes) in
-    omega (arith, left-length now start.source.bytes kept.bytes, within, kept.handed, kept.is_open.used, kept.is_open.fits, kept.same_room, base, filled)
+    omega (arith, left-length now start.source.bytes kept.bytes, within, kept.handed, kept.is_open.used, kept.is_open.fits, kept.same_buffer_len, base, filled)
 
 -- what is read from the start, as the grammar says
 read-from-start : (start now : State) (o : Outcome Header) → start.base ≡ 0 → start.pos ≡ 0 → AreBytes start.source.bytes → header_at.run (left start) ≡ o
@@ -50,14 +50,14 @@ read-from-start start now o base pos fits e =
 weighs-no-more : (bytes : List ℕ) (h : Header) (rest : List ℕ) (end : ℕ) → end + length rest ≡ length bytes → SpellsHeader bytes h rest → weight_of h ≤ end
 weighs-no-more bytes h rest end ends s = omega (arith, spelled-weight bytes h rest s)
 
--- where the header ends, or its first wrong field, from how much is left over behind it
+-- where the header ends, or its first wrong field, from how much is left over after it
 ends-of : (bytes : List ℕ) {o : Outcome Header} → Means (SpellsHeader bytes) (StopsWith bytes) o → left_over o ≤ length bytes → EndsAt bytes (length bytes - left_over o)
 unfolding left_over
 ends-of bytes (spells h rest p fits) le = header_end h rest p (omega (arith, le))
 ends-of bytes (stops fault rest q) le = fault_end fault (record { rest = rest; stops = q; ends = omega (arith, le) })
 
 broken-off : (start now : State) → start.base ≡ 0 → start.filled ≡ 0 → start.pos ≡ 0 → Kept true start now → AreBytes start.source.bytes
-    → left_over (header_at.run (left start)) ≤ length (left now) → IsBrokenOff start.source.bytes start.source.handed now.source.handed (length start.buf)
+    → left_over (header_at.run (left start)) ≤ length (left now) → IsInterrupted start.source.bytes start.source.handed now.source.handed (length start.buf)
 broken-off start now base filled pos kept fits reads =
     let bytes = start.source.bytes in
     let at_start : left start ≡ bytes = rw (base, pos) refl in
@@ -67,7 +67,7 @@ broken-off start now base filled pos kept fits reads =
     record {
       end = length bytes - left_over (header_at.run bytes);
       ends = ends-of bytes (means-header bytes fits) shorter;
-      handed = omega (arith, left-length now bytes kept.bytes, few, shorter, within, kept.handed, kept.is_open.used, kept.is_open.fits, kept.same_room, base, filled);
+      handed = omega (arith, left-length now bytes kept.bytes, few, shorter, within, kept.handed, kept.is_open.used, kept.is_open.fits, kept.same_buffer_len, base, filled);
     }
 
 answer : (start now : State) (result : Result Header HeadFault) → start.base ≡ 0 → start.filled ≡ 0 → start.pos ≡ 0 → Kept true start now → AreBytes start.source.bytes
@@ -94,8 +94,8 @@ answer start now (Err (Format fault)) base filled pos kept fits reads =
 answer start now (Err OutOfMemory) base filled pos kept fits reads = broken-off start now base filled pos kept fits reads
 answer start now (Err ReadFailed) base filled pos kept fits reads = broken-off start now base filled pos kept fits reads
 
-pub answered : {S : Type 0} (told : Bool) (seen : S → SourceView) (old new : Window S) (result : Result Header HeadFault) → old.base ≡ 0 → old.filled ≡ 0 → old.pos ≡ 0
-    → OnTrue told (AreBytes (seen old.source.now).bytes) → Did told seen old new header_at result
-    → OnTrue told (HasAnswered (seen old.source.now).bytes (seen old.source.now).handed (seen new.source.now).handed (length old.buf.now) result)
-answered false seen old new result base filled pos fits d = tt
-answered true seen old new result base filled pos fits d = record { answer = answer (state seen old) (state seen new) result base filled pos d.kept fits d.reads }
+pub answered : {S : Type 0} (is_transparent : Bool) (view : S → SourceView) (old new : Window S) (result : Result Header HeadFault) → old.base ≡ 0 → old.filled ≡ 0 → old.pos ≡ 0
+    → OnTrue is_transparent (AreBytes (view old.source.now).bytes) → ReadPart is_transparent view old new header_at result
+    → OnTrue is_transparent (HasAnswered (view old.source.now).bytes (view old.source.now).handed (view new.source.now).handed (length old.buf.now) result)
+answered false view old new result base filled pos fits d = tt
+answered true view old new result base filled pos fits d = record { answer = answer (state view old) (state view new) result base filled pos d.kept fits d.reads }

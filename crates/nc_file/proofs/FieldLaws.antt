@@ -83,43 +83,43 @@ means-count v bytes fits =
 
 -- ---- bytes
 
--- the file ends before so many bytes
+-- the file ends before n bytes
 pub data CutBytes (n : ℕ) (bytes : List ℕ) : FormatFault → List ℕ → Type 0 where
   cut_bytes : length bytes < n → CutBytes n bytes HeaderTruncated []
 
--- so many bytes stand in front
+-- n bytes stand at the start
 pub record Taken (n : ℕ) (bytes content rest : List ℕ) : Type 0 where
   pub count : length content ≡ n
   pub spelled : bytes ≡ content ++ rest
 
--- the same behind those that were read before
-pub record TakenBehind (n : ℕ) (front bytes all rest : List ℕ) : Type 0 where
+-- the same after those that were read before
+pub record TakenAfter (n : ℕ) (prefix bytes all rest : List ℕ) : Type 0 where
   pub content : List ℕ
   pub taken : Taken n bytes content rest
-  pub joined : all ≡ front ++ content
+  pub joined : all ≡ prefix ++ content
 
-behind-cons : (n b : ℕ) (front bytes all rest : List ℕ) → TakenBehind n (front ++ b ∷ []) bytes all rest → TakenBehind (suc n) front (b ∷ bytes) all rest
-behind-cons n b front bytes all rest t = record {
+after-cons : (n b : ℕ) (prefix bytes all rest : List ℕ) → TakenAfter n (prefix ++ b ∷ []) bytes all rest → TakenAfter (suc n) prefix (b ∷ bytes) all rest
+after-cons n b prefix bytes all rest t = record {
   content = b ∷ t.content;
   taken = record { count = ap suc t.taken.count; spelled = ap (λ (x : List ℕ). b ∷ x) t.taken.spelled };
-  joined = t.joined ∙ append_assoc front (b ∷ []) t.content;
+  joined = t.joined ∙ append_assoc prefix (b ∷ []) t.content;
 }
 
 cut-cons : (n b : ℕ) (bytes : List ℕ) (fault : FormatFault) (rest : List ℕ) → CutBytes n bytes fault rest → CutBytes (suc n) (b ∷ bytes) fault rest
 cut-cons n b bytes fault rest (cut_bytes cut) = cut_bytes (omega (arith, cut))
 
-means-bytes_behind : (n : ℕ) (front bytes : List ℕ) → AreBytes bytes → Means (TakenBehind n front bytes) (CutBytes n bytes) ((bytes_at n front).run bytes)
+means-bytes_after : (n : ℕ) (prefix bytes : List ℕ) → AreBytes bytes → Means (TakenAfter n prefix bytes) (CutBytes n bytes) ((bytes_at n prefix).run bytes)
 unfolding bytes_at ◌>>=◌ byte_or done
-means-bytes_behind zero front bytes fits = spells front bytes (record { content = []; taken = record { count = refl; spelled = refl }; joined = sym (append-nil front) }) fits
-means-bytes_behind (suc n) front [] fits = stops _ _ (cut_bytes (omega arith))
-means-bytes_behind (suc n) front (b ∷ bytes) fits =
-    means-map (means-bytes_behind n (front ++ b ∷ []) bytes (AreBytes-tail b bytes fits)) (λ all rest. behind-cons n b front bytes all rest) (cut-cons n b bytes)
+means-bytes_after zero prefix bytes fits = spells prefix bytes (record { content = []; taken = record { count = refl; spelled = refl }; joined = sym (append-nil prefix) }) fits
+means-bytes_after (suc n) prefix [] fits = stops _ _ (cut_bytes (omega arith))
+means-bytes_after (suc n) prefix (b ∷ bytes) fits =
+    means-map (means-bytes_after n (prefix ++ b ∷ []) bytes (AreBytes-tail b bytes fits)) (λ all rest. after-cons n b prefix bytes all rest) (cut-cons n b bytes)
 
 pub means-bytes : (n : ℕ) (bytes : List ℕ) → AreBytes bytes → Means (Taken n bytes) (CutBytes n bytes) ((bytes_at n []).run bytes)
 means-bytes n bytes fits =
-    means-map (means-bytes_behind n [] bytes fits) (λ all rest t. subst (λ (x : List ℕ). Taken n bytes x rest) (sym t.joined) t.taken) (λ fault rest c. c)
+    means-map (means-bytes_after n [] bytes fits) (λ all rest t. subst (λ (x : List ℕ). Taken n bytes x rest) (sym t.joined) t.taken) (λ fault rest c. c)
 
--- so many bytes that may be any stand in front
+-- n bytes that may be any stand at the start
 pub record Skipped (n : ℕ) (bytes rest : List ℕ) : Type 0 where
   pub content : List ℕ
   pub taken : Taken n bytes content rest
@@ -135,14 +135,14 @@ means-skip (suc n) (b ∷ bytes) fits = means-map (means-skip n bytes (AreBytes-
 
 -- ---- bytes with padding, and names
 
-pub padded-at : (n : ℕ) (bytes content behind rest : List ℕ) → Taken n bytes content behind → Skipped (padding_len n) behind rest → SpellsPadded bytes content rest
-padded-at n bytes content behind rest taken skipped = record {
+pub padded-at : (n : ℕ) (bytes content following rest : List ℕ) → Taken n bytes content following → Skipped (padding_len n) following rest → SpellsPadded bytes content rest
+padded-at n bytes content following rest taken skipped = record {
   padding = skipped.content;
   padded = skipped.taken.count ∙ ap padding_len (sym taken.count);
   spelled = taken.spelled ∙ ap (λ (x : List ℕ). content ++ x) skipped.taken.spelled;
 }
 
--- a count behind which so many bytes stand
+-- a count after which n bytes stand
 counted-bytes : (v : Version) (n : ℕ) (bytes body content rest : List ℕ) → SpellsCount v bytes n body → Taken n body content rest → SpellsCount v bytes (length content) (content ++ rest)
 counted-bytes v n bytes body content rest count taken =
     subst (λ (x : List ℕ). SpellsCount v bytes (length content) x) taken.spelled (subst (λ (k : ℕ). SpellsCount v bytes k body) (sym taken.count) count)
@@ -150,17 +150,17 @@ counted-bytes v n bytes body content rest count taken =
 cut-name : (v : Version) (n : ℕ) (bytes body : List ℕ) (fault : FormatFault) (rest : List ℕ) → SpellsCount v bytes n body → CutBytes n body fault rest → StopsInName v bytes fault rest
 cut-name v n bytes body fault rest count (cut_bytes cut) = cut_name n body count cut
 
-cut-name_padding : (v : Version) (bytes name behind : List ℕ) (fault : FormatFault) (rest : List ℕ)
-    → SpellsCount v bytes (length name) (name ++ behind) → IsName name → CutBytes (padding_len (length name)) behind fault rest → StopsInName v bytes fault rest
-cut-name_padding v bytes name behind fault rest count valid (cut_bytes cut) = cut_name_padding name behind count valid cut
+cut-name_padding : (v : Version) (bytes name following : List ℕ) (fault : FormatFault) (rest : List ℕ)
+    → SpellsCount v bytes (length name) (name ++ following) → IsName name → CutBytes (padding_len (length name)) following fault rest → StopsInName v bytes fault rest
+cut-name_padding v bytes name following fault rest count valid (cut_bytes cut) = cut_name_padding name following count valid cut
 
-spelled-name : (v : Version) (n : ℕ) (bytes body name behind rest : List ℕ)
-    → SpellsCount v bytes n body → Taken n body name behind → IsName name → Skipped (padding_len n) behind rest → SpellsName v bytes name rest
-spelled-name v n bytes body name behind rest count taken valid skipped = record {
-  behind_count = body;
+spelled-name : (v : Version) (n : ℕ) (bytes body name following rest : List ℕ)
+    → SpellsCount v bytes n body → Taken n body name following → IsName name → Skipped (padding_len n) following rest → SpellsName v bytes name rest
+spelled-name v n bytes body name following rest count taken valid skipped = record {
+  after_count = body;
   count = subst (λ (k : ℕ). SpellsCount v bytes k body) (sym taken.count) count;
   valid = valid;
-  padded = padded-at n body name behind rest taken skipped;
+  padded = padded-at n body name following rest taken skipped;
 }
 
 pub means-name : (v : Version) (bytes : List ℕ) → AreBytes bytes → Means (SpellsName v bytes) (StopsInName v bytes) ((name_at v).run bytes)
@@ -168,12 +168,12 @@ unfolding name_at ◌>>=◌ done stop
 means-name v bytes fits =
     means-next _ (means-count v bytes fits)
     (λ n body count more. means-next _ (means-bytes n body more)
-    (λ name behind taken more2. means-cond (is_name name) _ _ behind
-    (λ valid. means-next _ (means-skip (padding_len n) behind more2)
-    (λ u rest skipped more3. spells name rest (spelled-name v n bytes body name behind rest count taken valid skipped) more3)
-    (λ fault rest cut. cut-name_padding v bytes name behind fault rest (counted-bytes v n bytes body name behind count taken) valid (subst (λ (k : ℕ). CutBytes (padding_len k) behind fault rest) (sym taken.count) cut))
+    (λ name following taken more2. means-cond (is_name name) _ _ following
+    (λ valid. means-next _ (means-skip (padding_len n) following more2)
+    (λ u rest skipped more3. spells name rest (spelled-name v n bytes body name following rest count taken valid skipped) more3)
+    (λ fault rest cut. cut-name_padding v bytes name following fault rest (counted-bytes v n bytes body name following count taken) valid (subst (λ (k : ℕ). CutBytes (padding_len k) following fault rest) (sym taken.count) cut))
     )
-    (λ invalid. stops _ _ (bad_name name behind (counted-bytes v n bytes body name behind count taken) invalid)))
+    (λ invalid. stops _ _ (bad_name name following (counted-bytes v n bytes body name following count taken) invalid)))
     (λ fault rest. cut-name v n bytes body fault rest count))
     (in_name_len)
 

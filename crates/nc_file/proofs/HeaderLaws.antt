@@ -42,8 +42,8 @@ unfolding version_at ◌>>=◌ byte_or
 means-version bytes [] e fits = stops _ _ (cut_version e)
 means-version bytes (n ∷ rest) e fits = version-means bytes n rest (version_of_byte n) refl e (AreBytes-tail n rest fits)
 
-same-front : (a b c : ℕ) (rest : List ℕ) → (a ≡ 67) × (b ≡ 68) × (c ≡ 70) → a ∷ b ∷ c ∷ rest ≡ 67 ∷ 68 ∷ 70 ∷ rest
-same-front a b c rest h = rw (h.0, h.1, h.2) refl
+same-prefix : (a b c : ℕ) (rest : List ℕ) → (a ≡ 67) × (b ≡ 68) × (c ≡ 70) → a ∷ b ∷ c ∷ rest ≡ 67 ∷ 68 ∷ 70 ∷ rest
+same-prefix a b c rest h = rw (h.0, h.1, h.2) refl
 
 pub means-magic : (bytes : List ℕ) → AreBytes bytes → Means (λ v rest. SpellsMagic bytes v rest) (StopsInMagic bytes) (magic_at.run bytes)
 unfolding magic_at ◌>>=◌ byte_or stop
@@ -52,7 +52,7 @@ means-magic (a ∷ []) fits = stops _ _ (cut_magic (omega arith))
 means-magic (a ∷ b ∷ []) fits = stops _ _ (cut_magic (omega arith))
 means-magic (a ∷ b ∷ c ∷ rest) fits =
     means-cond ((a == 67) && (b == 68) && (c == 70)) _ _ rest
-    (λ is_magic. means-version (a ∷ b ∷ c ∷ rest) rest (same-front a b c rest (three-bytes a b c is_magic)) (λ i. fits (suc (suc (suc i)))))
+    (λ is_magic. means-version (a ∷ b ∷ c ∷ rest) rest (same-prefix a b c rest (three-bytes a b c is_magic)) (λ i. fits (suc (suc (suc i)))))
     (λ is_other. stops _ _ (other_magic a b c rest refl (other-bytes a b c is_other)))
 
 -- ---- the number of records
@@ -77,20 +77,20 @@ pub means-header : (bytes : List ℕ) → AreBytes bytes → Means (SpellsHeader
 unfolding header_at ◌>>=◌ done
 means-header bytes fits =
     means-next _ (means-magic bytes fits)
-    (λ v behind_magic magic more. means-next _ (means-numrecs v behind_magic more)
-    (λ numrecs behind_start records more2.
-    let start : SpellsStart bytes v numrecs behind_start = record { behind_magic = behind_magic; magic = magic; records = records } in
-    means-next _ (means-dims v behind_start more2)
-    (λ dims behind_dims dim_list more3.
-    let up_to_dims : SpellsUpToDims bytes v numrecs dims behind_dims = record { behind_start = behind_start; start = start; dim_list = dim_list } in
-    means-next _ (means-atts v behind_dims more3)
-    (λ gatts behind_gatts gatt_list more4.
-    let up_to_gatts : SpellsUpToGatts bytes v numrecs dims gatts behind_gatts = record { behind_dims = behind_dims; front = up_to_dims; gatt_list = gatt_list } in
-    means-next _ (means-vars v dims behind_gatts more4)
+    (λ v after_magic magic more. means-next _ (means-numrecs v after_magic more)
+    (λ numrecs after_start records more2.
+    let start : SpellsStart bytes v numrecs after_start = record { after_magic = after_magic; magic = magic; records = records } in
+    means-next _ (means-dims v after_start more2)
+    (λ dims after_dims dim_list more3.
+    let up_to_dims : SpellsUpToDims bytes v numrecs dims after_dims = record { after_start = after_start; start = start; dim_list = dim_list } in
+    means-next _ (means-atts v after_dims more3)
+    (λ gatts after_gatts gatt_list more4.
+    let up_to_gatts : SpellsUpToGatts bytes v numrecs dims gatts after_gatts = record { after_dims = after_dims; prefix = up_to_dims; gatt_list = gatt_list } in
+    means-next _ (means-vars v dims after_gatts more4)
     (λ vars rest var_list more5. spells (record { version = v; numrecs = numrecs; dims = dims; gatts = gatts; vars = vars }) rest
-    (record { behind_gatts = behind_gatts; front = up_to_gatts; var_list = var_list }) more5)
-    (λ fault rest. in_vars v numrecs dims gatts behind_gatts fault rest up_to_gatts))
-    (λ fault rest. in_gatts v numrecs dims behind_dims fault rest up_to_dims))
-    (λ fault rest. in_dims v numrecs behind_start fault rest start))
-    (λ fault rest. in_numrecs v behind_magic fault rest magic))
+    (record { after_gatts = after_gatts; prefix = up_to_gatts; var_list = var_list }) more5)
+    (λ fault rest. in_vars v numrecs dims gatts after_gatts fault rest up_to_gatts))
+    (λ fault rest. in_gatts v numrecs dims after_dims fault rest up_to_dims))
+    (λ fault rest. in_dims v numrecs after_start fault rest start))
+    (λ fault rest. in_numrecs v after_magic fault rest magic))
     (in_magic)

@@ -82,35 +82,35 @@ numrecs-stops-again v bytes fault rest (negative_numrecs n r number high not_mar
 pub header-again : (bytes : List ℕ) (h : Header) (rest : List ℕ) → SpellsHeader bytes h rest → header_at.run bytes ≡ Ok (h, rest)
 unfolding header_at ◌>>=◌ done
 header-again bytes h rest s =
-    let to_dims = s.front.front in
+    let to_dims = s.prefix.prefix in
     let start = to_dims.start in
-    then-ok _ (magic-again bytes h.version start.behind_magic start.magic)
-    (then-ok _ (numrecs-again h.version start.behind_magic h.numrecs to_dims.behind_start start.records)
-    (then-ok _ (dims-again h.version to_dims.behind_start h.dims s.front.behind_dims to_dims.dim_list)
-    (then-ok _ (atts-again h.version s.front.behind_dims h.gatts s.behind_gatts s.front.gatt_list)
-    (then-ok _ (vars-again h.version h.dims s.behind_gatts h.vars rest s.var_list) refl))))
+    then-ok _ (magic-again bytes h.version start.after_magic start.magic)
+    (then-ok _ (numrecs-again h.version start.after_magic h.numrecs to_dims.after_start start.records)
+    (then-ok _ (dims-again h.version to_dims.after_start h.dims s.prefix.after_dims to_dims.dim_list)
+    (then-ok _ (atts-again h.version s.prefix.after_dims h.gatts s.after_gatts s.prefix.gatt_list)
+    (then-ok _ (vars-again h.version h.dims s.after_gatts h.vars rest s.var_list) refl))))
 
 -- reading a header stops with its first wrong field
 pub header-stops-again : (bytes : List ℕ) (fault : FormatFault) (rest : List ℕ) → StopsWith bytes fault rest → header_at.run bytes ≡ Err (Format fault, rest)
 unfolding header_at ◌>>=◌
 header-stops-again bytes fault rest (in_magic f r s) = then-err _ (magic-stops-again bytes f r s)
-header-stops-again bytes fault rest (in_numrecs v behind_magic f r magic s) =
-    then-ok _ (magic-again bytes v behind_magic magic) (then-err _ (numrecs-stops-again v behind_magic f r s))
-header-stops-again bytes fault rest (in_dims v numrecs behind_start f r start s) =
-    then-ok _ (magic-again bytes v start.behind_magic start.magic)
-    (then-ok _ (numrecs-again v start.behind_magic numrecs behind_start start.records)
-    (then-err _ (dims-stop-again v behind_start f r s)))
-header-stops-again bytes fault rest (in_gatts v numrecs dims behind_dims f r front s) =
-    let start = front.start in
-    then-ok _ (magic-again bytes v start.behind_magic start.magic)
-    (then-ok _ (numrecs-again v start.behind_magic numrecs front.behind_start start.records)
-    (then-ok _ (dims-again v front.behind_start dims behind_dims front.dim_list)
-    (then-err _ (atts-stop-again v behind_dims f r s))))
-header-stops-again bytes fault rest (in_vars v numrecs dims gatts behind_gatts f r front s) =
-    let to_dims = front.front in
+header-stops-again bytes fault rest (in_numrecs v after_magic f r magic s) =
+    then-ok _ (magic-again bytes v after_magic magic) (then-err _ (numrecs-stops-again v after_magic f r s))
+header-stops-again bytes fault rest (in_dims v numrecs after_start f r start s) =
+    then-ok _ (magic-again bytes v start.after_magic start.magic)
+    (then-ok _ (numrecs-again v start.after_magic numrecs after_start start.records)
+    (then-err _ (dims-stop-again v after_start f r s)))
+header-stops-again bytes fault rest (in_gatts v numrecs dims after_dims f r prefix s) =
+    let start = prefix.start in
+    then-ok _ (magic-again bytes v start.after_magic start.magic)
+    (then-ok _ (numrecs-again v start.after_magic numrecs prefix.after_start start.records)
+    (then-ok _ (dims-again v prefix.after_start dims after_dims prefix.dim_list)
+    (then-err _ (atts-stop-again v after_dims f r s))))
+header-stops-again bytes fault rest (in_vars v numrecs dims gatts after_gatts f r prefix s) =
+    let to_dims = prefix.prefix in
     let start = to_dims.start in
-    then-ok _ (magic-again bytes v start.behind_magic start.magic)
-    (then-ok _ (numrecs-again v start.behind_magic numrecs to_dims.behind_start start.records)
-    (then-ok _ (dims-again v to_dims.behind_start dims front.behind_dims to_dims.dim_list)
-    (then-ok _ (atts-again v front.behind_dims gatts behind_gatts front.gatt_list)
-    (then-err _ (vars-stop-again v dims behind_gatts f r s)))))
+    then-ok _ (magic-again bytes v start.after_magic start.magic)
+    (then-ok _ (numrecs-again v start.after_magic numrecs to_dims.after_start start.records)
+    (then-ok _ (dims-again v to_dims.after_start dims prefix.after_dims to_dims.dim_list)
+    (then-ok _ (atts-again v prefix.after_dims gatts after_gatts prefix.gatt_list)
+    (then-err _ (vars-stop-again v dims after_gatts f r s)))))

@@ -14,7 +14,7 @@ use Rattle.nc_base.specs.declared.version.Version.{Version}
 use Rattle.nc_base.specs.Bytes.{AreBytes, padding_len}
 use Rattle.nc_base.specs.Types.{size_of}
 use Rattle.nc_base.specs.Headers.{has_record_dim}
-use Rattle.nc_base.specs.Grammar.{ElementSpelling, dimension_tag, attribute_tag, SpellsNumber, SpellsCount, SpellsPadded, SpellsEach, SpellsCounted, SpellsList, absent, present, SpellsDim, SpellsAttFront, SpellsAtt, SpellsAtts}
+use Rattle.nc_base.specs.Grammar.{ElementSpelling, dimension_tag, attribute_tag, SpellsNumber, SpellsCount, SpellsPadded, SpellsEach, SpellsCounted, SpellsList, absent, present, SpellsDim, SpellsAttPrefix, SpellsAtt, SpellsAtts}
 use Rattle.nc_base.specs.FirstFault.{ElementStop, StopsInCount, StopsInEach, in_count, in_element, StopsInList, cut_tag, bad_tag, in_absent_count, absent_elements, in_present, StopsInDim, in_dim_name, in_dim_len, second_record_dim, StopsInAtt, in_att_name, in_att_type, in_att_count, cut_values, cut_value_padding, StopsInAtts}
 use Rattle.nc_file.specs.Reading.{Outcome, Part, next, ◌>>=◌, done, stop, list_len_at, padded_at, each_at, dim_at, dims_at, dim_list_at, att_at, atts_at, att_list_at}
 use Rattle.nc_file.proofs.Means.{Means, spells, stops, means-next, means-map, means-cond}
@@ -24,8 +24,8 @@ use Rattle.nc_file.proofs.FieldLaws.{CutNumber, cut_number, CutBytes, cut_bytes,
 
 -- a zero tag and a zero count, or the list's tag and a count
 pub data SpellsListLen (v : Version) (tag : ℕ) (bytes : List ℕ) (n : ℕ) (rest : List ℕ) : Type 0 where
-  absent_len : (behind_tag : List ℕ) → SpellsNumber w32 bytes 0 behind_tag → SpellsCount v behind_tag n rest → n ≡ 0 → SpellsListLen v tag bytes n rest
-  present_len : (behind_tag : List ℕ) → SpellsNumber w32 bytes tag behind_tag → SpellsCount v behind_tag n rest → SpellsListLen v tag bytes n rest
+  absent_len : (after_tag : List ℕ) → SpellsNumber w32 bytes 0 after_tag → SpellsCount v after_tag n rest → n ≡ 0 → SpellsListLen v tag bytes n rest
+  present_len : (after_tag : List ℕ) → SpellsNumber w32 bytes tag after_tag → SpellsCount v after_tag n rest → SpellsListLen v tag bytes n rest
 
 cut-tag : {A : Type 0} (v : Version) (tag : ℕ) (Element : ElementSpelling A) (Stops : ElementStop A) (bytes : List ℕ) (fault : FormatFault) (rest : List ℕ) → CutNumber w32 bytes fault rest → StopsInList v tag Element Stops bytes fault rest
 cut-tag v tag Element Stops bytes fault rest (cut_number cut) = cut_tag cut
@@ -45,39 +45,39 @@ other-tag tag found true b z t e = absurd cc
 other-tag tag found false true z t e = absurd cc
 other-tag tag found false false z t e = (eqb-false _ _ z, eqb-false _ _ t)
 
-in-count : {A : Type 0} (v : Version) (tag found : ℕ) (Element : ElementSpelling A) (Stops : ElementStop A) (bytes behind_tag : List ℕ) (fault : FormatFault) (rest : List ℕ)
-    → IsTag tag found → SpellsNumber w32 bytes found behind_tag → StopsInCount v behind_tag fault rest → StopsInList v tag Element Stops bytes fault rest
-in-count v tag found Element Stops bytes behind_tag fault rest (no_tag is test) number s = in_absent_count behind_tag fault rest (subst (λ (t : ℕ). SpellsNumber w32 bytes t behind_tag) is number) s
-in-count v tag found Element Stops bytes behind_tag fault rest (own_tag is test) number s = in_present behind_tag fault rest (subst (λ (t : ℕ). SpellsNumber w32 bytes t behind_tag) is number) (in_count fault rest s)
+in-count : {A : Type 0} (v : Version) (tag found : ℕ) (Element : ElementSpelling A) (Stops : ElementStop A) (bytes after_tag : List ℕ) (fault : FormatFault) (rest : List ℕ)
+    → IsTag tag found → SpellsNumber w32 bytes found after_tag → StopsInCount v after_tag fault rest → StopsInList v tag Element Stops bytes fault rest
+in-count v tag found Element Stops bytes after_tag fault rest (no_tag is test) number s = in_absent_count after_tag fault rest (subst (λ (t : ℕ). SpellsNumber w32 bytes t after_tag) is number) s
+in-count v tag found Element Stops bytes after_tag fault rest (own_tag is test) number s = in_present after_tag fault rest (subst (λ (t : ℕ). SpellsNumber w32 bytes t after_tag) is number) (in_count fault rest s)
 
--- a count behind a tag: behind no tag it has to be zero
-counted-len : {A : Type 0} (v : Version) (tag found : ℕ) (Element : ElementSpelling A) (Stops : ElementStop A) (bytes behind_tag : List ℕ) (n : ℕ) (rest : List ℕ) (zero_count : Bool)
-    → IsTag tag found → SpellsNumber w32 bytes found behind_tag → SpellsCount v behind_tag n rest → AreBytes rest → (n == 0) ≡ zero_count
+-- a count after a tag: after no tag it has to be zero
+counted-len : {A : Type 0} (v : Version) (tag found : ℕ) (Element : ElementSpelling A) (Stops : ElementStop A) (bytes after_tag : List ℕ) (n : ℕ) (rest : List ℕ) (zero_count : Bool)
+    → IsTag tag found → SpellsNumber w32 bytes found after_tag → SpellsCount v after_tag n rest → AreBytes rest → (n == 0) ≡ zero_count
     → Means (SpellsListLen v tag bytes) (StopsInList v tag Element Stops bytes) ((cond ((found == 0) && not zero_count) (stop (Rattle.nc_file.specs.declared.head_fault.HeadFault.TheVariants.Format BadCount)) (done n)).run rest)
 unfolding done stop
-counted-len v tag found Element Stops bytes behind_tag n rest true (no_tag is test) number count fits zero_test =
-    rw test (spells n rest (absent_len behind_tag (subst (λ (t : ℕ). SpellsNumber w32 bytes t behind_tag) is number) count (eqb-true _ _ zero_test)) fits)
-counted-len v tag found Element Stops bytes behind_tag n rest false (no_tag is test) number count fits zero_test =
-    rw test (stops _ _ (absent_elements behind_tag n rest (subst (λ (t : ℕ). SpellsNumber w32 bytes t behind_tag) is number) count (eqb-false _ _ zero_test)))
-counted-len v tag found Element Stops bytes behind_tag n rest zero_count (own_tag is test) number count fits zero_test =
-    rw test (spells n rest (present_len behind_tag (subst (λ (t : ℕ). SpellsNumber w32 bytes t behind_tag) is number) count) fits)
+counted-len v tag found Element Stops bytes after_tag n rest true (no_tag is test) number count fits zero_test =
+    rw test (spells n rest (absent_len after_tag (subst (λ (t : ℕ). SpellsNumber w32 bytes t after_tag) is number) count (eqb-true _ _ zero_test)) fits)
+counted-len v tag found Element Stops bytes after_tag n rest false (no_tag is test) number count fits zero_test =
+    rw test (stops _ _ (absent_elements after_tag n rest (subst (λ (t : ℕ). SpellsNumber w32 bytes t after_tag) is number) count (eqb-false _ _ zero_test)))
+counted-len v tag found Element Stops bytes after_tag n rest zero_count (own_tag is test) number count fits zero_test =
+    rw test (spells n rest (present_len after_tag (subst (λ (t : ℕ). SpellsNumber w32 bytes t after_tag) is number) count) fits)
 
 pub means-list_len : {A : Type 0} (v : Version) (tag : ℕ) (Element : ElementSpelling A) (Stops : ElementStop A) (bytes : List ℕ) → AreBytes bytes
     → Means (SpellsListLen v tag bytes) (StopsInList v tag Element Stops bytes) ((list_len_at v tag).run bytes)
 unfolding list_len_at ◌>>=◌ stop
 means-list_len v tag Element Stops bytes fits =
     means-next _ (means-u32 bytes fits)
-    (λ found behind_tag number more. means-cond (not (found == 0) && not (found == tag)) _ _ behind_tag
-    (λ other. let h = other-tag tag found _ _ refl refl other in stops _ _ (bad_tag found behind_tag number h.0 h.1))
+    (λ found after_tag number more. means-cond (not (found == 0) && not (found == tag)) _ _ after_tag
+    (λ other. let h = other-tag tag found _ _ refl refl other in stops _ _ (bad_tag found after_tag number h.0 h.1))
     (λ own. let h = is-tag tag found _ _ refl refl own in
-    means-next _ (means-count v behind_tag more)
-    (λ n rest count more2. counted-len v tag found Element Stops bytes behind_tag n rest _ h number count more2 refl)
-    (λ fault rest. in-count v tag found Element Stops bytes behind_tag fault rest h number)))
+    means-next _ (means-count v after_tag more)
+    (λ n rest count more2. counted-len v tag found Element Stops bytes after_tag n rest _ h number count more2 refl)
+    (λ fault rest. in-count v tag found Element Stops bytes after_tag fault rest h number)))
     (cut-tag v tag Element Stops bytes)
 
 -- ---- elements
 
--- so many elements behind others
+-- n elements after others
 pub record SpellsMore {A : Type 0} (Element : ElementSpelling A) (n : ℕ) (before : List A) (bytes : List ℕ) (all : List A) (rest : List ℕ) : Type 0 where
   pub more : List A
   pub joined : all ≡ before ++ more
@@ -112,11 +112,11 @@ means-each Element Stops element reads (suc n) before bytes fits =
     (λ fault rest s. inr (x, middle, h, s)))
     (λ fault rest s. inl s)
 
--- a count and so many elements
+-- a count and n elements
 pub counted : {A : Type 0} (v : Version) (Element : ElementSpelling A) (n : ℕ) (bytes body : List ℕ) (all : List A) (rest : List ℕ)
     → SpellsCount v bytes n body → SpellsMore Element n [] body all rest → SpellsCounted v Element bytes all rest
 counted {A = A} v Element n bytes body all rest count s = record {
-  behind_count = body;
+  after_count = body;
   count = subst (λ (k : ℕ). SpellsCount v bytes k body) (sym s.count ∙ ap (λ (xs : List A). length xs) (sym s.joined)) count;
   each = subst (λ (xs : List A). SpellsEach Element [] body xs rest) (sym s.joined) s.each;
 }
@@ -129,18 +129,18 @@ length-nil (x ∷ xs) e = absurd (omega arith)
 
 spells-list : {A : Type 0} (v : Version) (tag : ℕ) (Element : ElementSpelling A) (n : ℕ) (bytes body : List ℕ) (all : List A) (rest : List ℕ)
     → SpellsListLen v tag bytes n body → SpellsMore Element n [] body all rest → SpellsList v tag Element bytes all rest
-spells-list {A = A} v tag Element n bytes body all rest (absent_len behind_tag number count none) s =
+spells-list {A = A} v tag Element n bytes body all rest (absent_len after_tag number count none) s =
     let empty : s.more ≡ [] = length-nil s.more (s.count ∙ none) in
     let at_end : body ≡ rest = subst (λ (xs : List A). SpellsEach Element [] body xs rest) empty s.each in
-    absent behind_tag number (subst (λ (r : List ℕ). SpellsCount v behind_tag 0 r) at_end (subst (λ (k : ℕ). SpellsCount v behind_tag k body) none count)) (s.joined ∙ empty)
-spells-list v tag Element n bytes body all rest (present_len behind_tag number count) s = present behind_tag number (counted v Element n behind_tag body all rest count s)
+    absent after_tag number (subst (λ (r : List ℕ). SpellsCount v after_tag 0 r) at_end (subst (λ (k : ℕ). SpellsCount v after_tag k body) none count)) (s.joined ∙ empty)
+spells-list v tag Element n bytes body all rest (present_len after_tag number count) s = present after_tag number (counted v Element n after_tag body all rest count s)
 
 stops-list : {A : Type 0} (v : Version) (tag : ℕ) (Element : ElementSpelling A) (Stops : ElementStop A) (n : ℕ) (bytes body : List ℕ) (fault : FormatFault) (rest : List ℕ)
     → SpellsListLen v tag bytes n body → StopsInEach Element Stops n [] body fault rest → StopsInList v tag Element Stops bytes fault rest
-stops-list v tag Element Stops n bytes body fault rest (absent_len behind_tag number count none) s = absurd (subst (λ (k : ℕ). StopsInEach Element Stops k [] body fault rest) none s)
-stops-list v tag Element Stops n bytes body fault rest (present_len behind_tag number count) s = in_present behind_tag fault rest number (in_element n body fault rest count s)
+stops-list v tag Element Stops n bytes body fault rest (absent_len after_tag number count none) s = absurd (subst (λ (k : ℕ). StopsInEach Element Stops k [] body fault rest) none s)
+stops-list v tag Element Stops n bytes body fault rest (present_len after_tag number count) s = in_present after_tag fault rest number (in_element n body fault rest count s)
 
--- how n elements are read, one behind the other
+-- how n elements are read, one after the other
 abbrev pub ReadsElements : {A : Type 0} → ElementSpelling A → ElementStop A → (ℕ → Part (List A)) → Type 0
 ReadsElements Element Stops elements =
     (n : ℕ) (bytes : List ℕ) → AreBytes bytes → Means (SpellsMore Element n [] bytes) (StopsInEach Element Stops n [] bytes) ((elements n).run bytes)
@@ -182,13 +182,13 @@ dim-read : (v : Version) → ReadsElement (SpellsDim v) (StopsInDim v) (λ befor
 unfolding dim_at ◌>>=◌ done stop
 dim-read v before bytes fits =
     means-next _ (means-name v bytes fits)
-    (λ name behind_name named more. means-next _ (means-count v behind_name more)
+    (λ name after_name named more. means-next _ (means-count v after_name more)
     (λ len rest counted more2. means-cond (has_record_dim before && (len == 0)) _ _ rest
     (λ second. let h = and-true (has_record_dim before) (len == 0) second in
-    stops _ _ (second_record_dim name behind_name rest named (subst (λ (n : ℕ). SpellsCount v behind_name n rest) (eqb-true _ _ h.1) counted) h.0))
+    stops _ _ (second_record_dim name after_name rest named (subst (λ (n : ℕ). SpellsCount v after_name n rest) (eqb-true _ _ h.1) counted) h.0))
     (λ single. spells (record { name = name; len = len }) rest
-    (record { behind_name = behind_name; name = named; len = counted; one_record_dim = λ none. and-false (has_record_dim before) (len == 0) single (eq-eqb len 0 none) }) more2))
-    (λ fault rest. in_dim_len name behind_name fault rest named))
+    (record { after_name = after_name; name = named; len = counted; one_record_dim = λ none. and-false (has_record_dim before) (len == 0) single (eq-eqb len 0 none) }) more2))
+    (λ fault rest. in_dim_len name after_name fault rest named))
     (in_dim_name)
 
 has_record_dim-append : (dims : List Dim) (d : Dim) → has_record_dim (dims ++ d ∷ []) ≡ (has_record_dim dims || (d.len == 0))
@@ -201,7 +201,7 @@ unfolding dims_at each_at ◌>>=◌
 dims_at-each v zero before bytes = refl
 dims_at-each v (suc n) before bytes =
     next-cong ((dim_at v (has_record_dim before)).run bytes) _ _
-    (λ d rest. ap (λ (seen : Bool). (dims_at v n seen (before ++ d ∷ [])).run rest) (sym (has_record_dim-append before d)) ∙ dims_at-each v n (before ++ d ∷ []) rest)
+    (λ d rest. ap (λ (view : Bool). (dims_at v n view (before ++ d ∷ [])).run rest) (sym (has_record_dim-append before d)) ∙ dims_at-each v n (before ++ d ∷ []) rest)
 
 pub means-dims : (v : Version) (bytes : List ℕ) → AreBytes bytes
     → Means (SpellsList v dimension_tag (SpellsDim v) bytes) (StopsInList v dimension_tag (SpellsDim v) (StopsInDim v) bytes) ((dim_list_at v).run bytes)
@@ -212,12 +212,12 @@ means-dims v bytes fits =
 
 -- ---- attributes
 
--- the file ends in so many bytes or in their padding
+-- the file ends in n bytes or in their padding
 pub data CutPadded (n : ℕ) (bytes : List ℕ) : FormatFault → List ℕ → Type 0 where
   cut_content : length bytes < n → CutPadded n bytes HeaderTruncated []
-  cut_padding : (content behind : List ℕ) → Taken n bytes content behind → length behind < padding_len n → CutPadded n bytes HeaderTruncated []
+  cut_padding : (content following : List ℕ) → Taken n bytes content following → length following < padding_len n → CutPadded n bytes HeaderTruncated []
 
--- so many bytes and their padding
+-- n bytes and their padding
 pub record PaddedBytes (n : ℕ) (bytes content rest : List ℕ) : Type 0 where
   pub count : length content ≡ n
   pub padded : SpellsPadded bytes content rest
@@ -225,39 +225,39 @@ pub record PaddedBytes (n : ℕ) (bytes content rest : List ℕ) : Type 0 where
 cut-content : (n : ℕ) (bytes : List ℕ) (fault : FormatFault) (rest : List ℕ) → CutBytes n bytes fault rest → CutPadded n bytes fault rest
 cut-content n bytes fault rest (cut_bytes cut) = cut_content cut
 
-cut-padding : (n : ℕ) (bytes content behind : List ℕ) (fault : FormatFault) (rest : List ℕ) → Taken n bytes content behind → CutBytes (padding_len n) behind fault rest → CutPadded n bytes fault rest
-cut-padding n bytes content behind fault rest taken (cut_bytes cut) = cut_padding content behind taken cut
+cut-padding : (n : ℕ) (bytes content following : List ℕ) (fault : FormatFault) (rest : List ℕ) → Taken n bytes content following → CutBytes (padding_len n) following fault rest → CutPadded n bytes fault rest
+cut-padding n bytes content following fault rest taken (cut_bytes cut) = cut_padding content following taken cut
 
 pub means-padded : (n : ℕ) (bytes : List ℕ) → AreBytes bytes → Means (PaddedBytes n bytes) (CutPadded n bytes) ((padded_at n).run bytes)
 unfolding padded_at ◌>>=◌ done
 means-padded n bytes fits =
     means-next _ (means-bytes n bytes fits)
-    (λ content behind taken more. means-next _ (means-skip (padding_len n) behind more)
-    (λ u rest skipped more2. spells content rest (record { count = taken.count; padded = padded-at n bytes content behind rest taken skipped }) more2)
-    (λ fault rest. cut-padding n bytes content behind fault rest taken))
+    (λ content following taken more. means-next _ (means-skip (padding_len n) following more)
+    (λ u rest skipped more2. spells content rest (record { count = taken.count; padded = padded-at n bytes content following rest taken skipped }) more2)
+    (λ fault rest. cut-padding n bytes content following fault rest taken))
     (cut-content n bytes)
 
 cut-values : (v : Version) (before : List Att) (bytes name body : List ℕ) (ty : NcType) (n : ℕ) (fault : FormatFault) (rest : List ℕ)
-    → SpellsAttFront v bytes name ty n body → CutPadded (n * size_of ty) body fault rest → StopsInAtt v before bytes fault rest
-cut-values v before bytes name body ty n fault rest front (cut_content cut) = cut_values name body ty n front cut
-cut-values v before bytes name body ty n fault rest front (cut_padding content behind taken cut) =
-    cut_value_padding name content behind ty n (subst (λ (x : List ℕ). SpellsAttFront v bytes name ty n x) taken.spelled front) taken.count
-    (subst (λ (k : ℕ). length behind < padding_len k) (sym taken.count) cut)
+    → SpellsAttPrefix v bytes name ty n body → CutPadded (n * size_of ty) body fault rest → StopsInAtt v before bytes fault rest
+cut-values v before bytes name body ty n fault rest prefix (cut_content cut) = cut_values name body ty n prefix cut
+cut-values v before bytes name body ty n fault rest prefix (cut_padding content following taken cut) =
+    cut_value_padding name content following ty n (subst (λ (x : List ℕ). SpellsAttPrefix v bytes name ty n x) taken.spelled prefix) taken.count
+    (subst (λ (k : ℕ). length following < padding_len k) (sym taken.count) cut)
 
 att-read : (v : Version) → ReadsElement (SpellsAtt v) (StopsInAtt v) (λ before. att_at v)
 unfolding att_at ◌>>=◌ done
 att-read v before bytes fits =
     means-next _ (means-name v bytes fits)
-    (λ name behind_name named more. means-next _ (means-type v behind_name more)
-    (λ ty behind_type typed more2. means-next _ (means-count v behind_type more2)
+    (λ name after_name named more. means-next _ (means-type v after_name more)
+    (λ ty after_type typed more2. means-next _ (means-count v after_type more2)
     (λ n body counted more3.
-    let front : SpellsAttFront v bytes name ty n body = record { behind_name = behind_name; behind_type = behind_type; named = named; typed = typed; counted = counted } in
+    let prefix : SpellsAttPrefix v bytes name ty n body = record { after_name = after_name; after_type = after_type; named = named; typed = typed; counted = counted } in
     means-next _ (means-padded (n * size_of ty) body more3)
     (λ vals rest p more4. spells (record { name = name; ty = ty; vals = vals }) rest
-    (record { count = n; behind_count = body; front = front; whole = p.count; values = p.padded }) more4)
-    (λ fault rest. cut-values v before bytes name body ty n fault rest front))
-    (λ fault rest. in_att_count name behind_name behind_type ty fault rest named typed))
-    (λ fault rest. in_att_type name behind_name fault rest named))
+    (record { count = n; after_count = body; prefix = prefix; whole = p.count; values = p.padded }) more4)
+    (λ fault rest. cut-values v before bytes name body ty n fault rest prefix))
+    (λ fault rest. in_att_count name after_name after_type ty fault rest named typed))
+    (λ fault rest. in_att_type name after_name fault rest named))
     (in_att_name)
 
 pub means-atts : (v : Version) (bytes : List ℕ) → AreBytes bytes

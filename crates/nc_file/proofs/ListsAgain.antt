@@ -34,28 +34,28 @@ own-tag tag false = rw (eq-eqb tag tag refl) refl
 wrong-tag : (tag found : ℕ) → found ≢ 0 → found ≢ tag → (not (found == 0) && not (found == tag)) ≡ true
 wrong-tag tag found not_zero not_own = rw (other-test found 0 not_zero, other-test found tag not_own) refl
 
--- behind a tag any count may stand
+-- after a tag any count may stand
 any-count : (tag : ℕ) (b : Bool) → IsListTag tag → ((tag == 0) && b) ≡ false
 any-count tag b is = rw is refl
 
 -- a spelled tag and count are read
 pub list_len-again : (v : Version) (tag : ℕ) (bytes : List ℕ) (n : ℕ) (rest : List ℕ) → IsListTag tag → SpellsListLen v tag bytes n rest → (list_len_at v tag).run bytes ≡ Ok (n, rest)
 unfolding list_len_at ◌>>=◌ done
-list_len-again v tag bytes n rest is (absent_len behind_tag number count none) =
-    then-ok _ (u32-again bytes 0 behind_tag number)
-    (then-ok _ (count-again v behind_tag n rest count) (if-not _ _ (ap not (eq-eqb n 0 none)) refl))
-list_len-again v tag bytes n rest is (present_len behind_tag number count) =
-    then-ok _ (u32-again bytes tag behind_tag number)
+list_len-again v tag bytes n rest is (absent_len after_tag number count none) =
+    then-ok _ (u32-again bytes 0 after_tag number)
+    (then-ok _ (count-again v after_tag n rest count) (if-not _ _ (ap not (eq-eqb n 0 none)) refl))
+list_len-again v tag bytes n rest is (present_len after_tag number count) =
+    then-ok _ (u32-again bytes tag after_tag number)
     (if-not _ _ (own-tag tag (tag == 0))
-    (then-ok _ (count-again v behind_tag n rest count) (if-not _ _ (any-count tag (not (n == 0)) is) refl)))
+    (then-ok _ (count-again v after_tag n rest count) (if-not _ _ (any-count tag (not (n == 0)) is) refl)))
 
--- the count behind a list's own tag is wrong
-present-count-stops : (v : Version) (tag : ℕ) (bytes behind_tag : List ℕ) (fault : FormatFault) (rest : List ℕ)
-    → SpellsNumber w32 bytes tag behind_tag → StopsInCount v behind_tag fault rest → (list_len_at v tag).run bytes ≡ Err (Format fault, rest)
+-- the count after a list's own tag is wrong
+present-count-stops : (v : Version) (tag : ℕ) (bytes after_tag : List ℕ) (fault : FormatFault) (rest : List ℕ)
+    → SpellsNumber w32 bytes tag after_tag → StopsInCount v after_tag fault rest → (list_len_at v tag).run bytes ≡ Err (Format fault, rest)
 unfolding list_len_at ◌>>=◌
-present-count-stops v tag bytes behind_tag fault rest number s =
-    then-ok _ (u32-again bytes tag behind_tag number)
-    (if-not _ _ (own-tag tag (tag == 0)) (then-err _ (count-stops-again v behind_tag fault rest s)))
+present-count-stops v tag bytes after_tag fault rest number s =
+    then-ok _ (u32-again bytes tag after_tag number)
+    (if-not _ _ (own-tag tag (tag == 0)) (then-err _ (count-stops-again v after_tag fault rest s)))
 
 -- ---- elements
 
@@ -69,7 +69,7 @@ abbrev pub ElementStopsAgain : {A : Type 0} → ElementStop A → (List A → Pa
 ElementStopsAgain {A = A} Stops element =
     (before : List A) (bytes : List ℕ) (fault : FormatFault) (rest : List ℕ) → Stops before bytes fault rest → (element before).run bytes ≡ Err (Format fault, rest)
 
--- elements that are spelled behind others are read
+-- elements that are spelled after others are read
 pub each-again : {A : Type 0} (Element : ElementSpelling A) (element : List A → Part A) → ElementAgain Element element
     → (xs before : List A) (bytes rest : List ℕ) → SpellsEach Element before bytes xs rest
     → (each_at element (length xs) before).run bytes ≡ Ok (before ++ xs, rest)
@@ -79,7 +79,7 @@ each-again {A = A} Element element again (x ∷ xs) before bytes rest s =
     then-ok _ (again before bytes x s.0 s.1)
     (each-again Element element again xs (before ++ x ∷ []) s.0 rest s.2 ∙ ap (λ (ys : List A). Ok (ys, rest)) (append_assoc before (x ∷ []) xs))
 
--- reading elements behind others stops with the first wrong field of all
+-- reading elements after others stops with the first wrong field of all
 pub each-stops-again : {A : Type 0} (Element : ElementSpelling A) (Stops : ElementStop A) (element : List A → Part A)
     → ElementAgain Element element → ElementStopsAgain Stops element
     → (n : ℕ) (before : List A) (bytes : List ℕ) (fault : FormatFault) (rest : List ℕ) → StopsInEach Element Stops n before bytes fault rest
@@ -93,7 +93,7 @@ each-stops-again Element Stops element again stops_again (suc n) before bytes fa
 
 -- ---- lists
 
--- elements that are spelled one behind the other are read
+-- elements that are spelled one after the other are read
 abbrev pub ElementsAgain : {A : Type 0} → ElementSpelling A → (ℕ → Part (List A)) → Type 0
 ElementsAgain {A = A} Element elements =
     (xs : List A) (bytes rest : List ℕ) → SpellsEach Element [] bytes xs rest → (elements (length xs)).run bytes ≡ Ok (xs, rest)
@@ -108,29 +108,29 @@ pub list-again : {A : Type 0} (v : Version) (tag : ℕ) (Element : ElementSpelli
     → IsListTag tag → ElementsAgain Element elements
     → (bytes : List ℕ) (xs : List A) (rest : List ℕ) → SpellsList v tag Element bytes xs rest
     → next ((list_len_at v tag).run bytes) elements ≡ Ok (xs, rest)
-list-again {A = A} v tag Element elements is again bytes xs rest (absent behind_tag number count none) =
-    then-ok _ (list_len-again v tag bytes 0 rest is (absent_len behind_tag number count refl))
+list-again {A = A} v tag Element elements is again bytes xs rest (absent after_tag number count none) =
+    then-ok _ (list_len-again v tag bytes 0 rest is (absent_len after_tag number count refl))
     (again [] rest rest refl ∙ ap (λ (ys : List A). Ok (ys, rest)) (sym none))
-list-again v tag Element elements is again bytes xs rest (present behind_tag number counted) =
-    then-ok _ (list_len-again v tag bytes (length xs) counted.behind_count is (present_len behind_tag number counted.count))
-    (again xs counted.behind_count rest counted.each)
+list-again v tag Element elements is again bytes xs rest (present after_tag number counted) =
+    then-ok _ (list_len-again v tag bytes (length xs) counted.after_count is (present_len after_tag number counted.count))
+    (again xs counted.after_count rest counted.each)
 
--- reading a list stops in what stands behind its own tag
+-- reading a list stops in what stands after its own tag
 present-stops : {A : Type 0} (v : Version) (tag : ℕ) (Element : ElementSpelling A) (Stops : ElementStop A) (elements : ℕ → Part (List A))
     → IsListTag tag → ElementsStopAgain Element Stops elements
-    → (bytes behind_tag : List ℕ) (fault : FormatFault) (rest : List ℕ) → SpellsNumber w32 bytes tag behind_tag → StopsInCounted v Element Stops behind_tag fault rest
+    → (bytes after_tag : List ℕ) (fault : FormatFault) (rest : List ℕ) → SpellsNumber w32 bytes tag after_tag → StopsInCounted v Element Stops after_tag fault rest
     → next ((list_len_at v tag).run bytes) elements ≡ Err (Format fault, rest)
-present-stops v tag Element Stops elements is stop_again bytes behind_tag fault rest number (in_count f r s) =
-    then-err _ (present-count-stops v tag bytes behind_tag f r number s)
-present-stops v tag Element Stops elements is stop_again bytes behind_tag fault rest number (in_element n body f r count s) =
-    then-ok _ (list_len-again v tag bytes n body is (present_len behind_tag number count)) (stop_again n body f r s)
+present-stops v tag Element Stops elements is stop_again bytes after_tag fault rest number (in_count f r s) =
+    then-err _ (present-count-stops v tag bytes after_tag f r number s)
+present-stops v tag Element Stops elements is stop_again bytes after_tag fault rest number (in_element n body f r count s) =
+    then-ok _ (list_len-again v tag bytes n body is (present_len after_tag number count)) (stop_again n body f r s)
 
 -- reading the tag and the count stops
-len-stops : (v : Version) (tag : ℕ) (bytes behind_tag : List ℕ) (fault : FormatFault) (rest : List ℕ)
-    → SpellsNumber w32 bytes 0 behind_tag → StopsInCount v behind_tag fault rest → (list_len_at v tag).run bytes ≡ Err (Format fault, rest)
+len-stops : (v : Version) (tag : ℕ) (bytes after_tag : List ℕ) (fault : FormatFault) (rest : List ℕ)
+    → SpellsNumber w32 bytes 0 after_tag → StopsInCount v after_tag fault rest → (list_len_at v tag).run bytes ≡ Err (Format fault, rest)
 unfolding list_len_at ◌>>=◌
-len-stops v tag bytes behind_tag fault rest number s =
-    then-ok _ (u32-again bytes 0 behind_tag number) (then-err _ (count-stops-again v behind_tag fault rest s))
+len-stops v tag bytes after_tag fault rest number s =
+    then-ok _ (u32-again bytes 0 after_tag number) (then-err _ (count-stops-again v after_tag fault rest s))
 
 -- where the file ends in the tag, reading stops
 cut-tag-stops : (v : Version) (tag : ℕ) (bytes : List ℕ) → length bytes < 4 → (list_len_at v tag).run bytes ≡ Err (Format HeaderTruncated, [])
@@ -144,13 +144,13 @@ unfolding list_len_at ◌>>=◌ stop
 bad-tag-stops v tag found bytes rest number not_zero not_own =
     then-ok _ (u32-again bytes found rest number) (if-so _ _ (wrong-tag tag found not_zero not_own) refl)
 
--- reading stops at a count behind a zero tag
-absent-elements-stop : (v : Version) (tag n : ℕ) (bytes behind_tag rest : List ℕ) → SpellsNumber w32 bytes 0 behind_tag → SpellsCount v behind_tag n rest → n ≢ 0
+-- reading stops at a count after a zero tag
+absent-elements-stop : (v : Version) (tag n : ℕ) (bytes after_tag rest : List ℕ) → SpellsNumber w32 bytes 0 after_tag → SpellsCount v after_tag n rest → n ≢ 0
     → (list_len_at v tag).run bytes ≡ Err (Format BadCount, rest)
 unfolding list_len_at ◌>>=◌ stop
-absent-elements-stop v tag n bytes behind_tag rest number count some =
-    then-ok _ (u32-again bytes 0 behind_tag number)
-    (then-ok _ (count-again v behind_tag n rest count) (if-so _ _ (ap not (other-test n 0 some)) refl))
+absent-elements-stop v tag n bytes after_tag rest number count some =
+    then-ok _ (u32-again bytes 0 after_tag number)
+    (then-ok _ (count-again v after_tag n rest count) (if-so _ _ (ap not (other-test n 0 some)) refl))
 
 -- reading a list stops with its first wrong field
 pub list-stops-again : {A : Type 0} (v : Version) (tag : ℕ) (Element : ElementSpelling A) (Stops : ElementStop A) (elements : ℕ → Part (List A))
@@ -160,12 +160,12 @@ pub list-stops-again : {A : Type 0} (v : Version) (tag : ℕ) (Element : Element
 list-stops-again v tag Element Stops elements is stop_again bytes fault rest (cut_tag cut) = then-err _ (cut-tag-stops v tag bytes cut)
 list-stops-again v tag Element Stops elements is stop_again bytes fault rest (bad_tag found r number not_zero not_own) =
     then-err _ (bad-tag-stops v tag found bytes r number not_zero not_own)
-list-stops-again v tag Element Stops elements is stop_again bytes fault rest (in_absent_count behind_tag f r number s) =
-    then-err _ (len-stops v tag bytes behind_tag f r number s)
-list-stops-again v tag Element Stops elements is stop_again bytes fault rest (absent_elements behind_tag n r number count some) =
-    then-err _ (absent-elements-stop v tag n bytes behind_tag r number count some)
-list-stops-again v tag Element Stops elements is stop_again bytes fault rest (in_present behind_tag f r number s) =
-    present-stops v tag Element Stops elements is stop_again bytes behind_tag f r number s
+list-stops-again v tag Element Stops elements is stop_again bytes fault rest (in_absent_count after_tag f r number s) =
+    then-err _ (len-stops v tag bytes after_tag f r number s)
+list-stops-again v tag Element Stops elements is stop_again bytes fault rest (absent_elements after_tag n r number count some) =
+    then-err _ (absent-elements-stop v tag n bytes after_tag r number count some)
+list-stops-again v tag Element Stops elements is stop_again bytes fault rest (in_present after_tag f r number s) =
+    present-stops v tag Element Stops elements is stop_again bytes after_tag f r number s
 
 -- ---- dimensions
 
@@ -179,19 +179,19 @@ single-test false b h = refl
 pub dim-again : (v : Version) → ElementAgain (SpellsDim v) (λ before. dim_at v (has_record_dim before))
 unfolding dim_at ◌>>=◌ done
 dim-again v before bytes dim rest s =
-    then-ok _ (name-again v bytes dim.name s.behind_name s.name)
-    (then-ok _ (count-again v s.behind_name dim.len rest s.len)
+    then-ok _ (name-again v bytes dim.name s.after_name s.name)
+    (then-ok _ (count-again v s.after_name dim.len rest s.len)
     (if-not _ _ (single-test (has_record_dim before) (dim.len == 0) (λ none. s.one_record_dim (eqb-true _ _ none))) refl))
 
 -- reading a dimension stops with its first wrong field
 pub dim-stops-again : (v : Version) → ElementStopsAgain (StopsInDim v) (λ before. dim_at v (has_record_dim before))
 unfolding dim_at ◌>>=◌ stop
 dim-stops-again v before bytes fault rest (in_dim_name f r s) = then-err _ (name-stops-again v bytes f r s)
-dim-stops-again v before bytes fault rest (in_dim_len name behind_name f r named s) =
-    then-ok _ (name-again v bytes name behind_name named) (then-err _ (count-stops-again v behind_name f r s))
-dim-stops-again v before bytes fault rest (second_record_dim name behind_name r named count seen) =
-    then-ok _ (name-again v bytes name behind_name named)
-    (then-ok _ (count-again v behind_name 0 r count) (if-so _ _ (ap (λ (b : Bool). b && true) seen) refl))
+dim-stops-again v before bytes fault rest (in_dim_len name after_name f r named s) =
+    then-ok _ (name-again v bytes name after_name named) (then-err _ (count-stops-again v after_name f r s))
+dim-stops-again v before bytes fault rest (second_record_dim name after_name r named count view) =
+    then-ok _ (name-again v bytes name after_name named)
+    (then-ok _ (count-again v after_name 0 r count) (if-so _ _ (ap (λ (b : Bool). b && true) view) refl))
 
 -- a spelled list of dimensions is read
 pub dims-again : (v : Version) (bytes : List ℕ) (dims : List Dim) (rest : List ℕ) → SpellsList v dimension_tag (SpellsDim v) bytes dims rest → (dim_list_at v).run bytes ≡ Ok (dims, rest)
@@ -211,14 +211,14 @@ dims-stop-again v bytes fault rest s =
 
 -- ---- attributes
 
--- so many bytes and their padding are read
+-- n bytes and their padding are read
 pub padded-again : (n : ℕ) (bytes content rest : List ℕ) → length content ≡ n → SpellsPadded bytes content rest → (padded_at n).run bytes ≡ Ok (content, rest)
 unfolding padded_at ◌>>=◌ done
 padded-again n bytes content rest count s =
     then-ok _ (bytes-again n bytes content (s.padding ++ rest) count s.spelled)
     (then-ok _ (skip-again (padding_len n) s.padding rest (s.padded ∙ ap padding_len count)) refl)
 
--- the file ends in so many bytes
+-- the file ends in n bytes
 pub content-stops-again : (n : ℕ) (bytes : List ℕ) → length bytes < n → (padded_at n).run bytes ≡ Err (Format HeaderTruncated, [])
 unfolding padded_at ◌>>=◌
 content-stops-again n bytes cut = then-err _ (bytes-stops-again n [] bytes cut)
@@ -234,28 +234,28 @@ padding-stops-again n content rest count cut =
 pub att-again : (v : Version) → ElementAgain (SpellsAtt v) (λ before. att_at v)
 unfolding att_at ◌>>=◌ done
 att-again v before bytes att rest s =
-    then-ok _ (name-again v bytes att.name s.front.behind_name s.front.named)
-    (then-ok _ (type-again v s.front.behind_name att.ty s.front.behind_type s.front.typed)
-    (then-ok _ (count-again v s.front.behind_type s.count s.behind_count s.front.counted)
-    (then-ok _ (padded-again (s.count * size_of att.ty) s.behind_count att.vals rest s.whole s.values) refl)))
+    then-ok _ (name-again v bytes att.name s.prefix.after_name s.prefix.named)
+    (then-ok _ (type-again v s.prefix.after_name att.ty s.prefix.after_type s.prefix.typed)
+    (then-ok _ (count-again v s.prefix.after_type s.count s.after_count s.prefix.counted)
+    (then-ok _ (padded-again (s.count * size_of att.ty) s.after_count att.vals rest s.whole s.values) refl)))
 
 -- reading an attribute stops with its first wrong field
 pub att-stops-again : (v : Version) → ElementStopsAgain (StopsInAtt v) (λ before. att_at v)
 unfolding att_at ◌>>=◌
 att-stops-again v before bytes fault rest (in_att_name f r s) = then-err _ (name-stops-again v bytes f r s)
-att-stops-again v before bytes fault rest (in_att_type name behind_name f r named s) =
-    then-ok _ (name-again v bytes name behind_name named) (then-err _ (type-stops-again v behind_name f r s))
-att-stops-again v before bytes fault rest (in_att_count name behind_name behind_type ty f r named typed s) =
-    then-ok _ (name-again v bytes name behind_name named)
-    (then-ok _ (type-again v behind_name ty behind_type typed) (then-err _ (count-stops-again v behind_type f r s)))
-att-stops-again v before bytes fault rest (cut_values name body ty count front cut) =
-    then-ok _ (name-again v bytes name front.behind_name front.named)
-    (then-ok _ (type-again v front.behind_name ty front.behind_type front.typed)
-    (then-ok _ (count-again v front.behind_type count body front.counted) (then-err _ (content-stops-again (count * size_of ty) body cut))))
-att-stops-again v before bytes fault rest (cut_value_padding name vals r ty count front whole cut) =
-    then-ok _ (name-again v bytes name front.behind_name front.named)
-    (then-ok _ (type-again v front.behind_name ty front.behind_type front.typed)
-    (then-ok _ (count-again v front.behind_type count (vals ++ r) front.counted) (then-err _ (padding-stops-again (count * size_of ty) vals r whole cut))))
+att-stops-again v before bytes fault rest (in_att_type name after_name f r named s) =
+    then-ok _ (name-again v bytes name after_name named) (then-err _ (type-stops-again v after_name f r s))
+att-stops-again v before bytes fault rest (in_att_count name after_name after_type ty f r named typed s) =
+    then-ok _ (name-again v bytes name after_name named)
+    (then-ok _ (type-again v after_name ty after_type typed) (then-err _ (count-stops-again v after_type f r s)))
+att-stops-again v before bytes fault rest (cut_values name body ty count prefix cut) =
+    then-ok _ (name-again v bytes name prefix.after_name prefix.named)
+    (then-ok _ (type-again v prefix.after_name ty prefix.after_type prefix.typed)
+    (then-ok _ (count-again v prefix.after_type count body prefix.counted) (then-err _ (content-stops-again (count * size_of ty) body cut))))
+att-stops-again v before bytes fault rest (cut_value_padding name vals r ty count prefix whole cut) =
+    then-ok _ (name-again v bytes name prefix.after_name prefix.named)
+    (then-ok _ (type-again v prefix.after_name ty prefix.after_type prefix.typed)
+    (then-ok _ (count-again v prefix.after_type count (vals ++ r) prefix.counted) (then-err _ (padding-stops-again (count * size_of ty) vals r whole cut))))
 
 -- a spelled list of attributes is read
 pub atts-again : (v : Version) (bytes : List ℕ) (atts : List Att) (rest : List ℕ) → SpellsAtts v bytes atts rest → (att_list_at v).run bytes ≡ Ok (atts, rest)

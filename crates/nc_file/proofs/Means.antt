@@ -6,12 +6,12 @@ use Rattle.nc_file.specs.declared.head_fault.HeadFault.TheVariants.{Format}
 use Rattle.nc_file.specs.Reading.{Outcome, Part, next}
 
 -- What reading gives is what the grammar says: a value that is spelled and the rest, or what is wrong with the first wrong
--- field and the rest behind it.
+-- field and the rest after it.
 pub data Means {A : Type 0} (Spells : A → List ℕ → Type 0) (Stops : FormatFault → List ℕ → Type 0) : Outcome A → Type 0 where
   spells : (x : A) (rest : List ℕ) → Spells x rest → AreBytes rest → Means Spells Stops (Ok (x, rest))
   stops : (fault : FormatFault) (rest : List ℕ) → Stops fault rest → Means Spells Stops (Err (Format fault, rest))
 
--- one part behind another
+-- one part after another
 pub means-next : {A B : Type 0} {P : A → List ℕ → Type 0} {Q : FormatFault → List ℕ → Type 0} {o : Outcome A}
     {P' : B → List ℕ → Type 0} {Q' : FormatFault → List ℕ → Type 0} (f : A → Part B)
     → Means P Q o

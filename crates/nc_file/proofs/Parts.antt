@@ -27,6 +27,6 @@ left_over-err A e bytes = refl
 
 pub ruleset parts = (run-bind, run-done, run-stop, left_over-ok, left_over-err, next-shorter)
 
--- a byte at the front, or none
+-- a byte at the prefix, or none
 pub byte_shorter : (fault : FormatFault) (bytes : List ℕ) → left_over (byte_run fault bytes) ≤ length bytes
 byte_shorter fault bytes = specs.byte_shorter fault bytes

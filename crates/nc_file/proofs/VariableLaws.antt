@@ -18,7 +18,7 @@ use Rattle.nc_base.specs.Bytes.{AreBytes}
 use Rattle.nc_base.specs.Versions.{count_width, offset_width, offset_limit}
 use Rattle.nc_base.specs.Sizes.{is_record_dim, is_record_var, padded_size, padded_total, record_vars, slab_of, slab_limit, record_limit}
 use Rattle.nc_base.specs.Headers.{IsDimid}
-use Rattle.nc_base.specs.Grammar.{variable_tag, SpellsNumber, SpellsOffset, SpellsType, SpellsCounted, SpellsList, SpellsDimid, SpellsVar, SpellsVarFront, SpellsTypedVar, IsWithinLimits}
+use Rattle.nc_base.specs.Grammar.{variable_tag, SpellsNumber, SpellsOffset, SpellsType, SpellsCounted, SpellsList, SpellsDimid, SpellsVar, SpellsVarPrefix, SpellsTypedVar, IsWithinLimits}
 use Rattle.nc_base.specs.FirstFault.{IsCutNumber, StopsInCounted, in_count, in_element, StopsInEach, StopsInList, StopsInDimid, cut_dimid, bad_dimid, StopsInVar, in_var_name, in_shape, in_var_atts, in_var_type, too_large, cut_vsize, cut_begin, negative_begin}
 use Rattle.nc_file.specs.declared.sized_var.SizedVar.{SizedVar}
 use Rattle.nc_file.specs.Reading.{next, ◌>>=◌, done, stop, number_at, each_at, is_dimid, dimid_at, dimids_at, shape_at, wide_at, offset_at, record_part, total_with, total_or_wrong, var_at, vars_at, var_list_at}
@@ -138,7 +138,7 @@ total_of-append dims before var =
     ∙ sum_by-append (λ (n : ℕ). n) (map (padded_size dims) (record_vars dims before)) (map (padded_size dims) (record_vars dims (var ∷ [])))
     ∙ ap (λ (n : ℕ). total_of dims before + n) (record_vars-one dims var)
 
--- a shape and a type that keep the limits behind such padded slabs
+-- a shape and a type that keep the limits after such padded slabs
 pub record Fits (dims : List Dim) (ids : List ℕ) (ty : NcType) (total : ℕ) : Type 0 where
   pub slab : slab_of dims ids ty ≤ slab_limit
   pub records : total + record_part dims ids ty ≤ record_limit
@@ -176,66 +176,66 @@ means-total dims ids ty total here fits = total-tests dims ids ty total here _ _
 
 -- ---- variables
 
--- a variable stands in front, and its padded slabs are counted
+-- a variable stands at the start, and its padded slabs are counted
 pub record SpellsSized (v : Version) (dims : List Dim) (before : List Var) (bytes : List ℕ) (sized : SizedVar) (rest : List ℕ) : Type 0 where
   pub spelled : SpellsVar v dims before bytes sized.var rest
   pub total : sized.total ≡ total_of dims (before ++ sized.var ∷ [])
 
-cut-vsize : (v : Version) (dims : List Dim) (before : List Var) (bytes : List ℕ) (var : Var) (behind : List ℕ) (fault : FormatFault) (rest : List ℕ)
-    → SpellsTypedVar v dims before bytes var behind → CutNumber (count_width v) behind fault rest → StopsInVar v dims before bytes fault rest
-cut-vsize v dims before bytes var behind fault rest typed (cut_number cut) = cut_vsize var behind typed cut
+cut-vsize : (v : Version) (dims : List Dim) (before : List Var) (bytes : List ℕ) (var : Var) (following : List ℕ) (fault : FormatFault) (rest : List ℕ)
+    → SpellsTypedVar v dims before bytes var following → CutNumber (count_width v) following fault rest → StopsInVar v dims before bytes fault rest
+cut-vsize v dims before bytes var following fault rest typed (cut_number cut) = cut_vsize var following typed cut
 
-stops-offset : (v : Version) (dims : List Dim) (before : List Var) (bytes : List ℕ) (var : Var) (behind_type behind_vsize : List ℕ) (vsize : ℕ) (fault : FormatFault) (rest : List ℕ)
-    → SpellsTypedVar v dims before bytes var behind_type → SpellsNumber (count_width v) behind_type vsize behind_vsize → StopsInOffset v behind_vsize fault rest → StopsInVar v dims before bytes fault rest
-stops-offset v dims before bytes var behind_type behind_vsize vsize fault rest typed number (cut_offset cut) = cut_begin var behind_type behind_vsize vsize typed number cut
-stops-offset v dims before bytes var behind_type behind_vsize vsize fault rest typed number (negative_offset n r offset high) = negative_begin var behind_type behind_vsize vsize n r typed number offset high
+stops-offset : (v : Version) (dims : List Dim) (before : List Var) (bytes : List ℕ) (var : Var) (after_type after_vsize : List ℕ) (vsize : ℕ) (fault : FormatFault) (rest : List ℕ)
+    → SpellsTypedVar v dims before bytes var after_type → SpellsNumber (count_width v) after_type vsize after_vsize → StopsInOffset v after_vsize fault rest → StopsInVar v dims before bytes fault rest
+stops-offset v dims before bytes var after_type after_vsize vsize fault rest typed number (cut_offset cut) = cut_begin var after_type after_vsize vsize typed number cut
+stops-offset v dims before bytes var after_type after_vsize vsize fault rest typed number (negative_offset n r offset high) = negative_begin var after_type after_vsize vsize n r typed number offset high
 
-too-large : (v : Version) (dims : List Dim) (before : List Var) (bytes : List ℕ) (var : Var) (behind_atts behind_type : List ℕ) (total : ℕ) (fault : FormatFault) (rest : List ℕ)
-    → total ≡ total_of dims before → SpellsVarFront v dims bytes var behind_atts → SpellsType v behind_atts var.ty behind_type
-    → NoTotal dims var.dimids var.ty total behind_type fault rest → StopsInVar v dims before bytes fault rest
-too-large v dims before bytes var behind_atts behind_type total fault rest same front typed (no_total none) =
-    too_large var behind_atts behind_type front typed (λ w. none (fits-within dims before var total same w))
+too-large : (v : Version) (dims : List Dim) (before : List Var) (bytes : List ℕ) (var : Var) (after_atts after_type : List ℕ) (total : ℕ) (fault : FormatFault) (rest : List ℕ)
+    → total ≡ total_of dims before → SpellsVarPrefix v dims bytes var after_atts → SpellsType v after_atts var.ty after_type
+    → NoTotal dims var.dimids var.ty total after_type fault rest → StopsInVar v dims before bytes fault rest
+too-large v dims before bytes var after_atts after_type total fault rest same prefix typed (no_total none) =
+    too_large var after_atts after_type prefix typed (λ w. none (fits-within dims before var total same w))
 
--- a variable behind its type
-var-tail : (v : Version) (dims : List Dim) (before : List Var) (bytes : List ℕ) (name : List ℕ) (ids : List ℕ) (atts : List Att) (ty : NcType) (behind_type : List ℕ) (total sum : ℕ)
-    → ((begin : ℕ) → SpellsTypedVar v dims before bytes (record { name = name; dimids = ids; atts = atts; ty = ty; begin_at = begin }) behind_type)
-    → total ≡ total_of dims before → sum ≡ total + record_part dims ids ty → AreBytes behind_type
+-- a variable after its type
+var-tail : (v : Version) (dims : List Dim) (before : List Var) (bytes : List ℕ) (name : List ℕ) (ids : List ℕ) (atts : List Att) (ty : NcType) (after_type : List ℕ) (total sum : ℕ)
+    → ((begin : ℕ) → SpellsTypedVar v dims before bytes (record { name = name; dimids = ids; atts = atts; ty = ty; begin_at = begin }) after_type)
+    → total ≡ total_of dims before → sum ≡ total + record_part dims ids ty → AreBytes after_type
     → Means (SpellsSized v dims before bytes) (StopsInVar v dims before bytes)
-    (next ((number_at v).run behind_type) (λ vsize. offset_at v >>= λ begin. done (record { var = record { name = name; dimids = ids; atts = atts; ty = ty; begin_at = begin }; total = sum })))
+    (next ((number_at v).run after_type) (λ vsize. offset_at v >>= λ begin. done (record { var = record { name = name; dimids = ids; atts = atts; ty = ty; begin_at = begin }; total = sum })))
 unfolding ◌>>=◌ done
-var-tail v dims before bytes name ids atts ty behind_type total sum typed same is_sum fits =
-    means-next _ (means-number v behind_type fits)
-    (λ vsize behind_vsize number more. means-next _ (means-offset v behind_vsize more)
+var-tail v dims before bytes name ids atts ty after_type total sum typed same is_sum fits =
+    means-next _ (means-number v after_type fits)
+    (λ vsize after_vsize number more. means-next _ (means-offset v after_vsize more)
     (λ begin rest offset more2.
     let var : Var = record { name = name; dimids = ids; atts = atts; ty = ty; begin_at = begin } in
     spells (record { var = var; total = sum }) rest (record {
-      spelled = record { behind_type = behind_type; behind_vsize = behind_vsize; vsize = vsize; typed = typed begin; any_vsize = number; begin = offset };
+      spelled = record { after_type = after_type; after_vsize = after_vsize; vsize = vsize; typed = typed begin; any_vsize = number; begin = offset };
       total = is_sum ∙ ap (λ (n : ℕ). n + record_part dims ids ty) same ∙ sym (total_of-append dims before var);
     }) more2)
-    (λ fault rest. stops-offset v dims before bytes _ behind_type behind_vsize vsize fault rest (typed 0) number))
-    (λ fault rest. cut-vsize v dims before bytes _ behind_type fault rest (typed 0))
+    (λ fault rest. stops-offset v dims before bytes _ after_type after_vsize vsize fault rest (typed 0) number))
+    (λ fault rest. cut-vsize v dims before bytes _ after_type fault rest (typed 0))
 
 var-read : (v : Version) (dims : List Dim) (before : List Var) (total : ℕ) (bytes : List ℕ) → total ≡ total_of dims before → AreBytes bytes
     → Means (SpellsSized v dims before bytes) (StopsInVar v dims before bytes) ((var_at v dims total).run bytes)
 unfolding var_at ◌>>=◌
 var-read v dims before total bytes same fits =
     means-next _ (means-name v bytes fits)
-    (λ name behind_name named more. means-next _ (means-shape v dims behind_name more)
-    (λ ids behind_shape shape more2. means-next _ (means-atts v behind_shape more2)
-    (λ atts behind_atts att_list more3.
-    let front : (ty : NcType) (begin : ℕ) → SpellsVarFront v dims bytes (record { name = name; dimids = ids; atts = atts; ty = ty; begin_at = begin }) behind_atts =
-    λ ty begin. record { behind_name = behind_name; behind_shape = behind_shape; name = named; shape = shape; atts = att_list } in
-    means-next _ (means-type v behind_atts more3)
-    (λ ty behind_type typed more4. means-next _ (means-total dims ids ty total behind_type more4)
+    (λ name after_name named more. means-next _ (means-shape v dims after_name more)
+    (λ ids after_shape shape more2. means-next _ (means-atts v after_shape more2)
+    (λ atts after_atts att_list more3.
+    let prefix : (ty : NcType) (begin : ℕ) → SpellsVarPrefix v dims bytes (record { name = name; dimids = ids; atts = atts; ty = ty; begin_at = begin }) after_atts =
+    λ ty begin. record { after_name = after_name; after_shape = after_shape; name = named; shape = shape; atts = att_list } in
+    means-next _ (means-type v after_atts more3)
+    (λ ty after_type typed more4. means-next _ (means-total dims ids ty total after_type more4)
     (λ sum here t more5. subst (λ (r : List ℕ). Means (SpellsSized v dims before bytes) (StopsInVar v dims before bytes)
     (next ((number_at v).run r) (λ vsize. offset_at v >>= λ begin. done (record { var = record { name = name; dimids = ids; atts = atts; ty = ty; begin_at = begin }; total = sum })))) (sym t.stays)
-    (var-tail v dims before bytes name ids atts ty behind_type total sum
-    (λ begin. record { behind_atts = behind_atts; front = front ty begin; ty = typed; small = within dims before (record { name = name; dimids = ids; atts = atts; ty = ty; begin_at = begin }) total same t.fits })
+    (var-tail v dims before bytes name ids atts ty after_type total sum
+    (λ begin. record { after_atts = after_atts; prefix = prefix ty begin; ty = typed; small = within dims before (record { name = name; dimids = ids; atts = atts; ty = ty; begin_at = begin }) total same t.fits })
     same t.value more4))
-    (λ fault rest. too-large v dims before bytes _ behind_atts behind_type total fault rest same (front ty 0) typed))
-    (λ fault rest. in_var_type (record { name = name; dimids = ids; atts = atts; ty = Byte; begin_at = 0 }) behind_atts fault rest (front Byte 0)))
-    (λ fault rest. in_var_atts name behind_name behind_shape ids fault rest named shape))
-    (λ fault rest. in_shape name behind_name fault rest named))
+    (λ fault rest. too-large v dims before bytes _ after_atts after_type total fault rest same (prefix ty 0) typed))
+    (λ fault rest. in_var_type (record { name = name; dimids = ids; atts = atts; ty = Byte; begin_at = 0 }) after_atts fault rest (prefix Byte 0)))
+    (λ fault rest. in_var_atts name after_name after_shape ids fault rest named shape))
+    (λ fault rest. in_shape name after_name fault rest named))
     (in_var_name)
 
 vars-read : (v : Version) (dims : List Dim) (n : ℕ) (before : List Var) (total : ℕ) (bytes : List ℕ) → total ≡ total_of dims before → AreBytes bytes

@@ -14,7 +14,7 @@ use Rattle.nc_base.specs.declared.version.Version.TheVariants.{Cdf1, Cdf2, Cdf5}
 use Rattle.nc_base.specs.Versions.{offset_width, offset_limit}
 use Rattle.nc_base.specs.Sizes.{is_record_dim, slab_of, slab_limit, record_limit}
 use Rattle.nc_base.specs.Headers.{IsDimid}
-use Rattle.nc_base.specs.Grammar.{variable_tag, SpellsNumber, SpellsOffset, SpellsEach, SpellsCounted, SpellsList, SpellsDimid, SpellsVar, SpellsVarFront, SpellsTypedVar}
+use Rattle.nc_base.specs.Grammar.{variable_tag, SpellsNumber, SpellsOffset, SpellsEach, SpellsCounted, SpellsList, SpellsDimid, SpellsVar, SpellsVarPrefix, SpellsTypedVar}
 use Rattle.nc_base.specs.FirstFault.{IsCutNumber, StopsInCounted, in_count, in_element, StopsInEach, StopsInList, StopsInDimid, cut_dimid, bad_dimid, StopsInVar, in_var_name, in_shape, in_var_atts, in_var_type, too_large, cut_vsize, cut_begin, negative_begin}
 use Rattle.nc_file.specs.declared.head_fault.HeadFault.TheVariants.{Format}
 use Rattle.nc_file.specs.declared.sized_var.SizedVar.{SizedVar}
@@ -54,9 +54,9 @@ dimid-stops-again v dims before bytes fault rest (bad_dimid id r number unknown)
 pub shape-again : (v : Version) (dims : List Dim) (bytes ids rest : List ℕ) → SpellsCounted v (SpellsDimid v dims) bytes ids rest → (shape_at v dims).run bytes ≡ Ok (ids, rest)
 unfolding shape_at ◌>>=◌
 shape-again v dims bytes ids rest s =
-    then-ok _ (count-again v bytes (length ids) s.behind_count s.count)
-    (dimids_at-each v dims (length ids) [] s.behind_count
-    ∙ each-again (SpellsDimid v dims) (λ b. dimid_at v dims (is_first b)) (dimid-again v dims) ids [] s.behind_count rest s.each)
+    then-ok _ (count-again v bytes (length ids) s.after_count s.count)
+    (dimids_at-each v dims (length ids) [] s.after_count
+    ∙ each-again (SpellsDimid v dims) (λ b. dimid_at v dims (is_first b)) (dimid-again v dims) ids [] s.after_count rest s.each)
 
 -- reading a shape stops with its first wrong field
 pub shape-stops-again : (v : Version) (dims : List Dim) (bytes : List ℕ) (fault : FormatFault) (rest : List ℕ)
@@ -127,100 +127,100 @@ pub var-again : (v : Version) (dims : List Dim) (before : List Var) (total : ℕ
 unfolding var_at ◌>>=◌ done
 var-again v dims before total bytes var rest same s =
     let typed = s.typed in
-    let front = typed.front in
+    let prefix = typed.prefix in
     let sum : total + record_part dims var.dimids var.ty ≡ total_of dims (before ++ var ∷ []) = ap (λ (n : ℕ). n + record_part dims var.dimids var.ty) same ∙ sym (total_of-append dims before var) in
-    then-ok _ (name-again v bytes var.name front.behind_name front.name)
-    (then-ok _ (shape-again v dims front.behind_name var.dimids front.behind_shape front.shape)
-    (then-ok _ (atts-again v front.behind_shape var.atts typed.behind_atts front.atts)
-    (then-ok _ (type-again v typed.behind_atts var.ty s.behind_type typed.ty)
-    (then-ok _ (total-again dims var.dimids var.ty total s.behind_type (fits-within dims before var total same typed.small))
-    (then-ok _ (number-again v s.behind_type s.vsize s.behind_vsize s.any_vsize)
-    (then-ok _ (offset-again v s.behind_vsize var.begin_at rest s.begin)
+    then-ok _ (name-again v bytes var.name prefix.after_name prefix.name)
+    (then-ok _ (shape-again v dims prefix.after_name var.dimids prefix.after_shape prefix.shape)
+    (then-ok _ (atts-again v prefix.after_shape var.atts typed.after_atts prefix.atts)
+    (then-ok _ (type-again v typed.after_atts var.ty s.after_type typed.ty)
+    (then-ok _ (total-again dims var.dimids var.ty total s.after_type (fits-within dims before var total same typed.small))
+    (then-ok _ (number-again v s.after_type s.vsize s.after_vsize s.any_vsize)
+    (then-ok _ (offset-again v s.after_vsize var.begin_at rest s.begin)
     (ap (λ (n : ℕ). Ok (record { var = var; total = n }, rest)) sum)))))))
 
--- what is read of a variable behind its type
-abbrev behind_type_at : Version → List ℕ → List ℕ → List Att → NcType → ℕ → Part SizedVar
-behind_type_at v name ids atts ty sum =
+-- what is read of a variable after its type
+abbrev after_type_at : Version → List ℕ → List ℕ → List Att → NcType → ℕ → Part SizedVar
+after_type_at v name ids atts ty sum =
     number_at v >>= λ vsize. offset_at v >>= λ begin. done (record { var = record { name = name; dimids = ids; atts = atts; ty = ty; begin_at = begin }; total = sum })
 
--- what is read of a variable behind its attributes
-abbrev behind_front : Version → List Dim → ℕ → List ℕ → List ℕ → List Att → Part SizedVar
-behind_front v dims total name ids atts =
-    type_at v >>= λ ty. total_or_wrong (total_with dims ids ty total) >>= λ sum. behind_type_at v name ids atts ty sum
+-- what is read of a variable after its attributes
+abbrev after_prefix : Version → List Dim → ℕ → List ℕ → List ℕ → List Att → Part SizedVar
+after_prefix v dims total name ids atts =
+    type_at v >>= λ ty. total_or_wrong (total_with dims ids ty total) >>= λ sum. after_type_at v name ids atts ty sum
 
--- a variable up to its attributes, and what is read behind them
-front-again : (v : Version) (dims : List Dim) (total : ℕ) (bytes : List ℕ) (var : Var) (behind_atts : List ℕ) (o : Outcome SizedVar)
-    → SpellsVarFront v dims bytes var behind_atts
-    → (behind_front v dims total var.name var.dimids var.atts).run behind_atts ≡ o
+-- a variable up to its attributes, and what is read after them
+prefix-again : (v : Version) (dims : List Dim) (total : ℕ) (bytes : List ℕ) (var : Var) (after_atts : List ℕ) (o : Outcome SizedVar)
+    → SpellsVarPrefix v dims bytes var after_atts
+    → (after_prefix v dims total var.name var.dimids var.atts).run after_atts ≡ o
     → (var_at v dims total).run bytes ≡ o
 unfolding var_at ◌>>=◌
-front-again v dims total bytes var behind_atts o front h =
-    then-ok _ (name-again v bytes var.name front.behind_name front.name)
-    (then-ok _ (shape-again v dims front.behind_name var.dimids front.behind_shape front.shape)
-    (then-ok _ (atts-again v front.behind_shape var.atts behind_atts front.atts) h))
+prefix-again v dims total bytes var after_atts o prefix h =
+    then-ok _ (name-again v bytes var.name prefix.after_name prefix.name)
+    (then-ok _ (shape-again v dims prefix.after_name var.dimids prefix.after_shape prefix.shape)
+    (then-ok _ (atts-again v prefix.after_shape var.atts after_atts prefix.atts) h))
 
--- a variable up to its type, and what is read behind it
-typed-again : (v : Version) (dims : List Dim) (before : List Var) (total : ℕ) (bytes : List ℕ) (var : Var) (behind_type : List ℕ) (o : Outcome SizedVar)
-    → total ≡ total_of dims before → SpellsTypedVar v dims before bytes var behind_type
-    → (behind_type_at v var.name var.dimids var.atts var.ty (total + record_part dims var.dimids var.ty)).run behind_type ≡ o
+-- a variable up to its type, and what is read after it
+typed-again : (v : Version) (dims : List Dim) (before : List Var) (total : ℕ) (bytes : List ℕ) (var : Var) (after_type : List ℕ) (o : Outcome SizedVar)
+    → total ≡ total_of dims before → SpellsTypedVar v dims before bytes var after_type
+    → (after_type_at v var.name var.dimids var.atts var.ty (total + record_part dims var.dimids var.ty)).run after_type ≡ o
     → (var_at v dims total).run bytes ≡ o
 unfolding ◌>>=◌
-typed-again v dims before total bytes var behind_type o same typed h =
-    front-again v dims total bytes var typed.behind_atts o typed.front
-    (then-ok _ (type-again v typed.behind_atts var.ty behind_type typed.ty)
-    (then-ok _ (total-again dims var.dimids var.ty total behind_type (fits-within dims before var total same typed.small)) h))
+typed-again v dims before total bytes var after_type o same typed h =
+    prefix-again v dims total bytes var typed.after_atts o typed.prefix
+    (then-ok _ (type-again v typed.after_atts var.ty after_type typed.ty)
+    (then-ok _ (total-again dims var.dimids var.ty total after_type (fits-within dims before var total same typed.small)) h))
 
 -- reading a variable stops with its first wrong field
 pub var-stops-again : (v : Version) (dims : List Dim) (before : List Var) (total : ℕ) (bytes : List ℕ) (fault : FormatFault) (rest : List ℕ) → total ≡ total_of dims before → StopsInVar v dims before bytes fault rest
     → (var_at v dims total).run bytes ≡ Err (Format fault, rest)
 unfolding var_at ◌>>=◌
 var-stops-again v dims before total bytes fault rest same (in_var_name f r s) = then-err _ (name-stops-again v bytes f r s)
-var-stops-again v dims before total bytes fault rest same (in_shape name behind_name f r named s) =
-    then-ok _ (name-again v bytes name behind_name named) (then-err _ (shape-stops-again v dims behind_name f r s))
-var-stops-again v dims before total bytes fault rest same (in_var_atts name behind_name behind_shape ids f r named shape s) =
-    then-ok _ (name-again v bytes name behind_name named)
-    (then-ok _ (shape-again v dims behind_name ids behind_shape shape) (then-err _ (atts-stop-again v behind_shape f r s)))
-var-stops-again v dims before total bytes fault rest same (in_var_type var behind_atts f r front s) =
-    front-again v dims total bytes var behind_atts _ front (then-err _ (type-stops-again v behind_atts f r s))
-var-stops-again v dims before total bytes fault rest same (too_large var behind_atts r front typed large) =
-    front-again v dims total bytes var behind_atts _ front
-    (then-ok _ (type-again v behind_atts var.ty r typed)
+var-stops-again v dims before total bytes fault rest same (in_shape name after_name f r named s) =
+    then-ok _ (name-again v bytes name after_name named) (then-err _ (shape-stops-again v dims after_name f r s))
+var-stops-again v dims before total bytes fault rest same (in_var_atts name after_name after_shape ids f r named shape s) =
+    then-ok _ (name-again v bytes name after_name named)
+    (then-ok _ (shape-again v dims after_name ids after_shape shape) (then-err _ (atts-stop-again v after_shape f r s)))
+var-stops-again v dims before total bytes fault rest same (in_var_type var after_atts f r prefix s) =
+    prefix-again v dims total bytes var after_atts _ prefix (then-err _ (type-stops-again v after_atts f r s))
+var-stops-again v dims before total bytes fault rest same (too_large var after_atts r prefix typed large) =
+    prefix-again v dims total bytes var after_atts _ prefix
+    (then-ok _ (type-again v after_atts var.ty r typed)
     (then-err _ (total-stops-again dims var.dimids var.ty total r (λ fits. large (within dims before var total same fits)))))
-var-stops-again v dims before total bytes fault rest same (cut_vsize var behind_type typed cut) =
-    typed-again v dims before total bytes var behind_type _ same typed (then-err _ (number-stops-again v behind_type cut))
-var-stops-again v dims before total bytes fault rest same (cut_begin var behind_type behind_vsize vsize typed number cut) =
-    typed-again v dims before total bytes var behind_type _ same typed
-    (then-ok _ (number-again v behind_type vsize behind_vsize number) (then-err _ (cut-offset-again v behind_vsize cut)))
-var-stops-again v dims before total bytes fault rest same (negative_begin var behind_type behind_vsize vsize begin r typed number offset high) =
-    typed-again v dims before total bytes var behind_type _ same typed
-    (then-ok _ (number-again v behind_type vsize behind_vsize number) (then-err _ (negative-offset-again v behind_vsize begin r offset high)))
+var-stops-again v dims before total bytes fault rest same (cut_vsize var after_type typed cut) =
+    typed-again v dims before total bytes var after_type _ same typed (then-err _ (number-stops-again v after_type cut))
+var-stops-again v dims before total bytes fault rest same (cut_begin var after_type after_vsize vsize typed number cut) =
+    typed-again v dims before total bytes var after_type _ same typed
+    (then-ok _ (number-again v after_type vsize after_vsize number) (then-err _ (cut-offset-again v after_vsize cut)))
+var-stops-again v dims before total bytes fault rest same (negative_begin var after_type after_vsize vsize begin r typed number offset high) =
+    typed-again v dims before total bytes var after_type _ same typed
+    (then-ok _ (number-again v after_type vsize after_vsize number) (then-err _ (negative-offset-again v after_vsize begin r offset high)))
 
--- variables behind others
-vars-behind : (v : Version) (dims : List Dim) (xs before : List Var) (total : ℕ) (bytes rest : List ℕ) → total ≡ total_of dims before → SpellsEach (SpellsVar v dims) before bytes xs rest
+-- variables after others
+vars-after : (v : Version) (dims : List Dim) (xs before : List Var) (total : ℕ) (bytes rest : List ℕ) → total ≡ total_of dims before → SpellsEach (SpellsVar v dims) before bytes xs rest
     → (vars_at v dims (length xs) total before).run bytes ≡ Ok (before ++ xs, rest)
 unfolding vars_at ◌>>=◌ done
-vars-behind v dims [] before total bytes rest same s = ap (λ (r : List ℕ). Ok (before, r)) s ∙ ap (λ (xs : List Var). Ok (xs, rest)) (sym (append-nil before))
-vars-behind v dims (x ∷ xs) before total bytes rest same s =
+vars-after v dims [] before total bytes rest same s = ap (λ (r : List ℕ). Ok (before, r)) s ∙ ap (λ (xs : List Var). Ok (xs, rest)) (sym (append-nil before))
+vars-after v dims (x ∷ xs) before total bytes rest same s =
     then-ok _ (var-again v dims before total bytes x s.0 same s.1)
-    (vars-behind v dims xs (before ++ x ∷ []) (total_of dims (before ++ x ∷ [])) s.0 rest refl s.2 ∙ ap (λ (ys : List Var). Ok (ys, rest)) (append_assoc before (x ∷ []) xs))
+    (vars-after v dims xs (before ++ x ∷ []) (total_of dims (before ++ x ∷ [])) s.0 rest refl s.2 ∙ ap (λ (ys : List Var). Ok (ys, rest)) (append_assoc before (x ∷ []) xs))
 
 -- reading them stops with the first wrong field of all
-vars-stop-behind : (v : Version) (dims : List Dim) (n : ℕ) (before : List Var) (total : ℕ) (bytes : List ℕ) (fault : FormatFault) (rest : List ℕ) → total ≡ total_of dims before
+vars-stop-after : (v : Version) (dims : List Dim) (n : ℕ) (before : List Var) (total : ℕ) (bytes : List ℕ) (fault : FormatFault) (rest : List ℕ) → total ≡ total_of dims before
     → StopsInEach (SpellsVar v dims) (StopsInVar v dims) n before bytes fault rest
     → (vars_at v dims n total before).run bytes ≡ Err (Format fault, rest)
 unfolding vars_at ◌>>=◌
-vars-stop-behind v dims zero before total bytes fault rest same s = absurd s
-vars-stop-behind v dims (suc n) before total bytes fault rest same (inl s) = then-err _ (var-stops-again v dims before total bytes fault rest same s)
-vars-stop-behind v dims (suc n) before total bytes fault rest same (inr s) =
+vars-stop-after v dims zero before total bytes fault rest same s = absurd s
+vars-stop-after v dims (suc n) before total bytes fault rest same (inl s) = then-err _ (var-stops-again v dims before total bytes fault rest same s)
+vars-stop-after v dims (suc n) before total bytes fault rest same (inr s) =
     then-ok _ (var-again v dims before total bytes s.0 s.1 same s.2)
-    (vars-stop-behind v dims n (before ++ s.0 ∷ []) (total_of dims (before ++ s.0 ∷ [])) s.1 fault rest refl s.3)
+    (vars-stop-after v dims n (before ++ s.0 ∷ []) (total_of dims (before ++ s.0 ∷ [])) s.1 fault rest refl s.3)
 
 -- a spelled list of variables is read
 pub vars-again : (v : Version) (dims : List Dim) (bytes : List ℕ) (vars : List Var) (rest : List ℕ) → SpellsList v variable_tag (SpellsVar v dims) bytes vars rest → (var_list_at v dims).run bytes ≡ Ok (vars, rest)
 unfolding var_list_at ◌>>=◌
 vars-again v dims bytes vars rest s =
     list-again v variable_tag (SpellsVar v dims) (λ n. vars_at v dims n 0 []) refl
-    (λ xs body more each. vars-behind v dims xs [] 0 body more refl each) bytes vars rest s
+    (λ xs body more each. vars-after v dims xs [] 0 body more refl each) bytes vars rest s
 
 -- reading a list of variables stops with its first wrong field
 pub vars-stop-again : (v : Version) (dims : List Dim) (bytes : List ℕ) (fault : FormatFault) (rest : List ℕ) → StopsInList v variable_tag (SpellsVar v dims) (StopsInVar v dims) bytes fault rest
@@ -228,4 +228,4 @@ pub vars-stop-again : (v : Version) (dims : List Dim) (bytes : List ℕ) (fault 
 unfolding var_list_at ◌>>=◌
 vars-stop-again v dims bytes fault rest s =
     list-stops-again v variable_tag (SpellsVar v dims) (StopsInVar v dims) (λ n. vars_at v dims n 0 []) refl
-    (λ n body f r each. vars-stop-behind v dims n [] 0 body f r refl each) bytes fault rest s
+    (λ n body f r each. vars-stop-after v dims n [] 0 body f r refl each) bytes fault rest s

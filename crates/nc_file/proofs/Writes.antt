@@ -4,15 +4,15 @@ use Rattle.std.proofs.lemmas.List.{append-nil, take-append-drop, length-take, le
 use Rattle.std.proofs.lemmas.Bool.{OnTrue_at, OnTrue_from}
 use Rattle.std.specs.Prelude.{is_some, option_map, unwrap_or}
 use Rattle.nc_base.specs.Bytes.{text}
-use Rattle.nc_file.specs.Sinks.{SinkView, append, count, IsFront, IsFrontIf, IsCut, BrokeOff, TookSome, told, Grew, Broke, HasFailed}
+use Rattle.nc_file.specs.Sinks.{SinkView, append, count, IsPrefix, IsPrefixIf, IsCut, StoppedShort, AcceptedSome, is_transparent, Appended, FailedPartway, HasFailed}
 
 pub append-++ : (s : SinkView) (a b : List ℕ) → append s (a ++ b) ≡ append (append s a) b
 unfolding append
-append-++ s a b = ap (λ (x : Option (List ℕ)). record { taken = x; failures = s.failures }) (elim s.taken as (λ t. option_map (λ front. front ++ (a ++ b)) t ≡ option_map (λ front. front ++ b) (option_map (λ front. front ++ a) t)) [ None ↦ refl | Some bytes ↦ ap Some (sym (append_assoc bytes a b)) ])
+append-++ s a b = ap (λ (x : Option (List ℕ)). record { taken = x; failures = s.failures }) (elim s.taken as (λ t. option_map (λ prefix. prefix ++ (a ++ b)) t ≡ option_map (λ prefix. prefix ++ b) (option_map (λ prefix. prefix ++ a) t)) [ None ↦ refl | Some bytes ↦ ap Some (sym (append_assoc bytes a b)) ])
 
 pub append-none : (s : SinkView) → append s [] ≡ s
 unfolding append
-append-none s = ap (λ (x : Option (List ℕ)). record { taken = x; failures = s.failures }) (elim s.taken as (λ t. option_map (λ front. front ++ []) t ≡ t) [ None ↦ refl | Some bytes ↦ ap Some (append-nil bytes) ])
+append-none s = ap (λ (x : Option (List ℕ)). record { taken = x; failures = s.failures }) (elim s.taken as (λ t. option_map (λ prefix. prefix ++ []) t ≡ t) [ None ↦ refl | Some bytes ↦ ap Some (append-nil bytes) ])
 
 pub append-text : (s : SinkView) (piece : List ℕ) (pieces : List (List ℕ)) → append s (text (piece ∷ pieces)) ≡ append (append s piece) (text pieces)
 unfolding text
@@ -22,44 +22,44 @@ pub append-text_none : (s : SinkView) → append s (text []) ≡ s
 unfolding text
 append-text_none s = append-none s
 
-front_append : (now wanted : Option (List ℕ)) (a : List ℕ) → IsFrontIf now wanted → IsFrontIf now (option_map (λ front. front ++ a) wanted)
-front_append (Some front) (Some whole) a h = record { rest = h.rest ++ a; joined = sym (append_assoc front h.rest a) ∙ ap (λ (x : List ℕ). x ++ a) h.joined }
-front_append None None a h = tt
-front_append (Some front) None a h = absurd h
-front_append None (Some whole) a h = absurd h
+prefix_append : (now wanted : Option (List ℕ)) (a : List ℕ) → IsPrefixIf now wanted → IsPrefixIf now (option_map (λ prefix. prefix ++ a) wanted)
+prefix_append (Some prefix) (Some whole) a h = record { rest = h.rest ++ a; joined = sym (append_assoc prefix h.rest a) ∙ ap (λ (x : List ℕ). x ++ a) h.joined }
+prefix_append None None a h = tt
+prefix_append (Some prefix) None a h = absurd h
+prefix_append None (Some whole) a h = absurd h
 
 -- what broke off falls short of the longer text too
 pub cut-append : (u s : SinkView) (a : List ℕ) → IsCut u s → IsCut u (append s a)
 unfolding append IsCut
-cut-append u s a cut = front_append u.taken s.taken a cut
+cut-append u s a cut = prefix_append u.taken s.taken a cut
 
 pub count-append : (s : SinkView) (a : List ℕ) → count s ≤ count (append s a)
 unfolding append count
-count-append s a = elim s.taken as (λ t. length (unwrap_or t []) ≤ length (unwrap_or (option_map (λ front. front ++ a) t) [])) [ None ↦ omega arith | Some bytes ↦ omega (arith, length-append bytes a) ]
+count-append s a = elim s.taken as (λ t. length (unwrap_or t []) ≤ length (unwrap_or (option_map (λ prefix. prefix ++ a) t) [])) [ None ↦ omega arith | Some bytes ↦ omega (arith, length-append bytes a) ]
 
-pub told-append : (s : SinkView) (a : List ℕ) → told (append s a) ≡ told s
-unfolding append told
-told-append s a = elim s.taken as (λ t. is_some (option_map (λ front. front ++ a) t) ≡ is_some t) [ None ↦ refl | Some bytes ↦ refl ]
+pub transparent-append : (s : SinkView) (a : List ℕ) → is_transparent (append s a) ≡ is_transparent s
+unfolding append is_transparent
+transparent-append s a = elim s.taken as (λ t. is_some (option_map (λ prefix. prefix ++ a) t) ≡ is_some t) [ None ↦ refl | Some bytes ↦ refl ]
 
-pub ruleset writes = (append-++, append-none, append-text, append-text_none, cut-append, count-append, told-append)
+pub ruleset writes = (append-++, append-none, append-text, append-text_none, cut-append, count-append, transparent-append)
 
--- one text behind another
-pub grew_then : (s t u : SinkView) (a b : List ℕ) → Grew s t a → Grew t u b → Grew s u (a ++ b)
-grew_then s t u a b first second = record {
+-- one text after another
+pub appended_then : (s t u : SinkView) (a b : List ℕ) → Appended s t a → Appended t u b → Appended s u (a ++ b)
+appended_then s t u a b first second = record {
   failures = second.failures ∙ first.failures;
-  taken = OnTrue_from _ _ (λ tells.
-      let e = OnTrue_at {P = t ≡ append s a} tells first.taken in
-      let f = OnTrue_at {P = u ≡ append t b} (ap told e ∙ told-append s a ∙ tells) second.taken in
+  taken = OnTrue_from _ _ (λ transparent.
+      let e = OnTrue_at {P = t ≡ append s a} transparent first.taken in
+      let f = OnTrue_at {P = u ≡ append t b} (ap is_transparent e ∙ transparent-append s a ∙ transparent) second.taken in
       f ∙ ap (λ (v : SinkView). append v b) e ∙ sym (append-++ s a b));
 }
 
 -- the second broke off, and more was to come
-pub grew_broke : (s t u : SinkView) (a b c : List ℕ) → Grew s t a → Broke t u b → Broke s u (a ++ (b ++ c))
-grew_broke s t u a b c first broke = record {
-  failures = subst (λ n. HasFailed n u) first.failures broke.failures;
-  taken = OnTrue_from _ _ (λ tells.
-      let e = OnTrue_at {P = t ≡ append s a} tells first.taken in
-      let f = OnTrue_at {P = BrokeOff t u (append t b)} (ap told e ∙ told-append s a ∙ tells) broke.taken in
+pub appended_partway : (s t u : SinkView) (a b c : List ℕ) → Appended s t a → FailedPartway t u b → FailedPartway s u (a ++ (b ++ c))
+appended_partway s t u a b c first partway = record {
+  failures = subst (λ n. HasFailed n u) first.failures partway.failures;
+  taken = OnTrue_from _ _ (λ transparent.
+      let e = OnTrue_at {P = t ≡ append s a} transparent first.taken in
+      let f = OnTrue_at {P = StoppedShort t u (append t b)} (ap is_transparent e ∙ transparent-append s a ∙ transparent) partway.taken in
       let whole : append (append t b) c ≡ append s (a ++ (b ++ c)) = ap (λ (v : SinkView). append (append v b) c) e ∙ sym (append-++ (append s a) b c) ∙ sym (append-++ s a (b ++ c)) in
       record {
         cut = subst (IsCut u) whole (cut-append u (append t b) c f.cut);
@@ -68,14 +68,14 @@ grew_broke s t u a b c first broke = record {
 }
 
 -- a device that took none of what is left
-pub stops : (s t u : SinkView) (text : List ℕ) (n : ℕ) → Broke t u [] → Grew s t (take n text) → Broke s u text
-stops s t u text n broke so_far = subst (Broke s u) (take-append-drop n text) (grew_broke s t u (take n text) [] (drop n text) so_far broke)
+pub stops : (s t u : SinkView) (text : List ℕ) (n : ℕ) → FailedPartway t u [] → Appended s t (take n text) → FailedPartway s u text
+stops s t u text n partway so_far = subst (FailedPartway s u) (take-append-drop n text) (appended_partway s t u (take n text) [] (drop n text) so_far partway)
 
-pub moves : (s t u : SinkView) (text : List ℕ) (n k : ℕ) → n ≤ length text → Grew s t (take n text) → TookSome t u (drop n text) k
-    → record { within : n + k ≤ length text; so_far : Grew s u (take (n + k) text) }
+pub moves : (s t u : SinkView) (text : List ℕ) (n k : ℕ) → n ≤ length text → Appended s t (take n text) → AcceptedSome t u (drop n text) k
+    → record { within : n + k ≤ length text; so_far : Appended s u (take (n + k) text) }
 moves s t u text n k le so_far some = record {
   within = omega (arith, some.within, length-drop n text);
-  so_far = subst (Grew s u) (sym (take-add n k text)) (grew_then s t u (take n text) (take k (drop n text)) so_far some.grew);
+  so_far = subst (Appended s u) (sym (take-add n k text)) (appended_then s t u (take n text) (take k (drop n text)) so_far some.appended);
 }
 
 -- ---- one text for each element of a list
@@ -90,48 +90,48 @@ unfolding text
 text-one piece = append-nil piece
 
 -- ---- a text of many pieces, by hand: the first piece, and then the others
-pub grew_piece : {s t u : SinkView} {piece : List ℕ} (pieces : List (List ℕ)) → Grew s t piece → Grew t u (text pieces) → Grew s u (text (piece ∷ pieces))
+pub appended_piece : {s t u : SinkView} {piece : List ℕ} (pieces : List (List ℕ)) → Appended s t piece → Appended t u (text pieces) → Appended s u (text (piece ∷ pieces))
 unfolding text
-grew_piece {s = s} {t = t} {u = u} {piece = piece} pieces first others = grew_then s t u piece (text pieces) first others
+appended_piece {s = s} {t = t} {u = u} {piece = piece} pieces first others = appended_then s t u piece (text pieces) first others
 
 -- the last piece
-pub grew_last : {s t : SinkView} {piece : List ℕ} → Grew s t piece → Grew s t (text (piece ∷ []))
-grew_last {s = s} {t = t} {piece = piece} grew = subst (Grew s t) (sym (text-one piece)) grew
+pub appended_last : {s t : SinkView} {piece : List ℕ} → Appended s t piece → Appended s t (text (piece ∷ []))
+appended_last {s = s} {t = t} {piece = piece} appended = subst (Appended s t) (sym (text-one piece)) appended
 
 -- the invariant of a loop that writes one text for each element
 abbrev pub IsWritten : {X : Type 0} → SinkView → SinkView → (X → List ℕ) → List X → ℕ → Type 0
-IsWritten old now f xs i = Grew old now (text (map f (take i xs)))
+IsWritten old now f xs i = Appended old now (text (map f (take i xs)))
 
 up_to_next : {X : Type 0} (f : X → List ℕ) (xs : List X) (i : ℕ) (x : X) → i < length xs → x ≡ get_or xs i x → text (map f (take (i + 1) xs)) ≡ text (map f (take i xs)) ++ f x
 up_to_next f xs i x lt is = rw (take_more xs i x lt, map-append, text-++, ← is) (ap (λ (y : List ℕ). text (map f (take i xs)) ++ y) (text-one (f x)))
 
 -- one more element is written
-pub wrote_next : {X : Type 0} (s t u : SinkView) (f : X → List ℕ) (xs : List X) (i : ℕ) (x : X) → i < length xs → x ≡ get_or xs i x → IsWritten s t f xs i → Grew t u (f x) → IsWritten s u f xs (i + 1)
-wrote_next s t u f xs i x lt is so_far wrote = subst (Grew s u) (sym (up_to_next f xs i x lt is)) (grew_then s t u (text (map f (take i xs))) (f x) so_far wrote)
+pub wrote_next : {X : Type 0} (s t u : SinkView) (f : X → List ℕ) (xs : List X) (i : ℕ) (x : X) → i < length xs → x ≡ get_or xs i x → IsWritten s t f xs i → Appended t u (f x) → IsWritten s u f xs (i + 1)
+wrote_next s t u f xs i x lt is so_far wrote = subst (Appended s u) (sym (up_to_next f xs i x lt is)) (appended_then s t u (text (map f (take i xs))) (f x) so_far wrote)
 
 -- the loop ends in an element's text
-pub broke_next : {X : Type 0} (s t u : SinkView) (f : X → List ℕ) (xs : List X) (i : ℕ) (x : X) → i < length xs → x ≡ get_or xs i x → IsWritten s t f xs i → Broke t u (f x) → Broke s u (text (map f xs))
-broke_next {X = X} s t u f xs i x lt is so_far broke =
+pub partway_next : {X : Type 0} (s t u : SinkView) (f : X → List ℕ) (xs : List X) (i : ℕ) (x : X) → i < length xs → x ≡ get_or xs i x → IsWritten s t f xs i → FailedPartway t u (f x) → FailedPartway s u (text (map f xs))
+partway_next {X = X} s t u f xs i x lt is so_far partway =
     let rest = text (map f (drop (i + 1) xs)) in
     let all : text (map f (take (i + 1) xs)) ++ rest ≡ text (map f xs) = sym (text-++ (map f (take (i + 1) xs)) (map f (drop (i + 1) xs))) ∙ ap text (sym (map-append f (take (i + 1) xs) (drop (i + 1) xs))) ∙ ap (λ (ys : List X). text (map f ys)) (take-append-drop (i + 1) xs) in
     let whole : text (map f (take i xs)) ++ (f x ++ rest) ≡ text (map f xs) = sym (append_assoc (text (map f (take i xs))) (f x) rest) ∙ ap (λ (y : List ℕ). y ++ rest) (sym (up_to_next f xs i x lt is)) ∙ all in
-    subst (Broke s u) whole (grew_broke s t u (text (map f (take i xs))) (f x) rest so_far broke)
+    subst (FailedPartway s u) whole (appended_partway s t u (text (map f (take i xs))) (f x) rest so_far partway)
 
 -- ---- what a device proves of itself
 
-pub front_of_itself : (bytes : List ℕ) → IsFront bytes bytes
-front_of_itself bytes = record { rest = []; joined = append-nil bytes }
+pub prefix_of_itself : (bytes : List ℕ) → IsPrefix bytes bytes
+prefix_of_itself bytes = record { rest = []; joined = append-nil bytes }
 
 pub take_all_of : (bytes : List ℕ) → take (length bytes) bytes ≡ bytes
 take_all_of bytes = take_all (length bytes) bytes (omega arith)
 
-pub ruleset devices = (front_of_itself, append-nil, take_all_of)
+pub ruleset devices = (prefix_of_itself, append-nil, take_all_of)
 
--- ---- a sink that broke off has taken a front of the text
+-- ---- a sink that broke off has taken a prefix of the text
 
-pub split_front : (old text now rest : List ℕ) → now ++ rest ≡ old ++ text → length old ≤ length now → (front : List ℕ) × (now ≡ old ++ front) × (front ++ rest ≡ text)
-split_front [] text now rest e le = (now, refl, e)
-split_front (b ∷ old) text [] rest e le = absurd (omega arith)
-split_front (b ∷ old) text (c ∷ now) rest e le =
-    let inner = split_front old text now rest (cc) (omega arith) in
+pub split_prefix : (old text now rest : List ℕ) → now ++ rest ≡ old ++ text → length old ≤ length now → (prefix : List ℕ) × (now ≡ old ++ prefix) × (prefix ++ rest ≡ text)
+split_prefix [] text now rest e le = (now, refl, e)
+split_prefix (b ∷ old) text [] rest e le = absurd (omega arith)
+split_prefix (b ∷ old) text (c ∷ now) rest e le =
+    let inner = split_prefix old text now rest (cc) (omega arith) in
     (inner.0, cc (inner.1), inner.2)

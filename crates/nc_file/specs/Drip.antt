@@ -1,11 +1,11 @@
--- When a source that is told to fail does so.
+-- When a source that fails on request does so.
 use Rattle.std.specs.Prelude.{◌≡◌, ◌≤◌, ℕ}
 use Rattle.nc_file.specs.Sources.{SourceView}
 use Rattle.nc_file.specs.declared.drip.DripSource.{DripSource}
 use Rattle.nc_file.specs.declared.drip.FailWhen.{FailWhen}
 use Rattle.nc_file.specs.declared.drip.FailWhen.TheVariants.{Never, From, Read}
 
--- a read at this place, with so many reads before it, is to fail
+-- a read at this offset, with so many reads before it, is to fail
 abbrev pub IsDue : FailWhen → ℕ → ℕ → Type 0
 IsDue Never at reads = ⊥
 IsDue (From from) at reads = from ≤ at
@@ -15,7 +15,7 @@ IsDue (Read read) at reads = read ≡ reads
 abbrev pub view_of : DripSource → SourceView
 view_of source = record { bytes = source.bytes.now; failures = source.failures; handed = source.handed }
 
--- how many bytes it hands over at most
+-- how many bytes it gives at most
 abbrev pub step_of : DripSource → ℕ
 step_of source = source.step
 

@@ -13,7 +13,7 @@ BeginsWithHeader bytes = (h : Header) × (rest : List ℕ) × SpellsHeader bytes
 abbrev pub HasFirstFault : List ℕ → Type 0
 HasFirstFault bytes = (fault : FormatFault) × (end : ℕ) × StopsAt bytes fault end
 
--- exactly one of the two holds, and in one way: there are no two headers, no two rests behind a header, no two faults of the
+-- exactly one of the two holds, and in one way: there are no two headers, no two rests after a header, no two faults of the
 -- first wrong field, and no two ends of it
 pub record HasOneOutcome (bytes : List ℕ) : Type 0 where
   pub either : BeginsWithHeader bytes ⊎ HasFirstFault bytes

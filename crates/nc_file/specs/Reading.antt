@@ -1,5 +1,5 @@
--- Reading a header from left to right: the value at the front of a list of bytes, or the first fault that is met, and what
--- is left behind. That it gives what the grammar says is proved in `proofs/HeaderLaws.antt` and `proofs/HeadersAgain.antt`.
+-- Reading a header from left to right: the value at the start of a list of bytes, or the first fault that is met, and what
+-- is left after. That it gives what the grammar says is proved in `proofs/HeaderLaws.antt` and `proofs/HeadersAgain.antt`.
 use Rattle.std.specs.Prelude.{◌≡◌, ℕ, zero, suc, ◌+◌, ◌*◌, ◌≤◌, Bool, true, false, List, [], ◌∷◌, ◌++◌, length, Option, Some, None, Result, Ok, Err, nat_lt, nat_le, ◌==◌, ◌&&◌, ◌||◌, not, if◌then◌else◌, MatchBool}
 use Rattle.std.specs.Int.{w32, w64, from_be_bytes}
 use Rattle.std.specs.Bool.{OnTrue}
@@ -30,17 +30,17 @@ use Rattle.nc_file.specs.declared.head_fault.HeadFault.TheVariants.{OutOfMemory,
 abbrev pub Outcome : Type 0 → Type 0
 Outcome A = Result (A × List ℕ) (HeadFault × List ℕ)
 
--- how many bytes are left behind the last field that was looked at
+-- how many bytes are left after the last field that was looked at
 unfoldable pub left_over : {A : Type 0} → Outcome A → ℕ
 left_over (Ok x) = length x.1
 left_over (Err e) = length e.1
 
--- a part of a header: what it reads at the front of a list, and that it leaves no more than there was
+-- a part of a header: what it reads at the start of a list, and that it leaves no more than there was
 pub record Part (A : Type 0) : Type 0 where
   pub run : List ℕ → Outcome A
   pub shorter : (bytes : List ℕ) → left_over (run bytes) ≤ length bytes
 
--- one part behind another
+-- one part after another
 abbrev pub next : {A B : Type 0} → Outcome A → (A → Part B) → Outcome B
 next (Ok x) f = (f x.0).run x.1
 next (Err e) f = Err e
@@ -79,8 +79,8 @@ is_of_bytes _ = true
 -- What a reader returned is what reading the bytes that were left gives, and what is left now. Where the device or memory
 -- failed, no more was read than that takes.
 abbrev pub Reads : {A : Type 0} → Bool → List ℕ → List ℕ → Part A → Result A HeadFault → Type 0
-Reads told old new part (Ok x) = OnTrue told (part.run old ≡ Ok (x, new))
-Reads told old new part (Err e) = OnTrue told (MatchBool (is_of_bytes e) (part.run old ≡ Err (e, new)) (left_over (part.run old) ≤ length new))
+Reads is_transparent old new part (Ok x) = OnTrue is_transparent (part.run old ≡ Ok (x, new))
+Reads is_transparent old new part (Err e) = OnTrue is_transparent (MatchBool (is_of_bytes e) (part.run old ≡ Err (e, new)) (left_over (part.run old) ≤ length new))
 
 -- the source has failed exactly where a reader says so
 abbrev pub Caused : {A : Type 0} → ℕ → SourceView → Result A HeadFault → Type 0
@@ -137,12 +137,12 @@ count_at v = do
   n ← number_at v
   if nat_le (count_limit v) n then wrong BadCount else done n
 
--- n bytes, behind those that were read before
+-- n bytes, after those that were read before
 unfoldable pub bytes_at : ℕ → List ℕ → Part (List ℕ)
-bytes_at zero front = done front
-bytes_at (suc n) front = do
+bytes_at zero prefix = done prefix
+bytes_at (suc n) prefix = do
   b ← byte_at
-  bytes_at n (front ++ b ∷ [])
+  bytes_at n (prefix ++ b ∷ [])
 
 -- n bytes that may be any
 unfoldable pub skip_at : ℕ → Part (Unit {0})
@@ -184,13 +184,13 @@ type_at v = do
   code ← u32_at
   if (code == 5) || (code == 6) then wrong FloatingType else type_or_wrong (type_in v code)
 
--- the number of elements of a list, behind its tag
+-- the number of elements of a list, after its tag
 unfoldable pub list_len_at : Version → ℕ → Part ℕ
 list_len_at v tag = do
   found ← u32_at
   if not (found == 0) && not (found == tag) then wrong BadTag else (count_at v >>= λ n. if (found == 0) && not (n == 0) then wrong BadCount else done n)
 
--- n elements, behind those that were read before
+-- n elements, after those that were read before
 unfoldable pub each_at : {A : Type 0} → (List A → Part A) → ℕ → List A → Part (List A)
 each_at element zero before = done before
 each_at element (suc n) before = do
@@ -206,17 +206,17 @@ list_at v tag element = do
 
 -- a dimension, where the record dimension stands before it or not
 unfoldable pub dim_at : Version → Bool → Part Dim
-dim_at v seen = do
+dim_at v view = do
   name ← name_at v
   len ← count_at v
-  if seen && (len == 0) then wrong TwoRecordDims else done (record { name = name; len = len })
+  if view && (len == 0) then wrong TwoRecordDims else done (record { name = name; len = len })
 
--- n dimensions, where the record dimension stands before them or not, behind those that were read before
+-- n dimensions, where the record dimension stands before them or not, after those that were read before
 unfoldable pub dims_at : Version → ℕ → Bool → List Dim → Part (List Dim)
-dims_at v zero seen before = done before
-dims_at v (suc n) seen before = do
-  dim ← dim_at v seen
-  dims_at v n (seen || (dim.len == 0)) (before ++ dim ∷ [])
+dims_at v zero view before = done before
+dims_at v (suc n) view before = do
+  dim ← dim_at v view
+  dims_at v n (view || (dim.len == 0)) (before ++ dim ∷ [])
 
 -- an attribute
 unfoldable pub att_at : Version → Part Att
@@ -246,7 +246,7 @@ dimid_at v dims first = do
   id ← number_at v
   if is_dimid dims first id then done id else wrong BadShape
 
--- n dimension ids, the first of which stands in the first place or not, behind those that were read before
+-- n dimension ids, the first of which stands in the first place or not, after those that were read before
 unfoldable pub dimids_at : Version → List Dim → ℕ → Bool → List ℕ → Part (List ℕ)
 dimids_at v dims zero first before = done before
 dimids_at v dims (suc n) first before = do
@@ -294,7 +294,7 @@ var_at v dims total = do
   begin ← offset_at v
   done (record { var = record { name = name; dimids = dimids; atts = atts; ty = ty; begin_at = begin }; total = sum })
 
--- n variables, behind others with such padded slabs, and behind those that were read before
+-- n variables, after others with such padded slabs, and after those that were read before
 unfoldable pub vars_at : Version → List Dim → ℕ → ℕ → List Var → Part (List Var)
 vars_at v dims zero total before = done before
 vars_at v dims (suc n) total before = do

@@ -8,8 +8,8 @@ abbrev pub view_of : SliceSink → SinkView
 view_of sink = record { taken = Some (take sink.len sink.into.now); failures = sink.failures }
 
 -- how many bytes more it can take
-abbrev pub room_of : SliceSink → ℕ
-room_of sink = length sink.into.now - sink.len
+abbrev pub capacity_left : SliceSink → ℕ
+capacity_left sink = length sink.into.now - sink.len
 
 -- how many bytes it takes at most a call
 abbrev pub step_of : SliceSink → ℕ

@@ -18,57 +18,57 @@ pub record State : Type 0 where
   pub pos : ℕ
 
 abbrev pub state : {S : Type 0} → (S → SourceView) → Window S → State
-state seen w = record { source = seen w.source.now; len = w.len; buf = w.buf.now; base = w.base; filled = w.filled; pos = w.pos }
+state view w = record { source = view w.source.now; len = w.len; buf = w.buf.now; base = w.base; filled = w.filled; pos = w.pos }
 
 -- it knows the source's length, and the buffer holds the source's bytes from base on
-pub record IsOpen (told : Bool) (w : State) : Type 0 where
+pub record IsOpen (is_transparent : Bool) (w : State) : Type 0 where
   pub knows_len : w.len ≡ length w.source.bytes
   pub used : w.pos ≤ w.filled
   pub fits : w.filled ≤ length w.buf
-  pub room : 0 < length w.buf
+  pub buffer_len : 0 < length w.buf
   pub within : w.base + w.filled ≤ length w.source.bytes
-  pub bytes : OnTrue told (take w.filled w.buf ≡ take w.filled (drop w.base w.source.bytes))
+  pub bytes : OnTrue is_transparent (take w.filled w.buf ≡ take w.filled (drop w.base w.source.bytes))
 
 -- the bytes that are still to be read
 abbrev pub left : State → List ℕ
 left w = drop (w.base + w.pos) w.source.bytes
 
--- What reading keeps: each byte up to the end of what the window holds is handed over once.
-pub record Kept (told : Bool) (old new : State) : Type 0 where
-  pub is_open : IsOpen told new
+-- What reading keeps: each byte up to the end of what the window holds is read once.
+pub record Kept (is_transparent : Bool) (old new : State) : Type 0 where
+  pub is_open : IsOpen is_transparent new
   pub bytes : new.source.bytes ≡ old.source.bytes
-  pub same_room : length new.buf ≡ length old.buf
+  pub same_buffer_len : length new.buf ≡ length old.buf
   pub handed : new.source.handed + (old.base + old.filled) ≡ old.source.handed + (new.base + new.filled)
 
 -- The window holds bytes again, or there are no more.
 abbrev pub Refilled : Bool → State → State → Result Bool HeadFault → Type 0
-Refilled told old new (Ok some) = (new.base + new.pos ≡ old.base + old.pos) × MatchBool some (new.pos < new.filled) (OnTrue told (length new.source.bytes ≤ new.base + new.pos))
-Refilled told old new (Err e) = (e ≡ ReadFailed) × (new.base + new.pos ≡ old.base + old.pos)
+Refilled is_transparent old new (Ok some) = (new.base + new.pos ≡ old.base + old.pos) × MatchBool some (new.pos < new.filled) (OnTrue is_transparent (length new.source.bytes ≤ new.base + new.pos))
+Refilled is_transparent old new (Err e) = (e ≡ ReadFailed) × (new.base + new.pos ≡ old.base + old.pos)
 
 -- a window that may be read from
 abbrev pub Opened : {S : Type 0} → Bool → (S → SourceView) → Window S → Type 0
-Opened told seen w = IsOpen told (state seen w)
+Opened is_transparent view w = IsOpen is_transparent (state view w)
 
 -- A reader's whole contract: what it keeps, why it fails, and that it reads what this part of a header reads.
-pub record Did {S A : Type 0} (told : Bool) (seen : S → SourceView) (old new : Window S) (part : Part A) (result : Result A HeadFault) : Type 0 where
+pub record ReadPart {S A : Type 0} (is_transparent : Bool) (view : S → SourceView) (old new : Window S) (part : Part A) (result : Result A HeadFault) : Type 0 where
   pub same_source : new.source.ghost_name ≡ old.source.ghost_name
-  pub kept : Kept told (state seen old) (state seen new)
-  pub cause : Caused (seen old.source.now).failures (seen new.source.now) result
-  pub reads : Reads told (left (state seen old)) (left (state seen new)) part result
+  pub kept : Kept is_transparent (state view old) (state view new)
+  pub cause : Caused (view old.source.now).failures (view new.source.now) result
+  pub reads : Reads is_transparent (left (state view old)) (left (state view new)) part result
 
 -- There is a next byte in the window, or there is none at all.
 abbrev pub Filled : Bool → State → State → Result (Unit {0}) HeadFault → Type 0
-Filled told old new (Ok done) = (new.pos < new.filled) × (left new ≡ left old)
-Filled told old new (Err e) = OnTrue told (MatchBool (is_of_bytes e) ((e ≡ Format HeaderTruncated) × (left old ≡ []) × (left new ≡ [])) (left new ≡ left old))
+Filled is_transparent old new (Ok done) = (new.pos < new.filled) × (left new ≡ left old)
+Filled is_transparent old new (Err e) = OnTrue is_transparent (MatchBool (is_of_bytes e) ((e ≡ Format HeaderTruncated) × (left old ≡ []) × (left new ≡ [])) (left new ≡ left old))
 
 -- the next bytes, as many as the window has and no more than most
-pub record Ready (told : Bool) (w : State) (most : ℕ) (bytes : List ℕ) : Type 0 where
+pub record Ready (is_transparent : Bool) (w : State) (most : ℕ) (bytes : List ℕ) : Type 0 where
   pub some : 0 < length bytes
   pub within : length bytes ≤ most
   pub in_window : w.pos + length bytes ≤ w.filled
-  pub same : OnTrue told (bytes ≡ take (length bytes) (left w))
+  pub same : OnTrue is_transparent (bytes ≡ take (length bytes) (left w))
 
 -- Some of the next bytes, as many as the window has, and at least one.
-abbrev pub Took : Bool → List ℕ → List ℕ → List ℕ → List ℕ → ℕ → Result ℕ HeadFault → Type 0
-Took told old new before out most (Ok k) = (0 < k) × (k ≤ most) × OnTrue told ((k ≤ length old) × (out ≡ before ++ take k old) × (new ≡ drop k old))
-Took told old new before out most (Err e) = OnTrue told (MatchBool (is_of_bytes e) ((e ≡ Format HeaderTruncated) × (old ≡ []) × (new ≡ [])) (new ≡ old))
+abbrev pub ReadNext : Bool → List ℕ → List ℕ → List ℕ → List ℕ → ℕ → Result ℕ HeadFault → Type 0
+ReadNext is_transparent old new before out most (Ok k) = (0 < k) × (k ≤ most) × OnTrue is_transparent ((k ≤ length old) × (out ≡ before ++ take k old) × (new ≡ drop k old))
+ReadNext is_transparent old new before out most (Err e) = OnTrue is_transparent (MatchBool (is_of_bytes e) ((e ≡ Format HeaderTruncated) × (old ≡ []) × (new ≡ [])) (new ≡ old))

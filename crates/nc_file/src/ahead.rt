@@ -28,7 +28,7 @@ impl Ahead {
         }
     }
 
-    /// Copies the bytes from the offset `at` on to the front of `into`, as many as there are and fit, and gives their
+    /// Copies the bytes from the offset `at` on to the start of `into`, as many as there are and fit, and gives their
     /// number: 0 where the byte at this offset wasn't read ahead.
     // Inside of a caller's loop, the test for slices that overlap would be prepared anew for each read.
     #[inline(never)]
@@ -57,7 +57,7 @@ impl Ahead {
     }
 }
 
-/// Reads bytes from the offset `at` on into the front of `into`, and gives their number. In place of a few bytes so many are
+/// Reads bytes from the offset `at` on to the start of `into`, and gives their number. In place of a few bytes so many are
 /// read as are read ahead, and the first of them copied.
 pub(crate) fn read_some(
     file: &File,

@@ -1,4 +1,4 @@
-//! Tests of the devices that hand over and take few bytes at a time.
+//! Tests of the devices that give and take few bytes at a time.
 
 ghost use Rattle.std.specs.Prelude.{◌≤◌, length};
 
@@ -32,7 +32,7 @@ fn reads_header(
     buf: &mut [u8],
 )
     requires some { 1 ≤ step }
-    requires room { 16 ≤ length buf.old }
+    requires buffer_len { 16 ≤ length buf.old }
 {
     let mut source = DripSource::new(file, step, FailWhen::Never);
     assert_eq!(rt; has_no_dims(alloc, &mut source, buf), want);
@@ -131,12 +131,12 @@ fn fills_slices(rt: &impl Abort, step: usize)
     requires { 1 ≤ step }
 {
     let text = b"abcdefghij";
-    for room in 0..11 {
+    for buffer_len in 0..11 {
         let mut space = [0; 10];
-        let mut sink = SliceSink::new(&mut space[..room], step);
-        let want = if room < 10 { Err(WriteFailed) } else { Ok(()) };
+        let mut sink = SliceSink::new(&mut space[..buffer_len], step);
+        let want = if buffer_len < 10 { Err(WriteFailed) } else { Ok(()) };
         assert_eq!(rt; put(&mut sink, text), want, "at {room}");
-        assert_eq!(rt; sink.taken(), &text[..room], "at {room}");
+        assert_eq!(rt; sink.taken(), &text[..buffer_len], "at {room}");
         assert_eq!(rt; sink.write_some(b""), Ok(0), "at {room}");
         assert_eq!(rt; sink.write_some(b"k"), Err(SinkFailed), "at {room}");
     }

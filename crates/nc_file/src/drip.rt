@@ -1,4 +1,4 @@
-//! A source that hands over few bytes a read, and fails when it is told to.
+//! A source that gives few bytes a read, and fails on request.
 
 ghost use Rattle.std.specs.Prelude.{◌≡◌, ◌↔◌, ◌≤◌, ◌<◌, ◌⊎◌, ◌+◌, ◌-◌, ◌^◌, IfOk, IsErr, IsTrue, true, length, min};
 ghost use Rattle.nc_file.specs.Sources.{ReadSome};
@@ -32,9 +32,9 @@ impl FailWhen {
     }
 }
 
-/// A source of the bytes of a slice, all of which it tells, that hands over at most `step` of them a read.
+/// A source of the bytes of a slice, which gives at most `step` of them a read.
 ///
-/// It fails when it is told to, and where a count would reach 2^128.
+/// It fails on request, and where a count would reach 2^128.
 #[derive(Drop)]
 pub struct DripSource<'a> {
     bytes: &'a [u8],
@@ -49,10 +49,10 @@ pub struct DripSource<'a> {
 impl<'a> DripSource<'a> {
     ghost use Rattle.nc_file.specs.Drip.{step_of, fail_of, reads_of};
 
-    /// A source of these bytes, which has handed over none of them.
+    /// A source of these bytes, which has read none of them.
     pub fn new(bytes: &'a [u8], step: usize, fail: FailWhen) -> DripSource<'a>
         requires { 1 ≤ step }
-        ensures seen { ⟦<DripSource<'static> as Source>⟧.seen result ≡ record { bytes = bytes.now; failures = 0; handed = 0 } }
+        ensures view { ⟦<DripSource<'static> as Source>⟧.view result ≡ record { bytes = bytes.now; failures = 0; handed = 0 } }
         ensures step { step_of result ≡ step }
         ensures fail { fail_of result ≡ fail }
         ensures reads { reads_of result ≡ 0 }
@@ -67,9 +67,9 @@ impl<'a> DripSource<'a> {
         }
     }
 
-    /// How many bytes it has handed over.
+    /// How many bytes it has read.
     pub fn handed(&self) -> u128
-        ensures { result ≡ (⟦<DripSource<'static> as Source>⟧.seen self.now).handed }
+        ensures { result ≡ (⟦<DripSource<'static> as Source>⟧.view self.now).handed }
     {
         self.handed
     }
@@ -78,9 +78,9 @@ impl<'a> DripSource<'a> {
 impl Source for DripSource<'_> {
     ghost use Rattle.nc_file.specs.Drip.{IsDue, view_of, step_of, fail_of, reads_of};
 
-    ghost told = { true };
+    ghost is_transparent = { true };
 
-    ghost seen = { view_of };
+    ghost view = { view_of };
 
     fn len(&self) -> u64 {
         length_of(self.bytes)
@@ -96,7 +96,7 @@ impl Source for DripSource<'_> {
         ensures fail { fail_of self.new ≡ fail_of self.old }
         ensures reads { (view_of self.old).handed + length into.old < 2 ^ 128 → reads_of self.new ≡ min (reads_of self.old + 1) (2 ^ 128 - 1) }
 
-        // It fails when it is told to, and else where it cannot count.
+        // It fails on request, and else where it cannot count.
         ensures due { IsDue (fail_of self.old) at (reads_of self.old) → IsErr result }
         ensures only_due { IsErr result → IsDue (fail_of self.old) at (reads_of self.old) ⊎ (2 ^ 128 ≤ (view_of self.old).handed + length into.old) }
     {

@@ -1,6 +1,6 @@
 //! What can go wrong with a device.
 
-/// A source failed to hand over bytes.
+/// A source failed to give bytes.
 #[derive(Clone, Copy, Debug, PartialEq, Eq)]
 pub struct SourceFailed;
 

@@ -11,7 +11,7 @@ use std::io::{ErrorKind, Write};
 use std::rt::Files;
 use std::{fs, io};
 
-/// A source over a file of the system, which does not tell its bytes.
+/// A source over a file of the system, which is opaque.
 ///
 /// Its length is the file's at the time when it was opened. A read of few bytes is one from a stretch of the file that
 /// is read ahead, so that reads which lie near each other take few calls of the system. A call that fails is not tried
@@ -32,8 +32,8 @@ impl FileSource {
     ///
     /// The path names nothing, nothing that may be read, or something other than a regular file.
     pub fn open(rt: &impl Files<File = File>, path: &str) -> Result<FileSource, OpenFailed>
-        ensures failures { IfOk result (λ source. (⟦<FileSource as Source>⟧.seen source).failures ≡ 0) }
-        ensures handed { IfOk result (λ source. (⟦<FileSource as Source>⟧.seen source).handed ≡ 0) }
+        ensures failures { IfOk result (λ source. (⟦<FileSource as Source>⟧.view source).failures ≡ 0) }
+        ensures handed { IfOk result (λ source. (⟦<FileSource as Source>⟧.view source).handed ≡ 0) }
     {
         // asked of the path, since to open a pipe is to wait for its writer
         let named = fs::metadata(rt, path).map_err(|_| OpenFailed)?;
@@ -56,7 +56,7 @@ impl FileSource {
     #[tactic(auto, unfolding(crate::specs::Sources::HasFailed))]
     fn read_on(&mut self, at: u64, into: &mut [u8]) -> Result<usize, SourceFailed>
         requires { self.old.handed + length into.old < 2 ^ 128 }
-        ensures { ReadSome false (⟦<FileSource as Source>⟧.seen self.old) (⟦<FileSource as Source>⟧.seen self.new) at into.old into.new result }
+        ensures { ReadSome false (⟦<FileSource as Source>⟧.view self.old) (⟦<FileSource as Source>⟧.view self.new) at into.old into.new result }
     {
         match read_some(&self.file, &mut self.ahead, at, into) {
             Ok(read) => {
@@ -72,9 +72,9 @@ impl FileSource {
 }
 
 impl Source for FileSource {
-    ghost told = { false };
+    ghost is_transparent = { false };
 
-    ghost seen = { λ s. record { bytes = replicate s.len 0; failures = s.failures; handed = s.handed } };
+    ghost view = { λ s. record { bytes = replicate s.len 0; failures = s.failures; handed = s.handed } };
 
     fn len(&self) -> u64 {
         self.len
@@ -106,7 +106,7 @@ pub struct IoSink<W: Write> {
 impl<W: Write> IoSink<W> {
     /// A sink over the writer, which counts what the writer holds already as taken.
     pub fn new(writer: W) -> IoSink<W>
-        ensures { ⟦<IoSink<W> as Sink>⟧.seen result ≡ record { taken = W.contents writer; failures = 0 } }
+        ensures { ⟦<IoSink<W> as Sink>⟧.view result ≡ record { taken = W.contents writer; failures = 0 } }
     {
         IoSink {
             writer,
@@ -119,9 +119,9 @@ impl<W: Write> IoSink<W> {
     /// # Errors
     ///
     /// The writer failed.
-    #[tactic(auto, using(crate::proofs::Writes::devices), unfolding(crate::specs::Sinks::append, crate::specs::Sinks::count, crate::specs::Sinks::IsCut, crate::specs::Sinks::told, crate::specs::Sinks::HasFailed))]
+    #[tactic(auto, using(crate::proofs::Writes::devices), unfolding(crate::specs::Sinks::append, crate::specs::Sinks::count, crate::specs::Sinks::IsCut, crate::specs::Sinks::is_transparent, crate::specs::Sinks::HasFailed))]
     pub fn flush(&mut self) -> Result<(), SinkFailed>
-        ensures { Wrote (⟦<IoSink<W> as Sink>⟧.seen self.old) (⟦<IoSink<W> as Sink>⟧.seen self.new) [] result }
+        ensures { Wrote (⟦<IoSink<W> as Sink>⟧.view self.old) (⟦<IoSink<W> as Sink>⟧.view self.new) [] result }
     {
         let answer = self.writer.flush();
         counted(answer, &mut self.failures)
@@ -129,16 +129,16 @@ impl<W: Write> IoSink<W> {
 
     /// The writer.
     pub fn into_inner(self) -> W
-        ensures { W.contents result ≡ (⟦<IoSink<W> as Sink>⟧.seen self).taken }
+        ensures { W.contents result ≡ (⟦<IoSink<W> as Sink>⟧.view self).taken }
     {
         self.writer
     }
 }
 
 impl<W: Write> Sink for IoSink<W> {
-    ghost seen = { λ s. record { taken = W.contents s.writer; failures = s.failures } };
+    ghost view = { λ s. record { taken = W.contents s.writer; failures = s.failures } };
 
-    #[tactic(auto, using(crate::proofs::Writes::devices), unfolding(crate::specs::Sinks::append, crate::specs::Sinks::count, crate::specs::Sinks::IsCut, crate::specs::Sinks::told, crate::specs::Sinks::HasFailed))]
+    #[tactic(auto, using(crate::proofs::Writes::devices), unfolding(crate::specs::Sinks::append, crate::specs::Sinks::count, crate::specs::Sinks::IsCut, crate::specs::Sinks::is_transparent, crate::specs::Sinks::HasFailed))]
     fn write_some(&mut self, bytes: &[u8]) -> Result<usize, SinkFailed> {
         if bytes.is_empty() {
             return Ok(0);

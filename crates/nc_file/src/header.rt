@@ -12,11 +12,11 @@ use crate::window::Window;
 use nc_base::{FormatFault, Header};
 use std::alloc::Global;
 
-/// Reads the header at the front of a source, through a lent buffer of at least 16 bytes. The header is sound, whatever
+/// Reads the header at the start of a source, through a caller's buffer of at least 16 bytes. The header is sound, whatever
 /// source it comes from.
 ///
-/// It reads from the source only when it lacks a byte of the next field, and from that byte on; so a source that tells its
-/// bytes hands over the header's bytes, or those up to the end of the first wrong field, and at most one buffer more. No
+/// It reads from the source only when it lacks a byte of the next field, and from that byte on; so of a transparent
+/// source it reads the header's bytes, or those up to the end of the first wrong field, and at most one buffer more. No
 /// count of the header reserves memory: a list grows as its elements are read. The padding of names and attributes may be
 /// any bytes (NetCDF Classic Format Specification).
 ///
@@ -30,28 +30,28 @@ pub fn read_header<S: Source>(
     buf: &mut [u8],
 ) -> Result<Header, HeadFault>
     requires { 16 ≤ length buf.old }
-    ensures bytes { (S.seen source.new).bytes ≡ (S.seen source.old).bytes }
-    ensures cause { Caused (S.seen source.old).failures (S.seen source.new) result }
-    ensures answer { OnTrue S.told (HasAnswered (S.seen source.old).bytes (S.seen source.old).handed (S.seen source.new).handed (length buf.old) result) }
+    ensures bytes { (S.view source.new).bytes ≡ (S.view source.old).bytes }
+    ensures cause { Caused (S.view source.old).failures (S.view source.new) result }
+    ensures answer { OnTrue S.is_transparent (HasAnswered (S.view source.old).bytes (S.view source.old).handed (S.view source.new).handed (length buf.old) result) }
     ensures sound { IfOk result IsSound }
 {
-    match header_in_front(alloc, source, buf) {
+    match header_at_start(alloc, source, buf) {
         Ok(header) if !header.sound() => Err(HeadFault::Format(FormatFault::TooLarge)),
         answer => answer,
     }
 }
 
-/// Reads the header at the front. It is sound where the source tells its bytes; of the bytes of another source nothing is
+/// Reads the header at the prefix. It is sound where the source is transparent; of the bytes of another source nothing is
 /// known.
-fn header_in_front<S: Source>(
+fn header_at_start<S: Source>(
     alloc: Global,
     source: &mut S,
     buf: &mut [u8],
 ) -> Result<Header, HeadFault>
     requires { 16 ≤ length buf.old }
-    ensures bytes { (S.seen source.new).bytes ≡ (S.seen source.old).bytes }
-    ensures cause { Caused (S.seen source.old).failures (S.seen source.new) result }
-    ensures answer { OnTrue S.told (HasAnswered (S.seen source.old).bytes (S.seen source.old).handed (S.seen source.new).handed (length buf.old) result) }
+    ensures bytes { (S.view source.new).bytes ≡ (S.view source.old).bytes }
+    ensures cause { Caused (S.view source.old).failures (S.view source.new) result }
+    ensures answer { OnTrue S.is_transparent (HasAnswered (S.view source.old).bytes (S.view source.old).handed (S.view source.new).handed (length buf.old) result) }
 {
     let len = source.len();
     let mut window = Window {

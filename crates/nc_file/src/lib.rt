@@ -1,12 +1,12 @@
 //! The devices of netCDF files, and the header that is read from one.
 //!
-//! [`read_header`] reads the header of a classic file from any source, through a lent buffer, and
+//! [`read_header`] reads the header of a classic file from any source, through a caller's buffer, and
 //! answers a [`HeadFault`] where there is none.
 //!
-//! A [`Source`] hands over bytes from any place, and a [`Sink`] takes bytes one behind another. Each
+//! A [`Source`] gives bytes from any offset, and a [`Sink`] takes bytes one after another. Each
 //! counts its failures and says nothing of their cause. [`MemSource`] and [`MemSink`] stand in memory,
 //! [`FileSource`] is a file of the system, and [`IoSink`] goes over any writer of the standard library.
-//! [`DripSource`] hands over few bytes a read and fails when it is told to, and [`SliceSink`] fills a lent
+//! [`DripSource`] gives few bytes a read and fails on request, and [`SliceSink`] fills a lent
 //! slice, a few bytes a call. [`put`] writes all of the bytes that it is given.
 #![tactic(auto)]
 

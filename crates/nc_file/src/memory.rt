@@ -17,9 +17,9 @@ pub struct MemSource<'a> {
 }
 
 impl<'a> MemSource<'a> {
-    /// A source of these bytes, which has handed over none of them.
+    /// A source of these bytes, which has read none of them.
     pub fn new(bytes: &'a [u8]) -> MemSource<'a>
-        ensures { ⟦<MemSource<'static> as Source>⟧.seen result ≡ record { bytes = bytes.now; failures = 0; handed = 0 } }
+        ensures { ⟦<MemSource<'static> as Source>⟧.view result ≡ record { bytes = bytes.now; failures = 0; handed = 0 } }
     {
         MemSource {
             bytes,
@@ -30,9 +30,9 @@ impl<'a> MemSource<'a> {
 }
 
 impl Source for MemSource<'_> {
-    ghost told = { true };
+    ghost is_transparent = { true };
 
-    ghost seen = { λ s. record { bytes = s.bytes.now; failures = s.failures; handed = s.handed } };
+    ghost view = { λ s. record { bytes = s.bytes.now; failures = s.failures; handed = s.handed } };
 
     fn len(&self) -> u64 {
         length_of(self.bytes)
@@ -72,7 +72,7 @@ pub struct MemSink {
 impl MemSink {
     /// An empty sink, which takes its memory from `alloc` as it grows.
     pub fn new(alloc: Global) -> MemSink
-        ensures { ⟦<MemSink as Sink>⟧.seen result ≡ record { taken = Some []; failures = 0 } }
+        ensures { ⟦<MemSink as Sink>⟧.view result ≡ record { taken = Some []; failures = 0 } }
     {
         MemSink {
             bytes: Vec::new(alloc),
@@ -82,16 +82,16 @@ impl MemSink {
 
     /// All the bytes that it took.
     pub fn as_slice(&self) -> &[u8]
-        ensures { (⟦<MemSink as Sink>⟧.seen self.now).taken ≡ Some result.now }
+        ensures { (⟦<MemSink as Sink>⟧.view self.now).taken ≡ Some result.now }
     {
         self.bytes.as_slice()
     }
 }
 
 impl Sink for MemSink {
-    ghost seen = { λ s. record { taken = Some s.bytes.items; failures = s.failures } };
+    ghost view = { λ s. record { taken = Some s.bytes.items; failures = s.failures } };
 
-    #[tactic(auto, using(crate::proofs::Writes::devices), unfolding(crate::specs::Sinks::append, crate::specs::Sinks::count, crate::specs::Sinks::IsCut, crate::specs::Sinks::told, crate::specs::Sinks::HasFailed))]
+    #[tactic(auto, using(crate::proofs::Writes::devices), unfolding(crate::specs::Sinks::append, crate::specs::Sinks::count, crate::specs::Sinks::IsCut, crate::specs::Sinks::is_transparent, crate::specs::Sinks::HasFailed))]
     fn write_some(&mut self, bytes: &[u8]) -> Result<usize, SinkFailed> {
         if bytes.is_empty() {
             return Ok(0);

@@ -4,7 +4,7 @@ ghost use Rattle.std.specs.Prelude.{◌≡◌, ◌+◌, ◌≤◌, [], false, tr
 ghost use Rattle.nc_base.specs.Bytes.{padding_len};
 ghost use Rattle.nc_base.specs.Sizes.{has_records, slab_limit};
 ghost use Rattle.nc_file.specs.Reading.{type_in, name_at, type_at, list_len_at, dim_at, dims_at, dim_list_at, att_at, atts_at, att_list_at, is_dimid, dimid_at, dimids_at, shape_at, wide_at, offset_at, total_with, var_at, vars_at, var_list_at, first_at, version_at, magic_at, numrecs_at, header_at};
-ghost use Rattle.nc_file.specs.Window.{Opened, Did};
+ghost use Rattle.nc_file.specs.Window.{Opened, ReadPart};
 
 use crate::head_fault::HeadFault;
 use crate::sized_var::SizedVar;
@@ -27,8 +27,8 @@ impl<S: Source> Window<'_, S> {
     /// A name: its length, its bytes and their padding.
     #[tactic(auto, using(crate::proofs::Parts::parts), unfolding(crate::specs::Reading::name_at))]
     fn name(&mut self, alloc: Global, version: Version) -> Result<Sequence<u8>, HeadFault>
-        requires { Opened S.told S.seen self.old }
-        ensures { Did S.told S.seen self.old self.new (name_at version) result }
+        requires { Opened S.is_transparent S.view self.old }
+        ensures { ReadPart S.is_transparent S.view self.old self.new (name_at version) result }
     {
         let n = self.count(version)?;
         let name = self.bytes(alloc, n as u128)?;
@@ -42,8 +42,8 @@ impl<S: Source> Window<'_, S> {
     /// A type.
     #[tactic(auto, using(crate::proofs::Parts::parts), unfolding(crate::specs::Reading::type_at))]
     fn nc_type(&mut self, version: Version) -> Result<NcType, HeadFault>
-        requires { Opened S.told S.seen self.old }
-        ensures { Did S.told S.seen self.old self.new (type_at version) result }
+        requires { Opened S.is_transparent S.view self.old }
+        ensures { ReadPart S.is_transparent S.view self.old self.new (type_at version) result }
     {
         let code = self.read_u32()?;
         if code == 5 || code == 6 {
@@ -55,11 +55,11 @@ impl<S: Source> Window<'_, S> {
         }
     }
 
-    /// The number of elements of a list, behind its tag.
+    /// The number of elements of a list, after its tag.
     #[tactic(auto, using(crate::proofs::Parts::parts), unfolding(crate::specs::Reading::list_len_at))]
     fn list_len(&mut self, version: Version, tag: u32) -> Result<u64, HeadFault>
-        requires { Opened S.told S.seen self.old }
-        ensures { Did S.told S.seen self.old self.new (list_len_at version tag) result }
+        requires { Opened S.is_transparent S.view self.old }
+        ensures { ReadPart S.is_transparent S.view self.old self.new (list_len_at version tag) result }
     {
         let found = self.read_u32()?;
         if found != 0 && found != tag {
@@ -72,15 +72,15 @@ impl<S: Source> Window<'_, S> {
         Ok(n)
     }
 
-    /// A dimension. Only one may have length 0, and `seen` says whether one had.
+    /// A dimension. Only one may have length 0, and `view` says whether one had.
     #[tactic(auto, using(crate::proofs::Parts::parts), unfolding(crate::specs::Reading::dim_at))]
-    fn dim(&mut self, alloc: Global, version: Version, seen: bool) -> Result<Dim, HeadFault>
-        requires { Opened S.told S.seen self.old }
-        ensures { Did S.told S.seen self.old self.new (dim_at version seen) result }
+    fn dim(&mut self, alloc: Global, version: Version, view: bool) -> Result<Dim, HeadFault>
+        requires { Opened S.is_transparent S.view self.old }
+        ensures { ReadPart S.is_transparent S.view self.old self.new (dim_at version view) result }
     {
         let name = self.name(alloc, version)?;
         let len = self.count(version)?;
-        if seen && len == 0 {
+        if view && len == 0 {
             return Err(HeadFault::Format(FormatFault::TwoRecordDims));
         }
         Ok(Dim { name, len })
@@ -88,14 +88,14 @@ impl<S: Source> Window<'_, S> {
 
     #[tactic(auto, using(crate::proofs::Loops::dims))]
     fn dims(&mut self, alloc: Global, version: Version, n: u64) -> Result<Sequence<Dim>, HeadFault>
-        requires { Opened S.told S.seen self.old }
-        ensures { Did S.told S.seen self.old self.new (dims_at version n false []) result }
+        requires { Opened S.is_transparent S.view self.old }
+        ensures { ReadPart S.is_transparent S.view self.old self.new (dims_at version n false []) result }
     {
         let mut dims = Sequence::new(alloc);
-        let mut seen = false;
+        let mut view = false;
         for _ in 0..n {
-            let dim = self.dim(alloc, version, seen)?;
-            seen = seen || dim.len == 0;
+            let dim = self.dim(alloc, version, view)?;
+            view = view || dim.len == 0;
             dims.push(dim)?;
         }
         Ok(dims)
@@ -103,8 +103,8 @@ impl<S: Source> Window<'_, S> {
 
     #[tactic(auto, using(crate::proofs::Parts::parts), unfolding(crate::specs::Reading::dim_list_at))]
     fn dim_list(&mut self, alloc: Global, version: Version) -> Result<Sequence<Dim>, HeadFault>
-        requires { Opened S.told S.seen self.old }
-        ensures { Did S.told S.seen self.old self.new (dim_list_at version) result }
+        requires { Opened S.is_transparent S.view self.old }
+        ensures { ReadPart S.is_transparent S.view self.old self.new (dim_list_at version) result }
     {
         let n = self.list_len(version, DIMENSION_TAG)?;
         self.dims(alloc, version, n)
@@ -113,8 +113,8 @@ impl<S: Source> Window<'_, S> {
     /// An attribute.
     #[tactic(auto, using(crate::proofs::Parts::parts), unfolding(crate::specs::Reading::att_at))]
     fn att(&mut self, alloc: Global, version: Version) -> Result<Att, HeadFault>
-        requires { Opened S.told S.seen self.old }
-        ensures { Did S.told S.seen self.old self.new (att_at version) result }
+        requires { Opened S.is_transparent S.view self.old }
+        ensures { ReadPart S.is_transparent S.view self.old self.new (att_at version) result }
     {
         let name = self.name(alloc, version)?;
         let ty = self.nc_type(version)?;
@@ -125,8 +125,8 @@ impl<S: Source> Window<'_, S> {
 
     #[tactic(auto, using(crate::proofs::Loops::atts))]
     fn atts(&mut self, alloc: Global, version: Version, n: u64) -> Result<Sequence<Att>, HeadFault>
-        requires { Opened S.told S.seen self.old }
-        ensures { Did S.told S.seen self.old self.new (atts_at version n []) result }
+        requires { Opened S.is_transparent S.view self.old }
+        ensures { ReadPart S.is_transparent S.view self.old self.new (atts_at version n []) result }
     {
         let mut atts = Sequence::new(alloc);
         for _ in 0..n {
@@ -138,8 +138,8 @@ impl<S: Source> Window<'_, S> {
 
     #[tactic(auto, using(crate::proofs::Parts::parts), unfolding(crate::specs::Reading::att_list_at))]
     fn att_list(&mut self, alloc: Global, version: Version) -> Result<Sequence<Att>, HeadFault>
-        requires { Opened S.told S.seen self.old }
-        ensures { Did S.told S.seen self.old self.new (att_list_at version) result }
+        requires { Opened S.is_transparent S.view self.old }
+        ensures { ReadPart S.is_transparent S.view self.old self.new (att_list_at version) result }
     {
         let n = self.list_len(version, ATTRIBUTE_TAG)?;
         self.atts(alloc, version, n)
@@ -148,8 +148,8 @@ impl<S: Source> Window<'_, S> {
     /// A dimension id. That of the record dimension stands in the first place of a shape alone.
     #[tactic(auto, using(crate::proofs::Parts::parts), unfolding(crate::specs::Reading::dimid_at))]
     fn dimid(&mut self, version: Version, dims: &[Dim], first: bool) -> Result<u64, HeadFault>
-        requires { Opened S.told S.seen self.old }
-        ensures { Did S.told S.seen self.old self.new (dimid_at version dims.now first) result }
+        requires { Opened S.is_transparent S.view self.old }
+        ensures { ReadPart S.is_transparent S.view self.old self.new (dimid_at version dims.now first) result }
     {
         let id = self.number(version)?;
         if !is_dimid(dims, first, id) {
@@ -166,8 +166,8 @@ impl<S: Source> Window<'_, S> {
         dims: &[Dim],
         n: u64,
     ) -> Result<Sequence<u64>, HeadFault>
-        requires { Opened S.told S.seen self.old }
-        ensures { Did S.told S.seen self.old self.new (dimids_at version dims.now n true []) result }
+        requires { Opened S.is_transparent S.view self.old }
+        ensures { ReadPart S.is_transparent S.view self.old self.new (dimids_at version dims.now n true []) result }
     {
         let mut dimids = Sequence::new(alloc);
         let mut first = true;
@@ -186,8 +186,8 @@ impl<S: Source> Window<'_, S> {
         version: Version,
         dims: &[Dim],
     ) -> Result<Sequence<u64>, HeadFault>
-        requires { Opened S.told S.seen self.old }
-        ensures { Did S.told S.seen self.old self.new (shape_at version dims.now) result }
+        requires { Opened S.is_transparent S.view self.old }
+        ensures { ReadPart S.is_transparent S.view self.old self.new (shape_at version dims.now) result }
     {
         let n = self.count(version)?;
         self.dimids(alloc, version, dims, n)
@@ -195,8 +195,8 @@ impl<S: Source> Window<'_, S> {
 
     /// A number of the width that offsets have in the version.
     fn wide(&mut self, version: Version) -> Result<u64, HeadFault>
-        requires { Opened S.told S.seen self.old }
-        ensures { Did S.told S.seen self.old self.new (wide_at version) result }
+        requires { Opened S.is_transparent S.view self.old }
+        ensures { ReadPart S.is_transparent S.view self.old self.new (wide_at version) result }
     {
         match version {
             Version::Cdf1 => self.narrow_number(),
@@ -207,8 +207,8 @@ impl<S: Source> Window<'_, S> {
     /// The offset of a variable.
     #[tactic(auto, using(crate::proofs::Parts::parts), unfolding(crate::specs::Reading::offset_at))]
     fn offset(&mut self, version: Version) -> Result<u64, HeadFault>
-        requires { Opened S.told S.seen self.old }
-        ensures { Did S.told S.seen self.old self.new (offset_at version) result }
+        requires { Opened S.is_transparent S.view self.old }
+        ensures { ReadPart S.is_transparent S.view self.old self.new (offset_at version) result }
     {
         let n = self.wide(version)?;
         if version.offset_limit() <= n {
@@ -217,7 +217,7 @@ impl<S: Source> Window<'_, S> {
         Ok(n)
     }
 
-    /// A variable, behind others whose records have so many bytes. Its `vsize` may be any number.
+    /// A variable, after others whose records have n bytes. Its `vsize` may be any number.
     #[tactic(auto, using(crate::proofs::Parts::parts), unfolding(crate::specs::Reading::var_at))]
     fn var(
         &mut self,
@@ -226,8 +226,8 @@ impl<S: Source> Window<'_, S> {
         dims: &[Dim],
         total: u64,
     ) -> Result<SizedVar, HeadFault>
-        requires { Opened S.told S.seen self.old }
-        ensures { Did S.told S.seen self.old self.new (var_at version dims.now total) result }
+        requires { Opened S.is_transparent S.view self.old }
+        ensures { ReadPart S.is_transparent S.view self.old self.new (var_at version dims.now total) result }
     {
         let name = self.name(alloc, version)?;
         let dimids = self.shape(alloc, version, dims)?;
@@ -259,8 +259,8 @@ impl<S: Source> Window<'_, S> {
         dims: &[Dim],
         n: u64,
     ) -> Result<Sequence<Var>, HeadFault>
-        requires { Opened S.told S.seen self.old }
-        ensures { Did S.told S.seen self.old self.new (vars_at version dims.now n 0 []) result }
+        requires { Opened S.is_transparent S.view self.old }
+        ensures { ReadPart S.is_transparent S.view self.old self.new (vars_at version dims.now n 0 []) result }
     {
         let mut vars = Sequence::new(alloc);
         let mut total = 0;
@@ -279,8 +279,8 @@ impl<S: Source> Window<'_, S> {
         version: Version,
         dims: &[Dim],
     ) -> Result<Sequence<Var>, HeadFault>
-        requires { Opened S.told S.seen self.old }
-        ensures { Did S.told S.seen self.old self.new (var_list_at version dims.now) result }
+        requires { Opened S.is_transparent S.view self.old }
+        ensures { ReadPart S.is_transparent S.view self.old self.new (var_list_at version dims.now) result }
     {
         let n = self.list_len(version, VARIABLE_TAG)?;
         self.vars(alloc, version, dims, n)
@@ -289,8 +289,8 @@ impl<S: Source> Window<'_, S> {
     /// A byte of `CDF`.
     #[tactic(auto, using(crate::proofs::Parts::byte_shorter), unfolding(crate::specs::Reading::byte_or, crate::specs::Reading::left_over))]
     fn first(&mut self) -> Result<u8, HeadFault>
-        requires { Opened S.told S.seen self.old }
-        ensures { Did S.told S.seen self.old self.new first_at result }
+        requires { Opened S.is_transparent S.view self.old }
+        ensures { ReadPart S.is_transparent S.view self.old self.new first_at result }
     {
         match self.byte() {
             Err(HeadFault::Format(_)) => Err(HeadFault::Format(FormatFault::NotNetcdf)),
@@ -300,8 +300,8 @@ impl<S: Source> Window<'_, S> {
 
     #[tactic(auto, using(crate::proofs::Parts::parts), unfolding(crate::specs::Reading::version_at))]
     fn version(&mut self) -> Result<Version, HeadFault>
-        requires { Opened S.told S.seen self.old }
-        ensures { Did S.told S.seen self.old self.new version_at result }
+        requires { Opened S.is_transparent S.view self.old }
+        ensures { ReadPart S.is_transparent S.view self.old self.new version_at result }
     {
         let b = self.byte()?;
         match Version::of_byte(b) {
@@ -313,8 +313,8 @@ impl<S: Source> Window<'_, S> {
     /// `CDF` and the version byte.
     #[tactic(auto, using(crate::proofs::Parts::parts), unfolding(crate::specs::Reading::magic_at))]
     fn magic(&mut self) -> Result<Version, HeadFault>
-        requires { Opened S.told S.seen self.old }
-        ensures { Did S.told S.seen self.old self.new magic_at result }
+        requires { Opened S.is_transparent S.view self.old }
+        ensures { ReadPart S.is_transparent S.view self.old self.new magic_at result }
     {
         let a = self.first()?;
         let b = self.first()?;
@@ -329,8 +329,8 @@ impl<S: Source> Window<'_, S> {
     /// The number of records, or the mark for an unknown one.
     #[tactic(auto, using(crate::proofs::Parts::parts), unfolding(crate::specs::Reading::numrecs_at))]
     fn numrecs(&mut self, version: Version) -> Result<NumRecs, HeadFault>
-        requires { Opened S.told S.seen self.old }
-        ensures { Did S.told S.seen self.old self.new (numrecs_at version) result }
+        requires { Opened S.is_transparent S.view self.old }
+        ensures { ReadPart S.is_transparent S.view self.old self.new (numrecs_at version) result }
     {
         let n = self.number(version)?;
         if n == version.streaming_mark() {
@@ -345,8 +345,8 @@ impl<S: Source> Window<'_, S> {
     /// The whole header.
     #[tactic(auto, using(crate::proofs::Parts::parts), unfolding(crate::specs::Reading::header_at))]
     pub(crate) fn header(&mut self, alloc: Global) -> Result<Header, HeadFault>
-        requires { Opened S.told S.seen self.old }
-        ensures { Did S.told S.seen self.old self.new header_at result }
+        requires { Opened S.is_transparent S.view self.old }
+        ensures { ReadPart S.is_transparent S.view self.old self.new header_at result }
     {
         let version = self.magic()?;
         let numrecs = self.numrecs(version)?;

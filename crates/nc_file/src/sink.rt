@@ -4,15 +4,15 @@ ghost use Rattle.nc_file.specs.Sinks.{SinkView, Wrote, WroteSome};
 
 use crate::{SinkFailed, WriteFailed};
 
-/// A device that takes bytes, one behind another.
+/// A device that takes bytes, one after another.
 ///
-/// Contracts see a sink as the bytes that it took, where it tells them, and the number of its failures,
+/// Contracts see a sink as the bytes that it took, where it is transparent, and the number of its failures,
 /// which stops below 2^128.
 pub trait Sink {
     // The sink as contracts see it.
-    ghost seen: { Self → SinkView };
+    ghost view: { Self → SinkView };
 
-    /// Takes bytes from the front of `bytes`, and gives their number.
+    /// Takes bytes from the start of `bytes`, and gives their number.
     ///
     /// It is at least 1, unless `bytes` is empty.
     ///
@@ -20,17 +20,17 @@ pub trait Sink {
     ///
     /// The sink failed, and took none of the bytes. Empty `bytes` never fail.
     fn write_some(&mut self, bytes: &[u8]) -> Result<usize, SinkFailed>
-        ensures { WroteSome (seen self.old) (seen self.new) bytes.now result };
+        ensures { WroteSome (view self.old) (view self.new) bytes.now result };
 }
 
 /// Writes all of the bytes to the sink, by as many calls as it takes.
 ///
 /// # Errors
 ///
-/// The sink failed. It took some front of the bytes, and is not tried again.
+/// The sink failed. It took some prefix of the bytes, and is not tried again.
 #[tactic(auto, using(crate::proofs::Writes::writes))]
 pub fn put<W: Sink>(sink: &mut W, bytes: &[u8]) -> Result<(), WriteFailed>
-    ensures { Wrote (W.seen sink.old) (W.seen sink.new) bytes.now result }
+    ensures { Wrote (W.view sink.old) (W.view sink.new) bytes.now result }
 {
     let mut done = 0;
     while done < bytes.len() {

@@ -5,7 +5,7 @@ ghost use Rattle.nc_file.specs.Sinks.{WroteSome};
 
 use crate::{Sink, SinkFailed};
 
-/// A sink that keeps its bytes at the front of a lent slice, and tells them. It takes at most `step` of them a call.
+/// A sink that keeps its bytes at the start of a lent slice, and tells them. It takes at most `step` of them a call.
 ///
 /// It fails once the slice is full.
 #[derive(Drop)]
@@ -19,13 +19,13 @@ pub struct SliceSink<'a> {
 }
 
 impl<'a> SliceSink<'a> {
-    ghost use Rattle.nc_file.specs.Slice.{room_of, step_of};
+    ghost use Rattle.nc_file.specs.Slice.{capacity_left, step_of};
 
     /// An empty sink over the slice.
     pub fn new(into: &'a mut [u8], step: usize) -> SliceSink<'a>
         requires { 1 ≤ step }
-        ensures seen { ⟦<SliceSink<'static> as Sink>⟧.seen result ≡ record { taken = Some []; failures = 0 } }
-        ensures room { room_of result ≡ length into.old }
+        ensures view { ⟦<SliceSink<'static> as Sink>⟧.view result ≡ record { taken = Some []; failures = 0 } }
+        ensures buffer_len { capacity_left result ≡ length into.old }
         ensures step { step_of result ≡ step }
     {
         SliceSink {
@@ -38,37 +38,37 @@ impl<'a> SliceSink<'a> {
 
     /// All the bytes that it took.
     pub fn taken(&self) -> &[u8]
-        ensures { (⟦<SliceSink<'static> as Sink>⟧.seen self.now).taken ≡ Some result.now }
+        ensures { (⟦<SliceSink<'static> as Sink>⟧.view self.now).taken ≡ Some result.now }
     {
         &self.into[..self.len]
     }
 }
 
 impl Sink for SliceSink<'_> {
-    ghost use Rattle.nc_file.specs.Slice.{view_of, room_of, step_of};
+    ghost use Rattle.nc_file.specs.Slice.{view_of, capacity_left, step_of};
 
-    ghost seen = { view_of };
+    ghost view = { view_of };
 
-    #[tactic(auto, using(crate::proofs::Writes::devices), unfolding(crate::specs::Sinks::append, crate::specs::Sinks::count, crate::specs::Sinks::IsCut, crate::specs::Sinks::told, crate::specs::Sinks::HasFailed))]
+    #[tactic(auto, using(crate::proofs::Writes::devices), unfolding(crate::specs::Sinks::append, crate::specs::Sinks::count, crate::specs::Sinks::IsCut, crate::specs::Sinks::is_transparent, crate::specs::Sinks::HasFailed))]
     fn write_some(&mut self, bytes: &[u8]) -> Result<usize, SinkFailed>
         ensures wrote { WroteSome (view_of self.old) (view_of self.new) bytes.now result }
         ensures few { IfOk result (λ n. n ≤ step_of self.old) }
         ensures step { step_of self.new ≡ step_of self.old }
 
         // It fails once it has no room.
-        ensures full { IsErr result ↔ (0 < length bytes.now) × (room_of self.old ≡ 0) }
-        ensures room { IfOk result (λ n. room_of self.new + n ≡ room_of self.old) }
-        ensures same_room { OnErr result (room_of self.new ≡ room_of self.old) }
+        ensures full { IsErr result ↔ (0 < length bytes.now) × (capacity_left self.old ≡ 0) }
+        ensures buffer_len { IfOk result (λ n. capacity_left self.new + n ≡ capacity_left self.old) }
+        ensures same_buffer_len { OnErr result (capacity_left self.new ≡ capacity_left self.old) }
     {
         if bytes.is_empty() {
             return Ok(0);
         }
-        let room = self.into.len() - self.len;
-        if room == 0 {
+        let buffer_len = self.into.len() - self.len;
+        if buffer_len == 0 {
             self.failures = self.failures.saturating_add(1);
             return Err(SinkFailed);
         }
-        let n = bytes.len().min(room).min(self.step);
+        let n = bytes.len().min(buffer_len).min(self.step);
         self.into[self.len..self.len + n].copy_from_slice(&bytes[..n]);
         self.len += n;
         Ok(n)

@@ -9,29 +9,30 @@ use crate::SourceFailed;
 
 /// A device that bytes are read from, each read at an offset of its own.
 ///
-/// Contracts see a source as its bytes, the number of its failures and the number of bytes that it has
-/// handed over. Of a source that does not tell its bytes they know the number alone. Both counts stop
-/// below 2^128: a read that would pass that is a failure, and changes nothing.
+/// Contracts see a source as its bytes, the number of its failures and the number of bytes that were
+/// read from it. A transparent source is one whose bytes a contract can name, as memory; of an opaque one,
+/// as a file of the system, contracts know the number of bytes alone. Both counts stop below 2^128: a read
+/// that would pass that is a failure, and changes nothing.
 pub trait Source {
-    // The source tells its bytes.
-    ghost told: { Bool };
+    // The source is transparent.
+    ghost is_transparent: { Bool };
 
     // The source as contracts see it.
-    ghost seen: { Self → SourceView };
+    ghost view: { Self → SourceView };
 
     /// The number of its bytes, which never changes.
     fn len(&self) -> u64
-        ensures length { result ≡ length (seen self.now).bytes }
-        ensures bytes { OnTrue told (AreBytes (seen self.now).bytes) };
+        ensures length { result ≡ length (view self.now).bytes }
+        ensures bytes { OnTrue is_transparent (AreBytes (view self.now).bytes) };
 
-    /// Reads bytes from the offset `at` on into the front of `into`, and gives their number.
+    /// Reads bytes from the offset `at` on to the start of `into`, and gives their number.
     ///
-    /// It may be fewer than `into` has room for. A source that tells its bytes gives 0 for an `into` with
+    /// It may be fewer than `into` has room for. A source that is transparent gives 0 for an `into` with
     /// room only at its end or past it.
     ///
     /// # Errors
     ///
-    /// The source failed. No byte is handed over, and `into` may hold anything.
+    /// The source failed. No byte is read, and `into` may hold anything.
     fn read_at(&mut self, at: u64, into: &mut [u8]) -> Result<usize, SourceFailed>
-        ensures { ReadSome told (seen self.old) (seen self.new) at into.old into.new result };
+        ensures { ReadSome is_transparent (view self.old) (view self.new) at into.old into.new result };
 }

@@ -55,9 +55,9 @@ struct Failing {
 }
 
 impl Sink for Failing {
-    ghost seen = { λ s. record { taken = None; failures = s.failures } };
+    ghost view = { λ s. record { taken = None; failures = s.failures } };
 
-    #[tactic(auto, unfolding(crate::specs::Sinks::told, crate::specs::Sinks::HasFailed))]
+    #[tactic(auto, unfolding(crate::specs::Sinks::is_transparent, crate::specs::Sinks::HasFailed))]
     fn write_some(&mut self, bytes: &[u8]) -> Result<usize, SinkFailed> {
         if bytes.is_empty() {
             return Ok(0);

@@ -1,10 +1,10 @@
-//! A window on a source: bytes and numbers, one behind the other, through a lent buffer.
+//! A window on a source: bytes and numbers, one after the other, through a caller's buffer.
 
 ghost use Rattle.std.specs.Prelude.{◌≡◌, ◌<◌, []};
 ghost use Rattle.std.specs.Int.{w32, w64, from_be_bytes};
 ghost use Rattle.nc_base.specs.Bytes.{padding_len};
 ghost use Rattle.nc_file.specs.Reading.{Caused, byte_at, u32_at, u64_at, number_at, count_at, bytes_at, skip_at, padded_at};
-ghost use Rattle.nc_file.specs.Window.{state, left, Opened, Kept, Refilled, Did, Took, Filled, Ready};
+ghost use Rattle.nc_file.specs.Window.{state, left, Opened, Kept, Refilled, ReadPart, ReadNext, Filled, Ready};
 
 use crate::head_fault::HeadFault;
 use crate::source::Source;
@@ -12,7 +12,7 @@ use byteorder::{BigEndian, ByteOrder};
 use nc_base::{FormatFault, Sequence, Version};
 use std::alloc::Global;
 
-/// A lent buffer with the bytes of a source of length `len` from `base` on, of which `pos` have been used. It reads from
+/// A caller's buffer with the bytes of a source of length `len` from `base` on, of which `pos` have been used. It reads from
 /// the source only when all of them have been, from the next byte on.
 #[derive(Drop)]
 pub(crate) struct Window<'a, S> {
@@ -27,19 +27,19 @@ pub(crate) struct Window<'a, S> {
 impl<S: Source> Window<'_, S> {
     /// Fills an empty window, and says whether a byte has come.
     fn refill(&mut self) -> Result<bool, HeadFault>
-        requires open { Opened S.told S.seen self.old }
+        requires open { Opened S.is_transparent S.view self.old }
         requires empty { self.old.pos ≡ self.old.filled }
         ensures same_source { self.new.source.ghost_name ≡ self.old.source.ghost_name }
-        ensures kept { Kept S.told (state S.seen self.old) (state S.seen self.new) }
-        ensures cause { Caused (S.seen self.old.source.now).failures (S.seen self.new.source.now) result }
-        ensures refilled { Refilled S.told (state S.seen self.old) (state S.seen self.new) result }
+        ensures kept { Kept S.is_transparent (state S.view self.old) (state S.view self.new) }
+        ensures cause { Caused (S.view self.old.source.now).failures (S.view self.new.source.now) result }
+        ensures refilled { Refilled S.is_transparent (state S.view self.old) (state S.view self.new) result }
     {
         let len = self.len;
         let at = self.base + self.filled as u64;
         if len <= at {
             return Ok(false);
         }
-        let room = if len - at < self.buf.len() as u64 {
+        let buffer_len = if len - at < self.buf.len() as u64 {
             (len - at) as usize
         } else {
             self.buf.len()
@@ -47,7 +47,7 @@ impl<S: Source> Window<'_, S> {
         self.base = at;
         self.filled = 0;
         self.pos = 0;
-        let n = match self.source.read_at(at, &mut self.buf[..room]) {
+        let n = match self.source.read_at(at, &mut self.buf[..buffer_len]) {
             Ok(n) => n,
             Err(_) => return Err(HeadFault::ReadFailed),
         };
@@ -57,11 +57,11 @@ impl<S: Source> Window<'_, S> {
 
     /// Makes sure that there is a next byte.
     fn fill(&mut self) -> Result<(), HeadFault>
-        requires { Opened S.told S.seen self.old }
+        requires { Opened S.is_transparent S.view self.old }
         ensures same_source { self.new.source.ghost_name ≡ self.old.source.ghost_name }
-        ensures kept { Kept S.told (state S.seen self.old) (state S.seen self.new) }
-        ensures cause { Caused (S.seen self.old.source.now).failures (S.seen self.new.source.now) result }
-        ensures filled { Filled S.told (state S.seen self.old) (state S.seen self.new) result }
+        ensures kept { Kept S.is_transparent (state S.view self.old) (state S.view self.new) }
+        ensures cause { Caused (S.view self.old.source.now).failures (S.view self.new.source.now) result }
+        ensures filled { Filled S.is_transparent (state S.view self.old) (state S.view self.new) result }
     {
         if self.pos == self.filled && !self.refill()? {
             return Err(HeadFault::Format(FormatFault::HeaderTruncated));
@@ -72,8 +72,8 @@ impl<S: Source> Window<'_, S> {
     /// One byte.
     #[tactic(auto, using(crate::proofs::Parts::byte_shorter), unfolding(crate::specs::Reading::byte_or, crate::specs::Reading::left_over))]
     pub(crate) fn byte(&mut self) -> Result<u8, HeadFault>
-        requires { Opened S.told S.seen self.old }
-        ensures { Did S.told S.seen self.old self.new byte_at result }
+        requires { Opened S.is_transparent S.view self.old }
+        ensures { ReadPart S.is_transparent S.view self.old self.new byte_at result }
     {
         self.fill()?;
         let b = self.buf[self.pos];
@@ -83,8 +83,8 @@ impl<S: Source> Window<'_, S> {
 
     #[tactic(auto, using(crate::proofs::Parts::parts), unfolding(crate::specs::Reading::u32_at))]
     pub(crate) fn read_u32(&mut self) -> Result<u32, HeadFault>
-        requires { Opened S.told S.seen self.old }
-        ensures { Did S.told S.seen self.old self.new u32_at result }
+        requires { Opened S.is_transparent S.view self.old }
+        ensures { ReadPart S.is_transparent S.view self.old self.new u32_at result }
     {
         let a = self.byte()?;
         let b = self.byte()?;
@@ -95,8 +95,8 @@ impl<S: Source> Window<'_, S> {
 
     #[tactic(auto, using(crate::proofs::Parts::parts), unfolding(crate::specs::Reading::u64_at))]
     pub(crate) fn read_u64(&mut self) -> Result<u64, HeadFault>
-        requires { Opened S.told S.seen self.old }
-        ensures { Did S.told S.seen self.old self.new u64_at result }
+        requires { Opened S.is_transparent S.view self.old }
+        ensures { ReadPart S.is_transparent S.view self.old self.new u64_at result }
     {
         let a = self.byte()?;
         let b = self.byte()?;
@@ -111,8 +111,8 @@ impl<S: Source> Window<'_, S> {
 
     /// A number of the width that counts have in the version.
     pub(crate) fn number(&mut self, version: Version) -> Result<u64, HeadFault>
-        requires { Opened S.told S.seen self.old }
-        ensures { Did S.told S.seen self.old self.new (number_at version) result }
+        requires { Opened S.is_transparent S.view self.old }
+        ensures { ReadPart S.is_transparent S.view self.old self.new (number_at version) result }
     {
         match version {
             Version::Cdf1 | Version::Cdf2 => self.narrow_number(),
@@ -121,8 +121,8 @@ impl<S: Source> Window<'_, S> {
     }
 
     pub(crate) fn narrow_number(&mut self) -> Result<u64, HeadFault>
-        requires { Opened S.told S.seen self.old }
-        ensures { Did S.told S.seen self.old self.new u32_at result }
+        requires { Opened S.is_transparent S.view self.old }
+        ensures { ReadPart S.is_transparent S.view self.old self.new u32_at result }
     {
         Ok(self.read_u32()? as u64)
     }
@@ -130,8 +130,8 @@ impl<S: Source> Window<'_, S> {
     /// A count or a length.
     #[tactic(auto, using(crate::proofs::Parts::parts), unfolding(crate::specs::Reading::count_at))]
     pub(crate) fn count(&mut self, version: Version) -> Result<u64, HeadFault>
-        requires { Opened S.told S.seen self.old }
-        ensures { Did S.told S.seen self.old self.new (count_at version) result }
+        requires { Opened S.is_transparent S.view self.old }
+        ensures { ReadPart S.is_transparent S.view self.old self.new (count_at version) result }
     {
         let n = self.number(version)?;
         if version.count_limit() <= n {
@@ -142,10 +142,10 @@ impl<S: Source> Window<'_, S> {
 
     /// The next bytes, as many as the window has and no more than `most`.
     fn ready(&self, most: u128) -> &[u8]
-        requires open { Opened S.told S.seen self.now }
+        requires open { Opened S.is_transparent S.view self.now }
         requires some { self.now.pos < self.now.filled }
         requires most { 0 < most }
-        ensures { Ready S.told (state S.seen self.now) most result.now }
+        ensures { Ready S.is_transparent (state S.view self.now) most result.now }
     {
         let ready = self.filled - self.pos;
         let k = if (ready as u128) < most {
@@ -159,12 +159,12 @@ impl<S: Source> Window<'_, S> {
     /// Appends some of the next bytes, at least one and no more than `most`, and gives their number.
     #[tactic(auto, using(crate::proofs::Chunks::drop_more))]
     fn some(&mut self, out: &mut Sequence<u8>, most: u128) -> Result<usize, HeadFault>
-        requires open { Opened S.told S.seen self.old }
+        requires open { Opened S.is_transparent S.view self.old }
         requires most { 0 < most }
         ensures same_source { self.new.source.ghost_name ≡ self.old.source.ghost_name }
-        ensures kept { Kept S.told (state S.seen self.old) (state S.seen self.new) }
-        ensures cause { Caused (S.seen self.old.source.now).failures (S.seen self.new.source.now) result }
-        ensures took { Took S.told (left (state S.seen self.old)) (left (state S.seen self.new)) out.old out.new most result }
+        ensures kept { Kept S.is_transparent (state S.view self.old) (state S.view self.new) }
+        ensures cause { Caused (S.view self.old.source.now).failures (S.view self.new.source.now) result }
+        ensures read_next { ReadNext S.is_transparent (left (state S.view self.old)) (left (state S.view self.new)) out.old out.new most result }
     {
         self.fill()?;
         let piece = self.ready(most);
@@ -174,11 +174,11 @@ impl<S: Source> Window<'_, S> {
         Ok(k)
     }
 
-    /// So many bytes.
+    /// This number of bytes.
     #[tactic(auto, using(crate::proofs::Chunks::chunks))]
     pub(crate) fn bytes(&mut self, alloc: Global, n: u128) -> Result<Sequence<u8>, HeadFault>
-        requires { Opened S.told S.seen self.old }
-        ensures { Did S.told S.seen self.old self.new (bytes_at n []) result }
+        requires { Opened S.is_transparent S.view self.old }
+        ensures { ReadPart S.is_transparent S.view self.old self.new (bytes_at n []) result }
     {
         let mut bytes = Sequence::new(alloc);
         let mut missing = n;
@@ -188,11 +188,11 @@ impl<S: Source> Window<'_, S> {
         Ok(bytes)
     }
 
-    /// Passes over so many bytes.
+    /// Passes over n bytes.
     #[tactic(auto, using(crate::proofs::Loops::skip))]
     pub(crate) fn skip(&mut self, n: u64) -> Result<(), HeadFault>
-        requires { Opened S.told S.seen self.old }
-        ensures { Did S.told S.seen self.old self.new (skip_at n) result }
+        requires { Opened S.is_transparent S.view self.old }
+        ensures { ReadPart S.is_transparent S.view self.old self.new (skip_at n) result }
     {
         for _ in 0..n {
             self.byte()?;
@@ -200,11 +200,11 @@ impl<S: Source> Window<'_, S> {
         Ok(())
     }
 
-    /// So many bytes, and past their padding.
+    /// This number of bytes, and past their padding.
     #[tactic(auto, using(crate::proofs::Parts::parts), unfolding(crate::specs::Reading::padded_at))]
     pub(crate) fn padded(&mut self, alloc: Global, n: u128) -> Result<Sequence<u8>, HeadFault>
-        requires { Opened S.told S.seen self.old }
-        ensures { Did S.told S.seen self.old self.new (padded_at n) result }
+        requires { Opened S.is_transparent S.view self.old }
+        ensures { ReadPart S.is_transparent S.view self.old self.new (padded_at n) result }
     {
         let content = self.bytes(alloc, n)?;
         self.skip(padding_len(n))?;

@@ -1,10 +1,10 @@
 pub mod Fills
-pub mod Places
+pub mod Cursors
 pub mod Runs
 pub mod Orders
-pub mod Slabs
+pub mod SlabSteps
 pub mod OneRead
-pub mod Pieces
+pub mod Chunks
 pub mod Missing
 pub mod Stored
 pub mod Walked

@@ -10,7 +10,7 @@ use Rattle.nc_base.specs.declared.header.Header.{Header}
 use Rattle.nc_base.specs.declared.header.Var.{Var}
 use Rattle.nc_base.specs.Types.{size_of}
 use Rattle.nc_base.specs.Headers.{value_count}
-use Rattle.nc_base.specs.Places.{ends_behind, value_offsets, first_missing}
+use Rattle.nc_base.specs.Places.{ends_after, value_offsets, first_missing}
 use Rattle.nc_walk.specs.Walks.{IsWhole}
 use Rattle.nc_walk.specs.Walked.{whole_count}
 use Rattle.nc_base.proofs.WholeValues.{none-found}
@@ -19,21 +19,21 @@ use Rattle.nc_walk.proofs.Orders.{count_of_offsets}
 -- ---- a list of offsets
 
 -- a value among the first k
-whole_at : (size : ℕ) (b xs : List ℕ) (k j : ℕ) → k ≤ length xs → All (IsWhole size b) (take k xs) → j < k → ends_behind size (length b) (get_or xs j 0) ≡ false
+whole_at : (size : ℕ) (b xs : List ℕ) (k j : ℕ) → k ≤ length xs → All (IsWhole size b) (take k xs) → j < k → ends_after size (length b) (get_or xs j 0) ≡ false
 whole_at size b xs k j le whole lt =
     let here : IsWhole size b (get_or (take k xs) j 0) = All-get_or (IsWhole size b) (take k xs) j 0 (omega (arith, length-take k xs)) whole in
     le-ltb (length b) (get_or xs j 0 + size) (subst (IsWhole size b) (get_or-take k xs j 0 lt) here)
 
 -- the first k are whole, and the next one isn't, if there is one
 position_at : (size : ℕ) (b xs : List ℕ) (k : ℕ) → k ≤ length xs → All (IsWhole size b) (take k xs) → (k < length xs → length b < get_or xs k 0 + size)
-    → position_or_len (ends_behind size (length b)) xs ≡ k
+    → position_or_len (ends_after size (length b)) xs ≡ k
 position_at size b xs k le whole short =
-    position_or_len_is (ends_behind size (length b)) xs k 0 le (λ j lt. whole_at size b xs k j le whole lt) (λ lt. lt-ltb (length b) (get_or xs k 0 + size) (short lt))
+    position_or_len_is (ends_after size (length b)) xs k 0 le (λ j lt. whole_at size b xs k j le whole lt) (λ lt. lt-ltb (length b) (get_or xs k 0 + size) (short lt))
 
--- the first missing one stands behind whole ones
-position-ge : (size : ℕ) (b xs : List ℕ) (k : ℕ) → k ≤ length xs → All (IsWhole size b) (take k xs) → k ≤ position_or_len (ends_behind size (length b)) xs
+-- the first missing one stands after whole ones
+position-ge : (size : ℕ) (b xs : List ℕ) (k : ℕ) → k ≤ length xs → All (IsWhole size b) (take k xs) → k ≤ position_or_len (ends_after size (length b)) xs
 position-ge size b xs k le whole =
-    let p = ends_behind size (length b) in
+    let p = ends_after size (length b) in
     let i = position_or_len p xs in
     elim (cases_lt i k) [
       | inl below ↦ absurd (let a : p (get_or xs i 0) ≡ false = whole_at size b xs k i le whole below in let c : p (get_or xs i 0) ≡ true = passes_at_first p xs 0 (omega arith) in cc)
@@ -44,10 +44,10 @@ found : (p : ℕ → Bool) (xs : List ℕ) (k : ℕ) → k < length xs → posit
 found p xs k lt e = rw e (ap (λ (t : Bool). cond t (Some k) None) (lt-ltb k (length xs) lt))
 
 -- the values before the first missing one are whole
-before_first : (size : ℕ) (b xs : List ℕ) (k : ℕ) → k ≤ position_or_len (ends_behind size (length b)) xs → All (IsWhole size b) (take k xs)
+before_first : (size : ℕ) (b xs : List ℕ) (k : ℕ) → k ≤ position_or_len (ends_after size (length b)) xs → All (IsWhole size b) (take k xs)
 before_first size b xs k le = All-from_get_or (IsWhole size b) (take k xs) 0 (λ j lt.
     let within : j < k = omega (arith, length-take k xs) in
-    let here : IsWhole size b (get_or xs j 0) = ltb-false (length b) (get_or xs j 0 + size) (fails_before_first (ends_behind size (length b)) xs j 0 (omega arith)) in
+    let here : IsWhole size b (get_or xs j 0) = ltb-false (length b) (get_or xs j 0 + size) (fails_before_first (ends_after size (length b)) xs j 0 (omega arith)) in
     subst (IsWhole size b) (sym (get_or-take k xs j 0 within)) here)
 
 unwrap-position : (p : ℕ → Bool) (xs : List ℕ) (n : ℕ) → length xs ≡ n → position_or_len p xs ≤ n → unwrap_or (position p xs) n ≡ position_or_len p xs
@@ -64,7 +64,7 @@ pub missing_at : (h : Header) (var : Var) (n : ℕ) (b : List ℕ) (k : ℕ) →
 missing_at h var n b k lt whole short =
     let xs = value_offsets h var n in
     let len = count_of_offsets h var n in
-    found (ends_behind (size_of var.ty) (length b)) xs k (omega (arith, len)) (position_at (size_of var.ty) b xs k (omega (arith, len)) whole (λ _. short))
+    found (ends_after (size_of var.ty) (length b)) xs k (omega (arith, len)) (position_at (size_of var.ty) b xs k (omega (arith, len)) whole (λ _. short))
 
 pub none_missing : (h : Header) (var : Var) (n : ℕ) (b : List ℕ) (k : ℕ) → k ≡ value_count h.dims var n → All (IsWhole (size_of var.ty) b) (take k (value_offsets h var n))
     → first_missing h b var n ≡ None
@@ -72,12 +72,12 @@ none_missing h var n b k all whole =
     let xs = value_offsets h var n in
     let len = count_of_offsets h var n in
     let same : k ≡ length xs = omega (arith, len) in
-    none-found (ends_behind (size_of var.ty) (length b)) xs (position_at (size_of var.ty) b xs k (omega arith) whole (λ lt. absurd (omega arith)) ∙ same)
+    none-found (ends_after (size_of var.ty) (length b)) xs (position_at (size_of var.ty) b xs k (omega arith) whole (λ lt. absurd (omega arith)) ∙ same)
 
-whole_count-is : (h : Header) (var : Var) (n : ℕ) (b : List ℕ) → whole_count h b var n ≡ position_or_len (ends_behind (size_of var.ty) (length b)) (value_offsets h var n)
+whole_count-is : (h : Header) (var : Var) (n : ℕ) (b : List ℕ) → whole_count h b var n ≡ position_or_len (ends_after (size_of var.ty) (length b)) (value_offsets h var n)
 whole_count-is h var n b =
     let xs = value_offsets h var n in
-    let p = ends_behind (size_of var.ty) (length b) in
+    let p = ends_after (size_of var.ty) (length b) in
     let len = count_of_offsets h var n in
     unwrap-position p xs (value_count h.dims var n) len (omega (arith, len, prefix_len-le-length (λ x. not (p x)) xs))
 

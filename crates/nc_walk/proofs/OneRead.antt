@@ -7,48 +7,48 @@ use Rattle.std.proofs.Math.Nat.{mul-div_cancel, mul-le-mul_right, le_of_mul-le-m
 use Rattle.nc_base.specs.Places.{bytes_at}
 use Rattle.nc_file.specs.Sources.{SourceView, after}
 use Rattle.nc_walk.specs.declared.fault.WalkFault.{WalkFault}
-use Rattle.nc_walk.specs.declared.line.Line.{Line}
-use Rattle.nc_walk.specs.Fills.{Filled, BrokeOff}
-use Rattle.nc_walk.specs.Lines.{total, offset, offsets_from, offsets_behind, Ready, IsSized}
-use Rattle.nc_walk.specs.Walks.{IsWhole, Exactly, Hands, Failing, Truncated, Ran, Steps, Moved, standing, stopped, in_front, count}
-use Rattle.nc_walk.proofs.Fills.{told_any, told_map, told_both}
+use Rattle.nc_walk.specs.declared.slabs.Slabs.{Slabs}
+use Rattle.nc_walk.specs.Fills.{Filled, FailedWhileFilling}
+use Rattle.nc_walk.specs.Slabs.{total, offset, offsets_from, offsets_after, Ready, IsSized}
+use Rattle.nc_walk.specs.Walks.{IsWhole, Exactly, ReturnsValues, Failing, Truncated, ReadValues, Steps, Advanced, standing, stopped, as_answer, count}
+use Rattle.nc_walk.proofs.Fills.{transparent_any, transparent_map, transparent_both}
 use Rattle.nc_walk.proofs.Runs.{length-offsets, take-offsets, drop-offsets, first_offset, run_bytes, run_within, ready_whole}
 
-some_left : (l : Line) (done : ℕ) → done < total l → 0 < length (offsets_behind l done)
+some_left : (l : Slabs) (done : ℕ) → done < total l → 0 < length (offsets_after l done)
 some_left l done lt = omega (arith, length-offsets l done (total l - done))
 
-pub none_left : (l : Line) (done : ℕ) → done ≡ total l → length (offsets_behind l done) ≡ 0
+pub none_left : (l : Slabs) (done : ℕ) → done ≡ total l → length (offsets_after l done) ≡ 0
 none_left l done e = omega (arith, length-offsets l done (total l - done))
 
 -- no value is ready
-pub not_ready : (told : Bool) (l : Line) (done room : ℕ) (buf : List ℕ) (before : SourceView) (n : ℕ) → done < total l
-    → Ready l done room (length before.bytes) n → n ≡ 0 → Truncated told (standing l done buf) before before done
-not_ready told l done room buf before n more ready none = record {
+pub not_ready : (is_transparent : Bool) (l : Slabs) (done capacity : ℕ) (buf : List ℕ) (before : SourceView) (n : ℕ) → done < total l
+    → Ready l done capacity (length before.bytes) n → n ≡ 0 → Truncated is_transparent (standing l done buf) before before done
+not_ready is_transparent l done capacity buf before n more ready none = record {
   value = refl;
   some = some_left l done more;
   failures = refl;
-  missing = told_any told (
+  missing = transparent_any is_transparent (
       let first = first_offset l done (total l - done) (omega arith) in
       let short = ready.none none in
       (omega (arith, first, short), refl)
       );
 }
 
--- n values that were asked for, of which so many bytes came
-module _ (told : Bool) (l : Line) (done room : ℕ) (buf : List ℕ) (before now : SourceView) (ys rest : List ℕ) (n got : ℕ)
-    (sized : IsSized l) (more : done < total l) (fits : room ≤ length buf) (ready : Ready l done room (length before.bytes) n) (some : 0 < n)
+-- n values that were asked for, of which n bytes came
+module _ (is_transparent : Bool) (l : Slabs) (done capacity : ℕ) (buf : List ℕ) (before now : SourceView) (ys rest : List ℕ) (n got : ℕ)
+    (sized : IsSized l) (more : done < total l) (fits : capacity ≤ length buf) (ready : Ready l done capacity (length before.bytes) n) (some : 0 < n)
     (len : length ys ≡ n * l.size) where
   pub few : got ≤ length ys → got / l.size ≤ n
   few le = le_of_mul-le-mul_right {k = l.size} (let up : got / l.size * l.size ≤ n * l.size = omega (arith, div-mul-le_self got l.size) in up) sized.some
 
   end : done + n ≤ total l
-  end = run_within l done n sized.per more ready.in_slab
+  end = run_within l done n sized.values_per_slab more ready.in_slab
 
-  next : take n (offsets_behind l done) ≡ offsets_from l done n
+  next : take n (offsets_after l done) ≡ offsets_from l done n
   next = take-offsets l done (total l - done) n (omega (arith, end))
 
-  whole : All (IsWhole l.size before.bytes) (take n (offsets_behind l done))
-  whole = subst (All (IsWhole l.size before.bytes)) (sym next) (ready_whole l before.bytes done room n ready)
+  whole : All (IsWhole l.size before.bytes) (take n (offsets_after l done))
+  whole = subst (All (IsWhole l.size before.bytes)) (sym next) (ready_whole l before.bytes done capacity n ready)
 
   all_of : got ≡ length ys → take got ys ≡ take got (drop (offset l done) before.bytes) → now ≡ after before got
       → Exactly (standing l done buf) before now (take (got / l.size * l.size) (ys ++ rest)) (got / l.size)
@@ -56,18 +56,18 @@ module _ (told : Bool) (l : Line) (done room : ℕ) (buf : List ℕ) (before now
       let w = n * l.size in
       let e : got ≡ w = full ∙ len in
       let k : got / l.size ≡ n = ap (λ (m : ℕ). m / l.size) e ∙ mul-div_cancel n sized.some in
-      let front : take w (ys ++ rest) ≡ take w ys = take-append-le w ys rest (omega arith) in
-      let long : length (take w (ys ++ rest)) ≡ w = ap (λ (xs : List ℕ). length xs) front ∙ (let h : length (take w ys) ≡ w = omega (arith, length-take w ys) in h) in
+      let prefix : take w (ys ++ rest) ≡ take w ys = take-append-le w ys rest (omega arith) in
+      let long : length (take w (ys ++ rest)) ≡ w = ap (λ (xs : List ℕ). length xs) prefix ∙ (let h : length (take w ys) ≡ w = omega (arith, length-take w ys) in h) in
       subst (λ (m : ℕ). Exactly (standing l done buf) before now (take (m * l.size) (ys ++ rest)) m) (sym k) (record {
         whole = whole;
-        bytes = front ∙ subst (λ (m : ℕ). take m ys ≡ take m (drop (offset l done) before.bytes)) e same
+        bytes = prefix ∙ subst (λ (m : ℕ). take m ys ≡ take m (drop (offset l done) before.bytes)) e same
             ∙ sym (run_bytes l before.bytes done n ready.in_slab)
             ∙ ap (λ (xs : List ℕ). concat (map (bytes_at l.size before.bytes) xs)) (sym next);
         handed = left ∙ ap (after before) (e ∙ sym long);
       })
 
-  pub came : Filled told before now (offset l done) ys got → 0 < got / l.size
-      → (got / l.size * l.size ≤ length (ys ++ rest)) × Hands told (standing l done buf) before now (take (got / l.size * l.size) (ys ++ rest)) (got / l.size)
+  pub came : Filled is_transparent before now (offset l done) ys got → 0 < got / l.size
+      → (got / l.size * l.size ≤ length (ys ++ rest)) × ReturnsValues is_transparent (standing l done buf) before now (take (got / l.size * l.size) (ys ++ rest)) (got / l.size)
   came f some_came =
       let w = got / l.size in
       let most : w * l.size ≤ got = div-mul-le_self got l.size in
@@ -77,88 +77,88 @@ module _ (told : Bool) (l : Line) (done room : ℕ) (buf : List ℕ) (before now
           some = some_came;
           len = (let h : length (take (w * l.size) (ys ++ rest)) ≡ w * l.size = omega (arith, le, length-take (w * l.size) (ys ++ rest)) in h);
           within = omega (arith, end, few f.within, length-offsets l done (total l - done));
-          room = omega (arith, most, f.within, len, ready.in_room, fits);
+          capacity = omega (arith, most, f.within, len, ready.in_capacity, fits);
           failures = ap (λ (v : SourceView). v.failures) f.same;
-          exactly = told_both told (λ e b. all_of e b f.same) f.all f.bytes;
+          exactly = transparent_both is_transparent (λ e b. all_of e b f.same) f.all f.bytes;
         },
       )
 
   -- all of them came
-  pub came_all : Filled told before now (offset l done) ys got → got ≡ n * l.size
-      → (n * l.size ≤ length (ys ++ rest)) × Hands told (standing l done buf) before now (take (n * l.size) (ys ++ rest)) n
+  pub came_all : Filled is_transparent before now (offset l done) ys got → got ≡ n * l.size
+      → (n * l.size ≤ length (ys ++ rest)) × ReturnsValues is_transparent (standing l done buf) before now (take (n * l.size) (ys ++ rest)) n
   came_all f all =
       let k : got / l.size ≡ n = ap (λ (m : ℕ). m / l.size) all ∙ mul-div_cancel n sized.some in
-      subst (λ (m : ℕ). (m * l.size ≤ length (ys ++ rest)) × Hands told (standing l done buf) before now (take (m * l.size) (ys ++ rest)) m) k
+      subst (λ (m : ℕ). (m * l.size ≤ length (ys ++ rest)) × ReturnsValues is_transparent (standing l done buf) before now (take (m * l.size) (ys ++ rest)) m) k
       (came f (omega (arith, k)))
 
-  -- and where all came, these bytes alone were handed over
-  pub ran_all : Filled told before now (offset l done) ys got → got ≡ n * l.size → Ran (standing l done buf) before now n
+  -- and where all came, these bytes alone were read
+  pub ran_all : Filled is_transparent before now (offset l done) ys got → got ≡ n * l.size → ReadValues (standing l done buf) before now n
   ran_all f all = record { whole = whole; handed = f.same ∙ ap (after before) all }
 
-  pub ran : Filled told before now (offset l done) ys got → n ≤ got / l.size → Ran (standing l done buf) before now (got / l.size)
-  ran f all =
+  pub values_read : Filled is_transparent before now (offset l done) ys got → n ≤ got / l.size → ReadValues (standing l done buf) before now (got / l.size)
+  values_read f all =
       let e : got / l.size ≡ n = omega (arith, few f.within, all) in
       let up : n * l.size ≤ got / l.size * l.size = mul-le-mul_right l.size all in
-      subst (Ran (standing l done buf) before now) (sym e) (ran_all f (omega (arith, up, div-mul-le_self got l.size, f.within, len)))
+      subst (ReadValues (standing l done buf) before now) (sym e) (ran_all f (omega (arith, up, div-mul-le_self got l.size, f.within, len)))
 
-  pub came_none : Filled told before now (offset l done) ys got → got / l.size ≡ 0 → Truncated told (standing l done buf) before now done
+  pub came_none : Filled is_transparent before now (offset l done) ys got → got / l.size ≡ 0 → Truncated is_transparent (standing l done buf) before now done
   came_none f none = record {
     value = refl;
     some = some_left l done more;
     failures = ap (λ (v : SourceView). v.failures) f.same;
-    missing = told_map told (λ full.
+    missing = transparent_map is_transparent (λ full.
         let k : got / l.size ≡ n = ap (λ (m : ℕ). m / l.size) (full ∙ len) ∙ mul-div_cancel n sized.some in
         absurd (omega arith)) f.all;
   }
 
-  pub broke : BrokeOff before now (length ys) → (k : ℕ) × Failing (standing l done buf) before now k
-  broke b = (
+  pub partway : FailedWhileFilling before now (length ys) → (k : ℕ) × Failing (standing l done buf) before now k
+  partway b = (
     n,
     record {
       some = some_left l done more;
       within = omega (arith, end, length-offsets l done (total l - done));
       whole = whole;
-      room = omega (arith, ready.in_room, fits);
-      broke = subst (BrokeOff before now) len b;
+      capacity = omega (arith, ready.in_capacity, fits);
+      partway = subst (FailedWhileFilling before now) len b;
     },
   )
 
 -- ---- afterwards
 
-front : (buf : List ℕ) (m : ℕ) → 0 < m → in_front buf (Ok m) ≡ Ok (Some (take m buf))
-front buf zero lt = absurd (omega arith)
-front buf (suc m) lt = refl
+prefix : (buf : List ℕ) (m : ℕ) → 0 < m → as_answer buf (Ok m) ≡ Ok (Some (take m buf))
+prefix buf zero lt = absurd (omega arith)
+prefix buf (suc m) lt = refl
 
--- values in front of the buffer are handed out
-module _ (told : Bool) (l : Line) (done : ℕ) (had buf : List ℕ) (before now : SourceView) (n : ℕ) (sized : IsSized l) (within : done ≤ total l)
-    (h : (n * l.size ≤ length buf) × Hands told (standing l done had) before now (take (n * l.size) buf) n) where
+-- values at the start of the buffer are handed out
+module _ (is_transparent : Bool) (l : Slabs) (done : ℕ) (had buf : List ℕ) (before now : SourceView) (n : ℕ) (sized : IsSized l) (within : done ≤ total l)
+    (h : (n * l.size ≤ length buf) × ReturnsValues is_transparent (standing l done had) before now (take (n * l.size) buf) n) where
   number : count l.size (take (n * l.size) buf) ≡ n
   number = ap (λ (k : ℕ). k / l.size) h.1.len ∙ mul-div_cancel n sized.some
 
-  answer : in_front buf (Ok (n * l.size)) ≡ Ok (Some (take (n * l.size) buf))
-  answer = front buf (n * l.size) (let up : 1 * l.size ≤ n * l.size = mul-le-mul_right l.size (let w : 1 ≤ n = omega (arith, h.1.some) in w) in omega (arith, up, sized.some))
+  answer : as_answer buf (Ok (n * l.size)) ≡ Ok (Some (take (n * l.size) buf))
+  answer = prefix buf (n * l.size) (let up : 1 * l.size ≤ n * l.size = mul-le-mul_right l.size (let w : 1 ≤ n = omega (arith, h.1.some) in w) in omega (arith, up, sized.some))
 
   pub reached : done + n ≤ total l
   reached = omega (arith, h.1.within, length-offsets l done (total l - done))
 
-  pub steps : (fault : Option WalkFault) → Steps told (stopped l done fault had) before now (in_front buf (Ok (n * l.size)))
-  steps fault = subst (Steps told (stopped l done fault had) before now) (sym answer)
-      (subst (Hands told (stopped l done fault had) before now (take (n * l.size) buf)) (sym number) (record {
+  pub steps : (fault : Option WalkFault) → Steps is_transparent (stopped l done fault had) before now (as_answer buf (Ok (n * l.size)))
+  steps fault = subst (Steps is_transparent (stopped l done fault had) before now) (sym answer)
+      (subst (ReturnsValues is_transparent (stopped l done fault had) before now (take (n * l.size) buf)) (sym number) (record {
         some = h.1.some;
         len = h.1.len;
         within = h.1.within;
-        room = h.1.room;
+        capacity = h.1.capacity;
         failures = h.1.failures;
-        exactly = told_map told (λ e. record { whole = e.whole; bytes = e.bytes; handed = e.handed }) h.1.exactly;
+        exactly = transparent_map is_transparent (λ e. record { whole = e.whole; bytes = e.bytes; handed = e.handed }) h.1.exactly;
       }))
 
-  pub moved : (old new : Option WalkFault) → new ≡ None → length buf ≡ length had → Moved (stopped l done old had) (stopped l (done + n) new buf) (in_front buf (Ok (n * l.size)))
-  moved old new none room = subst (Moved (stopped l done old had) (stopped l (done + n) new buf)) (sym answer) (record {
+  pub advanced : (old new : Option WalkFault) → new ≡ None → length buf ≡ length had → Advanced (stopped l done old had) (stopped l (done + n) new buf) (as_answer buf (Ok (n * l.size)))
+  advanced old new none capacity = subst (Advanced (stopped l done old had) (stopped l (done + n) new buf)) (sym answer) (record {
     size = refl;
     left = ap (offsets_from l (done + n)) (let e : total l - (done + n) ≡ total l - done - n = omega arith in e)
         ∙ sym (drop-offsets l done (total l - done) n (omega (arith, reached)))
-        ∙ ap (λ (k : ℕ). drop k (offsets_behind l done)) (sym number);
+        ∙ ap (λ (k : ℕ). drop k (offsets_after l done)) (sym number);
     done = ap (λ (k : ℕ). done + k) (sym number);
     fault = none;
-    buf = room;
+    buf = capacity;
   })

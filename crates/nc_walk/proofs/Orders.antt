@@ -11,8 +11,8 @@ use Rattle.nc_base.specs.Types.{size_of}
 use Rattle.nc_base.specs.Sizes.{product, is_record_var, slab_lens, record_size}
 use Rattle.nc_base.specs.Headers.{value_count}
 use Rattle.nc_base.specs.Places.{vectors_below, slab_strides, distance, value_offset, value_offsets, lens_over}
-use Rattle.nc_walk.specs.declared.line.Line.{Line}
-use Rattle.nc_walk.specs.Lines.{total, offset, offsets_from, offsets_behind, line_of, IsLineOf}
+use Rattle.nc_walk.specs.declared.slabs.Slabs.{Slabs}
+use Rattle.nc_walk.specs.Slabs.{total, offset, offsets_from, offsets_after, slabs_of, AreSlabsOf}
 use Rattle.nc_walk.specs.Walks.{Starts, standing}
 use Rattle.nc_base.proofs.WholeValues.{map-map}
 use Rattle.nc_walk.proofs.Runs.{offset_at}
@@ -39,15 +39,15 @@ distance_at size (n ∷ ns) i lt =
     let e : i / p * (size * p) + i % p * size ≡ (i / p * p + i % p) * size = omega arith in
     ap (λ (k : ℕ). i / p * (size * p) + k) (distance_at size ns (i % p) below) ∙ e ∙ ap (λ (k : ℕ). k * size) (div-add-mod' i p)
 
-at_first : (l : Line) (i : ℕ) → i < l.per → offset l i ≡ l.begin + i * l.size
+at_first : (l : Slabs) (i : ℕ) → i < l.values_per_slab → offset l i ≡ l.begin + i * l.size
 at_first l i lt =
-    let e : i ≡ 0 * l.per + i = omega arith in
+    let e : i ≡ 0 * l.values_per_slab + i = omega arith in
     let f : l.begin + 0 * l.stride + i * l.size ≡ l.begin + i * l.size = omega arith in
     ap (offset l) e ∙ offset_at l 0 i lt ∙ f
 
 -- slabs of this shape, one for each of n records or one in all
-abbrev shaped : ℕ → ℕ → ℕ → Bool → List ℕ → ℕ → Line
-shaped begin size stride is_record lens n = record { begin = begin; stride = stride; per = product lens; slabs = if is_record then n else 1; size = size }
+abbrev shaped : ℕ → ℕ → ℕ → Bool → List ℕ → ℕ → Slabs
+shaped begin size stride is_record lens n = record { begin = begin; stride = stride; values_per_slab = product lens; total_slabs = if is_record then n else 1; size = size }
 
 abbrev over : Bool → List ℕ → ℕ → List ℕ
 over is_record lens n = if is_record then n ∷ lens else lens
@@ -69,7 +69,7 @@ shaped_total begin size stride true lens n = refl
 shaped_total begin size stride false lens n = omega arith
 
 -- the offset of value number i is that of the i-th index vector
-pub value_offset_at : (h : Header) (var : Var) (n i : ℕ) → i < total (line_of h var n) → value_offset h var (vector_at (lens_over h.dims var n) i) ≡ offset (line_of h var n) i
+pub value_offset_at : (h : Header) (var : Var) (n i : ℕ) → i < total (slabs_of h var n) → value_offset h var (vector_at (lens_over h.dims var n) i) ≡ offset (slabs_of h var n) i
 value_offset_at h var n i lt = shaped_at var.begin_at (size_of var.ty) (record_size h) (is_record_var h.dims var) (slab_lens h.dims var.dimids) n i lt
 
 -- ---- all index vectors, in order
@@ -114,11 +114,11 @@ vectors_in_order (n ∷ ns) =
 -- ---- of a variable
 
 -- all offsets of a variable's values, in row-major order
-pub offsets_in_order : (h : Header) (var : Var) (n : ℕ) → offsets_from (line_of h var n) 0 (total (line_of h var n)) ≡ value_offsets h var n
+pub offsets_in_order : (h : Header) (var : Var) (n : ℕ) → offsets_from (slabs_of h var n) 0 (total (slabs_of h var n)) ≡ value_offsets h var n
 unfolding value_offsets offsets_from
 offsets_in_order h var n =
     let ns = lens_over h.dims var n in
-    let l = line_of h var n in
+    let l = slabs_of h var n in
     let same : (q : ℕ) → q < 0 + total l → value_offset h var (vector_at ns q) ≡ offset l (0 + q) = λ q lt. let e : q ≡ 0 + q = omega arith in value_offset_at h var n q (omega arith) ∙ ap (offset l) e in
     let count : product ns ≡ total l = shaped_total var.begin_at (size_of var.ty) (record_size h) (is_record_var h.dims var) (slab_lens h.dims var.dimids) n in
     sym (
@@ -130,23 +130,23 @@ offsets_in_order h var n =
 pub count_of_offsets : (h : Header) (var : Var) (n : ℕ) → length (value_offsets h var n) ≡ value_count h.dims var n
 unfolding offsets_from
 count_of_offsets h var n =
-    let l = line_of h var n in
+    let l = slabs_of h var n in
     let e : total l ≡ value_count h.dims var n = omega arith in
     ap (λ (xs : List ℕ). length xs) (sym (offsets_in_order h var n)) ∙ length-map-range_with_len (offset l) 0 (total l) ∙ e
 
 -- a walk over the slabs of a variable starts at its first value
-pub starts : (h : Header) (v n : ℕ) (l : Line) (buf : List ℕ) → IsLineOf h v n l → Starts h v n (length buf) (standing l 0 buf)
-starts h v n l buf line =
-    let all : total (line_of h line.var n) - 0 ≡ total (line_of h line.var n) = omega arith in
-    let left : offsets_behind l 0 ≡ value_offsets h line.var n =
-    ap (λ (k : Line). offsets_behind k 0) line.is ∙ ap (offsets_from (line_of h line.var n) 0) all ∙ offsets_in_order h line.var n in
+pub starts : (h : Header) (v n : ℕ) (l : Slabs) (buf : List ℕ) → AreSlabsOf h v n l → Starts h v n (length buf) (standing l 0 buf)
+starts h v n l buf slabs =
+    let all : total (slabs_of h slabs.var n) - 0 ≡ total (slabs_of h slabs.var n) = omega arith in
+    let left : offsets_after l 0 ≡ value_offsets h slabs.var n =
+    ap (λ (k : Slabs). offsets_after k 0) slabs.is ∙ ap (offsets_from (slabs_of h slabs.var n) 0) all ∙ offsets_in_order h slabs.var n in
     record {
-      var = line.var;
-      at = line.at;
-      size = ap (λ (k : Line). k.size) line.is;
+      var = slabs.var;
+      at = slabs.at;
+      size = ap (λ (k : Slabs). k.size) slabs.is;
       left = left;
-      count = ap (λ (xs : List ℕ). length xs) left ∙ count_of_offsets h line.var n;
+      count = ap (λ (xs : List ℕ). length xs) left ∙ count_of_offsets h slabs.var n;
       done = refl;
       fault = refl;
-      room = refl;
+      capacity = refl;
     }

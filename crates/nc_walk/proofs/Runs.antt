@@ -8,24 +8,24 @@ use Rattle.std.proofs.Math.Seq.{take-add}
 use Rattle.std.proofs.lemmas.Nat.{div-mul-add, mod-mul-add, div_below, div-add-mod'}
 use Rattle.std.proofs.Math.Nat.{mul-le-mul_right}
 use Rattle.nc_base.specs.Places.{bytes_at}
-use Rattle.nc_walk.specs.declared.line.Line.{Line}
-use Rattle.nc_walk.specs.Lines.{total, offset, offsets_from, Ready}
+use Rattle.nc_walk.specs.declared.slabs.Slabs.{Slabs}
+use Rattle.nc_walk.specs.Slabs.{total, offset, offsets_from, Ready}
 use Rattle.nc_walk.specs.Walks.{IsWhole}
 
-pub offset_at : (l : Line) (r p : ℕ) → p < l.per → offset l (r * l.per + p) ≡ l.begin + r * l.stride + p * l.size
-offset_at l r p lt = ap (λ (x : ℕ). l.begin + x * l.stride + (r * l.per + p) % l.per * l.size) (div-mul-add r l.per p lt) ∙ ap (λ (x : ℕ). l.begin + r * l.stride + x * l.size) (mod-mul-add r l.per p lt)
+pub offset_at : (l : Slabs) (r p : ℕ) → p < l.values_per_slab → offset l (r * l.values_per_slab + p) ≡ l.begin + r * l.stride + p * l.size
+offset_at l r p lt = ap (λ (x : ℕ). l.begin + x * l.stride + (r * l.values_per_slab + p) % l.values_per_slab * l.size) (div-mul-add r l.values_per_slab p lt) ∙ ap (λ (x : ℕ). l.begin + r * l.stride + x * l.size) (mod-mul-add r l.values_per_slab p lt)
 
 -- ---- lists of offsets
 
-pub length-offsets : (l : Line) (i n : ℕ) → length (offsets_from l i n) ≡ n
+pub length-offsets : (l : Slabs) (i n : ℕ) → length (offsets_from l i n) ≡ n
 unfolding offsets_from
 length-offsets l i n = length-map-range_with_len (offset l) i n
 
-pub take-offsets : (l : Line) (i n k : ℕ) → k ≤ n → take k (offsets_from l i n) ≡ offsets_from l i k
+pub take-offsets : (l : Slabs) (i n k : ℕ) → k ≤ n → take k (offsets_from l i n) ≡ offsets_from l i k
 unfolding offsets_from
 take-offsets l i n k le = take-map-range_with_len (offset l) i n k le
 
-pub drop-offsets : (l : Line) (i n k : ℕ) → k ≤ n → drop k (offsets_from l i n) ≡ offsets_from l (i + k) (n - k)
+pub drop-offsets : (l : Slabs) (i n k : ℕ) → k ≤ n → drop k (offsets_from l i n) ≡ offsets_from l (i + k) (n - k)
 unfolding offsets_from
 drop-offsets l i n zero le = let e : i ≡ i + 0 = omega arith in let f : n ≡ n - 0 = omega arith in ap (λ (j : ℕ). offsets_from l j n) e ∙ ap (offsets_from l (i + 0)) f
 drop-offsets l i zero (suc k) le = absurd (omega arith)
@@ -34,53 +34,53 @@ drop-offsets l i (suc n) (suc k) le =
     let f : n - k ≡ suc n - suc k = omega arith in
     drop-offsets l (i + 1) n k (omega arith) ∙ ap (λ (j : ℕ). offsets_from l j (n - k)) e ∙ ap (offsets_from l (i + suc k)) f
 
-pub first_offset : (l : Line) (i n : ℕ) → 0 < n → get_or (offsets_from l i n) 0 0 ≡ offset l i
+pub first_offset : (l : Slabs) (i n : ℕ) → 0 < n → get_or (offsets_from l i n) 0 0 ≡ offset l i
 unfolding offsets_from
 first_offset l i n lt = get_or-map-range_with_len (offset l) i n 0 i 0 lt (omega arith)
 
 -- ---- one run of bytes
 
-bytes_in : (l : Line) (b : List ℕ) (r p n : ℕ) → p + n ≤ l.per
-    → concat (map (bytes_at l.size b) (offsets_from l (r * l.per + p) n)) ≡ take (n * l.size) (drop (l.begin + r * l.stride + p * l.size) b)
+bytes_in : (l : Slabs) (b : List ℕ) (r p n : ℕ) → p + n ≤ l.values_per_slab
+    → concat (map (bytes_at l.size b) (offsets_from l (r * l.values_per_slab + p) n)) ≡ take (n * l.size) (drop (l.begin + r * l.stride + p * l.size) b)
 unfolding offsets_from
 bytes_in l b r p zero le = let e : 0 ≡ 0 * l.size = omega arith in ap (λ (k : ℕ). take k (drop (l.begin + r * l.stride + p * l.size) b)) e
 bytes_in l b r p (suc n) le =
     let o = l.begin + r * l.stride + p * l.size in
     let rest : ℕ → List ℕ = λ i. concat (map (bytes_at l.size b) (offsets_from l i n)) in
-    let next : r * l.per + p + 1 ≡ r * l.per + suc p = omega arith in
-    let here : offset l (r * l.per + p) ≡ o = offset_at l r p (omega arith) in
+    let next : r * l.values_per_slab + p + 1 ≡ r * l.values_per_slab + suc p = omega arith in
+    let here : offset l (r * l.values_per_slab + p) ≡ o = offset_at l r p (omega arith) in
     let more : l.begin + r * l.stride + suc p * l.size ≡ o + l.size = omega arith in
     let all : l.size + n * l.size ≡ suc n * l.size = omega arith in
-    ap (λ (k : ℕ). take l.size (drop k b) ++ rest (r * l.per + p + 1)) here
+    ap (λ (k : ℕ). take l.size (drop k b) ++ rest (r * l.values_per_slab + p + 1)) here
     ∙ ap (λ (k : ℕ). take l.size (drop o b) ++ rest k) next
     ∙ ap (λ (xs : List ℕ). take l.size (drop o b) ++ xs) (bytes_in l b r (suc p) n (omega arith) ∙ ap (λ (k : ℕ). take (n * l.size) (drop k b)) more ∙ ap (take (n * l.size)) (sym (drop-drop l.size o b)))
     ∙ sym (take-add l.size (n * l.size) (drop o b))
     ∙ ap (λ (k : ℕ). take k (drop o b)) all
 
 -- the bytes of values in one slab are one run
-pub run_bytes : (l : Line) (b : List ℕ) (i n : ℕ) → i % l.per + n ≤ l.per → concat (map (bytes_at l.size b) (offsets_from l i n)) ≡ take (n * l.size) (drop (offset l i) b)
+pub run_bytes : (l : Slabs) (b : List ℕ) (i n : ℕ) → i % l.values_per_slab + n ≤ l.values_per_slab → concat (map (bytes_at l.size b) (offsets_from l i n)) ≡ take (n * l.size) (drop (offset l i) b)
 run_bytes l b i n le =
-    ap (λ (k : ℕ). concat (map (bytes_at l.size b) (offsets_from l k n))) (sym (div-add-mod' i l.per)) ∙ bytes_in l b (i / l.per) (i % l.per) n le
+    ap (λ (k : ℕ). concat (map (bytes_at l.size b) (offsets_from l k n))) (sym (div-add-mod' i l.values_per_slab)) ∙ bytes_in l b (i / l.values_per_slab) (i % l.values_per_slab) n le
 
-offset_along : (l : Line) (i j : ℕ) → i % l.per + j < l.per → offset l (i + j) ≡ offset l i + j * l.size
+offset_along : (l : Slabs) (i j : ℕ) → i % l.values_per_slab + j < l.values_per_slab → offset l (i + j) ≡ offset l i + j * l.size
 offset_along l i j lt =
-    let q = i / l.per in
-    let m = i % l.per in
-    let e : i + j ≡ q * l.per + (m + j) = omega (arith, div-add-mod' i l.per) in
+    let q = i / l.values_per_slab in
+    let m = i % l.values_per_slab in
+    let e : i + j ≡ q * l.values_per_slab + (m + j) = omega (arith, div-add-mod' i l.values_per_slab) in
     let f : l.begin + q * l.stride + (m + j) * l.size ≡ l.begin + q * l.stride + m * l.size + j * l.size = omega arith in
     ap (offset l) e ∙ offset_at l q (m + j) lt ∙ f
 
-pub run_within : (l : Line) (i n : ℕ) → 0 < l.per → i < total l → i % l.per + n ≤ l.per → i + n ≤ total l
+pub run_within : (l : Slabs) (i n : ℕ) → 0 < l.values_per_slab → i < total l → i % l.values_per_slab + n ≤ l.values_per_slab → i + n ≤ total l
 run_within l i n some lt le =
-    let q = i / l.per in
-    let below : q < l.slabs = div_below i l.per l.slabs some lt in
-    let up : (q + 1) * l.per ≤ l.slabs * l.per = mul-le-mul_right l.per (let h : q + 1 ≤ l.slabs = omega arith in h) in
-    omega (arith, up, div-add-mod' i l.per)
+    let q = i / l.values_per_slab in
+    let below : q < l.total_slabs = div_below i l.values_per_slab l.total_slabs some lt in
+    let up : (q + 1) * l.values_per_slab ≤ l.total_slabs * l.values_per_slab = mul-le-mul_right l.values_per_slab (let h : q + 1 ≤ l.total_slabs = omega arith in h) in
+    omega (arith, up, div-add-mod' i l.values_per_slab)
 
 -- each value that is ready is whole
-pub ready_whole : (l : Line) (b : List ℕ) (i room n : ℕ) → Ready l i room (length b) n → All (IsWhole l.size b) (offsets_from l i n)
+pub ready_whole : (l : Slabs) (b : List ℕ) (i capacity n : ℕ) → Ready l i capacity (length b) n → All (IsWhole l.size b) (offsets_from l i n)
 unfolding offsets_from
-ready_whole l b i room n r = λ j d lt0.
+ready_whole l b i capacity n r = λ j d lt0.
     let lt : j < n = omega (arith, length-offsets l i n) in
     let here = offset_along l i j (omega (arith, r.in_slab)) in
     let end = r.whole (omega arith) in

@@ -33,22 +33,22 @@ pub stored_numbers : StoredNumbers
 stored_numbers h b var n k le =
     let f = bytes_at (size_of var.ty) b in
     let xs = value_offsets h var n in
-    let front : take k (map f xs) ≡ map f (take k xs) = take-map f k xs in
-    ap (λ (yss : List (List ℕ)). numbers var.ty (concat yss)) front
+    let prefix : take k (map f xs) ≡ map f (take k xs) = take-map f k xs in
+    ap (λ (yss : List (List ℕ)). numbers var.ty (concat yss)) prefix
     ∙ numbers-whole var.ty b (take k xs) (whole_before h var n b k le)
-    ∙ ap (map (number_of var.ty)) (sym front)
+    ∙ ap (map (number_of var.ty)) (sym prefix)
     ∙ sym (take-map (number_of var.ty) k (map f xs))
 
--- ---- a piece of them
+-- ---- a chunk of them
 
-pub piece_bytes : (h : Header) (b : List ℕ) (var : Var) (n k j : ℕ) → concat (map (bytes_at (size_of var.ty) b) (take j (drop k (value_offsets h var n)))) ≡ concat (take j (drop k (stored_bytes h b var n)))
-piece_bytes h b var n k j =
+pub chunk_bytes : (h : Header) (b : List ℕ) (var : Var) (n k j : ℕ) → concat (map (bytes_at (size_of var.ty) b) (take j (drop k (value_offsets h var n)))) ≡ concat (take j (drop k (stored_bytes h b var n)))
+chunk_bytes h b var n k j =
     let f = bytes_at (size_of var.ty) b in
     let xs = value_offsets h var n in
     ap concat (sym (take-map f j (drop k xs)) ∙ ap (take j) (sym (drop-map f k xs)))
 
-pub piece_values : (h : Header) (b : List ℕ) (var : Var) (n k j : ℕ) → map (number_of var.ty) (map (bytes_at (size_of var.ty) b) (take j (drop k (value_offsets h var n)))) ≡ take j (drop k (stored_values h b var n))
-piece_values h b var n k j =
+pub chunk_values : (h : Header) (b : List ℕ) (var : Var) (n k j : ℕ) → map (number_of var.ty) (map (bytes_at (size_of var.ty) b) (take j (drop k (value_offsets h var n)))) ≡ take j (drop k (stored_values h b var n))
+chunk_values h b var n k j =
     let f = bytes_at (size_of var.ty) b in
     let g = number_of var.ty in
     let xs = value_offsets h var n in
@@ -56,6 +56,6 @@ piece_values h b var n k j =
     ∙ sym (take-map g j (drop k (map f xs)))
     ∙ ap (take j) (sym (drop-map g k (map f xs)))
 
--- the first k and the j behind them
+-- the first k and the j after them
 pub joined_bytes : (xss : List (List ℕ)) (k j : ℕ) → concat (take k xss) ++ concat (take j (drop k xss)) ≡ concat (take (k + j) xss)
 joined_bytes xss k j = sym (ap concat (take-add k j xss) ∙ concat-append (take k xss) (take j (drop k xss)))

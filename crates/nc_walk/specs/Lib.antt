@@ -1,5 +1,5 @@
-pub mod Lines
+pub mod Slabs
 pub mod Fills
 pub mod Walks
-pub mod Pieces
+pub mod Chunks
 pub mod Walked

@@ -12,13 +12,13 @@ use Rattle.nc_base.specs.Places.{bytes_at, value_offsets}
 use Rattle.nc_file.specs.Sources.{SourceView, after}
 use Rattle.nc_walk.specs.declared.fault.WalkFault.{WalkFault}
 use Rattle.nc_walk.specs.declared.fault.WalkFault.TheVariants.{ReadFailed, DataTruncated}
-use Rattle.nc_walk.specs.declared.line.Line.{Line}
-use Rattle.nc_walk.specs.declared.place.Place.{Place}
-use Rattle.nc_walk.specs.Lines.{offsets_behind, IsSized, IsPlace}
-use Rattle.nc_walk.specs.Fills.{BrokeOff}
+use Rattle.nc_walk.specs.declared.slabs.Slabs.{Slabs}
+use Rattle.nc_walk.specs.declared.cursor.Cursor.{Cursor}
+use Rattle.nc_walk.specs.Slabs.{offsets_after, IsSized, IsCursor}
+use Rattle.nc_walk.specs.Fills.{FailedWhileFilling}
 
 -- the bytes of a value, the offsets of the values that it has still to hand out, how many it has handed out, the fault
--- that it stopped with, and what the lent buffer holds
+-- that it stopped with, and what the caller's buffer holds
 pub record WalkView : Type 0 where
   pub size : ℕ
   pub left : List ℕ
@@ -26,7 +26,7 @@ pub record WalkView : Type 0 where
   pub fault : Option WalkFault
   pub buf : List ℕ
 
--- a walk at the first value of the variable in this place, over n records, with a buffer of this length
+-- a walk at the first value of the variable at this index, over n records, with a buffer of this length
 pub record Starts (h : Header) (v n len : ℕ) (w : WalkView) : Type 0 where
   pub var : Var
   pub at : slice_get h.vars v ≡ Some var
@@ -35,27 +35,27 @@ pub record Starts (h : Header) (v n len : ℕ) (w : WalkView) : Type 0 where
   pub count : length w.left ≡ value_count h.dims var n
   pub done : w.done ≡ 0
   pub fault : w.fault ≡ None
-  pub room : length w.buf ≡ len
+  pub capacity : length w.buf ≡ len
 
 -- ---- what a call answers
 
--- a piece of values, the end, or a fault
+-- a chunk of values, the end, or a fault
 abbrev pub Answer : Type 0
 Answer = Result (Option (List ℕ)) WalkFault
 
--- a lent piece, as an answer
+-- a lent chunk, as an answer
 abbrev pub lent : Result (Option (Bor (List ℕ))) WalkFault → Answer
 lent (Ok None) = Ok None
-lent (Ok (Some piece)) = Ok (Some piece.now)
+lent (Ok (Some chunk)) = Ok (Some chunk.now)
 lent (Err fault) = Err fault
 
 -- how many values of this size are in these bytes
 abbrev pub count : ℕ → List ℕ → ℕ
-count size piece = length piece / size
+count size chunk = length chunk / size
 
 -- how many values an answer hands out
 abbrev pub counted : ℕ → Answer → ℕ
-counted size (Ok (Some piece)) = count size piece
+counted size (Ok (Some chunk)) = count size chunk
 counted size (Ok None) = 0
 counted size (Err fault) = 0
 
@@ -70,50 +70,50 @@ fault_of (Err fault) = Some fault
 abbrev pub IsWhole : ℕ → List ℕ → ℕ → Type 0
 IsWhole size bytes offset = offset + size ≤ length bytes
 
--- The piece has the bytes of the next n values, each of them whole in the source, which handed over these bytes and no others.
-pub record Exactly (w : WalkView) (before now : SourceView) (piece : List ℕ) (n : ℕ) : Type 0 where
+-- The chunk has the bytes of the next n values, each of them whole in the source, of which these bytes and no others were read.
+pub record Exactly (w : WalkView) (before now : SourceView) (chunk : List ℕ) (n : ℕ) : Type 0 where
   pub whole : All (IsWhole w.size before.bytes) (take n w.left)
-  pub bytes : piece ≡ concat (map (bytes_at w.size before.bytes) (take n w.left))
-  pub handed : now ≡ after before (length piece)
+  pub bytes : chunk ≡ concat (map (bytes_at w.size before.bytes) (take n w.left))
+  pub handed : now ≡ after before (length chunk)
 
--- the piece has n values, one at least, in no more bytes than the buffer's
-pub record Hands (told : Bool) (w : WalkView) (before now : SourceView) (piece : List ℕ) (n : ℕ) : Type 0 where
+-- the chunk has n values, one at least, in no more bytes than the buffer's
+pub record ReturnsValues (is_transparent : Bool) (w : WalkView) (before now : SourceView) (chunk : List ℕ) (n : ℕ) : Type 0 where
   pub some : 0 < n
-  pub len : length piece ≡ n * w.size
+  pub len : length chunk ≡ n * w.size
   pub within : n ≤ length w.left
-  pub room : n * w.size ≤ length w.buf
+  pub capacity : n * w.size ≤ length w.buf
   pub failures : now.failures ≡ before.failures
-  pub exactly : OnTrue told (Exactly w before now piece n)
+  pub exactly : OnTrue is_transparent (Exactly w before now chunk n)
 
--- A read failed among the next n values, each of them whole in the source, which handed over no more than these and no
+-- A read failed among the next n values, each of them whole in the source, of which no more than these were read and no
 -- more than fill the buffer.
 pub record Failing (w : WalkView) (before now : SourceView) (n : ℕ) : Type 0 where
   pub some : 0 < length w.left
   pub within : n ≤ length w.left
   pub whole : All (IsWhole w.size before.bytes) (take n w.left)
-  pub room : n * w.size ≤ length w.buf
-  pub broke : BrokeOff before now (n * w.size)
+  pub capacity : n * w.size ≤ length w.buf
+  pub partway : FailedWhileFilling before now (n * w.size)
 
--- Value number k is the next one, and it isn't whole in the source, which handed over nothing.
-pub record Truncated (told : Bool) (w : WalkView) (before now : SourceView) (k : ℕ) : Type 0 where
+-- Value number k is the next one, and it isn't whole in the source, of which nothing was read.
+pub record Truncated (is_transparent : Bool) (w : WalkView) (before now : SourceView) (k : ℕ) : Type 0 where
   pub value : k ≡ w.done
   pub some : 0 < length w.left
   pub failures : now.failures ≡ before.failures
-  pub missing : OnTrue told ((length before.bytes < slice_index w.left 0 + w.size) × (now ≡ before))
+  pub missing : OnTrue is_transparent ((length before.bytes < slice_index w.left 0 + w.size) × (now ≡ before))
 
 -- what a call does with a walk that hasn't stopped
 abbrev pub Steps : Bool → WalkView → SourceView → SourceView → Answer → Type 0
-Steps told w before now (Ok None) = (length w.left ≡ 0) × (now ≡ before)
-Steps told w before now (Ok (Some piece)) = Hands told w before now piece (count w.size piece)
-Steps told w before now (Err ReadFailed) = (n : ℕ) × Failing w before now n
-Steps told w before now (Err (DataTruncated k)) = Truncated told w before now k
+Steps is_transparent w before now (Ok None) = (length w.left ≡ 0) × (now ≡ before)
+Steps is_transparent w before now (Ok (Some chunk)) = ReturnsValues is_transparent w before now chunk (count w.size chunk)
+Steps is_transparent w before now (Err ReadFailed) = (n : ℕ) × Failing w before now n
+Steps is_transparent w before now (Err (DataTruncated k)) = Truncated is_transparent w before now k
 
 -- what it does with one that has: the same fault, and nothing of the source
 abbrev pub Repeats : WalkView → SourceView → SourceView → Answer → Type 0
 Repeats w before now answer = IfSome w.fault (λ fault. (answer ≡ Err fault) × (now ≡ before))
 
 -- what the walk is afterwards
-pub record Moved (old new : WalkView) (answer : Answer) : Type 0 where
+pub record Advanced (old new : WalkView) (answer : Answer) : Type 0 where
   pub size : new.size ≡ old.size
   pub left : new.left ≡ drop (counted old.size answer) old.left
   pub done : new.done ≡ old.done + counted old.size answer
@@ -126,34 +126,34 @@ Rests R s P = follows_so R R s.ghost_name none (λ _ _. Unit {0}) P
 
 -- ---- how a call does it
 
--- what a walk over these slabs is, behind so many values
-abbrev pub stopped : Line → ℕ → Option WalkFault → List ℕ → WalkView
-stopped l done fault buf = record { size = l.size; left = offsets_behind l done; done = done; fault = fault; buf = buf }
+-- what a walk over these slabs is, after n values
+abbrev pub stopped : Slabs → ℕ → Option WalkFault → List ℕ → WalkView
+stopped l done fault buf = record { size = l.size; left = offsets_after l done; done = done; fault = fault; buf = buf }
 
 -- the same of one that hasn't stopped
-abbrev pub standing : Line → ℕ → List ℕ → WalkView
+abbrev pub standing : Slabs → ℕ → List ℕ → WalkView
 standing l done buf = stopped l done None buf
 
 -- what holds of the fields of every walk
-pub record IsInOrder (l : Line) (place : Place) (room : ℕ) (buf : List ℕ) : Type 0 where
+pub record IsInOrder (l : Slabs) (cursor : Cursor) (capacity : ℕ) (buf : List ℕ) : Type 0 where
   pub sized : IsSized l
-  pub is_place : IsPlace l place
-  pub some : 0 < room
-  pub fits : room * l.size ≤ length buf
+  pub is_cursor : IsCursor l cursor
+  pub some : 0 < capacity
+  pub fits : capacity * l.size ≤ length buf
 
--- the next n values are whole in the source, which handed over as many bytes as they have
-pub record Ran (w : WalkView) (before now : SourceView) (n : ℕ) : Type 0 where
+-- the next n values are whole in the source, of which as many bytes as they have were read
+pub record ReadValues (w : WalkView) (before now : SourceView) (n : ℕ) : Type 0 where
   pub whole : All (IsWhole w.size before.bytes) (take n w.left)
   pub handed : now ≡ after before (n * w.size)
 
--- the next n values stand in front of the buffer
+-- the next n values stand at the start of the buffer
 abbrev pub Reads : Bool → WalkView → List ℕ → SourceView → SourceView → Result ℕ WalkFault → Type 0
-Reads told w buf before now (Ok n) = (n * w.size ≤ length buf) × Hands told w before now (take (n * w.size) buf) n
-Reads told w buf before now (Err ReadFailed) = (n : ℕ) × Failing w before now n
-Reads told w buf before now (Err (DataTruncated k)) = Truncated told w before now k
+Reads is_transparent w buf before now (Ok n) = (n * w.size ≤ length buf) × ReturnsValues is_transparent w before now (take (n * w.size) buf) n
+Reads is_transparent w buf before now (Err ReadFailed) = (n : ℕ) × Failing w before now n
+Reads is_transparent w buf before now (Err (DataTruncated k)) = Truncated is_transparent w before now k
 
--- so many bytes in front of the buffer, as an answer
-abbrev pub in_front : List ℕ → Result ℕ WalkFault → Answer
-in_front buf (Ok zero) = Ok None
-in_front buf (Ok (suc n)) = Ok (Some (take (suc n) buf))
-in_front buf (Err fault) = Err fault
+-- n bytes at the start of the buffer, as an answer
+abbrev pub as_answer : List ℕ → Result ℕ WalkFault → Answer
+as_answer buf (Ok zero) = Ok None
+as_answer buf (Ok (suc n)) = Ok (Some (take (suc n) buf))
+as_answer buf (Err fault) = Err fault

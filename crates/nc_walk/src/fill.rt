@@ -6,7 +6,7 @@ ghost use Rattle.nc_walk.specs.Fills.{Fills};
 use nc_file::{Source, SourceFailed};
 
 /// Reads the bytes from the offset `at` on until the slice is full, or the source says that it has ended, and gives their
-/// number. A source that tells its bytes fills the slice.
+/// number. A source that is transparent fills the slice.
 ///
 /// # Errors
 ///
@@ -18,8 +18,8 @@ pub(crate) fn fill<S: Source>(
     into: &mut [u8],
 ) -> Result<usize, SourceFailed>
     requires fits { at + length into.old < 2 ^ 64 }
-    requires there { at + length into.old ≤ length (S.seen source.old).bytes }
-    ensures { Fills S.told (S.seen source.old) (S.seen source.new) at into.new result }
+    requires there { at + length into.old ≤ length (S.view source.old).bytes }
+    ensures { Fills S.is_transparent (S.view source.old) (S.view source.new) at into.new result }
 {
     let mut got = 0;
     while got < into.len() {

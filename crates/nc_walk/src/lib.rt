@@ -1,15 +1,15 @@
 //! The values of one variable, out of a file.
 //!
-//! A [`Walk`] hands out the values of a variable in row-major order, as the file has them, in pieces that it lends out of a
-//! lent buffer. It reads no byte that isn't a byte of a value, and none twice for the same value, and it takes no memory.
+//! A [`Walk`] hands out the values of a variable in row-major order, as the file has them, in chunks that it lends out of a
+//! caller's buffer. It reads no byte that isn't a byte of a value, and none twice for the same value, and it takes no memory.
 #![tactic(auto)]
 
 mod fault;
 mod fill;
 pub mod laws;
-mod line;
-mod piece;
-mod place;
+mod slabs;
+mod chunk;
+mod cursor;
 mod reading;
 mod walk;
 

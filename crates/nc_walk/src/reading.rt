@@ -1,45 +1,45 @@
 //! One read of a walk.
 
 ghost use Rattle.std.specs.Prelude.{◌≡◌, ◌+◌, ◌*◌, ◌<◌, ◌≤◌, ◌^◌, length, IfOk};
-ghost use Rattle.nc_walk.specs.Lines.{total, number_at, IsSized};
-ghost use Rattle.nc_walk.specs.Walks.{standing, Ran, Reads};
+ghost use Rattle.nc_walk.specs.Slabs.{total, number_at, IsSized};
+ghost use Rattle.nc_walk.specs.Walks.{standing, ReadValues, Reads};
 
 use crate::fault::WalkFault;
 use crate::fill::fill;
-use crate::line::Line;
-use crate::place::Place;
+use crate::slabs::Slabs;
+use crate::cursor::Cursor;
 use nc_file::Source;
 
-/// Reads the values from this place on to the front of the slice, as many as lie side by side and at most `room`, and gives
+/// Reads the values from this cursor on into the start of the slice, as many as lie side by side and at most `capacity`, and gives
 /// their number, which isn't 0.
 ///
 /// # Errors
 ///
-/// The source failed, or it has no whole value in this place.
+/// The source failed, or it has no whole value at this index.
 #[inline(always)]
 pub(crate) fn read_values<S: Source>(
-    line: &Line,
-    place: Place,
-    room: u64,
+    slabs: &Slabs,
+    cursor: Cursor,
+    capacity: u64,
     source: &mut S,
     into: &mut [u8],
 ) -> Result<u64, WalkFault>
-    requires sized { IsSized line.now }
-    requires within { place.within < line.now.per }
-    requires more { number_at line.now place < total line.now }
-    requires some { 0 < room }
-    requires room { room * line.now.size ≤ length into.old }
-    ensures reads { Reads S.told (standing line.now (number_at line.now place) into.old) into.new (S.seen source.old) (S.seen source.new) result }
-    ensures in_slab { IfOk result (λ n. place.within + n ≤ line.now.per) }
-    ensures ran { IfOk result (λ n. place.within + n ≡ line.now.per
-        → Ran (standing line.now (number_at line.now place) into.old) (S.seen source.old) (S.seen source.new) n) }
+    requires sized { IsSized slabs.now }
+    requires within { cursor.within < slabs.now.values_per_slab }
+    requires more { number_at slabs.now cursor < total slabs.now }
+    requires some { 0 < capacity }
+    requires capacity { capacity * slabs.now.size ≤ length into.old }
+    ensures reads { Reads S.is_transparent (standing slabs.now (number_at slabs.now cursor) into.old) into.new (S.view source.old) (S.view source.new) result }
+    ensures in_slab { IfOk result (λ n. cursor.within + n ≤ slabs.now.values_per_slab) }
+    ensures values_read { IfOk result (λ n. cursor.within + n ≡ slabs.now.values_per_slab
+        → ReadValues (standing slabs.now (number_at slabs.now cursor) into.old) (S.view source.old) (S.view source.new) n) }
 {
-    let ready = line.ready(place, room, source.len());
+    let ready = slabs.ready(cursor, capacity, source.len());
     if ready == 0 {
-        return Err(WalkFault::DataTruncated(place.number(*line)));
+        return Err(WalkFault::DataTruncated(cursor.number(*slabs)));
     }
-    let at = line.offset(place) as u64;
-    let wanted = (ready * line.size) as usize;
+    let at = slabs.offset(cursor) as u64;
+    let wanted = (ready * slabs.size) as usize;
     let got = match fill(source, at, &mut into[..wanted]) {
         Ok(n) => n,
         Err(_) => return Err(WalkFault::ReadFailed),
@@ -47,9 +47,9 @@ pub(crate) fn read_values<S: Source>(
     if got == wanted {
         return Ok(ready);
     }
-    let whole = got as u64 / line.size;
+    let whole = got as u64 / slabs.size;
     if whole == 0 {
-        return Err(WalkFault::DataTruncated(place.number(*line)));
+        return Err(WalkFault::DataTruncated(cursor.number(*slabs)));
     }
     Ok(whole)
 }

@@ -94,7 +94,7 @@ TellsKind kind fault = (kind ≡ kinds.OutOfMemory → fault ≡ OutOfMemory) ×
 -- the answer to an error of this kind
 pub refusal_answers : (words : List (List ℕ)) (kind : ErrorKind) (r : Result DumpOptions OptFault) → IsErrAnd r (TellsKind kind)
     → (kind ≡ kinds.OutOfMemory) ⊎ IsAmong kind (fault_of ncdump words) → Answers (asked_by words) r
-refusal_answers words kind (Ok options) tells has = absurd tells
-refusal_answers words kind (Err OutOfMemory) tells has = tt
-refusal_answers words kind (Err Usage) tells (inl is) = let bad : Usage ≡ OutOfMemory = tells.0 is in search (rules, bad)
-refusal_answers words kind (Err Usage) tells (inr among) = asked_by_refused words kind among
+refusal_answers words kind (Ok options) transparent has = absurd transparent
+refusal_answers words kind (Err OutOfMemory) transparent has = tt
+refusal_answers words kind (Err Usage) transparent (inl is) = let bad : Usage ≡ OutOfMemory = transparent.0 is in search (rules, bad)
+refusal_answers words kind (Err Usage) transparent (inr among) = asked_by_refused words kind among

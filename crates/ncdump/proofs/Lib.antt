@@ -1,7 +1,7 @@
 pub mod CommandLines
 pub mod NameSets
 pub mod Unknown
-pub mod Fronts
+pub mod Prefixes
 pub mod Held
 pub mod OneVariable
 pub mod Marked

@@ -9,16 +9,16 @@ use Rattle.nc_base.specs.declared.header.Var.{Var}
 use Rattle.nc_base.specs.ValueText.{Look, look_of}
 use Rattle.nc_base.specs.Dump.{Section, no_section, whole, data_truncated, content_in, has_values, values_before, values_of}
 use Rattle.nc_file.specs.Sources.{SourceView, after}
-use Rattle.nc_file.specs.Sinks.{SinkView, Grew, Broke}
-use Rattle.nc_file.proofs.Writes.{grew_then, grew_broke}
-use Rattle.nc_walk.proofs.Fills.{after_after, told_both}
+use Rattle.nc_file.specs.Sinks.{SinkView, Appended, FailedPartway}
+use Rattle.nc_file.proofs.Writes.{appended_then, appended_partway}
+use Rattle.nc_walk.proofs.Fills.{after_after, transparent_both}
 use Rattle.ncdump.specs.declared.fault.DumpFault.{DumpFault}
 use Rattle.ncdump.specs.declared.fault.DumpFault.TheVariants.{OutOfMemory, ReadFailed, WriteFailed, Format, NoSuchVariable, DataTruncated}
 use Rattle.ncdump.proofs.OneVariable.{some-at}
 use Rattle.nc_base.specs.declared.nc_type.NcType.TheVariants.{Byte}
-use Rattle.ncdump.specs.Shows.{Dumped, dumped, front_text, ShowsOne, ShowsMarked, values_and, values_alone, values_from, whole_values, whole_bytes, bytes_of, Holds, KeepsUp, KeepsUpIn, IsBefore, IsShown, IsUnread, IsUnwritten, IsUpToDate, AreShown, AreUnread, AreUnwritten}
-use Rattle.ncdump.proofs.Fronts.{front-in-text}
-use Rattle.ncdump.proofs.Held.{holds-all, holds-front, holds-behind, holds-broke}
+use Rattle.ncdump.specs.Shows.{Dumped, dumped, prefix_text, ShowsOne, ShowsMarked, values_and, values_alone, values_from, whole_values, whole_bytes, bytes_of, Holds, KeepsUp, KeepsUpIn, IsBefore, IsShown, IsUnread, IsUnwritten, IsUpToDate, AreShown, AreUnread, AreUnwritten}
+use Rattle.ncdump.proofs.Prefixes.{prefix-in-text}
+use Rattle.ncdump.proofs.Held.{holds-all, holds-prefix, holds-after, holds-partway}
 
 -- ---- the list from a place on
 
@@ -28,7 +28,7 @@ from-place xs v x is =
     drop-cons xs v x (slice_get_within xs v x is)
     ∙ ap (λ y. y ∷ drop (suc v) xs) (get_or_from_slice_get xs v x x is) ∙ ap (λ i. x ∷ drop i xs) (sym e)
 
--- the values of the variables from place v on, and their bytes, by whether the first of them is shown
+-- the values of the variables from index v on, and their bytes, by whether the first of them is shown
 pub values-at : (d : Dumped) (marks : List Bool) (v : ℕ) (var : Var) (mark shown : Bool) → slice_get d.header.vars v ≡ Some var → slice_get marks v ≡ Some mark
     → shown ≡ (mark && has_values d.header.dims d.records var)
     → values_from d marks v ≡ (if shown then values_and d v var (values_from d marks (v + 1)) else values_from d marks (v + 1))
@@ -53,7 +53,7 @@ no-bytes : (d : Dumped) (vars : List Var) → bytes_of d vars [] ≡ 0
 no-bytes d [] = refl
 no-bytes d (var ∷ vars) = refl
 
--- ---- a variable's values in front of a section
+-- ---- a variable's values before a section
 
 whole-and : (look : Look) (values : List ℤ) (missing : Option ℕ) (v : ℕ) (others : Section) → (values_before look values missing v no_section).ending ≡ whole
     → ((values_before look values missing v others).text ≡ (values_before look values missing v no_section).text ++ others.text)
@@ -75,37 +75,37 @@ more-and look values (Some k) v others = ([], sym (append-nil _))
 -- ---- from place to place
 
 -- the values of the marked variables before place v are shown
-pub record Marked (d : Dumped) (marks : List Bool) (room v : ℕ) (a b : SourceView) (old new : SinkView) : Type 0 where
-  pub front : List ℕ
+pub record Marked (d : Dumped) (marks : List Bool) (buffer_len v : ℕ) (a b : SourceView) (old new : SinkView) : Type 0 where
+  pub prefix : List ℕ
   pub spent : ℕ
-  pub is_before : IsBefore d marks v front spent
-  pub grew : Grew old new front
+  pub is_before : IsBefore d marks v prefix spent
+  pub appended : Appended old new prefix
   pub handed : b ≡ after a spent
-  pub keeps_up : (b ≡ a) ⊎ KeepsUpIn d marks room a b (Holds old new)
+  pub keeps_up : (b ≡ a) ⊎ KeepsUpIn d marks buffer_len a b (Holds old new)
 
-pub marked-begins : (d : Dumped) (marks : List Bool) (room : ℕ) (a : SourceView) (old : SinkView) → Grew old old [] → Marked d marks room 0 a a old old
-marked-begins d marks room a old none = record {
-  front = [];
+pub marked-begins : (d : Dumped) (marks : List Bool) (buffer_len : ℕ) (a : SourceView) (old : SinkView) → Appended old old [] → Marked d marks buffer_len 0 a a old old
+marked-begins d marks buffer_len a old none = record {
+  prefix = [];
   spent = 0;
   is_before = record { text_is = refl; ending_is = refl; spent_is = omega arith };
-  grew = none;
+  appended = none;
   handed = let e : a.handed ≡ a.handed + 0 = omega arith in ap (λ (k : ℕ). record a { handed = k }) e;
   keeps_up = inl refl;
 }
 
-module _ (d : Dumped) (marks : List Bool) (room v : ℕ) (a b : SourceView) (old new : SinkView) (m : Marked d marks room v a b old new)
+module _ (d : Dumped) (marks : List Bool) (buffer_len v : ℕ) (a b : SourceView) (old new : SinkView) (m : Marked d marks buffer_len v a b old new)
     (var : Var) (mark : Bool) (at : slice_get d.header.vars v ≡ Some var) (marked : slice_get marks v ≡ Some mark) where
   -- a variable isn't shown
-  pub marked-skips : false ≡ (mark && has_values d.header.dims d.records var) → Marked d marks room (v + 1) a b old new
+  pub marked-skips : false ≡ (mark && has_values d.header.dims d.records var) → Marked d marks buffer_len (v + 1) a b old new
   marked-skips is = record {
-    front = m.front;
+    prefix = m.prefix;
     spent = m.spent;
     is_before = record {
-      text_is = m.is_before.text_is ∙ ap (λ (s : Section). m.front ++ s.text) (values-at d marks v var mark false at marked is);
+      text_is = m.is_before.text_is ∙ ap (λ (s : Section). m.prefix ++ s.text) (values-at d marks v var mark false at marked is);
       ending_is = m.is_before.ending_is ∙ ap (λ (s : Section). s.ending) (values-at d marks v var mark false at marked is);
       spent_is = omega (arith, m.is_before.spent_is, bytes-at d marks v var mark false at marked is);
     };
-    grew = m.grew;
+    appended = m.appended;
     handed = m.handed;
     keeps_up = m.keeps_up;
   }
@@ -129,12 +129,12 @@ module _ (d : Dumped) (marks : List Bool) (room v : ℕ) (a b : SourceView) (old
     has-some true y e = sym e
     has-some false y e = absurd cc
 
-    -- the text of the variable's first values stands behind what was shown before
-    keeps-up-in : (Taken : List ℕ → Type 0) (k : KeepsUp d var room (after a m.spent) c (λ (values : List ℕ). Taken (m.front ++ values))) → KeepsUpIn d marks room a c Taken
+    -- the text of the variable's first values stands after what was shown before
+    keeps-up-in : (Taken : List ℕ → Type 0) (k : KeepsUp d var buffer_len (after a m.spent) c (λ (values : List ℕ). Taken (m.prefix ++ values))) → KeepsUpIn d marks buffer_len a c Taken
     keeps-up-in Taken k = record {
       v = v;
       var = var;
-      front = m.front;
+      prefix = m.prefix;
       spent = m.spent;
       at = at;
       marked = marked ∙ ap Some (is-marked mark _ shown);
@@ -144,85 +144,85 @@ module _ (d : Dumped) (marks : List Bool) (room v : ℕ) (a b : SourceView) (old
     }
 
     -- all its values are shown
-    pub marked-on : IsShown d v var whole (after a m.spent) c new newer → Marked d marks room (v + 1) a c old newer
+    pub marked-on : IsShown d v var whole (after a m.spent) c new newer → Marked d marks buffer_len (v + 1) a c old newer
     marked-on s =
         let alone = values_alone d v var in
         let split = whole-and _ _ _ v (values_from d marks (v + 1)) s.ends in
-        let front = front-in-text d v var (whole_values d var) (omega arith) in
+        let prefix = prefix-in-text d v var (whole_values d var) (omega arith) in
         let handed : c ≡ after a (m.spent + whole_bytes d var) = s.handed ∙ after_after a m.spent (whole_bytes d var) in
         record {
-          front = m.front ++ alone.text;
+          prefix = m.prefix ++ alone.text;
           spent = m.spent + whole_bytes d var;
           is_before = record {
-            text_is = m.is_before.text_is ∙ ap (λ (x : Section). m.front ++ x.text) values-here ∙ ap (λ (t : List ℕ). m.front ++ t) split.0 ∙ sym (append_assoc m.front alone.text _);
+            text_is = m.is_before.text_is ∙ ap (λ (x : Section). m.prefix ++ x.text) values-here ∙ ap (λ (t : List ℕ). m.prefix ++ t) split.0 ∙ sym (append_assoc m.prefix alone.text _);
             ending_is = m.is_before.ending_is ∙ ap (λ (x : Section). x.ending) values-here ∙ split.1;
             spent_is = omega (arith, m.is_before.spent_is, bytes-here);
           };
-          grew = grew_then old new newer m.front alone.text m.grew s.grew;
+          appended = appended_then old new newer m.prefix alone.text m.appended s.appended;
           handed = handed;
           keeps_up = inr (keeps-up-in (Holds old newer) (record {
             k = whole_values d var;
             few = omega arith;
-            taken = holds-front old newer (m.front ++ front_text d var (whole_values d var)) front.0 (m.front ++ alone.text)
-                (ap (λ (t : List ℕ). m.front ++ t) front.1 ∙ sym (append_assoc m.front (front_text d var (whole_values d var)) front.0))
-                (holds-all old newer (m.front ++ alone.text) (grew_then old new newer m.front alone.text m.grew s.grew));
+            taken = holds-prefix old newer (m.prefix ++ prefix_text d var (whole_values d var)) prefix.0 (m.prefix ++ alone.text)
+                (ap (λ (t : List ℕ). m.prefix ++ t) prefix.1 ∙ sym (append_assoc m.prefix (prefix_text d var (whole_values d var)) prefix.0))
+                (holds-all old newer (m.prefix ++ alone.text) (appended_then old new newer m.prefix alone.text m.appended s.appended));
             handed = omega (arith, ap (λ (x : SourceView). x.handed) handed);
           }));
         }
 
     -- a value is missing
     pub marked-cut : (w k : ℕ) → IsShown d v var (data_truncated w k) (after a m.spent) c new newer
-        → AreShown d marks (data_truncated w k) a c (λ (section : Section). Grew old newer section.text)
+        → AreShown d marks (data_truncated w k) a c (λ (section : Section). Appended old newer section.text)
     marked-cut w k s =
         let split = cut-and _ _ _ v w k (values_from d marks (v + 1)) s.ends in
         let handed : c ≡ after a (m.spent + whole_bytes d var) = s.handed ∙ after_after a m.spent (whole_bytes d var) in
         record {
           ends = m.is_before.ending_is ∙ ap (λ (x : Section). x.ending) values-here ∙ split.1;
-          taken = subst (Grew old newer) (sym (m.is_before.text_is ∙ ap (λ (x : Section). m.front ++ x.text) values-here ∙ ap (λ (t : List ℕ). m.front ++ t) split.0))
-              (grew_then old new newer m.front (values_alone d v var).text m.grew s.grew);
+          taken = subst (Appended old newer) (sym (m.is_before.text_is ∙ ap (λ (x : Section). m.prefix ++ x.text) values-here ∙ ap (λ (t : List ℕ). m.prefix ++ t) split.0))
+              (appended_then old new newer m.prefix (values_alone d v var).text m.appended s.appended);
           bytes = ap (λ (x : SourceView). x.bytes) handed;
           most = omega (arith, ap (λ (x : SourceView). x.handed) handed, m.is_before.spent_is, bytes-here);
         }
 
     -- a read failed
-    pub marked-unread : IsUnread d var room (after a m.spent) c new newer → AreUnread d marks room a c (Grew old newer)
+    pub marked-unread : IsUnread d var buffer_len (after a m.spent) c new newer → AreUnread d marks buffer_len a c (Appended old newer)
     marked-unread s = record {
       bytes = s.bytes;
       most = omega (arith, s.most, m.is_before.spent_is, bytes-here);
-      keeps_up = keeps-up-in (Grew old newer) (record {
+      keeps_up = keeps-up-in (Appended old newer) (record {
         k = s.keeps_up.k;
         few = s.keeps_up.few;
-        taken = grew_then old new newer m.front (front_text d var s.keeps_up.k) m.grew s.keeps_up.taken;
+        taken = appended_then old new newer m.prefix (prefix_text d var s.keeps_up.k) m.appended s.keeps_up.taken;
         handed = s.keeps_up.handed;
       });
     }
 
     -- a write failed
-    pub marked-unwritten : IsUnwritten d v var room (after a m.spent) c new newer
-        → AreUnwritten d marks room a c (λ (section : Section). Broke old newer section.text) (Holds old newer)
+    pub marked-unwritten : IsUnwritten d v var buffer_len (after a m.spent) c new newer
+        → AreUnwritten d marks buffer_len a c (λ (section : Section). FailedPartway old newer section.text) (Holds old newer)
     marked-unwritten s =
         let more = more-and _ _ _ v (values_from d marks (v + 1)) in
-        let text = m.is_before.text_is ∙ ap (λ (x : Section). m.front ++ x.text) values-here ∙ ap (λ (t : List ℕ). m.front ++ t) more.1 in
+        let text = m.is_before.text_is ∙ ap (λ (x : Section). m.prefix ++ x.text) values-here ∙ ap (λ (t : List ℕ). m.prefix ++ t) more.1 in
         record {
           bytes = s.bytes;
           most = omega (arith, s.most, m.is_before.spent_is, bytes-here);
-          broke = subst (Broke old newer) (sym text) (grew_broke old new newer m.front (values_alone d v var).text more.0 m.grew s.broke);
+          partway = subst (FailedPartway old newer) (sym text) (appended_partway old new newer m.prefix (values_alone d v var).text more.0 m.appended s.partway);
           keeps_up = elim s.keeps_up [
             | inl same ↦ still s same
             | inr k ↦ inr (keeps-up-in (Holds old newer) (record {
               k = k.k;
               few = k.few;
-              taken = holds-behind old new newer m.front (front_text d var k.k) m.grew k.taken;
+              taken = holds-after old new newer m.prefix (prefix_text d var k.k) m.appended k.taken;
               handed = k.handed;
             }))
           ];
         }
       where
-        moved : SourceView → IsUnwritten d v var room (after a m.spent) c new newer → c ≡ after a m.spent → KeepsUpIn d marks room a b (Holds old new) → KeepsUpIn d marks room a c (Holds old newer)
-        moved x s same k = record {
+        advanced : SourceView → IsUnwritten d v var buffer_len (after a m.spent) c new newer → c ≡ after a m.spent → KeepsUpIn d marks buffer_len a b (Holds old new) → KeepsUpIn d marks buffer_len a c (Holds old newer)
+        advanced x s same k = record {
           v = k.v;
           var = k.var;
-          front = k.front;
+          prefix = k.prefix;
           spent = k.spent;
           at = k.at;
           marked = k.marked;
@@ -231,25 +231,25 @@ module _ (d : Dumped) (marks : List Bool) (room v : ℕ) (a b : SourceView) (old
           keeps_up = record {
             k = k.keeps_up.k;
             few = k.keeps_up.few;
-            taken = holds-broke old new newer (k.front ++ front_text d k.var k.keeps_up.k) _ k.keeps_up.taken s.broke;
+            taken = holds-partway old new newer (k.prefix ++ prefix_text d k.var k.keeps_up.k) _ k.keeps_up.taken s.partway;
             handed = omega (arith, k.keeps_up.handed, ap (λ (y : SourceView). y.handed) same, ap (λ (y : SourceView). y.handed) m.handed);
           };
         }
 
-        still : IsUnwritten d v var room (after a m.spent) c new newer → c ≡ after a m.spent → (c ≡ a) ⊎ KeepsUpIn d marks room a c (Holds old newer)
-        still s same = elim m.keeps_up [ inl first ↦ inl (same ∙ sym m.handed ∙ first) | inr k ↦ inr (moved c s same k) ]
+        still : IsUnwritten d v var buffer_len (after a m.spent) c new newer → c ≡ after a m.spent → (c ≡ a) ⊎ KeepsUpIn d marks buffer_len a c (Holds old newer)
+        still s same = elim m.keeps_up [ inl first ↦ inl (same ∙ sym m.handed ∙ first) | inr k ↦ inr (advanced c s same k) ]
 
 -- all marked variables are shown
-pub marked-all : (d : Dumped) (marks : List Bool) (room v : ℕ) (a b : SourceView) (old new : SinkView) → length marks ≤ v → Marked d marks room v a b old new
-    → AreShown d marks whole a b (λ (section : Section). Grew old new section.text) × IsUpToDate d marks room a b (Holds old new)
-marked-all d marks room v a b old new all m =
+pub marked-all : (d : Dumped) (marks : List Bool) (buffer_len v : ℕ) (a b : SourceView) (old new : SinkView) → length marks ≤ v → Marked d marks buffer_len v a b old new
+    → AreShown d marks whole a b (λ (section : Section). Appended old new section.text) × IsUpToDate d marks buffer_len a b (Holds old new)
+marked-all d marks buffer_len v a b old new all m =
     let none : drop v marks ≡ [] = drop_all v marks all in
     let nothing : values_from d marks v ≡ no_section =
     ap (λ (ms : List Bool). values_of d.header (content_in d.header d.bytes d.records) d.records d.width v (drop v d.header.vars) ms) none ∙ no-marks d v (drop v d.header.vars) in
     let no-more : bytes_of d (drop v d.header.vars) (drop v marks) ≡ 0 = ap (bytes_of d (drop v d.header.vars)) none ∙ no-bytes d (drop v d.header.vars) in (
       record {
         ends = m.is_before.ending_is ∙ ap (λ (x : Section). x.ending) nothing;
-        taken = subst (Grew old new) (sym (m.is_before.text_is ∙ ap (λ (x : Section). m.front ++ x.text) nothing ∙ append-nil m.front)) m.grew;
+        taken = subst (Appended old new) (sym (m.is_before.text_is ∙ ap (λ (x : Section). m.prefix ++ x.text) nothing ∙ append-nil m.prefix)) m.appended;
         bytes = ap (λ (x : SourceView). x.bytes) m.handed;
         most = omega (arith, ap (λ (x : SourceView). x.handed) m.handed, m.is_before.spent_is, no-more);
       },
@@ -273,41 +273,41 @@ module _ (d : Dumped) (marks : List Bool) (v : ℕ) (shown : Bool) (there : v < 
   shown-here : shown ≡ (get_or marks v false && has_values d.header.dims d.records var-here)
   shown-here = some-at (λ (var : Var). shown ≡ (get_or marks v false && has_values d.header.dims d.records var)) (slice_get d.header.vars v) var-here at-here tested
 
-  pub place-skips : (room : ℕ) (a b : SourceView) (old new : SinkView) → shown ≡ false → Marked d marks room v a b old new → Marked d marks room (v + 1) a b old new
-  place-skips room a b old new not m = marked-skips d marks room v a b old new m var-here (get_or marks v false) at-here marked-here (sym not ∙ shown-here)
+  pub place-skips : (buffer_len : ℕ) (a b : SourceView) (old new : SinkView) → shown ≡ false → Marked d marks buffer_len v a b old new → Marked d marks buffer_len (v + 1) a b old new
+  place-skips buffer_len a b old new not m = marked-skips d marks buffer_len v a b old new m var-here (get_or marks v false) at-here marked-here (sym not ∙ shown-here)
 
-  module _ (told : Bool) (room buf : ℕ) (a b c : SourceView) (old new newer : SinkView) (width : buf ≡ room) (yes : shown ≡ true)
-      (m : OnTrue told (Marked d marks room v a b old new)) where
+  module _ (is_transparent : Bool) (buffer_len buf : ℕ) (a b c : SourceView) (old new newer : SinkView) (width : buf ≡ buffer_len) (yes : shown ≡ true)
+      (m : OnTrue is_transparent (Marked d marks buffer_len v a b old new)) where
     is-shown : true ≡ (get_or marks v false && has_values d.header.dims d.records var-here)
     is-shown = sym yes ∙ shown-here
 
     -- what showing the variable has done, as it follows on what was done before
-    done : {A : Type 0} (result : Result A DumpFault) → Marked d marks room v a b old new → d ≡ dumped d.header a d.records d.width
+    done : {A : Type 0} (result : Result A DumpFault) → Marked d marks buffer_len v a b old new → d ≡ dumped d.header a d.records d.width
         → IfSome (slice_get d.header.vars v) (λ var. ShowsOne (dumped d.header b d.records d.width) v var buf b c new newer result)
-        → (k : Marked d marks room v a b old new) × ShowsOne d v var-here room (after a k.spent) c new newer result
+        → (k : Marked d marks buffer_len v a b old new) × ShowsOne d v var-here buffer_len (after a k.spent) c new newer result
     done result k is shows =
         let here = some-at (λ (var : Var). ShowsOne (dumped d.header b d.records d.width) v var buf b c new newer result) (slice_get d.header.vars v) var-here at-here shows in
         let wide = subst (λ (n : ℕ). ShowsOne (dumped d.header b d.records d.width) v var-here n b c new newer result) width here in
-        let from = subst (λ (x : SourceView). ShowsOne (dumped d.header x d.records d.width) v var-here room x c new newer result) k.handed wide in
-        (k, subst (λ (e : Dumped). ShowsOne e v var-here room (after a k.spent) c new newer result) (sym is) from)
+        let from = subst (λ (x : SourceView). ShowsOne (dumped d.header x d.records d.width) v var-here buffer_len x c new newer result) k.handed wide in
+        (k, subst (λ (e : Dumped). ShowsOne e v var-here buffer_len (after a k.spent) c new newer result) (sym is) from)
 
     pub place-shown : d ≡ dumped d.header a d.records d.width
-        → OnTrue told (IfSome (slice_get d.header.vars v) (λ var. ShowsOne {A = Unit {0}} (dumped d.header b d.records d.width) v var buf b c new newer (Ok tt)))
-        → OnTrue told (Marked d marks room (v + 1) a c old newer)
-    place-shown is shows = told_both told (λ k s.
+        → OnTrue is_transparent (IfSome (slice_get d.header.vars v) (λ var. ShowsOne {A = Unit {0}} (dumped d.header b d.records d.width) v var buf b c new newer (Ok tt)))
+        → OnTrue is_transparent (Marked d marks buffer_len (v + 1) a c old newer)
+    place-shown is shows = transparent_both is_transparent (λ k s.
         let p = done {A = Unit {0}} (Ok tt) k is s in
-        marked-on d marks room v a b old new p.0 var-here (get_or marks v false) at-here marked-here c newer is-shown p.1) m shows
+        marked-on d marks buffer_len v a b old new p.0 var-here (get_or marks v false) at-here marked-here c newer is-shown p.1) m shows
 
-    failed : (fault : DumpFault) (k : Marked d marks room v a b old new) → ShowsOne {A = Unit {0}} d v var-here room (after a k.spent) c new newer (Err fault)
-        → ShowsMarked {A = Unit {0}} d marks room a c old newer (Err fault)
-    failed (DataTruncated w n) k s = marked-cut d marks room v a b old new k var-here (get_or marks v false) at-here marked-here c newer is-shown w n s
-    failed ReadFailed k s = marked-unread d marks room v a b old new k var-here (get_or marks v false) at-here marked-here c newer is-shown s
-    failed WriteFailed k s = marked-unwritten d marks room v a b old new k var-here (get_or marks v false) at-here marked-here c newer is-shown s
+    failed : (fault : DumpFault) (k : Marked d marks buffer_len v a b old new) → ShowsOne {A = Unit {0}} d v var-here buffer_len (after a k.spent) c new newer (Err fault)
+        → ShowsMarked {A = Unit {0}} d marks buffer_len a c old newer (Err fault)
+    failed (DataTruncated w n) k s = marked-cut d marks buffer_len v a b old new k var-here (get_or marks v false) at-here marked-here c newer is-shown w n s
+    failed ReadFailed k s = marked-unread d marks buffer_len v a b old new k var-here (get_or marks v false) at-here marked-here c newer is-shown s
+    failed WriteFailed k s = marked-unwritten d marks buffer_len v a b old new k var-here (get_or marks v false) at-here marked-here c newer is-shown s
     failed OutOfMemory k s = absurd s
     failed (Format wrong) k s = absurd s
     failed (NoSuchVariable i) k s = absurd s
 
     pub place-failed : (fault : DumpFault) → d ≡ dumped d.header a d.records d.width
-        → OnTrue told (IfSome (slice_get d.header.vars v) (λ var. ShowsOne {A = Unit {0}} (dumped d.header b d.records d.width) v var buf b c new newer (Err fault)))
-        → OnTrue told (ShowsMarked {A = Unit {0}} d marks room a c old newer (Err fault))
-    place-failed fault is shows = told_both told (λ k s. let p = done {A = Unit {0}} (Err fault) k is s in failed fault p.0 p.1) m shows
+        → OnTrue is_transparent (IfSome (slice_get d.header.vars v) (λ var. ShowsOne {A = Unit {0}} (dumped d.header b d.records d.width) v var buf b c new newer (Err fault)))
+        → OnTrue is_transparent (ShowsMarked {A = Unit {0}} d marks buffer_len a c old newer (Err fault))
+    place-failed fault is shows = transparent_both is_transparent (λ k s. let p = done {A = Unit {0}} (Err fault) k is s in failed fault p.0 p.1) m shows

@@ -13,34 +13,34 @@ use Rattle.nc_base.specs.Types.{size_of}
 use Rattle.nc_base.specs.Numbers.{numbers}
 use Rattle.nc_base.specs.Headers.{value_count}
 use Rattle.nc_base.specs.Places.{stored_values, first_missing}
-use Rattle.nc_base.specs.ValueText.{Look, look_of, opening, closing, variable_front, variable_text, later_pieces}
+use Rattle.nc_base.specs.ValueText.{Look, look_of, opening, closing, variable_prefix, variable_text, later_pieces}
 use Rattle.nc_base.specs.Dump.{no_section, whole, data_truncated, values_before}
-use Rattle.nc_base.proofs.ValueLaws.{front-append, front_nil}
+use Rattle.nc_base.proofs.ValueLaws.{prefix-append, prefix_nil}
 use Rattle.nc_file.specs.Sources.{SourceView, after}
-use Rattle.nc_file.specs.Sinks.{SinkView, Grew, Broke}
-use Rattle.nc_file.proofs.Writes.{grew_then, grew_broke}
-use Rattle.nc_walk.specs.Walks.{WalkView, Starts, Steps, Moved, count}
-use Rattle.nc_walk.specs.Walked.{Walked, HasRead, IsPiece, GivesPiece, GivesEnd, GivesCut, GivesFailure}
+use Rattle.nc_file.specs.Sinks.{SinkView, Appended, FailedPartway}
+use Rattle.nc_file.proofs.Writes.{appended_then, appended_partway}
+use Rattle.nc_walk.specs.Walks.{WalkView, Starts, Steps, Advanced, count}
+use Rattle.nc_walk.specs.Walked.{Walked, HasRead, IsChunk, GivesChunk, GivesEnd, GivesCut, GivesFailure}
 use Rattle.nc_walk.specs.declared.fault.WalkFault.TheVariants as walk
-use Rattle.nc_walk.proofs.Fills.{told_any, told_map, told_both}
+use Rattle.nc_walk.proofs.Fills.{transparent_any, transparent_map, transparent_both}
 use Rattle.nc_walk.proofs.Missing.{whole_count-ge}
 use Rattle.nc_walk.proofs.Walked.{begun, gives, walked_on}
-use Rattle.cdl_print.specs.Printer.{look_in, Stands, Printed, Stopped, Takes}
+use Rattle.cdl_print.specs.Printer.{look_in, HasPrinted, Printed, Stopped, Takes}
 use Rattle.cdl_print.specs.declared.printer.ValuePrinter.{ValuePrinter}
 use Rattle.ncdump.specs.Shows.{Dumped, dumped, whole_values, whole_bytes, Holds, IsShown, IsUnread, IsUnwritten}
 use Rattle.cdl_print.proofs.Takes.{length-numbers}
-use Rattle.ncdump.proofs.Fronts.{count-stored, front-in-text}
-use Rattle.ncdump.proofs.Held.{holds-all, holds-broke, broke-longer}
+use Rattle.ncdump.proofs.Prefixes.{count-stored, prefix-in-text}
+use Rattle.ncdump.proofs.Held.{holds-all, holds-partway, partway-longer}
 
--- a walk and a printer stand behind the same first values xs, whose front is written
-pub record Showing (told : Bool) (h : Header) (v n width room : ℕ) (w : WalkView) (p : ValuePrinter) (a b : SourceView) (old new : SinkView) : Type 0 where
+-- a walk and a printer stand after the same first values xs, whose prefix is written
+pub record Showing (is_transparent : Bool) (h : Header) (v n width buffer_len : ℕ) (w : WalkView) (p : ValuePrinter) (a b : SourceView) (old new : SinkView) : Type 0 where
   pub var : Var
   pub at : slice_get h.vars v ≡ Some var
   pub xs : List ℤ
-  pub walked : Walked told h var n room w a b (length xs)
-  pub stands : Stands (look_of h var n width) xs p
-  pub values : OnTrue told (xs ≡ take (length xs) (stored_values h a.bytes var n))
-  pub grew : Grew old new (variable_front (look_of h var n width) xs)
+  pub walked : Walked is_transparent h var n buffer_len w a b (length xs)
+  pub has_printed : HasPrinted (look_of h var n width) xs p
+  pub values : OnTrue is_transparent (xs ≡ take (length xs) (stored_values h a.bytes var n))
+  pub appended : Appended old new (variable_prefix (look_of h var n width) xs)
 
 -- what holds of an element that is there
 pub some-at : {X : Type 0} (P : X → Type 0) (o : Option X) (x : X) → o ≡ Some x → IfSome o P → P x
@@ -67,20 +67,20 @@ unfolding look_of
 total-of h var n width = refl
 
 -- where both begin
-pub showing-begins : (told : Bool) (h : Header) (v n width room : ℕ) (w : WalkView) (p : ValuePrinter) (a : SourceView) (old new : SinkView) (s : Starts h v n room w)
-    → Stands (look_of h s.var n width) [] p → Grew old new (opening (look_of h s.var n width)) → Showing told h v n width room w p a a old new
-showing-begins told h v n width room w p a old new s stands grew = record {
+pub showing-begins : (is_transparent : Bool) (h : Header) (v n width buffer_len : ℕ) (w : WalkView) (p : ValuePrinter) (a : SourceView) (old new : SinkView) (s : Starts h v n buffer_len w)
+    → HasPrinted (look_of h s.var n width) [] p → Appended old new (opening (look_of h s.var n width)) → Showing is_transparent h v n width buffer_len w p a a old new
+showing-begins is_transparent h v n width buffer_len w p a old new s has_printed appended = record {
   var = s.var;
   at = s.at;
   xs = [];
-  walked = begun told h v n room w a s;
-  stands = stands;
-  values = told_any told refl;
-  grew = subst (Grew old new) (sym (front_nil (look_of h s.var n width))) grew;
+  walked = begun is_transparent h v n buffer_len w a s;
+  has_printed = has_printed;
+  values = transparent_any is_transparent refl;
+  appended = subst (Appended old new) (sym (prefix_nil (look_of h s.var n width))) appended;
 }
 
-module _ (told : Bool) (h : Header) (v n width room : ℕ) (w : WalkView) (p : ValuePrinter) (a b : SourceView) (old new : SinkView)
-    (s : Showing told h v n width room w p a b old new) where
+module _ (is_transparent : Bool) (h : Header) (v n width buffer_len : ℕ) (w : WalkView) (p : ValuePrinter) (a b : SourceView) (old new : SinkView)
+    (s : Showing is_transparent h v n width buffer_len w p a b old new) where
   abbrev pub d : Dumped
   d = dumped h a n width
 
@@ -91,37 +91,37 @@ module _ (told : Bool) (h : Header) (v n width room : ℕ) (w : WalkView) (p : V
   stored = stored_values h a.bytes s.var n
 
   type-in : (look_in p).ty ≡ s.var.ty
-  type-in = ap (λ (l : Look). l.ty) s.stands.same_look ∙ type-of h s.var n width
+  type-in = ap (λ (l : Look). l.ty) s.has_printed.same_look ∙ type-of h s.var n width
 
-  module _ (c : SourceView) (piece : List ℕ) (steps : Steps told w b c (Ok (Some piece))) where
+  module _ (c : SourceView) (chunk : List ℕ) (steps : Steps is_transparent w b c (Ok (Some chunk))) where
     abbrev pub size : ℕ
     size = size_of s.var.ty
 
     abbrev pub j : ℕ
-    j = count size piece
+    j = count size chunk
 
-    given : GivesPiece told h s.var n room a c (length s.xs) piece j
-    given = gives told h s.var n room w a b c (length s.xs) (Ok (Some piece)) s.walked steps
+    given : GivesChunk is_transparent h s.var n buffer_len a c (length s.xs) chunk j
+    given = gives is_transparent h s.var n buffer_len w a b c (length s.xs) (Ok (Some chunk)) s.walked steps
 
     abbrev pub ys : List ℤ
-    ys = numbers (look_in p).ty piece
+    ys = numbers (look_in p).ty chunk
 
-    ys-are : ys ≡ numbers s.var.ty piece
-    ys-are = ap (λ t. numbers t piece) type-in
+    ys-are : ys ≡ numbers s.var.ty chunk
+    ys-are = ap (λ t. numbers t chunk) type-in
 
     ys-count : length ys ≡ j
-    ys-count = ap (λ (zs : List ℤ). length zs) ys-are ∙ length-numbers s.var.ty piece
+    ys-count = ap (λ (zs : List ℤ). length zs) ys-are ∙ length-numbers s.var.ty chunk
 
     -- the printer can take the piece
-    pub takes-piece : Takes p piece
-    takes-piece = record {
+    pub takes-chunk : Takes p chunk
+    takes-chunk = record {
       whole = given.length_is ∙ ap (λ (i : ℕ). i * size) (sym ys-count) ∙ ap (λ t. length ys * size_of t) (sym type-in);
-      room = omega (
+      buffer_len = omega (
         arith,
         given.within,
         ys-count,
-        s.stands.behind.position,
-        ap (λ (l : Look). l.total) s.stands.same_look,
+        s.has_printed.following.position,
+        ap (λ (l : Look). l.total) s.has_printed.same_look,
         total-of h s.var n width,
       );
     }
@@ -130,112 +130,112 @@ module _ (told : Bool) (h : Header) (v n width room : ℕ) (w : WalkView) (p : V
     counted = omega (arith, length-append s.xs ys, ys-count)
 
     -- both have gone on
-    pub showing-on : (u : WalkView) (q : ValuePrinter) (newer : SinkView) → Moved w u (Ok (Some piece)) → Printed ys p q new newer
-        → Showing told h v n width room u q a c old newer
-    showing-on u q newer moved printed = record {
+    pub showing-on : (u : WalkView) (q : ValuePrinter) (newer : SinkView) → Advanced w u (Ok (Some chunk)) → Printed ys p q new newer
+        → Showing is_transparent h v n width buffer_len u q a c old newer
+    showing-on u q newer advanced printed = record {
       var = s.var;
       at = s.at;
       xs = s.xs ++ ys;
-      walked = subst (Walked told h s.var n room u a c) counted (walked_on told h s.var n room w u a b c (length s.xs) piece s.walked steps moved);
-      stands = printed.stands look s.xs s.stands;
-      values = told_both told (λ e g.
+      walked = subst (Walked is_transparent h s.var n buffer_len u a c) counted (walked_on is_transparent h s.var n buffer_len w u a b c (length s.xs) chunk s.walked steps advanced);
+      has_printed = printed.has_printed look s.xs s.has_printed;
+      values = transparent_both is_transparent (λ e g.
           ap (λ (zs : List ℤ). zs ++ ys) e ∙ ap (λ (zs : List ℤ). take (length s.xs) stored ++ zs) (ys-are ∙ g.numbers_are)
-          ∙ sym (take-add (length s.xs) j stored) ∙ ap (λ (i : ℕ). take i stored) counted) s.values given.piece_is;
-      grew = subst (Grew old newer) (sym (front-append look s.xs ys)) (grew_then old new newer (variable_front look s.xs) (later_pieces look s.xs ys) s.grew (printed.grew look s.xs s.stands));
+          ∙ sym (take-add (length s.xs) j stored) ∙ ap (λ (i : ℕ). take i stored) counted) s.values given.chunk_is;
+      appended = subst (Appended old newer) (sym (prefix-append look s.xs ys)) (appended_then old new newer (variable_prefix look s.xs) (later_pieces look s.xs ys) s.appended (printed.appended look s.xs s.has_printed));
     }
 
     -- the printer stopped inside of the piece
-    pub unwritten-piece : (q : ValuePrinter) (newer : SinkView) → Stopped ys p q new newer → OnTrue told (IsUnwritten d v s.var room a c old newer)
-    unwritten-piece q newer stopped = told_both told (λ e (pg : IsPiece h a.bytes s.var n (length s.xs) piece j × HasRead h s.var n a c (length s.xs + j)).
+    pub unwritten-chunk : (q : ValuePrinter) (newer : SinkView) → Stopped ys p q new newer → OnTrue is_transparent (IsUnwritten d v s.var buffer_len a c old newer)
+    unwritten-chunk q newer stopped = transparent_both is_transparent (λ e (pg : IsChunk h a.bytes s.var n (length s.xs) chunk j × HasRead h s.var n a c (length s.xs + j)).
         let g = pg.1 in
         let k = length s.xs in
-        let broke = stopped.broke look s.xs s.stands in
+        let partway = stopped.partway look s.xs s.has_printed in
         let few : k + j ≤ whole_values d s.var = whole_count-ge h s.var n a.bytes (k + j) given.within g.whole in
         let most : (k + j) * size ≤ whole_values d s.var * size = mul-le-mul_right size few in
         let handed : c.handed ≡ a.handed + (k + j) * size = ap (λ (x : SourceView). x.handed) g.handed in
         let values : s.xs ++ ys ≡ take (k + j) stored =
         ap (λ (zs : List ℤ). zs ++ ys) e ∙ ap (λ (zs : List ℤ). take k stored ++ zs) (ys-are ∙ pg.0.numbers_are) ∙ sym (take-add k j stored) in
-        let text = front-in-text d v s.var (k + j) few in
-        let front : variable_front look (take (k + j) stored) ≡ variable_front look s.xs ++ later_pieces look s.xs ys = ap (variable_front look) (sym values) ∙ front-append look s.xs ys in
+        let text = prefix-in-text d v s.var (k + j) few in
+        let prefix : variable_prefix look (take (k + j) stored) ≡ variable_prefix look s.xs ++ later_pieces look s.xs ys = ap (variable_prefix look) (sym values) ∙ prefix-append look s.xs ys in
         record {
           bytes = ap (λ (x : SourceView). x.bytes) g.handed;
           most = omega (arith, handed, most);
-          broke = subst (Broke old newer) (sym (text.1 ∙ ap (λ (t : List ℕ). t ++ text.0) front ∙ append_assoc (variable_front look s.xs) (later_pieces look s.xs ys) text.0))
-              (grew_broke old new newer (variable_front look s.xs) (later_pieces look s.xs ys) text.0 s.grew broke);
+          partway = subst (FailedPartway old newer) (sym (text.1 ∙ ap (λ (t : List ℕ). t ++ text.0) prefix ∙ append_assoc (variable_prefix look s.xs) (later_pieces look s.xs ys) text.0))
+              (appended_partway old new newer (variable_prefix look s.xs) (later_pieces look s.xs ys) text.0 s.appended partway);
           keeps_up = inr (record {
             k = k;
             few = omega (arith, few);
-            taken = subst (λ (zs : List ℤ). Holds old newer (variable_front look zs)) e (holds-broke old new newer (variable_front look s.xs) _ (holds-all old new (variable_front look s.xs) s.grew) broke);
-            handed = omega (arith, handed, given.room, given.length_is);
+            taken = subst (λ (zs : List ℤ). Holds old newer (variable_prefix look zs)) e (holds-partway old new newer (variable_prefix look s.xs) _ (holds-all old new (variable_prefix look s.xs) s.appended) partway);
+            handed = omega (arith, handed, given.buffer_len, given.length_is);
           });
-        }) s.values (told_both told (λ piece_is read. (piece_is, read)) given.piece_is given.read)
+        }) s.values (transparent_both is_transparent (λ chunk_is read. (chunk_is, read)) given.chunk_is given.read)
 
   -- no value is left, and the closing is written, or not
-  module _ (c : SourceView) (steps : Steps told w b c (Ok None)) where
-    ended : GivesEnd told h s.var n a c (length s.xs)
-    ended = gives told h s.var n room w a b c (length s.xs) (Ok None) s.walked steps
+  module _ (c : SourceView) (steps : Steps is_transparent w b c (Ok None)) where
+    ended : GivesEnd is_transparent h s.var n a c (length s.xs)
+    ended = gives is_transparent h s.var n buffer_len w a b c (length s.xs) (Ok None) s.walked steps
 
-    all-stored : OnTrue told (s.xs ≡ stored)
-    all-stored = told_map told (λ e. e ∙ take_all (length s.xs) stored (omega (arith, ended.all, count-stored d s.var))) s.values
+    all-stored : OnTrue is_transparent (s.xs ≡ stored)
+    all-stored = transparent_map is_transparent (λ e. e ∙ take_all (length s.xs) stored (omega (arith, ended.all, count-stored d s.var))) s.values
 
     closing-of : closing (look_in p) ≡ closing look
-    closing-of = ap closing s.stands.same_look
+    closing-of = ap closing s.has_printed.same_look
 
-    pub shown-whole : (newer : SinkView) → Grew new newer (closing (look_in p)) → OnTrue told (IsShown d v s.var whole a c old newer)
+    pub shown-whole : (newer : SinkView) → Appended new newer (closing (look_in p)) → OnTrue is_transparent (IsShown d v s.var whole a c old newer)
     unfolding variable_text
-    shown-whole newer grew = told_both told (λ e (ng : (first_missing h a.bytes s.var n ≡ None) × HasRead h s.var n a c (length s.xs)).
+    shown-whole newer appended = transparent_both is_transparent (λ e (ng : (first_missing h a.bytes s.var n ≡ None) × HasRead h s.var n a c (length s.xs)).
         let none : first_missing h a.bytes s.var n ≡ None = ng.0 in
-        let text : variable_front look s.xs ++ closing (look_in p) ≡ (values_before look stored None v no_section).text =
-        ap (λ (zs : List ℤ). variable_front look zs ++ closing (look_in p)) e ∙ ap (λ (t : List ℕ). variable_front look stored ++ t) closing-of ∙ sym (append-nil (variable_text look stored)) in
+        let text : variable_prefix look s.xs ++ closing (look_in p) ≡ (values_before look stored None v no_section).text =
+        ap (λ (zs : List ℤ). variable_prefix look zs ++ closing (look_in p)) e ∙ ap (λ (t : List ℕ). variable_prefix look stored ++ t) closing-of ∙ sym (append-nil (variable_text look stored)) in
         record {
           ends = ap (λ (m : Option ℕ). (values_before look stored m v no_section).ending) none;
-          grew = subst (Grew old newer) (text ∙ ap (λ (m : Option ℕ). (values_before look stored m v no_section).text) (sym none))
-              (grew_then old new newer (variable_front look s.xs) (closing (look_in p)) s.grew grew);
+          appended = subst (Appended old newer) (text ∙ ap (λ (m : Option ℕ). (values_before look stored m v no_section).text) (sym none))
+              (appended_then old new newer (variable_prefix look s.xs) (closing (look_in p)) s.appended appended);
           handed = ng.1.handed ∙ ap (λ (i : ℕ). after a (i * size_of s.var.ty)) (ended.all ∙ sym (ap (λ (m : Option ℕ). unwrap_or m (value_count h.dims s.var n)) none));
-        }) all-stored (told_both told (λ none read. (none, read)) ended.none_missing ended.read)
+        }) all-stored (transparent_both is_transparent (λ none read. (none, read)) ended.none_missing ended.read)
 
-    pub unwritten-closing : (newer : SinkView) → Broke new newer (closing (look_in p)) → OnTrue told (IsUnwritten d v s.var room a c old newer)
+    pub unwritten-closing : (newer : SinkView) → FailedPartway new newer (closing (look_in p)) → OnTrue is_transparent (IsUnwritten d v s.var buffer_len a c old newer)
     unfolding variable_text
-    unwritten-closing newer broke = told_both told (λ e (ng : (first_missing h a.bytes s.var n ≡ None) × HasRead h s.var n a c (length s.xs)).
+    unwritten-closing newer partway = transparent_both is_transparent (λ e (ng : (first_missing h a.bytes s.var n ≡ None) × HasRead h s.var n a c (length s.xs)).
         let none : first_missing h a.bytes s.var n ≡ None = ng.0 in
         let count-is : whole_values d s.var ≡ length s.xs = ap (λ (m : Option ℕ). unwrap_or m (value_count h.dims s.var n)) none ∙ sym ended.all in
-        let text : variable_front look s.xs ++ (closing (look_in p) ++ []) ≡ (values_before look stored None v no_section).text =
-        sym (append_assoc (variable_front look s.xs) (closing (look_in p)) [])
-        ∙ ap (λ (zs : List ℤ). (variable_front look zs ++ closing (look_in p)) ++ []) e ∙ ap (λ (t : List ℕ). (variable_front look stored ++ t) ++ []) closing-of in
+        let text : variable_prefix look s.xs ++ (closing (look_in p) ++ []) ≡ (values_before look stored None v no_section).text =
+        sym (append_assoc (variable_prefix look s.xs) (closing (look_in p)) [])
+        ∙ ap (λ (zs : List ℤ). (variable_prefix look zs ++ closing (look_in p)) ++ []) e ∙ ap (λ (t : List ℕ). (variable_prefix look stored ++ t) ++ []) closing-of in
         let handed : c.handed ≡ a.handed + length s.xs * size_of s.var.ty = ap (λ (x : SourceView). x.handed) ng.1.handed in
         let whole-is : whole_bytes d s.var ≡ length s.xs * size_of s.var.ty = ap (λ (i : ℕ). i * size_of s.var.ty) count-is in
         record {
           bytes = ap (λ (x : SourceView). x.bytes) ng.1.handed;
           most = omega (arith, handed, whole-is);
-          broke = subst (Broke old newer) (text ∙ ap (λ (m : Option ℕ). (values_before look stored m v no_section).text) (sym none))
-              (grew_broke old new newer (variable_front look s.xs) (closing (look_in p)) [] s.grew broke);
+          partway = subst (FailedPartway old newer) (text ∙ ap (λ (m : Option ℕ). (values_before look stored m v no_section).text) (sym none))
+              (appended_partway old new newer (variable_prefix look s.xs) (closing (look_in p)) [] s.appended partway);
           keeps_up = inr (record {
             k = length s.xs;
             few = omega (arith, count-is);
-            taken = subst (λ (zs : List ℤ). Holds old newer (variable_front look zs)) (e ∙ sym (take_all (length s.xs) stored (omega (arith, ended.all, count-stored d s.var))))
-                (holds-broke old new newer (variable_front look s.xs) _ (holds-all old new (variable_front look s.xs) s.grew) broke);
+            taken = subst (λ (zs : List ℤ). Holds old newer (variable_prefix look zs)) (e ∙ sym (take_all (length s.xs) stored (omega (arith, ended.all, count-stored d s.var))))
+                (holds-partway old new newer (variable_prefix look s.xs) _ (holds-all old new (variable_prefix look s.xs) s.appended) partway);
             handed = omega (arith, handed);
           });
-        }) all-stored (told_both told (λ none read. (none, read)) ended.none_missing ended.read)
+        }) all-stored (transparent_both is_transparent (λ none read. (none, read)) ended.none_missing ended.read)
 
   -- the next value is missing
-  pub shown-front : (c : SourceView) (k : ℕ) → Steps told w b c (Err (walk.DataTruncated k)) → OnTrue told (IsShown d v s.var (data_truncated v k) a c old new)
-  shown-front c k steps =
-      let cut : GivesCut told h s.var n a c (length s.xs) k = gives told h s.var n room w a b c (length s.xs) (Err (walk.DataTruncated k)) s.walked steps in
-      told_both told (λ e (mr : (first_missing h a.bytes s.var n ≡ Some (length s.xs)) × HasRead h s.var n a c (length s.xs)).
+  pub shown-prefix : (c : SourceView) (k : ℕ) → Steps is_transparent w b c (Err (walk.DataTruncated k)) → OnTrue is_transparent (IsShown d v s.var (data_truncated v k) a c old new)
+  shown-prefix c k steps =
+      let cut : GivesCut is_transparent h s.var n a c (length s.xs) k = gives is_transparent h s.var n buffer_len w a b c (length s.xs) (Err (walk.DataTruncated k)) s.walked steps in
+      transparent_both is_transparent (λ e (mr : (first_missing h a.bytes s.var n ≡ Some (length s.xs)) × HasRead h s.var n a c (length s.xs)).
       let missing : first_missing h a.bytes s.var n ≡ Some k = mr.0 ∙ ap Some (sym cut.value_is) in
-      let value : variable_front look s.xs ≡ variable_front look (take k stored) = ap (variable_front look) (e ∙ ap (λ (i : ℕ). take i stored) (sym cut.value_is)) in
+      let value : variable_prefix look s.xs ≡ variable_prefix look (take k stored) = ap (variable_prefix look) (e ∙ ap (λ (i : ℕ). take i stored) (sym cut.value_is)) in
       record {
         ends = ap (λ (m : Option ℕ). (values_before look stored m v no_section).ending) missing;
-        grew = subst (Grew old new) (value ∙ ap (λ (m : Option ℕ). (values_before look stored m v no_section).text) (sym missing)) s.grew;
+        appended = subst (Appended old new) (value ∙ ap (λ (m : Option ℕ). (values_before look stored m v no_section).text) (sym missing)) s.appended;
         handed = mr.1.handed ∙ ap (λ (i : ℕ). after a (i * size_of s.var.ty)) (sym (ap (λ (m : Option ℕ). unwrap_or m (value_count h.dims s.var n)) mr.0));
-      }) s.values (told_both told (λ missing read. (missing, read)) cut.missing cut.read)
+      }) s.values (transparent_both is_transparent (λ missing read. (missing, read)) cut.missing cut.read)
 
   -- a read failed
-  pub unread : (c : SourceView) → Steps told w b c (Err walk.ReadFailed) → OnTrue told (IsUnread d s.var room a c old new)
+  pub unread : (c : SourceView) → Steps is_transparent w b c (Err walk.ReadFailed) → OnTrue is_transparent (IsUnread d s.var buffer_len a c old new)
   unread c steps =
-      let failure : GivesFailure told h s.var n room a c (length s.xs) = gives told h s.var n room w a b c (length s.xs) (Err walk.ReadFailed) s.walked steps in
-      told_both told (λ e (r : HasRead h s.var n a b (length s.xs) × ((c.bytes ≡ a.bytes) × ((c.handed ≤ a.handed + whole_bytes d s.var) × (c.handed ≤ a.handed + length s.xs * size_of s.var.ty + room)))).
+      let failure : GivesFailure is_transparent h s.var n buffer_len a c (length s.xs) = gives is_transparent h s.var n buffer_len w a b c (length s.xs) (Err walk.ReadFailed) s.walked steps in
+      transparent_both is_transparent (λ e (r : HasRead h s.var n a b (length s.xs) × ((c.bytes ≡ a.bytes) × ((c.handed ≤ a.handed + whole_bytes d s.var) × (c.handed ≤ a.handed + length s.xs * size_of s.var.ty + buffer_len)))).
       let few : length s.xs ≤ whole_values d s.var = whole_count-ge h s.var n a.bytes (length s.xs) s.walked.within r.0.whole in
       record {
         bytes = r.1.0;
@@ -243,21 +243,21 @@ module _ (told : Bool) (h : Header) (v n width room : ℕ) (w : WalkView) (p : V
         keeps_up = record {
           k = length s.xs;
           few = few;
-          taken = subst (λ (zs : List ℤ). Grew old new (variable_front look zs)) e s.grew;
+          taken = subst (λ (zs : List ℤ). Appended old new (variable_prefix look zs)) e s.appended;
           handed = r.1.1.1;
         };
-      }) s.values (told_both told (λ read rest. (read, rest)) s.walked.read (told_both told (λ bytes most_room. (bytes, most_room)) failure.bytes (told_both told (λ most room. (most, room)) failure.whole failure.room)))
+      }) s.values (transparent_both is_transparent (λ read rest. (read, rest)) s.walked.read (transparent_both is_transparent (λ bytes most_buffer_len. (bytes, most_buffer_len)) failure.bytes (transparent_both is_transparent (λ most buffer_len. (most, buffer_len)) failure.whole failure.buffer_len)))
 
 -- the opening wasn't written
-pub unwritten-opening : (told : Bool) (h : Header) (v n width room : ℕ) (w : WalkView) (p : ValuePrinter) (a : SourceView) (old new : SinkView) (s : Starts h v n room w)
-    → Stands (look_of h s.var n width) [] p → Broke old new (opening (look_of h s.var n width)) → OnTrue told (IsUnwritten (dumped h a n width) v s.var room a a old new)
-unwritten-opening told h v n width room w p a old new s stands broke =
+pub unwritten-opening : (is_transparent : Bool) (h : Header) (v n width buffer_len : ℕ) (w : WalkView) (p : ValuePrinter) (a : SourceView) (old new : SinkView) (s : Starts h v n buffer_len w)
+    → HasPrinted (look_of h s.var n width) [] p → FailedPartway old new (opening (look_of h s.var n width)) → OnTrue is_transparent (IsUnwritten (dumped h a n width) v s.var buffer_len a a old new)
+unwritten-opening is_transparent h v n width buffer_len w p a old new s has_printed partway =
     let d = dumped h a n width in
-    let text = front-in-text d v s.var 0 (omega arith) in
-    told_any told (record {
+    let text = prefix-in-text d v s.var 0 (omega arith) in
+    transparent_any is_transparent (record {
       bytes = refl;
       most = omega arith;
-      broke = subst (Broke old new) (sym (text.1 ∙ ap (λ (t : List ℕ). t ++ text.0) (front_nil (look_of h s.var n width))))
-          (broke-longer old new (opening (look_of h s.var n width)) text.0 broke);
+      partway = subst (FailedPartway old new) (sym (text.1 ∙ ap (λ (t : List ℕ). t ++ text.0) (prefix_nil (look_of h s.var n width))))
+          (partway-longer old new (opening (look_of h s.var n width)) text.0 partway);
       keeps_up = inl refl;
     })

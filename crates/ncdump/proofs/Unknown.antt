@@ -25,7 +25,7 @@ all-cons : {X : Type 0} (p q : X → Bool) (x : X) (xs : List X) (b : Bool) → 
 all-cons p q x xs true passes same long rest = rw (← same, passes) (rest (λ less. long (omega (arith, less))))
 all-cons p q x xs false fails same long rest = absurd (long (omega arith))
 
--- a front as long as the list is the whole list
+-- a prefix as long as the list is the whole list
 all-pass : {X : Type 0} (p q : X → Bool) → ((x : X) → p x ≡ q x) → (xs : List X) → (prefix_len p xs < length xs → ⊥) → list_all q xs ≡ true
 all-pass p q same [] long = refl
 all-pass p q same (x ∷ xs) long = all-cons p q x xs (p x) refl (same x) long (all-pass p q same xs)

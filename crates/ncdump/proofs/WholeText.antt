@@ -6,12 +6,12 @@ use Rattle.nc_base.specs.declared.header.Header.{Header}
 use Rattle.nc_base.specs.HeadText.{head_text}
 use Rattle.nc_base.specs.Dump.{Options, Section, Ending, whole, data_truncated, data_word, closing_word, dump_text}
 use Rattle.nc_file.specs.Sources.{SourceView}
-use Rattle.nc_file.specs.Sinks.{SinkView, Grew, Broke}
-use Rattle.nc_file.proofs.Writes.{grew_then, grew_broke}
+use Rattle.nc_file.specs.Sinks.{SinkView, Appended, FailedPartway}
+use Rattle.nc_file.proofs.Writes.{appended_then, appended_partway}
 use Rattle.ncdump.specs.declared.fault.DumpFault.{DumpFault}
 use Rattle.ncdump.specs.declared.fault.DumpFault.TheVariants.{OutOfMemory, ReadFailed, WriteFailed, Format, NoSuchVariable, DataTruncated}
-use Rattle.ncdump.specs.Shows.{Dumped, dumped, front_text, marked_values, text_before, marks_in, KeepsUpIn, IsUpToDate, Holds, ShowsMarked, Shows}
-use Rattle.ncdump.proofs.Held.{holds-behind, holds-broke, broke-longer}
+use Rattle.ncdump.specs.Shows.{Dumped, dumped, prefix_text, marked_values, text_before, marks_in, KeepsUpIn, IsUpToDate, Holds, ShowsMarked, Shows}
+use Rattle.ncdump.proofs.Held.{holds-after, holds-partway, partway-longer}
 
 -- the parts of a dump's text
 pub parts : (h : Header) (o : Options) (n : ℕ) (section : Section) → dump_text h o n section ≡ text_before o h n ++ (section.text ++ closing_word section.ending)
@@ -20,23 +20,23 @@ parts h o n section =
     ap (λ (t : List ℕ). head_text o.name h n ++ (data_word h o ++ (section.text ++ t))) (append-nil (closing_word section.ending))
     ∙ sym (append_assoc (head_text o.name h n) (data_word h o) (section.text ++ closing_word section.ending))
 
-keeps-map : (d : Dumped) (marks : List Bool) (room : ℕ) (a b : SourceView) (T U : List ℕ → Type 0) → ((t : List ℕ) → T t → U t) → KeepsUpIn d marks room a b T → KeepsUpIn d marks room a b U
-keeps-map d marks room a b T U f k = record {
+keeps-map : (d : Dumped) (marks : List Bool) (buffer_len : ℕ) (a b : SourceView) (T U : List ℕ → Type 0) → ((t : List ℕ) → T t → U t) → KeepsUpIn d marks buffer_len a b T → KeepsUpIn d marks buffer_len a b U
+keeps-map d marks buffer_len a b T U f k = record {
   v = k.v;
   var = k.var;
-  front = k.front;
+  prefix = k.prefix;
   spent = k.spent;
   at = k.at;
   marked = k.marked;
   some = k.some;
   is_before = k.is_before;
-  keeps_up = record { k = k.keeps_up.k; few = k.keeps_up.few; taken = f (k.front ++ front_text d k.var k.keeps_up.k) k.keeps_up.taken; handed = k.keeps_up.handed };
+  keeps_up = record { k = k.keeps_up.k; few = k.keeps_up.few; taken = f (k.prefix ++ prefix_text d k.var k.keeps_up.k) k.keeps_up.taken; handed = k.keeps_up.handed };
 }
 
-date-map : (d : Dumped) (marks : List Bool) (room : ℕ) (a b : SourceView) (T U : List ℕ → Type 0) → ((t : List ℕ) → T t → U t) → IsUpToDate d marks room a b T → IsUpToDate d marks room a b U
-date-map d marks room a b T U f up = elim up [ inl same ↦ inl same | inr k ↦ inr (keeps-map d marks room a b T U f k) ]
+date-map : (d : Dumped) (marks : List Bool) (buffer_len : ℕ) (a b : SourceView) (T U : List ℕ → Type 0) → ((t : List ℕ) → T t → U t) → IsUpToDate d marks buffer_len a b T → IsUpToDate d marks buffer_len a b U
+date-map d marks buffer_len a b T U f up = elim up [ inl same ↦ inl same | inr k ↦ inr (keeps-map d marks buffer_len a b T U f k) ]
 
-module _ (o : Options) (h : Header) (n : ℕ) (shown : List Bool) (room : ℕ) (a : SourceView) (old : SinkView) where
+module _ (o : Options) (h : Header) (n : ℕ) (shown : List Bool) (buffer_len : ℕ) (a : SourceView) (old : SinkView) where
   abbrev pub d : Dumped
   d = dumped h a n o.width
 
@@ -47,75 +47,75 @@ module _ (o : Options) (h : Header) (n : ℕ) (shown : List Bool) (room : ℕ) (
   section = marked_values d marks
 
   -- the head isn't written
-  pub no-head : (new : SinkView) → Broke old new (head_text o.name h n) → Shows {A = Unit {0}} o h n shown room a a old new (Err WriteFailed)
-  no-head new broke = record {
+  pub no-head : (new : SinkView) → FailedPartway old new (head_text o.name h n) → Shows {A = Unit {0}} o h n shown buffer_len a a old new (Err WriteFailed)
+  no-head new partway = record {
     bytes = refl;
     most = omega arith;
-    broke = subst (Broke old new) (sym (parts h o n section ∙ append_assoc (head_text o.name h n) (data_word h o) _)) (broke-longer old new (head_text o.name h n) _ broke);
+    partway = subst (FailedPartway old new) (sym (parts h o n section ∙ append_assoc (head_text o.name h n) (data_word h o) _)) (partway-longer old new (head_text o.name h n) _ partway);
     keeps_up = inl refl;
   }
 
-  -- the word behind it isn't
-  pub no-word : (mid new : SinkView) → Grew old mid (head_text o.name h n) → Broke mid new (data_word h o) → Shows {A = Unit {0}} o h n shown room a a old new (Err WriteFailed)
-  no-word mid new head broke = record {
+  -- the word after it isn't
+  pub no-word : (mid new : SinkView) → Appended old mid (head_text o.name h n) → FailedPartway mid new (data_word h o) → Shows {A = Unit {0}} o h n shown buffer_len a a old new (Err WriteFailed)
+  no-word mid new head partway = record {
     bytes = refl;
     most = omega arith;
-    broke = subst (Broke old new) (sym (parts h o n section ∙ append_assoc (head_text o.name h n) (data_word h o) _))
-        (grew_broke old mid new (head_text o.name h n) (data_word h o) _ head broke);
+    partway = subst (FailedPartway old new) (sym (parts h o n section ∙ append_assoc (head_text o.name h n) (data_word h o) _))
+        (appended_partway old mid new (head_text o.name h n) (data_word h o) _ head partway);
     keeps_up = inl refl;
   }
 
-  module _ (mid : SinkView) (before : Grew old mid (text_before o h n)) where
+  module _ (mid : SinkView) (before : Appended old mid (text_before o h n)) where
     cut-text : (v k : ℕ) → section.ending ≡ data_truncated v k → text_before o h n ++ section.text ≡ dump_text h o n section
     unfolding closing_word
     cut-text v k ends =
         ap (λ (t : List ℕ). text_before o h n ++ t) (sym (append-nil section.text) ∙ ap (λ (e : Ending). section.text ++ closing_word e) (sym ends)) ∙ sym (parts h o n section)
 
     -- the values aren't all shown
-    pub no-values : (c : SourceView) (new : SinkView) (fault : DumpFault) → ShowsMarked {A = Unit {0}} d marks room a c mid new (Err fault) → Shows {A = Unit {0}} o h n shown room a c old new (Err fault)
+    pub no-values : (c : SourceView) (new : SinkView) (fault : DumpFault) → ShowsMarked {A = Unit {0}} d marks buffer_len a c mid new (Err fault) → Shows {A = Unit {0}} o h n shown buffer_len a c old new (Err fault)
     no-values c new (DataTruncated v k) s = record {
       ends = s.ends;
-      taken = subst (Grew old new) (cut-text v k s.ends) (grew_then old mid new (text_before o h n) section.text before s.taken);
+      taken = subst (Appended old new) (cut-text v k s.ends) (appended_then old mid new (text_before o h n) section.text before s.taken);
       bytes = s.bytes;
       most = s.most;
     }
     no-values c new ReadFailed s = record {
       bytes = s.bytes;
       most = s.most;
-      keeps_up = keeps-map d marks room a c (Grew mid new) (λ (t : List ℕ). Grew old new (text_before o h n ++ t)) (λ t g. grew_then old mid new (text_before o h n) t before g) s.keeps_up;
+      keeps_up = keeps-map d marks buffer_len a c (Appended mid new) (λ (t : List ℕ). Appended old new (text_before o h n ++ t)) (λ t g. appended_then old mid new (text_before o h n) t before g) s.keeps_up;
     }
     no-values c new WriteFailed s = record {
       bytes = s.bytes;
       most = s.most;
-      broke = subst (Broke old new) (sym (parts h o n section)) (grew_broke old mid new (text_before o h n) section.text (closing_word section.ending) before s.broke);
-      keeps_up = date-map d marks room a c (Holds mid new) (λ (t : List ℕ). Holds old new (text_before o h n ++ t)) (λ t g. holds-behind old mid new (text_before o h n) t before g) s.keeps_up;
+      partway = subst (FailedPartway old new) (sym (parts h o n section)) (appended_partway old mid new (text_before o h n) section.text (closing_word section.ending) before s.partway);
+      keeps_up = date-map d marks buffer_len a c (Holds mid new) (λ (t : List ℕ). Holds old new (text_before o h n ++ t)) (λ t g. holds-after old mid new (text_before o h n) t before g) s.keeps_up;
     }
     no-values c new OutOfMemory s = absurd s
     no-values c new (Format wrong) s = absurd s
     no-values c new (NoSuchVariable i) s = absurd s
 
-    module _ (c : SourceView) (last : SinkView) (s : ShowsMarked {A = Unit {0}} d marks room a c mid last (Ok tt)) where
+    module _ (c : SourceView) (last : SinkView) (s : ShowsMarked {A = Unit {0}} d marks buffer_len a c mid last (Ok tt)) where
       -- the closing brace isn't written
-      pub no-brace : (new : SinkView) → Broke last new (closing_word whole) → Shows {A = Unit {0}} o h n shown room a c old new (Err WriteFailed)
-      no-brace new broke = record {
+      pub no-brace : (new : SinkView) → FailedPartway last new (closing_word whole) → Shows {A = Unit {0}} o h n shown buffer_len a c old new (Err WriteFailed)
+      no-brace new partway = record {
         bytes = s.0.bytes;
         most = s.0.most;
-        broke = subst (Broke old new) (ap (λ (t : List ℕ). (text_before o h n ++ section.text) ++ t) (append-nil (closing_word whole)) ∙ whole-text)
-            (grew_broke old last new (text_before o h n ++ section.text) (closing_word whole) [] (grew_then old mid last (text_before o h n) section.text before s.0.taken) broke);
-        keeps_up = date-map d marks room a c (Holds mid last) (λ (t : List ℕ). Holds old new (text_before o h n ++ t))
-            (λ t g. holds-broke old last new (text_before o h n ++ t) (closing_word whole) (holds-behind old mid last (text_before o h n) t before g) broke) s.1;
+        partway = subst (FailedPartway old new) (ap (λ (t : List ℕ). (text_before o h n ++ section.text) ++ t) (append-nil (closing_word whole)) ∙ whole-text)
+            (appended_partway old last new (text_before o h n ++ section.text) (closing_word whole) [] (appended_then old mid last (text_before o h n) section.text before s.0.taken) partway);
+        keeps_up = date-map d marks buffer_len a c (Holds mid last) (λ (t : List ℕ). Holds old new (text_before o h n ++ t))
+            (λ t g. holds-partway old last new (text_before o h n ++ t) (closing_word whole) (holds-after old mid last (text_before o h n) t before g) partway) s.1;
       }
         where
           whole-text : (text_before o h n ++ section.text) ++ closing_word whole ≡ dump_text h o n section
           whole-text = append_assoc (text_before o h n) section.text (closing_word whole) ∙ ap (λ (e : Ending). text_before o h n ++ (section.text ++ closing_word e)) (sym s.0.ends) ∙ sym (parts h o n section)
 
       -- all is written
-      pub all-written : (new : SinkView) → Grew last new (closing_word whole) → Shows {A = Unit {0}} o h n shown room a c old new (Ok tt)
-      all-written new grew = record {
+      pub all-written : (new : SinkView) → Appended last new (closing_word whole) → Shows {A = Unit {0}} o h n shown buffer_len a c old new (Ok tt)
+      all-written new appended = record {
         ends = s.0.ends;
-        taken = subst (Grew old new)
+        taken = subst (Appended old new)
             (append_assoc (text_before o h n) section.text (closing_word whole) ∙ ap (λ (e : Ending). text_before o h n ++ (section.text ++ closing_word e)) (sym s.0.ends) ∙ sym (parts h o n section))
-            (grew_then old last new (text_before o h n ++ section.text) (closing_word whole) (grew_then old mid last (text_before o h n) section.text before s.0.taken) grew);
+            (appended_then old last new (text_before o h n ++ section.text) (closing_word whole) (appended_then old mid last (text_before o h n) section.text before s.0.taken) appended);
         bytes = s.0.bytes;
         most = s.0.most;
       }

@@ -5,8 +5,8 @@ use Rattle.nc_base.specs.Grammar.{SpellsHeader}
 use Rattle.nc_base.specs.Sizes.{record_count}
 use Rattle.nc_base.specs.Dump.{Options, Ending, whole, wrong_field, no_such_variable, data_truncated, KnowsChosen, selection_of, IsDump}
 use Rattle.nc_file.specs.Sources.{SourceView}
-use Rattle.nc_file.specs.Answers.{EndsAt, HandedUpTo}
-use Rattle.nc_file.specs.Sinks.{SinkView, Grew, Broke}
+use Rattle.nc_file.specs.Answers.{EndsAt, ReadUpTo}
+use Rattle.nc_file.specs.Sinks.{SinkView, Appended, FailedPartway}
 use Rattle.nc_file.specs.Sinks as sinks
 use Rattle.ncdump.specs.Shows.{Shows}
 use Rattle.ncdump.specs.declared.fault.DumpFault.{DumpFault}
@@ -32,25 +32,25 @@ WriteFailsOnly old new (Err _) = new ≡ old
 pub record IsWritten (bytes : List ℕ) (o : Options) (ending : Ending) (old new : SinkView) : Type 0 where
   pub text : List ℕ
   pub is_dump : IsDump bytes o text ending
-  pub grew : Grew old new text
+  pub appended : Appended old new text
 
--- a front of the dump was written, before the sink failed
+-- a prefix of the dump was written, before the sink failed
 pub record IsCutShort (bytes : List ℕ) (o : Options) (old new : SinkView) : Type 0 where
   pub text : List ℕ
   pub ending : Ending
   pub is_dump : IsDump bytes o text ending
-  pub broke : Broke old new text
+  pub partway : FailedPartway old new text
 
--- a front of the dump was written, before the source failed
+-- a prefix of the dump was written, before the source failed
 pub record IsLeftOff (bytes : List ℕ) (o : Options) (old new : SinkView) : Type 0 where
-  pub front : List ℕ
+  pub prefix : List ℕ
   pub rest : List ℕ
   pub ending : Ending
-  pub is_dump : IsDump bytes o (front ++ rest) ending
-  pub grew : Grew old new front
+  pub is_dump : IsDump bytes o (prefix ++ rest) ending
+  pub appended : Appended old new prefix
 
 -- The dump of a file with these bytes: the text that the definition gives, with success; that of a file in which a value is
--- missing, with the value; nothing, and the definition's fault; or, where a device failed, nothing or a front of the text.
+-- missing, with the value; nothing, and the definition's fault; or, where a device failed, nothing or a prefix of the text.
 abbrev pub Dumps : {A : Type 0} → List ℕ → Options → SinkView → SinkView → Result A DumpFault → Type 0
 Dumps bytes o old new (Ok done) = IsWritten bytes o whole old new
 Dumps bytes o old new (Err (DataTruncated v k)) = IsWritten bytes o (data_truncated v k) old new
@@ -62,8 +62,8 @@ Dumps bytes o old new (Err WriteFailed) = IsCutShort bytes o old new
 
 -- ---- one forward pass
 
--- The header was read, and no more was handed over than its bytes and one buffer; and then the selected variables were shown.
-pub record IsBehindHeader {A : Type 0} (o : Options) (room : ℕ) (before now : SourceView) (old new : SinkView) (result : Result A DumpFault) : Type 0 where
+-- The header was read, and no more was read than its bytes and one buffer; and then the selected variables were shown.
+pub record IsAfterHeader {A : Type 0} (o : Options) (buffer_len : ℕ) (before now : SourceView) (old new : SinkView) (result : Result A DumpFault) : Type 0 where
   pub h : Header
   pub rest : List ℕ
   pub end : ℕ
@@ -72,25 +72,25 @@ pub record IsBehindHeader {A : Type 0} (o : Options) (room : ℕ) (before now : 
   pub ends : end + length rest ≡ length before.bytes
   pub knows : KnowsChosen h o.chosen
   pub bytes : between.bytes ≡ before.bytes
-  pub handed : HandedUpTo before.handed between.handed end room
-  pub shows : Shows o h (record_count h (length before.bytes)) (selection_of h o) room between now old new result
+  pub handed : ReadUpTo before.handed between.handed end buffer_len
+  pub shows : Shows o h (record_count h (length before.bytes)) (selection_of h o) buffer_len between now old new result
 
--- reading broke off in the header, or behind it
-pub data IsUnread {A : Type 0} (o : Options) (room : ℕ) (before now : SourceView) (old new : SinkView) (result : Result A DumpFault) : Type 0 where
-  in_header : (end : ℕ) → EndsAt before.bytes end → HandedUpTo before.handed now.handed end room → new ≡ old → IsUnread o room before now old new result
-  behind_header : IsBehindHeader o room before now old new result → IsUnread o room before now old new result
+-- reading broke off in the header, or after it
+pub data IsUnread {A : Type 0} (o : Options) (buffer_len : ℕ) (before now : SourceView) (old new : SinkView) (result : Result A DumpFault) : Type 0 where
+  in_header : (end : ℕ) → EndsAt before.bytes end → ReadUpTo before.handed now.handed end buffer_len → new ≡ old → IsUnread o buffer_len before now old new result
+  after_header : IsAfterHeader o buffer_len before now old new result → IsUnread o buffer_len before now old new result
 
--- no more was handed over than the bytes up to the header's end, or to that of the first wrong field, and one buffer
-pub record IsInHeader (room : ℕ) (before now : SourceView) : Type 0 where
+-- no more was read than the bytes up to the header's end, or to that of the first wrong field, and one buffer
+pub record IsInHeader (buffer_len : ℕ) (before now : SourceView) : Type 0 where
   pub end : ℕ
   pub ends : EndsAt before.bytes end
-  pub handed : HandedUpTo before.handed now.handed end room
+  pub handed : ReadUpTo before.handed now.handed end buffer_len
 
--- The bytes that were handed over: those up to the header's end, or to that of its first wrong field, and one buffer; and behind
+-- The bytes that were read: those up to the header's end, or to that of its first wrong field, and one buffer; and after
 -- the header those of the values that are shown.
-abbrev pub GoesForward : {A : Type 0} → Options → ℕ → SourceView → SourceView → SinkView → SinkView → Result A DumpFault → Type 0
-GoesForward o room before now old new (Ok done) = IsBehindHeader o room before now old new (Ok done)
-GoesForward o room before now old new (Err (DataTruncated v k)) = IsBehindHeader {A = Unit {0}} o room before now old new (Err (DataTruncated v k))
-GoesForward o room before now old new (Err WriteFailed) = IsBehindHeader {A = Unit {0}} o room before now old new (Err WriteFailed)
-GoesForward o room before now old new (Err ReadFailed) = IsUnread {A = Unit {0}} o room before now old new (Err ReadFailed)
-GoesForward o room before now old new (Err other) = IsInHeader room before now
+abbrev pub ReadsForward : {A : Type 0} → Options → ℕ → SourceView → SourceView → SinkView → SinkView → Result A DumpFault → Type 0
+ReadsForward o buffer_len before now old new (Ok done) = IsAfterHeader o buffer_len before now old new (Ok done)
+ReadsForward o buffer_len before now old new (Err (DataTruncated v k)) = IsAfterHeader {A = Unit {0}} o buffer_len before now old new (Err (DataTruncated v k))
+ReadsForward o buffer_len before now old new (Err WriteFailed) = IsAfterHeader {A = Unit {0}} o buffer_len before now old new (Err WriteFailed)
+ReadsForward o buffer_len before now old new (Err ReadFailed) = IsUnread {A = Unit {0}} o buffer_len before now old new (Err ReadFailed)
+ReadsForward o buffer_len before now old new (Err other) = IsInHeader buffer_len before now

@@ -1,4 +1,4 @@
--- The lines that tell failures.
+-- The lines of failures.
 use Rattle.std.specs.Prelude.{ℕ, List, [], ◌∷◌, codes, string_bytes}
 use Rattle.nc_base.specs.Bytes.{text}
 use Rattle.ncdump.specs.Faults.{line_of, program_words}
@@ -12,7 +12,7 @@ use Rattle.ncdump.specs.declared.failure.FileFault.TheVariants.{CannotOpen, Dump
 unfoldable pub usage_line : List ℕ
 usage_line = codes "usage: ncdump [-h] [-c] [-v names] [-n name] [-l width] file\n"
 
--- the line that tells a fault of the command line
+-- the line of a fault of the command line
 unfoldable pub opt_fault_line : OptFault → List ℕ
 opt_fault_line OutOfMemory = codes "ncdump: out of memory\n"
 opt_fault_line Usage = usage_line
@@ -24,12 +24,12 @@ cannot_open_words = codes ": cannot open\n"
 unfoldable pub cannot_open_line : List ℕ → List ℕ
 cannot_open_line path = text (program_words ∷ path ∷ cannot_open_words ∷ [])
 
--- the line that tells a fault of the file at this path
+-- the line of a fault of the file at this path
 unfoldable pub file_line : List ℕ → FileFault → List ℕ
 file_line path CannotOpen = cannot_open_line path
 file_line path (Dump fault) = line_of path fault
 
--- the line that tells a failure
+-- the line of a failure
 unfoldable pub line_of_failure : Failure → List ℕ
 line_of_failure (CommandLine fault) = opt_fault_line fault
 line_of_failure (File path fault) = file_line (string_bytes path) fault

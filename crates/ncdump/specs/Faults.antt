@@ -14,7 +14,7 @@ fault_of_head head.OutOfMemory = OutOfMemory
 fault_of_head head.ReadFailed = ReadFailed
 fault_of_head (head.Format fault) = Format fault
 
--- what a wrong field's fault says, but for the number behind it
+-- what a wrong field's fault says, but for the number after it
 unfoldable pub format_words : FormatFault → List ℕ
 format_words NotNetcdf = codes "not a netCDF classic file"
 format_words (UnknownVersion n) = codes "unknown version "
@@ -55,6 +55,6 @@ fault_text fault = text (fault_words fault ∷ fault_numbers fault ∷ [])
 unfoldable pub program_words : List ℕ
 program_words = codes "ncdump: "
 
--- the line that tells a fault
+-- the line of a fault
 unfoldable pub line_of : List ℕ → DumpFault → List ℕ
 line_of file fault = text (program_words ∷ file ∷ codes ": " ∷ fault_text fault ∷ codes "\n" ∷ [])

@@ -1,6 +1,6 @@
 -- What a run of the program has done.
 use Rattle.std.specs.Prelude.{ℕ, ◌≡◌, ◌⊎◌, List, Option, Some, None, IsSome, option_map, Result, Ok, Err, string_bytes}
-use Rattle.nc_file.specs.Sinks.{SinkView, Grew, Broke}
+use Rattle.nc_file.specs.Sinks.{SinkView, Appended, FailedPartway}
 use Rattle.ncdump.specs.CommandLine.{Asked}
 use Rattle.ncdump.specs.Dumps as dumps
 use Rattle.ncdump.specs.Failures.{line_of_failure}
@@ -43,8 +43,8 @@ pub record Succeeded (asked : Option Asked) (out out' err err' : SinkView) : Typ
   pub output : out'.failures ≡ out.failures
   pub error : err' ≡ err
 
--- the run has failed, and the line that tells it, or a front of it, was written to standard error
+-- the run has failed, and the line that tells it, or a prefix of it, was written to standard error
 pub record Failed (asked : Option Asked) (out out' err err' : SinkView) : Type 0 where
   pub failure : Failure
   pub output : Ends {A = Unit {0}} asked out out' (Err failure)
-  pub error : Grew err err' (line_of_failure failure) ⊎ Broke err err' (line_of_failure failure)
+  pub error : Appended err err' (line_of_failure failure) ⊎ FailedPartway err err' (line_of_failure failure)

@@ -6,12 +6,12 @@ use Rattle.nc_base.specs.declared.header.Var.{Var}
 use Rattle.nc_base.specs.Types.{size_of}
 use Rattle.nc_base.specs.HeadText.{head_text}
 use Rattle.nc_base.specs.Places.{stored_values, first_missing}
-use Rattle.nc_base.specs.ValueText.{look_of, variable_front}
+use Rattle.nc_base.specs.ValueText.{look_of, variable_prefix}
 use Rattle.nc_base.specs.Dump.{Options, Ending, whole, data_truncated, Section, no_section, content_in, has_values, values_before, values_of, data_word, dump_text}
 use Rattle.nc_file.specs.Sources.{SourceView, after}
 use Rattle.nc_file.specs.Sources as sources
 use Rattle.nc_file.specs.Sinks as sinks
-use Rattle.nc_file.specs.Sinks.{SinkView, append, told, Grew, Broke, IsCut}
+use Rattle.nc_file.specs.Sinks.{SinkView, append, is_transparent, Appended, FailedPartway, IsCut}
 use Rattle.nc_walk.specs.Walked.{whole_count}
 use Rattle.ncdump.specs.declared.fault.DumpFault.{DumpFault}
 use Rattle.ncdump.specs.declared.fault.DumpFault.TheVariants.{ReadFailed, WriteFailed, DataTruncated}
@@ -27,9 +27,9 @@ pub record Dumped : Type 0 where
 abbrev pub dumped : Header → SourceView → ℕ → ℕ → Dumped
 dumped h source n width = record { header = h; bytes = source.bytes; records = n; width = width }
 
--- the sink holds a text behind what it held
+-- the sink holds a text after what it held
 abbrev pub Holds : SinkView → SinkView → List ℕ → Type 0
-Holds old new bytes = OnTrue (told old) (IsCut (append old bytes) new)
+Holds old new bytes = OnTrue (is_transparent old) (IsCut (append old bytes) new)
 
 -- the source has failed exactly where the answer says so
 abbrev pub ReadFailsOnly : {A : Type 0} → SourceView → SourceView → Result A DumpFault → Type 0
@@ -47,15 +47,15 @@ ShowsOrFails old new (Err _) = ⊥
 -- ---- one variable
 
 -- the opening of a variable and its first k values
-abbrev pub front_text : Dumped → Var → ℕ → List ℕ
-front_text d var k = variable_front (look_of d.header var d.records d.width) (take k (stored_values d.header d.bytes var d.records))
+abbrev pub prefix_text : Dumped → Var → ℕ → List ℕ
+prefix_text d var k = variable_prefix (look_of d.header var d.records d.width) (take k (stored_values d.header d.bytes var d.records))
 
--- the values of the variable in place v, with a section behind them
+-- the values of the variable at index v, with a section after them
 abbrev pub values_and : Dumped → ℕ → Var → Section → Section
 values_and d v var others =
     values_before (look_of d.header var d.records d.width) (stored_values d.header d.bytes var d.records) (first_missing d.header d.bytes var d.records) v others
 
--- with nothing behind them
+-- with nothing after them
 abbrev pub values_alone : Dumped → ℕ → Var → Section
 values_alone d v var = values_and d v var no_section
 
@@ -67,44 +67,44 @@ whole_values d var = whole_count d.header d.bytes var d.records
 abbrev pub whole_bytes : Dumped → Var → ℕ
 whole_bytes d var = whole_values d var * size_of var.ty
 
--- The text of the variable's first k values was taken, as Taken says it, and no more was handed over than the bytes of these
+-- The text of the variable's first k values was taken, as Taken says it, and no more was read than the bytes of these
 -- values and one buffer: no value waits for more.
-pub record KeepsUp (d : Dumped) (var : Var) (room : ℕ) (before now : SourceView) (Taken : List ℕ → Type 0) : Type 0 where
+pub record KeepsUp (d : Dumped) (var : Var) (buffer_len : ℕ) (before now : SourceView) (Taken : List ℕ → Type 0) : Type 0 where
   pub k : ℕ
   pub few : k ≤ whole_values d var
-  pub taken : Taken (front_text d var k)
-  pub handed : now.handed ≤ before.handed + k * size_of var.ty + room
+  pub taken : Taken (prefix_text d var k)
+  pub handed : now.handed ≤ before.handed + k * size_of var.ty + buffer_len
 
 -- all values are shown, or those before the first missing one
 pub record IsShown (d : Dumped) (v : ℕ) (var : Var) (ending : Ending) (before now : SourceView) (old new : SinkView) : Type 0 where
   pub ends : (values_alone d v var).ending ≡ ending
-  pub grew : Grew old new (values_alone d v var).text
+  pub appended : Appended old new (values_alone d v var).text
   pub handed : now ≡ after before (whole_bytes d var)
 
--- a read failed behind some values
-pub record IsUnread (d : Dumped) (var : Var) (room : ℕ) (before now : SourceView) (old new : SinkView) : Type 0 where
+-- a read failed after some values
+pub record IsUnread (d : Dumped) (var : Var) (buffer_len : ℕ) (before now : SourceView) (old new : SinkView) : Type 0 where
   pub bytes : now.bytes ≡ before.bytes
   pub most : now.handed ≤ before.handed + whole_bytes d var
-  pub keeps_up : KeepsUp d var room before now (Grew old new)
+  pub keeps_up : KeepsUp d var buffer_len before now (Appended old new)
 
--- a write failed, before a value was read or behind some values
-pub record IsUnwritten (d : Dumped) (v : ℕ) (var : Var) (room : ℕ) (before now : SourceView) (old new : SinkView) : Type 0 where
+-- a write failed, before a value was read or after some values
+pub record IsUnwritten (d : Dumped) (v : ℕ) (var : Var) (buffer_len : ℕ) (before now : SourceView) (old new : SinkView) : Type 0 where
   pub bytes : now.bytes ≡ before.bytes
   pub most : now.handed ≤ before.handed + whole_bytes d var
-  pub broke : Broke old new (values_alone d v var).text
-  pub keeps_up : (now ≡ before) ⊎ KeepsUp d var room before now (Holds old new)
+  pub partway : FailedPartway old new (values_alone d v var).text
+  pub keeps_up : (now ≡ before) ⊎ KeepsUp d var buffer_len before now (Holds old new)
 
--- what showing the variable in place v has done
+-- what showing the variable at index v has done
 abbrev pub ShowsOne : {A : Type 0} → Dumped → ℕ → Var → ℕ → SourceView → SourceView → SinkView → SinkView → Result A DumpFault → Type 0
-ShowsOne d v var room before now old new (Ok done) = IsShown d v var whole before now old new
-ShowsOne d v var room before now old new (Err (DataTruncated w k)) = IsShown d v var (data_truncated w k) before now old new
-ShowsOne d v var room before now old new (Err ReadFailed) = IsUnread d var room before now old new
-ShowsOne d v var room before now old new (Err WriteFailed) = IsUnwritten d v var room before now old new
-ShowsOne d v var room before now old new (Err _) = ⊥
+ShowsOne d v var buffer_len before now old new (Ok done) = IsShown d v var whole before now old new
+ShowsOne d v var buffer_len before now old new (Err (DataTruncated w k)) = IsShown d v var (data_truncated w k) before now old new
+ShowsOne d v var buffer_len before now old new (Err ReadFailed) = IsUnread d var buffer_len before now old new
+ShowsOne d v var buffer_len before now old new (Err WriteFailed) = IsUnwritten d v var buffer_len before now old new
+ShowsOne d v var buffer_len before now old new (Err _) = ⊥
 
 -- ---- the marked variables
 
--- the values of the marked variables from place v on
+-- the values of the marked variables from index v on
 abbrev pub values_from : Dumped → List Bool → ℕ → Section
 values_from d marks v =
     values_of d.header (content_in d.header d.bytes d.records) d.records d.width v (drop v d.header.vars) (drop v marks)
@@ -118,24 +118,24 @@ abbrev pub bytes_of : Dumped → List Var → List Bool → ℕ
 bytes_of d (var ∷ vars) (mark ∷ marks) = (if mark && has_values d.header.dims d.records var then whole_bytes d var else 0) + bytes_of d vars marks
 bytes_of d vars marks = 0
 
--- what stands before the values of the variables from place v on, and so many bytes of values stand for it in the file
-pub record IsBefore (d : Dumped) (marks : List Bool) (v : ℕ) (front : List ℕ) (spent : ℕ) : Type 0 where
-  pub text_is : (marked_values d marks).text ≡ front ++ (values_from d marks v).text
+-- what stands before the values of the variables from index v on, and n bytes of values stand for it in the file
+pub record IsBefore (d : Dumped) (marks : List Bool) (v : ℕ) (prefix : List ℕ) (spent : ℕ) : Type 0 where
+  pub text_is : (marked_values d marks).text ≡ prefix ++ (values_from d marks v).text
   pub ending_is : (marked_values d marks).ending ≡ (values_from d marks v).ending
   pub spent_is : bytes_of d d.header.vars marks ≡ spent + bytes_of d (drop v d.header.vars) (drop v marks)
 
--- The text up to and with the first k values of a marked variable was taken, as Taken says it, and no more was handed over
+-- The text up to and with the first k values of a marked variable was taken, as Taken says it, and no more was read
 -- than the bytes of the values before it, of these k values, and one buffer.
-pub record KeepsUpIn (d : Dumped) (marks : List Bool) (room : ℕ) (before now : SourceView) (Taken : List ℕ → Type 0) : Type 0 where
+pub record KeepsUpIn (d : Dumped) (marks : List Bool) (buffer_len : ℕ) (before now : SourceView) (Taken : List ℕ → Type 0) : Type 0 where
   pub v : ℕ
   pub var : Var
-  pub front : List ℕ
+  pub prefix : List ℕ
   pub spent : ℕ
   pub at : slice_get d.header.vars v ≡ Some var
   pub marked : slice_get marks v ≡ Some true
   pub some : has_values d.header.dims d.records var ≡ true
-  pub is_before : IsBefore d marks v front spent
-  pub keeps_up : KeepsUp d var room (after before spent) now (λ (values : List ℕ). Taken (front ++ values))
+  pub is_before : IsBefore d marks v prefix spent
+  pub keeps_up : KeepsUp d var buffer_len (after before spent) now (λ (values : List ℕ). Taken (prefix ++ values))
 
 -- all marked variables are shown, or all values before the first missing one
 pub record AreShown (d : Dumped) (marks : List Bool) (ending : Ending) (before now : SourceView) (Taken : Section → Type 0) : Type 0 where
@@ -144,31 +144,31 @@ pub record AreShown (d : Dumped) (marks : List Bool) (ending : Ending) (before n
   pub bytes : now.bytes ≡ before.bytes
   pub most : now.handed ≤ before.handed + bytes_of d d.header.vars marks
 
--- a read failed behind some values
-pub record AreUnread (d : Dumped) (marks : List Bool) (room : ℕ) (before now : SourceView) (Taken : List ℕ → Type 0) : Type 0 where
+-- a read failed after some values
+pub record AreUnread (d : Dumped) (marks : List Bool) (buffer_len : ℕ) (before now : SourceView) (Taken : List ℕ → Type 0) : Type 0 where
   pub bytes : now.bytes ≡ before.bytes
   pub most : now.handed ≤ before.handed + bytes_of d d.header.vars marks
-  pub keeps_up : KeepsUpIn d marks room before now Taken
+  pub keeps_up : KeepsUpIn d marks buffer_len before now Taken
 
 -- no value waits: no value was read, or what was read is written but for a buffer
 abbrev pub IsUpToDate : Dumped → List Bool → ℕ → SourceView → SourceView → (List ℕ → Type 0) → Type 0
-IsUpToDate d marks room before now Taken = (now ≡ before) ⊎ KeepsUpIn d marks room before now Taken
+IsUpToDate d marks buffer_len before now Taken = (now ≡ before) ⊎ KeepsUpIn d marks buffer_len before now Taken
 
--- a write failed, before a value was read or behind some values
-pub record AreUnwritten (d : Dumped) (marks : List Bool) (room : ℕ) (before now : SourceView) (Cut : Section → Type 0) (Taken : List ℕ → Type 0) : Type 0 where
+-- a write failed, before a value was read or after some values
+pub record AreUnwritten (d : Dumped) (marks : List Bool) (buffer_len : ℕ) (before now : SourceView) (Cut : Section → Type 0) (Taken : List ℕ → Type 0) : Type 0 where
   pub bytes : now.bytes ≡ before.bytes
   pub most : now.handed ≤ before.handed + bytes_of d d.header.vars marks
-  pub broke : Cut (marked_values d marks)
-  pub keeps_up : IsUpToDate d marks room before now Taken
+  pub partway : Cut (marked_values d marks)
+  pub keeps_up : IsUpToDate d marks buffer_len before now Taken
 
 -- what showing the marked variables has done
 abbrev pub ShowsMarked : {A : Type 0} → Dumped → List Bool → ℕ → SourceView → SourceView → SinkView → SinkView → Result A DumpFault → Type 0
-ShowsMarked d marks room before now old new (Ok done) =
-    AreShown d marks whole before now (λ (section : Section). Grew old new section.text) × IsUpToDate d marks room before now (Holds old new)
-ShowsMarked d marks room before now old new (Err (DataTruncated v k)) = AreShown d marks (data_truncated v k) before now (λ (section : Section). Grew old new section.text)
-ShowsMarked d marks room before now old new (Err ReadFailed) = AreUnread d marks room before now (Grew old new)
-ShowsMarked d marks room before now old new (Err WriteFailed) = AreUnwritten d marks room before now (λ (section : Section). Broke old new section.text) (Holds old new)
-ShowsMarked d marks room before now old new (Err _) = ⊥
+ShowsMarked d marks buffer_len before now old new (Ok done) =
+    AreShown d marks whole before now (λ (section : Section). Appended old new section.text) × IsUpToDate d marks buffer_len before now (Holds old new)
+ShowsMarked d marks buffer_len before now old new (Err (DataTruncated v k)) = AreShown d marks (data_truncated v k) before now (λ (section : Section). Appended old new section.text)
+ShowsMarked d marks buffer_len before now old new (Err ReadFailed) = AreUnread d marks buffer_len before now (Appended old new)
+ShowsMarked d marks buffer_len before now old new (Err WriteFailed) = AreUnwritten d marks buffer_len before now (λ (section : Section). FailedPartway old new section.text) (Holds old new)
+ShowsMarked d marks buffer_len before now old new (Err _) = ⊥
 
 -- ---- the whole text
 
@@ -183,13 +183,13 @@ marks_in o marks = if o.head_only then [] else marks
 -- What showing a file with this header has done: the head, the values of the marked variables and the closing brace; or what of
 -- that was written before the first missing value, or before a device failed.
 abbrev pub Shows : {A : Type 0} → Options → Header → ℕ → List Bool → ℕ → SourceView → SourceView → SinkView → SinkView → Result A DumpFault → Type 0
-Shows o h n shown room before now old new (Ok done) =
-    AreShown (dumped h before n o.width) (marks_in o shown) whole before now (λ (section : Section). Grew old new (dump_text h o n section))
-Shows o h n shown room before now old new (Err (DataTruncated v k)) =
-    AreShown (dumped h before n o.width) (marks_in o shown) (data_truncated v k) before now (λ (section : Section). Grew old new (dump_text h o n section))
-Shows o h n shown room before now old new (Err ReadFailed) =
-    AreUnread (dumped h before n o.width) (marks_in o shown) room before now (λ (values : List ℕ). Grew old new (text_before o h n ++ values))
-Shows o h n shown room before now old new (Err WriteFailed) =
-    AreUnwritten (dumped h before n o.width) (marks_in o shown) room before now (λ (section : Section). Broke old new (dump_text h o n section))
+Shows o h n shown buffer_len before now old new (Ok done) =
+    AreShown (dumped h before n o.width) (marks_in o shown) whole before now (λ (section : Section). Appended old new (dump_text h o n section))
+Shows o h n shown buffer_len before now old new (Err (DataTruncated v k)) =
+    AreShown (dumped h before n o.width) (marks_in o shown) (data_truncated v k) before now (λ (section : Section). Appended old new (dump_text h o n section))
+Shows o h n shown buffer_len before now old new (Err ReadFailed) =
+    AreUnread (dumped h before n o.width) (marks_in o shown) buffer_len before now (λ (values : List ℕ). Appended old new (text_before o h n ++ values))
+Shows o h n shown buffer_len before now old new (Err WriteFailed) =
+    AreUnwritten (dumped h before n o.width) (marks_in o shown) buffer_len before now (λ (section : Section). FailedPartway old new (dump_text h o n section))
     (λ (values : List ℕ). Holds old new (text_before o h n ++ values))
-Shows o h n shown room before now old new (Err _) = ⊥
+Shows o h n shown buffer_len before now old new (Err _) = ⊥

@@ -46,7 +46,7 @@ impl From<Error> for OptFault {
 
 /// The command `ncdump [-h] [-c] [-v names] [-n name] [-l width] file` of ncdump(1).
 ///
-/// It takes each option once, before the file or behind it. What the words ask for is said by [`options_of`].
+/// It takes each option once, before the file or after it. What the words ask for is said by [`options_of`].
 ///
 /// # Errors
 ///
@@ -159,7 +159,7 @@ fn width_of(word: &str) -> Option<usize>
     is_width(width).then_some(width)
 }
 
-/// Says whether a line may be so many bytes wide.
+/// Says whether a line may be n bytes wide.
 fn is_width(width: usize) -> bool
     ensures { result ≡ is_in_range 20 1000 width }
 {

@@ -2,7 +2,7 @@
 
 ghost use Rattle.std.specs.Prelude.{◌≡◌, ◌≤◌, length};
 ghost use Rattle.std.specs.Bool.{OnTrue};
-ghost use Rattle.ncdump.specs.Dumps.{options_of, Dumps, GoesForward, WriteFailsOnly};
+ghost use Rattle.ncdump.specs.Dumps.{options_of, Dumps, ReadsForward, WriteFailsOnly};
 ghost use Rattle.ncdump.specs.Shows.{ReadFailsOnly};
 
 use crate::fault::DumpFault;
@@ -12,9 +12,9 @@ use crate::showing::show;
 use nc_file::{Sink, Source, read_header};
 use std::alloc::Global;
 
-/// Writes the dump of the file that the source has, through a lent buffer of at least 16 bytes.
+/// Writes the dump of the file that the source has, through a caller's buffer of at least 16 bytes.
 ///
-/// The text is that of ncdump(1): the header in CDL, and behind `data:` the values of the shown variables. It takes memory
+/// The text is that of ncdump(1): the header in CDL, and after `data:` the values of the shown variables. It takes memory
 /// for the header and for chosen names, and none for values.
 ///
 /// # Errors
@@ -30,10 +30,10 @@ pub fn dump<S: Source, W: Sink>(
     sink: &mut W,
 ) -> Result<(), DumpFault>
     requires { 16 ≤ length buf.old }
-    ensures source { ReadFailsOnly (S.seen source.old) (S.seen source.new) result }
-    ensures sink { WriteFailsOnly (W.seen sink.old) (W.seen sink.new) result }
-    ensures answer { OnTrue S.told (Dumps (S.seen source.old).bytes (options_of options.now) (W.seen sink.old) (W.seen sink.new) result) }
-    ensures forward { OnTrue S.told (GoesForward (options_of options.now) (length buf.old) (S.seen source.old) (S.seen source.new) (W.seen sink.old) (W.seen sink.new) result) }
+    ensures source { ReadFailsOnly (S.view source.old) (S.view source.new) result }
+    ensures sink { WriteFailsOnly (W.view sink.old) (W.view sink.new) result }
+    ensures answer { OnTrue S.is_transparent (Dumps (S.view source.old).bytes (options_of options.now) (W.view sink.old) (W.view sink.new) result) }
+    ensures forward { OnTrue S.is_transparent (ReadsForward (options_of options.now) (length buf.old) (S.view source.old) (S.view source.new) (W.view sink.old) (W.view sink.new) result) }
 {
     let header = read_header(alloc, source, buf)?;
     let shown = select(alloc, &header, options)?;

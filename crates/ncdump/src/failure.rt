@@ -53,14 +53,14 @@ impl From<DumpFault> for FileFault {
     }
 }
 
-/// Writes the line that tells a failure.
+/// Writes the line of a failure.
 ///
 /// # Errors
 ///
-/// The sink failed. It took some front of the line.
+/// The sink failed. It took some prefix of the line.
 #[tactic(auto, unfolding(crate::specs::Failures::line_of_failure))]
 pub fn put_failure<W: Sink>(sink: &mut W, failure: &Failure) -> Result<(), WriteFailed>
-    ensures { Wrote (W.seen sink.old) (W.seen sink.new) (line_of_failure failure.now) result }
+    ensures { Wrote (W.view sink.old) (W.view sink.new) (line_of_failure failure.now) result }
 {
     match failure {
         Failure::CommandLine(fault) => opt_fault_line(sink, *fault),
@@ -68,14 +68,14 @@ pub fn put_failure<W: Sink>(sink: &mut W, failure: &Failure) -> Result<(), Write
     }
 }
 
-/// Writes the line that tells a fault of the command line: `ncdump: out of memory`, or how the program is used.
+/// Writes the line of a fault of the command line: `ncdump: out of memory`, or how the program is used.
 ///
 /// # Errors
 ///
-/// The sink failed. It took some front of the line.
+/// The sink failed. It took some prefix of the line.
 #[tactic(auto, unfolding(crate::specs::Failures::opt_fault_line))]
 pub fn opt_fault_line<W: Sink>(sink: &mut W, fault: OptFault) -> Result<(), WriteFailed>
-    ensures { Wrote (W.seen sink.old) (W.seen sink.new) (opt_fault_line fault) result }
+    ensures { Wrote (W.view sink.old) (W.view sink.new) (opt_fault_line fault) result }
 {
     match fault {
         OptFault::OutOfMemory => put(sink, b"ncdump: out of memory\n"),
@@ -91,10 +91,10 @@ fn usage_line() -> &'static [u8]
     b"usage: ncdump [-h] [-c] [-v names] [-n name] [-l width] file\n"
 }
 
-/// Writes the line that tells a fault of the file at this path.
+/// Writes the line of a fault of the file at this path.
 #[tactic(auto, unfolding(crate::specs::Failures::file_line))]
 fn put_file_fault<W: Sink>(sink: &mut W, path: &[u8], fault: FileFault) -> Result<(), WriteFailed>
-    ensures { Wrote (W.seen sink.old) (W.seen sink.new) (file_line path.now fault) result }
+    ensures { Wrote (W.view sink.old) (W.view sink.new) (file_line path.now fault) result }
 {
     match fault {
         FileFault::CannotOpen => put_cannot_open(sink, path),
@@ -105,14 +105,14 @@ fn put_file_fault<W: Sink>(sink: &mut W, path: &[u8], fault: FileFault) -> Resul
 /// Writes the line for a path that can't be opened.
 #[tactic(auto, using(nc_file::proofs::Writes::writes), unfolding(crate::specs::Failures::cannot_open_line))]
 fn put_cannot_open<W: Sink>(sink: &mut W, path: &[u8]) -> Result<(), WriteFailed>
-    ensures { Wrote (W.seen sink.old) (W.seen sink.new) (cannot_open_line path.now) result }
+    ensures { Wrote (W.view sink.old) (W.view sink.new) (cannot_open_line path.now) result }
 {
     put(sink, program_words())?;
     put(sink, path)?;
     put(sink, cannot_open_words())
 }
 
-/// What stands behind a path that can't be opened.
+/// What stands after a path that can't be opened.
 #[tactic(auto, unfolding(crate::specs::Failures::cannot_open_words))]
 fn cannot_open_words() -> &'static [u8]
     ensures { result.now ≡ cannot_open_words }

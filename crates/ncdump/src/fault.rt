@@ -16,7 +16,7 @@ pub enum DumpFault {
     OutOfMemory,
     /// The source failed.
     ReadFailed,
-    /// The sink failed. It has taken a front of the text.
+    /// The sink failed. It has taken a prefix of the text.
     WriteFailed,
     /// The first wrong field of the header. Nothing was written.
     Format(FormatFault),

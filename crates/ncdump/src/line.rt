@@ -1,4 +1,4 @@
-//! The line that tells a fault.
+//! The line of a fault.
 
 ghost use Rattle.std.specs.Prelude.{◌≡◌, [], ◌∷◌, codes, decimal};
 ghost use Rattle.nc_base.specs.Bytes.{text};
@@ -14,10 +14,10 @@ use nc_file::{Sink, WriteFailed, put};
 ///
 /// # Errors
 ///
-/// The sink failed. It took some front of the line.
+/// The sink failed. It took some prefix of the line.
 #[tactic(auto, using(nc_file::proofs::Writes::writes), unfolding(crate::specs::Faults::line_of))]
 pub fn fault_line<W: Sink>(sink: &mut W, file: &[u8], fault: &DumpFault) -> Result<(), WriteFailed>
-    ensures { Wrote (W.seen sink.old) (W.seen sink.new) (line_of file.now fault.now) result }
+    ensures { Wrote (W.view sink.old) (W.view sink.new) (line_of file.now fault.now) result }
 {
     put(sink, program_words())?;
     put(sink, file)?;
@@ -29,7 +29,7 @@ pub fn fault_line<W: Sink>(sink: &mut W, file: &[u8], fault: &DumpFault) -> Resu
 /// Writes what a fault says.
 #[tactic(auto, using(nc_file::proofs::Writes::writes), unfolding(crate::specs::Faults::fault_text))]
 fn put_fault<W: Sink>(sink: &mut W, fault: &DumpFault) -> Result<(), WriteFailed>
-    ensures { Wrote (W.seen sink.old) (W.seen sink.new) (fault_text fault.now) result }
+    ensures { Wrote (W.view sink.old) (W.view sink.new) (fault_text fault.now) result }
 {
     put(sink, fault_words(fault))?;
     put_numbers(sink, fault)
@@ -38,7 +38,7 @@ fn put_fault<W: Sink>(sink: &mut W, fault: &DumpFault) -> Result<(), WriteFailed
 /// Writes the numbers of a fault.
 #[tactic(auto, using(nc_file::proofs::Writes::writes), unfolding(crate::specs::Faults::fault_numbers))]
 fn put_numbers<W: Sink>(sink: &mut W, fault: &DumpFault) -> Result<(), WriteFailed>
-    ensures { Wrote (W.seen sink.old) (W.seen sink.new) (fault_numbers fault.now) result }
+    ensures { Wrote (W.view sink.old) (W.view sink.new) (fault_numbers fault.now) result }
 {
     match fault {
         DumpFault::Format(FormatFault::UnknownVersion(n)) => put_decimal(sink, *n as u128),
@@ -51,7 +51,7 @@ fn put_numbers<W: Sink>(sink: &mut W, fault: &DumpFault) -> Result<(), WriteFail
 /// Writes the place of a name among the chosen ones.
 #[tactic(auto, using(nc_file::proofs::Writes::writes))]
 fn put_index<W: Sink>(sink: &mut W, index: usize) -> Result<(), WriteFailed>
-    ensures { Wrote (W.seen sink.old) (W.seen sink.new) (text (decimal index ∷ codes " of -v" ∷ [])) result }
+    ensures { Wrote (W.view sink.old) (W.view sink.new) (text (decimal index ∷ codes " of -v" ∷ [])) result }
 {
     put_decimal(sink, index as u128)?;
     put(sink, b" of -v")
@@ -60,7 +60,7 @@ fn put_index<W: Sink>(sink: &mut W, index: usize) -> Result<(), WriteFailed>
 /// Writes the place of a value.
 #[tactic(auto, using(nc_file::proofs::Writes::writes))]
 fn put_place<W: Sink>(sink: &mut W, var: usize, value: u128) -> Result<(), WriteFailed>
-    ensures { Wrote (W.seen sink.old) (W.seen sink.new) (text (decimal var ∷ truncated_words ∷ decimal value ∷ [])) result }
+    ensures { Wrote (W.view sink.old) (W.view sink.new) (text (decimal var ∷ truncated_words ∷ decimal value ∷ [])) result }
 {
     put_decimal(sink, var as u128)?;
     put(sink, truncated_words())?;
@@ -82,7 +82,7 @@ fn fault_words(fault: &DumpFault) -> &'static [u8]
     }
 }
 
-/// What a wrong field's fault says, but for the number behind it.
+/// What a wrong field's fault says, but for the number after it.
 #[tactic(auto, unfolding(crate::specs::Faults::format_words))]
 fn format_words(fault: FormatFault) -> &'static [u8]
     ensures { result.now ≡ format_words fault }

@@ -30,8 +30,8 @@ pub fn run<O: Sink, E: Sink>(
     err: &mut E,
 ) -> u8
     ensures status { (result ≡ 0) ⊎ (result ≡ 1) }
-    ensures success { result ≡ 0 → Succeeded (asked_by (map (λ word. word.now) words.now)) (O.seen out.old) (O.seen out.new) (E.seen err.old) (E.seen err.new) }
-    ensures failure { result ≡ 1 → Failed (asked_by (map (λ word. word.now) words.now)) (O.seen out.old) (O.seen out.new) (E.seen err.old) (E.seen err.new) }
+    ensures success { result ≡ 0 → Succeeded (asked_by (map (λ word. word.now) words.now)) (O.view out.old) (O.view out.new) (E.view err.old) (E.view err.new) }
+    ensures failure { result ≡ 1 → Failed (asked_by (map (λ word. word.now) words.now)) (O.view out.old) (O.view out.new) (E.view err.old) (E.view err.new) }
 {
     match dump_asked(rt, alloc, words, out) {
         Ok(()) => 0,
@@ -49,7 +49,7 @@ fn dump_asked<O: Sink>(
     words: &[&str],
     out: &mut O,
 ) -> Result<(), Failure>
-    ensures { Ends (asked_by (map (λ word. word.now) words.now)) (O.seen out.old) (O.seen out.new) result }
+    ensures { Ends (asked_by (map (λ word. word.now) words.now)) (O.view out.old) (O.view out.new) result }
 {
     let options = options_by(alloc, words)?;
     match dump_path(rt, alloc, &options, out) {
@@ -65,7 +65,7 @@ fn dump_path<O: Sink>(
     options: &DumpOptions,
     out: &mut O,
 ) -> Result<(), FileFault>
-    ensures { WriteFailsOnly (O.seen out.old) (O.seen out.new) result }
+    ensures { WriteFailsOnly (O.view out.old) (O.view out.new) result }
 {
     let mut source = FileSource::open(rt, options.file.as_str())?;
     dump_whole(alloc, &mut source, options, out)
@@ -78,9 +78,9 @@ fn dump_whole<S: Source, W: Sink>(
     options: &DumpOptions,
     sink: &mut W,
 ) -> Result<(), FileFault>
-    ensures reads { OfDump (ReadFailsOnly (S.seen source.old) (S.seen source.new)) result }
-    ensures writes { OfDump (dumps.WriteFailsOnly (W.seen sink.old) (W.seen sink.new)) result }
-    ensures shows { OnTrue S.told (OfDump (Dumps (S.seen source.old).bytes (options_of options.now) (W.seen sink.old) (W.seen sink.new)) result) }
+    ensures reads { OfDump (ReadFailsOnly (S.view source.old) (S.view source.new)) result }
+    ensures writes { OfDump (dumps.WriteFailsOnly (W.view sink.old) (W.view sink.new)) result }
+    ensures shows { OnTrue S.is_transparent (OfDump (Dumps (S.view source.old).bytes (options_of options.now) (W.view sink.old) (W.view sink.new)) result) }
 {
     let mut buf = [0u8; 4096];
     dump(alloc, source, options, &mut buf, sink)?;

@@ -15,8 +15,8 @@ use nc_base::{Header, has_records, records};
 use nc_file::{Sink, Source, put};
 use nc_walk::{Walk, WalkFault};
 
-/// Writes the dump of a file with this header, and reads its values through the lent buffer of at least 16 bytes: the head,
-/// and behind `data:` the values of the variables that are marked in `shown`, none where the options ask for the head alone.
+/// Writes the dump of a file with this header, and reads its values through the caller's buffer of at least 16 bytes: the head,
+/// and after `data:` the values of the variables that are marked in `shown`, none where the options ask for the head alone.
 ///
 /// It takes no memory. A variable's opening is written before its first value is read, and no value waits for more than one
 /// buffer.
@@ -25,7 +25,7 @@ use nc_walk::{Walk, WalkFault};
 ///
 /// [`DumpFault::WriteFailed`] where the sink failed, and [`DumpFault::ReadFailed`] where the source failed; and
 /// [`DumpFault::DataTruncated`] at the first value of a shown variable that isn't in the file. What was written by then is a
-/// front of the text.
+/// prefix of the text.
 pub fn show<S: Source, W: Sink>(
     source: &mut S,
     header: &Header,
@@ -36,10 +36,10 @@ pub fn show<S: Source, W: Sink>(
 ) -> Result<(), DumpFault>
     requires sound { IsSound header.now }
     requires marks { length shown.now ≡ length header.now.vars }
-    requires room { 16 ≤ length buf.old }
-    ensures source { ReadFailsOnly (S.seen source.old) (S.seen source.new) result }
-    ensures sink { ShowsOrFails (W.seen sink.old) (W.seen sink.new) result }
-    ensures shows { OnTrue S.told (Shows (options_of options.now) header.now (record_count header.now (length (S.seen source.old).bytes)) shown.now (length buf.old) (S.seen source.old) (S.seen source.new) (W.seen sink.old) (W.seen sink.new) result) }
+    requires buffer_len { 16 ≤ length buf.old }
+    ensures source { ReadFailsOnly (S.view source.old) (S.view source.new) result }
+    ensures sink { ShowsOrFails (W.view sink.old) (W.view sink.new) result }
+    ensures shows { OnTrue S.is_transparent (Shows (options_of options.now) header.now (record_count header.now (length (S.view source.old).bytes)) shown.now (length buf.old) (S.view source.old) (S.view source.new) (W.view sink.old) (W.view sink.new) result) }
 {
     let count = records(header, source.len());
     put_head(sink, options.name.as_slice(), header, count)?;
@@ -81,10 +81,10 @@ fn show_marked<S: Source, W: Sink>(
 ) -> Result<(), DumpFault>
     requires sound { IsSound header.now }
     requires marks { length marks.now ≤ length header.now.vars }
-    requires room { 16 ≤ length buf.old }
-    ensures source { ReadFailsOnly (S.seen source.old) (S.seen source.new) result }
-    ensures sink { ShowsOrFails (W.seen sink.old) (W.seen sink.new) result }
-    ensures shows { OnTrue S.told (ShowsMarked (dumped header.now (S.seen source.old) count width) marks.now (length buf.old) (S.seen source.old) (S.seen source.new) (W.seen sink.old) (W.seen sink.new) result) }
+    requires buffer_len { 16 ≤ length buf.old }
+    ensures source { ReadFailsOnly (S.view source.old) (S.view source.new) result }
+    ensures sink { ShowsOrFails (W.view sink.old) (W.view sink.new) result }
+    ensures shows { OnTrue S.is_transparent (ShowsMarked (dumped header.now (S.view source.old) count width) marks.now (length buf.old) (S.view source.old) (S.view source.new) (W.view sink.old) (W.view sink.new) result) }
 {
     for v in 0..marks.len() {
         if !is_shown(header, v, count, marks[v]) {
@@ -95,7 +95,7 @@ fn show_marked<S: Source, W: Sink>(
     Ok(())
 }
 
-/// Says whether the variable in place `v` is marked and has a value over so many records: a slab of a sound header has at
+/// Says whether the variable at index `v` is marked and has a value over n records: a slab of a sound header has at
 /// least one.
 fn is_shown(header: &Header, v: usize, count: u64, is_marked: bool) -> bool
     requires sound { IsSound header.now }
@@ -105,7 +105,7 @@ fn is_shown(header: &Header, v: usize, count: u64, is_marked: bool) -> bool
     is_marked && has_slabs(header, v, count)
 }
 
-/// Says whether the variable in place `v` has a slab over so many records.
+/// Says whether the variable at index `v` has a slab over n records.
 fn has_slabs(header: &Header, v: usize, count: u64) -> bool
     requires { v < length header.now.vars }
     ensures { IfSome (slice_get header.now.vars v) (λ var. result ≡ has_slabs header.now.dims count var) }
@@ -114,7 +114,7 @@ fn has_slabs(header: &Header, v: usize, count: u64) -> bool
     count > 0 || !has_records(header.dims.as_slice(), dimids)
 }
 
-/// Shows the variable in place `v`: its opening, its values as they are read, and its closing.
+/// Shows the variable at index `v`: its opening, its values as they are read, and its closing.
 fn show_variable<S: Source, W: Sink>(
     source: &mut S,
     header: &Header,
@@ -126,17 +126,17 @@ fn show_variable<S: Source, W: Sink>(
 ) -> Result<(), DumpFault>
     requires sound { IsSound header.now }
     requires there { v < length header.now.vars }
-    requires room { 16 ≤ length buf.old }
-    ensures source { ReadFailsOnly (S.seen source.old) (S.seen source.new) result }
-    ensures sink { ShowsOrFails (W.seen sink.old) (W.seen sink.new) result }
-    ensures shows { OnTrue S.told (IfSome (slice_get header.now.vars v) (λ var. ShowsOne (dumped header.now (S.seen source.old) count width) v var (length buf.old) (S.seen source.old) (S.seen source.new) (W.seen sink.old) (W.seen sink.new) result)) }
+    requires buffer_len { 16 ≤ length buf.old }
+    ensures source { ReadFailsOnly (S.view source.old) (S.view source.new) result }
+    ensures sink { ShowsOrFails (W.view sink.old) (W.view sink.new) result }
+    ensures shows { OnTrue S.is_transparent (IfSome (slice_get header.now.vars v) (λ var. ShowsOne (dumped header.now (S.view source.old) count width) v var (length buf.old) (S.view source.old) (S.view source.new) (W.view sink.old) (W.view sink.new) result)) }
 {
     let mut walk = Walk::new(header, v, count, buf);
     let mut printer = ValuePrinter::new(header, v, count, width);
     printer.start(sink)?;
     loop {
         match walk.next(source) {
-            Ok(Some(piece)) => printer.values(sink, piece)?,
+            Ok(Some(chunk)) => printer.values(sink, chunk)?,
             Ok(None) => break,
             Err(WalkFault::ReadFailed) => return Err(DumpFault::ReadFailed),
             Err(WalkFault::DataTruncated(value)) => {

@@ -1,6 +1,6 @@
 use Rattle.std.proofs.lemmas.Result.{err_from_is_err_and}
 use Rattle.nc_base.specs.HeadText.{att_lines}
-use Rattle.nc_file.proofs.Writes.{wrote_next, broke_next}
+use Rattle.nc_file.proofs.Writes.{wrote_next, partway_next}
 use Rattle.cdl_print.proofs.attribute.put_att_lines.Goals as goal
 
 pub loop-att-preserved : goal.loop-att-preserved
@@ -10,4 +10,4 @@ pub returns-in_err-put_att_line : goal.returns-in_err-put_att_line
 unfolding att_lines
 returns-in_err-put_att_line g c =
     let p = err_from_is_err_and c.from_residual.result c.from_residual.ensures.1 in
-    rw p.1 (broke_next _ _ _ _ _ c.loop-att.att-index _ c.loop-att-test.true c.att-item.is c.loop-att.invariant c.in_err-put_att_line.ensures)
+    rw p.1 (partway_next _ _ _ _ _ c.loop-att.att-index _ c.loop-att-test.true c.att-item.is c.loop-att.invariant c.in_err-put_att_line.ensures)

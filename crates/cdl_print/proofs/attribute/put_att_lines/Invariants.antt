@@ -4,4 +4,4 @@ use Rattle.nc_file.proofs.Writes.{IsWritten}
 use Rattle.cdl_print.proofs.attribute.put_att_lines.Given as goal
 
 abbrev pub invariant-loop-att : goal.invariant-loop-att
-invariant-loop-att g l = IsWritten (g.W.Sink.seen l.fn.sink) (g.W.Sink.seen l.sink) (att_line (escaped_name l.owner)) l.atts l.att-index
+invariant-loop-att g l = IsWritten (g.W.Sink.view l.fn.sink) (g.W.Sink.view l.sink) (att_line (escaped_name l.owner)) l.atts l.att-index

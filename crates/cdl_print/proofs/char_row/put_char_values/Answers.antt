@@ -1,16 +1,16 @@
 use Rattle.std.proofs.Common.{rules, arith}
 use Rattle.std.proofs.lemmas.List.{nil_from_length}
 use Rattle.std.proofs.lemmas.Result.{err_from_is_err_and}
-use Rattle.cdl_print.proofs.CharRows.{chars_parts, chars_room}
-use Rattle.cdl_print.proofs.PrintingLaws.{underway_at_first, underway_next, underway_fell, underway_all, underway_room}
+use Rattle.cdl_print.proofs.CharRows.{chars_parts, chars_columns_left}
+use Rattle.cdl_print.proofs.PrintingLaws.{underway_at_first, underway_next, underway_failed, underway_all, underway_columns_left}
 use Rattle.cdl_print.proofs.char_row.put_char_values.Goals as goal
 
 pub loop-rest-init : goal.loop-rest-init
 loop-rest-init g c = underway_at_first _ _ _ _
 
-pub put_next_run-requires-clause-room : goal.put_next_run-requires-clause-room
-put_next_run-requires-clause-room g c =
-    omega (arith, chars_room c.loop-rest.rest.now c.args.bytes.now _ _ (underway_room _ _ _ _ _ _ _ c.loop-rest.invariant), c.split_at.ensures.front_len, c.run_len.ensures.within, c.requires.room)
+pub put_next_run-requires-clause-columns_left : goal.put_next_run-requires-clause-columns_left
+put_next_run-requires-clause-columns_left g c =
+    omega (arith, chars_columns_left c.loop-rest.rest.now c.args.bytes.now _ _ (underway_columns_left _ _ _ _ _ _ _ c.loop-rest.invariant), c.split_at.ensures.front_len, c.run_len.ensures.within, c.requires.columns_left)
 
 pub loop-rest-preserved : goal.loop-rest-preserved
 loop-rest-preserved g c =
@@ -19,7 +19,7 @@ loop-rest-preserved g c =
 pub returns-in_err-put_next_run : goal.returns-in_err-put_next_run
 returns-in_err-put_next_run g c =
     let p = err_from_is_err_and c.from_residual.result c.from_residual.ensures.1 in
-    rw p.1 (underway_fell _ _ _ _ _ _ _ _ _ _ c.loop-rest.invariant (chars_parts _ c.loop-rest.rest.now _ _ c.split_at.ensures.front c.split_at.ensures.back) c.in_err-put_next_run.ensures)
+    rw p.1 (underway_failed _ _ _ _ _ _ _ _ _ _ c.loop-rest.invariant (chars_parts _ c.loop-rest.rest.now _ _ c.split_at.ensures.front c.split_at.ensures.back) c.in_err-put_next_run.ensures)
 
 pub returns : goal.returns
 returns g c =

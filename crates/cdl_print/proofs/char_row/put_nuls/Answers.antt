@@ -1,7 +1,7 @@
 use Rattle.std.proofs.lemmas.Result.{err_from_is_err_and}
 use Rattle.std.proofs.Common.{arith, ◌≡◌, ◌-◌, replicate, [], ap, ◌∙◌}
 use Rattle.nc_base.specs.Escapes.{escaped_text}
-use Rattle.cdl_print.proofs.Begun.{begun_next, begun_broke, begun_all}
+use Rattle.cdl_print.proofs.Begun.{begun_next, begun_partway, begun_all}
 use Rattle.cdl_print.proofs.CharRows.{nuls_first, nuls_parts, nuls_none}
 use Rattle.cdl_print.proofs.char_row.put_nuls.Goals as goal
 
@@ -14,7 +14,7 @@ loop-preserved g c = begun_next _ _ _ _ _ _ _ c.loop.invariant (nuls_parts c.arg
 pub returns-in_err-put : goal.returns-in_err-put
 returns-in_err-put g c =
     let p = err_from_is_err_and c.from_residual.result c.from_residual.ensures.1 in
-    rw p.1 (begun_broke _ _ _ _ _ _ _ c.loop.invariant (nuls_parts c.args.count c.loop.counter c.loop-test.true) c.in_err-put.ensures)
+    rw p.1 (begun_partway _ _ _ _ _ _ _ c.loop.invariant (nuls_parts c.args.count c.loop.counter c.loop-test.true) c.in_err-put.ensures)
 
 pub returns : goal.returns
 returns g c =

@@ -4,4 +4,4 @@ use Rattle.cdl_print.proofs.Begun.{IsBegun}
 use Rattle.cdl_print.proofs.char_row.put_nuls.Given as goal
 
 abbrev pub invariant-loop : goal.invariant-loop
-invariant-loop g l = IsBegun (g.W.Sink.seen l.fn.sink) (g.W.Sink.seen l.sink) (escaped_text (replicate (l.count - l.counter) 0)) (escaped_text (replicate l.count 0))
+invariant-loop g l = IsBegun (g.W.Sink.view l.fn.sink) (g.W.Sink.view l.sink) (escaped_text (replicate (l.count - l.counter) 0)) (escaped_text (replicate l.count 0))

@@ -1,6 +1,6 @@
 use Rattle.std.proofs.lemmas.Result.{err_from_is_err_and}
 use Rattle.nc_base.specs.HeadText.{dim_lines}
-use Rattle.nc_file.proofs.Writes.{wrote_next, broke_next}
+use Rattle.nc_file.proofs.Writes.{wrote_next, partway_next}
 use Rattle.cdl_print.proofs.head.put_dim_lines.Goals as goal
 
 pub loop-dim-preserved : goal.loop-dim-preserved
@@ -10,4 +10,4 @@ pub returns-in_err-put_dim_line : goal.returns-in_err-put_dim_line
 unfolding dim_lines
 returns-in_err-put_dim_line g c =
     let p = err_from_is_err_and c.from_residual.result c.from_residual.ensures.1 in
-    rw p.1 (broke_next _ _ _ _ _ c.loop-dim.dim-index _ c.loop-dim-test.true c.dim-item.is c.loop-dim.invariant c.in_err-put_dim_line.ensures)
+    rw p.1 (partway_next _ _ _ _ _ c.loop-dim.dim-index _ c.loop-dim-test.true c.dim-item.is c.loop-dim.invariant c.in_err-put_dim_line.ensures)

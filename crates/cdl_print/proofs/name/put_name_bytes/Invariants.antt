@@ -5,7 +5,7 @@ use Rattle.cdl_print.proofs.Begun.{IsBegun}
 use Rattle.cdl_print.proofs.name.put_name_bytes.Given as goal
 
 abbrev pub invariant-loop-rest : goal.invariant-loop-rest
-invariant-loop-rest g l = IsBegun (g.W.Sink.seen l.fn.sink) (g.W.Sink.seen l.sink) (flat_map escaped_in_name l.rest) (flat_map escaped_in_name l.name)
+invariant-loop-rest g l = IsBegun (g.W.Sink.view l.fn.sink) (g.W.Sink.view l.sink) (flat_map escaped_in_name l.rest) (flat_map escaped_in_name l.name)
 
 abbrev pub decreases-loop-rest : goal.decreases-loop-rest
 decreases-loop-rest g l = length l.rest

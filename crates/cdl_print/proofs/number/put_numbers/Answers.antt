@@ -1,6 +1,6 @@
 use Rattle.std.proofs.Common.{arith, refl}
 use Rattle.std.proofs.lemmas.Result.{err_from_is_err_and}
-use Rattle.cdl_print.proofs.Begun.{begun_at_first, begun_next, begun_broke, begun_all}
+use Rattle.cdl_print.proofs.Begun.{begun_at_first, begun_next, begun_partway, begun_all}
 use Rattle.cdl_print.proofs.Joined.{number_values-parts, number_values-none}
 use Rattle.cdl_print.proofs.number.put_numbers.Goals as goal
 
@@ -16,7 +16,7 @@ pub returns-in_err-put_number : goal.returns-in_err-put_number
 returns-in_err-put_number g c =
     let p = err_from_is_err_and c.from_residual.result c.from_residual.ensures.1 in
     let parts = number_values-parts c.args.ty c.size-size.result c.loop-rest.rest.now c.split_at.result.0.now c.split_at.result.1.now _ c.size-size.ensures c.loop-rest-test.true c.split_at.ensures.front c.split_at.ensures.back refl in
-    rw p.1 (begun_broke _ _ _ _ _ _ _ c.loop-rest.invariant parts c.in_err-put_number.ensures)
+    rw p.1 (begun_partway _ _ _ _ _ _ _ c.loop-rest.invariant parts c.in_err-put_number.ensures)
 
 pub returns : goal.returns
 returns g c =

@@ -4,7 +4,7 @@ use Rattle.cdl_print.proofs.Begun.{IsBegun}
 use Rattle.cdl_print.proofs.number.put_numbers.Given as goal
 
 abbrev pub invariant-loop-rest : goal.invariant-loop-rest
-invariant-loop-rest g l = IsBegun (g.W.Sink.seen l.fn.sink) (g.W.Sink.seen l.sink) (number_values l.ty l.rest) (number_values l.ty l.vals)
+invariant-loop-rest g l = IsBegun (g.W.Sink.view l.fn.sink) (g.W.Sink.view l.sink) (number_values l.ty l.rest) (number_values l.ty l.vals)
 
 abbrev pub decreases-loop-rest : goal.decreases-loop-rest
 decreases-loop-rest g l = length l.rest

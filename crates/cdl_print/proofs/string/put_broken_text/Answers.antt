@@ -1,6 +1,6 @@
 use Rattle.std.proofs.Common.{rules, arith, ◌<◌, length}
 use Rattle.std.proofs.lemmas.Result.{err_from_is_err_and}
-use Rattle.cdl_print.proofs.Begun.{begun_at_first, begun_next, begun_broke}
+use Rattle.cdl_print.proofs.Begun.{begun_at_first, begun_next, begun_partway}
 use Rattle.cdl_print.proofs.Pieces.{line_len-le, line_len-some, broken_text-parts}
 use Rattle.cdl_print.proofs.string.put_broken_text.Goals as goal
 
@@ -26,4 +26,4 @@ returns-in_err-put_line g c =
     let some : 0 < length c.loop-rest.rest.now = search rules in
     let p = err_from_is_err_and c.from_residual.result c.from_residual.ensures.1 in
     let parts = broken_text-parts c.line_len.result c.loop-rest.rest.now c.split_at.result.0.now c.split_at.result.1.now c.is_empty-in-loop-rest.result some c.line_len.ensures c.split_at.ensures.front c.split_at.ensures.back (search rules) in
-    rw p.1 (begun_broke _ _ _ _ _ _ _ c.loop-rest.invariant parts c.in_err-put_line.ensures)
+    rw p.1 (begun_partway _ _ _ _ _ _ _ c.loop-rest.invariant parts c.in_err-put_line.ensures)

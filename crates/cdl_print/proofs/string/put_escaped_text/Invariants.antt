@@ -4,7 +4,7 @@ use Rattle.cdl_print.proofs.Begun.{IsBegun}
 use Rattle.cdl_print.proofs.string.put_escaped_text.Given as goal
 
 abbrev pub invariant-loop-rest : goal.invariant-loop-rest
-invariant-loop-rest g l = IsBegun (g.W.Sink.seen l.fn.sink) (g.W.Sink.seen l.sink) (escaped_text l.rest) (escaped_text l.bytes)
+invariant-loop-rest g l = IsBegun (g.W.Sink.view l.fn.sink) (g.W.Sink.view l.sink) (escaped_text l.rest) (escaped_text l.bytes)
 
 abbrev pub decreases-loop-rest : goal.decreases-loop-rest
 decreases-loop-rest g l = length l.rest

@@ -1,6 +1,6 @@
 use Rattle.std.proofs.lemmas.Result.{err_from_is_err_and}
 use Rattle.cdl_print.specs.Pieces.{var_rows}
-use Rattle.nc_file.proofs.Writes.{wrote_next, broke_next}
+use Rattle.nc_file.proofs.Writes.{wrote_next, partway_next}
 use Rattle.cdl_print.proofs.variable.put_var_rows.Goals as goal
 
 pub loop-var-preserved : goal.loop-var-preserved
@@ -10,4 +10,4 @@ pub returns-in_err-put_var_lines : goal.returns-in_err-put_var_lines
 unfolding var_rows
 returns-in_err-put_var_lines g c =
     let p = err_from_is_err_and c.from_residual.result c.from_residual.ensures.1 in
-    rw p.1 (broke_next _ _ _ _ _ c.loop-var.var-index _ c.loop-var-test.true c.var-item.is c.loop-var.invariant c.in_err-put_var_lines.ensures)
+    rw p.1 (partway_next _ _ _ _ _ c.loop-var.var-index _ c.loop-var-test.true c.var-item.is c.loop-var.invariant c.in_err-put_var_lines.ensures)

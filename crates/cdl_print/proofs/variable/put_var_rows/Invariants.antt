@@ -3,4 +3,4 @@ use Rattle.nc_file.proofs.Writes.{IsWritten}
 use Rattle.cdl_print.proofs.variable.put_var_rows.Given as goal
 
 abbrev pub invariant-loop-var : goal.invariant-loop-var
-invariant-loop-var g l = IsWritten (g.W.Sink.seen l.fn.sink) (g.W.Sink.seen l.sink) (var_lines l.dims) l.vars l.var-index
+invariant-loop-var g l = IsWritten (g.W.Sink.view l.fn.sink) (g.W.Sink.view l.sink) (var_lines l.dims) l.vars l.var-index

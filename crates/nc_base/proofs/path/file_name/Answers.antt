@@ -7,7 +7,7 @@ pub returns-in-Some : goal.returns-in-Some
 returns-in-Some c =
     let last = rfind_char 47 c.args.path.now (Some c.in-Some.slash) c.in-Some.ensures.cases (lit< tt) in
     c.range_from.ensures.value
-    ∙ sym (after_last-IsLastPlace 47 c.args.path.now c.in-Some.slash (record { within = last.0; at = last.1; behind = last.2 }))
+    ∙ sym (after_last-IsLastPlace 47 c.args.path.now c.in-Some.slash (record { within = last.0; at = last.1; following = last.2 }))
 
 pub returns-in-None : goal.returns-in-None
 returns-in-None c =

@@ -9,7 +9,7 @@ returns-in-Some c =
     let from_start : c.in-Some.dot - 0 ≡ c.in-Some.dot = omega arith in
     c.range.ensures.value
     ∙ ap (λ n. take n c.args.name.now) from_start
-    ∙ sym (without_extension-IsLastPlace c.args.name.now c.in-Some.dot (record { within = last.0; at = last.1; behind = last.2 }) (omega arith))
+    ∙ sym (without_extension-IsLastPlace c.args.name.now c.in-Some.dot (record { within = last.0; at = last.1; following = last.2 }) (omega arith))
 
 pub returns-in_default : goal.returns-in_default
 returns-in_default c =

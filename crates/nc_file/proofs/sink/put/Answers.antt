@@ -12,4 +12,4 @@ loop-done-preserved g c =
 pub returns-in_err-done : goal.returns-in_err-done
 returns-in_err-done g c =
     let p = err_from_is_err_and c.from_residual.result c.from_residual.ensures.1 in
-    rw p.1 (stops _ _ _ c.args.bytes.now c.loop-done.done c.in_err-done.ensures.broke c.loop-done.invariant.so_far)
+    rw p.1 (stops _ _ _ c.args.bytes.now c.loop-done.done c.in_err-done.ensures.partway c.loop-done.invariant.so_far)

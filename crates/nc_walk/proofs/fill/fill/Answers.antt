@@ -6,4 +6,4 @@ len : (got : ℕ) (xs ys : List ℕ) → got ≤ length xs → length ys ≡ len
 len got xs ys le e = omega (arith, e, length-take (length xs - got) (drop got xs), length-drop got xs)
 
 pub loop-got-preserved : goal.loop-got-preserved
-loop-got-preserved g c = more g.S.Source.told _ _ _ _ _ _ _ _ _ _ (len c.loop-got.got c.loop-got.into c.read_at.new.into (omega arith) c.read_at.auto.into) refl (sym c.read_at.auto.into) c.loop-got.invariant c.in-Ok.ensures
+loop-got-preserved g c = more g.S.Source.is_transparent _ _ _ _ _ _ _ _ _ _ (len c.loop-got.got c.loop-got.into c.read_at.new.into (omega arith) c.read_at.auto.into) refl (sym c.read_at.auto.into) c.loop-got.invariant c.in-Ok.ensures

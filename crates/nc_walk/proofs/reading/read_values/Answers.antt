@@ -1,53 +1,53 @@
 use Rattle.std.proofs.Common.{◌*◌, drop, arith, length-take}
 use Rattle.std.proofs.lemmas.Nat.{mod-mul-add}
-use Rattle.nc_walk.proofs.OneRead.{not_ready, came, came_all, came_none, ran, ran_all, broke}
+use Rattle.nc_walk.proofs.OneRead.{not_ready, came, came_all, came_none, values_read, ran_all, partway}
 use Rattle.nc_walk.proofs.reading.read_values.Goals as goal
 
 pub returns-then-ready-eq0-clause-reads : goal.returns-then-ready-eq0-clause-reads
 returns-then-ready-eq0-clause-reads g c =
     rw c.number.ensures
-    (not_ready g.S.Source.told _ _ _ c.args.into.now _ c.ready-ready.result c.requires.more (rw c.len.ensures.length at c.ready-ready.ensures) c.if-ready-eq0.true)
+    (not_ready g.S.Source.is_transparent _ _ _ c.args.into.now _ c.ready-ready.result c.requires.more (rw c.len.ensures.length at c.ready-ready.ensures) c.if-ready-eq0.true)
 
 pub returns-in-Err-clause-reads : goal.returns-in-Err-clause-reads
 returns-in-Err-clause-reads g c =
-    broke g.S.Source.told _ _ _ c.args.into.now _ _ c.fill.new.into (drop (c.ready-ready.result * c.args.line.now.size) c.args.into.now) c.ready-ready.result 0
-    c.requires.sized c.requires.more c.requires.room (rw c.len.ensures.length at c.ready-ready.ensures) (omega arith)
-    (omega (arith, c.fill.auto.into, c.ready-ready.ensures.in_room, length-take (c.ready-ready.result * c.args.line.now.size) c.args.into.now))
+    partway g.S.Source.is_transparent _ _ _ c.args.into.now _ _ c.fill.new.into (drop (c.ready-ready.result * c.args.slabs.now.size) c.args.into.now) c.ready-ready.result 0
+    c.requires.sized c.requires.more c.requires.capacity (rw c.len.ensures.length at c.ready-ready.ensures) (omega arith)
+    (omega (arith, c.fill.auto.into, c.ready-ready.ensures.in_capacity, length-take (c.ready-ready.result * c.args.slabs.now.size) c.args.into.now))
     c.in-Err.ensures
 
 pub returns-then-got-wanted-clause-reads : goal.returns-then-got-wanted-clause-reads
 returns-then-got-wanted-clause-reads g c =
-    came_all g.S.Source.told _ _ _ c.args.into.now _ _ c.fill.new.into (drop (c.ready-ready.result * c.args.line.now.size) c.args.into.now) c.ready-ready.result c.in-Ok.n
-    c.requires.sized c.requires.more c.requires.room (rw c.len.ensures.length at c.ready-ready.ensures) (omega arith)
-    (omega (arith, c.fill.auto.into, c.ready-ready.ensures.in_room, length-take (c.ready-ready.result * c.args.line.now.size) c.args.into.now))
+    came_all g.S.Source.is_transparent _ _ _ c.args.into.now _ _ c.fill.new.into (drop (c.ready-ready.result * c.args.slabs.now.size) c.args.into.now) c.ready-ready.result c.in-Ok.n
+    c.requires.sized c.requires.more c.requires.capacity (rw c.len.ensures.length at c.ready-ready.ensures) (omega arith)
+    (omega (arith, c.fill.auto.into, c.ready-ready.ensures.in_capacity, length-take (c.ready-ready.result * c.args.slabs.now.size) c.args.into.now))
     (rw c.offset-at.ensures.value at c.in-Ok.ensures) c.if-got-wanted.true
 
 pub returns-then-whole-eq0-clause-reads : goal.returns-then-whole-eq0-clause-reads
 returns-then-whole-eq0-clause-reads g c =
     rw c.number-then-whole-eq0.ensures
-    (came_none g.S.Source.told _ _ _ c.args.into.now _ _ c.fill.new.into (drop (c.ready-ready.result * c.args.line.now.size) c.args.into.now) c.ready-ready.result c.in-Ok.n
-    c.requires.sized c.requires.more c.requires.room (rw c.len.ensures.length at c.ready-ready.ensures) (omega arith)
-    (omega (arith, c.fill.auto.into, c.ready-ready.ensures.in_room, length-take (c.ready-ready.result * c.args.line.now.size) c.args.into.now))
+    (came_none g.S.Source.is_transparent _ _ _ c.args.into.now _ _ c.fill.new.into (drop (c.ready-ready.result * c.args.slabs.now.size) c.args.into.now) c.ready-ready.result c.in-Ok.n
+    c.requires.sized c.requires.more c.requires.capacity (rw c.len.ensures.length at c.ready-ready.ensures) (omega arith)
+    (omega (arith, c.fill.auto.into, c.ready-ready.ensures.in_capacity, length-take (c.ready-ready.result * c.args.slabs.now.size) c.args.into.now))
     (rw c.offset-at.ensures.value at c.in-Ok.ensures) c.if-whole-eq0.true)
 
 pub returns-clause-reads : goal.returns-clause-reads
 returns-clause-reads g c =
-    came g.S.Source.told _ _ _ c.args.into.now _ _ c.fill.new.into (drop (c.ready-ready.result * c.args.line.now.size) c.args.into.now) c.ready-ready.result c.in-Ok.n
-    c.requires.sized c.requires.more c.requires.room (rw c.len.ensures.length at c.ready-ready.ensures) (omega arith)
-    (omega (arith, c.fill.auto.into, c.ready-ready.ensures.in_room, length-take (c.ready-ready.result * c.args.line.now.size) c.args.into.now))
+    came g.S.Source.is_transparent _ _ _ c.args.into.now _ _ c.fill.new.into (drop (c.ready-ready.result * c.args.slabs.now.size) c.args.into.now) c.ready-ready.result c.in-Ok.n
+    c.requires.sized c.requires.more c.requires.capacity (rw c.len.ensures.length at c.ready-ready.ensures) (omega arith)
+    (omega (arith, c.fill.auto.into, c.ready-ready.ensures.in_capacity, length-take (c.ready-ready.result * c.args.slabs.now.size) c.args.into.now))
     (rw c.offset-at.ensures.value at c.in-Ok.ensures) (omega arith)
 
 pub returns-then-got-wanted-clause-ran : goal.returns-then-got-wanted-clause-ran
 returns-then-got-wanted-clause-ran g c = λ full.
-    ran_all g.S.Source.told _ _ _ c.args.into.now _ _ c.fill.new.into (drop (c.ready-ready.result * c.args.line.now.size) c.args.into.now) c.ready-ready.result c.in-Ok.n
-    c.requires.sized c.requires.more c.requires.room (rw c.len.ensures.length at c.ready-ready.ensures) (omega arith)
-    (omega (arith, c.fill.auto.into, c.ready-ready.ensures.in_room, length-take (c.ready-ready.result * c.args.line.now.size) c.args.into.now))
+    ran_all g.S.Source.is_transparent _ _ _ c.args.into.now _ _ c.fill.new.into (drop (c.ready-ready.result * c.args.slabs.now.size) c.args.into.now) c.ready-ready.result c.in-Ok.n
+    c.requires.sized c.requires.more c.requires.capacity (rw c.len.ensures.length at c.ready-ready.ensures) (omega arith)
+    (omega (arith, c.fill.auto.into, c.ready-ready.ensures.in_capacity, length-take (c.ready-ready.result * c.args.slabs.now.size) c.args.into.now))
     (rw c.offset-at.ensures.value at c.in-Ok.ensures) c.if-got-wanted.true
 
 pub returns-clause-ran : goal.returns-clause-ran
 returns-clause-ran g c = λ full.
-    ran g.S.Source.told _ _ _ c.args.into.now _ _ c.fill.new.into (drop (c.ready-ready.result * c.args.line.now.size) c.args.into.now) c.ready-ready.result c.in-Ok.n
-    c.requires.sized c.requires.more c.requires.room (rw c.len.ensures.length at c.ready-ready.ensures) (omega arith)
-    (omega (arith, c.fill.auto.into, c.ready-ready.ensures.in_room, length-take (c.ready-ready.result * c.args.line.now.size) c.args.into.now))
+    values_read g.S.Source.is_transparent _ _ _ c.args.into.now _ _ c.fill.new.into (drop (c.ready-ready.result * c.args.slabs.now.size) c.args.into.now) c.ready-ready.result c.in-Ok.n
+    c.requires.sized c.requires.more c.requires.capacity (rw c.len.ensures.length at c.ready-ready.ensures) (omega arith)
+    (omega (arith, c.fill.auto.into, c.ready-ready.ensures.in_capacity, length-take (c.ready-ready.result * c.args.slabs.now.size) c.args.into.now))
     (rw c.offset-at.ensures.value at c.in-Ok.ensures)
-    (omega (arith, full, c.ready-ready.ensures.in_slab, mod-mul-add c.args.place.slab c.args.line.now.per c.args.place.within c.requires.within))
+    (omega (arith, full, c.ready-ready.ensures.in_slab, mod-mul-add c.args.cursor.slab c.args.slabs.now.values_per_slab c.args.cursor.within c.requires.within))

@@ -7,8 +7,8 @@ use Rattle.ncdump.proofs.showing.show_marked.Given as goal
 -- no device has failed, and the marked variables before this place are shown
 abbrev pub invariant-loop-v : goal.invariant-loop-v
 invariant-loop-v g l = record {
-  source : (g.S.Source.seen l.source).failures ≡ (g.S.Source.seen l.fn.source).failures;
-  sink : (g.W.Sink.seen l.sink).failures ≡ (g.W.Sink.seen l.fn.sink).failures;
-  room : length l.buf ≡ length l.fn.buf;
-  marked : OnTrue g.S.Source.told (Marked (dumped l.header (g.S.Source.seen l.fn.source) l.count l.width) l.marks (length l.fn.buf) l.v (g.S.Source.seen l.fn.source) (g.S.Source.seen l.source) (g.W.Sink.seen l.fn.sink) (g.W.Sink.seen l.sink));
+  source : (g.S.Source.view l.source).failures ≡ (g.S.Source.view l.fn.source).failures;
+  sink : (g.W.Sink.view l.sink).failures ≡ (g.W.Sink.view l.fn.sink).failures;
+  buffer_len : length l.buf ≡ length l.fn.buf;
+  marked : OnTrue g.S.Source.is_transparent (Marked (dumped l.header (g.S.Source.view l.fn.source) l.count l.width) l.marks (length l.fn.buf) l.v (g.S.Source.view l.fn.source) (g.S.Source.view l.source) (g.W.Sink.view l.fn.sink) (g.W.Sink.view l.sink));
 }

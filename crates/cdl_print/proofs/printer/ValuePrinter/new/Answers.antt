@@ -9,4 +9,4 @@ pub returns : goal.returns
 returns c =
     let h = c.args.header.now in
     if_some (λ (var : Var). look_at c.layout_of-layout.result ≡ look_of h var c.args.records c.args.width) _ (slice_get h.vars c.args.v)
-    (λ var same. stands_first (look_of h var c.args.records c.args.width) _ refl refl refl c.room_behind_opening-room.ensures refl same) c.layout_of-layout.ensures
+    (λ var same. stands_first (look_of h var c.args.records c.args.width) _ refl refl refl c.columns_left_after_opening-columns_left.ensures refl same) c.layout_of-layout.ensures

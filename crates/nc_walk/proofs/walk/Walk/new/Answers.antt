@@ -5,6 +5,6 @@ use Rattle.nc_walk.proofs.walk.Walk.new.Goals as goal
 
 pub returns : goal.returns
 returns c =
-    let first : 0 ≡ 0 * c.of-line.result.per + 0 = omega arith in
-    subst (λ (k : ℕ). Starts c.args.header.now c.args.v c.args.records (length c.args.buf.now) (standing c.of-line.result k c.args.buf.now)) first
-    (starts c.args.header.now c.args.v c.args.records c.of-line.result c.args.buf.now c.of-line.ensures)
+    let first : 0 ≡ 0 * c.of-slabs.result.values_per_slab + 0 = omega arith in
+    subst (λ (k : ℕ). Starts c.args.header.now c.args.v c.args.records (length c.args.buf.now) (standing c.of-slabs.result k c.args.buf.now)) first
+    (starts c.args.header.now c.args.v c.args.records c.of-slabs.result c.args.buf.now c.of-slabs.ensures)

@@ -1,0 +1,183 @@
+-- Values of one slab, and then more of the next ones.
+use Rattle.std.proofs.Common.{◌≡◌, ℕ, ◌+◌, ◌-◌, ◌*◌, ◌<◌, ◌≤◌, Bool, List, ◌++◌, length, take, map, sym, ◌∙◌, ap, subst, arith, length-append, length-take}
+use Rattle.std.specs.Prelude.{All}
+use Rattle.std.specs.List.{concat}
+use Rattle.std.proofs.lemmas.List.{map-append}
+use Rattle.std.proofs.lemmas.List.Elements.{All-append}
+use Rattle.std.proofs.lemmas.List.Folds.{concat-append}
+use Rattle.std.proofs.Math.Nat.{mul-le-mul_right, lt_of_mul-lt-mul_right}
+use Rattle.std.proofs.Math.Seq.{take-add}
+use borrow.Rule.Slice.PartMut.{put_mid}
+use Rattle.nc_base.specs.Places.{bytes_at}
+use Rattle.nc_file.specs.Sources.{SourceView, after, HasFailed}
+use Rattle.nc_walk.specs.declared.slabs.Slabs.{Slabs}
+use Rattle.nc_walk.specs.declared.cursor.Cursor.{Cursor}
+use Rattle.nc_walk.specs.declared.chunk.Chunk.{Chunk}
+use Rattle.nc_walk.specs.Slabs.{total, number_at, offsets_after, offsets_from}
+use Rattle.nc_walk.specs.Chunks.{Collected, ReadToSlabEnd}
+use Rattle.nc_walk.specs.Walks.{WalkView, IsWhole, Exactly, ReturnsValues, Failing, Truncated, ReadValues, standing}
+use Rattle.nc_walk.proofs.Fills.{transparent_both, after_after, prefix_then, prefix_still}
+use Rattle.nc_walk.proofs.Runs.{length-offsets, drop-offsets}
+
+-- the first n values from number i on have been read into the start of the buffer, and after them comes a part of it
+module _ (is_transparent : Bool) (l : Slabs) (i n : ℕ) (had part : List ℕ) (before mid now : SourceView) (within : n ≤ length (offsets_after l i))
+    (fits : n * l.size + length part ≤ length had) where
+  abbrev w : WalkView
+  w = standing l i had
+
+  abbrev next : WalkView
+  next = standing l (i + n) part
+
+  capacity_for : (m : ℕ) → m * l.size ≤ length part → (n + m) * l.size ≤ length had
+  capacity_for m le = omega (arith, le, fits)
+
+  count_for : (m : ℕ) → m ≤ length (offsets_after l (i + n)) → n + m ≤ length (offsets_after l i)
+  count_for m le = omega (arith, le, within, length-offsets l i (total l - i), length-offsets l (i + n) (total l - (i + n)))
+
+  left_then : (m : ℕ) → take (n + m) (offsets_after l i) ≡ take n (offsets_after l i) ++ take m (offsets_after l (i + n))
+  left_then m =
+      let e : total l - i - n ≡ total l - (i + n) = omega arith in
+      take-add n m (offsets_after l i)
+      ∙ ap (λ (xs : List ℕ). take n (offsets_after l i) ++ take m xs)
+      (drop-offsets l i (total l - i) n (omega (arith, within, length-offsets l i (total l - i))) ∙ ap (offsets_from l (i + n)) e)
+
+  whole_then : (m : ℕ) → mid.bytes ≡ before.bytes → All (IsWhole l.size before.bytes) (take n (offsets_after l i))
+      → All (IsWhole l.size mid.bytes) (take m (offsets_after l (i + n))) → All (IsWhole l.size before.bytes) (take (n + m) (offsets_after l i))
+  whole_then m same first more =
+      subst (All (IsWhole l.size before.bytes)) (sym (left_then m))
+      (All-append (IsWhole l.size before.bytes) (take n (offsets_after l i)) (take m (offsets_after l (i + n))) first
+      (subst (λ (bytes : List ℕ). All (IsWhole l.size bytes) (take m (offsets_after l (i + n)))) same more))
+
+  handed_then : (a b : ℕ) → mid ≡ after before a → now ≡ after mid b → now ≡ after before (a + b)
+  handed_then a b e f = f ∙ ap (λ (s : SourceView). after s b) e ∙ after_after before a b
+
+  exactly_then : (xs ys : List ℕ) (m : ℕ) → Exactly w before mid xs n → Exactly next mid now ys m → Exactly w before now (xs ++ ys) (n + m)
+  exactly_then xs ys m e f =
+      let first = take n (offsets_after l i) in
+      let more = take m (offsets_after l (i + n)) in
+      let same : mid.bytes ≡ before.bytes = ap (λ (s : SourceView). s.bytes) e.handed in
+      let read = bytes_at l.size before.bytes in record {
+        whole = whole_then m same e.whole f.whole;
+        bytes = ap (λ (zs : List ℕ). zs ++ ys) e.bytes
+            ∙ ap (λ (zs : List ℕ). concat (map read first) ++ zs) (f.bytes ∙ ap (λ (bytes : List ℕ). concat (map (bytes_at l.size bytes) more)) same)
+            ∙ sym (concat-append (map read first) (map read more))
+            ∙ ap concat (sym (map-append read first more))
+            ∙ ap (λ (offsets : List ℕ). concat (map read offsets)) (sym (left_then m));
+        handed = handed_then (length xs) (length ys) e.handed f.handed ∙ ap (after before) (sym (length-append xs ys));
+      }
+
+  pub hands_then : (xs ys : List ℕ) (m : ℕ) → ReturnsValues is_transparent w before mid xs n → ReturnsValues is_transparent next mid now ys m → ReturnsValues is_transparent w before now (xs ++ ys) (n + m)
+  hands_then xs ys m h k = record {
+    some = omega (arith, h.some);
+    len = omega (arith, length-append xs ys, h.len, k.len);
+    within = count_for m k.within;
+    capacity = capacity_for m k.capacity;
+    failures = k.failures ∙ h.failures;
+    exactly = transparent_both is_transparent (exactly_then xs ys m) h.exactly k.exactly;
+  }
+
+  pub ran_then : (m : ℕ) → ReadValues w before mid n → ReadValues next mid now m → ReadValues w before now (n + m)
+  ran_then m r s =
+      let e : n * l.size + m * l.size ≡ (n + m) * l.size = omega arith in record {
+        whole = whole_then m (ap (λ (s : SourceView). s.bytes) r.handed) r.whole s.whole;
+        handed = handed_then (n * l.size) (m * l.size) r.handed s.handed ∙ ap (after before) e;
+      }
+
+  pub failing_then : (m : ℕ) → ReadValues w before mid n → Failing next mid now m → Failing w before now (n + m)
+  failing_then m r f =
+      let same : mid.bytes ≡ before.bytes = ap (λ (s : SourceView). s.bytes) r.handed in
+      let handed : mid.handed ≡ before.handed + n * l.size = ap (λ (s : SourceView). s.handed) r.handed in record {
+        some = omega (arith, f.some, length-offsets l i (total l - i), length-offsets l (i + n) (total l - (i + n)));
+        within = count_for m f.within;
+        whole = whole_then m same r.whole f.whole;
+        capacity = capacity_for m f.capacity;
+        partway = record {
+          n = n * l.size + f.partway.n;
+          within = omega (arith, f.partway.within);
+          failed = record {
+            bytes = f.partway.failed.bytes ∙ same;
+            handed = omega (arith, f.partway.failed.handed, handed);
+            failures = subst (λ (k : ℕ). HasFailed k now) (ap (λ (s : SourceView). s.failures) r.handed) f.partway.failed.failures;
+          };
+        };
+      }
+
+  pub hands_still : (xs : List ℕ) (k : ℕ) → ReturnsValues is_transparent w before mid xs n → Truncated is_transparent next mid now k → ReturnsValues is_transparent w before now xs n
+  hands_still xs k h t = record {
+    some = h.some;
+    len = h.len;
+    within = h.within;
+    capacity = h.capacity;
+    failures = t.failures ∙ h.failures;
+    exactly = transparent_both is_transparent (λ e f. record { whole = e.whole; bytes = e.bytes; handed = f.1 ∙ e.handed }) h.exactly t.missing;
+  }
+
+-- ---- the cursor after the values
+
+-- values that come to the first cursor of a slab end with their own slab
+pub to_slab_end : (l : Slabs) (cursor next : Cursor) (n : ℕ) → 0 < n → cursor.within + n ≤ l.values_per_slab → number_at l next ≡ number_at l cursor + n
+    → next.within ≡ 0 → cursor.within + n ≡ l.values_per_slab
+to_slab_end l cursor next n some le number first =
+    let further : cursor.slab < next.slab = lt_of_mul-lt-mul_right l.values_per_slab (let h : cursor.slab * l.values_per_slab < next.slab * l.values_per_slab = omega arith in h) in
+    let up : (cursor.slab + 1) * l.values_per_slab ≤ next.slab * l.values_per_slab = mul-le-mul_right l.values_per_slab (let h : cursor.slab + 1 ≤ next.slab = omega arith in h) in
+    omega (arith, up)
+
+-- ---- a chunk, and a run after it
+
+-- the chunk may go on
+pub record Going (is_transparent : Bool) (l : Slabs) (cursor : Cursor) (had buf : List ℕ) (before now : SourceView) (chunk : Chunk) : Type 0 where
+  pub collected : Collected is_transparent l cursor had buf before now chunk
+  pub slab_read : ReadToSlabEnd l cursor had before now chunk
+
+-- it ends with its slab, and the part of the buffer after it is asked for
+module _ (is_transparent : Bool) (l : Slabs) (cursor : Cursor) (had buf part following : List ℕ) (before mid now : SourceView) (chunk : Chunk) (k : ℕ)
+    (going : Going is_transparent l cursor had buf before mid chunk) (slab : chunk.next.within ≡ 0)
+    (fits : chunk.values * l.size + length part ≤ length had) where
+  abbrev first : Collected is_transparent l cursor had buf before mid chunk
+  first = going.collected
+
+  abbrev buf_then : List ℕ
+  buf_then = put_mid (chunk.values * l.size) k buf following
+
+  abbrev then : Chunk → Chunk
+  then run = record { values = chunk.values + run.values; next = run.next }
+
+  collected_then : (run : Chunk) → Collected is_transparent l chunk.next part following mid now run → Collected is_transparent l cursor had buf_then before now (then run)
+  collected_then run c =
+      let n = chunk.values in
+      let m = run.values in
+      let e : n * l.size + m * l.size ≡ (n + m) * l.size = omega arith in
+      let prefix = sym (prefix_then buf following (n * l.size) k (m * l.size) first.fits c.fits) ∙ ap (λ (b : ℕ). take b buf_then) e in
+      let returns_values = hands_then is_transparent l (number_at l cursor) n had part before mid now first.returns_values.within fits (take (n * l.size) buf) (take (m * l.size) following) m first.returns_values
+      (subst (λ (j : ℕ). ReturnsValues is_transparent (standing l j part) mid now (take (m * l.size) following) m) first.number c.returns_values) in record {
+        fits = omega (arith, ap length prefix, returns_values.len, length-take ((n + m) * l.size) buf_then);
+        returns_values = subst (λ (xs : List ℕ). ReturnsValues is_transparent (standing l (number_at l cursor) had) before now xs (n + m)) prefix returns_values;
+        is_cursor = c.is_cursor;
+        number = omega (arith, c.number, first.number);
+      }
+
+  pub goes_on : (run : Chunk) → Collected is_transparent l chunk.next part following mid now run → ReadToSlabEnd l chunk.next part mid now run
+      → Going is_transparent l cursor had buf_then before now (then run)
+  goes_on run c values_read = record {
+    collected = collected_then run c;
+    slab_read = λ end. ran_then is_transparent l (number_at l cursor) chunk.values had part before mid now first.returns_values.within fits run.values (going.slab_read slab)
+        (subst (λ (j : ℕ). ReadValues (standing l j part) mid now run.values) first.number (values_read end));
+  }
+
+  pub fails : (m : ℕ) → Failing (standing l (number_at l chunk.next) part) mid now m → (n : ℕ) × Failing (standing l (number_at l cursor) had) before now n
+  fails m f = (
+    chunk.values + m,
+    failing_then is_transparent l (number_at l cursor) chunk.values had part before mid now first.returns_values.within fits m (going.slab_read slab)
+        (subst (λ (j : ℕ). Failing (standing l j part) mid now m) first.number f),
+  )
+
+  pub stays : (v : ℕ) → Truncated is_transparent (standing l (number_at l chunk.next) part) mid now v → Collected is_transparent l cursor had buf_then before now chunk
+  stays v t =
+      let still = sym (prefix_still buf following (chunk.values * l.size) k first.fits) in
+      let returns_values = hands_still is_transparent l (number_at l cursor) chunk.values had part before mid now first.returns_values.within fits (take (chunk.values * l.size) buf) v first.returns_values
+      (subst (λ (j : ℕ). Truncated is_transparent (standing l j part) mid now v) first.number t) in record {
+        fits = omega (arith, ap length still, first.returns_values.len, length-take (chunk.values * l.size) buf_then);
+        returns_values = subst (λ (xs : List ℕ). ReturnsValues is_transparent (standing l (number_at l cursor) had) before now xs chunk.values) still returns_values;
+        is_cursor = first.is_cursor;
+        number = first.number;
+      }

@@ -1,0 +1,23 @@
+use Rattle.std.proofs.Common.{◌∙◌, ap, get_or}
+use Rattle.nc_base.specs.declared.header.Var.{Var}
+use Rattle.std.proofs.Common.{List}
+use Rattle.nc_base.specs.declared.header.Dim.{Dim}
+use Rattle.nc_base.specs.Sizes.{slab_count, is_record_var}
+use Rattle.std.specs.Prelude.{if◌then◌else◌}
+use Rattle.nc_walk.proofs.SlabSteps.{sound_var, are_slabs}
+use Rattle.nc_walk.proofs.slabs.Slabs.of.Goals as goal
+
+pub slab_values-requires : goal.slab_values-requires
+slab_values-requires c =
+    let at = c.index-as_slice-v.is ∙ ap (λ (vars : List Var). get_or vars c.args.v c.index-as_slice-v.result) c.as_slice.ensures in
+    rw c.as_slice-dims.ensures (sound_var c.args.header.now c.args.v c.index-as_slice-v.result c.requires.sound c.requires.there at).slab
+
+pub returns : goal.returns
+returns c =
+    let var = c.index-as_slice-v.result in
+    are_slabs c.args.header.now c.args.v c.args.records var _ _ _ _ c.requires.sound c.requires.there
+    (c.index-as_slice-v.is ∙ ap (λ (vars : List Var). get_or vars c.args.v var) c.as_slice.ensures)
+    c.sound_rec_size.ensures.size
+    (c.slab_values.ensures ∙ ap (λ (dims : List Dim). slab_count dims var) c.as_slice-dims.ensures)
+    (c.slab_number.ensures ∙ ap (λ (dims : List Dim). if is_record_var dims var then c.args.records else 1) c.as_slice-dims.ensures)
+    c.size.ensures

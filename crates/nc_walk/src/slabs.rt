@@ -1,0 +1,93 @@
+//! Where a variable's values lie, by their cursor.
+
+ghost use Rattle.std.specs.Prelude.{◌≡◌, ◌+◌, ◌*◌, ◌<◌, ◌≤◌, ◌^◌, if◌then◌else◌, length};
+ghost use Rattle.nc_base.specs.Headers.{IsSound};
+ghost use Rattle.nc_base.specs.Sizes.{is_record_var, slab_count, slab_size, slab_limit};
+ghost use Rattle.nc_walk.specs.Slabs.{number_at, offset, IsSized, AreSlabsOf, Ready};
+
+use crate::cursor::Cursor;
+use nc_base::{Dim, Header, Var, has_records, slab_of, sound_rec_size};
+
+/// The slabs of a variable: values side by side in each, and one slab after the other at the same distance.
+#[derive(Clone, Copy)]
+pub(crate) struct Slabs {
+    /// The offset of the first value.
+    pub(crate) begin: u64,
+    /// The bytes from one slab to the next.
+    pub(crate) stride: u64,
+    /// The values in a slab.
+    pub(crate) values_per_slab: u64,
+    /// The number of slabs.
+    pub(crate) total_slabs: u64,
+    /// The bytes of a value.
+    pub(crate) size: u64,
+}
+
+impl Slabs {
+    /// The slabs of the variable at index `v` over n records: one for each record, or one in all where the variable
+    /// has no record dimension.
+    pub(crate) fn of(header: &Header, v: usize, records: u64) -> Slabs
+        requires sound { IsSound header.now }
+        requires there { v < length header.now.vars }
+        ensures { AreSlabsOf header.now v records result }
+    {
+        let dims = header.dims.as_slice();
+        let var = &header.vars.as_slice()[v];
+        Slabs {
+            begin: var.begin_at,
+            stride: sound_rec_size(header),
+            values_per_slab: slab_values(dims, var),
+            total_slabs: slab_number(dims, var, records),
+            size: var.ty.size(),
+        }
+    }
+
+    /// The offset of the value at this index.
+    pub(crate) fn offset(&self, cursor: Cursor) -> u128
+        requires sized { IsSized self.now }
+        requires within { cursor.within < self.now.values_per_slab }
+        ensures value { result ≡ offset self.now (number_at self.now cursor) }
+        ensures bound { result < 2 ^ 127 }
+    {
+        let slab = self.begin as u128 + cursor.slab as u128 * self.stride as u128;
+        slab + cursor.within as u128 * self.size as u128
+    }
+
+    /// How many values from the one at this index on lie side by side, are at most `capacity` and end inside of `len` bytes.
+    pub(crate) fn ready(&self, cursor: Cursor, capacity: u64, len: u64) -> u64
+        requires sized { IsSized self.now }
+        requires within { cursor.within < self.now.values_per_slab }
+        requires some { 0 < capacity }
+        ensures { Ready self.now (number_at self.now cursor) (capacity * self.now.size) len result }
+    {
+        let at = self.offset(cursor);
+        let wanted = (self.values_per_slab - cursor.within).min(capacity);
+        if at + wanted as u128 * self.size as u128 <= len as u128 {
+            wanted
+        } else if at < len as u128 {
+            (len - at as u64) / self.size
+        } else {
+            0
+        }
+    }
+}
+
+/// The number of slabs over n records.
+fn slab_number(dims: &[Dim], var: &Var, records: u64) -> u64
+    ensures { result ≡ (if is_record_var dims.now var.now then records else 1) }
+{
+    if has_records(dims, var.dimids.as_slice()) {
+        records
+    } else {
+        1
+    }
+}
+
+/// The number of values in a slab that keeps the limit.
+fn slab_values(dims: &[Dim], var: &Var) -> u64
+    requires { slab_size dims.now var.now ≤ slab_limit }
+    ensures { result ≡ slab_count dims.now var.now }
+{
+    let slab = slab_of(dims, var.dimids.as_slice(), var.ty).unwrap();
+    slab / var.ty.size()
+}

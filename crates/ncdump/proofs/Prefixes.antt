@@ -1,0 +1,49 @@
+-- Fronts of a variable's text.
+use Rattle.std.proofs.Common.{◌≡◌, ℕ, ◌+◌, ◌-◌, ◌≤◌, List, [], ◌++◌, length, take, drop, sym, ap, ◌∙◌, append_assoc, arith, Option, Some, None}
+use Rattle.std.specs.Prelude.{ℤ, unwrap_or}
+use Rattle.std.proofs.Math.Seq.{take-add}
+use Rattle.std.proofs.lemmas.List.{take_all, length-map}
+use Rattle.nc_base.specs.declared.header.Var.{Var}
+use Rattle.nc_base.specs.Headers.{value_count}
+use Rattle.nc_base.specs.Numbers.{number_of}
+use Rattle.nc_base.specs.Types.{size_of}
+use Rattle.nc_base.specs.Places.{bytes_at, stored_values, stored_bytes, value_offsets, first_missing}
+use Rattle.nc_base.specs.ValueText.{Look, look_of, variable_prefix, variable_text, later_pieces, closing}
+use Rattle.nc_base.specs.Dump.{no_section, values_before}
+use Rattle.nc_base.proofs.ValueLaws.{prefix-append}
+use Rattle.nc_walk.proofs.Orders.{count_of_offsets}
+use Rattle.ncdump.specs.Shows.{Dumped, prefix_text, values_alone, whole_values}
+
+-- as many values are stored as the variable has
+pub count-stored : (d : Dumped) (var : Var) → length (stored_values d.header d.bytes var d.records) ≡ value_count d.header.dims var d.records
+count-stored d var =
+    length-map (stored_bytes d.header d.bytes var d.records) (number_of var.ty) ∙ length-map (value_offsets d.header var d.records) (bytes_at (size_of var.ty) d.bytes)
+    ∙ count_of_offsets d.header var d.records
+
+-- a prefix of the first values is a prefix of more of them
+prefix-more : (look : Look) (xs : List ℤ) (k i : ℕ) → (rest : List ℕ) × (variable_prefix look (take (k + i) xs) ≡ variable_prefix look (take k xs) ++ rest)
+prefix-more look xs k i =
+    (later_pieces look (take k xs) (take i (drop k xs)), ap (variable_prefix look) (take-add k i xs) ∙ prefix-append look (take k xs) (take i (drop k xs)))
+
+-- the prefix of a variable's first values is a prefix of its text
+prefix-of-section : (look : Look) (xs : List ℤ) (missing : Option ℕ) (v k total : ℕ) → length xs ≡ total → k ≤ unwrap_or missing total
+    → (rest : List ℕ) × ((values_before look xs missing v no_section).text ≡ variable_prefix look (take k xs) ++ rest)
+unfolding variable_text
+prefix-of-section look xs None v k total all few =
+    let more = prefix-more look xs k (total - k) in
+    let whole : take (k + (total - k)) xs ≡ xs = take_all (k + (total - k)) xs (omega (arith, few, all)) in
+    let prefix : variable_prefix look xs ≡ variable_prefix look (take k xs) ++ more.0 = ap (variable_prefix look) (sym whole) ∙ more.1 in (
+      more.0 ++ (closing look ++ []),
+      ap (λ (t : List ℕ). (t ++ closing look) ++ []) prefix
+          ∙ append_assoc (variable_prefix look (take k xs) ++ more.0) (closing look) []
+          ∙ append_assoc (variable_prefix look (take k xs)) more.0 (closing look ++ []),
+    )
+prefix-of-section look xs (Some m) v k total all few =
+    let more = prefix-more look xs k (m - k) in
+    let e : k + (m - k) ≡ m = omega (arith, few) in
+    (more.0, ap (λ (i : ℕ). variable_prefix look (take i xs)) (sym e) ∙ more.1)
+
+pub prefix-in-text : (d : Dumped) (v : ℕ) (var : Var) (k : ℕ) → k ≤ whole_values d var → (rest : List ℕ) × ((values_alone d v var).text ≡ prefix_text d var k ++ rest)
+prefix-in-text d v var k few =
+    prefix-of-section (look_of d.header var d.records d.width) (stored_values d.header d.bytes var d.records) (first_missing d.header d.bytes var d.records)
+    v k (value_count d.header.dims var d.records) (count-stored d var) few
