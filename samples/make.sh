@@ -4,7 +4,7 @@
 set -eu
 cd "$(dirname "$0")"
 
-# zeros N: so many zero bytes.
+# zeros N: N zero bytes.
 zeros() {
     head -c "$1" /dev/zero
 }

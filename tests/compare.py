@@ -55,7 +55,7 @@ class Files:
         return f"{self.random.choice('abcxyzT_')}{middle}{self.names}"
 
     def characters(self, length):
-        """So many characters, the last of them no NUL."""
+        """This number of characters, the last of them no NUL."""
         letters = BYTES if self.random.random() < 0.3 else "abcdefgh "
         return "".join(self.random.choice(letters) for _ in range(length - 1)) + "z" * (length > 0)
 

@@ -67,7 +67,7 @@ head_of() {
     verdict "$1" 0
     stdout "$3"
     run "$ncdump" "$2" -h
-    verdict "$1_with_the_option_behind" 0
+    verdict "$1_with_the_option_after" 0
 }
 
 # sample NAME: the sample was made by Unidata's ncgen from the text beside it, and its dump is that text.
@@ -84,7 +84,7 @@ fault() {
     verdict "$1" 1
 }
 
-# zeros N: so many zero bytes.
+# zeros N: N zero bytes.
 zeros() {
     head -c "$1" /dev/zero
 }

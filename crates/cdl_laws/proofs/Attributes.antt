@@ -118,7 +118,7 @@ all_fit ty xs h = each_map (IsInRange ty) (λ x. fits ty x ≡ true) xs (fits_is
 pub all_small : (ty : NcType) (xs : List ℤ) → Each (IsInRange ty) xs → Each (λ x. unsigned_abs x < 2 ^ 64) xs
 all_small ty xs h = each_map (IsInRange ty) (λ x. unsigned_abs x < 2 ^ 64) xs (small_is ty) h
 
--- a list of whole values has so many
+-- the number of values in a list of whole values
 pub count_is : (ty : NcType) (n : ℕ) (bytes : List ℕ) → length bytes ≡ n * size_of ty → numbers ty bytes ≡ numbers_from ty n bytes
 unfolding numbers
 count_is ty n bytes h = ap (λ k. numbers_from ty k bytes) (ap (λ m. m / size_of ty) h ∙ mul-div_cancel n (size_some ty))

@@ -105,7 +105,7 @@ before_vars : (dims : List Dim) (vars : List Var) → IsBeforeData (after_vars (
 before_vars dims [] = before_of dims
 before_vars dims (var ∷ vars) = variables
 
--- the line that tells of global attributes is a comment
+-- the line before global attributes is a comment
 global_word_taken : (v : Version) (s : State) → Takes v global_word s s
 unfolding pieces_of global_word lexemes_at scan
 global_word_taken v s rest = refl

@@ -61,10 +61,10 @@ pieces_map : {X Y : Type 0} (f : X → Y) (role : Y → Role) (place : CutState)
 unfolding pieces_at
 pieces_map f role place [] = refl
 pieces_map f role place (t ∷ ts) =
-    let rest : Role → List (List _) = λ n. with_first (step place (role (f t)) n).ends (f t) (pieces_at role (step place (role (f t)) n).place (map f ts)) in
+    let rest : Role → List (List _) = λ n. with_first (step place (role (f t)) n).ends (f t) (pieces_at role (step place (role (f t)) n).state (map f ts)) in
     let n = first_role (λ u. role (f u)) ts in
-    with_first_map f (step place (role (f t)) n).ends t (pieces_at (λ u. role (f u)) (step place (role (f t)) n).place ts) ∙
-    ap (with_first (step place (role (f t)) n).ends (f t)) (pieces_map f role (step place (role (f t)) n).place ts) ∙
+    with_first_map f (step place (role (f t)) n).ends t (pieces_at (λ u. role (f u)) (step place (role (f t)) n).state ts) ∙
+    ap (with_first (step place (role (f t)) n).ends (f t)) (pieces_map f role (step place (role (f t)) n).state ts) ∙
     ap rest (first_map f role ts)
 
 pub pieces_are : (text : List ℕ) → map (map (lexeme text)) (statements text) ≡ pieces_at role places.Begins (lexemes text)

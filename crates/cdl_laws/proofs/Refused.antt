@@ -23,7 +23,7 @@ use Rattle.cdl_text.specs.Shapes.{shape}
 use Rattle.cdl_parse.specs.State.{act, fits, add_dim, type_of, add_dimid, add_var, at_variable, add_att, room_of, add_value}
 use Rattle.cdl_parse.specs.Meaning.{run, piece_read, meaning, finished, is_small_enough}
 
--- ---- how faults are told
+-- ---- how faults are written down
 
 -- the fault of a text that has one
 abbrev fault : Result Dataset CdlFault → Option CdlFault
@@ -113,7 +113,7 @@ first_fault_wins : faults Cdf1 [] [] (codes "netcdf t {\ndimensions: x = 0 ;\nda
 unfolding tokens_at scan word_len until unescape_at stands_at character pieces_at is_section word_value is_reserved name_of suffix numeral parts shape act fits add_dim type_of add_dimid add_var at_variable add_att room_of add_value fill_value run piece_read finished is_small_enough is_utf8 chars encode
 first_fault_wins = refl
 
--- a slab that is too large is told with the line of the closing brace
+-- a slab that is too large is reported with the line of the closing brace
 too_large_a_slab : faults Cdf1 [] [] (codes "netcdf t {\ndimensions: x = 2147483647 ;\nvariables: byte b(x, x) ;\n}\n" ∷ []) ≡ at 4 TooLarge ∷ []
 unfolding tokens_at scan word_len until unescape_at stands_at character pieces_at is_section word_value is_reserved name_of suffix numeral parts shape act fits add_dim type_of add_dimid add_var at_variable add_att room_of add_value fill_value run piece_read finished is_small_enough is_utf8 chars encode
 too_large_a_slab = refl
@@ -150,10 +150,10 @@ whole_text = codes "netcdf t {\ndimensions:\n x = 3 ;\nvariables:\n short s(x) ;
 
 -- Each prefix of a text, of 0 to 80 bytes. Up to 6 bytes it begins with a word, up to 9 with an opening that has no brace, and
 -- up to 78 its end stands before the closing brace.
-fronts : map (λ n. kind (fault (meaning (take n whole_text) Cdf1))) (range_with_len 0 81)
+prefixes : map (λ n. kind (fault (meaning (take n whole_text) Cdf1))) (range_with_len 0 81)
     ≡ replicate 7 (Some Syntax) ++ (replicate 3 (Some BadToken) ++ (replicate 69 (Some Syntax) ++ replicate 2 None))
 unfolding tokens_at scan word_len until unescape_at stands_at character pieces_at is_section word_value is_reserved name_of suffix numeral parts shape act fits add_dim type_of add_dimid add_var at_variable add_att room_of add_value fill_value run piece_read finished is_small_enough is_utf8 chars encode
-fronts = refl
+prefixes = refl
 
 -- ---- constants
 
@@ -288,7 +288,7 @@ numbers : faults Cdf1 (codes "netcdf t {\n") (codes "\n}\n") (
 unfolding tokens_at scan word_len until unescape_at stands_at character pieces_at is_section word_value is_reserved name_of suffix numeral parts shape act fits add_dim type_of add_dimid add_var at_variable add_att room_of add_value fill_value run piece_read finished is_small_enough is_utf8 chars encode
 numbers = refl
 
--- the type of the first decides, and a constant of another type is told before one out of range
+-- the type of the first decides, and a constant of another type is reported before one out of range
 constants_of_one_type : faults Cdf1 (codes "netcdf t {\n") (codes "\n}\n") (
     codes ":a = \"x\", 1 ;"
     ∷ codes ":a = 1, \"x\" ;"

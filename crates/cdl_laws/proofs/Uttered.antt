@@ -170,7 +170,7 @@ unfolding pieces_at
 all_pieces w role place [] = refl
 all_pieces w role place (t ∷ ts) =
     let s = step place (role t) (first_role role ts) in
-    pieces_total w s.ends t (pieces_at role s.place ts) ∙ ap (λ n. w t + n) (all_pieces w role s.place ts)
+    pieces_total w s.ends t (pieces_at role s.state ts) ∙ ap (λ n. w t + n) (all_pieces w role s.state ts)
 
 pub all_mass : (text : List ℕ) → total (token_mass text) (statements text) ≤ 1 + 2 * length text
 all_mass text =

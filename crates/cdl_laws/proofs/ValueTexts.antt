@@ -68,7 +68,7 @@ constants_all v takes_fill l (m ∷ ls) = ap (both (λ x xs. x ∷ xs) (constant
 
 -- the value prints as `_`
 abbrev pub is_fill_value : Look → ℤ → Bool
-is_fill_value look x = look.takes_fill && int_eq x look.fill
+is_fill_value look x = look.prints_fill && int_eq x look.fill
 
 abbrev pub value_lexeme : Look → ℤ → Lexeme
 value_lexeme look x = if is_fill_value look x then word (codes "_") else number (signed_decimal x)
@@ -284,7 +284,7 @@ one_added : (look : Look) (room : Room) (before : List ℤ) (x : ℤ) → is_cha
 unfolding add_value
 one_added look room before x h same wide fit =
     rw (h) (elim (is_fill_value look x) as (λ b. is_fill_value look x ≡ b → add_number room before (if b then Underscore else Number (record { value = x; ty = Int })) ≡ Ok (before ++ x ∷ [])) [
-      | true ↦ (λ e. rw (room_for room.is_open (length before) room.count wide) (ap (λ y. Ok (before ++ y ∷ [])) (same ∙ sym ((Decides-int_eq x look.fill).0 (and_right look.takes_fill (int_eq x look.fill) e)))))
+      | true ↦ (λ e. rw (room_for room.is_open (length before) room.count wide) (ap (λ y. Ok (before ++ y ∷ [])) (same ∙ sym ((Decides-int_eq x look.fill).0 (and_right look.prints_fill (int_eq x look.fill) e)))))
       | false ↦ (λ e. rw (room_for room.is_open (length before) room.count wide) (rw (fit) refl))
     ] refl)
 

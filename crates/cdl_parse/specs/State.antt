@@ -188,7 +188,7 @@ room_of dims var = record {
   row = row_len dims var.dimids 0;
 }
 
--- with the fill value up to so many
+-- with the fill value up to n of them
 abbrev pub filled : ℕ → ℤ → List ℤ → List ℤ
 filled n fill values = values ++ replicate (n - length values) fill
 

@@ -2,8 +2,8 @@
 use Rattle.std.proofs.Common.{◌≡◌, ℕ, List, [], ◌++◌, sym, subst, append_assoc, ap, ◌∙◌, refl}
 use Rattle.std.proofs.lemmas.List.{append-nil}
 use Rattle.std.proofs.lemmas.Bool.{OnTrue_from}
-use Rattle.nc_file.specs.Sinks.{SinkView, Appended, FailedPartway}
-use Rattle.nc_file.proofs.Writes.{append-none, appended_then, appended_partway}
+use Rattle.devices.specs.Sinks.{SinkView, Appended, FailedPartway}
+use Rattle.devices.proofs.Writes.{append-none, appended_then, appended_partway}
 
 -- the sink has taken the whole text but for the rest
 pub record IsBegun (old now : SinkView) (rest whole : List ℕ) : Type 0 where

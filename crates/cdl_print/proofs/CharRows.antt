@@ -9,8 +9,8 @@ use Rattle.std.proofs.lemmas.List.{length-map, length-take-le, map-append, take-
 use Rattle.std.proofs.lemmas.List.Sums.{prefix_len-le-length}
 use Rattle.nc_base.specs.Escapes.{escaped_in_string, escaped_text}
 use Rattle.nc_base.specs.ValueText.{Look, is_char, begins_row, char_lead, char_text, char_piece, held, piece, pieces, measured_prefix, later_pieces}
-use Rattle.nc_base.proofs.ValueLaws.{row_index-add, held_other, held_nul, held_first, held_untrimmed}
-use Rattle.nc_file.specs.Sinks.{SinkView, Appended, FailedPartway, Wrote}
+use Rattle.nc_base.proofs.ValueLaws.{place-add, held_other, held_nul, held_first, held_untrimmed}
+use Rattle.devices.specs.Sinks.{SinkView, Appended, FailedPartway, Wrote}
 use Rattle.cdl_print.specs.Pieces.{is_literal, IsPiece}
 use Rattle.cdl_print.specs.Leads.{next_char_lead}
 use Rattle.cdl_print.specs.Printing.{run_text, run_bytes, row_index_after_run, IsAfterRun, IsAfter, PrintsMore}
@@ -69,7 +69,7 @@ literal_piece look before xs b is lit inside none =
 
 -- the place after one value more
 row_index_push : (look : Look) (xs : List ℤ) (x : ℤ) → length (xs ++ x ∷ []) % look.row ≡ cond (length xs % look.row + 1 == look.row) 0 (length xs % look.row + 1)
-row_index_push look xs x = ap (λ n. n % look.row) (length-append xs (x ∷ [])) ∙ row_index-add (length xs) 1 look.row (omega arith) (λ h. absurd (omega arith))
+row_index_push look xs x = ap (λ n. n % look.row) (length-append xs (x ∷ [])) ∙ place-add (length xs) 1 look.row (omega arith) (λ h. absurd (omega arith))
 
 -- the place after one value more that isn't the last of its row
 row_index_inside : (look : Look) (xs : List ℤ) (x : ℤ) → length xs % look.row + 1 < look.row → length (xs ++ x ∷ []) % look.row ≡ length xs % look.row + 1
@@ -197,7 +197,7 @@ held_next look xs p q (b ∷ c ∷ run) is some literal fits following next =
 row_index_next : (look : Look) (xs : List ℤ) (p q : Progress) (run : List ℕ) → 0 < length run → IsInRow look xs run → IsAfter look xs p → IsAfterRun look p run q → q.row_index ≡ length (xs ++ map pos run) % look.row
 row_index_next look xs p q run some fits following next =
     next.row_index ∙ ap (λ n. cond (n + length run == look.row) 0 (n + length run)) following.row_index
-    ∙ sym (row_index-add (length xs) (length run) look.row some fits)
+    ∙ sym (place-add (length xs) (length run) look.row some fits)
     ∙ ap (λ n. n % look.row) (sym (length-append xs (map pos run) ∙ ap (λ n. length xs + n) (length-map run pos)))
 
 after_next : (look : Look) (xs : List ℤ) (p q : Progress) (run : List ℕ) → is_char look.ty ≡ true → 0 < length run → IsPiece is_literal run → IsInRow look xs run → IsAfter look xs p → IsAfterRun look p run q
@@ -273,5 +273,5 @@ pub chars_parts : (n : ℕ) (rest prefix back : List ℕ) → prefix ≡ take n 
 chars_parts n rest prefix back f b = ap (map pos) (sym (take-append-drop n rest) ∙ ap (λ (x : List ℕ). x ++ drop n rest) (sym f) ∙ ap (λ (x : List ℕ). prefix ++ x) (sym b)) ∙ map-append pos prefix back
 
 -- no more characters are to come than the variable has
-pub chars_columns_left : (rest bytes : List ℕ) (m n : ℕ) → m + length (map pos rest) ≡ n + length (map pos bytes) → m + length rest ≡ n + length bytes
-chars_columns_left rest bytes m n e = omega (arith, e, length-map rest pos, length-map bytes pos)
+pub chars_within : (rest bytes : List ℕ) (m n : ℕ) → m + length (map pos rest) ≡ n + length (map pos bytes) → m + length rest ≡ n + length bytes
+chars_within rest bytes m n e = omega (arith, e, length-map rest pos, length-map bytes pos)

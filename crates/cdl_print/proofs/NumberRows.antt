@@ -4,8 +4,8 @@ use Rattle.std.specs.Prelude.{codes, ◌==◌, ◌&&◌, unwrap_or}
 use Rattle.std.proofs.lemmas.Bool.{OnTrue_at, OnTrue_from, false≢true, cases_lt, cond-false, lt-ltb}
 use Rattle.std.proofs.lemmas.Bool.Decides.{nat_tests}
 use Rattle.nc_base.specs.ValueText.{Look, is_char, begins_row, column, number_text, number_lead, line_break, passes, ends_row, number_piece, piece, measured_prefix, later_pieces}
-use Rattle.nc_base.proofs.ValueLaws.{measured-append, later_one, column-flat, column-broken, number_flat, row_index-add}
-use Rattle.nc_file.specs.Sinks.{SinkView, append, is_transparent, Appended, FailedPartway, Wrote}
+use Rattle.nc_base.proofs.ValueLaws.{measured-append, later_one, column-flat, column-broken, number_flat, place-add}
+use Rattle.devices.specs.Sinks.{SinkView, append, is_transparent, Appended, FailedPartway, Wrote}
 use Rattle.cdl_print.specs.Leads.{lead_bytes, lead_columns_left, gap_bytes, next_lead, next_gap, passes_at, columns_left_after}
 use Rattle.cdl_print.specs.Printing.{gathered, number_bytes, IsAfterNumber, IsAfter, PrintedMore, PrintsMore}
 use Rattle.cdl_print.specs.declared.lead.Gap.{Gap}
@@ -80,7 +80,7 @@ one_more m = grind (arith, nat_tests)
 
 -- the value in the last place of a row is the row's last
 last_is : (look : Look) (n : ℕ) → (n % look.row + 1 == look.row) ≡ ends_row look n
-last_is look n = sym (ap (λ m. m == 0) (row_index-add n 1 look.row (omega arith) (λ h. absurd (omega arith))) ∙ by (n % look.row + 1 == look.row))
+last_is look n = sym (ap (λ m. m == 0) (place-add n 1 look.row (omega arith) (λ h. absurd (omega arith))) ∙ by (n % look.row + 1 == look.row))
   where
     by : (b : Bool) → (cond b 0 (n % look.row + 1) == 0) ≡ b
     by true = refl
@@ -123,7 +123,7 @@ after_next look xs p q x is following next =
     let n = length-append xs (x ∷ []) in
     record {
       position = omega (arith, next.position, following.position, n);
-      row_index = next.row_index ∙ ap (λ m. cond (m + 1 == look.row) 0 (m + 1)) following.row_index ∙ sym (row_index-add (length xs) 1 look.row (omega arith) (λ h. absurd (omega arith))) ∙ ap (λ m. m % look.row) (sym n);
+      row_index = next.row_index ∙ ap (λ m. cond (m + 1 == look.row) 0 (m + 1)) following.row_index ∙ sym (place-add (length xs) 1 look.row (omega arith) (λ h. absurd (omega arith))) ∙ ap (λ m. m % look.row) (sym n);
       columns_left = λ _. columns_left_next look xs p q x is following next;
       held = λ c. absurd (false≢true (sym is ∙ c));
     }

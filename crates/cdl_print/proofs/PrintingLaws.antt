@@ -2,8 +2,8 @@
 use Rattle.std.proofs.Common.{◌≡◌, ℕ, ℤ, ◌+◌, List, [], ◌++◌, length, sym, ◌∙◌, ap, refl, subst, arith, append_assoc, length-append, append-nil}
 use Rattle.nc_base.specs.ValueText.{Look, later_pieces}
 use Rattle.nc_base.proofs.ValueLaws.{later-append, later_none}
-use Rattle.nc_file.specs.Sinks.{SinkView, Appended, FailedPartway, HasFailed}
-use Rattle.nc_file.proofs.Writes.{appended_then, appended_partway}
+use Rattle.devices.specs.Sinks.{SinkView, Appended, FailedPartway, HasFailed}
+use Rattle.devices.proofs.Writes.{appended_then, appended_partway}
 use Rattle.cdl_print.specs.Printing.{IsAfter, PrintedMore, FailedPrinting}
 use Rattle.cdl_print.specs.declared.progress.Progress.{Progress}
 use Rattle.cdl_print.proofs.Begun.{appended_none}
@@ -61,6 +61,6 @@ underway_all look p q s t all underway =
     subst (λ (ys : List ℤ). PrintedMore look ys p q s t) (sym (append-nil underway.done) ∙ underway.joined) underway.printed_more
 
 -- no more are to come than the variable has
-pub underway_columns_left : (look : Look) (p q : Progress) (s t : SinkView) (others all : List ℤ) → IsUnderway look p q s t others all
+pub underway_within : (look : Look) (p q : Progress) (s t : SinkView) (others all : List ℤ) → IsUnderway look p q s t others all
     → q.position + length others ≡ p.position + length all
-underway_columns_left look p q s t others all underway = omega (arith, underway.printed_more.position, length-append underway.done others, ap length underway.joined)
+underway_within look p q s t others all underway = omega (arith, underway.printed_more.position, length-append underway.done others, ap length underway.joined)

@@ -19,11 +19,11 @@ length-numbers ty bytes = length-from ty (length bytes / size_of ty) bytes
 pub takes_iff : (printer : ValuePrinter) (bytes : List ℕ) (size : ℕ) (P : Type 0) → size ≡ size_of (look_in printer).ty → length bytes % size ≡ 0
     → (P → position_of printer + length bytes / size ≤ (look_in printer).total) × (position_of printer + length bytes / size ≤ (look_in printer).total → P)
     → (P → Takes printer bytes) × (Takes printer bytes → P)
-takes_iff printer bytes size P is none columns_left =
+takes_iff printer bytes size P is none within =
     let ty = (look_in printer).ty in
     let count = length-numbers ty bytes ∙ ap (λ k. length bytes / k) (sym is) in
     let whole : length bytes ≡ length (numbers ty bytes) * size_of ty
     = whole_part (length bytes) size none ∙ ap (λ n. n * size) (sym count) ∙ ap (λ k. length (numbers ty bytes) * k) is in (
-      λ p. record { whole = whole; columns_left = subst (λ n. position_of printer + n ≤ (look_in printer).total) (sym count) (columns_left.0 p) },
-      λ takes. columns_left.1 (subst (λ n. position_of printer + n ≤ (look_in printer).total) count takes.columns_left),
+      λ p. record { whole = whole; within = subst (λ n. position_of printer + n ≤ (look_in printer).total) (sym count) (within.0 p) },
+      λ takes. within.1 (subst (λ n. position_of printer + n ≤ (look_in printer).total) count takes.within),
     )

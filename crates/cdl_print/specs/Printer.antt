@@ -3,7 +3,7 @@ use Rattle.std.specs.Prelude.{ℕ, ◌≡◌, ◌+◌, ◌*◌, ◌≤◌, ℤ, 
 use Rattle.nc_base.specs.Numbers.{numbers}
 use Rattle.nc_base.specs.Types.{size_of}
 use Rattle.nc_base.specs.ValueText.{Look, later_pieces}
-use Rattle.nc_file.specs.Sinks.{SinkView, Appended, FailedPartway, HasFailed}
+use Rattle.devices.specs.Sinks.{SinkView, Appended, FailedPartway, HasFailed}
 use Rattle.cdl_print.specs.Leads.{look_at}
 use Rattle.cdl_print.specs.Printing.{IsAfter}
 use Rattle.cdl_print.specs.declared.printer.ValuePrinter.{ValuePrinter}
@@ -23,7 +23,7 @@ has_failed printer = printer.has_failed
 -- the bytes are whole values, and no more than the variable has beside those printed
 pub record Takes (printer : ValuePrinter) (bytes : List ℕ) : Type 0 where
   pub whole : length bytes ≡ length (numbers (look_in printer).ty bytes) * size_of (look_in printer).ty
-  pub columns_left : position_of printer + length (numbers (look_in printer).ty bytes) ≤ (look_in printer).total
+  pub within : position_of printer + length (numbers (look_in printer).ty bytes) ≤ (look_in printer).total
 
 -- the printer of a variable of this look has printed the values xs, and no write of it has failed
 pub record HasPrinted (look : Look) (xs : List ℤ) (printer : ValuePrinter) : Type 0 where

@@ -2,7 +2,7 @@
 use Rattle.std.specs.Prelude.{ℕ, ◌≡◌, ◌+◌, ◌-◌, ◌%◌, ◌==◌, ◌&&◌, ◌||◌, ℤ, Bool, true, false, not, if◌then◌else◌, List, [], ◌∷◌, ◌++◌, length, replicate, Some, Result, Ok, Err}
 use Rattle.nc_base.specs.Escapes.{escaped_text}
 use Rattle.nc_base.specs.ValueText.{Look, is_char, column, held, number_text, measured_prefix, later_pieces}
-use Rattle.nc_file.specs.Sinks.{SinkView, Appended, FailedPartway, HasFailed}
+use Rattle.devices.specs.Sinks.{SinkView, Appended, FailedPartway, HasFailed}
 use Rattle.cdl_print.specs.Leads.{gap_bytes, next_gap, next_char_lead, columns_left_after}
 use Rattle.cdl_print.specs.declared.progress.Progress.{Progress}
 

@@ -4,16 +4,16 @@ ghost use Rattle.std.specs.Prelude.{◌≡◌, [], ◌∷◌, codes};
 ghost use Rattle.nc_base.specs.Bytes.{text};
 ghost use Rattle.nc_base.specs.Escapes.{escaped_name};
 ghost use Rattle.nc_base.specs.HeadText.{att_line, att_lines, att_values, char_values, without_trailing_nuls};
-ghost use Rattle.nc_file.specs.Sinks.{Wrote};
+ghost use Rattle.devices.specs.Sinks.{Wrote};
 
 use crate::name::put_name;
 use crate::number::put_numbers;
 use crate::string::put_broken_text;
+use devices::{Sink, WriteFailed, put};
 use nc_base::{Att, NcType};
-use nc_file::{Sink, WriteFailed, put};
 
 /// Writes a line for each attribute of the variable with this name; of the dataset where the name is empty.
-#[tactic(auto, using(nc_file::proofs::Writes::writes), unfolding(nc_base::specs::HeadText::att_lines))]
+#[tactic(auto, using(devices::proofs::Writes::writes), unfolding(nc_base::specs::HeadText::att_lines))]
 pub fn put_att_lines<W: Sink>(sink: &mut W, owner: &[u8], atts: &[Att]) -> Result<(), WriteFailed>
     ensures { Wrote (W.view sink.old) (W.view sink.new) (att_lines (escaped_name owner.now) atts.now) result }
 {
@@ -24,7 +24,7 @@ pub fn put_att_lines<W: Sink>(sink: &mut W, owner: &[u8], atts: &[Att]) -> Resul
 }
 
 /// Writes the line of an attribute.
-#[tactic(auto, using(nc_file::proofs::Writes::writes), unfolding(nc_base::specs::HeadText::att_line))]
+#[tactic(auto, using(devices::proofs::Writes::writes), unfolding(nc_base::specs::HeadText::att_line))]
 fn put_att_line<W: Sink>(sink: &mut W, owner: &[u8], att: &Att) -> Result<(), WriteFailed>
     ensures { Wrote (W.view sink.old) (W.view sink.new) (att_line (escaped_name owner.now) att.now) result }
 {
@@ -35,7 +35,7 @@ fn put_att_line<W: Sink>(sink: &mut W, owner: &[u8], att: &Att) -> Result<(), Wr
 }
 
 /// Writes what an attribute is called, with its variable.
-#[tactic(auto, using(nc_file::proofs::Writes::writes))]
+#[tactic(auto, using(devices::proofs::Writes::writes))]
 fn put_att_name<W: Sink>(sink: &mut W, owner: &[u8], name: &[u8]) -> Result<(), WriteFailed>
     ensures { Wrote (W.view sink.old) (W.view sink.new) (text (codes "\t\t" ∷ escaped_name owner.now ∷ codes ":" ∷ escaped_name name.now ∷ [])) result }
 {
@@ -56,7 +56,7 @@ fn put_values<W: Sink>(sink: &mut W, att: &Att) -> Result<(), WriteFailed>
 }
 
 /// Writes the characters of an attribute as strings, without the NULs at their end.
-#[tactic(auto, using(nc_file::proofs::Writes::writes), unfolding(nc_base::specs::HeadText::char_values))]
+#[tactic(auto, using(devices::proofs::Writes::writes), unfolding(nc_base::specs::HeadText::char_values))]
 fn put_char_values<W: Sink>(sink: &mut W, vals: &[u8]) -> Result<(), WriteFailed>
     ensures { Wrote (W.view sink.old) (W.view sink.new) (char_values vals.now) result }
 {

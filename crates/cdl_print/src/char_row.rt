@@ -3,7 +3,7 @@
 ghost use Rattle.std.specs.Prelude.{◌≡◌, ◌+◌, ◌<◌, ◌≤◌, ◌==◌, ◌||◌, ◌&&◌, ◌^◌, true, not, pos, map, length, take, replicate, if◌then◌else◌, OnOk};
 ghost use Rattle.nc_base.specs.Escapes.{escaped_text};
 ghost use Rattle.nc_base.specs.ValueText.{is_char};
-ghost use Rattle.nc_file.specs.Sinks.{Wrote};
+ghost use Rattle.devices.specs.Sinks.{Wrote};
 ghost use Rattle.cdl_print.specs.Leads.{look_at};
 ghost use Rattle.cdl_print.specs.Pieces.{is_literal, IsPiece};
 ghost use Rattle.cdl_print.specs.Printing.{is_one_nul, run_bytes, run_text, PrintsMore, IsAfterRun};
@@ -11,7 +11,7 @@ ghost use Rattle.cdl_print.specs.Printing.{is_one_nul, run_bytes, run_text, Prin
 use crate::layout::Layout;
 use crate::progress::{Progress, row_index_after};
 use crate::string::{piece_len, put_piece};
-use nc_file::{Sink, WriteFailed, put};
+use devices::{Sink, WriteFailed, put};
 
 /// Writes characters of a variable, each with what stands before it.
 pub fn put_char_values<W: Sink>(
@@ -21,7 +21,7 @@ pub fn put_char_values<W: Sink>(
     bytes: &[u8],
 ) -> Result<(), WriteFailed>
     requires character { is_char layout.now.ty ≡ true }
-    requires columns_left { progress.old.position + length bytes.now ≤ layout.now.total }
+    requires within { progress.old.position + length bytes.now ≤ layout.now.total }
     ensures { PrintsMore (look_at layout.now) (map pos bytes.now) progress.old progress.new (W.view sink.old) (W.view sink.new) result }
 {
     let mut rest = bytes;
@@ -54,7 +54,7 @@ fn put_next_run<W: Sink>(
     run: &[u8],
 ) -> Result<(), WriteFailed>
     requires character { is_char layout.now.ty ≡ true }
-    requires columns_left { progress.old.position + length run.now ≤ layout.now.total }
+    requires within { progress.old.position + length run.now ≤ layout.now.total }
     requires some { 0 < length run.now }
     requires piece { IsPiece is_literal run.now }
     requires in_row { 1 < length run.now → progress.old.row_index + length run.now ≤ layout.now.row }
@@ -64,14 +64,14 @@ fn put_next_run<W: Sink>(
 }
 
 /// Writes the next characters with what stands before them.
-#[tactic(auto, using(nc_file::proofs::Writes::writes))]
+#[tactic(auto, using(devices::proofs::Writes::writes))]
 fn put_run<W: Sink>(
     sink: &mut W,
     layout: &Layout<'_>,
     progress: &mut Progress,
     run: &[u8],
 ) -> Result<(), WriteFailed>
-    requires columns_left { progress.old.position + length run.now ≤ layout.now.total }
+    requires within { progress.old.position + length run.now ≤ layout.now.total }
     requires some { 0 < length run.now }
     requires piece { IsPiece is_literal run.now }
     ensures wrote { Wrote (W.view sink.old) (W.view sink.new) (run_bytes (look_at layout.now) progress.old run.now) result }
@@ -91,17 +91,21 @@ fn put_run<W: Sink>(
     Ok(())
 }
 
-/// How many NULs are held back at this place, where so many were before and the last character waits or not.
+/// How many NULs are held back at this index, where `held` were before and the last character waits or not.
 fn held_after(held: u128, row_index: u128, waits: bool) -> u128
     requires { held + 1 < 2 ^ 128 }
     ensures held { result ≡ (if (row_index == 0) || not waits then 0 else held + 1) }
     ensures few { result ≤ held + 1 }
 {
-    if row_index == 0 || !waits { 0 } else { held + 1 }
+    if row_index == 0 || !waits {
+        0
+    } else {
+        held + 1
+    }
 }
 
 /// Writes characters after n NULs that were held back: nothing, where they wait too.
-#[tactic(auto, using(nc_file::proofs::Writes::writes), unfolding(crate::specs::Printing::run_text, nc_base::specs::Escapes::escaped_text))]
+#[tactic(auto, using(devices::proofs::Writes::writes), unfolding(crate::specs::Printing::run_text, nc_base::specs::Escapes::escaped_text))]
 fn put_run_text<W: Sink>(
     sink: &mut W,
     waits: bool,

@@ -2,10 +2,10 @@
 
 ghost use Rattle.std.specs.Prelude.{decimal};
 ghost use Rattle.std.specs.Fmt.{signed_decimal};
-ghost use Rattle.nc_file.specs.Sinks.{Wrote};
+ghost use Rattle.devices.specs.Sinks.{Wrote};
 
+use devices::{Sink, WriteFailed, put};
 use itoa::Buffer;
-use nc_file::{Sink, WriteFailed, put};
 
 /// Writes a number in decimal.
 ///

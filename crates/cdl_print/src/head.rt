@@ -3,15 +3,15 @@
 ghost use Rattle.std.specs.Prelude.{◌≡◌, [], ◌∷◌, codes, decimal};
 ghost use Rattle.nc_base.specs.Bytes.{text};
 ghost use Rattle.nc_base.specs.HeadText.{att_lines, currently_word, dim_extent, dim_line, dim_lines, dimensions_word, dims_text, gatts_text, global_word, head_text, unlimited_word};
-ghost use Rattle.nc_file.specs.Sinks.{Wrote};
+ghost use Rattle.devices.specs.Sinks.{Wrote};
 
 use crate::attribute::put_att_lines;
 use crate::decimal::put_decimal;
 use crate::name::put_name;
 use crate::variable::put_vars;
 use crate::word::Word;
+use devices::{Sink, WriteFailed, put};
 use nc_base::{Att, Dim, Header};
-use nc_file::{Sink, WriteFailed, put};
 
 /// Writes the head of a dump of the dataset with this name, up to `data:`.
 ///
@@ -20,7 +20,7 @@ use nc_file::{Sink, WriteFailed, put};
 /// # Errors
 ///
 /// The sink failed. It took some prefix of the text.
-#[tactic(auto, using(nc_file::proofs::Writes::writes), unfolding(nc_base::specs::HeadText::head_text))]
+#[tactic(auto, using(devices::proofs::Writes::writes), unfolding(nc_base::specs::HeadText::head_text))]
 pub fn put_head<W: Sink>(
     sink: &mut W,
     name: &[u8],
@@ -38,7 +38,7 @@ pub fn put_head<W: Sink>(
 }
 
 /// Writes the dimensions, if there are any.
-#[tactic(auto, using(nc_file::proofs::Writes::writes), unfolding(nc_base::specs::HeadText::dims_text))]
+#[tactic(auto, using(devices::proofs::Writes::writes), unfolding(nc_base::specs::HeadText::dims_text))]
 fn put_dims<W: Sink>(sink: &mut W, dims: &[Dim], records: u64) -> Result<(), WriteFailed>
     ensures { Wrote (W.view sink.old) (W.view sink.new) (dims_text records dims.now) result }
 {
@@ -49,7 +49,7 @@ fn put_dims<W: Sink>(sink: &mut W, dims: &[Dim], records: u64) -> Result<(), Wri
 }
 
 /// Writes the dimensions under their title.
-#[tactic(auto, using(nc_file::proofs::Writes::writes))]
+#[tactic(auto, using(devices::proofs::Writes::writes))]
 fn put_dims_part<W: Sink>(sink: &mut W, dims: &[Dim], records: u64) -> Result<(), WriteFailed>
     ensures { Wrote (W.view sink.old) (W.view sink.new) (text (dimensions_word ∷ dim_lines records dims.now ∷ [])) result }
 {
@@ -58,7 +58,7 @@ fn put_dims_part<W: Sink>(sink: &mut W, dims: &[Dim], records: u64) -> Result<()
 }
 
 /// Writes a line for each dimension.
-#[tactic(auto, using(nc_file::proofs::Writes::writes), unfolding(nc_base::specs::HeadText::dim_lines))]
+#[tactic(auto, using(devices::proofs::Writes::writes), unfolding(nc_base::specs::HeadText::dim_lines))]
 fn put_dim_lines<W: Sink>(sink: &mut W, dims: &[Dim], records: u64) -> Result<(), WriteFailed>
     ensures { Wrote (W.view sink.old) (W.view sink.new) (dim_lines records dims.now) result }
 {
@@ -69,7 +69,7 @@ fn put_dim_lines<W: Sink>(sink: &mut W, dims: &[Dim], records: u64) -> Result<()
 }
 
 /// Writes the line of a dimension.
-#[tactic(auto, using(nc_file::proofs::Writes::writes), unfolding(nc_base::specs::HeadText::dim_line))]
+#[tactic(auto, using(devices::proofs::Writes::writes), unfolding(nc_base::specs::HeadText::dim_line))]
 fn put_dim_line<W: Sink>(sink: &mut W, dim: &Dim, records: u64) -> Result<(), WriteFailed>
     ensures { Wrote (W.view sink.old) (W.view sink.new) (dim_line records dim.now) result }
 {
@@ -92,7 +92,7 @@ fn put_extent<W: Sink>(sink: &mut W, len: u64, records: u64) -> Result<(), Write
 }
 
 /// Writes the length of the record dimension.
-#[tactic(auto, using(nc_file::proofs::Writes::writes))]
+#[tactic(auto, using(devices::proofs::Writes::writes))]
 fn put_records<W: Sink>(sink: &mut W, records: u64) -> Result<(), WriteFailed>
     ensures { Wrote (W.view sink.old) (W.view sink.new) (text (unlimited_word ∷ decimal records ∷ currently_word ∷ [])) result }
 {
@@ -102,7 +102,7 @@ fn put_records<W: Sink>(sink: &mut W, records: u64) -> Result<(), WriteFailed>
 }
 
 /// Writes the length of a dimension that is fixed.
-#[tactic(auto, using(nc_file::proofs::Writes::writes))]
+#[tactic(auto, using(devices::proofs::Writes::writes))]
 fn put_length<W: Sink>(sink: &mut W, len: u64) -> Result<(), WriteFailed>
     ensures { Wrote (W.view sink.old) (W.view sink.new) (text (decimal len ∷ codes " ;\n" ∷ [])) result }
 {
@@ -111,7 +111,7 @@ fn put_length<W: Sink>(sink: &mut W, len: u64) -> Result<(), WriteFailed>
 }
 
 /// Writes the global attributes, if there are any.
-#[tactic(auto, using(nc_file::proofs::Writes::writes), unfolding(nc_base::specs::HeadText::gatts_text))]
+#[tactic(auto, using(devices::proofs::Writes::writes), unfolding(nc_base::specs::HeadText::gatts_text))]
 fn put_gatts<W: Sink>(sink: &mut W, gatts: &[Att]) -> Result<(), WriteFailed>
     ensures { Wrote (W.view sink.old) (W.view sink.new) (gatts_text gatts.now) result }
 {
@@ -122,7 +122,7 @@ fn put_gatts<W: Sink>(sink: &mut W, gatts: &[Att]) -> Result<(), WriteFailed>
 }
 
 /// Writes the global attributes under their title.
-#[tactic(auto, using(nc_file::proofs::Writes::writes, crate::proofs::Pieces::nameless))]
+#[tactic(auto, using(devices::proofs::Writes::writes, crate::proofs::Pieces::nameless))]
 fn put_gatts_part<W: Sink>(sink: &mut W, gatts: &[Att]) -> Result<(), WriteFailed>
     ensures { Wrote (W.view sink.old) (W.view sink.new) (text (global_word ∷ att_lines [] gatts.now ∷ [])) result }
 {

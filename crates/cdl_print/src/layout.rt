@@ -9,7 +9,7 @@ ghost use Rattle.cdl_print.specs.Leads.{look_at, next_char_lead, next_gap, next_
 use crate::lead::{Gap, Lead};
 use crate::progress::Progress;
 use itoa::Buffer;
-use nc_base::{Dim, Header, NcType, Var, dim_len, fill_of, prints_fill, has_records, value_count};
+use nc_base::{Dim, Header, NcType, Var, dim_len, fill_of, has_records, prints_fill, value_count};
 
 /// All that the text of a variable's values depends on, but for the values.
 #[derive(Clone, Copy)]
@@ -113,7 +113,7 @@ impl Layout<'_> {
     /// What stands before the next number, whose text has `len` bytes.
     pub fn number_gap(&self, progress: &Progress, len: usize) -> Gap
         requires short { len ≤ 40 }
-        requires columns_left { progress.now.position < self.now.total }
+        requires within { progress.now.position < self.now.total }
         ensures { result ≡ next_gap (look_at self.now) progress.now len }
     {
         let lead = self.number_lead(progress);

@@ -1,6 +1,6 @@
 //! CDL, the text form of netCDF, as it is printed: names, attributes, the head of a dump and values.
 //!
-//! Each function writes a text to a [`Sink`](nc_file::Sink), from the prefix on and without memory of its own, and
+//! Each function writes a text to a [`Sink`](devices::Sink), from the prefix on and without memory of its own, and
 //! stops at the sink's first failure.
 #![tactic(auto)]
 

@@ -4,10 +4,10 @@ ghost use Rattle.std.specs.Prelude.{◌≡◌, ◌<◌, ◌||◌, max, length};
 ghost use Rattle.std.specs.List.{flat_map, list_any, prefix_len};
 ghost use Rattle.std.specs.Str.{bytes_eq};
 ghost use Rattle.nc_base.specs.Escapes.{begins_with_digit_or_mark, escaped_in_name, escaped_name, is_name_mark, is_plain, is_reserved};
-ghost use Rattle.nc_file.specs.Sinks.{Wrote};
+ghost use Rattle.devices.specs.Sinks.{Wrote};
 ghost use Rattle.cdl_print.specs.Pieces.{prefix_escape, IsPiece};
 
-use nc_file::{Sink, WriteFailed, put};
+use devices::{Sink, WriteFailed, put};
 
 /// The words of CDL that name nothing.
 const RESERVED_WORDS: [&[u8]; 20] = [
@@ -41,7 +41,7 @@ const RESERVED_WORDS: [&[u8]; 20] = [
 /// # Errors
 ///
 /// The sink failed. It took some prefix of the text.
-#[tactic(auto, using(nc_file::proofs::Writes::writes), unfolding(nc_base::specs::Escapes::escaped_name, crate::specs::Pieces::prefix_escape))]
+#[tactic(auto, using(devices::proofs::Writes::writes), unfolding(nc_base::specs::Escapes::escaped_name, crate::specs::Pieces::prefix_escape))]
 pub fn put_name<W: Sink>(sink: &mut W, name: &[u8]) -> Result<(), WriteFailed>
     ensures { Wrote (W.view sink.old) (W.view sink.new) (escaped_name name.now) result }
 {
@@ -50,7 +50,7 @@ pub fn put_name<W: Sink>(sink: &mut W, name: &[u8]) -> Result<(), WriteFailed>
 }
 
 /// Writes the backslash before a name that could be read as something else.
-#[tactic(auto, using(nc_file::proofs::Writes::writes), unfolding(crate::specs::Pieces::prefix_escape))]
+#[tactic(auto, using(devices::proofs::Writes::writes), unfolding(crate::specs::Pieces::prefix_escape))]
 fn put_prefix_escape<W: Sink>(sink: &mut W, name: &[u8]) -> Result<(), WriteFailed>
     ensures { Wrote (W.view sink.old) (W.view sink.new) (prefix_escape name.now) result }
 {

@@ -5,12 +5,12 @@ ghost use Rattle.std.specs.Fmt.{signed_decimal};
 ghost use Rattle.nc_base.specs.HeadText.{number_values};
 ghost use Rattle.nc_base.specs.Numbers.{number_of};
 ghost use Rattle.nc_base.specs.Types.{number_suffix, size_of};
-ghost use Rattle.nc_file.specs.Sinks.{Wrote};
+ghost use Rattle.devices.specs.Sinks.{Wrote};
 ghost use Rattle.cdl_print.specs.Pieces.{number_text};
 
 use crate::decimal::put_integer;
+use devices::{Sink, WriteFailed, put};
 use nc_base::{NcType, number_of};
-use nc_file::{Sink, WriteFailed, put};
 
 /// Writes the numbers of an attribute, each with the suffix of its type.
 pub fn put_numbers<W: Sink>(sink: &mut W, ty: NcType, vals: &[u8]) -> Result<(), WriteFailed>
@@ -27,7 +27,7 @@ pub fn put_numbers<W: Sink>(sink: &mut W, ty: NcType, vals: &[u8]) -> Result<(),
 }
 
 /// Writes a number, and what stands between it and the next.
-#[tactic(auto, using(nc_file::proofs::Writes::writes), unfolding(crate::specs::Pieces::number_text))]
+#[tactic(auto, using(devices::proofs::Writes::writes), unfolding(crate::specs::Pieces::number_text))]
 fn put_number<W: Sink>(
     sink: &mut W,
     ty: NcType,

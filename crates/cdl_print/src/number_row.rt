@@ -11,9 +11,9 @@ use crate::layout::Layout;
 use crate::lead::{Gap, Lead};
 use crate::progress::{Progress, row_index_after};
 use arrayvec::ArrayVec;
+use devices::{Sink, WriteFailed, put};
 use itoa::Buffer;
 use nc_base::number_of;
-use nc_file::{Sink, WriteFailed, put};
 
 /// How many numbers are written in one piece. Each takes at most 49 bytes: 40 of its own, and 9 that stand before it.
 const AT_ONCE: usize = 20;
@@ -30,7 +30,7 @@ pub fn put_number_values<W: Sink>(
     bytes: &[u8],
 ) -> Result<(), WriteFailed>
     requires number { is_char layout.now.ty ≡ false }
-    requires columns_left { progress.old.position + length (numbers layout.now.ty bytes.now) ≤ layout.now.total }
+    requires within { progress.old.position + length (numbers layout.now.ty bytes.now) ≤ layout.now.total }
     ensures { PrintsMore (look_at layout.now) (numbers layout.now.ty bytes.now) progress.old progress.new (W.view sink.old) (W.view sink.new) result }
 {
     let most = AT_ONCE * layout.ty.size() as usize;
@@ -53,7 +53,7 @@ fn put_few_numbers<W: Sink>(
 ) -> Result<(), WriteFailed>
     requires number { is_char layout.now.ty ≡ false }
     requires few { length (numbers layout.now.ty bytes.now) ≤ 20 }
-    requires columns_left { progress.old.position + length (numbers layout.now.ty bytes.now) ≤ layout.now.total }
+    requires within { progress.old.position + length (numbers layout.now.ty bytes.now) ≤ layout.now.total }
     ensures { PrintsMore (look_at layout.now) (numbers layout.now.ty bytes.now) progress.old progress.new (W.view sink.old) (W.view sink.new) result }
 {
     text.clear();
@@ -65,7 +65,7 @@ fn put_few_numbers<W: Sink>(
 fn gather_numbers(text: &mut Gathered, layout: &Layout<'_>, progress: &mut Progress, bytes: &[u8])
     requires number { is_char layout.now.ty ≡ false }
     requires fits { length text.old.items + 49 * length (numbers layout.now.ty bytes.now) ≤ 1024 }
-    requires columns_left { progress.old.position + length (numbers layout.now.ty bytes.now) ≤ layout.now.total }
+    requires within { progress.old.position + length (numbers layout.now.ty bytes.now) ≤ layout.now.total }
     ensures { PrintedMore (look_at layout.now) (numbers layout.now.ty bytes.now) progress.old progress.new (gathered text.old.items) (gathered text.new.items) }
 {
     let size = layout.ty.size() as usize;
@@ -83,7 +83,7 @@ fn gather_numbers(text: &mut Gathered, layout: &Layout<'_>, progress: &mut Progr
 fn gather_number(text: &mut Gathered, layout: &Layout<'_>, progress: &mut Progress, value: &[u8])
     requires whole { length value.now ≡ size_of layout.now.ty }
     requires fits { length text.old.items + 49 ≤ 1024 }
-    requires columns_left { progress.old.position < layout.now.total }
+    requires within { progress.old.position < layout.now.total }
     ensures text { text.new.items ≡ text.old.items ++ number_bytes (look_at layout.now) progress.old (number_of layout.now.ty value.now) }
     ensures short { length text.new.items ≤ length text.old.items + 49 }
     ensures following { IsAfterNumber (look_at layout.now) progress.old (number_of layout.now.ty value.now) progress.new }

@@ -4,13 +4,13 @@ ghost use Rattle.std.specs.Prelude.{◌≡◌, ◌-◌, ◌++◌, codes, ◌∷�
 ghost use Rattle.nc_base.specs.Bytes.{text};
 ghost use Rattle.nc_base.specs.Escapes.{escaped_name};
 ghost use Rattle.nc_base.specs.ValueText.{column};
-ghost use Rattle.nc_file.specs.Sinks.{Wrote};
+ghost use Rattle.devices.specs.Sinks.{Wrote};
 
 use crate::name::put_name;
-use nc_file::{Sink, WriteFailed, put};
+use devices::{Sink, WriteFailed, put};
 
 /// Writes what stands before the values of the variable with this name.
-#[tactic(auto, using(nc_file::proofs::Writes::writes))]
+#[tactic(auto, using(devices::proofs::Writes::writes))]
 pub fn put_opening<W: Sink>(sink: &mut W, name: &[u8]) -> Result<(), WriteFailed>
     ensures { Wrote (W.view sink.old) (W.view sink.new) (text (codes "\n " ∷ escaped_name name.now ∷ codes " =" ∷ [])) result }
 {

@@ -4,7 +4,7 @@ ghost use Rattle.std.specs.Prelude.{◌≡◌, ◌↔◌, ◌+◌, ◌<◌, ◌�
 ghost use Rattle.nc_base.specs.Headers.{IsSound};
 ghost use Rattle.nc_base.specs.Numbers.{numbers};
 ghost use Rattle.nc_base.specs.ValueText.{look_of, opening, closing};
-ghost use Rattle.nc_file.specs.Sinks.{Wrote};
+ghost use Rattle.devices.specs.Sinks.{Wrote};
 ghost use Rattle.cdl_print.specs.Leads.{look_at};
 ghost use Rattle.cdl_print.specs.Printing.{PrintsMore};
 ghost use Rattle.cdl_print.specs.Printer.{look_in, position_of, has_failed, HasPrinted, Takes, Prints};
@@ -12,10 +12,10 @@ ghost use Rattle.cdl_print.specs.Printer.{look_in, position_of, has_failed, HasP
 use crate::char_row::put_char_values;
 use crate::layout::{Layout, layout_of};
 use crate::number_row::{Gathered, put_number_values};
-use crate::opening::{put_opening, columns_left_after_opening};
+use crate::opening::{columns_left_after_opening, put_opening};
 use crate::progress::Progress;
+use devices::{Sink, WriteFailed, put};
 use nc_base::Header;
-use nc_file::{Sink, WriteFailed, put};
 
 /// Prints the values of one variable.
 ///

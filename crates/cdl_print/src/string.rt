@@ -4,11 +4,11 @@ ghost use Rattle.std.specs.Prelude.{◌≡◌, ◌==◌, max, position};
 ghost use Rattle.std.specs.List.{flat_map, prefix_len};
 ghost use Rattle.nc_base.specs.Escapes.{escaped_in_string, escaped_text};
 ghost use Rattle.nc_base.specs.HeadText.{broken_text};
-ghost use Rattle.nc_file.specs.Sinks.{Wrote};
+ghost use Rattle.devices.specs.Sinks.{Wrote};
 ghost use Rattle.cdl_print.specs.Pieces.{is_literal, IsPiece, line_len, line_text};
 
 use crate::word::Word;
-use nc_file::{Sink, WriteFailed, put};
+use devices::{Sink, WriteFailed, put};
 
 /// Writes the bytes of a string, which is closed and opened again after each line feed but the last byte.
 pub fn put_broken_text<W: Sink>(sink: &mut W, bytes: &[u8]) -> Result<(), WriteFailed>
@@ -42,7 +42,7 @@ fn line_feed(bytes: &[u8]) -> Option<usize>
 }
 
 /// Writes a line of a string, and the break after it.
-#[tactic(auto, using(nc_file::proofs::Writes::writes), unfolding(crate::specs::Pieces::line_text))]
+#[tactic(auto, using(devices::proofs::Writes::writes), unfolding(crate::specs::Pieces::line_text))]
 fn put_line<W: Sink>(sink: &mut W, line: &[u8], is_last: bool) -> Result<(), WriteFailed>
     ensures { Wrote (W.view sink.old) (W.view sink.new) (line_text line.now is_last) result }
 {

@@ -1,6 +1,6 @@
 use super::*;
+use devices::MemSink;
 use nc_base::{Att, Dim, Header, NcType, NumRecs, Sequence, Var, Version};
-use nc_file::MemSink;
 use std::alloc::{AllocError, Global};
 use std::test::*;
 

@@ -1,8 +1,8 @@
 //! Texts of values, for every cutting into calls and in sinks of every length.
 
 use super::*;
+use devices::{Sink, SliceSink, WriteFailed};
 use nc_base::{Att, Dim, Header, NcType, NumRecs, Sequence, Var, Version};
-use nc_file::{Sink, SliceSink, WriteFailed};
 use std::alloc::{AllocError, Global};
 use std::process::Abort;
 use std::test::*;

@@ -5,17 +5,17 @@ ghost use Rattle.nc_base.specs.Bytes.{text};
 ghost use Rattle.nc_base.specs.Escapes.{escaped_name};
 ghost use Rattle.nc_base.specs.HeadText.{dim_name, joined, shape_text, var_lines, variables_word, vars_text};
 ghost use Rattle.nc_base.specs.Types.{type_word};
-ghost use Rattle.nc_file.specs.Sinks.{Wrote};
+ghost use Rattle.devices.specs.Sinks.{Wrote};
 ghost use Rattle.cdl_print.specs.Pieces.{dim_text, var_rows};
 
 use crate::attribute::put_att_lines;
 use crate::name::put_name;
 use crate::word::Word;
+use devices::{Sink, WriteFailed, put};
 use nc_base::{Dim, NcType, Var};
-use nc_file::{Sink, WriteFailed, put};
 
 /// Writes the variables, if there are any.
-#[tactic(auto, using(nc_file::proofs::Writes::writes), unfolding(nc_base::specs::HeadText::vars_text, crate::specs::Pieces::var_rows))]
+#[tactic(auto, using(devices::proofs::Writes::writes), unfolding(nc_base::specs::HeadText::vars_text, crate::specs::Pieces::var_rows))]
 pub fn put_vars<W: Sink>(sink: &mut W, dims: &[Dim], vars: &[Var]) -> Result<(), WriteFailed>
     ensures { Wrote (W.view sink.old) (W.view sink.new) (vars_text dims.now vars.now) result }
 {
@@ -26,7 +26,7 @@ pub fn put_vars<W: Sink>(sink: &mut W, dims: &[Dim], vars: &[Var]) -> Result<(),
 }
 
 /// Writes the variables under their title.
-#[tactic(auto, using(nc_file::proofs::Writes::writes))]
+#[tactic(auto, using(devices::proofs::Writes::writes))]
 fn put_vars_part<W: Sink>(sink: &mut W, dims: &[Dim], vars: &[Var]) -> Result<(), WriteFailed>
     ensures { Wrote (W.view sink.old) (W.view sink.new) (text (variables_word ∷ var_rows dims.now vars.now ∷ [])) result }
 {
@@ -35,7 +35,7 @@ fn put_vars_part<W: Sink>(sink: &mut W, dims: &[Dim], vars: &[Var]) -> Result<()
 }
 
 /// Writes the lines of each variable.
-#[tactic(auto, using(nc_file::proofs::Writes::writes), unfolding(crate::specs::Pieces::var_rows))]
+#[tactic(auto, using(devices::proofs::Writes::writes), unfolding(crate::specs::Pieces::var_rows))]
 fn put_var_rows<W: Sink>(sink: &mut W, dims: &[Dim], vars: &[Var]) -> Result<(), WriteFailed>
     ensures { Wrote (W.view sink.old) (W.view sink.new) (var_rows dims.now vars.now) result }
 {
@@ -46,7 +46,7 @@ fn put_var_rows<W: Sink>(sink: &mut W, dims: &[Dim], vars: &[Var]) -> Result<(),
 }
 
 /// Writes the lines of a variable: its declaration and its attributes.
-#[tactic(auto, using(nc_file::proofs::Writes::writes), unfolding(nc_base::specs::HeadText::var_lines))]
+#[tactic(auto, using(devices::proofs::Writes::writes), unfolding(nc_base::specs::HeadText::var_lines))]
 fn put_var_lines<W: Sink>(sink: &mut W, dims: &[Dim], var: &Var) -> Result<(), WriteFailed>
     ensures { Wrote (W.view sink.old) (W.view sink.new) (var_lines dims.now var.now) result }
 {
@@ -57,7 +57,7 @@ fn put_var_lines<W: Sink>(sink: &mut W, dims: &[Dim], var: &Var) -> Result<(), W
 }
 
 /// Writes the type and the name of a variable.
-#[tactic(auto, using(nc_file::proofs::Writes::writes))]
+#[tactic(auto, using(devices::proofs::Writes::writes))]
 fn put_declared<W: Sink>(sink: &mut W, ty: NcType, name: &[u8]) -> Result<(), WriteFailed>
     ensures { Wrote (W.view sink.old) (W.view sink.new) (text (codes "\t" ∷ type_word ty ∷ codes " " ∷ escaped_name name.now ∷ [])) result }
 {
@@ -68,7 +68,7 @@ fn put_declared<W: Sink>(sink: &mut W, ty: NcType, name: &[u8]) -> Result<(), Wr
 }
 
 /// Writes the shape of a variable, if it has dimensions.
-#[tactic(auto, using(nc_file::proofs::Writes::writes), unfolding(nc_base::specs::HeadText::shape_text))]
+#[tactic(auto, using(devices::proofs::Writes::writes), unfolding(nc_base::specs::HeadText::shape_text))]
 fn put_shape<W: Sink>(sink: &mut W, dims: &[Dim], dimids: &[u64]) -> Result<(), WriteFailed>
     ensures { Wrote (W.view sink.old) (W.view sink.new) (shape_text dims.now dimids.now) result }
 {
@@ -79,7 +79,7 @@ fn put_shape<W: Sink>(sink: &mut W, dims: &[Dim], dimids: &[u64]) -> Result<(), 
 }
 
 /// Writes the dimensions of a shape in parentheses.
-#[tactic(auto, using(nc_file::proofs::Writes::writes))]
+#[tactic(auto, using(devices::proofs::Writes::writes))]
 fn put_dim_list<W: Sink>(sink: &mut W, dims: &[Dim], dimids: &[u64]) -> Result<(), WriteFailed>
     ensures { Wrote (W.view sink.old) (W.view sink.new) (text (codes "(" ∷ joined (map (dim_name dims.now) dimids.now) ∷ codes ")" ∷ [])) result }
 {
@@ -101,7 +101,7 @@ fn put_dim_names<W: Sink>(sink: &mut W, dims: &[Dim], dimids: &[u64]) -> Result<
 }
 
 /// Writes the name of a dimension, and what stands between it and the next.
-#[tactic(auto, using(nc_file::proofs::Writes::writes), unfolding(crate::specs::Pieces::dim_text))]
+#[tactic(auto, using(devices::proofs::Writes::writes), unfolding(crate::specs::Pieces::dim_text))]
 fn put_dim_name<W: Sink>(
     sink: &mut W,
     dims: &[Dim],
@@ -118,7 +118,7 @@ fn put_dim_name<W: Sink>(
 }
 
 /// Writes the name of the dimension with this place in the header's list; nothing, if there is none.
-#[tactic(auto, using(nc_file::proofs::Writes::writes))]
+#[tactic(auto, using(devices::proofs::Writes::writes))]
 fn put_name_of<W: Sink>(sink: &mut W, dims: &[Dim], dimid: u64) -> Result<(), WriteFailed>
     ensures { Wrote (W.view sink.old) (W.view sink.new) (dim_name dims.now dimid) result }
 {

@@ -107,7 +107,7 @@ dimensions v _ = None
 abbrev pub inner : List ℕ → List ℕ
 inner bytes = take (length bytes - 2) (drop 1 bytes)
 
--- CONST, or with blanks VALUE
+-- CONST, or where `_` is taken VALUE
 abbrev pub constant_of : Version → Bool → Lexeme → TokenKind → Option Value
 constant_of v takes_fill l kinds.Number = option_map Number (numeral v l.bytes)
 constant_of v takes_fill l kinds.Text = Some (Characters (stands (inner l.bytes)))

@@ -6,13 +6,13 @@
 #![tactic(auto)]
 
 mod fault;
-mod scan;
 mod piece;
+mod scan;
 mod section;
 mod token;
 
 pub use fault::{CdlFault, CdlKind};
-pub use scan::{Character, Scanned};
 pub use piece::{CutState, Role, Step};
+pub use scan::{Character, Scanned};
 pub use section::Section;
 pub use token::{Token, TokenKind};

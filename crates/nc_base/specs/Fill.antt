@@ -32,7 +32,7 @@ fill_or_default ty (Some fill) = fill
 unfoldable pub fill_value : Var → ℤ
 fill_value var = fill_or_default var.ty (own_fill var)
 
--- characters never print as blanks, and numbers of one byte only where the variable has a fill value of its own
+-- characters never print as `_`, and numbers of one byte only where the variable has a fill value of its own
 abbrev pub prints_fill : NcType → Bool → Bool
 prints_fill Char has_own = false
 prints_fill Byte has_own = has_own

@@ -109,7 +109,7 @@ record_of is_sole dims r (var ∷ vars) (array ∷ arrays) =
     ++ record_of is_sole dims r vars arrays
 record_of is_sole dims r vars arrays = []
 
--- how many records a header tells
+-- the number of records in a header
 abbrev pub known_records : NumRecs → ℕ
 known_records (Known n) = n
 known_records Streaming = 0

@@ -81,7 +81,7 @@ abbrev pub least_begin : Var → List Var → ℕ
 least_begin var [] = var.begin_at
 least_begin var (next ∷ others) = min var.begin_at (least_begin next others)
 
--- How many whole records of this size stand between the least begin of these variables and the end of a file of so many
+-- How many whole records of this size stand between the least begin of these variables and the end of a file of this number of
 -- bytes: none where there are no such variables, or where the file ends before.
 abbrev pub records_between : ℕ → List Var → ℕ → ℕ
 records_between size [] file_len = 0

@@ -53,7 +53,7 @@ pub fn rec_size(header: &Header) -> Option<u64>
     }
 }
 
-/// The number of records of a file of `len` bytes with this header: the one that the header tells, or else (`STREAMING`)
+/// The number of records of a file of `len` bytes with this header: the one in the header, or else (`STREAMING`)
 /// how many whole records stand between the least offset of its record variables and the file's end. It is 0 where there
 /// are no record variables, or where the file ends before (`numrecs` of the NetCDF Classic Format Specification). The
 /// header is to be sound; of another the number says nothing.

@@ -52,7 +52,7 @@ fn is_sound_numrecs(version: Version, numrecs: NumRecs) -> bool
     }
 }
 
-/// Says whether the version can count so many.
+/// Says whether the version can count this number of elements.
 fn is_countable(version: Version, count: usize) -> bool
     ensures { IsTrue result ↔ (count < count_limit version) }
 {

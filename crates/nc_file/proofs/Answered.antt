@@ -12,7 +12,7 @@ use Rattle.nc_base.proofs.SpelledWeight.{spelled-weight}
 use Rattle.nc_file.specs.declared.head_fault.HeadFault.{HeadFault}
 use Rattle.nc_file.specs.declared.head_fault.HeadFault.TheVariants.{OutOfMemory, ReadFailed, Format}
 use Rattle.nc_file.specs.declared.window.Window.{Window}
-use Rattle.nc_file.specs.Sources.{SourceView}
+use Rattle.devices.specs.Sources.{SourceView}
 use Rattle.nc_file.specs.Reading.{Outcome, Reads, left_over, header_at}
 use Rattle.nc_file.specs.Window.{State, state, left, Kept, ReadPart}
 use Rattle.nc_file.specs.Answers.{EndsAt, header_end, fault_end, ReadUpTo, IsInterrupted, Answers, HasAnswered}

@@ -1,4 +1,3 @@
-pub mod Writes
 pub mod Parts
 pub mod Loops
 pub mod Chunks

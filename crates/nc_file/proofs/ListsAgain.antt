@@ -189,9 +189,9 @@ unfolding dim_at ◌>>=◌ stop
 dim-stops-again v before bytes fault rest (in_dim_name f r s) = then-err _ (name-stops-again v bytes f r s)
 dim-stops-again v before bytes fault rest (in_dim_len name after_name f r named s) =
     then-ok _ (name-again v bytes name after_name named) (then-err _ (count-stops-again v after_name f r s))
-dim-stops-again v before bytes fault rest (second_record_dim name after_name r named count view) =
+dim-stops-again v before bytes fault rest (second_record_dim name after_name r named count record_dim_before) =
     then-ok _ (name-again v bytes name after_name named)
-    (then-ok _ (count-again v after_name 0 r count) (if-so _ _ (ap (λ (b : Bool). b && true) view) refl))
+    (then-ok _ (count-again v after_name 0 r count) (if-so _ _ (ap (λ (b : Bool). b && true) record_dim_before) refl))
 
 -- a spelled list of dimensions is read
 pub dims-again : (v : Version) (bytes : List ℕ) (dims : List Dim) (rest : List ℕ) → SpellsList v dimension_tag (SpellsDim v) bytes dims rest → (dim_list_at v).run bytes ≡ Ok (dims, rest)

@@ -6,14 +6,14 @@ use Rattle.nc_base.specs.declared.header.Att.{Att}
 use Rattle.nc_base.specs.declared.header.Dim.{Dim}
 use Rattle.nc_base.specs.declared.header.Var.{Var}
 use Rattle.nc_base.specs.declared.version.Version.{Version}
-use Rattle.nc_file.specs.Sources.{SourceView}
+use Rattle.devices.specs.Sources.{SourceView}
 use Rattle.nc_file.specs.declared.window.Window.{Window}
 use Rattle.nc_file.specs.Reading.{Part, ◌>>=◌, done, left_over, next-shorter, byte_at, skip_at, stop, each_at, dim_at, dims_at, att_at, atts_at, dimid_at, dimids_at, var_at, vars_at}
 use Rattle.nc_file.specs.Window.{state, left, Kept}
 use Rattle.nc_file.proofs.Parts.{run-bind, run-done, left_over-ok, left_over-err}
 
 -- What is still to be read from here gives what all of it gives from the start.
-pub record PrintsMore {S A : Type 0} (is_transparent : Bool) (view : S → SourceView) (start now : Window S) (ahead whole : Part A) : Type 0 where
+pub record ReadsOn {S A : Type 0} (is_transparent : Bool) (view : S → SourceView) (start now : Window S) (ahead whole : Part A) : Type 0 where
   pub same_source : now.source.ghost_name ≡ start.source.ghost_name
   pub kept : Kept is_transparent (state view start) (state view now)
   pub failures : (view now.source.now).failures ≡ (view start.source.now).failures
@@ -40,14 +40,14 @@ each-end : {A : Type 0} (element : List A → Part A) (n i : ℕ) (prefix : List
 unfolding each_at
 each-end element n i prefix le = let k : n - i ≡ 0 = omega arith in rw k refl
 
-pub dims-step : (v : Version) (n i : ℕ) (view : Bool) (prefix : List Dim) → i < n
-    → dims_at v (n - i) view prefix ≡ (dim_at v view >>= λ d. dims_at v (n - (i + 1)) (view || (d.len == 0)) (prefix ++ d ∷ []))
+pub dims-step : (v : Version) (n i : ℕ) (record_dim_before : Bool) (prefix : List Dim) → i < n
+    → dims_at v (n - i) record_dim_before prefix ≡ (dim_at v record_dim_before >>= λ d. dims_at v (n - (i + 1)) (record_dim_before || (d.len == 0)) (prefix ++ d ∷ []))
 unfolding dims_at
-dims-step v n i view prefix lt = let k : n - i ≡ suc (n - (i + 1)) = omega arith in rw k refl
+dims-step v n i record_dim_before prefix lt = let k : n - i ≡ suc (n - (i + 1)) = omega arith in rw k refl
 
-pub dims-end : (v : Version) (n i : ℕ) (view : Bool) (prefix : List Dim) → n ≤ i → dims_at v (n - i) view prefix ≡ done prefix
+pub dims-end : (v : Version) (n i : ℕ) (record_dim_before : Bool) (prefix : List Dim) → n ≤ i → dims_at v (n - i) record_dim_before prefix ≡ done prefix
 unfolding dims_at
-dims-end v n i view prefix le = let k : n - i ≡ 0 = omega arith in rw k refl
+dims-end v n i record_dim_before prefix le = let k : n - i ≡ 0 = omega arith in rw k refl
 
 pub ruleset dims = (dims-step, dims-end, run-bind, run-done, left_over-ok, left_over-err, next-shorter)
 

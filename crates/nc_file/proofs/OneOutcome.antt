@@ -35,7 +35,7 @@ same-read h k rest more e =
     let both : (h, rest) ≡ (k, more) = cc in
     (ap (λ (x : Header × List ℕ). x.0) both, ap (λ (x : Header × List ℕ). x.1) both)
 
--- a fault of the format is told by one fault of the reading
+-- a fault of the format is that of one fault of the reading
 same-format : (fault other : FormatFault) → Format fault ≡ Format other → fault ≡ other
 same-format fault other e = cc
 

@@ -22,7 +22,7 @@ use Rattle.nc_base.specs.Sizes.{is_record_dim, has_records, slab_of, slab_limit,
 use Rattle.nc_file.specs.declared.sized_var.SizedVar.{SizedVar}
 use Rattle.nc_base.specs.Names.{is_name}
 use Rattle.nc_base.specs.Grammar.{dimension_tag, attribute_tag, variable_tag}
-use Rattle.nc_file.specs.Sources.{SourceView, HasFailed}
+use Rattle.devices.specs.Sources.{SourceView, HasFailed}
 use Rattle.nc_file.specs.declared.head_fault.HeadFault.{HeadFault}
 use Rattle.nc_file.specs.declared.head_fault.HeadFault.TheVariants.{OutOfMemory, ReadFailed, Format}
 
@@ -206,17 +206,17 @@ list_at v tag element = do
 
 -- a dimension, where the record dimension stands before it or not
 unfoldable pub dim_at : Version → Bool → Part Dim
-dim_at v view = do
+dim_at v record_dim_before = do
   name ← name_at v
   len ← count_at v
-  if view && (len == 0) then wrong TwoRecordDims else done (record { name = name; len = len })
+  if record_dim_before && (len == 0) then wrong TwoRecordDims else done (record { name = name; len = len })
 
 -- n dimensions, where the record dimension stands before them or not, after those that were read before
 unfoldable pub dims_at : Version → ℕ → Bool → List Dim → Part (List Dim)
-dims_at v zero view before = done before
-dims_at v (suc n) view before = do
-  dim ← dim_at v view
-  dims_at v n (view || (dim.len == 0)) (before ++ dim ∷ [])
+dims_at v zero record_dim_before before = done before
+dims_at v (suc n) record_dim_before before = do
+  dim ← dim_at v record_dim_before
+  dims_at v n (record_dim_before || (dim.len == 0)) (before ++ dim ∷ [])
 
 -- an attribute
 unfoldable pub att_at : Version → Part Att

@@ -2,7 +2,7 @@
 use Rattle.std.specs.Prelude.{◌≡◌, ℕ, ◌+◌, ◌<◌, ◌≤◌, Bool, List, [], ◌++◌, length, take, drop, MatchBool, Result, Ok, Err}
 use Rattle.std.specs.Bool.{OnTrue}
 use Rattle.nc_base.specs.declared.fault.FormatFault.TheVariants.{HeaderTruncated}
-use Rattle.nc_file.specs.Sources.{SourceView}
+use Rattle.devices.specs.Sources.{SourceView}
 use Rattle.nc_file.specs.declared.head_fault.HeadFault.{HeadFault}
 use Rattle.nc_file.specs.declared.head_fault.HeadFault.TheVariants.{ReadFailed, Format}
 use Rattle.nc_file.specs.Reading.{Part, Reads, Caused, is_of_bytes}

@@ -131,14 +131,14 @@ fn fills_slices(rt: &impl Abort, step: usize)
     requires { 1 ≤ step }
 {
     let text = b"abcdefghij";
-    for buffer_len in 0..11 {
+    for len in 0..11 {
         let mut space = [0; 10];
-        let mut sink = SliceSink::new(&mut space[..buffer_len], step);
-        let want = if buffer_len < 10 { Err(WriteFailed) } else { Ok(()) };
-        assert_eq!(rt; put(&mut sink, text), want, "at {room}");
-        assert_eq!(rt; sink.taken(), &text[..buffer_len], "at {room}");
-        assert_eq!(rt; sink.write_some(b""), Ok(0), "at {room}");
-        assert_eq!(rt; sink.write_some(b"k"), Err(SinkFailed), "at {room}");
+        let mut sink = SliceSink::new(&mut space[..len], step);
+        let want = if len < 10 { Err(WriteFailed) } else { Ok(()) };
+        assert_eq!(rt; put(&mut sink, text), want, "at {len}");
+        assert_eq!(rt; sink.taken(), &text[..len], "at {len}");
+        assert_eq!(rt; sink.write_some(b""), Ok(0), "at {len}");
+        assert_eq!(rt; sink.write_some(b"k"), Err(SinkFailed), "at {len}");
     }
 }
 

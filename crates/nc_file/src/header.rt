@@ -7,8 +7,8 @@ ghost use Rattle.nc_file.specs.Reading.{Caused};
 ghost use Rattle.nc_file.specs.Answers.{HasAnswered};
 
 use crate::head_fault::HeadFault;
-use crate::source::Source;
 use crate::window::Window;
+use devices::Source;
 use nc_base::{FormatFault, Header};
 use std::alloc::Global;
 

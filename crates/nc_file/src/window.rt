@@ -7,8 +7,8 @@ ghost use Rattle.nc_file.specs.Reading.{Caused, byte_at, u32_at, u64_at, number_
 ghost use Rattle.nc_file.specs.Window.{state, left, Opened, Kept, Refilled, ReadPart, ReadNext, Filled, Ready};
 
 use crate::head_fault::HeadFault;
-use crate::source::Source;
 use byteorder::{BigEndian, ByteOrder};
+use devices::Source;
 use nc_base::{FormatFault, Sequence, Version};
 use std::alloc::Global;
 

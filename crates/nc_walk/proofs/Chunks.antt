@@ -9,7 +9,7 @@ use Rattle.std.proofs.Math.Nat.{mul-le-mul_right, lt_of_mul-lt-mul_right}
 use Rattle.std.proofs.Math.Seq.{take-add}
 use borrow.Rule.Slice.PartMut.{put_mid}
 use Rattle.nc_base.specs.Places.{bytes_at}
-use Rattle.nc_file.specs.Sources.{SourceView, after, HasFailed}
+use Rattle.devices.specs.Sources.{SourceView, after, HasFailed}
 use Rattle.nc_walk.specs.declared.slabs.Slabs.{Slabs}
 use Rattle.nc_walk.specs.declared.cursor.Cursor.{Cursor}
 use Rattle.nc_walk.specs.declared.chunk.Chunk.{Chunk}

@@ -4,7 +4,7 @@ use Rattle.std.specs.Bool.{OnTrue}
 use Rattle.std.proofs.lemmas.List.{drop-drop, take-append-le}
 use Rattle.std.proofs.Math.Seq.{take-add, take-append-add, take-append_seam}
 use borrow.Rule.Slice.PartMut.{put_mid, post_of}
-use Rattle.nc_file.specs.Sources.{SourceView, after, BytesRead}
+use Rattle.devices.specs.Sources.{SourceView, after, BytesRead}
 
 -- n bytes from this cursor on stand at the start of the slice
 pub record Filling (is_transparent : Bool) (old new : SourceView) (at got : ℕ) (xs : List ℕ) : Type 0 where

@@ -5,7 +5,7 @@ use Rattle.std.specs.List.{concat}
 use Rattle.std.proofs.lemmas.List.{take-append-le}
 use Rattle.std.proofs.Math.Nat.{mul-div_cancel, mul-le-mul_right, le_of_mul-le-mul_right, div-mul-le_self}
 use Rattle.nc_base.specs.Places.{bytes_at}
-use Rattle.nc_file.specs.Sources.{SourceView, after}
+use Rattle.devices.specs.Sources.{SourceView, after}
 use Rattle.nc_walk.specs.declared.fault.WalkFault.{WalkFault}
 use Rattle.nc_walk.specs.declared.slabs.Slabs.{Slabs}
 use Rattle.nc_walk.specs.Fills.{Filled, FailedWhileFilling}

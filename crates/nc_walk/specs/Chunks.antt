@@ -1,6 +1,6 @@
 -- What collecting the values of one slab after the other has done.
 use Rattle.std.specs.Prelude.{◌≡◌, ℕ, ◌+◌, ◌*◌, ◌<◌, ◌≤◌, Bool, List, length, take, Result, Ok, Err}
-use Rattle.nc_file.specs.Sources.{SourceView}
+use Rattle.devices.specs.Sources.{SourceView}
 use Rattle.nc_walk.specs.declared.fault.WalkFault.{WalkFault}
 use Rattle.nc_walk.specs.declared.fault.WalkFault.TheVariants.{ReadFailed, DataTruncated}
 use Rattle.nc_walk.specs.declared.slabs.Slabs.{Slabs}

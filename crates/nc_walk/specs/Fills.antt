@@ -1,7 +1,7 @@
 -- What reading on until a slice is full has done.
 use Rattle.std.specs.Prelude.{◌≡◌, ℕ, ◌≤◌, Bool, List, length, take, drop, Result, Ok, Err}
 use Rattle.std.specs.Bool.{OnTrue}
-use Rattle.nc_file.specs.Sources.{SourceView, after, Failed}
+use Rattle.devices.specs.Sources.{SourceView, after, Failed}
 
 -- n bytes from this cursor on stand at the start of the slice; where the source is transparent, they fill it
 pub record Filled (is_transparent : Bool) (old new : SourceView) (at : ℕ) (following : List ℕ) (n : ℕ) : Type 0 where

@@ -9,7 +9,7 @@ use Rattle.nc_base.specs.Types.{size_of}
 use Rattle.nc_base.specs.Numbers.{numbers}
 use Rattle.nc_base.specs.Headers.{value_count}
 use Rattle.nc_base.specs.Places.{value_offsets, stored_bytes, stored_values, first_missing}
-use Rattle.nc_file.specs.Sources.{SourceView, after, HasFailed}
+use Rattle.devices.specs.Sources.{SourceView, after, HasFailed}
 use Rattle.nc_walk.specs.declared.fault.WalkFault.TheVariants.{ReadFailed, DataTruncated}
 use Rattle.nc_walk.specs.Walks.{WalkView, Answer, IsWhole, count}
 

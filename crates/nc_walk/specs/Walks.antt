@@ -9,7 +9,7 @@ use Rattle.nc_base.specs.declared.header.Var.{Var}
 use Rattle.nc_base.specs.Types.{size_of}
 use Rattle.nc_base.specs.Headers.{value_count}
 use Rattle.nc_base.specs.Places.{bytes_at, value_offsets}
-use Rattle.nc_file.specs.Sources.{SourceView, after}
+use Rattle.devices.specs.Sources.{SourceView, after}
 use Rattle.nc_walk.specs.declared.fault.WalkFault.{WalkFault}
 use Rattle.nc_walk.specs.declared.fault.WalkFault.TheVariants.{ReadFailed, DataTruncated}
 use Rattle.nc_walk.specs.declared.slabs.Slabs.{Slabs}
@@ -59,7 +59,7 @@ counted size (Ok (Some chunk)) = count size chunk
 counted size (Ok None) = 0
 counted size (Err fault) = 0
 
--- the fault that an answer tells
+-- the fault of an answer
 abbrev pub fault_of : Answer → Option WalkFault
 fault_of (Ok answer) = None
 fault_of (Err fault) = Some fault

@@ -4,11 +4,11 @@ ghost use Rattle.std.specs.Prelude.{◌*◌, ◌<◌, ◌≤◌, ◌↔◌, IsTr
 ghost use Rattle.nc_walk.specs.Slabs.{total, number_at, IsSized, IsCursor};
 ghost use Rattle.nc_walk.specs.Chunks.{Collects, Continues, ReadToSlabEnd};
 
-use crate::fault::WalkFault;
-use crate::slabs::Slabs;
 use crate::cursor::Cursor;
+use crate::fault::WalkFault;
 use crate::reading::read_values;
-use nc_file::Source;
+use crate::slabs::Slabs;
+use devices::Source;
 
 /// Values that stand before a slice.
 #[derive(Clone, Copy)]

@@ -3,7 +3,7 @@
 ghost use Rattle.std.specs.Prelude.{◌≡◌, ◌+◌, ◌*◌, ◌<◌, ◌≤◌, ◌^◌, length};
 ghost use Rattle.nc_walk.specs.Fills.{Fills};
 
-use nc_file::{Source, SourceFailed};
+use devices::{Source, SourceFailed};
 
 /// Reads the bytes from the offset `at` on until the slice is full, or the source says that it has ended, and gives their
 /// number. A source that is transparent fills the slice.

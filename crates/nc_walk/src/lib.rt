@@ -4,17 +4,14 @@
 //! caller's buffer. It reads no byte that isn't a byte of a value, and none twice for the same value, and it takes no memory.
 #![tactic(auto)]
 
+mod chunk;
+mod cursor;
 mod fault;
 mod fill;
 pub mod laws;
-mod slabs;
-mod chunk;
-mod cursor;
 mod reading;
+mod slabs;
 mod walk;
 
 pub use fault::WalkFault;
 pub use walk::Walk;
-
-#[cfg(test)]
-mod tests;

@@ -4,11 +4,11 @@ ghost use Rattle.std.specs.Prelude.{◌≡◌, ◌+◌, ◌*◌, ◌<◌, ◌≤
 ghost use Rattle.nc_walk.specs.Slabs.{total, number_at, IsSized};
 ghost use Rattle.nc_walk.specs.Walks.{standing, ReadValues, Reads};
 
+use crate::cursor::Cursor;
 use crate::fault::WalkFault;
 use crate::fill::fill;
 use crate::slabs::Slabs;
-use crate::cursor::Cursor;
-use nc_file::Source;
+use devices::Source;
 
 /// Reads the values from this cursor on into the start of the slice, as many as lie side by side and at most `capacity`, and gives
 /// their number, which isn't 0.

@@ -7,12 +7,12 @@ ghost use Rattle.nc_base.specs.Headers.{IsSound};
 ghost use Rattle.nc_walk.specs.Walks.{Starts, Steps, Repeats, Advanced, Rests, lent, as_answer};
 ghost use Rattle.nc_walk.specs.contracts.walk.Walk.{the_row};
 
-use crate::fault::WalkFault;
-use crate::slabs::Slabs;
 use crate::chunk::read_chunk;
 use crate::cursor::Cursor;
+use crate::fault::WalkFault;
+use crate::slabs::Slabs;
+use devices::Source;
 use nc_base::Header;
-use nc_file::Source;
 use std::marker::Model;
 
 /// A walk over the values of one variable, through a caller's buffer of at least 16 bytes.

@@ -1,6 +1,6 @@
 -- Whose failure it was, where one call follows another.
 use Rattle.std.proofs.Common.{◌≡◌, subst, ◌∙◌, Err}
-use Rattle.nc_file.specs.Sinks.{SinkView, HasFailed}
+use Rattle.devices.specs.Sinks.{SinkView, HasFailed}
 use Rattle.ncdump.specs.declared.fault.DumpFault.{DumpFault}
 use Rattle.ncdump.specs.declared.fault.DumpFault.TheVariants.{OutOfMemory, ReadFailed, WriteFailed, Format, NoSuchVariable, DataTruncated}
 use Rattle.ncdump.specs.Shows.{ShowsOrFails}

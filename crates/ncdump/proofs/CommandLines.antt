@@ -22,7 +22,7 @@ use Rattle.ncdump.specs.declared.command_line.OptFault.TheVariants.{OutOfMemory,
 use Rattle.ncdump.specs.declared.options.DumpOptions.{DumpOptions}
 use Rattle.ncdump.specs.CommandLine.{Answers, Asked, asked_by, asked_in, ncdump, unless, width_of}
 
--- the flag that a text tells, read as a `bool`
+-- the flag that a text says, read as a `bool`
 pub flag_read : (E : Type 0) (text : Option (List ℕ)) (r : Option Bool) → (text ≡ None → r ≡ None)
     → ((t : List ℕ) → text ≡ Some t → ReadsOne (ParsesBool {E = E}) t r)
     → unwrap_or r false ≡ option_map_or (λ (value : List ℕ). bytes_eq value (codes "true")) text false
@@ -87,7 +87,7 @@ pub asked_by_refused : (words : List (List ℕ)) (kind : ErrorKind) → IsAmong 
 unfolding asked_by
 asked_by_refused words kind among = unless_some (fault_of ncdump words) kind (asked_in (matches_of ncdump words)) among
 
--- the fault that tells an error of this kind
+-- the fault for an error of this kind
 abbrev pub TellsKind : ErrorKind → OptFault → Type 0
 TellsKind kind fault = (kind ≡ kinds.OutOfMemory → fault ≡ OutOfMemory) × (kind ≢ kinds.OutOfMemory → fault ≡ Usage)
 

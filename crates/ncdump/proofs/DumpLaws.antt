@@ -6,8 +6,8 @@ use Rattle.nc_base.specs.declared.header.Header.{Header}
 use Rattle.nc_base.specs.Grammar.{SpellsHeader}
 use Rattle.nc_base.specs.Sizes.{record_count}
 use Rattle.nc_base.specs.Dump.{Options, Section, closing_word, KnowsChosen, selection_of, dump_text, has_values, IsDump, stopped, unknown, shown}
-use Rattle.nc_file.specs.Sources.{SourceView}
-use Rattle.nc_file.specs.Sinks.{SinkView}
+use Rattle.devices.specs.Sources.{SourceView}
+use Rattle.devices.specs.Sinks.{SinkView}
 use Rattle.nc_file.specs.Answers.{IsRead, Answers, HasAnswered, header_end, fault_end}
 use Rattle.nc_file.specs.declared.head_fault.HeadFault.{HeadFault}
 use Rattle.nc_file.specs.declared.head_fault.HeadFault.TheVariants as head

@@ -3,8 +3,8 @@ use Rattle.std.proofs.Common.{◌≡◌, ℕ, ◌≤◌, true, List, [], ◌++�
 use Rattle.std.specs.Prelude.{is_some, option_map, unwrap_or}
 use Rattle.std.proofs.lemmas.Bool.{OnTrue_at, OnTrue_from}
 use Rattle.std.proofs.lemmas.List.{append-nil}
-use Rattle.nc_file.specs.Sinks.{SinkView, append, count, is_transparent, IsPrefixIf, IsCut, StoppedShort, Appended, FailedPartway}
-use Rattle.nc_file.proofs.Writes.{append-++, cut-append, split_prefix, transparent-append}
+use Rattle.devices.specs.Sinks.{SinkView, append, count, is_transparent, IsPrefixIf, IsCut, StoppedShort, Appended, FailedPartway}
+use Rattle.devices.proofs.Writes.{append-++, cut-append, split_prefix, transparent-append}
 use Rattle.ncdump.specs.Shows.{Holds}
 
 prefix-trans : (a b c : Option (List ℕ)) → IsPrefixIf a b → IsPrefixIf b c → IsPrefixIf a c
@@ -33,7 +33,7 @@ prefix-transparent (Some x) None f transparent = absurd f
 prefix-transparent None (Some y) f transparent = absurd f
 prefix-transparent None None f transparent = transparent
 
--- what holds a text is told, if what held nothing of it was
+-- what holds a text is transparent, if what held nothing of it was
 holds-transparent : (old new : SinkView) (bytes : List ℕ) → is_transparent old ≡ true → IsCut (append old bytes) new → is_transparent new ≡ true
 unfolding is_transparent IsCut append
 holds-transparent old new bytes transparent cut = prefix-transparent new.taken (option_map (λ prefix. prefix ++ bytes) old.taken) cut (still old.taken transparent)

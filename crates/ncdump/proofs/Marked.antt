@@ -8,9 +8,9 @@ use Rattle.std.proofs.lemmas.Option.{get_or_from_slice_get, slice_get_within, sl
 use Rattle.nc_base.specs.declared.header.Var.{Var}
 use Rattle.nc_base.specs.ValueText.{Look, look_of}
 use Rattle.nc_base.specs.Dump.{Section, no_section, whole, data_truncated, content_in, has_values, values_before, values_of}
-use Rattle.nc_file.specs.Sources.{SourceView, after}
-use Rattle.nc_file.specs.Sinks.{SinkView, Appended, FailedPartway}
-use Rattle.nc_file.proofs.Writes.{appended_then, appended_partway}
+use Rattle.devices.specs.Sources.{SourceView, after}
+use Rattle.devices.specs.Sinks.{SinkView, Appended, FailedPartway}
+use Rattle.devices.proofs.Writes.{appended_then, appended_partway}
 use Rattle.nc_walk.proofs.Fills.{after_after, transparent_both}
 use Rattle.ncdump.specs.declared.fault.DumpFault.{DumpFault}
 use Rattle.ncdump.specs.declared.fault.DumpFault.TheVariants.{OutOfMemory, ReadFailed, WriteFailed, Format, NoSuchVariable, DataTruncated}

@@ -16,9 +16,9 @@ use Rattle.nc_base.specs.Places.{stored_values, first_missing}
 use Rattle.nc_base.specs.ValueText.{Look, look_of, opening, closing, variable_prefix, variable_text, later_pieces}
 use Rattle.nc_base.specs.Dump.{no_section, whole, data_truncated, values_before}
 use Rattle.nc_base.proofs.ValueLaws.{prefix-append, prefix_nil}
-use Rattle.nc_file.specs.Sources.{SourceView, after}
-use Rattle.nc_file.specs.Sinks.{SinkView, Appended, FailedPartway}
-use Rattle.nc_file.proofs.Writes.{appended_then, appended_partway}
+use Rattle.devices.specs.Sources.{SourceView, after}
+use Rattle.devices.specs.Sinks.{SinkView, Appended, FailedPartway}
+use Rattle.devices.proofs.Writes.{appended_then, appended_partway}
 use Rattle.nc_walk.specs.Walks.{WalkView, Starts, Steps, Advanced, count}
 use Rattle.nc_walk.specs.Walked.{Walked, HasRead, IsChunk, GivesChunk, GivesEnd, GivesCut, GivesFailure}
 use Rattle.nc_walk.specs.declared.fault.WalkFault.TheVariants as walk
@@ -112,11 +112,11 @@ module _ (is_transparent : Bool) (h : Header) (v n width buffer_len : ℕ) (w : 
     ys-count : length ys ≡ j
     ys-count = ap (λ (zs : List ℤ). length zs) ys-are ∙ length-numbers s.var.ty chunk
 
-    -- the printer can take the piece
+    -- the printer can take the chunk
     pub takes-chunk : Takes p chunk
     takes-chunk = record {
       whole = given.length_is ∙ ap (λ (i : ℕ). i * size) (sym ys-count) ∙ ap (λ t. length ys * size_of t) (sym type-in);
-      buffer_len = omega (
+      within = omega (
         arith,
         given.within,
         ys-count,
@@ -144,7 +144,7 @@ module _ (is_transparent : Bool) (h : Header) (v n width buffer_len : ℕ) (w : 
       appended = subst (Appended old newer) (sym (prefix-append look s.xs ys)) (appended_then old new newer (variable_prefix look s.xs) (later_pieces look s.xs ys) s.appended (printed.appended look s.xs s.has_printed));
     }
 
-    -- the printer stopped inside of the piece
+    -- the printer stopped inside of the chunk
     pub unwritten-chunk : (q : ValuePrinter) (newer : SinkView) → Stopped ys p q new newer → OnTrue is_transparent (IsUnwritten d v s.var buffer_len a c old newer)
     unwritten-chunk q newer stopped = transparent_both is_transparent (λ e (pg : IsChunk h a.bytes s.var n (length s.xs) chunk j × HasRead h s.var n a c (length s.xs + j)).
         let g = pg.1 in
@@ -166,7 +166,7 @@ module _ (is_transparent : Bool) (h : Header) (v n width buffer_len : ℕ) (w : 
             k = k;
             few = omega (arith, few);
             taken = subst (λ (zs : List ℤ). Holds old newer (variable_prefix look zs)) e (holds-partway old new newer (variable_prefix look s.xs) _ (holds-all old new (variable_prefix look s.xs) s.appended) partway);
-            handed = omega (arith, handed, given.buffer_len, given.length_is);
+            handed = omega (arith, handed, given.capacity, given.length_is);
           });
         }) s.values (transparent_both is_transparent (λ chunk_is read. (chunk_is, read)) given.chunk_is given.read)
 
@@ -246,7 +246,7 @@ module _ (is_transparent : Bool) (h : Header) (v n width buffer_len : ℕ) (w : 
           taken = subst (λ (zs : List ℤ). Appended old new (variable_prefix look zs)) e s.appended;
           handed = r.1.1.1;
         };
-      }) s.values (transparent_both is_transparent (λ read rest. (read, rest)) s.walked.read (transparent_both is_transparent (λ bytes most_buffer_len. (bytes, most_buffer_len)) failure.bytes (transparent_both is_transparent (λ most buffer_len. (most, buffer_len)) failure.whole failure.buffer_len)))
+      }) s.values (transparent_both is_transparent (λ read rest. (read, rest)) s.walked.read (transparent_both is_transparent (λ bytes most_buffer_len. (bytes, most_buffer_len)) failure.bytes (transparent_both is_transparent (λ most buffer_len. (most, buffer_len)) failure.whole failure.capacity)))
 
 -- the opening wasn't written
 pub unwritten-opening : (is_transparent : Bool) (h : Header) (v n width buffer_len : ℕ) (w : WalkView) (p : ValuePrinter) (a : SourceView) (old new : SinkView) (s : Starts h v n buffer_len w)

@@ -5,9 +5,9 @@ use Rattle.nc_base.specs.Bytes.{text}
 use Rattle.nc_base.specs.declared.header.Header.{Header}
 use Rattle.nc_base.specs.HeadText.{head_text}
 use Rattle.nc_base.specs.Dump.{Options, Section, Ending, whole, data_truncated, data_word, closing_word, dump_text}
-use Rattle.nc_file.specs.Sources.{SourceView}
-use Rattle.nc_file.specs.Sinks.{SinkView, Appended, FailedPartway}
-use Rattle.nc_file.proofs.Writes.{appended_then, appended_partway}
+use Rattle.devices.specs.Sources.{SourceView}
+use Rattle.devices.specs.Sinks.{SinkView, Appended, FailedPartway}
+use Rattle.devices.proofs.Writes.{appended_then, appended_partway}
 use Rattle.ncdump.specs.declared.fault.DumpFault.{DumpFault}
 use Rattle.ncdump.specs.declared.fault.DumpFault.TheVariants.{OutOfMemory, ReadFailed, WriteFailed, Format, NoSuchVariable, DataTruncated}
 use Rattle.ncdump.specs.Shows.{Dumped, dumped, prefix_text, marked_values, text_before, marks_in, KeepsUpIn, IsUpToDate, Holds, ShowsMarked, Shows}

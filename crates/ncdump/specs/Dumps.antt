@@ -4,10 +4,10 @@ use Rattle.nc_base.specs.declared.header.Header.{Header}
 use Rattle.nc_base.specs.Grammar.{SpellsHeader}
 use Rattle.nc_base.specs.Sizes.{record_count}
 use Rattle.nc_base.specs.Dump.{Options, Ending, whole, wrong_field, no_such_variable, data_truncated, KnowsChosen, selection_of, IsDump}
-use Rattle.nc_file.specs.Sources.{SourceView}
+use Rattle.devices.specs.Sources.{SourceView}
 use Rattle.nc_file.specs.Answers.{EndsAt, ReadUpTo}
-use Rattle.nc_file.specs.Sinks.{SinkView, Appended, FailedPartway}
-use Rattle.nc_file.specs.Sinks as sinks
+use Rattle.devices.specs.Sinks.{SinkView, Appended, FailedPartway}
+use Rattle.devices.specs.Sinks as sinks
 use Rattle.ncdump.specs.Shows.{Shows}
 use Rattle.ncdump.specs.declared.fault.DumpFault.{DumpFault}
 use Rattle.ncdump.specs.declared.fault.DumpFault.TheVariants.{OutOfMemory, ReadFailed, WriteFailed, Format, NoSuchVariable, DataTruncated}

@@ -1,6 +1,6 @@
 -- What a run of the program has done.
 use Rattle.std.specs.Prelude.{ℕ, ◌≡◌, ◌⊎◌, List, Option, Some, None, IsSome, option_map, Result, Ok, Err, string_bytes}
-use Rattle.nc_file.specs.Sinks.{SinkView, Appended, FailedPartway}
+use Rattle.devices.specs.Sinks.{SinkView, Appended, FailedPartway}
 use Rattle.ncdump.specs.CommandLine.{Asked}
 use Rattle.ncdump.specs.Dumps as dumps
 use Rattle.ncdump.specs.Failures.{line_of_failure}

@@ -8,10 +8,10 @@ use Rattle.nc_base.specs.HeadText.{head_text}
 use Rattle.nc_base.specs.Places.{stored_values, first_missing}
 use Rattle.nc_base.specs.ValueText.{look_of, variable_prefix}
 use Rattle.nc_base.specs.Dump.{Options, Ending, whole, data_truncated, Section, no_section, content_in, has_values, values_before, values_of, data_word, dump_text}
-use Rattle.nc_file.specs.Sources.{SourceView, after}
-use Rattle.nc_file.specs.Sources as sources
-use Rattle.nc_file.specs.Sinks as sinks
-use Rattle.nc_file.specs.Sinks.{SinkView, append, is_transparent, Appended, FailedPartway, IsCut}
+use Rattle.devices.specs.Sources.{SourceView, after}
+use Rattle.devices.specs.Sources as sources
+use Rattle.devices.specs.Sinks as sinks
+use Rattle.devices.specs.Sinks.{SinkView, append, is_transparent, Appended, FailedPartway, IsCut}
 use Rattle.nc_walk.specs.Walked.{whole_count}
 use Rattle.ncdump.specs.declared.fault.DumpFault.{DumpFault}
 use Rattle.ncdump.specs.declared.fault.DumpFault.TheVariants.{ReadFailed, WriteFailed, DataTruncated}

@@ -1,7 +1,7 @@
 //! Why a run failed, and the line that says so.
 
 ghost use Rattle.std.specs.Prelude.{◌≡◌};
-ghost use Rattle.nc_file.specs.Sinks.{Wrote};
+ghost use Rattle.devices.specs.Sinks.{Wrote};
 ghost use Rattle.ncdump.specs.Failures.{cannot_open_line, cannot_open_words, file_line, line_of_failure, opt_fault_line, usage_line};
 ghost use Rattle.ncdump.specs.declared.failure.Failure.TheVariants.{CommandLine as command_line};
 ghost use Rattle.ncdump.specs.declared.failure.FileFault.TheVariants.{CannotOpen, Dump};
@@ -103,7 +103,7 @@ fn put_file_fault<W: Sink>(sink: &mut W, path: &[u8], fault: FileFault) -> Resul
 }
 
 /// Writes the line for a path that can't be opened.
-#[tactic(auto, using(nc_file::proofs::Writes::writes), unfolding(crate::specs::Failures::cannot_open_line))]
+#[tactic(auto, using(devices::proofs::Writes::writes), unfolding(crate::specs::Failures::cannot_open_line))]
 fn put_cannot_open<W: Sink>(sink: &mut W, path: &[u8]) -> Result<(), WriteFailed>
     ensures { Wrote (W.view sink.old) (W.view sink.new) (cannot_open_line path.now) result }
 {

@@ -2,7 +2,7 @@
 
 ghost use Rattle.std.specs.Prelude.{◌≡◌, [], ◌∷◌, codes, decimal};
 ghost use Rattle.nc_base.specs.Bytes.{text};
-ghost use Rattle.nc_file.specs.Sinks.{Wrote};
+ghost use Rattle.devices.specs.Sinks.{Wrote};
 ghost use Rattle.ncdump.specs.Faults.{line_of, program_words, fault_text, fault_words, fault_numbers, format_words, truncated_words};
 
 use crate::fault::DumpFault;
@@ -15,7 +15,7 @@ use nc_file::{Sink, WriteFailed, put};
 /// # Errors
 ///
 /// The sink failed. It took some prefix of the line.
-#[tactic(auto, using(nc_file::proofs::Writes::writes), unfolding(crate::specs::Faults::line_of))]
+#[tactic(auto, using(devices::proofs::Writes::writes), unfolding(crate::specs::Faults::line_of))]
 pub fn fault_line<W: Sink>(sink: &mut W, file: &[u8], fault: &DumpFault) -> Result<(), WriteFailed>
     ensures { Wrote (W.view sink.old) (W.view sink.new) (line_of file.now fault.now) result }
 {
@@ -27,7 +27,7 @@ pub fn fault_line<W: Sink>(sink: &mut W, file: &[u8], fault: &DumpFault) -> Resu
 }
 
 /// Writes what a fault says.
-#[tactic(auto, using(nc_file::proofs::Writes::writes), unfolding(crate::specs::Faults::fault_text))]
+#[tactic(auto, using(devices::proofs::Writes::writes), unfolding(crate::specs::Faults::fault_text))]
 fn put_fault<W: Sink>(sink: &mut W, fault: &DumpFault) -> Result<(), WriteFailed>
     ensures { Wrote (W.view sink.old) (W.view sink.new) (fault_text fault.now) result }
 {
@@ -36,7 +36,7 @@ fn put_fault<W: Sink>(sink: &mut W, fault: &DumpFault) -> Result<(), WriteFailed
 }
 
 /// Writes the numbers of a fault.
-#[tactic(auto, using(nc_file::proofs::Writes::writes), unfolding(crate::specs::Faults::fault_numbers))]
+#[tactic(auto, using(devices::proofs::Writes::writes), unfolding(crate::specs::Faults::fault_numbers))]
 fn put_numbers<W: Sink>(sink: &mut W, fault: &DumpFault) -> Result<(), WriteFailed>
     ensures { Wrote (W.view sink.old) (W.view sink.new) (fault_numbers fault.now) result }
 {
@@ -49,7 +49,7 @@ fn put_numbers<W: Sink>(sink: &mut W, fault: &DumpFault) -> Result<(), WriteFail
 }
 
 /// Writes the place of a name among the chosen ones.
-#[tactic(auto, using(nc_file::proofs::Writes::writes))]
+#[tactic(auto, using(devices::proofs::Writes::writes))]
 fn put_index<W: Sink>(sink: &mut W, index: usize) -> Result<(), WriteFailed>
     ensures { Wrote (W.view sink.old) (W.view sink.new) (text (decimal index ∷ codes " of -v" ∷ [])) result }
 {
@@ -58,7 +58,7 @@ fn put_index<W: Sink>(sink: &mut W, index: usize) -> Result<(), WriteFailed>
 }
 
 /// Writes the place of a value.
-#[tactic(auto, using(nc_file::proofs::Writes::writes))]
+#[tactic(auto, using(devices::proofs::Writes::writes))]
 fn put_place<W: Sink>(sink: &mut W, var: usize, value: u128) -> Result<(), WriteFailed>
     ensures { Wrote (W.view sink.old) (W.view sink.new) (text (decimal var ∷ truncated_words ∷ decimal value ∷ [])) result }
 {

@@ -1,7 +1,7 @@
 //! The status that the program ends with.
 
 ghost use Rattle.std.specs.Prelude.{◌≡◌, ◌≢◌, []};
-ghost use Rattle.nc_file.specs.Sinks.{Appended, HasFailed};
+ghost use Rattle.devices.specs.Sinks.{Appended, HasFailed};
 
 use nc_file::{IoSink, Sink};
 use std::io::Write;

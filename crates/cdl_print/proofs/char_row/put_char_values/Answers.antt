@@ -1,16 +1,16 @@
 use Rattle.std.proofs.Common.{rules, arith}
 use Rattle.std.proofs.lemmas.List.{nil_from_length}
 use Rattle.std.proofs.lemmas.Result.{err_from_is_err_and}
-use Rattle.cdl_print.proofs.CharRows.{chars_parts, chars_columns_left}
-use Rattle.cdl_print.proofs.PrintingLaws.{underway_at_first, underway_next, underway_failed, underway_all, underway_columns_left}
+use Rattle.cdl_print.proofs.CharRows.{chars_parts, chars_within}
+use Rattle.cdl_print.proofs.PrintingLaws.{underway_at_first, underway_next, underway_failed, underway_all, underway_within}
 use Rattle.cdl_print.proofs.char_row.put_char_values.Goals as goal
 
 pub loop-rest-init : goal.loop-rest-init
 loop-rest-init g c = underway_at_first _ _ _ _
 
-pub put_next_run-requires-clause-columns_left : goal.put_next_run-requires-clause-columns_left
-put_next_run-requires-clause-columns_left g c =
-    omega (arith, chars_columns_left c.loop-rest.rest.now c.args.bytes.now _ _ (underway_columns_left _ _ _ _ _ _ _ c.loop-rest.invariant), c.split_at.ensures.front_len, c.run_len.ensures.within, c.requires.columns_left)
+pub put_next_run-requires-clause-within : goal.put_next_run-requires-clause-within
+put_next_run-requires-clause-within g c =
+    omega (arith, chars_within c.loop-rest.rest.now c.args.bytes.now _ _ (underway_within _ _ _ _ _ _ _ c.loop-rest.invariant), c.split_at.ensures.front_len, c.run_len.ensures.within, c.requires.within)
 
 pub loop-rest-preserved : goal.loop-rest-preserved
 loop-rest-preserved g c =

@@ -1,5 +1,5 @@
 use Rattle.nc_base.specs.HeadText.{dim_line}
-use Rattle.nc_file.proofs.Writes.{IsWritten}
+use Rattle.devices.proofs.Writes.{IsWritten}
 use Rattle.cdl_print.proofs.head.put_dim_lines.Given as goal
 
 abbrev pub invariant-loop-dim : goal.invariant-loop-dim

@@ -4,7 +4,7 @@ use Rattle.std.proofs.lemmas.Result.{err_from_is_err_and}
 use Rattle.nc_base.specs.Numbers.{numbers}
 use Rattle.cdl_print.proofs.Batches.{batch_parts, batch_few}
 use Rattle.cdl_print.proofs.Joined.{numbers-none, size_some}
-use Rattle.cdl_print.proofs.PrintingLaws.{underway_at_first, underway_next, underway_failed, underway_all, underway_columns_left}
+use Rattle.cdl_print.proofs.PrintingLaws.{underway_at_first, underway_next, underway_failed, underway_all, underway_within}
 use Rattle.cdl_print.proofs.number_row.put_number_values.Goals as goal
 
 pub loop-rest-init : goal.loop-rest-init
@@ -14,11 +14,11 @@ pub put_few_numbers-requires-clause-few : goal.put_few_numbers-requires-clause-f
 put_few_numbers-requires-clause-few g c =
     batch_few c.args.layout.now.ty c.size.result c.min.result c.loop-rest.rest.now _ c.size.ensures c.min.ensures c.split_at.ensures.front
 
-pub put_few_numbers-requires-clause-columns_left : goal.put_few_numbers-requires-clause-columns_left
-put_few_numbers-requires-clause-columns_left g c =
+pub put_few_numbers-requires-clause-within : goal.put_few_numbers-requires-clause-within
+put_few_numbers-requires-clause-within g c =
     let ty = c.args.layout.now.ty in
     let parts = batch_parts ty c.size.result c.min.result c.loop-rest.rest.now _ _ c.size.ensures c.min.ensures c.split_at.ensures.front c.split_at.ensures.back in
-    omega (arith, underway_columns_left _ _ _ _ _ _ _ c.loop-rest.invariant, ap length parts, length-append (numbers ty c.split_at.result.0.now) (numbers ty c.split_at.result.1.now), c.requires.columns_left)
+    omega (arith, underway_within _ _ _ _ _ _ _ c.loop-rest.invariant, ap length parts, length-append (numbers ty c.split_at.result.0.now) (numbers ty c.split_at.result.1.now), c.requires.within)
 
 pub returns-in_err-put_few_numbers : goal.returns-in_err-put_few_numbers
 returns-in_err-put_few_numbers g c =

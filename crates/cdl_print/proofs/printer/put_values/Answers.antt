@@ -3,8 +3,8 @@ use Rattle.std.proofs.lemmas.List.{length-map}
 use Rattle.cdl_print.proofs.PrinterLaws.{chars_are}
 use Rattle.cdl_print.proofs.printer.put_values.Goals as goal
 
-pub put_char_values-requires-clause-columns_left : goal.put_char_values-requires-clause-columns_left
-put_char_values-requires-clause-columns_left g c =
+pub put_char_values-requires-clause-within : goal.put_char_values-requires-clause-within
+put_char_values-requires-clause-within g c =
     let same = chars_are c.args.layout.now.ty c.args.bytes.now (sym c.if-is_char.ensures) in
     omega (arith, ap length same, length-map c.args.bytes.now pos, c.requires)
 

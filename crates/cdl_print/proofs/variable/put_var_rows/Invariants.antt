@@ -1,5 +1,5 @@
 use Rattle.nc_base.specs.HeadText.{var_lines}
-use Rattle.nc_file.proofs.Writes.{IsWritten}
+use Rattle.devices.proofs.Writes.{IsWritten}
 use Rattle.cdl_print.proofs.variable.put_var_rows.Given as goal
 
 abbrev pub invariant-loop-var : goal.invariant-loop-var

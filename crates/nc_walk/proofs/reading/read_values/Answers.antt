@@ -37,15 +37,15 @@ returns-clause-reads g c =
     (omega (arith, c.fill.auto.into, c.ready-ready.ensures.in_capacity, length-take (c.ready-ready.result * c.args.slabs.now.size) c.args.into.now))
     (rw c.offset-at.ensures.value at c.in-Ok.ensures) (omega arith)
 
-pub returns-then-got-wanted-clause-ran : goal.returns-then-got-wanted-clause-ran
-returns-then-got-wanted-clause-ran g c = λ full.
+pub returns-then-got-wanted-clause-values_read : goal.returns-then-got-wanted-clause-values_read
+returns-then-got-wanted-clause-values_read g c = λ full.
     ran_all g.S.Source.is_transparent _ _ _ c.args.into.now _ _ c.fill.new.into (drop (c.ready-ready.result * c.args.slabs.now.size) c.args.into.now) c.ready-ready.result c.in-Ok.n
     c.requires.sized c.requires.more c.requires.capacity (rw c.len.ensures.length at c.ready-ready.ensures) (omega arith)
     (omega (arith, c.fill.auto.into, c.ready-ready.ensures.in_capacity, length-take (c.ready-ready.result * c.args.slabs.now.size) c.args.into.now))
     (rw c.offset-at.ensures.value at c.in-Ok.ensures) c.if-got-wanted.true
 
-pub returns-clause-ran : goal.returns-clause-ran
-returns-clause-ran g c = λ full.
+pub returns-clause-values_read : goal.returns-clause-values_read
+returns-clause-values_read g c = λ full.
     values_read g.S.Source.is_transparent _ _ _ c.args.into.now _ _ c.fill.new.into (drop (c.ready-ready.result * c.args.slabs.now.size) c.args.into.now) c.ready-ready.result c.in-Ok.n
     c.requires.sized c.requires.more c.requires.capacity (rw c.len.ensures.length at c.ready-ready.ensures) (omega arith)
     (omega (arith, c.fill.auto.into, c.ready-ready.ensures.in_capacity, length-take (c.ready-ready.result * c.args.slabs.now.size) c.args.into.now))

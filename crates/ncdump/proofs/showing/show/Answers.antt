@@ -2,8 +2,8 @@ use Rattle.std.proofs.Common.{ℕ, Bool, List, length, ap, ◌∙◌, subst, Ok,
 use Rattle.std.proofs.lemmas.Result.{err_from_is_err_and}
 use Rattle.nc_base.specs.HeadText.{head_text}
 use Rattle.nc_base.specs.Sizes.{record_count}
-use Rattle.nc_file.specs.Sinks.{Appended, FailedPartway}
-use Rattle.nc_file.proofs.Writes.{appended_then}
+use Rattle.devices.specs.Sinks.{Appended, FailedPartway}
+use Rattle.devices.proofs.Writes.{appended_then}
 use Rattle.nc_walk.proofs.Fills.{transparent_any, transparent_map}
 use Rattle.ncdump.specs.declared.fault.DumpFault.TheVariants.{WriteFailed}
 use Rattle.ncdump.specs.Dumps.{options_of}

@@ -2,7 +2,7 @@ use Rattle.std.proofs.Common.{[], sym, ap, ◌∙◌, subst, Ok}
 use Rattle.std.specs.Prelude.{slice_get}
 use Rattle.std.proofs.lemmas.Result.{err_from_is_err_and}
 use Rattle.nc_base.specs.ValueText.{look_of, opening, Look}
-use Rattle.nc_file.specs.Sinks.{Appended, FailedPartway}
+use Rattle.devices.specs.Sinks.{Appended, FailedPartway}
 use Rattle.nc_walk.proofs.Fills.{transparent_map}
 use Rattle.cdl_print.specs.Printer.{HasPrinted}
 use Rattle.ncdump.proofs.OneVariable.{some-at, at-some, showing-begins, takes-chunk, showing-on, unwritten-chunk, shown-whole, unwritten-closing, shown-prefix, unread, unwritten-opening}

@@ -1,7 +1,7 @@
 use Rattle.std.proofs.Common.{arith, length, drop, ◌-◌, ◌≤◌, length-drop}
 use Rattle.std.proofs.lemmas.List.{take_all}
-use Rattle.nc_file.proofs.Writes.{stops, moves}
-use Rattle.nc_file.proofs.sink.put.Goals as goal
+use Rattle.devices.proofs.Writes.{stops, moves}
+use Rattle.devices.proofs.sink.put.Goals as goal
 use Rattle.std.proofs.lemmas.Result.{err_from_is_err_and}
 
 pub loop-done-preserved : goal.loop-done-preserved

@@ -1,11 +1,11 @@
-//! A sink over a lent slice.
+//! A sink over a slice.
 
 ghost use Rattle.std.specs.Prelude.{◌≡◌, ◌↔◌, ◌<◌, ◌≤◌, ◌+◌, ◌-◌, [], Some, length, take, IsErr, IfOk, OnErr};
-ghost use Rattle.nc_file.specs.Sinks.{WroteSome};
+ghost use Rattle.devices.specs.Sinks.{WroteSome};
 
 use crate::{Sink, SinkFailed};
 
-/// A sink that keeps its bytes at the start of a lent slice, and tells them. It takes at most `step` of them a call.
+/// A transparent sink that keeps its bytes at the start of a slice. It takes at most `step` of them a call.
 ///
 /// It fails once the slice is full.
 #[derive(Drop)]
@@ -19,7 +19,7 @@ pub struct SliceSink<'a> {
 }
 
 impl<'a> SliceSink<'a> {
-    ghost use Rattle.nc_file.specs.Slice.{capacity_left, step_of};
+    ghost use Rattle.devices.specs.Slice.{capacity_left, step_of};
 
     /// An empty sink over the slice.
     pub fn new(into: &'a mut [u8], step: usize) -> SliceSink<'a>
@@ -45,7 +45,7 @@ impl<'a> SliceSink<'a> {
 }
 
 impl Sink for SliceSink<'_> {
-    ghost use Rattle.nc_file.specs.Slice.{view_of, capacity_left, step_of};
+    ghost use Rattle.devices.specs.Slice.{view_of, capacity_left, step_of};
 
     ghost view = { view_of };
 

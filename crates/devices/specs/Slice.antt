@@ -1,7 +1,7 @@
 -- A sink over a slice: what it holds, and how much it can take.
 use Rattle.std.specs.Prelude.{◌-◌, ℕ, length, take, Some}
-use Rattle.nc_file.specs.Sinks.{SinkView}
-use Rattle.nc_file.specs.declared.slice.SliceSink.{SliceSink}
+use Rattle.devices.specs.Sinks.{SinkView}
+use Rattle.devices.specs.declared.slice.SliceSink.{SliceSink}
 
 -- the sink as the contracts of all sinks see it
 abbrev pub view_of : SliceSink → SinkView

@@ -1,7 +1,7 @@
 //! A source that gives few bytes a read, and fails on request.
 
 ghost use Rattle.std.specs.Prelude.{◌≡◌, ◌↔◌, ◌≤◌, ◌<◌, ◌⊎◌, ◌+◌, ◌-◌, ◌^◌, IfOk, IsErr, IsTrue, true, length, min};
-ghost use Rattle.nc_file.specs.Sources.{ReadSome};
+ghost use Rattle.devices.specs.Sources.{ReadSome};
 
 use crate::memory::length_of;
 use crate::{Source, SourceFailed};
@@ -18,7 +18,7 @@ pub enum FailWhen {
 }
 
 impl FailWhen {
-    ghost use Rattle.nc_file.specs.Drip.{IsDue};
+    ghost use Rattle.devices.specs.Drip.{IsDue};
 
     /// A read at the offset `at`, with `reads` reads before it, is to fail.
     fn is_due(self, at: u64, reads: u128) -> bool
@@ -47,7 +47,7 @@ pub struct DripSource<'a> {
 }
 
 impl<'a> DripSource<'a> {
-    ghost use Rattle.nc_file.specs.Drip.{step_of, fail_of, reads_of};
+    ghost use Rattle.devices.specs.Drip.{step_of, fail_of, reads_of};
 
     /// A source of these bytes, which has read none of them.
     pub fn new(bytes: &'a [u8], step: usize, fail: FailWhen) -> DripSource<'a>
@@ -76,7 +76,7 @@ impl<'a> DripSource<'a> {
 }
 
 impl Source for DripSource<'_> {
-    ghost use Rattle.nc_file.specs.Drip.{IsDue, view_of, step_of, fail_of, reads_of};
+    ghost use Rattle.devices.specs.Drip.{IsDue, view_of, step_of, fail_of, reads_of};
 
     ghost is_transparent = { true };
 

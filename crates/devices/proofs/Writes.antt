@@ -4,7 +4,7 @@ use Rattle.std.proofs.lemmas.List.{append-nil, take-append-drop, length-take, le
 use Rattle.std.proofs.lemmas.Bool.{OnTrue_at, OnTrue_from}
 use Rattle.std.specs.Prelude.{is_some, option_map, unwrap_or}
 use Rattle.nc_base.specs.Bytes.{text}
-use Rattle.nc_file.specs.Sinks.{SinkView, append, count, IsPrefix, IsPrefixIf, IsCut, StoppedShort, AcceptedSome, is_transparent, Appended, FailedPartway, HasFailed}
+use Rattle.devices.specs.Sinks.{SinkView, append, count, IsPrefix, IsPrefixIf, IsCut, StoppedShort, AcceptedSome, is_transparent, Appended, FailedPartway, HasFailed}
 
 pub append-++ : (s : SinkView) (a b : List ℕ) → append s (a ++ b) ≡ append (append s a) b
 unfolding append

@@ -6,7 +6,7 @@ use std::fs::File;
 use std::io;
 use std::os::unix::fs::FileExt;
 
-/// How many bytes are read ahead at most: 16 KiB. A read of so many takes little longer than one of a few.
+/// How many bytes are read ahead at most: 16 KiB. A read of this length takes little longer than one of a few.
 pub(crate) const AHEAD_LEN: usize = 16384;
 
 /// The bytes of a file from one place on that were read ahead.
@@ -57,7 +57,7 @@ impl Ahead {
     }
 }
 
-/// Reads bytes from the offset `at` on to the start of `into`, and gives their number. In place of a few bytes so many are
+/// Reads bytes from the offset `at` on to the start of `into`, and gives their number. In place of a few bytes as many are
 /// read as are read ahead, and the first of them copied.
 pub(crate) fn read_some(
     file: &File,

@@ -6,7 +6,7 @@ ghost use Rattle.nc_base.specs.Bytes.{AreBytes};
 use crate::{Sink, SinkFailed, Source, SourceFailed};
 use std::alloc::Global;
 
-/// A source of the bytes of a slice, all of which it tells.
+/// A transparent source of the bytes of a slice.
 ///
 /// It fails only where a count would reach 2^128.
 #[derive(Drop)]
@@ -60,7 +60,7 @@ pub(crate) fn length_of(bytes: &[u8]) -> u64
     bytes.len() as u64
 }
 
-/// A sink that keeps all of its bytes in memory, and tells them.
+/// A transparent sink that keeps all of its bytes in memory.
 ///
 /// It fails where no memory is left to keep more.
 #[derive(Drop)]

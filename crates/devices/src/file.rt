@@ -1,8 +1,8 @@
 //! Devices over the files and writers of the standard library.
 
 ghost use Rattle.std.specs.Prelude.{◌≡◌, ◌+◌, ◌^◌, ◌-◌, ◌<◌, [], false, length, min, replicate, IfOk, IsErr};
-ghost use Rattle.nc_file.specs.Sinks.{Wrote};
-ghost use Rattle.nc_file.specs.Sources.{ReadSome};
+ghost use Rattle.devices.specs.Sinks.{Wrote};
+ghost use Rattle.devices.specs.Sources.{ReadSome};
 
 use crate::ahead::{Ahead, read_some};
 use crate::{OpenFailed, Sink, SinkFailed, Source, SourceFailed};
@@ -94,7 +94,7 @@ impl Source for FileSource {
     }
 }
 
-/// A sink over a writer, which tells the bytes that the writer tells.
+/// A sink over a writer, which is transparent where the writer is.
 ///
 /// An error of the writer, of any kind, is a failure of the sink, and so is a write that takes no byte.
 #[derive(Drop)]

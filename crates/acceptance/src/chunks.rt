@@ -1,5 +1,7 @@
-use super::*;
+//! Chunks of a walk: whole values, of one slab after the other, up to the first missing one.
+
 use nc_file::{DripSource, FailWhen, read_header};
+use nc_walk::{Walk, WalkFault, laws};
 use std::test::Fail;
 
 /// `short s(x)`, x = 3, with the values 1, 2 and 3 after 80 bytes of header.

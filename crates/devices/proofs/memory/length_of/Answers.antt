@@ -1,5 +1,5 @@
 use Rattle.std.proofs.Common.{arith}
-use Rattle.nc_file.proofs.memory.length_of.Goals as goal
+use Rattle.devices.proofs.memory.length_of.Goals as goal
 
 pub returns-clause-bytes : goal.returns-clause-bytes
 returns-clause-bytes c = λ i. omega (arith, c.type_inv.bytes i)

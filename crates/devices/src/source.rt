@@ -3,7 +3,7 @@
 ghost use Rattle.std.specs.Prelude.{◌≡◌, Bool, length};
 ghost use Rattle.std.specs.Bool.{OnTrue};
 ghost use Rattle.nc_base.specs.Bytes.{AreBytes};
-ghost use Rattle.nc_file.specs.Sources.{SourceView, ReadSome};
+ghost use Rattle.devices.specs.Sources.{SourceView, ReadSome};
 
 use crate::SourceFailed;
 

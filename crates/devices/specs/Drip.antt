@@ -1,11 +1,11 @@
 -- When a source that fails on request does so.
 use Rattle.std.specs.Prelude.{◌≡◌, ◌≤◌, ℕ}
-use Rattle.nc_file.specs.Sources.{SourceView}
-use Rattle.nc_file.specs.declared.drip.DripSource.{DripSource}
-use Rattle.nc_file.specs.declared.drip.FailWhen.{FailWhen}
-use Rattle.nc_file.specs.declared.drip.FailWhen.TheVariants.{Never, From, Read}
+use Rattle.devices.specs.Sources.{SourceView}
+use Rattle.devices.specs.declared.drip.DripSource.{DripSource}
+use Rattle.devices.specs.declared.drip.FailWhen.{FailWhen}
+use Rattle.devices.specs.declared.drip.FailWhen.TheVariants.{Never, From, Read}
 
--- a read at this offset, with so many reads before it, is to fail
+-- a read at this offset, with this number of reads before it, is to fail
 abbrev pub IsDue : FailWhen → ℕ → ℕ → Type 0
 IsDue Never at reads = ⊥
 IsDue (From from) at reads = from ≤ at

@@ -1,6 +1,6 @@
 //! Sinks of bytes, and the call that writes all of a text to one.
 
-ghost use Rattle.nc_file.specs.Sinks.{SinkView, Wrote, WroteSome};
+ghost use Rattle.devices.specs.Sinks.{SinkView, Wrote, WroteSome};
 
 use crate::{SinkFailed, WriteFailed};
 

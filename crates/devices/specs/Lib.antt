@@ -1,0 +1,4 @@
+pub mod Sources
+pub mod Sinks
+pub mod Drip
+pub mod Slice

@@ -1,0 +1,55 @@
+//! Attributes.
+
+ghost use Rattle.std.specs.Prelude.{[]};
+ghost use Rattle.nc_file.specs.Reading.{att_at, atts_at, att_list_at};
+ghost use Rattle.nc_file.specs.Window.{Opened, ReadPart};
+
+use crate::head_fault::HeadFault;
+use crate::window::Window;
+use devices::Source;
+use nc_base::{Att, Sequence, Version};
+use std::alloc::Global;
+
+/// The tag `NC_ATTRIBUTE`.
+const ATTRIBUTE_TAG: u32 = 12;
+
+impl<S: Source> Window<'_, S> {
+    /// An attribute.
+    #[tactic(auto, using(crate::proofs::Parts::parts), unfolding(crate::specs::Reading::att_at))]
+    fn att(&mut self, alloc: Global, version: Version) -> Result<Att, HeadFault>
+        requires { Opened S.is_transparent S.view self.old }
+        ensures { ReadPart S.is_transparent S.view self.old self.new (att_at version) result }
+    {
+        let name = self.name(alloc, version)?;
+        let ty = self.nc_type(version)?;
+        let n = self.count(version)?;
+        let vals = self.padded(alloc, n as u128 * ty.size() as u128)?;
+        Ok(Att { name, ty, vals })
+    }
+
+    #[tactic(auto, using(crate::proofs::Loops::atts))]
+    fn atts(&mut self, alloc: Global, version: Version, n: u64) -> Result<Sequence<Att>, HeadFault>
+        requires { Opened S.is_transparent S.view self.old }
+        ensures { ReadPart S.is_transparent S.view self.old self.new (atts_at version n []) result }
+    {
+        let mut atts = Sequence::new(alloc);
+        for _ in 0..n {
+            let att = self.att(alloc, version)?;
+            atts.push(att)?;
+        }
+        Ok(atts)
+    }
+
+    #[tactic(auto, using(crate::proofs::Parts::parts), unfolding(crate::specs::Reading::att_list_at))]
+    pub(crate) fn att_list(
+        &mut self,
+        alloc: Global,
+        version: Version,
+    ) -> Result<Sequence<Att>, HeadFault>
+        requires { Opened S.is_transparent S.view self.old }
+        ensures { ReadPart S.is_transparent S.view self.old self.new (att_list_at version) result }
+    {
+        let n = self.list_len(version, ATTRIBUTE_TAG)?;
+        self.atts(alloc, version, n)
+    }
+}

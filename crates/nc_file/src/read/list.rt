@@ -1,0 +1,76 @@
+//! The parts that several lists share: a name, a type, and the number of elements.
+
+ghost use Rattle.std.specs.Prelude.{◌≡◌};
+ghost use Rattle.nc_file.specs.Reading.{type_in, name_at, type_at, list_len_at};
+ghost use Rattle.nc_file.specs.Window.{Opened, ReadPart};
+
+use crate::head_fault::HeadFault;
+use crate::window::{Window, padding_len};
+use devices::Source;
+use nc_base::{FormatFault, NcType, Sequence, Version, check_name};
+use std::alloc::Global;
+
+impl<S: Source> Window<'_, S> {
+    /// A name: its length, its bytes and their padding.
+    #[tactic(auto, using(crate::proofs::Parts::parts), unfolding(crate::specs::Reading::name_at))]
+    pub(crate) fn name(
+        &mut self,
+        alloc: Global,
+        version: Version,
+    ) -> Result<Sequence<u8>, HeadFault>
+        requires { Opened S.is_transparent S.view self.old }
+        ensures { ReadPart S.is_transparent S.view self.old self.new (name_at version) result }
+    {
+        let n = self.count(version)?;
+        let name = self.bytes(alloc, n as u128)?;
+        if !check_name(name.as_slice()) {
+            return Err(HeadFault::Format(FormatFault::BadName));
+        }
+        self.skip(padding_len(n as u128))?;
+        Ok(name)
+    }
+
+    /// A type.
+    #[tactic(auto, using(crate::proofs::Parts::parts), unfolding(crate::specs::Reading::type_at))]
+    pub(crate) fn nc_type(&mut self, version: Version) -> Result<NcType, HeadFault>
+        requires { Opened S.is_transparent S.view self.old }
+        ensures { ReadPart S.is_transparent S.view self.old self.new (type_at version) result }
+    {
+        let code = self.read_u32()?;
+        if code == 5 || code == 6 {
+            return Err(HeadFault::Format(FormatFault::FloatingType));
+        }
+        match type_of(version, code) {
+            Some(ty) => Ok(ty),
+            None => Err(HeadFault::Format(FormatFault::BadType)),
+        }
+    }
+
+    /// The number of elements of a list, after its tag.
+    #[tactic(auto, using(crate::proofs::Parts::parts), unfolding(crate::specs::Reading::list_len_at))]
+    pub(crate) fn list_len(&mut self, version: Version, tag: u32) -> Result<u64, HeadFault>
+        requires { Opened S.is_transparent S.view self.old }
+        ensures { ReadPart S.is_transparent S.view self.old self.new (list_len_at version tag) result }
+    {
+        let found = self.read_u32()?;
+        if found != 0 && found != tag {
+            return Err(HeadFault::Format(FormatFault::BadTag));
+        }
+        let n = self.count(version)?;
+        if found == 0 && n != 0 {
+            return Err(HeadFault::Format(FormatFault::BadCount));
+        }
+        Ok(n)
+    }
+}
+
+/// The version's type with this code.
+#[tactic(auto, unfolding(crate::specs::Reading::type_in))]
+fn type_of(version: Version, code: u32) -> Option<NcType>
+    ensures { result ≡ type_in version code }
+{
+    match NcType::of_code(code) {
+        Some(ty) if version.has_type(ty) => Some(ty),
+        _ => None,
+    }
+}

@@ -1,0 +1,196 @@
+//! Variables.
+
+ghost use Rattle.std.specs.Prelude.{◌≡◌, ◌+◌, ◌≤◌, [], true, if◌then◌else◌};
+ghost use Rattle.nc_base.specs.Bytes.{padding_len};
+ghost use Rattle.nc_base.specs.Sizes.{has_records, slab_limit};
+ghost use Rattle.nc_file.specs.Reading.{is_dimid, dimid_at, dimids_at, shape_at, wide_at, offset_at, total_with, var_at, vars_at, var_list_at};
+ghost use Rattle.nc_file.specs.Window.{Opened, ReadPart};
+
+use crate::head_fault::HeadFault;
+use crate::sized_var::SizedVar;
+use crate::window::{Window, padding_len};
+use devices::Source;
+use nc_base::{
+    Dim, FormatFault, NcType, RECORD_LIMIT, Sequence, Var, Version, has_records, slab_of,
+};
+use std::alloc::Global;
+
+/// The tag `NC_VARIABLE`.
+const VARIABLE_TAG: u32 = 11;
+
+impl<S: Source> Window<'_, S> {
+    /// A dimension id. That of the record dimension stands in the first place of a shape alone.
+    #[tactic(auto, using(crate::proofs::Parts::parts), unfolding(crate::specs::Reading::dimid_at))]
+    fn dimid(&mut self, version: Version, dims: &[Dim], first: bool) -> Result<u64, HeadFault>
+        requires { Opened S.is_transparent S.view self.old }
+        ensures { ReadPart S.is_transparent S.view self.old self.new (dimid_at version dims.now first) result }
+    {
+        let id = self.number(version)?;
+        if !is_dimid(dims, first, id) {
+            return Err(HeadFault::Format(FormatFault::BadShape));
+        }
+        Ok(id)
+    }
+
+    #[tactic(auto, using(crate::proofs::Loops::dimids))]
+    fn dimids(
+        &mut self,
+        alloc: Global,
+        version: Version,
+        dims: &[Dim],
+        n: u64,
+    ) -> Result<Sequence<u64>, HeadFault>
+        requires { Opened S.is_transparent S.view self.old }
+        ensures { ReadPart S.is_transparent S.view self.old self.new (dimids_at version dims.now n true []) result }
+    {
+        let mut dimids = Sequence::new(alloc);
+        let mut first = true;
+        for _ in 0..n {
+            dimids.push(self.dimid(version, dims, first)?)?;
+            first = false;
+        }
+        Ok(dimids)
+    }
+
+    /// The shape of a variable: its rank and its dimension ids.
+    #[tactic(auto, using(crate::proofs::Parts::parts), unfolding(crate::specs::Reading::shape_at))]
+    fn shape(
+        &mut self,
+        alloc: Global,
+        version: Version,
+        dims: &[Dim],
+    ) -> Result<Sequence<u64>, HeadFault>
+        requires { Opened S.is_transparent S.view self.old }
+        ensures { ReadPart S.is_transparent S.view self.old self.new (shape_at version dims.now) result }
+    {
+        let n = self.count(version)?;
+        self.dimids(alloc, version, dims, n)
+    }
+
+    /// A number of the width that offsets have in the version.
+    fn wide(&mut self, version: Version) -> Result<u64, HeadFault>
+        requires { Opened S.is_transparent S.view self.old }
+        ensures { ReadPart S.is_transparent S.view self.old self.new (wide_at version) result }
+    {
+        match version {
+            Version::Cdf1 => self.narrow_number(),
+            Version::Cdf2 | Version::Cdf5 => self.read_u64(),
+        }
+    }
+
+    /// The offset of a variable.
+    #[tactic(auto, using(crate::proofs::Parts::parts), unfolding(crate::specs::Reading::offset_at))]
+    fn offset(&mut self, version: Version) -> Result<u64, HeadFault>
+        requires { Opened S.is_transparent S.view self.old }
+        ensures { ReadPart S.is_transparent S.view self.old self.new (offset_at version) result }
+    {
+        let n = self.wide(version)?;
+        if version.offset_limit() <= n {
+            return Err(HeadFault::Format(FormatFault::BadOffset));
+        }
+        Ok(n)
+    }
+
+    /// A variable, after others whose records have n bytes. Its `vsize` may be any number.
+    #[tactic(auto, using(crate::proofs::Parts::parts), unfolding(crate::specs::Reading::var_at))]
+    fn var(
+        &mut self,
+        alloc: Global,
+        version: Version,
+        dims: &[Dim],
+        total: u64,
+    ) -> Result<SizedVar, HeadFault>
+        requires { Opened S.is_transparent S.view self.old }
+        ensures { ReadPart S.is_transparent S.view self.old self.new (var_at version dims.now total) result }
+    {
+        let name = self.name(alloc, version)?;
+        let dimids = self.shape(alloc, version, dims)?;
+        let atts = self.att_list(alloc, version)?;
+        let ty = self.nc_type(version)?;
+        let total = match total_with(dims, dimids.as_slice(), ty, total) {
+            Some(total) => total,
+            None => return Err(HeadFault::Format(FormatFault::TooLarge)),
+        };
+        self.number(version)?;
+        let begin_at = self.offset(version)?;
+        Ok(SizedVar {
+            var: Var {
+                name,
+                dimids,
+                atts,
+                ty,
+                begin_at,
+            },
+            total,
+        })
+    }
+
+    #[tactic(auto, using(crate::proofs::Loops::vars))]
+    fn vars(
+        &mut self,
+        alloc: Global,
+        version: Version,
+        dims: &[Dim],
+        n: u64,
+    ) -> Result<Sequence<Var>, HeadFault>
+        requires { Opened S.is_transparent S.view self.old }
+        ensures { ReadPart S.is_transparent S.view self.old self.new (vars_at version dims.now n 0 []) result }
+    {
+        let mut vars = Sequence::new(alloc);
+        let mut total = 0;
+        for _ in 0..n {
+            let sized = self.var(alloc, version, dims, total)?;
+            total = sized.total;
+            vars.push(sized.var)?;
+        }
+        Ok(vars)
+    }
+
+    #[tactic(auto, using(crate::proofs::Parts::parts), unfolding(crate::specs::Reading::var_list_at))]
+    pub(crate) fn var_list(
+        &mut self,
+        alloc: Global,
+        version: Version,
+        dims: &[Dim],
+    ) -> Result<Sequence<Var>, HeadFault>
+        requires { Opened S.is_transparent S.view self.old }
+        ensures { ReadPart S.is_transparent S.view self.old self.new (var_list_at version dims.now) result }
+    {
+        let n = self.list_len(version, VARIABLE_TAG)?;
+        self.vars(alloc, version, dims, n)
+    }
+}
+
+/// Says whether this is a dimension id, and in its place.
+fn is_dimid(dims: &[Dim], first: bool, id: u64) -> bool
+    ensures { result ≡ is_dimid dims.now first id }
+{
+    id < dims.len() as u64 && (first || dims[id as usize].len != 0)
+}
+
+/// The padded slabs of the record variables so far, with that of a variable of this shape and type; none where its slab or
+/// the record passes its limit.
+#[tactic(auto, unfolding(crate::specs::Reading::total_with))]
+fn total_with(dims: &[Dim], dimids: &[u64], ty: NcType, total: u64) -> Option<u64>
+    ensures { result ≡ total_with dims.now dimids.now ty total }
+{
+    let slab = slab_of(dims, dimids, ty)?;
+    let sum = total as u128 + record_part(dims, dimids, slab) as u128;
+    if sum <= RECORD_LIMIT {
+        Some(sum as u64)
+    } else {
+        None
+    }
+}
+
+/// What a slab of this shape adds to a record: its padded size, and nothing where the shape has no records.
+fn record_part(dims: &[Dim], dimids: &[u64], slab: u64) -> u64
+    requires { slab ≤ slab_limit }
+    ensures { result ≡ (if has_records dims.now dimids.now then slab + padding_len slab else 0) }
+{
+    if has_records(dims, dimids) {
+        slab + padding_len(slab as u128)
+    } else {
+        0
+    }
+}
