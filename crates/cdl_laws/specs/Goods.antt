@@ -16,11 +16,11 @@ use Rattle.cdl_parse.specs.Meaning.{meaning, text_limit}
 
 -- ---- what a text means is good
 
--- a file can hold what a text of bytes within the limit means, and it is of the version asked for
+-- what a text of bytes within the limit means is a good dataset, of the version asked for
 abbrev pub MeaningsAreGood : Type 0
 MeaningsAreGood = (text : List ℕ) (v : Version) (d : Dataset) → AreBytes text → length text ≤ text_limit → meaning text v ≡ Ok d → IsGood d × (d.header.version ≡ v)
 
--- without a limit that would be false: some text of bytes has a meaning in the first version that no file of it can hold
+-- without a limit that would be false: some text of bytes has a meaning in the first version that is no good dataset
 abbrev pub LimitIsNeeded : Type 0
 LimitIsNeeded = (n : ℕ) → 2 ^ 31 ≤ n → (text : List ℕ) × (d : Dataset) × AreBytes text × (meaning text Cdf1 ≡ Ok d) × (IsGood d → ⊥)
 

@@ -54,13 +54,13 @@ pub fn text_reads_back()
     ensures { TextReadsBack }
 {}
 
-/// What a text of bytes means, of at most 268,435,456 bytes, is a dataset that a file can hold, of the version asked for.
+/// What a text of bytes means, of at most 268,435,456 bytes, is a good dataset, of the version asked for.
 pub fn meanings_are_good()
     ensures { MeaningsAreGood }
 {}
 
 /// With no limit on the length of texts that would be false: a text with an attribute of 2^31 characters or more has a
-/// meaning in the first version, and no file of that version can hold it.
+/// meaning in the first version that is no good dataset.
 pub fn limit_is_needed()
     ensures { LimitIsNeeded }
 {}

@@ -22,3 +22,6 @@ pub use memory::{MemSink, MemSource};
 pub use sink::{Sink, put};
 pub use slice::SliceSink;
 pub use source::Source;
+
+#[cfg(test)]
+mod tests;

@@ -20,5 +20,3 @@ pub use header::read_header;
 
 #[cfg(test)]
 mod device_tests;
-#[cfg(test)]
-mod tests;
