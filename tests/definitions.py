@@ -36,6 +36,8 @@ def copy_crates(to):
         shutil.copytree(TOP / "crates" / crate, to / "crates" / crate, symlinks=True)
         lib = to / "crates" / crate / "proofs" / "Lib.antt"
         lib.write_text("".join(l for l in lib.read_text().splitlines(True) if l.split()[-1] not in EXAMPLES))
+        for name in EXAMPLES:
+            (lib.parent / f"{name}.antt").unlink(missing_ok=True)
 
 
 def check(top, crate):
@@ -87,6 +89,9 @@ def verdict(edit, top):
 
 def work(edits, top):
     copy_crates(top)
+    is_proved, said = check(top, CRATES[-1])
+    if not is_proved:
+        return [(False, f"the copy is not proved as it stands:\n{said[-2000:]}")]
     results = []
     for edit in edits:
         results.append(verdict(edit, top))
@@ -108,6 +113,9 @@ def main():
         for top in tops:
             (top / "crates").mkdir(parents=True)
         tried = [it for part in pool.map(work, [edits[n::AT_ONCE] for n in range(AT_ONCE)], tops) for it in part]
+    for is_refused, line in tried:
+        if not is_refused:
+            print(line)
     failed = sum(not is_refused for is_refused, _ in tried)
     print(f"{len(tried) - failed} passed, {failed} failed")
     return 1 if failed or len(tried) != len(edits) else 0
