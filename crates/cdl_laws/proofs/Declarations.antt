@@ -6,7 +6,7 @@ use Rattle.std.specs.List.{flat_map, list_all}
 use Rattle.std.specs.Option.{option_map}
 use Rattle.std.proofs.lemmas.Grind.{flat_map-append}
 use Rattle.std.proofs.lemmas.List.Folds.{list_all-append}
-use Rattle.nc_base.specs.Bytes.{text}
+use Rattle.nc_base.specs.Bytes.{concat_parts}
 use Rattle.nc_base.specs.declared.header.Att.{Att}
 use Rattle.nc_base.specs.declared.header.Dim.{Dim}
 use Rattle.nc_base.specs.declared.nc_type.NcType.{NcType}
@@ -58,7 +58,7 @@ abbrev pub extent_lexeme : ℕ → Lexeme
 extent_lexeme len = if len == 0 then word (codes "UNLIMITED") else number (decimal len)
 
 extent_closed : (n len : ℕ) → len < 2 ^ 64 → Closed (dim_extent n len ++ []) (extent_lexeme len ∷ semicolon ∷ [])
-unfolding dim_extent text unlimited_word currently_word
+unfolding dim_extent concat_parts unlimited_word currently_word
 extent_closed n len h =
     elim (len == 0) as (λ w. Closed ((if w then codes "UNLIMITED ; // (" ++ (decimal n ++ (codes " currently)\n" ++ [])) else decimal len ++ (codes " ;\n" ++ [])) ++ []) ((if w then word (codes "UNLIMITED") else number (decimal len)) ∷ semicolon ∷ [])) [
       | true ↦ subst (λ bs. Closed bs (word (codes "UNLIMITED") ∷ semicolon ∷ [])) (sym (append-nil (codes "UNLIMITED ; // (" ++ (decimal n ++ (codes " currently)\n" ++ [])))))
@@ -70,7 +70,7 @@ extent_closed n len h =
     ]
 
 dim_closed : (n : ℕ) (dim : Dim) → IsName dim.name → dim.len < 2 ^ 64 → Closed (dim_line n dim) (word (escaped_name dim.name) ∷ mark 61 ∷ extent_lexeme dim.len ∷ semicolon ∷ [])
-unfolding dim_line text
+unfolding dim_line concat_parts
 dim_closed n dim name h =
     closed_both (codes "\t") (escaped_name dim.name ++ (codes " = " ++ (dim_extent n dim.len ++ []))) [] (word (escaped_name dim.name) ∷ mark 61 ∷ extent_lexeme dim.len ∷ semicolon ∷ []) tab_closed
     (closed_by (escaped_name dim.name) (codes " = " ++ (dim_extent n dim.len ++ [])) (word (escaped_name dim.name) ∷ []) (mark 61 ∷ extent_lexeme dim.len ∷ semicolon ∷ []) (name_word dim.name name).reads (λ rest. refl)
@@ -213,7 +213,7 @@ pub record IsListOf (v : Version) (bytes : List ℕ) (said : List Value) : Type 
   pub are : constants v false (l ∷ commas ls) ≡ Some said
 
 pub chars_list : (v : Version) (vals : List ℕ) → IsListOf v (char_values vals) (map Characters (first (without_trailing_nuls vals) ∷ others (without_trailing_nuls vals)))
-unfolding char_values text
+unfolding char_values concat_parts
 chars_list v vals =
     let bytes = without_trailing_nuls vals in
     record {
@@ -279,7 +279,7 @@ open_in section dimensions = refl
 open_in section variables = refl
 
 pub global_says : (v : Version) (section : Section) (att : Att) (said : List Value) → IsBeforeData section → IsListOf v (att_values att.ty att.vals) said → IsName att.name → Says v section (att_line [] att) (Attribute None att.name said)
-unfolding att_line text
+unfolding att_line concat_parts
 global_says v section att said before list name =
     statement_says v section (codes "\t\t" ++ rest_of_att att) (mark 58) (word (escaped_name att.name)) (mark 61 ∷ list.l ∷ commas list.ls) (Attribute None att.name said) (open_in section before)
     (closed_both (codes "\t\t") (rest_of_att att) [] (mark 58 ∷ word (escaped_name att.name) ∷ mark 61 ∷ (list.l ∷ commas list.ls ++ semicolon ∷ [])) tabs_closed (att_closed v att said list name))
@@ -288,7 +288,7 @@ global_says v section att said before list name =
 
 -- of a variable
 pub owned_says : (v : Version) (owner : List ℕ) (att : Att) (said : List Value) → IsListOf v (att_values att.ty att.vals) said → IsName owner → IsName att.name → Says v Variables (att_line (escaped_name owner) att) (Attribute (Some owner) att.name said)
-unfolding att_line text
+unfolding att_line concat_parts
 owned_says v owner att said list own name =
     statement_says v Variables (codes "\t\t" ++ (escaped_name owner ++ rest_of_att att)) (word (escaped_name owner)) (mark 58) (word (escaped_name att.name) ∷ mark 61 ∷ list.l ∷ commas list.ls) (Attribute (Some owner) att.name said) refl
     (closed_both (codes "\t\t") (escaped_name owner ++ rest_of_att att) [] (word (escaped_name owner) ∷ mark 58 ∷ word (escaped_name att.name) ∷ mark 61 ∷ (list.l ∷ commas list.ls ++ semicolon ∷ [])) tabs_closed

@@ -1,7 +1,7 @@
 -- A full dump is read back.
 use Rattle.std.proofs.Common.{◌≡◌, ℕ, true, false, List, [], ◌∷◌, ◌++◌, length, map, sym, ◌∙◌, ap, refl, append_assoc, append-nil}
 use Rattle.std.specs.Prelude.{ℤ, ◌&&◌, ◌||◌, ◌==◌, not, if◌then◌else◌, Option, None, Ok, codes}
-use Rattle.nc_base.specs.Bytes.{text}
+use Rattle.nc_base.specs.Bytes.{concat_parts}
 use Rattle.nc_base.specs.declared.dataset.Dataset.{Dataset}
 use Rattle.nc_base.specs.declared.header.Att.{Att}
 use Rattle.nc_base.specs.declared.header.Dim.{Dim}
@@ -41,7 +41,7 @@ regroup e d w g m s c =
 
 dump_is : (h : Header) (o : Options) (n : ℕ) (section : Section) →
     dump_text h o n section ≡ opening_bytes o.name ++ 10 ∷ (dims_text n h.dims ++ (vars_text h.dims h.vars ++ (gatts_text h.gatts ++ (data_word h o ++ (section.text ++ closing_word section.ending)))))
-unfolding text head_text netcdf_word
+unfolding concat_parts head_text netcdf_word
 dump_is h o n section = regroup (escaped_name o.name) (dims_text n h.dims) (vars_text h.dims h.vars) (gatts_text h.gatts) (data_word h o) section.text (closing_word section.ending)
 
 -- all variables are selected

@@ -3,7 +3,7 @@ use Rattle.std.proofs.Common.{◌≡◌, ℕ, ◌+◌, ◌<◌, true, false, Lis
 use Rattle.std.specs.Prelude.{◌==◌, if◌then◌else◌, nat_lt, Some, Ok, codes}
 use Rattle.std.specs.List.{list_all}
 use Rattle.std.proofs.lemmas.Bool.{false≢true, eqb-true}
-use Rattle.nc_base.specs.Bytes.{text}
+use Rattle.nc_base.specs.Bytes.{concat_parts}
 use Rattle.nc_base.specs.declared.header.Att.{Att}
 use Rattle.nc_base.specs.declared.header.Dim.{Dim}
 use Rattle.nc_base.specs.declared.header.Var.{Var}
@@ -65,8 +65,8 @@ abbrev pub after_vars : Section → List Var → Section
 after_vars section [] = section
 after_vars section (var ∷ vars) = Variables
 
-two_texts : (a b : List ℕ) → text (a ∷ b ∷ []) ≡ a ++ b
-unfolding text
+two_texts : (a b : List ℕ) → concat_parts (a ∷ b ∷ []) ≡ a ++ b
+unfolding concat_parts
 two_texts a b = ap (λ bs. a ++ bs) (append-nil b)
 
 pub dims_part : (v : Version) (n : ℕ) (dims : List Dim) (gatts : List Att) (drafts : List Draft) → AreNewDims v [] dims →
@@ -74,8 +74,8 @@ pub dims_part : (v : Version) (n : ℕ) (dims : List Dim) (gatts : List Att) (dr
 unfolding dims_text dim_lines
 dims_part v n [] gatts drafts h = takes_nothing v (state Globals [] gatts drafts)
 dims_part v n (d ∷ dims) gatts drafts h =
-    rw (not_none (length dims)) (subst (λ bs. Takes v bs (state Globals [] gatts drafts) (state Dimensions (d ∷ dims) gatts drafts)) (sym (two_texts dimensions_word (text (map (dim_line n) (d ∷ dims)))))
-    (takes_both v dimensions_word (text (map (dim_line n) (d ∷ dims))) (state Globals [] gatts drafts) (state Dimensions [] gatts drafts) (state Dimensions (d ∷ dims) gatts drafts)
+    rw (not_none (length dims)) (subst (λ bs. Takes v bs (state Globals [] gatts drafts) (state Dimensions (d ∷ dims) gatts drafts)) (sym (two_texts dimensions_word (concat_parts (map (dim_line n) (d ∷ dims)))))
+    (takes_both v dimensions_word (concat_parts (map (dim_line n) (d ∷ dims))) (state Globals [] gatts drafts) (state Dimensions [] gatts drafts) (state Dimensions (d ∷ dims) gatts drafts)
     (says_takes v dimensions_word (Mark Dimensions) (state Globals [] gatts drafts) (state Dimensions [] gatts drafts) (dimensions_says v) (mark_act v Globals Dimensions [] gatts drafts))
     (dims_taken v n [] (d ∷ dims) gatts drafts h)))
 
@@ -96,8 +96,8 @@ vars_part v dims (var ∷ vars) gatts distinct names fit =
     let s = state (after_dims dims) dims gatts [] in
     let t = state Variables dims gatts [] in
     let u = state Variables dims gatts (map draft_of (var ∷ vars)) in
-    rw (not_none (length vars)) (subst (λ bs. Takes v bs s u) (sym (two_texts variables_word (text (map (var_lines dims) (var ∷ vars)))))
-    (takes_both v variables_word (text (map (var_lines dims) (var ∷ vars))) s t u
+    rw (not_none (length vars)) (subst (λ bs. Takes v bs s u) (sym (two_texts variables_word (concat_parts (map (var_lines dims) (var ∷ vars)))))
+    (takes_both v variables_word (concat_parts (map (var_lines dims) (var ∷ vars))) s t u
     (says_takes v variables_word (Mark Variables) s t (variables_says v (after_dims dims) (before_of dims) (variables_shape v dims)) (mark_act v (after_dims dims) Variables dims gatts []))
     (vars_taken v dims gatts [] (var ∷ vars) distinct names fit)))
 
@@ -117,8 +117,8 @@ gatts_part v dims vars [] drafts speak new = takes_nothing v (state (after_vars 
 gatts_part v dims vars (a ∷ gatts) drafts speak new =
     let s = state (after_vars (after_dims dims) vars) dims [] drafts in
     let t = state (after_vars (after_dims dims) vars) dims (map trimmed_att (a ∷ gatts)) drafts in
-    rw (not_none (length gatts)) (subst (λ bs. Takes v bs s t) (sym (two_texts global_word (text (map (att_line []) (a ∷ gatts)))))
-    (takes_both v global_word (text (map (att_line []) (a ∷ gatts))) s s t (global_word_taken v s)
+    rw (not_none (length gatts)) (subst (λ bs. Takes v bs s t) (sym (two_texts global_word (concat_parts (map (att_line []) (a ∷ gatts)))))
+    (takes_both v global_word (concat_parts (map (att_line []) (a ∷ gatts))) s s t (global_word_taken v s)
     (globals_taken v (after_vars (after_dims dims) vars) dims [] (a ∷ gatts) drafts (before_vars dims vars) speak new)))
 
 pub data_mark : (v : Version) (dims : List Dim) (gatts : List Att) (drafts : List Draft) → Takes v (codes "data:\n") (state Variables dims gatts drafts) (state Values dims gatts drafts)

@@ -19,7 +19,7 @@ use Rattle.nc_base.specs.Names.{IsName}
 use Rattle.cdl_parse.specs.Meaning.{meaning, is_small_enough}
 use Rattle.cdl_laws.specs.RoundTrip.{IsFull}
 use Rattle.nc_base.specs.Sayable.{trimmed}
-use Rattle.nc_base.specs.Bytes.{text}
+use Rattle.nc_base.specs.Bytes.{concat_parts}
 use Rattle.nc_base.specs.Escapes.{is_reserved, escaped_name}
 use Rattle.nc_base.specs.HeadText.{netcdf_word, global_word, number_values, char_values, att_line, att_lines, dim_lines, dims_text, vars_text, gatts_text, head_text, broken_text}
 use Rattle.nc_base.specs.Dump.{data_word, closing_word}
@@ -115,7 +115,7 @@ following bytes h =
 
 -- though it is a text of bytes
 long_bytes : (n : ℕ) → 0 < n → Each IsByte (long_text n)
-unfolding text number_values char_values att_line att_lines dim_lines dims_text vars_text gatts_text head_text global_word netcdf_word data_word closing_word escaped_name is_reserved
+unfolding concat_parts number_values char_values att_line att_lines dim_lines dims_text vars_text gatts_text head_text global_word netcdf_word data_word closing_word escaped_name is_reserved
 long_bytes n some =
     let xs = without_trailing_nuls (replicate n 97) in
     let h : Each IsByte (broken_text xs) = subst (λ (ys : List ℕ). Each IsByte (broken_text ys)) (sym (no_nuls n some)) (broken_bytes n) in

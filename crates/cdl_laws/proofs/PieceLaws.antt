@@ -1,7 +1,7 @@
 -- A dump is cut into the statements that it was put together from.
 use Rattle.std.proofs.Common.{◌≡◌, ℕ, true, false, List, [], ◌∷◌, ◌++◌, map, sym, ◌∙◌, ap, refl, subst, arith, append-nil}
 use Rattle.std.specs.Prelude.{slice_index_or, None, Some, codes}
-use Rattle.nc_base.specs.Bytes.{text}
+use Rattle.nc_base.specs.Bytes.{concat_parts}
 use Rattle.nc_base.specs.declared.header.Att.{Att}
 use Rattle.nc_base.specs.declared.header.Dim.{Dim}
 use Rattle.nc_base.specs.declared.header.Var.{Var}
@@ -31,7 +31,7 @@ use Rattle.cdl_laws.proofs.Sayables.{atts_speak, limit_small}
 use Rattle.cdl_laws.proofs.Takes.{Says}
 use Rattle.cdl_laws.proofs.Texts.{word}
 use Rattle.cdl_laws.proofs.Typings.{typed_line, shape_of, typed_says}
-use Rattle.cdl_laws.proofs.Wholes.{Speaks, shape_is, text_append, text_more, text_none, valid_names}
+use Rattle.cdl_laws.proofs.Wholes.{Speaks, shape_is, parts_append, parts_more, parts_none, valid_names}
 
 -- what says a statement is one
 pub is_statement : (v : Version) (section : Section) (bytes : List ℕ) (statement : Statement) → Says v section bytes statement → IsStatement v section bytes statement
@@ -48,7 +48,7 @@ pieces_are_statements text = pieces_are text
 -- ---- marks
 
 line_is : (name : List ℕ) → opening_line name ≡ codes "netcdf " ++ (escaped_name name ++ codes " {")
-unfolding text netcdf_word
+unfolding concat_parts netcdf_word
 line_is name = ap (λ bs. codes "netcdf " ++ (escaped_name name ++ bs)) (append-nil (codes " {"))
 
 opening_back : (name rest : List ℕ) → IsName name →
@@ -113,14 +113,14 @@ dimensions_read_back d records s k dim h =
 
 declaration_is : (dims : List Dim) (var : Var) → AreDimids dims [] var.dimids → declaration dims var ≡ typed_line (type_word var.ty) var.name (shape_of (map (name_at dims) var.dimids))
 unfolding typed_line
-declaration_is dims var are = ap (λ shape. text (codes "\t" ∷ type_word var.ty ∷ codes " " ∷ escaped_name var.name ∷ shape ∷ codes " ;\n" ∷ [])) (shape_is dims var.dimids are)
+declaration_is dims var are = ap (λ shape. concat_parts (codes "\t" ∷ type_word var.ty ∷ codes " " ∷ escaped_name var.name ∷ shape ∷ codes " ;\n" ∷ [])) (shape_is dims var.dimids are)
 
 lines_are : (dims : List Dim) (var : Var) → var_lines dims var ≡ declaration dims var ++ att_lines (escaped_name var.name) var.atts
 unfolding var_lines
 lines_are dims var =
     let atts = att_lines (escaped_name var.name) var.atts in
-    text_append (codes "\t" ∷ type_word var.ty ∷ codes " " ∷ escaped_name var.name ∷ shape_text dims var.dimids ∷ codes " ;\n" ∷ []) (atts ∷ []) ∙
-    ap (λ bs. declaration dims var ++ bs) (text_more atts [] ∙ ap (λ bs. atts ++ bs) text_none ∙ append-nil atts)
+    parts_append (codes "\t" ∷ type_word var.ty ∷ codes " " ∷ escaped_name var.name ∷ shape_text dims var.dimids ∷ codes " ;\n" ∷ []) (atts ∷ []) ∙
+    ap (λ bs. declaration dims var ++ bs) (parts_more atts [] ∙ ap (λ bs. atts ++ bs) parts_none ∙ append-nil atts)
 
 declaration_back : (v : Version) (dims : List Dim) (var : Var) → IsName var.name → AreDimids dims [] var.dimids → has_type v var.ty ≡ true → AreDistinctDims dims → HaveNames dims → DeclarationReadsBack v dims var
 declaration_back v dims var name are known distinct names =

@@ -9,7 +9,7 @@ use Rattle.nc_base.specs.Escapes.{escaped_in_string, octal_escape}
 use Rattle.cdl_text.specs.declared.token.TokenKind.TheVariants as kinds
 use Rattle.cdl_text.specs.Bytes.{is_octal, is_digit}
 use Rattle.cdl_text.specs.Scan.{until, scan, scan_text}
-use Rattle.cdl_text.specs.Escapes.{character, byte, digit, plain_escape, unescape, unescape_at, joined}
+use Rattle.cdl_text.specs.Escapes.{character, byte, digit, plain_escape, unescape, unescape_at, prepended}
 use Rattle.cdl_text.specs.Lexemes.{Lexeme}
 use Rattle.cdl_laws.proofs.Words.{until_prefix}
 use Rattle.cdl_laws.proofs.Texts.{Closed, prefix_again}
@@ -33,7 +33,7 @@ unfolding character
 character_octal d e f rest h k l = rw (h) (rw (k) (rw (l) refl))
 
 unescape_octal : (d e f n : ℕ) (rest : List ℕ) → is_octal d ≡ true → is_octal e ≡ true → is_octal f ≡ true → byte (64 * digit d + 8 * digit e + digit f) ≡ Some n →
-    unescape (0x5c ∷ d ∷ e ∷ f ∷ rest) ≡ joined (Some n) (unescape rest)
+    unescape (0x5c ∷ d ∷ e ∷ f ∷ rest) ≡ prepended (Some n) (unescape rest)
 unfolding unescape_at
 unescape_octal d e f n rest h k l is = rw (character_octal d e f rest h k l) (rw (is) refl)
 
@@ -93,13 +93,13 @@ until_one b rest (letter c o x is same) = rw (same) refl
 until_one b rest (octal small same) = rw (same) (until_octal (48 + b / 64) (48 + b / 8 % 8) (48 + b % 8) rest (middle_octal b) (low_octal b))
 until_one b rest (bare h k same) = rw (same) (until_plain 0x22 b rest h k)
 
-letter_again : (c : ℕ) (rest : List ℕ) → is_octal c ≡ false → (c == 0x78) ≡ false → unescape (0x5c ∷ c ∷ rest) ≡ joined (Some (plain_escape c)) (unescape rest)
+letter_again : (c : ℕ) (rest : List ℕ) → is_octal c ≡ false → (c == 0x78) ≡ false → unescape (0x5c ∷ c ∷ rest) ≡ prepended (Some (plain_escape c)) (unescape rest)
 unfolding unescape_at character
 letter_again c rest o x = rw (o) (rw (x) refl)
 
-unescape_one : (b : ℕ) (rest : List ℕ) → IsEscapedAs b → unescape (escaped_in_string b ++ rest) ≡ joined (Some b) (unescape rest)
+unescape_one : (b : ℕ) (rest : List ℕ) → IsEscapedAs b → unescape (escaped_in_string b ++ rest) ≡ prepended (Some b) (unescape rest)
 unfolding unescape_at character
-unescape_one b rest (letter c o x is same) = rw (same) (letter_again c rest o x ∙ ap (λ n. joined (Some n) (unescape rest)) is)
+unescape_one b rest (letter c o x is same) = rw (same) (letter_again c rest o x ∙ ap (λ n. prepended (Some n) (unescape rest)) is)
 unescape_one b rest (octal small same) =
     rw (same) (unescape_octal (48 + b / 64) (48 + b / 8 % 8) (48 + b % 8) b rest (high_octal b small) (middle_octal b) (low_octal b) (octal_value b small))
 unescape_one b rest (bare h k same) = rw (same) (rw (h) refl)
@@ -118,7 +118,7 @@ until_all (b ∷ bytes) rest =
 pub unescape_all : (bytes : List ℕ) → unescape (flat_map escaped_in_string bytes) ≡ Some bytes
 unfolding unescape_at
 unescape_all [] = refl
-unescape_all (b ∷ bytes) = unescape_one b (flat_map escaped_in_string bytes) (stands b) ∙ ap (joined (Some b)) (unescape_all bytes)
+unescape_all (b ∷ bytes) = unescape_one b (flat_map escaped_in_string bytes) (stands b) ∙ ap (prepended (Some b)) (unescape_all bytes)
 
 -- between quotes
 abbrev pub quoted : List ℕ → List ℕ

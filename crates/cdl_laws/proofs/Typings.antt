@@ -4,7 +4,7 @@ use Rattle.std.specs.Prelude.{Some, codes}
 use Rattle.std.specs.List.{list_all}
 use Rattle.std.specs.Option.{option_map, option_and_then}
 use Rattle.std.proofs.lemmas.List.Folds.{list_all-append}
-use Rattle.nc_base.specs.Bytes.{text}
+use Rattle.nc_base.specs.Bytes.{concat_parts}
 use Rattle.nc_base.specs.declared.nc_type.NcType.{NcType}
 use Rattle.nc_base.specs.declared.version.Version.{Version}
 use Rattle.nc_base.specs.Escapes.{escaped_name}
@@ -27,11 +27,11 @@ AreNames names = Each IsName names
 -- the text of a shape of dimensions with these names
 unfoldable pub shape_of : List (List ℕ) → List ℕ
 shape_of [] = []
-shape_of (n ∷ ns) = text (codes "(" ∷ joined (map escaped_name (n ∷ ns)) ∷ codes ")" ∷ [])
+shape_of (n ∷ ns) = concat_parts (codes "(" ∷ joined (map escaped_name (n ∷ ns)) ∷ codes ")" ∷ [])
 
 -- the line of a declaration
 unfoldable pub typed_line : List ℕ → List ℕ → List ℕ → List ℕ
-typed_line ty name shape = text (codes "\t" ∷ ty ∷ codes " " ∷ escaped_name name ∷ shape ∷ codes " ;\n" ∷ [])
+typed_line ty name shape = concat_parts (codes "\t" ∷ ty ∷ codes " " ∷ escaped_name name ∷ shape ∷ codes " ;\n" ∷ [])
 
 abbrev pub name_lexemes : List (List ℕ) → List Lexeme
 name_lexemes names = map (λ name. word (escaped_name name)) names
@@ -55,7 +55,7 @@ names_each (name ∷ names) h = rw ((name_word name h.0).stands) (ap (both (λ y
 -- ---- without a shape
 
 scalar_closed : (ty : NcType) (name : List ℕ) → IsName name → Closed (typed_line (type_word ty) name []) (word (type_word ty) ∷ word (escaped_name name) ∷ semicolon ∷ [])
-unfolding typed_line text
+unfolding typed_line concat_parts
 scalar_closed ty name h =
     closed_both (codes "\t") (type_word ty ++ (codes " " ++ (escaped_name name ++ (codes " ;\n" ++ [])))) [] (word (type_word ty) ∷ word (escaped_name name) ∷ semicolon ∷ []) tab_closed
     (closed_by (type_word ty) (codes " " ++ (escaped_name name ++ (codes " ;\n" ++ []))) (word (type_word ty) ∷ []) (word (escaped_name name) ∷ semicolon ∷ []) (type_reads ty) (λ rest. refl)
@@ -80,7 +80,7 @@ shape_lexemes n ns = word (escaped_name n) ∷ commas (name_lexemes ns)
 
 array_closed : (ty : NcType) (name n : List ℕ) (ns : List (List ℕ)) → IsName name → AreNames (n ∷ ns) →
     Closed (typed_line (type_word ty) name (shape_of (n ∷ ns))) (word (type_word ty) ∷ word (escaped_name name) ∷ mark 40 ∷ (shape_lexemes n ns ++ mark 41 ∷ []) ++ semicolon ∷ [])
-unfolding typed_line shape_of text
+unfolding typed_line shape_of concat_parts
 array_closed ty name n ns h all =
     let inner = joined (map escaped_name (n ∷ ns)) in
     let shape = codes "(" ++ (inner ++ (codes ")" ++ [])) in

@@ -7,7 +7,7 @@ use Rattle.std.specs.Ordering.{int_eq}
 use Rattle.std.proofs.Math.Nat.{mod-eq_of_lt, zero-mod}
 use Rattle.std.proofs.lemmas.Bool.{false≢true}
 use Rattle.std.proofs.lemmas.Bool.Decides.{Decides-int_eq}
-use Rattle.nc_base.specs.Bytes.{text}
+use Rattle.nc_base.specs.Bytes.{concat_parts}
 use Rattle.nc_base.specs.Escapes.{escaped_name}
 use Rattle.nc_base.specs.declared.nc_type.NcType.TheVariants.{Int}
 use Rattle.nc_base.specs.declared.version.Version.{Version}
@@ -224,7 +224,7 @@ unfolding lexemes_at scan
 semicolon_closed rest = refl
 
 pub opening_closed : (look : Look) → IsName look.name → Closed (opening look) (word (escaped_name look.name) ∷ mark 61 ∷ [])
-unfolding opening text
+unfolding opening concat_parts
 opening_closed look h =
     closed_both (codes "\n ") (escaped_name look.name ++ (codes " =" ++ [])) [] (word (escaped_name look.name) ∷ mark 61 ∷ []) feed_closed
     (closed_by (escaped_name look.name) (codes " =" ++ []) (word (escaped_name look.name) ∷ []) (mark 61 ∷ []) (name_word look.name h).reads (λ rest. refl) equals_closed)

@@ -3,7 +3,7 @@ use Rattle.std.proofs.Common.{◌≡◌, ℕ, zero, suc, ◌^◌, ◌<◌, true,
 use Rattle.std.specs.Prelude.{◌==◌, None, Some, Ok, codes}
 use Rattle.std.specs.List.{list_any}
 use Rattle.std.specs.Str.{bytes_eq}
-use Rattle.nc_base.specs.Bytes.{text}
+use Rattle.nc_base.specs.Bytes.{concat_parts}
 use Rattle.nc_base.specs.declared.header.Att.{Att}
 use Rattle.nc_base.specs.declared.header.Dim.{Dim}
 use Rattle.nc_base.specs.declared.header.Var.{Var}
@@ -32,25 +32,25 @@ use Rattle.cdl_laws.proofs.Acts.{record_once, dim_added, is_new_att, att_added, 
 abbrev pub state : Section → List Dim → List Att → List Draft → State
 state section dims gatts drafts = record { section = section; dims = dims; gatts = gatts; drafts = drafts }
 
-pub text_append : (a b : List (List ℕ)) → text (a ++ b) ≡ text a ++ text b
-unfolding text
-text_append [] b = refl
-text_append (x ∷ a) b = ap (λ bs. x ++ bs) (text_append a b) ∙ sym (append_assoc x (text a) (text b))
+pub parts_append : (a b : List (List ℕ)) → concat_parts (a ++ b) ≡ concat_parts a ++ concat_parts b
+unfolding concat_parts
+parts_append [] b = refl
+parts_append (x ∷ a) b = ap (λ bs. x ++ bs) (parts_append a b) ∙ sym (append_assoc x (concat_parts a) (concat_parts b))
 
-pub text_more : (x : List ℕ) (xs : List (List ℕ)) → text (x ∷ xs) ≡ x ++ text xs
-unfolding text
-text_more x xs = refl
+pub parts_more : (x : List ℕ) (xs : List (List ℕ)) → concat_parts (x ∷ xs) ≡ x ++ concat_parts xs
+unfolding concat_parts
+parts_more x xs = refl
 
-pub text_none : text [] ≡ []
-unfolding text
-text_none = refl
+pub parts_none : concat_parts [] ≡ []
+unfolding concat_parts
+parts_none = refl
 
 -- lines one after the other
-lines_taken : (v : Version) (line : List ℕ) (lines : List (List ℕ)) (s t u : State) → Takes v line s t → Takes v (text lines) t u → Takes v (text (line ∷ lines)) s u
-lines_taken v line lines s t u p q = subst (λ bs. Takes v bs s u) (sym (text_more line lines)) (takes_both v line (text lines) s t u p q)
+lines_taken : (v : Version) (line : List ℕ) (lines : List (List ℕ)) (s t u : State) → Takes v line s t → Takes v (concat_parts lines) t u → Takes v (concat_parts (line ∷ lines)) s u
+lines_taken v line lines s t u p q = subst (λ bs. Takes v bs s u) (sym (parts_more line lines)) (takes_both v line (concat_parts lines) s t u p q)
 
-none_taken : (v : Version) (s t : State) → s ≡ t → Takes v (text []) s t
-none_taken v s t e = subst (λ bs. Takes v bs s t) (sym text_none) (subst (Takes v [] s) e (takes_nothing v s))
+none_taken : (v : Version) (s t : State) → s ≡ t → Takes v (concat_parts []) s t
+none_taken v s t e = subst (λ bs. Takes v bs s t) (sym parts_none) (subst (Takes v [] s) e (takes_nothing v s))
 
 -- ---- dimensions
 
@@ -66,13 +66,13 @@ unfolding act
 dim_act v done d gatts drafts h = ap (λ r. r >>= (λ dims. Ok (state Dimensions dims gatts drafts))) (turn (add_dim v) done (done ++ d ∷ []) (said_dim d) [] h)
 
 pub dims_taken : (v : Version) (n : ℕ) (done ds : List Dim) (gatts : List Att) (drafts : List Draft) → AreNewDims v done ds →
-    Takes v (text (map (dim_line n) ds)) (state Dimensions done gatts drafts) (state Dimensions (done ++ ds) gatts drafts)
+    Takes v (concat_parts (map (dim_line n) ds)) (state Dimensions done gatts drafts) (state Dimensions (done ++ ds) gatts drafts)
 dims_taken v n done [] gatts drafts h = none_taken v (state Dimensions done gatts drafts) (state Dimensions (done ++ []) gatts drafts) (ap (λ dims. state Dimensions dims gatts drafts) (sym (append-nil done)))
 dims_taken v n done (d ∷ ds) gatts drafts h =
     lines_taken v (dim_line n d) (map (dim_line n) ds) (state Dimensions done gatts drafts) (state Dimensions (done ++ d ∷ []) gatts drafts) (state Dimensions (done ++ d ∷ ds) gatts drafts)
     (says_takes v (dim_line n d) (Declared (said_dim d ∷ [])) (state Dimensions done gatts drafts) (state Dimensions (done ++ d ∷ []) gatts drafts) (dim_says v n d h.0 h.3)
     (dim_act v done d gatts drafts (dim_added v done d h.0 h.1 h.2 h.4)))
-    (subst (λ dims. Takes v (text (map (dim_line n) ds)) (state Dimensions (done ++ d ∷ []) gatts drafts) (state Dimensions dims gatts drafts)) (append_assoc done (d ∷ []) ds) (dims_taken v n (done ++ d ∷ []) ds gatts drafts h.5))
+    (subst (λ dims. Takes v (concat_parts (map (dim_line n) ds)) (state Dimensions (done ++ d ∷ []) gatts drafts) (state Dimensions dims gatts drafts)) (append_assoc done (d ∷ []) ds) (dims_taken v n (done ++ d ∷ []) ds gatts drafts h.5))
 
 -- ---- attributes
 
@@ -97,13 +97,13 @@ unfolding act
 global_act v section dims done a said drafts h = ap (λ r. r >>= (λ atts. Ok (state section dims atts drafts))) h
 
 pub globals_taken : (v : Version) (section : Section) (dims : List Dim) (done more : List Att) (drafts : List Draft) → IsBeforeData section → Each (Speaks v) more → AreNewAtts done more →
-    Takes v (text (map (att_line []) more)) (state section dims done drafts) (state section dims (done ++ map trimmed_att more) drafts)
+    Takes v (concat_parts (map (att_line []) more)) (state section dims done drafts) (state section dims (done ++ map trimmed_att more) drafts)
 globals_taken v section dims done [] drafts before speak new = none_taken v (state section dims done drafts) (state section dims (done ++ []) drafts) (ap (λ atts. state section dims atts drafts) (sym (append-nil done)))
 globals_taken v section dims done (a ∷ more) drafts before speak new =
     lines_taken v (att_line [] a) (map (att_line []) more) (state section dims done drafts) (state section dims (done ++ trimmed_att a ∷ []) drafts) (state section dims (done ++ map trimmed_att (a ∷ more)) drafts)
     (says_takes v (att_line [] a) (Attribute None a.name speak.0.said) (state section dims done drafts) (state section dims (done ++ trimmed_att a ∷ []) drafts) (global_says v section a speak.0.said before speak.0.list speak.0.name)
     (global_act v section dims done a speak.0.said drafts (att_is v done a speak.0 new.0)))
-    (subst (λ atts. Takes v (text (map (att_line []) more)) (state section dims (done ++ trimmed_att a ∷ []) drafts) (state section dims atts drafts)) (append_assoc done (trimmed_att a ∷ []) (map trimmed_att more))
+    (subst (λ atts. Takes v (concat_parts (map (att_line []) more)) (state section dims (done ++ trimmed_att a ∷ []) drafts) (state section dims atts drafts)) (append_assoc done (trimmed_att a ∷ []) (map trimmed_att more))
     (globals_taken v section dims (done ++ trimmed_att a ∷ []) more drafts before speak.1 new.1))
 
 owned_act : (v : Version) (dims : List Dim) (gatts : List Att) (before : List Draft) (name ids : List ℕ) (done : List Att) (ty : NcType) (a : Att) (said : List Value) → IsName name → no_draft name before → add_att a.name said done ≡ Ok (done ++ trimmed_att a ∷ []) →
@@ -115,7 +115,7 @@ owned_act v dims gatts before name ids done ty a said valid new h =
     (ap (λ r. r >>= (λ atts. Ok (bare_draft name ids atts ty))) h))
 
 pub owned_taken : (v : Version) (dims : List Dim) (gatts : List Att) (before : List Draft) (name ids : List ℕ) (done more : List Att) (ty : NcType) → IsName name → no_draft name before → Each (Speaks v) more → AreNewAtts done more →
-    Takes v (text (map (att_line (escaped_name name)) more)) (state Variables dims gatts (before ++ bare_draft name ids done ty ∷ [])) (state Variables dims gatts (before ++ bare_draft name ids (done ++ map trimmed_att more) ty ∷ []))
+    Takes v (concat_parts (map (att_line (escaped_name name)) more)) (state Variables dims gatts (before ++ bare_draft name ids done ty ∷ [])) (state Variables dims gatts (before ++ bare_draft name ids (done ++ map trimmed_att more) ty ∷ []))
 owned_taken v dims gatts before name ids done [] ty valid new speak fresh =
     none_taken v (state Variables dims gatts (before ++ bare_draft name ids done ty ∷ [])) (state Variables dims gatts (before ++ bare_draft name ids (done ++ []) ty ∷ [])) (ap (λ atts. state Variables dims gatts (before ++ bare_draft name ids atts ty ∷ [])) (sym (append-nil done)))
 owned_taken v dims gatts before name ids done (a ∷ more) ty valid new speak fresh =
@@ -123,7 +123,7 @@ owned_taken v dims gatts before name ids done (a ∷ more) ty valid new speak fr
     lines_taken v (att_line (escaped_name name) a) (map (att_line (escaped_name name)) more) (now done) (now (done ++ trimmed_att a ∷ [])) (now (done ++ map trimmed_att (a ∷ more)))
     (says_takes v (att_line (escaped_name name) a) (Attribute (Some name) a.name speak.0.said) (now done) (now (done ++ trimmed_att a ∷ [])) (owned_says v name a speak.0.said speak.0.list valid speak.0.name)
     (owned_act v dims gatts before name ids done ty a speak.0.said valid new (att_is v done a speak.0 fresh.0)))
-    (subst (λ atts. Takes v (text (map (att_line (escaped_name name)) more)) (now (done ++ trimmed_att a ∷ [])) (now atts)) (append_assoc done (trimmed_att a ∷ []) (map trimmed_att more))
+    (subst (λ atts. Takes v (concat_parts (map (att_line (escaped_name name)) more)) (now (done ++ trimmed_att a ∷ [])) (now atts)) (append_assoc done (trimmed_att a ∷ []) (map trimmed_att more))
     (owned_taken v dims gatts before name ids (done ++ trimmed_att a ∷ []) more ty valid new speak.1 fresh.1))
 
 -- ---- variables
@@ -169,18 +169,18 @@ not_none n = grind arith
 pub shape_is : (dims : List Dim) (ids : List ℕ) → AreDimids dims [] ids → shape_text dims ids ≡ shape_of (map (name_at dims) ids)
 unfolding shape_text shape_of
 shape_is dims [] are = refl
-shape_is dims (k ∷ ids) are = rw (not_none (length ids)) (ap (λ ns. text (codes "(" ∷ joined ns ∷ codes ")" ∷ [])) (known_names dims [] (k ∷ ids) are))
+shape_is dims (k ∷ ids) are = rw (not_none (length ids)) (ap (λ ns. concat_parts (codes "(" ∷ joined ns ∷ codes ")" ∷ [])) (known_names dims [] (k ∷ ids) are))
 
 pub valid_names : (dims : List Dim) (before ids : List ℕ) → HaveNames dims → AreDimids dims before ids → AreNames (map (name_at dims) ids)
 valid_names dims before [] names are = tt
 valid_names dims before (k ∷ ids) names are = (name_valid dims k names are.0.known, valid_names dims (before ++ k ∷ []) ids names are.1)
 
-var_text : (dims : List Dim) (var : Var) → AreDimids dims [] var.dimids → var_lines dims var ≡ typed_line (type_word var.ty) var.name (shape_of (map (name_at dims) var.dimids)) ++ text (map (att_line (escaped_name var.name)) var.atts)
+var_text : (dims : List Dim) (var : Var) → AreDimids dims [] var.dimids → var_lines dims var ≡ typed_line (type_word var.ty) var.name (shape_of (map (name_at dims) var.dimids)) ++ concat_parts (map (att_line (escaped_name var.name)) var.atts)
 unfolding var_lines typed_line att_lines
 var_text dims var are =
-    text_append (codes "\t" ∷ type_word var.ty ∷ codes " " ∷ escaped_name var.name ∷ shape_text dims var.dimids ∷ codes " ;\n" ∷ []) (text (map (att_line (escaped_name var.name)) var.atts) ∷ []) ∙
-    ap (λ bs. text (codes "\t" ∷ type_word var.ty ∷ codes " " ∷ escaped_name var.name ∷ shape_text dims var.dimids ∷ codes " ;\n" ∷ []) ++ bs) (text_more (text (map (att_line (escaped_name var.name)) var.atts)) [] ∙ ap (λ bs. text (map (att_line (escaped_name var.name)) var.atts) ++ bs) text_none ∙ append-nil (text (map (att_line (escaped_name var.name)) var.atts))) ∙
-    ap (λ shape. text (codes "\t" ∷ type_word var.ty ∷ codes " " ∷ escaped_name var.name ∷ shape ∷ codes " ;\n" ∷ []) ++ text (map (att_line (escaped_name var.name)) var.atts)) (shape_is dims var.dimids are)
+    parts_append (codes "\t" ∷ type_word var.ty ∷ codes " " ∷ escaped_name var.name ∷ shape_text dims var.dimids ∷ codes " ;\n" ∷ []) (concat_parts (map (att_line (escaped_name var.name)) var.atts) ∷ []) ∙
+    ap (λ bs. concat_parts (codes "\t" ∷ type_word var.ty ∷ codes " " ∷ escaped_name var.name ∷ shape_text dims var.dimids ∷ codes " ;\n" ∷ []) ++ bs) (parts_more (concat_parts (map (att_line (escaped_name var.name)) var.atts)) [] ∙ ap (λ bs. concat_parts (map (att_line (escaped_name var.name)) var.atts) ++ bs) parts_none ∙ append-nil (concat_parts (map (att_line (escaped_name var.name)) var.atts))) ∙
+    ap (λ shape. concat_parts (codes "\t" ∷ type_word var.ty ∷ codes " " ∷ escaped_name var.name ∷ shape ∷ codes " ;\n" ∷ []) ++ concat_parts (map (att_line (escaped_name var.name)) var.atts)) (shape_is dims var.dimids are)
 
 var_taken : (v : Version) (dims : List Dim) (gatts : List Att) (before : List Draft) (var : Var) → IsFit v dims before var → AreDistinctDims dims → HaveNames dims →
     Takes v (var_lines dims var) (state Variables dims gatts before) (state Variables dims gatts (before ++ draft_of var ∷ []))
@@ -190,16 +190,16 @@ var_taken v dims gatts before var fit distinct names =
     let s = state Variables dims gatts before in
     let t = state Variables dims gatts (before ++ bare_draft var.name var.dimids [] var.ty ∷ []) in
     subst (λ bs. Takes v bs s (state Variables dims gatts (before ++ draft_of var ∷ []))) (sym (var_text dims var fit.shape))
-    (takes_both v line (text shown) s t (state Variables dims gatts (before ++ draft_of var ∷ []))
+    (takes_both v line (concat_parts shown) s t (state Variables dims gatts (before ++ draft_of var ∷ []))
     (says_takes v line (Typed (word (type_word var.ty)) (record { name = var.name; dimensions = map (name_at dims) var.dimids } ∷ [])) s t (typed_says v var.ty var.name (map (name_at dims) var.dimids) fit.name (valid_names dims [] var.dimids names fit.shape)) (typed_act v dims gatts before var fit distinct names))
-    (subst (λ b. Takes v (text shown) t (state Variables dims gatts (before ++ record { var = record { name = var.name; dimids = var.dimids; atts = map trimmed_att var.atts; ty = var.ty; begin_at = b }; listed = None } ∷ []))) (sym fit.bare)
+    (subst (λ b. Takes v (concat_parts shown) t (state Variables dims gatts (before ++ record { var = record { name = var.name; dimids = var.dimids; atts = map trimmed_att var.atts; ty = var.ty; begin_at = b }; listed = None } ∷ []))) (sym fit.bare)
     (owned_taken v dims gatts before var.name var.dimids [] var.atts var.ty fit.name fit.new fit.atts fit.fresh)))
 
 pub vars_taken : (v : Version) (dims : List Dim) (gatts : List Att) (before : List Draft) (vars : List Var) → AreDistinctDims dims → HaveNames dims → AreFit v dims before vars →
-    Takes v (text (map (var_lines dims) vars)) (state Variables dims gatts before) (state Variables dims gatts (before ++ map draft_of vars))
+    Takes v (concat_parts (map (var_lines dims) vars)) (state Variables dims gatts before) (state Variables dims gatts (before ++ map draft_of vars))
 vars_taken v dims gatts before [] distinct names fit = none_taken v (state Variables dims gatts before) (state Variables dims gatts (before ++ [])) (ap (λ ds. state Variables dims gatts ds) (sym (append-nil before)))
 vars_taken v dims gatts before (var ∷ vars) distinct names fit =
     lines_taken v (var_lines dims var) (map (var_lines dims) vars) (state Variables dims gatts before) (state Variables dims gatts (before ++ draft_of var ∷ [])) (state Variables dims gatts (before ++ map draft_of (var ∷ vars)))
     (var_taken v dims gatts before var fit.0 distinct names)
-    (subst (λ ds. Takes v (text (map (var_lines dims) vars)) (state Variables dims gatts (before ++ draft_of var ∷ [])) (state Variables dims gatts ds)) (append_assoc before (draft_of var ∷ []) (map draft_of vars))
+    (subst (λ ds. Takes v (concat_parts (map (var_lines dims) vars)) (state Variables dims gatts (before ++ draft_of var ∷ [])) (state Variables dims gatts ds)) (append_assoc before (draft_of var ∷ []) (map draft_of vars))
     (vars_taken v dims gatts (before ++ draft_of var ∷ []) vars distinct names fit.1))

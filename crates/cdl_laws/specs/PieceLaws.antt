@@ -1,6 +1,6 @@
 -- A dump is cut into the statements that it was put together from.
 use Rattle.std.specs.Prelude.{◌≡◌, ℕ, ℤ, pos, ◌==◌, if◌then◌else◌, true, List, [], ◌∷◌, ◌++◌, All, map, codes, slice_get, Option, None, Some, Ok}
-use Rattle.nc_base.specs.Bytes.{text}
+use Rattle.nc_base.specs.Bytes.{concat_parts}
 use Rattle.nc_base.specs.declared.dataset.Dataset.{Dataset}
 use Rattle.nc_base.specs.declared.header.Att.{Att}
 use Rattle.nc_base.specs.declared.header.Dim.{Dim}
@@ -44,7 +44,7 @@ PiecesAreStatements = (text : List ℕ) → map (map (lexeme text)) (statements 
 
 -- the first line of a dump, but for its line feed
 abbrev pub opening_line : List ℕ → List ℕ
-opening_line name = text (netcdf_word ∷ escaped_name name ∷ codes " {" ∷ [])
+opening_line name = concat_parts (netcdf_word ∷ escaped_name name ∷ codes " {" ∷ [])
 
 -- the pieces that are one lexeme
 abbrev pub opening_piece : List ℕ → List Lexeme
@@ -88,7 +88,7 @@ DimensionsReadBack = (d : Dataset) (records : ℕ) → IsSayable d
 
 -- the line that declares a variable
 abbrev pub declaration : List Dim → Var → List ℕ
-declaration dims var = text (codes "\t" ∷ type_word var.ty ∷ codes " " ∷ escaped_name var.name ∷ shape_text dims var.dimids ∷ codes " ;\n" ∷ [])
+declaration dims var = concat_parts (codes "\t" ∷ type_word var.ty ∷ codes " " ∷ escaped_name var.name ∷ shape_text dims var.dimids ∷ codes " ;\n" ∷ [])
 
 abbrev pub type_lexeme : Var → Lexeme
 type_lexeme var = record { kind = kinds.Word; bytes = type_word var.ty }

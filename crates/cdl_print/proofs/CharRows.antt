@@ -7,16 +7,16 @@ use Rattle.std.proofs.lemmas.Bool.Decides.{nat_tests}
 use Rattle.std.proofs.lemmas.Grind.{flat_map-append}
 use Rattle.std.proofs.lemmas.List.{length-map, length-take-le, map-append, take-append-drop}
 use Rattle.std.proofs.lemmas.List.Sums.{prefix_len-le-length}
-use Rattle.nc_base.specs.Escapes.{escaped_in_string, escaped_text}
+use Rattle.nc_base.specs.Escapes.{escaped_in_string, escaped_text, is_literal}
 use Rattle.nc_base.specs.ValueText.{Look, is_char, begins_row, char_lead, char_text, char_piece, held, piece, pieces, measured_prefix, later_pieces}
 use Rattle.nc_base.proofs.ValueLaws.{place-add, held_other, held_nul, held_first, held_untrimmed}
 use Rattle.devices.specs.Sinks.{SinkView, Appended, FailedPartway, Wrote}
-use Rattle.cdl_print.specs.Pieces.{is_literal, IsPiece}
+use Rattle.cdl_print.specs.Pieces.{IsRun}
 use Rattle.cdl_print.specs.Leads.{next_char_lead}
 use Rattle.cdl_print.specs.Printing.{run_text, run_bytes, row_index_after_run, IsAfterRun, IsAfter, PrintsMore}
 use Rattle.cdl_print.specs.declared.progress.Progress.{Progress}
 use Rattle.cdl_print.proofs.Begun.{IsBegun, begun_at_first}
-use Rattle.cdl_print.proofs.Pieces.{flat_map_itself, literal_itself, prefix_is_piece}
+use Rattle.cdl_print.proofs.Pieces.{flat_map_itself, literal_itself, prefix_is_run}
 
 and_parts : (a b : Bool) → (a && b) ≡ true → (a ≡ true) × (b ≡ true)
 and_parts true b h = (refl, h)
@@ -103,7 +103,7 @@ or_second : (a b : Bool) → (a || b) ≡ true → a ≡ false → b ≡ true
 or_second true b h none = absurd (false≢true (sym none))
 or_second false b h none = h
 
-all_literal : (b c : ℕ) (run : List ℕ) → IsPiece is_literal (b ∷ c ∷ run) → list_all is_literal (b ∷ c ∷ run) ≡ true
+all_literal : (b c : ℕ) (run : List ℕ) → IsRun is_literal (b ∷ c ∷ run) → list_all is_literal (b ∷ c ∷ run) ≡ true
 all_literal b c run literal =
     let long : (length (b ∷ c ∷ run) == 1) ≡ false = grind (arith, nat_tests) in
     or_second _ _ literal long
@@ -138,7 +138,7 @@ others_are look before xs b c run is all fits =
     literal_pieces look before (xs ++ pos b ∷ []) (c ∷ run) is parts.1 (held_other look xs (pos b) (literal_some b parts.0)) (λ _. omega (arith, row_index)) (λ _. omega (arith, row_index))
 
 -- the run's text is the pieces of its characters
-bytes_are : (look : Look) (xs : List ℤ) (p : Progress) (run : List ℕ) → is_char look.ty ≡ true → 0 < length run → IsPiece is_literal run → IsInRow look xs run → IsAfter look xs p
+bytes_are : (look : Look) (xs : List ℤ) (p : Progress) (run : List ℕ) → is_char look.ty ≡ true → 0 < length run → IsRun is_literal run → IsInRow look xs run → IsAfter look xs p
     → run_bytes look p run ≡ later_pieces look xs (map pos run)
 unfolding pieces
 bytes_are look xs p [] is some literal fits following = absurd (omega arith)
@@ -185,7 +185,7 @@ or_true true t = refl
 or_true false true = refl
 or_true false false = refl
 
-held_next : (look : Look) (xs : List ℤ) (p q : Progress) (run : List ℕ) → is_char look.ty ≡ true → 0 < length run → IsPiece is_literal run → IsInRow look xs run → IsAfter look xs p → IsAfterRun look p run q
+held_next : (look : Look) (xs : List ℤ) (p q : Progress) (run : List ℕ) → is_char look.ty ≡ true → 0 < length run → IsRun is_literal run → IsInRow look xs run → IsAfter look xs p → IsAfterRun look p run q
     → q.held ≡ held look (xs ++ map pos run)
 held_next look xs p q [] is some literal fits following next = absurd (omega arith)
 held_next look xs p q (b ∷ []) is some literal fits following next =
@@ -200,7 +200,7 @@ row_index_next look xs p q run some fits following next =
     ∙ sym (place-add (length xs) (length run) look.row some fits)
     ∙ ap (λ n. n % look.row) (sym (length-append xs (map pos run) ∙ ap (λ n. length xs + n) (length-map run pos)))
 
-after_next : (look : Look) (xs : List ℤ) (p q : Progress) (run : List ℕ) → is_char look.ty ≡ true → 0 < length run → IsPiece is_literal run → IsInRow look xs run → IsAfter look xs p → IsAfterRun look p run q
+after_next : (look : Look) (xs : List ℤ) (p q : Progress) (run : List ℕ) → is_char look.ty ≡ true → 0 < length run → IsRun is_literal run → IsInRow look xs run → IsAfter look xs p → IsAfterRun look p run q
     → IsAfter look (xs ++ map pos run) q
 after_next look xs p q run is some literal fits following next = record {
   position = omega (arith, next.position, following.position, length-append xs (map pos run), length-map run pos);
@@ -213,7 +213,7 @@ in_row_at : (look : Look) (xs : List ℤ) (p : Progress) (run : List ℕ) → Is
 in_row_at look xs p run following fits = λ long. let f = fits long in omega (arith, following.row_index)
 
 -- a run is printed, or the sink failed inside of its text
-pub goes_run : {X E : Type 0} (look : Look) (run : List ℕ) (p q : Progress) (old new : SinkView) (r : Result X E) → is_char look.ty ≡ true → 0 < length run → IsPiece is_literal run
+pub goes_run : {X E : Type 0} (look : Look) (run : List ℕ) (p q : Progress) (old new : SinkView) (r : Result X E) → is_char look.ty ≡ true → 0 < length run → IsRun is_literal run
     → (1 < length run → p.row_index + length run ≤ look.row) → Wrote old new (run_bytes look p run) r → OnOk r (IsAfterRun look p run q) → PrintsMore look (map pos run) p q old new r
 goes_run look run p q old new (Ok done) is some literal fits wrote next = record {
   position = omega (arith, next.position, length-map run pos);
@@ -250,22 +250,22 @@ take_take (suc n) zero xs le = absurd (omega arith)
 take_take (suc n) (suc k) [] le = refl
 take_take (suc n) (suc k) (x ∷ xs) le = ap (λ (ys : List ℕ). x ∷ ys) (take_take n k xs (omega arith))
 
-first_alone : (xs : List ℕ) → 0 < length xs → IsPiece is_literal (take 1 xs)
+first_alone : (xs : List ℕ) → 0 < length xs → IsRun is_literal (take 1 xs)
 first_alone [] some = absurd (omega arith)
 first_alone (x ∷ xs) some = refl
 
 -- what goes out next, by how many bytes are left in the row
 pub run_is : (n k row row_index : ℕ) (bytes : List ℕ) → 0 < length bytes → k ≤ length bytes → k ≤ row - row_index → n ≡ max 1 (prefix_len is_literal (take k bytes))
-    → (n ≤ length bytes) × IsPiece is_literal (take n bytes) × (1 < n → row_index + n ≤ row)
+    → (n ≤ length bytes) × IsRun is_literal (take n bytes) × (1 < n → row_index + n ≤ row)
 run_is n zero row row_index bytes some within fits is =
     let one : n ≡ 1 = is in
-    (omega arith, subst (λ m. IsPiece is_literal (take m bytes)) (sym one) (first_alone bytes some), λ h. absurd (omega arith))
+    (omega arith, subst (λ m. IsRun is_literal (take m bytes)) (sym one) (first_alone bytes some), λ h. absurd (omega arith))
 run_is n (suc k) row row_index bytes some within fits is =
     let prefix = take (suc k) bytes in
     let len : length prefix ≡ suc k = length-take-le (suc k) bytes within in
     let le : n ≤ suc k = omega (arith, prefix_len-le-length is_literal prefix) in
-    let piece : IsPiece is_literal (take n prefix) = subst (λ m. IsPiece is_literal (take m prefix)) (sym is) (prefix_is_piece is_literal prefix (omega arith)) in
-    (omega arith, subst (IsPiece is_literal) (take_take n (suc k) bytes le) piece, λ h. omega arith)
+    let piece : IsRun is_literal (take n prefix) = subst (λ m. IsRun is_literal (take m prefix)) (sym is) (prefix_is_run is_literal prefix (omega arith)) in
+    (omega arith, subst (IsRun is_literal) (take_take n (suc k) bytes le) piece, λ h. omega arith)
 
 -- ---- the loop over characters
 

@@ -6,7 +6,7 @@ use Rattle.std.specs.Fmt.{signed_decimal}
 use Rattle.nc_base.specs.declared.header.Dim.{Dim}
 use Rattle.nc_base.specs.declared.nc_type.NcType.{NcType}
 use Rattle.nc_base.specs.declared.nc_type.NcType.TheVariants.{Byte, Char, Short, Int, Ubyte, Ushort, Uint, Int64, Uint64}
-use Rattle.nc_base.specs.Bytes.{text}
+use Rattle.nc_base.specs.Bytes.{concat_parts}
 use Rattle.nc_base.specs.HeadText.{dim_name, joined, number_values}
 use Rattle.nc_base.specs.Types.{number_suffix}
 use Rattle.nc_base.specs.Numbers.{number_of, numbers, numbers_from}
@@ -25,7 +25,7 @@ joined-cons x (y ∷ xs) is_last e =
     rw more refl
 
 pub joined_names-cons : (dims : List Dim) (id : ℕ) (ids rest : List ℕ) (is_last : Bool) → rest ≡ id ∷ ids → is_last ≡ (length ids == 0) → joined (map (dim_name dims) rest) ≡ dim_text dims id is_last ++ joined (map (dim_name dims) ids)
-unfolding dim_text text
+unfolding dim_text concat_parts
 joined_names-cons dims id ids rest is_last e last =
     rw e (joined-cons (dim_name dims id) (map (dim_name dims) ids) is_last (rw length-map last) ∙ simp (append_assoc, append-nil))
 
@@ -76,7 +76,7 @@ texts : NcType → List ℤ → List (List ℕ)
 texts ty = map (λ (n : ℤ). signed_decimal n ++ number_suffix ty)
 
 number_values-cons : (ty : NcType) (bytes : List ℕ) (is_last : Bool) → size_of ty ≤ length bytes → nat_lt (length (drop (size_of ty) bytes)) (size_of ty) ≡ is_last → number_values ty bytes ≡ number_text ty (take (size_of ty) bytes) is_last ++ number_values ty (drop (size_of ty) bytes)
-unfolding number_values number_text text texts
+unfolding number_values number_text concat_parts texts
 number_values-cons ty bytes is_last le last =
     let n = number_of ty (take (size_of ty) bytes) in
     let others = numbers ty (drop (size_of ty) bytes) in

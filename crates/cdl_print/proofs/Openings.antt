@@ -2,7 +2,7 @@
 use Rattle.std.proofs.Common.{◌≡◌, ℕ, ◌+◌, ◌-◌, ◌<◌, Bool, true, false, cond, not, List, [], ◌∷◌, ◌++◌, length, take, get_or, sym, ◌∙◌, ap, refl, arith, append_assoc}
 use Rattle.std.specs.Prelude.{codes, ◌==◌}
 use Rattle.std.proofs.lemmas.List.{take_all, take_more}
-use Rattle.nc_base.specs.Bytes.{text}
+use Rattle.nc_base.specs.Bytes.{concat_parts}
 use Rattle.nc_base.specs.ValueText.{column}
 use Rattle.nc_base.proofs.ValueLaws.{column-flat, column-broken}
 
@@ -34,8 +34,8 @@ pub prefix_whole : (name : List ℕ) → name_prefix name (length name) ≡ code
 prefix_whole name = ap (λ (t : List ℕ). codes "\n " ++ t) (take_all (length name) name (omega arith))
 
 -- after the equals sign
-pub columns_left_opening : (name : List ℕ) (width columns_left : ℕ) → columns_left ≡ width - column (codes "\n " ++ name) → columns_left - 2 ≡ width - column (text (codes "\n " ∷ name ∷ codes " =" ∷ []))
-unfolding text
+pub columns_left_opening : (name : List ℕ) (width columns_left : ℕ) → columns_left ≡ width - column (codes "\n " ++ name) → columns_left - 2 ≡ width - column (concat_parts (codes "\n " ∷ name ∷ codes " =" ∷ []))
+unfolding concat_parts
 columns_left_opening name width columns_left is =
     let flat = column-flat (codes "\n " ++ name) (codes " =") refl in
     let same : column (codes "\n " ++ (name ++ codes " =")) ≡ column (codes "\n " ++ name) + 2

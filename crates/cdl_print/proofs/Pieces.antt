@@ -1,21 +1,24 @@
--- The pieces that names and strings are written by.
+-- The runs that names and strings are written by, and the lines of a string.
 use Rattle.std.proofs.Common.{◌≡◌, ℕ, ◌+◌, ◌<◌, ◌≤◌, ◌==◌, Bool, true, false, cond, List, [], ◌∷◌, ◌++◌, length, take, drop, max, refl, sym, ap, ◌∙◌, arith, rules, zero, suc, min, append_assoc, if◌then◌else◌, not, nat_lt, position, Some, None}
 use Rattle.std.proofs.lemmas.Grind.{common_steps, flat_map-append}
 use Rattle.std.proofs.lemmas.List.Sums.{prefix_len-le-length}
 use Rattle.std.proofs.lemmas.List.{append-nil, take-append-drop}
-use Rattle.nc_base.specs.Bytes.{text}
+use Rattle.nc_base.specs.Bytes.{concat_parts}
 use Rattle.nc_base.specs.HeadText.{broken_text, string_break}
 use Rattle.std.proofs.lemmas.Bool.Decides.{nat_tests}
 use Rattle.std.specs.List.{flat_map, list_all, prefix_len, position_or_len}
-use Rattle.nc_base.specs.Escapes.{escaped_name, is_reserved, escaped_text, escaped_in_string}
-use Rattle.cdl_print.specs.Pieces.{is_literal, IsPiece, line_len, line_text}
+use Rattle.nc_base.specs.Escapes.{escaped_name, is_reserved, escaped_text, escaped_in_string, is_literal}
+use Rattle.nc_base.specs.Quoted.{escaped_in, stands_for_itself}
+use Rattle.nc_base.specs.declared.escape.Quoting.{Quoting}
+use Rattle.nc_base.specs.declared.escape.Quoting.TheVariants.{InName, InString}
+use Rattle.cdl_print.specs.Pieces.{IsRun, line_len, line_text}
 
--- the length of a piece
-abbrev pub piece_len_of : (ℕ → Bool) → List ℕ → ℕ
-piece_len_of p xs = max 1 (prefix_len p xs)
+-- the length of a run, or of one byte
+abbrev pub run_len_of : (ℕ → Bool) → List ℕ → ℕ
+run_len_of p xs = max 1 (prefix_len p xs)
 
-pub piece_len-le : (p : ℕ → Bool) (xs : List ℕ) → 0 < length xs → piece_len_of p xs ≤ length xs
-piece_len-le p xs h = omega (arith, prefix_len-le-length p xs)
+pub run_len-le : (p : ℕ → Bool) (xs : List ℕ) → 0 < length xs → run_len_of p xs ≤ length xs
+run_len-le p xs h = omega (arith, prefix_len-le-length p xs)
 
 list_all-prefix : (p : ℕ → Bool) (xs : List ℕ) → list_all p (take (prefix_len p xs) xs) ≡ true
 list_all-prefix p [] = refl
@@ -23,16 +26,16 @@ list_all-prefix p (x ∷ xs) =
     let later = list_all-prefix p xs in
     elim (p x) as (λ b. p x ≡ b → list_all p (take (cond b (1 + prefix_len p xs) 0) (x ∷ xs)) ≡ true) [ true ↦ λ e. grind (arith, common_steps, later) | false ↦ λ e. refl ] refl
 
-prefix_is_piece_at : (p : ℕ → Bool) (xs : List ℕ) (n : ℕ) → 0 < length xs → n ≡ prefix_len p xs → IsPiece p (take (max 1 n) xs)
-prefix_is_piece_at p [] zero h is = elim h [ ]
-prefix_is_piece_at p (x ∷ xs) zero h is = refl
-prefix_is_piece_at p xs (suc n) h is =
+prefix_is_run_at : (p : ℕ → Bool) (xs : List ℕ) (n : ℕ) → 0 < length xs → n ≡ prefix_len p xs → IsRun p (take (max 1 n) xs)
+prefix_is_run_at p [] zero h is = elim h [ ]
+prefix_is_run_at p (x ∷ xs) zero h is = refl
+prefix_is_run_at p xs (suc n) h is =
     let all : list_all p (take (suc n) xs) ≡ true = rw is (list_all-prefix p xs) in
     let longer : max 1 (suc n) ≡ suc n = omega arith in
     rw (longer, all) (grind arith)
 
-pub prefix_is_piece : (p : ℕ → Bool) (xs : List ℕ) → 0 < length xs → IsPiece p (take (piece_len_of p xs) xs)
-prefix_is_piece p xs h = prefix_is_piece_at p xs (prefix_len p xs) h refl
+pub prefix_is_run : (p : ℕ → Bool) (xs : List ℕ) → 0 < length xs → IsRun p (take (run_len_of p xs) xs)
+prefix_is_run p xs h = prefix_is_run_at p xs (prefix_len p xs) h refl
 
 pub flat_map_parts : (f : ℕ → List ℕ) (n : ℕ) (xs prefix back : List ℕ) → prefix ≡ take n xs → back ≡ drop n xs → flat_map f xs ≡ flat_map f prefix ++ flat_map f back
 flat_map_parts f n xs prefix back e d =
@@ -84,16 +87,16 @@ line_len-some xs some = omega (arith, line_len-position xs)
 pub literal_itself : (b : ℕ) → is_literal b ≡ true → escaped_in_string b ≡ b ∷ []
 literal_itself b h = grind (arith, nat_tests)
 
-pub escaped_text-parts : (n : ℕ) (xs prefix back : List ℕ) → prefix ≡ take n xs → back ≡ drop n xs → escaped_text xs ≡ flat_map escaped_in_string prefix ++ escaped_text back
-unfolding escaped_text
-escaped_text-parts n xs prefix back e d = flat_map_parts escaped_in_string n xs prefix back e d
+pub plain_itself : (quoting : Quoting) (b : ℕ) → stands_for_itself quoting b ≡ true → escaped_in quoting b ≡ b ∷ []
+plain_itself InName b h = ap (λ t. cond t (b ∷ []) (92 ∷ b ∷ [])) h
+plain_itself InString b h = literal_itself b h
 
 line_text-cons : (b : ℕ) (line : List ℕ) (is_last : Bool) → line_text (b ∷ line) is_last ≡ escaped_in_string b ++ line_text line is_last
-unfolding line_text escaped_text text
+unfolding line_text escaped_text concat_parts
 line_text-cons b line is_last = append_assoc (escaped_in_string b) (flat_map escaped_in_string line) ((if is_last then [] else string_break) ++ [])
 
 line_text-none : (is_last : Bool) → line_text [] is_last ≡ (if is_last then [] else string_break)
-unfolding line_text escaped_text text
+unfolding line_text escaped_text concat_parts
 line_text-none is_last = append-nil (if is_last then [] else string_break)
 
 last_line : (b : ℕ) → escaped_in_string b ≡ line_text (b ∷ []) true ++ []

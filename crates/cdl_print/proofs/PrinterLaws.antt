@@ -3,7 +3,7 @@ use Rattle.std.proofs.Common.{◌≡◌, ℕ, ℤ, ◌-◌, ◌/◌, true, false
 use Rattle.std.specs.Prelude.{codes, IfSome}
 use Rattle.std.proofs.Math.Nat.{zero-mod}
 use Rattle.std.proofs.lemmas.Bool.{false≢true}
-use Rattle.nc_base.specs.Bytes.{text}
+use Rattle.nc_base.specs.Bytes.{concat_parts}
 use Rattle.nc_base.specs.Numbers.{numbers, numbers_from}
 use Rattle.nc_base.specs.ValueText.{Look, is_char, column, measured_opening}
 use Rattle.nc_base.specs.declared.nc_type.NcType.{NcType}
@@ -25,7 +25,7 @@ after_none look p position row_index held columns_left = record {
 
 -- a new printer
 pub stands_first : (look : Look) (printer : ValuePrinter) → printer.progress.position ≡ 0 → printer.progress.row_index ≡ 0 → printer.progress.held ≡ 0
-    → printer.progress.columns_left ≡ printer.layout.width - column (text (codes "\n " ∷ printer.layout.name.now ∷ codes " =" ∷ []))
+    → printer.progress.columns_left ≡ printer.layout.width - column (concat_parts (codes "\n " ∷ printer.layout.name.now ∷ codes " =" ∷ []))
     → printer.has_failed ≡ false → look_in printer ≡ look → HasPrinted look [] printer
 unfolding measured_opening
 stands_first look printer position row_index held columns_left unfailed same = record {

@@ -1,10 +1,9 @@
 -- What a name and a string are put together from.
-use Rattle.std.specs.Prelude.{ℕ, suc, ◌==◌, ◌||◌, Bool, not, IsTrue, if◌then◌else◌, List, [], ◌∷◌, length, map, codes}
+use Rattle.std.specs.Prelude.{ℕ, suc, ◌==◌, ◌||◌, Bool, IsTrue, if◌then◌else◌, List, [], ◌∷◌, length, map, codes}
 use Rattle.std.specs.Fmt.{signed_decimal}
 use Rattle.std.specs.List.{list_all}
-use Rattle.nc_base.specs.Bytes.{text}
+use Rattle.nc_base.specs.Bytes.{concat_parts}
 use Rattle.nc_base.specs.Escapes.{begins_with_digit_or_mark, is_reserved, escaped_text}
-use Rattle.std.specs.Char.{is_ascii_control}
 use Rattle.nc_base.specs.HeadText.{dim_name, string_break, var_lines}
 use Rattle.nc_base.specs.Types.{number_suffix}
 use Rattle.nc_base.specs.Numbers.{number_of}
@@ -17,12 +16,8 @@ unfoldable pub prefix_escape : List ℕ → List ℕ
 prefix_escape name = if begins_with_digit_or_mark name || is_reserved name then 92 ∷ [] else []
 
 -- one byte, or bytes that all pass the test
-abbrev pub IsPiece : (ℕ → Bool) → List ℕ → Type 0
-IsPiece test piece = IsTrue ((length piece == 1) || list_all test piece)
-
--- a byte that stands for itself in a string
-abbrev pub is_literal : ℕ → Bool
-is_literal b = not (is_ascii_control b || (b == 34) || (b == 39) || (b == 92))
+abbrev pub IsRun : (ℕ → Bool) → List ℕ → Type 0
+IsRun test run = IsTrue ((length run == 1) || list_all test run)
 
 -- how many bytes there are up to the first line feed and with it; all, if there is none
 abbrev pub line_len : List ℕ → ℕ
@@ -31,17 +26,17 @@ line_len (b ∷ bytes) = if b == 10 then 1 else suc (line_len bytes)
 
 -- a line of a string, with the break after each but the last
 unfoldable pub line_text : List ℕ → Bool → List ℕ
-line_text line is_last = text (escaped_text line ∷ (if is_last then [] else string_break) ∷ [])
+line_text line is_last = concat_parts (escaped_text line ∷ (if is_last then [] else string_break) ∷ [])
 
 -- a number of an attribute, with what stands between it and the next
 unfoldable pub number_text : NcType → List ℕ → Bool → List ℕ
 number_text ty value is_last =
-    text (signed_decimal (number_of ty value) ∷ number_suffix ty ∷ (if is_last then [] else codes ", ") ∷ [])
+    concat_parts (signed_decimal (number_of ty value) ∷ number_suffix ty ∷ (if is_last then [] else codes ", ") ∷ [])
 
 -- a dimension of a shape, with what stands between it and the next
 unfoldable pub dim_text : List Dim → ℕ → Bool → List ℕ
-dim_text dims id is_last = text (dim_name dims id ∷ (if is_last then [] else codes ", ") ∷ [])
+dim_text dims id is_last = concat_parts (dim_name dims id ∷ (if is_last then [] else codes ", ") ∷ [])
 
 -- the lines of the variables
 unfoldable pub var_rows : List Dim → List Var → List ℕ
-var_rows dims vars = text (map (var_lines dims) vars)
+var_rows dims vars = concat_parts (map (var_lines dims) vars)

@@ -1,7 +1,7 @@
 //! Attributes as CDL writes them.
 
 ghost use Rattle.std.specs.Prelude.{◌≡◌, [], ◌∷◌, codes};
-ghost use Rattle.nc_base.specs.Bytes.{text};
+ghost use Rattle.nc_base.specs.Bytes.{concat_parts};
 ghost use Rattle.nc_base.specs.Escapes.{escaped_name};
 ghost use Rattle.nc_base.specs.HeadText.{att_line, att_lines, att_values, char_values, without_trailing_nuls};
 ghost use Rattle.devices.specs.Sinks.{Wrote};
@@ -37,7 +37,7 @@ fn put_att_line<W: Sink>(sink: &mut W, owner: &[u8], att: &Att) -> Result<(), Wr
 /// Writes what an attribute is called, with its variable.
 #[tactic(auto, using(devices::proofs::Writes::writes))]
 fn put_att_name<W: Sink>(sink: &mut W, owner: &[u8], name: &[u8]) -> Result<(), WriteFailed>
-    ensures { Wrote (W.view sink.old) (W.view sink.new) (text (codes "\t\t" ∷ escaped_name owner.now ∷ codes ":" ∷ escaped_name name.now ∷ [])) result }
+    ensures { Wrote (W.view sink.old) (W.view sink.new) (concat_parts (codes "\t\t" ∷ escaped_name owner.now ∷ codes ":" ∷ escaped_name name.now ∷ [])) result }
 {
     put(sink, b"\t\t")?;
     put_name(sink, owner)?;

@@ -1,17 +1,18 @@
 //! The characters of a variable as CDL writes them.
 
 ghost use Rattle.std.specs.Prelude.{◌≡◌, ◌+◌, ◌<◌, ◌≤◌, ◌==◌, ◌||◌, ◌&&◌, ◌^◌, true, not, pos, map, length, take, replicate, if◌then◌else◌, OnOk};
-ghost use Rattle.nc_base.specs.Escapes.{escaped_text};
+ghost use Rattle.nc_base.specs.Escapes.{escaped_text, is_literal};
 ghost use Rattle.nc_base.specs.ValueText.{is_char};
 ghost use Rattle.devices.specs.Sinks.{Wrote};
 ghost use Rattle.cdl_print.specs.Leads.{look_at};
-ghost use Rattle.cdl_print.specs.Pieces.{is_literal, IsPiece};
+ghost use Rattle.cdl_print.specs.Pieces.{IsRun};
 ghost use Rattle.cdl_print.specs.Printing.{is_one_nul, run_bytes, run_text, PrintsMore, IsAfterRun};
 
+use crate::escaped::{put_run, run_len};
 use crate::layout::Layout;
 use crate::progress::{Progress, row_index_after};
-use crate::string::{piece_len, put_piece};
 use devices::{Sink, WriteFailed, put};
+use nc_base::Quoting;
 
 /// Writes characters of a variable, each with what stands before it.
 pub fn put_char_values<W: Sink>(
@@ -26,7 +27,7 @@ pub fn put_char_values<W: Sink>(
 {
     let mut rest = bytes;
     while !rest.is_empty() {
-        let (run, others) = rest.split_at(run_len(layout.row, progress.row_index, rest));
+        let (run, others) = rest.split_at(run_len_in_row(layout.row, progress.row_index, rest));
         put_next_run(sink, layout, progress, run)?;
         rest = others;
     }
@@ -35,15 +36,15 @@ pub fn put_char_values<W: Sink>(
 
 /// The length of what goes out next, from this place of a row on: of the prefix of bytes that stand for themselves, up to
 /// the row's end, or one byte.
-fn run_len(row: u128, row_index: u128, bytes: &[u8]) -> usize
+fn run_len_in_row(row: u128, row_index: u128, bytes: &[u8]) -> usize
     requires { 0 < length bytes.now }
     ensures some { 0 < result }
     ensures within { result ≤ length bytes.now }
-    ensures piece { IsPiece is_literal (take result bytes.now) }
+    ensures piece { IsRun is_literal (take result bytes.now) }
     ensures in_row { 1 < result → row_index + result ≤ row }
 {
     let in_row = row.saturating_sub(row_index).min(bytes.len() as u128) as usize;
-    piece_len(&bytes[..in_row])
+    run_len(Quoting::InString, &bytes[..in_row])
 }
 
 /// Writes the next characters and goes on after them.
@@ -56,16 +57,16 @@ fn put_next_run<W: Sink>(
     requires character { is_char layout.now.ty ≡ true }
     requires within { progress.old.position + length run.now ≤ layout.now.total }
     requires some { 0 < length run.now }
-    requires piece { IsPiece is_literal run.now }
+    requires piece { IsRun is_literal run.now }
     requires in_row { 1 < length run.now → progress.old.row_index + length run.now ≤ layout.now.row }
     ensures { PrintsMore (look_at layout.now) (map pos run.now) progress.old progress.new (W.view sink.old) (W.view sink.new) result }
 {
-    put_run(sink, layout, progress, run)
+    put_led_run(sink, layout, progress, run)
 }
 
 /// Writes the next characters with what stands before them.
 #[tactic(auto, using(devices::proofs::Writes::writes))]
-fn put_run<W: Sink>(
+fn put_led_run<W: Sink>(
     sink: &mut W,
     layout: &Layout<'_>,
     progress: &mut Progress,
@@ -73,7 +74,7 @@ fn put_run<W: Sink>(
 ) -> Result<(), WriteFailed>
     requires within { progress.old.position + length run.now ≤ layout.now.total }
     requires some { 0 < length run.now }
-    requires piece { IsPiece is_literal run.now }
+    requires piece { IsRun is_literal run.now }
     ensures wrote { Wrote (W.view sink.old) (W.view sink.new) (run_bytes (look_at layout.now) progress.old run.now) result }
     ensures following { OnOk result (IsAfterRun (look_at layout.now) progress.old run.now progress.new) }
 {
@@ -112,14 +113,14 @@ fn put_run_text<W: Sink>(
     held: u128,
     run: &[u8],
 ) -> Result<(), WriteFailed>
-    requires { IsPiece is_literal run.now }
+    requires { IsRun is_literal run.now }
     ensures { Wrote (W.view sink.old) (W.view sink.new) (run_text waits held run.now) result }
 {
     if waits {
         return Ok(());
     }
     put_nuls(sink, held)?;
-    put_piece(sink, run)
+    put_run(sink, Quoting::InString, run)
 }
 
 /// Says whether this is a single NUL.

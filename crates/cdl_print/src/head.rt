@@ -1,7 +1,7 @@
 //! The head of a dump.
 
 ghost use Rattle.std.specs.Prelude.{◌≡◌, [], ◌∷◌, codes, decimal};
-ghost use Rattle.nc_base.specs.Bytes.{text};
+ghost use Rattle.nc_base.specs.Bytes.{concat_parts};
 ghost use Rattle.nc_base.specs.HeadText.{att_lines, currently_word, dim_extent, dim_line, dim_lines, dimensions_word, dims_text, gatts_text, global_word, head_text, unlimited_word};
 ghost use Rattle.devices.specs.Sinks.{Wrote};
 
@@ -51,7 +51,7 @@ fn put_dims<W: Sink>(sink: &mut W, dims: &[Dim], records: u64) -> Result<(), Wri
 /// Writes the dimensions under their title.
 #[tactic(auto, using(devices::proofs::Writes::writes))]
 fn put_dims_part<W: Sink>(sink: &mut W, dims: &[Dim], records: u64) -> Result<(), WriteFailed>
-    ensures { Wrote (W.view sink.old) (W.view sink.new) (text (dimensions_word ∷ dim_lines records dims.now ∷ [])) result }
+    ensures { Wrote (W.view sink.old) (W.view sink.new) (concat_parts (dimensions_word ∷ dim_lines records dims.now ∷ [])) result }
 {
     put(sink, Word::Dimensions.bytes())?;
     put_dim_lines(sink, dims, records)
@@ -94,7 +94,7 @@ fn put_extent<W: Sink>(sink: &mut W, len: u64, records: u64) -> Result<(), Write
 /// Writes the length of the record dimension.
 #[tactic(auto, using(devices::proofs::Writes::writes))]
 fn put_records<W: Sink>(sink: &mut W, records: u64) -> Result<(), WriteFailed>
-    ensures { Wrote (W.view sink.old) (W.view sink.new) (text (unlimited_word ∷ decimal records ∷ currently_word ∷ [])) result }
+    ensures { Wrote (W.view sink.old) (W.view sink.new) (concat_parts (unlimited_word ∷ decimal records ∷ currently_word ∷ [])) result }
 {
     put(sink, Word::Unlimited.bytes())?;
     put_decimal(sink, records as u128)?;
@@ -104,7 +104,7 @@ fn put_records<W: Sink>(sink: &mut W, records: u64) -> Result<(), WriteFailed>
 /// Writes the length of a dimension that is fixed.
 #[tactic(auto, using(devices::proofs::Writes::writes))]
 fn put_length<W: Sink>(sink: &mut W, len: u64) -> Result<(), WriteFailed>
-    ensures { Wrote (W.view sink.old) (W.view sink.new) (text (decimal len ∷ codes " ;\n" ∷ [])) result }
+    ensures { Wrote (W.view sink.old) (W.view sink.new) (concat_parts (decimal len ∷ codes " ;\n" ∷ [])) result }
 {
     put_decimal(sink, len as u128)?;
     put(sink, b" ;\n")
@@ -124,7 +124,7 @@ fn put_gatts<W: Sink>(sink: &mut W, gatts: &[Att]) -> Result<(), WriteFailed>
 /// Writes the global attributes under their title.
 #[tactic(auto, using(devices::proofs::Writes::writes, crate::proofs::Pieces::nameless))]
 fn put_gatts_part<W: Sink>(sink: &mut W, gatts: &[Att]) -> Result<(), WriteFailed>
-    ensures { Wrote (W.view sink.old) (W.view sink.new) (text (global_word ∷ att_lines [] gatts.now ∷ [])) result }
+    ensures { Wrote (W.view sink.old) (W.view sink.new) (concat_parts (global_word ∷ att_lines [] gatts.now ∷ [])) result }
 {
     put(sink, Word::GlobalAttributes.bytes())?;
     put_att_lines(sink, b"", gatts)

@@ -7,6 +7,7 @@
 mod attribute;
 mod char_row;
 mod decimal;
+mod escaped;
 mod head;
 mod layout;
 mod lead;
@@ -24,6 +25,7 @@ pub use decimal::put_decimal;
 pub use head::put_head;
 pub use name::put_name;
 pub use printer::ValuePrinter;
+pub use word::Word;
 
 #[cfg(test)]
 mod tests;

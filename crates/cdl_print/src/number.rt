@@ -4,7 +4,7 @@ ghost use Rattle.std.specs.Prelude.{◌≡◌, length};
 ghost use Rattle.std.specs.Fmt.{signed_decimal};
 ghost use Rattle.nc_base.specs.HeadText.{number_values};
 ghost use Rattle.nc_base.specs.Numbers.{number_of};
-ghost use Rattle.nc_base.specs.Types.{number_suffix, size_of};
+ghost use Rattle.nc_base.specs.Types.{size_of};
 ghost use Rattle.devices.specs.Sinks.{Wrote};
 ghost use Rattle.cdl_print.specs.Pieces.{number_text};
 
@@ -38,7 +38,7 @@ fn put_number<W: Sink>(
     ensures { Wrote (W.view sink.old) (W.view sink.new) (number_text ty value.now is_last) result }
 {
     put_value(sink, ty, value)?;
-    put(sink, suffix(ty))?;
+    put(sink, ty.suffix())?;
     if is_last {
         return Ok(());
     }
@@ -51,20 +51,4 @@ fn put_value<W: Sink>(sink: &mut W, ty: NcType, value: &[u8]) -> Result<(), Writ
     ensures { Wrote (W.view sink.old) (W.view sink.new) (signed_decimal (number_of ty value.now)) result }
 {
     put_integer(sink, number_of(ty, value))
-}
-
-/// The suffix of a number of this type.
-fn suffix(ty: NcType) -> &'static [u8]
-    ensures { result.now ≡ number_suffix ty }
-{
-    match ty {
-        NcType::Byte => b"b",
-        NcType::Char | NcType::Int => b"",
-        NcType::Short => b"s",
-        NcType::Ubyte => b"UB",
-        NcType::Ushort => b"US",
-        NcType::Uint => b"U",
-        NcType::Int64 => b"LL",
-        NcType::Uint64 => b"ULL",
-    }
 }

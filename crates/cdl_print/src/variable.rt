@@ -1,7 +1,7 @@
 //! Variables as CDL declares them.
 
 ghost use Rattle.std.specs.Prelude.{◌≡◌, [], ◌∷◌, codes, map};
-ghost use Rattle.nc_base.specs.Bytes.{text};
+ghost use Rattle.nc_base.specs.Bytes.{concat_parts};
 ghost use Rattle.nc_base.specs.Escapes.{escaped_name};
 ghost use Rattle.nc_base.specs.HeadText.{dim_name, joined, shape_text, var_lines, variables_word, vars_text};
 ghost use Rattle.nc_base.specs.Types.{type_word};
@@ -28,7 +28,7 @@ pub fn put_vars<W: Sink>(sink: &mut W, dims: &[Dim], vars: &[Var]) -> Result<(),
 /// Writes the variables under their title.
 #[tactic(auto, using(devices::proofs::Writes::writes))]
 fn put_vars_part<W: Sink>(sink: &mut W, dims: &[Dim], vars: &[Var]) -> Result<(), WriteFailed>
-    ensures { Wrote (W.view sink.old) (W.view sink.new) (text (variables_word ∷ var_rows dims.now vars.now ∷ [])) result }
+    ensures { Wrote (W.view sink.old) (W.view sink.new) (concat_parts (variables_word ∷ var_rows dims.now vars.now ∷ [])) result }
 {
     put(sink, Word::Variables.bytes())?;
     put_var_rows(sink, dims, vars)
@@ -59,10 +59,10 @@ fn put_var_lines<W: Sink>(sink: &mut W, dims: &[Dim], var: &Var) -> Result<(), W
 /// Writes the type and the name of a variable.
 #[tactic(auto, using(devices::proofs::Writes::writes))]
 fn put_declared<W: Sink>(sink: &mut W, ty: NcType, name: &[u8]) -> Result<(), WriteFailed>
-    ensures { Wrote (W.view sink.old) (W.view sink.new) (text (codes "\t" ∷ type_word ty ∷ codes " " ∷ escaped_name name.now ∷ [])) result }
+    ensures { Wrote (W.view sink.old) (W.view sink.new) (concat_parts (codes "\t" ∷ type_word ty ∷ codes " " ∷ escaped_name name.now ∷ [])) result }
 {
     put(sink, b"\t")?;
-    put(sink, type_name(ty))?;
+    put(sink, ty.word())?;
     put(sink, b" ")?;
     put_name(sink, name)
 }
@@ -81,7 +81,7 @@ fn put_shape<W: Sink>(sink: &mut W, dims: &[Dim], dimids: &[u64]) -> Result<(), 
 /// Writes the dimensions of a shape in parentheses.
 #[tactic(auto, using(devices::proofs::Writes::writes))]
 fn put_dim_list<W: Sink>(sink: &mut W, dims: &[Dim], dimids: &[u64]) -> Result<(), WriteFailed>
-    ensures { Wrote (W.view sink.old) (W.view sink.new) (text (codes "(" ∷ joined (map (dim_name dims.now) dimids.now) ∷ codes ")" ∷ [])) result }
+    ensures { Wrote (W.view sink.old) (W.view sink.new) (concat_parts (codes "(" ∷ joined (map (dim_name dims.now) dimids.now) ∷ codes ")" ∷ [])) result }
 {
     put(sink, b"(")?;
     put_dim_names(sink, dims, dimids)?;
@@ -125,22 +125,5 @@ fn put_name_of<W: Sink>(sink: &mut W, dims: &[Dim], dimid: u64) -> Result<(), Wr
     match dims.get(dimid as usize) {
         Some(dim) => put_name(sink, dim.name.as_slice()),
         None => Ok(()),
-    }
-}
-
-/// The word of a type.
-fn type_name(ty: NcType) -> &'static [u8]
-    ensures { result.now ≡ type_word ty }
-{
-    match ty {
-        NcType::Byte => b"byte",
-        NcType::Char => b"char",
-        NcType::Short => b"short",
-        NcType::Int => b"int",
-        NcType::Ubyte => b"ubyte",
-        NcType::Ushort => b"ushort",
-        NcType::Uint => b"uint",
-        NcType::Int64 => b"int64",
-        NcType::Uint64 => b"uint64",
     }
 }

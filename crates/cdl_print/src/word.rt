@@ -3,7 +3,7 @@
 ghost use Rattle.std.specs.Prelude.{◌≡◌};
 ghost use Rattle.cdl_print.specs.Words.{word_text};
 
-/// A fixed word of a dump.
+/// A fixed word of a dump, with the blanks and line feeds that go with it.
 #[derive(Clone, Copy)]
 pub enum Word {
     /// What a dump begins with.
@@ -20,6 +20,10 @@ pub enum Word {
     GlobalAttributes,
     /// What ends a line inside a string.
     StringBreak,
+    /// The title of the values.
+    Data,
+    /// What a dump ends with.
+    End,
 }
 
 impl Word {
@@ -36,6 +40,8 @@ impl Word {
             Word::Variables => b"variables:\n",
             Word::GlobalAttributes => b"\n// global attributes:\n",
             Word::StringBreak => b"\",\n\t\t\t\"",
+            Word::Data => b"data:\n",
+            Word::End => b"}\n",
         }
     }
 }

@@ -50,16 +50,16 @@ escape bs =
 unfoldable pub character : List ℕ → Character
 character bs = if slice_index bs 0 == 0x5c then escape (drop 1 bs) else record { value = Some (slice_index bs 0); len = 1 }
 
-abbrev pub joined : Option ℕ → Option (List ℕ) → Option (List ℕ)
-joined None rest = None
-joined (Some b) None = None
-joined (Some b) (Some bs) = Some (b ∷ bs)
+abbrev pub prepended : Option ℕ → Option (List ℕ) → Option (List ℕ)
+prepended None rest = None
+prepended (Some b) None = None
+prepended (Some b) (Some bs) = Some (b ∷ bs)
 
 -- the characters from here on; of the one before, `more` bytes are still to come
 unfoldable pub unescape_at : ℕ → List ℕ → Option (List ℕ)
 unescape_at more [] = Some []
 unescape_at (suc more) (b ∷ bs) = unescape_at more bs
-unescape_at zero (b ∷ bs) = joined (character (b ∷ bs)).value (unescape_at ((character (b ∷ bs)).len - 1) bs)
+unescape_at zero (b ∷ bs) = prepended (character (b ∷ bs)).value (unescape_at ((character (b ∷ bs)).len - 1) bs)
 
 -- the bytes that a string between its quotes stands for
 abbrev pub unescape : List ℕ → Option (List ℕ)

@@ -3,7 +3,7 @@ use Rattle.std.proofs.Common.{◌≡◌, ℕ, ◌+◌, ◌-◌, ◌<◌, ◌≤�
 use Rattle.std.proofs.lemmas.List.{append-nil, take-append-drop, length-take, length-drop, length-append, map-append, take_more, take_all}
 use Rattle.std.proofs.lemmas.Bool.{OnTrue_at, OnTrue_from}
 use Rattle.std.specs.Prelude.{is_some, option_map, unwrap_or}
-use Rattle.nc_base.specs.Bytes.{text}
+use Rattle.nc_base.specs.Bytes.{concat_parts}
 use Rattle.devices.specs.Sinks.{SinkView, append, count, IsPrefix, IsPrefixIf, IsCut, StoppedShort, AcceptedSome, is_transparent, Appended, FailedPartway, HasFailed}
 
 pub append-++ : (s : SinkView) (a b : List ℕ) → append s (a ++ b) ≡ append (append s a) b
@@ -14,13 +14,13 @@ pub append-none : (s : SinkView) → append s [] ≡ s
 unfolding append
 append-none s = ap (λ (x : Option (List ℕ)). record { taken = x; failures = s.failures }) (elim s.taken as (λ t. option_map (λ prefix. prefix ++ []) t ≡ t) [ None ↦ refl | Some bytes ↦ ap Some (append-nil bytes) ])
 
-pub append-text : (s : SinkView) (piece : List ℕ) (pieces : List (List ℕ)) → append s (text (piece ∷ pieces)) ≡ append (append s piece) (text pieces)
-unfolding text
-append-text s piece pieces = append-++ s piece (text pieces)
+pub append-parts : (s : SinkView) (piece : List ℕ) (pieces : List (List ℕ)) → append s (concat_parts (piece ∷ pieces)) ≡ append (append s piece) (concat_parts pieces)
+unfolding concat_parts
+append-parts s piece pieces = append-++ s piece (concat_parts pieces)
 
-pub append-text_none : (s : SinkView) → append s (text []) ≡ s
-unfolding text
-append-text_none s = append-none s
+pub append-parts_none : (s : SinkView) → append s (concat_parts []) ≡ s
+unfolding concat_parts
+append-parts_none s = append-none s
 
 prefix_append : (now wanted : Option (List ℕ)) (a : List ℕ) → IsPrefixIf now wanted → IsPrefixIf now (option_map (λ prefix. prefix ++ a) wanted)
 prefix_append (Some prefix) (Some whole) a h = record { rest = h.rest ++ a; joined = sym (append_assoc prefix h.rest a) ∙ ap (λ (x : List ℕ). x ++ a) h.joined }
@@ -41,7 +41,7 @@ pub transparent-append : (s : SinkView) (a : List ℕ) → is_transparent (appen
 unfolding append is_transparent
 transparent-append s a = elim s.taken as (λ t. is_some (option_map (λ prefix. prefix ++ a) t) ≡ is_some t) [ None ↦ refl | Some bytes ↦ refl ]
 
-pub ruleset writes = (append-++, append-none, append-text, append-text_none, cut-append, count-append, transparent-append)
+pub ruleset writes = (append-++, append-none, append-parts, append-parts_none, cut-append, count-append, transparent-append)
 
 -- one text after another
 pub appended_then : (s t u : SinkView) (a b : List ℕ) → Appended s t a → Appended t u b → Appended s u (a ++ b)
@@ -80,42 +80,42 @@ moves s t u text n k le so_far some = record {
 
 -- ---- one text for each element of a list
 
-text-++ : (a b : List (List ℕ)) → text (a ++ b) ≡ text a ++ text b
-unfolding text
-text-++ [] b = refl
-text-++ (piece ∷ a) b = ap (λ (x : List ℕ). piece ++ x) (text-++ a b) ∙ sym (append_assoc piece (text a) (text b))
+parts-++ : (a b : List (List ℕ)) → concat_parts (a ++ b) ≡ concat_parts a ++ concat_parts b
+unfolding concat_parts
+parts-++ [] b = refl
+parts-++ (piece ∷ a) b = ap (λ (x : List ℕ). piece ++ x) (parts-++ a b) ∙ sym (append_assoc piece (concat_parts a) (concat_parts b))
 
-text-one : (piece : List ℕ) → text (piece ∷ []) ≡ piece
-unfolding text
-text-one piece = append-nil piece
+parts-one : (piece : List ℕ) → concat_parts (piece ∷ []) ≡ piece
+unfolding concat_parts
+parts-one piece = append-nil piece
 
 -- ---- a text of many pieces, by hand: the first piece, and then the others
-pub appended_piece : {s t u : SinkView} {piece : List ℕ} (pieces : List (List ℕ)) → Appended s t piece → Appended t u (text pieces) → Appended s u (text (piece ∷ pieces))
-unfolding text
-appended_piece {s = s} {t = t} {u = u} {piece = piece} pieces first others = appended_then s t u piece (text pieces) first others
+pub appended_piece : {s t u : SinkView} {piece : List ℕ} (pieces : List (List ℕ)) → Appended s t piece → Appended t u (concat_parts pieces) → Appended s u (concat_parts (piece ∷ pieces))
+unfolding concat_parts
+appended_piece {s = s} {t = t} {u = u} {piece = piece} pieces first others = appended_then s t u piece (concat_parts pieces) first others
 
 -- the last piece
-pub appended_last : {s t : SinkView} {piece : List ℕ} → Appended s t piece → Appended s t (text (piece ∷ []))
-appended_last {s = s} {t = t} {piece = piece} appended = subst (Appended s t) (sym (text-one piece)) appended
+pub appended_last : {s t : SinkView} {piece : List ℕ} → Appended s t piece → Appended s t (concat_parts (piece ∷ []))
+appended_last {s = s} {t = t} {piece = piece} appended = subst (Appended s t) (sym (parts-one piece)) appended
 
 -- the invariant of a loop that writes one text for each element
 abbrev pub IsWritten : {X : Type 0} → SinkView → SinkView → (X → List ℕ) → List X → ℕ → Type 0
-IsWritten old now f xs i = Appended old now (text (map f (take i xs)))
+IsWritten old now f xs i = Appended old now (concat_parts (map f (take i xs)))
 
-up_to_next : {X : Type 0} (f : X → List ℕ) (xs : List X) (i : ℕ) (x : X) → i < length xs → x ≡ get_or xs i x → text (map f (take (i + 1) xs)) ≡ text (map f (take i xs)) ++ f x
-up_to_next f xs i x lt is = rw (take_more xs i x lt, map-append, text-++, ← is) (ap (λ (y : List ℕ). text (map f (take i xs)) ++ y) (text-one (f x)))
+up_to_next : {X : Type 0} (f : X → List ℕ) (xs : List X) (i : ℕ) (x : X) → i < length xs → x ≡ get_or xs i x → concat_parts (map f (take (i + 1) xs)) ≡ concat_parts (map f (take i xs)) ++ f x
+up_to_next f xs i x lt is = rw (take_more xs i x lt, map-append, parts-++, ← is) (ap (λ (y : List ℕ). concat_parts (map f (take i xs)) ++ y) (parts-one (f x)))
 
 -- one more element is written
 pub wrote_next : {X : Type 0} (s t u : SinkView) (f : X → List ℕ) (xs : List X) (i : ℕ) (x : X) → i < length xs → x ≡ get_or xs i x → IsWritten s t f xs i → Appended t u (f x) → IsWritten s u f xs (i + 1)
-wrote_next s t u f xs i x lt is so_far wrote = subst (Appended s u) (sym (up_to_next f xs i x lt is)) (appended_then s t u (text (map f (take i xs))) (f x) so_far wrote)
+wrote_next s t u f xs i x lt is so_far wrote = subst (Appended s u) (sym (up_to_next f xs i x lt is)) (appended_then s t u (concat_parts (map f (take i xs))) (f x) so_far wrote)
 
 -- the loop ends in an element's text
-pub partway_next : {X : Type 0} (s t u : SinkView) (f : X → List ℕ) (xs : List X) (i : ℕ) (x : X) → i < length xs → x ≡ get_or xs i x → IsWritten s t f xs i → FailedPartway t u (f x) → FailedPartway s u (text (map f xs))
+pub partway_next : {X : Type 0} (s t u : SinkView) (f : X → List ℕ) (xs : List X) (i : ℕ) (x : X) → i < length xs → x ≡ get_or xs i x → IsWritten s t f xs i → FailedPartway t u (f x) → FailedPartway s u (concat_parts (map f xs))
 partway_next {X = X} s t u f xs i x lt is so_far partway =
-    let rest = text (map f (drop (i + 1) xs)) in
-    let all : text (map f (take (i + 1) xs)) ++ rest ≡ text (map f xs) = sym (text-++ (map f (take (i + 1) xs)) (map f (drop (i + 1) xs))) ∙ ap text (sym (map-append f (take (i + 1) xs) (drop (i + 1) xs))) ∙ ap (λ (ys : List X). text (map f ys)) (take-append-drop (i + 1) xs) in
-    let whole : text (map f (take i xs)) ++ (f x ++ rest) ≡ text (map f xs) = sym (append_assoc (text (map f (take i xs))) (f x) rest) ∙ ap (λ (y : List ℕ). y ++ rest) (sym (up_to_next f xs i x lt is)) ∙ all in
-    subst (FailedPartway s u) whole (appended_partway s t u (text (map f (take i xs))) (f x) rest so_far partway)
+    let rest = concat_parts (map f (drop (i + 1) xs)) in
+    let all : concat_parts (map f (take (i + 1) xs)) ++ rest ≡ concat_parts (map f xs) = sym (parts-++ (map f (take (i + 1) xs)) (map f (drop (i + 1) xs))) ∙ ap concat_parts (sym (map-append f (take (i + 1) xs) (drop (i + 1) xs))) ∙ ap (λ (ys : List X). concat_parts (map f ys)) (take-append-drop (i + 1) xs) in
+    let whole : concat_parts (map f (take i xs)) ++ (f x ++ rest) ≡ concat_parts (map f xs) = sym (append_assoc (concat_parts (map f (take i xs))) (f x) rest) ∙ ap (λ (y : List ℕ). y ++ rest) (sym (up_to_next f xs i x lt is)) ∙ all in
+    subst (FailedPartway s u) whole (appended_partway s t u (concat_parts (map f (take i xs))) (f x) rest so_far partway)
 
 -- ---- what a device proves of itself
 

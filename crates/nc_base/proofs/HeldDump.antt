@@ -21,7 +21,7 @@ use Rattle.nc_base.specs.Escapes.{escaped_name}
 use Rattle.nc_base.specs.HeadText.{vars_text, var_lines, head_text, netcdf_word, variables_word, dims_text, gatts_text}
 use Rattle.nc_base.specs.Fill.{fill_value}
 use Rattle.nc_base.specs.ValueText.{Look, look_of}
-use Rattle.nc_base.specs.Bytes.{text}
+use Rattle.nc_base.specs.Bytes.{concat_parts}
 use Rattle.nc_base.specs.Grammar.{SpellsHeader}
 use Rattle.nc_base.specs.FirstFault.{StopsAt}
 use Rattle.nc_base.specs.declared.fault.FormatFault.{FormatFault}
@@ -64,13 +64,13 @@ lines-bare dims vars = map-map (var_lines dims) bare_var vars
 vars-bare : (dims : List Dim) (vars : List Var) → vars_text dims (map bare_var vars) ≡ vars_text dims vars
 unfolding vars_text
 vars-bare dims vars =
-    ap (λ (k : ℕ). if k == 0 then [] else text (variables_word ∷ text (map (var_lines dims) (map bare_var vars)) ∷ [])) (length-map vars bare_var)
-    ∙ ap (λ (t : List (List ℕ)). if length vars == 0 then [] else text (variables_word ∷ text t ∷ [])) (lines-bare dims vars)
+    ap (λ (k : ℕ). if k == 0 then [] else concat_parts (variables_word ∷ concat_parts (map (var_lines dims) (map bare_var vars)) ∷ [])) (length-map vars bare_var)
+    ∙ ap (λ (t : List (List ℕ)). if length vars == 0 then [] else concat_parts (variables_word ∷ concat_parts t ∷ [])) (lines-bare dims vars)
 
 head-bare : (name : List ℕ) (h : Header) (n : ℕ) → head_text name (bare h n) n ≡ head_text name h n
 unfolding head_text
 head-bare name h n =
-    ap (λ (t : List ℕ). text (netcdf_word ∷ escaped_name name ∷ codes " {\n" ∷ dims_text n h.dims ∷ t ∷ gatts_text h.gatts ∷ [])) (vars-bare h.dims h.vars)
+    ap (λ (t : List ℕ). concat_parts (netcdf_word ∷ escaped_name name ∷ codes " {\n" ∷ dims_text n h.dims ∷ t ∷ gatts_text h.gatts ∷ [])) (vars-bare h.dims h.vars)
 
 word-bare : (h : Header) (o : Options) (n : ℕ) → data_word (bare h n) o ≡ data_word h o
 unfolding data_word
@@ -137,8 +137,8 @@ shown-held h bytes n o whole =
 
 text-held : (h : Header) (o : Options) (n : ℕ) (section : Section) → dump_text (bare h n) o n section ≡ dump_text h o n section
 text-held h o n section =
-    ap (λ (t : List ℕ). text (t ∷ data_word (bare h n) o ∷ section.text ∷ closing_word section.ending ∷ [])) (head-bare o.name h n)
-    ∙ ap (λ (t : List ℕ). text (head_text o.name h n ∷ t ∷ section.text ∷ closing_word section.ending ∷ [])) (word-bare h o n)
+    ap (λ (t : List ℕ). concat_parts (t ∷ data_word (bare h n) o ∷ section.text ∷ closing_word section.ending ∷ [])) (head-bare o.name h n)
+    ∙ ap (λ (t : List ℕ). concat_parts (head_text o.name h n ∷ t ∷ section.text ∷ closing_word section.ending ∷ [])) (word-bare h o n)
 
 knows-bare : (h : Header) (n : ℕ) (chosen : Option (List (List ℕ))) → KnowsChosen (bare h n) chosen ≡ KnowsChosen h chosen
 knows-bare h n None = refl

@@ -11,7 +11,8 @@ use Rattle.std.proofs.lemmas.List.Elements.{filter_more, filter-append}
 use Rattle.std.proofs.lemmas.List.Folds.{list_all-append}
 use Rattle.std.proofs.lemmas.List.Sums.{sum-map, sum_by_push}
 use Rattle.nc_base.specs.Bytes.{padding_len}
-use Rattle.nc_base.specs.Sizes.{product, is_record_var, is_narrow, slab_size, padded_size, padded_total, record_size_of, record_vars, record_size, slab_limit, record_limit, has_small_slab, checked_record_size, least_begin, first_begin, lesser}
+use Rattle.nc_base.specs.Sizes.{product, is_record_var, is_narrow, slab_size, padded_size, padded_total, record_size_of, record_vars, record_size, slab_limit, record_limit, least_begin}
+use Rattle.nc_base.specs.SizeParts.{has_small_slab, checked_record_size, first_begin, lesser}
 use Rattle.nc_base.specs.declared.header.Dim.{Dim}
 use Rattle.nc_base.specs.declared.header.Var.{Var}
 use Rattle.nc_base.specs.declared.header.Header.{Header}

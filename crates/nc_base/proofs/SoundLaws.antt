@@ -10,9 +10,9 @@ use Rattle.std.proofs.lemmas.Bool.Decides.{nat_tests}
 use Rattle.std.proofs.lemmas.List.Elements.{All-filter, All-head, All-tail, All-cons, All-nil, All-weaker, All-get_or, All-map}
 use Rattle.std.proofs.lemmas.List.Sums.{sum-map, sum_by-cons, length-filter}
 use Rattle.nc_base.specs.Types.{size_of}
-use Rattle.nc_base.specs.Sizes.{dim_len, product, is_record_dim, is_record_var, is_narrow, slab_lens, slab_size, padded_size, record_size_of, record_vars, record_size, slab_limit, record_limit, has_small_slab, checked_record_size, HasKnownDims, HasKnownShapes, first_begin, slab_at, is_fixed_dim}
+use Rattle.nc_base.specs.Sizes.{dim_len, product, is_record_dim, is_record_var, is_narrow, slab_lens, slab_size, padded_size, record_size_of, record_vars, record_size, slab_limit, record_limit}
+use Rattle.nc_base.specs.SizeParts.{has_small_slab, checked_record_size, first_begin, slab_at, is_fixed_dim}
 use Rattle.nc_base.specs.Dump.{has_values}
-use Rattle.nc_base.specs.Sizes.{has_slabs}
 use Rattle.nc_base.specs.Headers.{IsSound, IsSoundVar, HasWholeValues, AreDimids}
 use Rattle.nc_base.specs.declared.nc_type.NcType.{NcType}
 use Rattle.nc_base.specs.declared.nc_type.NcType.TheVariants.{Byte, Char, Short, Int, Ubyte, Ushort, Uint, Int64, Uint64}
@@ -38,20 +38,6 @@ and_second false b h = cc
 not_both : (b : Bool) → not b ≡ true → b ≡ true → ⊥
 not_both true p q = cc
 not_both false p q = cc
-
--- a sound shape names dimensions
-pub HasKnownDims-from_AreDimids : (dims : List Dim) (before ids : List ℕ) → AreDimids dims before ids → HasKnownDims dims ids
-HasKnownDims-from_AreDimids dims before [] h = All-nil _
-HasKnownDims-from_AreDimids dims before (id ∷ ids) h =
-    All-cons (λ k. k < length dims) id ids h.0.known (HasKnownDims-from_AreDimids dims (before ++ id ∷ []) ids h.1)
-
-pub HasKnownShapes-from_All : (h : Header) → All (IsSoundVar h.version h.dims) h.vars → HasKnownShapes h
-HasKnownShapes-from_All h vars =
-    All-weaker (IsSoundVar h.version h.dims) (λ (var : Var). HasKnownDims h.dims var.dimids)
-    (λ var s. HasKnownDims-from_AreDimids h.dims [] var.dimids s.shape) h.vars vars
-
-pub HasKnownShapes-from_IsSound : (h : Header) → IsSound h → HasKnownShapes h
-HasKnownShapes-from_IsSound h sound = HasKnownShapes-from_All h sound.vars
 
 passes : (test : Var → Bool) (xs : List Var) → All (λ x. test x ≡ true) xs → list_all test xs ≡ true
 passes test [] h = refl
@@ -238,6 +224,6 @@ count_tested c n false some = some_times c 1 some ∙ sym (or_true (nat_lt 0 n))
     or_true true = refl
     or_true false = refl
 
--- a variable of a sound shape has values where it has slabs
-pub has_values-has_slabs : (dims : List Dim) (var : Var) (n : ℕ) → AreDimids dims [] var.dimids → has_values dims n var ≡ has_slabs dims n var
-has_values-has_slabs dims var n shape = count_tested (product (slab_lens dims var.dimids)) n (is_record_var dims var) (some_count dims var.dimids shape)
+-- a variable of a sound shape has values unless it has records and there are none
+pub has_values-unless_empty : (dims : List Dim) (var : Var) (n : ℕ) → AreDimids dims [] var.dimids → has_values dims n var ≡ (nat_lt 0 n || not (is_record_var dims var))
+has_values-unless_empty dims var n shape = count_tested (product (slab_lens dims var.dimids)) n (is_record_var dims var) (some_count dims var.dimids shape)

@@ -9,7 +9,7 @@ AreBytes bytes = (i : ℕ) → slice_index bytes i < 256
 abbrev pub padding_len : ℕ → ℕ
 padding_len n = (4 - n % 4) % 4
 
--- the pieces of a text, one after the other
-unfoldable pub text : List (List ℕ) → List ℕ
-text [] = []
-text (piece ∷ pieces) = piece ++ text pieces
+-- the parts of a text, one after the other
+unfoldable pub concat_parts : List (List ℕ) → List ℕ
+concat_parts [] = []
+concat_parts (part ∷ parts) = part ++ concat_parts parts

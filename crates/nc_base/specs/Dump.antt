@@ -8,7 +8,7 @@ use Rattle.nc_base.specs.declared.dataset.Dataset.{Dataset}
 use Rattle.nc_base.specs.declared.header.Header.{Header}
 use Rattle.nc_base.specs.declared.header.NumRecs.TheVariants.{Known}
 use Rattle.nc_base.specs.declared.header.Var.{Var}
-use Rattle.nc_base.specs.Bytes.{text}
+use Rattle.nc_base.specs.Bytes.{concat_parts}
 use Rattle.nc_base.specs.Numbers.{numbers}
 use Rattle.nc_base.specs.Headers.{value_count}
 use Rattle.nc_base.specs.Sizes.{record_count}
@@ -136,7 +136,7 @@ closing_word other = []
 
 -- the head of a dump, its values, and the closing brace
 abbrev pub dump_text : Header → Options → ℕ → Section → List ℕ
-dump_text h o n section = text (head_text o.name h n ∷ data_word h o ∷ section.text ∷ closing_word section.ending ∷ [])
+dump_text h o n section = concat_parts (head_text o.name h n ∷ data_word h o ∷ section.text ∷ closing_word section.ending ∷ [])
 
 -- The dump of a file with these bytes: nothing, and the fault of the first wrong field; nothing, and the place of the
 -- first chosen name that no variable has; or the head and the values, up to the first missing one.

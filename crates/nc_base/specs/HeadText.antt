@@ -9,7 +9,7 @@ use Rattle.nc_base.specs.declared.header.Var.{Var}
 use Rattle.nc_base.specs.declared.header.Header.{Header}
 use Rattle.nc_base.specs.declared.nc_type.NcType.{NcType}
 use Rattle.nc_base.specs.declared.nc_type.NcType.TheVariants.{Char}
-use Rattle.nc_base.specs.Bytes.{text}
+use Rattle.nc_base.specs.Bytes.{concat_parts}
 use Rattle.nc_base.specs.Numbers.{numbers}
 use Rattle.nc_base.specs.Types.{type_word, number_suffix}
 use Rattle.nc_base.specs.Escapes.{escaped_name, escaped_in_string}
@@ -62,7 +62,7 @@ broken_text (b ∷ c ∷ bytes) = escaped_in_string b ++ ((if b == 10 then strin
 
 -- the characters of an attribute
 unfoldable pub char_values : List ℕ → List ℕ
-char_values vals = text (codes "\"" ∷ broken_text (without_trailing_nuls vals) ∷ codes "\"" ∷ [])
+char_values vals = concat_parts (codes "\"" ∷ broken_text (without_trailing_nuls vals) ∷ codes "\"" ∷ [])
 
 abbrev pub att_values : NcType → List ℕ → List ℕ
 att_values Char vals = char_values vals
@@ -72,26 +72,26 @@ att_values ty vals = number_values ty vals
 
 -- an attribute of the variable with this name, which is escaped already; of the whole dataset where there is none
 unfoldable pub att_line : List ℕ → Att → List ℕ
-att_line escaped_owner att = text (codes "\t\t" ∷ escaped_owner ∷ codes ":" ∷ escaped_name att.name ∷ codes " = " ∷ att_values att.ty att.vals ∷ codes " ;\n" ∷ [])
+att_line escaped_owner att = concat_parts (codes "\t\t" ∷ escaped_owner ∷ codes ":" ∷ escaped_name att.name ∷ codes " = " ∷ att_values att.ty att.vals ∷ codes " ;\n" ∷ [])
 
 unfoldable pub att_lines : List ℕ → List Att → List ℕ
-att_lines escaped_owner atts = text (map (att_line escaped_owner) atts)
+att_lines escaped_owner atts = concat_parts (map (att_line escaped_owner) atts)
 
 -- the length of a dimension: a number, or for the record dimension the number of records
 unfoldable pub dim_extent : ℕ → ℕ → List ℕ
 dim_extent records len =
-    if len == 0 then text (unlimited_word ∷ decimal records ∷ currently_word ∷ [])
-    else text (decimal len ∷ codes " ;\n" ∷ [])
+    if len == 0 then concat_parts (unlimited_word ∷ decimal records ∷ currently_word ∷ [])
+    else concat_parts (decimal len ∷ codes " ;\n" ∷ [])
 
 unfoldable pub dim_line : ℕ → Dim → List ℕ
-dim_line records dim = text (codes "\t" ∷ escaped_name dim.name ∷ codes " = " ∷ dim_extent records dim.len ∷ [])
+dim_line records dim = concat_parts (codes "\t" ∷ escaped_name dim.name ∷ codes " = " ∷ dim_extent records dim.len ∷ [])
 
 unfoldable pub dim_lines : ℕ → List Dim → List ℕ
-dim_lines records dims = text (map (dim_line records) dims)
+dim_lines records dims = concat_parts (map (dim_line records) dims)
 
 -- the dimensions, if there are any
 unfoldable pub dims_text : ℕ → List Dim → List ℕ
-dims_text records dims = if length dims == 0 then [] else text (dimensions_word ∷ dim_lines records dims ∷ [])
+dims_text records dims = if length dims == 0 then [] else concat_parts (dimensions_word ∷ dim_lines records dims ∷ [])
 
 abbrev pub name_or_none : Option Dim → List ℕ
 name_or_none None = []
@@ -103,23 +103,23 @@ dim_name dims id = name_or_none (slice_get dims id)
 
 -- the shape of a variable: nothing at rank 0
 unfoldable pub shape_text : List Dim → List ℕ → List ℕ
-shape_text dims ids = if length ids == 0 then [] else text (codes "(" ∷ joined (map (dim_name dims) ids) ∷ codes ")" ∷ [])
+shape_text dims ids = if length ids == 0 then [] else concat_parts (codes "(" ∷ joined (map (dim_name dims) ids) ∷ codes ")" ∷ [])
 
 -- a variable's declaration, and its attributes
 unfoldable pub var_lines : List Dim → Var → List ℕ
 var_lines dims var =
-    text (codes "\t" ∷ type_word var.ty ∷ codes " " ∷ escaped_name var.name ∷ shape_text dims var.dimids ∷ codes " ;\n"
+    concat_parts (codes "\t" ∷ type_word var.ty ∷ codes " " ∷ escaped_name var.name ∷ shape_text dims var.dimids ∷ codes " ;\n"
     ∷ att_lines (escaped_name var.name) var.atts ∷ [])
 
 -- the variables, if there are any
 unfoldable pub vars_text : List Dim → List Var → List ℕ
-vars_text dims vars = if length vars == 0 then [] else text (variables_word ∷ text (map (var_lines dims) vars) ∷ [])
+vars_text dims vars = if length vars == 0 then [] else concat_parts (variables_word ∷ concat_parts (map (var_lines dims) vars) ∷ [])
 
 -- the global attributes, if there are any
 unfoldable pub gatts_text : List Att → List ℕ
-gatts_text gatts = if length gatts == 0 then [] else text (global_word ∷ att_lines [] gatts ∷ [])
+gatts_text gatts = if length gatts == 0 then [] else concat_parts (global_word ∷ att_lines [] gatts ∷ [])
 
 -- the head of a dump, up to `data:`
 unfoldable pub head_text : List ℕ → Header → ℕ → List ℕ
 head_text name h records =
-    text (netcdf_word ∷ escaped_name name ∷ codes " {\n" ∷ dims_text records h.dims ∷ vars_text h.dims h.vars ∷ gatts_text h.gatts ∷ [])
+    concat_parts (netcdf_word ∷ escaped_name name ∷ codes " {\n" ∷ dims_text records h.dims ∷ vars_text h.dims h.vars ∷ gatts_text h.gatts ∷ [])

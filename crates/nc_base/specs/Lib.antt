@@ -6,12 +6,14 @@ pub mod Paths
 pub mod Versions
 pub mod Names
 pub mod Sizes
+pub mod SizeParts
 pub mod Headers
 pub mod Grammar
 pub mod Places
 pub mod FirstFault
 pub mod Fill
 pub mod Escapes
+pub mod Quoted
 pub mod HeadText
 pub mod ValueText
 pub mod Dump

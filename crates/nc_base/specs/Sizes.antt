@@ -1,6 +1,5 @@
 -- The sizes of a variable's slab and of a record, and the number of records.
-use Rattle.std.specs.Prelude.{ℕ, ◌+◌, ◌-◌, ◌*◌, ◌/◌, ◌^◌, ◌<◌, min, Bool, false, nat_lt, nat_le, ◌==◌, ◌&&◌, ◌||◌, not, if◌then◌else◌, List, [], ◌∷◌, length, map, filter, drop, slice_index, sum, All, Option, Some, None}
-use Rattle.std.specs.List.{list_all}
+use Rattle.std.specs.Prelude.{ℕ, ◌+◌, ◌-◌, ◌*◌, ◌/◌, ◌^◌, min, Bool, false, nat_lt, ◌==◌, ◌&&◌, if◌then◌else◌, List, [], ◌∷◌, length, map, filter, drop, slice_index, sum}
 use Rattle.nc_base.specs.declared.header.Dim.{Dim}
 use Rattle.nc_base.specs.declared.header.Var.{Var}
 use Rattle.nc_base.specs.declared.header.Header.{Header}
@@ -95,57 +94,6 @@ record_count h file_len = of_numrecs h.numrecs
     of_numrecs (Known n) = n
     of_numrecs Streaming = records_between (record_size h) (record_vars h.dims h.vars) file_len
 
--- each of these ids is that of a dimension
-abbrev pub HasKnownDims : List Dim → List ℕ → Type 0
-HasKnownDims dims ids = All (λ id. id < length dims) ids
-
--- so is each dimension id of the header
-abbrev pub HasKnownShapes : Header → Type 0
-HasKnownShapes h = All (λ (var : Var). HasKnownDims h.dims var.dimids) h.vars
-
--- the id is that of a dimension other than the record dimension
-abbrev pub is_fixed_dim : List Dim → ℕ → Bool
-is_fixed_dim dims id = nat_lt id (length dims) && not (is_record_dim dims id)
-
 -- the bytes of a slab of this shape and type
 abbrev pub slab_of : List Dim → List ℕ → NcType → ℕ
 slab_of dims ids ty = product (slab_lens dims ids) * size_of ty
-
--- the variable has a slab over n records: one in each record, or one in all
-abbrev pub has_slabs : List Dim → ℕ → Var → Bool
-has_slabs dims records var = nat_lt 0 records || not (is_record_var dims var)
-
--- the bytes of the slab of the variable in this place
-abbrev pub slab_at : Header → ℕ → ℕ
-slab_at h v = slice_index (map (slab_size h.dims) h.vars) v
-
--- a slab keeps the limit
-abbrev pub has_small_slab : List Dim → Var → Bool
-has_small_slab dims var = nat_le (slab_size dims var) slab_limit
-
--- the record size: none where the slab of a record variable or the record size itself passes its limit
-abbrev pub checked_record_size : Header → Option ℕ
-checked_record_size h =
-    if list_all (has_small_slab h.dims) (record_vars h.dims h.vars) && nat_le (record_size h) record_limit
-    then Some (record_size h) else None
-
--- the least begin of these variables, where there are any
-abbrev pub first_begin : List Var → Option ℕ
-first_begin [] = None
-first_begin (var ∷ vars) = Some (least_begin var vars)
-
--- the lesser of two offsets, of which the first may be missing
-abbrev pub lesser : Option ℕ → ℕ → ℕ
-lesser None begin = begin
-lesser (Some offset) begin = min offset begin
-
--- the first offset after the last value that a variable has over n records: its begin, where it has none
-abbrev pub end_of : Header → ℕ → Var → ℕ
-end_of h records var =
-    if is_record_var h.dims var
-    then (if records == 0 then var.begin_at else var.begin_at + (records - 1) * record_size h + slab_size h.dims var)
-    else var.begin_at + slab_size h.dims var
-
--- the same of the variable in this place
-abbrev pub end_at : Header → ℕ → ℕ → ℕ
-end_at h v records = slice_index (map (end_of h records) h.vars) v

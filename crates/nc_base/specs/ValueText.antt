@@ -8,7 +8,7 @@ use Rattle.nc_base.specs.declared.header.Header.{Header}
 use Rattle.nc_base.specs.declared.header.Var.{Var}
 use Rattle.nc_base.specs.declared.nc_type.NcType.{NcType}
 use Rattle.nc_base.specs.declared.nc_type.NcType.TheVariants.{Char}
-use Rattle.nc_base.specs.Bytes.{text}
+use Rattle.nc_base.specs.Bytes.{concat_parts}
 use Rattle.nc_base.specs.Escapes.{escaped_name, escaped_text}
 use Rattle.nc_base.specs.Fill.{fill_value, own_fill, prints_fill}
 use Rattle.nc_base.specs.Headers.{value_count}
@@ -146,7 +146,7 @@ pieces look before values (value ∷ others) =
 
 -- what stands before a variable's values
 unfoldable pub opening : Look → List ℕ
-opening look = text (codes "\n " ∷ escaped_name look.name ∷ codes " =" ∷ [])
+opening look = concat_parts (codes "\n " ∷ escaped_name look.name ∷ codes " =" ∷ [])
 
 -- what stands after them
 unfoldable pub closing : Look → List ℕ
@@ -154,7 +154,7 @@ closing look = if is_char look.ty then codes "\" ;\n" else codes " ;\n"
 
 -- the same as lines are measured: the name counts without its escapes
 unfoldable pub measured_opening : Look → List ℕ
-measured_opening look = text (codes "\n " ∷ look.name ∷ codes " =" ∷ [])
+measured_opening look = concat_parts (codes "\n " ∷ look.name ∷ codes " =" ∷ [])
 
 -- the opening and a variable's first values
 unfoldable pub variable_prefix : Look → List ℤ → List ℕ

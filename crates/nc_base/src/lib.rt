@@ -7,6 +7,7 @@
 #![tactic(auto)]
 
 mod dataset;
+mod escape;
 mod fault;
 mod fill;
 mod header;
@@ -22,6 +23,7 @@ mod version;
 mod weights;
 
 pub use dataset::Dataset;
+pub use escape::{Escape, Quoting, begins_with_digit_or_mark, is_reserved};
 pub use fault::FormatFault;
 pub use fill::{fill_of, prints_fill};
 pub use header::{Att, Dim, Header, NumRecs, Var};
@@ -31,8 +33,8 @@ pub use number::number_of;
 pub use path::stem;
 pub use sequence::Sequence;
 pub use sizes::{
-    RECORD_LIMIT, dim_len, extent_end, has_records, rec_size, records, slab_bytes, slab_of,
-    sound_rec_size, value_count,
+    RECORD_LIMIT, dim_len, extent_end, has_records, padding_len, rec_size, records, slab_bytes,
+    slab_of, sound_rec_size, value_count,
 };
 pub use version::Version;
 pub use weights::weight;

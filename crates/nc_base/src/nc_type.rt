@@ -26,7 +26,7 @@ pub enum NcType {
 }
 
 impl NcType {
-    ghost use Rattle.nc_base.specs.Types.{size_of, code_of, type_of_code, default_fill_of};
+    ghost use Rattle.nc_base.specs.Types.{size_of, code_of, type_of_code, default_fill_of, type_word, number_suffix};
 
     /// The size of a value in bytes: 1, 2, 4 or 8.
     pub fn size(self) -> u64
@@ -89,6 +89,39 @@ impl NcType {
             NcType::Uint => 4294967295,
             NcType::Int64 => -9223372036854775806,
             NcType::Uint64 => 18446744073709551614,
+        }
+    }
+
+    /// The word of the type in CDL.
+    pub fn word(self) -> &'static [u8]
+        ensures { result.now ≡ type_word self }
+    {
+        match self {
+            NcType::Byte => b"byte",
+            NcType::Char => b"char",
+            NcType::Short => b"short",
+            NcType::Int => b"int",
+            NcType::Ubyte => b"ubyte",
+            NcType::Ushort => b"ushort",
+            NcType::Uint => b"uint",
+            NcType::Int64 => b"int64",
+            NcType::Uint64 => b"uint64",
+        }
+    }
+
+    /// What stands after a number of the type in an attribute in CDL; nothing for characters, which stand in strings.
+    pub fn suffix(self) -> &'static [u8]
+        ensures { result.now ≡ number_suffix self }
+    {
+        match self {
+            NcType::Char | NcType::Int => b"",
+            NcType::Byte => b"b",
+            NcType::Short => b"s",
+            NcType::Ubyte => b"UB",
+            NcType::Ushort => b"US",
+            NcType::Uint => b"U",
+            NcType::Int64 => b"LL",
+            NcType::Uint64 => b"ULL",
         }
     }
 }

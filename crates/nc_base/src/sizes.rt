@@ -3,7 +3,8 @@
 ghost use Rattle.std.specs.Prelude.{◌≡◌, ◌+◌, ◌*◌, ◌/◌, ◌<◌, ◌≤◌, ◌^◌, ◌&&◌, IfSome, if◌then◌else◌, length, map, min, slice_get, SomeIff};
 ghost use Rattle.nc_base.specs.Types.{size_of};
 ghost use Rattle.nc_base.specs.Bytes.{padding_len};
-ghost use Rattle.nc_base.specs.Sizes.{dim_len, is_record_dim, has_records, is_record_var, is_narrow, product, slab_of, slab_at, slab_size, padded_size, slab_limit, record_size, checked_record_size, record_limit, record_vars, record_count, first_begin, lesser, end_at};
+ghost use Rattle.nc_base.specs.Sizes.{dim_len, is_record_dim, has_records, is_record_var, is_narrow, product, slab_of, slab_size, padded_size, slab_limit, record_size, record_limit, record_vars, record_count};
+ghost use Rattle.nc_base.specs.SizeParts.{slab_at, checked_record_size, first_begin, lesser, end_at};
 ghost use Rattle.nc_base.specs.Headers.{IsSound, value_count};
 
 use crate::header::{Dim, Header, NumRecs, Var};
@@ -173,7 +174,14 @@ fn record_size_of_bytes(is_first: bool, var: &Var, slab: u64, with_padding: u128
 fn padded_bytes(slab: u64) -> u128
     ensures { result ≡ slab + padding_len slab }
 {
-    slab as u128 + ((4 - slab % 4) % 4) as u128
+    slab as u128 + padding_len(slab as u128) as u128
+}
+
+/// How many bytes fill n bytes up to the next multiple of four (`padding` of the NetCDF Classic Format Specification).
+pub fn padding_len(n: u128) -> u64
+    ensures { result ≡ padding_len n }
+{
+    ((4 - n % 4) % 4) as u64
 }
 
 /// Says whether a value takes less than four bytes.

@@ -3,7 +3,8 @@
 ghost use Rattle.std.specs.Prelude.{◌≡◌, ◌<◌, ◌≤◌, ◌==◌, ◌↔◌, [], length, filter, IsTrue, All};
 ghost use Rattle.nc_base.specs.Versions.{count_limit};
 ghost use Rattle.std.specs.List.{list_all, count_by};
-ghost use Rattle.nc_base.specs.Sizes.{is_fixed_dim, slab_of, slab_limit, record_size, record_limit};
+ghost use Rattle.nc_base.specs.Sizes.{slab_of, slab_limit, record_size, record_limit};
+ghost use Rattle.nc_base.specs.SizeParts.{is_fixed_dim};
 ghost use Rattle.nc_base.specs.Headers.{IsSoundNumRecs, IsSoundDim, IsSoundAtt, IsSoundVar, AreDimids, HasWholeValues};
 
 use crate::header::{Att, Dim, Header, NumRecs, Var};

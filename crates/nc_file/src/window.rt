@@ -2,14 +2,13 @@
 
 ghost use Rattle.std.specs.Prelude.{◌≡◌, ◌<◌, []};
 ghost use Rattle.std.specs.Int.{w32, w64, from_be_bytes};
-ghost use Rattle.nc_base.specs.Bytes.{padding_len};
 ghost use Rattle.nc_file.specs.Reading.{Caused, byte_at, u32_at, u64_at, number_at, count_at, bytes_at, skip_at, padded_at};
 ghost use Rattle.nc_file.specs.Window.{state, left, Opened, Kept, Refilled, ReadPart, ReadNext, Filled, Ready};
 
 use crate::head_fault::HeadFault;
 use byteorder::{BigEndian, ByteOrder};
 use devices::Source;
-use nc_base::{FormatFault, Sequence, Version};
+use nc_base::{FormatFault, Sequence, Version, padding_len};
 use std::alloc::Global;
 
 /// A caller's buffer with the bytes of a source of length `len` from `base` on, of which `pos` have been used. It reads from
@@ -210,13 +209,6 @@ impl<S: Source> Window<'_, S> {
         self.skip(padding_len(n))?;
         Ok(content)
     }
-}
-
-/// How many bytes fill n bytes up to the next multiple of four.
-pub(crate) fn padding_len(n: u128) -> u64
-    ensures { result ≡ padding_len n }
-{
-    ((4 - n % 4) % 4) as u64
 }
 
 fn u32_of(bytes: [u8; 4]) -> u32

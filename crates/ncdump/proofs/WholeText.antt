@@ -1,7 +1,7 @@
 -- The text of a dump from its parts.
 use Rattle.std.proofs.Common.{◌≡◌, ℕ, inl, inr, Bool, List, [], ◌∷◌, ◌++◌, refl, sym, ap, ◌∙◌, append_assoc, subst, arith, Ok, Err}
 use Rattle.std.proofs.lemmas.List.{append-nil}
-use Rattle.nc_base.specs.Bytes.{text}
+use Rattle.nc_base.specs.Bytes.{concat_parts}
 use Rattle.nc_base.specs.declared.header.Header.{Header}
 use Rattle.nc_base.specs.HeadText.{head_text}
 use Rattle.nc_base.specs.Dump.{Options, Section, Ending, whole, data_truncated, data_word, closing_word, dump_text}
@@ -15,7 +15,7 @@ use Rattle.ncdump.proofs.Held.{holds-after, holds-partway, partway-longer}
 
 -- the parts of a dump's text
 pub parts : (h : Header) (o : Options) (n : ℕ) (section : Section) → dump_text h o n section ≡ text_before o h n ++ (section.text ++ closing_word section.ending)
-unfolding text
+unfolding concat_parts
 parts h o n section =
     ap (λ (t : List ℕ). head_text o.name h n ++ (data_word h o ++ (section.text ++ t))) (append-nil (closing_word section.ending))
     ∙ sym (append_assoc (head_text o.name h n) (data_word h o) (section.text ++ closing_word section.ending))

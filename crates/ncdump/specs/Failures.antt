@@ -1,6 +1,6 @@
 -- The lines of failures.
 use Rattle.std.specs.Prelude.{ℕ, List, [], ◌∷◌, codes, string_bytes}
-use Rattle.nc_base.specs.Bytes.{text}
+use Rattle.nc_base.specs.Bytes.{concat_parts}
 use Rattle.ncdump.specs.Faults.{line_of, program_words}
 use Rattle.ncdump.specs.declared.command_line.OptFault.{OptFault}
 use Rattle.ncdump.specs.declared.command_line.OptFault.TheVariants.{OutOfMemory, Usage}
@@ -22,7 +22,7 @@ cannot_open_words = codes ": cannot open\n"
 
 -- the line for a path that can't be opened
 unfoldable pub cannot_open_line : List ℕ → List ℕ
-cannot_open_line path = text (program_words ∷ path ∷ cannot_open_words ∷ [])
+cannot_open_line path = concat_parts (program_words ∷ path ∷ cannot_open_words ∷ [])
 
 -- the line of a fault of the file at this path
 unfoldable pub file_line : List ℕ → FileFault → List ℕ

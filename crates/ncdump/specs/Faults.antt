@@ -1,6 +1,6 @@
 -- The faults of a dump, and the lines that tell them.
 use Rattle.std.specs.Prelude.{ℕ, List, [], ◌∷◌, codes, decimal}
-use Rattle.nc_base.specs.Bytes.{text}
+use Rattle.nc_base.specs.Bytes.{concat_parts}
 use Rattle.nc_base.specs.declared.fault.FormatFault.{FormatFault}
 use Rattle.nc_base.specs.declared.fault.FormatFault.TheVariants.{NotNetcdf, UnknownVersion, HeaderTruncated, BadTag, BadCount, BadName, FloatingType, BadType, BadShape, TwoRecordDims, BadOffset, TooLarge}
 use Rattle.nc_file.specs.declared.head_fault.HeadFault.{HeadFault}
@@ -44,17 +44,17 @@ truncated_words = codes ": data truncated at value "
 -- the numbers of a fault, with the words between them
 unfoldable pub fault_numbers : DumpFault → List ℕ
 fault_numbers (Format (UnknownVersion n)) = decimal n
-fault_numbers (NoSuchVariable index) = text (decimal index ∷ codes " of -v" ∷ [])
-fault_numbers (DataTruncated var value) = text (decimal var ∷ truncated_words ∷ decimal value ∷ [])
+fault_numbers (NoSuchVariable index) = concat_parts (decimal index ∷ codes " of -v" ∷ [])
+fault_numbers (DataTruncated var value) = concat_parts (decimal var ∷ truncated_words ∷ decimal value ∷ [])
 fault_numbers other = []
 
 -- what a fault says
 unfoldable pub fault_text : DumpFault → List ℕ
-fault_text fault = text (fault_words fault ∷ fault_numbers fault ∷ [])
+fault_text fault = concat_parts (fault_words fault ∷ fault_numbers fault ∷ [])
 
 unfoldable pub program_words : List ℕ
 program_words = codes "ncdump: "
 
 -- the line of a fault
 unfoldable pub line_of : List ℕ → DumpFault → List ℕ
-line_of file fault = text (program_words ∷ file ∷ codes ": " ∷ fault_text fault ∷ codes "\n" ∷ [])
+line_of file fault = concat_parts (program_words ∷ file ∷ codes ": " ∷ fault_text fault ∷ codes "\n" ∷ [])

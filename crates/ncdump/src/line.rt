@@ -1,7 +1,7 @@
 //! The line of a fault.
 
 ghost use Rattle.std.specs.Prelude.{◌≡◌, [], ◌∷◌, codes, decimal};
-ghost use Rattle.nc_base.specs.Bytes.{text};
+ghost use Rattle.nc_base.specs.Bytes.{concat_parts};
 ghost use Rattle.devices.specs.Sinks.{Wrote};
 ghost use Rattle.ncdump.specs.Faults.{line_of, program_words, fault_text, fault_words, fault_numbers, format_words, truncated_words};
 
@@ -51,7 +51,7 @@ fn put_numbers<W: Sink>(sink: &mut W, fault: &DumpFault) -> Result<(), WriteFail
 /// Writes the place of a name among the chosen ones.
 #[tactic(auto, using(devices::proofs::Writes::writes))]
 fn put_index<W: Sink>(sink: &mut W, index: usize) -> Result<(), WriteFailed>
-    ensures { Wrote (W.view sink.old) (W.view sink.new) (text (decimal index ∷ codes " of -v" ∷ [])) result }
+    ensures { Wrote (W.view sink.old) (W.view sink.new) (concat_parts (decimal index ∷ codes " of -v" ∷ [])) result }
 {
     put_decimal(sink, index as u128)?;
     put(sink, b" of -v")
@@ -60,7 +60,7 @@ fn put_index<W: Sink>(sink: &mut W, index: usize) -> Result<(), WriteFailed>
 /// Writes the place of a value.
 #[tactic(auto, using(devices::proofs::Writes::writes))]
 fn put_place<W: Sink>(sink: &mut W, var: usize, value: u128) -> Result<(), WriteFailed>
-    ensures { Wrote (W.view sink.old) (W.view sink.new) (text (decimal var ∷ truncated_words ∷ decimal value ∷ [])) result }
+    ensures { Wrote (W.view sink.old) (W.view sink.new) (concat_parts (decimal var ∷ truncated_words ∷ decimal value ∷ [])) result }
 {
     put_decimal(sink, var as u128)?;
     put(sink, truncated_words())?;

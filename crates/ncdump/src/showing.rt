@@ -3,7 +3,7 @@
 ghost use Rattle.std.specs.Prelude.{◌≡◌, ◌≤◌, ◌<◌, ◌&&◌, [], if◌then◌else◌, length, slice_get, IfSome};
 ghost use Rattle.std.specs.Bool.{OnTrue};
 ghost use Rattle.nc_base.specs.Headers.{IsSound};
-ghost use Rattle.nc_base.specs.Sizes.{has_slabs, record_count};
+ghost use Rattle.nc_base.specs.Sizes.{is_record_var, record_count};
 ghost use Rattle.nc_base.specs.Dump.{data_word, has_values};
 ghost use Rattle.ncdump.specs.Dumps.{options_of};
 ghost use Rattle.ncdump.specs.Shows.{dumped, marks_in, ReadFailsOnly, ShowsOrFails, ShowsOne, ShowsMarked, Shows};
@@ -108,7 +108,7 @@ fn is_shown(header: &Header, v: usize, count: u64, is_marked: bool) -> bool
 /// Says whether the variable at index `v` has a slab over n records.
 fn has_slabs(header: &Header, v: usize, count: u64) -> bool
     requires { v < length header.now.vars }
-    ensures { IfSome (slice_get header.now.vars v) (λ var. result ≡ has_slabs header.now.dims count var) }
+    ensures { IfSome (slice_get header.now.vars v) (λ var. result ≡ (nat_lt 0 count || not (is_record_var header.now.dims var))) }
 {
     let dimids = header.vars.as_slice()[v].dimids.as_slice();
     count > 0 || !has_records(header.dims.as_slice(), dimids)

@@ -5,9 +5,9 @@ ghost use Rattle.nc_file.specs.Reading.{type_in, name_at, type_at, list_len_at};
 ghost use Rattle.nc_file.specs.Window.{Opened, ReadPart};
 
 use crate::head_fault::HeadFault;
-use crate::window::{Window, padding_len};
+use crate::window::Window;
 use devices::Source;
-use nc_base::{FormatFault, NcType, Sequence, Version, check_name};
+use nc_base::{FormatFault, NcType, Sequence, Version, check_name, padding_len};
 use std::alloc::Global;
 
 impl<S: Source> Window<'_, S> {

@@ -8,10 +8,11 @@ ghost use Rattle.nc_file.specs.Window.{Opened, ReadPart};
 
 use crate::head_fault::HeadFault;
 use crate::sized_var::SizedVar;
-use crate::window::{Window, padding_len};
+use crate::window::Window;
 use devices::Source;
 use nc_base::{
-    Dim, FormatFault, NcType, RECORD_LIMIT, Sequence, Var, Version, has_records, slab_of,
+    Dim, FormatFault, NcType, RECORD_LIMIT, Sequence, Var, Version, has_records, padding_len,
+    slab_of,
 };
 use std::alloc::Global;
 

@@ -10,7 +10,7 @@ loop-rest-init g c = underway_at_first _ _ _ _
 
 pub put_next_run-requires-clause-within : goal.put_next_run-requires-clause-within
 put_next_run-requires-clause-within g c =
-    omega (arith, chars_within c.loop-rest.rest.now c.args.bytes.now _ _ (underway_within _ _ _ _ _ _ _ c.loop-rest.invariant), c.split_at.ensures.front_len, c.run_len.ensures.within, c.requires.within)
+    omega (arith, chars_within c.loop-rest.rest.now c.args.bytes.now _ _ (underway_within _ _ _ _ _ _ _ c.loop-rest.invariant), c.split_at.ensures.front_len, c.run_len_in_row.ensures.within, c.requires.within)
 
 pub loop-rest-preserved : goal.loop-rest-preserved
 loop-rest-preserved g c =

@@ -1,16 +1,16 @@
-use Rattle.std.proofs.Common.{◌≡◌, Bool, ◌&&◌, ap, sym, ◌∙◌}
+use Rattle.std.proofs.Common.{◌≡◌, Bool, ◌&&◌, ◌||◌, nat_lt, not, ap, sym, ◌∙◌}
 use Rattle.std.specs.Prelude.{slice_get}
 use Rattle.nc_base.specs.Dump.{has_values}
 use Rattle.nc_base.specs.Headers.{IsSoundVar}
-use Rattle.nc_base.specs.Sizes.{has_slabs}
-use Rattle.nc_base.proofs.SoundLaws.{has_values-has_slabs}
+use Rattle.nc_base.specs.Sizes.{is_record_var}
+use Rattle.nc_base.proofs.SoundLaws.{has_values-unless_empty}
 use Rattle.ncdump.proofs.OneVariable.{if-some, all-at}
 use Rattle.ncdump.proofs.showing.is_shown.Goals as goal
 
 pub returns-then-is_marked : goal.returns-then-is_marked
 returns-then-is_marked c =
     let h = c.args.header.now in
-    if-some (λ var. c.has_slabs.result ≡ has_slabs h.dims c.args.count var) (λ var. c.has_slabs.result ≡ (c.args.is_marked && has_values h.dims c.args.count var)) (slice_get h.vars c.args.v)
-    (λ var at slabs. slabs ∙ sym (has_values-has_slabs h.dims var c.args.count (all-at (IsSoundVar h.version h.dims) h.vars c.args.v var c.requires.sound.vars at).shape)
+    if-some (λ var. c.has_slabs.result ≡ (nat_lt 0 c.args.count || not (is_record_var h.dims var))) (λ var. c.has_slabs.result ≡ (c.args.is_marked && has_values h.dims c.args.count var)) (slice_get h.vars c.args.v)
+    (λ var at slabs. slabs ∙ sym (has_values-unless_empty h.dims var c.args.count (all-at (IsSoundVar h.version h.dims) h.vars c.args.v var c.requires.sound.vars at).shape)
     ∙ ap (λ (b : Bool). b && has_values h.dims c.args.count var) (sym c.if-is_marked.true))
     c.has_slabs.ensures

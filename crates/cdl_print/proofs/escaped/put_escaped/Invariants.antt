@@ -1,11 +1,11 @@
 use Rattle.std.proofs.Common.{length}
 use Rattle.std.specs.List.{flat_map}
-use Rattle.nc_base.specs.Escapes.{escaped_in_name}
+use Rattle.nc_base.specs.Quoted.{escaped_in}
 use Rattle.cdl_print.proofs.Begun.{IsBegun}
-use Rattle.cdl_print.proofs.name.put_name_bytes.Given as goal
+use Rattle.cdl_print.proofs.escaped.put_escaped.Given as goal
 
 abbrev pub invariant-loop-rest : goal.invariant-loop-rest
-invariant-loop-rest g l = IsBegun (g.W.Sink.view l.fn.sink) (g.W.Sink.view l.sink) (flat_map escaped_in_name l.rest) (flat_map escaped_in_name l.name)
+invariant-loop-rest g l = IsBegun (g.W.Sink.view l.fn.sink) (g.W.Sink.view l.sink) (flat_map (escaped_in l.quoting) l.rest) (flat_map (escaped_in l.quoting) l.bytes)
 
 abbrev pub decreases-loop-rest : goal.decreases-loop-rest
 decreases-loop-rest g l = length l.rest

@@ -1,0 +1,66 @@
+//! The bytes of names and strings, each with its escape.
+
+ghost use Rattle.std.specs.Prelude.{◌≡◌, max};
+ghost use Rattle.std.specs.List.{flat_map, prefix_len};
+ghost use Rattle.nc_base.specs.Quoted.{escaped_in, stands_for_itself};
+ghost use Rattle.devices.specs.Sinks.{Wrote};
+ghost use Rattle.cdl_print.specs.Pieces.{IsRun};
+
+use devices::{Sink, WriteFailed, put};
+use nc_base::{Escape, Quoting};
+
+/// Writes bytes of a name or of a string, each with its escape.
+pub fn put_escaped<W: Sink>(sink: &mut W, quoting: Quoting, bytes: &[u8]) -> Result<(), WriteFailed>
+    ensures { Wrote (W.view sink.old) (W.view sink.new) (flat_map (escaped_in quoting) bytes.now) result }
+{
+    let mut rest = bytes;
+    while !rest.is_empty() {
+        let (run, others) = rest.split_at(run_len(quoting, rest));
+        put_run(sink, quoting, run)?;
+        rest = others;
+    }
+    Ok(())
+}
+
+/// Writes one byte with its escape, or a run of bytes that stand for themselves.
+pub fn put_run<W: Sink>(sink: &mut W, quoting: Quoting, run: &[u8]) -> Result<(), WriteFailed>
+    requires { IsRun (stands_for_itself quoting) run.now }
+    ensures { Wrote (W.view sink.old) (W.view sink.new) (flat_map (escaped_in quoting) run.now) result }
+{
+    match *run {
+        [b] => put_byte(sink, quoting, b),
+        _ => put(sink, run),
+    }
+}
+
+/// Writes one byte with its escape.
+fn put_byte<W: Sink>(sink: &mut W, quoting: Quoting, b: u8) -> Result<(), WriteFailed>
+    ensures { Wrote (W.view sink.old) (W.view sink.new) (escaped_in quoting b) result }
+{
+    match quoting.escape(b) {
+        Escape::Plain => put(sink, &[b]),
+        Escape::Backslash(c) => put(sink, &[b'\\', c]),
+        Escape::Octal => put(
+            sink,
+            &[b'\\', b'0' + b / 64, b'0' + b / 8 % 8, b'0' + b % 8],
+        ),
+    }
+}
+
+/// The length of what goes out next: of the run of bytes that stand for themselves, or one byte.
+pub fn run_len(quoting: Quoting, bytes: &[u8]) -> usize
+    ensures { result ≡ max 1 (prefix_len (stands_for_itself quoting) bytes.now) }
+{
+    plain_len(quoting, bytes).max(1)
+}
+
+/// How many of the first bytes stand for themselves.
+fn plain_len(quoting: Quoting, bytes: &[u8]) -> usize
+    ensures { result ≡ prefix_len (stands_for_itself quoting) bytes.now }
+{
+    let mut len = 0;
+    while len < bytes.len() && quoting.is_plain(bytes[len]) {
+        len += 1;
+    }
+    len
+}

@@ -1,0 +1,149 @@
+//! How names and strings are written in CDL: their bytes, each with its escape, and the reserved words.
+
+ghost use Rattle.std.specs.Prelude.{◌≡◌};
+ghost use Rattle.std.specs.List.{list_any};
+ghost use Rattle.std.specs.Str.{bytes_eq};
+ghost use Rattle.nc_base.specs.Escapes.{begins_with_digit_or_mark, escaped_in_name, escaped_in_string, is_literal, is_name_mark, is_plain, is_reserved};
+ghost use Rattle.nc_base.specs.Quoted.{written};
+
+/// The words of CDL that name nothing.
+const RESERVED_WORDS: [&[u8]; 20] = [
+    b"netcdf",
+    b"dimensions",
+    b"variables",
+    b"data",
+    b"byte",
+    b"char",
+    b"short",
+    b"int",
+    b"long",
+    b"float",
+    b"real",
+    b"double",
+    b"ubyte",
+    b"ushort",
+    b"uint",
+    b"int64",
+    b"uint64",
+    b"string",
+    b"unlimited",
+    b"UNLIMITED",
+];
+
+/// Where bytes stand in CDL, which decides on their escapes.
+#[derive(Clone, Copy, Debug, PartialEq, Eq)]
+pub enum Quoting {
+    /// In a name, which stands without quotes.
+    InName,
+    /// In a string, between two double quotes.
+    InString,
+}
+
+/// How a byte is written.
+#[derive(Clone, Copy, Debug, PartialEq, Eq)]
+pub enum Escape {
+    /// As it is.
+    Plain,
+    /// As a backslash and this byte.
+    Backslash(u8),
+    /// As a backslash and three octal digits.
+    Octal,
+}
+
+impl Quoting {
+    ghost use Rattle.nc_base.specs.Quoted.{escaped_in, stands_for_itself, written};
+
+    /// Says whether the byte stands for itself here.
+    pub fn is_plain(self, b: u8) -> bool
+        ensures { result ≡ stands_for_itself self b }
+    {
+        match self {
+            Quoting::InName => is_plain_in_name(b),
+            Quoting::InString => is_plain_in_string(b),
+        }
+    }
+
+    /// How the byte is written here (ncdump(1), and the chapter on CDL of the NetCDF User's Guide).
+    pub fn escape(self, b: u8) -> Escape
+        ensures { written result b ≡ escaped_in self b }
+    {
+        match self {
+            Quoting::InName => escape_in_name(b),
+            Quoting::InString => escape_in_string(b),
+        }
+    }
+}
+
+/// How a byte is written in a name.
+fn escape_in_name(b: u8) -> Escape
+    ensures { written result b ≡ escaped_in_name b }
+{
+    if is_plain_in_name(b) {
+        Escape::Plain
+    } else {
+        Escape::Backslash(b)
+    }
+}
+
+/// How a byte is written in a string.
+fn escape_in_string(b: u8) -> Escape
+    ensures { written result b ≡ escaped_in_string b }
+{
+    match b {
+        0x08 => Escape::Backslash(b'b'),
+        b'\t' => Escape::Backslash(b't'),
+        b'\n' => Escape::Backslash(b'n'),
+        0x0b => Escape::Backslash(b'v'),
+        0x0c => Escape::Backslash(b'f'),
+        b'\r' => Escape::Backslash(b'r'),
+        b'"' | b'\'' | b'\\' => Escape::Backslash(b),
+        _ if b.is_ascii_control() => Escape::Octal,
+        _ => Escape::Plain,
+    }
+}
+
+/// Says whether the byte stands for itself in a name.
+fn is_plain_in_name(b: u8) -> bool
+    ensures { result ≡ is_plain b }
+{
+    b.is_ascii_alphanumeric() || b == b'_' || is_name_mark(b) || b >= 0x80
+}
+
+/// Says whether the byte stands for itself in a string.
+fn is_plain_in_string(b: u8) -> bool
+    ensures { result ≡ is_literal b }
+{
+    !(b.is_ascii_control() || matches!(b, b'"' | b'\'' | b'\\'))
+}
+
+/// Says whether the byte is one of the marks that a name has as they are, but not as its first byte.
+fn is_name_mark(b: u8) -> bool
+    ensures { result ≡ is_name_mark b }
+{
+    matches!(b, b'.' | b'@' | b'+' | b'-')
+}
+
+/// Says whether the name begins as a number does: with a digit, or with one of the marks `.`, `@`, `+` and `-`.
+pub fn begins_with_digit_or_mark(name: &[u8]) -> bool
+    ensures { result ≡ begins_with_digit_or_mark name.now }
+{
+    match name.first() {
+        Some(&b) => b.is_ascii_digit() || is_name_mark(b),
+        None => false,
+    }
+}
+
+/// Says whether the bytes are a reserved word of CDL, which names nothing unless it is escaped.
+#[tactic(auto, unfolding(crate::specs::Escapes::is_reserved))]
+pub fn is_reserved(name: &[u8]) -> bool
+    ensures { result ≡ is_reserved name.now }
+{
+    is_one_of(name, &RESERVED_WORDS)
+}
+
+/// Says whether the bytes are one of the words.
+fn is_one_of(bytes: &[u8], words: &[&[u8]]) -> bool
+    ensures { result ≡ list_any (λ word. bytes_eq bytes.now word.now) words.now }
+{
+    words.iter().any(|word| bytes == *word)
+}
