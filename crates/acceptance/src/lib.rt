@@ -14,6 +14,8 @@ mod files;
 #[cfg(test)]
 mod growths;
 #[cfg(test)]
+mod header_reads;
+#[cfg(test)]
 mod headers;
 #[cfg(test)]
 mod rows;

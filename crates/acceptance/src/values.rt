@@ -247,6 +247,7 @@ fn truncated(
 
 #[test]
 fn truncated_data(rt: HostRuntime) -> Result<(), Fail> {
+    let head = b"netcdf t {\ndimensions:\n\tx = 3 ;\nvariables:\n\tshort s(x) ;\ndata:\n\n";
     let rows: [(usize, u128, &[u8]); 6] = [
         (80, 0, b" s ="),
         (81, 0, b" s ="),
@@ -256,26 +257,18 @@ fn truncated_data(rt: HostRuntime) -> Result<(), Fail> {
         (85, 2, b" s = 1, _"),
     ];
     for (len, value, line) in rows {
-        let mut prefix = Vec::from_slice(
-            rt.alloc(),
-            b"netcdf t {\ndimensions:\n\tx = 3 ;\nvariables:\n\tshort s(x) ;\ndata:\n\n",
-        )?;
+        let mut prefix = Vec::from_slice(rt.alloc(), head)?;
         prefix.extend_from_slice(line)?;
-        truncated(
-            &rt,
-            rt.alloc(),
-            files::GENERATED,
-            len,
-            (0, value),
-            prefix.as_slice(),
-        )?;
+        let text = prefix.as_slice();
+        truncated(&rt, rt.alloc(), files::GENERATED, len, (0, value), text)?;
+        let len = len + 48;
         truncated(
             &rt,
             rt.alloc(),
             files::GENERATED_CDF5,
-            len + 48,
+            len,
             (0, value),
-            prefix.as_slice(),
+            text,
         )?;
     }
     dumps(

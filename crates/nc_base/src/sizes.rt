@@ -70,6 +70,28 @@ pub fn records(header: &Header, len: u64) -> u64
     }
 }
 
+/// How the records of a file lie: how many there are, and how far apart.
+#[derive(Clone, Copy, Debug, PartialEq, Eq)]
+pub struct RecordLayout {
+    /// The number of records.
+    pub records: u64,
+    /// The record size, in bytes.
+    pub record_size: u64,
+}
+
+/// How the records of a file of `len` bytes with this header lie. It takes time in proportion to the number of variables and
+/// their dimensions, so a caller that goes over the variables asks for it once.
+pub fn record_layout(header: &Header, len: u64) -> RecordLayout
+    requires { IsSound header.now }
+    ensures records { result.records ≡ record_count header.now len }
+    ensures record_size { result.record_size ≡ record_size header.now }
+{
+    RecordLayout {
+        records: records(header, len),
+        record_size: sound_rec_size(header),
+    }
+}
+
 /// How many whole records of this size n bytes have; none where the size isn't known.
 fn whole_records(bytes: u64, size: Option<u64>) -> u64
     ensures { IfSome size (λ size. result ≡ bytes / size) }

@@ -136,55 +136,61 @@ fn variables_without_a_fill_value_have_the_default(rt: HostRuntime) -> Result<()
     Ok(())
 }
 
-#[test]
-fn the_first_fill_value_of_the_right_type_counts(rt: HostRuntime) -> Result<(), Fail> {
-    let fill = "_FillValue";
-    let alloc = rt.alloc();
+/// Some attributes: the name, the type and the bytes of the values of each.
+type Atts = &'static [(&'static str, NcType, &'static [u8])];
 
-    let byte = variable(alloc, NcType::Byte, &[(fill, NcType::Byte, b"\x81")])?;
-    assert_eq!(rt; fill_of(&byte), -127);
-    let named_late = variable(
-        alloc,
+/// A type, attributes of a variable of the type, and the variable's fill value.
+const OWN_FILLS: [(NcType, Atts, i128); 7] = [
+    (NcType::Byte, &[("_FillValue", NcType::Byte, b"\x81")], -127),
+    (
         NcType::Short,
         &[
             ("units", NcType::Short, b"\0\x07"),
-            (fill, NcType::Short, b"\xff\xfe"),
+            ("_FillValue", NcType::Short, b"\xff\xfe"),
         ],
-    )?;
-    assert_eq!(rt; fill_of(&named_late), -2);
-    let uint64 = variable(
-        alloc,
+        -2,
+    ),
+    (
         NcType::Uint64,
-        &[(fill, NcType::Uint64, b"\x80\0\0\0\0\0\0\x01")],
-    )?;
-    assert_eq!(rt; fill_of(&uint64), 9223372036854775809);
+        &[("_FillValue", NcType::Uint64, b"\x80\0\0\0\0\0\0\x01")],
+        9223372036854775809,
+    ),
+    // of another type, and of two values
+    (
+        NcType::Short,
+        &[("_FillValue", NcType::Int, b"\0\0\0\x07")],
+        -32767,
+    ),
+    (
+        NcType::Short,
+        &[("_FillValue", NcType::Short, b"\0\x07\0\x07")],
+        -32767,
+    ),
+    // two of the name
+    (
+        NcType::Short,
+        &[
+            ("_FillValue", NcType::Short, b"\0\x07"),
+            ("_FillValue", NcType::Short, b"\0\x08"),
+        ],
+        7,
+    ),
+    (
+        NcType::Short,
+        &[
+            ("_FillValue", NcType::Int, b"\0\0\0\x07"),
+            ("_FillValue", NcType::Short, b"\0\x08"),
+        ],
+        -32767,
+    ),
+];
 
-    let other_type = variable(alloc, NcType::Short, &[(fill, NcType::Int, b"\0\0\0\x07")])?;
-    assert_eq!(rt; fill_of(&other_type), -32767);
-    let two_values = variable(
-        alloc,
-        NcType::Short,
-        &[(fill, NcType::Short, b"\0\x07\0\x07")],
-    )?;
-    assert_eq!(rt; fill_of(&two_values), -32767);
-    let twice = variable(
-        alloc,
-        NcType::Short,
-        &[
-            (fill, NcType::Short, b"\0\x07"),
-            (fill, NcType::Short, b"\0\x08"),
-        ],
-    )?;
-    assert_eq!(rt; fill_of(&twice), 7);
-    let wrong_then_right = variable(
-        alloc,
-        NcType::Short,
-        &[
-            (fill, NcType::Int, b"\0\0\0\x07"),
-            (fill, NcType::Short, b"\0\x08"),
-        ],
-    )?;
-    assert_eq!(rt; fill_of(&wrong_then_right), -32767);
+#[test]
+fn the_first_fill_value_of_the_right_type_counts(rt: HostRuntime) -> Result<(), Fail> {
+    for (ty, atts, fill) in OWN_FILLS {
+        let var = variable(rt.alloc(), ty, atts)?;
+        assert_eq!(rt; fill_of(&var), fill);
+    }
     Ok(())
 }
 

@@ -2,11 +2,11 @@
 
 ghost use Rattle.std.specs.Prelude.{◌≡◌, ◌+◌, ◌*◌, ◌<◌, ◌≤◌, ◌^◌, if◌then◌else◌, length};
 ghost use Rattle.nc_base.specs.Headers.{IsSound};
-ghost use Rattle.nc_base.specs.Sizes.{is_record_var, slab_count, slab_size, slab_limit};
+ghost use Rattle.nc_base.specs.Sizes.{is_record_var, record_size, slab_count, slab_size, slab_limit};
 ghost use Rattle.nc_walk.specs.Slabs.{number_at, offset, IsSized, AreSlabsOf, Ready};
 
 use crate::cursor::Cursor;
-use nc_base::{Dim, Header, Var, has_records, slab_of, sound_rec_size};
+use nc_base::{Dim, Header, RecordLayout, Var, has_records, slab_of};
 
 /// The slabs of a variable: values side by side in each, and one slab after the other at the same distance.
 #[derive(Clone, Copy)]
@@ -24,20 +24,21 @@ pub(crate) struct Slabs {
 }
 
 impl Slabs {
-    /// The slabs of the variable at index `v` over n records: one for each record, or one in all where the variable
-    /// has no record dimension.
-    pub(crate) fn of(header: &Header, v: usize, records: u64) -> Slabs
+    /// The slabs of the variable at index `v` over the records that lie so: one for each record, or one in all where the
+    /// variable has no record dimension.
+    pub(crate) fn of(header: &Header, v: usize, layout: RecordLayout) -> Slabs
         requires sound { IsSound header.now }
         requires there { v < length header.now.vars }
-        ensures { AreSlabsOf header.now v records result }
+        requires record_size { layout.record_size ≡ record_size header.now }
+        ensures { AreSlabsOf header.now v layout.records result }
     {
         let dims = header.dims.as_slice();
         let var = &header.vars.as_slice()[v];
         Slabs {
             begin: var.begin_at,
-            stride: sound_rec_size(header),
+            stride: layout.record_size,
             values_per_slab: slab_values(dims, var),
-            total_slabs: slab_number(dims, var, records),
+            total_slabs: slab_number(dims, var, layout.records),
             size: var.ty.size(),
         }
     }

@@ -4,6 +4,7 @@ ghost use Rattle.std.specs.Prelude.{◌≡◌, ◌+◌, ◌*◌, ◌<◌, ◌≤
 ghost use Rattle.std.specs.Borrow.{sem};
 ghost use mir.Syntax.{named};
 ghost use Rattle.nc_base.specs.Headers.{IsSound};
+ghost use Rattle.nc_base.specs.Sizes.{record_size};
 ghost use Rattle.nc_walk.specs.Walks.{Starts, Steps, Repeats, Advanced, Rests, lent, as_answer};
 ghost use Rattle.nc_walk.specs.contracts.walk.Walk.{the_row};
 
@@ -12,7 +13,7 @@ use crate::cursor::Cursor;
 use crate::fault::WalkFault;
 use crate::slabs::Slabs;
 use devices::Source;
-use nc_base::Header;
+use nc_base::{Header, RecordLayout, sound_rec_size};
 use std::marker::Model;
 
 /// A walk over the values of one variable, through a caller's buffer of at least 16 bytes.
@@ -51,7 +52,28 @@ impl<'a> Walk<'a> {
         requires capacity { 16 ≤ length buf.old }
         ensures { Starts header.now v records (length buf.old) result }
     {
-        let slabs = Slabs::of(header, v, records);
+        let record_size = sound_rec_size(header);
+        Walk::over(
+            header,
+            v,
+            RecordLayout {
+                records,
+                record_size,
+            },
+            buf,
+        )
+    }
+
+    /// The same over records that lie so, for a caller that walks over many variables: it takes time in proportion to the
+    /// rank of the variable alone.
+    pub fn over(header: &Header, v: usize, layout: RecordLayout, buf: &'a mut [u8]) -> Walk<'a>
+        requires sound { IsSound header.now }
+        requires there { v < length header.now.vars }
+        requires record_size { layout.record_size ≡ record_size header.now }
+        requires capacity { 16 ≤ length buf.old }
+        ensures { Starts header.now v layout.records (length buf.old) result }
+    {
+        let slabs = Slabs::of(header, v, layout);
         let capacity = buf.len() as u64 / slabs.size;
         Walk {
             slabs,

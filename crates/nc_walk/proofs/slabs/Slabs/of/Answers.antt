@@ -15,9 +15,9 @@ slab_values-requires c =
 pub returns : goal.returns
 returns c =
     let var = c.index-as_slice-v.result in
-    are_slabs c.args.header.now c.args.v c.args.records var _ _ _ _ c.requires.sound c.requires.there
+    are_slabs c.args.header.now c.args.v c.args.layout.records var _ _ _ _ c.requires.sound c.requires.there
     (c.index-as_slice-v.is ∙ ap (λ (vars : List Var). get_or vars c.args.v var) c.as_slice.ensures)
-    c.sound_rec_size.ensures.size
+    c.requires.record_size
     (c.slab_values.ensures ∙ ap (λ (dims : List Dim). slab_count dims var) c.as_slice-dims.ensures)
-    (c.slab_number.ensures ∙ ap (λ (dims : List Dim). if is_record_var dims var then c.args.records else 1) c.as_slice-dims.ensures)
+    (c.slab_number.ensures ∙ ap (λ (dims : List Dim). if is_record_var dims var then c.args.layout.records else 1) c.as_slice-dims.ensures)
     c.size.ensures
