@@ -3,6 +3,8 @@ pub mod NumberLaws
 pub mod PathLemmas
 pub mod SizeLaws
 pub mod SoundLaws
+pub mod Found
+pub mod Extents
 pub mod SoundSpelling
 pub mod SpelledWeight
 pub mod ValueLaws

@@ -40,7 +40,3 @@ end_of h records var =
     if is_record_var h.dims var
     then (if records == 0 then var.begin_at else var.begin_at + (records - 1) * record_size h + slab_size h.dims var)
     else var.begin_at + slab_size h.dims var
-
--- the same of the variable in this place
-abbrev pub end_at : Header → ℕ → ℕ → ℕ
-end_at h v records = slice_index (map (end_of h records) h.vars) v

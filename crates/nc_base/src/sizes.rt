@@ -4,7 +4,8 @@ ghost use Rattle.std.specs.Prelude.{◌≡◌, ◌+◌, ◌*◌, ◌/◌, ◌<�
 ghost use Rattle.nc_base.specs.Types.{size_of};
 ghost use Rattle.nc_base.specs.Bytes.{padding_len};
 ghost use Rattle.nc_base.specs.Sizes.{dim_len, is_record_dim, has_records, is_record_var, is_narrow, product, slab_of, slab_size, padded_size, slab_limit, record_size, record_limit, record_vars, record_count};
-ghost use Rattle.nc_base.specs.SizeParts.{slab_at, checked_record_size, first_begin, lesser, end_at};
+ghost use Rattle.nc_base.specs.SizeParts.{slab_at, checked_record_size, end_of, first_begin, lesser};
+ghost use Rattle.nc_base.specs.Places.{extent_end};
 ghost use Rattle.nc_base.specs.Headers.{IsSound, value_count};
 
 use crate::header::{Dim, Header, NumRecs, Var};
@@ -102,13 +103,22 @@ fn whole_records(bytes: u64, size: Option<u64>) -> u64
     }
 }
 
-/// The first offset after the last value that the variable in place `v` has over n records: its begin and the
-/// bytes of its slab, and for a record variable one record size more for each record after the first. A record variable
-/// has no value over no records, and ends where it begins. In bytes from the file's start, without padding.
+/// The first offset after the last value that the variable in place `v` has over n records, in bytes from the file's start;
+/// its begin where it has no value, as a record variable over no records.
 pub fn extent_end(header: &Header, v: usize, records: u64) -> u128
     requires sound { IsSound header.now }
     requires there { v < length header.now.vars }
-    ensures { result ≡ end_at header.now v records }
+    ensures { IfSome (slice_get header.now.vars v) (λ var. result ≡ extent_end header.now var records) }
+{
+    end_of(header, v, records)
+}
+
+/// The same by its parts: the begin and the bytes of the slab, and for a record variable one record size more for each
+/// record after the first.
+fn end_of(header: &Header, v: usize, records: u64) -> u128
+    requires sound { IsSound header.now }
+    requires there { v < length header.now.vars }
+    ensures { IfSome (slice_get header.now.vars v) (λ var. result ≡ end_of header.now records var) }
 {
     let var = &header.vars.as_slice()[v];
     let begin = var.begin_at as u128;

@@ -1,0 +1,141 @@
+-- Where a variable ends: its last value is the one whose index is the greatest in each dimension.
+use Rattle.std.proofs.Common.{◌≡◌, ℕ, zero, suc, ◌+◌, ◌-◌, ◌*◌, ◌<◌, ◌==◌, Bool, true, false, List, [], ◌∷◌, ◌++◌, map, refl, sym, ◌∙◌, ap, subst, arith, Option, Some, None}
+use Rattle.std.specs.Prelude.{if◌then◌else◌, slice_get, IfSome}
+use Rattle.std.specs.Option.{option_map}
+use Rattle.std.proofs.lemmas.Bool.Decides.{nat_tests}
+use Rattle.std.specs.List.{flat_map, range_with_len, last_or}
+use Rattle.nc_base.specs.declared.header.Header.{Header}
+use Rattle.nc_base.specs.declared.header.Var.{Var}
+use Rattle.nc_base.specs.Types.{size_of}
+use Rattle.nc_base.specs.Sizes.{product, is_record_var, slab_lens, slab_size, record_size}
+use Rattle.nc_base.specs.SizeParts.{end_of}
+use Rattle.nc_base.specs.Headers.{AreDimids, IsSound, IsSoundVar}
+use Rattle.nc_base.specs.Places.{vectors_below, slab_strides, distance, value_offsets, end_after, extent_end}
+use Rattle.nc_base.proofs.Found.{if-some, all-at}
+use Rattle.nc_base.proofs.SoundLaws.{some_count}
+
+-- ---- the last of a list
+
+last_or-append : {A : Type 0} (o : Option A) (xs ys : List A) → last_or o (xs ++ ys) ≡ last_or (last_or o xs) ys
+last_or-append o [] ys = refl
+last_or-append o (x ∷ xs) ys = last_or-append (Some x) xs ys
+
+last_or-map : {A B : Type 0} (f : A → B) (o : Option A) (xs : List A) → last_or (option_map f o) (map f xs) ≡ option_map f (last_or o xs)
+last_or-map f o [] = refl
+last_or-map f o (x ∷ xs) = last_or-map f (Some x) xs
+
+last_or-any : {A : Type 0} (o : Option A) (xs : List A) (x : A) → last_or None xs ≡ Some x → last_or o xs ≡ Some x
+last_or-any o [] x e = absurd cc
+last_or-any o (y ∷ xs) x e = e
+
+-- the last of some rows, the last of which is not empty
+last-rows : {A : Type 0} (f : ℕ → List A) (k m : ℕ) (o : Option A) (x : A) → last_or None (f (k + m)) ≡ Some x
+    → last_or o (flat_map f (range_with_len k (suc m))) ≡ Some x
+last-rows f k zero o x e =
+    let same : k + 0 ≡ k = omega arith in
+    last_or-append o (f k) [] ∙ last_or-any o (f k) x (ap (λ i. last_or None (f i)) (sym same) ∙ e)
+last-rows f k (suc m) o x e =
+    let same : k + 1 + m ≡ k + suc m = omega arith in
+    last_or-append o (f k) (flat_map f (range_with_len (k + 1) (suc m)))
+    ∙ last-rows f (k + 1) m (last_or o (f k)) x (ap (λ i. last_or None (f i)) same ∙ e)
+
+-- ---- the last index vector
+
+-- the greatest index in each dimension
+abbrev greatest : List ℕ → List ℕ
+greatest [] = []
+greatest (n ∷ ns) = (n - 1) ∷ greatest ns
+
+some-factor : (m p : ℕ) → 0 < m * p → 0 < p
+some-factor m zero h = absurd (omega (arith, h))
+some-factor m (suc p) h = omega arith
+
+last-vector : (ns : List ℕ) → 0 < product ns → last_or None (vectors_below ns) ≡ Some (greatest ns)
+last-vector [] some = refl
+last-vector (zero ∷ ns) some = absurd (omega arith)
+last-vector (suc m ∷ ns) some =
+    let same : 0 + m ≡ suc m - 1 = omega arith in
+    let ih = last-vector ns (some-factor (suc m) (product ns) some) in
+    last-rows (λ i. map (λ (index : List ℕ). i ∷ index) (vectors_below ns)) 0 m None ((0 + m) ∷ greatest ns)
+    (last_or-map (λ (index : List ℕ). (0 + m) ∷ index) None (vectors_below ns) ∙ ap (option_map (λ (index : List ℕ). (0 + m) ∷ index)) ih)
+    ∙ ap (λ i. Some (i ∷ greatest ns)) same
+
+-- its distance from the first value, and a value more, is the slab
+greatest-distance : (size : ℕ) (ns : List ℕ) → 0 < product ns → distance (greatest ns) (slab_strides size ns) + size ≡ product ns * size
+greatest-distance size [] some = omega arith
+greatest-distance size (zero ∷ ns) some = absurd (omega arith)
+greatest-distance size (suc m ∷ ns) some =
+    let p = product ns in
+    let ih : distance (greatest ns) (slab_strides size ns) + size ≡ p * size = greatest-distance size ns (some-factor (suc m) p some) in
+    let less : suc m - 1 ≡ m = omega arith in
+    let one : m * (size * p) + p * size ≡ suc m * p * size = omega arith in
+    ap (λ i. i * (size * p) + distance (greatest ns) (slab_strides size ns) + size) less
+    ∙ (let e : m * (size * p) + distance (greatest ns) (slab_strides size ns) + size ≡ m * (size * p) + p * size = omega (arith, ih) in e)
+    ∙ one
+
+-- ---- of a variable
+
+-- the values of a slab that begins so end with the slab
+slab-end : (begin more size : ℕ) (ns : List ℕ) → 0 < product ns
+    → begin + (more + distance (greatest ns) (slab_strides size ns)) + size ≡ begin + more + product ns * size
+slab-end begin more size ns some = omega (arith, greatest-distance size ns some)
+
+-- by whether it has records, and by their number
+end-at-kind : (h : Header) (var : Var) (n : ℕ) → 0 < product (slab_lens h.dims var.dimids)
+    → extent_end h var n
+    ≡ (if is_record_var h.dims var
+    then (if n == 0 then var.begin_at else var.begin_at + (n - 1) * record_size h + slab_size h.dims var)
+    else var.begin_at + slab_size h.dims var)
+unfolding value_offsets
+end-at-kind h var n some = by_kind (is_record_var h.dims var)
+  where
+    lens : List ℕ
+    lens = slab_lens h.dims var.dimids
+
+    size : ℕ
+    size = size_of var.ty
+
+    rows : Bool → ℕ → List ℕ
+    rows kind k = if kind then k ∷ lens else lens
+
+    steps : Bool → List ℕ
+    steps kind = if kind then record_size h ∷ slab_strides size lens else slab_strides size lens
+
+    offsets : Bool → ℕ → List ℕ
+    offsets kind k = map (λ (index : List ℕ). var.begin_at + distance index (steps kind)) (vectors_below (rows kind k))
+
+    ended : (kind : Bool) (k : ℕ) (index : List ℕ) → last_or None (vectors_below (rows kind k)) ≡ Some index
+        → end_after var.begin_at size (last_or None (offsets kind k)) ≡ var.begin_at + distance index (steps kind) + size
+    ended kind k index e =
+        ap (end_after var.begin_at size)
+        (last_or-map (λ (index : List ℕ). var.begin_at + distance index (steps kind)) None (vectors_below (rows kind k))
+        ∙ ap (option_map (λ (index : List ℕ). var.begin_at + distance index (steps kind))) e)
+
+    recorded : (k : ℕ) → end_after var.begin_at size (last_or None (offsets true k))
+        ≡ (if k == 0 then var.begin_at else var.begin_at + (k - 1) * record_size h + slab_size h.dims var)
+    recorded zero = refl
+    recorded (suc k) =
+        let not_zero : (suc k == 0) ≡ false = grind (arith, nat_tests) in
+        let all : 0 < suc k * product lens = omega (arith, some) in
+        ended true (suc k) (greatest (suc k ∷ lens)) (last-vector (suc k ∷ lens) all)
+        ∙ slab-end var.begin_at ((suc k - 1) * record_size h) size lens some
+        ∙ sym (ap (λ (t : Bool). if t then var.begin_at else var.begin_at + (suc k - 1) * record_size h + slab_size h.dims var) not_zero)
+
+    by_kind : (kind : Bool) → end_after var.begin_at size (last_or None (offsets kind n))
+        ≡ (if kind
+        then (if n == 0 then var.begin_at else var.begin_at + (n - 1) * record_size h + slab_size h.dims var)
+        else var.begin_at + slab_size h.dims var)
+    by_kind true = recorded n
+    by_kind false =
+        ended false n (greatest lens) (last-vector lens some)
+        ∙ (let e : var.begin_at + distance (greatest lens) (slab_strides size lens) + size ≡ var.begin_at + product lens * size = omega (arith, greatest-distance size lens some) in e)
+
+-- the end that the body computes
+ends : (h : Header) (var : Var) (n : ℕ) → AreDimids h.dims [] var.dimids → end_of h n var ≡ extent_end h var n
+ends h var n shape = sym (end-at-kind h var n (some_count h.dims var.dimids shape))
+
+pub extent-found : (h : Header) (v n end : ℕ) → IsSound h → IfSome (slice_get h.vars v) (λ var. end ≡ end_of h n var)
+    → IfSome (slice_get h.vars v) (λ var. end ≡ extent_end h var n)
+extent-found h v n end sound =
+    if-some (λ var. end ≡ end_of h n var) (λ var. end ≡ extent_end h var n) (slice_get h.vars v)
+    (λ var at is. is ∙ ends h var n (all-at (IsSoundVar h.version h.dims) h.vars v var sound.vars at).shape)
