@@ -8,3 +8,4 @@ pub mod Marked
 pub mod Blame
 pub mod WholeText
 pub mod DumpLaws
+pub mod OneDump

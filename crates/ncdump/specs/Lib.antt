@@ -1,5 +1,6 @@
 pub mod Faults
 pub mod Dumps
+pub mod OneDump
 pub mod Names
 pub mod Selections
 pub mod Shows

@@ -9,6 +9,7 @@ mod command_line;
 mod dumping;
 mod failure;
 mod fault;
+pub mod laws;
 mod line;
 mod names;
 mod options;

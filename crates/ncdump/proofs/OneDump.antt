@@ -1,0 +1,151 @@
+-- There is one dump of a file.
+use Rattle.std.proofs.Common.{◌≡◌, ℕ, ◌<◌, Bool, true, false, List, [], length, get_or, refl, sym, ap, ◌∙◌, subst, arith, inl, inr, Option, Some, None, Result, Ok, Err}
+use Rattle.std.specs.Prelude.{◌⊎◌, IsTrue, not, position}
+use Rattle.std.specs.List.{list_all}
+use Rattle.std.proofs.lemmas.Bool.{false≢true}
+use Rattle.std.proofs.lemmas.List.Folds.{list_all_at}
+use Rattle.std.proofs.lemmas.Option.{slice_get_within, get_or_from_slice_get}
+use Rattle.nc_base.specs.declared.header.Header.{Header}
+use Rattle.nc_base.specs.declared.header.Var.{Var}
+use Rattle.nc_base.specs.Bytes.{AreBytes}
+use Rattle.nc_base.specs.Sizes.{record_count}
+use Rattle.nc_base.specs.Grammar.{SpellsHeader}
+use Rattle.nc_base.specs.Dump.{Options, Ending, whole, wrong_field, no_such_variable, data_truncated, has_variable, KnowsChosen, IsFirstUnknown, IsFirstUnknownOf, Section, content_in, shown_values, selection_of, dump_text, IsDump, stopped, unknown, shown}
+use Rattle.nc_file.specs.OneOutcome.{BeginsWithHeader, HasFirstFault, HasOneOutcome}
+use Rattle.nc_file.proofs.OneOutcome.{one-outcome}
+use Rattle.devices.specs.Sinks.{SinkView, Appended}
+use Rattle.cdl_print.proofs.Begun.{appended_none}
+use Rattle.ncdump.specs.declared.fault.DumpFault.{DumpFault}
+use Rattle.ncdump.specs.declared.fault.DumpFault.TheVariants.{OutOfMemory, ReadFailed, WriteFailed, Format, NoSuchVariable, DataTruncated}
+use Rattle.ncdump.specs.OneDump.{HasDumped, BytesHaveOneDump, DumpsAgree}
+use Rattle.ncdump.proofs.Unknown.{all-known, first-unknown}
+
+-- ---- the chosen names: each is a variable's, or there is a first that is none
+
+by-position : (vars : List Var) (names : List (List ℕ)) (found : Option ℕ) → position (λ (name : List ℕ). not (has_variable vars name)) names ≡ found
+    → IsTrue (list_all (has_variable vars) names) ⊎ ((index : ℕ) × IsFirstUnknown vars names index)
+by-position vars names None e = inl (all-known vars names (has_variable vars) (λ name. refl) e)
+by-position vars names (Some index) e = inr (index, first-unknown vars names (has_variable vars) index (λ name. refl) e)
+
+choice : (h : Header) (chosen : Option (List (List ℕ))) → KnowsChosen h chosen ⊎ ((index : ℕ) × IsFirstUnknownOf h chosen index)
+choice h None = inl tt
+choice h (Some names) = by-position h.vars names (position (λ (name : List ℕ). not (has_variable h.vars name)) names) refl
+
+-- two places can't both be the first
+not-before : (vars : List Var) (names : List (List ℕ)) (i j : ℕ) → IsFirstUnknown vars names i → IsFirstUnknown vars names j → ¬ (i < j)
+not-before vars names i j u w lt = false≢true (sym u.unknown ∙ w.others i u.name lt u.at)
+
+same-first : (vars : List Var) (names : List (List ℕ)) (i j : ℕ) → IsFirstUnknown vars names i → IsFirstUnknown vars names j → i ≡ j
+same-first vars names i j u w =
+    let a = not-before vars names i j u w in
+    let b = not-before vars names j i w u in
+    omega (arith, a, b)
+
+same-first-of : (h : Header) (chosen : Option (List (List ℕ))) (i j : ℕ) → IsFirstUnknownOf h chosen i → IsFirstUnknownOf h chosen j → i ≡ j
+same-first-of h None i j u w = elim u [ ]
+same-first-of h (Some names) i j u w = same-first h.vars names i j u w
+
+known-all : (h : Header) (chosen : Option (List (List ℕ))) (i : ℕ) → KnowsChosen h chosen → ¬ IsFirstUnknownOf h chosen i
+known-all h None i knows u = elim u [ ]
+known-all h (Some names) i knows u =
+    let test = has_variable h.vars in
+    let is : get_or names i u.name ≡ u.name = get_or_from_slice_get names i u.name u.name u.at in
+    let none : list_all test names ≡ false = list_all_at test names i u.name (slice_get_within names i u.name u.at) (ap test is ∙ u.unknown) in
+    false≢true (sym none ∙ knows)
+
+-- ---- there is a dump
+
+-- a text and its ending
+abbrev Some-dump : List ℕ → Options → Type 0
+Some-dump bytes o = (text : List ℕ) × (ending : Ending) × IsDump bytes o text ending
+
+after-header : (bytes : List ℕ) (o : Options) (h : Header) (rest : List ℕ) → SpellsHeader bytes h rest
+    → KnowsChosen h o.chosen ⊎ ((index : ℕ) × IsFirstUnknownOf h o.chosen index) → Some-dump bytes o
+after-header bytes o h rest spelled (inl knows) =
+    let n = record_count h (length bytes) in
+    let section = shown_values h o (content_in h bytes n) n (selection_of h o) in
+    (dump_text h o n section, section.ending, shown h rest n section spelled knows refl refl)
+after-header bytes o h rest spelled (inr (index, u)) = ([], no_such_variable index, unknown h rest index spelled u)
+
+some-dump : (bytes : List ℕ) (o : Options) → BeginsWithHeader bytes ⊎ HasFirstFault bytes → Some-dump bytes o
+some-dump bytes o (inl (h, rest, spelled)) = after-header bytes o h rest spelled (choice h o.chosen)
+some-dump bytes o (inr (fault, end, stops)) = ([], wrong_field fault, stopped fault end stops)
+
+-- ---- and no other
+
+same-dump : (bytes : List ℕ) (o : Options) (t u : List ℕ) (e f : Ending) → HasOneOutcome bytes → IsDump bytes o t e → IsDump bytes o u f → (t ≡ u) × (e ≡ f)
+same-dump bytes o t u e f one (stopped fault end s) (stopped other last r) = (refl, ap wrong_field (one.one_fault fault other end last s r).0)
+same-dump bytes o t u e f one (stopped fault end s) (unknown h rest index r w) = absurd (one.not_both (h, rest, r) (fault, end, s))
+same-dump bytes o t u e f one (stopped fault end s) (shown h rest n section r knows counted is) = absurd (one.not_both (h, rest, r) (fault, end, s))
+same-dump bytes o t u e f one (unknown h rest index s w) (stopped fault end r) = absurd (one.not_both (h, rest, s) (fault, end, r))
+same-dump bytes o t u e f one (unknown h rest i s w) (unknown k more j r x) =
+    let same = (one.one_header h k rest more s r).0 in
+    (refl, ap no_such_variable (same-first-of k o.chosen i j (subst (λ (y : Header). IsFirstUnknownOf y o.chosen i) same w) x))
+same-dump bytes o t u e f one (unknown h rest i s w) (shown k more n section r knows counted is) =
+    let same = (one.one_header h k rest more s r).0 in
+    absurd (known-all k o.chosen i knows (subst (λ (y : Header). IsFirstUnknownOf y o.chosen i) same w))
+same-dump bytes o t u e f one (shown h rest n section s knows counted is) (stopped fault end r) = absurd (one.not_both (h, rest, s) (fault, end, r))
+same-dump bytes o t u e f one (shown h rest n section s knows counted is) (unknown k more j r x) =
+    let same = (one.one_header h k rest more s r).0 in
+    absurd (known-all k o.chosen j (subst (λ (y : Header). KnowsChosen y o.chosen) same knows) x)
+same-dump bytes o t u e f one (shown h rest n section s knows counted is) (shown k more m other r knew number are) =
+    let same : h ≡ k = (one.one_header h k rest more s r).0 in
+    let count : n ≡ m = counted ∙ ap (λ (x : Header). record_count x (length bytes)) same ∙ sym number in
+    let values : section ≡ other =
+    is ∙ ap (λ (x : Header). shown_values x o (content_in x bytes n) n (selection_of x o)) same
+    ∙ ap (λ (i : ℕ). shown_values k o (content_in k bytes i) i (selection_of k o)) count ∙ sym are in (
+      ap (λ (x : Header). dump_text x o n section) same ∙ ap (λ (i : ℕ). dump_text k o i section) count ∙ ap (λ (x : Section). dump_text k o m x) values,
+      ap (λ (x : Section). x.ending) values,
+    )
+
+pub one-dump : BytesHaveOneDump
+one-dump bytes o fits =
+    let one = one-outcome bytes fits in
+    let it = some-dump bytes o one.either in
+    record {
+      text = it.0;
+      ending = it.1;
+      is_dump = it.2;
+      only = λ other end is. same-dump bytes o other it.0 end it.1 one is it.2;
+    }
+
+-- ---- calls that meet no failure
+
+-- how a call answers a dump with this ending
+abbrev answer_of : Ending → Result (Unit {0}) DumpFault
+answer_of whole = Ok tt
+answer_of (wrong_field fault) = Err (Format fault)
+answer_of (no_such_variable index) = Err (NoSuchVariable index)
+answer_of (data_truncated v k) = Err (DataTruncated v k)
+
+-- a call has written a dump, and answers its ending
+record Ends (bytes : List ℕ) (o : Options) (old new : SinkView) (answer : Result (Unit {0}) DumpFault) : Type 0 where
+  text : List ℕ
+  ending : Ending
+  is_dump : IsDump bytes o text ending
+  appended : Appended old new text
+  answers : answer ≡ answer_of ending
+
+nothing-written : (old new : SinkView) → new ≡ old → Appended old new []
+nothing-written old new same = subst (λ (s : SinkView). Appended old s []) (sym same) (appended_none old)
+
+ended : (bytes : List ℕ) (o : Options) (old new : SinkView) (answer : Result (Unit {0}) DumpFault) → HasDumped bytes o old new answer → Ends bytes o old new answer
+ended bytes o old new (Ok done) has = record { text = has.dumps.text; ending = whole; is_dump = has.dumps.is_dump; appended = has.dumps.appended; answers = refl }
+ended bytes o old new (Err (DataTruncated v k)) has = record { text = has.dumps.text; ending = data_truncated v k; is_dump = has.dumps.is_dump; appended = has.dumps.appended; answers = refl }
+ended bytes o old new (Err (Format fault)) has = record { text = []; ending = wrong_field fault; is_dump = has.dumps; appended = nothing-written old new has.sink; answers = refl }
+ended bytes o old new (Err (NoSuchVariable index)) has = record { text = []; ending = no_such_variable index; is_dump = has.dumps; appended = nothing-written old new has.sink; answers = refl }
+ended bytes o old new (Err OutOfMemory) has = absurd has.met_none
+ended bytes o old new (Err ReadFailed) has = absurd has.met_none
+ended bytes o old new (Err WriteFailed) has = absurd has.met_none
+
+pub dumps-agree : DumpsAgree
+dumps-agree bytes o a b c d answer other fits first second =
+    let x = ended bytes o a b answer first in
+    let y = ended bytes o c d other second in
+    let same = same-dump bytes o x.text y.text x.ending y.ending (one-outcome bytes fits) x.is_dump y.is_dump in
+    record {
+      text = x.text;
+      first = x.appended;
+      second = subst (Appended c d) (sym same.0) y.appended;
+      answers = x.answers ∙ ap answer_of same.1 ∙ sym y.answers;
+    }
