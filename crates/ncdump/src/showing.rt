@@ -1,6 +1,6 @@
 //! The text of a dump, written while the values are read.
 
-ghost use Rattle.std.specs.Prelude.{◌≡◌, ◌≤◌, ◌<◌, ◌&&◌, [], if◌then◌else◌, length, slice_get, IfSome};
+ghost use Rattle.std.specs.Prelude.{◌≡◌, ◌≤◌, ◌<◌, ◌&&◌, ◌||◌, length, nat_lt, not, slice_get, IfSome};
 ghost use Rattle.std.specs.Bool.{OnTrue};
 ghost use Rattle.nc_base.specs.Headers.{IsSound};
 ghost use Rattle.nc_base.specs.Sizes.{is_record_var, record_count};
@@ -10,7 +10,7 @@ ghost use Rattle.ncdump.specs.Shows.{dumped, marks_in, ReadFailsOnly, ShowsOrFai
 
 use crate::fault::DumpFault;
 use crate::options::DumpOptions;
-use cdl_print::{ValuePrinter, put_head};
+use cdl_print::{ValuePrinter, Word, put_head};
 use nc_base::{Header, has_records, records};
 use nc_file::{Sink, Source, put};
 use nc_walk::{Walk, WalkFault};
@@ -46,7 +46,7 @@ pub fn show<S: Source, W: Sink>(
     put(sink, data_word(options, header))?;
     let marks = marks_in(options, shown);
     show_marked(source, header, count, marks, options.width, buf, sink)?;
-    put(sink, b"}\n")?;
+    put(sink, Word::End.bytes())?;
     Ok(())
 }
 
@@ -65,7 +65,7 @@ fn data_word(options: &DumpOptions, header: &Header) -> &'static [u8]
     if options.head_only || header.vars.is_empty() {
         b""
     } else {
-        b"data:\n"
+        Word::Data.bytes()
     }
 }
 

@@ -68,7 +68,7 @@ returns-in_err-put-2-clause-shows g c =
     subst (λ (k : ℕ). Shows {A = Unit {0}} o h k c.args.shown.now (length c.args.buf.now) a (g.S.Source.view c.show_marked.new.source) old (g.W.Sink.view c.put-2.new.sink) (Err WriteFailed)) n
     (no-brace o h c.records-count.result c.args.shown.now (length c.args.buf.now) a old word before (g.S.Source.view c.show_marked.new.source) last
     (subst (λ (marks : List Bool). ShowsMarked {A = Unit {0}} (dumped h a c.records-count.result o.width) marks (length c.args.buf.now) a (g.S.Source.view c.show_marked.new.source) word last (Ok tt)) c.marks_in-marks.ensures s)
-    (g.W.Sink.view c.put-2.new.sink) (subst (FailedPartway last (g.W.Sink.view c.put-2.new.sink)) brace c.in_err-put-2.ensures)))
+    (g.W.Sink.view c.put-2.new.sink) (subst (FailedPartway last (g.W.Sink.view c.put-2.new.sink)) (c.bytes.ensures ∙ brace) c.in_err-put-2.ensures)))
     c.in_ok-show_marked.ensures.shows)
 
 pub returns-clause-shows : goal.returns-clause-shows
@@ -87,5 +87,5 @@ returns-clause-shows g c =
     subst (λ (k : ℕ). Shows {A = Unit {0}} o h k c.args.shown.now (length c.args.buf.now) a (g.S.Source.view c.show_marked.new.source) old (g.W.Sink.view c.put-2.new.sink) (Ok tt)) n
     (all-written o h c.records-count.result c.args.shown.now (length c.args.buf.now) a old word before (g.S.Source.view c.show_marked.new.source) last
     (subst (λ (marks : List Bool). ShowsMarked {A = Unit {0}} (dumped h a c.records-count.result o.width) marks (length c.args.buf.now) a (g.S.Source.view c.show_marked.new.source) word last (Ok tt)) c.marks_in-marks.ensures s)
-    (g.W.Sink.view c.put-2.new.sink) (subst (Appended last (g.W.Sink.view c.put-2.new.sink)) brace c.in_ok-put-2.ensures)))
+    (g.W.Sink.view c.put-2.new.sink) (subst (Appended last (g.W.Sink.view c.put-2.new.sink)) (c.bytes.ensures ∙ brace) c.in_ok-put-2.ensures)))
     c.in_ok-show_marked.ensures.shows
