@@ -17,8 +17,8 @@ use Rattle.clap.specs.Words.{Row, fault_of, is_simple, is_simple_and_free, match
 use Rattle.clap.specs.declared.error.kind.ErrorKind.{ErrorKind}
 use Rattle.clap.proofs.OnLiterals.{clap_on_literals}
 use Rattle.clap.specs.declared.error.kind.ErrorKind.TheVariants as kinds
-use Rattle.ncdump.specs.declared.command_line.OptFault.{OptFault}
-use Rattle.ncdump.specs.declared.command_line.OptFault.TheVariants.{OutOfMemory, Usage}
+use Rattle.ncdump.specs.declared.fault.OptFault.{OptFault}
+use Rattle.ncdump.specs.declared.fault.OptFault.TheVariants.{OutOfMemory, Usage}
 use Rattle.ncdump.specs.declared.options.DumpOptions.{DumpOptions}
 use Rattle.ncdump.specs.CommandLine.{Answers, Asked, asked_by, asked_in, ncdump, unless, width_of}
 

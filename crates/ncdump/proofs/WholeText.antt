@@ -1,10 +1,12 @@
 -- The text of a dump from its parts.
-use Rattle.std.proofs.Common.{◌≡◌, ℕ, inl, inr, Bool, List, [], ◌∷◌, ◌++◌, refl, sym, ap, ◌∙◌, append_assoc, subst, arith, Ok, Err}
+use Rattle.std.proofs.Common.{◌≡◌, ℕ, inl, inr, Bool, List, [], ◌++◌, refl, sym, ap, ◌∙◌, append_assoc, subst, arith, Ok, Err}
 use Rattle.std.proofs.lemmas.List.{append-nil}
 use Rattle.nc_base.specs.Bytes.{concat_parts}
 use Rattle.nc_base.specs.declared.header.Header.{Header}
 use Rattle.nc_base.specs.HeadText.{head_text}
 use Rattle.nc_base.specs.Dump.{Options, Section, Ending, whole, data_truncated, data_word, closing_word, dump_text}
+use Rattle.cdl_print.specs.Words.{word_text}
+use Rattle.cdl_print.specs.declared.word.Word.TheVariants.{End}
 use Rattle.devices.specs.Sources.{SourceView}
 use Rattle.devices.specs.Sinks.{SinkView, Appended, FailedPartway}
 use Rattle.devices.proofs.Writes.{appended_then, appended_partway}
@@ -120,6 +122,6 @@ module _ (o : Options) (h : Header) (n : ℕ) (shown : List Bool) (buffer_len : 
         most = s.0.most;
       }
 
-pub brace : (125 ∷ 10 ∷ []) ≡ closing_word whole
+pub brace : word_text End ≡ closing_word whole
 unfolding closing_word
 brace = refl

@@ -12,8 +12,8 @@ use Rattle.nc_base.specs.Dump.{Options}
 use Rattle.nc_base.specs.Paths.{stem_of}
 use Rattle.ncdump.specs.Dumps.{options_of}
 use Rattle.ncdump.specs.declared.options.DumpOptions.{DumpOptions}
-use Rattle.ncdump.specs.declared.command_line.OptFault.{OptFault}
-use Rattle.ncdump.specs.declared.command_line.OptFault.TheVariants.{OutOfMemory, Usage}
+use Rattle.ncdump.specs.declared.fault.OptFault.{OptFault}
+use Rattle.ncdump.specs.declared.fault.OptFault.TheVariants.{OutOfMemory, Usage}
 
 -- ---- the command, as a parse reads it
 

@@ -1,5 +1,5 @@
--- The faults of a dump, and the lines that tell them.
-use Rattle.std.specs.Prelude.{ℕ, List, [], ◌∷◌, codes, decimal}
+-- The faults of a run, and the lines that tell them.
+use Rattle.std.specs.Prelude.{ℕ, List, [], ◌∷◌, codes, decimal, string_bytes}
 use Rattle.nc_base.specs.Bytes.{concat_parts}
 use Rattle.nc_base.specs.declared.fault.FormatFault.{FormatFault}
 use Rattle.nc_base.specs.declared.fault.FormatFault.TheVariants.{NotNetcdf, UnknownVersion, HeaderTruncated, BadTag, BadCount, BadName, FloatingType, BadType, BadShape, TwoRecordDims, BadOffset, TooLarge}
@@ -7,6 +7,12 @@ use Rattle.nc_file.specs.declared.head_fault.HeadFault.{HeadFault}
 use Rattle.nc_file.specs.declared.head_fault.HeadFault.TheVariants as head
 use Rattle.ncdump.specs.declared.fault.DumpFault.{DumpFault}
 use Rattle.ncdump.specs.declared.fault.DumpFault.TheVariants.{OutOfMemory, ReadFailed, WriteFailed, Format, NoSuchVariable, DataTruncated}
+use Rattle.ncdump.specs.declared.fault.OptFault.{OptFault}
+use Rattle.ncdump.specs.declared.fault.OptFault.TheVariants as opt
+use Rattle.ncdump.specs.declared.fault.FileFault.{FileFault}
+use Rattle.ncdump.specs.declared.fault.FileFault.TheVariants.{CannotOpen, Dump}
+use Rattle.ncdump.specs.declared.fault.Failure.{Failure}
+use Rattle.ncdump.specs.declared.fault.Failure.TheVariants.{CommandLine, File}
 
 -- why reading the header failed, as a fault of the dump
 abbrev pub fault_of_head : HeadFault → DumpFault
@@ -55,6 +61,31 @@ fault_text fault = concat_parts (fault_words fault ∷ fault_numbers fault ∷ [
 unfoldable pub program_words : List ℕ
 program_words = codes "ncdump: "
 
--- the line of a fault
+-- the line of a fault of the dump of this file
 unfoldable pub line_of : List ℕ → DumpFault → List ℕ
 line_of file fault = concat_parts (program_words ∷ file ∷ codes ": " ∷ fault_text fault ∷ codes "\n" ∷ [])
+
+unfoldable pub cannot_open_words : List ℕ
+cannot_open_words = codes ": cannot open\n"
+
+-- the line for a path that can't be opened
+unfoldable pub cannot_open_line : List ℕ → List ℕ
+cannot_open_line path = concat_parts (program_words ∷ path ∷ cannot_open_words ∷ [])
+
+-- the line of a fault of the file at this path
+unfoldable pub file_line : List ℕ → FileFault → List ℕ
+file_line path CannotOpen = cannot_open_line path
+file_line path (Dump fault) = line_of path fault
+
+unfoldable pub usage_line : List ℕ
+usage_line = codes "usage: ncdump [-h] [-c] [-v names] [-n name] [-l width] file\n"
+
+-- the line of a fault of the command line
+unfoldable pub opt_fault_line : OptFault → List ℕ
+opt_fault_line opt.OutOfMemory = codes "ncdump: out of memory\n"
+opt_fault_line opt.Usage = usage_line
+
+-- the line of a failure
+unfoldable pub line_of_failure : Failure → List ℕ
+line_of_failure (CommandLine fault) = opt_fault_line fault
+line_of_failure (File path fault) = file_line (string_bytes path) fault

@@ -5,5 +5,4 @@ pub mod Names
 pub mod Selections
 pub mod Shows
 pub mod CommandLine
-pub mod Failures
 pub mod Runs

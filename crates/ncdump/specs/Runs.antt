@@ -3,12 +3,12 @@ use Rattle.std.specs.Prelude.{ℕ, ◌≡◌, ◌⊎◌, List, Option, Some, Non
 use Rattle.devices.specs.Sinks.{SinkView, Appended, FailedPartway}
 use Rattle.ncdump.specs.CommandLine.{Asked}
 use Rattle.ncdump.specs.Dumps as dumps
-use Rattle.ncdump.specs.Failures.{line_of_failure}
-use Rattle.ncdump.specs.declared.command_line.OptFault.TheVariants.{OutOfMemory, Usage}
-use Rattle.ncdump.specs.declared.failure.Failure.{Failure}
-use Rattle.ncdump.specs.declared.failure.Failure.TheVariants.{CommandLine, File}
-use Rattle.ncdump.specs.declared.failure.FileFault.{FileFault}
-use Rattle.ncdump.specs.declared.failure.FileFault.TheVariants.{CannotOpen, Dump}
+use Rattle.ncdump.specs.Faults.{line_of_failure}
+use Rattle.ncdump.specs.declared.fault.OptFault.TheVariants.{OutOfMemory, Usage}
+use Rattle.ncdump.specs.declared.fault.Failure.{Failure}
+use Rattle.ncdump.specs.declared.fault.Failure.TheVariants.{CommandLine, File}
+use Rattle.ncdump.specs.declared.fault.FileFault.{FileFault}
+use Rattle.ncdump.specs.declared.fault.FileFault.TheVariants.{CannotOpen, Dump}
 use Rattle.ncdump.specs.declared.fault.DumpFault.{DumpFault}
 
 -- this holds of the dump's answer, and the file could be opened

@@ -1,48 +1,18 @@
 //! The words of the command line.
 
-ghost use Rattle.std.specs.Prelude.{◌≡◌, ◌≢◌, [], ◌∷◌, false, IfOk, map, option_map, unwrap_or};
+ghost use Rattle.std.specs.Prelude.{◌≡◌, [], ◌∷◌, false, IfOk, map, option_map, unwrap_or};
 ghost use Rattle.std.specs.Char.{is_ascii_digit};
 ghost use Rattle.std.specs.Int.{is_in_range};
 ghost use Rattle.std.specs.List.{list_all};
-ghost use Rattle.clap.specs.Words.{app_of, found_of, first_of, kind_of, rows_of, rule_of};
-ghost use Rattle.clap.specs.declared.error.kind.ErrorKind.TheVariants as kind;
+ghost use Rattle.clap.specs.Words.{app_of, found_of, first_of, rows_of, rule_of};
 ghost use Rattle.nc_base.specs.Paths.{stem_of};
 ghost use Rattle.ncdump.specs.CommandLine.{ncdump, asked_by, asked_in, flag, option, is_given, names_in, width_in, width_of, Answers};
-ghost use Rattle.ncdump.specs.declared.command_line.OptFault.TheVariants.{OutOfMemory as out_of_memory, Usage as usage};
 
+use crate::fault::OptFault;
 use crate::options::DumpOptions;
-use clap::error::ErrorKind;
-use clap::{Arg, ArgAction, ArgMatches, Command, Error};
+use clap::{Arg, ArgAction, ArgMatches, Command};
 use nc_base::{Sequence, stem};
 use std::alloc::{AllocError, Global};
-
-/// Why the command line could not be read.
-#[derive(Clone, Copy, Debug, PartialEq, Eq)]
-pub enum OptFault {
-    /// Memory was refused.
-    OutOfMemory,
-    /// The words are not those that the program takes.
-    Usage,
-}
-
-impl From<AllocError> for OptFault {
-    ghost from_gives = { λ _ e. e ≡ out_of_memory };
-
-    fn from(_refusal: AllocError) -> OptFault {
-        OptFault::OutOfMemory
-    }
-}
-
-impl From<Error> for OptFault {
-    ghost from_gives = { λ error e. (kind_of error ≡ kind.OutOfMemory → e ≡ out_of_memory) × (kind_of error ≢ kind.OutOfMemory → e ≡ usage) };
-
-    fn from(error: Error) -> OptFault {
-        match error.kind() {
-            ErrorKind::OutOfMemory => OptFault::OutOfMemory,
-            _ => OptFault::Usage,
-        }
-    }
-}
 
 /// The command `ncdump [-h] [-c] [-v names] [-n name] [-l width] file` of ncdump(1).
 ///

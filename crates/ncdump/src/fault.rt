@@ -1,12 +1,28 @@
-//! Why a file could not be dumped.
+//! Why the program could not do what was asked of it.
 
-ghost use Rattle.std.specs.Prelude.{◌≡◌};
+ghost use Rattle.std.specs.Prelude.{◌≡◌, ◌≢◌};
+ghost use Rattle.clap.specs.Words.{kind_of};
+ghost use Rattle.clap.specs.declared.error.kind.ErrorKind.TheVariants as kind;
 ghost use Rattle.ncdump.specs.Faults.{fault_of_head};
 ghost use Rattle.ncdump.specs.declared.fault.DumpFault.TheVariants.{OutOfMemory as out_of_memory, WriteFailed as write_failed};
+ghost use Rattle.ncdump.specs.declared.fault.OptFault.TheVariants as opt;
+ghost use Rattle.ncdump.specs.declared.fault.Failure.TheVariants.{CommandLine as command_line};
+ghost use Rattle.ncdump.specs.declared.fault.FileFault.TheVariants.{CannotOpen, Dump};
 
+use clap::Error;
+use clap::error::ErrorKind;
 use nc_base::FormatFault;
-use nc_file::{HeadFault, WriteFailed};
+use nc_file::{HeadFault, OpenFailed, WriteFailed};
 use std::alloc::AllocError;
+
+/// Why the command line could not be read.
+#[derive(Clone, Copy, Debug, PartialEq, Eq)]
+pub enum OptFault {
+    /// Memory was refused.
+    OutOfMemory,
+    /// The words are not those that the program takes.
+    Usage,
+}
 
 /// Why a file could not be dumped: for want of memory, because a device failed, for what is wrong with the file, or for
 /// what was asked of it.
@@ -29,6 +45,43 @@ pub enum DumpFault {
         /// The value.
         value: u128,
     },
+}
+
+/// Why the dump of a file isn't on standard output.
+#[derive(Clone, Copy, Debug, PartialEq, Eq)]
+pub enum FileFault {
+    /// The path can't be opened.
+    CannotOpen,
+    /// The file could not be dumped.
+    Dump(DumpFault),
+}
+
+/// Why a run failed.
+#[derive(Debug, Drop)]
+pub enum Failure {
+    /// What is wrong with the command line.
+    CommandLine(OptFault),
+    /// What is wrong with the file at this path, or with the writing of its dump.
+    File(String, FileFault),
+}
+
+impl From<AllocError> for OptFault {
+    ghost from_gives = { λ _ e. e ≡ opt.OutOfMemory };
+
+    fn from(_refusal: AllocError) -> OptFault {
+        OptFault::OutOfMemory
+    }
+}
+
+impl From<Error> for OptFault {
+    ghost from_gives = { λ error e. (kind_of error ≡ kind.OutOfMemory → e ≡ opt.OutOfMemory) × (kind_of error ≢ kind.OutOfMemory → e ≡ opt.Usage) };
+
+    fn from(error: Error) -> OptFault {
+        match error.kind() {
+            ErrorKind::OutOfMemory => OptFault::OutOfMemory,
+            _ => OptFault::Usage,
+        }
+    }
 }
 
 impl From<HeadFault> for DumpFault {
@@ -56,5 +109,29 @@ impl From<WriteFailed> for DumpFault {
 
     fn from(_failure: WriteFailed) -> DumpFault {
         DumpFault::WriteFailed
+    }
+}
+
+impl From<OpenFailed> for FileFault {
+    ghost from_gives = { λ _ e. e ≡ CannotOpen };
+
+    fn from(_failure: OpenFailed) -> FileFault {
+        FileFault::CannotOpen
+    }
+}
+
+impl From<DumpFault> for FileFault {
+    ghost from_gives = { λ fault e. e ≡ Dump fault };
+
+    fn from(fault: DumpFault) -> FileFault {
+        FileFault::Dump(fault)
+    }
+}
+
+impl From<OptFault> for Failure {
+    ghost from_gives = { λ fault e. e ≡ command_line fault };
+
+    fn from(fault: OptFault) -> Failure {
+        Failure::CommandLine(fault)
     }
 }

@@ -7,21 +7,19 @@
 
 mod command_line;
 mod dumping;
-mod failure;
 mod fault;
+mod fault_text;
 pub mod laws;
-mod line;
 mod names;
 mod options;
 mod running;
 mod selection;
 mod showing;
 
-pub use command_line::{OptFault, command, options_of};
+pub use command_line::{command, options_of};
 pub use dumping::dump;
-pub use failure::opt_fault_line;
-pub use fault::DumpFault;
-pub use line::fault_line;
+pub use fault::{DumpFault, OptFault};
+pub use fault_text::{fault_line, opt_fault_line};
 pub use options::DumpOptions;
 pub use running::run;
 pub use selection::select;

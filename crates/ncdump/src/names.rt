@@ -3,12 +3,45 @@
 ghost use Rattle.std.specs.Prelude.{◌≡◌, ◌||◌, ℕ, List, IfOk, OnOk, false};
 ghost use Rattle.std.specs.List.{list_any};
 ghost use Rattle.std.specs.Str.{bytes_eq};
-ghost use Rattle.nc_base.specs.Dump.{has_dimension, has_variable, has_name};
 ghost use Rattle.ncdump.specs.Names.{holds};
 
 use nc_base::{Dim, Sequence, Var};
 use std::alloc::{AllocError, Global};
 use std::collections::BTreeSet;
+
+/// What has a name.
+pub trait Named {
+    // The bytes of the name.
+    ghost name_of: { Self → List ℕ };
+
+    /// The name.
+    fn name(&self) -> &[u8]
+        ensures { result.now ≡ name_of self.now };
+}
+
+impl Named for Dim {
+    ghost name_of = { λ dim. dim.name };
+
+    fn name(&self) -> &[u8] {
+        self.name.as_slice()
+    }
+}
+
+impl Named for Var {
+    ghost name_of = { λ var. var.name };
+
+    fn name(&self) -> &[u8] {
+        self.name.as_slice()
+    }
+}
+
+impl Named for Sequence<u8> {
+    ghost name_of = { λ name. name };
+
+    fn name(&self) -> &[u8] {
+        self.as_slice()
+    }
+}
 
 /// A set of names, in which one is found by its bytes in a time that grows with the logarithm of their number.
 #[derive(Drop)]
@@ -17,35 +50,13 @@ pub struct NameSet<'a> {
 }
 
 impl<'a> NameSet<'a> {
-    /// The names of these dimensions.
-    pub fn of_dims(alloc: Global, dims: &'a [Dim]) -> Result<NameSet<'a>, AllocError>
-        ensures { IfOk result (λ set. (name : List ℕ) → holds set name ≡ has_dimension dims.now name) }
+    /// The names of these items.
+    pub fn of<T: Named>(alloc: Global, items: &'a [T]) -> Result<NameSet<'a>, AllocError>
+        ensures { IfOk result (λ set. (name : List ℕ) → holds set name ≡ list_any (λ item. bytes_eq (T.name_of item) name) items.now) }
     {
         let mut set = NameSet::new(alloc);
-        for dim in dims {
-            set.insert(dim.name.as_slice())?;
-        }
-        Ok(set)
-    }
-
-    /// The names of these variables.
-    pub fn of_vars(alloc: Global, vars: &'a [Var]) -> Result<NameSet<'a>, AllocError>
-        ensures { IfOk result (λ set. (name : List ℕ) → holds set name ≡ has_variable vars.now name) }
-    {
-        let mut set = NameSet::new(alloc);
-        for var in vars {
-            set.insert(var.name.as_slice())?;
-        }
-        Ok(set)
-    }
-
-    /// These names.
-    pub fn of_names(alloc: Global, names: &'a [Sequence<u8>]) -> Result<NameSet<'a>, AllocError>
-        ensures { IfOk result (λ set. (name : List ℕ) → holds set name ≡ has_name names.now name) }
-    {
-        let mut set = NameSet::new(alloc);
-        for name in names {
-            set.insert(name.as_slice())?;
+        for item in items {
+            set.insert(item.name())?;
         }
         Ok(set)
     }

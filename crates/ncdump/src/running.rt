@@ -10,7 +10,8 @@ ghost use Rattle.ncdump.specs.Shows.{ReadFailsOnly};
 
 use crate::command_line::options_by;
 use crate::dumping::dump;
-use crate::failure::{Failure, FileFault, put_failure};
+use crate::fault::{Failure, FileFault};
+use crate::fault_text::put_failure;
 use crate::options::DumpOptions;
 use nc_file::{FileSource, Sink, Source};
 use std::alloc::Global;

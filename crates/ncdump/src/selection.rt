@@ -59,7 +59,7 @@ fn dim_names<'a>(
     if !options.coords {
         return Ok(None);
     }
-    let dims = NameSet::of_dims(alloc, header.dims.as_slice())?;
+    let dims = NameSet::of(alloc, header.dims.as_slice())?;
     Ok(Some(dims))
 }
 
@@ -71,11 +71,11 @@ fn known_names<'a>(
 ) -> Result<NameSet<'a>, DumpFault>
     ensures { Knows vars.now names.now result }
 {
-    let known = NameSet::of_vars(alloc, vars)?;
+    let known = NameSet::of(alloc, vars)?;
     if let Some(index) = first_unknown(&known, names) {
         return Err(DumpFault::NoSuchVariable(index));
     }
-    Ok(NameSet::of_names(alloc, names)?)
+    Ok(NameSet::of(alloc, names)?)
 }
 
 /// The place of the first name that isn't in the set.

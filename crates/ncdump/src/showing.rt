@@ -1,17 +1,17 @@
 //! The text of a dump, written while the values are read.
 
-ghost use Rattle.std.specs.Prelude.{◌≡◌, ◌≤◌, ◌<◌, ◌&&◌, [], if◌then◌else◌, length, slice_get, IfSome};
+ghost use Rattle.std.specs.Prelude.{◌≡◌, ◌≤◌, ◌<◌, ◌&&◌, ◌||◌, length, nat_lt, not, slice_get, IfSome};
 ghost use Rattle.std.specs.Bool.{OnTrue};
 ghost use Rattle.nc_base.specs.Headers.{IsSound};
-ghost use Rattle.nc_base.specs.Sizes.{is_record_var, record_count};
+ghost use Rattle.nc_base.specs.Sizes.{is_record_var, record_count, record_size};
 ghost use Rattle.nc_base.specs.Dump.{data_word, has_values};
 ghost use Rattle.ncdump.specs.Dumps.{options_of};
 ghost use Rattle.ncdump.specs.Shows.{dumped, marks_in, ReadFailsOnly, ShowsOrFails, ShowsOne, ShowsMarked, Shows};
 
 use crate::fault::DumpFault;
 use crate::options::DumpOptions;
-use cdl_print::{ValuePrinter, put_head};
-use nc_base::{Header, has_records, records};
+use cdl_print::{ValuePrinter, Word, put_head};
+use nc_base::{Header, RecordLayout, has_records, record_layout};
 use nc_file::{Sink, Source, put};
 use nc_walk::{Walk, WalkFault};
 
@@ -41,12 +41,12 @@ pub fn show<S: Source, W: Sink>(
     ensures sink { ShowsOrFails (W.view sink.old) (W.view sink.new) result }
     ensures shows { OnTrue S.is_transparent (Shows (options_of options.now) header.now (record_count header.now (length (S.view source.old).bytes)) shown.now (length buf.old) (S.view source.old) (S.view source.new) (W.view sink.old) (W.view sink.new) result) }
 {
-    let count = records(header, source.len());
-    put_head(sink, options.name.as_slice(), header, count)?;
+    let layout = record_layout(header, source.len());
+    put_head(sink, options.name.as_slice(), header, layout.records)?;
     put(sink, data_word(options, header))?;
     let marks = marks_in(options, shown);
-    show_marked(source, header, count, marks, options.width, buf, sink)?;
-    put(sink, b"}\n")?;
+    show_marked(source, header, layout, marks, options.width, buf, sink)?;
+    put(sink, Word::End.bytes())?;
     Ok(())
 }
 
@@ -65,7 +65,7 @@ fn data_word(options: &DumpOptions, header: &Header) -> &'static [u8]
     if options.head_only || header.vars.is_empty() {
         b""
     } else {
-        b"data:\n"
+        Word::Data.bytes()
     }
 }
 
@@ -73,7 +73,7 @@ fn data_word(options: &DumpOptions, header: &Header) -> &'static [u8]
 fn show_marked<S: Source, W: Sink>(
     source: &mut S,
     header: &Header,
-    count: u64,
+    layout: RecordLayout,
     marks: &[bool],
     width: usize,
     buf: &mut [u8],
@@ -81,16 +81,17 @@ fn show_marked<S: Source, W: Sink>(
 ) -> Result<(), DumpFault>
     requires sound { IsSound header.now }
     requires marks { length marks.now ≤ length header.now.vars }
+    requires record_size { layout.record_size ≡ record_size header.now }
     requires buffer_len { 16 ≤ length buf.old }
     ensures source { ReadFailsOnly (S.view source.old) (S.view source.new) result }
     ensures sink { ShowsOrFails (W.view sink.old) (W.view sink.new) result }
-    ensures shows { OnTrue S.is_transparent (ShowsMarked (dumped header.now (S.view source.old) count width) marks.now (length buf.old) (S.view source.old) (S.view source.new) (W.view sink.old) (W.view sink.new) result) }
+    ensures shows { OnTrue S.is_transparent (ShowsMarked (dumped header.now (S.view source.old) layout.records width) marks.now (length buf.old) (S.view source.old) (S.view source.new) (W.view sink.old) (W.view sink.new) result) }
 {
     for v in 0..marks.len() {
-        if !is_shown(header, v, count, marks[v]) {
+        if !is_shown(header, v, layout.records, marks[v]) {
             continue;
         }
-        show_variable(source, header, v, count, width, buf, sink)?;
+        show_variable(source, header, v, layout, width, buf, sink)?;
     }
     Ok(())
 }
@@ -119,20 +120,21 @@ fn show_variable<S: Source, W: Sink>(
     source: &mut S,
     header: &Header,
     v: usize,
-    count: u64,
+    layout: RecordLayout,
     width: usize,
     buf: &mut [u8],
     sink: &mut W,
 ) -> Result<(), DumpFault>
     requires sound { IsSound header.now }
     requires there { v < length header.now.vars }
+    requires record_size { layout.record_size ≡ record_size header.now }
     requires buffer_len { 16 ≤ length buf.old }
     ensures source { ReadFailsOnly (S.view source.old) (S.view source.new) result }
     ensures sink { ShowsOrFails (W.view sink.old) (W.view sink.new) result }
-    ensures shows { OnTrue S.is_transparent (IfSome (slice_get header.now.vars v) (λ var. ShowsOne (dumped header.now (S.view source.old) count width) v var (length buf.old) (S.view source.old) (S.view source.new) (W.view sink.old) (W.view sink.new) result)) }
+    ensures shows { OnTrue S.is_transparent (IfSome (slice_get header.now.vars v) (λ var. ShowsOne (dumped header.now (S.view source.old) layout.records width) v var (length buf.old) (S.view source.old) (S.view source.new) (W.view sink.old) (W.view sink.new) result)) }
 {
-    let mut walk = Walk::new(header, v, count, buf);
-    let mut printer = ValuePrinter::new(header, v, count, width);
+    let mut walk = Walk::over(header, v, layout, buf);
+    let mut printer = ValuePrinter::new(header, v, layout.records, width);
     printer.start(sink)?;
     loop {
         match walk.next(source) {

@@ -8,4 +8,4 @@ returns-in-Some c =
     first-unknown c.args.vars.now c.args.names.now (holds c.in_ok-known.known) c.in-Some.index c.in_ok-known.ensures (sym c.first_unknown.ensures ∙ c.in-Some.is)
 
 pub returns : goal.returns
-returns c = (all-known c.args.vars.now c.args.names.now (holds c.in_ok-known.known) c.in_ok-known.ensures (sym c.first_unknown.ensures ∙ c.in_default.is), c.in_ok-of_names.ensures)
+returns c = (all-known c.args.vars.now c.args.names.now (holds c.in_ok-known.known) c.in_ok-known.ensures (sym c.first_unknown.ensures ∙ c.in_default.is), c.in_ok-of.ensures)

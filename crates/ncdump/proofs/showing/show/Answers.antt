@@ -15,21 +15,21 @@ pub returns-in_err-put_head-clause-shows : goal.returns-in_err-put_head-clause-s
 returns-in_err-put_head-clause-shows g c =
     let p = err_from_is_err_and c.from_residual.result c.from_residual.ensures.1 in
     let a = g.S.Source.view c.args.source.now in
-    let n = c.records-count.ensures c.requires.sound ∙ ap (record_count c.args.header.now) c.len.ensures.length in
+    let n = c.record_layout-layout.ensures.records ∙ ap (record_count c.args.header.now) c.len.ensures.length in
     rw (p.1, p.2) (transparent_any g.S.Source.is_transparent
     (no-head (options_of c.args.options.now) c.args.header.now _ c.args.shown.now (length c.args.buf.now) a (g.W.Sink.view c.args.sink.now) (g.W.Sink.view c.put_head.new.sink)
     (subst (λ (k : ℕ). FailedPartway (g.W.Sink.view c.args.sink.now) (g.W.Sink.view c.put_head.new.sink) (head_text c.args.options.now.name c.args.header.now k)) n
-    (subst (λ (name : List ℕ). FailedPartway (g.W.Sink.view c.args.sink.now) (g.W.Sink.view c.put_head.new.sink) (head_text name c.args.header.now c.records-count.result)) c.as_slice.ensures c.in_err-put_head.ensures))))
+    (subst (λ (name : List ℕ). FailedPartway (g.W.Sink.view c.args.sink.now) (g.W.Sink.view c.put_head.new.sink) (head_text name c.args.header.now c.record_layout-layout.result.records)) c.as_slice.ensures c.in_err-put_head.ensures))))
 
 pub returns-in_err-put-clause-shows : goal.returns-in_err-put-clause-shows
 returns-in_err-put-clause-shows g c =
     let p = err_from_is_err_and c.from_residual-in_err-put.result c.from_residual-in_err-put.ensures.1 in
     let a = g.S.Source.view c.args.source.now in
-    let n = c.records-count.ensures c.requires.sound ∙ ap (record_count c.args.header.now) c.len.ensures.length in
+    let n = c.record_layout-layout.ensures.records ∙ ap (record_count c.args.header.now) c.len.ensures.length in
     rw (p.1, p.2) (transparent_any g.S.Source.is_transparent
     (no-word (options_of c.args.options.now) c.args.header.now _ c.args.shown.now (length c.args.buf.now) a (g.W.Sink.view c.args.sink.now) (g.W.Sink.view c.put_head.new.sink) (g.W.Sink.view c.put.new.sink)
     (subst (λ (k : ℕ). Appended (g.W.Sink.view c.args.sink.now) (g.W.Sink.view c.put_head.new.sink) (head_text c.args.options.now.name c.args.header.now k)) n
-    (subst (λ (name : List ℕ). Appended (g.W.Sink.view c.args.sink.now) (g.W.Sink.view c.put_head.new.sink) (head_text name c.args.header.now c.records-count.result)) c.as_slice.ensures c.in_ok-put_head.ensures))
+    (subst (λ (name : List ℕ). Appended (g.W.Sink.view c.args.sink.now) (g.W.Sink.view c.put_head.new.sink) (head_text name c.args.header.now c.record_layout-layout.result.records)) c.as_slice.ensures c.in_ok-put_head.ensures))
     (subst (FailedPartway (g.W.Sink.view c.put_head.new.sink) (g.W.Sink.view c.put.new.sink)) c.data_word.ensures c.in_err-put.ensures)))
 
 pub returns-in_err-show_marked-clause-shows : goal.returns-in_err-show_marked-clause-shows
@@ -42,13 +42,13 @@ returns-in_err-show_marked-clause-shows g c =
     let old = g.W.Sink.view c.args.sink.now in
     let head = g.W.Sink.view c.put_head.new.sink in
     let word = g.W.Sink.view c.put.new.sink in
-    let n = c.records-count.ensures c.requires.sound ∙ ap (record_count h) c.len.ensures.length in
-    let begun = subst (λ (name : List ℕ). Appended old head (head_text name h c.records-count.result)) c.as_slice.ensures c.in_ok-put_head.ensures in
+    let n = c.record_layout-layout.ensures.records ∙ ap (record_count h) c.len.ensures.length in
+    let begun = subst (λ (name : List ℕ). Appended old head (head_text name h c.record_layout-layout.result.records)) c.as_slice.ensures c.in_ok-put_head.ensures in
     let before = appended_then old head word _ _ begun (subst (Appended head word) c.data_word.ensures c.in_ok-put.ensures) in
     rw (p.1, p.2) (transparent_map g.S.Source.is_transparent (λ s.
     subst (λ (k : ℕ). Shows {A = Unit {0}} o h k c.args.shown.now (length c.args.buf.now) a (g.S.Source.view c.show_marked.new.source) old (g.W.Sink.view c.show_marked.new.sink) (Err fault)) n
-    (no-values o h c.records-count.result c.args.shown.now (length c.args.buf.now) a old word before (g.S.Source.view c.show_marked.new.source) (g.W.Sink.view c.show_marked.new.sink) fault
-    (subst (λ (marks : List Bool). ShowsMarked {A = Unit {0}} (dumped h a c.records-count.result o.width) marks (length c.args.buf.now) a (g.S.Source.view c.show_marked.new.source) word (g.W.Sink.view c.show_marked.new.sink) (Err fault)) c.marks_in-marks.ensures s)))
+    (no-values o h c.record_layout-layout.result.records c.args.shown.now (length c.args.buf.now) a old word before (g.S.Source.view c.show_marked.new.source) (g.W.Sink.view c.show_marked.new.sink) fault
+    (subst (λ (marks : List Bool). ShowsMarked {A = Unit {0}} (dumped h a c.record_layout-layout.result.records o.width) marks (length c.args.buf.now) a (g.S.Source.view c.show_marked.new.source) word (g.W.Sink.view c.show_marked.new.sink) (Err fault)) c.marks_in-marks.ensures s)))
     c.in_err-show_marked.ensures.shows)
 
 pub returns-in_err-put-2-clause-shows : goal.returns-in_err-put-2-clause-shows
@@ -61,14 +61,14 @@ returns-in_err-put-2-clause-shows g c =
     let head = g.W.Sink.view c.put_head.new.sink in
     let word = g.W.Sink.view c.put.new.sink in
     let last = g.W.Sink.view c.show_marked.new.sink in
-    let n = c.records-count.ensures c.requires.sound ∙ ap (record_count h) c.len.ensures.length in
-    let begun = subst (λ (name : List ℕ). Appended old head (head_text name h c.records-count.result)) c.as_slice.ensures c.in_ok-put_head.ensures in
+    let n = c.record_layout-layout.ensures.records ∙ ap (record_count h) c.len.ensures.length in
+    let begun = subst (λ (name : List ℕ). Appended old head (head_text name h c.record_layout-layout.result.records)) c.as_slice.ensures c.in_ok-put_head.ensures in
     let before = appended_then old head word _ _ begun (subst (Appended head word) c.data_word.ensures c.in_ok-put.ensures) in
     rw (p.1, p.2) (transparent_map g.S.Source.is_transparent (λ s.
     subst (λ (k : ℕ). Shows {A = Unit {0}} o h k c.args.shown.now (length c.args.buf.now) a (g.S.Source.view c.show_marked.new.source) old (g.W.Sink.view c.put-2.new.sink) (Err WriteFailed)) n
-    (no-brace o h c.records-count.result c.args.shown.now (length c.args.buf.now) a old word before (g.S.Source.view c.show_marked.new.source) last
-    (subst (λ (marks : List Bool). ShowsMarked {A = Unit {0}} (dumped h a c.records-count.result o.width) marks (length c.args.buf.now) a (g.S.Source.view c.show_marked.new.source) word last (Ok tt)) c.marks_in-marks.ensures s)
-    (g.W.Sink.view c.put-2.new.sink) (subst (FailedPartway last (g.W.Sink.view c.put-2.new.sink)) brace c.in_err-put-2.ensures)))
+    (no-brace o h c.record_layout-layout.result.records c.args.shown.now (length c.args.buf.now) a old word before (g.S.Source.view c.show_marked.new.source) last
+    (subst (λ (marks : List Bool). ShowsMarked {A = Unit {0}} (dumped h a c.record_layout-layout.result.records o.width) marks (length c.args.buf.now) a (g.S.Source.view c.show_marked.new.source) word last (Ok tt)) c.marks_in-marks.ensures s)
+    (g.W.Sink.view c.put-2.new.sink) (subst (FailedPartway last (g.W.Sink.view c.put-2.new.sink)) (c.bytes.ensures ∙ brace) c.in_err-put-2.ensures)))
     c.in_ok-show_marked.ensures.shows)
 
 pub returns-clause-shows : goal.returns-clause-shows
@@ -80,12 +80,12 @@ returns-clause-shows g c =
     let head = g.W.Sink.view c.put_head.new.sink in
     let word = g.W.Sink.view c.put.new.sink in
     let last = g.W.Sink.view c.show_marked.new.sink in
-    let n = c.records-count.ensures c.requires.sound ∙ ap (record_count h) c.len.ensures.length in
-    let begun = subst (λ (name : List ℕ). Appended old head (head_text name h c.records-count.result)) c.as_slice.ensures c.in_ok-put_head.ensures in
+    let n = c.record_layout-layout.ensures.records ∙ ap (record_count h) c.len.ensures.length in
+    let begun = subst (λ (name : List ℕ). Appended old head (head_text name h c.record_layout-layout.result.records)) c.as_slice.ensures c.in_ok-put_head.ensures in
     let before = appended_then old head word _ _ begun (subst (Appended head word) c.data_word.ensures c.in_ok-put.ensures) in
     transparent_map g.S.Source.is_transparent (λ s.
     subst (λ (k : ℕ). Shows {A = Unit {0}} o h k c.args.shown.now (length c.args.buf.now) a (g.S.Source.view c.show_marked.new.source) old (g.W.Sink.view c.put-2.new.sink) (Ok tt)) n
-    (all-written o h c.records-count.result c.args.shown.now (length c.args.buf.now) a old word before (g.S.Source.view c.show_marked.new.source) last
-    (subst (λ (marks : List Bool). ShowsMarked {A = Unit {0}} (dumped h a c.records-count.result o.width) marks (length c.args.buf.now) a (g.S.Source.view c.show_marked.new.source) word last (Ok tt)) c.marks_in-marks.ensures s)
-    (g.W.Sink.view c.put-2.new.sink) (subst (Appended last (g.W.Sink.view c.put-2.new.sink)) brace c.in_ok-put-2.ensures)))
+    (all-written o h c.record_layout-layout.result.records c.args.shown.now (length c.args.buf.now) a old word before (g.S.Source.view c.show_marked.new.source) last
+    (subst (λ (marks : List Bool). ShowsMarked {A = Unit {0}} (dumped h a c.record_layout-layout.result.records o.width) marks (length c.args.buf.now) a (g.S.Source.view c.show_marked.new.source) word last (Ok tt)) c.marks_in-marks.ensures s)
+    (g.W.Sink.view c.put-2.new.sink) (subst (Appended last (g.W.Sink.view c.put-2.new.sink)) (c.bytes.ensures ∙ brace) c.in_ok-put-2.ensures)))
     c.in_ok-show_marked.ensures.shows

@@ -10,5 +10,5 @@ invariant-loop-v g l = record {
   source : (g.S.Source.view l.source).failures ≡ (g.S.Source.view l.fn.source).failures;
   sink : (g.W.Sink.view l.sink).failures ≡ (g.W.Sink.view l.fn.sink).failures;
   buffer_len : length l.buf ≡ length l.fn.buf;
-  marked : OnTrue g.S.Source.is_transparent (Marked (dumped l.header (g.S.Source.view l.fn.source) l.count l.width) l.marks (length l.fn.buf) l.v (g.S.Source.view l.fn.source) (g.S.Source.view l.source) (g.W.Sink.view l.fn.sink) (g.W.Sink.view l.sink));
+  marked : OnTrue g.S.Source.is_transparent (Marked (dumped l.header (g.S.Source.view l.fn.source) l.layout.records l.width) l.marks (length l.fn.buf) l.v (g.S.Source.view l.fn.source) (g.S.Source.view l.source) (g.W.Sink.view l.fn.sink) (g.W.Sink.view l.sink));
 }

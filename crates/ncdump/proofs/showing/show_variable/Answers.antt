@@ -12,9 +12,9 @@ pub loop-chunk-init : goal.loop-chunk-init
 loop-chunk-init g c =
     let s = c.new-walk.ensures in
     let h = c.args.header.now in
-    let new = some-at (λ var. HasPrinted (look_of h var c.args.count c.args.width) [] c.new-printer.result) (slice_get h.vars c.args.v) s.var s.at c.new-printer.ensures in
-    let has_printed = subst (HasPrinted (look_of h s.var c.args.count c.args.width) []) (sym c.in_ok-start.ensures.ok) new in
-    showing-begins g.S.Source.is_transparent h c.args.v c.args.count c.args.width _ _ _ _ _ _ s has_printed
+    let new = some-at (λ var. HasPrinted (look_of h var c.args.layout.records c.args.width) [] c.new-printer.result) (slice_get h.vars c.args.v) s.var s.at c.new-printer.ensures in
+    let has_printed = subst (HasPrinted (look_of h s.var c.args.layout.records c.args.width) []) (sym c.in_ok-start.ensures.ok) new in
+    showing-begins g.S.Source.is_transparent h c.args.v c.args.layout.records c.args.width _ _ _ _ _ _ s has_printed
     (subst (λ (l : Look). Appended (g.W.Sink.view c.args.sink.now) (g.W.Sink.view c.start.new.sink) (opening l)) new.same_look (c.in_ok-start.ensures.wrote new.unfailed))
 
 pub values-requires : goal.values-requires
@@ -32,10 +32,10 @@ returns-in_err-start-clause-shows g c =
     let p = err_from_is_err_and c.from_residual.result c.from_residual.ensures.1 in
     let s = c.new-walk.ensures in
     let h = c.args.header.now in
-    let new = some-at (λ var. HasPrinted (look_of h var c.args.count c.args.width) [] c.new-printer.result) (slice_get h.vars c.args.v) s.var s.at c.new-printer.ensures in
+    let new = some-at (λ var. HasPrinted (look_of h var c.args.layout.records c.args.width) [] c.new-printer.result) (slice_get h.vars c.args.v) s.var s.at c.new-printer.ensures in
     let partway = subst (λ (l : Look). FailedPartway (g.W.Sink.view c.args.sink.now) (g.W.Sink.view c.start.new.sink) (opening l)) new.same_look (c.in_err-start.ensures.wrote new.unfailed) in
     rw (p.1, p.2) (transparent_map g.S.Source.is_transparent (λ shown. at-some _ (slice_get h.vars c.args.v) s.var s.at shown)
-    (unwritten-opening g.S.Source.is_transparent h c.args.v c.args.count c.args.width _ _ _ (g.S.Source.view c.args.source.now) _ _ s new partway))
+    (unwritten-opening g.S.Source.is_transparent h c.args.v c.args.layout.records c.args.width _ _ _ (g.S.Source.view c.args.source.now) _ _ s new partway))
 
 pub returns-in_err-values-in-Ok-Some-clause-shows : goal.returns-in_err-values-in-Ok-Some-clause-shows
 returns-in_err-values-in-Ok-Some-clause-shows g c =

@@ -1,14 +1,81 @@
-//! The line of a fault.
+//! The line of each fault.
 
 ghost use Rattle.std.specs.Prelude.{◌≡◌, [], ◌∷◌, codes, decimal};
 ghost use Rattle.nc_base.specs.Bytes.{concat_parts};
 ghost use Rattle.devices.specs.Sinks.{Wrote};
-ghost use Rattle.ncdump.specs.Faults.{line_of, program_words, fault_text, fault_words, fault_numbers, format_words, truncated_words};
+ghost use Rattle.ncdump.specs.Faults.{cannot_open_line, cannot_open_words, fault_numbers, fault_text, fault_words, file_line, format_words, line_of, line_of_failure, opt_fault_line, program_words, truncated_words, usage_line};
 
-use crate::fault::DumpFault;
+use crate::fault::{DumpFault, Failure, FileFault, OptFault};
 use cdl_print::put_decimal;
 use nc_base::FormatFault;
 use nc_file::{Sink, WriteFailed, put};
+
+/// Writes the line of a failure.
+///
+/// # Errors
+///
+/// The sink failed. It took some prefix of the line.
+#[tactic(auto, unfolding(crate::specs::Faults::line_of_failure))]
+pub(crate) fn put_failure<W: Sink>(sink: &mut W, failure: &Failure) -> Result<(), WriteFailed>
+    ensures { Wrote (W.view sink.old) (W.view sink.new) (line_of_failure failure.now) result }
+{
+    match failure {
+        Failure::CommandLine(fault) => opt_fault_line(sink, *fault),
+        Failure::File(path, fault) => put_file_fault(sink, path.as_bytes(), *fault),
+    }
+}
+
+/// Writes the line of a fault of the command line: `ncdump: out of memory`, or how the program is used.
+///
+/// # Errors
+///
+/// The sink failed. It took some prefix of the line.
+#[tactic(auto, unfolding(crate::specs::Faults::opt_fault_line))]
+pub fn opt_fault_line<W: Sink>(sink: &mut W, fault: OptFault) -> Result<(), WriteFailed>
+    ensures { Wrote (W.view sink.old) (W.view sink.new) (opt_fault_line fault) result }
+{
+    match fault {
+        OptFault::OutOfMemory => put(sink, b"ncdump: out of memory\n"),
+        OptFault::Usage => put(sink, usage_line()),
+    }
+}
+
+/// The line that tells how the program is used.
+#[tactic(auto, unfolding(crate::specs::Faults::usage_line))]
+fn usage_line() -> &'static [u8]
+    ensures { result.now ≡ usage_line }
+{
+    b"usage: ncdump [-h] [-c] [-v names] [-n name] [-l width] file\n"
+}
+
+/// Writes the line of a fault of the file at this path.
+#[tactic(auto, unfolding(crate::specs::Faults::file_line))]
+fn put_file_fault<W: Sink>(sink: &mut W, path: &[u8], fault: FileFault) -> Result<(), WriteFailed>
+    ensures { Wrote (W.view sink.old) (W.view sink.new) (file_line path.now fault) result }
+{
+    match fault {
+        FileFault::CannotOpen => put_cannot_open(sink, path),
+        FileFault::Dump(fault) => fault_line(sink, path, &fault),
+    }
+}
+
+/// Writes the line for a path that can't be opened.
+#[tactic(auto, using(devices::proofs::Writes::writes), unfolding(crate::specs::Faults::cannot_open_line))]
+fn put_cannot_open<W: Sink>(sink: &mut W, path: &[u8]) -> Result<(), WriteFailed>
+    ensures { Wrote (W.view sink.old) (W.view sink.new) (cannot_open_line path.now) result }
+{
+    put(sink, program_words())?;
+    put(sink, path)?;
+    put(sink, cannot_open_words())
+}
+
+/// What stands after a path that can't be opened.
+#[tactic(auto, unfolding(crate::specs::Faults::cannot_open_words))]
+fn cannot_open_words() -> &'static [u8]
+    ensures { result.now ≡ cannot_open_words }
+{
+    b": cannot open\n"
+}
 
 /// Writes the line that tells why this file could not be dumped: `ncdump: FILE: TEXT`.
 ///
@@ -105,7 +172,7 @@ fn format_words(fault: FormatFault) -> &'static [u8]
 
 /// What each line of the program begins with.
 #[tactic(auto, unfolding(crate::specs::Faults::program_words))]
-pub(crate) fn program_words() -> &'static [u8]
+fn program_words() -> &'static [u8]
     ensures { result.now ≡ program_words }
 {
     b"ncdump: "
