@@ -10,7 +10,7 @@ use Rattle.ncdump.proofs.showing.show_variable.Goals as goal
 
 pub loop-chunk-init : goal.loop-chunk-init
 loop-chunk-init g c =
-    let s = c.new-walk.ensures in
+    let s = c.over-walk.ensures in
     let h = c.args.header.now in
     let new = some-at (λ var. HasPrinted (look_of h var c.args.layout.records c.args.width) [] c.new-printer.result) (slice_get h.vars c.args.v) s.var s.at c.new-printer.ensures in
     let has_printed = subst (HasPrinted (look_of h s.var c.args.layout.records c.args.width) []) (sym c.in_ok-start.ensures.ok) new in
@@ -30,7 +30,7 @@ loop-chunk-preserved g c =
 pub returns-in_err-start-clause-shows : goal.returns-in_err-start-clause-shows
 returns-in_err-start-clause-shows g c =
     let p = err_from_is_err_and c.from_residual.result c.from_residual.ensures.1 in
-    let s = c.new-walk.ensures in
+    let s = c.over-walk.ensures in
     let h = c.args.header.now in
     let new = some-at (λ var. HasPrinted (look_of h var c.args.layout.records c.args.width) [] c.new-printer.result) (slice_get h.vars c.args.v) s.var s.at c.new-printer.ensures in
     let partway = subst (λ (l : Look). FailedPartway (g.W.Sink.view c.args.sink.now) (g.W.Sink.view c.start.new.sink) (opening l)) new.same_look (c.in_err-start.ensures.wrote new.unfailed) in
