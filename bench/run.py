@@ -24,6 +24,8 @@ from pathlib import Path
 TOP = Path(__file__).resolve().parent.parent
 OURS = TOP / "bin" / "ncdump"
 RUNS = 7
+# milliseconds from which on a program runs once
+SLOW = 2000
 BYTE, CHAR, SHORT, INT, INT64 = 1, 2, 3, 4, 10
 SIZE = {BYTE: 1, CHAR: 1, SHORT: 2, INT: 4, INT64: 8}
 CODE = {BYTE: "b", SHORT: "h", INT: "i", INT64: "q"}
@@ -161,10 +163,11 @@ def text_of(program, file):
 
 
 def peak(file):
-    """The most memory that ours takes, in KiB."""
-    child = subprocess.Popen([OURS, *file.options, file.path], stdout=subprocess.DEVNULL)
-    _, _, used = os.wait4(child.pid, 0)
-    return used.ru_maxrss
+    """The most memory that ours takes, in KiB, where GNU time is installed: a child of Python would count Python's."""
+    if not os.access("/usr/bin/time", os.X_OK):
+        return "-"
+    ran = subprocess.run(["/usr/bin/time", "-f", "%M", OURS, *file.options, file.path], stdout=subprocess.DEVNULL, stderr=subprocess.PIPE, check=True)
+    return ran.stderr.decode().strip()
 
 
 def timed(file, limit):
@@ -172,10 +175,11 @@ def timed(file, limit):
     programs = {"theirs": ["ncdump", *file.options, file.path], "ours": [OURS, *file.options, file.path]}
     if file.loop:
         programs["loop"] = [limit, file.path, *map(str, file.loop)]
-    least = {name: min(run(words) for _ in range(2)) for name, words in programs.items()}
-    for _ in range(RUNS - 2):
+    least = {name: run(words) for name, words in programs.items()}
+    for _ in range(RUNS - 1):
         for name, words in programs.items():
-            least[name] = min(least[name], run(words))
+            if least[name] < SLOW:
+                least[name] = min(least[name], run(words))
     same = "same" if text_of("ncdump", file) == text_of(OURS, file) else "differs"
     ratio = f"{least['ours'] / least['loop']:.2f}" if file.loop else "-"
     print(f"{file.name:18} {least['theirs']:9.1f} {least['ours']:9.1f} {least['theirs'] / least['ours']:7.1f} {ratio:>7} {peak(file):8}  {same}",
