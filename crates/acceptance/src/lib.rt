@@ -16,6 +16,8 @@ mod growths;
 #[cfg(test)]
 mod headers;
 #[cfg(test)]
+mod listed_runs;
+#[cfg(test)]
 mod rows;
 #[cfg(test)]
 mod runs;

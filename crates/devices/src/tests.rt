@@ -166,3 +166,41 @@ fn only_a_file_opens(rt: HostRuntime) {
     assert!(rt; matches!(FileSource::open(&rt, "no_such_file.nc"), Err(OpenFailed)));
     assert!(rt; matches!(FileSource::open(&rt, "."), Err(OpenFailed)));
 }
+
+#[test]
+fn first_file_of_a_path_opens(rt: HostRuntime) -> Result<(), Fail> {
+    let files = [
+        ListedFile {
+            path: "a.nc",
+            bytes: b"abc",
+        },
+        ListedFile {
+            path: "b.nc",
+            bytes: b"defg",
+        },
+        ListedFile {
+            path: "b.nc",
+            bytes: b"",
+        },
+    ];
+    let listed = Listed::new(&files);
+    let mut source = listed.open("b.nc")?;
+    let mut into = [0u8; 8];
+    assert!(rt; 1 < source.len());
+    assert_eq!(rt; source.read_at(1, &mut into), Ok(3));
+    assert!(rt; into.starts_with(b"efg"));
+    assert!(rt; listed.open("c.nc").is_err());
+    Ok(())
+}
+
+#[test]
+fn path_of_the_system_opens(rt: HostRuntime) -> Result<(), Fail> {
+    let path = "devices_system_files.bin";
+    fs::write(&rt, path, b"abcdefg".as_slice())?;
+    let files = SystemFiles::new(&rt);
+    let source = files.open(path)?;
+    fs::remove_file(&rt, path)?;
+    assert_eq!(rt; source.len(), 7);
+    assert!(rt; files.open(path).is_err());
+    Ok(())
+}
