@@ -1,13 +1,11 @@
 //! Command lines: what the words ask for, and what a run of the program answers.
 
 use crate::files;
-use nc_file::SliceSink;
-use ncdump::{DumpOptions, OptFault, command, options_of, run};
+use nc_file::{Opener, SliceSink, SystemFiles};
+use ncdump::{DumpOptions, OptFault, command, options_of, run_with};
 use std::alloc::Global;
 use std::fs;
-use std::fs::File;
 use std::process::Abort;
-use std::rt::Files;
 use std::test::Fail;
 
 /// How the program is used.
@@ -39,9 +37,10 @@ fn width(rt: &impl Abort, alloc: Global, words: &[&str], width: usize) -> Result
     Ok(())
 }
 
-/// A run on these words ends with this status, and writes this text and this line.
-fn runs<R: Abort + Files<File = File>>(
-    rt: &R,
+/// A run on these words, with what the opener opens, ends with this status, and writes this text and this line.
+pub fn runs<P: Opener>(
+    rt: &impl Abort,
+    opener: &P,
     alloc: Global,
     words: &[&str],
     status: u8,
@@ -52,7 +51,7 @@ fn runs<R: Abort + Files<File = File>>(
     let mut line_room = [0; 128];
     let mut out = SliceSink::new(&mut text_room, 7);
     let mut err = SliceSink::new(&mut line_room, 5);
-    assert!(rt; run(rt, alloc, words, &mut out, &mut err) == status);
+    assert!(rt; run_with(opener, alloc, words, &mut out, &mut err) == status);
     assert!(rt; out.taken() == text);
     assert!(rt; err.taken() == line);
 }
@@ -147,16 +146,28 @@ fn usage_faults(rt: HostRuntime) {
 #[test]
 fn runs_with_the_usage_line(rt: HostRuntime) {
     let alloc = rt.alloc();
-    runs(&rt, alloc, &[], 1, b"", USAGE);
-    runs(&rt, alloc, &["ncdump"], 1, b"", USAGE);
-    runs(&rt, alloc, &["ncdump", "-c", "-h", "f.nc"], 1, b"", USAGE);
-    runs(&rt, alloc, &["ncdump", "-l", "19", "f.nc"], 1, b"", USAGE);
+    let opener = SystemFiles::new(&rt);
+    runs(&rt, &opener, alloc, &[], 1, b"", USAGE);
+    runs(&rt, &opener, alloc, &["ncdump"], 1, b"", USAGE);
+    let head_and_coordinates = ["ncdump", "-c", "-h", "f.nc"];
+    runs(&rt, &opener, alloc, &head_and_coordinates, 1, b"", USAGE);
+    let narrow = ["ncdump", "-l", "19", "f.nc"];
+    runs(&rt, &opener, alloc, &narrow, 1, b"", USAGE);
 }
 
 #[test]
 fn run_of_no_file(rt: HostRuntime) {
     let line = b"ncdump: nothing.nc: cannot open\n";
-    runs(&rt, rt.alloc(), &["ncdump", "nothing.nc"], 1, b"", line);
+    let opener = SystemFiles::new(&rt);
+    runs(
+        &rt,
+        &opener,
+        rt.alloc(),
+        &["ncdump", "nothing.nc"],
+        1,
+        b"",
+        line,
+    );
 }
 
 #[test]
@@ -166,6 +177,7 @@ fn run_of_a_file(rt: HostRuntime) -> Result<(), Fail> {
     let text = b"netcdf named {\ndimensions:\n\tt = UNLIMITED ; // (2 currently)\n}\n";
     runs(
         &rt,
+        &SystemFiles::new(&rt),
         rt.alloc(),
         &["ncdump", path, "-n", "named"],
         0,
@@ -183,6 +195,7 @@ fn run_of_an_empty_name(rt: HostRuntime) -> Result<(), Fail> {
     let line = b"ncdump: command_lines_a_b.nc: no such variable: item 1 of -v\n";
     runs(
         &rt,
+        &SystemFiles::new(&rt),
         rt.alloc(),
         &["ncdump", "-v", "a,,b", path],
         1,
@@ -199,7 +212,8 @@ fn failing_standard_error_changes_no_status(rt: HostRuntime) {
     let mut line_room = [0; 6];
     let mut out = SliceSink::new(&mut text_room, 7);
     let mut err = SliceSink::new(&mut line_room, 5);
-    let status = run(&rt, rt.alloc(), &["ncdump"], &mut out, &mut err);
+    let opener = SystemFiles::new(&rt);
+    let status = run_with(&opener, rt.alloc(), &["ncdump"], &mut out, &mut err);
     assert!(rt; status == 1);
     assert!(rt; err.taken() == b"usage:".as_slice());
 }
@@ -213,7 +227,8 @@ fn failing_standard_output(rt: HostRuntime) -> Result<(), Fail> {
     let mut out = SliceSink::new(&mut text_room, 3);
     let mut err = SliceSink::new(&mut line_room, 5);
     let words = ["ncdump", "-n", "t", path];
-    assert!(rt; run(&rt, rt.alloc(), words.as_slice(), &mut out, &mut err) == 1);
+    let opener = SystemFiles::new(&rt);
+    assert!(rt; run_with(&opener, rt.alloc(), words.as_slice(), &mut out, &mut err) == 1);
     assert!(rt; out.taken() == b"netcdf t".as_slice());
     assert!(rt; err.taken() == b"ncdump: command_lines_failing.nc: write failed\n".as_slice());
     fs::remove_file(&rt, path)?;
@@ -230,7 +245,8 @@ fn memory_is_ample_or_refused(rt: HostRuntime) -> Result<(), Fail> {
     let mut out = SliceSink::new(&mut text_room, 7);
     let mut err = SliceSink::new(&mut line_room, 5);
     let words = ["ncdump", "-v", "x,y", "-n", "t", "-h", path];
-    let status = run(&rt, rt.alloc(), words.as_slice(), &mut out, &mut err);
+    let opener = SystemFiles::new(&rt);
+    let status = run_with(&opener, rt.alloc(), words.as_slice(), &mut out, &mut err);
     fs::remove_file(&rt, path)?;
     if status == 0 {
         assert!(rt; out.taken() == COORDINATES_HEAD);

@@ -18,6 +18,8 @@ mod header_reads;
 #[cfg(test)]
 mod headers;
 #[cfg(test)]
+mod listed_runs;
+#[cfg(test)]
 mod rows;
 #[cfg(test)]
 mod runs;

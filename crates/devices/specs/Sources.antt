@@ -13,13 +13,12 @@ pub record SourceView : Type 0 where
 abbrev pub after : SourceView → ℕ → SourceView
 after s n = record s { handed = s.handed + n }
 
--- it has read n bytes from this offset on, which stand at the start now: at least one, but at its end or where
--- there is no room
+-- it has read n bytes from this offset on, which stand at the start now, and at least one where it is transparent
 pub record BytesRead (is_transparent : Bool) (old new : SourceView) (at : ℕ) (before following : List ℕ) (n : ℕ) : Type 0 where
   pub within : n ≤ length before
   pub same : new ≡ after old n
   pub bytes : OnTrue is_transparent (take n following ≡ take n (drop at old.bytes))
-  pub ended : OnTrue is_transparent (n ≡ 0 → 0 < length before → length old.bytes ≤ at)
+  pub some : OnTrue is_transparent (0 < n)
 
 -- it has failed since it had failed so often, or it can count no further
 unfoldable pub HasFailed : ℕ → SourceView → Type 0

@@ -70,9 +70,6 @@ pub(crate) fn read_some(
     if AHEAD_LEN <= into.len() {
         return file.read_at(into, at);
     }
-    if into.is_empty() {
-        return Ok(0);
-    }
     ahead.read(file, at)?;
     Ok(ahead.copy(at, into))
 }

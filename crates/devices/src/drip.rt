@@ -88,6 +88,8 @@ impl Source for DripSource<'_> {
 
     #[tactic(auto, unfolding(crate::specs::Sources::HasFailed))]
     fn read_at(&mut self, at: u64, into: &mut [u8]) -> Result<usize, SourceFailed>
+        requires room { 0 < length into.old }
+        requires inside { at < length (view_of self.old).bytes }
         ensures read { ReadSome true (view_of self.old) (view_of self.new) at into.old into.new result }
         ensures few { IfOk result (λ n. n ≤ step_of self.old) }
 
@@ -100,9 +102,8 @@ impl Source for DripSource<'_> {
         ensures due { IsDue (fail_of self.old) at (reads_of self.old) → IsErr result }
         ensures only_due { IsErr result → IsDue (fail_of self.old) at (reads_of self.old) ⊎ (2 ^ 128 ≤ (view_of self.old).handed + length into.old) }
     {
-        let len = self.bytes.len();
-        let from = if at < len as u64 { at as usize } else { len };
-        let n = into.len().min(len - from).min(self.step);
+        let from = at as usize;
+        let n = into.len().min(self.bytes.len() - from).min(self.step);
         if u128::MAX - self.handed < n as u128 {
             return Err(SourceFailed);
         }

@@ -3,25 +3,32 @@
 //! A [`Source`] gives bytes from any offset, and a [`Sink`] takes bytes one after another. Each counts its failures and says
 //! nothing of their cause. [`MemSource`] and [`MemSink`] stand in memory, [`FileSource`] is a file of the system, and [`IoSink`]
 //! goes over any writer of the standard library. [`DripSource`] gives few bytes a read and fails on request, and [`SliceSink`]
-//! fills a slice, a few bytes a call. [`put`] writes all of the bytes that it is given.
+//! fills a slice, a few bytes a call. [`put`] writes all of the bytes that it is given. An [`Opener`] opens paths as sources:
+//! [`SystemFiles`] those of the system, and [`Listed`] those of a list in memory.
 #![tactic(auto)]
 
 mod ahead;
 mod drip;
 mod fault;
 mod file;
+mod listed;
 mod memory;
+mod opener;
 mod sink;
 mod slice;
 mod source;
+mod system;
 
 pub use drip::{DripSource, FailWhen};
 pub use fault::{OpenFailed, SinkFailed, SourceFailed, WriteFailed};
 pub use file::{FileSource, IoSink};
+pub use listed::{Listed, ListedFile};
 pub use memory::{MemSink, MemSource};
+pub use opener::Opener;
 pub use sink::{Sink, put};
 pub use slice::SliceSink;
 pub use source::Source;
+pub use system::SystemFiles;
 
 #[cfg(test)]
 mod tests;

@@ -40,9 +40,8 @@ impl Source for MemSource<'_> {
 
     #[tactic(auto, unfolding(crate::specs::Sources::HasFailed))]
     fn read_at(&mut self, at: u64, into: &mut [u8]) -> Result<usize, SourceFailed> {
-        let len = self.bytes.len();
-        let from = if at < len as u64 { at as usize } else { len };
-        let n = into.len().min(len - from);
+        let from = at as usize;
+        let n = into.len().min(self.bytes.len() - from);
         if u128::MAX - self.handed < n as u128 {
             return Err(SourceFailed);
         }

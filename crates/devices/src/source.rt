@@ -1,6 +1,6 @@
 //! Sources of bytes.
 
-ghost use Rattle.std.specs.Prelude.{◌≡◌, Bool, length};
+ghost use Rattle.std.specs.Prelude.{◌≡◌, ◌<◌, Bool, length};
 ghost use Rattle.std.specs.Bool.{OnTrue};
 ghost use Rattle.nc_base.specs.Bytes.{AreBytes};
 ghost use Rattle.devices.specs.Sources.{SourceView, ReadSome};
@@ -25,14 +25,16 @@ pub trait Source {
         ensures length { result ≡ length (view self.now).bytes }
         ensures bytes { OnTrue is_transparent (AreBytes (view self.now).bytes) };
 
-    /// Reads bytes from the offset `at` on to the start of `into`, and gives their number.
+    /// Reads bytes from the offset `at` on, which is before its end, to the start of `into`, which has room, and gives
+    /// their number.
     ///
-    /// It may be fewer than `into` has room for. A source that is transparent gives 0 for an `into` with
-    /// room only at its end or past it.
+    /// It may be fewer than `into` has room for. A source that is transparent gives at least one.
     ///
     /// # Errors
     ///
     /// The source failed. No byte is read, and `into` may hold anything.
     fn read_at(&mut self, at: u64, into: &mut [u8]) -> Result<usize, SourceFailed>
+        requires room { 0 < length into.old }
+        requires inside { at < length (view self.old).bytes }
         ensures { ReadSome is_transparent (view self.old) (view self.new) at into.old into.new result };
 }

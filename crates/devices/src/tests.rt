@@ -71,19 +71,13 @@ impl Sink for Failing {
 fn memory_hands_over_its_bytes(rt: HostRuntime) {
     let mut source = MemSource::new(b"abcdefg");
     assert_eq!(rt; source.len(), 7);
-    let rows: [(u64, &[u8]); 5] = [
-        (0, b"abcd"),
-        (2, b"cdef"),
-        (5, b"fg"),
-        (7, b""),
-        (u64::MAX, b""),
-    ];
+    let rows: [(u64, &[u8]); 4] = [(0, b"abcd"), (2, b"cdef"), (5, b"fg"), (6, b"g")];
     for (at, want) in rows {
         let mut into = [0u8; 4];
+        assert!(rt; at < source.len());
         assert_eq!(rt; source.read_at(at, &mut into), Ok(want.len()), "at {at}");
         assert!(rt; into.starts_with(want), "at {at}");
     }
-    assert_eq!(rt; source.read_at(0, &mut []), Ok(0));
 }
 
 #[test]
@@ -156,14 +150,14 @@ fn file_hands_over_its_bytes(rt: HostRuntime) -> Result<(), Fail> {
     fs::write(&rt, path, b"abcdefg".as_slice())?;
     let mut source = FileSource::open(&rt, path).ok().ok_or("no source")?;
     fs::remove_file(&rt, path)?;
-    let mut into = [0u8; 4];
     assert_eq!(rt; source.len(), 7);
-    assert_eq!(rt; source.read_at(2, &mut into), Ok(4));
-    assert_eq!(rt; into, *b"cdef");
-    assert_eq!(rt; source.read_at(5, &mut into), Ok(2));
-    assert_eq!(rt; &into[..2], b"fg".as_slice());
-    assert_eq!(rt; source.read_at(7, &mut into), Ok(0));
-    assert_eq!(rt; source.read_at(u64::MAX, &mut into), Err(SourceFailed));
+    let rows: [(u64, &[u8]); 3] = [(2, b"cdef"), (5, b"fg"), (0, b"abcd")];
+    for (at, want) in rows {
+        let mut into = [0u8; 4];
+        assert!(rt; at < source.len());
+        assert_eq!(rt; source.read_at(at, &mut into), Ok(want.len()), "at {at}");
+        assert!(rt; into.starts_with(want), "at {at}");
+    }
     Ok(())
 }
 
@@ -171,4 +165,42 @@ fn file_hands_over_its_bytes(rt: HostRuntime) -> Result<(), Fail> {
 fn only_a_file_opens(rt: HostRuntime) {
     assert!(rt; matches!(FileSource::open(&rt, "no_such_file.nc"), Err(OpenFailed)));
     assert!(rt; matches!(FileSource::open(&rt, "."), Err(OpenFailed)));
+}
+
+#[test]
+fn first_file_of_a_path_opens(rt: HostRuntime) -> Result<(), Fail> {
+    let files = [
+        ListedFile {
+            path: "a.nc",
+            bytes: b"abc",
+        },
+        ListedFile {
+            path: "b.nc",
+            bytes: b"defg",
+        },
+        ListedFile {
+            path: "b.nc",
+            bytes: b"",
+        },
+    ];
+    let listed = Listed::new(&files);
+    let mut source = listed.open("b.nc")?;
+    let mut into = [0u8; 8];
+    assert!(rt; 1 < source.len());
+    assert_eq!(rt; source.read_at(1, &mut into), Ok(3));
+    assert!(rt; into.starts_with(b"efg"));
+    assert!(rt; listed.open("c.nc").is_err());
+    Ok(())
+}
+
+#[test]
+fn path_of_the_system_opens(rt: HostRuntime) -> Result<(), Fail> {
+    let path = "devices_system_files.bin";
+    fs::write(&rt, path, b"abcdefg".as_slice())?;
+    let files = SystemFiles::new(&rt);
+    let source = files.open(path)?;
+    fs::remove_file(&rt, path)?;
+    assert_eq!(rt; source.len(), 7);
+    assert!(rt; files.open(path).is_err());
+    Ok(())
 }

@@ -1,6 +1,6 @@
 //! Tests of the devices that give and take few bytes at a time.
 
-ghost use Rattle.std.specs.Prelude.{◌≤◌, length};
+ghost use Rattle.std.specs.Prelude.{◌<◌, ◌≤◌, length};
 
 use super::*;
 use nc_base::FormatFault;
@@ -74,7 +74,20 @@ fn header_drips_in(rt: HostRuntime) {
     reads_headers(&rt, rt.alloc(), 7);
 }
 
-/// Reads ten bytes to their end, and past it.
+/// Reads from this offset on, which has to be before the source's end.
+fn reads(
+    rt: &impl Abort,
+    source: &mut DripSource<'_>,
+    at: u64,
+    into: &mut [u8],
+) -> Result<usize, SourceFailed>
+    requires { 0 < length into.old }
+{
+    assert!(rt; at < source.len());
+    source.read_at(at, into)
+}
+
+/// Reads ten bytes to their end.
 fn drips_to_the_end(rt: &impl Abort, alloc: Global, step: usize) -> Result<(), Fail>
     requires { 1 ≤ step }
 {
@@ -82,10 +95,10 @@ fn drips_to_the_end(rt: &impl Abort, alloc: Global, step: usize) -> Result<(), F
     let mut source = DripSource::new(bytes, step, FailWhen::Never);
     let mut all = Vec::new(alloc);
     assert_eq!(rt; source.len(), 10);
-    for _ in 0..11 {
+    for _ in 0..10usize.div_ceil(step) {
         let at = all.len();
         let mut into = [0; 10];
-        if let Ok(n) = source.read_at(at as u64, &mut into) {
+        if let Ok(n) = reads(rt, &mut source, at as u64, &mut into) {
             assert_eq!(rt; n, step.min(10usize.saturating_sub(at)), "at {at}");
             all.extend_from_slice(&into[..n])?;
         }
@@ -106,12 +119,12 @@ fn drip_hands_over_its_bytes(rt: HostRuntime) -> Result<(), Fail> {
 fn drip_fails_from_an_offset_on(rt: HostRuntime) {
     let mut source = DripSource::new(b"abcdefghij", 3, FailWhen::From(4));
     let mut into = [0; 10];
-    assert_eq!(rt; source.read_at(3, &mut into), Ok(3));
+    assert_eq!(rt; reads(&rt, &mut source, 3, &mut into), Ok(3));
     assert_eq!(rt; &into[..3], b"def".as_slice());
-    assert_eq!(rt; source.read_at(4, &mut into), Err(SourceFailed));
-    assert_eq!(rt; source.read_at(10, &mut into), Err(SourceFailed));
-    assert_eq!(rt; source.read_at(0, &mut into), Ok(3));
-    assert_eq!(rt; source.read_at(5, &mut into), Err(SourceFailed));
+    assert_eq!(rt; reads(&rt, &mut source, 4, &mut into), Err(SourceFailed));
+    assert_eq!(rt; reads(&rt, &mut source, 9, &mut into), Err(SourceFailed));
+    assert_eq!(rt; reads(&rt, &mut source, 0, &mut into), Ok(3));
+    assert_eq!(rt; reads(&rt, &mut source, 5, &mut into), Err(SourceFailed));
     assert_eq!(rt; source.handed(), 6);
 }
 
@@ -119,9 +132,9 @@ fn drip_fails_from_an_offset_on(rt: HostRuntime) {
 fn drip_fails_once(rt: HostRuntime) {
     let mut source = DripSource::new(b"abcdefghij", 3, FailWhen::Read(1));
     let mut into = [0; 10];
-    assert_eq!(rt; source.read_at(0, &mut into), Ok(3));
-    assert_eq!(rt; source.read_at(3, &mut into), Err(SourceFailed));
-    assert_eq!(rt; source.read_at(3, &mut into), Ok(3));
+    assert_eq!(rt; reads(&rt, &mut source, 0, &mut into), Ok(3));
+    assert_eq!(rt; reads(&rt, &mut source, 3, &mut into), Err(SourceFailed));
+    assert_eq!(rt; reads(&rt, &mut source, 3, &mut into), Ok(3));
     assert_eq!(rt; &into[..3], b"def".as_slice());
     assert_eq!(rt; source.handed(), 6);
 }

@@ -12,8 +12,8 @@ mod sized_var;
 mod window;
 
 pub use devices::{
-    DripSource, FailWhen, FileSource, IoSink, MemSink, MemSource, OpenFailed, Sink, SinkFailed,
-    SliceSink, Source, SourceFailed, WriteFailed, put,
+    DripSource, FailWhen, FileSource, IoSink, Listed, ListedFile, MemSink, MemSource, OpenFailed,
+    Opener, Sink, SinkFailed, SliceSink, Source, SourceFailed, SystemFiles, WriteFailed, put,
 };
 pub use head_fault::HeadFault;
 pub use header::read_header;

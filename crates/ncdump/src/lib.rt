@@ -1,8 +1,8 @@
 //! The dump of a netCDF classic file as CDL text, and the command line of the program `ncdump`.
 //!
 //! [`dump`] reads a file and writes its text, and [`fault_line`] says why it could not. What is shown, and under which
-//! name, is said by [`DumpOptions`], which [`options_of`] reads from the matches of [`command`]. [`run`] is the whole
-//! program, but for the flush of its streams.
+//! name, is said by [`DumpOptions`], which [`options_of`] reads from the matches of [`command`]. [`run_with`] is the whole
+//! program, but for what opens its file and for the flush of its streams.
 #![tactic(auto)]
 
 mod command_line;
@@ -21,6 +21,6 @@ pub use dumping::dump;
 pub use fault::{DumpFault, OptFault};
 pub use fault_text::{fault_line, opt_fault_line};
 pub use options::DumpOptions;
-pub use running::run;
+pub use running::run_with;
 pub use selection::select;
 pub use showing::show;

@@ -1,11 +1,11 @@
 //! A run of the program.
 
-ghost use Rattle.std.specs.Prelude.{◌≡◌, ◌⊎◌, map};
+ghost use Rattle.std.specs.Prelude.{◌≡◌, ◌⊎◌, map, string_bytes};
 ghost use Rattle.std.specs.Bool.{OnTrue};
 ghost use Rattle.ncdump.specs.CommandLine.{asked_by};
 ghost use Rattle.ncdump.specs.Dumps.{options_of, Dumps};
 ghost use Rattle.ncdump.specs.Dumps as dumps;
-ghost use Rattle.ncdump.specs.Runs.{OfDump, WriteFailsOnly, Ends, Succeeded, Failed};
+ghost use Rattle.ncdump.specs.Runs.{OfDump, WriteFailsOnly, Ends, DumpsFile, DumpsOrNot, Succeeded, Failed};
 ghost use Rattle.ncdump.specs.Shows.{ReadFailsOnly};
 
 use crate::command_line::options_by;
@@ -13,28 +13,27 @@ use crate::dumping::dump;
 use crate::fault::{Failure, FileFault};
 use crate::fault_text::put_failure;
 use crate::options::DumpOptions;
-use nc_file::{FileSource, Sink, Source};
+use nc_file::{Opener, Sink, Source};
 use std::alloc::Global;
-use std::fs::File;
-use std::rt::Files;
 
-/// Runs the program on its words, the first of which is its name, and gives its exit status.
+/// Runs the program on its words, the first of which is its name, with the files that the opener opens, and gives its exit
+/// status.
 ///
 /// The status is 0 where the dump that the words ask for was written to standard output, and 1 otherwise. Then a line is
 /// written to standard error that tells why: the first fault of the command line, of opening the file, and of its dump. A
 /// line that standard error doesn't take changes no status. Neither device is flushed.
-pub fn run<O: Sink, E: Sink>(
-    rt: &impl Files<File = File>,
+pub fn run_with<P: Opener, O: Sink, E: Sink>(
+    opener: &P,
     alloc: Global,
     words: &[&str],
     out: &mut O,
     err: &mut E,
 ) -> u8
     ensures status { (result ≡ 0) ⊎ (result ≡ 1) }
-    ensures success { result ≡ 0 → Succeeded (asked_by (map (λ word. word.now) words.now)) (O.view out.old) (O.view out.new) (E.view err.old) (E.view err.new) }
-    ensures failure { result ≡ 1 → Failed (asked_by (map (λ word. word.now) words.now)) (O.view out.old) (O.view out.new) (E.view err.old) (E.view err.new) }
+    ensures success { result ≡ 0 → Succeeded P.Source.is_transparent (P.named opener.now) (asked_by (map (λ word. word.now) words.now)) (O.view out.old) (O.view out.new) (E.view err.old) (E.view err.new) }
+    ensures failure { result ≡ 1 → Failed P.Source.is_transparent (P.named opener.now) (asked_by (map (λ word. word.now) words.now)) (O.view out.old) (O.view out.new) (E.view err.old) (E.view err.new) }
 {
-    match dump_asked(rt, alloc, words, out) {
+    match dump_asked(opener, alloc, words, out) {
         Ok(()) => 0,
         Err(failure) => {
             let _ = put_failure(err, &failure);
@@ -44,31 +43,33 @@ pub fn run<O: Sink, E: Sink>(
 }
 
 /// Writes the dump that the words ask for.
-fn dump_asked<O: Sink>(
-    rt: &impl Files<File = File>,
+fn dump_asked<P: Opener, O: Sink>(
+    opener: &P,
     alloc: Global,
     words: &[&str],
     out: &mut O,
 ) -> Result<(), Failure>
-    ensures { Ends (asked_by (map (λ word. word.now) words.now)) (O.view out.old) (O.view out.new) result }
+    ensures ends { Ends (asked_by (map (λ word. word.now) words.now)) (O.view out.old) (O.view out.new) result }
+    ensures dump { OnTrue P.Source.is_transparent (DumpsOrNot (P.named opener.now) (asked_by (map (λ word. word.now) words.now)) (O.view out.old) (O.view out.new) result) }
 {
     let options = options_by(alloc, words)?;
-    match dump_path(rt, alloc, &options, out) {
+    match dump_path(opener, alloc, &options, out) {
         Ok(()) => Ok(()),
         Err(fault) => Err(Failure::File(options.file, fault)),
     }
 }
 
 /// Writes the dump of the file that the options name.
-fn dump_path<O: Sink>(
-    rt: &impl Files<File = File>,
+fn dump_path<P: Opener, O: Sink>(
+    opener: &P,
     alloc: Global,
     options: &DumpOptions,
     out: &mut O,
 ) -> Result<(), FileFault>
-    ensures { WriteFailsOnly (O.view out.old) (O.view out.new) result }
+    ensures writes { WriteFailsOnly (O.view out.old) (O.view out.new) result }
+    ensures dump { OnTrue P.Source.is_transparent (DumpsFile (P.named opener.now (string_bytes options.now.file)) (options_of options.now) (O.view out.old) (O.view out.new) result) }
 {
-    let mut source = FileSource::open(rt, options.file.as_str())?;
+    let mut source = opener.open(options.file.as_str())?;
     dump_whole(alloc, &mut source, options, out)
 }
 

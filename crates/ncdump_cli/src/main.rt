@@ -1,14 +1,14 @@
 //! The program `ncdump [-h] [-c] [-v names] [-n name] [-l width] file`: a netCDF classic file as CDL text.
 //!
 //! Where it can't write the text to standard output, one line on standard error says why, and the status is 1. All of this
-//! is done by [`ncdump::run`]; here are the words and the standard streams.
+//! is done by [`ncdump::run_with`]; here are the words, the files of the system and the standard streams.
 #![tactic(auto)]
 
 mod status;
 mod words;
 
-use nc_file::{IoSink, Sink};
-use ncdump::{OptFault, opt_fault_line, run};
+use nc_file::{IoSink, Sink, SystemFiles};
+use ncdump::{OptFault, opt_fault_line, run_with};
 use status::flushed;
 use std::fs::File;
 use std::io::BufWriter;
@@ -42,6 +42,12 @@ fn run_words<R: Env + Files<File = File> + Print + AllocGlobal, E: Sink>(
     let texts: Vec<&str> = words.iter().map(|word| word.as_str()).collect(alloc)?;
     let writer = BufWriter::with_capacity(alloc, HELD_BACK, io::writer(rt)).map_err(unread)?;
     let mut out = IoSink::new(writer);
-    let status = run(rt, alloc, texts.as_slice(), &mut out, err);
+    let status = run_with(
+        &SystemFiles::new(rt),
+        alloc,
+        texts.as_slice(),
+        &mut out,
+        err,
+    );
     Ok(flushed(&mut out, status))
 }

@@ -1,0 +1,57 @@
+//! Files in memory.
+
+ghost use Rattle.std.specs.Prelude.{◌≡◌, List, ℕ, find, option_map};
+ghost use Rattle.devices.specs.Listed.{bytes_named, is_at};
+
+use crate::{MemSource, OpenFailed, Opener};
+
+/// A file in memory: a path and its bytes.
+#[derive(Clone, Copy, Debug)]
+pub struct ListedFile<'a> {
+    /// The path.
+    pub path: &'a str,
+    /// The bytes.
+    pub bytes: &'a [u8],
+}
+
+/// Files in memory, of which each path names the first that has it. They are transparent.
+#[derive(Drop)]
+pub struct Listed<'a> {
+    files: &'a [ListedFile<'a>],
+}
+
+impl<'a> Listed<'a> {
+    /// These files.
+    pub fn new(files: &'a [ListedFile<'a>]) -> Listed<'a>
+        ensures { (path : List ℕ) → ⟦<Listed<'static> as Opener>⟧.named result path ≡ bytes_named files.now path }
+    {
+        Listed { files }
+    }
+}
+
+impl<'a> Opener for Listed<'a> {
+    type Source = MemSource<'a>;
+
+    ghost named = { λ listed path. bytes_named listed.files.now path };
+
+    fn open(&self, path: &str) -> Result<MemSource<'a>, OpenFailed> {
+        match file_at(self.files, path) {
+            Some(file) => Ok(MemSource::new(file.bytes)),
+            None => Err(OpenFailed),
+        }
+    }
+}
+
+/// The first file at this path.
+fn file_at<'a>(files: &'a [ListedFile<'a>], path: &str) -> Option<&'a ListedFile<'a>>
+    ensures { option_map (λ file. file.now) result ≡ find (λ (file : ListedFile). is_at file path.now) files.now }
+{
+    files.iter().find(|file| is_at(file, path))
+}
+
+/// Says whether the file is at this path.
+fn is_at(file: &ListedFile<'_>, path: &str) -> bool
+    ensures { result ≡ is_at file.now path.now }
+{
+    file.path == path
+}
