@@ -1,6 +1,6 @@
 //! The text of a dump, written while the values are read.
 
-ghost use Rattle.std.specs.Prelude.{◌≡◌, ◌≤◌, ◌<◌, ◌&&◌, [], if◌then◌else◌, length, slice_get, IfSome};
+ghost use Rattle.std.specs.Prelude.{◌≡◌, ◌≤◌, ◌<◌, ◌&&◌, ◌||◌, [], not, nat_lt, if◌then◌else◌, length, slice_get, IfSome};
 ghost use Rattle.std.specs.Bool.{OnTrue};
 ghost use Rattle.nc_base.specs.Headers.{IsSound};
 ghost use Rattle.nc_base.specs.Sizes.{is_record_var, record_count};
