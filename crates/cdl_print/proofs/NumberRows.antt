@@ -51,12 +51,10 @@ row_gap_is look i = by look.in_rows (i == 0)
     by true false = refl
     by false c = refl
 
--- what stands between `, ` and a number that isn't its row's first
-comma_gap : (b c : Bool) → b ≡ c → gap_bytes (cond b NewLine Comma) ≡ codes ", " ++ cond c (codes "\n    ") []
-comma_gap true true e = refl
-comma_gap false false e = refl
-comma_gap true false e = absurd (false≢true (sym e))
-comma_gap false true e = absurd (false≢true e)
+-- what stands before a number that isn't its row's first
+comma_gap : (breaks : Bool) → gap_bytes (cond breaks NewLine Comma) ≡ codes ", " ++ cond breaks (codes "\n    ") []
+comma_gap true = refl
+comma_gap false = refl
 
 -- the gap is what stands before the number
 gap_at : (look : Look) (prefix : List ℕ) (i columns_left len : ℕ) (first : Bool) → columns_left ≡ look.width - column prefix
@@ -65,7 +63,9 @@ gap_at : (look : Look) (prefix : List ℕ) (i columns_left len : ℕ) (first : B
     ++ cond (not first && nat_lt look.width (column (prefix ++ cond first (row_lead look i) (codes ", ")) + len + 2)) (codes "\n    ") []
 gap_at look prefix i columns_left len true is = row_gap_is look i ∙ sym (append-nil (row_lead look i))
 gap_at look prefix i columns_left len false is =
-    comma_gap _ _ (columns_left_test look.width (column prefix) columns_left len is ∙ ap (λ n. nat_lt look.width (n + len + 2)) (sym (column-flat prefix (codes ", ") refl)))
+    let col = column-flat prefix (codes ", ") refl in
+    comma_gap (nat_lt columns_left (len + 4))
+    ∙ ap (λ b. codes ", " ++ cond b (codes "\n    ") []) (columns_left_test look.width (column prefix) columns_left len is ∙ ap (λ n. nat_lt look.width (n + len + 2)) (sym col))
 
 gap_is : (look : Look) (xs : List ℤ) (p : Progress) (len : ℕ) → is_char look.ty ≡ false → IsAfter look xs p
     → gap_bytes (next_gap look p len) ≡ number_lead look (length xs) ++ line_break look (variable_prefix look xs ++ number_lead look (length xs)) (length xs) len
