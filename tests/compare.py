@@ -3,15 +3,17 @@
 
     tests/compare.py [FILES [SEED]]
 
-Both programs have to write the same bytes with each set of options. Wants `ncgen` and `ncdump` on the path (Debian's
-netcdf-bin), and bin/ncdump built. It proves nothing, and is no part of `make test`.
+Both programs have to write the same bytes with each set of options, once the line breaks inside lists of numbers are undone: each
+program has a rule of its own for these. Wants `ncgen` and `ncdump` on the path (Debian's netcdf-bin), and bin/ncdump built. It
+proves nothing, and is no part of `make test`.
 
-Left out is what is known to differ (README.md): names with `%` and names that are reserved words; line feeds at the end of a
-text attribute; NULs at the end of a row of characters with a fill value of its own or in a record variable of rank 1. Left out
-too are bytes from 0x80 in characters, and int64 and uint64 variables, which ncgen 4.9.0 writes as ints.
+Left out is what else is known to differ (docs/DIFFERENCES.md): names with `%` and names that are reserved words; line feeds at
+the end of a text attribute; NULs at the end of a row of characters with a fill value of its own or in a record variable of rank
+1. Left out too are bytes from 0x80 in characters, and int64 and uint64 variables, which ncgen 4.9.0 writes as ints.
 """
 
 import random
+import re
 import subprocess
 import sys
 import tempfile
@@ -167,7 +169,9 @@ def quoted(text):
 
 
 def dump(program, options, path):
-    return subprocess.run([program, *options, path], capture_output=True)
+    """The status, and the text with the line breaks inside lists of numbers undone: they alone stand after a blank."""
+    ran = subprocess.run([program, *options, path], capture_output=True)
+    return ran.returncode, re.sub(b"(?<= )\n    (?! )", b"", ran.stdout)
 
 
 def main(count=200, seed=1):
@@ -186,7 +190,7 @@ def main(count=200, seed=1):
             for options in files.options(names):
                 ours, theirs = dump(OURS, options, path), dump(THEIRS, options, path)
                 compared += 1
-                if (ours.returncode, ours.stdout) != (theirs.returncode, theirs.stdout):
+                if ours != theirs:
                     differ += 1
                     Path(f"differs{differ}.cdl").write_text(cdl)
                     print(f"differs{differ}.cdl with -k {kind}: {options}")

@@ -277,7 +277,7 @@ pub const ALL_NULS: &[u8] = b"CDF\x01\0\0\0\x02\
     \0\0\0\x02\0\0\0\x04\0\0\0\x50\
     \0\0";
 
-/// `int v(x)`, x = 3, with 100, 200 and 3000: at a width of 20 the last doesn't fit into the line.
+/// `int v(x)`, x = 3, with 100, 200 and 3000: the line takes the last at a width of 21, and not at 20.
 pub const LONG_LINE: &[u8] = b"CDF\x01\0\0\0\0\
     \0\0\0\x0a\0\0\0\x01\
     \0\0\0\x01x\0\0\0\0\0\0\x03\

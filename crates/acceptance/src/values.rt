@@ -118,15 +118,20 @@ fn records_off_boundary(rt: HostRuntime) -> Result<(), Fail> {
 
 #[test]
 fn line_filling(rt: HostRuntime) -> Result<(), Fail> {
-    let narrow = with_width(rt.alloc(), 20)?;
-    dumps_as(
-        &rt,
-        rt.alloc(),
-        files::LONG_LINE,
-        &narrow,
-        Ok(()),
-        b"netcdf t {\ndimensions:\n\tx = 3 ;\nvariables:\n\tint v(x) ;\ndata:\n\n v = 100, 200, \n    3000 ;\n}\n",
-    );
+    let rows: [(usize, &[u8]); 2] = [
+        (
+            20,
+            b"netcdf t {\ndimensions:\n\tx = 3 ;\nvariables:\n\tint v(x) ;\ndata:\n\n v = 100, 200, \n    3000 ;\n}\n",
+        ),
+        (
+            21,
+            b"netcdf t {\ndimensions:\n\tx = 3 ;\nvariables:\n\tint v(x) ;\ndata:\n\n v = 100, 200, 3000 ;\n}\n",
+        ),
+    ];
+    for (width, text) in rows {
+        let options = with_width(rt.alloc(), width)?;
+        dumps_as(&rt, rt.alloc(), files::LONG_LINE, &options, Ok(()), text);
+    }
     Ok(())
 }
 

@@ -9,7 +9,7 @@ use Rattle.std.proofs.Math.Nat.{mul-mod_left}
 use Rattle.std.proofs.Math.Seq.{drop-append_seam}
 use Rattle.nc_base.specs.Escapes.{escaped_name, escaped_in_string, escaped_text}
 use Rattle.nc_base.specs.Names.{IsName}
-use Rattle.nc_base.specs.ValueText.{Look, is_char, begins_row, char_lead, char_text, char_piece, held, row_so_far, is_nul, piece, pieces, opening, closing, measured_opening, variable_prefix, variable_text}
+use Rattle.nc_base.specs.ValueText.{Look, is_char, begins_row, char_lead, char_text, char_piece, held, row_so_far, is_nul, piece, pieces, opening, closing, variable_prefix, variable_text}
 use Rattle.cdl_text.specs.Lexemes.{Lexeme}
 use Rattle.cdl_laws.specs.Reading.{lexemes_at}
 use Rattle.cdl_text.specs.Scan.{scan}
@@ -217,8 +217,8 @@ char_closing look h = rw (h) refl
 char_variable : (look : Look) (values : List ℤ) → is_char look.ty ≡ true → variable_text look values ≡ opening look ++ (chars look [] values ++ closing_bytes)
 unfolding variable_text variable_prefix
 char_variable look values h =
-    append_assoc (opening look) (pieces look (measured_opening look) [] values) (closing look) ∙
-    ap (λ p. opening look ++ (p ++ closing look)) (pieces_are look (measured_opening look) [] values h) ∙
+    append_assoc (opening look) (pieces look (opening look) [] values) (closing look) ∙
+    ap (λ p. opening look ++ (p ++ closing look)) (pieces_are look (opening look) [] values h) ∙
     ap (λ q. opening look ++ (chars look [] values ++ q)) (char_closing look h)
 
 -- the lexemes of its strings

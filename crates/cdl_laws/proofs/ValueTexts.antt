@@ -12,7 +12,7 @@ use Rattle.nc_base.specs.Escapes.{escaped_name}
 use Rattle.nc_base.specs.declared.nc_type.NcType.TheVariants.{Int}
 use Rattle.nc_base.specs.declared.version.Version.{Version}
 use Rattle.nc_base.specs.Names.{IsName}
-use Rattle.nc_base.specs.ValueText.{Look, is_char, number_text, number_lead, line_break, ends_row, begins_row, passes, column, number_piece, piece, pieces, opening, closing, measured_opening, variable_prefix, variable_text}
+use Rattle.nc_base.specs.ValueText.{Look, is_char, number_text, number_lead, line_break, begins_row, column, number_piece, piece, pieces, opening, closing, variable_prefix, variable_text}
 use Rattle.cdl_text.specs.declared.fault.CdlKind.{CdlKind}
 use Rattle.cdl_text.specs.Lexemes.{Lexeme, is_mark}
 use Rattle.cdl_laws.specs.Reading.{lexemes_at}
@@ -96,8 +96,8 @@ either_closed : (b : Bool) → Closed (if b then codes "\n    " else []) []
 either_closed true = broken
 either_closed false = closed_nothing
 
-break_closed : (look : Look) (before : List ℕ) (len : ℕ) (is_last : Bool) → Closed (line_break look before len is_last) []
-break_closed look before len is_last = either_closed (passes look.width (column before) len is_last)
+break_closed : (look : Look) (before : List ℕ) (i len : ℕ) → Closed (line_break look before i len) []
+break_closed look before i len = either_closed (not (begins_row look i) && nat_lt look.width (column before + len + 2))
 
 -- what stands before a number that isn't the first: a comma and a blank, or a comma and the beginning of a row
 data Gap (lead : List ℕ) : Type 0 where
@@ -139,16 +139,16 @@ piece_reads : (look : Look) (before : List ℕ) (i : ℕ) (x : ℤ) → 0 < i �
     Reads (number_piece look before i x) (comma ∷ value_lexeme look x ∷ [])
 unfolding number_piece
 piece_reads look before i x some small fits =
-    then_reads (number_lead look i ++ line_break look (before ++ number_lead look i) (length (number_text look x)) (ends_row look i)) (number_text look x) (comma ∷ []) (value_lexeme look x ∷ [])
-    (closed_both (number_lead look i) (line_break look (before ++ number_lead look i) (length (number_text look x)) (ends_row look i)) (comma ∷ []) []
-    (gap_closed (number_lead look i) (gap look i some small)) (break_closed look (before ++ number_lead look i) (length (number_text look x)) (ends_row look i)))
+    then_reads (number_lead look i ++ line_break look (before ++ number_lead look i) i (length (number_text look x))) (number_text look x) (comma ∷ []) (value_lexeme look x ∷ [])
+    (closed_both (number_lead look i) (line_break look (before ++ number_lead look i) i (length (number_text look x))) (comma ∷ []) []
+    (gap_closed (number_lead look i) (gap look i some small)) (break_closed look (before ++ number_lead look i) i (length (number_text look x))))
     (text_reads look x fits)
 
 piece_stops : (look : Look) (before : List ℕ) (i : ℕ) (x : ℤ) (more : List ℕ) → 0 < i → (look.in_rows ≡ false → i < look.row) → Stops (number_piece look before i x ++ more)
 unfolding number_piece
 piece_stops look before i x more some small =
     let lead = number_lead look i in
-    let gone = line_break look (before ++ lead) (length (number_text look x)) (ends_row look i) in
+    let gone = line_break look (before ++ lead) i (length (number_text look x)) in
     subst Stops (sym (append_assoc (lead ++ gone) (number_text look x) more ∙ append_assoc lead gone (number_text look x ++ more))) (gap_stops lead (gone ++ (number_text look x ++ more)) (gap look i some small))
 
 -- the values fit
@@ -197,9 +197,9 @@ first_lead look = rw (zero-mod look.row) (elim (look.in_rows) as (λ w. Closed (
 first_reads : (look : Look) (before : List ℕ) (x : ℤ) → unsigned_abs x < 2 ^ 64 → Reads (number_piece look before 0 x) (value_lexeme look x ∷ [])
 unfolding number_piece
 first_reads look before x fits =
-    then_reads (number_lead look 0 ++ line_break look (before ++ number_lead look 0) (length (number_text look x)) (ends_row look 0)) (number_text look x) [] (value_lexeme look x ∷ [])
-    (closed_both (number_lead look 0) (line_break look (before ++ number_lead look 0) (length (number_text look x)) (ends_row look 0)) [] []
-    (first_lead look) (break_closed look (before ++ number_lead look 0) (length (number_text look x)) (ends_row look 0)))
+    then_reads (number_lead look 0 ++ line_break look (before ++ number_lead look 0) 0 (length (number_text look x))) (number_text look x) [] (value_lexeme look x ∷ [])
+    (closed_both (number_lead look 0) (line_break look (before ++ number_lead look 0) 0 (length (number_text look x))) [] []
+    (first_lead look) (break_closed look (before ++ number_lead look 0) 0 (length (number_text look x))))
     (text_reads look x fits)
 
 pub all_read : (look : Look) (before : List ℕ) (x : ℤ) (xs : List ℤ) → is_char look.ty ≡ false → (look.in_rows ≡ false → length (x ∷ xs) ≤ look.row) → AreSmall (x ∷ xs) →
@@ -241,9 +241,9 @@ pub numbers_closed : (look : Look) (x : ℤ) (xs : List ℤ) → IsName look.nam
     Closed (variable_text look (x ∷ xs)) (listed look x xs ++ mark 59 ∷ [])
 unfolding variable_text variable_prefix
 numbers_closed look x xs name h small fit =
-    closed_by (opening look ++ pieces look (measured_opening look) [] (x ∷ xs)) (closing look) (listed look x xs) (mark 59 ∷ [])
-    (then_reads (opening look) (pieces look (measured_opening look) [] (x ∷ xs)) (word (escaped_name look.name) ∷ mark 61 ∷ []) (value_lexeme look x ∷ commas (map (value_lexeme look) xs))
-    (opening_closed look name) (all_read look (measured_opening look) x xs h small fit))
+    closed_by (opening look ++ pieces look (opening look) [] (x ∷ xs)) (closing look) (listed look x xs) (mark 59 ∷ [])
+    (then_reads (opening look) (pieces look (opening look) [] (x ∷ xs)) (word (escaped_name look.name) ∷ mark 61 ∷ []) (value_lexeme look x ∷ commas (map (value_lexeme look) xs))
+    (opening_closed look name) (all_read look (opening look) x xs h small fit))
     (rw (number_closing look h) (λ rest. refl))
     (rw (number_closing look h) semicolon_closed)
 

@@ -8,7 +8,7 @@ use Rattle.std.proofs.lemmas.Grind.{flat_map-append}
 use Rattle.std.proofs.lemmas.List.{length-map, length-take-le, map-append, take-append-drop}
 use Rattle.std.proofs.lemmas.List.Sums.{prefix_len-le-length}
 use Rattle.nc_base.specs.Escapes.{escaped_in_string, escaped_text, is_literal}
-use Rattle.nc_base.specs.ValueText.{Look, is_char, begins_row, char_lead, char_text, char_piece, held, piece, pieces, measured_prefix, later_pieces}
+use Rattle.nc_base.specs.ValueText.{Look, is_char, begins_row, char_lead, char_text, char_piece, held, piece, pieces, variable_prefix, later_pieces}
 use Rattle.nc_base.proofs.ValueLaws.{place-add, held_other, held_nul, held_first, held_untrimmed}
 use Rattle.devices.specs.Sinks.{SinkView, Appended, FailedPartway, Wrote}
 use Rattle.cdl_print.specs.Pieces.{IsRun}
@@ -143,13 +143,13 @@ bytes_are : (look : Look) (xs : List ℤ) (p : Progress) (run : List ℕ) → is
 unfolding pieces
 bytes_are look xs p [] is some literal fits following = absurd (omega arith)
 bytes_are look xs p (b ∷ []) is some literal fits following =
-    let first = piece_is look (measured_prefix look xs) xs (pos b) is in
+    let first = piece_is look (variable_prefix look xs) xs (pos b) is in
     ap (λ (t : List ℕ). t ++ run_text (look.trimmed && (b == 0)) p.held (b ∷ [])) (lead_is look xs p following)
     ∙ ap (λ (t : List ℕ). cond (begins_row look (length xs)) (char_lead look (length xs)) [] ++ t) (one_text look p.held b ∙ ap (λ n. char_text look n (pos b)) (following.held is))
-    ∙ sym first ∙ sym (append-nil (piece look (measured_prefix look xs) xs (pos b)))
+    ∙ sym first ∙ sym (append-nil (piece look (variable_prefix look xs) xs (pos b)))
 bytes_are look xs p (b ∷ c ∷ run) is some literal fits following =
     let all = all_literal b c run literal in
-    let prefix = measured_prefix look xs in
+    let prefix = variable_prefix look xs in
     let first = piece_is look prefix xs (pos b) is in
     let others = (others_are look (prefix ++ piece look prefix xs (pos b)) xs b c run is all fits).0 in
     let lead = cond (begins_row look (length xs)) (char_lead look (length xs)) [] in

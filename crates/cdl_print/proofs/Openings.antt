@@ -1,37 +1,41 @@
 -- How long the line is after a name.
-use Rattle.std.proofs.Common.{◌≡◌, ℕ, ◌+◌, ◌-◌, ◌<◌, Bool, true, false, cond, not, List, [], ◌∷◌, ◌++◌, length, take, get_or, sym, ◌∙◌, ap, refl, arith, append_assoc}
-use Rattle.std.specs.Prelude.{codes, ◌==◌}
+use Rattle.std.proofs.Common.{◌≡◌, ℕ, ◌+◌, ◌-◌, ◌<◌, Bool, true, false, cond, List, [], ◌∷◌, ◌++◌, length, take, get_or, sym, ◌∙◌, ap, refl, arith, append_assoc, append-nil}
+use Rattle.std.specs.Prelude.{codes, ◌||◌}
+use Rattle.std.specs.List.{flat_map}
+use Rattle.std.proofs.lemmas.Grind.{flat_map-append}
 use Rattle.std.proofs.lemmas.List.{take_all, take_more}
 use Rattle.nc_base.specs.Bytes.{concat_parts}
+use Rattle.nc_base.specs.Escapes.{begins_with_digit_or_mark, escaped_in_name, escaped_name, is_reserved}
 use Rattle.nc_base.specs.ValueText.{column}
-use Rattle.nc_base.proofs.ValueLaws.{column-flat, column-broken}
-
--- after one byte more
-columns_left_byte : (width columns_left b : ℕ) (s : List ℕ) (feed : Bool) → (b == 10) ≡ feed → columns_left ≡ width - column s → cond feed width (columns_left - 1) ≡ width - column (s ++ b ∷ [])
-columns_left_byte width columns_left b s true e is =
-    let none : column (b ∷ []) ≡ 0 = ap (λ t. cond (not t) 1 0) e in
-    let broken = column-broken s (b ∷ []) (omega (arith, none)) in
-    omega (arith, none, broken)
-columns_left_byte width columns_left b s false e is =
-    let one : column (b ∷ []) ≡ 1 = ap (λ t. cond (not t) 1 0) e in
-    let flat = column-flat s (b ∷ []) one in
-    omega (arith, flat, is)
+use Rattle.nc_base.proofs.ValueLaws.{column-flat}
+use Rattle.cdl_print.specs.Pieces.{prefix_escape}
 
 -- the opening up to n bytes of the name
 abbrev pub name_prefix : List ℕ → ℕ → List ℕ
-name_prefix name n = codes "\n " ++ take n name
+name_prefix name n = codes "\n " ++ (prefix_escape name ++ flat_map escaped_in_name (take n name))
 
-prefix_more : (name : List ℕ) (i b : ℕ) → i < length name → b ≡ get_or name i b → name_prefix name (i + 1) ≡ name_prefix name i ++ b ∷ []
-prefix_more name i b lt is =
-    ap (λ (t : List ℕ). codes "\n " ++ t) (take_more name i b lt ∙ ap (λ n. take i name ++ n ∷ []) (sym is)) ∙ sym (append_assoc (codes "\n ") (take i name) (b ∷ []))
+pub prefix_none : (name : List ℕ) (width : ℕ) (escaped : Bool) → escaped ≡ (begins_with_digit_or_mark name || is_reserved name)
+    → width - cond escaped 2 1 ≡ width - column (name_prefix name 0)
+unfolding prefix_escape
+prefix_none name width escaped e = by escaped ∙ ap (λ b. width - column (codes "\n " ++ (cond b (92 ∷ []) [] ++ []))) e
+  where
+    by : (b : Bool) → width - cond b 2 1 ≡ width - column (codes "\n " ++ (cond b (92 ∷ []) [] ++ []))
+    by true = refl
+    by false = refl
 
-pub columns_left_next : (name : List ℕ) (width columns_left i b next : ℕ) → i < length name → b ≡ get_or name i b → columns_left ≡ width - column (name_prefix name i)
-    → next ≡ cond (b == 10) width (columns_left - 1) → next ≡ width - column (name_prefix name (i + 1))
-columns_left_next name width columns_left i b next lt is columns_left_is next_is =
-    next_is ∙ columns_left_byte width columns_left b (name_prefix name i) (b == 10) refl columns_left_is ∙ ap (λ (t : List ℕ). width - column t) (sym (prefix_more name i b lt is))
+pub prefix_more : (name : List ℕ) (i : ℕ) → i < length name → name_prefix name i ++ escaped_in_name (get_or name i 0) ≡ name_prefix name (i + 1)
+prefix_more name i lt =
+    let first = flat_map escaped_in_name (take i name) in
+    let b = get_or name i 0 in
+    append_assoc (codes "\n ") (prefix_escape name ++ first) (escaped_in_name b)
+    ∙ ap (λ (t : List ℕ). codes "\n " ++ t) (append_assoc (prefix_escape name) first (escaped_in_name b))
+    ∙ ap (λ (t : List ℕ). codes "\n " ++ (prefix_escape name ++ (first ++ t))) (sym (append-nil (escaped_in_name b)))
+    ∙ ap (λ (t : List ℕ). codes "\n " ++ (prefix_escape name ++ t)) (sym (flat_map-append escaped_in_name (take i name) (b ∷ [])))
+    ∙ ap (λ (t : List ℕ). codes "\n " ++ (prefix_escape name ++ flat_map escaped_in_name t)) (sym (take_more name i 0 lt))
 
-pub prefix_whole : (name : List ℕ) → name_prefix name (length name) ≡ codes "\n " ++ name
-prefix_whole name = ap (λ (t : List ℕ). codes "\n " ++ t) (take_all (length name) name (omega arith))
+pub prefix_whole : (name : List ℕ) → name_prefix name (length name) ≡ codes "\n " ++ escaped_name name
+unfolding escaped_name prefix_escape
+prefix_whole name = ap (λ (t : List ℕ). codes "\n " ++ (prefix_escape name ++ flat_map escaped_in_name t)) (take_all (length name) name (omega arith))
 
 -- after the equals sign
 pub columns_left_opening : (name : List ℕ) (width columns_left : ℕ) → columns_left ≡ width - column (codes "\n " ++ name) → columns_left - 2 ≡ width - column (concat_parts (codes "\n " ∷ name ∷ codes " =" ∷ []))

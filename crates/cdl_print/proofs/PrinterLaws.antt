@@ -4,30 +4,31 @@ use Rattle.std.specs.Prelude.{codes, IfSome}
 use Rattle.std.proofs.Math.Nat.{zero-mod}
 use Rattle.std.proofs.lemmas.Bool.{false≢true}
 use Rattle.nc_base.specs.Bytes.{concat_parts}
+use Rattle.nc_base.specs.Escapes.{escaped_name}
 use Rattle.nc_base.specs.Numbers.{numbers, numbers_from}
-use Rattle.nc_base.specs.ValueText.{Look, is_char, column, measured_opening}
+use Rattle.nc_base.specs.ValueText.{Look, is_char, column, opening}
 use Rattle.nc_base.specs.declared.nc_type.NcType.{NcType}
 use Rattle.nc_base.specs.declared.nc_type.NcType.TheVariants.{Byte, Char, Short, Int, Ubyte, Ushort, Uint, Int64, Uint64}
-use Rattle.nc_base.proofs.ValueLaws.{measured_nil, held_first}
+use Rattle.nc_base.proofs.ValueLaws.{prefix_nil, held_first}
 use Rattle.cdl_print.specs.Printing.{IsAfter}
 use Rattle.cdl_print.specs.Printer.{look_in, HasPrinted}
 use Rattle.cdl_print.specs.declared.progress.Progress.{Progress}
 use Rattle.cdl_print.specs.declared.printer.ValuePrinter.{ValuePrinter}
 
 -- before the first value
-after_none : (look : Look) (p : Progress) → p.position ≡ 0 → p.row_index ≡ 0 → p.held ≡ 0 → p.columns_left ≡ look.width - column (measured_opening look) → IsAfter look [] p
+after_none : (look : Look) (p : Progress) → p.position ≡ 0 → p.row_index ≡ 0 → p.held ≡ 0 → p.columns_left ≡ look.width - column (opening look) → IsAfter look [] p
 after_none look p position row_index held columns_left = record {
   position = position;
   row_index = row_index ∙ sym (zero-mod look.row);
-  columns_left = λ _. columns_left ∙ ap (λ (t : List ℕ). look.width - column t) (sym (measured_nil look));
+  columns_left = λ _. columns_left ∙ ap (λ (t : List ℕ). look.width - column t) (sym (prefix_nil look));
   held = λ _. held ∙ sym (held_first look [] (zero-mod look.row));
 }
 
 -- a new printer
 pub stands_first : (look : Look) (printer : ValuePrinter) → printer.progress.position ≡ 0 → printer.progress.row_index ≡ 0 → printer.progress.held ≡ 0
-    → printer.progress.columns_left ≡ printer.layout.width - column (concat_parts (codes "\n " ∷ printer.layout.name.now ∷ codes " =" ∷ []))
+    → printer.progress.columns_left ≡ printer.layout.width - column (concat_parts (codes "\n " ∷ escaped_name printer.layout.name.now ∷ codes " =" ∷ []))
     → printer.has_failed ≡ false → look_in printer ≡ look → HasPrinted look [] printer
-unfolding measured_opening
+unfolding opening
 stands_first look printer position row_index held columns_left unfailed same = record {
   same_look = same;
   following = subst (λ (l : Look). IsAfter l [] printer.progress) same (after_none (look_in printer) printer.progress position row_index held columns_left);

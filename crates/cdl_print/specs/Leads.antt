@@ -1,10 +1,9 @@
 -- What stands before the next value, by how far the values before it are printed.
-use Rattle.std.specs.Prelude.{ℕ, ◌+◌, ◌-◌, ◌==◌, ◌&&◌, Bool, nat_lt, if◌then◌else◌, List, [], ◌++◌, codes}
+use Rattle.std.specs.Prelude.{ℕ, ◌+◌, ◌-◌, ◌==◌, nat_lt, if◌then◌else◌, List, [], codes}
 use Rattle.nc_base.specs.ValueText.{Look, char_lead}
+use Rattle.cdl_print.specs.declared.gap.Gap.{Gap}
+use Rattle.cdl_print.specs.declared.gap.Gap.TheVariants.{Space, FirstRow, NextRow, Comma, NewLine}
 use Rattle.cdl_print.specs.declared.layout.Layout.{Layout}
-use Rattle.cdl_print.specs.declared.lead.Gap.{Gap}
-use Rattle.cdl_print.specs.declared.lead.Lead.{Lead}
-use Rattle.cdl_print.specs.declared.lead.Lead.TheVariants.{Space, FirstRow, NextRow, Comma}
 use Rattle.cdl_print.specs.declared.progress.Progress.{Progress}
 
 -- the layout as the definitions of the text see it
@@ -21,41 +20,30 @@ look_at layout = record {
   width = layout.width;
 }
 
-abbrev pub lead_bytes : Lead → List ℕ
-lead_bytes Space = codes " "
-lead_bytes FirstRow = codes "\n  "
-lead_bytes NextRow = codes ",\n  "
-lead_bytes Comma = codes ", "
-
--- how many bytes more a line of the width may have after the lead, where it had these columns left before
-abbrev pub lead_columns_left : Lead → ℕ → ℕ → ℕ
-lead_columns_left Space columns_left width = columns_left - 1
-lead_columns_left FirstRow columns_left width = width - 2
-lead_columns_left NextRow columns_left width = width - 2
-lead_columns_left Comma columns_left width = columns_left - 2
-
--- a lead, and a line break with it or not
 abbrev pub gap_bytes : Gap → List ℕ
-gap_bytes gap = lead_bytes gap.lead ++ (if gap.breaks then codes "\n    " else [])
+gap_bytes Space = codes " "
+gap_bytes FirstRow = codes "\n  "
+gap_bytes NextRow = codes ",\n  "
+gap_bytes Comma = codes ", "
+gap_bytes NewLine = codes ", \n    "
 
+-- how many bytes more a line of the width may have after the gap, where it had these columns left before
 abbrev pub columns_left_after : Gap → ℕ → ℕ → ℕ
-columns_left_after gap columns_left width = if gap.breaks then width - 4 else lead_columns_left gap.lead columns_left width
+columns_left_after Space columns_left width = columns_left - 1
+columns_left_after FirstRow columns_left width = width - 2
+columns_left_after NextRow columns_left width = width - 2
+columns_left_after Comma columns_left width = columns_left - 2
+columns_left_after NewLine columns_left width = width - 4
 
--- a number would pass the width, by the columns left on its line, its length, and whether it is its row's last
-abbrev pub passes_at : ℕ → ℕ → Bool → Bool
-passes_at columns_left len is_last = if is_last then nat_lt 2 len && nat_lt columns_left (len + 2) else nat_lt columns_left (len + 4)
+-- before a number that is its row's first, after n values
+abbrev pub row_gap : Look → ℕ → Gap
+row_gap look position = if look.in_rows then (if position == 0 then FirstRow else NextRow) else Space
 
--- before the next number on its line
-abbrev pub next_lead : Look → Progress → Lead
-next_lead look p =
-    if p.row_index == 0 then (if look.in_rows then (if p.position == 0 then FirstRow else NextRow) else Space) else Comma
-
--- before the next number, which has n bytes
+-- before the next number, which has this length: a new line begins where `, `, the number and two bytes after it would pass
+-- the width
 abbrev pub next_gap : Look → Progress → ℕ → Gap
-next_gap look p len = record {
-  lead = next_lead look p;
-  breaks = passes_at (lead_columns_left (next_lead look p) p.columns_left look.width) len (p.row_index + 1 == look.row);
-}
+next_gap look p len =
+    if p.row_index == 0 then row_gap look p.position else (if nat_lt p.columns_left (len + 4) then NewLine else Comma)
 
 -- before the next character
 abbrev pub next_char_lead : Look → Progress → List ℕ

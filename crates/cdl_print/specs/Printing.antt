@@ -1,7 +1,7 @@
 -- What a call that prints values has done.
 use Rattle.std.specs.Prelude.{ℕ, ◌≡◌, ◌+◌, ◌-◌, ◌%◌, ◌==◌, ◌&&◌, ◌||◌, ℤ, Bool, true, false, not, if◌then◌else◌, List, [], ◌∷◌, ◌++◌, length, replicate, Some, Result, Ok, Err}
 use Rattle.nc_base.specs.Escapes.{escaped_text}
-use Rattle.nc_base.specs.ValueText.{Look, is_char, column, held, number_text, measured_prefix, later_pieces}
+use Rattle.nc_base.specs.ValueText.{Look, is_char, column, held, number_text, variable_prefix, later_pieces}
 use Rattle.devices.specs.Sinks.{SinkView, Appended, FailedPartway, HasFailed}
 use Rattle.cdl_print.specs.Leads.{gap_bytes, next_gap, next_char_lead, columns_left_after}
 use Rattle.cdl_print.specs.declared.progress.Progress.{Progress}
@@ -53,7 +53,7 @@ pub record IsAfterRun (look : Look) (p : Progress) (run : List ℕ) (q : Progres
 pub record IsAfter (look : Look) (xs : List ℤ) (p : Progress) : Type 0 where
   pub position : p.position ≡ length xs
   pub row_index : p.row_index ≡ length xs % look.row
-  pub columns_left : is_char look.ty ≡ false → p.columns_left ≡ look.width - column (measured_prefix look xs)
+  pub columns_left : is_char look.ty ≡ false → p.columns_left ≡ look.width - column (variable_prefix look xs)
   pub held : is_char look.ty ≡ true → p.held ≡ held look xs
 
 -- the values ys more are printed, whichever stand before them

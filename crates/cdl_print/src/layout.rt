@@ -1,12 +1,12 @@
 //! What the text of a variable's values depends on.
 
-ghost use Rattle.std.specs.Prelude.{ℕ, ◌≡◌, ◌<◌, ◌≤◌, ◌&&◌, ◌==◌, IfSome, IsTrue, if◌then◌else◌, length, slice_get};
+ghost use Rattle.std.specs.Prelude.{ℕ, ◌≡◌, ◌<◌, ◌≤◌, IfSome, length, slice_get};
 ghost use Rattle.nc_base.specs.Headers.{IsSound, value_count};
 ghost use Rattle.nc_base.specs.Sizes.{is_record_var};
 ghost use Rattle.nc_base.specs.ValueText.{closing, is_char, is_trimmed, look_of, number_text, row_len};
-ghost use Rattle.cdl_print.specs.Leads.{look_at, next_char_lead, next_gap, next_lead, passes_at};
+ghost use Rattle.cdl_print.specs.Leads.{look_at, next_char_lead, next_gap, row_gap};
 
-use crate::lead::{Gap, Lead};
+use crate::gap::Gap;
 use crate::progress::Progress;
 use itoa::Buffer;
 use nc_base::{Dim, Header, NcType, Var, dim_len, fill_of, has_records, prints_fill, value_count};
@@ -110,30 +110,31 @@ impl Layout<'_> {
         }
     }
 
-    /// What stands before the next number, whose text has `len` bytes.
+    /// What stands before the next number, whose text has `len` bytes. A number that isn't its row's first begins a line where
+    /// `, `, the number and two bytes after it would pass the width.
     pub fn number_gap(&self, progress: &Progress, len: usize) -> Gap
-        requires short { len ≤ 40 }
-        requires within { progress.now.position < self.now.total }
+        requires { len ≤ 40 }
         ensures { result ≡ next_gap (look_at self.now) progress.now len }
     {
-        let lead = self.number_lead(progress);
-        let columns_left = lead.columns_left_after(progress.columns_left, self.width);
-        let breaks = passes(columns_left, len, progress.row_index + 1 == self.row);
-        Gap { lead, breaks }
+        if progress.row_index == 0 {
+            self.row_gap(progress.position)
+        } else if progress.columns_left < len + 4 {
+            Gap::NewLine
+        } else {
+            Gap::Comma
+        }
     }
 
-    /// What stands before the next number on its line.
-    fn number_lead(&self, progress: &Progress) -> Lead
-        ensures { result ≡ next_lead (look_at self.now) progress.now }
+    /// What stands before a number that is its row's first, after `position` values.
+    fn row_gap(&self, position: u128) -> Gap
+        ensures { result ≡ row_gap (look_at self.now) position }
     {
-        if progress.row_index != 0 {
-            Lead::Comma
-        } else if !self.in_rows {
-            Lead::Space
-        } else if progress.position == 0 {
-            Lead::FirstRow
+        if !self.in_rows {
+            Gap::Space
+        } else if position == 0 {
+            Gap::FirstRow
         } else {
-            Lead::NextRow
+            Gap::NextRow
         }
     }
 
@@ -150,18 +151,5 @@ impl Layout<'_> {
         } else {
             b"\",\n  \""
         }
-    }
-}
-
-/// Says whether a number of `len` bytes would pass the width, on a line that may have this many bytes more. Four bytes are kept
-/// free after it, or two after its row's last; and a last number of one or two bytes never passes.
-fn passes(columns_left: usize, len: usize, is_last: bool) -> bool
-    requires { len ≤ 40 }
-    ensures { result ≡ passes_at columns_left len is_last }
-{
-    if is_last {
-        len > 2 && columns_left < len + 2
-    } else {
-        columns_left < len + 4
     }
 }

@@ -1,7 +1,7 @@
 //! Names as CDL writes them.
 
-ghost use Rattle.std.specs.Prelude.{◌≡◌};
-ghost use Rattle.nc_base.specs.Escapes.{escaped_name};
+ghost use Rattle.std.specs.Prelude.{◌≡◌, ◌||◌};
+ghost use Rattle.nc_base.specs.Escapes.{begins_with_digit_or_mark, escaped_name, is_reserved};
 ghost use Rattle.devices.specs.Sinks.{Wrote};
 ghost use Rattle.cdl_print.specs.Pieces.{prefix_escape};
 
@@ -30,8 +30,15 @@ pub fn put_name<W: Sink>(sink: &mut W, name: &[u8]) -> Result<(), WriteFailed>
 fn put_prefix_escape<W: Sink>(sink: &mut W, name: &[u8]) -> Result<(), WriteFailed>
     ensures { Wrote (W.view sink.old) (W.view sink.new) (prefix_escape name.now) result }
 {
-    if begins_with_digit_or_mark(name) || is_reserved(name) {
+    if needs_prefix_escape(name) {
         return put(sink, b"\\");
     }
     Ok(())
+}
+
+/// Says whether the name could be read as a number or a reserved word, so that a backslash stands before it.
+pub fn needs_prefix_escape(name: &[u8]) -> bool
+    ensures { result ≡ (begins_with_digit_or_mark name.now || is_reserved name.now) }
+{
+    begins_with_digit_or_mark(name) || is_reserved(name)
 }

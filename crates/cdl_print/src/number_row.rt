@@ -7,15 +7,15 @@ ghost use Rattle.nc_base.specs.ValueText.{is_char};
 ghost use Rattle.cdl_print.specs.Leads.{gap_bytes, look_at};
 ghost use Rattle.cdl_print.specs.Printing.{gathered, number_bytes, PrintsMore, PrintedMore, IsAfterNumber};
 
+use crate::gap::Gap;
 use crate::layout::Layout;
-use crate::lead::{Gap, Lead};
 use crate::progress::{Progress, row_index_after};
 use arrayvec::ArrayVec;
 use devices::{Sink, WriteFailed, put};
 use itoa::Buffer;
 use nc_base::number_of;
 
-/// How many numbers are written in one piece. Each takes at most 49 bytes: 40 of its own, and 9 that stand before it.
+/// How many numbers are written in one piece. Each takes at most 47 bytes: 40 of its own, and 7 that stand before it.
 const AT_ONCE: usize = 20;
 
 /// The text of numbers that are written in one piece.
@@ -64,7 +64,7 @@ fn put_few_numbers<W: Sink>(
 /// Adds numbers to the text, each with what stands before it.
 fn gather_numbers(text: &mut Gathered, layout: &Layout<'_>, progress: &mut Progress, bytes: &[u8])
     requires number { is_char layout.now.ty ≡ false }
-    requires fits { length text.old.items + 49 * length (numbers layout.now.ty bytes.now) ≤ 1024 }
+    requires fits { length text.old.items + 47 * length (numbers layout.now.ty bytes.now) ≤ 1024 }
     requires within { progress.old.position + length (numbers layout.now.ty bytes.now) ≤ layout.now.total }
     ensures { PrintedMore (look_at layout.now) (numbers layout.now.ty bytes.now) progress.old progress.new (gathered text.old.items) (gathered text.new.items) }
 {
@@ -82,10 +82,10 @@ fn gather_numbers(text: &mut Gathered, layout: &Layout<'_>, progress: &mut Progr
 /// Adds the next number to the text, with what stands before it, and goes on after it.
 fn gather_number(text: &mut Gathered, layout: &Layout<'_>, progress: &mut Progress, value: &[u8])
     requires whole { length value.now ≡ size_of layout.now.ty }
-    requires fits { length text.old.items + 49 ≤ 1024 }
+    requires fits { length text.old.items + 47 ≤ 1024 }
     requires within { progress.old.position < layout.now.total }
     ensures text { text.new.items ≡ text.old.items ++ number_bytes (look_at layout.now) progress.old (number_of layout.now.ty value.now) }
-    ensures short { length text.new.items ≤ length text.old.items + 49 }
+    ensures short { length text.new.items ≤ length text.old.items + 47 }
     ensures following { IsAfterNumber (look_at layout.now) progress.old (number_of layout.now.ty value.now) progress.new }
 {
     let mut digits = Buffer::new();
@@ -116,10 +116,7 @@ fn gather_gap(text: &mut Gathered, gap: Gap)
     ensures { text.new.items ≡ text.old.items ++ gap_bytes gap }
 {
     match gap {
-        Gap {
-            lead: Lead::Comma,
-            breaks: false,
-        } => text.try_extend_from_slice(b", ").unwrap(),
+        Gap::Comma => text.try_extend_from_slice(b", ").unwrap(),
         _ => text.try_extend_from_slice(gap.bytes()).unwrap(),
     }
 }

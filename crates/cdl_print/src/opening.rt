@@ -1,13 +1,14 @@
 //! What stands before the values of a variable.
 
-ghost use Rattle.std.specs.Prelude.{◌≡◌, ◌-◌, ◌++◌, codes, ◌∷◌, []};
+ghost use Rattle.std.specs.Prelude.{ℕ, List, ◌≡◌, ◌-◌, ◌++◌, codes, ◌∷◌, []};
 ghost use Rattle.nc_base.specs.Bytes.{concat_parts};
-ghost use Rattle.nc_base.specs.Escapes.{escaped_name};
+ghost use Rattle.nc_base.specs.Escapes.{escaped_in_name, escaped_name};
 ghost use Rattle.nc_base.specs.ValueText.{column};
 ghost use Rattle.devices.specs.Sinks.{Wrote};
 
-use crate::name::put_name;
+use crate::name::{needs_prefix_escape, put_name};
 use devices::{Sink, WriteFailed, put};
+use nc_base::Quoting;
 
 /// Writes what stands before the values of the variable with this name.
 #[tactic(auto, using(devices::proofs::Writes::writes))]
@@ -19,24 +20,35 @@ pub fn put_opening<W: Sink>(sink: &mut W, name: &[u8]) -> Result<(), WriteFailed
     put(sink, b" =")
 }
 
-/// How many bytes more a line of this width may have after the opening, of which the name counts without its escapes.
+/// How many bytes more a line of this width may have after the opening.
 pub fn columns_left_after_opening(width: usize, name: &[u8]) -> usize
-    ensures { result ≡ width - column (concat_parts (codes "\n " ∷ name.now ∷ codes " =" ∷ [])) }
+    ensures { result ≡ width - column (concat_parts (codes "\n " ∷ escaped_name name.now ∷ codes " =" ∷ [])) }
 {
     columns_left_after_name(width, name).saturating_sub(2)
 }
 
-/// How many bytes more a line of this width may have after a name without escapes, which a space stands before.
+/// How many bytes more a line of this width may have after a name with its escapes, which a space stands before.
 fn columns_left_after_name(width: usize, name: &[u8]) -> usize
-    ensures { result ≡ width - column (codes "\n " ++ name.now) }
+    ensures { result ≡ width - column (codes "\n " ++ escaped_name name.now) }
 {
-    let mut columns_left = width.saturating_sub(1);
+    let len = if needs_prefix_escape(name) { 2 } else { 1 };
+    let mut columns_left = width.saturating_sub(len);
     for b in name {
-        columns_left = if *b == b'\n' {
-            width
-        } else {
-            columns_left.saturating_sub(1)
-        };
+        columns_left = columns_left_after_byte(width, columns_left, *b);
     }
     columns_left
+}
+
+/// How many bytes more a line of this width may have after this byte of a name with its escape, where it had these columns left
+/// before.
+fn columns_left_after_byte(width: usize, columns_left: usize, b: u8) -> usize
+    ensures { (before : List ℕ) → columns_left ≡ width - column before → result ≡ width - column (before ++ escaped_in_name b) }
+{
+    if b == b'\n' {
+        width
+    } else if Quoting::InName.is_plain(b) {
+        columns_left.saturating_sub(1)
+    } else {
+        columns_left.saturating_sub(2)
+    }
 }

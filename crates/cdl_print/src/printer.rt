@@ -69,13 +69,8 @@ impl<'a> ValuePrinter<'a> {
         if self.has_failed {
             return Err(WriteFailed);
         }
-        match put_opening(sink, self.layout.name) {
-            Ok(()) => Ok(()),
-            Err(e) => {
-                self.has_failed = true;
-                Err(e)
-            }
-        }
+        let written = put_opening(sink, self.layout.name);
+        self.remember(written)
     }
 
     /// Says whether the bytes are whole values, and no more than the variable has beside those printed.
@@ -109,19 +104,14 @@ impl<'a> ValuePrinter<'a> {
         if self.has_failed {
             return Err(WriteFailed);
         }
-        match put_values(
+        let written = put_values(
             sink,
             &self.layout,
             &mut self.progress,
             &mut self.text,
             bytes,
-        ) {
-            Ok(()) => Ok(()),
-            Err(e) => {
-                self.has_failed = true;
-                Err(e)
-            }
-        }
+        );
+        self.remember(written)
     }
 
     /// Writes what stands after the values.
@@ -138,13 +128,20 @@ impl<'a> ValuePrinter<'a> {
         if self.has_failed {
             return Err(WriteFailed);
         }
-        match put(sink, self.layout.closing()) {
-            Ok(()) => Ok(()),
-            Err(e) => {
-                self.has_failed = true;
-                Err(e)
-            }
+        let written = put(sink, self.layout.closing());
+        self.remember(written)
+    }
+
+    /// Remembers whether this write has failed.
+    fn remember(&mut self, written: Result<(), WriteFailed>) -> Result<(), WriteFailed>
+        ensures same { result ≡ written }
+        ensures ok { OnOk written (self.new ≡ self.old) }
+        ensures failed { OnErr written (has_failed self.new ≡ true) }
+    {
+        if written.is_err() {
+            self.has_failed = true;
         }
+        written
     }
 }
 

@@ -2,6 +2,7 @@ use super::*;
 use devices::MemSink;
 use nc_base::{Att, Dim, Header, NcType, NumRecs, Sequence, Var, Version};
 use std::alloc::{AllocError, Global};
+use std::process::Abort;
 use std::test::*;
 
 /// The bytes as a sequence.
@@ -68,9 +69,8 @@ fn dimensions_are_listed(rt: HostRuntime) -> Result<(), Fail> {
     Ok(())
 }
 
-#[test]
-fn variables_are_declared(rt: HostRuntime) -> Result<(), Fail> {
-    let alloc = rt.alloc();
+/// A header with the variables `2 v`, which has two attributes, and `s`, which has no dimension.
+fn header_with_vars(alloc: Global) -> Result<Header, AllocError> {
     let mut header = header_with_dims(alloc)?;
     let mut atts = Sequence::new(alloc);
     atts.push(att(alloc, b"units", NcType::Char, b"m")?)?;
@@ -89,7 +89,13 @@ fn variables_are_declared(rt: HostRuntime) -> Result<(), Fail> {
         ty: NcType::Int64,
         begin_at: 0,
     })?;
-    let mut sink = MemSink::new(alloc);
+    Ok(header)
+}
+
+#[test]
+fn variables_are_declared(rt: HostRuntime) -> Result<(), Fail> {
+    let header = header_with_vars(rt.alloc())?;
+    let mut sink = MemSink::new(rt.alloc());
     assert_eq!(rt; put_head(&mut sink, b"t", &header, 0), Ok(()));
     let want =
         b"netcdf t {\ndimensions:\n\tt = UNLIMITED ; // (0 currently)\n\tx = 3 ;\nvariables:\n\tushort \\2\\ v(t, x) ;\n\t\t\\2\\ v:units = \"m\" ;\n\t\t\\2\\ v:valid_range = -2s, 256s ;\n\tint64 s ;\n";
@@ -97,16 +103,36 @@ fn variables_are_declared(rt: HostRuntime) -> Result<(), Fail> {
     Ok(())
 }
 
+/// Fails unless the values of an attribute are listed so.
+fn lists(rt: &impl Abort, alloc: Global, ty: NcType, vals: &[u8], want: &[u8]) -> Result<(), Fail> {
+    let mut header = empty_header(alloc);
+    header.gatts.push(att(alloc, b"note", ty, vals)?)?;
+    let mut sink = MemSink::new(alloc);
+    assert_eq!(rt; put_head(&mut sink, b"t", &header, 0), Ok(()));
+    let text = sink.as_slice();
+    let line = text
+        .strip_prefix(b"netcdf t {\n\n// global attributes:\n\t\t:note = ".as_slice())
+        .ok_or("no line")?;
+    assert_eq!(rt; line.strip_suffix(b" ;\n".as_slice()), Some(want));
+    Ok(())
+}
+
 #[test]
-fn attributes_are_listed(rt: HostRuntime) -> Result<(), Fail> {
-    let rows: [(NcType, &[u8], &[u8]); 12] = [
-        (NcType::Char, b"a\nb\n", b"\"a\\n\",\n\t\t\t\"b\\n\""),
-        (
-            NcType::Char,
-            b"\t\"\\\x7f\xc3\xa9\0\0",
-            b"\"\\t\\\"\\\\\\177\xc3\xa9\"",
-        ),
-        (NcType::Char, b"", b"\"\""),
+fn strings_are_listed(rt: HostRuntime) -> Result<(), Fail> {
+    let rows: [(&[u8], &[u8]); 3] = [
+        (b"a\nb\n", b"\"a\\n\",\n\t\t\t\"b\\n\""),
+        (b"\t\"\\\x7f\xc3\xa9\0\0", b"\"\\t\\\"\\\\\\177\xc3\xa9\""),
+        (b"", b"\"\""),
+    ];
+    for (vals, want) in rows {
+        lists(&rt, rt.alloc(), NcType::Char, vals, want)?;
+    }
+    Ok(())
+}
+
+#[test]
+fn numbers_are_listed(rt: HostRuntime) -> Result<(), Fail> {
+    let rows: [(NcType, &[u8], &[u8]); 9] = [
         (NcType::Byte, b"\xff\x01", b"-1b, 1b"),
         (NcType::Short, b"\x80\x00", b"-32768s"),
         (NcType::Int, b"\x00\x00\x01\x00\xff\xff\xff\xff", b"256, -1"),
@@ -126,15 +152,7 @@ fn attributes_are_listed(rt: HostRuntime) -> Result<(), Fail> {
         (NcType::Int, b"", b""),
     ];
     for (ty, vals, want) in rows {
-        let mut header = empty_header(rt.alloc());
-        header.gatts.push(att(rt.alloc(), b"note", ty, vals)?)?;
-        let mut sink = MemSink::new(rt.alloc());
-        assert_eq!(rt; put_head(&mut sink, b"t", &header, 0), Ok(()));
-        let text = sink.as_slice();
-        let line = text
-            .strip_prefix(b"netcdf t {\n\n// global attributes:\n\t\t:note = ".as_slice())
-            .ok_or("no line")?;
-        assert_eq!(rt; line.strip_suffix(b" ;\n".as_slice()), Some(want));
+        lists(&rt, rt.alloc(), ty, vals, want)?;
     }
     Ok(())
 }

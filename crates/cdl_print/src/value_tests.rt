@@ -167,6 +167,22 @@ fn shows(rt: &impl Abort, alloc: Global, row: &Row<'_>) -> Result<(), Fail> {
     Ok(())
 }
 
+/// Fails unless each of the rows is shown.
+fn show_all(rt: &impl Abort, alloc: Global, rows: &[Row<'_>]) -> Result<(), Fail> {
+    for row in rows {
+        shows(rt, alloc, row)?;
+    }
+    Ok(())
+}
+
+/// Fails unless each of the rows is shown in lines of 20 bytes.
+fn show_all_narrow(rt: &impl Abort, alloc: Global, rows: &[Row<'_>]) -> Result<(), Fail> {
+    for row in rows {
+        shows(rt, alloc, &Row { width: 20, ..*row })?;
+    }
+    Ok(())
+}
+
 #[test]
 fn lines_are_filled(rt: HostRuntime) -> Result<(), Fail> {
     let rows = [
@@ -180,10 +196,24 @@ fn lines_are_filled(rt: HostRuntime) -> Result<(), Fail> {
         row_of(
             b"v",
             NcType::Int,
+            &[4],
+            b"\0\0\0\x64\0\0\0\xc8\0\0\x01\x2c\0\0\0\x04",
+            b"\n v = 100, 200, 300, \n    4 ;\n",
+        ),
+        row_of(
+            b"v",
+            NcType::Int,
             &[3],
             b"\0\0\0\x64\0\0\0\xc8\0\0\x0b\xb8",
             b"\n v = 100, 200, \n    3000 ;\n",
         ),
+    ];
+    show_all_narrow(&rt, rt.alloc(), &rows)
+}
+
+#[test]
+fn long_numbers_begin_a_line(rt: HostRuntime) -> Result<(), Fail> {
+    let rows = [
         row_of(
             b"m",
             NcType::Short,
@@ -193,27 +223,38 @@ fn lines_are_filled(rt: HostRuntime) -> Result<(), Fail> {
         ),
         row_of(
             b"v",
+            NcType::Uint64,
+            &[2, 2],
+            b"\xff\xff\xff\xff\xff\xff\xff\xfd\0\0\0\0\0\0\0\x01\0\0\0\0\0\0\0\x03\xff\xff\xff\xff\xff\xff\xff\xfd",
+            b"\n v =\n  18446744073709551613, \n    1,\n  3, \n    18446744073709551613 ;\n",
+        ),
+    ];
+    show_all_narrow(&rt, rt.alloc(), &rows)
+}
+
+#[test]
+fn short_last_numbers_begin_a_line(rt: HostRuntime) -> Result<(), Fail> {
+    let rows = [
+        row_of(
+            b"v",
             NcType::Int,
             &[3],
             b"\0\0\0\x64\0\x12\xd6\x87\0\0\0\x01",
-            b"\n v = 100, \n    1234567, 1 ;\n",
+            b"\n v = 100, 1234567, \n    1 ;\n",
         ),
         row_of(
             b"v",
             NcType::Int,
             &[3],
             b"\0\0\x03\xe8\0\0\x4e\x20\0\0\0\x42",
-            b"\n v = 1000, 20000, 66 ;\n",
+            b"\n v = 1000, 20000, \n    66 ;\n",
         ),
     ];
-    for row in rows {
-        shows(&rt, rt.alloc(), &Row { width: 20, ..row })?;
-    }
-    Ok(())
+    show_all_narrow(&rt, rt.alloc(), &rows)
 }
 
 #[test]
-fn first_numbers_begin_a_line(rt: HostRuntime) -> Result<(), Fail> {
+fn first_numbers_stay_on_their_line(rt: HostRuntime) -> Result<(), Fail> {
     let name = b"abcdefghijklmnopqrstuvwxy";
     let rows = [
         row_of(
@@ -221,7 +262,7 @@ fn first_numbers_begin_a_line(rt: HostRuntime) -> Result<(), Fail> {
             NcType::Byte,
             &[3],
             b"\x01\x02\x03",
-            b"\n abcdefghijklmnopqrstuvwxy = \n    1, 2, 3 ;\n",
+            b"\n abcdefghijklmnopqrstuvwxy = 1, \n    2, 3 ;\n",
         ),
         row_of(
             name,
@@ -235,51 +276,66 @@ fn first_numbers_begin_a_line(rt: HostRuntime) -> Result<(), Fail> {
             NcType::Short,
             &[],
             b"\0\xac",
-            b"\n abcdefghijklmnopqrstuvwxy = \n    172 ;\n",
-        ),
-        row_of(
-            b"v",
-            NcType::Uint64,
-            &[2, 2],
-            b"\xff\xff\xff\xff\xff\xff\xff\xfd\0\0\0\0\0\0\0\x01\0\0\0\0\0\0\0\x03\xff\xff\xff\xff\xff\xff\xff\xfd",
-            b"\n v =\n  \n    18446744073709551613, 1,\n  3, \n    18446744073709551613 ;\n",
+            b"\n abcdefghijklmnopqrstuvwxy = 172 ;\n",
         ),
     ];
-    for row in rows {
-        shows(&rt, rt.alloc(), &Row { width: 20, ..row })?;
-    }
-    Ok(())
+    show_all_narrow(&rt, rt.alloc(), &rows)
 }
 
 #[test]
-fn names_count_without_their_escapes(rt: HostRuntime) -> Result<(), Fail> {
+fn names_count_with_their_escapes(rt: HostRuntime) -> Result<(), Fail> {
     let rows = [
         row_of(
             b"a:b:c",
             NcType::Byte,
             &[3],
             b"\x0a\x14\x1e",
-            b"\n a\\:b\\:c = 10, 20, 30 ;\n",
+            b"\n a\\:b\\:c = 10, 20, \n    30 ;\n",
+        ),
+        row_of(
+            b"a:b:c",
+            NcType::Byte,
+            &[3],
+            b"\x0a\x02\x03",
+            b"\n a\\:b\\:c = 10, 2, \n    3 ;\n",
         ),
         row_of(
             b"2 b c",
             NcType::Byte,
             &[4],
             b"\x01\x02\x03\x04",
-            b"\n \\2\\ b\\ c = 1, 2, 3, 4 ;\n",
+            b"\n \\2\\ b\\ c = 1, 2, \n    3, 4 ;\n",
         ),
         row_of(
             b"a::::b",
             NcType::Byte,
             &[3],
             b"\x64\x01\x02",
-            b"\n a\\:\\:\\:\\:b = 100, 1, 2 ;\n",
+            b"\n a\\:\\:\\:\\:b = 100, \n    1, 2 ;\n",
         ),
     ];
-    for row in rows {
-        shows(&rt, rt.alloc(), &Row { width: 20, ..row })?;
-    }
-    Ok(())
+    show_all_narrow(&rt, rt.alloc(), &rows)
+}
+
+#[test]
+fn lines_begin_after_a_line_feed_in_a_name(rt: HostRuntime) -> Result<(), Fail> {
+    let rows = [
+        row_of(
+            b"a\nb",
+            NcType::Int,
+            &[3],
+            b"\0\0\x03\xe8\0\0\x4e\x20\0\0\0\x03",
+            b"\n a\\\nb = 1000, 20000, 3 ;\n",
+        ),
+        row_of(
+            b"a\nb",
+            NcType::Int,
+            &[3],
+            b"\0\0\x03\xe8\0\0\x4e\x20\0\0\0\x42",
+            b"\n a\\\nb = 1000, 20000, \n    66 ;\n",
+        ),
+    ];
+    show_all_narrow(&rt, rt.alloc(), &rows)
 }
 
 #[test]
@@ -307,10 +363,7 @@ fn rows_are_those_of_the_last_dimension(rt: HostRuntime) -> Result<(), Fail> {
             b"\n c =\n  \"a\",\n  \"b\" ;\n",
         ),
     ];
-    for row in rows {
-        shows(&rt, rt.alloc(), &row)?;
-    }
-    Ok(())
+    show_all(&rt, rt.alloc(), &rows)
 }
 
 #[test]
@@ -330,6 +383,13 @@ fn held_back_nuls(rt: HostRuntime) -> Result<(), Fail> {
             b"a\0\0\0\0\0\0\0\0\0\0\0\0\0\0\0\0\0\0b",
             b"\n c = \"a\\000\\000\\000\\000\\000\\000\\000\\000\\000\\000\\000\\000\\000\\000\\000\\000\\000\\000b\" ;\n",
         ),
+    ];
+    show_all(&rt, rt.alloc(), &rows)
+}
+
+#[test]
+fn held_back_nuls_in_rows(rt: HostRuntime) -> Result<(), Fail> {
+    let rows = [
         row_of(
             b"c",
             NcType::Char,
@@ -345,10 +405,7 @@ fn held_back_nuls(rt: HostRuntime) -> Result<(), Fail> {
             b"\n c =\n  \"\\000a\",\n  \"\",\n  \"b\" ;\n",
         ),
     ];
-    for row in rows {
-        shows(&rt, rt.alloc(), &row)?;
-    }
-    Ok(())
+    show_all(&rt, rt.alloc(), &rows)
 }
 
 #[test]
@@ -392,38 +449,32 @@ fn characters_are_escaped(rt: HostRuntime) -> Result<(), Fail> {
 
 #[test]
 fn fill_of_bytes(rt: HostRuntime) -> Result<(), Fail> {
-    let byte = row_of(b"b", NcType::Byte, &[], b"\x81", b"\n b = -127 ;\n");
-    shows(&rt, rt.alloc(), &byte)?;
+    let row = row_of(b"b", NcType::Byte, &[], b"\x81", b"\n b = -127 ;\n");
     let blank = Row {
         fill: Some(b"\x81"),
         text: b"\n b = _ ;\n",
-        ..byte
+        ..row
     };
-    shows(&rt, rt.alloc(), &blank)?;
-    let ubyte = row_of(
-        b"b",
-        NcType::Ubyte,
-        &[0],
-        b"\xff\xfe\x01",
-        b"\n b = 255, 254, 1 ;\n",
-    );
-    shows(
-        &rt,
-        rt.alloc(),
-        &Row {
-            records: 3,
-            ..ubyte
-        },
-    )?;
-    let blank = row_of(b"a", NcType::Ubyte, &[], b"\xff", b"\n a = _ ;\n");
-    shows(
-        &rt,
-        rt.alloc(),
-        &Row {
-            fill: Some(b"\xff"),
-            ..blank
-        },
-    )
+    show_all(&rt, rt.alloc(), &[row, blank])
+}
+
+#[test]
+fn fill_of_unsigned_bytes(rt: HostRuntime) -> Result<(), Fail> {
+    let row = Row {
+        records: 3,
+        ..row_of(
+            b"b",
+            NcType::Ubyte,
+            &[0],
+            b"\xff\xfe\x01",
+            b"\n b = 255, 254, 1 ;\n",
+        )
+    };
+    let blank = Row {
+        fill: Some(b"\xff"),
+        ..row_of(b"a", NcType::Ubyte, &[], b"\xff", b"\n a = _ ;\n")
+    };
+    show_all(&rt, rt.alloc(), &[row, blank])
 }
 
 #[test]
@@ -444,14 +495,11 @@ fn fill_of_others(rt: HostRuntime) -> Result<(), Fail> {
             b"\n b = _ ;\n",
         ),
     ];
-    for row in rows {
-        shows(&rt, rt.alloc(), &row)?;
-    }
-    Ok(())
+    show_all(&rt, rt.alloc(), &rows)
 }
 
 #[test]
-fn least_and_greatest(rt: HostRuntime) -> Result<(), Fail> {
+fn least_and_greatest_of_signed_types(rt: HostRuntime) -> Result<(), Fail> {
     let rows = [
         row_of(
             b"v",
@@ -459,13 +507,6 @@ fn least_and_greatest(rt: HostRuntime) -> Result<(), Fail> {
             &[2],
             b"\x80\x7f",
             b"\n v = -128, 127 ;\n",
-        ),
-        row_of(
-            b"v",
-            NcType::Char,
-            &[2],
-            b"\x00\xff",
-            b"\n v = \"\\000\xff\" ;\n",
         ),
         row_of(
             b"v",
@@ -481,7 +522,6 @@ fn least_and_greatest(rt: HostRuntime) -> Result<(), Fail> {
             b"\x80\0\0\0\x7f\xff\xff\xff",
             b"\n v = -2147483648, 2147483647 ;\n",
         ),
-        row_of(b"v", NcType::Ubyte, &[2], b"\0\xff", b"\n v = 0, 255 ;\n"),
         row_of(
             b"v",
             NcType::Int64,
@@ -489,6 +529,21 @@ fn least_and_greatest(rt: HostRuntime) -> Result<(), Fail> {
             b"\x80\0\0\0\0\0\0\0\x7f\xff\xff\xff\xff\xff\xff\xff",
             b"\n v = -9223372036854775808, 9223372036854775807 ;\n",
         ),
+    ];
+    show_all(&rt, rt.alloc(), &rows)
+}
+
+#[test]
+fn least_and_greatest_of_unsigned_types(rt: HostRuntime) -> Result<(), Fail> {
+    let rows = [
+        row_of(
+            b"v",
+            NcType::Char,
+            &[2],
+            b"\x00\xff",
+            b"\n v = \"\\000\xff\" ;\n",
+        ),
+        row_of(b"v", NcType::Ubyte, &[2], b"\0\xff", b"\n v = 0, 255 ;\n"),
         row_of(
             b"v",
             NcType::Uint64,
@@ -497,39 +552,32 @@ fn least_and_greatest(rt: HostRuntime) -> Result<(), Fail> {
             b"\n v = 0, 18446744073709551615 ;\n",
         ),
     ];
-    for row in rows {
-        shows(&rt, rt.alloc(), &row)?;
-    }
-    let row = row_of(
-        b"v",
-        NcType::Ushort,
-        &[2],
-        b"\0\0\xff\xff",
-        b"\n v = 0, 65535 ;\n",
-    );
-    shows(
-        &rt,
-        rt.alloc(),
-        &Row {
-            fill: Some(b"\0\x01"),
-            ..row
-        },
-    )?;
-    let row = row_of(
-        b"v",
-        NcType::Uint,
-        &[2],
-        b"\0\0\0\0\xff\xff\xff\xff",
-        b"\n v = 0, 4294967295 ;\n",
-    );
-    shows(
-        &rt,
-        rt.alloc(),
-        &Row {
-            fill: Some(b"\0\0\0\x01"),
-            ..row
-        },
-    )
+    show_all(&rt, rt.alloc(), &rows)
+}
+
+#[test]
+fn greatest_where_it_is_no_fill_value(rt: HostRuntime) -> Result<(), Fail> {
+    let ushort = Row {
+        fill: Some(b"\0\x01"),
+        ..row_of(
+            b"v",
+            NcType::Ushort,
+            &[2],
+            b"\0\0\xff\xff",
+            b"\n v = 0, 65535 ;\n",
+        )
+    };
+    let uint = Row {
+        fill: Some(b"\0\0\0\x01"),
+        ..row_of(
+            b"v",
+            NcType::Uint,
+            &[2],
+            b"\0\0\0\0\xff\xff\xff\xff",
+            b"\n v = 0, 4294967295 ;\n",
+        )
+    };
+    show_all(&rt, rt.alloc(), &[ushort, uint])
 }
 
 #[test]
@@ -550,13 +598,15 @@ fn names_stand_in_prefix(rt: HostRuntime) -> Result<(), Fail> {
             b"\n \\2\\ b = 1, 2 ;\n",
         ),
     ];
-    for row in rows {
-        shows(&rt, rt.alloc(), &row)?;
-    }
+    show_all(&rt, rt.alloc(), &rows)
+}
+
+#[test]
+fn names_are_longer_than_a_line(rt: HostRuntime) -> Result<(), Fail> {
     let name = [b'n'; 1000];
     let mut text = Vec::from_slice(rt.alloc(), b"\n ")?;
     text.extend_from_slice(&name)?;
-    text.extend_from_slice(b" = \n    1, 2, 3 ;\n")?;
+    text.extend_from_slice(b" = 1, \n    2, 3 ;\n")?;
     let row = row_of(&name, NcType::Byte, &[3], b"\x01\x02\x03", text.as_slice());
     shows(&rt, rt.alloc(), &row)
 }

@@ -10,7 +10,7 @@ use Rattle.std.proofs.lemmas.List.{reverse-append, length-reverse, drop-append-l
 use Rattle.std.proofs.lemmas.List.Folds.{prefix_len-append}
 use Rattle.std.proofs.lemmas.List.Sums.{prefix_len-le-length}
 use Rattle.std.proofs.lemmas.Nat.{mod-mul-add}
-use Rattle.nc_base.specs.ValueText.{Look, column, number_text, is_nul, row_so_far, held, piece, pieces, opening, measured_opening, variable_prefix, measured_prefix, later_pieces}
+use Rattle.nc_base.specs.ValueText.{Look, column, number_text, is_nul, row_so_far, held, piece, pieces, opening, variable_prefix, later_pieces}
 
 -- ---- cutting the values
 
@@ -22,32 +22,22 @@ pieces-append look before values (x ∷ xs) ys =
     let p = piece look before values x in
     ap (λ (r : List ℕ). p ++ r) (pieces-append look (before ++ p) (values ++ x ∷ []) xs ys) ∙ simp append_assoc
 
--- the values' pieces after some opening
-after_opening : (look : Look) (first : List ℕ) (xs ys : List ℤ)
-    → first ++ pieces look (measured_opening look) [] (xs ++ ys)
-    ≡ (first ++ pieces look (measured_opening look) [] xs) ++ pieces look (measured_opening look ++ pieces look (measured_opening look) [] xs) xs ys
-after_opening look first xs ys =
-    let start = measured_opening look in
-    ap (λ (r : List ℕ). first ++ r) (pieces-append look start [] xs ys)
-    ∙ sym (append_assoc first (pieces look start [] xs) (pieces look (start ++ pieces look start [] xs) xs ys))
-
 pub prefix-append : (look : Look) (xs ys : List ℤ) → variable_prefix look (xs ++ ys) ≡ variable_prefix look xs ++ later_pieces look xs ys
-unfolding variable_prefix measured_prefix
-prefix-append look xs ys = after_opening look (opening look) xs ys
-
-pub measured-append : (look : Look) (xs ys : List ℤ) → measured_prefix look (xs ++ ys) ≡ measured_prefix look xs ++ later_pieces look xs ys
-unfolding measured_prefix
-measured-append look xs ys = after_opening look (measured_opening look) xs ys
+unfolding variable_prefix
+prefix-append look xs ys =
+    let start = opening look in
+    ap (λ (r : List ℕ). start ++ r) (pieces-append look start [] xs ys)
+    ∙ sym (append_assoc start (pieces look start [] xs) (pieces look (start ++ pieces look start [] xs) xs ys))
 
 pub later-append : (look : Look) (xs ys zs : List ℤ) → later_pieces look xs (ys ++ zs) ≡ later_pieces look xs ys ++ later_pieces look (xs ++ ys) zs
 later-append look xs ys zs =
-    pieces-append look (measured_prefix look xs) xs ys zs
-    ∙ ap (λ (t : List ℕ). later_pieces look xs ys ++ pieces look t (xs ++ ys) zs) (sym (measured-append look xs ys))
+    pieces-append look (variable_prefix look xs) xs ys zs
+    ∙ ap (λ (t : List ℕ). later_pieces look xs ys ++ pieces look t (xs ++ ys) zs) (sym (prefix-append look xs ys))
 
 -- one value alone
-pub later_one : (look : Look) (xs : List ℤ) (x : ℤ) → later_pieces look xs (x ∷ []) ≡ piece look (measured_prefix look xs) xs x
+pub later_one : (look : Look) (xs : List ℤ) (x : ℤ) → later_pieces look xs (x ∷ []) ≡ piece look (variable_prefix look xs) xs x
 unfolding pieces
-later_one look xs x = append-nil (piece look (measured_prefix look xs) xs x)
+later_one look xs x = append-nil (piece look (variable_prefix look xs) xs x)
 
 -- no value
 pub later_none : (look : Look) (xs : List ℤ) → later_pieces look xs [] ≡ []
@@ -57,10 +47,6 @@ later_none look xs = refl
 pub prefix_nil : (look : Look) → variable_prefix look [] ≡ opening look
 unfolding pieces variable_prefix
 prefix_nil look = append-nil (opening look)
-
-pub measured_nil : (look : Look) → measured_prefix look [] ≡ measured_opening look
-unfolding pieces measured_prefix
-measured_nil look = append-nil (measured_opening look)
 
 -- ---- columns
 

@@ -81,25 +81,16 @@ number_lead look i =
     if begins_row look i then (if look.in_rows then (if i == 0 then codes "\n  " else codes ",\n  ") else codes " ")
     else codes ", "
 
--- value i is its row's last
-abbrev pub ends_row : Look → ℕ → Bool
-ends_row look i = (i + 1) % look.row == 0
-
--- A number of this length, after n bytes of its line, would pass the width: with four bytes after it where another
--- number of the row follows, and with two where it is the last. A last number of one or two bytes never does.
-abbrev pub passes : ℕ → ℕ → ℕ → Bool → Bool
-passes width column len is_last =
-    if is_last then nat_lt 2 len && nat_lt width (column + len + 2) else nat_lt width (column + len + 4)
-
--- What stands between a lead and its number, by the text before, the length of the number, and whether it is its row's last: a
--- new line begins where the number would pass the width.
-abbrev pub line_break : Look → List ℕ → ℕ → Bool → List ℕ
-line_break look before len is_last = if passes look.width (column before) len is_last then codes "\n    " else []
+-- What stands between a lead and value i, a number of this length, by the text up to there: a new line begins where the number
+-- and two bytes after it would pass the width. No line is broken before a row's first number.
+abbrev pub line_break : Look → List ℕ → ℕ → ℕ → List ℕ
+line_break look before i len =
+    if not (begins_row look i) && nat_lt look.width (column before + len + 2) then codes "\n    " else []
 
 -- value i, a number, with what stands before it, by the text before
 unfoldable pub number_piece : Look → List ℕ → ℕ → ℤ → List ℕ
 number_piece look before i value =
-    (number_lead look i ++ line_break look (before ++ number_lead look i) (length (number_text look value)) (ends_row look i))
+    (number_lead look i ++ line_break look (before ++ number_lead look i) i (length (number_text look value)))
     ++ number_text look value
 
 -- ---- characters
@@ -152,21 +143,13 @@ opening look = concat_parts (codes "\n " ∷ escaped_name look.name ∷ codes " 
 unfoldable pub closing : Look → List ℕ
 closing look = if is_char look.ty then codes "\" ;\n" else codes " ;\n"
 
--- the same as lines are measured: the name counts without its escapes
-unfoldable pub measured_opening : Look → List ℕ
-measured_opening look = concat_parts (codes "\n " ∷ look.name ∷ codes " =" ∷ [])
-
 -- the opening and a variable's first values
 unfoldable pub variable_prefix : Look → List ℤ → List ℕ
-variable_prefix look values = opening look ++ pieces look (measured_opening look) [] values
-
--- the same as lines are measured
-unfoldable pub measured_prefix : Look → List ℤ → List ℕ
-measured_prefix look values = measured_opening look ++ pieces look (measured_opening look) [] values
+variable_prefix look values = opening look ++ pieces look (opening look) [] values
 
 -- the pieces of the values ys after those of a variable's first values xs
 abbrev pub later_pieces : Look → List ℤ → List ℤ → List ℕ
-later_pieces look xs ys = pieces look (measured_prefix look xs) xs ys
+later_pieces look xs ys = pieces look (variable_prefix look xs) xs ys
 
 -- a variable's values, from its opening to its closing
 unfoldable pub variable_text : Look → List ℤ → List ℕ

@@ -8,7 +8,7 @@ use Rattle.cdl_print.proofs.number_row.gather_numbers.Given as goal
 abbrev pub invariant-loop-rest : goal.invariant-loop-rest
 invariant-loop-rest l =
     IsUnderway (look_at l.layout) l.fn.progress l.at (gathered l.fn.text.items) (gathered l.text.items) (numbers l.layout.ty l.rest) (numbers l.layout.ty l.bytes)
-    × (length l.text.items + 49 * length (numbers l.layout.ty l.rest) ≤ 1024)
+    × (length l.text.items + 47 * length (numbers l.layout.ty l.rest) ≤ 1024)
 
 abbrev pub decreases-loop-rest : goal.decreases-loop-rest
 decreases-loop-rest l = length l.rest

@@ -1,0 +1,47 @@
+//! What stands before a number.
+
+ghost use Rattle.std.specs.Prelude.{◌≡◌, ◌≤◌, length};
+ghost use Rattle.cdl_print.specs.Leads.{gap_bytes, columns_left_after};
+
+/// What stands before a number.
+#[derive(Clone, Copy)]
+pub enum Gap {
+    /// Before all values of a variable without rows.
+    Space,
+    /// Before the first row.
+    FirstRow,
+    /// Before a later row.
+    NextRow,
+    /// Between two numbers of a row that stand on one line.
+    Comma,
+    /// Between two numbers of a row, the second of which begins a line.
+    NewLine,
+}
+
+impl Gap {
+    /// The bytes of the gap.
+    pub fn bytes(self) -> &'static [u8]
+        ensures bytes { result.now ≡ gap_bytes self }
+        ensures short { length result.now ≤ 7 }
+    {
+        match self {
+            Gap::Space => b" ",
+            Gap::FirstRow => b"\n  ",
+            Gap::NextRow => b",\n  ",
+            Gap::Comma => b", ",
+            Gap::NewLine => b", \n    ",
+        }
+    }
+
+    /// How many bytes more a line of this width may have after the gap, where it had these columns left before.
+    pub fn columns_left_after(self, columns_left: usize, width: usize) -> usize
+        ensures { result ≡ columns_left_after self columns_left width }
+    {
+        match self {
+            Gap::Space => columns_left.saturating_sub(1),
+            Gap::FirstRow | Gap::NextRow => width.saturating_sub(2),
+            Gap::Comma => columns_left.saturating_sub(2),
+            Gap::NewLine => width.saturating_sub(4),
+        }
+    }
+}
