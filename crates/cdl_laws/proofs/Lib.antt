@@ -43,3 +43,4 @@ mod Refused
 mod Generated
 mod Witness
 mod Edges
+mod ByteClasses
