@@ -44,3 +44,4 @@ mod Generated
 mod Witness
 mod Edges
 mod ByteClasses
+mod TokensOfTexts
