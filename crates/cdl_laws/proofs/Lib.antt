@@ -45,3 +45,4 @@ mod Witness
 mod Edges
 mod ByteClasses
 mod TokensOfTexts
+mod Misplaced
