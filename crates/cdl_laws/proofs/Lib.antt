@@ -46,3 +46,4 @@ mod Edges
 mod ByteClasses
 mod TokensOfTexts
 mod Misplaced
+mod Meanings
