@@ -43,3 +43,7 @@ mod Refused
 mod Generated
 mod Witness
 mod Edges
+mod ByteClasses
+mod TokensOfTexts
+mod Misplaced
+mod Meanings
