@@ -2,8 +2,8 @@
 
 ghost use Rattle.std.specs.Prelude.{◌≤◌, length};
 
-use crate::files;
 use crate::runs::{dumps, dumps_as, dumps_through, options};
+use crate::{files, rows};
 use nc_base::FormatFault;
 use nc_file::{DripSource, FailWhen, FileSource, MemSource, SliceSink};
 use ncdump::{DumpFault, DumpOptions, dump};
@@ -94,19 +94,23 @@ fn head_of_a_generated_file(rt: HostRuntime) -> Result<(), Fail> {
 fn opened_file(rt: HostRuntime) -> Result<(), Fail> {
     let options = options(rt.alloc(), false)?;
     let path = "acceptance_records.nc";
-    fs::write(&rt, path, files::TWO_RECORDS)?;
-    let mut source = FileSource::open(&rt, path)?;
-    fs::remove_file(&rt, path)?;
-    let text = b"netcdf t {\ndimensions:\n\tt = UNLIMITED ; // (2 currently)\n}\n";
-    dumps_through(
-        &rt,
-        rt.alloc(),
-        &mut source,
-        &options,
-        &mut [0; 16],
-        Ok(()),
-        text,
-    );
+    for (bytes, text) in [
+        (files::TWO_RECORDS, TWO_RECORDS_TEXT),
+        (files::GENERATED, rows::GENERATED_TEXT),
+    ] {
+        fs::write(&rt, path, bytes)?;
+        let mut source = FileSource::open(&rt, path)?;
+        fs::remove_file(&rt, path)?;
+        dumps_through(
+            &rt,
+            rt.alloc(),
+            &mut source,
+            &options,
+            &mut [0; 16],
+            Ok(()),
+            text,
+        );
+    }
     assert!(rt; FileSource::open(&rt, "nothing.nc").is_err());
     Ok(())
 }

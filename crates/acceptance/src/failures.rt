@@ -80,6 +80,7 @@ fn each_call_fails(rt: &impl Abort, alloc: Global, row: &Row<'_>) -> Result<(), 
         fails_to_write(rt, alloc, row, room, 7)?;
     }
     fails_to_write(rt, alloc, row, row.text.len(), 1)?;
+    fails_to_write(rt, alloc, row, row.text.len(), 7)?;
     Ok(())
 }
 
@@ -109,6 +110,7 @@ fn each_call_fails_in_the_dump_of_padded_records(rt: HostRuntime) -> Result<(), 
 fn each_call_fails_in_the_dump_of_nuls_in_a_row(rt: HostRuntime) -> Result<(), Fail> {
     let all = options(rt.alloc(), false)?;
     each_call_fails(&rt, rt.alloc(), &rows::nuls_in_a_row(&all))?;
+    each_call_fails(&rt, rt.alloc(), &rows::many_nuls_in_a_row(&all))?;
     Ok(())
 }
 

@@ -79,6 +79,16 @@ pub fn nuls_in_a_row<'a>(all: &'a DumpOptions) -> Row<'a> {
     }
 }
 
+/// More NULs in a row than a buffer of 16 bytes has.
+pub fn many_nuls_in_a_row<'a>(all: &'a DumpOptions) -> Row<'a> {
+    Row {
+        bytes: files::MANY_HELD_NULS,
+        options: all,
+        text: b"netcdf t {\ndimensions:\n\tx = 20 ;\nvariables:\n\tchar c(x) ;\ndata:\n\n c = \"a\\000\\000\\000\\000\\000\\000\\000\\000\\000\\000\\000\\000\\000\\000\\000\\000\\000\\000b\" ;\n}\n",
+        shown: 80 + 20,
+    }
+}
+
 /// A text attribute of the file.
 pub fn text_attribute<'a>(all: &'a DumpOptions) -> Row<'a> {
     Row {

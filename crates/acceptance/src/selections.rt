@@ -113,6 +113,9 @@ fn marks_of_variables(rt: HostRuntime) -> Result<(), Fail> {
     marked(&rt, rt.alloc(), &last, &[false, true])?;
     last.coords = true;
     marked(&rt, rt.alloc(), &last, &[false, false])?;
+    let unknown = choosing(rt.alloc(), &[b"y", b"z", b"a"])?;
+    let answer = marked(&rt, rt.alloc(), &unknown, &[]);
+    assert!(rt; answer == Err(DumpFault::NoSuchVariable(1)));
     Ok(())
 }
 
