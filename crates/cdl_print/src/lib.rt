@@ -28,6 +28,10 @@ pub use printer::ValuePrinter;
 pub use word::Word;
 
 #[cfg(test)]
+mod line_tests;
+#[cfg(test)]
 mod tests;
+#[cfg(test)]
+mod value_rows;
 #[cfg(test)]
 mod value_tests;
