@@ -115,8 +115,8 @@ unfolding tokens_at scan word_len until pieces_at is_section
 section_marks = refl
 
 -- numbers, strings, bad tokens and other marks are in no way special
-other_tokens : cuts (codes "netcdf t { = x ; y ;" ∷ codes "netcdf t { ( x ; y ;" ∷ codes "netcdf t { data 5 : x ;" ∷ codes "netcdf t { 5 : x ;" ∷ codes "netcdf t { \"data\" : x ;" ∷ codes "netcdf t { @ : x ;" ∷ codes "netcdf t { data @ : x ;" ∷ [])
-    ≡ (1 ∷ 3 ∷ 2 ∷ 1 ∷ []) ∷ (1 ∷ 3 ∷ 2 ∷ 1 ∷ []) ∷ (1 ∷ 5 ∷ 1 ∷ []) ∷ (1 ∷ 4 ∷ 1 ∷ []) ∷ (1 ∷ 4 ∷ 1 ∷ []) ∷ (1 ∷ 4 ∷ 1 ∷ []) ∷ (1 ∷ 5 ∷ 1 ∷ []) ∷ []
+other_tokens : cuts (codes "netcdf t { = x ; y ;" ∷ codes "netcdf t { ( x ; y ;" ∷ codes "netcdf t { = : x ;" ∷ codes "netcdf t { data 5 : x ;" ∷ codes "netcdf t { 5 : x ;" ∷ codes "netcdf t { \"data\" : x ;" ∷ codes "netcdf t { @ : x ;" ∷ codes "netcdf t { data @ : x ;" ∷ [])
+    ≡ (1 ∷ 3 ∷ 2 ∷ 1 ∷ []) ∷ (1 ∷ 3 ∷ 2 ∷ 1 ∷ []) ∷ (1 ∷ 4 ∷ 1 ∷ []) ∷ (1 ∷ 5 ∷ 1 ∷ []) ∷ (1 ∷ 4 ∷ 1 ∷ []) ∷ (1 ∷ 4 ∷ 1 ∷ []) ∷ (1 ∷ 4 ∷ 1 ∷ []) ∷ (1 ∷ 5 ∷ 1 ∷ []) ∷ []
 unfolding tokens_at scan word_len until unescape_at character pieces_at is_section
 other_tokens = refl
 

@@ -4,14 +4,14 @@ use Rattle.std.proofs.Common.{◌≡◌, ℕ, ◌-◌, ◌^◌, List, [], ◌∷
 use Rattle.std.specs.Prelude.{codes}
 use Rattle.nc_base.specs.declared.dataset.Dataset.{Dataset}
 use Rattle.nc_base.specs.declared.header.Dim.{Dim}
-use Rattle.nc_base.specs.declared.header.NumRecs.TheVariants.{Known}
+use Rattle.nc_base.specs.declared.header.NumRecs.TheVariants.{Known, Streaming}
 use Rattle.nc_base.specs.declared.header.Var.{Var}
 use Rattle.nc_base.specs.declared.nc_type.NcType.{NcType}
 use Rattle.nc_base.specs.declared.nc_type.NcType.TheVariants.{Byte, Short}
 use Rattle.nc_base.specs.declared.version.Version.{Version}
 use Rattle.nc_base.specs.declared.version.Version.TheVariants.{Cdf1, Cdf2, Cdf5}
 use Rattle.nc_base.specs.Fill.{fill_value}
-use Rattle.nc_base.specs.GeneratedFile.{word_spelling, magic_spelling, dim_spelling, att_spelling, var_spelling, header_spelling, vsize_of, fill_bytes, padded_slab, data_of, with_begins, file_of}
+use Rattle.nc_base.specs.GeneratedFile.{word_spelling, magic_spelling, dim_spelling, att_spelling, var_spelling, header_spelling, numrecs_spelling, known_records, vsize_of, fill_bytes, padded_slab, data_of, with_begins, file_of}
 
 abbrev dim : List ℕ → ℕ → Dim
 dim name len = record { name = name; len = len }
@@ -103,3 +103,13 @@ longest_slab_that_fits = refl
 
 long_slab_of_version_5 : vsize_of Cdf5 (2 ^ 32) ≡ 2 ^ 32
 long_slab_of_version_5 = refl
+
+-- where a header leaves the number of records open: the mark of its version, and no record
+streaming : numrecs_spelling Cdf1 Streaming ≡ 0xff ∷ 0xff ∷ 0xff ∷ 0xff ∷ []
+streaming = refl
+
+streaming_of_version_5 : numrecs_spelling Cdf5 Streaming ≡ 0xff ∷ 0xff ∷ 0xff ∷ 0xff ∷ 0xff ∷ 0xff ∷ 0xff ∷ 0xff ∷ []
+streaming_of_version_5 = refl
+
+none_said : known_records Streaming ≡ 0
+none_said = refl
