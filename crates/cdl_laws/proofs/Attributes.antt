@@ -12,7 +12,7 @@ use Rattle.nc_base.specs.declared.nc_type.NcType.TheVariants.{Byte, Char, Short,
 use Rattle.nc_base.specs.declared.version.Version.{Version}
 use Rattle.nc_base.specs.Numbers.{numbers, numbers_from, number_of, bytes_of_number, IsInRange}
 use Rattle.nc_base.specs.Types.{size_of}
-use Rattle.nc_base.proofs.NumberLaws.{bytes_read_back, numbers_in_range}
+use Rattle.nc_base.proofs.NumberBytes.{bytes_read_back, numbers_in_range}
 use Rattle.nc_base.specs.Headers.{IsSoundAtt}
 use Rattle.nc_base.specs.HeadText.{att_values, number_values, joined, without_trailing_nuls}
 use Rattle.nc_base.specs.Names.{IsName}

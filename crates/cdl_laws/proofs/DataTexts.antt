@@ -14,7 +14,7 @@ use Rattle.nc_base.specs.ValueText.{Look, look_of, is_char, variable_text}
 use Rattle.cdl_text.specs.declared.section.Section.TheVariants.{Values}
 use Rattle.nc_base.specs.Sayable.{trimmed_var}
 use Rattle.cdl_text.specs.Shapes.{Value, Characters, Listed}
-use Rattle.cdl_parse.specs.State.{State, Draft, Room, room_of, act, add_value, with_values, in_turn, filled, fits, ◌>>=◌}
+use Rattle.cdl_parse.specs.State.{State, Draft, Capacity, capacity_of, act, add_value, with_values, in_turn, filled, fits, ◌>>=◌}
 use Rattle.cdl_laws.proofs.Lists.{Each}
 use Rattle.cdl_laws.proofs.ValueTexts.{AreSmall, value_said, all_added}
 use Rattle.cdl_laws.proofs.Characters.{flat, shown}
@@ -32,37 +32,37 @@ pub record Gives (v : Version) (dims : List Dim) (look : Look) (var : Var) (valu
   pub said : List Value
   pub says : Says v Values (variable_text look values) (Listed var.name said)
   pub ys : List ℤ
-  pub added : in_turn (add_value (room_of dims (trimmed_var var))) [] said ≡ Ok ys
+  pub added : in_turn (add_value (capacity_of dims (trimmed_var var))) [] said ≡ Ok ys
   pub full : filled (length values) (fill_value (trimmed_var var)) ys ≡ values
   pub exact : is_record_var dims var ≡ true → ys ≡ values
 
--- what a look and a room have to share
-pub record IsRoomFor (look : Look) (room : Room) (var : Var) (count : ℕ) : Type 0 where
+-- what a look and a capacity have to share
+pub record IsRoomFor (look : Look) (capacity : Capacity) (var : Var) (count : ℕ) : Type 0 where
   pub name : look.name ≡ var.name
   pub valid : IsName look.name
-  pub ty : room.ty ≡ look.ty
-  pub fill : room.fill ≡ look.fill
-  pub rows : room.in_rows ≡ look.in_rows
-  pub wide : room.is_open ≡ false → count ≤ room.count
+  pub ty : capacity.ty ≡ look.ty
+  pub fill : capacity.fill ≡ look.fill
+  pub rows : capacity.in_rows ≡ look.in_rows
+  pub wide : capacity.is_open ≡ false → count ≤ capacity.count
 
-pub gives_numbers : (v : Version) (dims : List Dim) (look : Look) (var : Var) (x : ℤ) (xs : List ℤ) → IsRoomFor look (room_of dims (trimmed_var var)) var (length (x ∷ xs)) → is_char look.ty ≡ false →
-    (look.in_rows ≡ false → length (x ∷ xs) ≤ look.row) → AreSmall (x ∷ xs) → Each (λ y. fits (room_of dims (trimmed_var var)).ty y ≡ true) (x ∷ xs) → Gives v dims look var (x ∷ xs)
-gives_numbers v dims look var x xs room ty small fit range = record {
+pub gives_numbers : (v : Version) (dims : List Dim) (look : Look) (var : Var) (x : ℤ) (xs : List ℤ) → IsRoomFor look (capacity_of dims (trimmed_var var)) var (length (x ∷ xs)) → is_char look.ty ≡ false →
+    (look.in_rows ≡ false → length (x ∷ xs) ≤ look.row) → AreSmall (x ∷ xs) → Each (λ y. fits (capacity_of dims (trimmed_var var)).ty y ≡ true) (x ∷ xs) → Gives v dims look var (x ∷ xs)
+gives_numbers v dims look var x xs capacity ty small fit range = record {
   said = map (value_said look) (x ∷ xs);
-  says = subst (λ n. Says v Values (variable_text look (x ∷ xs)) (Listed n (map (value_said look) (x ∷ xs)))) room.name (numbers_say v look x xs room.valid ty small fit);
+  says = subst (λ n. Says v Values (variable_text look (x ∷ xs)) (Listed n (map (value_said look) (x ∷ xs)))) capacity.name (numbers_say v look x xs capacity.valid ty small fit);
   ys = x ∷ xs;
-  added = all_added look (room_of dims (trimmed_var var)) [] (x ∷ xs) (ap is_char room.ty ∙ ty) room.fill (λ e. let f = room.wide e in omega (arith, f)) range;
+  added = all_added look (capacity_of dims (trimmed_var var)) [] (x ∷ xs) (ap is_char capacity.ty ∙ ty) capacity.fill (λ e. let f = capacity.wide e in omega (arith, f)) range;
   full = filled_whole (length (x ∷ xs)) (fill_value (trimmed_var var)) (x ∷ xs) refl;
   exact = λ e. refl;
 }
 
-pub gives_table : (v : Version) (dims : List Dim) (look : Look) (var : Var) (r : List ℤ) (rows : List (List ℤ)) → IsRoomFor look (room_of dims (trimmed_var var)) var (length (flat (r ∷ rows))) → is_char look.ty ≡ true → look.in_rows ≡ true →
-    (look.trimmed ≡ true → look.fill ≡ pos 0) → look.row ≡ (room_of dims (trimmed_var var)).row → 0 < look.row → Each (λ (s : List ℤ). (length s ≡ look.row) × Each IsCharacter s) (r ∷ rows) → Gives v dims look var (flat (r ∷ rows))
-gives_table v dims look var r rows room ty h fill row some all = record {
+pub gives_table : (v : Version) (dims : List Dim) (look : Look) (var : Var) (r : List ℤ) (rows : List (List ℤ)) → IsRoomFor look (capacity_of dims (trimmed_var var)) var (length (flat (r ∷ rows))) → is_char look.ty ≡ true → look.in_rows ≡ true →
+    (look.trimmed ≡ true → look.fill ≡ pos 0) → look.row ≡ (capacity_of dims (trimmed_var var)).row → 0 < look.row → Each (λ (s : List ℤ). (length s ≡ look.row) × Each IsCharacter s) (r ∷ rows) → Gives v dims look var (flat (r ∷ rows))
+gives_table v dims look var r rows capacity ty h fill row some all = record {
   said = map Characters (map (shown look.trimmed 0) (r ∷ rows));
-  says = subst (λ n. Says v Values (variable_text look (flat (r ∷ rows))) (Listed n (map Characters (map (shown look.trimmed 0) (r ∷ rows))))) room.name (table_says v look r rows room.valid ty h some (lens look.row (r ∷ rows) all));
+  says = subst (λ n. Says v Values (variable_text look (flat (r ∷ rows))) (Listed n (map Characters (map (shown look.trimmed 0) (r ∷ rows))))) capacity.name (table_says v look r rows capacity.valid ty h some (lens look.row (r ∷ rows) all));
   ys = flat (r ∷ rows);
-  added = rows_added (room_of dims (trimmed_var var)) look.trimmed [] (r ∷ rows) (ap is_char room.ty ∙ ty) (room.rows ∙ h) (λ e. room.fill ∙ fill e) (let e = row in omega (arith, e, some)) (λ e. let f = room.wide e in omega (arith, f))
+  added = rows_added (capacity_of dims (trimmed_var var)) look.trimmed [] (r ∷ rows) (ap is_char capacity.ty ∙ ty) (capacity.rows ∙ h) (λ e. capacity.fill ∙ fill e) (let e = row in omega (arith, e, some)) (λ e. let f = capacity.wide e in omega (arith, f))
       (subst (λ n. Each (λ (s : List ℤ). (length s ≡ n) × Each IsCharacter s) (r ∷ rows)) row all);
   full = filled_whole (length (flat (r ∷ rows))) (fill_value (trimmed_var var)) (flat (r ∷ rows)) refl;
   exact = λ e. refl;
@@ -72,13 +72,13 @@ gives_table v dims look var r rows room ty h fill row some all = record {
     lens n [] e = tt
     lens n (s ∷ all) e = (e.0.0, lens n all e.1)
 
-pub gives_line : (v : Version) (dims : List Dim) (look : Look) (var : Var) (x : ℤ) (xs : List ℤ) → IsRoomFor look (room_of dims (trimmed_var var)) var (length (x ∷ xs)) → is_char look.ty ≡ true → look.in_rows ≡ false → length (x ∷ xs) ≤ look.row →
+pub gives_line : (v : Version) (dims : List Dim) (look : Look) (var : Var) (x : ℤ) (xs : List ℤ) → IsRoomFor look (capacity_of dims (trimmed_var var)) var (length (x ∷ xs)) → is_char look.ty ≡ true → look.in_rows ≡ false → length (x ∷ xs) ≤ look.row →
     (look.trimmed ≡ true → fill_value (trimmed_var var) ≡ pos 0) → (is_record_var dims var ≡ true → look.trimmed ≡ false) → Each IsCharacter (x ∷ xs) → Gives v dims look var (x ∷ xs)
-gives_line v dims look var x xs room ty h small fill record_whole all = record {
+gives_line v dims look var x xs capacity ty h small fill record_whole all = record {
   said = Characters (shown look.trimmed 0 (x ∷ xs)) ∷ [];
-  says = subst (λ n. Says v Values (variable_text look (x ∷ xs)) (Listed n (Characters (shown look.trimmed 0 (x ∷ xs)) ∷ []))) room.name (line_says v look x xs room.valid ty h small);
+  says = subst (λ n. Says v Values (variable_text look (x ∷ xs)) (Listed n (Characters (shown look.trimmed 0 (x ∷ xs)) ∷ []))) capacity.name (line_says v look x xs capacity.valid ty h small);
   ys = map pos (shown look.trimmed 0 (x ∷ xs));
-  added = line_added (room_of dims (trimmed_var var)) look.trimmed (x ∷ xs) (ap is_char room.ty ∙ ty) (room.rows ∙ h) room.wide;
+  added = line_added (capacity_of dims (trimmed_var var)) look.trimmed (x ∷ xs) (ap is_char capacity.ty ∙ ty) (capacity.rows ∙ h) capacity.wide;
   full = row_back look.trimmed (length (x ∷ xs)) (fill_value (trimmed_var var)) (x ∷ xs) fill refl all;
   exact = λ e. ap (λ t. map pos (shown t 0 (x ∷ xs))) (record_whole e) ∙ back_whole (x ∷ xs) all;
 }

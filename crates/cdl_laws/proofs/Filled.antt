@@ -10,7 +10,7 @@ use Rattle.nc_base.specs.ValueText.{is_nul, is_char}
 use Rattle.cdl_text.specs.Escapes.{stands}
 use Rattle.cdl_text.proofs.Strings.{stands_for}
 use Rattle.cdl_text.specs.Shapes.{Characters, each, both, constant, constants}
-use Rattle.cdl_parse.specs.State.{Room, add_value, in_turn, filled}
+use Rattle.cdl_parse.specs.State.{Capacity, add_value, in_turn, filled}
 use Rattle.cdl_laws.proofs.Lists.{Each}
 use Rattle.cdl_laws.proofs.Characters.{shown, flat}
 use Rattle.cdl_laws.proofs.Strings.{string, unescape_all, between_quotes}
@@ -110,35 +110,35 @@ strings_said v takes_fill bytes all = constants_all v takes_fill (string bytes) 
 le_true : (m n : ℕ) → m ≤ n → nat_le m n ≡ true
 le_true m n h = grind (arith, h)
 
-row_added : (room : Room) (t : Bool) (before r : List ℤ) → is_char room.ty ≡ true → room.in_rows ≡ true → (t ≡ true → room.fill ≡ pos 0) → (room.is_open ≡ false → length before < room.count) → length r ≡ room.row → Each IsCharacter r →
-    add_value room before (Characters (shown t 0 r)) ≡ Ok (before ++ r)
+row_added : (capacity : Capacity) (t : Bool) (before r : List ℤ) → is_char capacity.ty ≡ true → capacity.in_rows ≡ true → (t ≡ true → capacity.fill ≡ pos 0) → (capacity.is_open ≡ false → length before < capacity.count) → length r ≡ capacity.row → Each IsCharacter r →
+    add_value capacity before (Characters (shown t 0 r)) ≡ Ok (before ++ r)
 unfolding add_value
-row_added room t before r ty rows fill wide len all =
-    rw (ty) (rw (rows) (rw (room_for room.is_open (length before) room.count wide)
-    (rw (le_true (length (shown t 0 r)) room.row (let s = shown_len t 0 r in omega (arith, s, len)))
-    (ap (λ xs. Ok (before ++ xs)) (row_back t room.row room.fill r fill len all)))))
+row_added capacity t before r ty rows fill wide len all =
+    rw (ty) (rw (rows) (rw (room_for capacity.is_open (length before) capacity.count wide)
+    (rw (le_true (length (shown t 0 r)) capacity.row (let s = shown_len t 0 r in omega (arith, s, len)))
+    (ap (λ xs. Ok (before ++ xs)) (row_back t capacity.row capacity.fill r fill len all)))))
 
-pub rows_added : (room : Room) (t : Bool) (before : List ℤ) (rows : List (List ℤ)) → is_char room.ty ≡ true → room.in_rows ≡ true → (t ≡ true → room.fill ≡ pos 0) → 0 < room.row →
-    (room.is_open ≡ false → length before + length (flat rows) ≤ room.count) → Each (λ (r : List ℤ). (length r ≡ room.row) × Each IsCharacter r) rows →
-    in_turn (add_value room) before (map Characters (map (shown t 0) rows)) ≡ Ok (before ++ flat rows)
-rows_added room t before [] ty h fill some wide all = ap Ok (sym (append-nil before))
-rows_added room t before (r ∷ rows) ty h fill some wide all =
+pub rows_added : (capacity : Capacity) (t : Bool) (before : List ℤ) (rows : List (List ℤ)) → is_char capacity.ty ≡ true → capacity.in_rows ≡ true → (t ≡ true → capacity.fill ≡ pos 0) → 0 < capacity.row →
+    (capacity.is_open ≡ false → length before + length (flat rows) ≤ capacity.count) → Each (λ (r : List ℤ). (length r ≡ capacity.row) × Each IsCharacter r) rows →
+    in_turn (add_value capacity) before (map Characters (map (shown t 0) rows)) ≡ Ok (before ++ flat rows)
+rows_added capacity t before [] ty h fill some wide all = ap Ok (sym (append-nil before))
+rows_added capacity t before (r ∷ rows) ty h fill some wide all =
     let len = length-append r (flat rows) in
     let more = length-append before r in
     let is = all.0.0 in
-    turn (add_value room) before (before ++ r) (Characters (shown t 0 r)) (map Characters (map (shown t 0) rows))
-    (row_added room t before r ty h fill (λ e. let f = wide e in omega (arith, f, len, is, some)) is all.0.1) ∙
-    rows_added room t (before ++ r) rows ty h fill some (λ e. let f = wide e in omega (arith, f, len, more)) all.1 ∙ ap Ok (append_assoc before r (flat rows))
+    turn (add_value capacity) before (before ++ r) (Characters (shown t 0 r)) (map Characters (map (shown t 0) rows))
+    (row_added capacity t before r ty h fill (λ e. let f = wide e in omega (arith, f, len, is, some)) is all.0.1) ∙
+    rows_added capacity t (before ++ r) rows ty h fill some (λ e. let f = wide e in omega (arith, f, len, more)) all.1 ∙ ap Ok (append_assoc before r (flat rows))
 
 enough : (is_open : Bool) (m n : ℕ) → (is_open ≡ false → m ≤ n) → (is_open || nat_le m n) ≡ true
 enough true m n f = refl
 enough false m n f = le_true m n (f refl)
 
-line_one : (room : Room) (t : Bool) (r : List ℤ) → is_char room.ty ≡ true → room.in_rows ≡ false → (room.is_open ≡ false → length r ≤ room.count) → add_value room [] (Characters (shown t 0 r)) ≡ Ok (map pos (shown t 0 r))
+line_one : (capacity : Capacity) (t : Bool) (r : List ℤ) → is_char capacity.ty ≡ true → capacity.in_rows ≡ false → (capacity.is_open ≡ false → length r ≤ capacity.count) → add_value capacity [] (Characters (shown t 0 r)) ≡ Ok (map pos (shown t 0 r))
 unfolding add_value
-line_one room t r ty h wide =
-    rw (ty) (rw (h) (rw (enough room.is_open (0 + length (shown t 0 r)) room.count (λ e. let s = shown_len t 0 r in let f = wide e in omega (arith, s, f))) refl))
+line_one capacity t r ty h wide =
+    rw (ty) (rw (h) (rw (enough capacity.is_open (0 + length (shown t 0 r)) capacity.count (λ e. let s = shown_len t 0 r in let f = wide e in omega (arith, s, f))) refl))
 
-pub line_added : (room : Room) (t : Bool) (r : List ℤ) → is_char room.ty ≡ true → room.in_rows ≡ false → (room.is_open ≡ false → length r ≤ room.count) →
-    in_turn (add_value room) [] (Characters (shown t 0 r) ∷ []) ≡ Ok (map pos (shown t 0 r))
-line_added room t r ty h wide = turn (add_value room) [] (map pos (shown t 0 r)) (Characters (shown t 0 r)) [] (line_one room t r ty h wide)
+pub line_added : (capacity : Capacity) (t : Bool) (r : List ℤ) → is_char capacity.ty ≡ true → capacity.in_rows ≡ false → (capacity.is_open ≡ false → length r ≤ capacity.count) →
+    in_turn (add_value capacity) [] (Characters (shown t 0 r) ∷ []) ≡ Ok (map pos (shown t 0 r))
+line_added capacity t r ty h wide = turn (add_value capacity) [] (map pos (shown t 0 r)) (Characters (shown t 0 r)) [] (line_one capacity t r ty h wide)

@@ -17,7 +17,7 @@ use Rattle.cdl_parse.specs.Meaning.{meaning}
 use Rattle.nc_base.specs.Sayable.{trimmed, trimmed_att}
 use Rattle.cdl_laws.proofs.MeaningsAreGood.{meanings_are_good, meanings_are_nearly_sayable, nearly_is_sayable}
 use Rattle.cdl_laws.proofs.Bools.{and_left, and_right}
-use Rattle.cdl_laws.proofs.Trims.{none_left, second_trip_is_same}
+use Rattle.cdl_laws.proofs.Trimmed.{none_left, second_trip_is_same}
 
 -- what an attribute of this type and these values makes the fill value of characters
 abbrev fill_by : NcType → List ℕ → ℤ

@@ -20,7 +20,7 @@ use Rattle.nc_base.specs.Numbers.{numbers, bytes_of_number, IsInRange}
 use Rattle.nc_base.specs.Sizes.{is_record_var, slab_count}
 use Rattle.nc_base.specs.ValueText.{Look, look_of, is_char}
 use Rattle.nc_base.specs.Sayable.{trimmed_att, trimmed_var}
-use Rattle.cdl_parse.specs.State.{room_of, filled, fits}
+use Rattle.cdl_parse.specs.State.{capacity_of, filled, fits}
 use Rattle.cdl_parse.specs.Meaning.{array_of}
 use Rattle.cdl_laws.proofs.Attributes.{numbers_back, numbers_range, all_fit, all_small, count_is, numbers_len}
 use Rattle.cdl_laws.proofs.Bools.{and_left, off}
@@ -63,8 +63,8 @@ wide_enough : (c n : ℕ) (b : Bool) → b ≡ false → c * (if b then n else 1
 wide_enough c n true h = cc
 wide_enough c n false h = omega arith
 
-room_is : (h : Header) (var : Var) (n width m : ℕ) → m ≡ value_count h.dims var n → IsName var.name → fill_value (trimmed_var var) ≡ fill_value var → IsRoomFor (look_of h var n width) (room_of h.dims (trimmed_var var)) var m
-unfolding look_of room_of
+room_is : (h : Header) (var : Var) (n width m : ℕ) → m ≡ value_count h.dims var n → IsName var.name → fill_value (trimmed_var var) ≡ fill_value var → IsRoomFor (look_of h var n width) (capacity_of h.dims (trimmed_var var)) var m
+unfolding look_of capacity_of
 room_is h var n width m is name fill = record {
   name = refl;
   valid = name;
@@ -91,8 +91,8 @@ look_type : (h : Header) (var : Var) (n width : ℕ) → (look_of h var n width)
 unfolding look_of
 look_type h var n width = refl
 
-room_type : (dims : List Dim) (var : Var) → (room_of dims (trimmed_var var)).ty ≡ var.ty
-unfolding room_of
+room_type : (dims : List Dim) (var : Var) → (capacity_of dims (trimmed_var var)).ty ≡ var.ty
+unfolding capacity_of
 room_type dims var = refl
 
 listed_numbers : (v : Version) (h : Header) (var : Var) (n width : ℕ) (xs : List ℤ) → 0 < length xs → length xs ≡ value_count h.dims var n → Each (IsInRange var.ty) xs → is_char var.ty ≡ false → IsName var.name →
@@ -156,8 +156,8 @@ rows_are (suc k) row xs h all =
       rows_are k row (drop row xs) (let e = length-drop row xs in omega (arith, e, g, h)) (each_drop IsCharacter row xs all),
     )
 
-rank_row : (h : Header) (var : Var) (n width : ℕ) → (look_of h var n width).in_rows ≡ true → (look_of h var n width).row ≡ (room_of h.dims (trimmed_var var)).row
-unfolding look_of room_of
+rank_row : (h : Header) (var : Var) (n width : ℕ) → (look_of h var n width).in_rows ≡ true → (look_of h var n width).row ≡ (capacity_of h.dims (trimmed_var var)).row
+unfolding look_of capacity_of
 rank_row h var n width e = let f = off (nat_lt (length var.dimids) 2) e in rw (f) refl
 
 look_fill : (h : Header) (var : Var) (n width : ℕ) → (look_of h var n width).fill ≡ fill_value var

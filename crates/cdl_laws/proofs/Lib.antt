@@ -31,13 +31,13 @@ pub mod Uttered
 pub mod Fine
 pub mod Roomy
 pub mod MeaningsAreGood
-pub mod Trims
+pub mod Trimmed
 pub mod Fills
 pub mod Long
-pub mod TokenLaws
+pub mod TokensRead
 pub mod TextTokens
-pub mod PieceLaws
-pub mod RowLaws
+pub mod PiecesRead
+pub mod RowsRead
 mod Samples
 mod Refused
 mod Generated

@@ -181,7 +181,7 @@ all_records_small : (v : Version) (N n : ℕ) (dims : List Dim) (ds : List Draft
 all_records_small v N n dims [] f = omega arith
 all_records_small v N n dims (d ∷ ds) f = let a = records_small v N n dims d f.0 in let b = all_records_small v N n dims ds f.1 in omega (arith, a, b)
 
--- what is listed has room over the records
+-- what is listed has capacity over the records
 listed_fits : (v : Version) (N n : ℕ) (dims : List Dim) (r : ℕ) (d : Draft) → IsFineDraft v N n dims d → records_of dims d ≤ r → length (values_of d) ≤ value_count dims d.var r
 listed_fits v N n dims r d f h =
     let slab = slab_count dims d.var in

@@ -11,7 +11,7 @@ use Rattle.nc_base.specs.ValueText.{look_of, variable_text}
 use Rattle.cdl_text.specs.declared.section.Section.TheVariants.{Values}
 use Rattle.cdl_text.specs.Shapes.{Value, Listed}
 use Rattle.cdl_parse.specs.Meaning.{array_of}
-use Rattle.cdl_parse.specs.State.{in_turn, add_value, room_of}
+use Rattle.cdl_parse.specs.State.{in_turn, add_value, capacity_of}
 use Rattle.cdl_laws.specs.PieceLaws.{IsStatement}
 
 -- The text of the values of the variable in this place is one statement, which lists values for it. Added in turn, they give
@@ -21,7 +21,7 @@ pub record RowReadsBack (d : Dataset) (records width place : ℕ) (var : Var) : 
   pub values : List Value
   pub statement : IsStatement d.header.version Values (variable_text (look_of d.header var records width) (content_of d place var).values) (Listed var.name values)
   pub listed : List ℤ
-  pub added : in_turn (add_value (room_of d.header.dims var)) [] values ≡ Ok listed
+  pub added : in_turn (add_value (capacity_of d.header.dims var)) [] values ≡ Ok listed
   pub array : array_of d.header.dims records (record { var = var; listed = Some listed }) ≡ slice_index_or d.arrays place []
   pub whole : is_record_var d.header.dims var ≡ true → length listed ≡ value_count d.header.dims var records
 

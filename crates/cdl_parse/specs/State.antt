@@ -166,7 +166,7 @@ with_att name cs d = do
 -- ---- data: the variable, then each value
 
 -- what the values of a variable are checked against, and filled with
-pub record Room : Type 0 where
+pub record Capacity : Type 0 where
   pub ty : NcType
   pub fill : ℤ
   -- a record variable, which has no limit on values
@@ -178,8 +178,8 @@ pub record Room : Type 0 where
   -- how many values a row has then
   pub row : ℕ
 
-unfoldable pub room_of : List Dim → Var → Room
-room_of dims var = record {
+unfoldable pub capacity_of : List Dim → Var → Capacity
+capacity_of dims var = record {
   ty = var.ty;
   fill = fill_value var;
   is_open = is_record_var dims var;
@@ -193,32 +193,32 @@ abbrev pub filled : ℕ → ℤ → List ℤ → List ℤ
 filled n fill values = values ++ replicate (n - length values) fill
 
 -- a string more
-abbrev pub add_string : Room → List ℤ → List ℕ → Result (List ℤ) CdlKind
-add_string room before bytes =
-    if room.in_rows then (do
-      _ ← unless (room.is_open || nat_lt (length before) room.count) TooManyValues
-      _ ← unless (nat_le (length bytes) room.row) StringTooLong
-      Ok (before ++ filled room.row room.fill (map pos bytes)))
+abbrev pub add_string : Capacity → List ℤ → List ℕ → Result (List ℤ) CdlKind
+add_string capacity before bytes =
+    if capacity.in_rows then (do
+      _ ← unless (capacity.is_open || nat_lt (length before) capacity.count) TooManyValues
+      _ ← unless (nat_le (length bytes) capacity.row) StringTooLong
+      Ok (before ++ filled capacity.row capacity.fill (map pos bytes)))
     else (do
-      _ ← unless (room.is_open || nat_le (length before + length bytes) room.count) StringTooLong
+      _ ← unless (capacity.is_open || nat_le (length before + length bytes) capacity.count) StringTooLong
       Ok (before ++ map pos bytes))
 
-abbrev pub add_number : Room → List ℤ → Value → Result (List ℤ) CdlKind
-add_number room before (Characters bytes) = Err WrongKind
-add_number room before Underscore = do
-  _ ← unless (room.is_open || nat_lt (length before) room.count) TooManyValues
-  Ok (before ++ room.fill ∷ [])
-add_number room before (Number n) = do
-  _ ← unless (room.is_open || nat_lt (length before) room.count) TooManyValues
-  _ ← unless (fits room.ty n.value) NumberRange
+abbrev pub add_number : Capacity → List ℤ → Value → Result (List ℤ) CdlKind
+add_number capacity before (Characters bytes) = Err WrongKind
+add_number capacity before Underscore = do
+  _ ← unless (capacity.is_open || nat_lt (length before) capacity.count) TooManyValues
+  Ok (before ++ capacity.fill ∷ [])
+add_number capacity before (Number n) = do
+  _ ← unless (capacity.is_open || nat_lt (length before) capacity.count) TooManyValues
+  _ ← unless (fits capacity.ty n.value) NumberRange
   Ok (before ++ n.value ∷ [])
 
-abbrev pub add_character : Room → List ℤ → Value → Result (List ℤ) CdlKind
-add_character room before (Characters bytes) = add_string room before bytes
-add_character room before _ = Err WrongKind
+abbrev pub add_character : Capacity → List ℤ → Value → Result (List ℤ) CdlKind
+add_character capacity before (Characters bytes) = add_string capacity before bytes
+add_character capacity before _ = Err WrongKind
 
-unfoldable pub add_value : Room → List ℤ → Value → Result (List ℤ) CdlKind
-add_value room before x = if is_char room.ty then add_character room before x else add_number room before x
+unfoldable pub add_value : Capacity → List ℤ → Value → Result (List ℤ) CdlKind
+add_value capacity before x = if is_char capacity.ty then add_character capacity before x else add_number capacity before x
 
 abbrev pub is_listed : Option (List ℤ) → Bool
 is_listed None = false
@@ -227,7 +227,7 @@ is_listed (Some values) = true
 abbrev pub with_values : List Dim → List Value → Draft → Result Draft CdlKind
 with_values dims xs d = do
   _ ← when (is_listed d.listed) DuplicateData
-  values ← in_turn (add_value (room_of dims d.var)) [] xs
+  values ← in_turn (add_value (capacity_of dims d.var)) [] xs
   Ok (record d { listed = Some values })
 
 -- ---- statements

@@ -16,7 +16,7 @@ use Rattle.cdl_print.specs.Leads.{next_char_lead}
 use Rattle.cdl_print.specs.Printing.{run_text, run_bytes, row_index_after_run, IsAfterRun, IsAfter, PrintsMore}
 use Rattle.cdl_print.specs.declared.progress.Progress.{Progress}
 use Rattle.cdl_print.proofs.Begun.{IsBegun, begun_at_first}
-use Rattle.cdl_print.proofs.Pieces.{flat_map_itself, literal_itself, prefix_is_run}
+use Rattle.cdl_print.proofs.Runs.{flat_map_itself, literal_itself, prefix_is_run}
 
 and_parts : (a b : Bool) → (a && b) ≡ true → (a ≡ true) × (b ≡ true)
 and_parts true b h = (refl, h)

@@ -1,5 +1,5 @@
 pub mod Begun
-pub mod Pieces
+pub mod Runs
 pub mod Joined
 pub mod NumberRows
 pub mod PrintingLaws

@@ -122,7 +122,7 @@ fn put_gatts<W: Sink>(sink: &mut W, gatts: &[Att]) -> Result<(), WriteFailed>
 }
 
 /// Writes the global attributes under their title.
-#[tactic(auto, using(devices::proofs::Writes::writes, crate::proofs::Pieces::nameless))]
+#[tactic(auto, using(devices::proofs::Writes::writes, crate::proofs::Runs::nameless))]
 fn put_gatts_part<W: Sink>(sink: &mut W, gatts: &[Att]) -> Result<(), WriteFailed>
     ensures { Wrote (W.view sink.old) (W.view sink.new) (concat_parts (global_word ∷ att_lines [] gatts.now ∷ [])) result }
 {

@@ -24,7 +24,7 @@ pub fn put_broken_text<W: Sink>(sink: &mut W, bytes: &[u8]) -> Result<(), WriteF
 }
 
 /// The length of the first line, with its line feed.
-#[tactic(auto, using(crate::proofs::Pieces::lines))]
+#[tactic(auto, using(crate::proofs::Runs::lines))]
 fn line_len(bytes: &[u8]) -> usize
     ensures { result ≡ line_len bytes.now }
 {

@@ -21,9 +21,6 @@ lexeme text t = record { kind = t.kind; bytes = raw text t }
 abbrev pub role : Lexeme → Role
 role l = role_of l.kind l.bytes
 
-abbrev pub role_in : List ℕ → Token → Role
-role_in text t = role (lexeme text t)
-
 abbrev pub is_word_kind : TokenKind → Bool
 is_word_kind kinds.Word = true
 is_word_kind _ = false

@@ -1,5 +1,5 @@
 pub mod NameLemmas
-pub mod NumberLaws
+pub mod NumberBytes
 pub mod PathLemmas
 pub mod SizeLaws
 pub mod SoundLaws

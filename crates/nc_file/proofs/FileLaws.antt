@@ -6,7 +6,7 @@ use Rattle.nc_base.specs.FileLaws.{FilesHoldTheirDatasets, FilesHoldOneDataset, 
 use Rattle.nc_base.specs.GeneratedFile.{file_of}
 use Rattle.nc_base.proofs.FileHolds.{file-holds}
 use Rattle.nc_base.proofs.HeldDump.{held-dump, dump-held, one-held}
-use Rattle.nc_file.proofs.OneOutcome.{one-header, header-fine}
+use Rattle.nc_file.proofs.Outcomes.{one-header, header-fine}
 
 one : (bytes : List ℕ) (h k : Header) (rest more : List ℕ) → SpellsHeader bytes h rest → SpellsHeader bytes k more → h ≡ k
 one bytes h k rest more s t = (one-header bytes h k rest more s t).0

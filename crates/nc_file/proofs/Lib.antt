@@ -10,6 +10,6 @@ pub mod Again
 pub mod ListsAgain
 pub mod VariablesAgain
 pub mod HeadersAgain
-pub mod OneOutcome
+pub mod Outcomes
 pub mod Answered
 pub mod FileLaws

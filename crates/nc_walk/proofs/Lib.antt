@@ -1,10 +1,10 @@
-pub mod Fills
+pub mod FillSteps
 pub mod Cursors
 pub mod Runs
 pub mod Orders
 pub mod SlabSteps
 pub mod OneRead
-pub mod Chunks
+pub mod ChunkSteps
 pub mod Missing
 pub mod Stored
-pub mod Walked
+pub mod WalkSteps

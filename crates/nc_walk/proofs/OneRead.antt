@@ -11,7 +11,7 @@ use Rattle.nc_walk.specs.declared.slabs.Slabs.{Slabs}
 use Rattle.nc_walk.specs.Fills.{Filled, FailedWhileFilling}
 use Rattle.nc_walk.specs.Slabs.{total, offset, offsets_from, offsets_after, Ready, IsSized}
 use Rattle.nc_walk.specs.Walks.{IsWhole, Exactly, ReturnsValues, Failing, Truncated, ReadValues, Steps, Advanced, standing, stopped, as_answer, count}
-use Rattle.nc_walk.proofs.Fills.{transparent_any, transparent_map, transparent_both}
+use Rattle.nc_walk.proofs.FillSteps.{transparent_any, transparent_map, transparent_both}
 use Rattle.nc_walk.proofs.Runs.{length-offsets, take-offsets, drop-offsets, first_offset, run_bytes, run_within, ready_whole}
 
 some_left : (l : Slabs) (done : ℕ) → done < total l → 0 < length (offsets_after l done)

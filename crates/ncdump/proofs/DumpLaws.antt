@@ -11,7 +11,7 @@ use Rattle.devices.specs.Sinks.{SinkView}
 use Rattle.nc_file.specs.Answers.{IsRead, Answers, HasAnswered, header_end, fault_end}
 use Rattle.nc_file.specs.declared.head_fault.HeadFault.{HeadFault}
 use Rattle.nc_file.specs.declared.head_fault.HeadFault.TheVariants as head
-use Rattle.nc_walk.proofs.Fills.{transparent_map, transparent_both}
+use Rattle.nc_walk.proofs.FillSteps.{transparent_map, transparent_both}
 use Rattle.ncdump.specs.declared.fault.DumpFault.{DumpFault}
 use Rattle.ncdump.specs.declared.fault.DumpFault.TheVariants.{OutOfMemory, ReadFailed, WriteFailed, Format, NoSuchVariable, DataTruncated}
 use Rattle.ncdump.specs.Faults.{fault_of_head}

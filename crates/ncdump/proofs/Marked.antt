@@ -11,7 +11,7 @@ use Rattle.nc_base.specs.Dump.{Section, no_section, whole, data_truncated, conte
 use Rattle.devices.specs.Sources.{SourceView, after}
 use Rattle.devices.specs.Sinks.{SinkView, Appended, FailedPartway}
 use Rattle.devices.proofs.Writes.{appended_then, appended_partway}
-use Rattle.nc_walk.proofs.Fills.{after_after, transparent_both}
+use Rattle.nc_walk.proofs.FillSteps.{after_after, transparent_both}
 use Rattle.ncdump.specs.declared.fault.DumpFault.{DumpFault}
 use Rattle.ncdump.specs.declared.fault.DumpFault.TheVariants.{OutOfMemory, ReadFailed, WriteFailed, Format, NoSuchVariable, DataTruncated}
 use Rattle.ncdump.proofs.OneVariable.{some-at}

@@ -12,7 +12,7 @@ use Rattle.nc_base.specs.Sizes.{record_count}
 use Rattle.nc_base.specs.Grammar.{SpellsHeader}
 use Rattle.nc_base.specs.Dump.{Options, Ending, whole, wrong_field, no_such_variable, data_truncated, has_variable, KnowsChosen, IsFirstUnknown, IsFirstUnknownOf, Section, content_in, shown_values, selection_of, dump_text, IsDump, stopped, unknown, shown}
 use Rattle.nc_file.specs.OneOutcome.{BeginsWithHeader, HasFirstFault, HasOneOutcome}
-use Rattle.nc_file.proofs.OneOutcome.{one-outcome}
+use Rattle.nc_file.proofs.Outcomes.{one-outcome}
 use Rattle.devices.specs.Sinks.{SinkView, Appended}
 use Rattle.cdl_print.proofs.Begun.{appended_none}
 use Rattle.ncdump.specs.declared.fault.DumpFault.{DumpFault}

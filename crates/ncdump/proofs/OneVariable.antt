@@ -22,9 +22,9 @@ use Rattle.devices.proofs.Writes.{appended_then, appended_partway}
 use Rattle.nc_walk.specs.Walks.{WalkView, Starts, Steps, Advanced, count}
 use Rattle.nc_walk.specs.Walked.{Walked, HasRead, IsChunk, GivesChunk, GivesEnd, GivesCut, GivesFailure}
 use Rattle.nc_walk.specs.declared.fault.WalkFault.TheVariants as walk
-use Rattle.nc_walk.proofs.Fills.{transparent_any, transparent_map, transparent_both}
+use Rattle.nc_walk.proofs.FillSteps.{transparent_any, transparent_map, transparent_both}
 use Rattle.nc_walk.proofs.Missing.{whole_count-ge}
-use Rattle.nc_walk.proofs.Walked.{begun, gives, walked_on}
+use Rattle.nc_walk.proofs.WalkSteps.{begun, gives, walked_on}
 use Rattle.cdl_print.specs.Printer.{look_in, HasPrinted, Printed, Stopped, Takes}
 use Rattle.cdl_print.specs.declared.printer.ValuePrinter.{ValuePrinter}
 use Rattle.ncdump.specs.Shows.{Dumped, dumped, whole_values, whole_bytes, Holds, IsShown, IsUnread, IsUnwritten}

@@ -1,5 +1,5 @@
-use Rattle.cdl_laws.proofs.PieceLaws.{pieces_are_statements, marks_read_back, dimensions_read_back, declarations_read_back, attributes_read_back, global_attributes_read_back}
-use Rattle.cdl_laws.proofs.RowLaws.{data_reads_back}
+use Rattle.cdl_laws.proofs.PiecesRead.{pieces_are_statements, marks_read_back, dimensions_read_back, declarations_read_back, attributes_read_back, global_attributes_read_back}
+use Rattle.cdl_laws.proofs.RowsRead.{data_reads_back}
 use Rattle.cdl_laws.proofs.laws.piece_reads_back.Goals as goal
 
 pub returns-clause-pieces : goal.returns-clause-pieces

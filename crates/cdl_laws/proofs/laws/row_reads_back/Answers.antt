@@ -1,4 +1,4 @@
-use Rattle.cdl_laws.proofs.RowLaws.{rows_read_back, empty_rows_read_back}
+use Rattle.cdl_laws.proofs.RowsRead.{rows_read_back, empty_rows_read_back}
 use Rattle.cdl_laws.proofs.laws.row_reads_back.Goals as goal
 
 pub returns-clause-rows : goal.returns-clause-rows

@@ -1,4 +1,4 @@
-use Rattle.cdl_laws.proofs.TokenLaws.{names_read_back, strings_read_back, constants_read_back, values_read_back, blanks_and_marks_stop}
+use Rattle.cdl_laws.proofs.TokensRead.{names_read_back, strings_read_back, constants_read_back, values_read_back, blanks_and_marks_stop}
 use Rattle.cdl_laws.proofs.laws.token_reads_back.Goals as goal
 
 pub returns-clause-names : goal.returns-clause-names

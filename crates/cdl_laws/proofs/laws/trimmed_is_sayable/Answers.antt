@@ -1,4 +1,4 @@
-use Rattle.cdl_laws.proofs.Trims.{trimmed_is_sayable}
+use Rattle.cdl_laws.proofs.Trimmed.{trimmed_is_sayable}
 use Rattle.cdl_laws.proofs.laws.trimmed_is_sayable.Goals as goal
 
 pub returns : goal.returns

@@ -1,4 +1,4 @@
-use Rattle.cdl_laws.proofs.Trims.{trims_once}
+use Rattle.cdl_laws.proofs.Trimmed.{trims_once}
 use Rattle.cdl_laws.proofs.laws.trims_once.Goals as goal
 
 pub returns : goal.returns

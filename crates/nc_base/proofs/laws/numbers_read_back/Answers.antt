@@ -1,4 +1,4 @@
-use Rattle.nc_base.proofs.NumberLaws.{numbers_read_back, bytes_read_back, numbers_in_range}
+use Rattle.nc_base.proofs.NumberBytes.{numbers_read_back, bytes_read_back, numbers_in_range}
 use Rattle.nc_base.proofs.laws.numbers_read_back.Goals as goal
 
 pub returns-clause-numbers : goal.returns-clause-numbers

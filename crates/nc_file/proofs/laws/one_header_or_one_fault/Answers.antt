@@ -1,4 +1,4 @@
-use Rattle.nc_file.proofs.OneOutcome.{one-outcome}
+use Rattle.nc_file.proofs.Outcomes.{one-outcome}
 use Rattle.nc_file.proofs.laws.one_header_or_one_fault.Goals as goal
 
 pub returns : goal.returns

@@ -1,6 +1,6 @@
 use Rattle.std.proofs.Common.{rules, ◌≡◌, ℕ, ◌+◌, ◌-◌, ◌*◌, ◌<◌, ◌≤◌, List, length, take, drop, arith, ap, ◌∙◌, length-drop, length-take, refl}
 use Rattle.std.proofs.Math.Nat.{mul-le-mul_left}
-use Rattle.nc_walk.proofs.Chunks.{goes_on, fails}
+use Rattle.nc_walk.proofs.ChunkSteps.{goes_on, fails}
 use Rattle.nc_walk.proofs.chunk.read_chunk.Goals as goal
 
 -- the rest of a list, and its prefix, are as long as the list

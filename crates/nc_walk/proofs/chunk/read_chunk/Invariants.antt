@@ -1,5 +1,5 @@
 use Rattle.std.proofs.Common.{◌-◌}
-use Rattle.nc_walk.proofs.Chunks.{Going}
+use Rattle.nc_walk.proofs.ChunkSteps.{Going}
 use Rattle.nc_walk.proofs.chunk.read_chunk.Given as goal
 
 abbrev pub invariant-loop-prefix : goal.invariant-loop-prefix

@@ -1,6 +1,6 @@
 use Rattle.nc_walk.specs.Slabs.{number_at}
 use Rattle.nc_walk.proofs.OneRead.{reached}
-use Rattle.nc_walk.proofs.Chunks.{to_slab_end}
+use Rattle.nc_walk.proofs.ChunkSteps.{to_slab_end}
 use Rattle.nc_walk.proofs.chunk.read_run.Goals as goal
 
 pub following-next-requires-clause-left : goal.following-next-requires-clause-left

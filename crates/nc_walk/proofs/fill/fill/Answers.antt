@@ -1,5 +1,5 @@
 use Rattle.std.proofs.Common.{◌≡◌, ℕ, ◌+◌, ◌-◌, ◌≤◌, List, length, take, drop, arith, length-drop, length-take, refl, sym}
-use Rattle.nc_walk.proofs.Fills.{more}
+use Rattle.nc_walk.proofs.FillSteps.{more}
 use Rattle.nc_walk.proofs.fill.fill.Goals as goal
 
 len : (got : ℕ) (xs ys : List ℕ) → got ≤ length xs → length ys ≡ length (take (length xs - got) (drop got xs)) → length ys + got ≡ length xs

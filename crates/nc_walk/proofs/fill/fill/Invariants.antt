@@ -1,5 +1,5 @@
 use Rattle.std.proofs.Common.{◌-◌, length}
-use Rattle.nc_walk.proofs.Fills.{Filling}
+use Rattle.nc_walk.proofs.FillSteps.{Filling}
 use Rattle.nc_walk.proofs.fill.fill.Given as goal
 
 abbrev pub invariant-loop-got : goal.invariant-loop-got

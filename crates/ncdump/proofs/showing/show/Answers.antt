@@ -4,7 +4,7 @@ use Rattle.nc_base.specs.HeadText.{head_text}
 use Rattle.nc_base.specs.Sizes.{record_count}
 use Rattle.devices.specs.Sinks.{Appended, FailedPartway}
 use Rattle.devices.proofs.Writes.{appended_then}
-use Rattle.nc_walk.proofs.Fills.{transparent_any, transparent_map}
+use Rattle.nc_walk.proofs.FillSteps.{transparent_any, transparent_map}
 use Rattle.ncdump.specs.declared.fault.DumpFault.TheVariants.{WriteFailed}
 use Rattle.ncdump.specs.Dumps.{options_of}
 use Rattle.ncdump.specs.Shows.{dumped, Shows, ShowsMarked}

@@ -3,7 +3,7 @@ use Rattle.std.specs.Prelude.{slice_get}
 use Rattle.std.proofs.lemmas.Result.{err_from_is_err_and}
 use Rattle.nc_base.specs.ValueText.{look_of, opening, Look}
 use Rattle.devices.specs.Sinks.{Appended, FailedPartway}
-use Rattle.nc_walk.proofs.Fills.{transparent_map}
+use Rattle.nc_walk.proofs.FillSteps.{transparent_map}
 use Rattle.cdl_print.specs.Printer.{HasPrinted}
 use Rattle.ncdump.proofs.OneVariable.{some-at, at-some, showing-begins, takes-chunk, showing-on, unwritten-chunk, shown-whole, unwritten-closing, shown-prefix, unread, unwritten-opening}
 use Rattle.ncdump.proofs.showing.show_variable.Goals as goal

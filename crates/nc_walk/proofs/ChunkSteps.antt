@@ -16,7 +16,7 @@ use Rattle.nc_walk.specs.declared.chunk.Chunk.{Chunk}
 use Rattle.nc_walk.specs.Slabs.{total, number_at, offsets_after, offsets_from}
 use Rattle.nc_walk.specs.Chunks.{Collected, ReadToSlabEnd}
 use Rattle.nc_walk.specs.Walks.{WalkView, IsWhole, Exactly, ReturnsValues, Failing, Truncated, ReadValues, standing}
-use Rattle.nc_walk.proofs.Fills.{transparent_both, after_after, prefix_then, prefix_still}
+use Rattle.nc_walk.proofs.FillSteps.{transparent_both, after_after, prefix_then, prefix_still}
 use Rattle.nc_walk.proofs.Runs.{length-offsets, drop-offsets}
 
 -- the first n values from number i on have been read into the start of the buffer, and after them comes a part of it

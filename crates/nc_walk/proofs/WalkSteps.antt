@@ -17,7 +17,7 @@ use Rattle.devices.specs.Sources.{SourceView, after, HasFailed}
 use Rattle.nc_walk.specs.declared.fault.WalkFault.TheVariants.{ReadFailed, DataTruncated}
 use Rattle.nc_walk.specs.Walks.{WalkView, Answer, IsWhole, Starts, Exactly, ReturnsValues, Failing, Truncated, Steps, Advanced, count}
 use Rattle.nc_walk.specs.Walked.{Walked, HasRead, IsChunk, GivesChunk, GivesEnd, GivesCut, GivesFailure, Gives, whole_count}
-use Rattle.nc_walk.proofs.Fills.{transparent_any, transparent_map, transparent_both, after_after}
+use Rattle.nc_walk.proofs.FillSteps.{transparent_any, transparent_map, transparent_both, after_after}
 use Rattle.nc_walk.proofs.Missing.{missing_at, none_missing, whole_count-ge}
 use Rattle.nc_walk.proofs.Orders.{count_of_offsets}
 use Rattle.nc_walk.proofs.Stored.{numbers-whole, chunk_bytes, chunk_values, joined_bytes}

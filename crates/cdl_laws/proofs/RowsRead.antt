@@ -18,13 +18,13 @@ use Rattle.nc_base.specs.ValueText.{is_char, look_of, variable_text}
 use Rattle.cdl_text.specs.declared.section.Section.TheVariants.{Values}
 use Rattle.cdl_text.specs.Shapes.{Listed}
 use Rattle.cdl_parse.specs.Meaning.{array_of}
-use Rattle.cdl_parse.specs.State.{Room, room_of, in_turn, add_value, filled}
+use Rattle.cdl_parse.specs.State.{Capacity, capacity_of, in_turn, add_value, filled}
 use Rattle.cdl_laws.specs.PieceLaws.{DataReadsBack}
 use Rattle.cdl_laws.specs.RowLaws.{RowReadsBack, RowsReadBack, EmptyRowsReadBack}
 use Rattle.cdl_laws.proofs.Arrays.{row_back, no_bytes}
 use Rattle.cdl_laws.proofs.DataTexts.{Gives, given_draft}
 use Rattle.cdl_laws.proofs.Given.{same_fill, array_len}
-use Rattle.cdl_laws.proofs.PieceLaws.{is_statement}
+use Rattle.cdl_laws.proofs.PiecesRead.{is_statement}
 
 -- ---- the parts of a dataset
 
@@ -56,9 +56,9 @@ same_value : (var : Var) → (is_char var.ty ≡ true → fill_value (trimmed_va
 same_value var char =
     elim (is_char var.ty) as (λ b. is_char var.ty ≡ b → fill_value (trimmed_var var) ≡ fill_value var) [ true ↦ char | false ↦ same_fill var ] refl
 
-same_room : (dims : List Dim) (var : Var) → fill_value (trimmed_var var) ≡ fill_value var → room_of dims (trimmed_var var) ≡ room_of dims var
-unfolding room_of
-same_room dims var fill = ap (λ (f : ℤ). record (room_of dims var) { fill = f }) fill
+same_room : (dims : List Dim) (var : Var) → fill_value (trimmed_var var) ≡ fill_value var → capacity_of dims (trimmed_var var) ≡ capacity_of dims var
+unfolding capacity_of
+same_room dims var fill = ap (λ (f : ℤ). record (capacity_of dims var) { fill = f }) fill
 
 -- ---- rows
 
@@ -70,7 +70,7 @@ row_of d records width place var is fill g back = record {
   values = g.said;
   statement = is_statement d.header.version Values (variable_text (look_of d.header var records width) (content_of d place var).values) (Listed var.name g.said) g.says;
   listed = g.ys;
-  added = ap (λ (r : Room). in_turn (add_value r) [] g.said) (sym (same_room d.header.dims var fill)) ∙ g.added;
+  added = ap (λ (r : Capacity). in_turn (add_value r) [] g.said) (sym (same_room d.header.dims var fill)) ∙ g.added;
   array = ap (λ (f : ℤ). flat_map (bytes_of_number var.ty) (filled (value_count d.header.dims var records) f g.ys)) (sym fill) ∙ back;
   whole = λ e. ap (λ (ys : List ℤ). length ys) (g.exact e) ∙ array_len d.header.dims records var (slice_index_or d.arrays place []) is;
 }
