@@ -1,7 +1,8 @@
 //! Devices in memory.
 
-ghost use Rattle.std.specs.Prelude.{◌≡◌, [], Some, true, length};
+ghost use Rattle.std.specs.Prelude.{◌≡◌, ◌+◌, ◌^◌, ◌<◌, ◌≤◌, [], IsErr, Some, true, length};
 ghost use Rattle.nc_base.specs.Bytes.{AreBytes};
+ghost use Rattle.devices.specs.Sources.{ReadSome};
 
 use crate::{Sink, SinkFailed, Source, SourceFailed};
 use std::alloc::Global;
@@ -30,16 +31,23 @@ impl<'a> MemSource<'a> {
 }
 
 impl Source for MemSource<'_> {
+    ghost use Rattle.devices.specs.Memory.{view_of};
+
     ghost is_transparent = { true };
 
-    ghost view = { λ s. record { bytes = s.bytes.now; failures = s.failures; handed = s.handed } };
+    ghost view = { view_of };
 
     fn len(&self) -> u64 {
         length_of(self.bytes)
     }
 
     #[tactic(auto, unfolding(crate::specs::Sources::HasFailed))]
-    fn read_at(&mut self, at: u64, into: &mut [u8]) -> Result<usize, SourceFailed> {
+    fn read_at(&mut self, at: u64, into: &mut [u8]) -> Result<usize, SourceFailed>
+        requires room { 0 < length into.old }
+        requires inside { at < length (view_of self.old).bytes }
+        ensures read { ReadSome true (view_of self.old) (view_of self.new) at into.old into.new result }
+        ensures only_full { IsErr result → 2 ^ 128 ≤ (view_of self.old).handed + length into.old }
+    {
         let from = at as usize;
         let n = into.len().min(self.bytes.len() - from);
         if u128::MAX - self.handed < n as u128 {
