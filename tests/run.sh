@@ -277,6 +277,44 @@ stderr 'ncdump: missing.nc: cannot open\n'
 run "$ncdump" -h -n other missing.nc
 verdict missing_path_with_options 1
 
+# far BEGIN: a CDF-2 header of `short s(x)`, x = 3, whose values begin at the offset, in 16 hexadecimal digits.
+far() {
+    printf 'CDF\002' && zeros 4
+    printf '\000\000\000\012\000\000\000\001\000\000\000\001x\000\000\000\000\000\000\003' && zeros 8
+    printf '\000\000\000\013\000\000\000\001\000\000\000\001s\000\000\000\000\000\000\001' && zeros 12
+    printf '\000\000\000\003\000\000\000\010'
+    printf "$(printf '%s' "$1" | sed 's/../\\x&/g')"
+}
+
+# Values past 2 and 4 GiB, in files of which nearly nothing stands on the disk.
+for place in 3221225472:00000000c0000000 5368709120:0000000140000000; do
+    far "${place#*:}" >far.nc
+    truncate -s "${place%:*}" far.nc
+    stdout 'netcdf far {\ndimensions:\n\tx = 3 ;\nvariables:\n\tshort s(x) ;\ndata:\n\n s ='
+    stderr 'ncdump: far.nc: variable 0: data truncated at value 0\n'
+    run "$ncdump" far.nc
+    verdict "no_value_at_${place%:*}" 1
+    printf '\000\001\200\001\000\003' >>far.nc
+    cdl "values_at_${place%:*}" far.nc 'netcdf far {\ndimensions:\n\tx = 3 ;\nvariables:\n\tshort s(x) ;\ndata:\n\n s = 1, _, 3 ;\n}\n'
+    rm far.nc
+done
+
+# Options that bear on values: a width, and coordinate variables among chosen names.
+head='netcdf grid {\ndimensions:\n\tx = 3 ;\nvariables:\n\tshort x(x) ;\n\tshort s(x) ;\ndata:\n'
+{
+    printf 'CDF\001' && zeros 4
+    printf '\000\000\000\012\000\000\000\001\000\000\000\001x\000\000\000\000\000\000\003' && zeros 8
+    printf '\000\000\000\013\000\000\000\002'
+    printf '\000\000\000\001x\000\000\000\000\000\000\001' && zeros 12
+    printf '\000\000\000\003\000\000\000\010\000\000\000\164'
+    printf '\000\000\000\001s\000\000\000\000\000\000\001' && zeros 12
+    printf '\000\000\000\003\000\000\000\010\000\000\000\174'
+    printf '\000\001\000\002\000\003\200\001\003\350\116\040\000\102\200\001'
+} >grid.nc
+options narrow_lines "$head\\n x = 1, 2, 3 ;\\n\\n s = 1000, 20000, \\n    66 ;\\n}\\n" -l 20 grid.nc
+options coordinates_among_chosen "$head\\n x = 1, 2, 3 ;\\n}\\n" -c -v s,x grid.nc
+options no_coordinates_among_chosen "$head}\\n" -v s -c grid.nc
+
 # Devices that take nothing.
 run to_full_device "$samples/records.nc"
 verdict full_standard_output_at_the_end 1
