@@ -13,7 +13,7 @@ use Rattle.cdl_text.specs.declared.piece.Role.TheVariants as roles
 use Rattle.cdl_text.specs.declared.piece.CutState.TheVariants.{Begins, Inside}
 use Rattle.cdl_text.specs.Lexemes.{Lexeme, role}
 use Rattle.cdl_parse.specs.Meaning.{piece_read}
-use Rattle.cdl_text.specs.Pieces.{pieces_at, step, going, unless_end, with_first, first_role, is_end_role, is_section}
+use Rattle.cdl_text.specs.Pieces.{pieces_at, step, going, unless_end, with_first, first_role, is_section}
 use Rattle.cdl_laws.specs.Reading.{lexemes_at, pieces_of}
 use Rattle.cdl_text.specs.Shapes.{Statement, first_bad, token_fault, shape, before_mark, body}
 use Rattle.cdl_parse.specs.State.{State, act, in_turn}
@@ -38,6 +38,10 @@ abbrev pub is_starter : Role → Bool
 is_starter roles.Colon = true
 is_starter roles.Other = true
 is_starter _ = false
+
+abbrev is_end_role : Role → Bool
+is_end_role roles.End = true
+is_end_role _ = false
 
 unless_going : (n : Role) → is_end_role n ≡ false → unless_end n Inside ≡ going Inside
 unless_going roles.Opening h = refl

@@ -74,7 +74,3 @@ unfoldable pub pieces_at : {X : Type 0} → (X → Role) → CutState → List X
 pieces_at role state [] = []
 pieces_at role state (t ∷ ts) =
     with_first (step state (role t) (first_role role ts)).ends t (pieces_at role (step state (role t) (first_role role ts)).state ts)
-
-abbrev pub is_end_role : Role → Bool
-is_end_role End = true
-is_end_role _ = false
