@@ -23,7 +23,7 @@ EDITS = TOP / "tests" / "definitions"
 CRATES = ["nc_base", "cdl_text", "cdl_parse", "cdl_laws"]
 AT_ONCE = 2
 # the files of worked examples, which no other file cites
-EXAMPLES = ["Examples", "FileExamples", "Samples", "Refused", "Generated", "ByteClasses", "TokensOfTexts", "Misplaced", "Meanings"]
+EXAMPLES = ["Examples", "FileExamples", "Samples", "Refused", "Generated", "GeneratedCdf5", "ByteClasses", "TokensOfTexts", "Misplaced", "Meanings"]
 # what the prover says of a text that it can't read, or that names what isn't there
 UNREAD = re.compile(r"is not in scope|has no field|is no name|operand is missing|expected the end|cannot continue|can be named")
 

@@ -40,7 +40,8 @@ pub mod PiecesRead
 pub mod RowsRead
 mod Samples
 mod Refused
-mod Generated
+pub mod Generated
+mod GeneratedCdf5
 mod Witness
 mod Edges
 mod ByteClasses

@@ -279,7 +279,7 @@ pub fn has_records(dims: &[Dim], dimids: &[u64]) -> bool
 }
 
 /// Says whether the id is that of the record dimension.
-pub(crate) fn is_record_dim(dims: &[Dim], id: u64) -> bool
+pub fn is_record_dim(dims: &[Dim], id: u64) -> bool
     ensures { result ≡ is_record_dim dims.now id }
 {
     id < dims.len() as u64 && dim_len(dims, id) == 0

@@ -24,7 +24,7 @@ pub(crate) struct Slabs {
 }
 
 impl Slabs {
-    /// The slabs of the variable at index `v` over the records that lie so: one for each record, or one in all where the
+    /// The slabs of the variable at index `v` over the records of the layout: one for each record, or one in all where the
     /// variable has no record dimension.
     pub(crate) fn of(header: &Header, v: usize, layout: RecordLayout) -> Slabs
         requires sound { IsSound header.now }

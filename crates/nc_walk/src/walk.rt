@@ -64,8 +64,8 @@ impl<'a> Walk<'a> {
         )
     }
 
-    /// The same over records that lie so, for a caller that walks over many variables: it takes time in proportion to the
-    /// rank of the variable alone.
+    /// The same over the records of this layout, for a caller that walks over many variables of one file: no other variable
+    /// is looked at, so it takes time in proportion to the variable's rank alone.
     pub fn over(header: &Header, v: usize, layout: RecordLayout, buf: &'a mut [u8]) -> Walk<'a>
         requires sound { IsSound header.now }
         requires there { v < length header.now.vars }

@@ -1,8 +1,6 @@
 -- Showing one variable: a walk and a printer that go on together.
 use Rattle.std.proofs.Common.{◌≡◌, ℕ, ◌+◌, ◌*◌, ◌≤◌, inl, inr, Bool, List, [], ◌++◌, length, take, refl, sym, ap, ◌∙◌, append_assoc, subst, arith, Option, Some, None, Ok, Err}
-use Rattle.std.specs.Prelude.{ℤ, slice_get, unwrap_or, IfSome, All}
-use Rattle.std.proofs.lemmas.List.Elements.{All-get_or}
-use Rattle.std.proofs.lemmas.Option.{get_or_from_slice_get, slice_get_within}
+use Rattle.std.specs.Prelude.{ℤ, slice_get, unwrap_or, IfSome}
 use Rattle.std.specs.Bool.{OnTrue}
 use Rattle.std.proofs.Math.Nat.{mul-le-mul_right}
 use Rattle.std.proofs.Math.Seq.{take-add}
@@ -49,14 +47,6 @@ some-at P None x is holds = absurd cc
 
 pub at-some : {X : Type 0} (P : X → Type 0) (o : Option X) (x : X) → o ≡ Some x → P x → IfSome o P
 at-some {X = X} P o x is holds = subst (λ (q : Option X). IfSome q P) (sym is) holds
-
-pub if-some : {X : Type 0} (P Q : X → Type 0) (o : Option X) → ((x : X) → o ≡ Some x → P x → Q x) → IfSome o P → IfSome o Q
-if-some P Q (Some x) f holds = f x refl holds
-if-some P Q None f holds = tt
-
--- what holds of all elements
-pub all-at : {X : Type 0} (P : X → Type 0) (xs : List X) (i : ℕ) (x : X) → All P xs → slice_get xs i ≡ Some x → P x
-all-at P xs i x all is = subst P (get_or_from_slice_get xs i x x is) (All-get_or P xs i x (slice_get_within xs i x is) all)
 
 type-of : (h : Header) (var : Var) (n width : ℕ) → (look_of h var n width).ty ≡ var.ty
 unfolding look_of

@@ -11,8 +11,8 @@ use crate::sized_var::SizedVar;
 use crate::window::Window;
 use devices::Source;
 use nc_base::{
-    Dim, FormatFault, NcType, RECORD_LIMIT, Sequence, Var, Version, has_records, padding_len,
-    slab_of,
+    Dim, FormatFault, NcType, RECORD_LIMIT, Sequence, Var, Version, has_records, is_record_dim,
+    padding_len, slab_of,
 };
 use std::alloc::Global;
 
@@ -166,7 +166,7 @@ impl<S: Source> Window<'_, S> {
 fn is_dimid(dims: &[Dim], first: bool, id: u64) -> bool
     ensures { result ≡ is_dimid dims.now first id }
 {
-    id < dims.len() as u64 && (first || dims[id as usize].len != 0)
+    id < dims.len() as u64 && (first || !is_record_dim(dims, id))
 }
 
 /// The padded slabs of the record variables so far, with that of a variable of this shape and type; none where its slab or

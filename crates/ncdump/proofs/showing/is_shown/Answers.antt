@@ -4,7 +4,7 @@ use Rattle.nc_base.specs.Dump.{has_values}
 use Rattle.nc_base.specs.Headers.{IsSoundVar}
 use Rattle.nc_base.specs.Sizes.{is_record_var}
 use Rattle.nc_base.proofs.SoundLaws.{has_values-unless_empty}
-use Rattle.ncdump.proofs.OneVariable.{if-some, all-at}
+use Rattle.nc_base.proofs.Found.{if-some, all-at}
 use Rattle.ncdump.proofs.showing.is_shown.Goals as goal
 
 pub returns-then-is_marked : goal.returns-then-is_marked
