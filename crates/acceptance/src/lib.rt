@@ -20,8 +20,6 @@ mod header_reads;
 #[cfg(test)]
 mod headers;
 #[cfg(test)]
-mod listed_runs;
-#[cfg(test)]
 mod rows;
 #[cfg(test)]
 mod runs;

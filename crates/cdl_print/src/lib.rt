@@ -26,12 +26,3 @@ pub use head::put_head;
 pub use name::put_name;
 pub use printer::ValuePrinter;
 pub use word::Word;
-
-#[cfg(test)]
-mod line_tests;
-#[cfg(test)]
-mod tests;
-#[cfg(test)]
-mod value_rows;
-#[cfg(test)]
-mod value_tests;

@@ -29,6 +29,3 @@ pub use sink::{Sink, put};
 pub use slice::SliceSink;
 pub use source::Source;
 pub use system::SystemFiles;
-
-#[cfg(test)]
-mod tests;

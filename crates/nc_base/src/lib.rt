@@ -38,8 +38,3 @@ pub use sizes::{
 };
 pub use version::Version;
 pub use weights::weight;
-
-#[cfg(test)]
-mod size_tests;
-#[cfg(test)]
-mod tests;

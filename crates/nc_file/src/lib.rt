@@ -17,6 +17,3 @@ pub use devices::{
 };
 pub use head_fault::HeadFault;
 pub use header::read_header;
-
-#[cfg(test)]
-mod device_tests;

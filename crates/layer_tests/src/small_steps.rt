@@ -2,8 +2,11 @@
 
 ghost use Rattle.std.specs.Prelude.{◌<◌, ◌≤◌, length};
 
-use super::*;
+use devices::{
+    DripSource, FailWhen, Sink, SinkFailed, SliceSink, Source, SourceFailed, WriteFailed, put,
+};
 use nc_base::FormatFault;
+use nc_file::{HeadFault, read_header};
 use std::alloc::Global;
 use std::process::Abort;
 use std::test::*;

@@ -1,6 +1,11 @@
+//! Devices in memory, over writers and over files of the system, call by call.
+
 ghost use Rattle.std.specs.Prelude.{None};
 
-use super::*;
+use devices::{
+    FileSource, IoSink, Listed, ListedFile, MemSink, MemSource, OpenFailed, Opener, Sink,
+    SinkFailed, Source, SystemFiles, WriteFailed, put,
+};
 use std::io::{ErrorKind, Write};
 use std::test::*;
 use std::{fs, io};
@@ -57,7 +62,7 @@ struct Failing {
 impl Sink for Failing {
     ghost view = { λ s. record { taken = None; failures = s.failures } };
 
-    #[tactic(auto, unfolding(crate::specs::Sinks::is_transparent, crate::specs::Sinks::HasFailed))]
+    #[tactic(auto, unfolding(devices::specs::Sinks::is_transparent, devices::specs::Sinks::HasFailed))]
     fn write_some(&mut self, bytes: &[u8]) -> Result<usize, SinkFailed> {
         if bytes.is_empty() {
             return Ok(0);

@@ -1,6 +1,6 @@
 //! What the clauses don't say: that the definitions they cite are those of the format.
 
-use crate::{Att, NcType, Sequence, Var, Version, check_name, fill_of, stem};
+use nc_base::{Att, NcType, Sequence, Var, Version, check_name, fill_of, stem};
 use std::alloc::{AllocError, Global};
 use std::test::Fail;
 

@@ -1,4 +1,6 @@
-use super::*;
+//! Names, and the heads of dumps.
+
+use cdl_print::{put_head, put_name};
 use devices::MemSink;
 use nc_base::{Att, Dim, Header, NcType, NumRecs, Sequence, Var, Version};
 use std::alloc::{AllocError, Global};

@@ -1,6 +1,6 @@
 //! Rows of tests: a variable, its values and their text, printed for every cutting into calls and in sinks of every length.
 
-use super::*;
+use cdl_print::ValuePrinter;
 use devices::{Sink, SliceSink, WriteFailed};
 use nc_base::{Att, Dim, Header, NcType, NumRecs, Sequence, Var, Version};
 use std::alloc::{AllocError, Global};
@@ -9,19 +9,19 @@ use std::test::*;
 
 /// A variable, its values and the text that they are to have.
 #[derive(Clone, Copy)]
-pub(crate) struct Row<'a> {
-    pub(crate) name: &'a [u8],
-    pub(crate) ty: NcType,
-    pub(crate) lens: &'a [u64],
-    pub(crate) records: u64,
-    pub(crate) fill: Option<&'a [u8]>,
-    pub(crate) width: usize,
-    pub(crate) bytes: &'a [u8],
-    pub(crate) text: &'a [u8],
+pub struct Row<'a> {
+    pub name: &'a [u8],
+    pub ty: NcType,
+    pub lens: &'a [u64],
+    pub records: u64,
+    pub fill: Option<&'a [u8]>,
+    pub width: usize,
+    pub bytes: &'a [u8],
+    pub text: &'a [u8],
 }
 
 /// A variable with dimensions of these lengths, of which 0 is that of the record dimension, over two records.
-pub(crate) fn row_of<'a>(
+pub fn row_of<'a>(
     name: &'a [u8],
     ty: NcType,
     lens: &'a [u64],
@@ -41,12 +41,12 @@ pub(crate) fn row_of<'a>(
 }
 
 /// The bytes as a sequence.
-pub(crate) fn sequence(alloc: Global, bytes: &[u8]) -> Result<Sequence<u8>, AllocError> {
+pub fn sequence(alloc: Global, bytes: &[u8]) -> Result<Sequence<u8>, AllocError> {
     Ok(Sequence::from_vec(Vec::from_slice(alloc, bytes)?))
 }
 
 /// A header with the variable.
-pub(crate) fn header_of(alloc: Global, row: &Row<'_>) -> Result<Header, AllocError> {
+pub fn header_of(alloc: Global, row: &Row<'_>) -> Result<Header, AllocError> {
     let mut dims = Sequence::new(alloc);
     let mut dimids = Sequence::new(alloc);
     let mut id = 0u64;
@@ -85,17 +85,17 @@ pub(crate) fn header_of(alloc: Global, row: &Row<'_>) -> Result<Header, AllocErr
 }
 
 /// Says whether the values are cut after this one.
-pub(crate) fn is_cut(cuts: u64, value: usize) -> bool {
+pub fn is_cut(cuts: u64, value: usize) -> bool {
     (cuts >> (value % 64) as u32) & 1 == 1
 }
 
 /// Cuts after these two values.
-pub(crate) fn two_cuts(first: u32, second: u32) -> u64 {
+pub fn two_cuts(first: u32, second: u32) -> u64 {
     (1u64 << (first % 64)) | (1u64 << (second % 64))
 }
 
 /// Prints the values, cut where the bits say.
-pub(crate) fn print<W: Sink>(
+pub fn print<W: Sink>(
     rt: &impl Abort,
     header: &Header,
     row: &Row<'_>,
@@ -123,12 +123,12 @@ pub(crate) fn print<W: Sink>(
 }
 
 /// Says whether these are the same bytes.
-pub(crate) fn is_same(bytes: &[u8], text: &[u8]) -> bool {
+pub fn is_same(bytes: &[u8], text: &[u8]) -> bool {
     bytes == text
 }
 
 /// Fails unless this cutting gives the text.
-pub(crate) fn is_shown(rt: &impl Abort, header: &Header, row: &Row<'_>, cuts: u64) {
+pub fn is_shown(rt: &impl Abort, header: &Header, row: &Row<'_>, cuts: u64) {
     let mut into = [0u8; 1200];
     let mut sink = SliceSink::new(&mut into, 1200);
     assert!(rt; print(rt, header, row, cuts, &mut sink).is_ok());
@@ -136,7 +136,7 @@ pub(crate) fn is_shown(rt: &impl Abort, header: &Header, row: &Row<'_>, cuts: u6
 }
 
 /// Fails unless a sink of this length takes the prefix of the text.
-pub(crate) fn is_cut_off(rt: &impl Abort, header: &Header, row: &Row<'_>, len: usize) {
+pub fn is_cut_off(rt: &impl Abort, header: &Header, row: &Row<'_>, len: usize) {
     let mut into = [0u8; 1200];
     assert!(rt; len <= 1200 && len <= row.text.len());
     let mut sink = SliceSink::new(&mut into[..len], 1 + len % 5);
@@ -147,7 +147,7 @@ pub(crate) fn is_cut_off(rt: &impl Abort, header: &Header, row: &Row<'_>, len: u
 
 /// Fails unless each cutting gives the text, and a sink of each length the prefix of it. Of more than 10 values all
 /// cuttings in three are tried, and the one after each value.
-pub(crate) fn shows(rt: &impl Abort, alloc: Global, row: &Row<'_>) -> Result<(), Fail> {
+pub fn shows(rt: &impl Abort, alloc: Global, row: &Row<'_>) -> Result<(), Fail> {
     let header = header_of(alloc, row)?;
     let count = row.bytes.len() as u64 / row.ty.size();
     if count <= 10 {
@@ -168,7 +168,7 @@ pub(crate) fn shows(rt: &impl Abort, alloc: Global, row: &Row<'_>) -> Result<(),
 }
 
 /// Fails unless each of the rows is shown.
-pub(crate) fn show_all(rt: &impl Abort, alloc: Global, rows: &[Row<'_>]) -> Result<(), Fail> {
+pub fn show_all(rt: &impl Abort, alloc: Global, rows: &[Row<'_>]) -> Result<(), Fail> {
     for row in rows {
         shows(rt, alloc, row)?;
     }
@@ -176,11 +176,7 @@ pub(crate) fn show_all(rt: &impl Abort, alloc: Global, rows: &[Row<'_>]) -> Resu
 }
 
 /// Fails unless each of the rows is shown in lines of 20 bytes.
-pub(crate) fn show_all_narrow(
-    rt: &impl Abort,
-    alloc: Global,
-    rows: &[Row<'_>],
-) -> Result<(), Fail> {
+pub fn show_all_narrow(rt: &impl Abort, alloc: Global, rows: &[Row<'_>]) -> Result<(), Fail> {
     for row in rows {
         shows(rt, alloc, &Row { width: 20, ..*row })?;
     }

@@ -1,7 +1,7 @@
 //! Texts of values: characters, fill values, the least and the greatest numbers, and failures.
 
-use crate::printer::ValuePrinter;
 use crate::value_rows::{Row, header_of, row_of, show_all, shows};
+use cdl_print::ValuePrinter;
 use devices::{SliceSink, WriteFailed};
 use nc_base::NcType;
 use std::test::*;

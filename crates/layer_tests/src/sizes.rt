@@ -1,11 +1,9 @@
 //! Sizes of small headers, worked out by hand.
 
-use crate::header::{Att, Dim, Header, NumRecs, Var};
-use crate::nc_type::NcType;
-use crate::sequence::Sequence;
-use crate::sizes::{extent_end, rec_size, records, slab_of};
-use crate::version::Version;
-use crate::weights::weight;
+use nc_base::{
+    Att, Dim, Header, NcType, NumRecs, Sequence, Var, Version, extent_end, rec_size, records,
+    slab_of, weight,
+};
 use std::alloc::{AllocError, Global};
 use std::process::Abort;
 use std::test::Fail;
