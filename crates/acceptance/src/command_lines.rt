@@ -6,6 +6,7 @@ use nc_file::{Listed, ListedFile, SliceSink};
 use ncdump::run_with;
 use std::alloc::Global;
 use std::process::Abort;
+use std::test::Fail;
 
 /// How the program is used.
 const USAGE: &[u8] = b"usage: ncdump [-h] [-c] [-v names] [-n name] [-l width] file\n";
@@ -96,16 +97,23 @@ const NARROW_TEXT: &[u8] =
 
 const WIDE_TEXT: &[u8] =
     b"netcdf other {\ndimensions:\n\tx = 3 ;\nvariables:\n\tint v(x) ;\ndata:\n\n v = 100, 200, 3000 ;\n}\n";
+/// The same file's dump without values.
+const NO_VALUES_TEXT: &[u8] =
+    b"netcdf other {\ndimensions:\n\tx = 3 ;\nvariables:\n\tint v(x) ;\ndata:\n}\n";
 
 #[test]
 fn names_and_widths(rt: HostRuntime) {
-    let rows: [(&[&str], &[u8]); 7] = [
+    let rows: [(&[&str], &[u8]); 8] = [
         (&["ncdump", "-n", "other", "t.nc"], WIDE_TEXT),
         (
             &["ncdump", "-v", "v", "-n", "other", "-l", "20", "t.nc"],
             NARROW_TEXT,
         ),
         (&["ncdump", "t.nc", "-vv", "-nother", "-l=20"], NARROW_TEXT),
+        (
+            &["ncdump", "-c", "-n", "other", "-v", "v", "-l", "20", "--", "t.nc"],
+            NO_VALUES_TEXT,
+        ),
         (&["ncdump", "-nother", "-l0021", "t.nc"], WIDE_TEXT),
         (&["ncdump", "-nother", "-l1000", "t.nc"], WIDE_TEXT),
         (
@@ -203,6 +211,29 @@ fn truncated_data(rt: HostRuntime) {
         line: b"ncdump: t.nc: variable 0: data truncated at value 2\n",
     };
     runs(&rt, rt.alloc(), run);
+}
+
+/// With ample memory no command line is answered with out of memory, whatever its length.
+#[test]
+fn every_number_of_words(rt: HostRuntime) -> Result<(), Fail> {
+    let mut words = Vec::from_slice(rt.alloc(), &["ncdump", "t.nc"])?;
+    for _ in 0..100 {
+        words.push("t.nc")?;
+        refuses(&rt, rt.alloc(), files::GENERATED, words.as_slice(), USAGE);
+    }
+    Ok(())
+}
+
+/// The same of the names of variables.
+#[test]
+fn every_number_of_names(rt: HostRuntime) -> Result<(), Fail> {
+    let mut names = String::from_str(rt.alloc(), "v")?;
+    for _ in 0..1100 {
+        names.push_str(",v")?;
+        let words = ["ncdump", "-nother", "-v", names.as_str(), "t.nc"];
+        writes(&rt, rt.alloc(), files::LONG_LINE, &words, WIDE_TEXT);
+    }
+    Ok(())
 }
 
 /// A run of the program on the smallest file, with room for these numbers of bytes on standard output and standard error.

@@ -11,15 +11,15 @@ use std::alloc::{AllocError, Global};
 use std::process::Abort;
 use std::test::Fail;
 
-/// Dumps through a buffer of 16 bytes, from a source that fails so, and says whether it did. A prefix of the text is written,
-/// and no more is read than the header, the shown values and one buffer.
+/// Dumps through a buffer of 16 bytes, from a source that fails so, and says whether it did. What is written then is nothing,
+/// or the head, whole variables and the values of one up to a value, and little more is read than that.
 fn fails_to_read(rt: &impl Abort, alloc: Global, row: &Row<'_>, step: usize, fail: FailWhen) -> bool
     requires { 1 ≤ step }
 {
     let mut source = DripSource::new(row.bytes, step, fail);
     let mut sink = MemSink::new(alloc);
     let answer = dump(alloc, &mut source, row.options, &mut [0; 16], &mut sink);
-    assert!(rt; source.handed() <= row.shown as u128 + 16);
+    assert!(rt; source.handed() <= row.shown() + 16);
     assert!(rt; row.text.starts_with(sink.as_slice()));
     match answer {
         Ok(()) => {
@@ -28,6 +28,7 @@ fn fails_to_read(rt: &impl Abort, alloc: Global, row: &Row<'_>, step: usize, fai
         }
         Err(fault) => {
             assert!(rt; fault == DumpFault::ReadFailed);
+            assert!(rt; row.may_stop_reading(sink.as_slice().len(), source.handed()));
             true
         }
     }
@@ -60,9 +61,10 @@ fn fails_to_write(
     let mut sink = SliceSink::new(into.as_mut_slice(), step);
     let mut source = DripSource::new(row.bytes, step, FailWhen::Never);
     let answer = dump(alloc, &mut source, row.options, &mut [0; 16], &mut sink);
-    assert!(rt; source.handed() <= row.shown as u128 + 16);
+    assert!(rt; source.handed() <= row.shown() + 16);
     if room < row.text.len() {
         assert!(rt; answer == Err(DumpFault::WriteFailed));
+        assert!(rt; row.may_stop_writing(room, source.handed()));
         assert!(rt; is_same(sink.taken(), &row.text[..room]));
     } else {
         assert!(rt; answer == Ok(()));

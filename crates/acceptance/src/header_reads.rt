@@ -80,6 +80,16 @@ fn reads_variables(
     Ok(())
 }
 
+/// With ample memory no header is answered with out of memory, whatever its size.
+#[test]
+fn every_number_of_variables(rt: HostRuntime) -> Result<(), Fail> {
+    for count in 0..200 {
+        let bytes = many_variables(rt.alloc(), count)?;
+        reads_variables(&rt, rt.alloc(), bytes.as_slice(), count as usize)?;
+    }
+    Ok(())
+}
+
 #[test]
 fn twenty_thousand_variables(rt: HostRuntime) -> Result<(), Fail> {
     let bytes = many_variables(rt.alloc(), 20_000)?;

@@ -8,6 +8,8 @@ mod chunks;
 #[cfg(test)]
 mod command_lines;
 #[cfg(test)]
+mod cut_sources;
+#[cfg(test)]
 mod dumps;
 #[cfg(test)]
 mod failures;

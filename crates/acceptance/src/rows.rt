@@ -3,13 +3,52 @@
 use crate::files;
 use ncdump::DumpOptions;
 
-/// A dump: the file, what to show of it, the text, and how many bytes of the header and of shown values there are.
+/// A dump: the file with its header's length, what to show of it, the text, and the stops on the way to its end.
 #[derive(Clone, Copy)]
 pub struct Row<'a> {
     pub bytes: &'a [u8],
+    pub header_len: u64,
     pub options: &'a DumpOptions,
     pub text: &'a [u8],
-    pub shown: u64,
+    pub stops: &'a [Stop<'a>],
+}
+
+/// Where a dump is between two values, or before or after all of a variable: the part of the text that is still to come, and
+/// the bytes of the values that have been read. NULs that wait for the value after them have been read.
+pub type Stop<'a> = (&'a [u8], u64);
+
+impl Row<'_> {
+    /// How many bytes of the header and of values there are.
+    pub fn shown(&self) -> u128 {
+        let last = self.stops.last();
+        let values = last.map_or(0, |stop| stop.1);
+        self.header_len as u128 + values as u128
+    }
+
+    /// Says whether reading may fail here: in the header, with nothing written, or at a stop. No more was read than the
+    /// header, the values before the stop, and twice what the buffer of 16 bytes has.
+    pub fn may_stop_reading(&self, written: usize, handed: u128) -> bool {
+        let header = self.header_len as u128 + 16;
+        if written == 0 {
+            return handed <= header;
+        }
+        let is_here = |stop: &Stop<'_>| {
+            self.text.len().checked_sub(stop.0.len()) == Some(written)
+                && handed <= header + 16 + stop.1 as u128
+        };
+        self.stops.iter().any(is_here)
+    }
+
+    /// Says whether writing may fail here: no more was read than the header and a buffer, or the values before a stop that
+    /// has been passed, and another buffer.
+    pub fn may_stop_writing(&self, written: usize, handed: u128) -> bool {
+        let header = self.header_len as u128 + 16;
+        let is_passed = |stop: &Stop<'_>| {
+            self.text.len() <= written.saturating_add(stop.0.len())
+                && handed <= header + 16 + stop.1 as u128
+        };
+        handed <= header || self.stops.iter().any(is_passed)
+    }
 }
 
 /// Says whether these are the same bytes.
@@ -29,13 +68,67 @@ pub const SELECTION_TEXT: &[u8] =
 pub const COORDINATES_TEXT: &[u8] =
     b"netcdf t {\ndimensions:\n\tx = 2 ;\nvariables:\n\tint x(x) ;\n\tint y(x) ;\ndata:\n}\n";
 
+/// The stops in the list of three shorts.
+const SHORTS_STOPS: &[Stop<'static>] = &[
+    (b" 1, _, 3 ;\n}\n", 0),
+    (b", _, 3 ;\n}\n", 2),
+    (b", 3 ;\n}\n", 4),
+    (b" ;\n}\n", 6),
+];
+
+/// The stops in the rows of eight ints.
+const INTS_STOPS: &[Stop<'static>] = &[
+    (b"\n  1, 2,\n  3, 4,\n  5, 6,\n  7, 8 ;\n}\n", 0),
+    (b", 2,\n  3, 4,\n  5, 6,\n  7, 8 ;\n}\n", 4),
+    (b",\n  3, 4,\n  5, 6,\n  7, 8 ;\n}\n", 8),
+    (b", 4,\n  5, 6,\n  7, 8 ;\n}\n", 12),
+    (b",\n  5, 6,\n  7, 8 ;\n}\n", 16),
+    (b", 6,\n  7, 8 ;\n}\n", 20),
+    (b",\n  7, 8 ;\n}\n", 24),
+    (b", 8 ;\n}\n", 28),
+    (b" ;\n}\n", 32),
+];
+
+/// The stops in the lists of three bytes and of three shorts.
+const RECORDS_STOPS: &[Stop<'static>] = &[
+    (b" 1, 2, 3 ;\n\n s = 4, 5, 6 ;\n}\n", 0),
+    (b", 2, 3 ;\n\n s = 4, 5, 6 ;\n}\n", 1),
+    (b", 3 ;\n\n s = 4, 5, 6 ;\n}\n", 2),
+    (b" ;\n\n s = 4, 5, 6 ;\n}\n", 3),
+    (b" 4, 5, 6 ;\n}\n", 3),
+    (b", 5, 6 ;\n}\n", 5),
+    (b", 6 ;\n}\n", 7),
+    (b" ;\n}\n", 9),
+];
+
+/// The stops in five characters, of which two are NULs.
+const NULS_STOPS: &[Stop<'static>] = &[
+    (b" \"a\\000\\000b\" ;\n}\n", 0),
+    (b"\\000\\000b\" ;\n}\n", 3),
+    (b"\" ;\n}\n", 5),
+];
+
+/// The stops in twenty characters, of which eighteen are NULs.
+const MANY_NULS_STOPS: &[Stop<'static>] = &[
+    (
+        b" \"a\\000\\000\\000\\000\\000\\000\\000\\000\\000\\000\\000\\000\\000\\000\\000\\000\\000\\000b\" ;\n}\n",
+        0,
+    ),
+    (
+        b"\\000\\000\\000\\000\\000\\000\\000\\000\\000\\000\\000\\000\\000\\000\\000\\000\\000\\000b\" ;\n}\n",
+        19,
+    ),
+    (b"\" ;\n}\n", 20),
+];
+
 /// A variable of three shorts, one of them missing.
 pub fn one_variable<'a>(all: &'a DumpOptions) -> Row<'a> {
     Row {
         bytes: files::GENERATED,
+        header_len: 80,
         options: all,
         text: GENERATED_TEXT,
-        shown: 80 + 6,
+        stops: SHORTS_STOPS,
     }
 }
 
@@ -43,9 +136,10 @@ pub fn one_variable<'a>(all: &'a DumpOptions) -> Row<'a> {
 pub fn one_variable_of_version_5<'a>(all: &'a DumpOptions) -> Row<'a> {
     Row {
         bytes: files::GENERATED_CDF5,
+        header_len: 128,
         options: all,
         text: GENERATED_TEXT,
-        shown: 128 + 6,
+        stops: SHORTS_STOPS,
     }
 }
 
@@ -53,9 +147,10 @@ pub fn one_variable_of_version_5<'a>(all: &'a DumpOptions) -> Row<'a> {
 pub fn rank_three<'a>(chosen: &'a DumpOptions) -> Row<'a> {
     Row {
         bytes: files::THREE_VARIABLES,
+        header_len: 180,
         options: chosen,
         text: SELECTION_TEXT,
-        shown: 180 + 32,
+        stops: INTS_STOPS,
     }
 }
 
@@ -63,9 +158,10 @@ pub fn rank_three<'a>(chosen: &'a DumpOptions) -> Row<'a> {
 pub fn padded_records<'a>(all: &'a DumpOptions) -> Row<'a> {
     Row {
         bytes: files::PADDED_RECORDS,
+        header_len: 116,
         options: all,
         text: b"netcdf t {\ndimensions:\n\tt = UNLIMITED ; // (3 currently)\nvariables:\n\tbyte b(t) ;\n\tshort s(t) ;\ndata:\n\n b = 1, 2, 3 ;\n\n s = 4, 5, 6 ;\n}\n",
-        shown: 116 + 9,
+        stops: RECORDS_STOPS,
     }
 }
 
@@ -73,9 +169,10 @@ pub fn padded_records<'a>(all: &'a DumpOptions) -> Row<'a> {
 pub fn nuls_in_a_row<'a>(all: &'a DumpOptions) -> Row<'a> {
     Row {
         bytes: files::HELD_NULS,
+        header_len: 80,
         options: all,
         text: b"netcdf t {\ndimensions:\n\tx = 5 ;\nvariables:\n\tchar c(x) ;\ndata:\n\n c = \"a\\000\\000b\" ;\n}\n",
-        shown: 80 + 5,
+        stops: NULS_STOPS,
     }
 }
 
@@ -83,9 +180,10 @@ pub fn nuls_in_a_row<'a>(all: &'a DumpOptions) -> Row<'a> {
 pub fn many_nuls_in_a_row<'a>(all: &'a DumpOptions) -> Row<'a> {
     Row {
         bytes: files::MANY_HELD_NULS,
+        header_len: 80,
         options: all,
         text: b"netcdf t {\ndimensions:\n\tx = 20 ;\nvariables:\n\tchar c(x) ;\ndata:\n\n c = \"a\\000\\000\\000\\000\\000\\000\\000\\000\\000\\000\\000\\000\\000\\000\\000\\000\\000\\000b\" ;\n}\n",
-        shown: 80 + 20,
+        stops: MANY_NULS_STOPS,
     }
 }
 
@@ -93,9 +191,10 @@ pub fn many_nuls_in_a_row<'a>(all: &'a DumpOptions) -> Row<'a> {
 pub fn text_attribute<'a>(all: &'a DumpOptions) -> Row<'a> {
     Row {
         bytes: files::TEXT_ATTRIBUTE,
+        header_len: 52,
         options: all,
         text: b"netcdf t {\n\n// global attributes:\n\t\t:note = \"a\\n\",\n\t\t\t\"b\\n\" ;\n}\n",
-        shown: 52,
+        stops: &[],
     }
 }
 
@@ -103,8 +202,9 @@ pub fn text_attribute<'a>(all: &'a DumpOptions) -> Row<'a> {
 pub fn hidden_variable<'a>(chosen: &'a DumpOptions) -> Row<'a> {
     Row {
         bytes: files::COORDINATES,
+        header_len: 116,
         options: chosen,
         text: COORDINATES_TEXT,
-        shown: 116,
+        stops: &[],
     }
 }
