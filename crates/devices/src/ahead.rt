@@ -57,7 +57,7 @@ impl<S: Source> ReadAhead<S> {
         }
         let from = (at - self.at) as usize;
         let n = into.len().min(self.len - from);
-        into[..n].copy_from_slice(&self.stretch[from..from + n]);
+        copy_bytes(&mut into[..n], &self.stretch[from..from + n]);
         n
     }
 
@@ -125,6 +125,45 @@ impl<S: Source> ReadAhead<S> {
             }
         }
     }
+}
+
+/// Copies all bytes of a slice over another one.
+// Most values have four bytes, and values of interleaved variables are read one by one: these bytes are moved by one load and one
+// store, and without a call.
+#[inline(always)]
+fn copy_bytes(into: &mut [u8], from: &[u8])
+    requires { length into.old ≡ length from.now }
+    ensures { into.new ≡ from.now }
+{
+    if from.len() == 4 {
+        copy_four(into, from);
+    } else {
+        copy_many(into, from);
+    }
+}
+
+/// Copies four bytes over four others.
+#[inline(always)]
+fn copy_four(into: &mut [u8], from: &[u8])
+    requires into { length into.old ≡ 4 }
+    requires from { length from.now ≡ 4 }
+    ensures { into.new ≡ from.now }
+{
+    let [a, b, c, d] = [from[0], from[1], from[2], from[3]];
+    into[0] = a;
+    into[1] = b;
+    into[2] = c;
+    into[3] = d;
+}
+
+/// Copies any number of bytes over as many others.
+// Inside of a caller's loop, the test for slices that overlap would be prepared anew for each read.
+#[inline(never)]
+fn copy_many(into: &mut [u8], from: &[u8])
+    requires { length into.old ≡ length from.now }
+    ensures { into.new ≡ from.now }
+{
+    into.copy_from_slice(from);
 }
 
 /// Reads into the first bytes of the slice, as many as are wanted at most.
