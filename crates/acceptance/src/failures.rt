@@ -19,7 +19,7 @@ fn fails_to_read(rt: &impl Abort, alloc: Global, row: &Row<'_>, step: usize, fai
     let mut source = DripSource::new(row.bytes, step, fail);
     let mut sink = MemSink::new(alloc);
     let answer = dump(alloc, &mut source, row.options, &mut [0; 16], &mut sink);
-    assert!(rt; source.handed() <= row.shown() + 16);
+    assert!(rt; source.handed() <= row.most_read());
     assert!(rt; row.text.starts_with(sink.as_slice()));
     match answer {
         Ok(()) => {
@@ -61,7 +61,7 @@ fn fails_to_write(
     let mut sink = SliceSink::new(into.as_mut_slice(), step);
     let mut source = DripSource::new(row.bytes, step, FailWhen::Never);
     let answer = dump(alloc, &mut source, row.options, &mut [0; 16], &mut sink);
-    assert!(rt; source.handed() <= row.shown() + 16);
+    assert!(rt; source.handed() <= row.most_read());
     if room < row.text.len() {
         assert!(rt; answer == Err(DumpFault::WriteFailed));
         assert!(rt; row.may_stop_writing(room, source.handed()));

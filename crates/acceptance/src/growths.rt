@@ -15,7 +15,7 @@ fn dumps(rt: &impl Abort, alloc: Global, row: &Row<'_>) -> Result<(), AllocError
     let mut sink = SliceSink::new(&mut into, 7);
     let mut source = DripSource::new(row.bytes, 7, FailWhen::Never);
     let answer = dump(alloc, &mut source, row.options, &mut [0; 16], &mut sink);
-    assert!(rt; source.handed() <= row.shown() + 16);
+    assert!(rt; source.handed() <= row.most_read());
     if answer == Err(DumpFault::OutOfMemory) {
         assert!(rt; sink.taken().is_empty());
         return Err(AllocError);

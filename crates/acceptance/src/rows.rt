@@ -18,11 +18,10 @@ pub struct Row<'a> {
 pub type Stop<'a> = (&'a [u8], u64);
 
 impl Row<'_> {
-    /// How many bytes of the header and of values there are.
-    pub fn shown(&self) -> u128 {
-        let last = self.stops.last();
-        let values = last.map_or(0, |stop| stop.1);
-        self.header_len as u128 + values as u128
+    /// How many bytes a dump may read at most through a buffer of 16 bytes: the header, one buffer, and the values.
+    pub fn most_read(&self) -> u128 {
+        let values = self.stops.last().map_or(0, |stop| stop.1);
+        self.header_len as u128 + 16 + values as u128
     }
 
     /// Says whether reading may fail here: in the header, with nothing written, or at a stop. No more was read than the

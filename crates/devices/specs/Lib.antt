@@ -5,3 +5,4 @@ pub mod Slice
 pub mod Memory
 pub mod Openers
 pub mod Listed
+pub mod Ahead

@@ -1,75 +1,205 @@
-//! Bytes of a file that are read ahead.
+//! Reading ahead.
 
-ghost use Rattle.std.specs.Prelude.{◌≡◌, ◌≤◌, ◌-◌, IfOk, OnOk, OnErr, length, take, drop};
+ghost use Rattle.std.specs.Prelude.{◌≡◌, ◌<◌, ◌≤◌, ◌+◌, ◌^◌, IfOk, true, length, take, drop};
+ghost use Rattle.devices.specs.Sources.{ReadSome};
+ghost use Rattle.devices.specs.Ahead.{Answers};
 
-use std::fs::File;
-use std::io;
-use std::os::unix::fs::FileExt;
+use crate::{Source, SourceFailed};
 
-/// How many bytes are read ahead at most: 16 KiB. A read of this length takes little longer than one of a few.
-pub(crate) const AHEAD_LEN: usize = 16384;
+/// How many bytes are read ahead at most: 64 KiB.
+const MOST_AHEAD: usize = 65536;
 
-/// The bytes of a file from one place on that were read ahead.
+/// How many bytes are read ahead after a jump: 4 KiB.
+const LEAST_AHEAD: usize = 4096;
+
+/// A source of the bytes of another source, which it reads in stretches: a read of few bytes is one from the stretch that was
+/// read last, so that reads which lie near each other take few of the other source's.
+///
+/// Stretches grow as long as each begins near the end of the one before. A read that fails is not tried again.
 #[derive(Drop)]
-pub(crate) struct Ahead {
-    bytes: [u8; 16384],
+pub struct ReadAhead<S: Source> {
+    source: S,
+    /// The stretch that was read last, in the first `len` bytes.
+    stretch: [u8; 65536],
+    /// The offset of the stretch.
     at: u64,
     len: usize,
-    ghost within: { len ≤ 16384 },
+    failures: u128,
+    handed: u128,
+    ghost within: { len ≤ 65536 },
+    ghost stands: { S.is_transparent ≡ true → take len stretch ≡ take len (drop at (S.view source).bytes) },
 }
 
-impl Ahead {
-    /// No bytes.
-    pub(crate) fn new() -> Ahead {
-        Ahead {
-            bytes: [0; 16384],
+impl<S: Source> ReadAhead<S> {
+    /// A source of the bytes of this one, of which it has read none.
+    pub fn new(source: S) -> ReadAhead<S>
+        ensures { ⟦<ReadAhead<S> as Source>⟧.view result ≡ record { bytes = (S.view source).bytes; failures = 0; handed = 0 } }
+    {
+        ReadAhead {
+            source,
+            stretch: [0; 65536],
             at: 0,
             len: 0,
+            failures: 0,
+            handed: 0,
         }
     }
 
     /// Copies the bytes from the offset `at` on to the start of `into`, as many as there are and fit, and gives their
     /// number: 0 where the byte at this offset wasn't read ahead.
-    // Inside of a caller's loop, the test for slices that overlap would be prepared anew for each read.
-    #[inline(never)]
-    pub(crate) fn copy(&self, at: u64, into: &mut [u8]) -> usize
+    fn copy(&self, at: u64, into: &mut [u8]) -> usize
         ensures within { result ≤ length into.old }
-        ensures bytes { take result into.new ≡ take result (drop (at - self.now.at) self.now.bytes) }
+        ensures bytes { S.is_transparent ≡ true → take result into.new ≡ take result (drop at (S.view self.now.source).bytes) }
+        ensures some { 0 < length into.old → at ≡ self.now.at → 0 < self.now.len → 0 < result }
     {
         if at < self.at || self.len as u64 <= at - self.at {
             return 0;
         }
         let from = (at - self.at) as usize;
         let n = into.len().min(self.len - from);
-        into[..n].copy_from_slice(&self.bytes[from..from + n]);
+        copy_bytes(&mut into[..n], &self.stretch[from..from + n]);
         n
     }
 
-    /// Reads from the offset `at` on, in place of the bytes before. Where the file fails, no bytes are left.
-    pub(crate) fn read(&mut self, file: &File, at: u64) -> io::Result<()>
-        ensures ok { OnOk result (self.new.at ≡ at) }
-        ensures err { OnErr result (self.new.len ≡ 0) }
+    /// How many bytes to read ahead from the offset `at` on: twice as many as before, where that is near the end of the stretch.
+    fn next_len(&self, at: u64) -> usize
+        ensures some { 0 < result }
+        ensures within { result ≤ 65536 }
     {
+        let is_near = self.at <= at && at - self.at < 2 * self.len as u64;
+        if is_near {
+            (2 * self.len).clamp(LEAST_AHEAD, MOST_AHEAD)
+        } else {
+            LEAST_AHEAD
+        }
+    }
+
+    /// Reads a stretch from the offset `at` on, in place of the one before. Where the source fails, there is none.
+    fn refill(&mut self, at: u64) -> Result<(), SourceFailed>
+        requires { at < length (S.view self.old.source).bytes }
+        ensures bytes { (S.view self.new.source).bytes ≡ (S.view self.old.source).bytes }
+        ensures counts { (self.new.failures ≡ self.old.failures) × (self.new.handed ≡ self.old.handed) }
+        ensures place { self.new.at ≡ at }
+        ensures some { S.is_transparent ≡ true → IfOk result (λ _. 0 < self.new.len) }
+    {
+        let wanted = self.next_len(at);
         self.len = 0;
-        self.len = file.read_at(&mut self.bytes, at)?;
         self.at = at;
+        self.len = read_first(&mut self.source, at, wanted, &mut self.stretch)?;
         Ok(())
+    }
+
+    /// Reads bytes that weren't read ahead from the offset `at` on, and gives their number. In place of a few bytes a stretch
+    /// is read, and the first of them copied.
+    fn read_some(&mut self, at: u64, into: &mut [u8]) -> Result<usize, SourceFailed>
+        requires room { 0 < length into.old }
+        requires inside { at < length (S.view self.old.source).bytes }
+        ensures bytes { (S.view self.new.source).bytes ≡ (S.view self.old.source).bytes }
+        ensures counts { (self.new.failures ≡ self.old.failures) × (self.new.handed ≡ self.old.handed) }
+        ensures answers { IfOk result (λ n. Answers S.is_transparent (S.view self.old.source).bytes at into.new n) }
+    {
+        if MOST_AHEAD <= into.len() {
+            return self.source.read_at(at, into);
+        }
+        self.refill(at)?;
+        Ok(self.copy(at, into))
+    }
+
+    /// Reads bytes that weren't read ahead, and counts.
+    #[inline(never)]
+    #[tactic(auto, unfolding(crate::specs::Sources::HasFailed))]
+    fn read_on(&mut self, at: u64, into: &mut [u8]) -> Result<usize, SourceFailed>
+        requires room { 0 < length into.old }
+        requires inside { at < length (S.view self.old.source).bytes }
+        requires counted { self.old.handed + length into.old < 2 ^ 128 }
+        ensures { ReadSome S.is_transparent (⟦<ReadAhead<S> as Source>⟧.view self.old) (⟦<ReadAhead<S> as Source>⟧.view self.new) at into.old into.new result }
+    {
+        match self.read_some(at, into) {
+            Ok(n) => {
+                self.handed += n as u128;
+                Ok(n)
+            }
+            Err(failure) => {
+                self.failures = self.failures.saturating_add(1);
+                Err(failure)
+            }
+        }
     }
 }
 
-/// Reads bytes from the offset `at` on to the start of `into`, and gives their number. In place of a few bytes as many are
-/// read as are read ahead, and the first of them copied.
-pub(crate) fn read_some(
-    file: &File,
-    ahead: &mut Ahead,
-    at: u64,
-    into: &mut [u8],
-) -> io::Result<usize>
-    ensures { IfOk result (λ n. n ≤ length into.old) }
+/// Copies all bytes of a slice over another one.
+// Most values have four bytes, and values of interleaved variables are read one by one: these bytes are moved by one load and one
+// store, and without a call.
+#[inline(always)]
+fn copy_bytes(into: &mut [u8], from: &[u8])
+    requires { length into.old ≡ length from.now }
+    ensures { into.new ≡ from.now }
 {
-    if AHEAD_LEN <= into.len() {
-        return file.read_at(into, at);
+    if from.len() == 4 {
+        copy_four(into, from);
+    } else {
+        copy_many(into, from);
     }
-    ahead.read(file, at)?;
-    Ok(ahead.copy(at, into))
+}
+
+/// Copies four bytes over four others.
+#[inline(always)]
+fn copy_four(into: &mut [u8], from: &[u8])
+    requires into { length into.old ≡ 4 }
+    requires from { length from.now ≡ 4 }
+    ensures { into.new ≡ from.now }
+{
+    let [a, b, c, d] = [from[0], from[1], from[2], from[3]];
+    into[0] = a;
+    into[1] = b;
+    into[2] = c;
+    into[3] = d;
+}
+
+/// Copies any number of bytes over as many others.
+// Inside of a caller's loop, the test for slices that overlap would be prepared anew for each read.
+#[inline(never)]
+fn copy_many(into: &mut [u8], from: &[u8])
+    requires { length into.old ≡ length from.now }
+    ensures { into.new ≡ from.now }
+{
+    into.copy_from_slice(from);
+}
+
+/// Reads into the first bytes of the slice, as many as are wanted at most.
+fn read_first<S: Source>(
+    source: &mut S,
+    at: u64,
+    wanted: usize,
+    into: &mut [u8],
+) -> Result<usize, SourceFailed>
+    requires some { 0 < wanted }
+    requires within { wanted ≤ length into.old }
+    requires inside { at < length (S.view source.old).bytes }
+    ensures { ReadSome S.is_transparent (S.view source.old) (S.view source.new) at into.old into.new result }
+{
+    source.read_at(at, &mut into[..wanted])
+}
+
+impl<S: Source> Source for ReadAhead<S> {
+    ghost is_transparent = { S.is_transparent };
+
+    ghost view = { λ s. record { bytes = (S.view s.source).bytes; failures = s.failures; handed = s.handed } };
+
+    fn len(&self) -> u64 {
+        self.source.len()
+    }
+
+    #[tactic(auto, unfolding(crate::specs::Sources::HasFailed))]
+    fn read_at(&mut self, at: u64, into: &mut [u8]) -> Result<usize, SourceFailed> {
+        if u128::MAX - self.handed < into.len() as u128 {
+            return Err(SourceFailed);
+        }
+        let n = self.copy(at, into);
+        if 0 < n {
+            self.handed += n as u128;
+            return Ok(n);
+        }
+        self.read_on(at, into)
+    }
 }

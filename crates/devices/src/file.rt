@@ -2,27 +2,22 @@
 
 ghost use Rattle.std.specs.Prelude.{◌≡◌, ◌+◌, ◌^◌, ◌-◌, ◌<◌, [], false, length, min, replicate, IfOk, IsErr};
 ghost use Rattle.devices.specs.Sinks.{Wrote};
-ghost use Rattle.devices.specs.Sources.{ReadSome};
 
-use crate::ahead::{Ahead, read_some};
+use crate::ahead::ReadAhead;
 use crate::{OpenFailed, Sink, SinkFailed, Source, SourceFailed};
 use std::fs::File;
 use std::io::{ErrorKind, Write};
+use std::os::unix::fs::FileExt;
 use std::rt::Files;
 use std::{fs, io};
 
 /// A source over a file of the system, which is opaque.
 ///
-/// Its length is the file's at the time when it was opened. A read of few bytes is one from a stretch of the file that
-/// is read ahead, so that reads which lie near each other take few calls of the system. A call that fails is not tried
-/// again.
+/// Its length is the file's at the time when it was opened. It reads stretches of the file ahead, so that reads which lie
+/// near each other take few calls of the system. A call that fails is not tried again.
 #[derive(Drop)]
 pub struct FileSource {
-    file: File,
-    ahead: Ahead,
-    len: u64,
-    failures: u128,
-    handed: u128,
+    ahead: ReadAhead<OpenFile>,
 }
 
 impl FileSource {
@@ -42,36 +37,42 @@ impl FileSource {
         }
         let file = File::open(rt, path).map_err(|_| OpenFailed)?;
         let metadata = file.metadata().map_err(|_| OpenFailed)?;
-        Ok(FileSource {
+        let source = OpenFile {
             file,
-            ahead: Ahead::new(),
             len: metadata.len(),
             failures: 0,
             handed: 0,
+        };
+        Ok(FileSource {
+            ahead: ReadAhead::new(source),
         })
-    }
-
-    /// Reads bytes that weren't read ahead.
-    #[inline(never)]
-    #[tactic(auto, unfolding(crate::specs::Sources::HasFailed))]
-    fn read_on(&mut self, at: u64, into: &mut [u8]) -> Result<usize, SourceFailed>
-        requires { self.old.handed + length into.old < 2 ^ 128 }
-        ensures { ReadSome false (⟦<FileSource as Source>⟧.view self.old) (⟦<FileSource as Source>⟧.view self.new) at into.old into.new result }
-    {
-        match read_some(&self.file, &mut self.ahead, at, into) {
-            Ok(read) => {
-                self.handed += read as u128;
-                Ok(read)
-            }
-            Err(_) => {
-                self.failures = self.failures.saturating_add(1);
-                Err(SourceFailed)
-            }
-        }
     }
 }
 
 impl Source for FileSource {
+    ghost is_transparent = { false };
+
+    ghost view = { λ s. ⟦<ReadAhead<OpenFile> as Source>⟧.view s.ahead };
+
+    fn len(&self) -> u64 {
+        self.ahead.len()
+    }
+
+    fn read_at(&mut self, at: u64, into: &mut [u8]) -> Result<usize, SourceFailed> {
+        self.ahead.read_at(at, into)
+    }
+}
+
+/// A file of the system that was opened, with its length at that time. Each read is a call of the system.
+#[derive(Drop)]
+struct OpenFile {
+    file: File,
+    len: u64,
+    failures: u128,
+    handed: u128,
+}
+
+impl Source for OpenFile {
     ghost is_transparent = { false };
 
     ghost view = { λ s. record { bytes = replicate s.len 0; failures = s.failures; handed = s.handed } };
@@ -85,12 +86,16 @@ impl Source for FileSource {
         if u128::MAX - self.handed < into.len() as u128 {
             return Err(SourceFailed);
         }
-        let n = self.ahead.copy(at, into);
-        if 0 < n {
-            self.handed += n as u128;
-            return Ok(n);
+        match self.file.read_at(into, at) {
+            Ok(n) => {
+                self.handed += n as u128;
+                Ok(n)
+            }
+            Err(_) => {
+                self.failures = self.failures.saturating_add(1);
+                Err(SourceFailed)
+            }
         }
-        self.read_on(at, into)
     }
 }
 

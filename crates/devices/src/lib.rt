@@ -19,6 +19,7 @@ mod slice;
 mod source;
 mod system;
 
+pub use ahead::ReadAhead;
 pub use drip::{DripSource, FailWhen};
 pub use fault::{OpenFailed, SinkFailed, SourceFailed, WriteFailed};
 pub use file::{FileSource, IoSink};

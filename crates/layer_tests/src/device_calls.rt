@@ -3,8 +3,8 @@
 ghost use Rattle.std.specs.Prelude.{None};
 
 use devices::{
-    FileSource, IoSink, Listed, ListedFile, MemSink, MemSource, OpenFailed, Opener, Sink,
-    SinkFailed, Source, SystemFiles, WriteFailed, put,
+    DripSource, FailWhen, FileSource, IoSink, Listed, ListedFile, MemSink, MemSource, OpenFailed,
+    Opener, ReadAhead, Sink, SinkFailed, Source, SourceFailed, SystemFiles, WriteFailed, put,
 };
 use std::io::{ErrorKind, Write};
 use std::test::*;
@@ -164,6 +164,26 @@ fn file_hands_over_its_bytes(rt: HostRuntime) -> Result<(), Fail> {
         assert!(rt; into.starts_with(want), "at {at}");
     }
     Ok(())
+}
+
+#[test]
+fn stretches_are_read_again_after_a_failure(rt: HostRuntime) {
+    let mut source = ReadAhead::new(DripSource::new(b"abcdefg", 3, FailWhen::Read(1)));
+    assert_eq!(rt; source.len(), 7);
+    let rows: [(u64, Result<usize, SourceFailed>, &[u8]); 6] = [
+        (1, Ok(2), b"bc"),
+        (2, Ok(2), b"cd"),
+        (0, Err(SourceFailed), b""),
+        (0, Ok(2), b"ab"),
+        (2, Ok(1), b"c"),
+        (6, Ok(1), b"g"),
+    ];
+    for (at, answer, want) in rows {
+        let mut into = [0u8; 2];
+        assert!(rt; at < source.len());
+        assert_eq!(rt; source.read_at(at, &mut into), answer, "at {at}");
+        assert!(rt; into.starts_with(want), "at {at}");
+    }
 }
 
 #[test]

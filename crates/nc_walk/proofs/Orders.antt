@@ -12,7 +12,7 @@ use Rattle.nc_base.specs.Sizes.{product, is_record_var, slab_lens, record_size}
 use Rattle.nc_base.specs.Headers.{value_count}
 use Rattle.nc_base.specs.Places.{vectors_below, slab_strides, distance, value_offset, value_offsets, lens_over}
 use Rattle.nc_walk.specs.declared.slabs.Slabs.{Slabs}
-use Rattle.nc_walk.specs.Slabs.{total, offset, offsets_from, offsets_after, slabs_of, AreSlabsOf}
+use Rattle.nc_walk.specs.Slabs.{total, offset, offsets_from, slabs_of, AreSlabsOf}
 use Rattle.nc_walk.specs.Walks.{Starts, standing}
 use Rattle.nc_base.proofs.WholeValues.{map-map}
 use Rattle.nc_walk.proofs.Runs.{offset_at}
@@ -39,7 +39,7 @@ distance_at size (n ∷ ns) i lt =
     let e : i / p * (size * p) + i % p * size ≡ (i / p * p + i % p) * size = omega arith in
     ap (λ (k : ℕ). i / p * (size * p) + k) (distance_at size ns (i % p) below) ∙ e ∙ ap (λ (k : ℕ). k * size) (div-add-mod' i p)
 
-at_first : (l : Slabs) (i : ℕ) → i < l.values_per_slab → offset l i ≡ l.begin + i * l.size
+pub at_first : (l : Slabs) (i : ℕ) → i < l.values_per_slab → offset l i ≡ l.begin + i * l.size
 at_first l i lt =
     let e : i ≡ 0 * l.values_per_slab + i = omega arith in
     let f : l.begin + 0 * l.stride + i * l.size ≡ l.begin + i * l.size = omega arith in
@@ -74,7 +74,7 @@ value_offset_at h var n i lt = shaped_at var.begin_at (size_of var.ty) (record_s
 
 -- ---- all index vectors, in order
 
-shifted : {A : Type 0} (f g : ℕ → A) (a k n : ℕ) → ((q : ℕ) → q < k + n → f q ≡ g (a + q)) → map f (range_with_len k n) ≡ map g (range_with_len (a + k) n)
+pub shifted : {A : Type 0} (f g : ℕ → A) (a k n : ℕ) → ((q : ℕ) → q < k + n → f q ≡ g (a + q)) → map f (range_with_len k n) ≡ map g (range_with_len (a + k) n)
 shifted f g a k zero same = refl
 shifted f g a k (suc n) same =
     let next : a + k + 1 ≡ a + (k + 1) = omega arith in
@@ -136,17 +136,13 @@ count_of_offsets h var n =
 
 -- a walk over the slabs of a variable starts at its first value
 pub starts : (h : Header) (v n : ℕ) (l : Slabs) (buf : List ℕ) → AreSlabsOf h v n l → Starts h v n (length buf) (standing l 0 buf)
-starts h v n l buf slabs =
-    let all : total (slabs_of h slabs.var n) - 0 ≡ total (slabs_of h slabs.var n) = omega arith in
-    let left : offsets_after l 0 ≡ value_offsets h slabs.var n =
-    ap (λ (k : Slabs). offsets_after k 0) slabs.is ∙ ap (offsets_from (slabs_of h slabs.var n) 0) all ∙ offsets_in_order h slabs.var n in
-    record {
-      var = slabs.var;
-      at = slabs.at;
-      size = ap (λ (k : Slabs). k.size) slabs.is;
-      left = left;
-      count = ap (λ (xs : List ℕ). length xs) left ∙ count_of_offsets h slabs.var n;
-      done = refl;
-      fault = refl;
-      capacity = refl;
-    }
+starts h v n l buf slabs = record {
+  var = slabs.var;
+  at = slabs.at;
+  size = slabs.size;
+  left = slabs.offsets;
+  count = ap (λ (xs : List ℕ). length xs) slabs.offsets ∙ count_of_offsets h slabs.var n;
+  done = refl;
+  fault = refl;
+  capacity = refl;
+}

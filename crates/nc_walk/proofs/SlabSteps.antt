@@ -1,8 +1,10 @@
 -- The slabs of a variable of a sound header.
-use Rattle.std.proofs.Common.{◌≡◌, ℕ, ◌*◌, ◌/◌, ◌<◌, ◌≤◌, length, get_or, sym, ◌∙◌, ap, refl, subst, arith}
+use Rattle.std.proofs.Common.{◌≡◌, ℕ, ◌+◌, ◌-◌, ◌*◌, ◌/◌, ◌%◌, ◌<◌, ◌≤◌, List, length, get_or, map, sym, ◌∙◌, ap, refl, subst, arith}
 use Rattle.std.specs.Prelude.{if◌then◌else◌}
+use Rattle.std.specs.List.{range_with_len}
 use Rattle.std.proofs.lemmas.Option.{slice_get_read}
 use Rattle.std.proofs.lemmas.List.Elements.{All-get_or}
+use Rattle.std.proofs.lemmas.Nat.{div-add-mod'}
 use Rattle.std.proofs.Math.Nat.{mul-div_cancel}
 use Rattle.nc_base.specs.declared.nc_type.NcType.{NcType}
 use Rattle.nc_base.specs.declared.nc_type.NcType.TheVariants.{Byte, Char, Short, Int, Ubyte, Ushort, Uint, Int64, Uint64}
@@ -12,7 +14,9 @@ use Rattle.nc_base.specs.Types.{size_of}
 use Rattle.nc_base.specs.Sizes.{is_record_var, record_size, slab_count}
 use Rattle.nc_base.specs.Headers.{IsSound, IsSoundVar}
 use Rattle.nc_base.proofs.SoundLaws.{some_count, some_size}
-use Rattle.nc_walk.specs.Slabs.{slabs_of, IsSized, AreSlabsOf}
+use Rattle.nc_walk.specs.declared.slabs.Slabs.{Slabs}
+use Rattle.nc_walk.specs.Slabs.{total, offset, offsets_from, offsets_after, slabs_of, IsSized, AreSlabsOf}
+use Rattle.nc_walk.proofs.Orders.{at_first, shifted, offsets_in_order}
 
 small_size : (ty : NcType) → size_of ty ≤ 8
 small_size Byte = omega arith
@@ -34,20 +38,50 @@ sized h var n sound s = record {
   some = some_size var.ty;
   small = small_size var.ty;
   values_per_slab = some_count h.dims var.dimids s.shape;
-  slab = s.slab;
   stride = sound.small_records;
 }
 
-pub are_slabs : (h : Header) (v n : ℕ) (var : Var) (stride values_per_slab total_slabs size : ℕ) → IsSound h → v < length h.vars → var ≡ get_or h.vars v var
+-- ---- slabs side by side
+
+-- all slabs as one
+abbrev pub one_slab : Slabs → Slabs
+one_slab l = record l { values_per_slab = total l; total_slabs = 1 }
+
+side_by_side_at : (l : Slabs) (i : ℕ) → l.values_per_slab * l.size ≡ l.stride → offset l i ≡ l.begin + i * l.size
+side_by_side_at l i e =
+    let n = l.values_per_slab in
+    let f : l.begin + i / n * (n * l.size) + i % n * l.size ≡ l.begin + (i / n * n + i % n) * l.size = omega arith in
+    ap (λ (k : ℕ). l.begin + i / n * k + i % n * l.size) (sym e) ∙ f ∙ ap (λ (k : ℕ). l.begin + k * l.size) (div-add-mod' i n)
+
+-- the values of slabs that stand side by side have the same offsets in one slab
+pub joined_offsets : (l : Slabs) → l.values_per_slab * l.size ≡ l.stride → offsets_after (one_slab l) 0 ≡ offsets_after l 0
+unfolding offsets_from
+joined_offsets l e =
+    let all : total (one_slab l) - 0 ≡ total l - 0 = omega arith in
+    let same : (q : ℕ) → q < 0 + (total l - 0) → offset (one_slab l) q ≡ offset l (0 + q) = λ q lt.
+    let f : q ≡ 0 + q = omega arith in
+    at_first (one_slab l) q (omega arith) ∙ sym (side_by_side_at l q e) ∙ ap (offset l) f in
+    ap (λ (k : ℕ). map (offset (one_slab l)) (range_with_len 0 k)) all ∙ shifted (offset (one_slab l)) (offset l) 0 0 (total l - 0) same
+
+-- ---- of a variable
+
+pub same_slabs : (h : Header) (n : ℕ) (var : Var) (stride values_per_slab total_slabs size : ℕ)
     → stride ≡ record_size h → values_per_slab ≡ slab_count h.dims var → total_slabs ≡ (if is_record_var h.dims var then n else 1) → size ≡ size_of var.ty
-    → AreSlabsOf h v n (record { begin = var.begin_at; stride = stride; values_per_slab = values_per_slab; total_slabs = total_slabs; size = size })
-are_slabs h v n var stride values_per_slab total_slabs size sound lt at a b c d =
-    let same : record { begin = var.begin_at; stride = stride; values_per_slab = values_per_slab; total_slabs = total_slabs; size = size } ≡ slabs_of h var n = cc in
-    record {
+    → record { begin = var.begin_at; stride = stride; values_per_slab = values_per_slab; total_slabs = total_slabs; size = size } ≡ slabs_of h var n
+same_slabs h n var stride values_per_slab total_slabs size a b c d = cc
+
+pub sized_slabs : (h : Header) (v n : ℕ) (var : Var) (l : Slabs) → IsSound h → v < length h.vars → var ≡ get_or h.vars v var → l ≡ slabs_of h var n → IsSized l
+sized_slabs h v n var l sound lt at same = subst IsSized (sym same) (sized h var n sound (sound_var h v var sound lt at))
+
+pub are_slabs : (h : Header) (v n : ℕ) (var : Var) (l joined : Slabs) → v < length h.vars → var ≡ get_or h.vars v var → l ≡ slabs_of h var n
+    → joined.size ≡ l.size → offsets_after joined 0 ≡ offsets_after l 0 → IsSized joined → AreSlabsOf h v n joined
+are_slabs h v n var l joined lt at same size offsets is_sized =
+    let all : total (slabs_of h var n) - 0 ≡ total (slabs_of h var n) = omega arith in record {
       var = var;
       at = slice_get_read h.vars (length h.vars) v var refl lt at;
-      is = same;
-      sized = subst IsSized (sym same) (sized h var n sound (sound_var h v var sound lt at));
+      size = size ∙ ap (λ (k : Slabs). k.size) same;
+      offsets = offsets ∙ ap (λ (k : Slabs). offsets_after k 0) same ∙ ap (offsets_from (slabs_of h var n) 0) all ∙ offsets_in_order h var n;
+      sized = is_sized;
     }
 
 -- the number of values in n bytes of them

@@ -5,6 +5,7 @@ use Rattle.nc_base.specs.declared.header.Var.{Var}
 use Rattle.nc_base.specs.declared.header.Header.{Header}
 use Rattle.nc_base.specs.Types.{size_of}
 use Rattle.nc_base.specs.Sizes.{is_record_var, slab_count, record_size}
+use Rattle.nc_base.specs.Places.{value_offsets}
 use Rattle.nc_walk.specs.declared.slabs.Slabs.{Slabs}
 use Rattle.nc_walk.specs.declared.cursor.Cursor.{Cursor}
 
@@ -28,7 +29,7 @@ offsets_from l i n = map (offset l) (range_with_len i n)
 abbrev pub offsets_after : Slabs → ℕ → List ℕ
 offsets_after l i = offsets_from l i (total l - i)
 
--- the slabs of a variable over n records
+-- the slabs of a variable over n records, one for each
 abbrev pub slabs_of : Header → Var → ℕ → Slabs
 slabs_of h var n = record {
   begin = var.begin_at;
@@ -43,7 +44,6 @@ pub record IsSized (l : Slabs) : Type 0 where
   pub some : 0 < l.size
   pub small : l.size ≤ 8
   pub values_per_slab : 0 < l.values_per_slab
-  pub slab : l.values_per_slab * l.size ≤ 2 ^ 48
   pub stride : l.stride ≤ 2 ^ 62
 
 -- the cursor of a value, or the one after the last value
@@ -51,11 +51,12 @@ pub record IsCursor (l : Slabs) (cursor : Cursor) : Type 0 where
   pub within : cursor.within < l.values_per_slab
   pub reached : number_at l cursor ≤ total l
 
--- the slabs of the variable at this index over n records
+-- the values of these slabs are those of the variable at this index over n records, in the same order
 pub record AreSlabsOf (h : Header) (v n : ℕ) (l : Slabs) : Type 0 where
   pub var : Var
   pub at : slice_get h.vars v ≡ Some var
-  pub is : l ≡ slabs_of h var n
+  pub size : l.size ≡ size_of var.ty
+  pub offsets : offsets_after l 0 ≡ value_offsets h var n
   pub sized : IsSized l
 
 -- n values from number i on lie side by side, fill no more than the capacity and end inside of n bytes: one at least,

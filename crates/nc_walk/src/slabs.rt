@@ -3,7 +3,7 @@
 ghost use Rattle.std.specs.Prelude.{◌≡◌, ◌+◌, ◌*◌, ◌<◌, ◌≤◌, ◌^◌, if◌then◌else◌, length};
 ghost use Rattle.nc_base.specs.Headers.{IsSound};
 ghost use Rattle.nc_base.specs.Sizes.{is_record_var, record_size, slab_count, slab_size, slab_limit};
-ghost use Rattle.nc_walk.specs.Slabs.{number_at, offset, IsSized, AreSlabsOf, Ready};
+ghost use Rattle.nc_walk.specs.Slabs.{number_at, offset, offsets_after, IsSized, AreSlabsOf, Ready};
 
 use crate::cursor::Cursor;
 use nc_base::{Dim, Header, RecordLayout, Var, has_records, slab_of};
@@ -25,7 +25,7 @@ pub(crate) struct Slabs {
 
 impl Slabs {
     /// The slabs of the variable at index `v` over the records of the layout: one for each record, or one in all where the
-    /// variable has no record dimension.
+    /// variable has no record dimension, or where the records' slabs stand side by side.
     pub(crate) fn of(header: &Header, v: usize, layout: RecordLayout) -> Slabs
         requires sound { IsSound header.now }
         requires there { v < length header.now.vars }
@@ -34,12 +34,34 @@ impl Slabs {
     {
         let dims = header.dims.as_slice();
         let var = &header.vars.as_slice()[v];
-        Slabs {
+        let slabs = Slabs {
             begin: var.begin_at,
             stride: layout.record_size,
             values_per_slab: slab_values(dims, var),
             total_slabs: slab_number(dims, var, layout.records),
             size: var.ty.size(),
+        };
+        slabs.joined()
+    }
+
+    /// The same values in one slab, where each slab begins at the end of the one before it; else the slabs as they are.
+    fn joined(self) -> Slabs
+        requires { IsSized self }
+        ensures size { result.size ≡ self.size }
+        ensures offsets { offsets_after result 0 ≡ offsets_after self 0 }
+        ensures sized { IsSized result }
+    {
+        let slab_len = self.values_per_slab as u128 * self.size as u128;
+        if slab_len != self.stride as u128 {
+            return self;
+        }
+        match self.total_slabs.checked_mul(self.values_per_slab) {
+            None | Some(0) => self,
+            Some(values) => Slabs {
+                values_per_slab: values,
+                total_slabs: 1,
+                ..self
+            },
         }
     }
 

@@ -1,10 +1,10 @@
-use Rattle.std.proofs.Common.{◌∙◌, ap, get_or}
-use Rattle.nc_base.specs.declared.header.Var.{Var}
-use Rattle.std.proofs.Common.{List}
-use Rattle.nc_base.specs.declared.header.Dim.{Dim}
-use Rattle.nc_base.specs.Sizes.{slab_count, is_record_var}
+use Rattle.std.proofs.Common.{◌≡◌, List, get_or, ◌∙◌, ap}
 use Rattle.std.specs.Prelude.{if◌then◌else◌}
-use Rattle.nc_walk.proofs.SlabSteps.{sound_var, are_slabs}
+use Rattle.nc_base.specs.declared.header.Dim.{Dim}
+use Rattle.nc_base.specs.declared.header.Var.{Var}
+use Rattle.nc_base.specs.Sizes.{slab_count, is_record_var}
+use Rattle.nc_walk.specs.Slabs.{slabs_of}
+use Rattle.nc_walk.proofs.SlabSteps.{sound_var, are_slabs, sized_slabs, same_slabs}
 use Rattle.nc_walk.proofs.slabs.Slabs.of.Goals as goal
 
 pub slab_values-requires : goal.slab_values-requires
@@ -12,12 +12,23 @@ slab_values-requires c =
     let at = c.index-as_slice-v.is ∙ ap (λ (vars : List Var). get_or vars c.args.v c.index-as_slice-v.result) c.as_slice.ensures in
     rw c.as_slice-dims.ensures (sound_var c.args.header.now c.args.v c.index-as_slice-v.result c.requires.sound c.requires.there at).slab
 
+pub joined-requires : goal.joined-requires
+joined-requires c =
+    let var = c.index-as_slice-v.result in
+    sized_slabs c.args.header.now c.args.v c.args.layout.records var _ c.requires.sound c.requires.there
+    (c.index-as_slice-v.is ∙ ap (λ (vars : List Var). get_or vars c.args.v var) c.as_slice.ensures)
+    (same_slabs c.args.header.now c.args.layout.records var _ _ _ _ c.requires.record_size
+    (c.slab_values.ensures ∙ ap (λ (dims : List Dim). slab_count dims var) c.as_slice-dims.ensures)
+    (c.slab_number.ensures ∙ ap (λ (dims : List Dim). if is_record_var dims var then c.args.layout.records else 1) c.as_slice-dims.ensures)
+    c.size.ensures)
+
 pub returns : goal.returns
 returns c =
     let var = c.index-as_slice-v.result in
-    are_slabs c.args.header.now c.args.v c.args.layout.records var _ _ _ _ c.requires.sound c.requires.there
+    are_slabs c.args.header.now c.args.v c.args.layout.records var _ _ c.requires.there
     (c.index-as_slice-v.is ∙ ap (λ (vars : List Var). get_or vars c.args.v var) c.as_slice.ensures)
-    c.requires.record_size
+    (same_slabs c.args.header.now c.args.layout.records var _ _ _ _ c.requires.record_size
     (c.slab_values.ensures ∙ ap (λ (dims : List Dim). slab_count dims var) c.as_slice-dims.ensures)
     (c.slab_number.ensures ∙ ap (λ (dims : List Dim). if is_record_var dims var then c.args.layout.records else 1) c.as_slice-dims.ensures)
-    c.size.ensures
+    c.size.ensures)
+    c.joined.ensures.size c.joined.ensures.offsets c.joined.ensures.sized
