@@ -1,1 +1,5 @@
+pub mod Words
+pub mod Steps
 pub mod Strings
+pub mod Scans
+pub mod Cuts

@@ -7,3 +7,7 @@ pub mod Lexemes
 pub mod Numerals
 pub mod Shapes
 pub mod Statements
+pub mod Roles
+pub mod Scanners
+pub mod Cutters
+pub mod Views

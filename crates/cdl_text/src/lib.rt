@@ -5,14 +5,22 @@
 //! readers share stand here. What statements mean together is the matter of `cdl_parse`.
 #![tactic(auto)]
 
+mod bytes;
+mod cutter;
+mod escape;
 mod fault;
+mod lexeme;
 mod piece;
 mod scan;
+mod scanner;
 mod section;
 mod token;
 
+pub use cutter::{Cutter, OutOfMemory};
 pub use fault::{CdlFault, CdlKind};
+pub use lexeme::Lexeme;
 pub use piece::{CutState, Role, Step};
 pub use scan::{Character, Scanned};
+pub use scanner::Scanner;
 pub use section::Section;
 pub use token::{Token, TokenKind};

@@ -1,0 +1,89 @@
+//! Tokens without their places.
+
+ghost use Rattle.std.specs.Prelude.{◌≡◌, if◌then◌else◌};
+ghost use Rattle.cdl_text.specs.Lexemes.{is_mark_kind, is_word_kind};
+ghost use Rattle.cdl_text.specs.Pieces.{is_section, mark_role};
+
+use crate::bytes::byte_at;
+use crate::piece::Role;
+use crate::token::TokenKind;
+
+/// A token without its place: its kind and its bytes.
+#[derive(Clone, Copy, Debug)]
+pub struct Lexeme<'a> {
+    pub kind: TokenKind,
+    pub bytes: &'a [u8],
+}
+
+impl<'a> Lexeme<'a> {
+    ghost use Rattle.cdl_text.specs.Lexemes.{is_mark, is_word, role};
+    ghost use Rattle.cdl_text.specs.Views.{lexeme_of};
+
+    /// Says whether the token is this mark.
+    pub fn is_mark(self, mark: u8) -> bool
+        ensures { result ≡ is_mark mark (lexeme_of self.entry) }
+    {
+        is_mark_kind(self.kind) && byte_at(self.bytes, 0) == mark
+    }
+
+    /// Says whether the token is this word, none of its bytes escaped.
+    pub fn is_word(self, word: &[u8]) -> bool
+        ensures { result ≡ is_word word.now (lexeme_of self.entry) }
+    {
+        is_word_kind(self.kind) && self.bytes == word
+    }
+
+    /// What the token does where the tokens are cut into statements.
+    pub fn role(self) -> Role
+        ensures { result ≡ role (lexeme_of self.entry) }
+    {
+        match self.kind {
+            TokenKind::Opening => Role::Opening,
+            TokenKind::Word => word_role(self.bytes),
+            TokenKind::Mark => mark_role(byte_at(self.bytes, 0)),
+            TokenKind::End => Role::End,
+            TokenKind::Number | TokenKind::Text | TokenKind::Bad => Role::Other,
+        }
+    }
+}
+
+/// Says whether a token of this kind is a word.
+fn is_word_kind(kind: TokenKind) -> bool
+    ensures { result ≡ is_word_kind kind }
+{
+    matches!(kind, TokenKind::Word)
+}
+
+/// Says whether a token of this kind is a mark.
+fn is_mark_kind(kind: TokenKind) -> bool
+    ensures { result ≡ is_mark_kind kind }
+{
+    matches!(kind, TokenKind::Mark)
+}
+
+/// What a word does.
+#[tactic(auto, unfolding(crate::specs::Pieces::is_section))]
+fn word_role(word: &[u8]) -> Role
+    ensures { result ≡ (if is_section word.now then Role.Section else Role.Other) }
+{
+    let is_section = word == b"dimensions".as_slice()
+        || word == b"variables".as_slice()
+        || word == b"data".as_slice();
+    if is_section {
+        Role::Section
+    } else {
+        Role::Other
+    }
+}
+
+/// What a mark does.
+fn mark_role(mark: u8) -> Role
+    ensures { result ≡ mark_role mark }
+{
+    match mark {
+        b':' => Role::Colon,
+        b';' => Role::Semicolon,
+        b'}' => Role::Brace,
+        _ => Role::Other,
+    }
+}
