@@ -3,3 +3,5 @@ pub mod Steps
 pub mod Strings
 pub mod Scans
 pub mod Cuts
+pub mod Sizes
+pub mod Suffixes

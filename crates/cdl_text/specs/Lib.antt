@@ -10,4 +10,5 @@ pub mod Statements
 pub mod Roles
 pub mod Scanners
 pub mod Cutters
+pub mod Magnitudes
 pub mod Views
