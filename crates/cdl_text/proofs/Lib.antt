@@ -5,3 +5,8 @@ pub mod Scans
 pub mod Cuts
 pub mod Sizes
 pub mod Suffixes
+pub mod Surveys
+pub mod Listing
+pub mod Shaping
+pub mod Dimensions
+pub mod Sections

@@ -12,3 +12,5 @@ pub mod Scanners
 pub mod Cutters
 pub mod Magnitudes
 pub mod Views
+pub mod DueTokens
+pub mod Contents

@@ -7,6 +7,7 @@
 
 mod bytes;
 mod cutter;
+mod due;
 mod escape;
 mod fault;
 mod lexeme;
@@ -15,9 +16,11 @@ mod piece;
 mod scan;
 mod scanner;
 mod section;
+mod survey;
 mod token;
 
 pub use cutter::{Cutter, OutOfMemory};
+pub use due::Due;
 pub use fault::{CdlFault, CdlKind};
 pub use lexeme::Lexeme;
 pub use numeral::{Numeral, number_of_token};
@@ -25,4 +28,5 @@ pub use piece::{CutState, Role, Step};
 pub use scan::{Character, Scanned};
 pub use scanner::Scanner;
 pub use section::Section;
+pub use survey::{Survey, first_pass, look_over, token_fault};
 pub use token::{Token, TokenKind};
