@@ -9,4 +9,5 @@ pub mod Surveys
 pub mod Listing
 pub mod Shaping
 pub mod Dimensions
+pub mod Declarations
 pub mod Sections
