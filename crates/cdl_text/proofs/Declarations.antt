@@ -12,6 +12,7 @@ use Rattle.cdl_text.specs.declared.due.Due.TheVariants as dues
 use Rattle.cdl_text.specs.declared.token.TokenKind.{TokenKind}
 use Rattle.cdl_text.specs.declared.token.TokenKind.TheVariants as kinds
 use Rattle.cdl_text.proofs.Listing.{never_completes, nothing_more, kind_of_mark}
+use Rattle.cdl_text.proofs.Options.{both_some, given_map, given_none, given_then, map_if, none_if, same_if}
 use Rattle.cdl_text.proofs.Shaping.{name_is}
 
 -- ---- names and marks
@@ -31,46 +32,19 @@ name_kind n h = by n.kind h
 name_mark : (b : ℕ) (n : Lexeme) → is_name n ≡ true → is_mark b n ≡ false
 name_mark b n h = ap (λ k. k && slice_index n.bytes 0 == b) (name_kind n h)
 
-named : (n : Lexeme) → is_name n ≡ true → name_of n ≡ Some (word_value n.bytes)
+pub named : (n : Lexeme) → is_name n ≡ true → name_of n ≡ Some (word_value n.bytes)
 named n h = name_is n ∙ rw (h) refl
 
-nameless : (n : Lexeme) → is_name n ≡ false → name_of n ≡ None
+pub nameless : (n : Lexeme) → is_name n ≡ false → name_of n ≡ None
 nameless n h = name_is n ∙ rw (h) refl
 
 -- no byte is two marks
-one_mark : (b d : ℕ) (l : Lexeme) → (b == d) ≡ false → is_mark b l ≡ true → is_mark d l ≡ false
+pub one_mark : (b d : ℕ) (l : Lexeme) → (b == d) ≡ false → is_mark b l ≡ true → is_mark d l ≡ false
 one_mark b d l e h = by (is_mark_kind l.kind) (slice_index l.bytes 0) h
   where
     by : (a : Bool) (x : ℕ) → (a && x == b) ≡ true → (a && x == d) ≡ false
     by true x h = grind (arith, e, h)
     by false x h = refl
-
-given_none : {A : Type 0} (b : Bool) → given {A = A} b None ≡ None
-given_none true = refl
-given_none false = refl
-
-given_map : {A B : Type 0} (f : A → B) (b : Bool) (o : Option A) → given b (option_map f o) ≡ option_map f (given b o)
-given_map f true o = refl
-given_map f false o = refl
-
-both_some : {A B C : Type 0} (f : A → B → C) (a : A) (o : Option B) → both f (Some a) o ≡ option_map (f a) o
-both_some f a None = refl
-both_some f a (Some b) = refl
-
-both_none : {A B C : Type 0} (f : A → B → C) (o : Option A) → both f o None ≡ None
-both_none f None = refl
-both_none f (Some a) = refl
-
-map_if : {A B : Type 0} (f : A → B) (o : Option A) (w : Bool) (a : A) → o ≡ (if w then Some a else None) → option_map f o ≡ (if w then Some (f a) else None)
-map_if f o true a h = ap (option_map f) h
-map_if f o false a h = ap (option_map f) h
-
-none_if : {A : Type 0} (o : Option A) (w : Bool) (a : A) → o ≡ None → w ≡ false → o ≡ (if w then Some a else None)
-none_if o w a ho hw = ho ∙ rw (hw) refl
-
-same_if : {A : Type 0} (o : Option A) (w v : Bool) (a b : A) → o ≡ (if w then Some a else None) → v ≡ w → (w ≡ true → b ≡ a) → o ≡ (if v then Some b else None)
-same_if o true v a b ho hv hb = ho ∙ rw (hv) (ap Some (sym (hb refl)))
-same_if o false v a b ho hv hb = ho ∙ rw (hv) refl
 
 -- ---- one token on
 
@@ -152,7 +126,7 @@ no_variable n ((p ∷ ys) ∷ ms) h = rw (h) (by (is_mark 0x28 p))
     by true = refl
     by false = refl
 
-not_variable : (n : Lexeme) (xs : List Lexeme) → name_of n ≡ None → each variable (members (n ∷ xs)) ≡ None
+pub not_variable : (n : Lexeme) (xs : List Lexeme) → name_of n ≡ None → each variable (members (n ∷ xs)) ≡ None
 not_variable n xs h = by (is_mark 0x2c n) refl
   where
     by : (a : Bool) → is_mark 0x2c n ≡ a → each variable (members (n ∷ xs)) ≡ None
@@ -476,10 +450,6 @@ before_last : (xs : List Lexeme) (s : Lexeme) → before_mark 0x3b (xs ++ s ∷ 
 before_last [] s = refl
 before_last (x ∷ []) s = sym (given_map (λ zs. x ∷ zs) (is_mark 0x3b s) (Some []))
 before_last (x ∷ y ∷ ys) s = ap (option_map (λ zs. x ∷ zs)) (before_last (y ∷ ys) s) ∙ sym (given_map (λ zs. x ∷ zs) (is_mark 0x3b s) (Some (y ∷ ys)))
-
-given_then : {A B : Type 0} (f : A → Option B) (b : Bool) (a : A) → option_and_then f (given b (Some a)) ≡ given b (f a)
-given_then f true a = refl
-given_then f false a = refl
 
 -- variables joined by commas, up to the semicolon
 abbrev pub listed_variables : List Lexeme → Option (List Variable)

@@ -6,8 +6,12 @@ pub mod Cuts
 pub mod Sizes
 pub mod Suffixes
 pub mod Surveys
+pub mod Options
 pub mod Listing
 pub mod Shaping
 pub mod Dimensions
 pub mod Declarations
+pub mod SectionParts
+pub mod DimensionSection
+pub mod VariableSection
 pub mod Sections

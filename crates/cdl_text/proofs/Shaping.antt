@@ -12,6 +12,8 @@ use Rattle.cdl_text.specs.declared.section.Section.{Section}
 use Rattle.cdl_text.specs.declared.section.Section.TheVariants.{Dimensions, Variables, Values}
 use Rattle.cdl_text.specs.declared.token.TokenKind.{TokenKind}
 use Rattle.cdl_text.specs.declared.token.TokenKind.TheVariants as kinds
+use Rattle.cdl_text.proofs.Options.{either_none, given_none}
+use Rattle.cdl_text.proofs.Words.{and_false}
 use Rattle.cdl_text.proofs.Listing.{fine_on, nothing_more, only_completes, listed, listed_is, kind_of_mark}
 
 pub name_is : (n : Lexeme) → name_of n ≡ (if is_name n then Some (word_value n.bytes) else None)
@@ -62,10 +64,6 @@ equals_completes : (takes_fill : Bool) (e : Lexeme) (ls : List Lexeme) → compl
 unfolding completes next
 equals_completes takes_fill e ls = only_completes (is_mark 0x3d e) (dues.Value takes_fill) ls
 
-and_false : (a : Bool) → (a && false) ≡ false
-and_false true = refl
-and_false false = refl
-
 pub assigned_is : {A : Type 0} (v : Version) (takes_fill : Bool) (f : List ℕ → List Value → A) (n : Lexeme) (ls : List Lexeme) → first_bad v ls ≡ None →
     assigned_to v takes_fill f (n ∷ ls) ≡ (if is_name n && completes (dues.Equals takes_fill) ls then Some (f (word_value n.bytes) (values v (drop 1 ls))) else None)
 unfolding completes next
@@ -95,10 +93,6 @@ no_section l h = rw (h) refl
 
 pub mark_name : (b : ℕ) (l : Lexeme) → is_mark b l ≡ true → is_name l ≡ false
 mark_name b l h = rw (mark_word b l h) refl
-
-given_none : {A : Type 0} (b : Bool) → given {A = A} b None ≡ None
-given_none true = refl
-given_none false = refl
 
 -- a section's mark
 mark_is : (section : Section) (l c : Lexeme) → section_of l ≡ None → section_mark section (l ∷ c ∷ []) ≡ None
@@ -134,10 +128,6 @@ if_none : {A : Type 0} (b : Bool) (a : A) → b ≡ false → (if b then Some a 
 if_none true a h = cc
 if_none false a h = refl
 
-first_none : {A : Type 0} (a b : Option A) → a ≡ None → either a b ≡ b
-first_none None b h = refl
-first_none (Some a) b h = cc
-
 no_brace : (l : Lexeme) (ls : List Lexeme) → is_mark 0x7d l ≡ false → alone {A = Statement} (is_mark 0x7d) Brace (l ∷ ls) ≡ None
 no_brace l [] h = rw (h) refl
 no_brace l (m ∷ ls) h = refl
@@ -146,15 +136,15 @@ data_brace : (v : Version) (l : Lexeme) (ls : List Lexeme) → first_bad v ls �
 unfolding shape completes next
 data_brace v l [] h on = rw (on) refl
 data_brace v l (m ∷ ls) h on =
-    first_none (section_mark Values (l ∷ m ∷ ls)) (assigned_to v true Listed (l ∷ m ∷ ls)) (last_mark l (m ∷ ls)) ∙ assigned_is v true Listed l (m ∷ ls) h ∙
+    either_none (section_mark Values (l ∷ m ∷ ls)) (assigned_to v true Listed (l ∷ m ∷ ls)) (last_mark l (m ∷ ls)) ∙ assigned_is v true Listed l (m ∷ ls) h ∙
     rw (mark_name 0x7d l on) (rw (nothing_more m ls) refl)
 
 data_other : (v : Version) (l : Lexeme) (ls : List Lexeme) → first_bad v ls ≡ None → is_mark 0x7d l ≡ false →
     shape v Values (l ∷ ls) ≡ (if is_name l && completes (dues.Equals true) ls then Some (Listed (word_value l.bytes) (values v (drop 1 ls))) else None)
 unfolding shape
 data_other v l ls h off =
-    first_none (alone (is_mark 0x7d) Brace (l ∷ ls)) (either (section_mark Values (l ∷ ls)) (assigned_to v true Listed (l ∷ ls))) (no_brace l ls off) ∙
-    first_none (section_mark Values (l ∷ ls)) (assigned_to v true Listed (l ∷ ls)) (last_mark l ls) ∙ assigned_is v true Listed l ls h
+    either_none (alone (is_mark 0x7d) Brace (l ∷ ls)) (either (section_mark Values (l ∷ ls)) (assigned_to v true Listed (l ∷ ls))) (no_brace l ls off) ∙
+    either_none (section_mark Values (l ∷ ls)) (assigned_to v true Listed (l ∷ ls)) (last_mark l ls) ∙ assigned_is v true Listed l ls h
 
 pub data_is : (v : Version) (l : Lexeme) (ls : List Lexeme) → first_bad v ls ≡ None →
     shape v Values (l ∷ ls) ≡ (if completes (dues.First Values) (l ∷ ls) then Some (data_said v l ls) else None)

@@ -82,7 +82,3 @@ is_whole _ = false
 unfoldable pub completes : Due → List Lexeme → Bool
 completes due [] = is_whole due
 completes due (l ∷ ls) = completes (next due l) ls
-
-abbrev pub is_variables : Section → Bool
-is_variables Variables = true
-is_variables _ = false

@@ -2,7 +2,7 @@
 
 ghost use Rattle.std.specs.Prelude.{◌≡◌, false, is_none, is_some, None};
 ghost use Rattle.cdl_text.specs.Cutters.{after, is_done, next_token, pieces_left, text_of, version_of, words};
-ghost use Rattle.cdl_text.specs.DueTokens.{completes, is_variables};
+ghost use Rattle.cdl_text.specs.DueTokens.{completes};
 ghost use Rattle.cdl_text.specs.Shapes.{either, first_bad, shape, token_fault};
 ghost use Rattle.cdl_text.specs.Views.{lexeme_of};
 
@@ -30,7 +30,7 @@ pub struct Survey<'a> {
 pub fn look_over(start: Cutter<'_>, section: Section) -> Survey<'_>
     requires { is_done start ≡ false }
     ensures bad { result.bad ≡ first_bad (version_of start.entry) (words start.entry) }
-    ensures shaped { is_variables section ≡ false → result.bad ≡ None → result.shaped ≡ is_some (shape (version_of start.entry) section (words start.entry)) }
+    ensures shaped { result.bad ≡ None → result.shaped ≡ is_some (shape (version_of start.entry) section (words start.entry)) }
     ensures rest { pieces_left result.rest ≡ after start.entry }
     ensures text { text_of result.rest ≡ text_of start.entry }
     ensures version { version_of result.rest ≡ version_of start.entry }
