@@ -1,0 +1,4 @@
+pub mod NamePositions
+pub mod PackedTokens
+pub mod Ranges
+pub mod Turns

@@ -5,4 +5,19 @@
 //! (`Meaning`).
 #![tactic(auto)]
 
+mod array;
+mod filling;
+mod name_index;
+mod number;
+mod packing;
+mod read_error;
+mod string;
+mod value;
+
+pub use array::Array;
 pub use cdl_text::{CdlFault, CdlKind};
+pub use filling::Filling;
+pub use name_index::NameIndex;
+pub use packing::{Packed, pack, pack_good};
+pub use read_error::ReadError;
+pub use value::Stop;

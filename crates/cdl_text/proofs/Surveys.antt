@@ -26,8 +26,8 @@ pub ending : (ws rest : List Lexeme) (l m : Lexeme) (ends : Bool) → ws ≡ l �
 ending ws rest l m ends e same on = e ∙ rw (on) (rw (same) refl)
 
 -- the words from a token on
-pub scan : (ws rest : List Lexeme) (l m : Lexeme) (ends : Bool) → ws ≡ l ∷ (if ends then [] else rest) → l ≡ m → ws ≡ m ∷ (if ends then [] else rest)
-scan ws rest l m ends e same = e ∙ rw (same) refl
+pub first_word : (ws rest : List Lexeme) (l m : Lexeme) (ends : Bool) → ws ≡ l ∷ (if ends then [] else rest) → l ≡ m → ws ≡ m ∷ (if ends then [] else rest)
+first_word ws rest l m ends e same = e ∙ rw (same) refl
 
 -- a good token
 pub good_on : (version : Version) (l : Lexeme) (ls : List Lexeme) → token_fault version l.kind l.bytes ≡ None → first_bad version (l ∷ ls) ≡ first_bad version ls
