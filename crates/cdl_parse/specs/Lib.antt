@@ -4,3 +4,6 @@ pub mod NameIndices
 pub mod PackedValues
 pub mod Answers
 pub mod Capacities
+pub mod DataRead
+pub mod Meant
+pub mod DimensionLengths

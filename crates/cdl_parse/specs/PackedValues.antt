@@ -24,7 +24,7 @@ greatest Uint minus = if minus then 0 else 4294967295
 greatest Int64 minus = if minus then 9223372036854775808 else 9223372036854775807
 greatest Uint64 minus = if minus then 0 else 18446744073709551615
 
--- 33
+-- a number's bytes, where the type has it
 abbrev pub number_bytes : NcType → ℤ → Result (List ℕ) CdlKind
 number_bytes ty n = if fits ty n then Ok (bytes_of_number ty n) else Err NumberRange
 
@@ -50,18 +50,18 @@ abbrev pub is_past : ℕ → Option ℕ → Bool
 is_past n None = false
 is_past n (Some m) = nat_lt m n
 
--- the bytes of a value of a variable of numbers: 34, 35, 33
+-- the bytes of a value of a variable of numbers
 abbrev pub value_bytes : NcType → List ℕ → Bool → Value → Result (List ℕ) CdlKind
 value_bytes ty fill full (Characters bytes) = Err WrongKind
 value_bytes ty fill full Underscore = if full then Err TooManyValues else Ok fill
 value_bytes ty fill full (Number n) = if full then Err TooManyValues else number_bytes ty n.value
 
--- of a variable of characters of rank 0 or 1, which has so many bytes: 34, 36
+-- of a variable of characters of rank 0 or 1, whose capacity is in bytes
 abbrev pub text_bytes : Option ℕ → Value → Result (List ℕ) CdlKind
 text_bytes capacity (Characters bytes) = if is_past (length bytes) capacity then Err StringTooLong else Ok (char_bytes bytes)
 text_bytes capacity v = Err WrongKind
 
--- of a variable of characters of rank 2 and up, whose rows have this length: 34, 35, 36
+-- of a variable of characters of rank 2 and up, whose rows have this length
 abbrev pub row_bytes : ℕ → ℕ → Bool → Value → Result (List ℕ) CdlKind
 row_bytes len fill full (Characters bytes) = if full then Err TooManyValues else (if nat_lt len (length bytes) then Err StringTooLong else Ok (char_bytes bytes ++ replicate (len - length bytes) fill))
 row_bytes len fill full v = Err WrongKind

@@ -10,6 +10,8 @@ pub mod Options
 pub mod Listing
 pub mod Shaping
 pub mod Dimensions
+pub mod VariableNames
+pub mod References
 pub mod Declarations
 pub mod SectionParts
 pub mod DimensionSection

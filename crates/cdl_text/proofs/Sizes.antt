@@ -16,12 +16,12 @@ above s base (b ∷ bs) h = let g = grows base s h in let a = above (base * s + 
 past : (n m : ℕ) → n ≤ m → word n ≡ None → word m ≡ None
 past n m h k = grind (arith, h, k)
 
-pub past_room : (base value b : ℕ) (bs : List ℕ) → 1 ≤ base → word (base * value + digit b) ≡ None → word (number_in base value (b ∷ bs)) ≡ None
-past_room base value b bs h k = past (base * value + digit b) (number_in base (base * value + digit b) bs) (above (base * value + digit b) base bs h) k
+pub past_limit : (base value b : ℕ) (bs : List ℕ) → 1 ≤ base → word (base * value + digit b) ≡ None → word (number_in base value (b ∷ bs)) ≡ None
+past_limit base value b bs h k = past (base * value + digit b) (number_in base (base * value + digit b) bs) (above (base * value + digit b) base bs h) k
 
 pub one_digit : (base value : ℕ) (digits : List ℕ) (i : ℕ) → i < length digits →
     number_in base value (drop i digits) ≡ number_in base (base * value + digit (get_or digits i 0)) (drop (i + 1) digits)
 one_digit base value digits i k = at_drop_more (λ bs. number_in base value bs) digits i 0 k
 
-pub no_room : (base value : ℕ) (digits : List ℕ) (i : ℕ) → 1 ≤ base → i < length digits → word (base * value + digit (get_or digits i 0)) ≡ None → word (number_in base value (drop i digits)) ≡ None
-no_room base value digits i h k none = ap word (at_drop_more (λ bs. number_in base value bs) digits i 0 k) ∙ past_room base value (get_or digits i 0) (drop (i + 1) digits) h none
+pub past_word : (base value : ℕ) (digits : List ℕ) (i : ℕ) → 1 ≤ base → i < length digits → word (base * value + digit (get_or digits i 0)) ≡ None → word (number_in base value (drop i digits)) ≡ None
+past_word base value digits i h k none = ap word (at_drop_more (λ bs. number_in base value bs) digits i 0 k) ∙ past_limit base value (get_or digits i 0) (drop (i + 1) digits) h none

@@ -11,7 +11,8 @@ use Rattle.cdl_text.specs.declared.due.Due.TheVariants as dues
 use Rattle.cdl_text.specs.declared.section.Section.TheVariants.{Variables}
 use Rattle.cdl_text.specs.declared.token.TokenKind.{TokenKind}
 use Rattle.cdl_text.specs.declared.token.TokenKind.TheVariants as kinds
-use Rattle.cdl_text.proofs.Declarations.{listed_variables, nameless, named, not_variable, one_mark, variables_are}
+use Rattle.cdl_text.proofs.Declarations.{listed_variables, variables_are}
+use Rattle.cdl_text.proofs.VariableNames.{nameless, named, not_variable, one_mark}
 use Rattle.cdl_text.proofs.Listing.{fine_on, never_completes, nothing_more, only_completes}
 use Rattle.cdl_text.proofs.Options.{either_none, either_only, given_none, some_if}
 use Rattle.cdl_text.proofs.SectionParts.{alone_completes, global_completes, global_to, mark_completes, no_brace, no_colon, no_global, section_no_name}

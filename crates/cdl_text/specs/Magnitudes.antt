@@ -3,7 +3,7 @@ use Rattle.std.specs.Prelude.{ℕ, nat_lt, if◌then◌else◌, Option, None, So
 use Rattle.cdl_text.specs.Numerals.{Parts}
 use Rattle.cdl_text.specs.declared.numeral.Numeral.{Numeral}
 
--- a number for which 64 bits have room
+-- a number that has 64 bits at most
 abbrev pub word : ℕ → Option ℕ
 word n = if nat_lt 18446744073709551615 n then None else Some n
 
