@@ -1,2 +1,9 @@
 pub mod State
 pub mod Meaning
+pub mod NameIndices
+pub mod PackedValues
+pub mod Answers
+pub mod Capacities
+pub mod DataRead
+pub mod Meant
+pub mod DimensionLengths

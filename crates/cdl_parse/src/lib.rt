@@ -5,4 +5,25 @@
 //! (`Meaning`).
 #![tactic(auto)]
 
+mod array;
+mod data;
+mod dimension;
+mod filling;
+mod name;
+mod name_index;
+mod number;
+mod packing;
+mod read_error;
+mod string;
+mod value;
+
+pub use array::Array;
 pub use cdl_text::{CdlFault, CdlKind};
+pub use data::{Given, Target, read};
+pub use dimension::{check_new, dim_len};
+pub use filling::Filling;
+pub use name::name_of_word;
+pub use name_index::NameIndex;
+pub use packing::{Packed, pack, pack_good};
+pub use read_error::ReadError;
+pub use value::Stop;

@@ -1,7 +1,61 @@
--- What a string stands for.
-use Rattle.std.proofs.Common.{◌≡◌, ℕ, zero, suc, ◌-◌, List, [], ◌∷◌, refl}
-use Rattle.std.specs.Prelude.{Option, None, Some}
-use Rattle.cdl_text.specs.Escapes.{unescape_at, character, prepended, stands_at, or_zero}
+-- A string, one character on.
+use Rattle.std.proofs.Common.{◌≡◌, ℕ, zero, suc, ◌+◌, ◌-◌, ◌<◌, ◌≤◌, true, false, List, [], ◌∷◌, length, get_or, drop, ◌∙◌, ap, refl}
+use Rattle.std.specs.Prelude.{Option, None, Some, is_some}
+use Rattle.std.proofs.lemmas.List.{at_drop_more, at_drop_all, drop-drop}
+use Rattle.cdl_text.specs.declared.scan.Character.{Character}
+use Rattle.cdl_text.specs.Escapes.{unescape, unescape_at, character, prepended, stands, stands_at, or_zero}
+use Rattle.cdl_text.proofs.Steps.{drop_some}
+
+unescape_skip : (more : ℕ) (bytes : List ℕ) → unescape_at more bytes ≡ unescape_at 0 (drop more bytes)
+unfolding unescape_at
+unescape_skip zero bytes = refl
+unescape_skip (suc more) [] = refl
+unescape_skip (suc more) (b ∷ bytes) = unescape_skip more bytes
+
+unescape_at_start : (b : ℕ) (bytes : List ℕ) (c : Character) → c ≡ character (b ∷ bytes) → 0 < c.len → unescape (b ∷ bytes) ≡ prepended c.value (unescape (drop c.len (b ∷ bytes)))
+unfolding unescape_at
+unescape_at_start b bytes c is some = rw (← is) (rw (drop_some c.len b bytes some) (ap (prepended c.value) (unescape_skip (c.len - 1) bytes)))
+
+pub unescape_more : (text : List ℕ) (at : ℕ) (c : Character) → at < length text → c ≡ character (drop at text) → 0 < c.len → unescape (drop at text) ≡ prepended c.value (unescape (drop (at + c.len) text))
+unescape_more text at c h is some =
+    let cut : drop at text ≡ get_or text at 0 ∷ drop (at + 1) text = at_drop_more (λ xs. xs) text at 0 h in
+    ap unescape cut ∙ unescape_at_start (get_or text at 0) (drop (at + 1) text) c (is ∙ ap character cut) some ∙ rw (← cut) (rw (drop-drop c.len at text) refl)
+
+pub unescape_past : (text : List ℕ) (at : ℕ) → length text ≤ at → unescape (drop at text) ≡ Some []
+unfolding unescape_at
+unescape_past text at h = at_drop_all unescape text at h
+
+-- whether it is a string
+some_prepended : (b : ℕ) (r : Option (List ℕ)) → is_some (prepended (Some b) r) ≡ is_some r
+some_prepended b None = refl
+some_prepended b (Some bs) = refl
+
+pub prepended_some : (v : Option ℕ) (r : Option (List ℕ)) → is_some v ≡ true → is_some (prepended v r) ≡ is_some r
+prepended_some None r h = cc
+prepended_some (Some b) r h = some_prepended b r
+
+pub prepended_none : (v : Option ℕ) (r : Option (List ℕ)) → is_some v ≡ false → is_some (prepended v r) ≡ false
+prepended_none None r h = refl
+prepended_none (Some b) r h = cc
+
+stands_skip : (more : ℕ) (bytes : List ℕ) → stands_at more bytes ≡ stands_at 0 (drop more bytes)
+unfolding stands_at
+stands_skip zero bytes = refl
+stands_skip (suc more) [] = refl
+stands_skip (suc more) (b ∷ bytes) = stands_skip more bytes
+
+stands_at_start : (b : ℕ) (bytes : List ℕ) (c : Character) → c ≡ character (b ∷ bytes) → 0 < c.len → stands (b ∷ bytes) ≡ or_zero c.value ∷ stands (drop c.len (b ∷ bytes))
+unfolding stands_at
+stands_at_start b bytes c is some = rw (← is) (rw (drop_some c.len b bytes some) (ap (λ xs. or_zero c.value ∷ xs) (stands_skip (c.len - 1) bytes)))
+
+pub stands_more : (text : List ℕ) (at : ℕ) (c : Character) → at < length text → c ≡ character (drop at text) → 0 < c.len → stands (drop at text) ≡ or_zero c.value ∷ stands (drop (at + c.len) text)
+stands_more text at c h is some =
+    let cut : drop at text ≡ get_or text at 0 ∷ drop (at + 1) text = at_drop_more (λ xs. xs) text at 0 h in
+    ap stands cut ∙ stands_at_start (get_or text at 0) (drop (at + 1) text) c (is ∙ ap character cut) some ∙ rw (← cut) (rw (drop-drop c.len at text) refl)
+
+pub stands_past : (text : List ℕ) (at : ℕ) → length text ≤ at → stands (drop at text) ≡ []
+unfolding stands_at
+stands_past text at h = at_drop_all stands text at h
 
 -- a string stands for its bytes
 pub stands_for : (more : ℕ) (bytes xs : List ℕ) → unescape_at more bytes ≡ Some xs → stands_at more bytes ≡ xs

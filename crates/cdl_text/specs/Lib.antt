@@ -7,3 +7,10 @@ pub mod Lexemes
 pub mod Numerals
 pub mod Shapes
 pub mod Statements
+pub mod Roles
+pub mod Scanners
+pub mod Cutters
+pub mod Magnitudes
+pub mod Views
+pub mod DueTokens
+pub mod Contents

@@ -5,14 +5,30 @@
 //! readers share stand here. What statements mean together is the matter of `cdl_parse`.
 #![tactic(auto)]
 
+mod bytes;
+mod cutter;
+mod due;
+mod escape;
 mod fault;
+mod lexeme;
+mod numeral;
 mod piece;
 mod scan;
+mod scanner;
 mod section;
+mod survey;
 mod token;
 
+pub use bytes::{byte_at, first_bytes, is_escape};
+pub use cutter::{Cutter, OutOfMemory};
+pub use due::Due;
+pub use escape::character;
 pub use fault::{CdlFault, CdlKind};
+pub use lexeme::Lexeme;
+pub use numeral::{Numeral, number_of_token};
 pub use piece::{CutState, Role, Step};
 pub use scan::{Character, Scanned};
+pub use scanner::Scanner;
 pub use section::Section;
+pub use survey::{Survey, first_pass, look_over, token_fault};
 pub use token::{Token, TokenKind};

@@ -1,5 +1,8 @@
 //! How a list of tokens is cut into statements.
 
+ghost use Rattle.std.specs.Prelude.{◌≡◌, true};
+ghost use Rattle.cdl_text.specs.Pieces.{ending, going, section_step, unless_end};
+
 /// What a token does where the tokens are cut.
 #[derive(Clone, Copy, Debug, PartialEq, Eq)]
 pub enum Role {
@@ -33,4 +36,67 @@ pub struct Step {
     pub ends: bool,
     /// What comes before the token after it.
     pub state: CutState,
+}
+
+impl CutState {
+    ghost use Rattle.cdl_text.specs.Roles.{is_end_role};
+    ghost use Rattle.cdl_text.specs.Pieces.{step};
+
+    /// What a token does to the statement that it stands in, by its role and that of the token after it.
+    pub fn step(self, role: Role, next: Role) -> Step
+        ensures step { result ≡ step self role next }
+        ensures last { is_end_role role ≡ true → result.ends ≡ true }
+    {
+        match self {
+            CutState::Begins => match role {
+                Role::Opening | Role::Semicolon | Role::End => ending(CutState::Begins),
+                Role::Section => section_step(next),
+                Role::Brace => ending(CutState::Closed),
+                Role::Colon | Role::Other => unless_end(next, CutState::Inside),
+            },
+            CutState::Inside => match role {
+                Role::Semicolon | Role::End => ending(CutState::Begins),
+                _ => unless_end(next, CutState::Inside),
+            },
+            CutState::Marked => ending(CutState::Begins),
+            CutState::Closed => match role {
+                Role::End => ending(CutState::Begins),
+                _ => unless_end(next, CutState::Closed),
+            },
+        }
+    }
+}
+
+/// The statement ends with this token.
+fn ending(state: CutState) -> Step
+    ensures { result ≡ ending state }
+{
+    Step { ends: true, state }
+}
+
+/// The statement goes on after this token.
+fn going(state: CutState) -> Step
+    ensures { result ≡ going state }
+{
+    Step { ends: false, state }
+}
+
+/// The statement goes on, unless the text ends.
+fn unless_end(next: Role, state: CutState) -> Step
+    ensures { result ≡ unless_end next state }
+{
+    match next {
+        Role::End => ending(CutState::Begins),
+        _ => going(state),
+    }
+}
+
+/// The word of a section: with the colon after it, it is a section mark.
+fn section_step(next: Role) -> Step
+    ensures { result ≡ section_step next }
+{
+    match next {
+        Role::Colon => going(CutState::Marked),
+        _ => unless_end(next, CutState::Inside),
+    }
 }

@@ -1,5 +1,7 @@
 //! The sections of a text.
 
+ghost use Rattle.std.specs.Prelude.{◌≡◌};
+
 /// The section that a statement stands in, in the order of a text.
 #[derive(Clone, Copy, Debug, PartialEq, Eq)]
 pub enum Section {
@@ -15,4 +17,23 @@ pub enum Section {
     Closed,
     /// After the end of the text.
     Ended,
+}
+
+impl Section {
+    ghost use Rattle.cdl_text.specs.Shapes.{section_number};
+
+    /// The place of the section in a text, from 0 on.
+    pub fn number(self) -> u8
+        ensures { result ≡ section_number self }
+    {
+        match self {
+            Section::Unopened => 0,
+            Section::Globals => 1,
+            Section::Dimensions => 2,
+            Section::Variables => 3,
+            Section::Values => 4,
+            Section::Closed => 5,
+            Section::Ended => 6,
+        }
+    }
 }

@@ -1,5 +1,11 @@
 //! Tokens.
 
+ghost use Rattle.std.specs.Prelude.{◌≡◌};
+
+use crate::bytes::first_bytes;
+use crate::lexeme::Lexeme;
+use crate::piece::Role;
+
 /// What a token is.
 #[derive(Clone, Copy, Debug, PartialEq, Eq)]
 pub enum TokenKind {
@@ -29,4 +35,40 @@ pub struct Token {
     pub first: usize,
     /// The offset of the first byte after it.
     pub past: usize,
+}
+
+impl Token {
+    ghost use Rattle.cdl_text.specs.Roles.{role_in};
+    ghost use Rattle.cdl_text.specs.Lexemes.{lexeme};
+    ghost use Rattle.cdl_text.specs.Pieces.{raw};
+    ghost use Rattle.cdl_text.specs.Views.{lexeme_of};
+
+    /// The token's bytes, in the text that it is a token of.
+    pub fn bytes(self, text: &[u8]) -> &[u8]
+        ensures { result.now ≡ raw text.now self }
+    {
+        let rest = if self.first < text.len() {
+            &text[self.first..]
+        } else {
+            &[]
+        };
+        first_bytes(rest, self.past.saturating_sub(self.first))
+    }
+
+    /// The token without its place.
+    pub fn lexeme(self, text: &[u8]) -> Lexeme<'_>
+        ensures { lexeme_of result ≡ lexeme text.now self }
+    {
+        Lexeme {
+            kind: self.kind,
+            bytes: self.bytes(text),
+        }
+    }
+
+    /// What the token does where the tokens are cut into statements.
+    pub fn role(self, text: &[u8]) -> Role
+        ensures { result ≡ role_in text.now self }
+    {
+        self.lexeme(text).role()
+    }
 }

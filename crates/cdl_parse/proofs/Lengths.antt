@@ -1,0 +1,67 @@
+-- The length of a dimension, by a number of any size.
+use Rattle.std.proofs.Common.{◌≡◌, ℕ, zero, suc, ◌≤◌, Bool, ◌+◌, true, false, List, [], ◌∷◌, map, refl, arith, rules}
+use Rattle.std.specs.Prelude.{is_some, pos, None, Some, Ok, Err, int_le, nat_lt, nat_le, ◌-◌, if◌then◌else◌, ◌||◌, ◌==◌}
+use Rattle.std.specs.List.{list_any, position_from}
+use Rattle.std.specs.Str.{bytes_eq}
+use Rattle.cdl_parse.specs.NameIndices.{position_of}
+use Rattle.std.specs.Ordering.{int_eq}
+use Rattle.nc_base.specs.Versions.{count_limit}
+use Rattle.nc_base.specs.declared.header.Dim.{Dim}
+use Rattle.nc_base.specs.declared.version.Version.{Version}
+use Rattle.nc_base.specs.declared.version.Version.TheVariants.{Cdf1, Cdf2, Cdf5}
+use Rattle.cdl_text.specs.Numerals.{Parts, number, signed}
+use Rattle.cdl_text.specs.Magnitudes.{held}
+use Rattle.cdl_text.specs.declared.fault.CdlKind.TheVariants.{NumberRange}
+use Rattle.nc_base.specs.declared.nc_type.NcType.{NcType}
+use Rattle.cdl_parse.specs.DimensionLengths.{number_len}
+use Rattle.cdl_parse.specs.State.{dim_len_of, unless, ◌>>=◌}
+
+limit_word : (v : Version) → count_limit v ≤ 18446744073709551615
+limit_word Cdf1 = search rules
+limit_word Cdf2 = search rules
+limit_word Cdf5 = search rules
+
+within : (v : Version) (k : ℕ) → nat_le (suc k) (count_limit v - 1) ≡ (if nat_le (count_limit v) (suc k) then false else true)
+within Cdf1 k = grind arith
+within Cdf2 k = grind arith
+within Cdf5 k = grind arith
+
+by_magnitude : (v : Version) (dims : List Dim) (ty : NcType) (minus : Bool) (m : ℕ) (big : Bool) → big ≡ nat_lt 18446744073709551615 m →
+    dim_len_of v dims (Some (signed minus m)) ≡ number_len v (record { minus = minus; magnitude = if big then None else Some m; ty = ty })
+by_magnitude v dims ty true zero true is = let e : true ≡ false = is in cc
+by_magnitude v dims ty false zero true is = let e : true ≡ false = is in cc
+by_magnitude v dims ty true zero false is = refl
+by_magnitude v dims ty false zero false is = refl
+by_magnitude v dims ty true (suc k) true is = refl
+by_magnitude v dims ty false (suc k) true is =
+    let l = limit_word v in
+    let on : nat_le (count_limit v) (suc k) ≡ true = grind (arith, l, is) in
+    let some : int_eq (pos (suc k)) (pos 0) ≡ false = search rules in
+    let least : int_le (pos 1) (pos (suc k)) ≡ true = search rules in
+    rw (some) (rw (least) (rw (within v k) (rw (on) refl)))
+by_magnitude v dims ty true (suc k) false is = search rules
+by_magnitude v dims ty false (suc k) false is =
+    let some : int_eq (pos (suc k)) (pos 0) ≡ false = search rules in
+    let least : int_le (pos 1) (pos (suc k)) ≡ true = search rules in
+    let same : (suc k == 0) ≡ false = search rules in
+    rw (some) (rw (least) (rw (same) (rw (within v k) (by (nat_le (count_limit v) (suc k))))))
+  where
+    by : (b : Bool) → (unless (if b then false else true) NumberRange >>= (λ u. Ok (suc k))) ≡ (if b then Err NumberRange else Ok (suc k))
+    by true = refl
+    by false = refl
+
+pub lens : (v : Version) (dims : List Dim) (p : Parts) → dim_len_of v dims (Some (number p).value) ≡ number_len v (held p)
+lens v dims p = by_magnitude v dims p.ty p.minus p.magnitude (nat_lt 18446744073709551615 p.magnitude) refl
+
+-- a name is among those of the dimensions where it has a position
+any_from : (i : ℕ) (dims : List Dim) (name : List ℕ) → list_any (λ (e : Dim). bytes_eq e.name name) dims ≡ is_some (position_from (λ other. bytes_eq other name) i (map (λ (d : Dim). d.name) dims))
+any_from i [] name = refl
+any_from i (d ∷ dims) name = by (bytes_eq d.name name) (any_from (i + 1) dims name)
+  where
+    by : (b : Bool) → list_any (λ (e : Dim). bytes_eq e.name name) dims ≡ is_some (position_from (λ other. bytes_eq other name) (i + 1) (map (λ (d : Dim). d.name) dims)) →
+        (b || list_any (λ (e : Dim). bytes_eq e.name name) dims) ≡ is_some (if b then Some i else position_from (λ other. bytes_eq other name) (i + 1) (map (λ (d : Dim). d.name) dims))
+    by true more = refl
+    by false more = more
+
+pub any_is : (dims : List Dim) (name : List ℕ) → list_any (λ (e : Dim). bytes_eq e.name name) dims ≡ is_some (position_of (map (λ (d : Dim). d.name) dims) name)
+any_is dims name = any_from 0 dims name

@@ -1,0 +1,8 @@
+use Rattle.cdl_text.specs.Cutters.{version_of, words}
+use Rattle.cdl_parse.specs.Meant.{names_of}
+use Rattle.cdl_parse.specs.declared.data.Given.{Given}
+use Rattle.cdl_parse.proofs.Joins.{tells}
+use Rattle.cdl_parse.proofs.data.read.Goals as goal
+
+pub returns-clause-tells : goal.returns-clause-tells
+returns-clause-tells c = λ s section index suit off. tells (λ (g : Given). g.array) c.read_either.result (version_of c.args.start) s c.args.targets.now (words c.args.start) section suit off (c.read_either.ensures.read (names_of s.drafts) index)

@@ -1,0 +1,32 @@
+-- What a variable takes, beside what its values are checked against.
+use Rattle.std.specs.Prelude.{ℕ, ◌≡◌, ◌+◌, ◌*◌, ◌<◌, ℤ, true, false, List, [], ◌∷◌, length, Option, None, Some, Result, Ok, Err}
+use Rattle.std.specs.List.{flat_map}
+use Rattle.nc_base.specs.declared.nc_type.NcType.TheVariants.{Char}
+use Rattle.nc_base.specs.Numbers.{bytes_of_number}
+use Rattle.nc_base.specs.ValueText.{is_char}
+use Rattle.cdl_text.specs.declared.fault.CdlKind.{CdlKind}
+use Rattle.cdl_parse.specs.State.{Capacity}
+use Rattle.cdl_parse.specs.declared.filling.Filling.{Filling}
+use Rattle.cdl_parse.specs.declared.filling.Filling.TheVariants.{Numbers, Joined, Rows}
+
+-- it is filled so
+abbrev pub Fills : Filling → Capacity → Type 0
+Fills (Numbers ty fill) r = (r.ty ≡ ty) × (is_char ty ≡ false) × (fill.now ≡ bytes_of_number ty r.fill)
+Fills Joined r = (r.ty ≡ Char) × (r.in_rows ≡ false)
+Fills (Rows len fill) r = (r.ty ≡ Char) × (r.in_rows ≡ true) × (r.row ≡ len) × (0 < len) × (bytes_of_number Char r.fill ≡ fill ∷ [])
+
+-- how many values one position has
+abbrev pub unit_of : Filling → ℕ
+unit_of (Numbers ty fill) = 1
+unit_of Joined = 1
+unit_of (Rows len fill) = len
+
+-- there are so many positions after these values
+abbrev pub Left : ℕ → Option ℕ → Capacity → List ℤ → Type 0
+Left unit None r before = r.is_open ≡ true
+Left unit (Some n) r before = (r.is_open ≡ false) × (r.count ≡ length before + n * unit)
+
+-- the bytes of a list of values
+abbrev pub as_bytes : Capacity → Result (List ℤ) CdlKind → Result (List ℕ) CdlKind
+as_bytes r (Ok values) = Ok (flat_map (bytes_of_number r.ty) values)
+as_bytes r (Err e) = Err e

@@ -1,0 +1,64 @@
+//! New dimensions.
+
+ghost use Rattle.std.specs.Prelude.{◌≡◌, List, Some, None, map};
+ghost use Rattle.nc_base.specs.Headers.{has_record_dim};
+ghost use Rattle.nc_base.specs.declared.header.Dim.{Dim};
+ghost use Rattle.cdl_text.specs.Magnitudes.{held};
+ghost use Rattle.cdl_text.specs.Numerals.{Parts, number};
+ghost use Rattle.cdl_parse.specs.DimensionLengths.{new_name, number_len};
+ghost use Rattle.cdl_parse.specs.NameIndices.{IsIndex};
+ghost use Rattle.cdl_parse.specs.State.{dim_len_of};
+
+use crate::name_index::NameIndex;
+use cdl_text::{CdlKind, Numeral};
+use nc_base::{Version, check_name};
+
+/// The length of a new dimension, 0 for the record dimension, which None stands for.
+///
+/// # Errors
+///
+/// A length of 0; one that the version doesn't have; a second record dimension.
+#[tactic(auto, using(crate::proofs::Lengths::lens))]
+pub fn dim_len(version: Version, has_record: bool, n: Option<Numeral>) -> Result<u64, CdlKind>
+    ensures { (dims : List Dim) (p : Parts) → has_record ≡ has_record_dim dims → (n ≡ None → result ≡ dim_len_of version dims None) × (n ≡ Some (held p) → result ≡ dim_len_of version dims (Some (number p).value)) }
+{
+    match n {
+        Some(n) => number_len(version, n),
+        None if has_record => Err(CdlKind::TwoRecordDims),
+        None => Ok(0),
+    }
+}
+
+/// The length that a number says.
+fn number_len(version: Version, n: Numeral) -> Result<u64, CdlKind>
+    ensures { result ≡ number_len version n }
+{
+    match n.magnitude {
+        Some(0) => Err(CdlKind::ZeroDimension),
+        Some(len) => {
+            if n.minus || len >= version.count_limit() {
+                Err(CdlKind::NumberRange)
+            } else {
+                Ok(len)
+            }
+        }
+        None => Err(CdlKind::NumberRange),
+    }
+}
+
+/// Checks that a new dimension may have this name.
+///
+/// # Errors
+///
+/// No name; or the name of another dimension.
+pub fn check_new(index: &NameIndex, name: &[u8]) -> Result<(), CdlKind>
+    ensures { (dims : List Dim) → IsIndex index.now (map (λ (d : Dim). d.name) dims) → result ≡ new_name dims name.now }
+{
+    if !check_name(name) {
+        return Err(CdlKind::BadName);
+    }
+    if index.find(name).is_some() {
+        return Err(CdlKind::DuplicateName);
+    }
+    Ok(())
+}

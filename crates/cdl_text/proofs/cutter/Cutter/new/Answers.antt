@@ -1,0 +1,13 @@
+use Rattle.std.proofs.Common.{List, sym, ap, ◌∙◌, ℕ}
+use Rattle.cdl_text.specs.declared.piece.CutState.TheVariants.{Begins}
+use Rattle.cdl_text.specs.Tokens.{tokens}
+use Rattle.cdl_text.specs.Cutters.{pieces_left}
+use Rattle.cdl_text.specs.Roles.{role_in}
+use Rattle.cdl_text.specs.Pieces.{pieces_at}
+use Rattle.cdl_text.proofs.cutter.Cutter.new.Goals as goal
+
+pub returns-clause-pieces : goal.returns-clause-pieces
+unfolding pieces_left
+returns-clause-pieces c =
+    ap (pieces_at (role_in c.token-next.new.self.text.now) Begins) (sym c.token-next.ensures.token ∙ c.new-scanner.ensures.left) ∙
+    ap (λ (x : List ℕ). pieces_at (role_in x) Begins (tokens c.args.text.now)) (c.token-next.ensures.text ∙ c.new-scanner.ensures.text)

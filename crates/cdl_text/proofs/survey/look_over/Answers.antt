@@ -1,0 +1,7 @@
+use Rattle.std.proofs.Common.{sym, ◌∙◌}
+use Rattle.cdl_text.specs.Cutters.{version_of, words}
+use Rattle.cdl_text.proofs.Sections.{piece_completes}
+use Rattle.cdl_text.proofs.survey.look_over.Goals as goal
+
+pub returns-clause-shaped : goal.returns-clause-shaped
+returns-clause-shaped c = λ good. c.first_pass.ensures.shaped ∙ sym (piece_completes (version_of c.args.start) c.args.section (words c.args.start) (sym c.first_pass.ensures.bad ∙ good))

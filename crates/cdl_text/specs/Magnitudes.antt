@@ -1,0 +1,11 @@
+-- Numbers as the code holds them.
+use Rattle.std.specs.Prelude.{ℕ, nat_lt, if◌then◌else◌, Option, None, Some}
+use Rattle.cdl_text.specs.Numerals.{Parts}
+use Rattle.cdl_text.specs.declared.numeral.Numeral.{Numeral}
+
+-- a number that has 64 bits at most
+abbrev pub word : ℕ → Option ℕ
+word n = if nat_lt 18446744073709551615 n then None else Some n
+
+abbrev pub held : Parts → Numeral
+held n = record { minus = n.minus; magnitude = word n.magnitude; ty = n.ty }

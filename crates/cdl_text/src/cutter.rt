@@ -1,0 +1,168 @@
+//! The statements of a text, one at a time.
+
+ghost use Rattle.std.specs.Prelude.{◌≡◌, ◌∷◌, [], OnOk, OnErr, IfOk, IsErr, true, false, ◌<◌, if◌then◌else◌};
+ghost use Rattle.cdl_text.specs.Roles.{role_in};
+ghost use Rattle.cdl_text.specs.Lexemes.{lexeme};
+ghost use Rattle.cdl_text.specs.Pieces.{with_first};
+ghost use Rattle.cdl_text.specs.Scanners.{is_end};
+ghost use Rattle.cdl_text.specs.Statements.{statements};
+
+use crate::lexeme::Lexeme;
+use crate::piece::{CutState, Role};
+use crate::scanner::Scanner;
+use crate::token::{Token, TokenKind};
+use nc_base::Version;
+
+/// A growth of memory was refused.
+#[derive(Clone, Copy, Debug, PartialEq, Eq)]
+pub struct OutOfMemory;
+
+/// Cuts a text into its statements (the CDL chapter of the NetCDF User's Guide, "CDL Syntax").
+///
+/// [`next`](Cutter::next) hands out a whole statement, [`advance`](Cutter::advance) goes on by one token and takes no
+/// memory.
+#[derive(Clone, Copy)]
+pub struct Cutter<'a> {
+    /// After the next token.
+    scanner: Scanner<'a>,
+    /// The version that the text is read for: it decides which suffixes a number may have.
+    version: Version,
+    next: Token,
+    next_role: Role,
+    state: CutState,
+    done: bool,
+    ghost known: { next_role ≡ role_in scanner.text.now next },
+}
+
+impl<'a> Cutter<'a> {
+    ghost use Rattle.cdl_text.specs.Cutters.{after, HandsOut, is_done, next_token, offset_of, pieces_left, text_of, tokens_left, version_of, words};
+    ghost use Rattle.cdl_text.specs.Views.{lexeme_of};
+
+    /// The start of a text.
+    pub fn new(text: &'a [u8], version: Version) -> Cutter<'a>
+        ensures pieces { pieces_left result ≡ statements text.now }
+        ensures text { text_of result ≡ text.now }
+        ensures version { version_of result ≡ version }
+        ensures more { is_done result ≡ false }
+    {
+        let mut scanner = Scanner::new(text);
+        let next = scanner.token();
+        Cutter {
+            scanner,
+            version,
+            next,
+            next_role: next.role(text),
+            state: CutState::Begins,
+            done: false,
+        }
+    }
+
+    /// The version that the text is read for.
+    pub fn version(&self) -> Version
+        ensures { result ≡ version_of self.now }
+    {
+        self.version
+    }
+
+    /// Says whether no statement is left.
+    pub fn is_done(&self) -> bool
+        ensures { result ≡ is_done self.now }
+    {
+        self.done
+    }
+
+    /// The next token, without its place.
+    pub fn lexeme(&self) -> Lexeme<'a>
+        ensures { lexeme_of result ≡ lexeme (text_of self.now) (next_token self.now) }
+    {
+        self.next.lexeme(self.scanner.text())
+    }
+
+    /// Fills `into` with the tokens of the next statement, in place of what it had. After the last statement the answer is
+    /// false, and `into` is empty.
+    ///
+    /// # Errors
+    ///
+    /// A growth of `into` was refused. Then `into` is empty, and the cutter is where it was.
+    pub fn next(&mut self, into: &mut Vec<Token>) -> Result<bool, OutOfMemory>
+        ensures ok { IfOk result (λ more. HandsOut more (pieces_left self.old) (pieces_left self.new) into.new.items) }
+        ensures err_same { OnErr result (self.new ≡ self.old) }
+        ensures err_empty { OnErr result (into.new.items ≡ []) }
+    {
+        into.clear();
+        if self.done {
+            return Ok(false);
+        }
+        let mut cutter = *self;
+        'piece: loop {
+            let token = cutter.next;
+            let (after, ends) = cutter.advanced();
+            if into.push(token).is_err() {
+                return emptied(into);
+            }
+            cutter = after;
+            if ends {
+                *self = cutter;
+                return Ok(true);
+            }
+        }
+    }
+
+    /// Goes on by one token, and says whether it was the last of its statement. It takes no memory.
+    pub fn advance(&mut self) -> bool
+        requires { is_done self.old ≡ false }
+        ensures text { text_of self.new ≡ text_of self.old }
+        ensures version { version_of self.new ≡ version_of self.old }
+        ensures pieces { pieces_left self.old ≡ with_first result (next_token self.old) (pieces_left self.new) }
+        ensures words { words self.old ≡ lexeme (text_of self.old) (next_token self.old) ∷ (if result then [] else words self.new) }
+        ensures after { after self.old ≡ (if result then pieces_left self.new else after self.new) }
+        ensures moves { result ≡ false → offset_of self.old < offset_of self.new }
+        ensures goes { result ≡ false → is_done self.new ≡ false }
+    {
+        let mut scanner = self.scanner;
+        let following = scanner.token();
+        let following_role = following.role(scanner.text());
+        let found = self.state.step(self.next_role, following_role);
+        *self = Cutter {
+            scanner,
+            version: self.version,
+            next: following,
+            next_role: following_role,
+            state: found.state,
+            done: is_end(self.next.kind),
+        };
+        found.ends
+    }
+
+    /// The cutter one token on, and whether that token was the last of its statement. It takes no memory.
+    pub fn advanced(self) -> (Cutter<'a>, bool)
+        requires { is_done self ≡ false }
+        ensures text { text_of result.0 ≡ text_of self.entry }
+        ensures version { version_of result.0 ≡ version_of self.entry }
+        ensures pieces { pieces_left self.entry ≡ with_first result.1 (next_token self.entry) (pieces_left result.0) }
+        ensures words { words self.entry ≡ lexeme (text_of self.entry) (next_token self.entry) ∷ (if result.1 then [] else words result.0) }
+        ensures after { after self.entry ≡ (if result.1 then pieces_left result.0 else after result.0) }
+        ensures moves { result.1 ≡ false → offset_of self.entry < offset_of result.0 }
+        ensures goes { result.1 ≡ false → is_done result.0 ≡ false }
+    {
+        let mut cutter = self;
+        let ends = cutter.advance();
+        (cutter, ends)
+    }
+}
+
+/// Says whether the token ends the text.
+fn is_end(kind: TokenKind) -> bool
+    ensures { result ≡ is_end kind }
+{
+    matches!(kind, TokenKind::End)
+}
+
+/// Empties the list.
+fn emptied(into: &mut Vec<Token>) -> Result<bool, OutOfMemory>
+    ensures empty { into.new.items ≡ [] }
+    ensures err { IsErr result }
+{
+    into.clear();
+    Err(OutOfMemory)
+}

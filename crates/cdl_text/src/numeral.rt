@@ -1,0 +1,161 @@
+//! Numbers, of any length.
+
+ghost use Rattle.std.specs.Str.{bytes_eq};
+ghost use Rattle.std.specs.List.{prefix_len};
+ghost use Rattle.std.specs.Prelude.{find, ◌≡◌, ◌≤◌, ◌+◌, ◌*◌, length, map, option_map};
+ghost use Rattle.nc_base.specs.Types.{number_suffix};
+ghost use Rattle.cdl_text.specs.Bytes.{is_digit};
+ghost use Rattle.cdl_text.specs.Escapes.{digit};
+ghost use Rattle.cdl_text.specs.Magnitudes.{held, word};
+ghost use Rattle.cdl_text.specs.Numerals.{has_suffix, in_base, lower, number_in, parts, suffix, type_of_suffix, unsigned};
+
+use crate::bytes::{byte_at, is_digit, is_sign};
+use crate::escape::{digit, hex_len, octal_len};
+use nc_base::{NcType, Version};
+
+/// The types that the suffix of a number may say, beside that of `l`.
+const NUMBER_TYPES: [NcType; 8] = [
+    NcType::Byte,
+    NcType::Short,
+    NcType::Int,
+    NcType::Ubyte,
+    NcType::Ushort,
+    NcType::Uint,
+    NcType::Int64,
+    NcType::Uint64,
+];
+
+/// A number of a text.
+#[derive(Clone, Copy, Debug, PartialEq, Eq)]
+pub struct Numeral {
+    /// A minus stands before it.
+    pub minus: bool,
+    /// Its digits' number, where that has 64 bits at most.
+    pub magnitude: Option<u64>,
+    /// The type that its suffix says; int, where it has none.
+    pub ty: NcType,
+}
+
+/// What a number token says; None, where it is no number or the version lacks its suffix.
+///
+/// After a sign, or none, come `0x` or `0X` and hexadecimal digits, or `0` and octal digits, or decimal digits; then a suffix,
+/// or none (the CDL chapter of the NetCDF User's Guide, "CDL Notation for Data Constants").
+#[tactic(auto, unfolding(crate::specs::Numerals::parts))]
+pub fn number_of_token(version: Version, bytes: &[u8]) -> Option<Numeral>
+    ensures { result ≡ option_map held (parts version bytes.now) }
+{
+    let sign = byte_at(bytes, 0);
+    if is_sign(sign) {
+        let (_, rest) = bytes.split_at(1);
+        unsigned(version, sign == b'-', rest)
+    } else {
+        unsigned(version, false, bytes)
+    }
+}
+
+/// The number of these bytes, which come after the sign.
+fn unsigned(version: Version, minus: bool, bytes: &[u8]) -> Option<Numeral>
+    ensures { result ≡ option_map held (unsigned version minus bytes.now) }
+{
+    let b = byte_at(bytes, 1);
+    if byte_at(bytes, 0) != b'0' {
+        in_base(version, minus, 10, digit_len(bytes), bytes)
+    } else if b == b'x' || b == b'X' {
+        let (_, rest) = bytes.split_at(2);
+        in_base(version, minus, 16, hex_len(rest), rest)
+    } else {
+        in_base(version, minus, 8, octal_len(bytes), bytes)
+    }
+}
+
+/// The number of `n` digits of a base and a suffix.
+fn in_base(version: Version, minus: bool, base: u64, n: usize, bytes: &[u8]) -> Option<Numeral>
+    requires some { 1 ≤ base }
+    requires small { base ≤ 16 }
+    requires within { n ≤ length bytes.now }
+    ensures { result ≡ option_map held (in_base version minus base n bytes.now) }
+{
+    if n == 0 {
+        return None;
+    }
+    let (digits, rest) = bytes.split_at(n);
+    match suffix(version, rest) {
+        Some(ty) => Some(Numeral {
+            minus,
+            magnitude: number_in(base, digits),
+            ty,
+        }),
+        None => None,
+    }
+}
+
+/// The number of these digits, where it has 64 bits at most.
+fn number_in(base: u64, digits: &[u8]) -> Option<u64>
+    requires some { 1 ≤ base }
+    requires small { base ≤ 16 }
+    ensures { result ≡ word (number_in base 0 digits.now) }
+{
+    let mut value = 0;
+    for b in digits {
+        match one_more(base, value, *b) {
+            Some(next) => value = next,
+            None => return None,
+        }
+    }
+    Some(value)
+}
+
+/// The number with one digit more, where it has 64 bits at most.
+fn one_more(base: u64, value: u64, b: u8) -> Option<u64>
+    requires { base ≤ 16 }
+    ensures { result ≡ word (base * value + digit b) }
+{
+    base.checked_mul(value)?.checked_add(digit(b) as u64)
+}
+
+/// How many of the first bytes are decimal digits.
+fn digit_len(bytes: &[u8]) -> usize
+    ensures len { result ≡ prefix_len is_digit bytes.now }
+    ensures within { result ≤ length bytes.now }
+{
+    bytes.iter().take_while(|b| is_digit(**b)).count()
+}
+
+/// The type that a suffix says, each of its letters in either case; None, where it is no suffix of the version.
+#[tactic(auto, unfolding(crate::specs::Numerals::suffix))]
+fn suffix(version: Version, bytes: &[u8]) -> Option<NcType>
+    ensures { result ≡ suffix version bytes.now }
+{
+    match type_of_suffix(bytes) {
+        Some(ty) => { if version.has_type(ty) { Some(ty) } else { None } }
+        None => None,
+    }
+}
+
+/// The type that a suffix says in CDF-5.
+fn type_of_suffix(bytes: &[u8]) -> Option<NcType>
+    ensures { result ≡ type_of_suffix (map lower bytes.now) }
+{
+    if is_suffix(bytes, b"l") {
+        return Some(NcType::Int);
+    }
+    first_with_suffix(&NUMBER_TYPES, bytes)
+}
+
+/// The first of the types whose suffix this is.
+fn first_with_suffix(types: &[NcType], suffix: &[u8]) -> Option<NcType>
+    ensures { result ≡ find (λ ty. bytes_eq (map lower suffix.now) (map lower (number_suffix ty))) types.now }
+{
+    types
+        .iter()
+        .copied()
+        .find(|ty| is_suffix(suffix, ty.suffix()))
+}
+
+/// Says whether the bytes are this suffix, each letter in either case.
+#[tactic(auto, using(crate::proofs::Suffixes::same_suffix))]
+fn is_suffix(bytes: &[u8], suffix: &[u8]) -> bool
+    ensures { result ≡ bytes_eq (map lower bytes.now) (map lower suffix.now) }
+{
+    bytes.eq_ignore_ascii_case(suffix)
+}

@@ -1,0 +1,98 @@
+//! The tokens of a text, one at a time.
+
+ghost use Rattle.std.specs.Prelude.{◌≡◌, ◌+◌, ◌≤◌, ◌<◌, ◌==◌, length, count_by, false};
+ghost use Rattle.cdl_text.specs.Tokens.{line_at, tokens};
+
+use crate::scan::scan;
+use crate::token::{Token, TokenKind};
+
+/// A place of a text, from which on its tokens are read.
+#[derive(Clone, Copy)]
+pub struct Scanner<'a> {
+    text: &'a [u8],
+    at: usize,
+    line: u64,
+    /// No token came before.
+    fresh: bool,
+    ghost inside: { at ≤ length text.now },
+    ghost on_line: { line ≡ line_at text.now at },
+}
+
+impl<'a> Scanner<'a> {
+    ghost use Rattle.cdl_text.specs.Scanners.{followed, is_end, left, offset_of, text_of};
+
+    /// The start of a text.
+    pub fn new(text: &'a [u8]) -> Scanner<'a>
+        ensures left { left result ≡ tokens text.now }
+        ensures text { text_of result ≡ text.now }
+    {
+        Scanner {
+            text,
+            at: 0,
+            line: 1,
+            fresh: true,
+        }
+    }
+
+    /// The text.
+    pub fn text(&self) -> &'a [u8]
+        ensures { result.now ≡ text_of self.now }
+    {
+        self.text
+    }
+
+    /// Reads the next token; at the end of the text `End`, each time.
+    pub fn token(&mut self) -> Token
+        ensures token { left self.old ≡ followed result result.kind (left self.new) }
+        ensures text { text_of self.new ≡ text_of self.old }
+        ensures moves { is_end result.kind ≡ false → offset_of self.old < offset_of self.new }
+    {
+        while self.at < self.text.len() {
+            let (_, rest) = self.text.split_at(self.at);
+            let found = scan(self.fresh, rest);
+            let (first, line) = (self.at, self.line);
+            match found.kind {
+                Some(kind) => {
+                    *self = self.after(found.len, false);
+                    return Token {
+                        kind,
+                        line,
+                        first,
+                        past: self.at,
+                    };
+                }
+                None => *self = self.after(found.len, self.fresh),
+            }
+        }
+        Token {
+            kind: TokenKind::End,
+            line: self.line,
+            first: self.at,
+            past: self.at,
+        }
+    }
+
+    /// The place `len` bytes on.
+    fn after(self, len: usize, fresh: bool) -> Scanner<'a>
+        requires { self.at + len ≤ length self.text.now }
+        ensures text { result.text.now ≡ self.entry.text.now }
+        ensures at { result.at ≡ self.entry.at + len }
+        ensures fresh { result.fresh ≡ fresh }
+    {
+        let (_, rest) = self.text.split_at(self.at);
+        let (passed, _) = rest.split_at(len);
+        Scanner {
+            text: self.text,
+            at: self.at + len,
+            line: self.line + line_feeds(passed) as u64,
+            fresh,
+        }
+    }
+}
+
+/// How many of the bytes are line feeds.
+fn line_feeds(bytes: &[u8]) -> usize
+    ensures { result ≡ count_by (λ b. b == 0x0a) bytes.now }
+{
+    bytes.iter().filter(|b| **b == b'\n').count()
+}

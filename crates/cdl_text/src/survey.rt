@@ -1,0 +1,99 @@
+//! The first pass over a statement: where it ends, its first bad token, and whether it has its shape.
+
+ghost use Rattle.std.specs.Prelude.{◌≡◌, false, is_none, is_some, None};
+ghost use Rattle.cdl_text.specs.Cutters.{after, is_done, next_token, pieces_left, text_of, version_of, words};
+ghost use Rattle.cdl_text.specs.DueTokens.{completes};
+ghost use Rattle.cdl_text.specs.Shapes.{either, first_bad, shape, token_fault};
+ghost use Rattle.cdl_text.specs.Views.{lexeme_of};
+
+use crate::cutter::Cutter;
+use crate::due::Due;
+use crate::fault::CdlKind;
+use crate::lexeme::Lexeme;
+use crate::numeral::number_of_token;
+use crate::section::Section;
+use crate::token::TokenKind;
+use nc_base::Version;
+
+/// What a first pass over a statement finds.
+#[derive(Clone, Copy)]
+pub struct Survey<'a> {
+    /// The fault of its first bad token or bad number.
+    pub bad: Option<CdlKind>,
+    /// It has the shape that was asked for. Where a token is bad, this says nothing.
+    pub shaped: bool,
+    /// The statements after it.
+    pub rest: Cutter<'a>,
+}
+
+/// Passes over the next statement, which stands in this section. It takes no memory.
+pub fn look_over(start: Cutter<'_>, section: Section) -> Survey<'_>
+    requires { is_done start ≡ false }
+    ensures bad { result.bad ≡ first_bad (version_of start.entry) (words start.entry) }
+    ensures shaped { result.bad ≡ None → result.shaped ≡ is_some (shape (version_of start.entry) section (words start.entry)) }
+    ensures rest { pieces_left result.rest ≡ after start.entry }
+    ensures text { text_of result.rest ≡ text_of start.entry }
+    ensures version { version_of result.rest ≡ version_of start.entry }
+{
+    first_pass(start, Due::First(section))
+}
+
+/// Passes over the next statement, of which this token comes first. It takes no memory.
+pub fn first_pass(start: Cutter<'_>, first: Due) -> Survey<'_>
+    requires { is_done start ≡ false }
+    ensures bad { result.bad ≡ first_bad (version_of start.entry) (words start.entry) }
+    ensures shaped { result.shaped ≡ completes first (words start.entry) }
+    ensures rest { pieces_left result.rest ≡ after start.entry }
+    ensures text { text_of result.rest ≡ text_of start.entry }
+    ensures version { version_of result.rest ≡ version_of start.entry }
+{
+    let version = start.version();
+    let mut cutter = start;
+    let mut bad = None;
+    let mut due = first;
+    'tokens: loop {
+        let token = cutter.lexeme();
+        bad = either(bad, token_fault(version, token));
+        due = due.after(token);
+        let ends = cutter.advance();
+        if ends {
+            return Survey {
+                bad,
+                shaped: due.is_whole(),
+                rest: cutter,
+            };
+        }
+    }
+}
+
+/// The fault of a token by itself: that of a bad token or a bad number.
+pub fn token_fault(version: Version, token: Lexeme<'_>) -> Option<CdlKind>
+    ensures { result ≡ token_fault version token.entry.kind token.entry.bytes.now }
+{
+    match token.kind {
+        TokenKind::Bad => Some(CdlKind::BadToken),
+        TokenKind::Number => number_fault(version, token.bytes),
+        _ => None,
+    }
+}
+
+/// The fault of a number token.
+fn number_fault(version: Version, bytes: &[u8]) -> Option<CdlKind>
+    ensures { result ≡ token_fault version TokenKind.Number bytes.now }
+{
+    if number_of_token(version, bytes).is_none() {
+        Some(CdlKind::BadNumber)
+    } else {
+        None
+    }
+}
+
+/// The first of two faults.
+fn either(a: Option<CdlKind>, b: Option<CdlKind>) -> Option<CdlKind>
+    ensures { result ≡ either a b }
+{
+    match a {
+        Some(kind) => Some(kind),
+        None => b,
+    }
+}
