@@ -111,7 +111,9 @@ fn names_and_widths(rt: HostRuntime) {
         ),
         (&["ncdump", "t.nc", "-vv", "-nother", "-l=20"], NARROW_TEXT),
         (
-            &["ncdump", "-c", "-n", "other", "-v", "v", "-l", "20", "--", "t.nc"],
+            &[
+                "ncdump", "-c", "-n", "other", "-v", "v", "-l", "20", "--", "t.nc",
+            ],
             NO_VALUES_TEXT,
         ),
         (&["ncdump", "-nother", "-l0021", "t.nc"], WIDE_TEXT),

@@ -3,7 +3,9 @@
 ghost use Rattle.std.specs.Prelude.{◌≤◌, length};
 
 use crate::files;
+use crate::runs::{choosing, options};
 use nc_file::{DripSource, FailWhen, HeadFault, MemSource, read_header};
+use ncdump::{DumpFault, DumpOptions, select};
 use std::alloc::{AllocError, Global};
 use std::process::Abort;
 use std::test::Fail;
@@ -68,31 +70,39 @@ fn many_variables(alloc: Global, count: u32) -> Result<Vec<u8>, AllocError> {
     Ok(bytes)
 }
 
-/// Reads a header of this many variables.
+/// Reads a header of this many variables, and selects those that are named as a dimension, which are none.
 fn reads_variables(
     rt: &impl Abort,
     alloc: Global,
     bytes: &[u8],
     count: usize,
-) -> Result<(), HeadFault> {
+    coordinates: &DumpOptions,
+) -> Result<(), DumpFault> {
     let header = read_header(alloc, &mut MemSource::new(bytes), &mut [0; 4096])?;
     assert_eq!(rt; header.vars.len(), count);
+    let shown = select(alloc, &header, coordinates)?;
+    assert_eq!(rt; shown.len(), count);
     Ok(())
 }
 
-/// With ample memory no header is answered with out of memory, whatever its size.
+/// With ample memory neither a header nor a selection is answered with out of memory, whatever their size.
 #[test]
 fn every_number_of_variables(rt: HostRuntime) -> Result<(), Fail> {
-    for count in 0..200 {
+    let mut coordinates = choosing(rt.alloc(), &[b"v"])?;
+    coordinates.coords = true;
+    for count in 1..200 {
         let bytes = many_variables(rt.alloc(), count)?;
-        reads_variables(&rt, rt.alloc(), bytes.as_slice(), count as usize)?;
+        let count = count as usize;
+        reads_variables(&rt, rt.alloc(), bytes.as_slice(), count, &coordinates)?;
     }
     Ok(())
 }
 
 #[test]
 fn twenty_thousand_variables(rt: HostRuntime) -> Result<(), Fail> {
+    let mut coordinates = options(rt.alloc(), false)?;
+    coordinates.coords = true;
     let bytes = many_variables(rt.alloc(), 20_000)?;
-    reads_variables(&rt, rt.alloc(), bytes.as_slice(), 20_000)?;
+    reads_variables(&rt, rt.alloc(), bytes.as_slice(), 20_000, &coordinates)?;
     Ok(())
 }
