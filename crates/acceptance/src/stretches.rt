@@ -37,9 +37,9 @@ fn places_of_a_file(rt: HostRuntime) -> Result<(), Fail> {
     let mut source = FileSource::open(&rt, path)?;
     fs::remove_file(&rt, path)?;
     let mut few = [0; 16];
-    let mut many = [0; 20000];
+    let mut many = [0; 70000];
     for at in [
-        0, 5, 16380, 16383, 16384, 131071, 3, 199990, 199999, 70000, 10,
+        0, 5, 4095, 4096, 65535, 65536, 131071, 3, 199990, 199999, 70000, 10,
     ] {
         reads(&rt, &mut source, file.as_slice(), at, &mut few);
         reads(&rt, &mut source, file.as_slice(), at, &mut many);
