@@ -27,3 +27,6 @@ pub use name_index::NameIndex;
 pub use packing::{Packed, pack, pack_good};
 pub use read_error::ReadError;
 pub use value::Stop;
+
+#[cfg(test)]
+mod tests;

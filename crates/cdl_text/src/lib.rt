@@ -32,3 +32,6 @@ pub use scanner::Scanner;
 pub use section::Section;
 pub use survey::{Survey, first_pass, look_over, token_fault};
 pub use token::{Token, TokenKind};
+
+#[cfg(test)]
+mod tests;
