@@ -1,6 +1,6 @@
 //! The values of a variable so far.
 
-ghost use Rattle.std.specs.Prelude.{◌≡◌, ◌++◌, ◌∷◌, [], replicate, OnOk, length};
+ghost use Rattle.std.specs.Prelude.{◌≡◌, ◌++◌, ◌∷◌, [], replicate, IfOk, OnOk, length};
 
 use std::alloc::{AllocError, Global};
 use std::marker::Model;
@@ -83,6 +83,19 @@ impl Array {
         self.owed = n;
         self.fill = fill;
         Ok(())
+    }
+
+    /// The bytes, with the filling.
+    ///
+    /// # Errors
+    ///
+    /// The filling was owed, and a growth for it was refused.
+    pub fn into_bytes(self) -> Result<Vec<u8>, AllocError>
+        ensures { IfOk result (λ bytes. bytes.items ≡ self) }
+    {
+        let mut bytes = self.bytes;
+        write_owed(&mut bytes, self.owed, self.fill)?;
+        Ok(bytes)
     }
 
     /// The number of bytes, with the filling.

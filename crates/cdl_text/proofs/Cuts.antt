@@ -1,5 +1,5 @@
 -- The pieces, one token on.
-use Rattle.std.proofs.Common.{◌≡◌, ℕ, Bool, true, false, List, [], ◌∷◌, ◌++◌, sym, ◌∙◌, ap, refl, append_assoc}
+use Rattle.std.proofs.Common.{◌≡◌, drop, ℕ, Bool, true, false, List, [], ◌∷◌, ◌++◌, sym, ◌∙◌, ap, refl, append_assoc}
 use Rattle.std.proofs.lemmas.Bool.{false≢true}
 use Rattle.cdl_text.specs.declared.piece.Step.{Step}
 use Rattle.std.specs.Prelude.{if◌then◌else◌}
@@ -11,7 +11,7 @@ use Rattle.cdl_text.specs.declared.piece.Role.TheVariants.{End}
 use Rattle.cdl_text.specs.declared.piece.CutState.{CutState}
 use Rattle.cdl_text.specs.declared.piece.CutState.TheVariants.{Begins, Inside, Marked, Closed}
 use Rattle.cdl_text.specs.Pieces.{pieces_at, step, ending, with_first, first_role, role_of, raw}
-use Rattle.cdl_text.specs.Cutters.{first_piece, other_pieces}
+use Rattle.cdl_text.specs.Cutters.{first_line, first_piece, other_pieces}
 use Rattle.cdl_text.specs.Roles.{is_end_role, role_in}
 use Rattle.cdl_text.specs.Scanners.{followed, is_end}
 use Rattle.std.specs.Prelude.{map}
@@ -102,3 +102,42 @@ pub after_on : (t : Token) (ends : Bool) (ps : List (List Token)) → other_piec
 after_on t true ps = refl
 after_on t false [] = refl
 after_on t false (p ∷ ps) = refl
+
+begun : (b : Bool) (t : Token) (ps : List (List Token)) → first_piece (with_first b t ps) ≡ t ∷ drop 1 (first_piece (with_first b t ps))
+begun true t ps = refl
+begun false t [] = refl
+begun false t (p ∷ ps) = refl
+
+begun_at : (f : Token → Role) (state : CutState) (t : Token) (ts : List Token) → first_piece (pieces_at f state (t ∷ ts)) ≡ t ∷ drop 1 (first_piece (pieces_at f state (t ∷ ts)))
+unfolding pieces_at
+begun_at f state t ts = begun (step state (f t) (first_role f ts)).ends t (pieces_at f (step state (f t) (first_role f ts)).state ts)
+
+-- the first piece begins with the first token
+pub begins : (f : Token → Role) (state : CutState) (t : Token) (k : TokenKind) (rest : List Token) →
+    first_piece (pieces_at f state (followed t k rest)) ≡ t ∷ drop 1 (first_piece (pieces_at f state (followed t k rest)))
+begins f state t kinds.Opening rest = begun_at f state t rest
+begins f state t kinds.Word rest = begun_at f state t rest
+begins f state t kinds.Number rest = begun_at f state t rest
+begins f state t kinds.Text rest = begun_at f state t rest
+begins f state t kinds.Mark rest = begun_at f state t rest
+begins f state t kinds.Bad rest = begun_at f state t rest
+begins f state t kinds.End rest = begun_at f state t []
+
+line_with : (b : Bool) (t : Token) (ps : List (List Token)) → first_line (with_first b t ps) ≡ t.line
+line_with true t ps = refl
+line_with false t [] = refl
+line_with false t (p ∷ ps) = refl
+
+line_at_first : (f : Token → Role) (state : CutState) (t : Token) (ts : List Token) → first_line (pieces_at f state (t ∷ ts)) ≡ t.line
+unfolding pieces_at
+line_at_first f state t ts = line_with (step state (f t) (first_role f ts)).ends t (pieces_at f (step state (f t) (first_role f ts)).state ts)
+
+-- the first piece's line is that of the first token
+pub line_first : (f : Token → Role) (state : CutState) (t : Token) (k : TokenKind) (rest : List Token) → first_line (pieces_at f state (followed t k rest)) ≡ t.line
+line_first f state t kinds.Opening rest = line_at_first f state t rest
+line_first f state t kinds.Word rest = line_at_first f state t rest
+line_first f state t kinds.Number rest = line_at_first f state t rest
+line_first f state t kinds.Text rest = line_at_first f state t rest
+line_first f state t kinds.Mark rest = line_at_first f state t rest
+line_first f state t kinds.Bad rest = line_at_first f state t rest
+line_first f state t kinds.End rest = line_at_first f state t []

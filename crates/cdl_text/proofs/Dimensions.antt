@@ -86,7 +86,7 @@ and_assoc true b x = refl
 and_assoc false b x = refl
 
 -- after the four tokens of a dimension
-four : (n e l c : Lexeme) (ls : List Lexeme) → completes dues.DimensionName (n ∷ e ∷ l ∷ c ∷ ls) ≡ (is_name n && is_mark 0x3d e && is_length l && completes (next dues.LengthSeparator c) ls)
+pub four : (n e l c : Lexeme) (ls : List Lexeme) → completes dues.DimensionName (n ∷ e ∷ l ∷ c ∷ ls) ≡ (is_name n && is_mark 0x3d e && is_length l && completes (next dues.LengthSeparator c) ls)
 unfolding completes next
 four n e l c ls = by_name (is_name n) ∙ and_four (is_name n) (is_mark 0x3d e) (is_length l) (completes (next dues.LengthSeparator c) ls)
   where
@@ -102,7 +102,7 @@ four n e l c ls = by_name (is_name n) ∙ and_four (is_name n) (is_mark 0x3d e) 
     by_name true = by_equals (is_mark 0x3d e)
     by_name false = never_completes ls
 
-separator_more : (c r : Lexeme) (rs : List Lexeme) → completes (next dues.LengthSeparator c) (r ∷ rs) ≡ (is_mark 0x2c c && completes dues.DimensionName (r ∷ rs))
+pub separator_more : (c r : Lexeme) (rs : List Lexeme) → completes (next dues.LengthSeparator c) (r ∷ rs) ≡ (is_mark 0x2c c && completes dues.DimensionName (r ∷ rs))
 unfolding completes next
 separator_more c r rs = by (is_mark 0x2c c) (is_mark 0x3b c)
   where
@@ -148,7 +148,7 @@ dims_three v n e l = by (is_mark 0x3b l)
     by true = refl
     by false = refl
 
-completes_one : (n : Lexeme) → completes dues.DimensionName (n ∷ []) ≡ false
+pub completes_one : (n : Lexeme) → completes dues.DimensionName (n ∷ []) ≡ false
 unfolding completes next
 completes_one n = by (is_name n)
   where
@@ -156,7 +156,7 @@ completes_one n = by (is_name n)
     by true = refl
     by false = refl
 
-completes_two : (n e : Lexeme) → completes dues.DimensionName (n ∷ e ∷ []) ≡ false
+pub completes_two : (n e : Lexeme) → completes dues.DimensionName (n ∷ e ∷ []) ≡ false
 unfolding completes next
 completes_two n e = by (is_name n) (is_mark 0x3d e)
   where
@@ -168,7 +168,7 @@ completes_two n e = by (is_name n) (is_mark 0x3d e)
     by true b = by_equals (is_mark 0x3d e)
     by false b = refl
 
-completes_three : (n e l : Lexeme) → completes dues.DimensionName (n ∷ e ∷ l ∷ []) ≡ false
+pub completes_three : (n e l : Lexeme) → completes dues.DimensionName (n ∷ e ∷ l ∷ []) ≡ false
 unfolding completes next
 completes_three n e l = by_name (is_name n)
   where

@@ -10,6 +10,7 @@ pub mod Options
 pub mod Listing
 pub mod Shaping
 pub mod Dimensions
+pub mod DimensionSteps
 pub mod VariableNames
 pub mod References
 pub mod Declarations

@@ -30,9 +30,12 @@ is_unlimited l = is_word (codes "unlimited") l || is_word (codes "UNLIMITED") l
 abbrev pub length_said : Version → Lexeme → Option ℤ
 length_said v l = if is_unlimited l then None else Some (number (parts_or_zero (parts v l.bytes))).value
 
+abbrev pub dimension_said : Version → Lexeme → Lexeme → Dimension
+dimension_said v n l = record { name = word_value n.bytes; len = length_said v l }
+
 -- NAME, `=`, a length and a comma or the semicolon
 unfoldable pub dimensions_said : Version → List Lexeme → List Dimension
-dimensions_said v (n ∷ e ∷ l ∷ c ∷ ls) = record { name = word_value n.bytes; len = length_said v l } ∷ dimensions_said v ls
+dimensions_said v (n ∷ e ∷ l ∷ c ∷ ls) = dimension_said v n l ∷ dimensions_said v ls
 dimensions_said v _ = []
 
 -- what the tokens of a declaration say from one on: further dimensions of the variable before, and further variables

@@ -46,6 +46,11 @@ abbrev pub other_pieces : List (List Token) → List (List Token)
 other_pieces [] = []
 other_pieces (p ∷ ps) = ps
 
+-- the line of the first piece's first token
+abbrev pub first_line : List (List Token) → ℕ
+first_line ((t ∷ ts) ∷ ps) = t.line
+first_line _ = 0
+
 -- what the first piece says
 unfoldable pub words : Cutter → List Lexeme
 words c = map (lexeme c.scanner.text.now) (first_piece (pieces_left c))

@@ -1,6 +1,6 @@
 //! The statements of a text, one at a time.
 
-ghost use Rattle.std.specs.Prelude.{◌≡◌, ◌∷◌, [], OnOk, OnErr, IfOk, IsErr, true, false, ◌<◌, if◌then◌else◌};
+ghost use Rattle.std.specs.Prelude.{◌≡◌, ◌∷◌, [], OnOk, OnErr, IfOk, IsErr, true, false, drop, ◌<◌, if◌then◌else◌};
 ghost use Rattle.cdl_text.specs.Roles.{role_in};
 ghost use Rattle.cdl_text.specs.Lexemes.{lexeme};
 ghost use Rattle.cdl_text.specs.Pieces.{with_first};
@@ -35,7 +35,7 @@ pub struct Cutter<'a> {
 }
 
 impl<'a> Cutter<'a> {
-    ghost use Rattle.cdl_text.specs.Cutters.{after, HandsOut, is_done, next_token, offset_of, pieces_left, text_of, tokens_left, version_of, words};
+    ghost use Rattle.cdl_text.specs.Cutters.{after, first_line, HandsOut, is_done, next_token, offset_of, pieces_left, text_of, tokens_left, version_of, words};
     ghost use Rattle.cdl_text.specs.Views.{lexeme_of};
 
     /// The start of a text.
@@ -73,9 +73,17 @@ impl<'a> Cutter<'a> {
 
     /// The next token, without its place.
     pub fn lexeme(&self) -> Lexeme<'a>
-        ensures { lexeme_of result ≡ lexeme (text_of self.now) (next_token self.now) }
+        ensures lexeme { lexeme_of result ≡ lexeme (text_of self.now) (next_token self.now) }
+        ensures first { is_done self.now ≡ false → words self.now ≡ lexeme_of result ∷ drop 1 (words self.now) }
     {
         self.next.lexeme(self.scanner.text())
+    }
+
+    /// The line of the next statement's first token, from 1 on.
+    pub fn line(&self) -> u64
+        ensures { is_done self.now ≡ false → result ≡ first_line (pieces_left self.now) }
+    {
+        self.next.line
     }
 
     /// Fills `into` with the tokens of the next statement, in place of what it had. After the last statement the answer is

@@ -1,4 +1,5 @@
-//! Tests of the crates under `ncdump`, each by itself: types and sizes, devices, and the text of heads and values.
+//! Tests of the crates under the programs, each by itself: types and sizes, devices, the text of heads and values, and the
+//! statements of CDL text.
 #![tactic(auto)]
 
 #[cfg(test)]
@@ -11,6 +12,10 @@ mod lines;
 mod sizes;
 #[cfg(test)]
 mod small_steps;
+#[cfg(test)]
+mod text_statements;
+#[cfg(test)]
+mod text_values;
 #[cfg(test)]
 mod types_and_names;
 #[cfg(test)]

@@ -16,7 +16,7 @@ returns-then-ends c =
     let a = c.args in
     let t = c.tokens in
     let l = lexeme_of c.lexeme-token.result in
-    let here = ending (words t.cutter) (words c.advance-ends.new.self) (lexeme (text_of t.cutter) (next_token t.cutter)) l c.advance-ends.result c.advance-ends.ensures.words (sym c.lexeme-token.ensures) c.if-ends.true in
+    let here = ending (words t.cutter) (words c.advance-ends.new.self) (lexeme (text_of t.cutter) (next_token t.cutter)) l c.advance-ends.result c.advance-ends.ensures.words (sym c.lexeme-token.ensures.lexeme) c.if-ends.true in
     ap (λ v. packed a.filling a.capacity (values v (words a.start))) (sym c.version-version.ensures) ∙ sym t.invariant.rest ∙ ap (λ ws. joined (Ok t.array) (packed a.filling t.left (values c.version-version.result ws))) here ∙ c.in-Ok.ensures [] ∙ none_packed a.filling c.in-Ok.capacity c.version-version.result c.put_token.new.array
 
 pub tokens-preserved : goal.tokens-preserved
@@ -25,7 +25,7 @@ tokens-preserved c =
     let t = c.tokens in
     let rest = words c.advance-ends.new.self in
     let l = lexeme_of c.lexeme-token.result in
-    let here = going (words t.cutter) rest (lexeme (text_of t.cutter) (next_token t.cutter)) l c.advance-ends.result c.advance-ends.ensures.words (sym c.lexeme-token.ensures) c.if-ends.false in
+    let here = going (words t.cutter) rest (lexeme (text_of t.cutter) (next_token t.cutter)) l c.advance-ends.result c.advance-ends.ensures.words (sym c.lexeme-token.ensures.lexeme) c.if-ends.false in
     record {
       text = c.advance-ends.ensures.text ∙ t.invariant.text;
       version = c.advance-ends.ensures.version ∙ t.invariant.version;
@@ -39,5 +39,5 @@ returns-in-Err c =
     let t = c.tokens in
     let l = lexeme_of c.lexeme-token.result in
     let rest = if c.advance-ends.result then [] else words c.advance-ends.new.self in
-    let here = first_word (words t.cutter) (words c.advance-ends.new.self) (lexeme (text_of t.cutter) (next_token t.cutter)) l c.advance-ends.result c.advance-ends.ensures.words (sym c.lexeme-token.ensures) in
+    let here = first_word (words t.cutter) (words c.advance-ends.new.self) (lexeme (text_of t.cutter) (next_token t.cutter)) l c.advance-ends.result c.advance-ends.ensures.words (sym c.lexeme-token.ensures.lexeme) in
     subst (λ (r : Result (List ℕ) CdlKind). Fails c.in-Err.e r) (sym (ap (λ v. packed a.filling a.capacity (values v (words a.start))) (sym c.version-version.ensures) ∙ sym t.invariant.rest ∙ ap (λ ws. joined (Ok t.array) (packed a.filling t.left (values c.version-version.result ws))) here)) (c.in-Err.ensures rest)

@@ -15,7 +15,7 @@ returns-then-is_whole-clause-bad c =
     let a = c.args in
     let t = c.tokens in
     let l = lexeme_of c.lexeme-token.result in
-    let here = ending (words t.cutter) (words c.advance-ends.new.self) (lexeme (text_of t.cutter) (next_token t.cutter)) l c.advance-ends.result c.advance-ends.ensures.words (sym c.lexeme-token.ensures) c.if-ends.true in
+    let here = ending (words t.cutter) (words c.advance-ends.new.self) (lexeme (text_of t.cutter) (next_token t.cutter)) l c.advance-ends.result c.advance-ends.ensures.words (sym c.lexeme-token.ensures.lexeme) c.if-ends.true in
     ap (λ v. first_bad v (words a.start)) (sym c.version-version.ensures) ∙ sym t.invariant.bad ∙ ap (first_bad c.version-version.result) here ∙ good_end c.version-version.result l c.in-Ok.ensures.good
 
 pub returns-then-is_whole-clause-packs : goal.returns-then-is_whole-clause-packs
@@ -23,7 +23,7 @@ returns-then-is_whole-clause-packs c =
     let a = c.args in
     let t = c.tokens in
     let l = lexeme_of c.lexeme-token.result in
-    let here = ending (words t.cutter) (words c.advance-ends.new.self) (lexeme (text_of t.cutter) (next_token t.cutter)) l c.advance-ends.result c.advance-ends.ensures.words (sym c.lexeme-token.ensures) c.if-ends.true in
+    let here = ending (words t.cutter) (words c.advance-ends.new.self) (lexeme (text_of t.cutter) (next_token t.cutter)) l c.advance-ends.result c.advance-ends.ensures.words (sym c.lexeme-token.ensures.lexeme) c.if-ends.true in
     ap (λ v. packed a.filling a.capacity (values v (words a.start))) (sym c.version-version.ensures) ∙ sym t.invariant.packs ∙ ap (λ ws. joined (Ok t.array) (packed a.filling t.left (values c.version-version.result ws))) here ∙ c.in-Ok.ensures.packs [] ∙ none_packed a.filling c.in-Ok.capacity c.version-version.result c.take_good.new.array
 
 pub tokens-preserved : goal.tokens-preserved
@@ -33,7 +33,7 @@ tokens-preserved c =
     let t = c.tokens in
     let rest = words c.advance-ends.new.self in
     let l = lexeme_of c.lexeme-token.result in
-    let here = going (words t.cutter) rest (lexeme (text_of t.cutter) (next_token t.cutter)) l c.advance-ends.result c.advance-ends.ensures.words (sym c.lexeme-token.ensures) c.if-ends.false in
+    let here = going (words t.cutter) rest (lexeme (text_of t.cutter) (next_token t.cutter)) l c.advance-ends.result c.advance-ends.ensures.words (sym c.lexeme-token.ensures.lexeme) c.if-ends.false in
     record {
       text = c.advance-ends.ensures.text ∙ t.invariant.text;
       version = c.advance-ends.ensures.version ∙ t.invariant.version;
@@ -49,5 +49,5 @@ unfolding completes
 returns-then-is_whole-clause-shaped c =
     let t = c.tokens in
     let l = lexeme_of c.lexeme-token.result in
-    let here = ending (words t.cutter) (words c.advance-ends.new.self) (lexeme (text_of t.cutter) (next_token t.cutter)) l c.advance-ends.result c.advance-ends.ensures.words (sym c.lexeme-token.ensures) c.if-ends.true in
+    let here = ending (words t.cutter) (words c.advance-ends.new.self) (lexeme (text_of t.cutter) (next_token t.cutter)) l c.advance-ends.result c.advance-ends.ensures.words (sym c.lexeme-token.ensures.lexeme) c.if-ends.true in
     sym t.invariant.shaped ∙ ap (completes t.due) here ∙ ap (λ d. completes d []) (sym c.in-Ok.ensures.shape) ∙ sym c.is_whole.ensures ∙ c.if-is_whole.true

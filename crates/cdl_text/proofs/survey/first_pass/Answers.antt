@@ -12,7 +12,7 @@ returns-then-ends-clause-bad c =
     let t = c.tokens in
     let l = lexeme_of c.lexeme-token.result in
     let v = c.version-version.result in
-    let here = ending (words t.cutter) (words c.advance-ends.new.self) (lexeme (text_of t.cutter) (next_token t.cutter)) l c.advance-ends.result c.advance-ends.ensures.words (sym c.lexeme-token.ensures) c.if-ends.true in
+    let here = ending (words t.cutter) (words c.advance-ends.new.self) (lexeme (text_of t.cutter) (next_token t.cutter)) l c.advance-ends.result c.advance-ends.ensures.words (sym c.lexeme-token.ensures.lexeme) c.if-ends.true in
     c.either-bad.ensures ∙ ap (either t.bad) c.token_fault.ensures ∙
     sym (ap (either t.bad) (ap (first_bad v) here) ∙ bad_on v t.bad l [] ∙ none_bad v (either t.bad (token_fault v l.kind l.bytes))) ∙
     t.invariant.bad ∙ ap (λ w. first_bad w (words c.args.start)) c.version-version.ensures
@@ -24,7 +24,7 @@ tokens-preserved c =
     let l = lexeme_of c.lexeme-token.result in
     let v = c.version-version.result in
     let rest = words c.advance-ends.new.self in
-    let here = going (words t.cutter) rest (lexeme (text_of t.cutter) (next_token t.cutter)) l c.advance-ends.result c.advance-ends.ensures.words (sym c.lexeme-token.ensures) c.if-ends.false in
+    let here = going (words t.cutter) rest (lexeme (text_of t.cutter) (next_token t.cutter)) l c.advance-ends.result c.advance-ends.ensures.words (sym c.lexeme-token.ensures.lexeme) c.if-ends.false in
     record {
       text = c.advance-ends.ensures.text ∙ t.invariant.text;
       version = c.advance-ends.ensures.version ∙ t.invariant.version;
@@ -40,5 +40,5 @@ unfolding completes
 returns-then-ends-clause-shaped c =
     let t = c.tokens in
     let l = lexeme_of c.lexeme-token.result in
-    let here = ending (words t.cutter) (words c.advance-ends.new.self) (lexeme (text_of t.cutter) (next_token t.cutter)) l c.advance-ends.result c.advance-ends.ensures.words (sym c.lexeme-token.ensures) c.if-ends.true in
+    let here = ending (words t.cutter) (words c.advance-ends.new.self) (lexeme (text_of t.cutter) (next_token t.cutter)) l c.advance-ends.result c.advance-ends.ensures.words (sym c.lexeme-token.ensures.lexeme) c.if-ends.true in
     c.is_whole.ensures ∙ ap (λ d. completes d []) c.after-due.ensures ∙ ap (completes t.due) (sym here) ∙ t.invariant.shaped

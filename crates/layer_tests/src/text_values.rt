@@ -1,0 +1,165 @@
+//! The values of statements of the data section, and the lengths and names of dimensions.
+
+use cdl_parse::{Filling, NameIndex, ReadError, Target, check_new, dim_len, read};
+use cdl_text::{CdlKind, Cutter, Numeral};
+use nc_base::{NcType, Version};
+use std::alloc::Global;
+use std::process::Abort;
+use std::test::*;
+
+/// The variables of the rows below: their names, and what they take.
+const NAMES: [&[u8]; 5] = [b"v", b"c", b"r", b"u", b"g"];
+
+/// An index of these names.
+fn index_of(alloc: Global, names: &[&[u8]]) -> Result<NameIndex, ReadError> {
+    let mut index = NameIndex::new(alloc);
+    let mut position = 0;
+    for name in names {
+        let name = Vec::from_slice(alloc, name).map_err(|_| ReadError::OutOfMemory)?;
+        index
+            .add(name, position)
+            .map_err(|_| ReadError::OutOfMemory)?;
+        position += 1;
+    }
+    Ok(index)
+}
+
+/// The bytes that a statement of the data section gives to its variable: `v` has three shorts, `c` four characters, `r`
+/// two rows of three, `u` any number of ints, and `g` has its values.
+fn values_of(alloc: Global, text: &[u8]) -> Result<Vec<u8>, ReadError> {
+    let short = Filling::Numbers {
+        ty: NcType::Short,
+        fill: b"\x80\x01",
+    };
+    let int = Filling::Numbers {
+        ty: NcType::Int,
+        fill: b"\x80\x00\x00\x01",
+    };
+    let targets = [
+        Target {
+            filling: short,
+            capacity: Some(3),
+            given: false,
+        },
+        Target {
+            filling: Filling::Joined,
+            capacity: Some(4),
+            given: false,
+        },
+        Target {
+            filling: Filling::Rows { len: 3, fill: 0 },
+            capacity: Some(2),
+            given: false,
+        },
+        Target {
+            filling: int,
+            capacity: None,
+            given: false,
+        },
+        Target {
+            filling: short,
+            capacity: Some(3),
+            given: true,
+        },
+    ];
+    let index = index_of(alloc, &NAMES)?;
+    let given = read(alloc, &index, &targets, Cutter::new(text, Version::Cdf1))?;
+    given.array.into_bytes().map_err(|_| ReadError::OutOfMemory)
+}
+
+#[test]
+fn values_are_packed(rt: HostRuntime) {
+    let rows: [(&[u8], &[u8]); 8] = [
+        (b"v = 1, -2, _ ;", b"\x00\x01\xff\xfe\x80\x01"),
+        (b"v = 0x7fff, -32768 ;", b"\x7f\xff\x80\x00"),
+        (b"v = 1b ;", b"\x00\x01"),
+        (
+            b"u = 017, 2147483647 ;",
+            b"\x00\x00\x00\x0f\x7f\xff\xff\xff",
+        ),
+        (b"c = \"ab\", \"c\" ;", b"abc"),
+        (b"c = \"\\x41\\0\" ;", b"A\x00"),
+        (b"r = \"ab\", \"c\" ;", b"ab\x00c\x00\x00"),
+        (b"\\v = 5 ;", b"\x00\x05"),
+    ];
+    for (text, want) in rows {
+        match values_of(rt.alloc(), text) {
+            Ok(bytes) => assert_eq!(rt; bytes.as_slice(), want),
+            Err(e) => assert_eq!(rt; e, ReadError::OutOfMemory),
+        }
+    }
+}
+
+#[test]
+fn first_fault_wins(rt: HostRuntime) {
+    let rows: [(&[u8], CdlKind); 18] = [
+        (b"v = 1, 40000, % ;", CdlKind::BadToken),
+        (b"w = 1 08 ;", CdlKind::BadNumber),
+        (b"v = 1ub ;", CdlKind::BadNumber),
+        (b"w = 1, ;", CdlKind::Syntax),
+        (b"v = 1", CdlKind::Syntax),
+        (b"int = 1 ;", CdlKind::Syntax),
+        (b"a\\/b = 40000 ;", CdlKind::BadName),
+        (b"w = \"a\" ;", CdlKind::UnknownVariable),
+        (b"g = \"a\" ;", CdlKind::DuplicateData),
+        (b"v = \"a\", 40000 ;", CdlKind::WrongKind),
+        (b"c = _ ;", CdlKind::WrongKind),
+        (b"v = 1, 2, 3, 40000 ;", CdlKind::TooManyValues),
+        (b"r = \"a\", \"b\", \"abcd\" ;", CdlKind::TooManyValues),
+        (b"c = \"abc\", \"de\", 1 ;", CdlKind::StringTooLong),
+        (b"r = \"abcd\", 1 ;", CdlKind::StringTooLong),
+        (b"v = 32768, \"a\" ;", CdlKind::NumberRange),
+        (b"v = -32769 ;", CdlKind::NumberRange),
+        (b"u = 100000000000000000000000 ;", CdlKind::NumberRange),
+    ];
+    for (text, kind) in rows {
+        match values_of(rt.alloc(), text) {
+            Ok(_) => assert!(rt; false),
+            Err(ReadError::Fault(fault)) => assert_eq!(rt; fault, kind),
+            Err(ReadError::OutOfMemory) => {}
+        }
+    }
+}
+
+#[test]
+fn values_are_read_with_ample_memory(rt: HostRuntime) {
+    assert!(rt; values_of(rt.alloc(), b"v = 1 ;").is_ok());
+}
+
+#[test]
+fn dimensions_have_lengths(rt: HostRuntime) {
+    let number = |magnitude| {
+        Some(Numeral {
+            minus: false,
+            magnitude,
+            ty: NcType::Int,
+        })
+    };
+    let rows = [
+        (Version::Cdf1, number(Some(0)), Err(CdlKind::ZeroDimension)),
+        (Version::Cdf1, number(Some(2147483647)), Ok(2147483647)),
+        (
+            Version::Cdf1,
+            number(Some(2147483648)),
+            Err(CdlKind::NumberRange),
+        ),
+        (Version::Cdf5, number(Some(2147483648)), Ok(2147483648)),
+        (Version::Cdf5, number(None), Err(CdlKind::NumberRange)),
+        (Version::Cdf5, None, Err(CdlKind::TwoRecordDims)),
+    ];
+    for (version, n, want) in rows {
+        assert_eq!(rt; dim_len(version, true, n), want);
+    }
+    assert_eq!(rt; dim_len(Version::Cdf1, false, None), Ok(0));
+}
+
+#[test]
+fn new_dimensions_have_new_names(rt: HostRuntime) {
+    if let Ok(index) = index_of(rt.alloc(), &NAMES) {
+        assert_eq!(rt; check_new(&index, b"w"), Ok(()));
+        assert_eq!(rt; check_new(&index, b"g"), Err(CdlKind::DuplicateName));
+        assert_eq!(rt; check_new(&index, b"a/b"), Err(CdlKind::BadName));
+        assert_eq!(rt; index.find(b"u"), Some(3));
+        assert_eq!(rt; index.find(b"w"), None);
+    }
+}
