@@ -1,0 +1,52 @@
+-- The tokens of a statement, one at a time.
+use Rattle.std.proofs.Common.{◌≡◌, Bool, true, false, List, [], ◌∷◌, refl, sym, ap, ◌∙◌}
+use Rattle.std.specs.Prelude.{◌&&◌, if◌then◌else◌, map}
+use Rattle.std.proofs.lemmas.Bool.{false≢true}
+use Rattle.cdl_text.specs.Cutters.{first_piece, is_done, next_token, pieces_left, text_of, tokens_left, words}
+use Rattle.cdl_text.specs.DueTokens.{completes, is_whole, next, only}
+use Rattle.cdl_text.specs.Lexemes.{Lexeme, lexeme}
+use Rattle.cdl_text.specs.Pieces.{first_role, pieces_at, step}
+use Rattle.cdl_text.specs.Roles.{role_in}
+use Rattle.cdl_text.specs.Scanners.{followed, left}
+use Rattle.cdl_text.specs.declared.cutter.Cutter.{Cutter}
+use Rattle.cdl_text.specs.declared.due.Due.{Due}
+use Rattle.cdl_text.specs.declared.token.Token.{Token}
+use Rattle.cdl_text.specs.declared.token.TokenKind.{TokenKind}
+use Rattle.cdl_text.specs.declared.token.TokenKind.TheVariants as kinds
+use Rattle.cdl_text.proofs.Cuts.{words_on}
+use Rattle.cdl_text.proofs.Listing.{only_completes}
+
+-- the first token is the next one
+followed_is : (t : Token) (kind : TokenKind) (rest : List Token) → (tail : List Token) × (followed t kind rest ≡ t ∷ tail)
+followed_is t kinds.End rest = ([], refl)
+followed_is t kinds.Opening rest = (rest, refl)
+followed_is t kinds.Word rest = (rest, refl)
+followed_is t kinds.Number rest = (rest, refl)
+followed_is t kinds.Text rest = (rest, refl)
+followed_is t kinds.Mark rest = (rest, refl)
+followed_is t kinds.Bad rest = (rest, refl)
+
+pub begins : (c : Cutter) → is_done c ≡ false → (rest : List Lexeme) × (words c ≡ lexeme (text_of c) (next_token c) ∷ rest)
+unfolding words pieces_left pieces_at
+begins c more =
+    let text = text_of c in
+    let tail = followed_is c.next c.next.kind (left c.scanner) in
+    let all : tokens_left c ≡ c.next ∷ tail.0 = rw (more) tail.1 in
+    let here = step c.state (role_in text c.next) (first_role (role_in text) tail.0) in
+    let after = pieces_at (role_in text) here.state tail.0 in (
+      (if here.ends then [] else map (lexeme text) (first_piece after)),
+      ap (λ ts. map (lexeme text) (first_piece (pieces_at (role_in text) c.state ts))) all ∙ words_on text c.next here.ends after,
+    )
+
+-- a statement that has its shape goes on after a token that is not its last
+pub goes_past : (due following : Due) (l : Lexeme) (test ends : Bool) (ws all : List Lexeme) → next due l ≡ only test following → is_whole following ≡ false → all ≡ l ∷ (if ends then [] else ws) → completes due all ≡ true →
+    (ends ≡ false) × (test ≡ true) × (completes following ws ≡ true)
+unfolding completes
+goes_past due following l test ends ws all is unfinished first on =
+    by test ends
+    (sym (only_completes test following (if ends then [] else ws)) ∙ sym (ap (λ d. completes d (if ends then [] else ws)) is) ∙ sym (ap (completes due) first) ∙ on)
+  where
+    by : (test ends : Bool) → (test && completes following (if ends then [] else ws)) ≡ true → (ends ≡ false) × (test ≡ true) × (completes following ws ≡ true)
+    by true true h = absurd (false≢true (sym unfinished ∙ h))
+    by true false h = (refl, refl, h)
+    by false ends h = absurd (false≢true h)

@@ -1,0 +1,57 @@
+-- The variable of a name is the one at the name's position.
+use Rattle.std.proofs.Common.{◌≡◌, ℕ, suc, ◌+◌, ◌<◌, Bool, true, false, List, [], ◌∷◌, length, refl, ap, ◌∙◌, arith}
+use Rattle.std.specs.Prelude.{Option, None, Some, Result, Ok, Err, if◌then◌else◌}
+use Rattle.std.specs.List.{position_from}
+use Rattle.std.specs.Str.{bytes_eq}
+use Rattle.nc_base.specs.Names.{is_name}
+use Rattle.cdl_text.specs.declared.fault.CdlKind.{CdlKind}
+use Rattle.cdl_text.specs.declared.fault.CdlKind.TheVariants.{BadName, UnknownVariable}
+use Rattle.cdl_parse.specs.Meant.{names_of}
+use Rattle.cdl_parse.specs.NameIndices.{position_of}
+use Rattle.cdl_parse.specs.State.{Draft, at_named, at_variable, ◌>>=◌}
+use Rattle.cdl_parse.specs.VariablePositions.{at_position}
+
+module _ (name : List ℕ) (f : Draft → Result Draft CdlKind) where
+  abbrev place : ℕ → List Draft → Option ℕ
+  place i ds = position_from (λ other. bytes_eq other name) i (names_of ds)
+
+  -- what the variable at a position becomes
+  abbrev Found : ℕ → List Draft → ℕ → Type 0
+  Found i ds k = (j : ℕ) × (k ≡ i + j) × (j < length ds) × (at_named name f ds ≡ at_position j f ds)
+
+  found_at : (i : ℕ) (ds : List Draft) (k : ℕ) → place i ds ≡ Some k → Found i ds k
+  found_at i [] k is = cc
+  found_at i (d ∷ ds) k is = by (bytes_eq d.var.name name) (found_at (i + 1) ds k) is
+    where
+      by : (same : Bool) → (place (i + 1) ds ≡ Some k → Found (i + 1) ds k) → (if same then Some i else place (i + 1) ds) ≡ Some k →
+          (j : ℕ) × (k ≡ i + j) × (j < suc (length ds)) × ((if same then (f d >>= (λ e. Ok (e ∷ ds))) else (at_named name f ds >>= (λ es. Ok (d ∷ es)))) ≡ at_position j f (d ∷ ds))
+      by true more is = (0, (let first : i ≡ k = cc in omega (arith, first)), omega arith, refl)
+      by false more is = let found = more is in (suc found.0, omega (arith, found.1), omega (arith, found.2), ap (λ (r : Result (List Draft) CdlKind). r >>= (λ es. Ok (d ∷ es))) found.3)
+
+  not_found : (i : ℕ) (ds : List Draft) → place i ds ≡ None → at_named name f ds ≡ Err UnknownVariable
+  not_found i [] is = refl
+  not_found i (d ∷ ds) is = by (bytes_eq d.var.name name) (not_found (i + 1) ds) is
+    where
+      by : (same : Bool) → (place (i + 1) ds ≡ None → at_named name f ds ≡ Err UnknownVariable) → (if same then Some i else place (i + 1) ds) ≡ None →
+          (if same then (f d >>= (λ e. Ok (e ∷ ds))) else (at_named name f ds >>= (λ es. Ok (d ∷ es)))) ≡ Err UnknownVariable
+      by true more is = cc
+      by false more is = ap (λ (r : Result (List Draft) CdlKind). r >>= (λ es. Ok (d ∷ es))) (more is)
+
+  named_as : (ds : List Draft) → is_name name ≡ true → at_variable name f ds ≡ at_named name f ds
+  unfolding at_variable
+  named_as ds named = rw (named) refl
+
+  pub no_name : (ds : List Draft) → is_name name ≡ false → at_variable name f ds ≡ Err BadName
+  unfolding at_variable
+  no_name ds off = rw (off) refl
+
+  pub unknown : (ds : List Draft) → is_name name ≡ true → position_of (names_of ds) name ≡ None → at_variable name f ds ≡ Err UnknownVariable
+  unknown ds named is = named_as ds named ∙ not_found 0 ds is
+
+  pub changed : (ds : List Draft) (k : ℕ) → is_name name ≡ true → position_of (names_of ds) name ≡ Some k → at_variable name f ds ≡ at_position k f ds
+  changed ds k named is =
+      let found = found_at 0 ds k is in
+      named_as ds named ∙ found.3 ∙ ap (λ j. at_position j f ds) (let e : found.0 ≡ k = omega (arith, found.1) in e)
+
+pub within : (name : List ℕ) (ds : List Draft) (k : ℕ) → position_of (names_of ds) name ≡ Some k → k < length ds
+within name ds k is = let found = found_at name (λ d. Ok d) 0 ds k is in omega (arith, found.1, found.2)

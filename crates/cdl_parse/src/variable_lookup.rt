@@ -1,0 +1,39 @@
+//! The variable that a statement names.
+
+ghost use Rattle.std.specs.Prelude.{◌≡◌, ◌<◌, List, Result, IfOk, length};
+ghost use Rattle.cdl_text.specs.Lexemes.{word_value};
+ghost use Rattle.cdl_text.specs.declared.fault.CdlKind as fault;
+ghost use Rattle.cdl_parse.specs.Answers.{Continues};
+ghost use Rattle.cdl_parse.specs.Meant.{names_of};
+ghost use Rattle.cdl_parse.specs.NameIndices.{IsIndex};
+ghost use Rattle.cdl_parse.specs.State.{Draft, at_variable};
+ghost use Rattle.cdl_parse.specs.VariablePositions.{at_position};
+
+use crate::name::name_of_word;
+use crate::name_index::NameIndex;
+use crate::read_error::ReadError;
+use cdl_text::CdlKind;
+use nc_base::check_name;
+use std::alloc::Global;
+
+/// The position of the variable that a word names; the index has the names of the variables.
+///
+/// # Errors
+///
+/// A name that the format doesn't allow (`BadName`), or that no variable has (`UnknownVariable`). Or a growth was refused.
+pub fn variable_position(alloc: Global, index: &NameIndex, word: &[u8]) -> Result<u64, ReadError>
+    ensures finds { (drafts : List Draft) → IsIndex index.now (names_of drafts) → (change : Draft → Result Draft fault.CdlKind) → Continues (λ position. at_position position change drafts) result (at_variable (word_value word.now) change drafts) }
+    ensures within { (drafts : List Draft) → IsIndex index.now (names_of drafts) → IfOk result (λ position. position < length drafts) }
+{
+    let name = match name_of_word(alloc, word) {
+        Ok(name) => name,
+        Err(_) => return Err(ReadError::OutOfMemory),
+    };
+    if !check_name(name.as_slice()) {
+        return Err(ReadError::Fault(CdlKind::BadName));
+    }
+    match index.find(name.as_slice()) {
+        Some(position) => Ok(position),
+        None => Err(ReadError::Fault(CdlKind::UnknownVariable)),
+    }
+}
