@@ -6,3 +6,8 @@ pub mod DataReads
 pub mod Joins
 pub mod Lengths
 pub mod Suited
+pub mod NameSets
+pub mod ConstantBytes
+pub mod StatementWords
+pub mod AttributeReads
+pub mod VariableNames

@@ -7,3 +7,6 @@ pub mod Capacities
 pub mod DataRead
 pub mod Meant
 pub mod DimensionLengths
+pub mod AttributeNames
+pub mod AttributeRead
+pub mod VariablePositions

@@ -6,6 +6,9 @@
 #![tactic(auto)]
 
 mod array;
+mod attribute;
+mod attributes;
+mod constant;
 mod data;
 mod dimension;
 mod filling;
@@ -16,8 +19,11 @@ mod packing;
 mod read_error;
 mod string;
 mod value;
+mod variable_lookup;
 
 pub use array::Array;
+pub use attribute::read_attribute;
+pub use attributes::Attributes;
 pub use cdl_text::{CdlFault, CdlKind};
 pub use data::{Given, Target, read};
 pub use dimension::{check_new, dim_len};
@@ -27,3 +33,4 @@ pub use name_index::NameIndex;
 pub use packing::{Packed, pack, pack_good};
 pub use read_error::ReadError;
 pub use value::Stop;
+pub use variable_lookup::variable_position;

@@ -13,6 +13,8 @@ mod sizes;
 #[cfg(test)]
 mod small_steps;
 #[cfg(test)]
+mod text_attributes;
+#[cfg(test)]
 mod text_statements;
 #[cfg(test)]
 mod text_values;

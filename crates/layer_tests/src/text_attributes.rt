@@ -1,5 +1,7 @@
-use super::*;
-use cdl_text::{Cutter, Due, first_pass};
+//! Attributes, as statements of CDL text declare them.
+
+use cdl_parse::{Attributes, NameIndex, ReadError, read_attribute, variable_position};
+use cdl_text::{CdlKind, Cutter, Due, first_pass};
 use nc_base::{NcType, Version};
 use std::alloc::Global;
 use std::process::Abort;
