@@ -51,6 +51,7 @@ fn advancing_ends_where_statements_end(rt: HostRuntime) {
     let mut cutter = Cutter::new(text, Version::Cdf1);
     for len in [1, 2, 4, 2, 6, 1, 1] {
         for i in 0..len {
+            assert!(rt; !cutter.is_done());
             assert_eq!(rt; cutter.advance(), i + 1 == len);
         }
     }
@@ -154,6 +155,7 @@ fn characters_stand_for_bytes(rt: HostRuntime) {
         (b"\\xg", None, 2),
     ];
     for (bytes, value, len) in rows {
+        assert!(rt; !bytes.is_empty());
         assert_eq!(rt; character(bytes), Character { value, len });
     }
 }
