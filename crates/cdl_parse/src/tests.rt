@@ -11,13 +11,11 @@ const NAMES: [&[u8]; 5] = [b"v", b"c", b"r", b"u", b"g"];
 /// An index of these names.
 fn index_of(alloc: Global, names: &[&[u8]]) -> Result<NameIndex, ReadError> {
     let mut index = NameIndex::new(alloc);
-    let mut position = 0;
-    for name in names {
-        let name = Vec::from_slice(alloc, name).map_err(|_| ReadError::OutOfMemory)?;
+    for position in 0..names.len() {
+        let name = Vec::from_slice(alloc, names[position]).map_err(|_| ReadError::OutOfMemory)?;
         index
-            .add(name, position)
+            .add(name, position as u64)
             .map_err(|_| ReadError::OutOfMemory)?;
-        position += 1;
     }
     Ok(index)
 }
