@@ -11,3 +11,4 @@ pub mod ConstantBytes
 pub mod StatementWords
 pub mod AttributeReads
 pub mod VariableNames
+pub mod Runs

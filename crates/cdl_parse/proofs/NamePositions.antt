@@ -1,6 +1,6 @@
 -- A name more in an index.
 use Rattle.std.proofs.Common.{◌≡◌, ℕ, suc, ◌+◌, Bool, true, false, cond, List, [], ◌∷◌, ◌++◌, length, refl, sym, ap, ◌∙◌, subst, ⊎_elim, arith, Vec, Global}
-use Rattle.std.specs.Prelude.{Option, None, Some}
+use Rattle.std.specs.Prelude.{Option, None, Some, Result, Ok, Err, OnErr}
 use Rattle.std.specs.List.{position_from}
 use Rattle.std.specs.BTreeMap as tree
 use Rattle.std.specs.BTreeMap.{BTreeMap}
@@ -77,3 +77,11 @@ pub indexed : (m n : BTreeMap (Vec ℕ Global) ℕ) (k : Vec ℕ Global) (positi
     (name : List ℕ) → at n name ≡ position_of (names ++ k.items ∷ []) name
 indexed m n k position h names was is new name =
     updated m n k (Some position) h name ∙ ap (cond (bytes_eq k.items name) (Some position)) (was name) ∙ ap (λ p. cond (bytes_eq k.items name) (Some p) (position_of names name)) is ∙ sym (placed names k.items name new)
+
+-- the same entries have the same positions
+pub unchanged : (m n : BTreeMap (Vec ℕ Global) ℕ) → n.entries ≡ m.entries → (name : List ℕ) → at n name ≡ at m name
+unchanged m n same name = ap (lookup (tree.is_at (λ (k : Vec ℕ Global). slice_cmp nat_cmp name k.items))) same
+
+pub where_err : {A E : Type 0} (r : Result A E) (P : Type 0) → P → OnErr r P
+where_err (Ok a) P h = tt
+where_err (Err e) P h = h

@@ -10,3 +10,5 @@ pub mod DimensionLengths
 pub mod AttributeNames
 pub mod AttributeRead
 pub mod VariablePositions
+pub mod Runs
+pub mod Listed

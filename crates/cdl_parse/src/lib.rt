@@ -31,6 +31,6 @@ pub use filling::Filling;
 pub use name::name_of_word;
 pub use name_index::NameIndex;
 pub use packing::{Packed, pack, pack_good};
-pub use read_error::ReadError;
+pub use read_error::{ParseError, ReadError};
 pub use value::Stop;
 pub use variable_lookup::variable_position;

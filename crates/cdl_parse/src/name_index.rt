@@ -1,6 +1,6 @@
 //! The positions of names in their list.
 
-ghost use Rattle.std.specs.Prelude.{◌≡◌, ◌++◌, ◌∷◌, [], ℕ, List, None, OnOk, length};
+ghost use Rattle.std.specs.Prelude.{◌≡◌, ◌++◌, ◌∷◌, [], ℕ, List, None, OnErr, OnOk, length};
 ghost use Rattle.cdl_parse.specs.NameIndices.{IsIndex, position_of};
 
 use std::alloc::{AllocError, Global};
@@ -33,9 +33,10 @@ impl NameIndex {
     ///
     /// # Errors
     ///
-    /// A growth was refused.
+    /// A growth was refused. Then the index has the names that it had.
     pub fn add(&mut self, name: Vec<u8>, position: u64) -> Result<(), AllocError>
-        ensures { (names : List (List ℕ)) → IsIndex self.old names → position ≡ length names → position_of names name.items ≡ None → OnOk result (IsIndex self.new (names ++ name.items ∷ [])) }
+        ensures ok { (names : List (List ℕ)) → IsIndex self.old names → position ≡ length names → position_of names name.items ≡ None → OnOk result (IsIndex self.new (names ++ name.items ∷ [])) }
+        ensures err { OnErr result ((names : List (List ℕ)) → IsIndex self.old names → IsIndex self.new names) }
     {
         self.positions.insert(name, position)?;
         Ok(())

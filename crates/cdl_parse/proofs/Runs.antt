@@ -1,0 +1,47 @@
+-- A run over statements, one statement on.
+use Rattle.std.proofs.Common.{◌≡◌, ℕ, true, false, List, [], ◌∷◌, refl, sym, ap}
+use Rattle.std.specs.Prelude.{Result, Ok, Err, map}
+use Rattle.nc_base.specs.declared.version.Version.{Version}
+use Rattle.cdl_text.specs.Cutters.{after, first_line, first_piece, is_done, other_pieces, next_token, pieces_left, text_of, words}
+use Rattle.cdl_text.specs.Lexemes.{Lexeme, lexeme}
+use Rattle.cdl_text.specs.Pieces.{pieces_at}
+use Rattle.cdl_text.specs.declared.cutter.Cutter.{Cutter}
+use Rattle.cdl_text.specs.declared.fault.CdlKind.{CdlKind}
+use Rattle.cdl_text.specs.declared.token.Token.{Token}
+use Rattle.cdl_parse.specs.Answers.{Fails}
+use Rattle.cdl_parse.specs.Meaning.{line_of, piece_read, run}
+use Rattle.cdl_parse.specs.Runs.{FailsAt, at_line, run_after}
+use Rattle.cdl_parse.specs.State.{State}
+use Rattle.cdl_parse.specs.declared.read_error.ReadError.{ReadError}
+use Rattle.cdl_parse.specs.declared.read_error.ReadError.TheVariants.{OutOfMemory, Fault}
+use Rattle.cdl_parse.proofs.StatementWords.{begins}
+
+line_is : (p : List Token) (ps : List (List Token)) → first_line (p ∷ ps) ≡ line_of p
+line_is [] ps = refl
+line_is (t ∷ ts) ps = refl
+
+with_line : (text : List ℕ) (v : Version) (ps : List (List Token)) (r : Result State CdlKind) (line other : ℕ) → line ≡ other →
+    elim r [ Ok t ↦ run text v t ps | Err kind ↦ Err (record { line = line; kind = kind }) ] ≡ run_after text v other ps r
+with_line text v ps (Ok t) line other same = refl
+with_line text v ps (Err kind) line other same = ap (λ n. Err (record { line = n; kind = kind })) same
+
+run_pieces : (text : List ℕ) (v : Version) (s : State) (all : List (List Token)) (l : Lexeme) (ls : List Lexeme) → map (lexeme text) (first_piece all) ≡ l ∷ ls →
+    run text v s all ≡ run_after text v (first_line all) (other_pieces all) (piece_read v s (map (lexeme text) (first_piece all)))
+unfolding run
+run_pieces text v s [] l ls is = cc
+run_pieces text v s (p ∷ ps) l ls is = with_line text v ps (piece_read v s (map (lexeme text) p)) (line_of p) (first_line (p ∷ ps)) (sym (line_is p ps))
+
+-- the first statement decides, or the others after it
+pub run_first : (v : Version) (s : State) (c : Cutter) → is_done c ≡ false → run (text_of c) v s (pieces_left c) ≡ run_after (text_of c) v (first_line (pieces_left c)) (after c) (piece_read v s (words c))
+unfolding words after
+run_first v s c more = let begun = begins c more in run_pieces (text_of c) v s (pieces_left c) (lexeme (text_of c) (next_token c)) begun.0 begun.1
+
+-- no statement is left
+pub run_none : (text : List ℕ) (v : Version) (s : State) (c : Cutter) → is_done c ≡ true → run text v s (pieces_left c) ≡ Ok s
+unfolding run pieces_left pieces_at
+run_none text v s c done = rw (done) refl
+
+-- a statement's fault is that of the run
+pub fails_at : (text : List ℕ) (v : Version) (line : ℕ) (others : List (List Token)) (e : ReadError) (read : Result State CdlKind) → Fails e read → FailsAt (at_line line e) (run_after text v line others read)
+fails_at text v line others OutOfMemory read h = tt
+fails_at text v line others (Fault k) read h = rw (h) refl
