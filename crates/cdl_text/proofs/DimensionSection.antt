@@ -15,10 +15,10 @@ use Rattle.cdl_text.proofs.Shaping.{mark_word, mark_name, no_section, no_mark}
 use Rattle.cdl_text.proofs.Options.{either_none, either_only, given_none, none_of}
 use Rattle.cdl_text.proofs.SectionParts.{alone_completes, mark_completes, global_to, global_completes, no_brace, no_colon, section_no_name, no_name_of}
 
-abbrev body_to : Version → List Lexeme → Option Statement
+abbrev pub body_to : Version → List Lexeme → Option Statement
 body_to v ls = option_and_then (body v Dimensions) (before_mark 0x3b ls)
 
-abbrev dims_to : Version → List Lexeme → Option Statement
+abbrev pub dims_to : Version → List Lexeme → Option Statement
 dims_to v ls = option_map Declared (listed_dims v ls)
 
 -- with a global attribute, it is that
@@ -28,7 +28,7 @@ dims_no_name v l (e ∷ []) h = refl
 dims_no_name v l (e ∷ k ∷ []) h = rw (h) (rw (given_none {A = _} (is_mark 0x3d e)) refl)
 dims_no_name v l (e ∷ k ∷ c ∷ ys) h = rw (h) (rw (given_none {A = _} (is_mark 0x3d e)) (given_none (is_mark 0x2c c)))
 
-body_dims : (v : Version) (l : Lexeme) (ls : List Lexeme) → is_mark 0x3a l ≡ false → body_to v (l ∷ ls) ≡ dims_to v (l ∷ ls)
+pub body_dims : (v : Version) (l : Lexeme) (ls : List Lexeme) → is_mark 0x3a l ≡ false → body_to v (l ∷ ls) ≡ dims_to v (l ∷ ls)
 body_dims v l [] off = by (is_mark 0x3b l)
   where
     by : (s : Bool) → option_and_then (body v Dimensions) (given s (Some [])) ≡ option_map Declared (option_and_then (dimensions v) (given s (Some [])))
@@ -40,7 +40,7 @@ body_dims v l (m ∷ ls) off = by (before_mark 0x3b (m ∷ ls))
     by None = refl
     by (Some ys) = ap (λ c. either (given c (assigned v false (Attribute None) ys)) (option_map Declared (dimensions v (l ∷ ys)))) off
 
-body_global : (v : Version) (l : Lexeme) (ls : List Lexeme) → name_of l ≡ None → body_to v (l ∷ ls) ≡ global_to v (l ∷ ls)
+pub body_global : (v : Version) (l : Lexeme) (ls : List Lexeme) → name_of l ≡ None → body_to v (l ∷ ls) ≡ global_to v (l ∷ ls)
 body_global v l [] none = by (is_mark 0x3b l)
   where
     by : (s : Bool) → option_and_then (body v Dimensions) (given s (Some [])) ≡ option_and_then (global v) (given s (Some []))
@@ -52,7 +52,7 @@ body_global v l (m ∷ ls) none = by (before_mark 0x3b (m ∷ ls))
     by None = refl
     by (Some ys) = either_only (global v (l ∷ ys)) (option_map Declared (dimensions v (l ∷ ys))) (ap (option_map Declared) (dims_no_name v l ys none))
 
-no_dims : (v : Version) (l : Lexeme) (ls : List Lexeme) → first_bad v (l ∷ ls) ≡ None → is_name l ≡ false → dims_to v (l ∷ ls) ≡ None
+pub no_dims : (v : Version) (l : Lexeme) (ls : List Lexeme) → first_bad v (l ∷ ls) ≡ None → is_name l ≡ false → dims_to v (l ∷ ls) ≡ None
 unfolding completes next
 no_dims v l ls good h =
     let off : completes dues.DimensionName (l ∷ ls) ≡ false = only_completes (is_name l) dues.LengthEquals ls ∙ rw (h) refl in

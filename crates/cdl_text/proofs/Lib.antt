@@ -18,3 +18,4 @@ pub mod SectionParts
 pub mod DimensionSection
 pub mod VariableSection
 pub mod Sections
+pub mod StatementsSaid

@@ -71,14 +71,14 @@ mark_completes section l (c ∷ d ∷ ls) = sym (by (goes_to section l) (is_mark
 abbrev pub global_to : Version → List Lexeme → Option Statement
 global_to v ls = option_and_then (global v) (before_mark 0x3b ls)
 
-global_lone : (v : Version) (l : Lexeme) → global_to v (l ∷ []) ≡ None
+pub global_lone : (v : Version) (l : Lexeme) → global_to v (l ∷ []) ≡ None
 global_lone v l = by (is_mark 0x3b l)
   where
     by : (s : Bool) → option_and_then (global v) (given s (Some [])) ≡ None
     by true = refl
     by false = refl
 
-global_more : (v : Version) (l m : Lexeme) (ls : List Lexeme) → global_to v (l ∷ m ∷ ls) ≡ given (is_mark 0x3a l) (assigned_to v false (Attribute None) (m ∷ ls))
+pub global_more : (v : Version) (l m : Lexeme) (ls : List Lexeme) → global_to v (l ∷ m ∷ ls) ≡ given (is_mark 0x3a l) (assigned_to v false (Attribute None) (m ∷ ls))
 global_more v l m ls = by (before_mark 0x3b (m ∷ ls))
   where
     by : (b : Option (List Lexeme)) → option_and_then (global v) (option_map (λ xs. l ∷ xs) b) ≡ given (is_mark 0x3a l) (option_and_then (assigned v false (Attribute None)) b)

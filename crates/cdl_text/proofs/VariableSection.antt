@@ -19,7 +19,7 @@ use Rattle.cdl_text.proofs.SectionParts.{alone_completes, global_completes, glob
 use Rattle.cdl_text.proofs.Shaping.{assigned_is, assigned_to, mark_name, mark_word, no_mark, no_section}
 
 -- a word is no mark
-word_kind : (b : ℕ) (l : Lexeme) → is_word_kind l.kind ≡ true → is_mark b l ≡ false
+pub word_kind : (b : ℕ) (l : Lexeme) → is_word_kind l.kind ≡ true → is_mark b l ≡ false
 word_kind b l h = by l.kind h
   where
     by : (k : TokenKind) → is_word_kind k ≡ true → (is_mark_kind k && slice_index l.bytes 0 == b) ≡ false
@@ -32,7 +32,7 @@ word_kind b l h = by l.kind h
     by kinds.End h = cc
 
 -- up to the semicolon
-abbrev body_to : Version → List Lexeme → Option Statement
+abbrev pub body_to : Version → List Lexeme → Option Statement
 body_to v ls = option_and_then (body v Variables) (before_mark 0x3b ls)
 
 -- ---- no word comes first
@@ -60,10 +60,10 @@ no_name : (l : Lexeme) → is_word_kind l.kind ≡ false → is_name l ≡ false
 no_name l h = rw (h) refl
 
 -- what follows the lone brace
-abbrev others : Version → List Lexeme → Option Statement
+abbrev pub others : Version → List Lexeme → Option Statement
 others v ls = either (section_mark Variables ls) (body_to v ls)
 
-others_global : (v : Version) (l : Lexeme) (ls : List Lexeme) → is_word_kind l.kind ≡ false → others v (l ∷ ls) ≡ global_to v (l ∷ ls)
+pub others_global : (v : Version) (l : Lexeme) (ls : List Lexeme) → is_word_kind l.kind ≡ false → others v (l ∷ ls) ≡ global_to v (l ∷ ls)
 others_global v l ls off = either_none (section_mark Variables (l ∷ ls)) (body_to v (l ∷ ls)) (no_mark Variables l ls (no_section l off)) ∙ body_global v l ls (nameless l (no_name l off)) off
 
 -- ---- a word and a colon
@@ -74,7 +74,7 @@ body_word v l ys word = ap (λ b. either (given b (assigned v false (Attribute N
 no_list : (l c : Lexeme) (ys : List Lexeme) → is_mark 0x3a c ≡ true → typed (l ∷ c ∷ ys) ≡ None
 no_list l c ys colon = ap (λ o. given (is_word_kind l.kind) (option_map (Typed l) o)) (not_variable c ys (nameless c (mark_name 0x3a c colon))) ∙ given_none (is_word_kind l.kind)
 
-attribute_named : (v : Version) (l c r : Lexeme) (rs : List Lexeme) → is_word_kind l.kind ≡ true → is_mark 0x3a c ≡ true → is_name l ≡ true →
+pub attribute_named : (v : Version) (l c r : Lexeme) (rs : List Lexeme) → is_word_kind l.kind ≡ true → is_mark 0x3a c ≡ true → is_name l ≡ true →
     body_to v (l ∷ c ∷ r ∷ rs) ≡ assigned_to v false (Attribute (Some (word_value l.bytes))) (r ∷ rs)
 attribute_named v l c r rs word colon on = by (before_mark 0x3b (r ∷ rs))
   where
@@ -85,7 +85,7 @@ attribute_named v l c r rs word colon on = by (before_mark 0x3b (r ∷ rs))
         ap (λ b. given b (option_and_then (λ (name : List ℕ). assigned v false (Attribute (Some name)) ys) (name_of l))) colon ∙
         ap (option_and_then (λ (name : List ℕ). assigned v false (Attribute (Some name)) ys)) (named l on)
 
-attribute_nameless : (v : Version) (l c r : Lexeme) (rs : List Lexeme) → is_word_kind l.kind ≡ true → is_mark 0x3a c ≡ true → is_name l ≡ false → body_to v (l ∷ c ∷ r ∷ rs) ≡ None
+pub attribute_nameless : (v : Version) (l c r : Lexeme) (rs : List Lexeme) → is_word_kind l.kind ≡ true → is_mark 0x3a c ≡ true → is_name l ≡ false → body_to v (l ∷ c ∷ r ∷ rs) ≡ None
 attribute_nameless v l c r rs word colon off = by (before_mark 0x3b (r ∷ rs))
   where
     by : (b : Option (List Lexeme)) → option_and_then (body v Variables) (option_map (λ xs. l ∷ xs) (option_map (λ xs. c ∷ xs) b)) ≡ None
@@ -109,7 +109,7 @@ mark_alone v l c colon =
     by false true h = refl
     by false false h = refl
 
-colon_more : (v : Version) (l c r : Lexeme) (rs : List Lexeme) → first_bad v rs ≡ None → is_word_kind l.kind ≡ true → is_mark 0x3a c ≡ true →
+pub colon_more : (v : Version) (l c r : Lexeme) (rs : List Lexeme) → first_bad v rs ≡ None → is_word_kind l.kind ≡ true → is_mark 0x3a c ≡ true →
     is_some (others v (l ∷ c ∷ r ∷ rs)) ≡ completes (if is_name l then dues.AttributeName else only (goes_to Variables l) dues.Nothing) (r ∷ rs)
 unfolding completes next
 colon_more v l c r rs good word colon = by (is_name l) refl
@@ -126,7 +126,7 @@ colon_more v l c r rs good word colon = by (is_name l) refl
 
 -- ---- a word and no colon
 
-body_typed : (v : Version) (l c : Lexeme) (ls : List Lexeme) → is_word_kind l.kind ≡ true → is_mark 0x3a c ≡ false → body_to v (l ∷ c ∷ ls) ≡ option_map (Typed l) (listed_variables (c ∷ ls))
+pub body_typed : (v : Version) (l c : Lexeme) (ls : List Lexeme) → is_word_kind l.kind ≡ true → is_mark 0x3a c ≡ false → body_to v (l ∷ c ∷ ls) ≡ option_map (Typed l) (listed_variables (c ∷ ls))
 body_typed v l c [] word off = by (is_mark 0x3b c)
   where
     by : (s : Bool) → option_and_then (body v Variables) (option_map (λ xs. l ∷ xs) (given s (Some []))) ≡ option_map (Typed l) (option_and_then (λ xs. each variable (members xs)) (given s (Some [])))
@@ -146,7 +146,7 @@ mapped : (l : Lexeme) (b : Bool) (vs : List Variable) → is_some (option_map (T
 mapped l true vs = refl
 mapped l false vs = refl
 
-no_section_mark : (l c : Lexeme) (ls : List Lexeme) → is_mark 0x3a c ≡ false → section_mark Variables (l ∷ c ∷ ls) ≡ None
+pub no_section_mark : (l c : Lexeme) (ls : List Lexeme) → is_mark 0x3a c ≡ false → section_mark Variables (l ∷ c ∷ ls) ≡ None
 no_section_mark l c [] off = rw (off) refl
 no_section_mark l c (r ∷ rs) off = refl
 

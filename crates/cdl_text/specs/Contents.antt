@@ -1,11 +1,14 @@
 -- What the tokens of a statement of the right shape say.
-use Rattle.std.specs.Prelude.{ℕ, ℤ, Bool, true, false, List, [], ◌∷◌, ◌&&◌, ◌||◌, not, codes, if◌then◌else◌, Option, None, Some}
+use Rattle.std.specs.Prelude.{ℕ, ℤ, Bool, true, false, List, [], ◌∷◌, ◌&&◌, ◌||◌, not, codes, drop, if◌then◌else◌, Option, None, Some}
 use Rattle.nc_base.specs.declared.nc_type.NcType.TheVariants.{Int}
 use Rattle.nc_base.specs.declared.version.Version.{Version}
+use Rattle.cdl_text.specs.DueTokens.{goes_to, is_name}
 use Rattle.cdl_text.specs.Escapes.{stands}
 use Rattle.cdl_text.specs.Lexemes.{Lexeme, is_mark, is_mark_kind, is_word, word_value}
 use Rattle.cdl_text.specs.Numerals.{Parts, parts, number}
-use Rattle.cdl_text.specs.Shapes.{Value, Number, Characters, Underscore, Dimension, Variable, inner}
+use Rattle.cdl_text.specs.Shapes.{Value, Number, Characters, Underscore, Dimension, Variable, Statement, Opening, Mark, Declared, Typed, Attribute, Listed, Brace, End, inner, section_of}
+use Rattle.cdl_text.specs.declared.section.Section.{Section}
+use Rattle.cdl_text.specs.declared.section.Section.TheVariants.{Unopened, Globals, Dimensions, Variables, Values, Closed, Ended}
 use Rattle.cdl_text.specs.declared.token.TokenKind.{TokenKind}
 use Rattle.cdl_text.specs.declared.token.TokenKind.TheVariants as kinds
 
@@ -54,3 +57,38 @@ declaration_said parens [] = record { dimensions = []; variables = [] }
 declaration_said parens (l ∷ ls) =
     if is_mark_kind l.kind then declaration_said (is_mark 0x28 l || parens && not (is_mark 0x29 l)) ls
     else with_name parens (word_value l.bytes) (declaration_said parens ls)
+
+-- ---- a whole statement. What isn't whole says nothing; the end of the text stands for that.
+
+-- an attribute of this variable, or of the dataset: NAME, `=` and constants
+abbrev pub attribute_said : Version → Option (List ℕ) → List Lexeme → Statement
+attribute_said v variable [] = End
+attribute_said v variable (n ∷ ls) = Attribute variable (word_value n.bytes) (values v (drop 1 ls))
+
+-- the mark of the section whose word this is
+abbrev pub mark_said : Option Section → Statement
+mark_said None = End
+mark_said (Some section) = Mark section
+
+-- in the section of the variables: a word, and what follows it
+abbrev pub variable_said : Version → Lexeme → List Lexeme → Statement
+variable_said v word [] = End
+variable_said v word (c ∷ ls) =
+    if is_mark 0x3a c then (if is_name word then attribute_said v (Some (word_value word.bytes)) ls else mark_said (section_of word))
+    else Typed word (declaration_said false (c ∷ ls)).variables
+
+-- neither a closing brace nor an attribute of the dataset
+abbrev pub other_said : Version → Section → Lexeme → List Lexeme → Statement
+other_said v Globals l ls = mark_said (section_of l)
+other_said v Dimensions l ls = if goes_to Dimensions l then mark_said (section_of l) else Declared (dimensions_said v (l ∷ ls))
+other_said v Variables l ls = variable_said v l ls
+other_said v Values l ls = Listed (word_value l.bytes) (values v (drop 1 ls))
+other_said v _ l ls = End
+
+-- what the tokens of a whole statement of this section say
+unfoldable pub statement_said : Version → Section → List Lexeme → Statement
+statement_said v section [] = End
+statement_said v Unopened (l ∷ ls) = Opening
+statement_said v Closed (l ∷ ls) = End
+statement_said v Ended (l ∷ ls) = End
+statement_said v section (l ∷ ls) = if is_mark 0x7d l then Brace else (if is_mark 0x3a l then attribute_said v None ls else other_said v section l ls)

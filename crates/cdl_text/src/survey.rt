@@ -1,6 +1,7 @@
 //! The first pass over a statement: where it ends, its first bad token, and whether it has its shape.
 
-ghost use Rattle.std.specs.Prelude.{◌≡◌, false, is_none, is_some, None};
+ghost use Rattle.std.specs.Prelude.{◌≡◌, false, true, is_none, is_some, None, Some};
+ghost use Rattle.cdl_text.specs.Contents.{statement_said};
 ghost use Rattle.cdl_text.specs.Cutters.{after, is_done, next_token, pieces_left, text_of, version_of, words};
 ghost use Rattle.cdl_text.specs.DueTokens.{completes};
 ghost use Rattle.cdl_text.specs.Shapes.{either, first_bad, shape, token_fault};
@@ -31,6 +32,8 @@ pub fn look_over(start: Cutter<'_>, section: Section) -> Survey<'_>
     requires { is_done start ≡ false }
     ensures bad { result.bad ≡ first_bad (version_of start.entry) (words start.entry) }
     ensures shaped { result.bad ≡ None → result.shaped ≡ is_some (shape (version_of start.entry) section (words start.entry)) }
+    ensures says { result.bad ≡ None → result.shaped ≡ true → shape (version_of start.entry) section (words start.entry) ≡ Some (statement_said (version_of start.entry) section (words start.entry)) }
+    ensures table { result.shaped ≡ completes (Due.First section) (words start.entry) }
     ensures rest { pieces_left result.rest ≡ after start.entry }
     ensures text { text_of result.rest ≡ text_of start.entry }
     ensures version { version_of result.rest ≡ version_of start.entry }
