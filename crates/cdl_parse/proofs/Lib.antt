@@ -12,3 +12,6 @@ pub mod StatementWords
 pub mod AttributeReads
 pub mod VariableNames
 pub mod Runs
+pub mod Defining
+pub mod RunSteps
+pub mod ShapesKept

@@ -1,0 +1,270 @@
+-- What the statements before the data section make of the state.
+use Rattle.std.proofs.Common.{◌≡◌, ℕ, Bool, true, false, List, [], ◌∷◌, drop, refl, sym, ap, ◌∙◌, subst}
+use Rattle.std.specs.Prelude.{Option, None, Some, is_some, Result, Ok, Err, ⊤, if◌then◌else◌, ◌&&◌}
+use Rattle.std.proofs.lemmas.Bool.{false≢true}
+use Rattle.nc_base.specs.declared.header.Att.{Att}
+use Rattle.nc_base.specs.declared.header.Dim.{Dim}
+use Rattle.nc_base.specs.declared.version.Version.{Version}
+use Rattle.cdl_text.specs.Contents.{attribute_said, declaration_said, dimensions_said, mark_said, other_said, statement_said, values, variable_said}
+use Rattle.cdl_text.specs.Cutters.{is_done, next_token, text_of, words}
+use Rattle.cdl_text.specs.declared.cutter.Cutter.{Cutter}
+use Rattle.cdl_text.specs.DueTokens.{completes, goes_to, is_name, is_whole, next, only}
+use Rattle.cdl_text.specs.Lexemes.{Lexeme, lexeme, is_mark, is_word_kind, word_value}
+use Rattle.cdl_text.specs.Shapes.{Attribute, Brace, Declared, Opening, Statement, Typed, Value, first_bad, section_of, shape}
+use Rattle.cdl_text.specs.Shapes as Shapes
+use Rattle.cdl_text.specs.declared.due.Due.{Due}
+use Rattle.cdl_text.specs.declared.due.Due.TheVariants as dues
+use Rattle.cdl_text.specs.declared.fault.CdlKind.{CdlKind}
+use Rattle.cdl_text.specs.declared.fault.CdlKind.TheVariants.{Syntax}
+use Rattle.cdl_text.specs.declared.section.Section.{Section}
+use Rattle.cdl_text.specs.declared.section.Section.TheVariants.{Unopened, Globals, Dimensions, Variables, Values, Closed, Ended}
+use Rattle.cdl_text.proofs.Options.{none_of}
+use Rattle.cdl_parse.proofs.StatementWords.{begins, goes_past}
+use Rattle.cdl_parse.specs.Answers.{Fails}
+use Rattle.cdl_parse.specs.AttributeRead.{Leaves, constants_said}
+use Rattle.cdl_parse.specs.Defined.{Makes, after_mark, declare, is_defining, state_of}
+use Rattle.cdl_parse.specs.declared.definitions.Definitions.{Definitions}
+use Rattle.cdl_parse.specs.Meaning.{piece_read}
+use Rattle.cdl_parse.specs.Meant.{name_first}
+use Rattle.cdl_parse.specs.State.{State, Draft, act, add_att, add_dim, add_var, at_variable, in_turn, type_of, with_att, ◌>>=◌}
+use Rattle.cdl_parse.specs.declared.read_error.ReadError.{ReadError}
+use Rattle.cdl_parse.specs.declared.read_error.ReadError.TheVariants.{OutOfMemory, Fault}
+
+pub opens : (v : Version) (s : State) (l : Lexeme) (ls ws : List Lexeme) → ws ≡ l ∷ ls → act v s (statement_said v Unopened ws) ≡ Ok (record s { section = Globals })
+unfolding act statement_said
+opens v s l ls ws is = rw (is) refl
+
+said_brace : (v : Version) (section : Section) (l : Lexeme) (ls : List Lexeme) → is_defining section ≡ true → is_mark 0x7d l ≡ true → statement_said v section (l ∷ ls) ≡ Brace
+unfolding statement_said
+said_brace v Globals l ls inside on = rw (on) refl
+said_brace v Dimensions l ls inside on = rw (on) refl
+said_brace v Variables l ls inside on = rw (on) refl
+said_brace v Unopened l ls inside on = cc
+said_brace v Values l ls inside on = cc
+said_brace v Closed l ls inside on = cc
+said_brace v Ended l ls inside on = cc
+
+pub closes : (v : Version) (s : State) (l : Lexeme) (ls ws : List Lexeme) → is_defining s.section ≡ true → is_mark 0x7d l ≡ true → ws ≡ l ∷ ls → act v s (statement_said v s.section ws) ≡ Ok (record s { section = Closed })
+unfolding act
+closes v s l ls ws inside on is = ap (λ all. act v s (statement_said v s.section all)) is ∙ ap (act v s) (said_brace v s.section l ls inside on)
+
+said_global : (v : Version) (section : Section) (l : Lexeme) (ls : List Lexeme) → is_defining section ≡ true → is_mark 0x7d l ≡ false → is_mark 0x3a l ≡ true → statement_said v section (l ∷ ls) ≡ attribute_said v None ls
+unfolding statement_said
+said_global v Globals l ls inside off on = rw (off) (rw (on) refl)
+said_global v Dimensions l ls inside off on = rw (off) (rw (on) refl)
+said_global v Variables l ls inside off on = rw (off) (rw (on) refl)
+said_global v Unopened l ls inside off on = cc
+said_global v Values l ls inside off on = cc
+said_global v Closed l ls inside off on = cc
+said_global v Ended l ls inside off on = cc
+
+next_global : (section : Section) (l : Lexeme) → is_defining section ≡ true → is_mark 0x7d l ≡ false → is_mark 0x3a l ≡ true → next (dues.First section) l ≡ dues.AttributeName
+unfolding next
+next_global Globals l inside off on = rw (off) (rw (on) refl)
+next_global Dimensions l inside off on = rw (off) (rw (on) refl)
+next_global Variables l inside off on = rw (off) (rw (on) refl)
+next_global Unopened l inside off on = cc
+next_global Values l inside off on = cc
+next_global Closed l inside off on = cc
+next_global Ended l inside off on = cc
+
+-- a statement that has its shape goes on after a token after which another one is due
+pub goes_to_due : (due following : Due) (l : Lexeme) (ends : Bool) (ws all : List Lexeme) → next due l ≡ following → is_whole following ≡ false → all ≡ l ∷ (if ends then [] else ws) → completes due all ≡ true → (ends ≡ false) × (completes following ws ≡ true)
+unfolding completes
+goes_to_due due following l ends ws all is unfinished first on = by ends (ap (λ d. completes d (if ends then [] else ws)) (sym is) ∙ sym (ap (completes due) first) ∙ on)
+  where
+    by : (ends : Bool) → completes following (if ends then [] else ws) ≡ true → (ends ≡ false) × (completes following ws ≡ true)
+    by true h = absurd (false≢true (sym unfinished ∙ h))
+    by false h = (refl, h)
+
+pub goes_global : (section : Section) (l : Lexeme) (ends : Bool) (ws all : List Lexeme) → is_defining section ≡ true → is_mark 0x7d l ≡ false → is_mark 0x3a l ≡ true → all ≡ l ∷ (if ends then [] else ws) → completes (dues.First section) all ≡ true →
+    (ends ≡ false) × (completes dues.AttributeName ws ≡ true)
+goes_global section l ends ws all inside off on first whole = goes_to_due (dues.First section) dues.AttributeName l ends ws all (next_global section l inside off on) refl first whole
+
+-- an attribute of the dataset
+global_acts : (v : Version) (s : State) (ls : List Lexeme) → completes dues.AttributeName ls ≡ true → act v s (attribute_said v None ls) ≡ (add_att (name_first ls) (constants_said v ls) s.gatts >>= (λ atts. Ok (record s { gatts = atts })))
+unfolding act completes
+global_acts v s [] whole = cc
+global_acts v s (n ∷ ls) whole = refl
+
+pub makes_then : {A : Type 0} (after : A) (made : State) (f : A → Result State CdlKind) (r : Result ⊤ ReadError) (read : Result A CdlKind) → f after ≡ Ok made → Leaves after r read → Makes made r (read >>= f)
+makes_then {A = A} after made f (Ok u) read is h = ap (λ (q : Result A CdlKind). q >>= f) h ∙ is
+makes_then after made f (Err OutOfMemory) read is h = tt
+makes_then {A = A} after made f (Err (Fault k)) read is h = ap (λ (q : Result A CdlKind). q >>= f) h
+
+pub makes_global : (v : Version) (s : State) (l : Lexeme) (ends : Bool) (ls ws : List Lexeme) (gatts : List Att) (r : Result ⊤ ReadError) →
+    is_defining s.section ≡ true → is_mark 0x7d l ≡ false → is_mark 0x3a l ≡ true → ws ≡ l ∷ (if ends then [] else ls) → completes (dues.First s.section) ws ≡ true →
+    Leaves gatts r (add_att (name_first ls) (constants_said v ls) s.gatts) → Makes (record s { gatts = gatts }) r (act v s (statement_said v s.section ws))
+makes_global v s l ends ls ws gatts r inside off on first whole h =
+    let past = goes_global s.section l ends ls ws inside off on first whole in
+    let here : ws ≡ l ∷ ls = first ∙ rw (past.0) refl in
+    let said = ap (statement_said v s.section) here ∙ said_global v s.section l ls inside off on in
+    subst (Makes (record s { gatts = gatts }) r) (sym (ap (act v s) said ∙ global_acts v s ls past.1))
+    (makes_then gatts (record s { gatts = gatts }) (λ atts. Ok (record s { gatts = atts })) r (add_att (name_first ls) (constants_said v ls) s.gatts) refl h)
+
+pub said_other : (v : Version) (section : Section) (l : Lexeme) (ls : List Lexeme) → is_defining section ≡ true → is_mark 0x7d l ≡ false → is_mark 0x3a l ≡ false → statement_said v section (l ∷ ls) ≡ other_said v section l ls
+unfolding statement_said
+said_other v Globals l ls inside off other = rw (off) (rw (other) refl)
+said_other v Dimensions l ls inside off other = rw (off) (rw (other) refl)
+said_other v Variables l ls inside off other = rw (off) (rw (other) refl)
+said_other v Unopened l ls inside off other = cc
+said_other v Values l ls inside off other = cc
+said_other v Closed l ls inside off other = cc
+said_other v Ended l ls inside off other = cc
+
+-- the mark of a section
+mark_acts : (v : Version) (s : State) (o : Option Section) → act v s (mark_said o) ≡ Ok (record s { section = after_mark o })
+unfolding act
+mark_acts v s None = refl
+mark_acts v s (Some section) = refl
+
+pub makes_first_mark : (v : Version) (s : State) (l : Lexeme) (ls ws : List Lexeme) → s.section ≡ Globals → is_mark 0x7d l ≡ false → is_mark 0x3a l ≡ false → ws ≡ l ∷ ls →
+    act v s (statement_said v s.section ws) ≡ Ok (record s { section = after_mark (section_of l) })
+makes_first_mark v s l ls ws section off other is =
+    ap (λ all. act v s (statement_said v s.section all)) is ∙ ap (λ here. act v s (statement_said v here (l ∷ ls))) section ∙
+    ap (act v s) (said_other v Globals l ls refl off other) ∙ mark_acts v s (section_of l)
+
+-- ---- the section of the dimensions
+
+said_dimension : (v : Version) (l : Lexeme) (ls : List Lexeme) (b : Bool) → goes_to Dimensions l ≡ b → other_said v Dimensions l ls ≡ (if b then mark_said (section_of l) else Declared (dimensions_said v (l ∷ ls)))
+said_dimension v l ls b is = rw (is) refl
+
+pub makes_dimension_mark : (v : Version) (s : State) (l : Lexeme) (ls ws : List Lexeme) → is_mark 0x7d l ≡ false → is_mark 0x3a l ≡ false → goes_to Dimensions l ≡ true → ws ≡ l ∷ ls →
+    act v s (statement_said v Dimensions ws) ≡ Ok (record s { section = after_mark (section_of l) })
+makes_dimension_mark v s l ls ws off other on is =
+    ap (λ all. act v s (statement_said v Dimensions all)) is ∙ ap (act v s) (said_other v Dimensions l ls refl off other ∙ said_dimension v l ls true on) ∙ mark_acts v s (section_of l)
+
+pub goes_dimensions : (l : Lexeme) (ls ws : List Lexeme) → is_mark 0x7d l ≡ false → is_mark 0x3a l ≡ false → goes_to Dimensions l ≡ false → ws ≡ l ∷ ls → completes (dues.First Dimensions) ws ≡ true → completes dues.DimensionName ws ≡ true
+unfolding completes next
+goes_dimensions l ls ws off other no-mark is whole =
+    ap (completes dues.DimensionName) is ∙
+    ap (λ d. completes d ls) (rw (off) (rw (other) (rw (no-mark) (let e : only (is_name l) dues.LengthEquals ≡ only (is_name l) dues.LengthEquals = refl in e)))) ∙
+    sym (ap (completes (dues.First Dimensions)) is) ∙ whole
+
+pub makes_dimensions : (v : Version) (s : State) (l : Lexeme) (ls ws : List Lexeme) (dims : List Dim) (r : Result ⊤ ReadError) → is_mark 0x7d l ≡ false → is_mark 0x3a l ≡ false → goes_to Dimensions l ≡ false → ws ≡ l ∷ ls →
+    Leaves dims r (in_turn (add_dim v) s.dims (dimensions_said v ws)) → Makes (record s { dims = dims }) r (act v s (statement_said v Dimensions ws))
+unfolding act
+makes_dimensions v s l ls ws dims r off other no-mark is h =
+    let said = ap (statement_said v Dimensions) is ∙ said_other v Dimensions l ls refl off other ∙ said_dimension v l ls false no-mark ∙ ap (λ all. Declared (dimensions_said v all)) (sym is) in
+    subst (Makes (record s { dims = dims }) r) (sym (ap (act v s) said))
+    (makes_then dims (record s { dims = dims }) (λ ds. Ok (record s { dims = ds })) r (in_turn (add_dim v) s.dims (dimensions_said v ws)) refl h)
+
+-- ---- the section of the variables
+
+next_variables : (l : Lexeme) → is_mark 0x7d l ≡ false → is_mark 0x3a l ≡ false → next (dues.First Variables) l ≡ only (is_word_kind l.kind) (dues.AfterWord (is_name l) (goes_to Variables l))
+unfolding next
+next_variables l off other = rw (off) (rw (other) refl)
+
+pub goes_word : (l : Lexeme) (ends : Bool) (ls ws : List Lexeme) → is_mark 0x7d l ≡ false → is_mark 0x3a l ≡ false → ws ≡ l ∷ (if ends then [] else ls) → completes (dues.First Variables) ws ≡ true →
+    (ends ≡ false) × (is_word_kind l.kind ≡ true) × (completes (dues.AfterWord (is_name l) (goes_to Variables l)) ls ≡ true)
+goes_word l ends ls ws off other first whole =
+    goes_past (dues.First Variables) (dues.AfterWord (is_name l) (goes_to Variables l)) l (is_word_kind l.kind) ends ls ws (next_variables l off other) refl first whole
+
+said_variable : (v : Version) (l c : Lexeme) (ls : List Lexeme) → is_mark 0x7d l ≡ false → is_mark 0x3a l ≡ false → statement_said v Variables (l ∷ c ∷ ls) ≡ variable_said v l (c ∷ ls)
+said_variable v l c ls off other = said_other v Variables l (c ∷ ls) refl off other
+
+-- no colon comes second
+pub goes_declaration : (named section : Bool) (c : Lexeme) (rest ls : List Lexeme) → is_mark 0x3a c ≡ false → ls ≡ c ∷ rest → completes (dues.AfterWord named section) ls ≡ true → completes dues.VariableName ls ≡ true
+unfolding completes next
+goes_declaration named section c rest ls off is whole =
+    ap (completes dues.VariableName) is ∙ ap (λ d. completes d rest) (let e : next dues.VariableName c ≡ next (dues.AfterWord named section) c = rw (off) refl in e) ∙ sym (ap (completes (dues.AfterWord named section)) is) ∙ whole
+
+bind_twice : {A B C : Type 0} (r : Result A CdlKind) (f : A → Result B CdlKind) (g : B → Result C CdlKind) → (r >>= (λ x. f x >>= g)) ≡ ((r >>= f) >>= g)
+bind_twice (Ok a) f g = refl
+bind_twice (Err e) f g = refl
+
+pub makes_declaration : (v : Version) (s : State) (l c : Lexeme) (rest ls ws : List Lexeme) (drafts : List Draft) (r : Result ⊤ ReadError) →
+    is_mark 0x7d l ≡ false → is_mark 0x3a l ≡ false → is_mark 0x3a c ≡ false → ls ≡ c ∷ rest → ws ≡ l ∷ ls →
+    Leaves drafts r (declare v l s.dims s.drafts (declaration_said false ls).variables) → Makes (record s { drafts = drafts }) r (act v s (statement_said v Variables ws))
+unfolding act
+makes_declaration v s l c rest ls ws drafts r off other no-colon second first h =
+    let vs = (declaration_said false ls).variables in
+    let here : ws ≡ l ∷ c ∷ rest = first ∙ ap (λ all. l ∷ all) second in
+    let said : statement_said v Variables ws ≡ Typed l vs =
+    ap (statement_said v Variables) here ∙ said_variable v l c rest off other ∙ typed no-colon ∙ ap (λ all. Typed l (declaration_said false all).variables) (sym second) in
+    let last : List Draft → Result State CdlKind = λ ds. Ok (record s { drafts = ds }) in
+    subst (Makes (record s { drafts = drafts }) r) (sym (ap (act v s) said ∙ bind_twice (type_of v l) (λ ty. in_turn (add_var s.dims ty) s.drafts vs) last))
+    (makes_then drafts (record s { drafts = drafts }) last r (declare v l s.dims s.drafts vs) refl h)
+  where
+    typed : is_mark 0x3a c ≡ false → variable_said v l (c ∷ rest) ≡ Typed l (declaration_said false (c ∷ rest)).variables
+    typed no-colon = rw (no-colon) refl
+
+-- a colon comes second
+next_colon : (named section : Bool) (c : Lexeme) → is_mark 0x3a c ≡ true → named ≡ true → next (dues.AfterWord named section) c ≡ dues.AttributeName
+unfolding next
+next_colon named section c on is = rw (on) (rw (is) refl)
+
+said_attribute : (v : Version) (s : State) (l c : Lexeme) (ls : List Lexeme) → is_mark 0x3a c ≡ true → is_name l ≡ true → completes dues.AttributeName ls ≡ true →
+    act v s (variable_said v l (c ∷ ls)) ≡ (at_variable (word_value l.bytes) (with_att (name_first ls) (constants_said v ls)) s.drafts >>= (λ drafts. Ok (record s { drafts = drafts })))
+unfolding act completes
+said_attribute v s l c [] on named whole = cc
+said_attribute v s l c (n ∷ ls) on named whole = rw (on) (rw (named) refl)
+
+pub goes_attribute : (l c : Lexeme) (ls rest : List Lexeme) → is_mark 0x3a c ≡ true → is_name l ≡ true → ls ≡ c ∷ rest → completes (dues.AfterWord (is_name l) (goes_to Variables l)) ls ≡ true → completes dues.AttributeName rest ≡ true
+unfolding completes
+goes_attribute l c ls rest on named second whole = ap (λ d. completes d rest) (sym (next_colon (is_name l) (goes_to Variables l) c on named)) ∙ sym (ap (completes (dues.AfterWord (is_name l) (goes_to Variables l))) second) ∙ whole
+
+pub makes_attribute : (v : Version) (s : State) (l c : Lexeme) (rest ls ws : List Lexeme) (drafts : List Draft) (r : Result ⊤ ReadError) →
+    is_mark 0x7d l ≡ false → is_mark 0x3a l ≡ false → is_mark 0x3a c ≡ true → is_name l ≡ true → ls ≡ c ∷ rest → ws ≡ l ∷ ls → completes (dues.AfterWord (is_name l) (goes_to Variables l)) ls ≡ true →
+    Leaves drafts r (at_variable (name_first ws) (with_att (name_first (drop 2 ws)) (constants_said v (drop 2 ws))) s.drafts) → Makes (record s { drafts = drafts }) r (act v s (statement_said v Variables ws))
+makes_attribute v s l c rest ls ws drafts r off other on named second first whole h =
+    let here : ws ≡ l ∷ c ∷ rest = first ∙ ap (λ all. l ∷ all) second in
+    let said = ap (statement_said v Variables) here ∙ said_variable v l c rest off other in
+    let read : Result (List Draft) CdlKind = at_variable (word_value l.bytes) (with_att (name_first rest) (constants_said v rest)) s.drafts in
+    subst (Makes (record s { drafts = drafts }) r) (sym (ap (act v s) said ∙ said_attribute v s l c rest on named (goes_attribute l c ls rest on named second whole)))
+    (makes_then drafts (record s { drafts = drafts }) (λ ds. Ok (record s { drafts = ds })) r read refl
+    (subst (Leaves drafts r) (ap (λ (all : List Lexeme). at_variable (name_first all) (with_att (name_first (drop 2 all)) (constants_said v (drop 2 all))) s.drafts) here) h))
+
+pub makes_variable_mark : (v : Version) (s : State) (l c : Lexeme) (rest ls ws : List Lexeme) →
+    is_mark 0x7d l ≡ false → is_mark 0x3a l ≡ false → is_mark 0x3a c ≡ true → is_name l ≡ false → ls ≡ c ∷ rest → ws ≡ l ∷ ls →
+    act v s (statement_said v Variables ws) ≡ Ok (record s { section = after_mark (section_of l) })
+makes_variable_mark v s l c rest ls ws off other on nameless second first =
+    ap (λ all. act v s (statement_said v Variables all)) (first ∙ ap (λ all. l ∷ all) second) ∙ ap (act v s) (said_variable v l c rest off other ∙ marked on nameless) ∙ mark_acts v s (section_of l)
+  where
+    marked : is_mark 0x3a c ≡ true → is_name l ≡ false → variable_said v l (c ∷ rest) ≡ mark_said (section_of l)
+    marked on nameless = rw (on) (rw (nameless) refl)
+
+-- another section, and the rest as it was
+pub gone : (old new : Definitions) (o : Option Section) → new.section ≡ after_mark o → new.dims ≡ old.dims → new.gatts ≡ old.gatts → new.variables ≡ old.variables → record (state_of old) { section = after_mark o } ≡ state_of new
+gone old new o section dims gatts variables = rw (section) (rw (dims) (rw (gatts) (rw (variables) refl)))
+
+-- what follows the first word of a statement in the section of the variables
+pub record SecondOn (start next : Cutter) : Type 0 where
+  pub rest : List Lexeme
+  pub first : words start ≡ lexeme (text_of start) (next_token start) ∷ words next
+  pub second : words next ≡ lexeme (text_of next) (next_token next) ∷ rest
+  pub due : completes (dues.AfterWord (is_name (lexeme (text_of start) (next_token start))) (goes_to Variables (lexeme (text_of start) (next_token start)))) (words next) ≡ true
+
+pub second_on : (start second : Cutter) (ends : Bool) → is_mark 0x7d (lexeme (text_of start) (next_token start)) ≡ false → is_mark 0x3a (lexeme (text_of start) (next_token start)) ≡ false →
+    completes (dues.First Variables) (words start) ≡ true → words start ≡ lexeme (text_of start) (next_token start) ∷ (if ends then [] else words second) → (ends ≡ false → is_done second ≡ false) → SecondOn start second
+second_on start second ends brace colon whole first more =
+    let past = goes_word (lexeme (text_of start) (next_token start)) ends (words second) (words start) brace colon first whole in
+    let begun = begins second (more past.0) in
+    record { rest = begun.0; first = first ∙ rw (past.0) refl; second = begun.1; due = past.2 }
+
+pub only_globals : (section : Section) → is_defining section ≡ true → (section ≡ Dimensions → ⊥) → (section ≡ Variables → ⊥) → section ≡ Globals
+only_globals Globals inside a b = refl
+only_globals Dimensions inside a b = absurd (a refl)
+only_globals Variables inside a b = absurd (b refl)
+only_globals Unopened inside a b = cc
+only_globals Values inside a b = cc
+only_globals Closed inside a b = cc
+only_globals Ended inside a b = cc
+
+-- ---- a statement, by what a first pass over it finds
+
+pub reads_bad : (v : Version) (s : State) (ws : List Lexeme) (kind : CdlKind) → first_bad v ws ≡ Some kind → piece_read v s ws ≡ Err kind
+unfolding piece_read
+reads_bad v s ws kind is = rw (is) refl
+
+pub reads_shapeless : (v : Version) (s : State) (ws : List Lexeme) → first_bad v ws ≡ None → is_some (shape v s.section ws) ≡ false → piece_read v s ws ≡ Err Syntax
+unfolding piece_read
+reads_shapeless v s ws good off = rw (good) (rw (none_of (shape v s.section ws) off) refl)
+
+pub reads_statement : (v : Version) (s : State) (ws : List Lexeme) (statement : Statement) → first_bad v ws ≡ None → shape v s.section ws ≡ Some statement → piece_read v s ws ≡ act v s statement
+unfolding piece_read
+reads_statement v s ws statement good is = rw (good) (rw (is) refl)
+
+pub makes_err : {B : Type 0} (after : State) (q : Result B ReadError) (e : ReadError) (read : Result State CdlKind) → q ≡ Err e → Fails e read → Makes after q read
+makes_err after (Ok b) e read is h = cc
+makes_err after (Err k) e read is h = subst (λ (x : ReadError). Fails x read) (let same : e ≡ k = cc in same) h

@@ -1,0 +1,31 @@
+use Rattle.std.proofs.Common.{rules, ◌≡◌, false, ap, sym, ◌∙◌, subst}
+use Rattle.cdl_text.specs.Cutters.{first_line, is_done, pieces_left, text_of, version_of, words}
+use Rattle.cdl_parse.specs.Defined.{state_of}
+use Rattle.cdl_parse.specs.Meaning.{empty, piece_read, run}
+use Rattle.cdl_parse.specs.Runs.{FailsAt, at_line}
+use Rattle.cdl_parse.proofs.RunSteps.{fewer, goes_on, stops}
+use Rattle.cdl_parse.proofs.ShapesKept.{kept}
+use Rattle.cdl_parse.proofs.definition_sections.read_definitions.Goals as goal
+
+pub statements-smaller : goal.statements-smaller
+statements-smaller c = fewer c.statements.cutter c.in-Ok.rest (sym c.is_done.ensures ∙ c.if-is_done.false) c.in-Ok.ensures.rest
+
+pub statements-preserved : goal.statements-preserved
+statements-preserved c =
+    let start = c.args.start in
+    let t = c.statements in
+    let more : is_done t.cutter ≡ false = sym c.is_done.ensures ∙ c.if-is_done.false in
+    record {
+      text = c.in-Ok.ensures.text ∙ t.invariant.text;
+      version = c.in-Ok.ensures.version ∙ t.invariant.version;
+      shaped = kept (version_of t.cutter) (state_of t.definitions) (state_of c.read_statement.new.self) (words t.cutter) c.in-Ok.ensures.makes t.invariant.shaped;
+      runs = t.invariant.runs ∙ goes_on start t.cutter t.invariant.text t.invariant.version more (state_of t.definitions) (state_of c.read_statement.new.self) c.in-Ok.rest c.in-Ok.ensures.makes c.in-Ok.ensures.rest;
+    }
+
+pub returns-in-Err-clause-reads : goal.returns-in-Err-clause-reads
+returns-in-Err-clause-reads c =
+    let start = c.args.start in
+    let t = c.statements in
+    let more : is_done t.cutter ≡ false = sym c.is_done.ensures ∙ c.if-is_done.false in
+    subst (λ e. FailsAt e (run (text_of start) (version_of start) empty (pieces_left start))) (sym c.at_line.ensures)
+    (subst (FailsAt (at_line c.line.result c.in-Err.e)) (sym t.invariant.runs) (stops start t.cutter t.invariant.text t.invariant.version more (state_of t.definitions) c.in-Err.e c.line.result (c.line.ensures more) c.in-Err.ensures.makes))

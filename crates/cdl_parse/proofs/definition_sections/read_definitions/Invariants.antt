@@ -1,0 +1,17 @@
+use Rattle.std.proofs.Common.{◌≡◌, length}
+use Rattle.cdl_text.specs.Cutters.{pieces_left, text_of, version_of}
+use Rattle.cdl_parse.specs.Defined.{state_of}
+use Rattle.cdl_parse.specs.Listed.{AreShaped}
+use Rattle.cdl_parse.specs.Meaning.{empty, run}
+use Rattle.cdl_parse.proofs.definition_sections.read_definitions.Given as goal
+
+abbrev pub invariant-statements : goal.invariant-statements
+invariant-statements l = record {
+  text : text_of l.cutter ≡ text_of l.fn.start;
+  version : version_of l.cutter ≡ version_of l.fn.start;
+  shaped : AreShaped l.definitions.dims l.definitions.variables;
+  runs : run (text_of l.fn.start) (version_of l.fn.start) empty (pieces_left l.fn.start) ≡ run (text_of l.fn.start) (version_of l.fn.start) (state_of l.definitions) (pieces_left l.cutter);
+}
+
+abbrev pub decreases-statements : goal.decreases-statements
+decreases-statements l = length (pieces_left l.cutter)

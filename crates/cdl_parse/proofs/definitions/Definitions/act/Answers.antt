@@ -1,0 +1,16 @@
+use Rattle.std.proofs.Common.{rules, ◌≡◌, ap, sym, ◌∙◌}
+use Rattle.cdl_text.specs.Contents.{statement_said}
+use Rattle.cdl_text.specs.Cutters.{next_token, text_of, version_of, words}
+use Rattle.cdl_text.specs.Lexemes.{lexeme}
+use Rattle.cdl_parse.specs.Defined.{state_of}
+use Rattle.cdl_parse.specs.State.{act}
+use Rattle.cdl_parse.proofs.Defining.{opens}
+use Rattle.cdl_parse.proofs.StatementWords.{begins}
+use Rattle.cdl_parse.proofs.definitions.Definitions.act.Goals as goal
+
+pub returns-in-Unopened : goal.returns-in-Unopened
+returns-in-Unopened c =
+    let start = c.args.start in
+    let begun = begins start c.requires.more in
+    ap (λ section. act (version_of start) (state_of c.args.self.now) (statement_said (version_of start) section (words start))) c.in-Unopened.is ∙
+    opens (version_of start) (state_of c.args.self.now) (lexeme (text_of start) (next_token start)) begun.0 (words start) begun.1

@@ -1,0 +1,44 @@
+-- The state that the statements before the data section make.
+use Rattle.std.specs.Prelude.{◌≡◌, ℕ, Bool, true, false, List, None, Some, Option, Result, Ok, Err}
+use Rattle.nc_base.specs.declared.header.Dim.{Dim}
+use Rattle.nc_base.specs.declared.version.Version.{Version}
+use Rattle.cdl_text.specs.Lexemes.{Lexeme}
+use Rattle.cdl_text.specs.Shapes.{Variable}
+use Rattle.cdl_text.specs.declared.fault.CdlKind.{CdlKind}
+use Rattle.cdl_text.specs.declared.section.Section.{Section}
+use Rattle.cdl_text.specs.declared.section.Section.TheVariants.{Unopened, Globals, Dimensions, Variables, Ended}
+use Rattle.cdl_parse.specs.Answers.{Fails}
+use Rattle.cdl_parse.specs.State.{State, Draft, add_var, in_turn, type_of, ◌>>=◌}
+use Rattle.cdl_parse.specs.declared.definitions.Definitions.{Definitions}
+use Rattle.cdl_parse.specs.declared.read_error.ReadError.{ReadError}
+
+abbrev pub state_of : Definitions → State
+state_of d = record { section = d.section; dims = d.dims; gatts = d.gatts; drafts = d.variables }
+
+-- between the opening and the data section
+abbrev pub is_defining : Section → Bool
+is_defining Globals = true
+is_defining Dimensions = true
+is_defining Variables = true
+is_defining _ = false
+
+-- before the data section
+abbrev pub is_early : Section → Bool
+is_early Unopened = true
+is_early section = is_defining section
+
+-- the section of a mark; no mark gets here that has none
+abbrev pub after_mark : Option Section → Section
+after_mark None = Ended
+after_mark (Some section) = section
+
+-- with an Ok the statement makes this state; a fault is its fault
+abbrev pub Makes : {B : Type 0} → State → Result B ReadError → Result State CdlKind → Type 0
+Makes after (Ok b) read = read ≡ Ok after
+Makes after (Err e) read = Fails e read
+
+-- the variables with these more, of the type that the word says
+abbrev pub declare : Version → Lexeme → List Dim → List Draft → List Variable → Result (List Draft) CdlKind
+declare v word dims drafts vs = do
+  ty ← type_of v word
+  in_turn (add_var dims ty) drafts vs

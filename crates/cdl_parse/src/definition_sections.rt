@@ -1,0 +1,59 @@
+//! The sections before the data section.
+
+ghost use Rattle.std.specs.Prelude.{◌≡◌, IfOk, false};
+ghost use Rattle.cdl_text.specs.Cutters.{is_done, pieces_left, text_of, version_of};
+ghost use Rattle.cdl_parse.specs.Defined.{is_early, state_of};
+ghost use Rattle.cdl_parse.specs.Listed.{AreShaped};
+ghost use Rattle.cdl_parse.specs.Meaning.{empty, run};
+ghost use Rattle.cdl_parse.specs.Runs.{ReadsOn};
+
+use crate::definitions::Definitions;
+use crate::read_error::ParseError;
+use cdl_text::{Cutter, Section};
+use std::alloc::Global;
+
+/// What the sections before the data section declare, and what comes after them.
+#[derive(Drop)]
+pub struct Defined<'a> {
+    pub definitions: Definitions,
+    /// The statements after these sections.
+    pub rest: Cutter<'a>,
+}
+
+/// Reads the statements of a text up to the mark of the data section, to the closing brace, or to the end.
+///
+/// # Errors
+///
+/// The fault of the first bad statement, with its line; or a growth was refused.
+pub fn read_definitions<'a>(alloc: Global, start: Cutter<'a>) -> Result<Defined<'a>, ParseError>
+    ensures reads { ReadsOn (λ d. run (text_of start.entry) (version_of start.entry) (state_of d.definitions) (pieces_left d.rest)) result (run (text_of start.entry) (version_of start.entry) empty (pieces_left start.entry)) }
+    ensures shaped { IfOk result (λ d. AreShaped d.definitions.dims d.definitions.variables) }
+    ensures ends { IfOk result (λ d. is_done d.rest ≡ false → is_early d.definitions.section ≡ false) }
+    ensures text { IfOk result (λ d. text_of d.rest ≡ text_of start.entry) }
+    ensures version { IfOk result (λ d. version_of d.rest ≡ version_of start.entry) }
+{
+    let mut definitions = Definitions::new(alloc);
+    let mut cutter = start;
+    'statements: loop {
+        if cutter.is_done() || !is_early(definitions.section) {
+            return Ok(Defined {
+                definitions,
+                rest: cutter,
+            });
+        }
+        match definitions.read_statement(alloc, cutter) {
+            Ok(rest) => cutter = rest,
+            Err(e) => return Err(e.at_line(cutter.line())),
+        }
+    }
+}
+
+/// Says whether the section stands before the data section.
+fn is_early(section: Section) -> bool
+    ensures { result ≡ is_early section }
+{
+    match section {
+        Section::Unopened | Section::Globals | Section::Dimensions | Section::Variables => true,
+        Section::Values | Section::Closed | Section::Ended => false,
+    }
+}

@@ -1,0 +1,172 @@
+//! What a text declares before its data section.
+
+ghost use Rattle.std.specs.Prelude.{◌≡◌, IfOk, false, true};
+ghost use Rattle.cdl_text.specs.Contents.{other_said, statement_said, variable_said};
+ghost use Rattle.cdl_text.specs.Cutters.{after, is_done, next_token, pieces_left, text_of, version_of, words};
+ghost use Rattle.cdl_text.specs.DueTokens.{completes};
+ghost use Rattle.cdl_text.specs.Lexemes.{is_mark, lexeme};
+ghost use Rattle.cdl_text.specs.Shapes.{section_of};
+ghost use Rattle.cdl_text.specs.Views.{lexeme_of};
+ghost use Rattle.cdl_text.specs.declared.due.Due.TheVariants.{First};
+
+use crate::attribute::read_attribute;
+use crate::attributes::Attributes;
+use crate::declaration::read_declaration;
+use crate::dimension_list::read_dimensions;
+use crate::dimensions::Dimensions;
+use crate::read_error::ReadError;
+use crate::variables::Variables;
+use cdl_text::{CdlKind, Cutter, Lexeme, Section, look_over};
+use std::alloc::Global;
+
+/// What the statements of a text up to its data section declare.
+#[derive(Drop)]
+pub struct Definitions {
+    /// The section that the next statement stands in.
+    pub section: Section,
+    pub dims: Dimensions,
+    /// The attributes of the dataset.
+    pub gatts: Attributes,
+    pub variables: Variables,
+}
+
+impl Definitions {
+    ghost use Rattle.cdl_parse.specs.Defined.{Makes, after_mark, is_defining, is_early, state_of};
+    ghost use Rattle.cdl_parse.specs.Meaning.{empty, piece_read};
+    ghost use Rattle.cdl_parse.specs.State.{act};
+
+    /// What stands before the first statement: nothing. It takes no memory.
+    pub fn new(alloc: Global) -> Definitions
+        ensures { state_of result ≡ empty }
+    {
+        Definitions {
+            section: Section::Unopened,
+            dims: Dimensions::new(alloc),
+            gatts: Attributes::new(alloc),
+            variables: Variables::new(alloc),
+        }
+    }
+
+    /// Reads the next statement, which stands before the data section, and gives the statements after it.
+    ///
+    /// # Errors
+    ///
+    /// The statement's first fault; or a growth was refused.
+    pub fn read_statement<'a>(
+        &mut self,
+        alloc: Global,
+        start: Cutter<'a>,
+    ) -> Result<Cutter<'a>, ReadError>
+        requires more { is_done start ≡ false }
+        requires early { is_early self.old.section ≡ true }
+        ensures makes { Makes (state_of self.new) result (piece_read (version_of start.entry) (state_of self.old) (words start.entry)) }
+        ensures rest { IfOk result (λ c. pieces_left c ≡ after start.entry) }
+        ensures text { IfOk result (λ c. text_of c ≡ text_of start.entry) }
+        ensures version { IfOk result (λ c. version_of c ≡ version_of start.entry) }
+    {
+        let found = look_over(start, self.section);
+        match found.bad {
+            Some(kind) => return Err(ReadError::Fault(kind)),
+            None => {}
+        }
+        if !found.shaped {
+            return Err(ReadError::Fault(CdlKind::Syntax));
+        }
+        self.act(alloc, start)?;
+        Ok(found.rest)
+    }
+
+    /// Does what a statement says that has its shape.
+    fn act(&mut self, alloc: Global, start: Cutter<'_>) -> Result<(), ReadError>
+        requires more { is_done start ≡ false }
+        requires early { is_early self.old.section ≡ true }
+        requires whole { completes (First self.old.section) (words start) ≡ true }
+        ensures { Makes (state_of self.new) result (act (version_of start.entry) (state_of self.old) (statement_said (version_of start.entry) self.old.section (words start.entry))) }
+    {
+        match self.section {
+            Section::Unopened => {
+                self.section = Section::Globals;
+                Ok(())
+            }
+            _ => self.define(alloc, start),
+        }
+    }
+
+    /// Does what a statement says between the opening and the data section.
+    fn define(&mut self, alloc: Global, start: Cutter<'_>) -> Result<(), ReadError>
+        requires more { is_done start ≡ false }
+        requires defining { is_defining self.old.section ≡ true }
+        requires whole { completes (First self.old.section) (words start) ≡ true }
+        ensures { Makes (state_of self.new) result (act (version_of start.entry) (state_of self.old) (statement_said (version_of start.entry) self.old.section (words start.entry))) }
+    {
+        let first = start.lexeme();
+        if first.is_mark(b'}') {
+            self.section = Section::Closed;
+            return Ok(());
+        }
+        if first.is_mark(b':') {
+            let (name, _) = start.advanced();
+            return read_attribute(alloc, &mut self.gatts, name);
+        }
+        match self.section {
+            Section::Dimensions => self.define_dimensions(alloc, start),
+            Section::Variables => self.define_variables(alloc, start),
+            _ => {
+                self.go_to(first);
+                Ok(())
+            }
+        }
+    }
+
+    /// The section whose mark begins with this word is next.
+    fn go_to(&mut self, word: Lexeme<'_>)
+        ensures section { self.new.section ≡ after_mark (section_of (lexeme_of word.entry)) }
+        ensures dims { self.new.dims ≡ self.old.dims }
+        ensures gatts { self.new.gatts ≡ self.old.gatts }
+        ensures variables { self.new.variables ≡ self.old.variables }
+    {
+        self.section = match word.section() {
+            Some(section) => section,
+            None => Section::Ended,
+        };
+    }
+
+    /// Does what a statement says in the section of the dimensions: the mark of a later section, or dimensions.
+    fn define_dimensions(&mut self, alloc: Global, start: Cutter<'_>) -> Result<(), ReadError>
+        requires more { is_done start ≡ false }
+        requires section { self.old.section ≡ Section.Dimensions }
+        requires brace { is_mark 0x7d (lexeme (text_of start) (next_token start)) ≡ false }
+        requires colon { is_mark 0x3a (lexeme (text_of start) (next_token start)) ≡ false }
+        requires whole { completes (First Section.Dimensions) (words start) ≡ true }
+        ensures { Makes (state_of self.new) result (act (version_of start.entry) (state_of self.old) (statement_said (version_of start.entry) Section.Dimensions (words start.entry))) }
+    {
+        let word = start.lexeme();
+        if word.goes_to(Section::Dimensions) {
+            self.go_to(word);
+            return Ok(());
+        }
+        read_dimensions(alloc, &mut self.dims, start)
+    }
+
+    /// Does what a statement says in the section of the variables: an attribute of a variable, the mark of a later section, or
+    /// declarations.
+    fn define_variables(&mut self, alloc: Global, start: Cutter<'_>) -> Result<(), ReadError>
+        requires more { is_done start ≡ false }
+        requires section { self.old.section ≡ Section.Variables }
+        requires brace { is_mark 0x7d (lexeme (text_of start) (next_token start)) ≡ false }
+        requires colon { is_mark 0x3a (lexeme (text_of start) (next_token start)) ≡ false }
+        requires whole { completes (First Section.Variables) (words start) ≡ true }
+        ensures { Makes (state_of self.new) result (act (version_of start.entry) (state_of self.old) (statement_said (version_of start.entry) Section.Variables (words start.entry))) }
+    {
+        let word = start.lexeme();
+        let (second, _) = start.advanced();
+        if !second.lexeme().is_mark(b':') {
+            return read_declaration(alloc, &self.dims, &mut self.variables, start);
+        }
+        if word.is_name() {
+            return self.variables.read_attribute(alloc, start);
+        }
+        self.go_to(word);
+        Ok(())
+    }
+}
