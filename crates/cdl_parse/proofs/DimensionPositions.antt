@@ -1,6 +1,6 @@
 -- A dimension more: its name, its position, and whether it is the record dimension.
-use Rattle.std.proofs.Common.{◌≡◌, ℕ, suc, ◌+◌, Bool, true, false, List, [], ◌∷◌, ◌++◌, length, map, refl, sym, ap, ◌∙◌, Vec, Global}
-use Rattle.std.specs.Prelude.{◌||◌, ◌==◌, Option, None, Some, Result, OnOk, is_err, if◌then◌else◌}
+use Rattle.std.proofs.Common.{◌≡◌, ℕ, suc, ◌+◌, Bool, true, false, List, [], ◌∷◌, ◌++◌, length, map, refl, sym, ap, ◌∙◌}
+use Rattle.std.specs.Prelude.{◌||◌, ◌==◌, Option, Some, if◌then◌else◌}
 use Rattle.std.specs.List.{position, position_from}
 use Rattle.std.specs.Str.{bytes_eq}
 use Rattle.std.proofs.lemmas.Iterator.Adapters.{position_from-zero}
@@ -8,7 +8,6 @@ use Rattle.nc_base.specs.Headers.{has_record_dim}
 use Rattle.nc_base.specs.declared.header.Dim.{Dim}
 use Rattle.cdl_parse.specs.NameIndices.{IsIndex, position_of}
 use Rattle.cdl_parse.specs.declared.name_index.NameIndex.{NameIndex}
-use Rattle.cdl_parse.proofs.NameSets.{where_ok}
 
 abbrev dim_names : List Dim → List (List ℕ)
 dim_names dims = map (λ (d : Dim). d.name) dims

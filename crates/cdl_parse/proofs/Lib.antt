@@ -13,3 +13,4 @@ pub mod AttributeReads
 pub mod VariableNames
 pub mod Runs
 pub mod DimensionPositions
+pub mod DimensionReads

@@ -20,8 +20,7 @@ invariant_of-self-2 c =
     elim c.if-self.branch [
       | then-self w ↦ search rules
       | else-self w ↦ search rules
-    ] in
-    (
+    ] in (
       index_more c.add.new.self dims c.push.new.self.items dim name named listed (where_ok c.add.result _ (sym c.is_err.ensures.value ∙ c.if-is_err.false) (c.add.ensures.ok (map (λ (d : Dim). d.name) dims) c.self.invariant.0 place old)),
       has_record_more dims c.push.new.self.items dim c.self.inside.has_record c.if-self.has_record c.self.invariant.1 either listed,
     )
