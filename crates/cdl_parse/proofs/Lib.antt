@@ -14,3 +14,6 @@ pub mod VariableNames
 pub mod Runs
 pub mod DimensionPositions
 pub mod DimensionReads
+pub mod Extents
+pub mod SizeLimits
+pub mod Finished

@@ -12,3 +12,5 @@ pub mod AttributeRead
 pub mod VariablePositions
 pub mod Runs
 pub mod Listed
+pub mod OwedValues
+pub mod Extents
