@@ -15,3 +15,8 @@ pub mod Runs
 pub mod Defining
 pub mod RunSteps
 pub mod ShapesKept
+pub mod DimensionPositions
+pub mod DimensionReads
+pub mod Extents
+pub mod SizeLimits
+pub mod Finished

@@ -19,3 +19,9 @@ abbrev pub new_name : List Dim → List ℕ → Result ⊤ CdlKind
 new_name dims name = do
   _ ← unless (is_name name) BadName
   when (list_any (λ (e : Dim). bytes_eq e.name name) dims) DuplicateName
+
+-- the name of a new dimension
+abbrev pub named : List Dim → List ℕ → Result (List ℕ) CdlKind
+named dims name = do
+  _ ← new_name dims name
+  Ok name

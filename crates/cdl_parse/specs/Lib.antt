@@ -13,3 +13,5 @@ pub mod VariablePositions
 pub mod Runs
 pub mod Listed
 pub mod Defined
+pub mod OwedValues
+pub mod Extents

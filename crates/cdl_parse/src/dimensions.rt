@@ -1,41 +1,118 @@
-//! Stand-in.
+//! The dimensions of a dataset.
 
-ghost use Rattle.std.specs.Prelude.{◌≡◌, []};
+ghost use Rattle.std.specs.Prelude.{◌≡◌, ◌++◌, ◌∷◌, [], None, OnErr, OnOk, map};
+ghost use Rattle.std.specs.List.{position};
+ghost use Rattle.std.specs.Str.{bytes_eq};
+ghost use Rattle.nc_base.specs.Headers.{has_record_dim};
+ghost use Rattle.nc_base.specs.declared.header.Dim as header;
+ghost use Rattle.cdl_parse.specs.DimensionLengths.{new_name};
+ghost use Rattle.cdl_parse.specs.NameIndices.{position_of};
 
+use crate::dimension::check_new;
+use crate::name_index::NameIndex;
+use cdl_text::CdlKind;
 use nc_base::{Dim, Sequence};
-use std::alloc::Global;
+use std::alloc::{AllocError, Global};
 use std::marker::Model;
 
-/// Dimensions.
+/// The dimensions of a dataset, in the order of the text.
+///
+/// The one of a name is found in a time that grows with the logarithm of their number.
 #[derive(Drop)]
 pub struct Dimensions {
     list: Vec<Dim>,
+    names: NameIndex,
+    has_record: bool,
 }
 
 impl Model for Dimensions {
-    ghost use Rattle.std.specs.Prelude.{List};
+    ghost use Rattle.std.specs.Prelude.{List, ◌≡◌, map};
+    ghost use Rattle.nc_base.specs.Headers.{has_record_dim};
     ghost use Rattle.nc_base.specs.declared.header.Dim.{Dim};
+    ghost use Rattle.cdl_parse.specs.NameIndices.{IsIndex};
 
     ghost Value = { List Dim };
 
-    ghost view = { λ d. d.list.items };
+    ghost view = { λ dims. dims.list.items };
+
+    ghost invariant = { λ dims. IsIndex dims.names (map (λ (d : Dim). d.name) dims.list.items) × (dims.has_record ≡ has_record_dim dims.list.items) };
 }
 
 impl Dimensions {
-    /// None.
+    /// No dimensions. It takes no memory.
     pub fn new(alloc: Global) -> Dimensions
         ensures { result ≡ [] }
     {
         Dimensions {
             list: Vec::new(alloc),
+            names: NameIndex::new(alloc),
+            has_record: false,
         }
     }
 
-    /// As a list.
+    /// The dimensions as a slice.
+    pub fn as_slice(&self) -> &[Dim]
+        ensures { result.now ≡ self.now }
+    {
+        self.list.as_slice()
+    }
+
+    /// Says whether one of them is the record dimension, which has length 0.
+    pub fn has_record(&self) -> bool
+        ensures { result ≡ has_record_dim self.now }
+    {
+        self.has_record
+    }
+
+    /// The position of the first dimension that has the name; None, where none has.
+    pub fn position(&self, name: &[u8]) -> Option<u64>
+        ensures { result ≡ position (λ (d : header.Dim). bytes_eq d.name name.now) self.now }
+    {
+        self.names.find(name)
+    }
+
+    /// Checks that a new dimension may have this name.
+    ///
+    /// # Errors
+    ///
+    /// No name (`BadName`); or the name of another dimension (`DuplicateName`).
+    pub fn check_new(&self, name: &[u8]) -> Result<(), CdlKind>
+        ensures { result ≡ new_name self.now name.now }
+    {
+        check_new(&self.names, name)
+    }
+
+    /// Adds a dimension at the end, whose name no other one has.
+    ///
+    /// # Errors
+    ///
+    /// A growth was refused. Then the dimensions are what they were.
+    pub fn add(&mut self, alloc: Global, dim: Dim) -> Result<(), AllocError>
+        requires { position_of (map (λ (d : header.Dim). d.name) self.old) dim.name ≡ None }
+        ensures ok { OnOk result (self.new ≡ self.old ++ dim ∷ []) }
+        ensures err { OnErr result (self.new ≡ self.old) }
+    {
+        let name = Vec::from_slice(alloc, dim.name.as_slice())?;
+        let has_record = self.has_record || dim.len == 0;
+        let position = self.list.len() as u64;
+        self.list.push(dim)?;
+        if self.names.add(name, position).is_err() {
+            self.list.pop();
+            return Err(AllocError);
+        }
+        self.has_record = has_record;
+        Ok(())
+    }
+
+    /// The dimensions as a list, without a copy.
     pub fn into_sequence(self) -> Sequence<Dim>
         ensures { result ≡ self }
     {
-        let Dimensions { list } = self;
+        let Dimensions {
+            list,
+            names: _,
+            has_record: _,
+        } = self;
         Sequence::from_vec(list)
     }
 }

@@ -1,0 +1,21 @@
+-- How far what is listed reaches: over all variables, and in records.
+use Rattle.std.proofs.Common.{◌≡◌, ℕ, zero, suc, ◌≤◌, List, [], ◌∷◌, length, drop, refl, arith}
+use Rattle.std.specs.Prelude.{min, Some}
+use Rattle.nc_base.specs.declared.header.Dim.{Dim}
+use Rattle.nc_base.specs.declared.header.Var.{Var}
+use Rattle.cdl_parse.specs.Extents.{with_all}
+use Rattle.cdl_parse.specs.declared.records.Extent.{Extent}
+
+-- ---- no variable is left
+
+none_listed : (dims : List Dim) (e : Extent) (vars : List Var) → with_all dims (Some e) vars [] ≡ Some e
+none_listed dims e [] = refl
+none_listed dims e (var ∷ vars) = refl
+
+pub all_done : (dims : List Dim) (e : Extent) (vars : List Var) (listed : List (List ℕ)) (n : ℕ) → min (length vars) (length listed) ≤ n → with_all dims (Some e) (drop n vars) (drop n listed) ≡ Some e
+all_done dims e [] listed zero h = refl
+all_done dims e [] listed (suc n) h = refl
+all_done dims e (var ∷ vars) [] zero h = refl
+all_done dims e (var ∷ vars) [] (suc n) h = none_listed dims e (drop n vars)
+all_done dims e (var ∷ vars) (array ∷ listed) zero h = absurd (let g : min (suc (length vars)) (suc (length listed)) ≤ 0 = h in omega (arith, g))
+all_done dims e (var ∷ vars) (array ∷ listed) (suc n) h = all_done dims e vars listed n (let g : min (suc (length vars)) (suc (length listed)) ≤ suc n = h in omega (arith, g))

@@ -1,0 +1,21 @@
+use Rattle.std.proofs.Common.{◌≡◌, ap, sym, ◌∙◌, refl, true, false}
+use Rattle.std.specs.Prelude.{None, Some, if◌then◌else◌}
+use Rattle.cdl_text.specs.Contents.{is_unlimited, parts_or_zero}
+use Rattle.cdl_text.specs.Numerals.{number, parts}
+use Rattle.cdl_text.specs.Views.{lexeme_of}
+use Rattle.cdl_parse.specs.State.{dim_len_of}
+use Rattle.cdl_parse.proofs.dimension_list.len_said.Goals as goal
+
+pub returns-then-is_unlimited : goal.returns-then-is_unlimited
+returns-then-is_unlimited c = λ dims has.
+    let v = c.args.version in
+    let p = parts_or_zero (parts v c.args.length.bytes.now) in
+    let on : is_unlimited (lexeme_of c.args.length) ≡ true = sym c.is_unlimited.ensures ∙ c.if-is_unlimited.true in
+    (c.dim_len.ensures dims p has).0 refl ∙ ap (λ b. dim_len_of v dims (if b then None else Some (number p).value)) (sym on)
+
+pub returns : goal.returns
+returns c = λ dims has.
+    let v = c.args.version in
+    let p = parts_or_zero (parts v c.args.length.bytes.now) in
+    let off : is_unlimited (lexeme_of c.args.length) ≡ false = sym c.is_unlimited.ensures ∙ c.if-is_unlimited.false in
+    (c.dim_len-2.ensures dims p has).1 (ap Some c.number_or_zero.ensures) ∙ ap (λ b. dim_len_of v dims (if b then None else Some (number p).value)) (sym off)

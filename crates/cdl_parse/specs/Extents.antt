@@ -1,0 +1,36 @@
+-- How far what is listed reaches.
+use Rattle.std.specs.Prelude.{ℕ, ◌+◌, ◌-◌, ◌*◌, ◌/◌, ◌&&◌, nat_le, max, if◌then◌else◌, List, ◌∷◌, length, Option, None, Some}
+use Rattle.std.specs.List.{list_all}
+use Rattle.nc_base.specs.declared.header.Dim.{Dim}
+use Rattle.nc_base.specs.declared.header.Var.{Var}
+use Rattle.nc_base.specs.Sizes.{is_record_var, slab_count, slab_size, slab_limit, array_limit}
+use Rattle.nc_base.specs.Types.{size_of}
+use Rattle.cdl_parse.specs.Meaning.{is_small, records_in}
+use Rattle.cdl_parse.specs.State.{Draft}
+use Rattle.cdl_parse.specs.declared.records.Extent.{Extent}
+
+-- how many records of so many values hold n of them
+abbrev pub records_for : ℕ → ℕ → ℕ
+records_for count n = (n + count - 1) / count
+
+-- with a variable of which these bytes are listed; None where its slab passes the limit
+abbrev pub with_listed : List Dim → Extent → Var → List ℕ → Option Extent
+with_listed dims e var listed =
+    if nat_le (slab_size dims var) slab_limit then Some (if is_record_var dims var then record {
+      records = max e.records (records_for (slab_count dims var) (length listed / size_of var.ty));
+      widest = max e.widest (slab_size dims var);
+    } else e) else None
+
+-- with all these
+abbrev pub with_all : List Dim → Option Extent → List Var → List (List ℕ) → Option Extent
+with_all dims None vars arrays = None
+with_all dims (Some e) (var ∷ vars) (listed ∷ arrays) = with_all dims (with_listed dims e var listed) vars arrays
+with_all dims (Some e) _ _ = Some e
+
+-- the number of records; None where the array of the widest variable over them passes the limit
+abbrev pub records_within : Extent → Option ℕ
+records_within e = if nat_le e.records array_limit && nat_le (e.records * e.widest) array_limit then Some e.records else None
+
+-- the number of records; None where over so many a slab or an array passes its limit
+abbrev pub records_kept : List Dim → List Draft → Option ℕ
+records_kept dims drafts = if list_all (is_small dims (records_in dims drafts)) drafts then Some (records_in dims drafts) else None

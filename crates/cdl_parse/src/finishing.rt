@@ -1,0 +1,43 @@
+//! The end of a text: the number of records, and the limits on sizes.
+
+ghost use Rattle.std.specs.Prelude.{◌≡◌, ℕ, Ok};
+ghost use Rattle.cdl_parse.specs.Listed.{AllList, AreShaped};
+ghost use Rattle.cdl_parse.specs.Meaning.{finished};
+ghost use Rattle.cdl_parse.specs.OwedValues.{or_too_large};
+ghost use Rattle.cdl_parse.specs.State.{State};
+
+use crate::array::Array;
+use crate::declared::Declared;
+use crate::records::records_of;
+use nc_base::{Att, Dim, Header, NumRecs, Sequence, Var, Version, rec_size};
+
+/// What a text with these dimensions, attributes, variables and listed values declares. There are as many records as the
+/// record variable has that lists the most.
+///
+/// None, where it is too large: a slab or an array of more than 2^48 bytes, or a record of more than 2^62 bytes. It takes no
+/// memory.
+pub fn finish(
+    version: Version,
+    dims: Sequence<Dim>,
+    gatts: Sequence<Att>,
+    vars: Sequence<Var>,
+    listed: Vec<Array>,
+) -> Option<Declared>
+    ensures { (s : State) → s.dims ≡ dims → s.gatts ≡ gatts → AllList vars listed.items s.drafts → AreShaped dims s.drafts → (line : ℕ) → finished version line (Ok s) ≡ or_too_large line result }
+{
+    let records = records_of(dims.as_slice(), vars.as_slice(), listed.as_slice())?;
+    let header = Header {
+        version,
+        numrecs: NumRecs::Known(records),
+        dims,
+        gatts,
+        vars,
+    };
+    if rec_size(&header).is_none() {
+        return None;
+    }
+    Some(Declared {
+        header,
+        listed: Sequence::from_vec(listed),
+    })
+}

@@ -1,0 +1,89 @@
+//! The number of records that a text declares.
+
+ghost use Rattle.std.specs.Prelude.{◌≡◌, ◌<◌, All, List, Some};
+ghost use Rattle.nc_base.specs.Sizes.{slab_count};
+ghost use Rattle.nc_base.specs.declared.header.Var as header;
+ghost use Rattle.cdl_parse.specs.Extents.{records_for, records_kept, with_all};
+ghost use Rattle.cdl_parse.specs.Listed.{AllList, AreShaped};
+ghost use Rattle.cdl_parse.specs.State.{Draft};
+
+use crate::array::Array;
+use nc_base::{Dim, Var, has_records, slab_of};
+
+/// The greatest array, in bytes.
+const ARRAY_LIMIT: u128 = 1 << 48;
+
+/// The number of records: as many as the record variable has that lists the most values. None, where a slab, or an array over
+/// so many records, passes 2^48 bytes.
+pub fn records_of(dims: &[Dim], vars: &[Var], listed: &[Array]) -> Option<u64>
+    ensures { (drafts : List Draft) → AllList vars.now listed.now drafts → AreShaped dims.now drafts → result ≡ records_kept dims.now drafts }
+{
+    match extent_of(dims, vars, listed) {
+        Some(extent) => extent.records(),
+        None => None,
+    }
+}
+
+/// How far the listed values of the variables reach.
+#[derive(Clone, Copy)]
+struct Extent {
+    /// How many records hold them.
+    records: u128,
+    /// The bytes of the greatest slab of a record variable.
+    widest: u64,
+}
+
+impl Extent {
+    ghost use Rattle.cdl_parse.specs.Extents.{records_within, with_listed};
+
+    /// The same, with a variable of which these values are listed; None where its slab passes 2^48 bytes.
+    fn with(self, dims: &[Dim], var: &Var, listed: &Array) -> Option<Extent>
+        ensures { 0 < slab_count dims.now var.now → result ≡ with_listed dims.now self var.now listed.now }
+    {
+        let slab = slab_of(dims, var.dimids.as_slice(), var.ty)?;
+        if !has_records(dims, var.dimids.as_slice()) {
+            return Some(self);
+        }
+        let size = var.ty.size();
+        let records = records_for(slab / size, listed.len() / size as u128);
+        Some(Extent {
+            records: self.records.max(records),
+            widest: self.widest.max(slab),
+        })
+    }
+
+    /// The number of records; None where over so many a record variable's array passes 2^48 bytes.
+    fn records(self) -> Option<u64>
+        ensures { result ≡ records_within self }
+    {
+        if self.records > ARRAY_LIMIT || self.records * self.widest as u128 > ARRAY_LIMIT {
+            return None;
+        }
+        Some(self.records as u64)
+    }
+}
+
+/// How many records of `count` values hold `n` values.
+fn records_for(count: u64, n: u128) -> u128
+    ensures { 0 < count → result ≡ records_for count n }
+{
+    if count == 0 {
+        return 0;
+    }
+    n.div_ceil(count as u128)
+}
+
+/// How far the values of all variables reach; None where a slab passes 2^48 bytes.
+fn extent_of(dims: &[Dim], vars: &[Var], listed: &[Array]) -> Option<Extent>
+    ensures { All (λ (var : header.Var). 0 < slab_count dims.now var) vars.now → result ≡ with_all dims.now (Some (record { records = 0; widest = 0 })) vars.now listed.now }
+{
+    let mut extent = Extent {
+        records: 0,
+        widest: 0,
+    };
+    let n = vars.len().min(listed.len());
+    for at in 0..n {
+        extent = extent.with(dims, &vars[at], &listed[at])?;
+    }
+    Some(extent)
+}
