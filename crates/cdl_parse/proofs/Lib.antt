@@ -12,3 +12,6 @@ pub mod StatementWords
 pub mod AttributeReads
 pub mod VariableNames
 pub mod Runs
+pub mod DataStates
+pub mod DataStatements
+pub mod DataRuns
