@@ -20,3 +20,6 @@ pub mod DimensionReads
 pub mod Extents
 pub mod SizeLimits
 pub mod Finished
+pub mod DataStates
+pub mod DataStatements
+pub mod DataRuns

@@ -15,3 +15,4 @@ pub mod Listed
 pub mod Defined
 pub mod OwedValues
 pub mod Extents
+pub mod DataSections

@@ -1,13 +1,13 @@
 //! The statements of the data section.
 
-ghost use Rattle.std.specs.Prelude.{◌≡◌, ℕ, List, Ok, IfOk, false, option_map};
+ghost use Rattle.std.specs.Prelude.{◌≡◌, ℕ, List, Ok, Some, IfOk, false, option_map};
 ghost use Rattle.cdl_text.specs.Cutters.{after, is_done, pieces_left, text_of, version_of, words};
 ghost use Rattle.cdl_text.specs.Lexemes.{word_value};
 ghost use Rattle.cdl_text.specs.declared.section.Section.TheVariants.{Values};
 ghost use Rattle.cdl_parse.specs.Answers.{Gives};
 ghost use Rattle.cdl_parse.specs.DataRead.{data_read, if_new, target_of};
-ghost use Rattle.cdl_parse.specs.Meant.{Suit, Tells, array_of, begins_brace, names_of};
-ghost use Rattle.cdl_parse.specs.NameIndices.{IsIndex};
+ghost use Rattle.cdl_parse.specs.Meant.{Suit, Tells, array_of, begins_brace, name_first, names_of};
+ghost use Rattle.cdl_parse.specs.NameIndices.{IsIndex, position_of};
 ghost use Rattle.cdl_parse.specs.State.{State};
 
 use crate::array::Array;
@@ -31,9 +31,18 @@ pub struct Target<'a> {
     pub given: bool,
 }
 
+/// The target of a variable, and the variable's position.
+#[derive(Clone, Copy)]
+struct Place<'a> {
+    position: u64,
+    target: Target<'a>,
+}
+
 /// What a statement gives: its variable's values, and the statements after it.
 #[derive(Drop)]
 pub struct Given<'a> {
+    /// The variable's position among the names.
+    pub position: u64,
     pub array: Array,
     pub rest: Cutter<'a>,
 }
@@ -53,6 +62,7 @@ pub fn read<'a>(
 ) -> Result<Given<'a>, ReadError>
     requires { is_done start ≡ false }
     ensures tells { (s : State) → s.section ≡ Values → IsIndex names.now (names_of s.drafts) → Suit s.dims targets.now s.drafts → begins_brace (words start.entry) ≡ false → Tells (version_of start.entry) s (words start.entry) (array_of (λ (g : Given). g.array) result) }
+    ensures position { (all : List (List ℕ)) → IsIndex names.now all → IfOk result (λ g. position_of all (name_first (words start.entry)) ≡ Some g.position) }
     ensures rest { IfOk result (λ g. pieces_left g.rest ≡ after start.entry) }
     ensures text { IfOk result (λ g. text_of g.rest ≡ text_of start.entry) }
     ensures version { IfOk result (λ g. version_of g.rest ≡ version_of start.entry) }
@@ -69,6 +79,7 @@ fn read_either<'a>(
 ) -> Result<Given<'a>, ReadError>
     requires { is_done start ≡ false }
     ensures read { (names : List (List ℕ)) → IsIndex index.now names → Gives (λ g. g.array) result (data_read (version_of start.entry) names targets.now (words start.entry)) }
+    ensures position { (names : List (List ℕ)) → IsIndex index.now names → IfOk result (λ g. position_of names (name_first (words start.entry)) ≡ Some g.position) }
     ensures rest { IfOk result (λ g. pieces_left g.rest ≡ after start.entry) }
     ensures text { IfOk result (λ g. text_of g.rest ≡ text_of start.entry) }
     ensures version { IfOk result (λ g. version_of g.rest ≡ version_of start.entry) }
@@ -89,6 +100,7 @@ fn read_quickly<'a>(
 ) -> Result<Given<'a>, Stop>
     requires { is_done start ≡ false }
     ensures read { IfOk result (λ g. (names : List (List ℕ)) → IsIndex index.now names → data_read (version_of start.entry) names targets.now (words start.entry) ≡ Ok g.array) }
+    ensures position { (names : List (List ℕ)) → IsIndex index.now names → IfOk result (λ g. position_of names (name_first (words start.entry)) ≡ Some g.position) }
     ensures rest { IfOk result (λ g. pieces_left g.rest ≡ after start.entry) }
     ensures text { IfOk result (λ g. text_of g.rest ≡ text_of start.entry) }
     ensures version { IfOk result (λ g. version_of g.rest ≡ version_of start.entry) }
@@ -114,8 +126,9 @@ fn read_quickly<'a>(
         _ => return Err(Stop::SomeFault),
     }
     match target_of(alloc, index, targets, name.bytes) {
-        Ok(target) => match pack_good(alloc, value, target.filling, target.capacity) {
+        Ok(place) => match pack_good(alloc, value, place.target.filling, place.target.capacity) {
             Ok(packed) => Ok(Given {
+                position: place.position,
                 array: packed.array,
                 rest: packed.rest,
             }),
@@ -134,6 +147,7 @@ fn read_slowly<'a>(
 ) -> Result<Given<'a>, ReadError>
     requires { is_done start ≡ false }
     ensures read { (names : List (List ℕ)) → IsIndex index.now names → Gives (λ g. g.array) result (data_read (version_of start.entry) names targets.now (words start.entry)) }
+    ensures position { (names : List (List ℕ)) → IsIndex index.now names → IfOk result (λ g. position_of names (name_first (words start.entry)) ≡ Some g.position) }
     ensures rest { IfOk result (λ g. pieces_left g.rest ≡ after start.entry) }
     ensures text { IfOk result (λ g. text_of g.rest ≡ text_of start.entry) }
     ensures version { IfOk result (λ g. version_of g.rest ≡ version_of start.entry) }
@@ -150,8 +164,9 @@ fn read_slowly<'a>(
     let (equals, _) = start.advanced();
     let (value, _) = equals.advanced();
     match target_of(alloc, index, targets, name.bytes) {
-        Ok(target) => match pack(alloc, value, target.filling, target.capacity) {
+        Ok(place) => match pack(alloc, value, place.target.filling, place.target.capacity) {
             Ok(array) => Ok(Given {
+                position: place.position,
                 array,
                 rest: found.rest,
             }),
@@ -161,14 +176,15 @@ fn read_slowly<'a>(
     }
 }
 
-/// The target of the variable that a word names.
+/// The target of the variable that a word names, and the variable's position.
 fn target_of<'a>(
     alloc: Global,
     index: &NameIndex,
     targets: &[Target<'a>],
     word: &[u8],
-) -> Result<Target<'a>, ReadError>
-    ensures { (names : List (List ℕ)) → IsIndex index.now names → Gives (λ t. t) result (target_of names targets.now (word_value word.now)) }
+) -> Result<Place<'a>, ReadError>
+    ensures target { (names : List (List ℕ)) → IsIndex index.now names → Gives (λ place. place.target) result (target_of names targets.now (word_value word.now)) }
+    ensures position { (names : List (List ℕ)) → IsIndex index.now names → IfOk result (λ place. position_of names (word_value word.now) ≡ Some place.position) }
 {
     match name_of_word(alloc, word) {
         Ok(name) => {
@@ -177,7 +193,7 @@ fn target_of<'a>(
             }
             match index.find(name.as_slice()) {
                 Some(position) => match if_new(targets.get(position as usize)) {
-                    Ok(target) => Ok(target),
+                    Ok(target) => Ok(Place { position, target }),
                     Err(kind) => Err(ReadError::Fault(kind)),
                 },
                 None => Err(ReadError::Fault(CdlKind::UnknownVariable)),

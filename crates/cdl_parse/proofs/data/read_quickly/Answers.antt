@@ -30,5 +30,5 @@ returns-in-Ok-pack_good-clause-read c = λ names h.
     let good = quick_good version (words start) (words equals) (words value) n e c.advanced-name_ends.result.1 c.advanced-sign_ends.result.1 c.advanced-name_ends.ensures.words c.advanced-sign_ends.ensures.words
     c.if-name_ends.false c.if-sign_ends.false on (ap (λ v. first_bad v (words value)) (sym (c.advanced-sign_ends.ensures.version ∙ c.advanced-name_ends.ensures.version)) ∙ c.in-Ok-pack_good.ensures.bad) in
     read_on version names c.args.targets.now (words start) (words equals) (words value) n e c.advanced-name_ends.result.1 c.advanced-sign_ends.result.1 c.advanced-name_ends.ensures.words c.advanced-sign_ends.ensures.words good on ∙
-    filled_ok version (words value) (target_of names c.args.targets.now (word_value n.bytes)) c.in-Ok.target (ap (λ (l : Lexeme). target_of names c.args.targets.now (word_value l.bytes)) (sym c.lexeme-name.ensures.lexeme) ∙ c.in-Ok.ensures names h) ∙
-    ap (λ v. packed c.in-Ok.target.filling c.in-Ok.target.capacity (values v (words value))) (sym (c.advanced-sign_ends.ensures.version ∙ c.advanced-name_ends.ensures.version)) ∙ c.in-Ok-pack_good.ensures.packs
+    filled_ok version (words value) (target_of names c.args.targets.now (word_value n.bytes)) c.in-Ok.place.target (ap (λ (l : Lexeme). target_of names c.args.targets.now (word_value l.bytes)) (sym c.lexeme-name.ensures.lexeme) ∙ c.in-Ok.ensures.target names h) ∙
+    ap (λ v. packed c.in-Ok.place.target.filling c.in-Ok.place.target.capacity (values v (words value))) (sym (c.advanced-sign_ends.ensures.version ∙ c.advanced-name_ends.ensures.version)) ∙ c.in-Ok-pack_good.ensures.packs

@@ -40,8 +40,8 @@ returns-in-Ok-pack-clause-read c = λ names h.
     let n = lexeme (text_of c.args.start) (next_token c.args.start) in
     read_on version names c.args.targets.now (words c.args.start) (words equals) (words c.advanced-2.result.0) n (lexeme (text_of equals) (next_token equals)) c.advanced.result.1 c.advanced-2.result.1
     c.advanced.ensures.words c.advanced-2.ensures.words (sym c.first_pass-found.ensures.bad ∙ c.in-None.is) on ∙
-    filled_ok version (words c.advanced-2.result.0) (target_of names c.args.targets.now (word_value n.bytes)) c.in-Ok.target (ap (λ (l : Lexeme). target_of names c.args.targets.now (word_value l.bytes)) (sym c.lexeme-name.ensures.lexeme) ∙ c.in-Ok.ensures names h) ∙
-    ap (λ v. packed c.in-Ok.target.filling c.in-Ok.target.capacity (values v (words c.advanced-2.result.0))) (sym (c.advanced-2.ensures.version ∙ c.advanced.ensures.version)) ∙ c.in-Ok-pack.ensures
+    filled_ok version (words c.advanced-2.result.0) (target_of names c.args.targets.now (word_value n.bytes)) c.in-Ok.place.target (ap (λ (l : Lexeme). target_of names c.args.targets.now (word_value l.bytes)) (sym c.lexeme-name.ensures.lexeme) ∙ c.in-Ok.ensures.target names h) ∙
+    ap (λ v. packed c.in-Ok.place.target.filling c.in-Ok.place.target.capacity (values v (words c.advanced-2.result.0))) (sym (c.advanced-2.ensures.version ∙ c.advanced.ensures.version)) ∙ c.in-Ok-pack.ensures
 
 pub returns-in-Err-pack-clause-read : goal.returns-in-Err-pack-clause-read
 returns-in-Err-pack-clause-read c = λ names h.
@@ -51,8 +51,8 @@ returns-in-Err-pack-clause-read c = λ names h.
     let n = lexeme (text_of c.args.start) (next_token c.args.start) in
     let read = read_on version names c.args.targets.now (words c.args.start) (words equals) (words c.advanced-2.result.0) n (lexeme (text_of equals) (next_token equals)) c.advanced.result.1 c.advanced-2.result.1
     c.advanced.ensures.words c.advanced-2.ensures.words (sym c.first_pass-found.ensures.bad ∙ c.in-None.is) on ∙
-    filled_ok version (words c.advanced-2.result.0) (target_of names c.args.targets.now (word_value n.bytes)) c.in-Ok.target (ap (λ (l : Lexeme). target_of names c.args.targets.now (word_value l.bytes)) (sym c.lexeme-name.ensures.lexeme) ∙ c.in-Ok.ensures names h) ∙
-    ap (λ v. packed c.in-Ok.target.filling c.in-Ok.target.capacity (values v (words c.advanced-2.result.0))) (sym (c.advanced-2.ensures.version ∙ c.advanced.ensures.version)) in
+    filled_ok version (words c.advanced-2.result.0) (target_of names c.args.targets.now (word_value n.bytes)) c.in-Ok.place.target (ap (λ (l : Lexeme). target_of names c.args.targets.now (word_value l.bytes)) (sym c.lexeme-name.ensures.lexeme) ∙ c.in-Ok.ensures.target names h) ∙
+    ap (λ v. packed c.in-Ok.place.target.filling c.in-Ok.place.target.capacity (values v (words c.advanced-2.result.0))) (sym (c.advanced-2.ensures.version ∙ c.advanced.ensures.version)) in
     subst (λ (r : Result (List ℕ) CdlKind). Fails c.in-Err-pack.e r) (sym read) c.in-Err-pack.ensures
 
 pub returns-in-Err-clause-read : goal.returns-in-Err-clause-read
@@ -64,4 +64,4 @@ returns-in-Err-clause-read c = λ names h.
     let read = read_on version names c.args.targets.now (words c.args.start) (words equals) (words c.advanced-2.result.0) n (lexeme (text_of equals) (next_token equals)) c.advanced.result.1 c.advanced-2.result.1
     c.advanced.ensures.words c.advanced-2.ensures.words (sym c.first_pass-found.ensures.bad ∙ c.in-None.is) on ∙
     ap (λ (l : Lexeme). filled version (words c.advanced-2.result.0) (target_of names c.args.targets.now (word_value l.bytes))) (sym c.lexeme-name.ensures.lexeme) in
-    subst (λ (r : Result (List ℕ) CdlKind). Fails c.in-Err.e r) (sym read) (filled_err version (words c.advanced-2.result.0) (target_of names c.args.targets.now (word_value c.lexeme-name.result.bytes.now)) c.in-Err.e (c.in-Err.ensures names h))
+    subst (λ (r : Result (List ℕ) CdlKind). Fails c.in-Err.e r) (sym read) (filled_err version (words c.advanced-2.result.0) (target_of names c.args.targets.now (word_value c.lexeme-name.result.bytes.now)) c.in-Err.e (c.in-Err.ensures.target names h))

@@ -1,0 +1,51 @@
+-- What the calls that read the data section answer, but for want of memory.
+use Rattle.std.specs.Prelude.{ℕ, zero, suc, ◌≡◌, Bool, true, false, if◌then◌else◌, List, [], ◌∷◌, Result, Ok, Err}
+use Rattle.nc_base.specs.declared.header.Var.{Var}
+use Rattle.cdl_text.specs.Cutters.{pieces_left, text_of, version_of, words}
+use Rattle.cdl_text.specs.declared.cutter.Cutter.{Cutter}
+use Rattle.cdl_text.specs.declared.section.Section.TheVariants.{Values, Closed}
+use Rattle.cdl_parse.specs.Answers.{Fails}
+use Rattle.cdl_parse.specs.Listed.{AllList}
+use Rattle.cdl_parse.specs.Meaning.{piece_read, run}
+use Rattle.cdl_parse.specs.Meant.{Suit}
+use Rattle.cdl_parse.specs.Runs.{FailsAt}
+use Rattle.cdl_parse.specs.State.{State, Draft}
+use Rattle.cdl_parse.specs.declared.data.Target.{Target}
+use Rattle.cdl_parse.specs.declared.data_section.DataSection.{DataSection}
+use Rattle.cdl_parse.specs.declared.data_section.Passed.{Passed}
+use Rattle.cdl_parse.specs.declared.read_error.ParseError.{ParseError}
+use Rattle.cdl_parse.specs.declared.read_error.ReadError.{ReadError}
+
+-- the targets, the one at this position with its values given
+abbrev pub given_at : ℕ → List Target → List Target
+given_at position [] = []
+given_at zero (t ∷ ts) = record t { given = true } ∷ ts
+given_at (suc position) (t ∷ ts) = t ∷ given_at position ts
+
+-- in the data section, of these variables these bytes are listed, and their targets are these
+pub record StandsSo (vars : List Var) (targets : List Target) (arrays : List (List ℕ)) (s : State) : Type 0 where
+  pub section : s.section ≡ Values
+  pub suit : Suit s.dims targets s.drafts
+  pub lists : AllList vars arrays s.drafts
+
+-- the statement closes the section, or it has the fault
+abbrev pub Closes : Cutter → State → Result Passed ReadError → Type 0
+Closes start s (Ok passed) = (passed.is_brace ≡ true) × (piece_read (version_of start) s (words start) ≡ Ok (record s { section = Closed }))
+Closes start s (Err e) = Fails e (piece_read (version_of start) s (words start))
+
+-- the statement is the closing brace, and what is listed is these bytes; or it lists values, and afterwards the state stands so
+abbrev pub Takes : Bool → List Var → Cutter → State → List Target → List (List ℕ) → Type 0
+Takes true vars start s targets arrays = (piece_read (version_of start) s (words start) ≡ Ok (record s { section = Closed })) × AllList vars arrays s.drafts
+Takes false vars start s targets arrays = (ds : List Draft) × (piece_read (version_of start) s (words start) ≡ Ok (record s { drafts = ds })) × StandsSo vars targets arrays (record s { drafts = ds })
+
+-- the statement is taken, or it has the fault
+abbrev pub ReadsOne : List Var → Cutter → State → List Target → List (List ℕ) → Result Passed ReadError → Type 0
+ReadsOne vars start s targets arrays (Ok passed) = Takes passed.is_brace vars start s targets arrays
+ReadsOne vars start s targets arrays (Err e) = Fails e (piece_read (version_of start) s (words start))
+
+-- the bytes are listed of these variables, and the text is read on after the section, open or closed; or there is the fault
+abbrev pub ReadsData : List Var → Cutter → State → Result DataSection ParseError → Type 0
+ReadsData vars start s (Ok d) =
+    (ds : List Draft) × AllList vars d.arrays.items ds ×
+    (run (text_of start) (version_of start) s (pieces_left start) ≡ run (text_of start) (version_of start) (record s { section = if d.is_closed then Closed else Values; drafts = ds }) (pieces_left d.rest))
+ReadsData vars start s (Err e) = FailsAt e (run (text_of start) (version_of start) s (pieces_left start))

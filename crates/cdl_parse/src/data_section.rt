@@ -1,0 +1,171 @@
+//! The data section.
+
+ghost use Rattle.std.specs.Prelude.{◌≡◌, List, [], IfOk, true, false, replicate, slice_set};
+ghost use Rattle.nc_base.specs.declared.header.Var.{Var};
+ghost use Rattle.cdl_text.specs.Cutters.{after, is_done, pieces_left, text_of, version_of, words};
+ghost use Rattle.cdl_text.specs.declared.section.Section.TheVariants.{Values};
+ghost use Rattle.cdl_parse.specs.DataSections.{Closes, ReadsData, ReadsOne, StandsSo, given_at};
+ghost use Rattle.cdl_parse.specs.Listed.{fresh};
+ghost use Rattle.cdl_parse.specs.Meant.{Suit, begins_brace, names_of};
+ghost use Rattle.cdl_parse.specs.NameIndices.{IsIndex};
+ghost use Rattle.cdl_parse.specs.State.{State};
+
+use crate::array::Array;
+use crate::data::{Target, read};
+use crate::name_index::NameIndex;
+use crate::read_error::{ParseError, ReadError};
+use cdl_text::{CdlKind, Cutter, Section, look_over};
+use std::alloc::{AllocError, Global};
+
+/// What the data section lists, and what comes after it.
+#[derive(Drop)]
+pub struct DataSection<'a> {
+    /// For each variable the listed values.
+    pub arrays: Vec<Array>,
+    /// The statements after the section.
+    pub rest: Cutter<'a>,
+    /// The closing brace stood at its end; else no statement is left.
+    pub is_closed: bool,
+}
+
+/// A statement of the data section that was read.
+#[derive(Clone, Copy)]
+struct Passed<'a> {
+    /// It was the closing brace; else it listed the values of a variable.
+    is_brace: bool,
+    /// The statements after it.
+    rest: Cutter<'a>,
+}
+
+/// Reads the statements of the data section up to the closing brace, or to the end of the text.
+///
+/// Each statement lists the values of the variable that it names, and no variable has two (the CDL chapter of the NetCDF
+/// User's Guide, and ncgen(1)). The names are those of the targets, in their order.
+///
+/// # Errors
+///
+/// The fault of the first bad statement, with its line; or a growth was refused.
+pub fn read_data<'a>(
+    alloc: Global,
+    names: &NameIndex,
+    targets: Vec<Target<'_>>,
+    start: Cutter<'a>,
+) -> Result<DataSection<'a>, ParseError>
+    ensures reads { (vars : List Var) (s : State) → s.section ≡ Values → IsIndex names.now (names_of s.drafts) → Suit s.dims targets.entry.items s.drafts → s.drafts ≡ fresh vars → ReadsData vars start.entry s result }
+    ensures ends { IfOk result (λ d. d.is_closed ≡ false → is_done d.rest ≡ true) }
+    ensures text { IfOk result (λ d. text_of d.rest ≡ text_of start.entry) }
+    ensures version { IfOk result (λ d. version_of d.rest ≡ version_of start.entry) }
+{
+    let mut targets = targets;
+    let mut arrays = match without_values(alloc, targets.len()) {
+        Ok(arrays) => arrays,
+        Err(_) => return Err(ParseError::OutOfMemory),
+    };
+    let mut cutter = start;
+    'statements: loop {
+        if cutter.is_done() {
+            return Ok(DataSection {
+                arrays,
+                rest: cutter,
+                is_closed: false,
+            });
+        }
+        match read_one(alloc, names, &mut targets, &mut arrays, cutter) {
+            Ok(passed) => {
+                cutter = passed.rest;
+                if passed.is_brace {
+                    return Ok(DataSection {
+                        arrays,
+                        rest: cutter,
+                        is_closed: true,
+                    });
+                }
+            }
+            Err(e) => return Err(e.at_line(cutter.line())),
+        }
+    }
+}
+
+/// Arrays without values, as many as that.
+fn without_values(alloc: Global, count: usize) -> Result<Vec<Array>, AllocError>
+    ensures { IfOk result (λ arrays. arrays.items ≡ replicate count []) }
+{
+    let mut arrays = Vec::new(alloc);
+    for _ in 0..count {
+        arrays.push(Array::new(alloc))?;
+    }
+    Ok(arrays)
+}
+
+/// Reads the next statement of the data section.
+fn read_one<'a>(
+    alloc: Global,
+    names: &NameIndex,
+    targets: &mut Vec<Target<'_>>,
+    arrays: &mut Vec<Array>,
+    start: Cutter<'a>,
+) -> Result<Passed<'a>, ReadError>
+    requires { is_done start ≡ false }
+    ensures reads { (vars : List Var) (s : State) → IsIndex names.now (names_of s.drafts) → StandsSo vars targets.old.items arrays.old.items s → ReadsOne vars start.entry s targets.new.items arrays.new.items result }
+    ensures rest { IfOk result (λ passed. pieces_left passed.rest ≡ after start.entry) }
+    ensures text { IfOk result (λ passed. text_of passed.rest ≡ text_of start.entry) }
+    ensures version { IfOk result (λ passed. version_of passed.rest ≡ version_of start.entry) }
+{
+    if start.lexeme().is_mark(b'}') {
+        return close(start);
+    }
+    match read(alloc, names, targets, start) {
+        Ok(given) => {
+            store(arrays, given.position, given.array);
+            mark_given(targets, given.position);
+            Ok(Passed {
+                is_brace: false,
+                rest: given.rest,
+            })
+        }
+        Err(e) => Err(e),
+    }
+}
+
+/// Reads the closing brace.
+fn close<'a>(start: Cutter<'a>) -> Result<Passed<'a>, ReadError>
+    requires more { is_done start ≡ false }
+    requires brace { begins_brace (words start) ≡ true }
+    ensures reads { (s : State) → s.section ≡ Values → Closes start.entry s result }
+    ensures rest { IfOk result (λ passed. pieces_left passed.rest ≡ after start.entry) }
+    ensures text { IfOk result (λ passed. text_of passed.rest ≡ text_of start.entry) }
+    ensures version { IfOk result (λ passed. version_of passed.rest ≡ version_of start.entry) }
+{
+    let found = look_over(start, Section::Values);
+    match found.bad {
+        Some(kind) => return Err(ReadError::Fault(kind)),
+        None => {}
+    }
+    if !found.shaped {
+        return Err(ReadError::Fault(CdlKind::Syntax));
+    }
+    Ok(Passed {
+        is_brace: true,
+        rest: found.rest,
+    })
+}
+
+/// Puts a variable's values at its place.
+fn store(arrays: &mut Vec<Array>, position: u64, array: Array)
+    ensures { arrays.new.items ≡ slice_set arrays.old.items position array }
+{
+    let at = position as usize;
+    if at < arrays.len() {
+        arrays[at] = array;
+    }
+}
+
+/// Notes that a statement gave a variable's values.
+fn mark_given(targets: &mut Vec<Target<'_>>, position: u64)
+    ensures { targets.new.items ≡ given_at position targets.old.items }
+{
+    let at = position as usize;
+    if at < targets.len() {
+        targets[at].given = true;
+    }
+}
