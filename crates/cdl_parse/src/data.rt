@@ -1,6 +1,6 @@
 //! The statements of the data section.
 
-ghost use Rattle.std.specs.Prelude.{◌≡◌, ℕ, List, Ok, IfOk, false, option_map};
+ghost use Rattle.std.specs.Prelude.{◌≡◌, ◌<◌, ◌^◌, ℕ, List, Ok, IfOk, false, length, option_map};
 ghost use Rattle.cdl_text.specs.Cutters.{after, is_done, pieces_left, text_of, version_of, words};
 ghost use Rattle.cdl_text.specs.Lexemes.{word_value};
 ghost use Rattle.cdl_text.specs.declared.section.Section.TheVariants.{Values};
@@ -52,7 +52,7 @@ pub fn read<'a>(
     start: Cutter<'a>,
 ) -> Result<Given<'a>, ReadError>
     requires { is_done start ≡ false }
-    ensures tells { (s : State) → s.section ≡ Values → IsIndex names.now (names_of s.drafts) → Suit s.dims targets.now s.drafts → begins_brace (words start.entry) ≡ false → Tells (version_of start.entry) s (words start.entry) (array_of (λ (g : Given). g.array) result) }
+    ensures tells { (s : State) → s.section ≡ Values → IsIndex names.now (names_of s.drafts) → Suit s.dims targets.now s.drafts → begins_brace (words start.entry) ≡ false → length (text_of start.entry) < 2 ^ 63 → Tells (version_of start.entry) s (words start.entry) (array_of (λ (g : Given). g.array) result) }
     ensures rest { IfOk result (λ g. pieces_left g.rest ≡ after start.entry) }
     ensures text { IfOk result (λ g. text_of g.rest ≡ text_of start.entry) }
     ensures version { IfOk result (λ g. version_of g.rest ≡ version_of start.entry) }
