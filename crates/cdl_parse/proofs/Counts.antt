@@ -1,7 +1,6 @@
 -- A statement has fewer values than the greatest capacity, so that stands for all from there on.
-use Rattle.std.proofs.Common.{◌≡◌, ℕ, zero, suc, ◌+◌, ◌*◌, ◌-◌, ◌≤◌, Bool, true, false, List, [], ◌∷◌, length, map, drop, refl, sym, ap, ◌∙◌, arith, Bor}
+use Rattle.std.proofs.Common.{◌≡◌, ℕ, zero, suc, ◌+◌, ◌*◌, ◌-◌, ◌≤◌, Bool, true, false, List, [], ◌∷◌, length, map, drop, refl, sym, ap, ◌∙◌, arith}
 use Rattle.std.specs.Prelude.{Option, None, Some, Result, ◌&&◌, if◌then◌else◌, is_none, min, nat_le}
-use Rattle.nc_base.specs.declared.nc_type.NcType.{NcType}
 use Rattle.nc_base.specs.declared.version.Version.{Version}
 use Rattle.cdl_text.specs.Contents.{values, value_of}
 use Rattle.cdl_text.specs.Cutters.{words, pieces_left, tokens_left, text_of, first_piece}
@@ -22,6 +21,7 @@ use Rattle.cdl_text.specs.declared.token.TokenKind.TheVariants as kinds
 use Rattle.cdl_parse.specs.Capacities.{Fills, Takes, as_bytes, capacity_for, most, unit_of}
 use Rattle.cdl_parse.specs.PackedValues.{packed, followed_by, value_bytes, row_bytes, is_full}
 use Rattle.cdl_parse.specs.State.{Capacity, add_value, in_turn}
+use Rattle.cdl_parse.specs.declared.fill.Fill.{Fill}
 use Rattle.cdl_parse.specs.declared.filling.Filling.{Filling}
 use Rattle.cdl_parse.specs.declared.filling.Filling.TheVariants.{Numbers, Joined, Rows}
 use Rattle.cdl_parse.proofs.Turns.{all_turns}
@@ -110,12 +110,12 @@ some_left : (n : ℕ) (xs : List Value) (x : Value) → length (x ∷ xs) ≤ n 
 some_left n xs x h = grind (arith, h)
 
 -- capacities that are both enough
-numbers_same : (ty : NcType) (fill : Bor (List ℕ)) (n m : ℕ) (xs : List Value) → length xs ≤ n → length xs ≤ m → packed (Numbers ty fill) (Some n) xs ≡ packed (Numbers ty fill) (Some m) xs
+numbers_same : (fill : Fill) (n m : ℕ) (xs : List Value) → length xs ≤ n → length xs ≤ m → packed (Numbers fill) (Some n) xs ≡ packed (Numbers fill) (Some m) xs
 unfolding packed
-numbers_same ty fill n m [] a b = refl
-numbers_same ty fill n m (x ∷ xs) a b =
-    ap (λ full. followed_by (value_bytes ty fill.now full x) (λ bytes. packed (Numbers ty fill) (Some (n - 1)) xs)) (some_left n xs x a ∙ sym (some_left m xs x b)) ∙
-    ap (λ (p : Result (List ℕ) CdlKind). followed_by (value_bytes ty fill.now (is_full (Some m)) x) (λ bytes. p)) (numbers_same ty fill (n - 1) (m - 1) xs (omega (arith, a)) (omega (arith, b)))
+numbers_same fill n m [] a b = refl
+numbers_same fill n m (x ∷ xs) a b =
+    ap (λ full. followed_by (value_bytes fill.ty fill.value full x) (λ bytes. packed (Numbers fill) (Some (n - 1)) xs)) (some_left n xs x a ∙ sym (some_left m xs x b)) ∙
+    ap (λ (p : Result (List ℕ) CdlKind). followed_by (value_bytes fill.ty fill.value (is_full (Some m)) x) (λ bytes. p)) (numbers_same fill (n - 1) (m - 1) xs (omega (arith, a)) (omega (arith, b)))
 
 rows_same : (len fill n m : ℕ) (xs : List Value) → length xs ≤ n → length xs ≤ m → packed (Rows len fill) (Some n) xs ≡ packed (Rows len fill) (Some m) xs
 unfolding packed
@@ -133,7 +133,7 @@ capped n packs m even few = by (nat_le m most) refl
     by false is = even (min m most) (let a : n ≤ m = grind (arith, is, few) in a) (let b : n ≤ min m most = grind (arith, is, few) in b)
 
 same : (f : Filling) (m : ℕ) (xs : List Value) → length xs ≤ most → packed f (Some m) xs ≡ packed f (Some (capacity_for f m)) xs
-same (Numbers ty fill) m xs few = capped (length xs) (λ k. packed (Numbers ty fill) (Some k) xs) m (λ k a b. numbers_same ty fill m k xs a b) few
+same (Numbers fill) m xs few = capped (length xs) (λ k. packed (Numbers fill) (Some k) xs) m (λ k a b. numbers_same fill m k xs a b) few
 same Joined m xs few = refl
 same (Rows len fill) m xs few = capped (length xs) (λ k. packed (Rows len fill) (Some k) xs) m (λ k a b. rows_same len fill m k xs a b) few
 

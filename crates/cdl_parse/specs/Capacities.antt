@@ -11,13 +11,13 @@ use Rattle.cdl_parse.specs.declared.filling.Filling.TheVariants.{Numbers, Joined
 
 -- it is filled so
 abbrev pub Fills : Filling → Capacity → Type 0
-Fills (Numbers ty fill) r = (r.ty ≡ ty) × (is_char ty ≡ false) × (fill.now ≡ bytes_of_number ty r.fill)
+Fills (Numbers fill) r = (r.ty ≡ fill.ty) × (is_char fill.ty ≡ false) × (r.fill ≡ fill.value)
 Fills Joined r = (r.ty ≡ Char) × (r.in_rows ≡ false)
 Fills (Rows len fill) r = (r.ty ≡ Char) × (r.in_rows ≡ true) × (r.row ≡ len) × (0 < len) × (bytes_of_number Char r.fill ≡ fill ∷ [])
 
 -- how many values one position has
 abbrev pub unit_of : Filling → ℕ
-unit_of (Numbers ty fill) = 1
+unit_of (Numbers fill) = 1
 unit_of Joined = 1
 unit_of (Rows len fill) = len
 
@@ -32,7 +32,7 @@ most = 2 ^ 64 - 1
 
 -- The capacity that stands for m positions. No statement has as many values as the greatest one, so it stands for all from there on.
 abbrev pub capacity_for : Filling → ℕ → ℕ
-capacity_for (Numbers ty fill) m = min m most
+capacity_for (Numbers fill) m = min m most
 capacity_for Joined m = m
 capacity_for (Rows len fill) m = min m most
 

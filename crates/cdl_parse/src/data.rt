@@ -23,8 +23,8 @@ use std::alloc::Global;
 
 /// What a variable takes of the data section.
 #[derive(Clone, Copy)]
-pub struct Target<'a> {
-    pub filling: Filling<'a>,
+pub struct Target {
+    pub filling: Filling,
     /// How many values, bytes or rows; None: any number.
     pub capacity: Option<u64>,
     /// An earlier statement gave its values.
@@ -48,7 +48,7 @@ pub struct Given<'a> {
 pub fn read<'a>(
     alloc: Global,
     names: &NameIndex,
-    targets: &[Target<'_>],
+    targets: &[Target],
     start: Cutter<'a>,
 ) -> Result<Given<'a>, ReadError>
     requires { is_done start ≡ false }
@@ -64,7 +64,7 @@ pub fn read<'a>(
 fn read_either<'a>(
     alloc: Global,
     index: &NameIndex,
-    targets: &[Target<'_>],
+    targets: &[Target],
     start: Cutter<'a>,
 ) -> Result<Given<'a>, ReadError>
     requires { is_done start ≡ false }
@@ -84,7 +84,7 @@ fn read_either<'a>(
 fn read_quickly<'a>(
     alloc: Global,
     index: &NameIndex,
-    targets: &[Target<'_>],
+    targets: &[Target],
     start: Cutter<'a>,
 ) -> Result<Given<'a>, Stop>
     requires { is_done start ≡ false }
@@ -129,7 +129,7 @@ fn read_quickly<'a>(
 fn read_slowly<'a>(
     alloc: Global,
     index: &NameIndex,
-    targets: &[Target<'_>],
+    targets: &[Target],
     start: Cutter<'a>,
 ) -> Result<Given<'a>, ReadError>
     requires { is_done start ≡ false }
@@ -162,12 +162,12 @@ fn read_slowly<'a>(
 }
 
 /// The target of the variable that a word names.
-fn target_of<'a>(
+fn target_of(
     alloc: Global,
     index: &NameIndex,
-    targets: &[Target<'a>],
+    targets: &[Target],
     word: &[u8],
-) -> Result<Target<'a>, ReadError>
+) -> Result<Target, ReadError>
     ensures { (names : List (List ℕ)) → IsIndex index.now names → Gives (λ t. t) result (target_of names targets.now (word_value word.now)) }
 {
     match name_of_word(alloc, word) {
@@ -188,7 +188,7 @@ fn target_of<'a>(
 }
 
 /// The target, if no statement gave its values.
-fn if_new<'a>(target: Option<&Target<'a>>) -> Result<Target<'a>, CdlKind>
+fn if_new(target: Option<&Target>) -> Result<Target, CdlKind>
     ensures { result ≡ if_new (option_map (λ t. t.now) target.entry) }
 {
     match target {
