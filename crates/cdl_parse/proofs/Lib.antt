@@ -4,6 +4,7 @@ pub mod Ranges
 pub mod Turns
 pub mod DataReads
 pub mod Joins
+pub mod Places
 pub mod Lengths
 pub mod Suited
 pub mod NameSets

@@ -12,3 +12,17 @@ pub struct Fill {
     pub value: i128,
     pub ghost in_range: { fits ty value ≡ true },
 }
+
+impl Fill {
+    ghost use Rattle.nc_base.specs.Numbers.{IsInRange};
+
+    /// The number of this type.
+    #[tactic(auto, using(crate::proofs::InRange::is_had))]
+    pub fn new(ty: NcType, value: i128) -> Fill
+        requires { IsInRange ty value }
+        ensures ty { result.ty ≡ ty }
+        ensures value { result.value ≡ value }
+    {
+        Fill { ty, value }
+    }
+}

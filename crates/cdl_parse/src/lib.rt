@@ -19,6 +19,7 @@ mod number;
 mod packing;
 mod read_error;
 mod string;
+mod targets;
 mod value;
 mod variable_lookup;
 
@@ -34,5 +35,6 @@ pub use name::name_of_word;
 pub use name_index::NameIndex;
 pub use packing::{Packed, pack, pack_good};
 pub use read_error::{ParseError, ReadError};
+pub use targets::targets_of;
 pub use value::Stop;
 pub use variable_lookup::variable_position;
