@@ -34,7 +34,7 @@ module _ (dims : List Dim) (name : List ℕ) (values : List ℤ) where
   first_lists var a d h = record { is = h.is; bytes = ap (λ (v : Var). flat_map (bytes_of_number v.ty) values) h.is }
 
   first_suits : (t : Target) (d : Draft) → Suits dims t d → Suits dims (record t { given = true }) (record d { listed = Some values })
-  first_suits t d h = record { given = refl; fills = h.fills; left = h.left }
+  first_suits t d h = record { given = refl; fills = h.fills; takes = h.takes }
 
   -- what is listed afterwards, at a position after the first i
   abbrev Found : ℕ → List Var → List (List ℕ) → List Target → List Draft → ℕ → Type 0

@@ -1,8 +1,9 @@
 -- What a statement of the data section means is what its state lists.
-use Rattle.std.proofs.Common.{◌≡◌, ℕ, ◌+◌, ℤ, Bool, true, false, List, [], ◌∷◌, ◌++◌, length, refl, sym, ap, ◌∙◌, subst, length-append, append_assoc}
+use Rattle.std.proofs.Common.{◌≡◌, ℕ, suc, ◌+◌, ◌≤◌, arith, ℤ, Bool, true, false, List, [], ◌∷◌, ◌++◌, length, refl, sym, ap, ◌∙◌, subst, length-append, append_assoc}
 use Rattle.std.specs.Prelude.{Option, None, Some, Result, Ok, Err, if◌then◌else◌, slice_get, drop}
 use Rattle.std.specs.List.{flat_map, position_from}
 use Rattle.std.specs.Str.{bytes_eq}
+use Rattle.std.proofs.lemmas.List.{length-drop}
 use Rattle.nc_base.specs.Names.{is_name}
 use Rattle.nc_base.specs.Numbers.{bytes_of_number}
 use Rattle.nc_base.specs.declared.header.Dim.{Dim}
@@ -24,11 +25,11 @@ use Rattle.cdl_parse.specs.declared.read_error.ReadError.{ReadError}
 use Rattle.cdl_parse.specs.declared.read_error.ReadError.TheVariants.{OutOfMemory, Fault}
 use Rattle.cdl_text.proofs.Listing.{fine_on}
 use Rattle.cdl_parse.specs.NameIndices.{position_of}
-use Rattle.cdl_parse.specs.Capacities.{as_bytes}
+use Rattle.cdl_parse.specs.Capacities.{as_bytes, most}
 use Rattle.cdl_parse.specs.State.{State, Draft, Capacity, capacity_of, at_named, at_variable, with_values, act, in_turn, add_value, unless, when, ◌>>=◌}
 use Rattle.cdl_parse.specs.PackedValues.{packed}
 use Rattle.cdl_parse.specs.declared.data.Target.{Target}
-use Rattle.cdl_parse.proofs.Turns.{all_turns}
+use Rattle.cdl_parse.proofs.Counts.{all_taken, values_len}
 
 -- the target of the first of these names that is this one
 named : List (List ℕ) → List Target → List ℕ → Result Target CdlKind
@@ -73,13 +74,13 @@ past_first : (d : Draft) (ds : List Draft) (name : List ℕ) (p : Result (List �
 past_first d ds name (Err e) after other h = rw (h) refl
 past_first d ds name (Ok bs) after other h = (h.0, rw (other) h.1, rw (other) (rw (h.2) refl))
 
-at_target : (v : Version) (dims : List Dim) (ts : List Target) (ds : List Draft) (name : List ℕ) (ws : List Lexeme) → Suit dims ts ds →
+at_target : (v : Version) (dims : List Dim) (ts : List Target) (ds : List Draft) (name : List ℕ) (ws : List Lexeme) → Suit dims ts ds → length (values v ws) ≤ most →
     Listing name ds (filled v ws (named (names_of ds) ts name)) (at_named name (with_values dims (values v ws)) ds)
 unfolding named
-at_target v dims [] [] name ws h = refl
-at_target v dims [] (d ∷ ds) name ws h = absurd h
-at_target v dims (t ∷ ts) [] name ws h = absurd h
-at_target v dims (t ∷ ts) (d ∷ ds) name ws h = by (bytes_eq d.var.name name) refl (at_target v dims ts ds name ws h.1)
+at_target v dims [] [] name ws h few = refl
+at_target v dims [] (d ∷ ds) name ws h few = absurd h
+at_target v dims (t ∷ ts) [] name ws h few = absurd h
+at_target v dims (t ∷ ts) (d ∷ ds) name ws h few = by (bytes_eq d.var.name name) refl (at_target v dims ts ds name ws h.1 few)
   where
     r : Capacity
     r = capacity_of dims d.var
@@ -87,7 +88,7 @@ at_target v dims (t ∷ ts) (d ∷ ds) name ws h = by (bytes_eq d.var.name name)
     fresh : (given : Bool) → t.given ≡ given → (same : bytes_eq d.var.name name ≡ true) →
         Listing name (d ∷ ds) (filled v ws (if given then Err DuplicateData else Ok t)) (when given DuplicateData >>= (λ u. in_turn (add_value r) [] (values v ws) >>= (λ xs. Ok (record d { listed = Some xs }))) >>= (λ e. Ok (e ∷ ds)))
     fresh true is same = refl
-    fresh false is same = one_listed r d (in_turn (add_value r) [] (values v ws)) (packed t.filling t.capacity (values v ws)) (listed_ty dims d) (all_turns t.filling t.capacity r (values v ws) h.0.fills h.0.left) name ds same
+    fresh false is same = one_listed r d (in_turn (add_value r) [] (values v ws)) (packed t.filling t.capacity (values v ws)) (listed_ty dims d) (all_taken t.filling t.capacity r (values v ws) h.0.fills h.0.takes few) name ds same
 
     by : (same : Bool) → bytes_eq d.var.name name ≡ same → Listing name ds (filled v ws (named (names_of ds) ts name)) (at_named name (with_values dims (values v ws)) ds) →
         Listing name (d ∷ ds) (filled v ws (if same then if_new (Some t) else named (names_of ds) ts name))
@@ -96,13 +97,13 @@ at_target v dims (t ∷ ts) (d ∷ ds) name ws h = by (bytes_eq d.var.name name)
     by false other more = past_first d ds name (filled v ws (named (names_of ds) ts name)) (at_named name (with_values dims (values v ws)) ds) other more
 
 -- by its name
-at_name : (v : Version) (dims : List Dim) (ts : List Target) (ds : List Draft) (name : List ℕ) (ws : List Lexeme) → Suit dims ts ds →
+at_name : (v : Version) (dims : List Dim) (ts : List Target) (ds : List Draft) (name : List ℕ) (ws : List Lexeme) → Suit dims ts ds → length (values v ws) ≤ most →
     Listing name ds (filled v ws (target_of (names_of ds) ts name)) (at_variable name (with_values dims (values v ws)) ds)
 unfolding at_variable
-at_name v dims ts ds name ws h = by (is_name name)
+at_name v dims ts ds name ws h few = by (is_name name)
   where
     there : Listing name ds (filled v ws (target_at ts (position_of (names_of ds) name))) (at_named name (with_values dims (values v ws)) ds)
-    there = subst (λ (t : Result Target CdlKind). Listing name ds (filled v ws t) (at_named name (with_values dims (values v ws)) ds)) (sym (found_from dims [] ts ds name h)) (at_target v dims ts ds name ws h)
+    there = subst (λ (t : Result Target CdlKind). Listing name ds (filled v ws t) (at_named name (with_values dims (values v ws)) ds)) (sym (found_from dims [] ts ds name h)) (at_target v dims ts ds name ws h few)
 
     by : (b : Bool) → Listing name ds (filled v ws (if b then target_at ts (position_of (names_of ds) name) else Err BadName)) (unless b BadName >>= (λ u. at_named name (with_values dims (values v ws)) ds))
     by true = there
@@ -124,16 +125,23 @@ said_is v l ls good off =
     data_is v l ls good ∙ ap (λ b. if b then Some (if is_mark 0x7d l then Brace else Listed (word_value l.bytes) (values v (drop 1 ls))) else None) (completes_first l ls off) ∙
     ap (λ b. if completes dues.DataName (l ∷ ls) then Some (if b then Brace else Listed (word_value l.bytes) (values v (drop 1 ls))) else None) off
 
-pub data_means : (v : Version) (s : State) (ts : List Target) (ws : List Lexeme) → s.section ≡ Values → Suit s.dims ts s.drafts → begins_brace ws ≡ false → Means v s ws (data_read v (names_of s.drafts) ts ws)
+pub data_means : (v : Version) (s : State) (ts : List Target) (ws : List Lexeme) → s.section ≡ Values → Suit s.dims ts s.drafts → begins_brace ws ≡ false → length ws ≤ most → Means v s ws (data_read v (names_of s.drafts) ts ws)
 unfolding piece_read data_read completes shape act
-data_means v s ts [] section suit off = rw (section) refl
-data_means v s ts (l ∷ ls) section suit off = by (first_bad v (l ∷ ls)) refl
+data_means v s ts [] section suit off few = rw (section) refl
+data_means v s ts (l ∷ ls) section suit off few = by (first_bad v (l ∷ ls)) refl
   where
     ws : List Lexeme
     ws = l ∷ ls
 
     name : List ℕ
     name = word_value l.bytes
+
+    fewer : length (values v (drop 1 ls)) ≤ most
+    fewer =
+        let a = values_len v (drop 1 ls) in
+        let b = length-drop 1 ls in
+        let c : suc (length ls) ≤ most = few in
+        omega (arith, a, b, c)
 
     all : Result (List Draft) CdlKind
     all = at_variable name (with_values s.dims (values v (drop 1 ls))) s.drafts
@@ -142,7 +150,7 @@ data_means v s ts (l ∷ ls) section suit off = by (first_bad v (l ∷ ls)) refl
     read good = ap (λ b. checked v s b ws) good ∙ ap (λ section. shaped v s (shape v section ws)) section
 
     by_shape : first_bad v ws ≡ None → (b : Bool) → completes dues.DataName ws ≡ b → Means v s ws (if b then assigned v (names_of s.drafts) ts ws else Err Syntax)
-    by_shape good true on = acted s name (filled v (drop 1 ls) (target_of (names_of s.drafts) ts name)) all (at_name v s.dims ts s.drafts name (drop 1 ls) suit) v l ls refl
+    by_shape good true on = acted s name (filled v (drop 1 ls) (target_of (names_of s.drafts) ts name)) all (at_name v s.dims ts s.drafts name (drop 1 ls) suit fewer) v l ls refl
         (read good ∙ ap (shaped v s) (said_is v l ls (fine_on v l ls good) off ∙ ap (λ b. if b then Some (Listed name (values v (drop 1 ls))) else None) on))
     by_shape good false not_so = read good ∙ ap (shaped v s) (said_is v l ls (fine_on v l ls good) off ∙ ap (λ b. if b then Some (Listed name (values v (drop 1 ls))) else None) not_so)
 
@@ -151,9 +159,9 @@ data_means v s ts (l ∷ ls) section suit off = by (first_bad v (l ∷ ls)) refl
     by None is = by_shape is (completes dues.DataName ws) refl
 
 -- what a call tells
-pub tells : {G : Type 0} (view : G → List ℕ) (result : Result G (ReadError)) (v : Version) (s : State) (ts : List Target) (ws : List Lexeme) → s.section ≡ Values → Suit s.dims ts s.drafts → begins_brace ws ≡ false →
+pub tells : {G : Type 0} (view : G → List ℕ) (result : Result G (ReadError)) (v : Version) (s : State) (ts : List Target) (ws : List Lexeme) → s.section ≡ Values → Suit s.dims ts s.drafts → begins_brace ws ≡ false → length ws ≤ most →
     Gives view result (data_read v (names_of s.drafts) ts ws) → Tells v s ws (array_of view result)
-tells {G} view result v s ts ws section suit off = by result (data_read v (names_of s.drafts) ts ws) (data_means v s ts ws section suit off)
+tells {G} view result v s ts ws section suit off few = by result (data_read v (names_of s.drafts) ts ws) (data_means v s ts ws section suit off few)
   where
     by : (result : Result G (ReadError)) (r : Result (List ℕ) CdlKind) → Means v s ws r → Gives view result r → Tells v s ws (array_of view result)
     by (Ok g) r m h = subst (Means v s ws) h m

@@ -4,6 +4,7 @@ pub mod Ranges
 pub mod Turns
 pub mod DataReads
 pub mod Joins
+pub mod Places
 pub mod Lengths
 pub mod Suited
 pub mod NameSets
@@ -23,3 +24,5 @@ pub mod Finished
 pub mod DataStates
 pub mod DataStatements
 pub mod DataRuns
+pub mod Counts
+pub mod InRange

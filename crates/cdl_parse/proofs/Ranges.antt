@@ -1,5 +1,5 @@
 -- A number as it is held is in a type's range where the number is.
-use Rattle.std.proofs.Common.{◌≡◌, ℕ, zero, suc, ◌≤◌, Bool, true, false, refl, sym, ap, ◌∙◌, arith, rules}
+use Rattle.std.proofs.Common.{◌≡◌, ℕ, zero, suc, ◌≤◌, ℤ, Bool, true, false, refl, sym, ap, ◌∙◌, arith, rules}
 use Rattle.std.specs.Prelude.{Option, None, Some, Ok, Err, nat_lt, nat_le, if◌then◌else◌, option_map, List, is_none}
 use Rattle.nc_base.specs.declared.nc_type.NcType.{NcType}
 use Rattle.nc_base.specs.declared.nc_type.NcType.TheVariants.{Byte, Char, Short, Int, Ubyte, Ushort, Uint, Int64, Uint64}
@@ -80,7 +80,7 @@ held_is ty p = ap (λ b. if b then Ok (bytes_of_number ty (signed p.minus p.magn
 unwrapped : (n m : Held) → Some n ≡ Some m → n ≡ m
 unwrapped n m e = cc
 
-pub number_added : (bs cs : List ℕ) (ty : NcType) (fill : List ℕ) (r : Option Parts) (n : Held) → Some n ≡ option_map held r →
+pub number_added : (bs cs : List ℕ) (ty : NcType) (fill : ℤ) (r : Option Parts) (n : Held) → Some n ≡ option_map held r →
     joined (Ok bs) (held_bytes ty n.minus n.magnitude) ≡ Ok cs → joined (Ok bs) (value_bytes ty fill false (Number (number (parts_or_zero r)))) ≡ Ok cs
 number_added bs cs ty fill None n is adds = cc
 number_added bs cs ty fill (Some m) n is adds = ap (joined (Ok bs)) (held_is ty m ∙ ap (λ (x : Held). held_bytes ty x.minus x.magnitude) (sym (unwrapped n (held m) is))) ∙ adds

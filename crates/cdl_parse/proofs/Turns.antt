@@ -1,5 +1,5 @@
 -- The values of a statement one by one: their bytes are the bytes of what the state lists.
-use Rattle.std.proofs.Common.{◌≡◌, ℕ, zero, suc, ◌+◌, ◌*◌, ◌-◌, ◌<◌, ℤ, Bool, true, false, List, [], ◌∷◌, ◌++◌, length, map, refl, sym, ap, ◌∙◌, arith, append-nil, length-append, rules, subst, Bor}
+use Rattle.std.proofs.Common.{◌≡◌, ℕ, zero, suc, ◌+◌, ◌*◌, ◌-◌, ◌<◌, ℤ, Bool, true, false, List, [], ◌∷◌, ◌++◌, length, map, refl, sym, ap, ◌∙◌, arith, append-nil, length-append, rules, subst}
 use Rattle.std.specs.Prelude.{pos, Option, None, Some, Result, Ok, Err, ◌||◌, not, nat_lt, nat_le, replicate}
 use Rattle.std.specs.List.{flat_map}
 use Rattle.std.proofs.lemmas.Grind.{flat_map-append}
@@ -13,6 +13,7 @@ use Rattle.cdl_text.specs.declared.fault.CdlKind.TheVariants.{TooManyValues, Num
 use Rattle.cdl_parse.specs.Capacities.{Fills, unit_of, Left, as_bytes}
 use Rattle.cdl_parse.specs.State.{Capacity, in_turn, add_value, fits, filled}
 use Rattle.cdl_parse.specs.PackedValues.{packed, followed_by, joined, bytes_of, capacity_after, is_full, is_past, less, char_bytes}
+use Rattle.cdl_parse.specs.declared.fill.Fill.{Fill}
 use Rattle.cdl_parse.specs.declared.filling.Filling.{Filling}
 use Rattle.cdl_parse.specs.declared.filling.Filling.TheVariants.{Numbers, Joined, Rows}
 use Rattle.cdl_parse.proofs.PackedTokens.{joined_assoc, chars_len}
@@ -49,27 +50,27 @@ left_less unit (Some (suc n)) r before ys len some h =
 
 -- ---- numbers
 
-number_step : (ty : NcType) (fill : Bor (List ℕ)) (capacity : Option ℕ) (r : Capacity) (before : List ℤ) (x : Value) → Fills (Numbers ty fill) r → Left 1 capacity r before → Step (Numbers ty fill) capacity r before x
+number_step : (fill : Fill) (capacity : Option ℕ) (r : Capacity) (before : List ℤ) (x : Value) → Fills (Numbers fill) r → Left 1 capacity r before → Step (Numbers fill) capacity r before x
 unfolding add_value
-number_step ty fill capacity r before (Characters bs) h left = wrong WrongKind (rw (ap is_char h.0 ∙ h.1) refl) refl
-number_step ty fill capacity r before Underscore h left = by (is_full capacity) refl
+number_step fill capacity r before (Characters bs) h left = wrong WrongKind (rw (ap is_char h.0 ∙ h.1) refl) refl
+number_step fill capacity r before Underscore h left = by (is_full capacity) refl
   where
     no_char : is_char r.ty ≡ false
     no_char = ap is_char h.0 ∙ h.1
 
-    by : (full : Bool) → is_full capacity ≡ full → Step (Numbers ty fill) capacity r before Underscore
+    by : (full : Bool) → is_full capacity ≡ full → Step (Numbers fill) capacity r before Underscore
     by true on =
         let is = capacity_is 1 capacity r before (omega arith) left ∙ ap not on in
         wrong TooManyValues (rw (no_char) (rw (is) refl)) (rw (on) refl)
     by false off =
         let is = capacity_is 1 capacity r before (omega arith) left ∙ ap not off in
-        puts (r.fill ∷ []) (rw (no_char) (rw (is) refl)) (rw (off) (ap Ok (h.2 ∙ ap (λ t. bytes_of_number t r.fill) (sym h.0) ∙ sym (append-nil (bytes_of_number r.ty r.fill))))) (left_less 1 capacity r before (r.fill ∷ []) refl off left)
-number_step ty fill capacity r before (Number n) h left = by (is_full capacity) (fits r.ty n.value) refl refl
+        puts (r.fill ∷ []) (rw (no_char) (rw (is) refl)) (rw (off) (ap Ok (ap (bytes_of_number fill.ty) (sym h.2) ∙ ap (λ t. bytes_of_number t r.fill) (sym h.0) ∙ sym (append-nil (bytes_of_number r.ty r.fill))))) (left_less 1 capacity r before (r.fill ∷ []) refl off left)
+number_step fill capacity r before (Number n) h left = by (is_full capacity) (fits r.ty n.value) refl refl
   where
     no_char : is_char r.ty ≡ false
     no_char = ap is_char h.0 ∙ h.1
 
-    by : (full fit : Bool) → is_full capacity ≡ full → fits r.ty n.value ≡ fit → Step (Numbers ty fill) capacity r before (Number n)
+    by : (full fit : Bool) → is_full capacity ≡ full → fits r.ty n.value ≡ fit → Step (Numbers fill) capacity r before (Number n)
     by true fit on is-fit =
         let is = capacity_is 1 capacity r before (omega arith) left ∙ ap not on in
         wrong TooManyValues (rw (no_char) (rw (is) refl)) (rw (on) refl)
@@ -169,7 +170,7 @@ rows_step len fill capacity r before (Number n) h left = wrong WrongKind (rw (ap
 -- ---- all
 
 step : (f : Filling) (capacity : Option ℕ) (r : Capacity) (before : List ℤ) (x : Value) → Fills f r → Left (unit_of f) capacity r before → Step f capacity r before x
-step (Numbers ty fill) capacity r before x h left = number_step ty fill capacity r before x h left
+step (Numbers fill) capacity r before x h left = number_step fill capacity r before x h left
 step Joined capacity r before x h left = joined_step capacity r before x h left
 step (Rows len fill) capacity r before x h left = rows_step len fill capacity r before x h left
 

@@ -8,9 +8,12 @@ use Rattle.nc_base.specs.declared.header.Var.{Var}
 use Rattle.cdl_parse.specs.Meaning.{values_of}
 use Rattle.cdl_parse.specs.State.{Draft}
 
--- the variables before the data section
+-- a variable before the data section
+abbrev pub fresh_draft : Var → Draft
+fresh_draft var = record { var = var; listed = None }
+
 abbrev pub fresh : List Var → List Draft
-fresh vars = map (λ (var : Var). record { var = var; listed = None }) vars
+fresh vars = map fresh_draft vars
 
 -- each variable's dimensions are known ones, and the record dimension stands first
 abbrev pub AreShaped : List Dim → List Draft → Type 0

@@ -10,7 +10,7 @@ use Rattle.cdl_text.specs.declared.fault.CdlKind.{CdlKind}
 use Rattle.cdl_parse.specs.declared.read_error.ReadError.{ReadError}
 use Rattle.cdl_parse.specs.declared.read_error.ReadError.TheVariants.{OutOfMemory, Fault}
 use Rattle.cdl_parse.specs.Meaning.{piece_read}
-use Rattle.cdl_parse.specs.Capacities.{Fills, Left, unit_of}
+use Rattle.cdl_parse.specs.Capacities.{Fills, Takes}
 use Rattle.cdl_parse.specs.State.{State, Draft, capacity_of, is_listed}
 use Rattle.cdl_parse.specs.declared.data.Target.{Target}
 
@@ -18,7 +18,7 @@ use Rattle.cdl_parse.specs.declared.data.Target.{Target}
 pub record Suits (dims : List Dim) (t : Target) (d : Draft) : Type 0 where
   pub given : t.given ≡ is_listed d.listed
   pub fills : Fills t.filling (capacity_of dims d.var)
-  pub left : Left (unit_of t.filling) t.capacity (capacity_of dims d.var) []
+  pub takes : Takes t.filling t.capacity (capacity_of dims d.var)
 
 -- each target is what the draft at its position takes
 abbrev pub Suit : List Dim → List Target → List Draft → Type 0

@@ -51,9 +51,9 @@ is_past n None = false
 is_past n (Some m) = nat_lt m n
 
 -- the bytes of a value of a variable of numbers
-abbrev pub value_bytes : NcType → List ℕ → Bool → Value → Result (List ℕ) CdlKind
+abbrev pub value_bytes : NcType → ℤ → Bool → Value → Result (List ℕ) CdlKind
 value_bytes ty fill full (Characters bytes) = Err WrongKind
-value_bytes ty fill full Underscore = if full then Err TooManyValues else Ok fill
+value_bytes ty fill full Underscore = if full then Err TooManyValues else Ok (bytes_of_number ty fill)
 value_bytes ty fill full (Number n) = if full then Err TooManyValues else number_bytes ty n.value
 
 -- of a variable of characters of rank 0 or 1, whose capacity is in bytes
@@ -67,13 +67,13 @@ row_bytes len fill full (Characters bytes) = if full then Err TooManyValues else
 row_bytes len fill full v = Err WrongKind
 
 abbrev pub bytes_of : Filling → Option ℕ → Value → Result (List ℕ) CdlKind
-bytes_of (Numbers ty fill) capacity v = value_bytes ty fill.now (is_full capacity) v
+bytes_of (Numbers fill) capacity v = value_bytes fill.ty fill.value (is_full capacity) v
 bytes_of Joined capacity v = text_bytes capacity v
 bytes_of (Rows len fill) capacity v = row_bytes len fill (is_full capacity) v
 
 -- the capacity that is left after a value with these bytes: in values, in bytes or in rows
 abbrev pub capacity_after : Filling → List ℕ → Option ℕ → Option ℕ
-capacity_after (Numbers ty fill) bytes capacity = less 1 capacity
+capacity_after (Numbers fill) bytes capacity = less 1 capacity
 capacity_after Joined bytes capacity = less (length bytes) capacity
 capacity_after (Rows len fill) bytes capacity = less 1 capacity
 

@@ -1,6 +1,6 @@
 //! The statements of the data section.
 
-ghost use Rattle.std.specs.Prelude.{◌≡◌, ℕ, List, Ok, Some, IfOk, false, option_map};
+ghost use Rattle.std.specs.Prelude.{◌≡◌, ◌<◌, ◌^◌, ℕ, List, Ok, Some, IfOk, false, length, option_map};
 ghost use Rattle.cdl_text.specs.Cutters.{after, is_done, pieces_left, text_of, version_of, words};
 ghost use Rattle.cdl_text.specs.Lexemes.{word_value};
 ghost use Rattle.cdl_text.specs.declared.section.Section.TheVariants.{Values};
@@ -23,8 +23,8 @@ use std::alloc::Global;
 
 /// What a variable takes of the data section.
 #[derive(Clone, Copy)]
-pub struct Target<'a> {
-    pub filling: Filling<'a>,
+pub struct Target {
+    pub filling: Filling,
     /// How many values, bytes or rows; None: any number.
     pub capacity: Option<u64>,
     /// An earlier statement gave its values.
@@ -33,9 +33,9 @@ pub struct Target<'a> {
 
 /// The target of a variable, and the variable's position.
 #[derive(Clone, Copy)]
-struct Place<'a> {
+struct Place {
     position: u64,
-    target: Target<'a>,
+    target: Target,
 }
 
 /// What a statement gives: its variable's values, and the statements after it.
@@ -57,11 +57,11 @@ pub struct Given<'a> {
 pub fn read<'a>(
     alloc: Global,
     names: &NameIndex,
-    targets: &[Target<'_>],
+    targets: &[Target],
     start: Cutter<'a>,
 ) -> Result<Given<'a>, ReadError>
     requires { is_done start ≡ false }
-    ensures tells { (s : State) → s.section ≡ Values → IsIndex names.now (names_of s.drafts) → Suit s.dims targets.now s.drafts → begins_brace (words start.entry) ≡ false → Tells (version_of start.entry) s (words start.entry) (array_of (λ (g : Given). g.array) result) }
+    ensures tells { (s : State) → s.section ≡ Values → IsIndex names.now (names_of s.drafts) → Suit s.dims targets.now s.drafts → begins_brace (words start.entry) ≡ false → length (text_of start.entry) < 2 ^ 63 → Tells (version_of start.entry) s (words start.entry) (array_of (λ (g : Given). g.array) result) }
     ensures position { (all : List (List ℕ)) → IsIndex names.now all → IfOk result (λ g. position_of all (name_first (words start.entry)) ≡ Some g.position) }
     ensures rest { IfOk result (λ g. pieces_left g.rest ≡ after start.entry) }
     ensures text { IfOk result (λ g. text_of g.rest ≡ text_of start.entry) }
@@ -74,7 +74,7 @@ pub fn read<'a>(
 fn read_either<'a>(
     alloc: Global,
     index: &NameIndex,
-    targets: &[Target<'_>],
+    targets: &[Target],
     start: Cutter<'a>,
 ) -> Result<Given<'a>, ReadError>
     requires { is_done start ≡ false }
@@ -95,7 +95,7 @@ fn read_either<'a>(
 fn read_quickly<'a>(
     alloc: Global,
     index: &NameIndex,
-    targets: &[Target<'_>],
+    targets: &[Target],
     start: Cutter<'a>,
 ) -> Result<Given<'a>, Stop>
     requires { is_done start ≡ false }
@@ -142,7 +142,7 @@ fn read_quickly<'a>(
 fn read_slowly<'a>(
     alloc: Global,
     index: &NameIndex,
-    targets: &[Target<'_>],
+    targets: &[Target],
     start: Cutter<'a>,
 ) -> Result<Given<'a>, ReadError>
     requires { is_done start ≡ false }
@@ -177,12 +177,12 @@ fn read_slowly<'a>(
 }
 
 /// The target of the variable that a word names, and the variable's position.
-fn target_of<'a>(
+fn target_of(
     alloc: Global,
     index: &NameIndex,
-    targets: &[Target<'a>],
+    targets: &[Target],
     word: &[u8],
-) -> Result<Place<'a>, ReadError>
+) -> Result<Place, ReadError>
     ensures target { (names : List (List ℕ)) → IsIndex index.now names → Gives (λ place. place.target) result (target_of names targets.now (word_value word.now)) }
     ensures position { (names : List (List ℕ)) → IsIndex index.now names → IfOk result (λ place. position_of names (word_value word.now) ≡ Some place.position) }
 {
@@ -204,7 +204,7 @@ fn target_of<'a>(
 }
 
 /// The target, if no statement gave its values.
-fn if_new<'a>(target: Option<&Target<'a>>) -> Result<Target<'a>, CdlKind>
+fn if_new(target: Option<&Target>) -> Result<Target, CdlKind>
     ensures { result ≡ if_new (option_map (λ t. t.now) target.entry) }
 {
     match target {

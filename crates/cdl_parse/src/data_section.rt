@@ -1,6 +1,6 @@
 //! The data section.
 
-ghost use Rattle.std.specs.Prelude.{◌≡◌, List, [], IfOk, true, false, replicate, slice_set};
+ghost use Rattle.std.specs.Prelude.{◌≡◌, ◌<◌, ◌^◌, length, List, [], IfOk, true, false, replicate, slice_set};
 ghost use Rattle.nc_base.specs.declared.header.Var.{Var};
 ghost use Rattle.cdl_text.specs.Cutters.{after, is_done, pieces_left, text_of, version_of, words};
 ghost use Rattle.cdl_text.specs.declared.section.Section.TheVariants.{Values};
@@ -48,10 +48,10 @@ struct Passed<'a> {
 pub fn read_data<'a>(
     alloc: Global,
     names: &NameIndex,
-    targets: Vec<Target<'_>>,
+    targets: Vec<Target>,
     start: Cutter<'a>,
 ) -> Result<DataSection<'a>, ParseError>
-    ensures reads { (vars : List Var) (s : State) → s.section ≡ Values → IsIndex names.now (names_of s.drafts) → Suit s.dims targets.entry.items s.drafts → s.drafts ≡ fresh vars → ReadsData vars start.entry s result }
+    ensures reads { (vars : List Var) (s : State) → s.section ≡ Values → IsIndex names.now (names_of s.drafts) → Suit s.dims targets.items s.drafts → s.drafts ≡ fresh vars → length (text_of start.entry) < 2 ^ 63 → ReadsData vars start.entry s result }
     ensures ends { IfOk result (λ d. d.is_closed ≡ false → is_done d.rest ≡ true) }
     ensures text { IfOk result (λ d. text_of d.rest ≡ text_of start.entry) }
     ensures version { IfOk result (λ d. version_of d.rest ≡ version_of start.entry) }
@@ -101,12 +101,12 @@ fn without_values(alloc: Global, count: usize) -> Result<Vec<Array>, AllocError>
 fn read_one<'a>(
     alloc: Global,
     names: &NameIndex,
-    targets: &mut Vec<Target<'_>>,
+    targets: &mut Vec<Target>,
     arrays: &mut Vec<Array>,
     start: Cutter<'a>,
 ) -> Result<Passed<'a>, ReadError>
     requires { is_done start ≡ false }
-    ensures reads { (vars : List Var) (s : State) → IsIndex names.now (names_of s.drafts) → StandsSo vars targets.old.items arrays.old.items s → ReadsOne vars start.entry s targets.new.items arrays.new.items result }
+    ensures reads { (vars : List Var) (s : State) → IsIndex names.now (names_of s.drafts) → StandsSo vars targets.old.items arrays.old.items s → length (text_of start.entry) < 2 ^ 63 → ReadsOne vars start.entry s targets.new.items arrays.new.items result }
     ensures rest { IfOk result (λ passed. pieces_left passed.rest ≡ after start.entry) }
     ensures text { IfOk result (λ passed. text_of passed.rest ≡ text_of start.entry) }
     ensures version { IfOk result (λ passed. version_of passed.rest ≡ version_of start.entry) }
@@ -161,7 +161,7 @@ fn store(arrays: &mut Vec<Array>, position: u64, array: Array)
 }
 
 /// Notes that a statement gave a variable's values.
-fn mark_given(targets: &mut Vec<Target<'_>>, position: u64)
+fn mark_given(targets: &mut Vec<Target>, position: u64)
     ensures { targets.new.items ≡ given_at position targets.old.items }
 {
     let at = position as usize;

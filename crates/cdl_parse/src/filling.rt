@@ -3,28 +3,28 @@
 ghost use Rattle.std.specs.Prelude.{◌≡◌, ℕ, List, length};
 ghost use Rattle.cdl_parse.specs.PackedValues.{is_full, is_past, less};
 
-use nc_base::NcType;
+use crate::fill::Fill;
 
 /// How a variable is filled with values.
 #[derive(Clone, Copy)]
-pub enum Filling<'a> {
-    /// By numbers of this type, where `_` is these bytes.
-    Numbers { ty: NcType, fill: &'a [u8] },
+pub enum Filling {
+    /// By numbers of this one's type; `_` stands for this one.
+    Numbers(Fill),
     /// By strings, one after the other: characters of rank 0 or 1.
     Joined,
     /// By one string a row of this length, filled up with this byte: characters of rank 2 and up.
     Rows { len: u64, fill: u8 },
 }
 
-impl Filling<'_> {
+impl Filling {
     ghost use Rattle.cdl_parse.specs.PackedValues.{capacity_after};
 
     /// The capacity that is left after a value of `n` bytes.
     pub fn capacity_after(self, n: u128, capacity: Option<u64>) -> Option<u64>
-        ensures { (bytes : List ℕ) → length bytes ≡ n → result ≡ capacity_after self.entry bytes capacity }
+        ensures { (bytes : List ℕ) → length bytes ≡ n → result ≡ capacity_after self bytes capacity }
     {
         match self {
-            Filling::Numbers { .. } | Filling::Rows { .. } => less(1, capacity),
+            Filling::Numbers(_) | Filling::Rows { .. } => less(1, capacity),
             Filling::Joined => less(n, capacity),
         }
     }

@@ -30,11 +30,11 @@ pub struct Packed<'a> {
 pub fn pack(
     alloc: Global,
     start: Cutter<'_>,
-    filling: Filling<'_>,
+    filling: Filling,
     capacity: Option<u64>,
 ) -> Result<Array, ReadError>
     requires { is_done start ≡ false }
-    ensures { Gives (λ a. a) result (packed filling.entry capacity (values (version_of start.entry) (words start.entry))) }
+    ensures { Gives (λ a. a) result (packed filling capacity (values (version_of start.entry) (words start.entry))) }
 {
     let version = start.version();
     let mut cutter = start;
@@ -61,13 +61,13 @@ pub fn pack(
 pub fn pack_good<'a>(
     alloc: Global,
     start: Cutter<'a>,
-    filling: Filling<'_>,
+    filling: Filling,
     capacity: Option<u64>,
 ) -> Result<Packed<'a>, Stop>
     requires { is_done start ≡ false }
     ensures bad { OnOk result (first_bad (version_of start.entry) (words start.entry) ≡ None) }
     ensures shaped { OnOk result (completes (Due.Value true) (words start.entry) ≡ true) }
-    ensures packs { IfOk result (λ p. packed filling.entry capacity (values (version_of start.entry) (words start.entry)) ≡ Ok p.array) }
+    ensures packs { IfOk result (λ p. packed filling capacity (values (version_of start.entry) (words start.entry)) ≡ Ok p.array) }
     ensures rest { IfOk result (λ p. pieces_left p.rest ≡ after start.entry) }
     ensures text { IfOk result (λ p. text_of p.rest ≡ text_of start.entry) }
     ensures version { IfOk result (λ p. version_of p.rest ≡ version_of start.entry) }

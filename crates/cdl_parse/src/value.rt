@@ -10,12 +10,13 @@ ghost use Rattle.cdl_parse.specs.Answers.{Adds, Continues};
 ghost use Rattle.cdl_parse.specs.PackedValues.{bytes_of, joined, packed, value_bytes};
 
 use crate::array::Array;
+use crate::fill::Fill;
 use crate::filling::{Filling, is_full};
-use crate::number::{number_or_zero, put_numeral};
+use crate::number::{number_or_zero, put_number, put_numeral};
 use crate::read_error::ReadError;
 use crate::string::{put_row, put_text};
 use cdl_text::{CdlKind, Due, Lexeme, TokenKind, number_of_token};
-use nc_base::{NcType, Version};
+use nc_base::Version;
 
 /// Why a pass that knows no faults stops.
 #[derive(Clone, Copy, Debug)]
@@ -37,11 +38,11 @@ pub fn stop_of(error: ReadError) -> Stop {
 pub fn put_token(
     array: &mut Array,
     version: Version,
-    filling: Filling<'_>,
+    filling: Filling,
     capacity: Option<u64>,
     token: Lexeme<'_>,
 ) -> Result<Option<u64>, ReadError>
-    ensures { (rest : List lexemes.Lexeme) → Continues (λ left. joined (Ok array.new) (packed filling.entry left (values version rest))) result (joined (Ok array.old) (packed filling.entry capacity (values version (lexeme_of token.entry ∷ rest)))) }
+    ensures { (rest : List lexemes.Lexeme) → Continues (λ left. joined (Ok array.new) (packed filling left (values version rest))) result (joined (Ok array.old) (packed filling capacity (values version (lexeme_of token.entry ∷ rest)))) }
 {
     match token.kind {
         TokenKind::Mark => Ok(capacity),
@@ -59,14 +60,14 @@ pub fn put_token(
 pub fn take_good(
     array: &mut Array,
     version: Version,
-    filling: Filling<'_>,
+    filling: Filling,
     capacity: Option<u64>,
     due: Due,
     token: Lexeme<'_>,
 ) -> Result<(Option<u64>, Due), Stop>
     ensures good { OnOk result (token_fault version token.entry.kind token.entry.bytes.now ≡ None) }
     ensures shape { IfOk result (λ r. r.1 ≡ next due (lexeme_of token.entry)) }
-    ensures packs { IfOk result (λ r. (rest : List lexemes.Lexeme) → joined (Ok array.old) (packed filling.entry capacity (values version (lexeme_of token.entry ∷ rest))) ≡ joined (Ok array.new) (packed filling.entry r.0 (values version rest))) }
+    ensures packs { IfOk result (λ r. (rest : List lexemes.Lexeme) → joined (Ok array.old) (packed filling capacity (values version (lexeme_of token.entry ∷ rest))) ≡ joined (Ok array.new) (packed filling r.0 (values version rest))) }
 {
     let then = due.after(token);
     match token.kind {
@@ -88,12 +89,12 @@ pub fn take_good(
 fn put_good(
     array: &mut Array,
     version: Version,
-    filling: Filling<'_>,
+    filling: Filling,
     capacity: Option<u64>,
     token: Lexeme<'_>,
 ) -> Result<(), Stop>
     ensures good { OnOk result (token_fault version token.entry.kind token.entry.bytes.now ≡ None) }
-    ensures adds { OnOk result (joined (Ok array.old) (bytes_of filling.entry capacity (value_of version (lexeme_of token.entry) token.entry.kind)) ≡ Ok array.new) }
+    ensures adds { OnOk result (joined (Ok array.old) (bytes_of filling capacity (value_of version (lexeme_of token.entry) token.entry.kind)) ≡ Ok array.new) }
 {
     match token.kind {
         TokenKind::Number => put_good_number(array, version, filling, capacity, token.bytes),
@@ -110,20 +111,20 @@ fn put_good(
 fn put_good_number(
     array: &mut Array,
     version: Version,
-    filling: Filling<'_>,
+    filling: Filling,
     capacity: Option<u64>,
     bytes: &[u8],
 ) -> Result<(), Stop>
     ensures good { OnOk result (token_fault version TokenKind.Number bytes.now ≡ None) }
-    ensures adds { OnOk result (joined (Ok array.old) (bytes_of filling.entry capacity (value_of version (lexeme_with TokenKind.Number bytes.now) TokenKind.Number)) ≡ Ok array.new) }
+    ensures adds { OnOk result (joined (Ok array.old) (bytes_of filling capacity (value_of version (lexeme_with TokenKind.Number bytes.now) TokenKind.Number)) ≡ Ok array.new) }
 {
     match filling {
-        Filling::Numbers { ty, .. } => {
+        Filling::Numbers(fill) => {
             if is_full(capacity) {
                 return Err(Stop::SomeFault);
             }
             match number_of_token(version, bytes) {
-                Some(n) => match put_numeral(array, ty, n) {
+                Some(n) => match put_numeral(array, fill.ty, n) {
                     Ok(()) => Ok(()),
                     Err(e) => Err(stop_of(e)),
                 },
@@ -139,15 +140,15 @@ fn put_good_number(
 fn put(
     array: &mut Array,
     version: Version,
-    filling: Filling<'_>,
+    filling: Filling,
     capacity: Option<u64>,
     token: Lexeme<'_>,
 ) -> Result<(), ReadError>
-    ensures { Adds array.old array.new result (bytes_of filling.entry capacity (value_of version (lexeme_of token.entry) token.entry.kind)) }
+    ensures { Adds array.old array.new result (bytes_of filling capacity (value_of version (lexeme_of token.entry) token.entry.kind)) }
 {
     let full = is_full(capacity);
     match filling {
-        Filling::Numbers { ty, fill } => put_value(array, version, ty, fill, full, token),
+        Filling::Numbers(fill) => put_value(array, version, fill, full, token),
         Filling::Joined => match token.kind {
             TokenKind::Text => put_text(array, capacity, token.bytes),
             _ => Err(ReadError::Fault(CdlKind::WrongKind)),
@@ -160,16 +161,15 @@ fn put(
 }
 
 /// Adds the bytes of a value of a variable of numbers.
-#[tactic(auto, unfolding(cdl_text::specs::Contents::value_of), using(crate::proofs::Ranges::held_is))]
+#[tactic(auto, unfolding(cdl_text::specs::Contents::value_of), using(crate::proofs::Ranges::held_is, crate::proofs::InRange::has_it))]
 fn put_value(
     array: &mut Array,
     version: Version,
-    ty: NcType,
-    fill: &[u8],
+    fill: Fill,
     full: bool,
     token: Lexeme<'_>,
 ) -> Result<(), ReadError>
-    ensures { Adds array.old array.new result (value_bytes ty fill.now full (value_of version (lexeme_of token.entry) token.entry.kind)) }
+    ensures { Adds array.old array.new result (value_bytes fill.ty fill.value full (value_of version (lexeme_of token.entry) token.entry.kind)) }
 {
     match token.kind {
         TokenKind::Text => Err(ReadError::Fault(CdlKind::WrongKind)),
@@ -177,13 +177,13 @@ fn put_value(
             if full {
                 return Err(ReadError::Fault(CdlKind::TooManyValues));
             }
-            put_numeral(array, ty, number_or_zero(version, token.bytes))
+            put_numeral(array, fill.ty, number_or_zero(version, token.bytes))
         }
         _ => {
             if full {
                 return Err(ReadError::Fault(CdlKind::TooManyValues));
             }
-            if array.add(fill).is_err() {
+            if put_number(array, fill.ty, fill.value).is_err() {
                 return Err(ReadError::OutOfMemory);
             }
             Ok(())

@@ -1,5 +1,5 @@
-use Rattle.std.proofs.Common.{rules, ◌≡◌, ℕ, false, List, [], length, refl, sym, ap, ◌∙◌, subst}
-use Rattle.std.specs.Prelude.{replicate}
+use Rattle.std.proofs.Common.{rules, ◌≡◌, ◌<◌, ℕ, false, List, [], length, refl, sym, ap, ◌∙◌, subst}
+use Rattle.std.specs.Prelude.{replicate, ◌^◌}
 use Rattle.cdl_text.specs.Cutters.{first_line, is_done, pieces_left, text_of, version_of}
 use Rattle.cdl_text.specs.declared.section.Section.{Section}
 use Rattle.cdl_parse.specs.DataSections.{Takes}
@@ -14,7 +14,7 @@ pub statements-init : goal.statements-init
 statements-init c =
     let count : c.len.result ≡ length c.args.targets.items = search rules in
     let empty = c.in-Ok.ensures ∙ ap (λ (n : ℕ). replicate {A = List ℕ} n []) count in
-    record { text = refl; version = refl; reads = λ vars s section index suit is. none_so_far vars s c.args.start c.args.targets.items c.in-Ok.arrays.items section suit is empty }
+    record { text = refl; version = refl; reads = λ vars s section index suit is short. none_so_far vars s c.args.start c.args.targets.items c.in-Ok.arrays.items section suit is empty }
 
 pub statements-smaller : goal.statements-smaller
 statements-smaller c = fewer c.statements.cutter c.in-Ok-read_one.passed.rest (sym c.is_done.ensures ∙ c.if-is_done.false) c.in-Ok-read_one.ensures.rest
@@ -28,37 +28,37 @@ statements-preserved c =
     record {
       text = found.text ∙ t.invariant.text;
       version = found.version ∙ t.invariant.version;
-      reads = λ vars s section index suit is.
-          let so = t.invariant.reads vars s section index suit is in
-          let taken = found.reads vars (record s { drafts = so.0 }) (subst (IsIndex c.args.names.now) (sym so.2) index) so.1 in
+      reads = λ vars s section index suit is short.
+          let so = t.invariant.reads vars s section index suit is short in
+          let taken = found.reads vars (record s { drafts = so.0 }) (subst (IsIndex c.args.names.now) (sym so.2) index) so.1 (subst (λ text. length text < 2 ^ 63) (sym t.invariant.text) short) in
           values_on start t.cutter t.invariant.text t.invariant.version more vars s t.targets.items c.read_one.new.targets.items t.arrays.items c.read_one.new.arrays.items c.in-Ok-read_one.passed.rest found.rest so
           (subst (λ b. Takes b vars t.cutter (record s { drafts = so.0 }) c.read_one.new.targets.items c.read_one.new.arrays.items) c.if-passed.false taken);
     }
 
 pub returns-then-is_done-clause-reads : goal.returns-then-is_done-clause-reads
-returns-then-is_done-clause-reads c = λ vars s section index suit is.
+returns-then-is_done-clause-reads c = λ vars s section index suit is short.
     let start = c.args.start in
-    let so = c.statements.invariant.reads vars s section index suit is in
+    let so = c.statements.invariant.reads vars s section index suit is short in
     (so.0, so.1.lists, so.3 ∙ ap (λ (in_section : Section). run (text_of start) (version_of start) (record s { section = in_section; drafts = so.0 }) (pieces_left c.statements.cutter)) section)
 
 pub returns-then-passed-clause-reads : goal.returns-then-passed-clause-reads
-returns-then-passed-clause-reads c = λ vars s section index suit is.
+returns-then-passed-clause-reads c = λ vars s section index suit is short.
     let start = c.args.start in
     let t = c.statements in
     let found = c.in-Ok-read_one.ensures in
     let more : is_done t.cutter ≡ false = sym c.is_done.ensures ∙ c.if-is_done.false in
-    let so = t.invariant.reads vars s section index suit is in
-    let taken = found.reads vars (record s { drafts = so.0 }) (subst (IsIndex c.args.names.now) (sym so.2) index) so.1 in
+    let so = t.invariant.reads vars s section index suit is short in
+    let taken = found.reads vars (record s { drafts = so.0 }) (subst (IsIndex c.args.names.now) (sym so.2) index) so.1 (subst (λ text. length text < 2 ^ 63) (sym t.invariant.text) short) in
     let closed = subst (λ b. Takes b vars t.cutter (record s { drafts = so.0 }) c.read_one.new.targets.items c.read_one.new.arrays.items) c.if-passed.true taken in
     (so.0, closed.1, so.3 ∙ one_on start t.cutter t.invariant.text t.invariant.version more (record s { drafts = so.0 }) (record s { section = Section.Closed; drafts = so.0 }) c.in-Ok-read_one.passed.rest found.rest closed.0)
 
 pub returns-in-Err-read_one-clause-reads : goal.returns-in-Err-read_one-clause-reads
-returns-in-Err-read_one-clause-reads c = λ vars s section index suit is.
+returns-in-Err-read_one-clause-reads c = λ vars s section index suit is short.
     let start = c.args.start in
     let t = c.statements in
     let more : is_done t.cutter ≡ false = sym c.is_done.ensures ∙ c.if-is_done.false in
-    let so = t.invariant.reads vars s section index suit is in
-    let fault = c.in-Err-read_one.ensures.reads vars (record s { drafts = so.0 }) (subst (IsIndex c.args.names.now) (sym so.2) index) so.1 in
+    let so = t.invariant.reads vars s section index suit is short in
+    let fault = c.in-Err-read_one.ensures.reads vars (record s { drafts = so.0 }) (subst (IsIndex c.args.names.now) (sym so.2) index) so.1 (subst (λ text. length text < 2 ^ 63) (sym t.invariant.text) short) in
     let line : c.at_line.result ≡ at_line (first_line (pieces_left t.cutter)) c.in-Err-read_one.e = c.at_line.ensures ∙ ap (λ n. at_line n c.in-Err-read_one.e) (c.line.ensures more) in
     subst (λ (e : ParseError). FailsAt e (run (text_of start) (version_of start) s (pieces_left start))) (sym line)
     (bad_on start t.cutter t.invariant.text t.invariant.version more s (record s { drafts = so.0 }) c.in-Err-read_one.e so.3 fault)
