@@ -10,7 +10,7 @@ use Rattle.cdl_text.specs.Cutters.{is_done, next_token, text_of, words}
 use Rattle.cdl_text.specs.declared.cutter.Cutter.{Cutter}
 use Rattle.cdl_text.specs.DueTokens.{completes, goes_to, is_name, is_whole, next, only}
 use Rattle.cdl_text.specs.Lexemes.{Lexeme, lexeme, is_mark, is_word_kind, word_value}
-use Rattle.cdl_text.specs.Shapes.{Attribute, Brace, Declared, Opening, Statement, Typed, Value, first_bad, section_of, shape}
+use Rattle.cdl_text.specs.Shapes.{Attribute, Brace, Declared, End, Opening, Statement, Typed, Value, first_bad, section_of, shape}
 use Rattle.cdl_text.specs.Shapes as Shapes
 use Rattle.cdl_text.specs.declared.due.Due.{Due}
 use Rattle.cdl_text.specs.declared.due.Due.TheVariants as dues
@@ -22,7 +22,7 @@ use Rattle.cdl_text.proofs.Options.{none_of}
 use Rattle.cdl_parse.proofs.StatementWords.{begins, goes_past}
 use Rattle.cdl_parse.specs.Answers.{Fails}
 use Rattle.cdl_parse.specs.AttributeRead.{Leaves, constants_said}
-use Rattle.cdl_parse.specs.Defined.{Makes, after_mark, declare, is_defining, state_of}
+use Rattle.cdl_parse.specs.Defined.{Makes, after_mark, declare, is_defining, is_past, state_of}
 use Rattle.cdl_parse.specs.declared.definitions.Definitions.{Definitions}
 use Rattle.cdl_parse.specs.Meaning.{piece_read}
 use Rattle.cdl_parse.specs.Meant.{name_first}
@@ -268,3 +268,18 @@ reads_statement v s ws statement good is = rw (good) (rw (is) refl)
 pub makes_err : {B : Type 0} (after : State) (q : Result B ReadError) (e : ReadError) (read : Result State CdlKind) → q ≡ Err e → Fails e read → Makes after q read
 makes_err after (Ok b) e read is h = cc
 makes_err after (Err k) e read is h = subst (λ (x : ReadError). Fails x read) (let same : e ≡ k = cc in same) h
+
+-- after the closing brace
+said_past : (v : Version) (section : Section) (l : Lexeme) (ls : List Lexeme) → is_past section ≡ true → statement_said v section (l ∷ ls) ≡ End
+unfolding statement_said
+said_past v Closed l ls past = refl
+said_past v Ended l ls past = refl
+said_past v Unopened l ls past = cc
+said_past v Globals l ls past = cc
+said_past v Dimensions l ls past = cc
+said_past v Variables l ls past = cc
+said_past v Values l ls past = cc
+
+pub ends : (v : Version) (s : State) (l : Lexeme) (ls ws : List Lexeme) → is_past s.section ≡ true → ws ≡ l ∷ ls → act v s (statement_said v s.section ws) ≡ Ok (record s { section = Ended })
+unfolding act
+ends v s l ls ws past is = ap (λ all. act v s (statement_said v s.section all)) is ∙ ap (act v s) (said_past v s.section l ls past)

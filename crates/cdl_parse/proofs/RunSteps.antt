@@ -43,3 +43,6 @@ module _ (start c : Cutter) (text : text_of c ≡ text_of start) (version : vers
   stops s e line is h =
       subst (λ n. FailsAt (at_line n e) (run (text_of start) (version_of start) s (pieces_left c))) (sym is)
       (subst (FailsAt (at_line (first_line (pieces_left c)) e)) (sym (run_on s)) (fails_at (text_of start) (version_of start) (first_line (pieces_left c)) (after c) e (piece_read (version_of c) s (words c)) h))
+
+  pub fault_stops : (s : State) (kind : CdlKind) (line : ℕ) → line ≡ first_line (pieces_left c) → piece_read (version_of c) s (words c) ≡ Err kind → run (text_of start) (version_of start) s (pieces_left c) ≡ Err (record { line = line; kind = kind })
+  fault_stops s kind line is h = run_on s ∙ ap (run_after (text_of start) (version_of start) (first_line (pieces_left c)) (after c)) h ∙ ap (λ n. Err (record { line = n; kind = kind })) (sym is)

@@ -15,8 +15,9 @@ use crate::declaration::read_declaration;
 use crate::dimension_list::read_dimensions;
 use crate::dimensions::Dimensions;
 use crate::read_error::ReadError;
+use crate::statement::pass;
 use crate::variables::Variables;
-use cdl_text::{CdlKind, Cutter, Lexeme, Section, look_over};
+use cdl_text::{Cutter, Lexeme, Section};
 use std::alloc::Global;
 
 /// What the statements of a text up to its data section declare.
@@ -64,16 +65,13 @@ impl Definitions {
         ensures text { IfOk result (λ c. text_of c ≡ text_of start.entry) }
         ensures version { IfOk result (λ c. version_of c ≡ version_of start.entry) }
     {
-        let found = look_over(start, self.section);
-        match found.bad {
-            Some(kind) => return Err(ReadError::Fault(kind)),
-            None => {}
+        match pass(start, self.section) {
+            Ok(rest) => {
+                self.act(alloc, start)?;
+                Ok(rest)
+            }
+            Err(kind) => Err(ReadError::Fault(kind)),
         }
-        if !found.shaped {
-            return Err(ReadError::Fault(CdlKind::Syntax));
-        }
-        self.act(alloc, start)?;
-        Ok(found.rest)
     }
 
     /// Does what a statement says that has its shape.

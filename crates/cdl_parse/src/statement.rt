@@ -1,0 +1,34 @@
+//! The shape of a statement.
+
+ghost use Rattle.std.specs.Prelude.{◌≡◌, IfOk, false, true};
+ghost use Rattle.cdl_text.specs.Cutters.{after, is_done, pieces_left, text_of, version_of, words};
+ghost use Rattle.cdl_text.specs.DueTokens.{completes};
+ghost use Rattle.cdl_text.specs.declared.due.Due.TheVariants.{First};
+ghost use Rattle.cdl_parse.specs.Defined.{Passes};
+ghost use Rattle.cdl_parse.specs.State.{State};
+
+use cdl_text::{CdlKind, Cutter, Section, look_over};
+
+/// Passes over the next statement, which stands in this section, and gives the statements after it. It takes no memory.
+///
+/// # Errors
+///
+/// The fault of the statement's first bad token or bad number; or `Syntax`, where it hasn't its shape.
+pub fn pass(start: Cutter<'_>, section: Section) -> Result<Cutter<'_>, CdlKind>
+    requires { is_done start ≡ false }
+    ensures passes { (s : State) → s.section ≡ section → Passes (version_of start.entry) s (words start.entry) result }
+    ensures whole { IfOk result (λ c. completes (First section) (words start.entry) ≡ true) }
+    ensures rest { IfOk result (λ c. pieces_left c ≡ after start.entry) }
+    ensures text { IfOk result (λ c. text_of c ≡ text_of start.entry) }
+    ensures version { IfOk result (λ c. version_of c ≡ version_of start.entry) }
+{
+    let found = look_over(start, section);
+    match found.bad {
+        Some(kind) => return Err(kind),
+        None => {}
+    }
+    if !found.shaped {
+        return Err(CdlKind::Syntax);
+    }
+    Ok(found.rest)
+}

@@ -1,0 +1,40 @@
+//! The end of a text.
+
+ghost use Rattle.std.specs.Prelude.{◌≡◌, false, true};
+ghost use Rattle.cdl_text.specs.Cutters.{is_done, pieces_left, text_of, version_of};
+ghost use Rattle.cdl_parse.specs.Defined.{EndsAs, is_past};
+ghost use Rattle.cdl_parse.specs.Meaning.{run};
+ghost use Rattle.cdl_parse.specs.State.{State};
+
+use crate::statement::pass;
+use cdl_text::{CdlFault, Cutter, Section};
+
+/// Reads what comes after the closing brace: nothing but the end of the text. It takes no memory.
+///
+/// # Errors
+///
+/// The fault of the first statement there, with its line.
+pub fn read_end(start: Cutter<'_>, section: Section) -> Result<(), CdlFault>
+    requires { is_done start ≡ false → is_past section ≡ true }
+    ensures { (s : State) → s.section ≡ section → EndsAs s result (run (text_of start.entry) (version_of start.entry) s (pieces_left start.entry)) }
+{
+    let mut cutter = start;
+    let mut here = section;
+    'statements: loop {
+        if cutter.is_done() {
+            return Ok(());
+        }
+        match pass(cutter, here) {
+            Ok(rest) => {
+                cutter = rest;
+                here = Section::Ended;
+            }
+            Err(kind) => {
+                return Err(CdlFault {
+                    line: cutter.line(),
+                    kind,
+                });
+            }
+        }
+    }
+}
