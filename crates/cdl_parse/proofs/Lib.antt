@@ -12,3 +12,4 @@ pub mod StatementWords
 pub mod AttributeReads
 pub mod VariableNames
 pub mod Runs
+pub mod DraftNames

@@ -12,3 +12,4 @@ pub mod AttributeRead
 pub mod VariablePositions
 pub mod Runs
 pub mod Listed
+pub mod Drafts

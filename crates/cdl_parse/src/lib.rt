@@ -20,6 +20,7 @@ mod read_error;
 mod string;
 mod value;
 mod variable_lookup;
+mod variables;
 
 pub use array::Array;
 pub use attribute::read_attribute;
@@ -34,3 +35,4 @@ pub use packing::{Packed, pack, pack_good};
 pub use read_error::{ParseError, ReadError};
 pub use value::Stop;
 pub use variable_lookup::variable_position;
+pub use variables::{Variable, Variables};
