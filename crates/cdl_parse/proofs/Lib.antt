@@ -13,3 +13,4 @@ pub mod AttributeReads
 pub mod VariableNames
 pub mod Runs
 pub mod DraftNames
+pub mod VariableAttributes

@@ -1,5 +1,5 @@
 -- The variables that are read, as the state has them.
-use Rattle.std.specs.Prelude.{ℕ, Bool, List, [], map, None}
+use Rattle.std.specs.Prelude.{ℕ, Bool, List, map, None}
 use Rattle.std.specs.List.{list_any}
 use Rattle.std.specs.Str.{bytes_eq}
 use Rattle.nc_base.specs.declared.nc_type.NcType.{NcType}

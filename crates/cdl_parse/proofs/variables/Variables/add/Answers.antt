@@ -4,7 +4,6 @@ use Rattle.cdl_parse.specs.Meant.{names_of}
 use Rattle.cdl_parse.specs.NameIndices.{IsIndex}
 use Rattle.cdl_parse.specs.declared.variables.Variable.{Variable}
 use Rattle.cdl_parse.proofs.DraftNames.{indexed, where_refused, without_last}
-use Rattle.cdl_parse.proofs.NameSets.{where_ok}
 use Rattle.cdl_parse.proofs.variables.Variables.add.Goals as goal
 
 pub invariant_of-self-then-is_err : goal.invariant_of-self-then-is_err
