@@ -14,3 +14,4 @@ pub mod VariableNames
 pub mod Runs
 pub mod DraftNames
 pub mod VariableAttributes
+pub mod DeclarationReads

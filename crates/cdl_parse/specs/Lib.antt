@@ -13,3 +13,4 @@ pub mod VariablePositions
 pub mod Runs
 pub mod Listed
 pub mod Drafts
+pub mod Declarations
