@@ -15,3 +15,5 @@ pub mod Runs
 pub mod DraftNames
 pub mod VariableAttributes
 pub mod DeclarationReads
+pub mod Shapes
+pub mod VariableStatements
