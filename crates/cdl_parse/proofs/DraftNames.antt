@@ -1,12 +1,14 @@
 -- The names of variables, and their index.
-use Rattle.std.proofs.Common.{◌≡◌, ℕ, suc, ◌+◌, ◌-◌, Bool, true, false, List, [], ◌∷◌, ◌++◌, length, take, refl, sym, ap, ◌∙◌, subst, arith}
+use Rattle.std.proofs.Common.{◌≡◌, ℕ, suc, ◌+◌, ◌-◌, Bool, true, false, List, [], ◌∷◌, ◌++◌, length, map, take, refl, sym, ap, ◌∙◌, subst, arith}
 use Rattle.std.proofs.lemmas.List.{map-append, length-map}
 use Rattle.std.proofs.Math.Seq.{take-append_seam}
 use Rattle.std.specs.Prelude.{Option, None, Some, Result, Ok, Err, ⊤, OnErr, OnOk, is_err, is_some, if◌then◌else◌, ◌||◌}
 use Rattle.std.specs.declared.alloc.AllocError.{AllocError}
 use Rattle.std.specs.List.{position_from}
 use Rattle.std.specs.Str.{bytes_eq}
-use Rattle.cdl_parse.specs.Drafts.{draft_of, drafts_of, is_taken}
+use Rattle.nc_base.specs.declared.header.Var.{Var}
+use Rattle.cdl_parse.specs.Drafts.{draft_of, drafts_of, is_taken, var_of}
+use Rattle.cdl_parse.specs.Listed.{fresh}
 use Rattle.cdl_parse.specs.Meant.{names_of}
 use Rattle.cdl_parse.specs.NameIndices.{IsIndex, position_of}
 use Rattle.cdl_parse.specs.State.{Draft}
@@ -62,3 +64,11 @@ pub indexed : (items pushed : List Variable) (v : Variable) (key : List ℕ) (in
 indexed items pushed v key index position r same new more at adds good =
     subst (IsIndex index) (ap (λ n. names_of (drafts_of items) ++ n ∷ []) same ∙ sym (names_more items v) ∙ ap (λ vs. names_of (drafts_of vs)) (sym more))
     (where_ok r _ good (adds (at ∙ sym (name_count items)) (no_position (drafts_of items) key new)))
+
+-- the variables of a header are those that are read
+pub fresh_is : (items : List Variable) (vars : List Var) (drafts : List Draft) → vars ≡ map var_of items → drafts_of items ≡ drafts → fresh vars ≡ drafts
+fresh_is items vars drafts are view = ap fresh are ∙ each items ∙ view
+  where
+    each : (items : List Variable) → fresh (map var_of items) ≡ drafts_of items
+    each [] = refl
+    each (v ∷ items) = ap (λ ds. draft_of v ∷ ds) (each items)

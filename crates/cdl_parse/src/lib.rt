@@ -39,4 +39,4 @@ pub use packing::{Packed, pack, pack_good};
 pub use read_error::{ParseError, ReadError};
 pub use value::Stop;
 pub use variable_lookup::variable_position;
-pub use variables::{Variable, Variables};
+pub use variables::Variables;

@@ -1,12 +1,14 @@
 //! The variables of a text.
 
-ghost use Rattle.std.specs.Prelude.{◌≡◌, ◌++◌, ◌∷◌, [], drop, false, true, OnErr, OnOk};
+ghost use Rattle.std.specs.Prelude.{◌≡◌, ◌++◌, ◌∷◌, [], drop, false, true, IfOk, OnErr, OnOk, map};
 ghost use Rattle.cdl_text.specs.Cutters.{is_done, version_of, words};
 ghost use Rattle.cdl_text.specs.DueTokens.{completes};
 ghost use Rattle.cdl_text.specs.declared.due.Due.TheVariants.{AttributeName};
 ghost use Rattle.cdl_parse.specs.AttributeRead.{Leaves, constants_said};
-ghost use Rattle.cdl_parse.specs.Drafts.{draft, is_taken};
-ghost use Rattle.cdl_parse.specs.Meant.{name_first};
+ghost use Rattle.cdl_parse.specs.Drafts.{draft, is_taken, var_of};
+ghost use Rattle.cdl_parse.specs.Listed.{fresh};
+ghost use Rattle.cdl_parse.specs.Meant.{name_first, names_of};
+ghost use Rattle.cdl_parse.specs.NameIndices.{IsIndex};
 ghost use Rattle.cdl_parse.specs.State.{at_variable, with_att};
 
 use crate::attribute::read_attribute;
@@ -15,18 +17,18 @@ use crate::name_index::NameIndex;
 use crate::read_error::ReadError;
 use crate::variable_lookup::variable_position;
 use cdl_text::Cutter;
-use nc_base::{NcType, Sequence};
+use nc_base::{NcType, Sequence, Var};
 use std::alloc::{AllocError, Global};
 use std::marker::Model;
 
 /// A variable of a text: what its declaration and the statements of its attributes say.
 #[derive(Drop)]
-pub struct Variable {
-    pub name: Sequence<u8>,
+struct Variable {
+    name: Sequence<u8>,
     /// The positions of its dimensions, the slowest first.
-    pub dimids: Sequence<u64>,
-    pub ty: NcType,
-    pub atts: Attributes,
+    dimids: Sequence<u64>,
+    ty: NcType,
+    atts: Attributes,
 }
 
 /// The variables of a text, in its order.
@@ -121,5 +123,45 @@ impl Variables {
         let (name, _) = colon.advanced();
         let variable = &mut self.list[position as usize];
         read_attribute(alloc, &mut variable.atts, name)
+    }
+
+    /// The variables as those of a header, and the index of their names. No name, shape or attribute is copied.
+    ///
+    /// # Errors
+    ///
+    /// A growth was refused.
+    pub fn into_parts(self, alloc: Global) -> Result<(Sequence<Var>, NameIndex), AllocError>
+        ensures vars { IfOk result (λ parts. fresh parts.0 ≡ self) }
+        ensures names { IfOk result (λ parts. IsIndex parts.1 (names_of self)) }
+    {
+        let Variables { list, names } = self;
+        let vars = vars_of(alloc, list)?;
+        Ok((Sequence::from_vec(vars), names))
+    }
+}
+
+/// The variables as those of a header.
+fn vars_of(alloc: Global, list: Vec<Variable>) -> Result<Vec<Var>, AllocError>
+    ensures { IfOk result (λ vars. vars.items ≡ map var_of list.items) }
+{
+    list.into_iter().map(var_of).collect(alloc)
+}
+
+/// The variable as one of a header.
+fn var_of(variable: Variable) -> Var
+    ensures { result ≡ var_of variable }
+{
+    let Variable {
+        name,
+        dimids,
+        ty,
+        atts,
+    } = variable;
+    Var {
+        name,
+        dimids,
+        atts: atts.into_sequence(),
+        ty,
+        begin_at: 0,
     }
 }
