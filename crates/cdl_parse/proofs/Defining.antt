@@ -22,7 +22,8 @@ use Rattle.cdl_text.proofs.Options.{none_of}
 use Rattle.cdl_parse.proofs.StatementWords.{begins, goes_past}
 use Rattle.cdl_parse.specs.Answers.{Fails}
 use Rattle.cdl_parse.specs.AttributeRead.{Leaves, constants_said}
-use Rattle.cdl_parse.specs.Defined.{Makes, after_mark, declare, is_defining, is_past, state_of}
+use Rattle.cdl_parse.specs.Declarations.{declared}
+use Rattle.cdl_parse.specs.Defined.{Makes, after_mark, is_defining, is_past, state_of}
 use Rattle.cdl_parse.specs.declared.definitions.Definitions.{Definitions}
 use Rattle.cdl_parse.specs.Meaning.{piece_read}
 use Rattle.cdl_parse.specs.Meant.{name_first}
@@ -175,7 +176,7 @@ bind_twice (Err e) f g = refl
 
 pub makes_declaration : (v : Version) (s : State) (l c : Lexeme) (rest ls ws : List Lexeme) (drafts : List Draft) (r : Result ⊤ ReadError) →
     is_mark 0x7d l ≡ false → is_mark 0x3a l ≡ false → is_mark 0x3a c ≡ false → ls ≡ c ∷ rest → ws ≡ l ∷ ls →
-    Leaves drafts r (declare v l s.dims s.drafts (declaration_said false ls).variables) → Makes (record s { drafts = drafts }) r (act v s (statement_said v Variables ws))
+    Leaves drafts r (declared v s.dims s.drafts ws) → Makes (record s { drafts = drafts }) r (act v s (statement_said v Variables ws))
 unfolding act
 makes_declaration v s l c rest ls ws drafts r off other no-colon second first h =
     let vs = (declaration_said false ls).variables in
@@ -184,7 +185,7 @@ makes_declaration v s l c rest ls ws drafts r off other no-colon second first h 
     ap (statement_said v Variables) here ∙ said_variable v l c rest off other ∙ typed no-colon ∙ ap (λ all. Typed l (declaration_said false all).variables) (sym second) in
     let last : List Draft → Result State CdlKind = λ ds. Ok (record s { drafts = ds }) in
     subst (Makes (record s { drafts = drafts }) r) (sym (ap (act v s) said ∙ bind_twice (type_of v l) (λ ty. in_turn (add_var s.dims ty) s.drafts vs) last))
-    (makes_then drafts (record s { drafts = drafts }) last r (declare v l s.dims s.drafts vs) refl h)
+    (makes_then drafts (record s { drafts = drafts }) last r (declared v s.dims s.drafts (l ∷ ls)) refl (subst (λ all. Leaves drafts r (declared v s.dims s.drafts all)) first h))
   where
     typed : is_mark 0x3a c ≡ false → variable_said v l (c ∷ rest) ≡ Typed l (declaration_said false (c ∷ rest)).variables
     typed no-colon = rw (no-colon) refl

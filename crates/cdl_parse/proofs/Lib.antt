@@ -26,3 +26,8 @@ pub mod DataStatements
 pub mod DataRuns
 pub mod Counts
 pub mod InRange
+pub mod DraftNames
+pub mod VariableAttributes
+pub mod DeclarationReads
+pub mod Shapes
+pub mod VariableStatements

@@ -51,12 +51,6 @@ abbrev pub Makes : {B : Type 0} → State → Result B ReadError → Result Stat
 Makes after (Ok b) read = read ≡ Ok after
 Makes after (Err e) read = Fails e read
 
--- the variables with these more, of the type that the word says
-abbrev pub declare : Version → Lexeme → List Dim → List Draft → List Variable → Result (List Draft) CdlKind
-declare v word dims drafts vs = do
-  ty ← type_of v word
-  in_turn (add_var dims ty) drafts vs
-
 -- no statement is left, but for the section the state is as it was; or there is the fault
 abbrev pub EndsAs : State → Result ⊤ CdlFault → Result State CdlFault → Type 0
 EndsAs s (Ok u) read = (last : Section) × (read ≡ Ok (record s { section = last }))

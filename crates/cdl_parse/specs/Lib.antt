@@ -16,3 +16,5 @@ pub mod Defined
 pub mod OwedValues
 pub mod Extents
 pub mod DataSections
+pub mod Drafts
+pub mod Declarations

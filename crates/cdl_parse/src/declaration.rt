@@ -1,21 +1,64 @@
-//! Stand-in.
+//! The statement that declares variables.
 
-ghost use Rattle.std.specs.Prelude.{◌≡◌, drop, false, true};
-ghost use Rattle.cdl_text.specs.Contents.{declaration_said};
-ghost use Rattle.cdl_text.specs.Cutters.{is_done, next_token, text_of, version_of, words};
+ghost use Rattle.std.specs.Prelude.{◌≡◌, ℕ, List, ◌++◌, ◌∷◌, [], ◌&&◌, ◌||◌, not, drop, false, true, IfOk, Ok};
+ghost use Rattle.std.specs.List.{find};
+ghost use Rattle.nc_base.specs.declared.header.Dim as header;
+ghost use Rattle.nc_base.specs.declared.nc_type.NcType as types;
+ghost use Rattle.cdl_text.specs.Contents.{Declaration, with_name};
+ghost use Rattle.cdl_text.specs.Cutters.{is_done, version_of, words};
 ghost use Rattle.cdl_text.specs.DueTokens.{completes};
-ghost use Rattle.cdl_text.specs.Lexemes.{lexeme};
+ghost use Rattle.cdl_text.specs.Lexemes as lexemes;
+ghost use Rattle.cdl_text.specs.Lexemes.{is_mark, is_mark_kind, word_value};
+ghost use Rattle.cdl_text.specs.Views.{lexeme_of};
 ghost use Rattle.cdl_text.specs.declared.due.Due.TheVariants.{VariableName};
+ghost use Rattle.cdl_parse.specs.Answers.{Continues, Gives};
 ghost use Rattle.cdl_parse.specs.AttributeRead.{Leaves};
-ghost use Rattle.cdl_parse.specs.Defined.{declare};
+ghost use Rattle.cdl_parse.specs.Declarations.{added, continued, declared, new_variable, next_dimid, read_on};
+ghost use Rattle.cdl_parse.specs.Drafts.{draft, is_taken};
+ghost use Rattle.cdl_parse.specs.State.{Draft, is_word_of, type_of};
 
 use crate::dimensions::Dimensions;
+use crate::name::name_of_word;
 use crate::read_error::ReadError;
 use crate::variables::Variables;
-use cdl_text::Cutter;
+use cdl_text::{CdlKind, Cutter, Lexeme, TokenKind};
+use nc_base::{NcType, Version, check_name, is_record_dim};
 use std::alloc::Global;
 
-/// Stand-in.
+/// All types.
+const TYPES: [NcType; 9] = [
+    NcType::Byte,
+    NcType::Char,
+    NcType::Short,
+    NcType::Int,
+    NcType::Ubyte,
+    NcType::Ushort,
+    NcType::Uint,
+    NcType::Int64,
+    NcType::Uint64,
+];
+
+/// A variable as far as its declaration is read.
+#[derive(Drop)]
+struct Begun {
+    name: Vec<u8>,
+    /// The positions of its dimensions.
+    dimids: Vec<u64>,
+    /// The parenthesis before its dimensions is read, and the one after them isn't.
+    is_open: bool,
+}
+
+/// Reads a declaration, and adds its variables.
+///
+/// It is a type word and then, joined by commas, the variables: each a name alone, or a name and the names of the
+/// variable's dimensions in parentheses, joined by commas (the CDL chapter of the NetCDF User's Guide, and ncgen(1)).
+///
+/// # Errors
+///
+/// The first of these: the type word's fault, as [`type_of_word`] says; then variable by variable a name that the format
+/// doesn't allow (`BadName`) or that another variable has (`DuplicateName`), and dimension by dimension a name that the
+/// format doesn't allow (`BadName`) or that no dimension has (`UnknownDimension`), and the record dimension in another
+/// place than the first (`BadShape`). Or a growth was refused.
 pub fn read_declaration(
     alloc: Global,
     dims: &Dimensions,
@@ -24,7 +67,220 @@ pub fn read_declaration(
 ) -> Result<(), ReadError>
     requires more { is_done start ≡ false }
     requires shaped { completes VariableName (drop 1 (words start)) ≡ true }
-    ensures { Leaves variables.new result (declare (version_of start.entry) (lexeme (text_of start.entry) (next_token start.entry)) dims.now variables.old (declaration_said false (drop 1 (words start.entry))).variables) }
+    ensures { Leaves variables.new result (declared (version_of start.entry) dims.now variables.old (words start.entry)) }
 {
-    Err(ReadError::OutOfMemory)
+    match type_of_word(start.version(), start.lexeme()) {
+        Ok(ty) => {
+            let (names, _) = start.advanced();
+            read_variables(alloc, dims, variables, ty, names)
+        }
+        Err(kind) => Err(ReadError::Fault(kind)),
+    }
+}
+
+/// The type that a type word stands for; `long` is another word for int (the CDL chapter of the NetCDF User's Guide, "CDL
+/// Data Types").
+///
+/// # Errors
+///
+/// The word of a floating type, `float`, `real` or `double` (`FloatingType`); a word of no type of the version
+/// (`UnknownType`).
+#[tactic(auto, unfolding(crate::specs::State::type_of))]
+pub fn type_of_word(version: Version, word: Lexeme<'_>) -> Result<NcType, CdlKind>
+    ensures { result ≡ type_of version (lexeme_of word.entry) }
+{
+    if word.is_word(b"float") || word.is_word(b"real") || word.is_word(b"double") {
+        return Err(CdlKind::FloatingType);
+    }
+    if word.is_word(b"long") {
+        return Ok(NcType::Int);
+    }
+    match first_with_word(&TYPES, version, word) {
+        Some(ty) => Ok(ty),
+        None => Err(CdlKind::UnknownType),
+    }
+}
+
+/// The first of the types that the version has and whose word this is.
+fn first_with_word(types: &[NcType], version: Version, word: Lexeme<'_>) -> Option<NcType>
+    ensures { result ≡ find (is_word_of version (lexeme_of word.entry)) types.now }
+{
+    types
+        .iter()
+        .copied()
+        .find(|ty| version.has_type(*ty) && word.is_word(ty.word()))
+}
+
+/// Reads the variables of a declaration, which have this type; the name of the first one is next.
+fn read_variables(
+    alloc: Global,
+    dims: &Dimensions,
+    variables: &mut Variables,
+    ty: NcType,
+    start: Cutter<'_>,
+) -> Result<(), ReadError>
+    requires more { is_done start ≡ false }
+    requires shaped { completes VariableName (words start) ≡ true }
+    ensures { Leaves variables.new result (added dims.now ty variables.old (words start.entry)) }
+{
+    let mut begun = begin(alloc, variables, start.lexeme())?;
+    let (mut cutter, _) = start.advanced();
+    'tokens: loop {
+        let token = cutter.lexeme();
+        let ends = cutter.advance();
+        begun = read_on(alloc, dims, variables, ty, begun, token)?;
+        if ends {
+            return put(alloc, variables, ty, begun);
+        }
+    }
+}
+
+/// Begins the variable whose name a token is.
+fn begin(alloc: Global, variables: &Variables, token: Lexeme<'_>) -> Result<Begun, ReadError>
+    requires { is_mark_kind token.kind ≡ false }
+    ensures reads { (dims : List header.Dim) (ty : types.NcType) (ls : List lexemes.Lexeme) → Continues (λ (b : Begun). read_on dims ty variables.now b ls) result (added dims ty variables.now (lexeme_of token.entry ∷ ls)) }
+    ensures new { IfOk result (λ (b : Begun). is_taken b.name.items variables.now ≡ false) }
+{
+    let name = new_variable(alloc, variables, token.bytes)?;
+    Ok(Begun {
+        name,
+        dimids: Vec::new(alloc),
+        is_open: false,
+    })
+}
+
+/// The name that a word stands for, where a new variable may have it.
+fn new_variable(alloc: Global, variables: &Variables, word: &[u8]) -> Result<Vec<u8>, ReadError>
+    ensures { Gives (λ name. name.items) result (new_variable variables.now (word_value word.now)) }
+{
+    let name = match name_of_word(alloc, word) {
+        Ok(name) => name,
+        Err(_) => return Err(ReadError::OutOfMemory),
+    };
+    if !check_name(name.as_slice()) {
+        return Err(ReadError::Fault(CdlKind::BadName));
+    }
+    if variables.has_name(name.as_slice()) {
+        return Err(ReadError::Fault(CdlKind::DuplicateName));
+    }
+    Ok(name)
+}
+
+/// Reads a token after a variable's name: a mark, the name of one of its dimensions, or that of the next variable.
+fn read_on(
+    alloc: Global,
+    dims: &Dimensions,
+    variables: &mut Variables,
+    ty: NcType,
+    begun: Begun,
+    token: Lexeme<'_>,
+) -> Result<Begun, ReadError>
+    requires { is_taken begun.name.items variables.old ≡ false }
+    ensures reads { (ls : List lexemes.Lexeme) → Continues (λ (b : Begun). read_on dims.now ty variables.new b ls) result (read_on dims.now ty variables.old begun (lexeme_of token.entry ∷ ls)) }
+    ensures new { IfOk result (λ (b : Begun). is_taken b.name.items variables.new ≡ false) }
+{
+    match token.kind {
+        TokenKind::Mark => Ok(over_mark(begun, token)),
+        _ if begun.is_open => with_dimension(alloc, dims, begun, token.bytes),
+        _ => {
+            put(alloc, variables, ty, begun)?;
+            begin(alloc, variables, token)
+        }
+    }
+}
+
+/// The variable after a mark, which may open or close a parenthesis.
+fn over_mark(begun: Begun, mark: Lexeme<'_>) -> Begun
+    requires { is_mark_kind mark.kind ≡ true }
+    ensures reads { (dims : List header.Dim) (ty : types.NcType) (drafts : List Draft) (ls : List lexemes.Lexeme) → read_on dims ty drafts begun (lexeme_of mark.entry ∷ ls) ≡ read_on dims ty drafts result ls }
+    ensures name { result.name.items ≡ begun.name.items }
+{
+    let Begun {
+        name,
+        dimids,
+        is_open,
+    } = begun;
+    Begun {
+        name,
+        dimids,
+        is_open: is_open_after(is_open, mark),
+    }
+}
+
+/// Says whether a parenthesis is open after a mark, before which one is open or not.
+fn is_open_after(is_open: bool, mark: Lexeme<'_>) -> bool
+    ensures { result ≡ (is_mark 0x28 (lexeme_of mark.entry) || is_open && not (is_mark 0x29 (lexeme_of mark.entry))) }
+{
+    mark.is_mark(b'(') || is_open && !mark.is_mark(b')')
+}
+
+/// The variable with the dimension that a word names, after its others.
+fn with_dimension(
+    alloc: Global,
+    dims: &Dimensions,
+    begun: Begun,
+    word: &[u8],
+) -> Result<Begun, ReadError>
+    requires { begun.is_open ≡ true }
+    ensures reads { (ty : types.NcType) (drafts : List Draft) (rest : Declaration) → Continues (λ (b : Begun). continued dims.now ty drafts b.name.items b.dimids.items rest) result (continued dims.now ty drafts begun.name.items begun.dimids.items (with_name true (word_value word.now) rest)) }
+    ensures name { IfOk result (λ (b : Begun). b.name.items ≡ begun.name.items) }
+    ensures is_open { IfOk result (λ (b : Begun). b.is_open ≡ true) }
+{
+    let mut begun = begun;
+    let dimid = dimid_of_word(alloc, dims, begun.dimids.as_slice(), word)?;
+    if begun.dimids.push(dimid).is_err() {
+        return Err(ReadError::OutOfMemory);
+    }
+    Ok(begun)
+}
+
+/// The position of the dimension that a word names, for a shape that has these dimensions before it.
+fn dimid_of_word(
+    alloc: Global,
+    dims: &Dimensions,
+    before: &[u64],
+    word: &[u8],
+) -> Result<u64, ReadError>
+    ensures { Gives (λ dimid. dimid) result (next_dimid dims.now before.now (word_value word.now)) }
+{
+    let name = match name_of_word(alloc, word) {
+        Ok(name) => name,
+        Err(_) => return Err(ReadError::OutOfMemory),
+    };
+    match next_dimid(dims, before, name.as_slice()) {
+        Ok(dimid) => Ok(dimid),
+        Err(kind) => Err(ReadError::Fault(kind)),
+    }
+}
+
+/// The position of the dimension of this name, for a shape that has these dimensions before it.
+fn next_dimid(dims: &Dimensions, before: &[u64], name: &[u8]) -> Result<u64, CdlKind>
+    ensures { result ≡ next_dimid dims.now before.now name.now }
+{
+    if !check_name(name) {
+        return Err(CdlKind::BadName);
+    }
+    match dims.position(name) {
+        Some(dimid) if !before.is_empty() && is_record_dim(dims.as_slice(), dimid) => {
+            Err(CdlKind::BadShape)
+        }
+        Some(dimid) => Ok(dimid),
+        None => Err(CdlKind::UnknownDimension),
+    }
+}
+
+/// Adds a variable whose declaration is read.
+fn put(alloc: Global, variables: &mut Variables, ty: NcType, begun: Begun) -> Result<(), ReadError>
+    requires { is_taken begun.name.items variables.old ≡ false }
+    ensures { Leaves variables.new result (Ok (variables.old ++ draft begun.name.items begun.dimids.items ty [] ∷ [])) }
+{
+    let Begun {
+        name,
+        dimids,
+        is_open: _,
+    } = begun;
+    match variables.add(alloc, name, dimids, ty) {
+        Ok(()) => Ok(()),
+        Err(_) => Err(ReadError::OutOfMemory),
+    }
 }

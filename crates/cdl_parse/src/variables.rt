@@ -1,58 +1,167 @@
-//! Stand-in.
+//! The variables of a text.
 
-ghost use Rattle.std.specs.Prelude.{◌≡◌, ◌∷◌, [], IfOk, drop, false, true};
+ghost use Rattle.std.specs.Prelude.{◌≡◌, ◌++◌, ◌∷◌, [], drop, false, true, IfOk, OnErr, OnOk, map};
 ghost use Rattle.cdl_text.specs.Cutters.{is_done, version_of, words};
+ghost use Rattle.cdl_text.specs.DueTokens.{completes};
+ghost use Rattle.cdl_text.specs.declared.due.Due.TheVariants.{AttributeName};
 ghost use Rattle.cdl_parse.specs.AttributeRead.{Leaves, constants_said};
+ghost use Rattle.cdl_parse.specs.Drafts.{draft, is_taken, var_of};
 ghost use Rattle.cdl_parse.specs.Listed.{fresh};
 ghost use Rattle.cdl_parse.specs.Meant.{name_first, names_of};
 ghost use Rattle.cdl_parse.specs.NameIndices.{IsIndex};
 ghost use Rattle.cdl_parse.specs.State.{at_variable, with_att};
 
+use crate::attribute::read_attribute;
+use crate::attributes::Attributes;
 use crate::name_index::NameIndex;
 use crate::read_error::ReadError;
+use crate::variable_lookup::variable_position;
 use cdl_text::Cutter;
-use nc_base::{Sequence, Var};
+use nc_base::{NcType, Sequence, Var};
 use std::alloc::{AllocError, Global};
 use std::marker::Model;
 
-/// Variables.
+/// A variable of a text: what its declaration and the statements of its attributes say.
+#[derive(Drop)]
+struct Variable {
+    name: Sequence<u8>,
+    /// The positions of its dimensions, the slowest first.
+    dimids: Sequence<u64>,
+    ty: NcType,
+    atts: Attributes,
+}
+
+/// The variables of a text, in its order.
+///
+/// The variable of a name is found in a time that grows with the logarithm of their number.
 #[derive(Drop)]
 pub struct Variables {
-    list: Vec<u8>,
+    list: Vec<Variable>,
+    names: NameIndex,
 }
 
 impl Model for Variables {
-    ghost use Rattle.std.specs.Prelude.{List, []};
+    ghost use Rattle.std.specs.Prelude.{List};
     ghost use Rattle.cdl_parse.specs.State.{Draft};
 
     ghost Value = { List Draft };
 
-    ghost view = { λ v. [] };
+    ghost use Rattle.cdl_parse.specs.Drafts.{drafts_of};
+    ghost use Rattle.cdl_parse.specs.Meant.{names_of};
+    ghost use Rattle.cdl_parse.specs.NameIndices.{IsIndex};
+
+    ghost view = { λ variables. drafts_of variables.list.items };
+
+    ghost invariant = { λ variables. IsIndex variables.names (names_of (drafts_of variables.list.items)) };
 }
 
 impl Variables {
-    /// None.
+    /// No variables. It takes no memory.
     pub fn new(alloc: Global) -> Variables
         ensures { result ≡ [] }
     {
         Variables {
             list: Vec::new(alloc),
+            names: NameIndex::new(alloc),
         }
     }
 
-    /// Stand-in.
-    pub fn read_attribute(&mut self, alloc: Global, start: Cutter<'_>) -> Result<(), ReadError>
-        requires more { is_done start ≡ false }
-        ensures { Leaves self.new result (at_variable (name_first (words start.entry)) (with_att (name_first (drop 2 (words start.entry))) (constants_said (version_of start.entry) (drop 2 (words start.entry)))) self.old) }
+    /// Says whether one of the variables has the name.
+    pub fn has_name(&self, name: &[u8]) -> bool
+        ensures { result ≡ is_taken name.now self.now }
     {
-        Err(ReadError::OutOfMemory)
+        self.names.find(name).is_some()
     }
 
-    /// Stand-in.
+    /// Adds a variable of a new name at the end, without attributes.
+    ///
+    /// # Errors
+    ///
+    /// A growth was refused. Then the variables are what they were.
+    pub fn add(
+        &mut self,
+        alloc: Global,
+        name: Vec<u8>,
+        dimids: Vec<u64>,
+        ty: NcType,
+    ) -> Result<(), AllocError>
+        requires { is_taken name.items self.old ≡ false }
+        ensures ok { OnOk result (self.new ≡ self.old ++ draft name.items dimids.items ty [] ∷ []) }
+        ensures err { OnErr result (self.new ≡ self.old) }
+    {
+        let key = Vec::from_slice(alloc, name.as_slice())?;
+        let position = self.list.len() as u64;
+        self.list.push(Variable {
+            name: Sequence::from_vec(name),
+            dimids: Sequence::from_vec(dimids),
+            ty,
+            atts: Attributes::new(alloc),
+        })?;
+        if self.names.add(key, position).is_err() {
+            self.list.pop();
+            return Err(AllocError);
+        }
+        Ok(())
+    }
+
+    /// Reads an attribute of a variable, whose name is next, and adds it to the variable's others.
+    ///
+    /// After the name come `:`, the attribute's name, `=` and the constants, joined by commas (the CDL chapter of the NetCDF
+    /// User's Guide, and ncgen(1)).
+    ///
+    /// # Errors
+    ///
+    /// The first of these: a variable's name that the format doesn't allow (`BadName`), or that no variable has
+    /// (`UnknownVariable`); a fault of [`read_attribute`](crate::read_attribute). Or a growth was refused.
+    pub fn read_attribute(&mut self, alloc: Global, start: Cutter<'_>) -> Result<(), ReadError>
+        requires more { is_done start ≡ false }
+        requires shaped { completes AttributeName (drop 2 (words start)) ≡ true }
+        ensures { Leaves self.new result (at_variable (name_first (words start.entry)) (with_att (name_first (drop 2 (words start.entry))) (constants_said (version_of start.entry) (drop 2 (words start.entry)))) self.old) }
+    {
+        let position = variable_position(alloc, &self.names, start.lexeme().bytes)?;
+        let (colon, _) = start.advanced();
+        let (name, _) = colon.advanced();
+        let variable = &mut self.list[position as usize];
+        read_attribute(alloc, &mut variable.atts, name)
+    }
+
+    /// The variables as those of a header, and the index of their names. No name, shape or attribute is copied.
+    ///
+    /// # Errors
+    ///
+    /// A growth was refused.
     pub fn into_parts(self, alloc: Global) -> Result<(Sequence<Var>, NameIndex), AllocError>
         ensures vars { IfOk result (λ parts. fresh parts.0 ≡ self) }
         ensures names { IfOk result (λ parts. IsIndex parts.1 (names_of self)) }
     {
-        Err(AllocError)
+        let Variables { list, names } = self;
+        let vars = vars_of(alloc, list)?;
+        Ok((Sequence::from_vec(vars), names))
+    }
+}
+
+/// The variables as those of a header.
+fn vars_of(alloc: Global, list: Vec<Variable>) -> Result<Vec<Var>, AllocError>
+    ensures { IfOk result (λ vars. vars.items ≡ map var_of list.items) }
+{
+    list.into_iter().map(var_of).collect(alloc)
+}
+
+/// The variable as one of a header.
+fn var_of(variable: Variable) -> Var
+    ensures { result ≡ var_of variable }
+{
+    let Variable {
+        name,
+        dimids,
+        ty,
+        atts,
+    } = variable;
+    Var {
+        name,
+        dimids,
+        atts: atts.into_sequence(),
+        ty,
+        begin_at: 0,
     }
 }

@@ -4,11 +4,11 @@ use Rattle.cdl_text.specs.Cutters.{is_done, next_token, text_of, version_of, wor
 use Rattle.cdl_text.specs.DueTokens.{completes, goes_to, is_name}
 use Rattle.cdl_text.specs.Lexemes.{Lexeme, is_mark, lexeme}
 use Rattle.cdl_text.specs.Shapes.{section_of}
-use Rattle.cdl_text.specs.declared.due.Due.TheVariants.{VariableName}
+use Rattle.cdl_text.specs.declared.due.Due.TheVariants.{AttributeName, VariableName}
 use Rattle.cdl_text.specs.declared.section.Section.TheVariants.{Variables}
 use Rattle.cdl_parse.specs.AttributeRead.{Leaves}
-use Rattle.cdl_parse.specs.Defined.{after_mark, declare, state_of}
-use Rattle.cdl_parse.proofs.Defining.{goes_declaration, gone, makes_attribute, makes_declaration, makes_variable_mark, second_on}
+use Rattle.cdl_parse.specs.Defined.{after_mark, state_of}
+use Rattle.cdl_parse.proofs.Defining.{goes_attribute, goes_declaration, gone, makes_attribute, makes_declaration, makes_variable_mark, second_on}
 use Rattle.cdl_parse.proofs.definitions.Definitions.define_variables.Goals as goal
 
 pub read_declaration-requires-clause-shaped : goal.read_declaration-requires-clause-shaped
@@ -30,7 +30,7 @@ returns-then-not-is_mark c =
     let off : is_mark 0x3a second ≡ false = ap (is_mark 0x3a) (sym c.lexeme.ensures.lexeme) ∙ sym c.is_mark.ensures ∙ c.if-not-is_mark.true in
     let s = state_of c.args.self.now in
     makes_declaration (version_of start) s l second on.rest (words next) (words start) c.read_declaration.new.variables c.read_declaration.result c.requires.brace c.requires.colon off on.second on.first
-    (subst (λ ws. Leaves c.read_declaration.new.variables c.read_declaration.result (declare (version_of start) l s.dims s.drafts (declaration_said false ws).variables)) (ap (drop 1) on.first) c.read_declaration.ensures)
+    c.read_declaration.ensures
 
 pub returns-then-is_name : goal.returns-then-is_name
 returns-then-is_name c =
@@ -54,3 +54,14 @@ returns c =
     let nameless : is_name l ≡ false = ap is_name (sym c.lexeme-word.ensures.lexeme) ∙ sym c.is_name.ensures ∙ c.if-is_name.false in
     makes_variable_mark (version_of start) (state_of c.args.self.now) l second on.rest (words next) (words start) c.requires.brace c.requires.colon colon nameless on.second on.first ∙
     ap Ok (gone c.args.self.now c.go_to.new.self (section_of l) (c.go_to.ensures.section ∙ ap (λ w. after_mark (section_of w)) c.lexeme-word.ensures.lexeme) c.go_to.ensures.dims c.go_to.ensures.gatts c.go_to.ensures.variables)
+
+pub read_attribute-requires-clause-shaped : goal.read_attribute-requires-clause-shaped
+read_attribute-requires-clause-shaped c =
+    let start = c.args.start in
+    let next = c.advanced.result.0 in
+    let l = lexeme (text_of start) (next_token start) in
+    let second = lexeme (text_of next) (next_token next) in
+    let on = second_on start next c.advanced.result.1 c.requires.brace c.requires.colon c.requires.whole c.advanced.ensures.words c.advanced.ensures.goes in
+    let colon : is_mark 0x3a second ≡ true = ap (is_mark 0x3a) (sym c.lexeme.ensures.lexeme) ∙ sym c.is_mark.ensures ∙ c.if-not-is_mark.false in
+    let named : is_name l ≡ true = ap is_name (sym c.lexeme-word.ensures.lexeme) ∙ sym c.is_name.ensures ∙ c.if-is_name.true in
+    ap (λ ws. completes AttributeName (drop 2 ws)) on.first ∙ ap (λ ws. completes AttributeName (drop 1 ws)) on.second ∙ goes_attribute l second (words next) on.rest colon named on.second on.due

@@ -1,0 +1,157 @@
+-- A declaration, token by token.
+use Rattle.std.proofs.Common.{◌≡◌, ℕ, Bool, true, false, List, [], ◌∷◌, ◌++◌, length, drop, refl, sym, ap, ◌∙◌, subst}
+use Rattle.std.proofs.lemmas.Bool.{false≢true}
+use Rattle.std.specs.Prelude.{Option, None, Some, Result, Ok, Err, ⊤, IfOk, ◌&&◌, ◌||◌, not, nat_lt, if◌then◌else◌}
+use Rattle.std.specs.List.{position}
+use Rattle.std.specs.Str.{bytes_eq}
+use Rattle.nc_base.specs.Names.{is_name}
+use Rattle.nc_base.specs.Sizes.{is_record_dim}
+use Rattle.nc_base.specs.declared.header.Dim.{Dim}
+use Rattle.nc_base.specs.declared.nc_type.NcType.{NcType}
+use Rattle.nc_base.specs.declared.version.Version.{Version}
+use Rattle.cdl_text.specs.Contents.{Declaration, declaration_said, with_name}
+use Rattle.cdl_text.specs.DueTokens.{completes, is_name as is_name_token, is_whole, next}
+use Rattle.cdl_text.specs.Lexemes.{Lexeme, is_mark, is_mark_kind, word_value}
+use Rattle.cdl_text.specs.declared.due.Due.{Due}
+use Rattle.cdl_text.specs.declared.due.Due.TheVariants.{AfterVariable, VariableName}
+use Rattle.cdl_text.specs.declared.fault.CdlKind.{CdlKind}
+use Rattle.cdl_text.specs.declared.fault.CdlKind.TheVariants.{BadName, BadShape, DuplicateName, UnknownDimension}
+use Rattle.cdl_text.proofs.VariableNames.{name_kind}
+use Rattle.cdl_parse.specs.Answers.{Continues, Fails}
+use Rattle.cdl_parse.specs.AttributeRead.{Leaves}
+use Rattle.cdl_parse.specs.Declarations.{added, continued, declared, new_variable, next_dimid, read_on, type_first}
+use Rattle.cdl_parse.specs.Drafts.{draft, is_taken}
+use Rattle.cdl_parse.specs.State.{Draft, add_dimid, add_var, found, in_turn, type_of, unless, when, ◌>>=◌}
+use Rattle.cdl_parse.specs.declared.declaration.Begun.{Begun}
+use Rattle.cdl_parse.specs.declared.read_error.ReadError.{ReadError}
+use Rattle.cdl_parse.specs.declared.read_error.ReadError.TheVariants.{OutOfMemory, Fault}
+use Rattle.cdl_parse.proofs.AttributeReads.{fails_then}
+use Rattle.cdl_parse.proofs.StatementWords.{goes_past}
+
+-- ---- one token on
+
+said_name : (parens : Bool) (l : Lexeme) (ls : List Lexeme) → is_mark_kind l.kind ≡ false → declaration_said parens (l ∷ ls) ≡ with_name parens (word_value l.bytes) (declaration_said parens ls)
+unfolding declaration_said
+said_name parens l ls off = rw (off) refl
+
+said_mark : (parens : Bool) (l : Lexeme) (ls : List Lexeme) → is_mark_kind l.kind ≡ true → declaration_said parens (l ∷ ls) ≡ declaration_said (is_mark 0x28 l || parens && not (is_mark 0x29 l)) ls
+unfolding declaration_said
+said_mark parens l ls on = ap (λ b. if b then declaration_said (is_mark 0x28 l || parens && not (is_mark 0x29 l)) ls else with_name parens (word_value l.bytes) (declaration_said parens ls)) on
+
+pub refused : {A B : Type 0} (after : B → Result A CdlKind) (r : Result B ReadError) (e : ReadError) (read : Result A CdlKind) → r ≡ Err e → Fails e read → Continues after r read
+refused after (Ok b) e read is h = cc
+refused after (Err OutOfMemory) e read is h = tt
+refused after (Err (Fault k)) OutOfMemory read is h = cc
+refused after (Err (Fault k)) (Fault m) read is h = h ∙ ap Err (let same : m ≡ k = cc in same)
+
+-- ---- a new variable
+
+module _ (dims : List Dim) (ty : NcType) (drafts : List Draft) where
+  variable_first : (name : List ℕ) (rest : Declaration) →
+      in_turn (add_var dims ty) drafts (with_name false name rest).variables ≡ (new_variable drafts name >>= (λ n. continued dims ty drafts n [] rest))
+  unfolding add_var
+  variable_first name rest = by (is_name name) (is_taken name drafts) (in_turn (add_dimid dims) [] rest.dimensions)
+    where
+      by : (named taken : Bool) (ids : Result (List ℕ) CdlKind) →
+          (elim (unless named BadName >>= (λ u. when taken DuplicateName >>= (λ w. ids >>= (λ all. Ok (drafts ++ draft name all ty [] ∷ []))))) as (λ r. Result (List Draft) CdlKind) [ Ok t ↦ in_turn (add_var dims ty) t rest.variables | Err e ↦ Err e ]) ≡
+          ((unless named BadName >>= (λ u. when taken DuplicateName >>= (λ w. Ok name))) >>= (λ n. ids >>= (λ all. in_turn (add_var dims ty) (drafts ++ draft n all ty [] ∷ []) rest.variables)))
+      by false taken ids = refl
+      by true true ids = refl
+      by true false (Ok ids) = refl
+      by true false (Err e) = refl
+
+  added_first : (l : Lexeme) (ls : List Lexeme) → is_mark_kind l.kind ≡ false →
+      added dims ty drafts (l ∷ ls) ≡ (new_variable drafts (word_value l.bytes) >>= (λ n. continued dims ty drafts n [] (declaration_said false ls)))
+  added_first l ls off = ap (λ (d : Declaration). in_turn (add_var dims ty) drafts d.variables) (said_name false l ls off) ∙ variable_first (word_value l.bytes) (declaration_said false ls)
+
+  pub begin_fails : (l : Lexeme) (ls : List Lexeme) (e : ReadError) → is_mark_kind l.kind ≡ false → Fails e (new_variable drafts (word_value l.bytes)) → Fails e (added dims ty drafts (l ∷ ls))
+  begin_fails l ls e off h =
+      subst (Fails e) (sym (added_first l ls off)) (fails_then e (new_variable drafts (word_value l.bytes)) (λ n. continued dims ty drafts n [] (declaration_said false ls)) h)
+
+  pub begins : (l : Lexeme) (ls : List Lexeme) (name ids : List ℕ) → is_mark_kind l.kind ≡ false → new_variable drafts (word_value l.bytes) ≡ Ok name → ids ≡ [] → added dims ty drafts (l ∷ ls) ≡ continued dims ty drafts name ids (declaration_said false ls)
+  begins l ls name ids off is none =
+      added_first l ls off ∙ ap (λ (r : Result (List ℕ) CdlKind). r >>= (λ n. continued dims ty drafts n [] (declaration_said false ls))) is ∙ ap (λ all. continued dims ty drafts name all (declaration_said false ls)) (sym none)
+
+  -- ---- a token after a variable's name
+
+  pub over_mark : (name ids : List ℕ) (parens after : Bool) (l : Lexeme) (ls : List Lexeme) → is_mark_kind l.kind ≡ true → after ≡ (is_mark 0x28 l || parens && not (is_mark 0x29 l)) →
+      continued dims ty drafts name ids (declaration_said parens (l ∷ ls)) ≡ continued dims ty drafts name ids (declaration_said after ls)
+  over_mark name ids parens after l ls on is = ap (continued dims ty drafts name ids) (said_mark parens l ls on ∙ ap (λ p. declaration_said p ls) (sym is))
+
+  -- the dimensions that a name more leads to
+  abbrev with_more : List ℕ → Declaration → Result (List ℕ) CdlKind → Result (List Draft) CdlKind
+  with_more name rest r =
+      elim r as (λ z. Result (List ℕ) CdlKind) [ Ok ids ↦ in_turn (add_dimid dims) ids rest.dimensions | Err e ↦ Err e ] >>= (λ all. in_turn (add_var dims ty) (drafts ++ draft name all ty [] ∷ []) rest.variables)
+
+  id_first : (ids name : List ℕ) → add_dimid dims ids name ≡ (next_dimid dims ids name >>= (λ k. Ok (ids ++ k ∷ [])))
+  unfolding add_dimid
+  id_first ids name = by (is_name name) (position (λ (d : Dim). bytes_eq d.name name) dims)
+    where
+      last : (k : ℕ) (late : Bool) → (when late BadShape >>= (λ u. Ok (ids ++ k ∷ []))) ≡ ((when late BadShape >>= (λ u. Ok k)) >>= (λ m. Ok (ids ++ m ∷ [])))
+      last k true = refl
+      last k false = refl
+
+      by : (named : Bool) (at : Option ℕ) →
+          (unless named BadName >>= (λ u. found at UnknownDimension >>= (λ k. when (nat_lt 0 (length ids) && is_record_dim dims k) BadShape >>= (λ w. Ok (ids ++ k ∷ []))))) ≡
+          ((unless named BadName >>= (λ u. found at UnknownDimension >>= (λ k. when (nat_lt 0 (length ids) && is_record_dim dims k) BadShape >>= (λ w. Ok k)))) >>= (λ m. Ok (ids ++ m ∷ [])))
+      by false at = refl
+      by true None = refl
+      by true (Some k) = last k (nat_lt 0 (length ids) && is_record_dim dims k)
+
+  dimension_first : (name ids word : List ℕ) (rest : Declaration) → continued dims ty drafts name ids (with_name true word rest) ≡ with_more name rest (next_dimid dims ids word >>= (λ k. Ok (ids ++ k ∷ [])))
+  dimension_first name ids word rest = ap (with_more name rest) (id_first ids word)
+
+  pub dimension_ok : (name ids more word : List ℕ) (k : ℕ) (rest : Declaration) → next_dimid dims ids word ≡ Ok k → more ≡ ids ++ k ∷ [] → continued dims ty drafts name ids (with_name true word rest) ≡ continued dims ty drafts name more rest
+  dimension_ok name ids more word k rest is e =
+      dimension_first name ids word rest ∙ ap (λ (r : Result ℕ CdlKind). with_more name rest (r >>= (λ m. Ok (ids ++ m ∷ [])))) is ∙ ap (λ all. continued dims ty drafts name all rest) (sym e)
+
+  pub dimension_fails : (name ids word : List ℕ) (e : ReadError) (rest : Declaration) → Fails e (next_dimid dims ids word) → Fails e (continued dims ty drafts name ids (with_name true word rest))
+  dimension_fails name ids word OutOfMemory rest h = tt
+  dimension_fails name ids word (Fault k) rest h = dimension_first name ids word rest ∙ ap (λ (r : Result ℕ CdlKind). with_more name rest (r >>= (λ m. Ok (ids ++ m ∷ [])))) h
+
+  pub dimension_on : (begun : Begun) (l : Lexeme) (ls : List Lexeme) (r : Result Begun ReadError) → is_mark_kind l.kind ≡ false → begun.is_open ≡ true → IfOk r (λ b. b.is_open ≡ true) →
+      Continues (λ (b : Begun). continued dims ty drafts b.name.items b.dimids.items (declaration_said true ls)) r (continued dims ty drafts begun.name.items begun.dimids.items (with_name true (word_value l.bytes) (declaration_said true ls))) →
+      Continues (λ (b : Begun). read_on dims ty drafts b ls) r (read_on dims ty drafts begun (l ∷ ls))
+  dimension_on begun l ls (Ok b) off opened is h =
+      ap (λ p. continued dims ty drafts begun.name.items begun.dimids.items (declaration_said p (l ∷ ls))) opened ∙ ap (continued dims ty drafts begun.name.items begun.dimids.items) (said_name true l ls off) ∙ h ∙
+      ap (λ p. continued dims ty drafts b.name.items b.dimids.items (declaration_said p ls)) (sym is)
+  dimension_on begun l ls (Err OutOfMemory) off opened is h = tt
+  dimension_on begun l ls (Err (Fault k)) off opened is h =
+      ap (λ p. continued dims ty drafts begun.name.items begun.dimids.items (declaration_said p (l ∷ ls))) opened ∙ ap (continued dims ty drafts begun.name.items begun.dimids.items) (said_name true l ls off) ∙ h
+
+  -- the next variable, or no further one
+  pub next_variable : (begun : Begun) (more : List Draft) (l : Lexeme) (ls : List Lexeme) → is_mark_kind l.kind ≡ false → begun.is_open ≡ false → more ≡ drafts ++ draft begun.name.items begun.dimids.items ty [] ∷ [] →
+      read_on dims ty drafts begun (l ∷ ls) ≡ added dims ty more (l ∷ ls)
+  next_variable begun more l ls off closed e =
+      ap (λ p. continued dims ty drafts begun.name.items begun.dimids.items (declaration_said p (l ∷ ls))) closed ∙ ap (continued dims ty drafts begun.name.items begun.dimids.items) (said_name false l ls off) ∙
+      ap (λ all. in_turn (add_var dims ty) all (with_name false (word_value l.bytes) (declaration_said false ls)).variables) (sym e) ∙
+      sym (ap (λ (d : Declaration). in_turn (add_var dims ty) more d.variables) (said_name false l ls off))
+
+  pub none_left : (name ids : List ℕ) (parens : Bool) → continued dims ty drafts name ids (declaration_said parens []) ≡ Ok (drafts ++ draft name ids ty [] ∷ [])
+  unfolding declaration_said
+  none_left name ids parens = refl
+
+  pub all_read : (ws : List Lexeme) (start after : List Draft) (l : Lexeme) (before begun : Begun) (ends : Bool) (rest : List Lexeme) → ws ≡ l ∷ (if ends then [] else rest) → ends ≡ true →
+      read_on dims ty start before (l ∷ []) ≡ read_on dims ty drafts begun [] → (r : Result ⊤ ReadError) → Leaves after r (Ok (drafts ++ draft begun.name.items begun.dimids.items ty [] ∷ [])) →
+      Leaves after r (read_on dims ty start before ws)
+  all_read ws start after l before begun ends rest first on reads r put =
+      subst (Leaves after r) (sym (ap (read_on dims ty start before) (first ∙ ap (λ e. l ∷ (if e then [] else rest)) on) ∙ reads ∙ none_left begun.name.items begun.dimids.items begun.is_open)) put
+
+-- ---- the shape
+
+-- with what is due a statement isn't whole, so that it goes on after its first token
+pub goes_on : (due : Due) (l : Lexeme) (ends : Bool) (ws all : List Lexeme) → is_whole due ≡ false → all ≡ l ∷ (if ends then [] else ws) → completes due (drop 1 all) ≡ true → (ends ≡ false) × (drop 1 all ≡ ws)
+unfolding completes
+goes_on due l true ws all unfinished first on = absurd (false≢true (sym unfinished ∙ sym (ap (λ xs. completes due (drop 1 xs)) first) ∙ on))
+goes_on due l false ws all unfinished first on = (refl, ap (drop 1) first)
+
+pub goes_name : (l : Lexeme) (ends : Bool) (ws all : List Lexeme) → all ≡ l ∷ (if ends then [] else ws) → completes VariableName all ≡ true → (ends ≡ false) × (is_name_token l ≡ true) × (completes AfterVariable ws ≡ true)
+unfolding next
+goes_name l ends ws all first on = goes_past VariableName AfterVariable l (is_name_token l) ends ws all refl refl first on
+
+pub begins_name : (l : Lexeme) (ws all : List Lexeme) → all ≡ l ∷ ws → completes VariableName all ≡ true → is_mark_kind l.kind ≡ false
+begins_name l ws all first on = name_kind l (goes_name l false ws all first on).1
+
+pub typed : (v : Version) (dims : List Dim) (drafts : List Draft) (l : Lexeme) (ty : NcType) (names all : List Lexeme) → all ≡ l ∷ drop 1 all → drop 1 all ≡ names → type_of v l ≡ Ok ty → declared v dims drafts all ≡ added dims ty drafts names
+typed v dims drafts l ty names all first others is =
+    ap (λ (ws : List Lexeme). type_first v ws >>= (λ t. added dims t drafts (drop 1 all))) first ∙ ap (λ (r : Result NcType CdlKind). r >>= (λ t. added dims t drafts (drop 1 all))) is ∙ ap (added dims ty drafts) others

@@ -1,0 +1,64 @@
+-- A statement that gives a variable an attribute.
+use Rattle.std.proofs.Common.{◌≡◌, ℕ, zero, suc, ◌<◌, Bool, true, false, List, [], ◌∷◌, length, get_or, set, drop, refl, sym, ap, ◌∙◌, arith}
+use Rattle.std.proofs.lemmas.Bool.{false≢true}
+use Rattle.std.specs.Prelude.{Result, Ok, Err, ⊤, if◌then◌else◌}
+use Rattle.nc_base.specs.declared.header.Att.{Att}
+use Rattle.cdl_text.specs.DueTokens.{completes}
+use Rattle.cdl_text.specs.Lexemes.{Lexeme, word_value}
+use Rattle.cdl_text.specs.Shapes.{Value}
+use Rattle.cdl_text.specs.declared.due.Due.TheVariants.{AttributeName}
+use Rattle.cdl_text.specs.declared.fault.CdlKind.{CdlKind}
+use Rattle.cdl_parse.specs.AttributeRead.{Leaves}
+use Rattle.cdl_parse.specs.Drafts.{draft_of, drafts_of}
+use Rattle.cdl_parse.specs.Meant.{name_first, names_of}
+use Rattle.cdl_parse.specs.State.{Draft, add_att, with_att, ◌>>=◌}
+use Rattle.cdl_parse.specs.VariablePositions.{at_position}
+use Rattle.cdl_parse.specs.declared.read_error.ReadError.{ReadError}
+use Rattle.cdl_parse.specs.declared.read_error.ReadError.TheVariants.{OutOfMemory, Fault}
+use Rattle.cdl_parse.specs.declared.variables.Variable.{Variable}
+
+-- ---- the tokens before the attribute's name
+
+pub past_name : (l : Lexeme) (ends : Bool) (ws all : List Lexeme) → all ≡ l ∷ (if ends then [] else ws) → completes AttributeName (drop 2 all) ≡ true → (ends ≡ false) × (drop 2 all ≡ drop 1 ws)
+unfolding completes
+past_name l true ws all first on = absurd (false≢true (sym (ap (λ xs. completes AttributeName (drop 2 xs)) first) ∙ on))
+past_name l false ws all first on = (refl, ap (drop 2) first)
+
+pub past_colon : (l : Lexeme) (ends : Bool) (ws all : List Lexeme) → all ≡ l ∷ (if ends then [] else ws) → completes AttributeName (drop 1 all) ≡ true → (ends ≡ false) × (drop 1 all ≡ ws)
+unfolding completes
+past_colon l true ws all first on = absurd (false≢true (sym (ap (λ xs. completes AttributeName (drop 1 xs)) first) ∙ on))
+past_colon l false ws all first on = (refl, ap (drop 1) first)
+
+pub name_is : (l : Lexeme) (ws all : List Lexeme) → all ≡ l ∷ ws → name_first all ≡ word_value l.bytes
+name_is l ws all first = ap name_first first
+
+-- ---- the variable at a position
+
+put_at : (f : Draft → Result Draft CdlKind) (items : List Variable) (k : ℕ) (w v : Variable) → k < length items → w ≡ get_or items k w → f (draft_of w) ≡ Ok (draft_of v) →
+    at_position k f (drafts_of items) ≡ Ok (drafts_of (set items k v))
+put_at f [] k w v within is made = absurd (omega (arith, within))
+put_at f (x ∷ items) zero w v within is made = ap (λ (y : Variable). f (draft_of y) >>= (λ e. Ok (e ∷ drafts_of items))) (sym is) ∙ ap (λ (r : Result Draft CdlKind). r >>= (λ e. Ok (e ∷ drafts_of items))) made
+put_at f (x ∷ items) (suc k) w v within is made = ap (λ (r : Result (List Draft) CdlKind). r >>= (λ es. Ok (draft_of x ∷ es))) (put_at f items k w v (omega (arith, within)) is made)
+
+fault_at : (f : Draft → Result Draft CdlKind) (items : List Variable) (k : ℕ) (w : Variable) (e : CdlKind) → k < length items → w ≡ get_or items k w → f (draft_of w) ≡ Err e → at_position k f (drafts_of items) ≡ Err e
+fault_at f [] k w e within is made = absurd (omega (arith, within))
+fault_at f (x ∷ items) zero w e within is made = ap (λ (y : Variable). f (draft_of y) >>= (λ d. Ok (d ∷ drafts_of items))) (sym is) ∙ ap (λ (r : Result Draft CdlKind). r >>= (λ d. Ok (d ∷ drafts_of items))) made
+fault_at f (x ∷ items) (suc k) w e within is made = ap (λ (r : Result (List Draft) CdlKind). r >>= (λ es. Ok (draft_of x ∷ es))) (fault_at f items k w e (omega (arith, within)) is made)
+
+-- with other attributes
+abbrev pub with_atts : List Att → Variable → Variable
+with_atts atts v = record v { atts = atts }
+
+-- no other names
+pub names_kept : (items : List Variable) (k : ℕ) (w : Variable) (atts : List Att) → w ≡ get_or items k w → names_of (drafts_of (set items k (with_atts atts w))) ≡ names_of (drafts_of items)
+names_kept [] k w atts is = refl
+names_kept (x ∷ items) zero w atts is = ap (λ (v : Variable). v.name ∷ names_of (drafts_of items)) is
+names_kept (x ∷ items) (suc k) w atts is = ap (λ ns. x.name ∷ ns) (names_kept items k w atts is)
+
+pub changed_at : (name : List ℕ) (cs : List Value) (items : List Variable) (k : ℕ) (w : Variable) (atts : List Att) (r : Result ⊤ ReadError) → k < length items → w ≡ get_or items k w → Leaves atts r (add_att name cs w.atts) →
+    Leaves (drafts_of (set items k (with_atts atts w))) r (at_position k (with_att name cs) (drafts_of items))
+changed_at name cs items k w atts (Ok u) within is h =
+    put_at (with_att name cs) items k w (with_atts atts w) within is (ap (λ (r : Result (List Att) CdlKind). r >>= (λ given. Ok (draft_of (with_atts given w)))) h)
+changed_at name cs items k w atts (Err OutOfMemory) within is h = tt
+changed_at name cs items k w atts (Err (Fault e)) within is h =
+    fault_at (with_att name cs) items k w e within is (ap (λ (r : Result (List Att) CdlKind). r >>= (λ given. Ok (draft_of (with_atts given w)))) h)

@@ -1,0 +1,71 @@
+use Rattle.std.proofs.Common.{◌≡◌, ◌<◌, drop, true, ap, sym, subst, ◌∙◌, length, set, arith}
+use Rattle.std.proofs.lemmas.List.{length-map}
+use Rattle.cdl_text.specs.Cutters.{next_token, text_of, version_of, words}
+use Rattle.cdl_text.specs.DueTokens.{completes}
+use Rattle.cdl_text.specs.Lexemes.{lexeme, word_value}
+use Rattle.cdl_text.specs.Views.{lexeme_of}
+use Rattle.cdl_text.specs.declared.due.Due.TheVariants.{AttributeName}
+use Rattle.cdl_parse.specs.AttributeRead.{Leaves, constants_said}
+use Rattle.cdl_parse.specs.Drafts.{draft_of, drafts_of}
+use Rattle.cdl_parse.specs.Meant.{name_first}
+use Rattle.cdl_parse.specs.NameIndices.{IsIndex}
+use Rattle.cdl_parse.specs.State.{at_variable, with_att}
+use Rattle.cdl_parse.specs.VariablePositions.{at_position}
+use Rattle.cdl_parse.proofs.VariableAttributes.{changed_at, name_is, names_kept, past_colon, past_name, with_atts}
+use Rattle.cdl_parse.proofs.variables.Variables.read_attribute.Goals as goal
+
+pub advanced-requires-2 : goal.advanced-requires-2
+advanced-requires-2 c =
+    let start = c.args.start in
+    c.advanced.ensures.goes (past_name (lexeme (text_of start) (next_token start)) c.advanced.result.1 (words c.advanced.result.0) (words start) c.advanced.ensures.words c.requires.shaped).0
+
+pub index_mut-variable-requires : goal.index_mut-variable-requires
+index_mut-variable-requires c =
+    let h : c.in_ok-position.position < length (drafts_of c.self.inside.list.items) = c.in_ok-position.ensures.within (drafts_of c.self.inside.list.items) c.self.invariant in
+    omega (arith, h, length-map c.self.inside.list.items draft_of, c.self.inside.list.ok.0)
+
+pub read_attribute-requires-clause-more : goal.read_attribute-requires-clause-more
+read_attribute-requires-clause-more c =
+    let start = c.args.start in
+    let colon = c.advanced.result.0 in
+    let one = past_name (lexeme (text_of start) (next_token start)) c.advanced.result.1 (words colon) (words start) c.advanced.ensures.words c.requires.shaped in
+    let on : completes AttributeName (drop 1 (words colon)) ≡ true = ap (completes AttributeName) (sym one.1) ∙ c.requires.shaped in
+    c.advanced-2.ensures.goes (past_colon (lexeme (text_of colon) (next_token colon)) c.advanced-2.result.1 (words c.advanced-2.result.0) (words colon) c.advanced-2.ensures.words on).0
+
+pub read_attribute-requires-clause-shaped : goal.read_attribute-requires-clause-shaped
+read_attribute-requires-clause-shaped c =
+    let start = c.args.start in
+    let colon = c.advanced.result.0 in
+    let one = past_name (lexeme (text_of start) (next_token start)) c.advanced.result.1 (words colon) (words start) c.advanced.ensures.words c.requires.shaped in
+    let on : completes AttributeName (drop 1 (words colon)) ≡ true = ap (completes AttributeName) (sym one.1) ∙ c.requires.shaped in
+    ap (completes AttributeName) (sym (past_colon (lexeme (text_of colon) (next_token colon)) c.advanced-2.result.1 (words c.advanced-2.result.0) (words colon) c.advanced-2.ensures.words on).1) ∙ on
+
+pub invariant_of-self : goal.invariant_of-self
+invariant_of-self c =
+    let items = c.self.inside.list.items in
+    subst (IsIndex c.self.inside.names) (sym (names_kept items c.in_ok-position.position c.index_mut-variable.result.now c.read_attribute.new.attributes c.index_mut-variable.ensures.value)) c.self.invariant
+
+pub returns : goal.returns
+returns c =
+    let start = c.args.start in
+    let colon = c.advanced.result.0 in
+    let name = c.advanced-2.result.0 in
+    let items = c.self.inside.list.items in
+    let drafts = drafts_of items in
+    let at = c.in_ok-position.position in
+    let variable = c.index_mut-variable.result.now in
+    let atts = c.read_attribute.new.attributes in
+    let change = with_att (name_first (words name)) (constants_said (version_of name) (words name)) in
+    let one = past_name (lexeme (text_of start) (next_token start)) c.advanced.result.1 (words colon) (words start) c.advanced.ensures.words c.requires.shaped in
+    let on : completes AttributeName (drop 1 (words colon)) ≡ true = ap (completes AttributeName) (sym one.1) ∙ c.requires.shaped in
+    let two = past_colon (lexeme (text_of colon) (next_token colon)) c.advanced-2.result.1 (words name) (words colon) c.advanced-2.ensures.words on in
+    let within : at < length items = omega (arith, c.in_ok-position.ensures.within drafts c.self.invariant, length-map items draft_of) in
+    let put = changed_at (name_first (words name)) (constants_said (version_of name) (words name)) items at variable atts c.read_attribute.result within c.index_mut-variable.ensures.value c.read_attribute.ensures.reads in
+    let word = word_value c.lexeme.result.bytes.now in
+    let same : at_variable (name_first (words start)) (with_att (name_first (drop 2 (words start))) (constants_said (version_of start) (drop 2 (words start)))) c.args.self.now ≡ at_position at change drafts =
+    ap (at_variable (name_first (words start)) (with_att (name_first (drop 2 (words start))) (constants_said (version_of start) (drop 2 (words start))))) (sym c.self.view_is) ∙
+    ap (λ n. at_variable n (with_att (name_first (drop 2 (words start))) (constants_said (version_of start) (drop 2 (words start)))) drafts) (name_is (lexeme_of c.lexeme.result) (drop 1 (words start)) (words start) (c.lexeme.ensures.first c.requires.more)) ∙
+    ap (λ ws. at_variable word (with_att (name_first ws) (constants_said (version_of start) ws)) drafts) (one.1 ∙ two.1) ∙
+    ap (λ v. at_variable word (with_att (name_first (words name)) (constants_said v (words name))) drafts) (sym (c.advanced-2.ensures.version ∙ c.advanced.ensures.version)) ∙
+    c.in_ok-position.ensures.finds drafts c.self.invariant change in
+    subst (Leaves (drafts_of (set items at (with_atts atts variable))) c.read_attribute.result) (sym same) put
