@@ -17,3 +17,4 @@ pub mod DimensionReads
 pub mod Extents
 pub mod SizeLimits
 pub mod Finished
+pub mod Closings
