@@ -18,3 +18,4 @@ pub mod Extents
 pub mod SizeLimits
 pub mod Finished
 pub mod Closings
+pub mod Copies

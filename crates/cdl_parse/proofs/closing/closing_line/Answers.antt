@@ -1,4 +1,4 @@
-use Rattle.std.proofs.Common.{rules, arith, ◌≡◌, ◌<◌, List, length, true, false, ap, sym, subst, ◌∙◌}
+use Rattle.std.proofs.Common.{rules, ◌≡◌, ◌<◌, List, length, true, false, ap, sym, subst, ◌∙◌}
 use Rattle.cdl_text.specs.Cutters.{after, is_done, pieces_left}
 use Rattle.cdl_text.specs.declared.token.Token.{Token}
 use Rattle.cdl_text.specs.Statements.{statements}
