@@ -31,3 +31,5 @@ pub mod VariableAttributes
 pub mod DeclarationReads
 pub mod Shapes
 pub mod VariableStatements
+pub mod Closings
+pub mod Copies

@@ -93,7 +93,19 @@ impl Array {
     pub fn into_bytes(self) -> Result<Vec<u8>, AllocError>
         ensures { IfOk result (λ bytes. bytes.items ≡ self) }
     {
+        self.into_bytes_before(0)
+    }
+
+    /// The bytes, with the filling, and with room for so many after them.
+    ///
+    /// # Errors
+    ///
+    /// A growth was refused.
+    pub fn into_bytes_before(self, more: usize) -> Result<Vec<u8>, AllocError>
+        ensures { IfOk result (λ bytes. bytes.items ≡ self) }
+    {
         let mut bytes = self.bytes;
+        bytes.reserve_exact(more.saturating_add(self.owed as usize))?;
         write_owed(&mut bytes, self.owed, self.fill)?;
         Ok(bytes)
     }

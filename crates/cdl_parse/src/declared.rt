@@ -1,7 +1,16 @@
 //! What a text declares.
 
+ghost use Rattle.std.specs.Prelude.{◌≡◌, ◌++◌, ℕ, List, IfOk, IfSome, OnOk, length, replicate};
+ghost use Rattle.std.specs.List.{concat};
+ghost use Rattle.nc_base.specs.Fill.{fill_value};
+ghost use Rattle.nc_base.specs.Headers.{value_count};
+ghost use Rattle.nc_base.specs.Numbers.{bytes_of_number};
+ghost use Rattle.cdl_parse.specs.OwedValues.{fills, known_records, owed_count, whole_array, whole_arrays};
+
 use crate::array::Array;
-use nc_base::{Header, Sequence};
+use crate::number::put_number;
+use nc_base::{Dataset, Dim, Header, NumRecs, Sequence, Var, fill_of, has_records, slab_of};
+use std::alloc::{AllocError, Global};
 
 /// What a text declares: the header, and of each variable the values that the data section lists. What a variable lacks is
 /// owed, as its fill value.
@@ -11,4 +20,128 @@ pub struct Declared {
     pub header: Header,
     /// For each variable the listed values, big-endian and one after the other.
     pub listed: Sequence<Array>,
+}
+
+impl Declared {
+    ghost use Rattle.cdl_parse.specs.OwedValues.{dataset_of_declared};
+
+    /// The dataset: the header, and each variable's values, with its fill value as often as it lacks values (ncgen(1), and
+    /// `_FillValue` in the attribute conventions of the NetCDF User's Guide).
+    ///
+    /// # Errors
+    ///
+    /// A growth was refused; or a variable has more values than memory can hold.
+    pub fn into_dataset(self, alloc: Global) -> Result<Dataset, AllocError>
+        ensures { IfOk result (λ dataset. dataset ≡ dataset_of_declared self) }
+    {
+        let Declared { header, listed } = self;
+        let records = known_records(header.numrecs);
+        let arrays = whole_arrays(
+            alloc,
+            header.dims.as_slice(),
+            records,
+            header.vars.as_slice(),
+            listed.into_vec(),
+        )?;
+        Ok(Dataset { header, arrays })
+    }
+}
+
+/// The number of records, where it is known, and else 0.
+fn known_records(numrecs: NumRecs) -> u64
+    ensures { result ≡ known_records numrecs }
+{
+    match numrecs {
+        NumRecs::Known(n) => n,
+        NumRecs::Streaming => 0,
+    }
+}
+
+/// The arrays of the variables, of which these values are listed.
+fn whole_arrays(
+    alloc: Global,
+    dims: &[Dim],
+    records: u64,
+    vars: &[Var],
+    listed: Vec<Array>,
+) -> Result<Sequence<Sequence<u8>>, AllocError>
+    ensures { IfOk result (λ arrays. arrays ≡ whole_arrays dims.now records vars.now listed.items) }
+{
+    let mut arrays = Sequence::new(alloc);
+    let mut left = listed.into_iter();
+    for var in vars {
+        match left.next() {
+            Some(listed) => arrays.push(whole_array(alloc, dims, records, var, listed)?)?,
+            None => return Ok(arrays),
+        }
+    }
+    Ok(arrays)
+}
+
+/// The array of a variable, of which these values are listed.
+fn whole_array(
+    alloc: Global,
+    dims: &[Dim],
+    records: u64,
+    var: &Var,
+    listed: Array,
+) -> Result<Sequence<u8>, AllocError>
+    ensures { IfOk result (λ array. array ≡ whole_array dims.now records var.now listed) }
+{
+    match owed_count(dims, var, records, listed.len()) {
+        Some(owed) => filled(alloc, var, listed, owed),
+        None => Err(AllocError),
+    }
+}
+
+/// The listed values of a variable, and so many fill values after them.
+fn filled(alloc: Global, var: &Var, listed: Array, owed: u64) -> Result<Sequence<u8>, AllocError>
+    ensures { IfOk result (λ array. array ≡ listed ++ fills var.now owed) }
+{
+    let fill = fill_bytes(alloc, var)?;
+    let mut bytes = listed.into_bytes_before(fill.len().saturating_mul(owed as usize))?;
+    add_copies(&mut bytes, fill.as_slice(), owed)?;
+    Ok(Sequence::from_vec(bytes))
+}
+
+/// How many values a variable lacks of which so many bytes are listed. None, where its slab passes 2^48 bytes, or where that are
+/// 2^64 values or more.
+fn owed_count(dims: &[Dim], var: &Var, records: u64, len: u128) -> Option<u64>
+    ensures { IfSome result (λ n. (listed : List ℕ) → length listed ≡ len → n ≡ owed_count dims.now records var.now listed) }
+{
+    let count = value_count(dims, var, records)?;
+    let owed = count.saturating_sub(len / var.ty.size() as u128);
+    u64::try_from(owed).ok()
+}
+
+/// How many values a variable has over so many records. None, where its slab passes 2^48 bytes.
+fn value_count(dims: &[Dim], var: &Var, records: u64) -> Option<u128>
+    ensures { IfSome result (λ n. n ≡ value_count dims.now var.now records) }
+{
+    let slab = slab_of(dims, var.dimids.as_slice(), var.ty)?;
+    let count = (slab / var.ty.size()) as u128;
+    if has_records(dims, var.dimids.as_slice()) {
+        Some(count * records as u128)
+    } else {
+        Some(count)
+    }
+}
+
+/// The bytes of a variable's fill value, the highest first.
+fn fill_bytes(alloc: Global, var: &Var) -> Result<Vec<u8>, AllocError>
+    ensures { IfOk result (λ bytes. bytes.items ≡ bytes_of_number var.now.ty (fill_value var.now)) }
+{
+    let mut fill = Array::new(alloc);
+    put_number(&mut fill, var.ty, fill_of(var))?;
+    fill.into_bytes()
+}
+
+/// Adds so many copies of these bytes.
+fn add_copies(bytes: &mut Vec<u8>, copy: &[u8], count: u64) -> Result<(), AllocError>
+    ensures { OnOk result (bytes.new.items ≡ bytes.old.items ++ concat (replicate count copy.now)) }
+{
+    for _ in 0..count {
+        bytes.extend_from_slice(copy)?;
+    }
+    Ok(())
 }

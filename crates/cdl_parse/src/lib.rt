@@ -8,6 +8,7 @@
 mod array;
 mod attribute;
 mod attributes;
+mod closing;
 mod constant;
 mod data;
 mod declaration;
@@ -39,6 +40,7 @@ pub use array::Array;
 pub use attribute::read_attribute;
 pub use attributes::Attributes;
 pub use cdl_text::{CdlFault, CdlKind};
+pub use closing::closing_line;
 pub use data::{Given, Target, read};
 pub use declared::Declared;
 pub use data_section::{DataSection, read_data};

@@ -1,0 +1,43 @@
+-- The line of the last statement but one, a statement at a time.
+use Rattle.std.proofs.Common.{◌≡◌, ℕ, ◌<◌, true, false, List, [], ◌∷◌, length, map, refl, sym, ap, arith}
+use Rattle.cdl_text.specs.Cutters.{after, first_line, first_piece, is_done, next_token, other_pieces, pieces_left, text_of, words}
+use Rattle.cdl_text.specs.Lexemes.{Lexeme, lexeme}
+use Rattle.cdl_text.specs.Pieces.{pieces_at}
+use Rattle.cdl_text.specs.declared.cutter.Cutter.{Cutter}
+use Rattle.cdl_text.specs.declared.token.Token.{Token}
+use Rattle.cdl_parse.specs.Meaning.{closing_line, line_of}
+use Rattle.cdl_parse.proofs.StatementWords.{begins}
+
+-- after two pieces with these lines
+abbrev pub closing_from : ℕ → ℕ → List (List Token) → ℕ
+closing_from before last [] = before
+closing_from before last (p ∷ ps) = closing_from last (line_of p) ps
+
+pub from_start : (ps : List (List Token)) → closing_from 0 0 ps ≡ closing_line ps
+from_start [] = refl
+from_start (p ∷ []) = refl
+from_start (p ∷ q ∷ []) = refl
+from_start (p ∷ q ∷ r ∷ ps) = from_start (q ∷ r ∷ ps)
+
+first_is : (p : List Token) (ps : List (List Token)) → first_line (p ∷ ps) ≡ line_of p
+first_is [] ps = refl
+first_is (t ∷ ts) ps = refl
+
+of_pieces : (text : List ℕ) (before last : ℕ) (all : List (List Token)) (l : Lexeme) (ls : List Lexeme) → map (lexeme text) (first_piece all) ≡ l ∷ ls →
+    (closing_from before last all ≡ closing_from last (first_line all) (other_pieces all)) × (length (other_pieces all) < length all)
+of_pieces text before last [] l ls is = cc
+of_pieces text before last (p ∷ ps) l ls is = (ap (λ n. closing_from last n ps) (sym (first_is p ps)), omega arith)
+
+-- one piece on
+pub closing_on : (before last : ℕ) (c : Cutter) → is_done c ≡ false → closing_from before last (pieces_left c) ≡ closing_from last (first_line (pieces_left c)) (after c)
+unfolding words after
+closing_on before last c more = let begun = begins c more in (of_pieces (text_of c) before last (pieces_left c) (lexeme (text_of c) (next_token c)) begun.0 begun.1).0
+
+pub fewer : (c : Cutter) → is_done c ≡ false → length (after c) < length (pieces_left c)
+unfolding words after
+fewer c more = let begun = begins c more in (of_pieces (text_of c) 0 0 (pieces_left c) (lexeme (text_of c) (next_token c)) begun.0 begun.1).1
+
+-- no piece is left
+pub closing_end : (before last : ℕ) (c : Cutter) → is_done c ≡ true → closing_from before last (pieces_left c) ≡ before
+unfolding pieces_left pieces_at
+closing_end before last c done = rw (done) refl

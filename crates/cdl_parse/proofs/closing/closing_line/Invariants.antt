@@ -1,0 +1,12 @@
+use Rattle.std.proofs.Common.{◌≡◌, length}
+use Rattle.cdl_text.specs.Cutters.{pieces_left}
+use Rattle.cdl_text.specs.Statements.{statements}
+use Rattle.cdl_parse.specs.Meaning.{closing_line}
+use Rattle.cdl_parse.proofs.Closings.{closing_from}
+use Rattle.cdl_parse.proofs.closing.closing_line.Given as goal
+
+abbrev pub invariant-loop-before : goal.invariant-loop-before
+invariant-loop-before l = closing_from l.before l.last (pieces_left l.cutter) ≡ closing_line (statements l.text)
+
+abbrev pub decreases-loop-before : goal.decreases-loop-before
+decreases-loop-before l = length (pieces_left l.cutter)

@@ -1,0 +1,18 @@
+use Rattle.std.proofs.Common.{rules, ◌≡◌, ◌++◌, ◌∙◌, ap, replicate}
+use Rattle.std.specs.Prelude.{List, ℕ}
+use Rattle.std.specs.List.{concat}
+use Rattle.nc_base.specs.Fill.{fill_value}
+use Rattle.nc_base.specs.Numbers.{bytes_of_number}
+use Rattle.cdl_parse.proofs.Copies.{copies_of}
+use Rattle.cdl_parse.proofs.declared.filled.Goals as goal
+
+pub returns : goal.returns
+returns c =
+    let a = c.args in
+    let var = a.var.now in
+    let n = a.owed in
+    let bytes : c.add_copies.new.bytes.items ≡ c.in_ok-bytes.bytes.items ++ concat (replicate n c.as_slice.result.now) = search rules in
+    let listed : c.in_ok-bytes.bytes.items ≡ a.listed = search rules in
+    let fill : c.as_slice.result.now ≡ bytes_of_number var.ty (fill_value var) = search rules in
+    c.from_vec.ensures ∙ bytes ∙ ap (λ (xs : List ℕ). xs ++ concat (replicate n c.as_slice.result.now)) listed ∙
+    ap (λ (xs : List ℕ). a.listed ++ xs) (ap (λ (ys : List ℕ). concat (replicate n ys)) fill ∙ copies_of (bytes_of_number var.ty) (fill_value var) n)

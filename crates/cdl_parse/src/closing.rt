@@ -1,0 +1,42 @@
+//! The line of the closing brace.
+
+ghost use Rattle.std.specs.Prelude.{◌≡◌, false};
+ghost use Rattle.cdl_text.specs.Cutters.{after, is_done, pieces_left, text_of};
+ghost use Rattle.cdl_text.specs.Statements.{statements};
+ghost use Rattle.cdl_parse.specs.Meaning.{closing_line};
+
+use cdl_text::Cutter;
+use nc_base::Version;
+
+/// The line of a text's last statement but one: that of the closing brace, where each statement has its shape. 0, where the text
+/// has no two statements.
+///
+/// It goes over the whole text, and takes no memory.
+pub fn closing_line(text: &[u8], version: Version) -> u64
+    ensures { result ≡ closing_line (statements text.now) }
+{
+    let mut cutter = Cutter::new(text, version);
+    let mut before = 0;
+    let mut last = 0;
+    while !cutter.is_done() {
+        before = last;
+        last = cutter.line();
+        cutter = after_statement(cutter);
+    }
+    before
+}
+
+/// The statements after the next one.
+fn after_statement(start: Cutter<'_>) -> Cutter<'_>
+    requires { is_done start ≡ false }
+    ensures rest { pieces_left result ≡ after start.entry }
+    ensures text { text_of result ≡ text_of start.entry }
+{
+    let mut cutter = start;
+    'tokens: loop {
+        let ends = cutter.advance();
+        if ends {
+            return cutter;
+        }
+    }
+}
