@@ -1,25 +1,25 @@
--- The statements of the data section, one after the other.
-use Rattle.std.proofs.Common.{Result, slice_set, subst, ℕ, ◌≡◌, Bool, true, false, List, [], ◌∷◌, refl, sym, ap, ◌∙◌}
+-- The statements of the data section, one by one.
+use Rattle.std.proofs.Common.{◌≡◌, ℕ, Bool, true, false, List, [], ◌∷◌, Result, slice_set, refl, sym, ap, ◌∙◌, subst}
 use Rattle.std.specs.Prelude.{Option, None, Some, Ok, Err, if◌then◌else◌, is_some}
 use Rattle.std.proofs.lemmas.Bool.{false≢true}
+use Rattle.nc_base.specs.declared.header.Var.{Var}
 use Rattle.nc_base.specs.declared.version.Version.{Version}
 use Rattle.cdl_text.specs.DueTokens.{completes}
 use Rattle.cdl_text.specs.Lexemes.{Lexeme}
 use Rattle.cdl_text.specs.Shapes.{Statement, Brace, first_bad, shape}
+use Rattle.cdl_text.specs.declared.cutter.Cutter.{Cutter}
 use Rattle.cdl_text.specs.declared.due.Due.TheVariants.{First}
 use Rattle.cdl_text.specs.declared.fault.CdlKind.{CdlKind}
 use Rattle.cdl_text.specs.declared.fault.CdlKind.TheVariants.{Syntax}
 use Rattle.cdl_text.specs.declared.section.Section.TheVariants.{Values, Closed}
 use Rattle.cdl_text.proofs.Listing.{fine_on}
 use Rattle.cdl_text.proofs.Shaping.{data_is, data_said}
-use Rattle.cdl_parse.specs.Meaning.{checked, piece_read, shaped}
-use Rattle.cdl_parse.specs.Meant.{Means, begins_brace, listing, name_first, names_of}
-use Rattle.cdl_parse.specs.State.{Draft, State, act}
-use Rattle.nc_base.specs.declared.header.Var.{Var}
-use Rattle.cdl_text.specs.declared.cutter.Cutter.{Cutter}
 use Rattle.cdl_parse.specs.DataSections.{Closes, ReadsOne, StandsSo, given_at}
 use Rattle.cdl_parse.specs.Listed.{AllList}
+use Rattle.cdl_parse.specs.Meaning.{checked, piece_read, shaped}
+use Rattle.cdl_parse.specs.Meant.{Means, begins_brace, listing, name_first, names_of}
 use Rattle.cdl_parse.specs.NameIndices.{position_of}
+use Rattle.cdl_parse.specs.State.{Draft, State, act}
 use Rattle.cdl_parse.specs.declared.data.Target.{Target}
 use Rattle.cdl_parse.specs.declared.data_section.Passed.{Passed}
 use Rattle.cdl_parse.specs.declared.read_error.ReadError.{ReadError}

@@ -128,7 +128,7 @@ fn read_one<'a>(
 }
 
 /// Reads the closing brace.
-fn close<'a>(start: Cutter<'a>) -> Result<Passed<'a>, ReadError>
+fn close(start: Cutter<'_>) -> Result<Passed<'_>, ReadError>
     requires more { is_done start ≡ false }
     requires brace { begins_brace (words start) ≡ true }
     ensures reads { (s : State) → s.section ≡ Values → Closes start.entry s result }

@@ -15,6 +15,8 @@ mod small_steps;
 #[cfg(test)]
 mod text_attributes;
 #[cfg(test)]
+mod text_data;
+#[cfg(test)]
 mod text_statements;
 #[cfg(test)]
 mod text_values;

@@ -1,0 +1,130 @@
+//! The data section of CDL text.
+
+use cdl_parse::{Array, DataSection, Filling, NameIndex, ParseError, Target, read_data};
+use cdl_text::{CdlFault, CdlKind, Cutter, TokenKind};
+use nc_base::{NcType, Version};
+use std::alloc::{AllocError, Global};
+use std::process::Abort;
+use std::test::*;
+
+/// An index of the names `v` and `c`.
+fn index(alloc: Global) -> Result<NameIndex, AllocError> {
+    let names: [&[u8]; 2] = [b"v", b"c"];
+    let mut index = NameIndex::new(alloc);
+    for (position, name) in names.iter().enumerate() {
+        index.add(Vec::from_slice(alloc, *name)?, position as u64)?;
+    }
+    Ok(index)
+}
+
+/// What `v` and `c` take: three shorts, and four characters.
+fn targets(alloc: Global) -> Result<Vec<Target<'static>>, AllocError> {
+    let mut targets = Vec::new(alloc);
+    targets.push(Target {
+        filling: Filling::Numbers {
+            ty: NcType::Short,
+            fill: b"\x80\x01",
+        },
+        capacity: Some(3),
+        given: false,
+    })?;
+    targets.push(Target {
+        filling: Filling::Joined,
+        capacity: Some(4),
+        given: false,
+    })?;
+    Ok(targets)
+}
+
+/// Reads a text that is a data section from its start on.
+fn section(alloc: Global, start: Cutter<'_>) -> Result<DataSection<'_>, ParseError> {
+    let index = index(alloc).map_err(|_| ParseError::OutOfMemory)?;
+    let targets = targets(alloc).map_err(|_| ParseError::OutOfMemory)?;
+    read_data(alloc, &index, targets, start)
+}
+
+/// The last of these arrays has these bytes, where memory allows.
+fn expect_last(rt: &impl Abort, arrays: &mut Vec<Array>, want: &[u8]) {
+    match arrays.pop() {
+        Some(array) => {
+            if let Ok(bytes) = array.into_bytes() {
+                assert_eq!(rt; bytes.as_slice(), want);
+            }
+        }
+        None => assert!(rt; false),
+    }
+}
+
+#[test]
+fn values_go_to_their_variables(rt: HostRuntime) {
+    let rows: [(&[u8], &[u8], &[u8]); 5] = [
+        (b"c = \"ab\" ; v = 1, 2 ; }", b"\x00\x01\x00\x02", b"ab"),
+        (b"v = 1, 2 ;\nc = \"ab\" ;\n}", b"\x00\x01\x00\x02", b"ab"),
+        (b"c = \"ab\" ; }", b"", b"ab"),
+        (b"\\v = _ ; }", b"\x80\x01", b""),
+        (b"}", b"", b""),
+    ];
+    for (text, v, c) in rows {
+        match section(rt.alloc(), Cutter::new(text, Version::Cdf1)) {
+            Ok(found) => {
+                assert!(rt; found.is_closed);
+                assert!(rt; !found.rest.is_done());
+                assert_eq!(rt; found.rest.lexeme().kind, TokenKind::End);
+                let mut arrays = found.arrays;
+                expect_last(&rt, &mut arrays, c);
+                expect_last(&rt, &mut arrays, v);
+                assert!(rt; arrays.is_empty());
+            }
+            Err(e) => assert_eq!(rt; e, ParseError::OutOfMemory),
+        }
+    }
+}
+
+#[test]
+fn first_bad_statement_has_its_line(rt: HostRuntime) {
+    let rows: [(&[u8], u64, CdlKind); 9] = [
+        (
+            b"v = 1 ;\nc = \"a\" ;\nv = 2 ;\n}",
+            3,
+            CdlKind::DuplicateData,
+        ),
+        (b"v = 1 ;\nw = 1 ;\nv = 1 ; }", 2, CdlKind::UnknownVariable),
+        (
+            b"\n\nc = \"a\",\n\"bcde\" ;\nw = 1 ; }",
+            3,
+            CdlKind::StringTooLong,
+        ),
+        (b"v = 1, 2, 3, 4 ; w = 1 ; }", 1, CdlKind::TooManyValues),
+        (b"v = 1 ;\n", 2, CdlKind::Syntax),
+        (b"v = 1", 1, CdlKind::Syntax),
+        (b"v = 1 ;\nv = % ;\n}", 2, CdlKind::BadToken),
+        (b"v = 1 ;\ndata:\nc = \"a\" ; }", 2, CdlKind::Syntax),
+        (b"", 1, CdlKind::Syntax),
+    ];
+    for (text, line, kind) in rows {
+        match section(rt.alloc(), Cutter::new(text, Version::Cdf1)) {
+            Ok(_) => assert!(rt; false),
+            Err(ParseError::Fault(fault)) => assert_eq!(rt; fault, CdlFault { line, kind }),
+            Err(ParseError::OutOfMemory) => {}
+        }
+    }
+}
+
+#[test]
+fn after_the_last_statement_nothing_is_read(rt: HostRuntime) {
+    let (end, _) = Cutter::new(b"", Version::Cdf1).advanced();
+    assert!(rt; end.is_done());
+    match section(rt.alloc(), end) {
+        Ok(found) => {
+            assert!(rt; !found.is_closed);
+            assert!(rt; found.rest.is_done());
+            assert_eq!(rt; found.arrays.len(), 2);
+        }
+        Err(e) => assert_eq!(rt; e, ParseError::OutOfMemory),
+    }
+}
+
+#[test]
+fn sections_are_read_with_ample_memory(rt: HostRuntime) {
+    assert!(rt; section(rt.alloc(), Cutter::new(b"v = 1 ; }", Version::Cdf1)).is_ok());
+}
