@@ -33,3 +33,4 @@ pub mod Shapes
 pub mod VariableStatements
 pub mod Closings
 pub mod Copies
+pub mod WholeTexts

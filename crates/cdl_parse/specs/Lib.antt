@@ -18,3 +18,4 @@ pub mod Extents
 pub mod DataSections
 pub mod Drafts
 pub mod Declarations
+pub mod Parsing

@@ -12,7 +12,7 @@ use Rattle.nc_base.specs.Numbers.{bytes_of_number}
 use Rattle.nc_base.specs.Types.{size_of}
 use Rattle.cdl_text.specs.declared.fault.CdlFault.{CdlFault}
 use Rattle.cdl_text.specs.declared.fault.CdlKind.TheVariants.{TooLarge}
-use Rattle.cdl_parse.specs.declared.declared.Declared.{Declared}
+use Rattle.cdl_parse.specs.declared.declared_values.Declared.{Declared}
 
 -- how many values these bytes lack of those that a variable has over n records
 abbrev pub owed_count : List Dim → ℕ → Var → List ℕ → ℕ

@@ -87,7 +87,7 @@ pub fn read_data<'a>(
 }
 
 /// Arrays without values, as many as that.
-fn without_values(alloc: Global, count: usize) -> Result<Vec<Array>, AllocError>
+pub fn without_values(alloc: Global, count: usize) -> Result<Vec<Array>, AllocError>
     ensures { IfOk result (λ arrays. arrays.items ≡ replicate count []) }
 {
     let mut arrays = Vec::new(alloc);

@@ -7,7 +7,7 @@ ghost use Rattle.cdl_parse.specs.OwedValues.{or_too_large};
 ghost use Rattle.cdl_parse.specs.State.{State};
 
 use crate::array::Array;
-use crate::declared::Declared;
+use crate::declared_values::Declared;
 use crate::records::records_of;
 use nc_base::{Att, Dim, Header, NumRecs, Sequence, Var, Version, rec_size};
 

@@ -4,7 +4,7 @@ use Rattle.std.specs.List.{concat}
 use Rattle.nc_base.specs.Fill.{fill_value}
 use Rattle.nc_base.specs.Numbers.{bytes_of_number}
 use Rattle.cdl_parse.proofs.Copies.{copies_of}
-use Rattle.cdl_parse.proofs.declared.filled.Goals as goal
+use Rattle.cdl_parse.proofs.declared_values.filled.Goals as goal
 
 pub returns : goal.returns
 returns c =

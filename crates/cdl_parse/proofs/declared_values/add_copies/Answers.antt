@@ -1,6 +1,6 @@
 use Rattle.std.proofs.Common.{rules, ◌≡◌, ◌++◌}
 use Rattle.cdl_parse.proofs.Copies.{copy_added}
-use Rattle.cdl_parse.proofs.declared.add_copies.Goals as goal
+use Rattle.cdl_parse.proofs.declared_values.add_copies.Goals as goal
 
 pub loop-preserved : goal.loop-preserved
 loop-preserved c =

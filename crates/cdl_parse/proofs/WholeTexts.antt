@@ -1,0 +1,68 @@
+-- A whole text: its sections one after the other.
+use Rattle.std.proofs.Common.{◌≡◌, ℕ, suc, ◌<◌, ◌≤◌, true, false, List, [], ◌∷◌, length, refl, sym, ap, ◌∙◌, subst, arith}
+use Rattle.std.specs.Prelude.{Result, Ok, Err, All, map, replicate, ◌^◌}
+use Rattle.std.proofs.lemmas.List.Elements.{All-cons}
+use Rattle.nc_base.specs.Headers.{AreDimids}
+use Rattle.nc_base.specs.declared.header.Att.{Att}
+use Rattle.nc_base.specs.declared.header.Dim.{Dim}
+use Rattle.nc_base.specs.declared.header.Var.{Var}
+use Rattle.nc_base.specs.declared.version.Version.{Version}
+use Rattle.cdl_text.specs.Statements.{statements}
+use Rattle.cdl_text.specs.declared.fault.CdlFault.{CdlFault}
+use Rattle.cdl_text.specs.declared.section.Section.{Section}
+use Rattle.cdl_text.specs.declared.section.Section.TheVariants.{Unopened, Globals, Dimensions, Variables, Values, Closed, Ended}
+use Rattle.cdl_text.specs.declared.token.Token.{Token}
+use Rattle.cdl_parse.specs.Defined.{is_early, is_past}
+use Rattle.cdl_parse.specs.Listed.{AllList, AreShaped, Lists, fresh}
+use Rattle.cdl_parse.specs.Meaning.{closing_line, empty, finished, meaning, run, text_limit}
+use Rattle.cdl_parse.specs.Runs.{FailsAt}
+use Rattle.cdl_parse.specs.State.{State, Draft}
+use Rattle.cdl_parse.specs.declared.read_error.ParseError.{ParseError}
+use Rattle.cdl_parse.specs.declared.read_error.ParseError.TheVariants as stops
+
+-- of no variable anything is listed
+pub none_listed : (vars : List Var) → AllList vars (replicate (length vars) []) (fresh vars)
+none_listed [] = tt
+none_listed (var ∷ vars) = (record { is = refl; bytes = refl }, none_listed vars)
+
+-- neither before the data section nor in it
+pub past_values : (section : Section) → is_early section ≡ false → (section ≡ Values → ⊥) → is_past section ≡ true
+past_values Unopened early other = cc
+past_values Globals early other = cc
+past_values Dimensions early other = cc
+past_values Variables early other = cc
+past_values Values early other = absurd (other refl)
+past_values Closed early other = refl
+past_values Ended early other = refl
+
+-- what is listed changes no shape
+pub listed_shapes : (dims : List Dim) (vars : List Var) (arrays : List (List ℕ)) (drafts : List Draft) → AllList vars arrays drafts → AreShaped dims (fresh vars) → AreShaped dims drafts
+listed_shapes dims [] [] [] h are = λ k d inside. are k d inside
+listed_shapes dims [] [] (d ∷ drafts) h are = absurd h
+listed_shapes dims [] (a ∷ arrays) drafts h are = absurd h
+listed_shapes dims (var ∷ vars) [] drafts h are = absurd h
+listed_shapes dims (var ∷ vars) (a ∷ arrays) [] h are = absurd h
+listed_shapes dims (var ∷ vars) (a ∷ arrays) (d ∷ drafts) h are =
+    All-cons (λ (d : Draft). AreDimids dims [] d.var.dimids) d drafts
+    (subst (λ (v : Var). AreDimids dims [] v.dimids) (sym h.0.is) (are 0 d (omega arith)))
+    (listed_shapes dims vars arrays drafts h.1 (λ k e inside. are (suc k) e (omega (arith, inside))))
+
+-- a short text
+pub is_short : (n : ℕ) → n ≤ text_limit → n < 2 ^ 63
+is_short n h = omega (arith, h)
+
+-- the fault of a run is that of the text
+pub run_fails : (v : Version) (line : ℕ) (e : ParseError) (r : Result State CdlFault) → FailsAt e r → FailsAt e (finished v line r)
+unfolding finished
+run_fails v line stops.OutOfMemory r h = tt
+run_fails v line (stops.Fault fault) r h = rw (h) refl
+
+-- of the same text and version
+pub same_run : (T U : List ℕ) (v w : Version) (s t : State) (ps qs : List (List Token)) → U ≡ T → w ≡ v → run U w s ps ≡ run U w t qs → run T v s ps ≡ run T v t qs
+same_run T U v w s t ps qs text version is = subst (λ x. run T x s ps ≡ run T x t qs) version (subst (λ x. run x w s ps ≡ run x w t qs) text is)
+
+pub same_end : (T U : List ℕ) (v w : Version) (s : State) (ps : List (List Token)) (r : Result State CdlFault) → U ≡ T → w ≡ v → run U w s ps ≡ r → run T v s ps ≡ r
+same_end T U v w s ps r text version is = subst (λ x. run T x s ps ≡ r) version (subst (λ x. run x w s ps ≡ r) text is)
+
+pub same_fault : (T U : List ℕ) (v w : Version) (s : State) (ps : List (List Token)) (e : ParseError) → U ≡ T → w ≡ v → FailsAt e (run U w s ps) → FailsAt e (run T v s ps)
+same_fault T U v w s ps e text version h = subst (λ x. FailsAt e (run T x s ps)) version (subst (λ x. FailsAt e (run x w s ps)) text h)

@@ -1,0 +1,24 @@
+use Rattle.std.proofs.Common.{rules, ◌≡◌, ℕ, List, [], length, refl, ap, sym, ◌∙◌, subst}
+use Rattle.std.specs.Prelude.{replicate}
+use Rattle.cdl_text.specs.Cutters.{pieces_left, text_of, version_of}
+use Rattle.cdl_parse.specs.Listed.{AllList, fresh}
+use Rattle.cdl_parse.specs.Meaning.{run}
+use Rattle.cdl_parse.proofs.WholeTexts.{none_listed, past_values}
+use Rattle.cdl_parse.proofs.text.read_values.Goals as goal
+
+pub returns-in-Ok : goal.returns-in-Ok
+returns-in-Ok c =
+    let start = c.args.start in
+    let vars = c.args.vars.now in
+    let empty : c.in-Ok.listed.items ≡ replicate (length vars) [] = c.in-Ok.ensures in
+    record {
+      reads = λ s section dims drafts index shaped short. (
+        fresh vars,
+        subst (λ arrays. AllList vars arrays (fresh vars)) (sym empty) (none_listed vars),
+        ap (λ here. run (text_of start) (version_of start) (record s { section = here }) (pieces_left start)) section ∙
+            ap (λ ds. run (text_of start) (version_of start) (record s { section = c.args.section; drafts = ds }) (pieces_left start)) drafts,
+      );
+      past = λ more. past_values c.args.section (c.requires more) c.in_default.not-Values;
+      text = refl;
+      version = refl;
+    }

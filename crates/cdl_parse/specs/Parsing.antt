@@ -1,0 +1,55 @@
+-- What the calls that read a whole text answer.
+use Rattle.std.specs.Prelude.{◌≡◌, ℕ, ◌⊎◌, List, Result, Ok, Err}
+use Rattle.nc_base.specs.declared.dataset.Dataset.{Dataset}
+use Rattle.nc_base.specs.declared.header.Dim.{Dim}
+use Rattle.nc_base.specs.declared.header.Var.{Var}
+use Rattle.cdl_text.specs.declared.fault.CdlFault.{CdlFault}
+use Rattle.cdl_text.specs.declared.fault.CdlKind.TheVariants.{OutOfMemory}
+use Rattle.cdl_text.specs.Cutters.{pieces_left, text_of, version_of}
+use Rattle.cdl_text.specs.declared.cutter.Cutter.{Cutter}
+use Rattle.cdl_parse.specs.Listed.{AllList, AreShaped}
+use Rattle.cdl_parse.specs.Meaning.{run}
+use Rattle.cdl_parse.specs.OwedValues.{dataset_of_declared}
+use Rattle.cdl_parse.specs.Runs.{FailsAt}
+use Rattle.cdl_parse.specs.State.{State, Draft}
+use Rattle.cdl_parse.specs.declared.declared_values.Declared.{Declared}
+use Rattle.cdl_parse.specs.declared.text.Contents.{Contents}
+use Rattle.cdl_parse.specs.declared.text.Values.{Values}
+use Rattle.cdl_parse.specs.declared.read_error.ParseError.{ParseError}
+use Rattle.cdl_parse.specs.declared.read_error.ParseError.TheVariants as stops
+
+-- a growth was refused
+abbrev pub refused : CdlFault
+refused = record { line = 0; kind = OutOfMemory }
+
+-- what the text means; or a growth was refused, which says nothing of the text
+abbrev pub Answers : {A : Type 0} → Result A CdlFault → Result A CdlFault → Type 0
+Answers result meaning = (result ≡ meaning) ⊎ (result ≡ Err refused)
+
+-- what is declared, as a dataset
+abbrev pub as_dataset : Result Declared CdlFault → Result Dataset CdlFault
+as_dataset (Ok d) = Ok (dataset_of_declared d)
+as_dataset (Err fault) = Err fault
+
+abbrev pub fault_of : ParseError → CdlFault
+fault_of stops.OutOfMemory = refused
+fault_of (stops.Fault fault) = fault
+
+-- these bytes are listed of the variables, and the text is read on after that; or there is the fault
+abbrev pub ReadsValues : List Var → Cutter → State → Result Values ParseError → Type 0
+ReadsValues vars start s (Ok values) =
+    (drafts : List Draft) × AllList vars values.listed.items drafts ×
+    (run (text_of start) (version_of start) s (pieces_left start) ≡ run (text_of start) (version_of start) (record s { section = values.section; drafts = drafts }) (pieces_left values.rest))
+ReadsValues vars start s (Err e) = FailsAt e (run (text_of start) (version_of start) s (pieces_left start))
+
+-- a state of these contents
+pub record Stands (c : Contents) (s : State) : Type 0 where
+  pub dims : s.dims ≡ c.dims
+  pub gatts : s.gatts ≡ c.gatts
+  pub listed : AllList c.vars c.listed.items s.drafts
+  pub shaped : AreShaped c.dims s.drafts
+
+-- the text is read to its end, with these contents; or there is the fault
+abbrev pub ReadsAll : Result Contents ParseError → Result State CdlFault → Type 0
+ReadsAll (Ok c) read = (s : State) × Stands c s × (read ≡ Ok s)
+ReadsAll (Err e) read = FailsAt e read

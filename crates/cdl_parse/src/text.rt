@@ -1,0 +1,231 @@
+//! A whole text.
+
+ghost use Rattle.std.specs.Prelude.{if◌then◌else◌, ◌≡◌, ◌<◌, ◌≤◌, ◌^◌, IfOk, List, Ok, false, length, true};
+ghost use Rattle.nc_base.specs.declared.header.Var as header;
+ghost use Rattle.cdl_text.specs.Cutters.{is_done, pieces_left, text_of, version_of};
+ghost use Rattle.cdl_parse.specs.Defined.{is_early, is_past};
+ghost use Rattle.cdl_parse.specs.Listed.{AreShaped, fresh};
+ghost use Rattle.cdl_parse.specs.Meaning.{empty, meaning, run, text_limit};
+ghost use Rattle.cdl_parse.specs.Meant.{names_of};
+ghost use Rattle.cdl_parse.specs.NameIndices.{IsIndex};
+ghost use Rattle.cdl_parse.specs.OwedValues.{dataset_of_declared};
+ghost use Rattle.cdl_parse.specs.Parsing.{Answers, ReadsAll, ReadsValues, as_dataset, fault_of};
+ghost use Rattle.cdl_parse.specs.Runs.{ReadsOn};
+ghost use Rattle.cdl_parse.specs.State.{State};
+
+use crate::array::Array;
+use crate::closing::closing_line;
+use crate::data_section::{read_data, without_values};
+use crate::declared_values::Declared;
+use crate::definition_sections::{Defined, read_definitions};
+use crate::definitions::Definitions;
+use crate::finishing::finish;
+use crate::name_index::NameIndex;
+use crate::read_error::ParseError;
+use crate::targets::targets_of;
+use crate::text_end::read_end;
+use cdl_text::{CdlFault, CdlKind, Cutter, Section};
+use nc_base::{Att, Dataset, Dim, Sequence, Var, Version};
+use std::alloc::Global;
+
+/// The dataset that a CDL text means (the CDL chapter of the NetCDF User's Guide, and ncgen(1)).
+///
+/// Numbers may have the types and suffixes of this version of the format, and lengths what it can count. A text has at most
+/// 268,435,456 bytes; of a longer one the answer says nothing.
+///
+/// # Errors
+///
+/// The first fault of the text, with the line of the first token of the statement that has it; or
+/// [`TooLarge`](CdlKind::TooLarge), with the line of the closing brace. Or [`OutOfMemory`](CdlKind::OutOfMemory), with line 0,
+/// as soon as a growth was refused.
+pub fn parse(alloc: Global, text: &[u8], version: Version) -> Result<Dataset, CdlFault>
+    ensures { length text.now ≤ text_limit → Answers result (meaning text.now version) }
+{
+    match declared(alloc, text, version) {
+        Ok(declared) => match declared.into_dataset(alloc) {
+            Ok(dataset) => Ok(dataset),
+            Err(_) => Err(ParseError::OutOfMemory.fault()),
+        },
+        Err(fault) => Err(fault),
+    }
+}
+
+/// What a CDL text declares: the dataset that [`parse`] gives, but with no more of each variable's values than the text lists.
+///
+/// # Errors
+///
+/// Those of [`parse`].
+pub fn declared(alloc: Global, text: &[u8], version: Version) -> Result<Declared, CdlFault>
+    ensures { length text.now ≤ text_limit → Answers (as_dataset result) (meaning text.now version) }
+{
+    match read_text(alloc, text, version) {
+        Ok(declared) => Ok(declared),
+        Err(e) => Err(e.fault()),
+    }
+}
+
+impl ParseError {
+    /// The fault with its line; `OutOfMemory` has line 0.
+    fn fault(self) -> CdlFault
+        ensures { result ≡ fault_of self }
+    {
+        match self {
+            ParseError::OutOfMemory => CdlFault {
+                line: 0,
+                kind: CdlKind::OutOfMemory,
+            },
+            ParseError::Fault(fault) => fault,
+        }
+    }
+}
+
+/// What a text declares.
+fn read_text(alloc: Global, text: &[u8], version: Version) -> Result<Declared, ParseError>
+    ensures { length text.now ≤ text_limit → ReadsOn (λ d. Ok (dataset_of_declared d)) result (meaning text.now version) }
+{
+    let contents = match read_contents(alloc, Cutter::new(text, version)) {
+        Ok(contents) => contents,
+        Err(e) => return Err(e),
+    };
+    let Contents {
+        dims,
+        gatts,
+        vars,
+        listed,
+    } = contents;
+    match finish(version, dims, gatts, vars, listed) {
+        Some(declared) => Ok(declared),
+        None => Err(ParseError::Fault(CdlFault {
+            line: closing_line(text, version),
+            kind: CdlKind::TooLarge,
+        })),
+    }
+}
+
+/// What the statements of a text declare and list.
+#[derive(Drop)]
+struct Contents {
+    dims: Sequence<Dim>,
+    /// The attributes of the dataset.
+    gatts: Sequence<Att>,
+    vars: Sequence<Var>,
+    /// For each variable the listed values.
+    listed: Vec<Array>,
+}
+
+/// Reads all statements of a text.
+fn read_contents(alloc: Global, start: Cutter<'_>) -> Result<Contents, ParseError>
+    ensures { length (text_of start.entry) ≤ text_limit → ReadsAll result (run (text_of start.entry) (version_of start.entry) empty (pieces_left start.entry)) }
+{
+    let Defined { definitions, rest } = match read_definitions(alloc, start) {
+        Ok(defined) => defined,
+        Err(e) => return Err(e),
+    };
+    let Definitions {
+        section,
+        dims,
+        gatts,
+        variables,
+    } = definitions;
+    let (vars, names) = match variables.into_parts(alloc) {
+        Ok(parts) => parts,
+        Err(_) => return Err(ParseError::OutOfMemory),
+    };
+    let dims = dims.into_sequence();
+    let values = match read_values(
+        alloc,
+        dims.as_slice(),
+        vars.as_slice(),
+        &names,
+        rest,
+        section,
+    ) {
+        Ok(values) => values,
+        Err(e) => return Err(e),
+    };
+    match read_end(values.rest, values.section) {
+        Ok(()) => Ok(Contents {
+            dims,
+            gatts: gatts.into_sequence(),
+            vars,
+            listed: values.listed,
+        }),
+        Err(fault) => Err(ParseError::Fault(fault)),
+    }
+}
+
+/// What the data section lists, if the text has one, and what comes after it.
+#[derive(Drop)]
+struct Values<'a> {
+    /// For each variable the listed values.
+    listed: Vec<Array>,
+    /// The section that the next statement stands in.
+    section: Section,
+    rest: Cutter<'a>,
+}
+
+/// Reads the data section, if it is next: what it lists.
+fn read_values<'a>(
+    alloc: Global,
+    dims: &[Dim],
+    vars: &[Var],
+    names: &NameIndex,
+    start: Cutter<'a>,
+    section: Section,
+) -> Result<Values<'a>, ParseError>
+    requires { is_done start ≡ false → is_early section ≡ false }
+    ensures reads { (s : State) → s.section ≡ section → s.dims ≡ dims.now → s.drafts ≡ fresh vars.now → IsIndex names.now (names_of s.drafts) → AreShaped s.dims s.drafts → length (text_of start.entry) < 2 ^ 63 → ReadsValues vars.now start.entry s result }
+    ensures past { IfOk result (λ values. is_done values.rest ≡ false → is_past values.section ≡ true) }
+    ensures text { IfOk result (λ values. text_of values.rest ≡ text_of start.entry) }
+    ensures version { IfOk result (λ values. version_of values.rest ≡ version_of start.entry) }
+{
+    match section {
+        Section::Values => read_section(alloc, dims, vars, names, start),
+        _ => match without_values(alloc, vars.len()) {
+            Ok(listed) => Ok(Values {
+                listed,
+                section,
+                rest: start,
+            }),
+            Err(_) => Err(ParseError::OutOfMemory),
+        },
+    }
+}
+
+/// Reads the data section.
+fn read_section<'a>(
+    alloc: Global,
+    dims: &[Dim],
+    vars: &[Var],
+    names: &NameIndex,
+    start: Cutter<'a>,
+) -> Result<Values<'a>, ParseError>
+    ensures reads { (s : State) → s.section ≡ Section.Values → s.dims ≡ dims.now → s.drafts ≡ fresh vars.now → IsIndex names.now (names_of s.drafts) → AreShaped s.dims s.drafts → length (text_of start.entry) < 2 ^ 63 → ReadsValues vars.now start.entry s result }
+    ensures past { IfOk result (λ values. is_done values.rest ≡ false → is_past values.section ≡ true) }
+    ensures text { IfOk result (λ values. text_of values.rest ≡ text_of start.entry) }
+    ensures version { IfOk result (λ values. version_of values.rest ≡ version_of start.entry) }
+{
+    let targets = match targets_of(alloc, dims, vars) {
+        Ok(targets) => targets,
+        Err(_) => return Err(ParseError::OutOfMemory),
+    };
+    match read_data(alloc, names, targets, start) {
+        Ok(data) => Ok(Values {
+            section: after_data(data.is_closed),
+            rest: data.rest,
+            listed: data.arrays,
+        }),
+        Err(e) => Err(e),
+    }
+}
+
+/// The section after the data section, closed or not.
+fn after_data(is_closed: bool) -> Section
+    ensures { result ≡ (if is_closed then Section.Closed else Section.Values) }
+{
+    if is_closed {
+        Section::Closed
+    } else {
+        Section::Values
+    }
+}
