@@ -40,7 +40,8 @@ struct Passed<'a> {
 /// Reads the statements of the data section up to the closing brace, or to the end of the text.
 ///
 /// Each statement lists the values of the variable that it names, and no variable has two (the CDL chapter of the NetCDF
-/// User's Guide, and ncgen(1)). The names are those of the targets, in their order.
+/// User's Guide, and ncgen(1)). The names are those of the targets, in their order. The end of a text is cut into a
+/// statement too, and has no shape in this section, so a text that ends before the brace has a fault there.
 ///
 /// # Errors
 ///
