@@ -1,7 +1,8 @@
 -- A statement that gives a variable an attribute.
 use Rattle.std.proofs.Common.{◌≡◌, ℕ, zero, suc, ◌<◌, Bool, true, false, List, [], ◌∷◌, length, get_or, set, drop, refl, sym, ap, ◌∙◌, arith}
 use Rattle.std.proofs.lemmas.Bool.{false≢true}
-use Rattle.std.specs.Prelude.{Result, Ok, Err, ⊤, if◌then◌else◌}
+use Rattle.std.proofs.lemmas.List.{set-get_or}
+use Rattle.std.specs.Prelude.{Result, Ok, Err, ⊤, OnErr, if◌then◌else◌}
 use Rattle.nc_base.specs.declared.header.Att.{Att}
 use Rattle.cdl_text.specs.DueTokens.{completes}
 use Rattle.cdl_text.specs.Lexemes.{Lexeme, word_value}
@@ -62,3 +63,9 @@ changed_at name cs items k w atts (Ok u) within is h =
 changed_at name cs items k w atts (Err OutOfMemory) within is h = tt
 changed_at name cs items k w atts (Err (Fault e)) within is h =
     fault_at (with_att name cs) items k w e within is (ap (λ (r : Result (List Att) CdlKind). r >>= (λ given. Ok (draft_of (with_atts given w)))) h)
+
+-- with the attributes that it had the variable is what it was
+pub unchanged_at : (items : List Variable) (k : ℕ) (w : Variable) (atts : List Att) (drafts : List Draft) (r : Result ⊤ ReadError) → w ≡ get_or items k w → drafts_of items ≡ drafts → OnErr r (atts ≡ w.atts) →
+    OnErr r (drafts_of (set items k (with_atts atts w)) ≡ drafts)
+unchanged_at items k w atts drafts (Ok u) is view same = tt
+unchanged_at items k w atts drafts (Err e) is view same = ap (λ all. drafts_of (set items k (with_atts all w))) same ∙ ap (λ v. drafts_of (set items k v)) is ∙ ap drafts_of (set-get_or items k w) ∙ view

@@ -58,7 +58,7 @@ struct Begun {
 /// The first of these: the type word's fault, as [`type_of_word`] says; then variable by variable a name that the format
 /// doesn't allow (`BadName`) or that another variable has (`DuplicateName`), and dimension by dimension a name that the
 /// format doesn't allow (`BadName`) or that no dimension has (`UnknownDimension`), and the record dimension in another
-/// place than the first (`BadShape`). Or a growth was refused.
+/// place than the first (`BadShape`). Or a growth was refused. In each case some of the variables may have been added.
 pub fn read_declaration(
     alloc: Global,
     dims: &Dimensions,

@@ -111,12 +111,14 @@ impl Variables {
     ///
     /// # Errors
     ///
-    /// The first of these: a variable's name that the format doesn't allow (`BadName`), or that no variable has
-    /// (`UnknownVariable`); a fault of [`read_attribute`](crate::read_attribute). Or a growth was refused.
+    /// The first of these, in which case the variables are what they were: a variable's name that the format doesn't allow
+    /// (`BadName`), or that no variable has (`UnknownVariable`); a fault of [`read_attribute`](crate::read_attribute). Or a
+    /// growth was refused.
     pub fn read_attribute(&mut self, alloc: Global, start: Cutter<'_>) -> Result<(), ReadError>
         requires more { is_done start ≡ false }
         requires shaped { completes AttributeName (drop 2 (words start)) ≡ true }
-        ensures { Leaves self.new result (at_variable (name_first (words start.entry)) (with_att (name_first (drop 2 (words start.entry))) (constants_said (version_of start.entry) (drop 2 (words start.entry)))) self.old) }
+        ensures reads { Leaves self.new result (at_variable (name_first (words start.entry)) (with_att (name_first (drop 2 (words start.entry))) (constants_said (version_of start.entry) (drop 2 (words start.entry)))) self.old) }
+        ensures unchanged { OnErr result (self.new ≡ self.old) }
     {
         let position = variable_position(alloc, &self.names, start.lexeme().bytes)?;
         let (colon, _) = start.advanced();

@@ -11,7 +11,7 @@ use Rattle.cdl_parse.specs.Meant.{name_first}
 use Rattle.cdl_parse.specs.NameIndices.{IsIndex}
 use Rattle.cdl_parse.specs.State.{at_variable, with_att}
 use Rattle.cdl_parse.specs.VariablePositions.{at_position}
-use Rattle.cdl_parse.proofs.VariableAttributes.{changed_at, name_is, names_kept, past_colon, past_name, with_atts}
+use Rattle.cdl_parse.proofs.VariableAttributes.{changed_at, name_is, names_kept, past_colon, past_name, unchanged_at, with_atts}
 use Rattle.cdl_parse.proofs.variables.Variables.read_attribute.Goals as goal
 
 pub advanced-requires-2 : goal.advanced-requires-2
@@ -45,8 +45,8 @@ invariant_of-self c =
     let items = c.self.inside.list.items in
     subst (IsIndex c.self.inside.names) (sym (names_kept items c.in_ok-position.position c.index_mut-variable.result.now c.read_attribute.new.attributes c.index_mut-variable.ensures.value)) c.self.invariant
 
-pub returns : goal.returns
-returns c =
+pub returns-clause-reads : goal.returns-clause-reads
+returns-clause-reads c =
     let start = c.args.start in
     let colon = c.advanced.result.0 in
     let name = c.advanced-2.result.0 in
@@ -69,3 +69,7 @@ returns c =
     ap (λ v. at_variable word (with_att (name_first (words name)) (constants_said v (words name))) drafts) (sym (c.advanced-2.ensures.version ∙ c.advanced.ensures.version)) ∙
     c.in_ok-position.ensures.finds drafts c.self.invariant change in
     subst (Leaves (drafts_of (set items at (with_atts atts variable))) c.read_attribute.result) (sym same) put
+
+pub returns-clause-unchanged : goal.returns-clause-unchanged
+returns-clause-unchanged c =
+    unchanged_at c.self.inside.list.items c.in_ok-position.position c.index_mut-variable.result.now c.read_attribute.new.attributes c.args.self.now c.read_attribute.result c.index_mut-variable.ensures.value c.self.view_is c.read_attribute.ensures.unchanged
