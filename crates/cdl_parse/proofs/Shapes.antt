@@ -1,5 +1,5 @@
 -- The statements of the section of the variables keep the variables' shapes.
-use Rattle.std.proofs.Common.{◌≡◌, ℕ, suc, ◌<◌, Bool, true, false, List, [], ◌∷◌, ◌++◌, length, refl, sym, ap, ◌∙◌, subst, append_assoc, append-nil, arith}
+use Rattle.std.proofs.Common.{◌≡◌, ℕ, suc, ◌<◌, Bool, true, false, List, [], ◌∷◌, ◌++◌, length, drop, refl, sym, ap, ◌∙◌, subst, append_assoc, append-nil, arith}
 use Rattle.std.proofs.lemmas.Bool.{false≢true}
 use Rattle.std.proofs.lemmas.List.Elements.{All-cons, All-nil, All-push}
 use Rattle.std.specs.Prelude.{IsTrue, Option, None, Some, Result, Ok, Err, ⊤, IfOk, IfSome, ◌&&◌, nat_lt, if◌then◌else◌}
@@ -11,9 +11,13 @@ use Rattle.nc_base.specs.Sizes.{is_record_dim}
 use Rattle.nc_base.specs.declared.header.Att.{Att}
 use Rattle.nc_base.specs.declared.header.Dim.{Dim}
 use Rattle.nc_base.specs.declared.nc_type.NcType.{NcType}
+use Rattle.nc_base.specs.declared.version.Version.{Version}
+use Rattle.cdl_text.specs.Contents.{declaration_said}
+use Rattle.cdl_text.specs.Lexemes.{Lexeme}
 use Rattle.cdl_text.specs.Shapes.{Value, Variable}
 use Rattle.cdl_text.specs.declared.fault.CdlKind.{CdlKind}
 use Rattle.cdl_text.specs.declared.fault.CdlKind.TheVariants.{BadName, BadShape, DuplicateName, UnknownDimension}
+use Rattle.cdl_parse.specs.Declarations.{added, declared, type_first}
 use Rattle.cdl_parse.specs.Drafts.{draft, is_taken}
 use Rattle.cdl_parse.specs.Listed.{AreShaped}
 use Rattle.cdl_parse.specs.State.{Draft, add_att, add_dimid, add_var, at_named, at_variable, found, in_turn, unless, when, with_att, ◌>>=◌}
@@ -88,6 +92,13 @@ var_step dims ty drafts x are =
 -- the variables of a declaration have shapes, and the others keep theirs
 pub added_shaped : (dims : List Dim) (ty : NcType) (drafts : List Draft) (xs : List Variable) → AreShaped dims drafts → IfOk (in_turn (add_var dims ty) drafts xs) (AreShaped dims)
 added_shaped dims ty drafts xs are = turns (add_var dims ty) (AreShaped dims) (var_step dims ty) drafts xs are
+
+pub declared_shaped : (v : Version) (dims : List Dim) (drafts after : List Draft) (ws : List Lexeme) → declared v dims drafts ws ≡ Ok after → AreShaped dims drafts → AreShaped dims after
+declared_shaped v dims drafts after ws is are = ok_is (AreShaped dims) (declared v dims drafts ws) after is (by (type_first v ws))
+  where
+    by : (r : Result NcType CdlKind) → IfOk (r >>= (λ ty. added dims ty drafts (drop 1 ws))) (AreShaped dims)
+    by (Ok ty) = turns (add_var dims ty) (AreShaped dims) (var_step dims ty) drafts (declaration_said false (drop 1 ws)).variables are
+    by (Err e) = tt
 
 -- ---- attributes
 
