@@ -30,7 +30,6 @@ pub mod DraftNames
 pub mod VariableAttributes
 pub mod DeclarationReads
 pub mod Shapes
-pub mod VariableStatements
 pub mod Closings
 pub mod Copies
 pub mod WholeTexts

@@ -93,13 +93,6 @@ var_step dims ty drafts x are =
 pub added_shaped : (dims : List Dim) (ty : NcType) (drafts : List Draft) (xs : List Variable) → AreShaped dims drafts → IfOk (in_turn (add_var dims ty) drafts xs) (AreShaped dims)
 added_shaped dims ty drafts xs are = turns (add_var dims ty) (AreShaped dims) (var_step dims ty) drafts xs are
 
-pub declared_shaped : (v : Version) (dims : List Dim) (drafts after : List Draft) (ws : List Lexeme) → declared v dims drafts ws ≡ Ok after → AreShaped dims drafts → AreShaped dims after
-declared_shaped v dims drafts after ws is are = ok_is (AreShaped dims) (declared v dims drafts ws) after is (by (type_first v ws))
-  where
-    by : (r : Result NcType CdlKind) → IfOk (r >>= (λ ty. added dims ty drafts (drop 1 ws))) (AreShaped dims)
-    by (Ok ty) = turns (add_var dims ty) (AreShaped dims) (var_step dims ty) drafts (declaration_said false (drop 1 ws)).variables are
-    by (Err e) = tt
-
 -- ---- attributes
 
 -- the change keeps the shape

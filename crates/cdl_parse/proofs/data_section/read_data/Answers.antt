@@ -7,7 +7,8 @@ use Rattle.cdl_parse.specs.Meaning.{run}
 use Rattle.cdl_parse.specs.NameIndices.{IsIndex}
 use Rattle.cdl_parse.specs.Runs.{FailsAt, at_line}
 use Rattle.cdl_parse.specs.declared.read_error.ParseError.{ParseError}
-use Rattle.cdl_parse.proofs.DataRuns.{bad_on, fewer, none_so_far, one_on, values_on}
+use Rattle.cdl_parse.proofs.DataRuns.{none_so_far, values_on}
+use Rattle.cdl_parse.proofs.RunSteps.{fewer, goes_on, stops}
 use Rattle.cdl_parse.proofs.data_section.read_data.Goals as goal
 
 pub statements-init : goal.statements-init
@@ -50,7 +51,7 @@ returns-then-passed-clause-reads c = λ vars s section index suit is short.
     let so = t.invariant.reads vars s section index suit is short in
     let taken = found.reads vars (record s { drafts = so.0 }) (subst (IsIndex c.args.names.now) (sym so.2) index) so.1 (subst (λ text. length text < 2 ^ 63) (sym t.invariant.text) short) in
     let closed = subst (λ b. Takes b vars t.cutter (record s { drafts = so.0 }) c.read_one.new.targets.items c.read_one.new.arrays.items) c.if-passed.true taken in
-    (so.0, closed.1, so.3 ∙ one_on start t.cutter t.invariant.text t.invariant.version more (record s { drafts = so.0 }) (record s { section = Section.Closed; drafts = so.0 }) c.in-Ok-read_one.passed.rest found.rest closed.0)
+    (so.0, closed.1, so.3 ∙ goes_on start t.cutter t.invariant.text t.invariant.version more (record s { drafts = so.0 }) (record s { section = Section.Closed; drafts = so.0 }) c.in-Ok-read_one.passed.rest closed.0 found.rest)
 
 pub returns-in-Err-read_one-clause-reads : goal.returns-in-Err-read_one-clause-reads
 returns-in-Err-read_one-clause-reads c = λ vars s section index suit is short.
@@ -59,6 +60,5 @@ returns-in-Err-read_one-clause-reads c = λ vars s section index suit is short.
     let more : is_done t.cutter ≡ false = sym c.is_done.ensures ∙ c.if-is_done.false in
     let so = t.invariant.reads vars s section index suit is short in
     let fault = c.in-Err-read_one.ensures.reads vars (record s { drafts = so.0 }) (subst (IsIndex c.args.names.now) (sym so.2) index) so.1 (subst (λ text. length text < 2 ^ 63) (sym t.invariant.text) short) in
-    let line : c.at_line.result ≡ at_line (first_line (pieces_left t.cutter)) c.in-Err-read_one.e = c.at_line.ensures ∙ ap (λ n. at_line n c.in-Err-read_one.e) (c.line.ensures more) in
-    subst (λ (e : ParseError). FailsAt e (run (text_of start) (version_of start) s (pieces_left start))) (sym line)
-    (bad_on start t.cutter t.invariant.text t.invariant.version more s (record s { drafts = so.0 }) c.in-Err-read_one.e so.3 fault)
+    subst (λ (e : ParseError). FailsAt e (run (text_of start) (version_of start) s (pieces_left start))) (sym c.at_line.ensures)
+    (subst (FailsAt (at_line c.line.result c.in-Err-read_one.e)) (sym so.3) (stops start t.cutter t.invariant.text t.invariant.version more (record s { drafts = so.0 }) c.in-Err-read_one.e c.line.result (c.line.ensures more) fault))
