@@ -1,25 +1,18 @@
 -- A run over the data section, statement by statement.
-use Rattle.std.proofs.Common.{◌≡◌, ℕ, ◌<◌, false, List, [], ◌∷◌, length, refl, sym, ap, ◌∙◌, subst, arith}
-use Rattle.std.specs.Prelude.{Result, Ok, map, replicate}
+use Rattle.std.proofs.Common.{◌≡◌, ℕ, false, List, [], length, refl, sym, ◌∙◌, subst}
+use Rattle.std.specs.Prelude.{Ok, replicate}
 use Rattle.nc_base.specs.declared.header.Var.{Var}
-use Rattle.cdl_text.specs.Cutters.{after, first_line, first_piece, is_done, next_token, other_pieces, pieces_left, text_of, version_of, words}
-use Rattle.cdl_text.specs.Lexemes.{Lexeme, lexeme}
+use Rattle.cdl_text.specs.Cutters.{after, is_done, pieces_left, text_of, version_of, words}
 use Rattle.cdl_text.specs.declared.cutter.Cutter.{Cutter}
-use Rattle.cdl_text.specs.declared.fault.CdlFault.{CdlFault}
 use Rattle.cdl_text.specs.declared.section.Section.TheVariants.{Values}
-use Rattle.cdl_text.specs.declared.token.Token.{Token}
-use Rattle.cdl_parse.specs.Answers.{Fails}
 use Rattle.cdl_parse.specs.DataSections.{StandsSo}
 use Rattle.cdl_parse.specs.Listed.{AllList, fresh}
 use Rattle.cdl_parse.specs.Meaning.{piece_read, run}
 use Rattle.cdl_parse.specs.Meant.{Suit, names_of}
-use Rattle.cdl_parse.specs.Runs.{FailsAt, at_line, run_after}
 use Rattle.cdl_parse.specs.State.{State, Draft}
 use Rattle.cdl_parse.specs.declared.data.Target.{Target}
-use Rattle.cdl_parse.specs.declared.read_error.ReadError.{ReadError}
 use Rattle.cdl_parse.proofs.DataStates.{names_are, none_listed}
 use Rattle.cdl_parse.proofs.RunSteps.{goes_on}
-use Rattle.cdl_parse.proofs.StatementWords.{begins}
 
 -- the statements up to this cutter make such drafts
 abbrev pub SoFar : List Var → State → Cutter → List Target → List (List ℕ) → Cutter → Type 0

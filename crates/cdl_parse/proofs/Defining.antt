@@ -1,17 +1,16 @@
 -- What the statements before the data section make of the state.
-use Rattle.std.proofs.Common.{◌≡◌, ℕ, Bool, true, false, List, [], ◌∷◌, drop, refl, sym, ap, ◌∙◌, subst}
-use Rattle.std.specs.Prelude.{Option, None, Some, is_some, Result, Ok, Err, ⊤, if◌then◌else◌, ◌&&◌}
+use Rattle.std.proofs.Common.{◌≡◌, Bool, true, false, List, [], ◌∷◌, drop, refl, sym, ap, ◌∙◌, subst}
+use Rattle.std.specs.Prelude.{Option, None, Some, is_some, Result, Ok, Err, ⊤, if◌then◌else◌}
 use Rattle.std.proofs.lemmas.Bool.{false≢true}
 use Rattle.nc_base.specs.declared.header.Att.{Att}
 use Rattle.nc_base.specs.declared.header.Dim.{Dim}
 use Rattle.nc_base.specs.declared.version.Version.{Version}
-use Rattle.cdl_text.specs.Contents.{attribute_said, declaration_said, dimensions_said, mark_said, other_said, statement_said, values, variable_said}
+use Rattle.cdl_text.specs.Contents.{attribute_said, declaration_said, dimensions_said, mark_said, other_said, statement_said, variable_said}
 use Rattle.cdl_text.specs.Cutters.{is_done, next_token, text_of, words}
 use Rattle.cdl_text.specs.declared.cutter.Cutter.{Cutter}
 use Rattle.cdl_text.specs.DueTokens.{completes, goes_to, is_name, is_whole, next, only}
 use Rattle.cdl_text.specs.Lexemes.{Lexeme, lexeme, is_mark, is_word_kind, word_value}
-use Rattle.cdl_text.specs.Shapes.{Attribute, Brace, Declared, End, Opening, Statement, Typed, Value, first_bad, section_of, shape}
-use Rattle.cdl_text.specs.Shapes as Shapes
+use Rattle.cdl_text.specs.Shapes.{Brace, Declared, End, Statement, Typed, first_bad, section_of, shape}
 use Rattle.cdl_text.specs.declared.due.Due.{Due}
 use Rattle.cdl_text.specs.declared.due.Due.TheVariants as dues
 use Rattle.cdl_text.specs.declared.fault.CdlKind.{CdlKind}

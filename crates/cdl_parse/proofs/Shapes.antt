@@ -1,5 +1,5 @@
 -- The statements of the section of the variables keep the variables' shapes.
-use Rattle.std.proofs.Common.{◌≡◌, ℕ, suc, ◌<◌, Bool, true, false, List, [], ◌∷◌, ◌++◌, length, drop, refl, sym, ap, ◌∙◌, subst, append_assoc, append-nil, arith}
+use Rattle.std.proofs.Common.{◌≡◌, ℕ, suc, ◌<◌, Bool, true, false, List, [], ◌∷◌, ◌++◌, length, refl, sym, ap, ◌∙◌, subst, append_assoc, append-nil, arith}
 use Rattle.std.proofs.lemmas.Bool.{false≢true}
 use Rattle.std.proofs.lemmas.List.Elements.{All-cons, All-nil, All-push}
 use Rattle.std.specs.Prelude.{IsTrue, Option, None, Some, Result, Ok, Err, ⊤, IfOk, IfSome, ◌&&◌, nat_lt, if◌then◌else◌}
@@ -11,13 +11,9 @@ use Rattle.nc_base.specs.Sizes.{is_record_dim}
 use Rattle.nc_base.specs.declared.header.Att.{Att}
 use Rattle.nc_base.specs.declared.header.Dim.{Dim}
 use Rattle.nc_base.specs.declared.nc_type.NcType.{NcType}
-use Rattle.nc_base.specs.declared.version.Version.{Version}
-use Rattle.cdl_text.specs.Contents.{declaration_said}
-use Rattle.cdl_text.specs.Lexemes.{Lexeme}
 use Rattle.cdl_text.specs.Shapes.{Value, Variable}
 use Rattle.cdl_text.specs.declared.fault.CdlKind.{CdlKind}
 use Rattle.cdl_text.specs.declared.fault.CdlKind.TheVariants.{BadName, BadShape, DuplicateName, UnknownDimension}
-use Rattle.cdl_parse.specs.Declarations.{added, declared, type_first}
 use Rattle.cdl_parse.specs.Drafts.{draft, is_taken}
 use Rattle.cdl_parse.specs.Listed.{AreShaped}
 use Rattle.cdl_parse.specs.State.{Draft, add_att, add_dimid, add_var, at_named, at_variable, found, in_turn, unless, when, with_att, ◌>>=◌}

@@ -1,26 +1,22 @@
 -- Every statement keeps the shapes: each variable's dimensions are known ones, and the record dimension stands first.
-use Rattle.std.proofs.Common.{◌≡◌, ℕ, zero, suc, ◌+◌, ◌<◌, Bool, true, false, IsTrue, List, [], ◌∷◌, ◌++◌, length, map, refl, sym, ap, ◌∙◌, subst, arith, append_assoc}
-use Rattle.std.specs.Prelude.{Option, None, Some, Result, Ok, Err, IfOk, ⊤, All, ◌&&◌, ◌==◌, nat_lt, if◌then◌else◌, slice_index, slice_index_or}
-use Rattle.std.specs.List.{list_any, position, position_or_len}
+use Rattle.std.proofs.Common.{◌≡◌, ℕ, ◌+◌, ◌<◌, Bool, true, false, IsTrue, List, [], ◌∷◌, ◌++◌, length, map, refl, sym, ap, ◌∙◌, subst, arith, append_assoc}
+use Rattle.std.specs.Prelude.{Option, None, Some, Result, Ok, Err, IfOk, ⊤, ◌&&◌, ◌==◌, nat_lt, slice_index, slice_index_or}
+use Rattle.std.specs.List.{list_any}
 use Rattle.std.specs.Str.{bytes_eq}
-use Rattle.std.proofs.lemmas.Bool.{false≢true}
 use Rattle.std.proofs.lemmas.List.{append-nil, get_or_append_left, length-append, length-map, map-append}
-use Rattle.std.proofs.lemmas.List.Elements.{All-append, All-cons}
-use Rattle.nc_base.specs.declared.header.Att.{Att}
 use Rattle.nc_base.specs.declared.header.Dim.{Dim}
-use Rattle.nc_base.specs.declared.nc_type.NcType.{NcType}
 use Rattle.nc_base.specs.declared.version.Version.{Version}
-use Rattle.nc_base.specs.Headers.{AreDimids, IsDimid}
+use Rattle.nc_base.specs.Headers.{AreDimids}
 use Rattle.nc_base.specs.Names.{is_name}
 use Rattle.nc_base.specs.Sizes.{dim_len, is_record_dim}
 use Rattle.cdl_text.specs.Lexemes.{Lexeme}
-use Rattle.cdl_text.specs.Shapes.{Dimension, Statement, Value, Variable, Opening, Mark, Declared, Typed, Attribute, Listed, Brace, End, first_bad, shape}
+use Rattle.cdl_text.specs.Shapes.{Dimension, Statement, Value, Opening, Mark, Declared, Typed, Attribute, Listed, Brace, End, first_bad, shape}
 use Rattle.cdl_text.specs.declared.fault.CdlKind.{CdlKind}
-use Rattle.cdl_text.specs.declared.fault.CdlKind.TheVariants.{BadName, BadShape, DuplicateData, DuplicateName, UnknownDimension}
+use Rattle.cdl_text.specs.declared.fault.CdlKind.TheVariants.{BadName, DuplicateData, DuplicateName}
 use Rattle.cdl_parse.proofs.Shapes.{Keeps, added_shaped, att_keeps, ok_then, variable_shaped}
 use Rattle.cdl_parse.specs.Listed.{AreShaped}
 use Rattle.cdl_parse.specs.Meaning.{checked, piece_read, shaped}
-use Rattle.cdl_parse.specs.State.{State, Draft, act, add_att, add_dim, add_dimid, add_var, at_named, at_variable, capacity_of, add_value, dim_len_of, found, in_turn, is_listed, type_of, unless, when, with_att, with_values, ◌>>=◌}
+use Rattle.cdl_parse.specs.State.{State, Draft, act, add_att, add_dim, add_var, at_variable, capacity_of, add_value, dim_len_of, in_turn, is_listed, type_of, unless, when, with_att, with_values, ◌>>=◌}
 
 any : {A : Type 0} (r : Result A CdlKind) → IfOk r (λ a. ⊤)
 any (Ok a) = tt

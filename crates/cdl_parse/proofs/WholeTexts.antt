@@ -1,20 +1,18 @@
 -- A whole text: its sections one after the other.
-use Rattle.std.proofs.Common.{◌≡◌, ℕ, suc, ◌<◌, ◌≤◌, true, false, List, [], ◌∷◌, length, refl, sym, ap, ◌∙◌, subst, arith}
-use Rattle.std.specs.Prelude.{Result, Ok, Err, All, map, replicate, ◌^◌}
+use Rattle.std.proofs.Common.{◌≡◌, ℕ, suc, true, false, List, [], ◌∷◌, length, refl, sym, subst, arith}
+use Rattle.std.specs.Prelude.{Result, replicate}
 use Rattle.std.proofs.lemmas.List.Elements.{All-cons}
 use Rattle.nc_base.specs.Headers.{AreDimids}
-use Rattle.nc_base.specs.declared.header.Att.{Att}
 use Rattle.nc_base.specs.declared.header.Dim.{Dim}
 use Rattle.nc_base.specs.declared.header.Var.{Var}
 use Rattle.nc_base.specs.declared.version.Version.{Version}
-use Rattle.cdl_text.specs.Statements.{statements}
 use Rattle.cdl_text.specs.declared.fault.CdlFault.{CdlFault}
 use Rattle.cdl_text.specs.declared.section.Section.{Section}
 use Rattle.cdl_text.specs.declared.section.Section.TheVariants.{Unopened, Globals, Dimensions, Variables, Values, Closed, Ended}
 use Rattle.cdl_text.specs.declared.token.Token.{Token}
 use Rattle.cdl_parse.specs.Defined.{is_early, is_past}
-use Rattle.cdl_parse.specs.Listed.{AllList, AreShaped, Lists, fresh}
-use Rattle.cdl_parse.specs.Meaning.{closing_line, empty, finished, meaning, run, text_limit}
+use Rattle.cdl_parse.specs.Listed.{AllList, AreShaped, fresh}
+use Rattle.cdl_parse.specs.Meaning.{finished, run}
 use Rattle.cdl_parse.specs.Runs.{FailsAt}
 use Rattle.cdl_parse.specs.State.{State, Draft}
 use Rattle.cdl_parse.specs.declared.read_error.ParseError.{ParseError}
@@ -46,10 +44,6 @@ listed_shapes dims (var ∷ vars) (a ∷ arrays) (d ∷ drafts) h are =
     All-cons (λ (d : Draft). AreDimids dims [] d.var.dimids) d drafts
     (subst (λ (v : Var). AreDimids dims [] v.dimids) (sym h.0.is) (are 0 d (omega arith)))
     (listed_shapes dims vars arrays drafts h.1 (λ k e inside. are (suc k) e (omega (arith, inside))))
-
--- a short text
-pub is_short : (n : ℕ) → n ≤ text_limit → n < 2 ^ 63
-is_short n h = omega (arith, h)
 
 -- the fault of a run is that of the text
 pub run_fails : (v : Version) (line : ℕ) (e : ParseError) (r : Result State CdlFault) → FailsAt e r → FailsAt e (finished v line r)

@@ -1,9 +1,7 @@
 -- The state that the statements before the data section make.
-use Rattle.std.specs.Prelude.{◌≡◌, ℕ, Bool, true, false, List, None, Some, Option, Result, Ok, Err, ⊤}
-use Rattle.nc_base.specs.declared.header.Dim.{Dim}
+use Rattle.std.specs.Prelude.{◌≡◌, Bool, true, false, List, None, Some, Option, Result, Ok, Err, ⊤}
 use Rattle.nc_base.specs.declared.version.Version.{Version}
 use Rattle.cdl_text.specs.Lexemes.{Lexeme}
-use Rattle.cdl_text.specs.Shapes.{Variable}
 use Rattle.cdl_text.specs.declared.fault.CdlFault.{CdlFault}
 use Rattle.cdl_text.specs.declared.fault.CdlKind.{CdlKind}
 use Rattle.cdl_text.specs.declared.section.Section.{Section}
@@ -11,7 +9,7 @@ use Rattle.cdl_text.specs.declared.section.Section.TheVariants.{Unopened, Global
 use Rattle.cdl_text.specs.Contents.{statement_said}
 use Rattle.cdl_parse.specs.Answers.{Fails}
 use Rattle.cdl_parse.specs.Meaning.{piece_read}
-use Rattle.cdl_parse.specs.State.{State, Draft, act, add_var, in_turn, type_of, ◌>>=◌}
+use Rattle.cdl_parse.specs.State.{State, act}
 use Rattle.cdl_parse.specs.declared.definitions.Definitions.{Definitions}
 use Rattle.cdl_parse.specs.declared.read_error.ReadError.{ReadError}
 

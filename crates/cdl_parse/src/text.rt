@@ -5,7 +5,7 @@ ghost use Rattle.nc_base.specs.declared.header.Var as header;
 ghost use Rattle.cdl_text.specs.Cutters.{is_done, pieces_left, text_of, version_of};
 ghost use Rattle.cdl_parse.specs.Defined.{is_early, is_past};
 ghost use Rattle.cdl_parse.specs.Listed.{AreShaped, fresh};
-ghost use Rattle.cdl_parse.specs.Meaning.{empty, meaning, run, text_limit};
+ghost use Rattle.cdl_parse.specs.Meaning.{empty, meaning, run};
 ghost use Rattle.cdl_parse.specs.Meant.{names_of};
 ghost use Rattle.cdl_parse.specs.NameIndices.{IsIndex};
 ghost use Rattle.cdl_parse.specs.OwedValues.{dataset_of_declared};
@@ -30,8 +30,7 @@ use std::alloc::Global;
 
 /// The dataset that a CDL text means (the CDL chapter of the NetCDF User's Guide, and ncgen(1)).
 ///
-/// Numbers may have the types and suffixes of this version of the format, and lengths what it can count. A text has at most
-/// 268,435,456 bytes; of a longer one the answer says nothing.
+/// Numbers may have the types and suffixes of this version of the format, and lengths what it can count.
 ///
 /// # Errors
 ///
@@ -39,7 +38,7 @@ use std::alloc::Global;
 /// [`TooLarge`](CdlKind::TooLarge), with the line of the closing brace. Or [`OutOfMemory`](CdlKind::OutOfMemory), with line 0,
 /// as soon as a growth was refused.
 pub fn parse(alloc: Global, text: &[u8], version: Version) -> Result<Dataset, CdlFault>
-    ensures { length text.now ≤ text_limit → Answers result (meaning text.now version) }
+    ensures { Answers result (meaning text.now version) }
 {
     match declared(alloc, text, version) {
         Ok(declared) => match declared.into_dataset(alloc) {
@@ -56,7 +55,7 @@ pub fn parse(alloc: Global, text: &[u8], version: Version) -> Result<Dataset, Cd
 ///
 /// Those of [`parse`].
 pub fn declared(alloc: Global, text: &[u8], version: Version) -> Result<Declared, CdlFault>
-    ensures { length text.now ≤ text_limit → Answers (as_dataset result) (meaning text.now version) }
+    ensures { Answers (as_dataset result) (meaning text.now version) }
 {
     match read_text(alloc, text, version) {
         Ok(declared) => Ok(declared),
@@ -81,7 +80,7 @@ impl ParseError {
 
 /// What a text declares.
 fn read_text(alloc: Global, text: &[u8], version: Version) -> Result<Declared, ParseError>
-    ensures { length text.now ≤ text_limit → ReadsOn (λ d. Ok (dataset_of_declared d)) result (meaning text.now version) }
+    ensures { ReadsOn (λ d. Ok (dataset_of_declared d)) result (meaning text.now version) }
 {
     let contents = match read_contents(alloc, Cutter::new(text, version)) {
         Ok(contents) => contents,
@@ -115,7 +114,7 @@ struct Contents {
 
 /// Reads all statements of a text.
 fn read_contents(alloc: Global, start: Cutter<'_>) -> Result<Contents, ParseError>
-    ensures { length (text_of start.entry) ≤ text_limit → ReadsAll result (run (text_of start.entry) (version_of start.entry) empty (pieces_left start.entry)) }
+    ensures { length (text_of start.entry) < 2 ^ 63 → ReadsAll result (run (text_of start.entry) (version_of start.entry) empty (pieces_left start.entry)) }
 {
     let Defined { definitions, rest } = match read_definitions(alloc, start) {
         Ok(defined) => defined,

@@ -1,6 +1,6 @@
 use Rattle.std.proofs.Common.{rules, ◌≡◌, ◌<◌, ℕ, false, List, [], length, refl, sym, ap, ◌∙◌, subst}
 use Rattle.std.specs.Prelude.{replicate, ◌^◌}
-use Rattle.cdl_text.specs.Cutters.{first_line, is_done, pieces_left, text_of, version_of}
+use Rattle.cdl_text.specs.Cutters.{is_done, pieces_left, text_of, version_of}
 use Rattle.cdl_text.specs.declared.section.Section.{Section}
 use Rattle.cdl_parse.specs.DataSections.{Takes}
 use Rattle.cdl_parse.specs.Meaning.{run}

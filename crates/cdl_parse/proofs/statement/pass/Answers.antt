@@ -1,4 +1,4 @@
-use Rattle.std.proofs.Common.{◌≡◌, ap, sym, ◌∙◌, false}
+use Rattle.std.proofs.Common.{ap, sym, ◌∙◌}
 use Rattle.std.specs.Prelude.{Some, is_some}
 use Rattle.cdl_text.specs.Contents.{statement_said}
 use Rattle.cdl_text.specs.Cutters.{version_of, words}

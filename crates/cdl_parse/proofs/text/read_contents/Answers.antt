@@ -1,11 +1,11 @@
-use Rattle.std.proofs.Common.{rules, ◌≡◌, ◌<◌, ℕ, List, length, refl, ap, sym, ◌∙◌, subst}
+use Rattle.std.proofs.Common.{rules, ◌≡◌, ◌<◌, length, refl, ap, sym, ◌∙◌, subst}
 use Rattle.std.specs.Prelude.{◌^◌}
 use Rattle.cdl_text.specs.Cutters.{pieces_left, text_of, version_of}
 use Rattle.cdl_parse.specs.Defined.{state_of}
 use Rattle.cdl_parse.specs.Listed.{AllList, AreShaped, fresh}
 use Rattle.cdl_parse.specs.Meaning.{empty, run}
 use Rattle.cdl_parse.specs.State.{State}
-use Rattle.cdl_parse.proofs.WholeTexts.{is_short, listed_shapes, same_end, same_run}
+use Rattle.cdl_parse.proofs.WholeTexts.{listed_shapes, same_end, same_run}
 use Rattle.cdl_parse.proofs.text.read_contents.Goals as goal
 
 pub returns-in-Ok-read_end : goal.returns-in-Ok-read_end
@@ -15,7 +15,7 @@ returns-in-Ok-read_end c = λ small.
     let s = state_of c.in-Ok.defined.definitions in
     let vars = c.in-Ok-into_parts.parts.0 in
     let values = c.in-Ok-read_values.values in
-    let short : length (text_of rest) < 2 ^ 63 = subst (λ text. length text < 2 ^ 63) (sym c.in-Ok.ensures.text) (is_short (length (text_of start)) small) in
+    let short : length (text_of rest) < 2 ^ 63 = subst (λ text. length text < 2 ^ 63) (sym c.in-Ok.ensures.text) small in
     let dims : s.dims ≡ c.as_slice.result.now = search rules in
     let listed_of : c.as_slice-2.result.now ≡ vars = search rules in
     let drafts : s.drafts ≡ fresh c.as_slice-2.result.now = sym c.in-Ok-into_parts.ensures.vars ∙ ap fresh (sym listed_of) in
@@ -45,7 +45,7 @@ returns-in-Err-read_end c = λ small.
     let s = state_of c.in-Ok.defined.definitions in
     let vars = c.in-Ok-into_parts.parts.0 in
     let values = c.in-Ok-read_values.values in
-    let short : length (text_of rest) < 2 ^ 63 = subst (λ text. length text < 2 ^ 63) (sym c.in-Ok.ensures.text) (is_short (length (text_of start)) small) in
+    let short : length (text_of rest) < 2 ^ 63 = subst (λ text. length text < 2 ^ 63) (sym c.in-Ok.ensures.text) small in
     let dims : s.dims ≡ c.as_slice.result.now = search rules in
     let listed_of : c.as_slice-2.result.now ≡ vars = search rules in
     let drafts : s.drafts ≡ fresh c.as_slice-2.result.now = sym c.in-Ok-into_parts.ensures.vars ∙ ap fresh (sym listed_of) in

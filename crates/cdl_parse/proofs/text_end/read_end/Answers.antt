@@ -1,9 +1,8 @@
-use Rattle.std.proofs.Common.{rules, ◌≡◌, true, false, refl, ap, sym, ◌∙◌, subst}
-use Rattle.cdl_text.specs.Cutters.{first_line, is_done, next_token, pieces_left, text_of, version_of, words}
+use Rattle.std.proofs.Common.{◌≡◌, false, refl, ap, sym, ◌∙◌}
+use Rattle.cdl_text.specs.Cutters.{is_done, next_token, pieces_left, text_of, version_of, words}
 use Rattle.cdl_text.specs.Lexemes.{lexeme}
 use Rattle.cdl_text.specs.declared.section.Section.TheVariants.{Ended}
 use Rattle.cdl_parse.specs.Meaning.{run}
-use Rattle.cdl_parse.specs.State.{State}
 use Rattle.cdl_parse.proofs.Defining.{ends}
 use Rattle.cdl_parse.proofs.RunSteps.{fault_stops, fewer, goes_on}
 use Rattle.cdl_parse.proofs.Runs.{run_none}

@@ -1,4 +1,4 @@
-use Rattle.std.proofs.Common.{rules, ◌≡◌, ap, sym, ◌∙◌}
+use Rattle.std.proofs.Common.{ap, ◌∙◌}
 use Rattle.cdl_text.specs.Contents.{statement_said}
 use Rattle.cdl_text.specs.Cutters.{next_token, text_of, version_of, words}
 use Rattle.cdl_text.specs.Lexemes.{lexeme}

@@ -1,5 +1,5 @@
-use Rattle.std.proofs.Common.{rules, ◌≡◌, true, false, Ok, drop, ap, sym, ◌∙◌, subst}
-use Rattle.cdl_text.specs.Cutters.{is_done, next_token, text_of, version_of, words}
+use Rattle.std.proofs.Common.{◌≡◌, true, false, Ok, ap, sym, ◌∙◌, subst}
+use Rattle.cdl_text.specs.Cutters.{next_token, text_of, version_of, words}
 use Rattle.cdl_text.specs.Lexemes.{is_mark, lexeme}
 use Rattle.cdl_text.specs.Shapes.{section_of}
 use Rattle.cdl_parse.specs.AttributeRead.{Leaves, constants_said}
