@@ -2,6 +2,7 @@ pub mod Words
 pub mod Steps
 pub mod Strings
 pub mod Scans
+pub mod PlainTokens
 pub mod Cuts
 pub mod Sizes
 pub mod Suffixes

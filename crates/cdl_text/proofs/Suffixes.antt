@@ -4,7 +4,12 @@ use Rattle.std.specs.Prelude.{◌↔◌, map, IsTrue}
 use Rattle.std.specs.Char.{to_ascii_lowercase}
 use Rattle.std.specs.Str.{bytes_eq}
 use Rattle.std.specs.Cmp.Lexicographic.{bytes_decides}
-use Rattle.cdl_text.specs.Numerals.{lower}
+use Rattle.cdl_text.specs.Numerals.{lower, suffix}
+use Rattle.std.proofs.Common.{length, suc}
+use Rattle.std.specs.Prelude.{Some}
+use Rattle.nc_base.specs.declared.version.Version.{Version}
+use Rattle.nc_base.specs.declared.version.Version.TheVariants.{Cdf1, Cdf2, Cdf5}
+use Rattle.nc_base.specs.declared.nc_type.NcType.TheVariants.{Int}
 
 lower_is : (b : ℕ) → lower b ≡ to_ascii_lowercase b
 lower_is b = grind arith
@@ -23,3 +28,14 @@ pub same_suffix : (a b : List ℕ) (r : Bool) → (IsTrue r ↔ (map to_ascii_lo
 same_suffix a b r h =
     let d = bytes_decides (map to_ascii_lowercase a) (map to_ascii_lowercase b) in
     rw (lowered a) (rw (lowered b) (same_truth r (bytes_eq (map to_ascii_lowercase a) (map to_ascii_lowercase b)) h d.0 d.1))
+
+-- no suffix: int, which every version has
+none : (v : Version) → suffix v [] ≡ Some Int
+unfolding suffix
+none Cdf1 = refl
+none Cdf2 = refl
+none Cdf5 = refl
+
+pub no_suffix : (bs : List ℕ) (v : Version) → length bs ≡ 0 → suffix v bs ≡ Some Int
+no_suffix [] v h = none v
+no_suffix (b ∷ bs) v h = absurd (let e : suc (length bs) ≡ 0 = h in omega (arith, e))

@@ -127,18 +127,13 @@ impl<'a> Cutter<'a> {
         ensures moves { result ≡ false → offset_of self.old < offset_of self.new }
         ensures goes { result ≡ false → is_done self.new ≡ false }
     {
-        let mut scanner = self.scanner;
-        let following = scanner.token();
-        let following_role = following.role(scanner.text());
+        let following = self.scanner.token();
+        let following_role = following.role(self.scanner.text());
         let found = self.state.step(self.next_role, following_role);
-        *self = Cutter {
-            scanner,
-            version: self.version,
-            next: following,
-            next_role: following_role,
-            state: found.state,
-            done: is_end(self.next.kind),
-        };
+        self.done = is_end(self.next.kind);
+        self.state = found.state;
+        self.next = following;
+        self.next_role = following_role;
         found.ends
     }
 

@@ -122,10 +122,14 @@ fn digit_len(bytes: &[u8]) -> usize
 }
 
 /// The type that a suffix says, each of its letters in either case; None, where it is no suffix of the version.
-#[tactic(auto, unfolding(crate::specs::Numerals::suffix))]
+#[tactic(auto, unfolding(crate::specs::Numerals::suffix), using(crate::proofs::Suffixes::no_suffix))]
 fn suffix(version: Version, bytes: &[u8]) -> Option<NcType>
     ensures { result ≡ suffix version bytes.now }
 {
+    // Most numbers have none, and every version has int.
+    if bytes.is_empty() {
+        return Some(NcType::Int);
+    }
     match type_of_suffix(bytes) {
         Some(ty) => { if version.has_type(ty) { Some(ty) } else { None } }
         None => None,

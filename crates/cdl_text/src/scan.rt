@@ -1,6 +1,6 @@
 //! What bytes begin with.
 
-ghost use Rattle.std.specs.Prelude.{◌≡◌, ◌+◌, ◌≤◌, ◌<◌, ◌==◌, ◌^◌, ◌&&◌, IsTrue, length, not, true, nat_lt, slice_index};
+ghost use Rattle.std.specs.Prelude.{◌≡◌, ◌+◌, ◌≤◌, ◌<◌, ◌==◌, ◌^◌, ◌&&◌, IsTrue, drop, length, not, true, nat_lt, slice_index};
 ghost use Rattle.std.specs.List.{prefix_len};
 ghost use Rattle.cdl_text.specs.Bytes.{goes_on_number};
 ghost use Rattle.cdl_text.specs.Scan.{begins_a_word, begins_comment, begins_number, begins_opening, gap, scan, scan_opening, scan_text, token, until, word_len};
@@ -48,7 +48,7 @@ pub fn scan(fresh: bool, bytes: &[u8]) -> Scanned
     } else if begins_a_word(bytes) {
         token(TokenKind::Word, word_len(bytes))
     } else if begins_number(bytes) {
-        token(TokenKind::Number, 1 + number_len(&bytes[1..]))
+        token(TokenKind::Number, number_len(bytes))
     } else if is_blank(b) {
         gap(1)
     } else if begins_comment(bytes) {
@@ -118,7 +118,7 @@ fn begins_a_word(bytes: &[u8]) -> bool
 }
 
 /// Says whether the bytes begin with a digit, after a sign, a point, both or neither.
-fn begins_number(bytes: &[u8]) -> bool
+pub fn begins_number(bytes: &[u8]) -> bool
     ensures { result ≡ begins_number bytes.now }
 {
     let a = byte_at(bytes, 0);
@@ -145,8 +145,18 @@ fn begins_opening(bytes: &[u8]) -> bool
     bytes.starts_with(b"netcdf") && (is_blank(b) || b == b'{')
 }
 
+/// The length of the number token that the bytes begin with.
+pub fn number_len(bytes: &[u8]) -> usize
+    requires { begins_number bytes.now ≡ true }
+    ensures len { result ≡ 1 + prefix_len goes_on_number (drop 1 bytes.now) }
+    ensures within { result ≤ length bytes.now }
+{
+    let (_, rest) = bytes.split_at(1);
+    1 + going_on_len(rest)
+}
+
 /// How many of the first bytes go on with a number token.
-fn number_len(bytes: &[u8]) -> usize
+fn going_on_len(bytes: &[u8]) -> usize
     ensures len { result ≡ prefix_len goes_on_number bytes.now }
     ensures within { result ≤ length bytes.now }
 {

@@ -69,6 +69,11 @@ impl Token {
     pub fn role(self, text: &[u8]) -> Role
         ensures { result ≡ role_in text.now self }
     {
-        self.lexeme(text).role()
+        match self.kind {
+            TokenKind::Word | TokenKind::Mark => self.lexeme(text).role(),
+            TokenKind::Opening => Role::Opening,
+            TokenKind::End => Role::End,
+            TokenKind::Number | TokenKind::Text | TokenKind::Bad => Role::Other,
+        }
     }
 }

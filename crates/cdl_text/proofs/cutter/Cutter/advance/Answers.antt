@@ -10,17 +10,17 @@ use Rattle.cdl_text.proofs.Cuts.{advance_to, no_end, words_on, after_on}
 use Rattle.cdl_text.proofs.cutter.Cutter.advance.Goals as goal
 
 -- the pieces that the cutter has one token on
-abbrev on : goal.After-self-2-1 → List (List Token)
-on c = pieces_at (role_in c.token-following.new.self.text.now) c.step-found.result.state (if c.is_end.result then [] else followed c.token-following.result c.token-following.result.kind (left c.token-following.new.self))
+abbrev on : goal.After-self-1 → List (List Token)
+on c = pieces_at (role_in c.token-following.new.self.text.now) c.step-found.result.state (if c.is_end-self.result then [] else followed c.token-following.result c.token-following.result.kind (left c.token-following.new.self))
 
-pieces : (c : goal.After-self-2-1) → pieces_left c.args.self.now ≡ with_first c.step-found.result.ends c.args.self.now.next (on c)
+pieces : (c : goal.After-self-1) → pieces_left c.args.self.now ≡ with_first c.step-found.result.ends c.args.self.now.next (on c)
 unfolding pieces_left
 pieces c =
     let s = c.args.self.now in
     let off : tokens_left s ≡ followed s.next s.next.kind (left s.scanner) = rw (c.requires) refl in
     ap (pieces_at (role_in s.scanner.text.now) s.state) off ∙
     advance_to s.scanner.text.now s.state s.next c.token-following.result (left s.scanner) (left c.token-following.new.self) c.token-following.ensures.token
-    c.token-following.new.self.text.now c.token-following.ensures.text s.next_role c.role-following_role.result s.known (c.role-following_role.ensures ∙ ap (λ text. role_in text c.token-following.result) (c.text.ensures ∙ c.token-following.ensures.text)) c.step-found.result c.step-found.ensures.step c.is_end.result c.is_end.ensures
+    c.token-following.new.self.text.now c.token-following.ensures.text s.next_role c.role-following_role.result s.known (c.role-following_role.ensures ∙ ap (λ text. role_in text c.token-following.result) (c.text.ensures ∙ c.token-following.ensures.text)) c.step-found.result c.step-found.ensures.step c.is_end-self.result c.is_end-self.ensures
 
 pub returns-clause-pieces : goal.returns-clause-pieces
 unfolding pieces_left
@@ -40,4 +40,4 @@ returns-clause-after c =
     ap (λ (ps : List (List Token)). other_pieces ps) (pieces c) ∙ after_on c.args.self.now.next c.step-found.result.ends (on c)
 
 pub returns-clause-goes : goal.returns-clause-goes
-returns-clause-goes c off = c.is_end.ensures ∙ no_end c.args.self.now.scanner.text.now c.args.self.now.next c.args.self.now.next_role c.step-found.result.ends c.args.self.now.known c.step-found.ensures.last off
+returns-clause-goes c off = c.is_end-self.ensures ∙ no_end c.args.self.now.scanner.text.now c.args.self.now.next c.args.self.now.next_role c.step-found.result.ends c.args.self.now.known c.step-found.ensures.last off

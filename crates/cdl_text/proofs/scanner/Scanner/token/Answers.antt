@@ -1,30 +1,22 @@
-use Rattle.std.proofs.Common.{arith, ◌+◌, ℕ, sym, ap, ◌∙◌, false}
-use Rattle.cdl_text.specs.Scan.{scan}
-use Rattle.cdl_text.specs.declared.token.Token.{Token}
-use Rattle.cdl_text.specs.Scanners.{left, followed}
-use Rattle.cdl_text.proofs.Scans.{step_token, step_gap, step_end, left_of}
+use Rattle.std.proofs.Common.{◌≡◌, ◌+◌, drop, sym, ap, ◌∙◌, true, slice_index_or, count_by, take}
+use Rattle.std.specs.Prelude.{◌==◌}
+use Rattle.cdl_text.specs.Bytes.{is_mark}
+use Rattle.cdl_text.specs.Scan.{scan, token, begins_number}
+use Rattle.cdl_text.specs.declared.token.TokenKind.TheVariants.{Number}
+use Rattle.cdl_text.proofs.PlainTokens.{scan_mark, scan_number, mark_flat, number_flat}
 use Rattle.cdl_text.proofs.scanner.Scanner.token.Goals as goal
 
-pub returns-in-Some-clause-token : goal.returns-in-Some-clause-token
-returns-in-Some-clause-token c =
-    let s = c.loop-self.self in
-    let f = c.scan-found in
-    let back = c.split_at.ensures.back in
-    let step = step_token s.text.now s.fresh s.at s.line f.result c.in-Some.kind c.loop-self-test.true (f.ensures.scan ∙ ap (scan s.fresh) back) f.ensures.some (rw (← back) f.ensures.within) f.ensures.kind c.in-Some.is s.on_line in
-    let on = left_of c.after.result s.text.now false (s.at + f.result.len) c.after.ensures.text c.after.ensures.fresh c.after.ensures.at in
-    let t : ℕ → Token = λ p. record { kind = c.in-Some.kind; line = s.line; first = s.at; past = p } in
-    sym c.loop-self.invariant.rest ∙ step ∙ ap (followed (t (s.at + f.result.len)) c.in-Some.kind) (sym on) ∙ ap (λ p. followed (t p) c.in-Some.kind (left c.after.result)) (sym c.after.ensures.at)
+pub take-requires-clause-here : goal.take-requires-clause-here
+take-requires-clause-here c =
+    let s = c.skip_blanks.new.self in
+    ap (scan s.fresh) (sym c.split_at.ensures.back) ∙ scan_mark s.fresh _ (ap is_mark (sym c.byte_at.ensures) ∙ sym c.is_mark.ensures ∙ c.if-is_mark.true)
 
-pub loop-self-preserved : goal.loop-self-preserved
-loop-self-preserved c =
-    let s = c.loop-self.self in
-    let f = c.scan-found in
-    let back = c.split_at.ensures.back in
-    let step = step_gap s.text.now s.fresh s.at f.result c.loop-self-test.true (f.ensures.scan ∙ ap (scan s.fresh) back) f.ensures.some (rw (← back) f.ensures.within) c.in-None.is in
-    let on = left_of c.after-in-None.result s.text.now s.fresh (s.at + f.result.len) c.after-in-None.ensures.text c.after-in-None.ensures.fresh c.after-in-None.ensures.at in
-    record { rest = on ∙ sym step ∙ c.loop-self.invariant.rest; text = c.after-in-None.ensures.text ∙ c.loop-self.invariant.text; on = omega (arith, c.after-in-None.ensures.at, c.loop-self.invariant.on) }
+pub take-requires-then-begins_number-clause-here : goal.take-requires-then-begins_number-clause-here
+take-requires-then-begins_number-clause-here c =
+    let s = c.skip_blanks.new.self in
+    ap (scan s.fresh) (sym c.split_at.ensures.back) ∙ scan_number s.fresh _ (sym c.begins_number.ensures ∙ c.if-begins_number.true) ∙ ap (token Number) (sym c.number_len.ensures.len)
 
-pub returns-clause-token : goal.returns-clause-token
-returns-clause-token c =
-    let s = c.loop-self.self in
-    sym c.loop-self.invariant.rest ∙ step_end s.text.now s.fresh s.at s.line (omega arith) s.on_line
+pub take-requires-then-begins_number-clause-flat : goal.take-requires-then-begins_number-clause-flat
+take-requires-then-begins_number-clause-flat c =
+    let rest = c.split_at.result.1.now in
+    ap (λ bs. count_by (λ b. b == 0x0a) (take c.number_len.result bs)) (sym c.split_at.ensures.back) ∙ ap (λ n. count_by (λ b. b == 0x0a) (take n rest)) c.number_len.ensures.len ∙ number_flat rest (sym c.begins_number.ensures ∙ c.if-begins_number.true)

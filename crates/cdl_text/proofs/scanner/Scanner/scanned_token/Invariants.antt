@@ -1,6 +1,6 @@
 use Rattle.std.proofs.Common.{length, ◌-◌, ◌≡◌, ◌≤◌}
 use Rattle.cdl_text.specs.Scanners.{left}
-use Rattle.cdl_text.proofs.scanner.Scanner.token.Given as goal
+use Rattle.cdl_text.proofs.scanner.Scanner.scanned_token.Given as goal
 
 abbrev pub invariant-loop-self : goal.invariant-loop-self
 invariant-loop-self l = record {
