@@ -41,7 +41,7 @@ returns-then-is_name c =
     let on = second_on start next c.advanced.result.1 c.requires.brace c.requires.colon c.requires.whole c.advanced.ensures.words c.advanced.ensures.goes in
     let colon : is_mark 0x3a second ≡ true = ap (is_mark 0x3a) (sym c.lexeme.ensures.lexeme) ∙ sym c.is_mark.ensures ∙ c.if-not-is_mark.false in
     let named : is_name l ≡ true = ap is_name (sym c.lexeme-word.ensures.lexeme) ∙ sym c.is_name.ensures ∙ c.if-is_name.true in
-    makes_attribute (version_of start) (state_of c.args.self.now) l second on.rest (words next) (words start) c.read_attribute.new.self c.read_attribute.result c.requires.brace c.requires.colon colon named on.second on.first on.due c.read_attribute.ensures
+    makes_attribute (version_of start) (state_of c.args.self.now) l second on.rest (words next) (words start) c.read_attribute.new.self c.read_attribute.result c.requires.brace c.requires.colon colon named on.second on.first on.due c.read_attribute.ensures.reads
 
 pub returns : goal.returns
 returns c =
