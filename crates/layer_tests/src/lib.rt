@@ -9,6 +9,10 @@ mod heads;
 #[cfg(test)]
 mod lines;
 #[cfg(test)]
+mod parsing;
+#[cfg(test)]
+mod refused_texts;
+#[cfg(test)]
 mod sizes;
 #[cfg(test)]
 mod small_steps;
