@@ -5,6 +5,8 @@
 #[cfg(test)]
 mod device_calls;
 #[cfg(test)]
+mod fault_order;
+#[cfg(test)]
 mod heads;
 #[cfg(test)]
 mod lines;
