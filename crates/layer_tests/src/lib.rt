@@ -11,6 +11,10 @@ mod heads;
 #[cfg(test)]
 mod lines;
 #[cfg(test)]
+mod parsed_bytes;
+#[cfg(test)]
+mod parsed_datasets;
+#[cfg(test)]
 mod parsing;
 #[cfg(test)]
 mod refused_texts;
