@@ -11,9 +11,13 @@ mod heads;
 #[cfg(test)]
 mod lines;
 #[cfg(test)]
+mod parse_growths;
+#[cfg(test)]
 mod parsed_bytes;
 #[cfg(test)]
 mod parsed_datasets;
+#[cfg(test)]
+mod parsed_numbers;
 #[cfg(test)]
 mod parsing;
 #[cfg(test)]

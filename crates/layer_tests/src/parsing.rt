@@ -1,6 +1,6 @@
 //! What texts are to give: the fault of a text, or its dataset.
 
-use cdl_parse::{CdlFault, declared, parse};
+use cdl_parse::{CdlFault, CdlKind, declared, parse};
 use nc_base::{Att, Dataset, Dim, NcType, NumRecs, Sequence, Var, Version};
 use std::alloc::{AllocError, Global};
 use std::process::Abort;
@@ -34,6 +34,12 @@ pub const NOTHING: Wanted<'static> = Wanted {
     dims: &[],
     gatts: &[],
     vars: &[],
+};
+
+/// The answer where a growth of memory was refused.
+pub const OUT_OF_MEMORY: CdlFault = CdlFault {
+    line: 0,
+    kind: CdlKind::OutOfMemory,
 };
 
 /// A variable of these dimensions, without attributes.
@@ -72,9 +78,47 @@ pub fn fault_of(rt: &impl Abort, alloc: Global, version: Version, text: &[u8]) -
 
 /// Fails unless the text gives the dataset.
 pub fn gives(rt: &impl Abort, alloc: Global, version: Version, text: &[u8], want: &Wanted<'_>) {
+    assert!(rt; is_given(rt, alloc, version, text, want).is_ok());
+}
+
+/// Fails unless the text gives the dataset, or memory is refused.
+pub fn is_given(
+    rt: &impl Abort,
+    alloc: Global,
+    version: Version,
+    text: &[u8],
+    want: &Wanted<'_>,
+) -> Result<(), AllocError> {
     match parse(alloc, text, version) {
-        Ok(dataset) => is_wanted(rt, version, &dataset, want),
-        Err(fault) => assert!(rt; false, "{fault:?}"),
+        Ok(dataset) => {
+            is_wanted(rt, version, &dataset, want);
+            Ok(())
+        }
+        Err(fault) => {
+            assert_eq!(rt; fault, OUT_OF_MEMORY, "{text:?}");
+            Err(AllocError)
+        }
+    }
+}
+
+/// Fails unless the text has the fault, or memory is refused.
+pub fn has_fault(
+    rt: &impl Abort,
+    alloc: Global,
+    version: Version,
+    text: &[u8],
+    want: CdlFault,
+) -> Result<(), AllocError> {
+    match parse(alloc, text, version) {
+        Ok(_) => {
+            assert!(rt; false, "{text:?}");
+            Ok(())
+        }
+        Err(fault) if fault == OUT_OF_MEMORY => Err(AllocError),
+        Err(fault) => {
+            assert_eq!(rt; fault, want, "{text:?}");
+            Ok(())
+        }
     }
 }
 
