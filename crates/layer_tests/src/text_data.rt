@@ -1,6 +1,6 @@
 //! The data section of CDL text.
 
-use cdl_parse::{Array, DataSection, Filling, NameIndex, ParseError, Target, read_data};
+use cdl_parse::{Array, DataSection, Fill, Filling, NameIndex, ParseError, Target, read_data};
 use cdl_text::{CdlFault, CdlKind, Cutter, TokenKind};
 use nc_base::{NcType, Version};
 use std::alloc::{AllocError, Global};
@@ -18,13 +18,10 @@ fn index(alloc: Global) -> Result<NameIndex, AllocError> {
 }
 
 /// What `v` and `c` take: three shorts, and four characters.
-fn targets(alloc: Global) -> Result<Vec<Target<'static>>, AllocError> {
+fn targets(alloc: Global) -> Result<Vec<Target>, AllocError> {
     let mut targets = Vec::new(alloc);
     targets.push(Target {
-        filling: Filling::Numbers {
-            ty: NcType::Short,
-            fill: b"\x80\x01",
-        },
+        filling: Filling::Numbers(Fill::new(NcType::Short, -32767)),
         capacity: Some(3),
         given: false,
     })?;

@@ -1,6 +1,6 @@
 //! The values of statements of the data section, and the lengths and names of dimensions.
 
-use cdl_parse::{Filling, NameIndex, ReadError, Target, check_new, dim_len, read};
+use cdl_parse::{Fill, Filling, NameIndex, ReadError, Target, check_new, dim_len, read};
 use cdl_text::{CdlKind, Cutter, Numeral};
 use nc_base::{NcType, Version};
 use std::alloc::Global;
@@ -25,14 +25,8 @@ fn index_of(alloc: Global, names: &[&[u8]]) -> Result<NameIndex, ReadError> {
 /// The bytes that a statement of the data section gives to its variable: `v` has three shorts, `c` four characters, `r`
 /// two rows of three, `u` any number of ints, and `g` has its values.
 fn values_of(alloc: Global, text: &[u8]) -> Result<Vec<u8>, ReadError> {
-    let short = Filling::Numbers {
-        ty: NcType::Short,
-        fill: b"\x80\x01",
-    };
-    let int = Filling::Numbers {
-        ty: NcType::Int,
-        fill: b"\x80\x00\x00\x01",
-    };
+    let short = Filling::Numbers(Fill::new(NcType::Short, -32767));
+    let int = Filling::Numbers(Fill::new(NcType::Int, -2147483647));
     let targets = [
         Target {
             filling: short,

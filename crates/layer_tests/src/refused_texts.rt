@@ -1,0 +1,259 @@
+//! Texts that are refused, each with its fault and its line.
+
+use crate::parsing::{fault_of, joined};
+use cdl_parse::{CdlFault, CdlKind};
+use nc_base::Version;
+use std::alloc::{AllocError, Global};
+use std::process::Abort;
+use std::test::*;
+
+/// A text of four lines, this fifth line, and a closing brace on the sixth.
+fn with_line_5(alloc: Global, line_5: &str) -> Result<Vec<u8>, AllocError> {
+    let before = b"netcdf t {\n\
+        dimensions: x = 3, t = UNLIMITED ;\n\
+        variables: short s(x) ; char c(t, x) ;\n\
+        data:\n";
+    joined(alloc, &[before, line_5.as_bytes(), b"\n}\n"])
+}
+
+/// A text with this third line.
+fn with_line_3(alloc: Global, line_3: &str) -> Result<Vec<u8>, AllocError> {
+    let before = b"netcdf t {\ndimensions: x = 3, t = UNLIMITED ;\n";
+    let after = b"\ndata:\n s = 1 ;\n}\n";
+    joined(alloc, &[before, line_3.as_bytes(), after])
+}
+
+/// Fails unless the text has this fault, whatever the version.
+fn refuses(rt: &impl Abort, alloc: Global, text: &[u8], row: &str, line: u64, kind: CdlKind) {
+    for version in [Version::Cdf1, Version::Cdf2, Version::Cdf5] {
+        assert_eq!(rt;
+            fault_of(rt, alloc, version, text),
+            Some(CdlFault { line, kind }),
+            "{row:?} for {version:?}"
+        );
+    }
+}
+
+#[test]
+fn values_are_refused(rt: HostRuntime) -> Result<(), Fail> {
+    let rows = [
+        (" s = 1.5 ;", CdlKind::BadNumber),
+        (" s = 40000 ;", CdlKind::NumberRange),
+        (" s = 1, 2, 3, 4 ;", CdlKind::TooManyValues),
+        (" s = 1 2 ;", CdlKind::Syntax),
+        (" s = 'a' ;", CdlKind::BadToken),
+        (" s = 08 ;", CdlKind::BadNumber),
+        (" q = 1 ;", CdlKind::UnknownVariable),
+        (" s\\/ = 1 ;", CdlKind::BadName),
+        (" s = \"a\" ;", CdlKind::WrongKind),
+        (" c = \"abcd\" ;", CdlKind::StringTooLong),
+        (" s = 1 ; s = 1 ;", CdlKind::DuplicateData),
+    ];
+    for (line_5, kind) in rows {
+        let text = with_line_5(rt.alloc(), line_5)?;
+        refuses(&rt, rt.alloc(), text.as_slice(), line_5, 5, kind);
+    }
+    Ok(())
+}
+
+#[test]
+fn declarations_are_refused(rt: HostRuntime) -> Result<(), Fail> {
+    let rows = [
+        ("variables: float f ;", CdlKind::FloatingType),
+        ("variables: quad q ;", CdlKind::UnknownType),
+        ("variables: int z(q) ;", CdlKind::UnknownDimension),
+        ("variables: int z(x, t) ;", CdlKind::BadShape),
+        ("variables: int z ; int z ;", CdlKind::DuplicateName),
+        ("variables: int z ; z:a = 1, 2b ;", CdlKind::MixedConstants),
+    ];
+    for (line_3, kind) in rows {
+        let text = with_line_3(rt.alloc(), line_3)?;
+        refuses(&rt, rt.alloc(), text.as_slice(), line_3, 3, kind);
+    }
+    Ok(())
+}
+
+#[test]
+fn texts_are_refused(rt: HostRuntime) {
+    let rows = [
+        ("", 1, CdlKind::Syntax),
+        ("\n\n", 3, CdlKind::Syntax),
+        ("netcdf t", 1, CdlKind::BadToken),
+        ("\n\nnetcdf\nt", 3, CdlKind::BadToken),
+        ("netcdf t {", 1, CdlKind::Syntax),
+        ("netcdf t\n{\n\n", 4, CdlKind::Syntax),
+        ("netcdf t { dimensions: x = 3 }", 1, CdlKind::Syntax),
+        ("netcdf t {\ndimensions:\nx\n= 3\n}", 3, CdlKind::Syntax),
+        ("netcdf t {} y", 1, CdlKind::Syntax),
+        ("netcdf t {\n}\n\ny\n%", 4, CdlKind::BadToken),
+        ("netcdf t { x = 3 ; } y", 1, CdlKind::Syntax),
+        (
+            "netcdf t {\ndimensions: x = 0 ;\ndata: q = 1 ;\n}\n",
+            2,
+            CdlKind::ZeroDimension,
+        ),
+        (
+            "netcdf t {\ndimensions: t = UNLIMITED, u = UNLIMITED ;\n}\n",
+            2,
+            CdlKind::TwoRecordDims,
+        ),
+        (
+            "netcdf t {\ndimensions: x = 2147483647 ;\nvariables: byte b(x, x) ;\n}\n",
+            4,
+            CdlKind::TooLarge,
+        ),
+        (
+            "netcdf t {\ndimensions: x = 2, y = 1 ;\nvariables: char c(x, y) ;\ndata: c = \"a\",\n\"ab\" ; }",
+            4,
+            CdlKind::StringTooLong,
+        ),
+    ];
+    for (text, line, kind) in rows {
+        refuses(&rt, rt.alloc(), text.as_bytes(), text, line, kind);
+    }
+}
+
+#[test]
+fn openings_are_refused(rt: HostRuntime) {
+    let rows = [
+        ("netcdf", 1, CdlKind::Syntax),
+        ("netcdft {}", 1, CdlKind::BadToken),
+        ("netcdf\\ {}", 1, CdlKind::BadToken),
+        ("netcdf \\{}", 1, CdlKind::BadToken),
+        ("\\netcdf t {}", 1, CdlKind::BadToken),
+        ("NETCDF ;", 1, CdlKind::Syntax),
+        ("t netcdf t {}", 1, CdlKind::BadToken),
+        ("}", 1, CdlKind::Syntax),
+        ("}\n}", 1, CdlKind::Syntax),
+        ("dimensions: x = 3 ; }", 1, CdlKind::Syntax),
+        ("\n// netcdf t {\n}", 3, CdlKind::Syntax),
+        ("08 ;", 1, CdlKind::BadNumber),
+        ("netcdf t {\nnetcdf t {} }", 2, CdlKind::BadToken),
+        ("netcdf t {\nnetcdf ; }", 2, CdlKind::Syntax),
+    ];
+    for (text, line, kind) in rows {
+        refuses(&rt, rt.alloc(), text.as_bytes(), text, line, kind);
+    }
+}
+
+#[test]
+fn statements_are_refused(rt: HostRuntime) {
+    let rows = [
+        ("netcdf t {\n; }", 2),
+        ("netcdf t {\ny = 3 ; }", 2),
+        ("netcdf t {\n: a = 1 }", 2),
+        ("netcdf t {\n: a = ; }", 2),
+        ("netcdf t {\n: a ; }", 2),
+        ("netcdf t {\n: = 1 ; }", 2),
+        ("netcdf t {\n: a = 1, ; }", 2),
+        ("netcdf t {\n: a = 1 2 ; }", 2),
+        ("netcdf t {\n: a = b ; }", 2),
+        ("netcdf t {\n: a = _ ; }", 2),
+        ("netcdf t {\n: int = 1 ; }", 2),
+        ("netcdf t {\n: \"a\" = 1 ; }", 2),
+        ("netcdf t {\nint z ; }", 2),
+        ("netcdf t {\ndimensions\n: z = 3, ; }", 3),
+        ("netcdf t {}\n}", 2),
+        ("netcdf t {}\n;", 2),
+        ("netcdf t {}\n:a = 1 ;", 2),
+    ];
+    for (text, line) in rows {
+        refuses(
+            &rt,
+            rt.alloc(),
+            text.as_bytes(),
+            text,
+            line,
+            CdlKind::Syntax,
+        );
+    }
+}
+
+#[test]
+fn dimensions_have_one_form(rt: HostRuntime) -> Result<(), Fail> {
+    let rows = [
+        "y ;",
+        "y = ;",
+        "= 3 ;",
+        "y 3 ;",
+        "y = \"3\" ;",
+        "y = z ;",
+        "y = Unlimited ;",
+        "y = \\unlimited ;",
+        "y = 3, ;",
+        "y = 3 4 ;",
+        "y = 3 z = 4 ;",
+        "unlimited = 3 ;",
+        "uint64 = 3 ;",
+        "int z ;",
+        "y:a = 1 ;",
+        "dimensions: y = 3 ;",
+    ];
+    for line_3 in rows {
+        let text = with_line_3(rt.alloc(), line_3)?;
+        refuses(&rt, rt.alloc(), text.as_slice(), line_3, 3, CdlKind::Syntax);
+    }
+    Ok(())
+}
+
+#[test]
+fn declarations_have_one_form(rt: HostRuntime) -> Result<(), Fail> {
+    let rows = [
+        "variables: int ;",
+        "variables: int z, ;",
+        "variables: int z y ;",
+        "variables: int z() ;",
+        "variables: int z(x,) ;",
+        "variables: int z(x ;",
+        "variables: int z x) ;",
+        "variables: int z(3) ;",
+        "variables: int z(x)(x) ;",
+        "variables: int z(byte) ;",
+        "variables: int byte ;",
+        "variables: 3 z ;",
+        "variables: z = 3 ;",
+        "variables: z:a ;",
+        "variables: int z:a = 1 ;",
+        "variables: z:byte = 1 ;",
+        "variables: byte:a = 1 ;",
+        "variables: z:a:b = 1 ;",
+        "variables: variables: int z ;",
+        "variables: dimensions: y = 3 ;",
+    ];
+    for line_3 in rows {
+        let text = with_line_3(rt.alloc(), line_3)?;
+        refuses(&rt, rt.alloc(), text.as_slice(), line_3, 3, CdlKind::Syntax);
+    }
+    Ok(())
+}
+
+#[test]
+fn lists_of_values_have_one_form(rt: HostRuntime) -> Result<(), Fail> {
+    let rows = [
+        "s ;",
+        "s = ;",
+        "= 1 ;",
+        "s 1 ;",
+        "s = x ;",
+        "s = \\_ ;",
+        "s = 1, ;",
+        "s = 1,, 2 ;",
+        "s = , 1 ;",
+        "s(0) = 1 ;",
+        "s:a = 1 ;",
+        ":a = 1 ;",
+        "byte = 1 ;",
+        "int z ;",
+        "data: s = 1 ;",
+        "variables: int z ;",
+        "dimensions: y = 3 ;",
+        "s = 1",
+        "s = 1-2 ;",
+        "s = (1) ;",
+    ];
+    for line_5 in rows {
+        let text = with_line_5(rt.alloc(), line_5)?;
+        refuses(&rt, rt.alloc(), text.as_slice(), line_5, 5, CdlKind::Syntax);
+    }
+    Ok(())
+}
