@@ -19,18 +19,10 @@ const VARS: &'static str = "short s(x) ; char c(t, x) ; char d(x) ;";
 /// Fails unless each row has its fault, whatever the version.
 fn refuse(rt: &impl Abort, alloc: Global, rows: &[Row]) -> Result<(), Fail> {
     for (dims, vars, values, line, kind) in rows {
-        let text = joined(
-            alloc,
-            &[
-                b"netcdf t {\ndimensions: ",
-                dims.as_bytes(),
-                b"\nvariables: ",
-                vars.as_bytes(),
-                b"\ndata: ",
-                values.as_bytes(),
-                b"\n}\n",
-            ],
-        )?;
+        let text = joined(alloc, b"netcdf t {\ndimensions: ", dims.as_bytes(), b"")?;
+        let text = joined(alloc, text.as_slice(), b"\nvariables: ", vars.as_bytes())?;
+        let text = joined(alloc, text.as_slice(), b"\ndata: ", values.as_bytes())?;
+        let text = joined(alloc, text.as_slice(), b"\n}\n", b"")?;
         for version in [Version::Cdf1, Version::Cdf2, Version::Cdf5] {
             assert_eq!(rt;
                 fault_of(rt, alloc, version, text.as_slice()),

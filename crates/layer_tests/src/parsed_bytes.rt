@@ -1,6 +1,6 @@
 //! Texts with each of the 256 bytes, and strings with each escape.
 
-use crate::parsing::{NOTHING, Wanted, gives, joined};
+use crate::parsing::{NOTHING, gives, gives_attribute, joined};
 use cdl_parse::{CdlFault, CdlKind, parse};
 use nc_base::{NcType, Version};
 use std::alloc::{AllocError, Global};
@@ -54,9 +54,9 @@ fn each_byte_alone(rt: HostRuntime) {
 #[test]
 fn each_byte_within_a_text(rt: HostRuntime) -> Result<(), Fail> {
     for byte in 0..=255u8 {
-        let text = joined(rt.alloc(), &[b"netcdf t {", &[byte], b"}"])?;
+        let text = joined(rt.alloc(), b"netcdf t {", &[byte], b"}")?;
         answers(&rt, rt.alloc(), text.as_slice(), 1, fault_within(byte));
-        let text = joined(rt.alloc(), &[b"netcdf t {\n", &[byte], b"\n}"])?;
+        let text = joined(rt.alloc(), b"netcdf t {\n", &[byte], b"\n}")?;
         let want = match byte {
             b'\\' => Some(CdlKind::BadToken),
             _ => fault_within(byte),
@@ -75,14 +75,14 @@ fn each_byte_within_a_text(rt: HostRuntime) -> Result<(), Fail> {
 #[test]
 fn each_byte_in_the_name_of_a_text(rt: HostRuntime) -> Result<(), Fail> {
     for byte in 0..=255u8 {
-        let text = joined(rt.alloc(), &[b"netcdf ", &[byte], b"t\n{}"])?;
+        let text = joined(rt.alloc(), b"netcdf ", &[byte], b"t\n{}")?;
         let want = if byte == b'{' {
             Some(CdlKind::BadToken)
         } else {
             None
         };
         answers(&rt, rt.alloc(), text.as_slice(), 1, want);
-        let text = joined(rt.alloc(), &[b"netcdf", &[byte], b"{}"])?;
+        let text = joined(rt.alloc(), b"netcdf", &[byte], b"{}")?;
         let want = match byte {
             b'\t'..=b'\r' | b' ' => None,
             // no brace outside an escape, or none in the first statement
@@ -101,14 +101,19 @@ fn stands_for(
     inside: &[u8],
     want: Option<&[u8]>,
 ) -> Result<(), AllocError> {
-    let text = joined(alloc, &[b"netcdf t {\n\n:a = \"", inside, b"\" ; }"])?;
+    let text = joined(alloc, b"netcdf t {\n\n:a = \"", inside, b"\" ; }")?;
     match want {
         Some(vals) => {
-            let want = Wanted {
-                gatts: &[(b"a", NcType::Char, vals)],
-                ..NOTHING
-            };
-            gives(rt, alloc, Version::Cdf1, text.as_slice(), &want);
+            let version = Version::Cdf1;
+            gives_attribute(
+                rt,
+                alloc,
+                version,
+                text.as_slice(),
+                b"a",
+                NcType::Char,
+                vals,
+            );
         }
         None => refuses(rt, alloc, text.as_slice(), 3, CdlKind::BadToken),
     }
@@ -256,14 +261,19 @@ fn names(
     word: &[u8],
     want: Result<&[u8], CdlKind>,
 ) -> Result<(), AllocError> {
-    let text = joined(alloc, &[b"netcdf t {\n:", word, b" = 1b ; }"])?;
+    let text = joined(alloc, b"netcdf t {\n:", word, b" = 1b ; }")?;
     match want {
         Ok(name) => {
-            let want = Wanted {
-                gatts: &[(name, NcType::Byte, b"\x01")],
-                ..NOTHING
-            };
-            gives(rt, alloc, Version::Cdf1, text.as_slice(), &want);
+            let version = Version::Cdf1;
+            gives_attribute(
+                rt,
+                alloc,
+                version,
+                text.as_slice(),
+                name,
+                NcType::Byte,
+                b"\x01",
+            );
         }
         Err(kind) => refuses(rt, alloc, text.as_slice(), 2, kind),
     }
@@ -361,9 +371,9 @@ fn reserved_words_are_no_names(rt: HostRuntime) -> Result<(), Fail> {
     for word in words {
         let word = word.as_bytes();
         names(&rt, rt.alloc(), word, Err(CdlKind::Syntax))?;
-        let escaped = joined(rt.alloc(), &[b"\\", word])?;
+        let escaped = joined(rt.alloc(), b"\\", word, b"")?;
         names(&rt, rt.alloc(), escaped.as_slice(), Ok(word))?;
-        let longer = joined(rt.alloc(), &[word, b"_"])?;
+        let longer = joined(rt.alloc(), word, b"_", b"")?;
         names(&rt, rt.alloc(), longer.as_slice(), Ok(longer.as_slice()))?;
     }
     Ok(())

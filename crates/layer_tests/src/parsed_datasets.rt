@@ -1,9 +1,11 @@
 //! Texts that give a dataset.
 
-use crate::parsing::{NOTHING, Wanted, WantedVar, gives, joined, plain};
+use crate::parsing::{
+    NOTHING, Wanted, WantedVar, gives, gives_dimension, gives_variable, joined, plain,
+};
 use cdl_parse::{CdlFault, CdlKind, declared, parse};
 use nc_base::{NcType, NumRecs, Version};
-use std::alloc::Global;
+use std::alloc::{AllocError, Global};
 use std::process::Abort;
 use std::test::*;
 
@@ -217,12 +219,11 @@ fn fill_values_are_those_of_the_first_fitting_attribute(rt: HostRuntime) {
     let text = b"netcdf t {\ndimensions: x = 2 ;\nvariables: byte b(x), c(x), d(x) ; char e(x) ;\n\
         b:_FillValue = 5b ; c:_FillValue = 5 ; d:_FillValue = 5b, 6b ; e:_FillValue = \"xy\" ;\n\
         data: b = _ ; c = _ ; d = 1 ; e = \"e\" ; }";
-    let five: &[u8] = b"\x05";
     let want = Wanted {
         dims: &[(b"x", 2)],
         vars: &[
             WantedVar {
-                atts: &[(b"_FillValue", NcType::Byte, five)],
+                atts: &[(b"_FillValue", NcType::Byte, b"\x05")],
                 ..plain(b"b", NcType::Byte, &[0], b"\x05\x05")
             },
             WantedVar {
@@ -315,54 +316,54 @@ fn variables_and_dimensions_have_names_of_their_own(rt: HostRuntime) {
 }
 
 #[test]
-fn five_types_are_of_cdf5_alone(rt: HostRuntime) {
-    let rows: [(&str, NcType, &[u8], &[u8]); 5] = [
-        ("ubyte", NcType::Ubyte, b"\xff", b"\xff"),
-        ("ushort", NcType::Ushort, b"\xff\xff", b"\x00\xff"),
-        ("uint", NcType::Uint, b"\xff\xff\xff\xff", b"\0\0\0\xff"),
+fn five_types_are_of_cdf5_alone(rt: HostRuntime) -> Result<(), Fail> {
+    let rows: [(&[u8], NcType, &[u8], &[u8]); 5] = [
+        (b"ubyte", NcType::Ubyte, b"\xff", b"\xff"),
+        (b"ushort", NcType::Ushort, b"\xff\xff", b"\x00\xff"),
+        (b"uint", NcType::Uint, b"\xff\xff\xff\xff", b"\0\0\0\xff"),
         (
-            "int64",
+            b"int64",
             NcType::Int64,
             b"\x80\0\0\0\0\0\0\x02",
             b"\0\0\0\0\0\0\0\xff",
         ),
         (
-            "uint64",
+            b"uint64",
             NcType::Uint64,
             b"\xff\xff\xff\xff\xff\xff\xff\xfe",
             b"\0\0\0\0\0\0\0\xff",
         ),
     ];
     for (word, ty, fill, last) in rows {
-        is_of_cdf5(&rt, rt.alloc(), word, ty, fill, last);
+        is_of_cdf5(&rt, rt.alloc(), word, ty, fill, last)?;
     }
+    Ok(())
 }
 
 /// Fails unless CDF-5 alone has the type: its fill value, and the value 255, have these bytes.
-fn is_of_cdf5(rt: &impl Abort, alloc: Global, word: &str, ty: NcType, fill: &[u8], last: &[u8]) {
-    let ends = joined(
+fn is_of_cdf5(
+    rt: &impl Abort,
+    alloc: Global,
+    word: &[u8],
+    ty: NcType,
+    fill: &[u8],
+    last: &[u8],
+) -> Result<(), AllocError> {
+    let unset = joined(alloc, b"netcdf t {\nvariables: ", word, b" v ; }")?;
+    gives_variable(rt, alloc, Version::Cdf5, unset.as_slice(), ty, fill);
+    let set = joined(
         alloc,
-        &[
-            b"netcdf t {\nvariables: ",
-            word.as_bytes(),
-            b" v, w ;\ndata: w = 255 ; }",
-        ],
-    );
-    match ends {
-        Ok(text) => {
-            let want = Wanted {
-                vars: &[plain(b"v", ty, &[], fill), plain(b"w", ty, &[], last)],
-                ..NOTHING
-            };
-            gives(rt, alloc, Version::Cdf5, text.as_slice(), &want);
-            for version in [Version::Cdf1, Version::Cdf2] {
-                let fault = parse(alloc, text.as_slice(), version).err();
-                let kind = CdlKind::UnknownType;
-                assert_eq!(rt; fault, Some(CdlFault { line: 2, kind }));
-            }
-        }
-        Err(_) => assert!(rt; false),
+        b"netcdf t {\nvariables: ",
+        word,
+        b" v ; data: v = 255 ; }",
+    )?;
+    gives_variable(rt, alloc, Version::Cdf5, set.as_slice(), ty, last);
+    for version in [Version::Cdf1, Version::Cdf2] {
+        let fault = parse(alloc, set.as_slice(), version).err();
+        let kind = CdlKind::UnknownType;
+        assert_eq!(rt; fault, Some(CdlFault { line: 2, kind }));
     }
+    Ok(())
 }
 
 #[test]
@@ -406,47 +407,6 @@ fn arrays_at_their_limit(rt: HostRuntime) {
 }
 
 #[test]
-fn lengths_at_their_limit(rt: HostRuntime) {
-    let too_long = CdlKind::NumberRange;
-    let rows: [(&[u8], Version, Option<u64>); 7] = [
-        (b"2147483647", Version::Cdf1, Some(2147483647)),
-        (b"2147483648", Version::Cdf1, None),
-        (b"2147483647", Version::Cdf2, Some(2147483647)),
-        (b"2147483648", Version::Cdf2, None),
-        (b"2147483648", Version::Cdf5, Some(2147483648)),
-        (
-            b"9223372036854775807",
-            Version::Cdf5,
-            Some(9223372036854775807),
-        ),
-        (b"9223372036854775808", Version::Cdf5, None),
-    ];
-    for (digits, version, len) in rows {
-        if let Ok(text) = joined(
-            rt.alloc(),
-            &[b"netcdf t {\ndimensions: x = ", digits, b" ;\n}"],
-        ) {
-            match parse(rt.alloc(), text.as_slice(), version) {
-                Ok(dataset) => {
-                    let first = dataset.header.dims.as_slice().first();
-                    assert_eq!(rt; first.map(|dim| dim.len), len);
-                }
-                Err(fault) => {
-                    assert_eq!(rt; len, None);
-                    assert_eq!(rt;
-                        fault,
-                        CdlFault {
-                            line: 2,
-                            kind: too_long
-                        }
-                    );
-                }
-            }
-        }
-    }
-}
-
-#[test]
 fn a_long_name(rt: HostRuntime) -> Result<(), Fail> {
     let mut name = Vec::new(rt.alloc());
     for _ in 0..65536 {
@@ -454,12 +414,19 @@ fn a_long_name(rt: HostRuntime) -> Result<(), Fail> {
     }
     let text = joined(
         rt.alloc(),
-        &[b"netcdf t { dimensions: ", name.as_slice(), b" = 3 ; }"],
+        b"netcdf t { dimensions: ",
+        name.as_slice(),
+        b" = 3 ; }",
     )?;
-    let want = Wanted {
-        dims: &[(name.as_slice(), 3)],
-        ..NOTHING
-    };
-    give(&rt, rt.alloc(), text.as_slice(), &want);
+    for version in [Version::Cdf1, Version::Cdf2, Version::Cdf5] {
+        gives_dimension(
+            &rt,
+            rt.alloc(),
+            version,
+            text.as_slice(),
+            name.as_slice(),
+            3,
+        );
+    }
     Ok(())
 }

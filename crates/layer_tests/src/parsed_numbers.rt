@@ -1,6 +1,6 @@
 //! Numbers of texts: at the ends of the ranges of their types and one past them, in each base, and of up to 400 digits.
 
-use crate::parsing::{NOTHING, Wanted, gives, joined, plain};
+use crate::parsing::{gives_attribute, gives_dimension, gives_variable, joined};
 use cdl_parse::{CdlFault, CdlKind, parse};
 use nc_base::{NcType, Version};
 use std::alloc::{AllocError, Global};
@@ -329,25 +329,18 @@ fn is_value(
     digits: &[u8],
     want: Option<&[u8]>,
 ) -> Result<(), AllocError> {
-    let text = joined(
+    let before = joined(
         alloc,
-        &[
-            b"netcdf t {\nvariables: ",
-            range.word,
-            b" v ;\ndata: v = ",
-            digits,
-            b" ; }",
-        ],
+        b"netcdf t {\nvariables: ",
+        range.word,
+        b" v ;\ndata: v = ",
     )?;
+    let text = joined(alloc, before.as_slice(), digits, b" ; }")?;
     for version in VERSIONS {
         if version.has_type(range.ty) {
             match want {
                 Some(bytes) => {
-                    let want = Wanted {
-                        vars: &[plain(b"v", range.ty, &[], bytes)],
-                        ..NOTHING
-                    };
-                    gives(rt, alloc, version, text.as_slice(), &want);
+                    gives_variable(rt, alloc, version, text.as_slice(), range.ty, bytes);
                 }
                 None => refuses(rt, alloc, version, text.as_slice(), 3, CdlKind::NumberRange),
             }
@@ -364,19 +357,13 @@ fn is_constant(
     digits: &[u8],
     want: Option<&[u8]>,
 ) -> Result<(), AllocError> {
-    let text = joined(
-        alloc,
-        &[b"netcdf t {\n:a = ", digits, range.suffix, b" ; }"],
-    )?;
+    let before = joined(alloc, b"netcdf t {\n:a = ", digits, range.suffix)?;
+    let text = joined(alloc, before.as_slice(), b" ; }", b"")?;
     for version in VERSIONS {
         if version.has_type(range.ty) {
             match want {
                 Some(vals) => {
-                    let want = Wanted {
-                        gatts: &[(b"a", range.ty, vals)],
-                        ..NOTHING
-                    };
-                    gives(rt, alloc, version, text.as_slice(), &want);
+                    gives_attribute(rt, alloc, version, text.as_slice(), b"a", range.ty, vals);
                 }
                 None => refuses(rt, alloc, version, text.as_slice(), 2, CdlKind::NumberRange),
             }
@@ -394,10 +381,12 @@ fn has_bytes(
     zeros: &[u8],
     want: Option<&[u8]>,
 ) -> Result<(), AllocError> {
-    let octal = joined(alloc, &[number.sign, b"0", zeros, number.octal])?;
+    let octal = joined(alloc, number.sign, b"0", zeros)?;
+    let octal = joined(alloc, octal.as_slice(), number.octal, b"")?;
     is_value(rt, alloc, range, octal.as_slice(), want)?;
     is_constant(rt, alloc, range, octal.as_slice(), want)?;
-    let hexadecimal = joined(alloc, &[number.sign, b"0x", zeros, number.hexadecimal])?;
+    let hexadecimal = joined(alloc, number.sign, b"0x", zeros)?;
+    let hexadecimal = joined(alloc, hexadecimal.as_slice(), number.hexadecimal, b"")?;
     is_value(rt, alloc, range, hexadecimal.as_slice(), want)?;
     // there the suffix `b` would be a digit
     if range.suffix != b"b".as_slice() {
@@ -414,7 +403,7 @@ fn has_bytes_in_decimal(
     number: &Number,
     want: Option<&[u8]>,
 ) -> Result<(), AllocError> {
-    let decimal = joined(alloc, &[number.sign, number.decimal])?;
+    let decimal = joined(alloc, number.sign, number.decimal, b"")?;
     is_value(rt, alloc, range, decimal.as_slice(), want)?;
     is_constant(rt, alloc, range, decimal.as_slice(), want)
 }
@@ -456,18 +445,14 @@ fn are_nines(
     digits: &[u8],
     count: usize,
 ) -> Result<(), AllocError> {
-    let before = b"netcdf t {\nvariables: ";
-    let text = joined(
+    let before = joined(
         alloc,
-        &[
-            before,
-            range.word,
-            b" v ;\ndata: v = ",
-            sign,
-            digits,
-            b" ; }",
-        ],
+        b"netcdf t {\nvariables: ",
+        range.word,
+        b" v ;\ndata: v = ",
     )?;
+    let before = joined(alloc, before.as_slice(), sign, digits)?;
+    let text = joined(alloc, before.as_slice(), b" ; }", b"")?;
     if count <= range.nines {
         assert!(rt;
             parse(alloc, text.as_slice(), Version::Cdf5).is_ok(),
@@ -511,15 +496,9 @@ fn is_length(
     digits: &[u8],
     want: Result<u64, CdlKind>,
 ) -> Result<(), AllocError> {
-    let text = joined(alloc, &[b"netcdf t {\ndimensions: x = ", digits, b" ; }"])?;
+    let text = joined(alloc, b"netcdf t {\ndimensions: x = ", digits, b" ; }")?;
     match want {
-        Ok(len) => {
-            let want = Wanted {
-                dims: &[(b"x", len)],
-                ..NOTHING
-            };
-            gives(rt, alloc, version, text.as_slice(), &want);
-        }
+        Ok(len) => gives_dimension(rt, alloc, version, text.as_slice(), b"x", len),
         Err(kind) => refuses(rt, alloc, version, text.as_slice(), 2, kind),
     }
     Ok(())
@@ -537,39 +516,43 @@ fn is_length_after_zeros(
     for count in COUNTS {
         assert!(rt; count <= 400);
         let zeros = &ZEROS[..count];
-        let octal = joined(alloc, &[b"0", zeros, number.octal])?;
+        let octal = joined(alloc, b"0", zeros, number.octal)?;
         is_length(rt, alloc, version, octal.as_slice(), want)?;
-        let hexadecimal = joined(alloc, &[b"0X", zeros, number.hexadecimal])?;
+        let hexadecimal = joined(alloc, b"0X", zeros, number.hexadecimal)?;
         is_length(rt, alloc, version, hexadecimal.as_slice(), want)?;
     }
     Ok(())
 }
 
 #[test]
-fn ends_of_lengths(rt: HostRuntime) -> Result<(), Fail> {
-    let past = Err(CdlKind::NumberRange);
+fn length_0_after_zeros(rt: HostRuntime) -> Result<(), Fail> {
     let zero = Number {
         sign: b"",
         decimal: b"0",
         octal: b"0",
         hexadecimal: b"0",
     };
+    let want = Err(CdlKind::ZeroDimension);
     for version in VERSIONS {
-        is_length_after_zeros(&rt, rt.alloc(), version, &zero, Err(CdlKind::ZeroDimension))?;
+        is_length_after_zeros(&rt, rt.alloc(), version, &zero, want)?;
     }
-    for version in [Version::Cdf1, Version::Cdf2] {
-        is_length_after_zeros(&rt, rt.alloc(), version, &RANGES[4].high, Ok(2147483647))?;
-        is_length_after_zeros(&rt, rt.alloc(), version, &RANGES[4].above, past)?;
+    Ok(())
+}
+
+#[test]
+fn ends_of_lengths(rt: HostRuntime) -> Result<(), Fail> {
+    let rows = [
+        (Version::Cdf1, RANGES[4].high, Ok(2147483647)),
+        (Version::Cdf1, RANGES[4].above, Err(CdlKind::NumberRange)),
+        (Version::Cdf2, RANGES[4].high, Ok(2147483647)),
+        (Version::Cdf2, RANGES[4].above, Err(CdlKind::NumberRange)),
+        (Version::Cdf5, RANGES[4].above, Ok(2147483648)),
+        (Version::Cdf5, RANGES[6].high, Ok(9223372036854775807)),
+        (Version::Cdf5, RANGES[6].above, Err(CdlKind::NumberRange)),
+    ];
+    for (version, number, want) in rows {
+        is_length_after_zeros(&rt, rt.alloc(), version, &number, want)?;
     }
-    let (last, next) = (&RANGES[6].high, &RANGES[6].above);
-    is_length_after_zeros(
-        &rt,
-        rt.alloc(),
-        Version::Cdf5,
-        last,
-        Ok(9223372036854775807),
-    )?;
-    is_length_after_zeros(&rt, rt.alloc(), Version::Cdf5, next, past)?;
     Ok(())
 }
 
@@ -606,14 +589,10 @@ fn is_typed(
     digits: &[u8],
     want: Result<(NcType, &[u8]), CdlKind>,
 ) -> Result<(), AllocError> {
-    let text = joined(alloc, &[b"netcdf t {\n:a = ", digits, b" ; }"])?;
+    let text = joined(alloc, b"netcdf t {\n:a = ", digits, b" ; }")?;
     match want {
         Ok((ty, vals)) => {
-            let want = Wanted {
-                gatts: &[(b"a", ty, vals)],
-                ..NOTHING
-            };
-            gives(rt, alloc, version, text.as_slice(), &want);
+            gives_attribute(rt, alloc, version, text.as_slice(), b"a", ty, vals);
         }
         Err(kind) => refuses(rt, alloc, version, text.as_slice(), 2, kind),
     }

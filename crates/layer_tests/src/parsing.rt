@@ -53,12 +53,16 @@ pub fn plain<'a>(name: &'a [u8], ty: NcType, dimids: &'a [u64], values: &'a [u8]
     }
 }
 
-/// The parts, one after the other.
-pub fn joined(alloc: Global, parts: &[&[u8]]) -> Result<Vec<u8>, AllocError> {
-    let mut text = Vec::new(alloc);
-    for part in parts {
-        text.extend_from_slice(*part)?;
-    }
+/// The three parts, one after the other.
+pub fn joined(
+    alloc: Global,
+    first: &[u8],
+    second: &[u8],
+    third: &[u8],
+) -> Result<Vec<u8>, AllocError> {
+    let mut text = Vec::from_slice(alloc, first)?;
+    text.extend_from_slice(second)?;
+    text.extend_from_slice(third)?;
     Ok(text)
 }
 
@@ -120,6 +124,82 @@ pub fn has_fault(
             Ok(())
         }
     }
+}
+
+/// Fails unless the text gives one dimension, and nothing else.
+pub fn gives_dimension(
+    rt: &impl Abort,
+    alloc: Global,
+    version: Version,
+    text: &[u8],
+    name: &[u8],
+    len: u64,
+) {
+    match parse(alloc, text, version) {
+        Ok(dataset) => {
+            has_sizes(rt, &dataset, 1, 0, 0);
+            for dim in dataset.header.dims.as_slice() {
+                assert_eq!(rt; dim.name.as_slice(), name);
+                assert_eq!(rt; dim.len, len);
+            }
+        }
+        Err(fault) => assert!(rt; false, "{fault:?}: {text:?}"),
+    }
+}
+
+/// Fails unless the text gives one attribute of the dataset, and nothing else.
+pub fn gives_attribute(
+    rt: &impl Abort,
+    alloc: Global,
+    version: Version,
+    text: &[u8],
+    name: &[u8],
+    ty: NcType,
+    vals: &[u8],
+) {
+    match parse(alloc, text, version) {
+        Ok(dataset) => {
+            has_sizes(rt, &dataset, 0, 1, 0);
+            for att in dataset.header.gatts.as_slice() {
+                assert_eq!(rt; att.name.as_slice(), name);
+                assert_eq!(rt; att.ty, ty);
+                assert_eq!(rt; att.vals.as_slice(), vals, "{text:?}");
+            }
+        }
+        Err(fault) => assert!(rt; false, "{fault:?}: {text:?}"),
+    }
+}
+
+/// Fails unless the text gives one variable without dimensions and attributes, and nothing else.
+pub fn gives_variable(
+    rt: &impl Abort,
+    alloc: Global,
+    version: Version,
+    text: &[u8],
+    ty: NcType,
+    values: &[u8],
+) {
+    match parse(alloc, text, version) {
+        Ok(dataset) => {
+            has_sizes(rt, &dataset, 0, 0, 1);
+            for var in dataset.header.vars.as_slice() {
+                assert_eq!(rt; var.ty, ty);
+                assert!(rt; var.dimids.is_empty() && var.atts.is_empty());
+            }
+            for array in dataset.arrays.as_slice() {
+                assert_eq!(rt; array.as_slice(), values, "{text:?}");
+            }
+        }
+        Err(fault) => assert!(rt; false, "{fault:?}: {text:?}"),
+    }
+}
+
+/// Fails unless the dataset has so many dimensions, attributes and variables.
+fn has_sizes(rt: &impl Abort, dataset: &Dataset, dims: usize, gatts: usize, vars: usize) {
+    assert_eq!(rt; dataset.header.dims.len(), dims);
+    assert_eq!(rt; dataset.header.gatts.len(), gatts);
+    assert_eq!(rt; dataset.header.vars.len(), vars);
+    assert_eq!(rt; dataset.arrays.len(), vars);
 }
 
 /// Fails unless it is the dataset.

@@ -13,14 +13,14 @@ fn with_line_5(alloc: Global, line_5: &str) -> Result<Vec<u8>, AllocError> {
         dimensions: x = 3, t = UNLIMITED ;\n\
         variables: short s(x) ; char c(t, x) ;\n\
         data:\n";
-    joined(alloc, &[before, line_5.as_bytes(), b"\n}\n"])
+    joined(alloc, before, line_5.as_bytes(), b"\n}\n")
 }
 
 /// A text with this third line.
 fn with_line_3(alloc: Global, line_3: &str) -> Result<Vec<u8>, AllocError> {
     let before = b"netcdf t {\ndimensions: x = 3, t = UNLIMITED ;\n";
     let after = b"\ndata:\n s = 1 ;\n}\n";
-    joined(alloc, &[before, line_3.as_bytes(), after])
+    joined(alloc, before, line_3.as_bytes(), after)
 }
 
 /// Fails unless the text has this fault, whatever the version.
