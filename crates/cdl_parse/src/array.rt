@@ -42,6 +42,7 @@ impl Array {
     /// # Errors
     ///
     /// A growth was refused.
+    #[inline]
     pub fn add(&mut self, bytes: &[u8]) -> Result<(), AllocError>
         ensures { OnOk result (self.new ≡ self.old ++ bytes.now) }
     {
@@ -119,6 +120,7 @@ impl Array {
 }
 
 /// Writes the filling that is owed.
+#[inline(never)]
 fn write_owed(bytes: &mut Vec<u8>, owed: u64, fill: u8) -> Result<(), AllocError>
     ensures { OnOk result (bytes.new.items ≡ bytes.old.items ++ replicate owed fill) }
 {

@@ -27,6 +27,7 @@ pub struct Packed<'a> {
 /// # Errors
 ///
 /// The fault of the first value that has one; or a growth was refused.
+#[inline(never)]
 pub fn pack(
     alloc: Global,
     start: Cutter<'_>,
@@ -58,6 +59,7 @@ pub fn pack(
 /// # Errors
 ///
 /// The statement has some fault; or a growth was refused.
+#[inline(never)]
 pub fn pack_good<'a>(
     alloc: Global,
     start: Cutter<'a>,

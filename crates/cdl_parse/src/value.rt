@@ -57,6 +57,7 @@ pub fn put_token(
 }
 
 /// Adds a token's value, if it has one and the token is good, and says what capacity is left and which token comes next.
+#[inline]
 pub fn take_good(
     array: &mut Array,
     version: Version,

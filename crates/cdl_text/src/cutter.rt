@@ -72,6 +72,7 @@ impl<'a> Cutter<'a> {
     }
 
     /// The next token, without its place.
+    #[inline]
     pub fn lexeme(&self) -> Lexeme<'a>
         ensures lexeme { lexeme_of result ≡ lexeme (text_of self.now) (next_token self.now) }
         ensures first { is_done self.now ≡ false → words self.now ≡ lexeme_of result ∷ drop 1 (words self.now) }
@@ -117,6 +118,7 @@ impl<'a> Cutter<'a> {
     }
 
     /// Goes on by one token, and says whether it was the last of its statement. It takes no memory.
+    #[inline]
     pub fn advance(&mut self) -> bool
         requires { is_done self.old ≡ false }
         ensures text { text_of self.new ≡ text_of self.old }

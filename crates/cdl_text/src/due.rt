@@ -54,8 +54,25 @@ impl Due {
     ghost use Rattle.cdl_text.specs.Views.{lexeme_of};
 
     /// Which token comes after this one (the CDL chapter of the NetCDF User's Guide, "CDL Syntax").
+    #[inline]
     #[tactic(auto, unfolding(crate::specs::DueTokens::next))]
     pub fn after(self, token: Lexeme<'_>) -> Due
+        ensures { result ≡ next self (lexeme_of token.entry) }
+    {
+        match self {
+            // A list of constants, which may be long, doesn't go through the table.
+            Due::Value { takes_fill } => {
+                Due::only(token.is_value(takes_fill), Due::Separator { takes_fill })
+            }
+            Due::Separator { takes_fill } => Due::separator(Due::Value { takes_fill }, token),
+            _ => self.after_in_table(token),
+        }
+    }
+
+    /// Which token comes after this one, whichever was due.
+    #[inline(never)]
+    #[tactic(auto, unfolding(crate::specs::DueTokens::next))]
+    fn after_in_table(self, token: Lexeme<'_>) -> Due
         ensures { result ≡ next self (lexeme_of token.entry) }
     {
         match self {

@@ -131,6 +131,7 @@ fn is_number(kind: TokenKind) -> bool
 
 /// What a word does.
 #[tactic(auto, unfolding(crate::specs::Pieces::is_section))]
+#[inline(never)]
 fn word_role(word: &[u8]) -> Role
     ensures { result ≡ (if is_section word.now then Role.Section else Role.Other) }
 {

@@ -41,6 +41,7 @@ pub struct Numeral {
 /// After a sign, or none, come `0x` or `0X` and hexadecimal digits, or `0` and octal digits, or decimal digits; then a suffix,
 /// or none (the CDL chapter of the NetCDF User's Guide, "CDL Notation for Data Constants").
 #[tactic(auto, unfolding(crate::specs::Numerals::parts))]
+#[inline]
 pub fn number_of_token(version: Version, bytes: &[u8]) -> Option<Numeral>
     ensures { result ≡ option_map held (parts version bytes.now) }
 {
@@ -54,6 +55,7 @@ pub fn number_of_token(version: Version, bytes: &[u8]) -> Option<Numeral>
 }
 
 /// The number of these bytes, which come after the sign.
+#[inline]
 fn unsigned(version: Version, minus: bool, bytes: &[u8]) -> Option<Numeral>
     ensures { result ≡ option_map held (unsigned version minus bytes.now) }
 {
@@ -137,6 +139,7 @@ fn suffix(version: Version, bytes: &[u8]) -> Option<NcType>
 }
 
 /// The type that a suffix says in CDF-5.
+#[inline(never)]
 fn type_of_suffix(bytes: &[u8]) -> Option<NcType>
     ensures { result ≡ type_of_suffix (map lower bytes.now) }
 {

@@ -46,6 +46,7 @@ impl<'a> Scanner<'a> {
     /// Reads the next token; at the end of the text `End`, each time.
     ///
     /// Blanks, marks and numbers, of which long data consists, go a short way; the rest is left to [`scan`].
+    #[inline]
     pub fn token(&mut self) -> Token
         ensures token { left self.old ≡ followed result result.kind (left self.new) }
         ensures text { text_of self.new ≡ text_of self.old }
@@ -104,6 +105,7 @@ impl<'a> Scanner<'a> {
     }
 
     /// Reads the next token, whatever it is.
+    #[inline(never)]
     fn scanned_token(&mut self) -> Token
         ensures token { left self.old ≡ followed result result.kind (left self.new) }
         ensures text { text_of self.new ≡ text_of self.old }

@@ -56,6 +56,7 @@ impl Token {
     }
 
     /// The token without its place.
+    #[inline]
     pub fn lexeme(self, text: &[u8]) -> Lexeme<'_>
         ensures { lexeme_of result ≡ lexeme text.now self }
     {
@@ -66,6 +67,7 @@ impl Token {
     }
 
     /// What the token does where the tokens are cut into statements.
+    #[inline]
     pub fn role(self, text: &[u8]) -> Role
         ensures { result ≡ role_in text.now self }
     {
