@@ -539,19 +539,57 @@ fn length_0_after_zeros(rt: HostRuntime) -> Result<(), Fail> {
     Ok(())
 }
 
+/// The greatest number of 31 bits.
+const LAST_OF_31_BITS: Number = Number {
+    sign: b"",
+    decimal: b"2147483647",
+    octal: b"17777777777",
+    hexadecimal: b"7fffffff",
+};
+
+/// The least number of 32 bits.
+const FIRST_OF_32_BITS: Number = Number {
+    sign: b"",
+    decimal: b"2147483648",
+    octal: b"20000000000",
+    hexadecimal: b"80000000",
+};
+
+/// The greatest number of 63 bits.
+const LAST_OF_63_BITS: Number = Number {
+    sign: b"",
+    decimal: b"9223372036854775807",
+    octal: b"777777777777777777777",
+    hexadecimal: b"7fffffffffffffff",
+};
+
+/// The least number of 64 bits.
+const FIRST_OF_64_BITS: Number = Number {
+    sign: b"",
+    decimal: b"9223372036854775808",
+    octal: b"1000000000000000000000",
+    hexadecimal: b"8000000000000000",
+};
+
 #[test]
 fn ends_of_lengths(rt: HostRuntime) -> Result<(), Fail> {
+    let past = Err(CdlKind::NumberRange);
+    for version in [Version::Cdf1, Version::Cdf2] {
+        is_length_after_zeros(&rt, rt.alloc(), version, &LAST_OF_31_BITS, Ok(2147483647))?;
+        is_length_after_zeros(&rt, rt.alloc(), version, &FIRST_OF_32_BITS, past)?;
+    }
+    Ok(())
+}
+
+#[test]
+fn ends_of_lengths_of_cdf5(rt: HostRuntime) -> Result<(), Fail> {
     let rows = [
-        (Version::Cdf1, RANGES[4].high, Ok(2147483647)),
-        (Version::Cdf1, RANGES[4].above, Err(CdlKind::NumberRange)),
-        (Version::Cdf2, RANGES[4].high, Ok(2147483647)),
-        (Version::Cdf2, RANGES[4].above, Err(CdlKind::NumberRange)),
-        (Version::Cdf5, RANGES[4].above, Ok(2147483648)),
-        (Version::Cdf5, RANGES[6].high, Ok(9223372036854775807)),
-        (Version::Cdf5, RANGES[6].above, Err(CdlKind::NumberRange)),
+        (FIRST_OF_32_BITS, Ok(2147483648)),
+        (LAST_OF_63_BITS, Ok(9223372036854775807)),
+        (FIRST_OF_64_BITS, Err(CdlKind::NumberRange)),
     ];
-    for (version, number, want) in rows {
-        is_length_after_zeros(&rt, rt.alloc(), version, &number, want)?;
+    for (number, want) in rows {
+        is_length_after_zeros(&rt, rt.alloc(), Version::Cdf5, &number, want)?;
     }
     Ok(())
 }
