@@ -6,6 +6,7 @@ ghost use Rattle.cdl_text.specs.DueTokens.{next};
 ghost use Rattle.cdl_text.specs.Lexemes as lexemes;
 ghost use Rattle.cdl_text.specs.Shapes.{token_fault};
 ghost use Rattle.cdl_text.specs.Views.{lexeme_of, lexeme_with};
+ghost use Rattle.cdl_text.specs.declared.fault.CdlKind.{CdlKind};
 ghost use Rattle.cdl_parse.specs.Answers.{Adds, Continues};
 ghost use Rattle.cdl_parse.specs.PackedValues.{bytes_of, joined, packed, value_bytes};
 
@@ -27,7 +28,10 @@ pub enum Stop {
 }
 
 /// The reason to stop, without its fault.
-pub fn stop_of(error: ReadError) -> Stop {
+pub fn stop_of(error: ReadError) -> Stop
+    ensures memory { error ≡ ReadError.OutOfMemory → result ≡ Stop.OutOfMemory }
+    ensures fault { (kind : CdlKind) → error ≡ ReadError.Fault kind → result ≡ Stop.SomeFault }
+{
     match error {
         ReadError::OutOfMemory => Stop::OutOfMemory,
         ReadError::Fault(_) => Stop::SomeFault,
