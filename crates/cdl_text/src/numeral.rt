@@ -119,10 +119,15 @@ fn number_in(base: u64, digits: &[u8]) -> Option<u64>
 }
 
 /// The number with one digit more, where it has 64 bits at most.
+#[tactic(auto, using(crate::proofs::Sizes::small_product))]
 fn one_more(base: u64, value: u64, b: u8) -> Option<u64>
     requires { base ≤ 16 }
     ensures { result ≡ word (base * value + digit b) }
 {
+    // Of most numbers neither the product nor the sum can be too large.
+    if value < 0x0800_0000_0000_0000 {
+        return Some(base * value + digit(b) as u64);
+    }
     base.checked_mul(value)?.checked_add(digit(b) as u64)
 }
 
