@@ -4,7 +4,7 @@ use Rattle.std.specs.Prelude.{◌==◌, ◌&&◌, ◌||◌, count_by}
 use Rattle.std.specs.List.{prefix_len}
 use Rattle.cdl_text.specs.declared.token.TokenKind.TheVariants.{Number, Mark}
 use Rattle.cdl_text.specs.Bytes.{begins_word, goes_on_number, is_mark, is_blank, is_digit, is_sign}
-use Rattle.cdl_text.specs.Scan.{scan, token, gap, begins_a_word, begins_number, begins_opening, begins_comment}
+use Rattle.cdl_text.specs.Scan.{scan, token, gap, begins_number, begins_opening}
 use Rattle.std.specs.Prelude.{Some}
 use Rattle.std.proofs.lemmas.List.{get_or-drop}
 use Rattle.std.proofs.lemmas.List.Sums.{sum_by-append}
@@ -65,6 +65,10 @@ number_low bs h = by (get_or bs 0 0) (is_digit (get_or bs 1 0)) (get_or bs 1 0 =
   where
     by : (b : ℕ) (c p d : Bool) → (is_digit b || b == 0x2e && c || is_sign b && c || is_sign b && p && d) ≡ true → (b ≤ 0x39) × (0x2b ≤ b)
     by b c p d h = (grind (arith, h), grind (arith, h))
+
+-- a digit begins a number
+pub digit_number : (bs : List ℕ) → is_digit (get_or bs 0 0) ≡ true → begins_number bs ≡ true
+digit_number bs h = rw (h) refl
 
 -- a number
 pub scan_number : (fresh : Bool) (bs : List ℕ) → begins_number bs ≡ true → scan fresh bs ≡ token Number (1 + prefix_len goes_on_number (drop 1 bs))

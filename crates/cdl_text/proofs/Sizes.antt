@@ -1,6 +1,7 @@
 -- Numbers of any length.
 use Rattle.std.proofs.Common.{◌≡◌, ℕ, ◌+◌, ◌*◌, ◌<◌, ◌≤◌, List, [], ◌∷◌, length, get_or, drop, ◌∙◌, ap, arith, rules}
 use Rattle.std.specs.Prelude.{None}
+use Rattle.std.proofs.Math.Nat.{mul-le-mul_right}
 use Rattle.std.proofs.lemmas.List.{at_drop_more}
 use Rattle.cdl_text.specs.Escapes.{digit}
 use Rattle.cdl_text.specs.Numerals.{number_in}
@@ -25,3 +26,7 @@ one_digit base value digits i k = at_drop_more (λ bs. number_in base value bs) 
 
 pub past_word : (base value : ℕ) (digits : List ℕ) (i : ℕ) → 1 ≤ base → i < length digits → word (base * value + digit (get_or digits i 0)) ≡ None → word (number_in base value (drop i digits)) ≡ None
 past_word base value digits i h k none = ap word (at_drop_more (λ bs. number_in base value bs) digits i 0 k) ∙ past_limit base value (get_or digits i 0) (drop (i + 1) digits) h none
+
+-- a short number's product with a base
+pub small_product : (base value : ℕ) → base ≤ 16 → value < 576460752303423488 → base * value < 9223372036854775808
+small_product base value h k = let wide : base * value ≤ 16 * value = mul-le-mul_right value h in omega (arith, wide, k)

@@ -132,7 +132,7 @@ fn is_number(kind: TokenKind) -> bool
 /// What a word does.
 #[tactic(auto, unfolding(crate::specs::Pieces::is_section))]
 #[inline(never)]
-fn word_role(word: &[u8]) -> Role
+pub fn word_role(word: &[u8]) -> Role
     ensures { result ≡ (if is_section word.now then Role.Section else Role.Other) }
 {
     let is_section = word == b"dimensions".as_slice()
@@ -146,7 +146,7 @@ fn word_role(word: &[u8]) -> Role
 }
 
 /// What a mark does.
-fn mark_role(mark: u8) -> Role
+pub fn mark_role(mark: u8) -> Role
     ensures { result ≡ mark_role mark }
 {
     match mark {

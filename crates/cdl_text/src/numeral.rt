@@ -2,7 +2,7 @@
 
 ghost use Rattle.std.specs.Str.{bytes_eq};
 ghost use Rattle.std.specs.List.{prefix_len};
-ghost use Rattle.std.specs.Prelude.{find, ◌≡◌, ◌≤◌, ◌+◌, ◌*◌, length, map, option_map};
+ghost use Rattle.std.specs.Prelude.{find, ◌≡◌, ◌≤◌, ◌+◌, ◌*◌, length, map, option_map, slice_index};
 ghost use Rattle.nc_base.specs.Types.{number_suffix};
 ghost use Rattle.cdl_text.specs.Bytes.{is_digit};
 ghost use Rattle.cdl_text.specs.Escapes.{digit};
@@ -41,7 +41,7 @@ pub struct Numeral {
 /// After a sign, or none, come `0x` or `0X` and hexadecimal digits, or `0` and octal digits, or decimal digits; then a suffix,
 /// or none (the CDL chapter of the NetCDF User's Guide, "CDL Notation for Data Constants").
 #[tactic(auto, unfolding(crate::specs::Numerals::parts))]
-#[inline]
+#[inline(always)]
 pub fn number_of_token(version: Version, bytes: &[u8]) -> Option<Numeral>
     ensures { result ≡ option_map held (parts version bytes.now) }
 {
@@ -55,14 +55,25 @@ pub fn number_of_token(version: Version, bytes: &[u8]) -> Option<Numeral>
 }
 
 /// The number of these bytes, which come after the sign.
-#[inline]
+#[inline(always)]
 fn unsigned(version: Version, minus: bool, bytes: &[u8]) -> Option<Numeral>
     ensures { result ≡ option_map held (unsigned version minus bytes.now) }
 {
-    let b = byte_at(bytes, 1);
-    if byte_at(bytes, 0) != b'0' {
+    if byte_at(bytes, 0) == b'0' {
+        after_zero(version, minus, bytes)
+    } else {
         in_base(version, minus, 10, digit_len(bytes), bytes)
-    } else if b == b'x' || b == b'X' {
+    }
+}
+
+/// The number of these bytes, which begin with `0`: the mark of another base.
+#[inline(never)]
+fn after_zero(version: Version, minus: bool, bytes: &[u8]) -> Option<Numeral>
+    requires { slice_index bytes.now 0 ≡ 0x30 }
+    ensures { result ≡ option_map held (unsigned version minus bytes.now) }
+{
+    let b = byte_at(bytes, 1);
+    if b == b'x' || b == b'X' {
         let (_, rest) = bytes.split_at(2);
         in_base(version, minus, 16, hex_len(rest), rest)
     } else {
@@ -108,10 +119,15 @@ fn number_in(base: u64, digits: &[u8]) -> Option<u64>
 }
 
 /// The number with one digit more, where it has 64 bits at most.
+#[tactic(auto, using(crate::proofs::Sizes::small_product))]
 fn one_more(base: u64, value: u64, b: u8) -> Option<u64>
     requires { base ≤ 16 }
     ensures { result ≡ word (base * value + digit b) }
 {
+    // Of most numbers neither the product nor the sum can be too large.
+    if value < 0x0800_0000_0000_0000 {
+        return Some(base * value + digit(b) as u64);
+    }
     base.checked_mul(value)?.checked_add(digit(b) as u64)
 }
 

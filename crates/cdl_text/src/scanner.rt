@@ -4,7 +4,7 @@ ghost use Rattle.std.specs.Prelude.{◌≡◌, ◌+◌, ◌≤◌, ◌<◌, ◌=
 ghost use Rattle.cdl_text.specs.Scan.{scan, token};
 ghost use Rattle.cdl_text.specs.Tokens.{line_at, tokens};
 
-use crate::bytes::{byte_at, is_blank, is_mark};
+use crate::bytes::{byte_at, is_blank, is_digit, is_mark};
 use crate::scan::{begins_number, number_len, scan};
 use crate::token::{Token, TokenKind};
 
@@ -46,7 +46,7 @@ impl<'a> Scanner<'a> {
     /// Reads the next token; at the end of the text `End`, each time.
     ///
     /// Blanks, marks and numbers, of which long data consists, go a short way; the rest is left to [`scan`].
-    #[inline]
+    #[inline(always)]
     pub fn token(&mut self) -> Token
         ensures token { left self.old ≡ followed result result.kind (left self.new) }
         ensures text { text_of self.new ≡ text_of self.old }
@@ -54,7 +54,10 @@ impl<'a> Scanner<'a> {
     {
         self.skip_blanks();
         let (_, rest) = self.text.split_at(self.at);
-        if is_mark(byte_at(rest, 0)) {
+        let b = byte_at(rest, 0);
+        if is_digit(b) {
+            self.take(TokenKind::Number, number_len(rest))
+        } else if is_mark(b) {
             self.take(TokenKind::Mark, 1)
         } else if begins_number(rest) {
             self.take(TokenKind::Number, number_len(rest))
@@ -78,6 +81,7 @@ impl<'a> Scanner<'a> {
     }
 
     /// Hands out the token that stands here, which has no line feed.
+    #[inline]
     fn take(&mut self, kind: TokenKind, len: usize) -> Token
         requires here { scan self.old.fresh (drop self.old.at self.old.text.now) ≡ token kind len }
         requires some { 0 < len }

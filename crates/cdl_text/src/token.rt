@@ -2,8 +2,8 @@
 
 ghost use Rattle.std.specs.Prelude.{◌≡◌};
 
-use crate::bytes::first_bytes;
-use crate::lexeme::Lexeme;
+use crate::bytes::{byte_at, first_bytes};
+use crate::lexeme::{Lexeme, mark_role, word_role};
 use crate::piece::Role;
 
 /// What a token is.
@@ -72,7 +72,8 @@ impl Token {
         ensures { result ≡ role_in text.now self }
     {
         match self.kind {
-            TokenKind::Word | TokenKind::Mark => self.lexeme(text).role(),
+            TokenKind::Word => word_role(self.bytes(text)),
+            TokenKind::Mark => mark_role(byte_at(self.bytes(text), 0)),
             TokenKind::Opening => Role::Opening,
             TokenKind::End => Role::End,
             TokenKind::Number | TokenKind::Text | TokenKind::Bad => Role::Other,

@@ -1,4 +1,4 @@
-use Rattle.std.proofs.Common.{arith, ◌+◌, sym, ap, ◌∙◌}
+use Rattle.std.proofs.Common.{arith, ◌+◌, sym, ◌∙◌}
 use Rattle.cdl_text.proofs.Scans.{left_of}
 use Rattle.cdl_text.proofs.PlainTokens.{past_blank}
 use Rattle.cdl_text.proofs.scanner.Scanner.skip_blanks.Goals as goal
