@@ -5,23 +5,9 @@
 #[cfg(test)]
 mod device_calls;
 #[cfg(test)]
-mod fault_order;
-#[cfg(test)]
 mod heads;
 #[cfg(test)]
 mod lines;
-#[cfg(test)]
-mod parse_growths;
-#[cfg(test)]
-mod parsed_bytes;
-#[cfg(test)]
-mod parsed_datasets;
-#[cfg(test)]
-mod parsed_numbers;
-#[cfg(test)]
-mod parsing;
-#[cfg(test)]
-mod refused_texts;
 #[cfg(test)]
 mod sizes;
 #[cfg(test)]
