@@ -33,7 +33,7 @@ fn three_shorts(rt: HostRuntime) {
 #[test]
 fn each_prefix_of_a_text(rt: HostRuntime) {
     assert_eq!(rt; THREE_SHORTS.len(), 80);
-    let mut line = 1;
+    let mut line: u64 = 1;
     for len in 0..80 {
         assert!(rt; len < THREE_SHORTS.len());
         let kind = match len {
@@ -45,7 +45,7 @@ fn each_prefix_of_a_text(rt: HostRuntime) {
             Err(fault) => assert_eq!(rt; fault, CdlFault { line, kind }, "the first {len} bytes"),
         }
         if THREE_SHORTS[len] == b'\n' {
-            line += 1;
+            line = line.wrapping_add(1);
         }
     }
     assert_eq!(rt; line, 9);
