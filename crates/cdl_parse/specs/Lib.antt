@@ -13,7 +13,7 @@ pub mod VariablePositions
 pub mod Runs
 pub mod Listed
 pub mod Defined
-pub mod OwedValues
+pub mod DeclaredDatasets
 pub mod Extents
 pub mod DataSections
 pub mod Drafts

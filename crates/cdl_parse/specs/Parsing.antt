@@ -8,7 +8,7 @@ use Rattle.cdl_text.specs.Cutters.{pieces_left, text_of, version_of}
 use Rattle.cdl_text.specs.declared.cutter.Cutter.{Cutter}
 use Rattle.cdl_parse.specs.Listed.{AllList, AreShaped}
 use Rattle.cdl_parse.specs.Meaning.{run}
-use Rattle.cdl_parse.specs.OwedValues.{dataset_of_declared}
+use Rattle.cdl_parse.specs.DeclaredDatasets.{dataset_of_declared}
 use Rattle.cdl_parse.specs.Runs.{FailsAt}
 use Rattle.cdl_parse.specs.State.{State, Draft}
 use Rattle.cdl_parse.specs.declared.declared_values.Declared.{Declared}

@@ -5,7 +5,8 @@ ghost use Rattle.std.specs.List.{concat};
 ghost use Rattle.nc_base.specs.Fill.{fill_value};
 ghost use Rattle.nc_base.specs.Headers.{value_count};
 ghost use Rattle.nc_base.specs.Numbers.{bytes_of_number};
-ghost use Rattle.cdl_parse.specs.OwedValues.{fills, known_records, owed_count, whole_array, whole_arrays};
+ghost use Rattle.nc_base.specs.GeneratedFile.{known_records};
+ghost use Rattle.nc_base.specs.OwedValues.{fills, owed_count, whole_array, whole_arrays};
 
 use crate::array::Array;
 use crate::number::put_number;
@@ -23,7 +24,7 @@ pub struct Declared {
 }
 
 impl Declared {
-    ghost use Rattle.cdl_parse.specs.OwedValues.{dataset_of_declared};
+    ghost use Rattle.cdl_parse.specs.DeclaredDatasets.{dataset_of_declared};
 
     /// The dataset: the header, and each variable's values, with its fill value as often as it lacks values (ncgen(1), and
     /// `_FillValue` in the attribute conventions of the NetCDF User's Guide).

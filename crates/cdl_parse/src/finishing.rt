@@ -3,7 +3,7 @@
 ghost use Rattle.std.specs.Prelude.{◌≡◌, ℕ, Ok};
 ghost use Rattle.cdl_parse.specs.Listed.{AllList, AreShaped};
 ghost use Rattle.cdl_parse.specs.Meaning.{finished};
-ghost use Rattle.cdl_parse.specs.OwedValues.{or_too_large};
+ghost use Rattle.cdl_parse.specs.DeclaredDatasets.{or_too_large};
 ghost use Rattle.cdl_parse.specs.State.{State};
 
 use crate::array::Array;

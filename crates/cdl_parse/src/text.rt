@@ -8,7 +8,7 @@ ghost use Rattle.cdl_parse.specs.Listed.{AreShaped, fresh};
 ghost use Rattle.cdl_parse.specs.Meaning.{empty, meaning, run};
 ghost use Rattle.cdl_parse.specs.Meant.{names_of};
 ghost use Rattle.cdl_parse.specs.NameIndices.{IsIndex};
-ghost use Rattle.cdl_parse.specs.OwedValues.{dataset_of_declared};
+ghost use Rattle.cdl_parse.specs.DeclaredDatasets.{dataset_of_declared};
 ghost use Rattle.cdl_parse.specs.Parsing.{Answers, ReadsAll, ReadsValues, as_dataset, fault_of};
 ghost use Rattle.cdl_parse.specs.Runs.{ReadsOn};
 ghost use Rattle.cdl_parse.specs.State.{State};

@@ -1,7 +1,7 @@
 -- The file of a dataset: the one spelling of its header, and its values as one concatenation.
 use Rattle.std.specs.Prelude.{ℕ, ◌+◌, ◌-◌, ◌*◌, ◌/◌, ◌^◌, ◌<◌, ◌==◌, Bool, false, nat_lt, not, if◌then◌else◌, List, [], ◌∷◌, ◌++◌, length, filter, take, drop, replicate, All}
 use Rattle.std.specs.Int.{w32, to_be_bytes}
-use Rattle.std.specs.List.{concat, flat_map, range_with_len}
+use Rattle.std.specs.List.{concat, flat_map, list_all, range_with_len}
 use Rattle.nc_base.specs.declared.header.Att.{Att}
 use Rattle.nc_base.specs.declared.header.Dim.{Dim}
 use Rattle.nc_base.specs.declared.header.Var.{Var}
@@ -146,6 +146,10 @@ with_begins h = record h { vars = vars_after h [] h.vars }
 -- each begin fits its field
 abbrev pub Fits : Header → Type 0
 Fits h = All (λ (var : Var). var.begin_at < offset_limit h.version) (with_begins h).vars
+
+-- says whether each begin fits its field
+abbrev pub fits : Header → Bool
+fits h = list_all (λ (var : Var). nat_lt var.begin_at (offset_limit h.version)) (with_begins h).vars
 
 -- the file of a dataset
 unfoldable pub file_of : Dataset → List ℕ

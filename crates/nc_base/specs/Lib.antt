@@ -18,6 +18,7 @@ pub mod HeadText
 pub mod ValueText
 pub mod Dump
 pub mod GeneratedFile
+pub mod OwedValues
 pub mod FileLaws
 pub mod Sayable
 pub mod Weight

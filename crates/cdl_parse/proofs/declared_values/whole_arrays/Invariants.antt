@@ -1,6 +1,6 @@
 use Rattle.std.proofs.Common.{◌≡◌, ◌++◌, drop}
 use Rattle.std.specs.Vec.Iter.{into_iter_items}
-use Rattle.cdl_parse.specs.OwedValues.{whole_arrays}
+use Rattle.nc_base.specs.OwedValues.{whole_arrays}
 use Rattle.cdl_parse.proofs.declared_values.whole_arrays.Given as goal
 
 abbrev pub invariant-loop-var : goal.invariant-loop-var

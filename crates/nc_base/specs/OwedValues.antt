@@ -1,18 +1,12 @@
--- What a text declares, as a dataset: each variable's listed values, and the fill value where it has none.
-use Rattle.std.specs.Prelude.{ℕ, ◌-◌, ◌/◌, List, [], ◌∷◌, ◌++◌, length, replicate, Option, None, Some, Result, Ok, Err}
+-- Arrays whose last values are owed: they are the fill value, and don't stand in memory.
+use Rattle.std.specs.Prelude.{ℕ, ◌≡◌, ◌-◌, ◌*◌, ◌/◌, ◌≤◌, List, [], ◌∷◌, ◌++◌, length, replicate}
 use Rattle.std.specs.List.{flat_map}
-use Rattle.nc_base.specs.declared.dataset.Dataset.{Dataset}
 use Rattle.nc_base.specs.declared.header.Dim.{Dim}
-use Rattle.nc_base.specs.declared.header.NumRecs.{NumRecs}
-use Rattle.nc_base.specs.declared.header.NumRecs.TheVariants.{Known, Streaming}
 use Rattle.nc_base.specs.declared.header.Var.{Var}
 use Rattle.nc_base.specs.Fill.{fill_value}
 use Rattle.nc_base.specs.Headers.{value_count}
 use Rattle.nc_base.specs.Numbers.{bytes_of_number}
 use Rattle.nc_base.specs.Types.{size_of}
-use Rattle.cdl_text.specs.declared.fault.CdlFault.{CdlFault}
-use Rattle.cdl_text.specs.declared.fault.CdlKind.TheVariants.{TooLarge}
-use Rattle.cdl_parse.specs.declared.declared_values.Declared.{Declared}
 
 -- how many values these bytes lack of those that a variable has over n records
 abbrev pub owed_count : List Dim → ℕ → Var → List ℕ → ℕ
@@ -31,14 +25,15 @@ abbrev pub whole_arrays : List Dim → ℕ → List Var → List (List ℕ) → 
 whole_arrays dims n (var ∷ vars) (listed ∷ others) = whole_array dims n var listed ∷ whole_arrays dims n vars others
 whole_arrays dims n _ _ = []
 
-abbrev pub known_records : NumRecs → ℕ
-known_records (Known n) = n
-known_records Streaming = 0
+-- these bytes are the first values of a variable over n records, or all of them
+pub record IsListed (dims : List Dim) (n : ℕ) (var : Var) (listed : List ℕ) : Type 0 where
+  pub count : ℕ
+  pub within : count ≤ value_count dims var n
+  pub whole : length listed ≡ count * size_of var.ty
 
-abbrev pub dataset_of_declared : Declared → Dataset
-dataset_of_declared d = record { header = d.header; arrays = whole_arrays d.header.dims (known_records d.header.numrecs) d.header.vars d.listed }
-
--- the dataset, or where none is declared the fault that it is too large
-abbrev pub or_too_large : ℕ → Option Declared → Result Dataset CdlFault
-or_too_large line (Some d) = Ok (dataset_of_declared d)
-or_too_large line None = Err (record { line = line; kind = TooLarge })
+-- one list of bytes for each variable
+abbrev pub AreListed : List Dim → ℕ → List Var → List (List ℕ) → Type 0
+AreListed dims n [] [] = Unit {0}
+AreListed dims n [] (listed ∷ others) = ⊥
+AreListed dims n (var ∷ vars) [] = ⊥
+AreListed dims n (var ∷ vars) (listed ∷ others) = IsListed dims n var listed × AreListed dims n vars others

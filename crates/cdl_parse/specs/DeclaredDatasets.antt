@@ -1,0 +1,16 @@
+-- What a text declares, as a dataset: each variable's listed values, and the fill value where it has none.
+use Rattle.std.specs.Prelude.{ℕ, Option, None, Some, Result, Ok, Err}
+use Rattle.nc_base.specs.declared.dataset.Dataset.{Dataset}
+use Rattle.nc_base.specs.GeneratedFile.{known_records}
+use Rattle.nc_base.specs.OwedValues.{whole_arrays}
+use Rattle.cdl_text.specs.declared.fault.CdlFault.{CdlFault}
+use Rattle.cdl_text.specs.declared.fault.CdlKind.TheVariants.{TooLarge}
+use Rattle.cdl_parse.specs.declared.declared_values.Declared.{Declared}
+
+abbrev pub dataset_of_declared : Declared → Dataset
+dataset_of_declared d = record { header = d.header; arrays = whole_arrays d.header.dims (known_records d.header.numrecs) d.header.vars d.listed }
+
+-- the dataset, or where none is declared the fault that it is too large
+abbrev pub or_too_large : ℕ → Option Declared → Result Dataset CdlFault
+or_too_large line (Some d) = Ok (dataset_of_declared d)
+or_too_large line None = Err (record { line = line; kind = TooLarge })
