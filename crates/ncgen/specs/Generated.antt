@@ -1,0 +1,42 @@
+-- What a CDL text gives: a file, or a fault.
+use Rattle.std.specs.Prelude.{◌≡◌, ◌⊎◌, ℕ, List, if◌then◌else◌, Result, Ok, Err}
+use Rattle.nc_base.specs.declared.dataset.Dataset.{Dataset}
+use Rattle.nc_base.specs.declared.version.Version.{Version}
+use Rattle.nc_base.specs.GeneratedFile.{file_of, fits}
+use Rattle.devices.specs.Sinks.{SinkView, Appended, FailedPartway}
+use Rattle.cdl_text.specs.declared.fault.CdlFault.{CdlFault}
+use Rattle.cdl_parse.specs.Meaning.{meaning}
+use Rattle.cdl_parse.specs.Parsing.{refused}
+use Rattle.ncgen.specs.declared.fault.GenFault.{GenFault}
+use Rattle.ncgen.specs.declared.fault.GenFault.TheVariants.{Cdl, OffsetTooLarge, WriteFailed}
+
+-- the file of a dataset, where it fits; and a fault stays what it is
+abbrev pub file_or_fault : Result Dataset CdlFault → Result (List ℕ) GenFault
+file_or_fault (Ok d) = if fits d.header then Ok (file_of d) else Err OffsetTooLarge
+file_or_fault (Err fault) = Err (Cdl fault)
+
+-- what a text gives in a version: the file of the dataset that it means, or its fault, or that the dataset doesn't fit
+unfoldable pub generated : List ℕ → Version → Result (List ℕ) GenFault
+generated text v = file_or_fault (meaning text v)
+
+-- the stated fault, or want of memory, which says nothing of the text
+abbrev pub Refuses : Result (List ℕ) GenFault → GenFault → Type 0
+Refuses stated fault = (stated ≡ Err fault) ⊎ (fault ≡ Cdl refused)
+
+-- the stated file was written
+pub record IsWritten (stated : Result (List ℕ) GenFault) (old new : SinkView) : Type 0 where
+  pub file : List ℕ
+  pub is_stated : stated ≡ Ok file
+  pub appended : Appended old new file
+
+-- a prefix of the stated file was written, before the sink failed
+pub record IsCutShort (stated : Result (List ℕ) GenFault) (old new : SinkView) : Type 0 where
+  pub file : List ℕ
+  pub is_stated : stated ≡ Ok file
+  pub partway : FailedPartway old new file
+
+-- The stated file, with success; a prefix of it, where the sink failed; or nothing, with the stated fault or for want of memory.
+abbrev pub Generates : {A : Type 0} → Result (List ℕ) GenFault → SinkView → SinkView → Result A GenFault → Type 0
+Generates stated old new (Ok done) = IsWritten stated old new
+Generates stated old new (Err WriteFailed) = IsCutShort stated old new
+Generates stated old new (Err fault) = (new ≡ old) × Refuses stated fault
