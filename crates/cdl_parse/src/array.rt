@@ -1,6 +1,6 @@
 //! The values of a variable so far.
 
-ghost use Rattle.std.specs.Prelude.{◌≡◌, ◌++◌, ◌∷◌, [], replicate, IfOk, OnOk, length};
+ghost use Rattle.std.specs.Prelude.{◌≡◌, ◌++◌, ◌∷◌, [], ℕ, replicate, IfOk, OnOk, length};
 
 use std::alloc::{AllocError, Global};
 use std::marker::Model;
@@ -109,6 +109,21 @@ impl Array {
         bytes.reserve_exact(more.saturating_add(self.owed as usize))?;
         write_owed(&mut bytes, self.owed, self.fill)?;
         Ok(bytes)
+    }
+
+    /// The bytes without the filling that is owed, where that is this byte, and else with it.
+    ///
+    /// # Errors
+    ///
+    /// Other filling was owed, and a growth for it was refused.
+    pub fn into_bytes_without(self, fill: u8) -> Result<Vec<u8>, AllocError>
+        ensures { IfOk result (λ bytes. (n : ℕ) × (self ≡ bytes.items ++ replicate n fill)) }
+    {
+        if self.fill == fill {
+            Ok(self.bytes)
+        } else {
+            self.into_bytes()
+        }
     }
 
     /// The number of bytes, with the filling.

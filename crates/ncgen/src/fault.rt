@@ -1,6 +1,12 @@
 //! Why no file was generated.
 
-use cdl_parse::CdlFault;
+ghost use Rattle.std.specs.Prelude.{◌≡◌};
+ghost use Rattle.cdl_parse.specs.Parsing.{refused};
+ghost use Rattle.ncgen.specs.declared.fault.GenFault.TheVariants as gen;
+
+use cdl_parse::{CdlFault, CdlKind};
+use nc_file::WriteFailed;
+use std::alloc::AllocError;
 
 /// Why no file was generated from a text: for a fault of the text, because its dataset doesn't fit, or because the sink failed.
 #[derive(Clone, Copy, Debug, PartialEq, Eq)]
@@ -11,4 +17,31 @@ pub enum GenFault {
     OffsetTooLarge,
     /// The sink failed.
     WriteFailed,
+}
+
+impl From<CdlFault> for GenFault {
+    ghost from_gives = { λ fault e. e ≡ gen.Cdl fault };
+
+    fn from(fault: CdlFault) -> GenFault {
+        GenFault::Cdl(fault)
+    }
+}
+
+impl From<AllocError> for GenFault {
+    ghost from_gives = { λ _ e. e ≡ gen.Cdl refused };
+
+    fn from(_e: AllocError) -> GenFault {
+        GenFault::Cdl(CdlFault {
+            line: 0,
+            kind: CdlKind::OutOfMemory,
+        })
+    }
+}
+
+impl From<WriteFailed> for GenFault {
+    ghost from_gives = { λ _ e. e ≡ gen.WriteFailed };
+
+    fn from(_e: WriteFailed) -> GenFault {
+        GenFault::WriteFailed
+    }
 }

@@ -1,6 +1,11 @@
 //! The netCDF classic file of a CDL text, and the command line of the program `ncgen`.
+//!
+//! [`generate`] reads a text and writes its file; [`prepare`] reads it alone, and gives the file ready to be written.
 #![tactic(auto)]
 
 mod fault;
+mod listed;
+mod prepared;
 
 pub use fault::GenFault;
+pub use prepared::Prepared;
