@@ -111,7 +111,7 @@ len-after h =
 abbrev HasNames : Var → Type 0
 HasNames var = IsName var.name × All (λ (att : Att). IsName att.name) var.atts
 
-sound-after : (h : Header) → IsSound h → IsSound (record h { vars = vars_after h [] h.vars })
+pub sound-after : (h : Header) → IsSound h → IsSound (record h { vars = vars_after h [] h.vars })
 sound-after h s = record {
   numrecs = s.numrecs;
   dim_count = s.dim_count;
