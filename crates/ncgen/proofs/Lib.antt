@@ -1,3 +1,4 @@
 pub mod Filling
 pub mod ListedArrays
 pub mod Placing
+pub mod Preparing

@@ -4,9 +4,10 @@ use Rattle.std.specs.List.{flat_map, range_with_len}
 use Rattle.nc_base.specs.declared.header.Dim.{Dim}
 use Rattle.nc_base.specs.declared.header.Header.{Header}
 use Rattle.nc_base.specs.declared.header.Var.{Var}
-use Rattle.nc_base.specs.GeneratedFile.{blocks, data_of, is_sole_narrow, known_records, record_of, vars_after, with_begins}
+use Rattle.nc_base.specs.Fill.{fill_value}
+use Rattle.nc_base.specs.GeneratedFile.{blocks, data_of, fill_bytes, is_sole_narrow, known_records, padded_slab, record_of, slab_in, vars_after, with_begins}
 use Rattle.nc_base.specs.Headers.{bare_var}
-use Rattle.nc_base.specs.OwedValues.{AreListed, whole_arrays}
+use Rattle.nc_base.specs.OwedValues.{AreListed, whole_array, whole_arrays}
 use Rattle.nc_base.specs.Sizes.{is_record_var, record_vars}
 use Rattle.nc_base.proofs.FileHolds.{bare-after, records-bare}
 use Rattle.ncgen.specs.Prepared.{listed_data}
@@ -14,17 +15,22 @@ use Rattle.ncgen.specs.Prepared.{listed_data}
 module _ (h : Header) (dims : List Dim) (n : ℕ) where
   blocks-after : (before vars : List Var) (listed : List (List ℕ))
       → blocks dims (vars_after h before vars) (whole_arrays dims n (vars_after h before vars) listed) ≡ blocks dims vars (whole_arrays dims n vars listed)
+  unfolding fill_value padded_slab fill_bytes
   blocks-after before [] listed = refl
   blocks-after before (var ∷ vars) [] = refl
-  blocks-after before (var ∷ vars) (l ∷ ls) = ap (λ (bytes : List ℕ). _ ++ bytes) (blocks-after (before ++ var ∷ []) vars ls)
+  blocks-after before (var ∷ vars) (l ∷ ls) = ap (λ (bytes : List ℕ). (if is_record_var dims var then [] else padded_slab var (whole_array dims n var l)) ++ bytes) (blocks-after (before ++ var ∷ []) vars ls)
 
   record-after : (is_sole : Bool) (r : ℕ) (before vars : List Var) (listed : List (List ℕ))
       → record_of is_sole dims r (vars_after h before vars) (whole_arrays dims n (vars_after h before vars) listed) ≡ record_of is_sole dims r vars (whole_arrays dims n vars listed)
+  unfolding fill_value padded_slab fill_bytes
   record-after is_sole r before [] listed = refl
   record-after is_sole r before (var ∷ vars) [] = refl
-  record-after is_sole r before (var ∷ vars) (l ∷ ls) = ap (λ (bytes : List ℕ). _ ++ bytes) (record-after is_sole r (before ++ var ∷ []) vars ls)
+  record-after is_sole r before (var ∷ vars) (l ∷ ls) =
+      let slab = slab_in dims var (whole_array dims n var l) r in
+      ap (λ (bytes : List ℕ). (if is_record_var dims var then (if is_sole then slab else padded_slab var slab) else []) ++ bytes)
+      (record-after is_sole r (before ++ var ∷ []) vars ls)
 
-  listed-after : (before vars : List Var) (listed : List (List ℕ)) → AreListed dims n vars listed → AreListed dims n (vars_after h before vars) listed
+  pub listed-after : (before vars : List Var) (listed : List (List ℕ)) → AreListed dims n vars listed → AreListed dims n (vars_after h before vars) listed
   listed-after before [] [] are = tt
   listed-after before [] (l ∷ ls) are = absurd are
   listed-after before (var ∷ vars) [] are = absurd are
@@ -49,8 +55,12 @@ sole-after h =
 
 -- ---- all values
 
+flat_map-same : (f g : ℕ → List ℕ) (xs : List ℕ) → ((x : ℕ) → f x ≡ g x) → flat_map f xs ≡ flat_map g xs
+flat_map-same f g [] same = refl
+flat_map-same f g (x ∷ xs) same = ap (λ (bytes : List ℕ). bytes ++ flat_map f xs) (same x) ∙ ap (λ (bytes : List ℕ). g x ++ bytes) (flat_map-same f g xs same)
+
 pub data-after : (h : Header) (listed : List (List ℕ)) → listed_data (with_begins h) listed ≡ listed_data h listed
-unfolding data_of, with_begins
+unfolding data_of with_begins
 data-after h listed =
     let n = known_records h.numrecs in
     let vars = vars_after h [] h.vars in

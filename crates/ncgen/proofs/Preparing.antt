@@ -1,0 +1,96 @@
+-- A text's file stands ready to be written.
+use Rattle.std.proofs.Common.{◌≡◌, ◌≤◌, ◌<◌, ◌⊎◌, inl, inr, ◌∙◌, ℕ, List, ◌++◌, length, Bool, true, false, if◌then◌else◌, Result, Ok, Err, refl, sym, ap, subst}
+use Rattle.std.specs.Prelude.{All}
+use Rattle.nc_base.specs.Bytes.{AreBytes}
+use Rattle.nc_base.specs.declared.dataset.Dataset.{Dataset}
+use Rattle.nc_base.specs.declared.header.Header.{Header}
+use Rattle.nc_base.specs.declared.header.NumRecs.{NumRecs}
+use Rattle.nc_base.specs.declared.header.Var.{Var}
+use Rattle.nc_base.specs.declared.version.Version.{Version}
+use Rattle.nc_base.specs.GeneratedFile.{data_of, file_of, fits, header_spelling, known_records, with_begins}
+use Rattle.nc_base.specs.Headers.{AreArrays, IsGood, IsSound}
+use Rattle.nc_base.specs.OwedValues.{AreListed, whole_arrays}
+use Rattle.nc_base.specs.Versions.{offset_limit}
+use Rattle.nc_base.proofs.Fitting.{IsSound-with_begins, below-when_fits}
+use Rattle.cdl_text.specs.declared.fault.CdlFault.{CdlFault}
+use Rattle.cdl_parse.specs.DeclaredDatasets.{dataset_of_declared}
+use Rattle.cdl_parse.specs.declared.declared_values.Declared.{Declared}
+use Rattle.cdl_parse.specs.Meaning.{meaning, text_limit}
+use Rattle.cdl_parse.specs.Parsing.{Answers, as_dataset, refused}
+use Rattle.cdl_laws.proofs.MeaningsAreGood.{meanings_are_good}
+use Rattle.ncgen.specs.Generated.{Refuses, file_or_fault, generated}
+use Rattle.ncgen.specs.Prepared.{AreFilledUp, IsReady, Prepares, file_of_prepared, listed_data}
+use Rattle.ncgen.specs.declared.fault.GenFault.{GenFault}
+use Rattle.ncgen.specs.declared.fault.GenFault.TheVariants.{Cdl, OffsetTooLarge}
+use Rattle.ncgen.specs.declared.prepared.Prepared.{Prepared}
+use Rattle.ncgen.proofs.ListedArrays.{AreTheListed, the-listed}
+use Rattle.ncgen.proofs.Placing.{data-after, listed-after}
+
+-- ---- faults of the text
+
+pub text-fault : (text : List ℕ) (v : Version) (fault : CdlFault) → Answers (as_dataset (Err fault)) (meaning text v) → Refuses (generated text v) (Cdl fault)
+unfolding generated
+text-fault text v fault (inl stated) = inl (ap file_or_fault (sym stated))
+text-fault text v fault (inr memory) = inr (ap (λ (r : Result Dataset CdlFault). Cdl (fault-or refused r)) memory)
+  where
+    fault-or : CdlFault → Result Dataset CdlFault → CdlFault
+    fault-or other (Ok d) = other
+    fault-or other (Err fault) = fault
+
+-- ---- what a text declares
+
+means : (text : List ℕ) (v : Version) (d : Declared) → Answers (as_dataset (Ok d)) (meaning text v) → meaning text v ≡ Ok (dataset_of_declared d)
+means text v d (inl stated) = sym stated
+means text v d (inr memory) = absurd (ok-is-no-err memory)
+  where
+    is-ok : Result Dataset CdlFault → Type 0
+    is-ok (Ok d) = Unit {0}
+    is-ok (Err fault) = ⊥
+
+    ok-is-no-err : (d : Dataset) (fault : CdlFault) → (Ok d ≡ Err fault) → ⊥
+    ok-is-no-err d fault e = subst is-ok e tt
+
+module _ (text : List ℕ) (v : Version) (d : Declared) (bytes : AreBytes text) (few : length text ≤ text_limit) (answers : Answers (as_dataset (Ok d)) (meaning text v)) where
+  is-meaning : meaning text v ≡ Ok (dataset_of_declared d)
+  is-meaning = means text v d answers
+
+  good : IsGood (dataset_of_declared d)
+  good = (meanings_are_good text v (dataset_of_declared d) bytes few is-meaning).0
+
+  abbrev n : ℕ
+  n = known_records d.header.numrecs
+
+  arrays : AreArrays d.header.dims n d.header.vars (whole_arrays d.header.dims n d.header.vars d.listed)
+  arrays = subst (λ (k : ℕ). AreArrays d.header.dims k d.header.vars (whole_arrays d.header.dims n d.header.vars d.listed))
+      (sym (ap (λ (h : Header). known_records h.numrecs) good.is_bare)) good.arrays
+
+  -- the dataset doesn't fit
+  pub too-large : fits d.header ≡ false → Refuses (generated text v) OffsetTooLarge
+  unfolding generated
+  too-large e = inl (ap file_or_fault is-meaning ∙ ap (λ (b : Bool). if b then Ok (file_of (dataset_of_declared d)) else Err OffsetTooLarge) e)
+
+  module _ (listed : List (List ℕ)) (filled : AreFilledUp d.header.vars d.listed listed) (fit : fits d.header ≡ true) where
+    the : AreTheListed d.header.dims n d.header.vars d.listed listed
+    the = the-listed d.header.dims n d.header.vars d.listed listed arrays filled
+
+    abbrev prepared : Prepared
+    prepared = record { header = with_begins d.header; listed = listed }
+
+    is-ready : IsReady prepared
+    unfolding with_begins
+    is-ready = record {
+      sound = IsSound-with_begins d.header good.is_sound;
+      begins = below-when_fits d.header fit;
+      listed = listed-after d.header d.header.dims n [] d.header.vars listed the.are;
+    }
+
+    is-file : file_of (dataset_of_declared d) ≡ file_of_prepared prepared
+    unfolding file_of file_of_prepared
+    is-file =
+        ap (λ (values : List ℕ). header_spelling (with_begins d.header) ++ values)
+        (ap (λ (xs : List (List ℕ)). data_of d.header xs) (sym the.same) ∙ sym (data-after d.header listed))
+
+    pub ready : Prepares (generated text v) (Ok prepared)
+    unfolding generated
+    ready = (is-ready,
+        ap file_or_fault is-meaning ∙ ap (λ (b : Bool). if b then Ok (file_of (dataset_of_declared d)) else Err OffsetTooLarge) fit ∙ ap Ok is-file)
