@@ -13,3 +13,4 @@ pub mod HeadersAgain
 pub mod Outcomes
 pub mod Answered
 pub mod FileLaws
+pub mod Shapes

@@ -10,6 +10,7 @@ pub mod laws;
 mod read;
 mod sized_var;
 mod window;
+mod write;
 
 pub use devices::{
     DripSource, FailWhen, FileSource, IoSink, Listed, ListedFile, MemSink, MemSource, OpenFailed,
@@ -17,3 +18,4 @@ pub use devices::{
 };
 pub use head_fault::HeadFault;
 pub use header::read_header;
+pub use write::write_header;

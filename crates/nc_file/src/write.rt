@@ -1,0 +1,11 @@
+//! Writing a header: a file for each of its parts, its length, and the begins of its variables.
+
+mod attribute;
+mod dimension;
+mod header;
+mod list;
+mod number;
+mod slab;
+mod variable;
+
+pub use header::write_header;
