@@ -16,4 +16,5 @@ pub mod FilePlaces
 pub mod HeaderSpelled
 pub mod FileHolds
 pub mod HeldDump
+pub mod ListedArrays
 mod FileExamples
