@@ -35,7 +35,7 @@ length-number Int64 n = refl
 length-number Uint64 n = refl
 
 -- the padding of whole values is whole values
-whole-padding : (ty : NcType) (c : ℕ) → padding_len (c * size_of ty) / size_of ty * size_of ty ≡ padding_len (c * size_of ty)
+pub whole-padding : (ty : NcType) (c : ℕ) → padding_len (c * size_of ty) / size_of ty * size_of ty ≡ padding_len (c * size_of ty)
 whole-padding Byte c = omega arith
 whole-padding Char c = omega arith
 whole-padding Short c = omega arith

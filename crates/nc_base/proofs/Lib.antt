@@ -17,4 +17,5 @@ pub mod HeaderSpelled
 pub mod FileHolds
 pub mod HeldDump
 pub mod Fitting
+pub mod ListedArrays
 mod FileExamples
