@@ -1,4 +1,5 @@
 pub mod Filling
-pub mod ListedArrays
+pub mod ListedValues
 pub mod Placing
 pub mod Preparing
+pub mod TextFiles

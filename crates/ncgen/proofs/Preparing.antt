@@ -1,5 +1,5 @@
 -- A text's file stands ready to be written.
-use Rattle.std.proofs.Common.{◌≡◌, ◌≤◌, ◌<◌, ◌⊎◌, inl, inr, ◌∙◌, ℕ, List, ◌++◌, length, Bool, true, false, if◌then◌else◌, Result, Ok, Err, refl, sym, ap, subst}
+use Rattle.std.proofs.Common.{◌≡◌, ◌≤◌, ◌<◌, ◌⊎◌, inl, inr, ◌∙◌, ℕ, List, [], ◌++◌, length, Bool, true, false, if◌then◌else◌, Result, Ok, Err, refl, sym, ap, subst}
 use Rattle.std.specs.Prelude.{All}
 use Rattle.nc_base.specs.Bytes.{AreBytes}
 use Rattle.nc_base.specs.declared.dataset.Dataset.{Dataset}
@@ -11,7 +11,7 @@ use Rattle.nc_base.specs.GeneratedFile.{data_of, file_of, fits, header_spelling,
 use Rattle.nc_base.specs.Headers.{AreArrays, IsGood, IsSound}
 use Rattle.nc_base.specs.OwedValues.{AreListed, whole_arrays}
 use Rattle.nc_base.specs.Versions.{offset_limit}
-use Rattle.nc_base.proofs.Fitting.{IsSound-with_begins, below-when_fits}
+use Rattle.nc_base.proofs.Fitting.{IsSound-with_begins, begins-below}
 use Rattle.cdl_text.specs.declared.fault.CdlFault.{CdlFault}
 use Rattle.cdl_parse.specs.DeclaredDatasets.{dataset_of_declared}
 use Rattle.cdl_parse.specs.declared.declared_values.Declared.{Declared}
@@ -23,7 +23,7 @@ use Rattle.ncgen.specs.Prepared.{AreFilledUp, IsReady, Prepares, file_of_prepare
 use Rattle.ncgen.specs.declared.fault.GenFault.{GenFault}
 use Rattle.ncgen.specs.declared.fault.GenFault.TheVariants.{Cdl, OffsetTooLarge}
 use Rattle.ncgen.specs.declared.prepared.Prepared.{Prepared}
-use Rattle.ncgen.proofs.ListedArrays.{AreTheListed, the-listed}
+use Rattle.ncgen.proofs.ListedValues.{AreTheListed, the-listed}
 use Rattle.ncgen.proofs.Placing.{data-after, listed-after}
 
 -- ---- faults of the text
@@ -41,7 +41,7 @@ text-fault text v fault (inr memory) = inr (ap (λ (r : Result Dataset CdlFault)
 
 means : (text : List ℕ) (v : Version) (d : Declared) → Answers (as_dataset (Ok d)) (meaning text v) → meaning text v ≡ Ok (dataset_of_declared d)
 means text v d (inl stated) = sym stated
-means text v d (inr memory) = absurd (ok-is-no-err memory)
+means text v d (inr memory) = absurd (ok-is-no-err (dataset_of_declared d) refused memory)
   where
     is-ok : Result Dataset CdlFault → Type 0
     is-ok (Ok d) = Unit {0}
@@ -80,7 +80,7 @@ module _ (text : List ℕ) (v : Version) (d : Declared) (bytes : AreBytes text) 
     unfolding with_begins
     is-ready = record {
       sound = IsSound-with_begins d.header good.is_sound;
-      begins = below-when_fits d.header fit;
+      begins = begins-below d.header fit;
       listed = listed-after d.header d.header.dims n [] d.header.vars listed the.are;
     }
 

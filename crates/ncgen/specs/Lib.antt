@@ -1,2 +1,3 @@
 pub mod Generated
 pub mod Prepared
+pub mod Laws

@@ -7,20 +7,12 @@ use Rattle.nc_base.specs.declared.nc_type.NcType.TheVariants.{Byte, Char, Short,
 use Rattle.nc_base.specs.Fill.{fill_value}
 use Rattle.nc_base.specs.Headers.{AreArrays, value_count}
 use Rattle.nc_base.specs.Numbers.{bytes_of_number}
-use Rattle.nc_base.specs.OwedValues.{AreListed, IsListed, fills, owed_count, whole_array, whole_arrays}
+use Rattle.nc_base.specs.OwedValues.{AreListed, IsListed, fills, whole_array, whole_arrays}
 use Rattle.nc_base.specs.Types.{size_of}
-use Rattle.nc_base.proofs.FilePlaces.{length-number}
+use Rattle.nc_base.proofs.ListedArrays.{is-listed, length-fills}
 use Rattle.ncgen.specs.Prepared.{AreFilledUp, IsFilledUp}
 
 -- ---- fill values
-
-length-fills : (var : Var) (count : ℕ) → length (fills var count) ≡ count * size_of var.ty
-length-fills var zero = omega arith
-length-fills var (suc n) =
-    length-append (bytes_of_number var.ty (fill_value var)) (fills var n)
-    ∙ ap (λ (k : ℕ). k + length (fills var n)) (length-number var.ty (fill_value var))
-    ∙ ap (λ (k : ℕ). size_of var.ty + k) (length-fills var n)
-    ∙ (let more : size_of var.ty + n * size_of var.ty ≡ suc n * size_of var.ty = omega arith in more)
 
 fills-more : (var : Var) (m n : ℕ) → fills var m ++ fills var n ≡ fills var (m + n)
 fills-more var zero n = ap (fills var) (let e : n ≡ 0 + n = omega arith in e)
@@ -30,18 +22,6 @@ fills-more var (suc m) n =
     ∙ ap (fills var) (let e : suc (m + n) ≡ suc m + n = omega arith in e)
 
 -- ---- how many values are listed
-
--- bytes that so many fill values make whole
-whole-within : (ty : NcType) (len n : ℕ) → len + (n - len / size_of ty) * size_of ty ≡ n * size_of ty → (len / size_of ty ≤ n) × (len ≡ len / size_of ty * size_of ty)
-whole-within Byte len n e = (omega (arith, e), omega (arith, e))
-whole-within Char len n e = (omega (arith, e), omega (arith, e))
-whole-within Short len n e = (omega (arith, e), omega (arith, e))
-whole-within Int len n e = (omega (arith, e), omega (arith, e))
-whole-within Ubyte len n e = (omega (arith, e), omega (arith, e))
-whole-within Ushort len n e = (omega (arith, e), omega (arith, e))
-whole-within Uint len n e = (omega (arith, e), omega (arith, e))
-whole-within Int64 len n e = (omega (arith, e), omega (arith, e))
-whole-within Uint64 len n e = (omega (arith, e), omega (arith, e))
 
 -- k values, of which the last c are filled
 record IsShorter (ty : NcType) (len k c : ℕ) : Type 0 where
@@ -62,14 +42,6 @@ shorter Int64 len k c e = record { within = omega (arith, e); whole = omega (ari
 shorter Uint64 len k c e = record { within = omega (arith, e); whole = omega (arith, e); all = omega arith; some = omega (arith, e) }
 
 -- ---- one variable
-
--- an array is whole only where whole values of it are listed, and no more than the variable has
-array-listed : (dims : List Dim) (n : ℕ) (var : Var) (array : List ℕ) → length (whole_array dims n var array) ≡ value_count dims var n * size_of var.ty → IsListed dims n var array
-array-listed dims n var array e =
-    let owed = owed_count dims n var array in
-    let len = sym (ap (λ (k : ℕ). length array + k) (length-fills var owed)) ∙ sym (length-append array (fills var owed)) ∙ e in
-    let w = whole-within var.ty (length array) (value_count dims var n) len in
-    record { count = length array / size_of var.ty; within = w.0; whole = w.1 }
 
 -- without filling at their end the listed values give the same array
 module _ (dims : List Dim) (n : ℕ) (var : Var) (array listed : List ℕ) (a : IsListed dims n var array) (f : IsFilledUp var array listed) where
@@ -107,7 +79,7 @@ the-listed dims n [] arrays (l ∷ ls) are filled = no-cons filled
 the-listed dims n (var ∷ vars) [] listed are filled = absurd are
 the-listed dims n (var ∷ vars) (array ∷ arrays) [] are filled = absurd filled
 the-listed dims n (var ∷ vars) (array ∷ arrays) (l ∷ ls) are filled =
-    let one = array-listed dims n var array are.0.whole in
+    let one = is-listed dims n var array are.0 in
     let rest = the-listed dims n vars arrays ls are.1 filled.1 in
     record {
       are = (less-listed dims n var array l one filled.0, rest.are);
