@@ -2,3 +2,4 @@ pub mod Reading
 pub mod Window
 pub mod Answers
 pub mod OneOutcome
+pub mod Lengths

@@ -18,4 +18,4 @@ pub use devices::{
 };
 pub use head_fault::HeadFault;
 pub use header::read_header;
-pub use write::write_header;
+pub use write::{header_len, write_header};

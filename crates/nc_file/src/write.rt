@@ -3,9 +3,11 @@
 mod attribute;
 mod dimension;
 mod header;
+mod length;
 mod list;
 mod number;
 mod slab;
 mod variable;
 
 pub use header::write_header;
+pub use length::header_len;
