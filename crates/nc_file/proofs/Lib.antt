@@ -15,3 +15,4 @@ pub mod Answered
 pub mod FileLaws
 pub mod Shapes
 pub mod HeaderLen
+pub mod BeginLaws

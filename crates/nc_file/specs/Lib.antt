@@ -3,3 +3,4 @@ pub mod Window
 pub mod Answers
 pub mod OneOutcome
 pub mod Lengths
+pub mod Begins

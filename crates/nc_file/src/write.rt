@@ -1,6 +1,7 @@
 //! Writing a header: a file for each of its parts, its length, and the begins of its variables.
 
 mod attribute;
+mod begins;
 mod dimension;
 mod header;
 mod length;
@@ -9,5 +10,6 @@ mod number;
 mod slab;
 mod variable;
 
+pub use begins::{OffsetTooLarge, with_begins};
 pub use header::write_header;
 pub use length::header_len;
