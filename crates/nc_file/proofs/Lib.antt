@@ -14,3 +14,5 @@ pub mod Outcomes
 pub mod Answered
 pub mod FileLaws
 pub mod Shapes
+pub mod HeaderLen
+pub mod BeginLaws
