@@ -15,7 +15,7 @@ use Rattle.nc_base.proofs.Fitting.{IsSound-with_begins, begins-below}
 use Rattle.cdl_text.specs.declared.fault.CdlFault.{CdlFault}
 use Rattle.cdl_parse.specs.DeclaredDatasets.{dataset_of_declared}
 use Rattle.cdl_parse.specs.declared.declared_values.Declared.{Declared}
-use Rattle.cdl_parse.specs.Meaning.{meaning, text_limit}
+use Rattle.cdl_meaning.specs.Meaning.{meaning, text_limit}
 use Rattle.cdl_parse.specs.Parsing.{Answers, as_dataset, refused}
 use Rattle.cdl_laws.proofs.MeaningsAreGood.{meanings_are_good}
 use Rattle.ncgen.specs.Generated.{Refuses, file_or_fault, generated}

@@ -9,7 +9,7 @@ use Rattle.nc_base.specs.GeneratedFile.{file_of, fits}
 use Rattle.nc_base.proofs.Fitting.{Fits-from_fits}
 use Rattle.nc_file.proofs.FileLaws.{generated-dumped}
 use Rattle.cdl_text.specs.declared.fault.CdlFault.{CdlFault}
-use Rattle.cdl_parse.specs.Meaning.{meaning, text_limit}
+use Rattle.cdl_meaning.specs.Meaning.{meaning, text_limit}
 use Rattle.cdl_laws.proofs.MeaningsAreGood.{meanings_are_good}
 use Rattle.cdl_laws.proofs.TextReadsBack.{text_reads_back}
 use Rattle.ncgen.specs.Generated.{file_or_fault, generated}

@@ -6,7 +6,7 @@ use Rattle.nc_base.specs.declared.version.Version.{Version}
 use Rattle.nc_base.specs.Dump.{Ending, IsDump, IsText, Options, whole}
 use Rattle.nc_base.specs.GeneratedFile.{file_of}
 use Rattle.nc_base.specs.Sayable.{IsSayable, trimmed}
-use Rattle.cdl_parse.specs.Meaning.{meaning, text_limit}
+use Rattle.cdl_meaning.specs.Meaning.{meaning, text_limit}
 use Rattle.cdl_laws.specs.RoundTrip.{IsFull}
 use Rattle.ncgen.specs.Generated.{file_or_fault, generated}
 
