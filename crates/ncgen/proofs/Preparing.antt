@@ -11,6 +11,8 @@ use Rattle.nc_base.specs.GeneratedFile.{data_of, file_of, fits, header_spelling,
 use Rattle.nc_base.specs.Headers.{AreArrays, IsGood, IsSound}
 use Rattle.nc_base.specs.OwedValues.{AreListed, whole_arrays}
 use Rattle.nc_base.specs.Versions.{offset_limit}
+use Rattle.nc_file.specs.Begins.{offset_too_large}
+use Rattle.nc_file.specs.declared.write.begins.OffsetTooLarge.{OffsetTooLarge as NoRoom}
 use Rattle.nc_base.proofs.Fitting.{IsSound-with_begins, begins-below}
 use Rattle.cdl_text.specs.declared.fault.CdlFault.{CdlFault}
 use Rattle.cdl_parse.specs.DeclaredDatasets.{dataset_of_declared}
@@ -54,7 +56,7 @@ module _ (text : List ℕ) (v : Version) (d : Declared) (bytes : AreBytes text) 
   is-meaning : meaning text v ≡ Ok (dataset_of_declared d)
   is-meaning = means text v d answers
 
-  good : IsGood (dataset_of_declared d)
+  pub good : IsGood (dataset_of_declared d)
   good = (meanings_are_good text v (dataset_of_declared d) bytes few is-meaning).0
 
   abbrev n : ℕ
@@ -94,3 +96,28 @@ module _ (text : List ℕ) (v : Version) (d : Declared) (bytes : AreBytes text) 
     unfolding generated
     ready = (is-ready,
         ap file_or_fault is-meaning ∙ ap (λ (b : Bool). if b then Ok (file_of (dataset_of_declared d)) else Err OffsetTooLarge) fit ∙ ap Ok is-file)
+
+-- ---- the answer of with_begins
+
+pub record Fitting (h placed : Header) : Type 0 where
+  pub fit : fits h ≡ true
+  pub same : placed ≡ with_begins h
+
+abbrev Answer : Type 0
+Answer = Result Header NoRoom
+
+abbrev IsPlaced : Answer → Type 0
+IsPlaced (Ok h) = Unit {0}
+IsPlaced (Err e) = ⊥
+
+abbrev or-placed : Header → Answer → Header
+or-placed other (Ok h) = h
+or-placed other (Err e) = other
+
+pub placed : (h : Header) (b : Bool) (h' : Header) → fits h ≡ b → Ok h' ≡ (if b then Ok (with_begins h) else Err offset_too_large) → Fitting h h'
+placed h true h' fit e = record { fit = fit; same = ap (or-placed h') e }
+placed h false h' fit e = absurd (subst IsPlaced e tt)
+
+pub not-placed : (h : Header) (b : Bool) (fault : NoRoom) → fits h ≡ b → Err fault ≡ (if b then Ok (with_begins h) else Err offset_too_large) → fits h ≡ false
+not-placed h true fault fit e = absurd (subst IsPlaced (sym e) tt)
+not-placed h false fault fit e = fit

@@ -5,7 +5,7 @@ ghost use Rattle.cdl_parse.specs.Parsing.{refused};
 ghost use Rattle.ncgen.specs.declared.fault.GenFault.TheVariants as gen;
 
 use cdl_parse::{CdlFault, CdlKind};
-use nc_file::WriteFailed;
+use nc_file::{OffsetTooLarge, WriteFailed};
 use std::alloc::AllocError;
 
 /// Why no file was generated from a text: for a fault of the text, because its dataset doesn't fit, or because the sink failed.
@@ -35,6 +35,14 @@ impl From<AllocError> for GenFault {
             line: 0,
             kind: CdlKind::OutOfMemory,
         })
+    }
+}
+
+impl From<OffsetTooLarge> for GenFault {
+    ghost from_gives = { λ _ e. e ≡ gen.OffsetTooLarge };
+
+    fn from(_e: OffsetTooLarge) -> GenFault {
+        GenFault::OffsetTooLarge
     }
 }
 

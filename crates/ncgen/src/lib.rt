@@ -4,9 +4,11 @@
 #![tactic(auto)]
 
 mod fault;
+mod generating;
 pub mod laws;
 mod listed;
 mod prepared;
 
 pub use fault::GenFault;
+pub use generating::prepare;
 pub use prepared::Prepared;
