@@ -67,7 +67,7 @@ arrays-kept dims vars arrays v var same lt at fixed =
     ∙ sym (arrays-more dims vars arrays v var array [] same lt at refl)
 
 -- those before an index, and those from there on
-arrays-split : (dims : List Dim) (vars : List Var) (arrays : List (List ℕ)) (v : ℕ)
+pub arrays-split : (dims : List Dim) (vars : List Var) (arrays : List (List ℕ)) (v : ℕ)
     → record_arrays dims vars arrays ≡ record_arrays dims (take v vars) (take v arrays) ++ record_arrays dims (drop v vars) (drop v arrays)
 arrays-split dims vars arrays zero = refl
 arrays-split dims [] arrays (suc v) = refl
