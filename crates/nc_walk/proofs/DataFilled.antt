@@ -1,5 +1,5 @@
 -- What is written of all arrays is the data part of the file.
-use Rattle.std.proofs.Common.{◌≡◌, ℕ, zero, suc, ◌+◌, ◌-◌, ◌*◌, ◌/◌, ◌<◌, ◌≤◌, Bool, true, false, List, [], ◌∷◌, ◌++◌, length, take, drop, replicate, refl, sym, ◌∙◌, ap, arith, length-append, length-take, length-drop, append-nil}
+use Rattle.std.proofs.Common.{◌≡◌, ℕ, zero, suc, ◌+◌, ◌-◌, ◌*◌, ◌/◌, ◌<◌, ◌≤◌, Bool, true, false, List, [], ◌∷◌, ◌++◌, length, get_or, take, drop, replicate, refl, sym, ◌∙◌, ap, arith, length-append, length-take, length-drop, append-nil}
 use Rattle.std.specs.Prelude.{if◌then◌else◌, nat_lt}
 use Rattle.std.specs.List.{concat, flat_map, range_with_len}
 use Rattle.std.proofs.Math.Nat.{mul-le-mul_right}
@@ -10,7 +10,7 @@ use Rattle.nc_base.specs.declared.header.Header.{Header}
 use Rattle.nc_base.specs.declared.nc_type.NcType.{NcType}
 use Rattle.nc_base.specs.declared.nc_type.NcType.TheVariants.{Byte, Char, Short, Int, Ubyte, Ushort, Uint, Int64, Uint64}
 use Rattle.nc_base.specs.Bytes.{padding_len}
-use Rattle.nc_base.specs.GeneratedFile.{blocks, fill_bytes, is_sole_narrow, padded_slab, record_of, slab_in}
+use Rattle.nc_base.specs.GeneratedFile.{blocks, data_of, fill_bytes, known_records, is_sole_narrow, padded_slab, record_of, slab_in}
 use Rattle.nc_base.specs.OwedValues.{whole_array, whole_arrays, IsListed, AreListed}
 use Rattle.nc_base.specs.Sizes.{is_record_var, is_narrow, record_vars, slab_count, slab_size}
 use Rattle.nc_base.specs.Fill.{fill_value}
@@ -227,3 +227,37 @@ sole-filled dims n vars listed view are one =
     sym (unpadded dims var (slab_in dims var whole r) (is_narrow var) refl slab_long)
     ∙ ap (λ (b : Bool). if b then slab_in dims var whole r else padded_slab var (slab_in dims var whole r)) (sym narrow)
     ∙ sym (sole.record_is (is_sole_narrow (record_vars dims vars)) r))
+
+-- ---- the record arrays that are gathered
+
+pub gathered-all : (dims : List Dim) (vars : List Var) (listed : List (List ℕ)) (end : ℕ) (gathered : List ArrayView) → length listed ≡ length vars
+    → gathered ≡ record_arrays dims (take end vars) (take end listed) → end ≡ length vars → gathered ≡ record_arrays dims vars listed
+gathered-all dims vars listed end gathered same is all =
+    is
+    ∙ ap (λ (xs : List Var). record_arrays dims xs (take end listed)) (take_all end vars (omega (arith, all)))
+    ∙ ap (record_arrays dims vars) (take_all end listed (omega (arith, all, same)))
+
+pub gathered-few : (dims : List Dim) (vars : List Var) (listed : List (List ℕ)) (end : ℕ) (gathered : List ArrayView)
+    → gathered ≡ record_arrays dims (take end vars) (take end listed) → length gathered ≤ length (record_arrays dims vars listed)
+gathered-few dims vars listed end gathered is =
+    let before = record_arrays dims (take end vars) (take end listed) in
+    let later = record_arrays dims (drop end vars) (drop end listed) in
+    omega (arith, ap (λ (xs : List ArrayView). length xs) is, ap (λ (xs : List ArrayView). length xs) (arrays-split dims vars listed end), length-append before later)
+
+-- one array alone
+pub one-view : (views : List ArrayView) (view : ArrayView) → 1 ≤ length views → length views ≤ 1 → view ≡ get_or views 0 view → views ≡ view ∷ []
+one-view [] view some one is = absurd (omega arith)
+one-view (x ∷ []) view some one is = ap (λ (v : ArrayView). v ∷ []) (sym is)
+one-view (x ∷ y ∷ views) view some one is = absurd (omega arith)
+
+-- ---- both parts
+
+pub data-filled : (h : Header) (listed : List (List ℕ)) → AreListed h.dims (known_records h.numrecs) h.vars listed
+    → data_of h (whole_arrays h.dims (known_records h.numrecs) h.vars listed)
+    ≡ filled_blocks h.dims h.vars listed
+    ++ flat_map (λ r. record_of (is_sole_narrow (record_vars h.dims h.vars)) h.dims r h.vars (whole_arrays h.dims (known_records h.numrecs) h.vars listed)) (range_with_len 0 (known_records h.numrecs))
+unfolding data_of
+data-filled h listed are =
+    ap (λ (x : List ℕ).
+    x ++ flat_map (λ r. record_of (is_sole_narrow (record_vars h.dims h.vars)) h.dims r h.vars (whole_arrays h.dims (known_records h.numrecs) h.vars listed)) (range_with_len 0 (known_records h.numrecs)))
+    (sym (blocks-filled h.dims (known_records h.numrecs) h.vars listed are))
