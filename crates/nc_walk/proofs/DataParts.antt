@@ -1,7 +1,7 @@
 -- The data part of a file, as it is written.
 use Rattle.std.proofs.Common.{◌≡◌, ℕ, zero, suc, ◌+◌, ◌-◌, ◌*◌, ◌/◌, ◌<◌, ◌≤◌, Bool, true, false, List, [], ◌∷◌, ◌++◌, length, get_or, take, drop, refl, sym, ◌∙◌, ap, arith, append_assoc, length-take}
 use Rattle.std.specs.Prelude.{if◌then◌else◌}
-use Rattle.std.specs.List.{flat_map}
+use Rattle.std.specs.List.{flat_map, range_with_len}
 use Rattle.std.proofs.lemmas.List.{drop_more, drop_all, take_more, append-nil}
 use Rattle.nc_base.specs.declared.header.Dim.{Dim}
 use Rattle.nc_base.specs.declared.header.Var.{Var}
@@ -67,7 +67,7 @@ arrays-kept dims vars arrays v var same lt at fixed =
     ∙ sym (arrays-more dims vars arrays v var array [] same lt at refl)
 
 -- those before an index, and those from there on
-arrays-split : (dims : List Dim) (vars : List Var) (arrays : List (List ℕ)) (v : ℕ)
+pub arrays-split : (dims : List Dim) (vars : List Var) (arrays : List (List ℕ)) (v : ℕ)
     → record_arrays dims vars arrays ≡ record_arrays dims (take v vars) (take v arrays) ++ record_arrays dims (drop v vars) (drop v arrays)
 arrays-split dims vars arrays zero = refl
 arrays-split dims [] arrays (suc v) = refl
@@ -118,3 +118,10 @@ array-left r arrays i array lt at = ap (filled_records r) (drop_more arrays i ar
 
 pub array-none : (r : ℕ) (arrays : List ArrayView) (i : ℕ) → length arrays ≤ i → filled_records r (drop i arrays) ≡ []
 array-none r arrays i le = ap (filled_records r) (drop_all i arrays le)
+
+-- one record more
+pub rows-left : (f : ℕ → List ℕ) (r n : ℕ) → r < n → flat_map f (range_with_len r (n - r)) ≡ f r ++ flat_map f (range_with_len (r + 1) (n - (r + 1)))
+rows-left f r n lt = let e : n - r ≡ suc (n - (r + 1)) = omega arith in ap (λ (k : ℕ). flat_map f (range_with_len r k)) e
+
+pub rows-none : (f : ℕ → List ℕ) (r n : ℕ) → n ≤ r → flat_map f (range_with_len r (n - r)) ≡ []
+rows-none f r n le = let e : n - r ≡ 0 = omega arith in ap (λ (k : ℕ). flat_map f (range_with_len r k)) e

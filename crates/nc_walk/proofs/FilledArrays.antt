@@ -155,3 +155,140 @@ block-filled dims n var listed fixed is =
     (let e : is.count * size + (slab_count dims var - is.count) * size ≡ (is.count + (slab_count dims var - is.count)) * size = omega arith in e) ∙ ap (λ (k : ℕ). k * size) sum in
     ap (λ (k : ℕ). padded_slab var (listed ++ fills var k)) owed
     ∙ padded-filled dims var listed listed (slab_count dims var - is.count) (ap (λ (k : ℕ). k + (slab_count dims var - is.count) * size) is.whole ∙ long)
+
+-- how many of the c values of slab r lack, where `count` are listed
+abbrev pub lacking : ℕ → ℕ → ℕ → ℕ
+lacking count c r = c - (count - r * c)
+
+-- what is listed of a slab, and what isn't, are the slab
+slab-length : (z count c r : ℕ) (xs : List ℕ) → length xs ≡ count * z → length (take (c * z) (drop (r * (c * z)) xs)) + lacking count c r * z ≡ c * z
+slab-length z count c r xs long =
+    let start : r * (c * z) ≡ r * c * z = omega arith in
+    elim (cases_lt (r * c) count) [
+      | inr past ↦
+          let up : count * z ≤ r * c * z = mul-le-mul_right z past in
+          let e : lacking count c r ≡ c = omega arith in
+          let f : lacking count c r * z ≡ c * z = ap (λ (k : ℕ). k * z) e in
+          omega (arith, f, up, start, long, length-take (c * z) (drop (r * (c * z)) xs), length-drop (r * (c * z)) xs)
+      | inl before ↦
+          let a : ℕ = count - r * c in
+          let parts : a + r * c ≡ count = omega arith in
+          let split : (a + r * c) * z ≡ a * z + r * c * z = omega arith in
+          let whole : (a + r * c) * z ≡ count * z = ap (λ (k : ℕ). k * z) parts in
+          let rest : length (drop (r * (c * z)) xs) ≡ a * z = omega (arith, split, whole, start, long, length-drop (r * (c * z)) xs) in
+          elim (cases_lt a c) [
+            | inr full ↦
+                let e : lacking count c r ≡ 0 = omega arith in
+                let f : lacking count c r * z ≡ 0 * z = ap (λ (k : ℕ). k * z) e in
+                let up : c * z ≤ a * z = mul-le-mul_right z full in
+                omega (arith, f, up, rest, length-take (c * z) (drop (r * (c * z)) xs))
+            | inl short ↦
+                let e : a + lacking count c r ≡ c = omega arith in
+                let f : (a + lacking count c r) * z ≡ c * z = ap (λ (k : ℕ). k * z) e in
+                let g : (a + lacking count c r) * z ≡ a * z + lacking count c r * z = omega arith in
+                omega (arith, f, g, rest, length-take (c * z) (drop (r * (c * z)) xs))
+          ]
+    ]
+
+-- a slab of listed values and fill values after them
+slab-cut : (var : Var) (count c r o : ℕ) (xs : List ℕ) → length xs ≡ count * size_of var.ty → r * c + c ≤ count + o
+    → take (c * size_of var.ty) (drop (r * (c * size_of var.ty)) (xs ++ copies var o))
+    ≡ take (c * size_of var.ty) (drop (r * (c * size_of var.ty)) xs) ++ copies var (lacking count c r)
+slab-cut var count c r o xs long within =
+    let z : ℕ = size_of var.ty in
+    let d : ℕ = r * (c * z) in
+    let start : d ≡ r * c * z = omega arith in
+    elim (cases_lt (r * c) count) [
+      | inr past ↦
+          let j : ℕ = r * c - count in
+          let parts : count + j ≡ r * c = omega arith in
+          let split : (count + j) * z ≡ count * z + j * z = omega arith in
+          let whole : (count + j) * z ≡ r * c * z = ap (λ (k : ℕ). k * z) parts in
+          let at : d ≡ length xs + j * z = omega (arith, split, whole, start, long) in
+          let none : drop d xs ≡ [] = drop_all d xs (omega (arith, at)) in
+          let all : c ≡ lacking count c r = omega arith in
+          ap (λ (k : ℕ). take (c * z) (drop k (xs ++ copies var o))) at
+          ∙ ap (take (c * z)) (sym (drop-drop (j * z) (length xs) (xs ++ copies var o)) ∙ ap (drop (j * z)) (drop_at xs (copies var o) (length xs) refl))
+          ∙ later-values var j c o (omega arith)
+          ∙ ap (copies var) all
+          ∙ ap (λ (ys : List ℕ). ys ++ copies var (lacking count c r)) (sym (ap (take (c * z)) none ∙ take_all (c * z) [] (omega arith)))
+      | inl before ↦
+          let a : ℕ = count - r * c in
+          let us = drop d xs in
+          let parts : a + r * c ≡ count = omega arith in
+          let split : (a + r * c) * z ≡ a * z + r * c * z = omega arith in
+          let whole : (a + r * c) * z ≡ count * z = ap (λ (k : ℕ). k * z) parts in
+          let rest : length us ≡ a * z = omega (arith, split, whole, start, long, length-drop d xs) in
+          ap (take (c * z)) (drop-append-le d xs (copies var o) (omega (arith, split, whole, start, long)))
+          ∙ elim (cases_lt a c) [
+            | inr full ↦
+                let e : lacking count c r ≡ 0 = omega arith in
+                let up : c * z ≤ a * z = mul-le-mul_right z full in
+                take-append-le (c * z) us (copies var o) (omega (arith, up, rest))
+                ∙ sym (append-nil (take (c * z) us)) ∙ ap (λ (k : ℕ). take (c * z) us ++ copies var k) (sym e)
+            | inl short ↦
+                let m : ℕ = lacking count c r in
+                let e : a + m ≡ c = omega arith in
+                let f : (a + m) * z ≡ c * z = ap (λ (k : ℕ). k * z) e in
+                let g : (a + m) * z ≡ a * z + m * z = omega arith in
+                let sum : c * z ≡ length us + m * z = omega (arith, f, g, rest) in
+                ap (λ (k : ℕ). take k (us ++ copies var o)) sum
+                ∙ take-append-add us (copies var o) (m * z)
+                ∙ ap (λ (ys : List ℕ). us ++ ys) (first-values var m o (omega arith))
+                ∙ ap (λ (ys : List ℕ). ys ++ copies var m) (sym (take_all (c * z) us (omega (arith, sum))))
+          ]
+    ]
+
+record-count : (dims : List Dim) (n : ℕ) (var : Var) → is_record_var dims var ≡ true → value_count dims var n ≡ slab_count dims var * n
+record-count dims n var growing = ap (λ (b : Bool). slab_count dims var * (if b then n else 1)) growing
+
+-- the slab of record r of a record variable
+pub record-filled : (dims : List Dim) (n r : ℕ) (var : Var) (listed : List ℕ) → r < n → is_record_var dims var ≡ true → IsListed dims n var listed
+    → padded_slab var (slab_in dims var (whole_array dims n var listed) r) ≡ filled_record r (array_view dims var listed)
+record-filled dims n r var listed lt growing is =
+    let c : ℕ = slab_count dims var in
+    let s : ℕ = slab_size dims var in
+    let o : ℕ = owed_count dims n var listed in
+    let owed = listed-count dims n var listed is in
+    let all = record-count dims n var growing in
+    let up : (r + 1) * c ≤ n * c = mul-le-mul_right c (let h : r + 1 ≤ n = omega arith in h) in
+    let here : (r + 1) * c ≡ r * c + c = omega arith in
+    let turned : c * n ≡ n * c = omega arith in
+    let within : r * c + c ≤ is.count + o = omega (arith, owed, all, up, here, turned, is.within) in
+    ap (λ (x : List ℕ). padded_slab var (take s (drop (r * s) (listed ++ x)))) (fills-copies var o)
+    ∙ ap (padded_slab var) (slab-cut var is.count c r o listed is.whole within ∙ ap (λ (x : List ℕ). take s (drop (r * s) listed) ++ x) (sym (fills-copies var (lacking is.count c r))))
+    ∙ padded-filled dims var listed (take s (drop (r * s) listed)) (lacking is.count c r) (slab-length (size_of var.ty) is.count c r listed is.whole)
+
+-- the bytes of a record variable's array
+pub whole-length : (dims : List Dim) (n : ℕ) (var : Var) (listed : List ℕ) → is_record_var dims var ≡ true → IsListed dims n var listed
+    → length (whole_array dims n var listed) ≡ n * slab_size dims var
+whole-length dims n var listed growing is =
+    let c : ℕ = slab_count dims var in
+    let z : ℕ = size_of var.ty in
+    let m : ℕ = c * n - is.count in
+    let owed : owed_count dims n var listed ≡ m = listed-count dims n var listed is ∙ ap (λ (k : ℕ). k - is.count) (record-count dims n var growing) in
+    let parts : is.count + m ≡ c * n = omega (arith, is.within, record-count dims n var growing) in
+    let split : (is.count + m) * z ≡ is.count * z + m * z = omega arith in
+    let whole : (is.count + m) * z ≡ c * n * z = ap (λ (k : ℕ). k * z) parts in
+    let turned : c * n * z ≡ n * (c * z) = omega arith in
+    let sum : length listed + m * z ≡ n * (c * z) = omega (arith, split, whole, turned, is.whole) in
+    ap (λ (k : ℕ). length (listed ++ fills var k)) owed
+    ∙ length-append listed (fills var m)
+    ∙ ap (λ (k : ℕ). length listed + k) (ap (λ (x : List ℕ). length x) (fills-copies var m) ∙ length-values var m)
+    ∙ sum
+
+-- all slabs of a record variable
+pub slabs-filled : (dims : List Dim) (n : ℕ) (var : Var) (listed : List ℕ) → is_record_var dims var ≡ true → IsListed dims n var listed
+    → whole_array dims n var listed ≡ filled_slabs n (array_view dims var listed)
+slabs-filled dims n var listed growing is =
+    let c : ℕ = slab_count dims var in
+    let z : ℕ = size_of var.ty in
+    let m : ℕ = c * n - is.count in
+    let owed : owed_count dims n var listed ≡ m = listed-count dims n var listed is ∙ ap (λ (k : ℕ). k - is.count) (record-count dims n var growing) in
+    let parts : is.count + m ≡ c * n = omega (arith, is.within, record-count dims n var growing) in
+    let split : (is.count + m) * z ≡ is.count * z + m * z = omega arith in
+    let whole : (is.count + m) * z ≡ c * n * z = ap (λ (k : ℕ). k * z) parts in
+    let turned : c * n * z ≡ n * (c * z) = omega arith in
+    let rest : m * z ≡ n * slab_size dims var - length listed = omega (arith, split, whole, turned, is.whole) in
+    ap (λ (k : ℕ). listed ++ fills var k) owed
+    ∙ ap (λ (x : List ℕ). listed ++ x) (fills-copies var m ∙ sym (repeated-values var m) ∙ ap (repeated (fill_bytes var 8)) rest)

@@ -12,3 +12,4 @@ pub mod Unwritten
 pub mod Repeats
 pub mod DataParts
 pub mod FilledArrays
+pub mod DataFilled

@@ -16,4 +16,4 @@ mod write;
 
 pub use fault::WalkFault;
 pub use walk::Walk;
-
+pub use write::write_data;

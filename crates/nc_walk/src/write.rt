@@ -2,6 +2,9 @@
 
 mod array;
 mod blocks;
+mod data;
 mod fills;
 mod gathering;
 mod records;
+
+pub use data::write_data;
