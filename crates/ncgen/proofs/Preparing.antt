@@ -11,6 +11,7 @@ use Rattle.nc_base.specs.GeneratedFile.{data_of, file_of, fits, header_spelling,
 use Rattle.nc_base.specs.Headers.{AreArrays, IsGood, IsSound}
 use Rattle.nc_base.specs.OwedValues.{AreListed, whole_arrays}
 use Rattle.nc_base.specs.Versions.{offset_limit}
+use Rattle.devices.specs.Sinks.{SinkView}
 use Rattle.nc_file.specs.Begins.{offset_too_large}
 use Rattle.nc_file.specs.declared.write.begins.OffsetTooLarge.{OffsetTooLarge as NoRoom}
 use Rattle.nc_base.proofs.Fitting.{IsSound-with_begins, begins-below}
@@ -20,10 +21,10 @@ use Rattle.cdl_parse.specs.declared.declared_values.Declared.{Declared}
 use Rattle.cdl_meaning.specs.Meaning.{meaning, text_limit}
 use Rattle.cdl_parse.specs.Parsing.{Answers, as_dataset, refused}
 use Rattle.cdl_laws.proofs.MeaningsAreGood.{meanings_are_good}
-use Rattle.ncgen.specs.Generated.{Refuses, file_or_fault, generated}
+use Rattle.ncgen.specs.Generated.{Generates, Refuses, file_or_fault, generated}
 use Rattle.ncgen.specs.Prepared.{AreFilledUp, IsReady, Prepares, file_of_prepared, listed_data}
 use Rattle.ncgen.specs.declared.fault.GenFault.{GenFault}
-use Rattle.ncgen.specs.declared.fault.GenFault.TheVariants.{Cdl, OffsetTooLarge}
+use Rattle.ncgen.specs.declared.fault.GenFault.TheVariants.{Cdl, OffsetTooLarge, WriteFailed}
 use Rattle.ncgen.specs.declared.prepared.Prepared.{Prepared}
 use Rattle.ncgen.proofs.ListedValues.{AreTheListed, the-listed}
 use Rattle.ncgen.proofs.Placing.{data-after, listed-after}
@@ -121,3 +122,32 @@ placed h false h' fit e = absurd (subst IsPlaced e tt)
 pub not-placed : (h : Header) (b : Bool) (fault : NoRoom) → fits h ≡ b → Err fault ≡ (if b then Ok (with_begins h) else Err offset_too_large) → fits h ≡ false
 not-placed h true fault fit e = absurd (subst IsPlaced (sym e) tt)
 not-placed h false fault fit e = fit
+
+-- ---- a refusal writes nothing
+
+abbrev IsOfText : GenFault → Type 0
+IsOfText (Cdl fault) = Unit {0}
+IsOfText OffsetTooLarge = Unit {0}
+IsOfText WriteFailed = ⊥
+
+abbrev StatesText : Result (List ℕ) GenFault → Type 0
+StatesText (Ok file) = Unit {0}
+StatesText (Err fault) = IsOfText fault
+
+fitting-states : (d : Dataset) (b : Bool) → StatesText (if b then Ok (file_of d) else Err OffsetTooLarge)
+fitting-states d true = tt
+fitting-states d false = tt
+
+states : (m : Result Dataset CdlFault) → StatesText (file_or_fault m)
+states (Ok d) = fitting-states d (fits d.header)
+states (Err fault) = tt
+
+of-text : (text : List ℕ) (v : Version) (fault : GenFault) → Refuses (generated text v) fault → IsOfText fault
+unfolding generated
+of-text text v fault (inl stated) = subst StatesText stated (states (meaning text v))
+of-text text v fault (inr memory) = subst IsOfText (sym memory) tt
+
+pub refused-text : (text : List ℕ) (v : Version) (sink : SinkView) (fault : GenFault) → Refuses (generated text v) fault → Generates {A = Unit {0}} (generated text v) sink sink (Err fault)
+refused-text text v sink (Cdl fault) refuses = (refl, refuses)
+refused-text text v sink OffsetTooLarge refuses = (refl, refuses)
+refused-text text v sink WriteFailed refuses = absurd (of-text text v WriteFailed refuses)

@@ -10,5 +10,5 @@ mod listed;
 mod prepared;
 
 pub use fault::GenFault;
-pub use generating::prepare;
+pub use generating::{generate, prepare};
 pub use prepared::Prepared;
