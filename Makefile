@@ -1,39 +1,45 @@
-# ncdump for the netCDF classic formats. Everything is proved before it is built.
+# ncdump and ncgen for the netCDF classic formats. Everything is proved before it is built.
 
-sample = samples/stations.nc
-# where rt leaves the program that it has proved and built
-built = crates/ncdump_cli/out/ncdump_cli
-keep = mkdir -p bin && cp $(built) bin/ncdump
-# where `make install` puts the program and its manual page
+sample = samples/stations
+keep = mkdir -p bin && cp crates/$(1)_cli/out/$(1)_cli bin/$(1)
+# where `make install` puts the programs and their manual pages
 PREFIX = /usr/local
 programs = $(DESTDIR)$(PREFIX)/bin
 pages = $(DESTDIR)$(PREFIX)/share/man/man1
 
-# Proves and builds the program, and prints the sample as CDL.
-all: bin/ncdump
-	bin/ncdump $(sample)
+# Proves and builds the programs, makes a file of the sample's text, and prints it as CDL again.
+all: bin/ncdump bin/ncgen
+	bin/ncgen -k nc6 -o bin/stations.nc $(sample).cdl
+	bin/ncdump bin/stations.nc
 
-# Proves and builds the program. rt sees what has changed, and runs what it has built, here on the sample.
+# Prove and build a program. rt sees what has changed, and runs what it has built, here on the sample.
 bin/ncdump: FORCE
-	cd crates/ncdump_cli && rt run -- ../../$(sample) >/dev/null
-	$(keep)
+	cd crates/ncdump_cli && rt run -- ../../$(sample).nc >/dev/null
+	$(call keep,ncdump)
+bin/ncgen: FORCE
+	cd crates/ncgen_cli && rt run -- ../../$(sample).cdl
+	$(call keep,ncgen)
 
-# The merge gate: every proof from nothing, the must-fail edits, the tests and the program's stored run; then wrong definitions,
-# which the laws have to refuse, the tests with each growth of memory refused in turn, and the end-to-end tests of the program
-# that the gate has built.
+# The merge gate: every proof from nothing, the must-fail edits, the tests and the programs' stored runs; then wrong definitions,
+# which the laws have to refuse, the tests with each growth of memory refused in turn, and the programs that the gate has built
+# from end to end, and on random datasets.
 test:
 	rt ci
-	$(keep)
+	$(call keep,ncdump)
+	$(call keep,ncgen)
 	tests/definitions.py
 	tests/growths.sh
-	tests/run.sh
+	tests/ncdump.sh
+	tests/ncgen.sh
+	tests/roundtrip.py
 
-# Installs the program and its manual page, and proves and builds the program first where that isn't done.
+# Installs the programs and their manual pages, and proves and builds the programs first where that isn't done.
 install:
 	test -x bin/ncdump || $(MAKE) bin/ncdump
+	test -x bin/ncgen || $(MAKE) bin/ncgen
 	install -d $(programs) $(pages)
-	install -m 755 bin/ncdump $(programs)/ncdump
-	install -m 644 man/ncdump.1 $(pages)/ncdump.1
+	install -m 755 bin/ncdump bin/ncgen $(programs)
+	install -m 644 man/ncdump.1 man/ncgen.1 $(pages)
 
 # Proves every crate, over what earlier runs kept.
 check:

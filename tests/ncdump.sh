@@ -1,57 +1,7 @@
 #!/usr/bin/env bash
 # Runs bin/ncdump on files on disk, and compares its standard output, its standard error and its status.
 set -u
-top=$(cd "$(dirname "$0")/.." && pwd)
-ncdump=$top/bin/ncdump
-samples=$top/samples
-passed=0
-failed=0
-
-if ! [ -x "$ncdump" ]; then
-    echo "tests/run.sh: no bin/ncdump: run make first" >&2
-    exit 1
-fi
-work=$(mktemp -d)
-trap 'rm -rf "$work"' EXIT
-trap 'exit 1' HUP INT TERM
-mkdir "$work/files" "$work/files/dir" "$work/want" "$work/got"
-cd "$work/files" || exit 1
-
-# stdout TEXT: the standard output that the next verdict wants, with printf's escapes.
-stdout() {
-    printf '%b' "$1" >"$work/want/stdout"
-}
-
-# stderr TEXT: the same of the standard error.
-stderr() {
-    printf '%b' "$1" >"$work/want/stderr"
-}
-
-# nothing: no output is wanted.
-nothing() {
-    : >"$work/want/stdout"
-    : >"$work/want/stderr"
-}
-
-# run COMMAND..: runs the command, and keeps what it writes and its status.
-run() {
-    "$@" >"$work/got/stdout" 2>"$work/got/stderr"
-    echo "status $?" >"$work/got/status"
-}
-
-# verdict NAME STATUS: what the test NAME shows holds where the last run wrote what is wanted and ended so.
-verdict() {
-    echo "status $2" >"$work/want/status"
-    if diff -u "$work/want" "$work/got" >"$work/diff"; then
-        passed=$((passed + 1))
-        echo "ok $1"
-    else
-        failed=$((failed + 1))
-        echo "FAILED $1"
-        cat "$work/diff"
-    fi
-    nothing
-}
+. "$(dirname "$0")/verdicts.sh"
 
 # cdl NAME FILE TEXT: the file's dump is the text, with printf's escapes, and nothing else is written.
 cdl() {
@@ -82,11 +32,6 @@ fault() {
     stderr "ncdump: $2: $3\\n"
     run "$ncdump" "$2"
     verdict "$1" 1
-}
-
-# zeros N: N zero bytes.
-zeros() {
-    head -c "$1" /dev/zero
 }
 
 # smallest NAME: makes a file of version 1 without dimensions, attributes and variables.
@@ -128,7 +73,6 @@ without_stderr() {
     "$ncdump" "$1" 2>&-
 }
 
-nothing
 
 # The samples.
 cdl smallest_file_of_version_1 "$samples/smallest.nc" 'netcdf smallest {\n}\n'
@@ -326,5 +270,4 @@ verdict closed_standard_output 1
 run without_stderr missing.nc
 verdict closed_standard_error 1
 
-echo "$passed passed, $failed failed"
-[ "$failed" -eq 0 ]
+summary

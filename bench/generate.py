@@ -1,11 +1,11 @@
 #!/usr/bin/env python3
-"""Times crates/parse_timer, which parses a CDL text, beside Unidata's ncgen (Debian's netcdf-bin) on texts of many kinds, in one run.
+"""Times bin/ncgen beside Unidata's ncgen (Debian's netcdf-bin) on texts of many kinds, in one run.
 
-    bench/parse.py [NAME ...]
+    bench/generate.py [NAME ...]
 
-It makes the texts, runs the programs in turn, and prints for each text its size, the least time of each in milliseconds, how many
-times as fast ours is, how many megabytes a second that is, and the most memory that ours took. Unidata's checks the text and makes
-the file, which it writes to the temporary folder; ours makes no file.
+It makes the texts, runs both programs in turn, each of which makes the file, and prints for each text its size, the least time of
+each in milliseconds, how many times as fast ours is, how many megabytes of text a second that is, the most memory that each took, and
+how much of ours isn't the text and the packed values. Wants GNU time, and bin/ncgen built.
 
 Some texts come in two lengths. The run fails where four times the length takes more than six times as long.
 """
@@ -19,7 +19,8 @@ import time
 from pathlib import Path
 
 TOP = Path(__file__).resolve().parent.parent
-OURS = TOP / "crates" / "parse_timer" / "out" / "parse_timer"
+OURS = TOP / "bin" / "ncgen"
+THEIRS = "/usr/bin/ncgen"
 RUNS = 5
 # milliseconds from which on a program runs once, and from which on Unidata's is stopped
 SLOW = 2000
@@ -40,6 +41,30 @@ def ints():
     return listed([str(random.randrange(-(10**6), 10**6)) for _ in range(5_000_000)], ", ")
 
 
+def numbers(least, most, count):
+    random.seed(1)
+    return ", ".join(str(random.randrange(least, most)) for _ in range(count))
+
+
+def cube():
+    return text("\ta = 100 ;\n\tb = 1000 ;\n\tc = 100 ;\n", "\tshort v(a, b, c) ;\n", f" v = {numbers(-3000, 3000, 10**7)} ;\n")
+
+
+def many_bytes():
+    return text("\tn = 10000000 ;\n", "\tbyte v(n) ;\n", f" v = {numbers(-128, 128, 10**7)} ;\n")
+
+
+def records():
+    """Three interleaved record variables."""
+    names = "abc"
+    values = "".join(f" {name} = {numbers(-(10**6), 10**6, 200_000)} ;\n" for name in names)
+    return text("\tt = UNLIMITED ;\n", "".join(f"\tint {name}(t) ;\n" for name in names), values)
+
+
+def int64s():
+    return text("\tn = 2000000 ;\n", "\tint64 v(n) ;\n", f" v = {numbers(-(10**18), 10**18, 2 * 10**6)} ;\n")
+
+
 def rows():
     random.seed(1)
     lines = ['  "' + "".join(random.choices("abcdefgh ", k=80)) + '"' for _ in range(50_000)]
@@ -57,7 +82,12 @@ def data(n, backwards=False):
 TEXTS = {
     "ints": ints,
     "ones": lambda: listed(["1"] * 10_000_000, ","),
+    "cube": cube,
+    "bytes": many_bytes,
     "rows": rows,
+    "records": records,
+    "int64s": int64s,
+    "variables": lambda: data(20_000),
     "comment": lambda: "netcdf t {\n//" + "x" * 100_000_000 + "\n}\n",
 }
 GROWING = {
@@ -71,38 +101,43 @@ GROWING = {
     "strings": lambda n: text("", "\tint v ;\n\t\tv:a = " + ", ".join(f'"s{i}"' for i in range(n)) + " ;\n"),
 }
 LENGTHS = (10_000, 40_000)
+# the texts that are not of the first version
+KINDS = {"int64s": "nc5", "skeleton": "nc5"}
 
 
 def run(words, limit=None):
-    """Milliseconds that the words take, or None where they are stopped."""
+    """Milliseconds that the words take, or None where they are stopped or fail."""
     before = time.perf_counter()
     try:
         subprocess.run(words, stdout=subprocess.DEVNULL, stderr=subprocess.DEVNULL, check=True, timeout=limit)
-    except subprocess.TimeoutExpired:
+    except (subprocess.TimeoutExpired, subprocess.CalledProcessError):
         return None
     return (time.perf_counter() - before) * 1000
 
 
-def peak(path):
-    """The most memory that ours takes, in KiB, where GNU time is installed."""
-    if not os.access("/usr/bin/time", os.X_OK):
-        return "-"
-    ran = subprocess.run(["/usr/bin/time", "-f", "%M", OURS, path], stdout=subprocess.DEVNULL, stderr=subprocess.PIPE, check=True)
-    return ran.stderr.decode().strip()
+def peak(words):
+    """The most memory that the words take, in KiB."""
+    ran = subprocess.run(["/usr/bin/time", "-f", "%M", *words], stdout=subprocess.DEVNULL, stderr=subprocess.PIPE)
+    return int(ran.stderr.decode().split()[-1])
 
 
-def timed(name, content):
+def timed(name, content, out="made.nc"):
     """The least time of ours on this text; prints a line."""
     path = f"{name}.cdl"
     Path(path).write_text(content)
     size = len(content)
-    ours, theirs = run([OURS, path]), run(["ncgen", "-o", "made.nc", path], STOPPED / 1000)
+    words = ["-k", KINDS.get(name, "nc3"), "-o", out, path]
+    ours, theirs = run([OURS, *words]), run([THEIRS, *words], STOPPED / 1000)
     for _ in range(RUNS - 1):
-        ours = min(ours, run([OURS, path]))
+        ours = min(ours, run([OURS, *words]))
         if theirs and theirs < SLOW:
-            theirs = min(theirs, run(["ncgen", "-o", "made.nc", path]))
-    shown = f"{theirs:9.1f} {ours:9.1f} {theirs / ours:7.1f}" if theirs else f"{'stopped':>9} {ours:9.1f} {'-':>7}"
-    print(f"{name:30} {size:10} {shown} {size / ours / 1000:7.1f} {peak(path):>8}", flush=True)
+            theirs = min(theirs, run([THEIRS, *words]))
+    shown = f"{theirs:9.1f} {ours:9.1f} {theirs / ours:7.1f}" if theirs else f"{'none':>9} {ours:9.1f} {'-':>7}"
+    held = peak([OURS, *words])
+    their_peak = peak([THEIRS, *words]) if theirs else 0
+    made = os.path.getsize(out) if os.path.isfile(out) else 0
+    beside = held - (size + made) // 1024
+    print(f"{name:30} {size:10} {shown} {size / ours / 1000:7.1f} {their_peak:8} {held:8} {beside:8}", flush=True)
     os.remove(path)
     return ours
 
@@ -112,10 +147,13 @@ def main():
     faults = []
     with tempfile.TemporaryDirectory() as folder:
         os.chdir(folder)
-        print(f"{'text':30} {'bytes':>10} {'Unidata':>9} {'ours':>9} {'times':>7} {'MB/s':>7} {'KiB':>8}")
+        columns = f"{'MB/s':>7} {'its KiB':>8} {'our KiB':>8} {'beside':>8}"
+        print(f"{'text':30} {'bytes':>10} {'Unidata':>9} {'ours':>9} {'times':>7} {columns}")
         for name, make in TEXTS.items():
             if not wanted or name in wanted:
                 timed(name, make())
+        if not wanted or "skeleton" in wanted:
+            timed("skeleton", text("\tn = 4294967292 ;\n", "\tbyte v(n) ;\n"), "/dev/null")
         for name, make in GROWING.items():
             if wanted and name not in wanted:
                 continue

@@ -1,0 +1,66 @@
+# What tests/ncdump.sh and tests/ncgen.sh begin with: a folder to work in, and words for what is wanted of a run.
+top=$(cd "$(dirname "$0")/.." && pwd)
+ncdump=$top/bin/ncdump
+ncgen=$top/bin/ncgen
+samples=$top/samples
+passed=0
+failed=0
+
+if ! [ -x "$ncdump" ] || ! [ -x "$ncgen" ]; then
+    echo "$0: no bin/ncdump or no bin/ncgen: run make first" >&2
+    exit 1
+fi
+work=$(mktemp -d)
+trap 'rm -rf "$work"' EXIT
+trap 'exit 1' HUP INT TERM
+mkdir "$work/files" "$work/files/dir" "$work/want" "$work/got"
+cd "$work/files" || exit 1
+
+# stdout TEXT: the standard output that the next verdict wants, with printf's escapes.
+stdout() {
+    printf '%b' "$1" >"$work/want/stdout"
+}
+
+# stderr TEXT: the same of the standard error.
+stderr() {
+    printf '%b' "$1" >"$work/want/stderr"
+}
+
+# nothing: no output is wanted.
+nothing() {
+    : >"$work/want/stdout"
+    : >"$work/want/stderr"
+}
+
+# run COMMAND..: runs the command, and keeps what it writes and its status.
+run() {
+    "$@" >"$work/got/stdout" 2>"$work/got/stderr"
+    echo "status $?" >"$work/got/status"
+}
+
+# verdict NAME STATUS: what the test NAME shows holds where the last run wrote what is wanted and ended so.
+verdict() {
+    echo "status $2" >"$work/want/status"
+    if diff -u "$work/want" "$work/got" >"$work/diff"; then
+        passed=$((passed + 1))
+        echo "ok $1"
+    else
+        failed=$((failed + 1))
+        echo "FAILED $1"
+        cat "$work/diff"
+    fi
+    nothing
+}
+
+# zeros N: N zero bytes.
+zeros() {
+    head -c "$1" /dev/zero
+}
+
+# summary: how many tests passed; fails where one failed.
+summary() {
+    echo "$passed passed, $failed failed"
+    [ "$failed" -eq 0 ]
+}
+
+nothing
