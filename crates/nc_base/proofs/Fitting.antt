@@ -1,6 +1,6 @@
 -- Headers whose begins fit their fields.
-use Rattle.std.proofs.Common.{◌≡◌, ℕ, ◌<◌, Bool, true, false, ◌&&◌, List, [], ◌∷◌, refl, sym, subst}
-use Rattle.std.specs.Prelude.{All, nat_lt}
+use Rattle.std.proofs.Common.{◌≡◌, ℕ, ◌<◌, Bool, true, false, ◌&&◌, List, [], ◌∷◌, length, refl, sym, subst, Ok, Err}
+use Rattle.std.specs.Prelude.{All, nat_lt, if◌then◌else◌}
 use Rattle.std.specs.List.{list_all}
 use Rattle.std.proofs.lemmas.Bool.{lt-ltb, ltb-true}
 use Rattle.std.proofs.lemmas.List.Elements.{All-nil, All-cons, All-head, All-tail}
@@ -8,8 +8,8 @@ use Rattle.nc_base.specs.declared.header.Var.{Var}
 use Rattle.nc_base.specs.declared.header.Header.{Header}
 use Rattle.nc_base.specs.Versions.{offset_limit}
 use Rattle.nc_base.specs.Headers.{IsSound}
-use Rattle.nc_base.specs.GeneratedFile.{with_begins, Fits, fits}
-use Rattle.nc_base.proofs.FileHolds.{sound-after}
+use Rattle.nc_base.specs.GeneratedFile.{header_spelling, with_begins, Fits, fits}
+use Rattle.nc_base.proofs.FileHolds.{len-after, sound-after}
 
 and-left : (a b : Bool) → (a && b) ≡ true → a ≡ true
 and-left true b e = refl
@@ -61,3 +61,30 @@ IsSound-with_begins h sound = sound-after h sound
 -- where they fit, each begin is below the limit of the header that has it
 pub begins-below : (h : Header) → fits h ≡ true → All (λ (var : Var). var.begin_at < offset_limit (with_begins h).version) (with_begins h).vars
 begins-below h test = subst (λ v. All (IsBelow (offset_limit v)) (with_begins h).vars) (sym (version-with_begins h)) (Fits-from_fits h test)
+
+-- begins don't change the length of the spelling
+pub length-with_begins : (h : Header) → length (header_spelling (with_begins h)) ≡ length (header_spelling h)
+unfolding with_begins
+length-with_begins h = len-after h
+
+-- ---- the answer of a function that gives a header its begins, or an error where they don't fit
+
+pub record HasBegins (h k : Header) : Type 0 where
+  pub fit : fits h ≡ true
+  pub is : k ≡ with_begins h
+  pub sound : IsSound k
+  pub begins : All (λ (var : Var). var.begin_at < offset_limit k.version) k.vars
+
+chosen : {E : Type 0} (b : Bool) (h k : Header) (error : E) → Ok k ≡ (if b then Ok h else Err error) → (b ≡ true) × (k ≡ h)
+chosen true h k error e = (refl, cc)
+chosen false h k error e = cc
+
+pub has-begins : {E : Type 0} (h k : Header) (error : E) → IsSound h → Ok k ≡ (if fits h then Ok (with_begins h) else Err error) → HasBegins h k
+has-begins h k error sound answer =
+    let both = chosen (fits h) (with_begins h) k error answer in
+    record {
+      fit = both.0;
+      is = both.1;
+      sound = subst IsSound (sym both.1) (IsSound-with_begins h sound);
+      begins = subst (λ (x : Header). All (IsBelow (offset_limit x.version)) x.vars) (sym both.1) (begins-below h both.0);
+    }

@@ -24,8 +24,11 @@ pub(crate) struct Offsets {
     pub(crate) slab: u128,
 }
 
-/// The header with the begin of each variable: after the header come the variables that aren't record variables, and after
-/// them the records, each variable padded to a multiple of four bytes.
+/// The header with the begin of each variable. After the header stand the slabs of the variables that aren't record variables,
+/// in header order, and after them the slabs of the record variables in the first record; each slab before another is padded to
+/// a multiple of four bytes (`begin` of the NetCDF Classic Format Specification). The header's own begins don't matter.
+///
+/// It takes no memory, and time in proportion to the number of dimension ids, variables and attributes.
 ///
 /// # Errors
 ///
