@@ -10,6 +10,8 @@ mod command_lines;
 #[cfg(test)]
 mod cut_sources;
 #[cfg(test)]
+mod data_parts;
+#[cfg(test)]
 mod dumps;
 #[cfg(test)]
 mod failures;

@@ -1,7 +1,10 @@
-//! The values of one variable, out of a file.
+//! The values of one variable, out of a file; and those of all, into one.
 //!
 //! A [`Walk`] hands out the values of a variable in row-major order, as the file has them, in chunks that it lends out of a
 //! caller's buffer. It reads no byte that isn't a byte of a value, and none twice for the same value, and it takes no memory.
+//!
+//! [`write_data`] writes the data part of a file straight from the arrays of its variables, whose last values may be lacking. It takes
+//! no memory either.
 #![tactic(auto)]
 
 mod chunk;
