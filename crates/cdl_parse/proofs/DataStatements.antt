@@ -21,7 +21,7 @@ use Rattle.cdl_values.specs.Meant.{Means, begins_brace, listing, name_first, nam
 use Rattle.cdl_values.specs.NameIndices.{position_of}
 use Rattle.cdl_values.specs.declared.data.Target.{Target}
 use Rattle.cdl_values.specs.declared.read_error.ReadError.{ReadError}
-use Rattle.cdl_parse.specs.DataSections.{Closes, ReadsOne, StandsSo, given_at}
+use Rattle.cdl_parse.specs.DataSections.{Closes, ReadsOne, IsInDataSection, given_at}
 use Rattle.cdl_parse.specs.declared.data_section.Passed.{Passed}
 use Rattle.cdl_parse.proofs.DataStates.{listed_at}
 
@@ -55,14 +55,14 @@ closing v s (l ∷ ls) section brace good on =
     by said false is on = absurd (false≢true (sym (ap is_some is) ∙ on))
 
 -- what the call that reads a brace answers is what the call that reads any statement does
-pub closed : (vars : List Var) (start : Cutter) (s : State) (ts : List Target) (arrays : List (List ℕ)) (result : Result Passed ReadError) → StandsSo vars ts arrays s → Closes start s result → ReadsOne vars start s ts arrays result
+pub closed : (vars : List Var) (start : Cutter) (s : State) (ts : List Target) (arrays : List (List ℕ)) (result : Result Passed ReadError) → IsInDataSection vars ts arrays s → Closes start s result → ReadsOne vars start s ts arrays result
 closed vars start s ts arrays (Ok passed) stands h = rw (h.0) (h.1, stands.lists)
 closed vars start s ts arrays (Err e) stands h = h
 
 -- a statement that lists these bytes of the variable at this position
-pub takes : (vars : List Var) (v : Version) (s : State) (ws : List Lexeme) (ts : List Target) (arrays : List (List ℕ)) (array : List ℕ) (k : ℕ) → StandsSo vars ts arrays s →
+pub takes : (vars : List Var) (v : Version) (s : State) (ws : List Lexeme) (ts : List Target) (arrays : List (List ℕ)) (array : List ℕ) (k : ℕ) → IsInDataSection vars ts arrays s →
     Means v s ws (Ok array) → position_of (names_of s.drafts) (name_first ws) ≡ Some k →
-    (ds : List Draft) × (piece_read v s ws ≡ Ok (record s { drafts = ds })) × StandsSo vars (given_at k ts) (slice_set arrays k array) (record s { drafts = ds })
+    (ds : List Draft) × (piece_read v s ws ≡ Ok (record s { drafts = ds })) × IsInDataSection vars (given_at k ts) (slice_set arrays k array) (record s { drafts = ds })
 takes vars v s ws ts arrays array k stands means is =
     let ds = listing (name_first ws) means.0 s.drafts in
     let after = listed_at s.dims (name_first ws) means.0 vars arrays ts s.drafts k stands.lists stands.suit is in

@@ -149,7 +149,7 @@ with_all_is dims (d ∷ drafts) e =
         more e ∙ ap (λ k. reached (list_all (has_small dims) drafts) k (max e.widest (widest_in dims drafts))) (max_zero e.records (records_in dims drafts)) ∙
         ap (λ k. reached (list_all (has_small dims) drafts) (max e.records (max 0 (records_in dims drafts))) k) (max_zero e.widest (widest_in dims drafts))
 
--- ---- the arrays over so many records
+-- ---- the arrays over n records
 
 le_true : (m n : ℕ) → m ≤ n → nat_le m n ≡ true
 le_true m n h = grind (arith, h)

@@ -6,9 +6,12 @@ use Rattle.std.specs.Str.{bytes_eq}
 use Rattle.nc_base.specs.Names.{is_name}
 use Rattle.cdl_text.specs.declared.fault.CdlKind.{CdlKind}
 use Rattle.cdl_text.specs.declared.fault.CdlKind.TheVariants.{BadName, UnknownVariable}
-use Rattle.cdl_meaning.specs.State.{Draft, at_named, at_variable, ◌>>=◌}
+use Rattle.cdl_meaning.specs.State.{Draft, at_named, at_variable, unless, ◌>>=◌}
+use Rattle.cdl_values.specs.Answers.{Fails}
 use Rattle.cdl_values.specs.Meant.{names_of}
 use Rattle.cdl_values.specs.NameIndices.{position_of}
+use Rattle.cdl_values.specs.declared.read_error.ReadError.{ReadError}
+use Rattle.cdl_values.proofs.AllowedNames.{not_allowed}
 use Rattle.cdl_parse.specs.VariablePositions.{at_position}
 
 module _ (name : List ℕ) (f : Draft → Result Draft CdlKind) where
@@ -41,9 +44,9 @@ module _ (name : List ℕ) (f : Draft → Result Draft CdlKind) where
   unfolding at_variable
   named_as ds named = rw (named) refl
 
-  pub no_name : (ds : List Draft) → is_name name ≡ false → at_variable name f ds ≡ Err BadName
+  pub no_name : (ds : List Draft) (e : ReadError) → Fails e (unless (is_name name) BadName) → Fails e (at_variable name f ds)
   unfolding at_variable
-  no_name ds off = rw (off) refl
+  no_name ds e h = not_allowed e name (λ named. unless named BadName >>= (λ u. at_named name f ds)) refl h
 
   pub unknown : (ds : List Draft) → is_name name ≡ true → position_of (names_of ds) name ≡ None → at_variable name f ds ≡ Err UnknownVariable
   unknown ds named is = named_as ds named ∙ not_found 0 ds is

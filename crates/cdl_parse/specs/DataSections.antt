@@ -22,8 +22,8 @@ given_at position [] = []
 given_at zero (t ∷ ts) = record t { given = true } ∷ ts
 given_at (suc position) (t ∷ ts) = t ∷ given_at position ts
 
--- in the data section, of these variables these bytes are listed, and their targets are these
-pub record StandsSo (vars : List Var) (targets : List Target) (arrays : List (List ℕ)) (s : State) : Type 0 where
+-- the state is in the data section: of these variables these bytes are listed, and their targets are these
+pub record IsInDataSection (vars : List Var) (targets : List Target) (arrays : List (List ℕ)) (s : State) : Type 0 where
   pub section : s.section ≡ Values
   pub suit : Suit s.dims targets s.drafts
   pub lists : AllList vars arrays s.drafts
@@ -36,7 +36,7 @@ Closes start s (Err e) = Fails e (piece_read (version_of start) s (words start))
 -- the statement is the closing brace, and what is listed is these bytes; or it lists values, and afterwards the state stands so
 abbrev pub Takes : Bool → List Var → Cutter → State → List Target → List (List ℕ) → Type 0
 Takes true vars start s targets arrays = (piece_read (version_of start) s (words start) ≡ Ok (record s { section = Closed })) × AllList vars arrays s.drafts
-Takes false vars start s targets arrays = (ds : List Draft) × (piece_read (version_of start) s (words start) ≡ Ok (record s { drafts = ds })) × StandsSo vars targets arrays (record s { drafts = ds })
+Takes false vars start s targets arrays = (ds : List Draft) × (piece_read (version_of start) s (words start) ≡ Ok (record s { drafts = ds })) × IsInDataSection vars targets arrays (record s { drafts = ds })
 
 -- the statement is taken, or it has the fault
 abbrev pub ReadsOne : List Var → Cutter → State → List Target → List (List ℕ) → Result Passed ReadError → Type 0

@@ -9,7 +9,7 @@ use Rattle.cdl_meaning.specs.Meaning.{is_small, records_in}
 use Rattle.cdl_meaning.specs.State.{Draft}
 use Rattle.cdl_parse.specs.declared.records.Extent.{Extent}
 
--- how many records of so many values hold n of them
+-- how many records of `count` values hold n of them
 abbrev pub records_for : ℕ → ℕ → ℕ
 records_for count n = (n + count - 1) / count
 
@@ -31,6 +31,6 @@ with_all dims (Some e) _ _ = Some e
 abbrev pub records_within : Extent → Option ℕ
 records_within e = if nat_le e.records array_limit && nat_le (e.records * e.widest) array_limit then Some e.records else None
 
--- the number of records; None where over so many a slab or an array passes its limit
+-- the number of records; None where over that many records a slab or an array passes its limit
 abbrev pub records_kept : List Dim → List Draft → Option ℕ
 records_kept dims drafts = if list_all (is_small dims (records_in dims drafts)) drafts then Some (records_in dims drafts) else None

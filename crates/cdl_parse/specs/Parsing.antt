@@ -41,8 +41,8 @@ ReadsValues vars start s (Ok values) =
     (run (text_of start) (version_of start) s (pieces_left start) ≡ run (text_of start) (version_of start) (record s { section = values.section; drafts = drafts }) (pieces_left values.rest))
 ReadsValues vars start s (Err e) = FailsAt e (run (text_of start) (version_of start) s (pieces_left start))
 
--- a state of these contents
-pub record Stands (c : Contents) (s : State) : Type 0 where
+-- these are the contents of the state
+pub record AreContentsOf (c : Contents) (s : State) : Type 0 where
   pub dims : s.dims ≡ c.dims
   pub gatts : s.gatts ≡ c.gatts
   pub listed : AllList c.vars c.listed.items s.drafts
@@ -50,5 +50,5 @@ pub record Stands (c : Contents) (s : State) : Type 0 where
 
 -- the text is read to its end, with these contents; or there is the fault
 abbrev pub ReadsAll : Result Contents ParseError → Result State CdlFault → Type 0
-ReadsAll (Ok c) read = (s : State) × Stands c s × (read ≡ Ok s)
+ReadsAll (Ok c) read = (s : State) × AreContentsOf c s × (read ≡ Ok s)
 ReadsAll (Err e) read = FailsAt e read

@@ -12,8 +12,8 @@ ghost use Rattle.cdl_parse.specs.AttributeRead.{constants_said, new_attribute};
 
 use crate::attributes::Attributes;
 use cdl_text::{CdlKind, Cutter};
-use cdl_values::{Array, ReadError, name_of_word, read_constants, type_said};
-use nc_base::{Att, NcType, Sequence, check_name};
+use cdl_values::{Array, ReadError, read_constants, read_name, type_said};
+use nc_base::{Att, NcType, Sequence};
 use std::alloc::{AllocError, Global};
 
 /// Reads an attribute, whose name is next, and adds it to the others of its variable or of the dataset.
@@ -51,13 +51,7 @@ pub fn read_attribute(
 fn new_attribute(alloc: Global, attributes: &Attributes, word: &[u8]) -> Result<Vec<u8>, ReadError>
     ensures { Gives (λ name. name.items) result (new_attribute attributes.now (word_value word.now)) }
 {
-    let name = match name_of_word(alloc, word) {
-        Ok(name) => name,
-        Err(_) => return Err(ReadError::OutOfMemory),
-    };
-    if !check_name(name.as_slice()) {
-        return Err(ReadError::Fault(CdlKind::BadName));
-    }
+    let name = read_name(alloc, word)?;
     if attributes.has_name(name.as_slice()) {
         return Err(ReadError::Fault(CdlKind::DuplicateName));
     }

@@ -8,7 +8,7 @@ ghost use Rattle.cdl_meaning.specs.State.{State};
 ghost use Rattle.cdl_values.specs.Listed.{fresh};
 ghost use Rattle.cdl_values.specs.Meant.{Suit, begins_brace, names_of};
 ghost use Rattle.cdl_values.specs.NameIndices.{IsIndex};
-ghost use Rattle.cdl_parse.specs.DataSections.{Closes, ReadsData, ReadsOne, StandsSo, given_at};
+ghost use Rattle.cdl_parse.specs.DataSections.{Closes, ReadsData, ReadsOne, IsInDataSection, given_at};
 
 use crate::parse_error::ParseError;
 use cdl_text::{CdlKind, Cutter, Section, look_over};
@@ -105,7 +105,7 @@ fn read_one<'a>(
     start: Cutter<'a>,
 ) -> Result<Passed<'a>, ReadError>
     requires { is_done start ≡ false }
-    ensures reads { (vars : List Var) (s : State) → IsIndex names.now (names_of s.drafts) → StandsSo vars targets.old.items arrays.old.items s → length (text_of start.entry) < 2 ^ 63 → ReadsOne vars start.entry s targets.new.items arrays.new.items result }
+    ensures reads { (vars : List Var) (s : State) → IsIndex names.now (names_of s.drafts) → IsInDataSection vars targets.old.items arrays.old.items s → length (text_of start.entry) < 2 ^ 63 → ReadsOne vars start.entry s targets.new.items arrays.new.items result }
     ensures rest { IfOk result (λ passed. pieces_left passed.rest ≡ after start.entry) }
     ensures text { IfOk result (λ passed. text_of passed.rest ≡ text_of start.entry) }
     ensures version { IfOk result (λ passed. version_of passed.rest ≡ version_of start.entry) }

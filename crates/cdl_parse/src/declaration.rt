@@ -19,22 +19,9 @@ ghost use Rattle.cdl_parse.specs.Drafts.{draft, is_taken};
 use crate::dimensions::Dimensions;
 use crate::variables::Variables;
 use cdl_text::{CdlKind, Cutter, Lexeme, TokenKind};
-use cdl_values::{ReadError, name_of_word};
+use cdl_values::{ReadError, name_of_word, read_name};
 use nc_base::{NcType, Version, check_name, is_record_dim};
 use std::alloc::Global;
-
-/// All types.
-const TYPES: [NcType; 9] = [
-    NcType::Byte,
-    NcType::Char,
-    NcType::Short,
-    NcType::Int,
-    NcType::Ubyte,
-    NcType::Ushort,
-    NcType::Uint,
-    NcType::Int64,
-    NcType::Uint64,
-];
 
 /// A variable as far as its declaration is read.
 #[derive(Drop)]
@@ -93,7 +80,7 @@ pub fn type_of_word(version: Version, word: Lexeme<'_>) -> Result<NcType, CdlKin
     if word.is_word(b"long") {
         return Ok(NcType::Int);
     }
-    match first_with_word(&TYPES, version, word) {
+    match first_with_word(&NcType::ALL, version, word) {
         Some(ty) => Ok(ty),
         None => Err(CdlKind::UnknownType),
     }
@@ -151,13 +138,7 @@ fn begin(alloc: Global, variables: &Variables, token: Lexeme<'_>) -> Result<Begu
 fn new_variable(alloc: Global, variables: &Variables, word: &[u8]) -> Result<Vec<u8>, ReadError>
     ensures { Gives (λ name. name.items) result (new_variable variables.now (word_value word.now)) }
 {
-    let name = match name_of_word(alloc, word) {
-        Ok(name) => name,
-        Err(_) => return Err(ReadError::OutOfMemory),
-    };
-    if !check_name(name.as_slice()) {
-        return Err(ReadError::Fault(CdlKind::BadName));
-    }
+    let name = read_name(alloc, word)?;
     if variables.has_name(name.as_slice()) {
         return Err(ReadError::Fault(CdlKind::DuplicateName));
     }

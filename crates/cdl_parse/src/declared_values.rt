@@ -94,7 +94,7 @@ fn whole_array(
     }
 }
 
-/// The listed values of a variable, and so many fill values after them.
+/// The listed values of a variable, and `owed` fill values after them.
 fn filled(alloc: Global, var: &Var, listed: Array, owed: u64) -> Result<Sequence<u8>, AllocError>
     ensures { IfOk result (λ array. array ≡ listed ++ fills var.now owed) }
 {
@@ -104,7 +104,7 @@ fn filled(alloc: Global, var: &Var, listed: Array, owed: u64) -> Result<Sequence
     Ok(Sequence::from_vec(bytes))
 }
 
-/// How many values a variable lacks of which so many bytes are listed. None, where its slab passes 2^48 bytes, or where that are
+/// How many values a variable lacks of which `len` bytes are listed. None, where its slab passes 2^48 bytes, or where that are
 /// 2^64 values or more.
 fn owed_count(dims: &[Dim], var: &Var, records: u64, len: u128) -> Option<u64>
     ensures { IfSome result (λ n. (listed : List ℕ) → length listed ≡ len → n ≡ owed_count dims.now records var.now listed) }
@@ -114,7 +114,7 @@ fn owed_count(dims: &[Dim], var: &Var, records: u64, len: u128) -> Option<u64>
     u64::try_from(owed).ok()
 }
 
-/// How many values a variable has over so many records. None, where its slab passes 2^48 bytes.
+/// How many values a variable has over `records` records. None, where its slab passes 2^48 bytes.
 fn value_count(dims: &[Dim], var: &Var, records: u64) -> Option<u128>
     ensures { IfSome result (λ n. n ≡ value_count dims.now var.now records) }
 {
@@ -136,7 +136,7 @@ fn fill_bytes(alloc: Global, var: &Var) -> Result<Vec<u8>, AllocError>
     fill.into_bytes()
 }
 
-/// Adds so many copies of these bytes.
+/// Adds `count` copies of these bytes.
 fn add_copies(bytes: &mut Vec<u8>, copy: &[u8], count: u64) -> Result<(), AllocError>
     ensures { OnOk result (bytes.new.items ≡ bytes.old.items ++ concat (replicate count copy.now)) }
 {

@@ -14,7 +14,7 @@ use nc_base::{Dim, Var, has_records, slab_of};
 const ARRAY_LIMIT: u128 = 1 << 48;
 
 /// The number of records: as many as the record variable has that lists the most values. None, where a slab, or an array over
-/// so many records, passes 2^48 bytes.
+/// that many records, passes 2^48 bytes.
 pub fn records_of(dims: &[Dim], vars: &[Var], listed: &[Array]) -> Option<u64>
     ensures { (drafts : List Draft) → AllList vars.now listed.now drafts → AreShaped dims.now drafts → result ≡ records_kept dims.now drafts }
 {
@@ -52,7 +52,7 @@ impl Extent {
         })
     }
 
-    /// The number of records; None where over so many a record variable's array passes 2^48 bytes.
+    /// The number of records; None where over that many a record variable's array passes 2^48 bytes.
     fn records(self) -> Option<u64>
         ensures { result ≡ records_within self }
     {

@@ -10,8 +10,7 @@ ghost use Rattle.cdl_values.specs.NameIndices.{IsIndex};
 ghost use Rattle.cdl_parse.specs.VariablePositions.{at_position};
 
 use cdl_text::CdlKind;
-use cdl_values::{NameIndex, ReadError, name_of_word};
-use nc_base::check_name;
+use cdl_values::{NameIndex, ReadError, read_name};
 use std::alloc::Global;
 
 /// The position of the variable that a word names; the index has the names of the variables.
@@ -23,13 +22,7 @@ pub fn variable_position(alloc: Global, index: &NameIndex, word: &[u8]) -> Resul
     ensures finds { (drafts : List Draft) → IsIndex index.now (names_of drafts) → (change : Draft → Result Draft fault.CdlKind) → Continues (λ position. at_position position change drafts) result (at_variable (word_value word.now) change drafts) }
     ensures within { (drafts : List Draft) → IsIndex index.now (names_of drafts) → IfOk result (λ position. position < length drafts) }
 {
-    let name = match name_of_word(alloc, word) {
-        Ok(name) => name,
-        Err(_) => return Err(ReadError::OutOfMemory),
-    };
-    if !check_name(name.as_slice()) {
-        return Err(ReadError::Fault(CdlKind::BadName));
-    }
+    let name = read_name(alloc, word)?;
     match index.find(name.as_slice()) {
         Some(position) => Ok(position),
         None => Err(ReadError::Fault(CdlKind::UnknownVariable)),

@@ -146,7 +146,12 @@ impl Variables {
 fn vars_of(alloc: Global, list: Vec<Variable>) -> Result<Vec<Var>, AllocError>
     ensures { IfOk result (λ vars. vars.items ≡ map var_of list.items) }
 {
-    list.into_iter().map(var_of).collect(alloc)
+    let mut vars = Vec::new(alloc);
+    vars.reserve_exact(list.len())?;
+    for variable in list {
+        vars.push(var_of(variable))?;
+    }
+    Ok(vars)
 }
 
 /// The variable as one of a header.

@@ -13,18 +13,6 @@ use crate::bytes::{byte_at, is_digit, is_sign};
 use crate::escape::{digit, hex_len, octal_len};
 use nc_base::{NcType, Version};
 
-/// The types that the suffix of a number may say, beside that of `l`.
-const NUMBER_TYPES: [NcType; 8] = [
-    NcType::Byte,
-    NcType::Short,
-    NcType::Int,
-    NcType::Ubyte,
-    NcType::Ushort,
-    NcType::Uint,
-    NcType::Int64,
-    NcType::Uint64,
-];
-
 /// A number of a text.
 #[derive(Clone, Copy, Debug, PartialEq, Eq)]
 pub struct Numeral {
@@ -162,17 +150,24 @@ fn type_of_suffix(bytes: &[u8]) -> Option<NcType>
     if is_suffix(bytes, b"l") {
         return Some(NcType::Int);
     }
-    first_with_suffix(&NUMBER_TYPES, bytes)
+    first_with_suffix(&NcType::ALL, bytes)
 }
 
 /// The first of the types whose suffix this is.
 fn first_with_suffix(types: &[NcType], suffix: &[u8]) -> Option<NcType>
-    ensures { result ≡ find (λ ty. bytes_eq (map lower suffix.now) (map lower (number_suffix ty))) types.now }
+    ensures { result ≡ find (has_suffix (map lower suffix.now)) types.now }
 {
-    types
-        .iter()
-        .copied()
-        .find(|ty| is_suffix(suffix, ty.suffix()))
+    types.iter().copied().find(|ty| has_suffix(suffix, *ty))
+}
+
+/// Says whether a number of the type may have this suffix, each letter in either case.
+fn has_suffix(suffix: &[u8], ty: NcType) -> bool
+    ensures { result ≡ has_suffix (map lower suffix.now) ty }
+{
+    match ty {
+        NcType::Char => false,
+        _ => is_suffix(suffix, ty.suffix()),
+    }
 }
 
 /// Says whether the bytes are this suffix, each letter in either case.

@@ -21,7 +21,7 @@ use Rattle.cdl_text.proofs.Listing.{fine_on}
 use Rattle.cdl_meaning.specs.Meaning.{piece_read, checked, shaped}
 use Rattle.cdl_meaning.specs.State.{State, Draft, Capacity, capacity_of, at_named, at_variable, with_values, act, in_turn, add_value, unless, when, ◌>>=◌}
 use Rattle.cdl_values.specs.DataRead.{data_read, assigned, target_of, target_at, if_new, filled, unless_bad}
-use Rattle.cdl_values.specs.Meant.{Suit, names_of, listing, bytes_at, Listing, Means, begins_brace, Tells, array_of}
+use Rattle.cdl_values.specs.Meant.{Suit, names_of, listing, bytes_at, Listing, Means, begins_brace, ReadsStatement, array_of}
 use Rattle.cdl_values.specs.Answers.{Gives}
 use Rattle.cdl_values.specs.declared.read_error.ReadError.{ReadError}
 use Rattle.cdl_values.specs.declared.read_error.ReadError.TheVariants.{OutOfMemory, Fault}
@@ -158,12 +158,12 @@ data_means v s ts (l ∷ ls) section suit off few = by (first_bad v (l ∷ ls)) 
     by (Some k) is = ap (λ b. checked v s b ws) is
     by None is = by_shape is (completes dues.DataName ws) refl
 
--- what a call tells
-pub tells : {G : Type 0} (view : G → List ℕ) (result : Result G (ReadError)) (v : Version) (s : State) (ts : List Target) (ws : List Lexeme) → s.section ≡ Values → Suit s.dims ts s.drafts → begins_brace ws ≡ false → length ws ≤ most →
-    Gives view result (data_read v (names_of s.drafts) ts ws) → Tells v s ws (array_of view result)
-tells {G} view result v s ts ws section suit off few = by result (data_read v (names_of s.drafts) ts ws) (data_means v s ts ws section suit off few)
+-- what a call answers
+pub reads_statement : {G : Type 0} (view : G → List ℕ) (result : Result G (ReadError)) (v : Version) (s : State) (ts : List Target) (ws : List Lexeme) → s.section ≡ Values → Suit s.dims ts s.drafts → begins_brace ws ≡ false → length ws ≤ most →
+    Gives view result (data_read v (names_of s.drafts) ts ws) → ReadsStatement v s ws (array_of view result)
+reads_statement {G} view result v s ts ws section suit off few = by result (data_read v (names_of s.drafts) ts ws) (data_means v s ts ws section suit off few)
   where
-    by : (result : Result G (ReadError)) (r : Result (List ℕ) CdlKind) → Means v s ws r → Gives view result r → Tells v s ws (array_of view result)
+    by : (result : Result G (ReadError)) (r : Result (List ℕ) CdlKind) → Means v s ws r → Gives view result r → ReadsStatement v s ws (array_of view result)
     by (Ok g) r m h = subst (Means v s ws) h m
     by (Err OutOfMemory) r m h = tt
     by (Err (Fault e)) r m h = subst (Means v s ws) h m

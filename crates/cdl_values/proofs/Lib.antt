@@ -1,3 +1,4 @@
+pub mod AllowedNames
 pub mod NamePositions
 pub mod PackedTokens
 pub mod Ranges

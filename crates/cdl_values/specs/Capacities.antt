@@ -21,7 +21,7 @@ unit_of (Numbers fill) = 1
 unit_of Joined = 1
 unit_of (Rows len fill) = len
 
--- there are so many positions after these values
+-- this many positions are left after these values
 abbrev pub Left : ℕ → Option ℕ → Capacity → List ℤ → Type 0
 Left unit None r before = r.is_open ≡ true
 Left unit (Some n) r before = (r.is_open ≡ false) × (r.count ≡ length before + n * unit)

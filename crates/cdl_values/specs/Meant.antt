@@ -60,10 +60,10 @@ begins_brace [] = false
 begins_brace (l ∷ ls) = is_mark 0x7d l
 
 -- what a call answers of a piece, but for want of memory
-abbrev pub Tells : Version → State → List Lexeme → Result (List ℕ) (ReadError) → Type 0
-Tells v s ws (Ok array) = Means v s ws (Ok array)
-Tells v s ws (Err (Fault e)) = Means v s ws (Err e)
-Tells v s ws (Err OutOfMemory) = Unit {0}
+abbrev pub ReadsStatement : Version → State → List Lexeme → Result (List ℕ) (ReadError) → Type 0
+ReadsStatement v s ws (Ok array) = Means v s ws (Ok array)
+ReadsStatement v s ws (Err (Fault e)) = Means v s ws (Err e)
+ReadsStatement v s ws (Err OutOfMemory) = Unit {0}
 
 abbrev pub array_of : {G : Type 0} → (G → List ℕ) → Result G (ReadError) → Result (List ℕ) (ReadError)
 array_of view (Ok g) = Ok (view g)

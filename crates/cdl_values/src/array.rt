@@ -97,7 +97,7 @@ impl Array {
         self.into_bytes_before(0)
     }
 
-    /// The bytes, with the filling, and with room for so many after them.
+    /// The bytes, with the filling, and with capacity for `more` after them.
     ///
     /// # Errors
     ///

@@ -7,18 +7,17 @@ ghost use Rattle.cdl_text.specs.declared.section.Section.TheVariants.{Values};
 ghost use Rattle.cdl_meaning.specs.State.{State};
 ghost use Rattle.cdl_values.specs.Answers.{Gives};
 ghost use Rattle.cdl_values.specs.DataRead.{data_read, if_new, target_of};
-ghost use Rattle.cdl_values.specs.Meant.{Suit, Tells, array_of, begins_brace, name_first, names_of};
+ghost use Rattle.cdl_values.specs.Meant.{Suit, ReadsStatement, array_of, begins_brace, name_first, names_of};
 ghost use Rattle.cdl_values.specs.NameIndices.{IsIndex, position_of};
 
 use crate::array::Array;
 use crate::filling::Filling;
-use crate::name::name_of_word;
+use crate::name::read_name;
 use crate::name_index::NameIndex;
 use crate::packing::{pack, pack_good};
 use crate::read_error::ReadError;
 use crate::value::{Stop, stop_of};
 use cdl_text::{CdlKind, Cutter, Due, first_pass};
-use nc_base::check_name;
 use std::alloc::Global;
 
 /// What a variable takes of the data section.
@@ -61,7 +60,7 @@ pub fn read<'a>(
     start: Cutter<'a>,
 ) -> Result<Given<'a>, ReadError>
     requires { is_done start ≡ false }
-    ensures tells { (s : State) → s.section ≡ Values → IsIndex names.now (names_of s.drafts) → Suit s.dims targets.now s.drafts → begins_brace (words start.entry) ≡ false → length (text_of start.entry) < 2 ^ 63 → Tells (version_of start.entry) s (words start.entry) (array_of (λ (g : Given). g.array) result) }
+    ensures means { (s : State) → s.section ≡ Values → IsIndex names.now (names_of s.drafts) → Suit s.dims targets.now s.drafts → begins_brace (words start.entry) ≡ false → length (text_of start.entry) < 2 ^ 63 → ReadsStatement (version_of start.entry) s (words start.entry) (array_of (λ (g : Given). g.array) result) }
     ensures position { (all : List (List ℕ)) → IsIndex names.now all → IfOk result (λ g. position_of all (name_first (words start.entry)) ≡ Some g.position) }
     ensures rest { IfOk result (λ g. pieces_left g.rest ≡ after start.entry) }
     ensures text { IfOk result (λ g. text_of g.rest ≡ text_of start.entry) }
@@ -186,20 +185,13 @@ fn target_of(
     ensures target { (names : List (List ℕ)) → IsIndex index.now names → Gives (λ place. place.target) result (target_of names targets.now (word_value word.now)) }
     ensures position { (names : List (List ℕ)) → IsIndex index.now names → IfOk result (λ place. position_of names (word_value word.now) ≡ Some place.position) }
 {
-    match name_of_word(alloc, word) {
-        Ok(name) => {
-            if !check_name(name.as_slice()) {
-                return Err(ReadError::Fault(CdlKind::BadName));
-            }
-            match index.find(name.as_slice()) {
-                Some(position) => match if_new(targets.get(position as usize)) {
-                    Ok(target) => Ok(Place { position, target }),
-                    Err(kind) => Err(ReadError::Fault(kind)),
-                },
-                None => Err(ReadError::Fault(CdlKind::UnknownVariable)),
-            }
-        }
-        Err(_) => Err(ReadError::OutOfMemory),
+    let name = read_name(alloc, word)?;
+    match index.find(name.as_slice()) {
+        Some(position) => match if_new(targets.get(position as usize)) {
+            Ok(target) => Ok(Place { position, target }),
+            Err(kind) => Err(ReadError::Fault(kind)),
+        },
+        None => Err(ReadError::Fault(CdlKind::UnknownVariable)),
     }
 }
 

@@ -22,7 +22,7 @@ pub use constant::{read_constants, type_said};
 pub use data::{Given, Target, read};
 pub use fill::Fill;
 pub use filling::Filling;
-pub use name::name_of_word;
+pub use name::{name_of_word, read_name};
 pub use name_index::NameIndex;
 pub use number::{number_or_zero, put_number};
 pub use packing::{Packed, pack, pack_good};

@@ -1,10 +1,33 @@
 //! Names, as words of a text spell them.
 
-ghost use Rattle.std.specs.Prelude.{◌≡◌, IfOk};
+ghost use Rattle.std.specs.Prelude.{◌≡◌, IfErr, IfOk, OnOk, true};
+ghost use Rattle.nc_base.specs.Names.{is_name};
 ghost use Rattle.cdl_text.specs.Lexemes.{word_value};
+ghost use Rattle.cdl_text.specs.declared.fault.CdlKind.TheVariants.{BadName};
+ghost use Rattle.cdl_meaning.specs.State.{unless};
+ghost use Rattle.cdl_values.specs.Answers.{Fails};
 
-use cdl_text::{byte_at, is_escape};
+use crate::read_error::ReadError;
+use cdl_text::{CdlKind, byte_at, is_escape};
+use nc_base::check_name;
 use std::alloc::{AllocError, Global};
+
+/// The name that a word stands for, where the format allows it.
+///
+/// # Errors
+///
+/// A name that the format doesn't allow (`BadName`). Or a growth was refused.
+pub fn read_name(alloc: Global, word: &[u8]) -> Result<Vec<u8>, ReadError>
+    ensures name { IfOk result (λ name. name.items ≡ word_value word.now) }
+    ensures allowed { OnOk result (is_name (word_value word.now) ≡ true) }
+    ensures fault { IfErr result (λ e. Fails e (unless (is_name (word_value word.now)) BadName)) }
+{
+    match name_of_word(alloc, word) {
+        Ok(name) if check_name(name.as_slice()) => Ok(name),
+        Ok(_) => Err(ReadError::Fault(CdlKind::BadName)),
+        Err(_) => Err(ReadError::OutOfMemory),
+    }
+}
 
 /// The name that a word stands for: its bytes, each escape as the byte that it escapes.
 ///

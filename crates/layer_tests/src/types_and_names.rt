@@ -4,20 +4,7 @@ use nc_base::{Att, NcType, Sequence, Var, Version, check_name, fill_of, stem};
 use std::alloc::{AllocError, Global};
 use std::test::Fail;
 
-/// The types in the order of their codes.
-const TYPES: [NcType; 9] = [
-    NcType::Byte,
-    NcType::Char,
-    NcType::Short,
-    NcType::Int,
-    NcType::Ubyte,
-    NcType::Ushort,
-    NcType::Uint,
-    NcType::Int64,
-    NcType::Uint64,
-];
-
-/// The default fill values in `netcdf.h`, in the order of the types.
+/// The default fill values in `netcdf.h`, in the order of `NcType::ALL`.
 const DEFAULT_FILLS: [i128; 9] = [
     -127,
     0,
@@ -35,7 +22,7 @@ fn types_have_the_sizes_and_codes_of_the_format(rt: HostRuntime) {
     let sizes = [1, 1, 2, 4, 1, 2, 4, 8, 8];
     let codes = [1, 2, 3, 4, 7, 8, 9, 10, 11];
     for i in 0..9 {
-        let ty = TYPES[i];
+        let ty = NcType::ALL[i];
         assert_eq!(rt; ty.size(), sizes[i], "the size of {ty:?}");
         assert_eq!(rt; ty.code(), codes[i], "the code of {ty:?}");
         assert_eq!(rt; NcType::of_code(codes[i]), Some(ty));
@@ -68,7 +55,7 @@ fn versions_differ_in_limits_and_types(rt: HostRuntime) {
     }
     assert_eq!(rt; Version::Cdf5.count_limit(), 0x8000_0000_0000_0000);
     assert_eq!(rt; Version::Cdf5.streaming_mark(), 0xffff_ffff_ffff_ffff);
-    for ty in TYPES {
+    for ty in NcType::ALL {
         let is_old = ty.code() <= 4;
         assert_eq!(rt; Version::Cdf1.has_type(ty), is_old, "{ty:?}");
         assert_eq!(rt; Version::Cdf2.has_type(ty), is_old, "{ty:?}");
@@ -130,8 +117,8 @@ fn variable(alloc: Global, ty: NcType, atts: &[(&str, NcType, &[u8])]) -> Result
 #[test]
 fn variables_without_a_fill_value_have_the_default(rt: HostRuntime) -> Result<(), Fail> {
     for i in 0..9 {
-        let var = variable(rt.alloc(), TYPES[i], &[("units", NcType::Char, b"K")])?;
-        assert_eq!(rt; fill_of(&var), DEFAULT_FILLS[i], "{:?}", TYPES[i]);
+        let var = variable(rt.alloc(), NcType::ALL[i], &[("units", NcType::Char, b"K")])?;
+        assert_eq!(rt; fill_of(&var), DEFAULT_FILLS[i], "{:?}", NcType::ALL[i]);
     }
     Ok(())
 }

@@ -28,6 +28,19 @@ pub enum NcType {
 impl NcType {
     ghost use Rattle.nc_base.specs.Types.{size_of, code_of, type_of_code, default_fill_of, type_word, number_suffix};
 
+    /// All types, in the order of their codes.
+    pub const ALL: [NcType; 9] = [
+        NcType::Byte,
+        NcType::Char,
+        NcType::Short,
+        NcType::Int,
+        NcType::Ubyte,
+        NcType::Ushort,
+        NcType::Uint,
+        NcType::Int64,
+        NcType::Uint64,
+    ];
+
     /// The size of a value in bytes: 1, 2, 4 or 8.
     pub fn size(self) -> u64
         ensures { result ≡ size_of self }

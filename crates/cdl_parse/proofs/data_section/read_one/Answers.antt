@@ -2,7 +2,7 @@ use Rattle.std.proofs.Common.{◌≡◌, ℕ, List, false, sym, ap, ◌∙◌, s
 use Rattle.cdl_text.specs.Cutters.{version_of, words}
 use Rattle.cdl_values.specs.Meant.{Suit, begins_brace, names_of}
 use Rattle.cdl_values.specs.declared.data.Target.{Target}
-use Rattle.cdl_parse.specs.DataSections.{StandsSo, given_at}
+use Rattle.cdl_parse.specs.DataSections.{IsInDataSection, given_at}
 use Rattle.cdl_parse.proofs.DataStatements.{closed, takes}
 use Rattle.cdl_parse.proofs.data_section.read_one.Goals as goal
 
@@ -14,5 +14,5 @@ returns-in-Ok-clause-reads c = λ vars s index stands short.
     let off : begins_brace (words c.args.start) ≡ false = ap begins_brace (c.lexeme.ensures.first c.requires) ∙ sym c.is_mark.ensures ∙ c.if-is_mark.false in
     let suit = subst (λ (ts : List Target). Suit s.dims ts s.drafts) (sym c.deref.ensures.value) stands.suit in
     let after = takes vars (version_of c.args.start) s (words c.args.start) c.args.targets.now.items c.args.arrays.now.items c.in-Ok.given.array c.in-Ok.given.position stands
-    (c.in-Ok.ensures.tells s stands.section index suit off short) (c.in-Ok.ensures.position (names_of s.drafts) index) in
-    (after.0, after.1, subst (λ (ts : List Target). StandsSo vars ts c.store.new.arrays.items (record s { drafts = after.0 })) (sym c.mark_given.ensures) (subst (λ (arrays : List (List ℕ)). StandsSo vars (given_at c.in-Ok.given.position c.args.targets.now.items) arrays (record s { drafts = after.0 })) (sym c.store.ensures) after.2))
+    (c.in-Ok.ensures.means s stands.section index suit off short) (c.in-Ok.ensures.position (names_of s.drafts) index) in
+    (after.0, after.1, subst (λ (ts : List Target). IsInDataSection vars ts c.store.new.arrays.items (record s { drafts = after.0 })) (sym c.mark_given.ensures) (subst (λ (arrays : List (List ℕ)). IsInDataSection vars (given_at c.in-Ok.given.position c.args.targets.now.items) arrays (record s { drafts = after.0 })) (sym c.store.ensures) after.2))

@@ -1,0 +1,8 @@
+use Rattle.std.proofs.Common.{◌≡◌, ◌++◌, map}
+use Rattle.std.specs.Vec.Iter.{into_iter_items}
+use Rattle.cdl_parse.specs.Drafts.{var_of}
+use Rattle.cdl_parse.proofs.variables.vars_of.Given as goal
+
+-- those so far, and those that are left
+abbrev pub invariant-loop-variable : goal.invariant-loop-variable
+invariant-loop-variable l = l.vars.items ++ map var_of (into_iter_items l.variable-iterator) ≡ map var_of l.fn.list.items

@@ -1,0 +1,25 @@
+-- Names that the format doesn't allow.
+use Rattle.std.proofs.Common.{◌≡◌, ℕ, Bool, true, false, List, ap, ◌∙◌}
+use Rattle.std.specs.Prelude.{Result, Ok, Err}
+use Rattle.nc_base.specs.Names.{is_name}
+use Rattle.cdl_text.specs.declared.fault.CdlKind.{CdlKind}
+use Rattle.cdl_text.specs.declared.fault.CdlKind.TheVariants.{BadName}
+use Rattle.cdl_meaning.specs.State.{unless}
+use Rattle.cdl_values.specs.Answers.{Fails, Gives}
+use Rattle.cdl_values.specs.declared.read_error.ReadError.{ReadError}
+use Rattle.cdl_values.specs.declared.read_error.ReadError.TheVariants.{OutOfMemory, Fault}
+
+-- what asks first whether the format allows the name has that fault
+pub not_allowed : {A : Type 0} (e : ReadError) (name : List ℕ) (read : Bool → Result A CdlKind) → read false ≡ Err BadName → Fails e (unless (is_name name) BadName) → Fails e (read (is_name name))
+not_allowed OutOfMemory name read bad h = tt
+not_allowed {A} (Fault k) name read bad h = by (is_name name) h
+  where
+    by : (named : Bool) → unless named BadName ≡ Err k → read named ≡ Err k
+    by true is = cc
+    by false is = cc
+
+pub refused : {A B : Type 0} (view : B → A) (r : Result B ReadError) (e : ReadError) (read : Result A CdlKind) → r ≡ Err e → Fails e read → Gives view r read
+refused view (Ok b) e read is h = cc
+refused view (Err OutOfMemory) e read is h = tt
+refused view (Err (Fault k)) OutOfMemory read is h = cc
+refused view (Err (Fault k)) (Fault m) read is h = h ∙ ap Err (let same : m ≡ k = cc in same)

@@ -1,0 +1,16 @@
+use Rattle.std.proofs.Common.{rules, refl}
+use Rattle.std.specs.Prelude.{if◌then◌else◌, Err}
+use Rattle.cdl_text.specs.Lexemes.{word_value}
+use Rattle.cdl_text.specs.declared.fault.CdlKind.TheVariants.{BadName}
+use Rattle.cdl_values.specs.DataRead.{target_at, target_of}
+use Rattle.cdl_values.specs.NameIndices.{position_of}
+use Rattle.cdl_values.specs.declared.data.Place.{Place}
+use Rattle.cdl_values.proofs.AllowedNames.{not_allowed, refused}
+use Rattle.cdl_values.proofs.data.target_of.Goals as goal
+
+pub returns-in_err-name-clause-target : goal.returns-in_err-name-clause-target
+returns-in_err-name-clause-target c = λ names h.
+    let name = word_value c.args.word.now in
+    let e = c.in_err-name.field-0.0 in
+    refused (λ (place : Place). place.target) c.from_residual.result e (target_of names c.args.targets.now name) (search rules)
+    (not_allowed e name (λ named. if named then target_at c.args.targets.now (position_of names name) else Err BadName) refl c.in_err-name.ensures.fault)
