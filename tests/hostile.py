@@ -1,0 +1,230 @@
+#!/usr/bin/env python3
+"""Gives the built programs mangled, cut and random files and texts, and asks for what has to hold of their answers whatever the input is.
+
+    tests/hostile.py [CASES [SEED]]
+
+Each run has 256 MiB of memory and 5 seconds. Of each answer:
+
+- the status is 0 and standard error is empty, or it is 1 and standard error is one line that names the file and a fault;
+- no dump begins where the header has a fault; where data are cut short the text is a prefix of that of the whole file;
+- a refused text leaves no output, and the line that its fault names is one of the text;
+- what is generated is dumped, and generated from that dump again byte for byte;
+- the same text on standard input has the same answer.
+"""
+
+import os
+import random
+import re
+import resource
+import subprocess
+import sys
+import tempfile
+from concurrent.futures import ProcessPoolExecutor
+from pathlib import Path
+
+from datasets import Datasets
+
+BIN = Path(__file__).resolve().parent.parent / "bin"
+MEMORY = 256 << 20
+SECONDS = 5
+# how many cases one dataset gives
+EACH = 20
+HEADER_FAULT = re.compile(
+    rb"not a netCDF classic file|unknown version \d+|header truncated|bad (tag|count|name|type|shape|offset)|floating type"
+    rb"|two record dimensions|too large"
+)
+DATA_FAULT = re.compile(rb"variable \d+: data truncated at value \d+")
+NAME_FAULT = re.compile(rb"no such variable: item \d+ of -v")
+TEXT_FAULT = re.compile(
+    rb"line (\d+): (bad token|bad number|syntax|bad name|duplicate name|unknown dimension|unknown variable|floating type|unknown type"
+    rb"|zero dimension|two record dimensions|bad shape|mixed constants|number out of range|wrong kind of value|too many values"
+    rb"|string too long|duplicate data|too large)"
+)
+SNIPPETS = [b";", b",", b"=", b"{", b"}", b'"', b"\\", b"_", b"//", b"(", b")", b":", b"0x", b"-", b"99999999999999999999", b"unlimited"]
+SNIPPETS += [b" data:", b" variables:", b" int", b" float", b"\n", b"\0", b"\xff", b"\\x", b"\\777", b"1e5", b"UNLIMITED", b"s", b"ull"]
+
+
+class Broken(Exception):
+    """Something that has to hold doesn't."""
+
+
+def run(*words, given=b""):
+    ran = subprocess.run(words, capture_output=True, input=given, timeout=SECONDS)
+    if ran.returncode not in (0, 1):
+        raise Broken(f"{words}: status {ran.returncode}: {ran.stderr[-200:]}")
+    if (ran.returncode == 0) != (ran.stderr == b""):
+        raise Broken(f"{words}: status {ran.returncode} with {ran.stderr!r}")
+    return ran
+
+
+def fault_of(program, path, ran):
+    """What the line on standard error says after the program and the path."""
+    found = re.fullmatch(re.escape(f"{program}: {path}: ".encode()) + rb"([^\n]*)\n", ran.stderr)
+    if not found:
+        raise Broken(f"{program}: {ran.stderr!r} is not a line on {path}")
+    return found[1]
+
+
+def mangled(pick, some):
+    """The bytes with some of them changed, taken out or put in."""
+    some = bytearray(some)
+    for _ in range(pick.choice([1, 1, 1, 2, 5, 20])):
+        at = pick.randrange(len(some) + 1)
+        kind = pick.random()
+        if kind < 0.5 and at < len(some):
+            some[at] = pick.choice([0, 1, 2, 4, 5, 0x7F, 0x80, 0xFF, pick.randrange(256)])
+        elif kind < 0.7:
+            del some[at : at + pick.choice([1, 4, 40])]
+        else:
+            some[at:at] = pick.choice([bytes(4), b"\xff" * 4, pick.randbytes(pick.choice([1, 4, 8]))])
+    return bytes(some)
+
+
+def mangled_text(pick, text):
+    for _ in range(pick.choice([1, 1, 2, 5])):
+        at = pick.randrange(len(text) + 1)
+        kind = pick.random()
+        if kind < 0.4:
+            text = text[:at] + pick.choice(SNIPPETS) + text[at:]
+        elif kind < 0.7:
+            text = text[:at] + text[at + pick.choice([1, 3, 30]) :]
+        elif kind < 0.85:
+            text = text[:at] + bytes([pick.randrange(256)]) + text[at + 1 :]
+        else:
+            other = pick.randrange(len(text) + 1)
+            text = text[:at] + text[other : other + 40] + text[at:]
+    return text
+
+
+class Cases:
+    """The cases of one dataset, in the current folder."""
+
+    def __init__(self, seed):
+        datasets = Datasets(seed)
+        self.pick = random.Random(seed)
+        self.dataset = datasets.dataset()
+        self.file = self.dataset.file()
+
+    def options(self):
+        pick = self.pick
+        options = ["-n", "t"]
+        if pick.random() < 0.3:
+            options += ["-l", str(pick.choice([20, 21, 80, 1000]))]
+        kind = pick.random()
+        if kind < 0.1:
+            options.append("-h")
+        elif kind < 0.2:
+            options.append("-c")
+        if kind > 0.8:
+            options += ["-v", pick.choice(["nope", "x,y", "a"])]
+        return options
+
+    def dumped(self, some, options):
+        Path("case.nc").write_bytes(some)
+        ran = run(BIN / "ncdump", *options, "case.nc")
+        if ran.returncode == 0:
+            return ran.stdout, b""
+        fault = fault_of("ncdump", "case.nc", ran)
+        if not any(kind.fullmatch(fault) for kind in (HEADER_FAULT, DATA_FAULT, NAME_FAULT)):
+            raise Broken(f"the fault of a file is {fault!r}")
+        if ran.stdout and not DATA_FAULT.fullmatch(fault):
+            raise Broken(f"a text stands before {fault!r}")
+        return ran.stdout, fault
+
+    def cut_file(self):
+        options = self.options()
+        whole, fault = self.dumped(self.file, options)
+        text, _ = self.dumped(self.file[: self.pick.randrange(len(self.file) + 1)], options)
+        if not fault and not whole.startswith(text):
+            raise Broken("the text of a cut file is no prefix of that of the whole file")
+
+    def mangled_file(self):
+        text, fault = self.dumped(mangled(self.pick, self.file), ["-n", "t"])
+        if not fault:
+            self.text(text)
+
+    def random_file(self):
+        version = self.pick.choice([1, 2, 5])
+        self.dumped(b"CDF" + bytes([version]) + self.pick.randbytes(self.pick.choice([0, 4, 28, 100])), self.options())
+
+    def text(self, text):
+        """Generates a text, of whatever bytes. Gives the dump of its file, or its fault."""
+        Path("case.cdl").write_bytes(text)
+        Path("made.nc").unlink(missing_ok=True)
+        words = ["-k", self.dataset.kind, "-o", "made.nc"]
+        ran = run(BIN / "ncgen", *words, "case.cdl")
+        if ran.returncode:
+            return None, self.refused(text, ran)
+        made = Path("made.nc").read_bytes()
+        dump = run(BIN / "ncdump", "-n", "t", "made.nc")
+        if dump.returncode:
+            raise Broken(f"what was generated has no dump: {dump.stderr!r}")
+        return dump.stdout, made
+
+    def refused(self, text, ran):
+        fault = fault_of("ncgen", "case.cdl", ran)
+        named = TEXT_FAULT.fullmatch(fault)
+        if not named and fault != b"offset too large":
+            raise Broken(f"the fault of a text is {fault!r}")
+        if named and not 1 <= int(named[1]) <= text.count(b"\n") + 1:
+            raise Broken(f"the text has no such line: {fault!r}")
+        if os.path.exists("made.nc"):
+            raise Broken("a refused text has left an output")
+        return fault
+
+    def mangled_text(self):
+        text, fault = self.dumped(self.file, ["-n", "t"])
+        text = mangled_text(self.pick, text)
+        dump, made = self.text(text)
+        if dump is None:
+            piped = run(BIN / "ncgen", "-k", self.dataset.kind, given=text)
+            if fault_of("ncgen", "-", piped) != made:
+                raise Broken("the text has another fault on standard input")
+            return
+        again, second = self.text(dump)
+        if again is not None and self.text(again) != (again, second):
+            raise Broken("what is generated from a dump is not generated again")
+
+    def cut_text(self):
+        text, _ = self.dumped(self.file, ["-n", "t"])
+        dump, _ = self.text(text[: self.pick.randrange(len(text) - 1)])
+        if dump is not None:
+            raise Broken("a text without its last brace is read")
+
+    def all(self):
+        kinds = [self.cut_file, self.mangled_file, self.random_file, self.mangled_text, self.cut_text]
+        for number in range(EACH):
+            kinds[number % len(kinds)]()
+
+
+def limited():
+    resource.setrlimit(resource.RLIMIT_AS, (MEMORY, MEMORY))
+    os.chdir(tempfile.mkdtemp(dir=os.environ["HOSTILE"]))
+
+
+def tried(seed):
+    """Why the cases of this seed are broken, if they are."""
+    try:
+        Cases(seed).all()
+    except Broken as why:
+        return f"seed {seed}: {why}"
+    except subprocess.TimeoutExpired as why:
+        return f"seed {seed}: {why}"
+    return None
+
+
+def main(cases=20_000, seed=1):
+    broken = 0
+    with tempfile.TemporaryDirectory() as folder:
+        os.environ["HOSTILE"] = folder
+        with ProcessPoolExecutor(initializer=limited) as pool:
+            for why in pool.map(tried, range(seed, seed + cases // EACH), chunksize=8):
+                if why:
+                    broken += 1
+                    print(why)
+    print(f"{cases // EACH * EACH} cases, {broken} seeds broken")
+    return 1 if broken else 0
+
+
+if __name__ == "__main__":
+    sys.exit(main(*map(int, sys.argv[1:])))
