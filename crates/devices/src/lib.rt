@@ -4,29 +4,40 @@
 //! nothing of their cause. [`MemSource`] and [`MemSink`] stand in memory, [`FileSource`] is a file of the system, and [`IoSink`]
 //! goes over any writer of the standard library. [`DripSource`] gives few bytes a read and fails on request, and [`SliceSink`]
 //! fills a slice, a few bytes a call. [`put`] writes all of the bytes that it is given. An [`Opener`] opens paths as sources:
-//! [`SystemFiles`] those of the system, and [`Listed`] those of a list in memory.
+//! [`SystemFiles`] those of the system, and [`Listed`] those of a list in memory. [`Texts`] opens paths as readers, which
+//! [`CountedRead`] counts, and a [`Creator`] creates outputs.
 #![tactic(auto)]
 
 mod ahead;
+mod creator;
 mod drip;
 mod fault;
 mod file;
 mod listed;
+mod made;
 mod memory;
 mod opener;
+mod output;
+mod reader;
 mod sink;
 mod slice;
 mod source;
 mod system;
+mod texts;
 
 pub use ahead::ReadAhead;
+pub use creator::Creator;
 pub use drip::{DripSource, FailWhen};
-pub use fault::{OpenFailed, SinkFailed, SourceFailed, WriteFailed};
+pub use fault::{CloseFailed, CreateFailed, OpenFailed, SinkFailed, SourceFailed, WriteFailed};
 pub use file::{FileSource, IoSink};
 pub use listed::{Listed, ListedFile};
+pub use made::{MadeFile, MadeFiles};
 pub use memory::{MemSink, MemSource};
 pub use opener::Opener;
+pub use output::SystemOutputs;
+pub use reader::CountedRead;
 pub use sink::{Sink, put};
 pub use slice::SliceSink;
 pub use source::Source;
 pub use system::SystemFiles;
+pub use texts::{ListedTexts, SystemTexts, Texts};
