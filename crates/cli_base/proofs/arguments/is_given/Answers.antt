@@ -3,8 +3,8 @@ use Rattle.std.specs.Option.{option_map_or}
 use Rattle.std.specs.Str.{bytes_eq}
 use Rattle.clap.proofs.WalkLemmas.{one_text-rows}
 use Rattle.clap.specs.Words.{found_of, one_text}
-use Rattle.ncdump.proofs.CommandLines.{flag_read}
-use Rattle.ncdump.proofs.command_line.is_given.Goals as goal
+use Rattle.cli_base.proofs.Flags.{flag_read}
+use Rattle.cli_base.proofs.arguments.is_given.Goals as goal
 
 pub returns : goal.returns
 returns c =

@@ -3,7 +3,7 @@
 ghost use Rattle.std.specs.Prelude.{◌≡◌, ◌≢◌};
 ghost use Rattle.std.specs.IoError.{error_kind};
 
-use ncdump::OptFault;
+use crate::OptFault;
 use std::io;
 use std::io::ErrorKind;
 

@@ -3,7 +3,7 @@
 ghost use Rattle.std.specs.Prelude.{◌≡◌, ◌≢◌, []};
 ghost use Rattle.devices.specs.Sinks.{Appended, HasFailed};
 
-use nc_file::{IoSink, Sink};
+use devices::{IoSink, Sink};
 use std::io::Write;
 
 /// The status of a run whose standard output is flushed: the run's own, or 1 where the flush fails.
