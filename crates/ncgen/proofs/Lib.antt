@@ -1,0 +1,3 @@
+pub mod CommandLines
+pub mod TextParts
+pub mod CutOutputs
