@@ -6,8 +6,7 @@
 Each tests/definitions/NAME.edit is a wrong text, token or meaning, in the format of the edits in crates/*/must-fail, but with
 paths from the top of the repository: those edits are tried in their own crate alone, and the laws that join a dump to what is
 read of it stand in crates above. An edit has to be refused by a proof, in its own crate or in one above, and not because it
-can't be read. Worked examples are left out of the copy, and of cdl_parse all but the definitions: it is a law that refuses. The
-last line is 'N passed, M failed'.
+can't be read. Worked examples are left out of the copy: it is a law that refuses. The last line is 'N passed, M failed'.
 """
 
 import re
@@ -21,7 +20,7 @@ from pathlib import Path
 TOP = Path(__file__).resolve().parent.parent
 EDITS = TOP / "tests" / "definitions"
 # from the lowest to the crate of the laws
-CRATES = ["nc_base", "cdl_text", "cdl_parse", "cdl_laws"]
+CRATES = ["nc_base", "cdl_text", "cdl_meaning", "cdl_laws"]
 AT_ONCE = 2
 # the files of worked examples, which no other file cites
 EXAMPLES = ["Examples", "FileExamples", "Samples", "Refused", "Generated", "GeneratedCdf5", "ByteClasses", "TokensOfTexts", "Misplaced", "Meanings"]
@@ -29,28 +28,15 @@ EXAMPLES = ["Examples", "FileExamples", "Samples", "Refused", "Generated", "Gene
 UNREAD = re.compile(r"is not in scope|has no field|is no name|operand is missing|expected the end|cannot continue|can be named")
 
 
-def keep_definitions(crate, names):
-    """Leaves nothing of a copied crate but these files of definitions."""
-    for folder in ("src", "proofs", "must-fail", "out"):
-        shutil.rmtree(crate / folder, ignore_errors=True)
-    (crate / "src").mkdir()
-    (crate / "src" / "lib.rt").write_text("//! Definitions alone.\n#![tactic(auto)]\n")
-    for path in (crate / "specs").iterdir():
-        if path.stem not in names:
-            path.unlink()
-    (crate / "specs" / "Lib.antt").write_text("".join(f"pub mod {name}\n" for name in names))
-
-
 def copy_crates(to):
-    """Copies the crates, with what earlier checks kept of them, but for their worked examples and the parser's functions."""
+    """Copies the crates, with what earlier checks kept of them, but for their worked examples."""
     lines = (TOP / "crates.txt").read_text().splitlines()
     (to / "crates.txt").write_text("\n".join(l for l in lines if l.split(":")[0] in CRATES) + "\n")
     for crate in CRATES:
         shutil.copytree(TOP / "crates" / crate, to / "crates" / crate, symlinks=True)
-        if crate == "cdl_parse":
-            keep_definitions(to / "crates" / crate, ["State", "Meaning"])
-            continue
         lib = to / "crates" / crate / "proofs" / "Lib.antt"
+        if not lib.exists():
+            continue
         lib.write_text("".join(l for l in lib.read_text().splitlines(True) if l.split()[-1] not in EXAMPLES))
         for name in EXAMPLES:
             (lib.parent / f"{name}.antt").unlink(missing_ok=True)

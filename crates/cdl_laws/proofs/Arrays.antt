@@ -15,7 +15,7 @@ use Rattle.nc_base.specs.Numbers.{numbers}
 use Rattle.nc_base.specs.Sizes.{is_record_var, has_records, slab_lens, product, dim_len}
 use Rattle.nc_base.specs.ValueText.{look_of, is_char, row_len}
 use Rattle.nc_base.specs.Sayable.{trimmed_var}
-use Rattle.cdl_parse.specs.Meaning.{array_of, values_of}
+use Rattle.cdl_meaning.specs.Meaning.{array_of, values_of}
 use Rattle.cdl_laws.proofs.DataTexts.{Gives, IsGivenBy, given_draft}
 use Rattle.cdl_laws.proofs.Given.{number_row_reads_back, line_reads_back, table_reads_back, array_none, array_len, not_off}
 use Rattle.cdl_laws.proofs.Words.{and_false}

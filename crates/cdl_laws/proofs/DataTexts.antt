@@ -14,7 +14,7 @@ use Rattle.nc_base.specs.ValueText.{Look, look_of, is_char, variable_text}
 use Rattle.cdl_text.specs.declared.section.Section.TheVariants.{Values}
 use Rattle.nc_base.specs.Sayable.{trimmed_var}
 use Rattle.cdl_text.specs.Shapes.{Value, Characters, Listed}
-use Rattle.cdl_parse.specs.State.{State, Draft, Capacity, capacity_of, act, add_value, with_values, in_turn, filled, fits, ◌>>=◌}
+use Rattle.cdl_meaning.specs.State.{State, Draft, Capacity, capacity_of, act, add_value, with_values, in_turn, filled, fits, ◌>>=◌}
 use Rattle.cdl_laws.proofs.Lists.{Each}
 use Rattle.cdl_laws.proofs.ValueTexts.{AreSmall, value_said, all_added}
 use Rattle.cdl_laws.proofs.Characters.{flat, shown}

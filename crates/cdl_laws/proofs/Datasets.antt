@@ -15,8 +15,8 @@ use Rattle.nc_base.specs.Numbers.{numbers}
 use Rattle.nc_base.specs.Sizes.{is_record_var, slab_count, record_vars}
 use Rattle.nc_base.specs.ValueText.{is_char, look_of}
 use Rattle.nc_base.specs.Sayable.{trimmed_var}
-use Rattle.cdl_parse.specs.Meaning.{array_of, values_of, records_of, records_in}
-use Rattle.cdl_parse.specs.State.{Draft}
+use Rattle.cdl_meaning.specs.Meaning.{array_of, values_of, records_of, records_in}
+use Rattle.cdl_meaning.specs.State.{Draft}
 use Rattle.cdl_laws.proofs.Arrays.{IsBack, is_back}
 use Rattle.cdl_laws.proofs.Acts.{no_draft}
 use Rattle.cdl_laws.proofs.DataTexts.{IsGivenBy, AreGiven, given_draft, given_drafts}

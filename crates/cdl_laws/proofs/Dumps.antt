@@ -14,13 +14,13 @@ use Rattle.nc_base.specs.HeadText.{head_text, netcdf_word, dims_text, vars_text,
 use Rattle.cdl_text.specs.declared.section.Section.TheVariants.{Globals, Variables, Values, Ended}
 use Rattle.cdl_text.specs.declared.piece.CutState.TheVariants as places
 use Rattle.cdl_text.specs.Lexemes.{role}
-use Rattle.cdl_parse.specs.Meaning.{meaning, run, piece_read, empty, finished, is_small_enough, dataset_of, closing_line}
+use Rattle.cdl_meaning.specs.Meaning.{meaning, run, piece_read, empty, finished, is_small_enough, dataset_of, closing_line}
 use Rattle.cdl_text.specs.Statements.{statements}
 use Rattle.cdl_text.specs.Pieces.{pieces_at}
 use Rattle.cdl_laws.specs.Reading.{lexemes, pieces_of}
 use Rattle.cdl_laws.specs.RoundTrip.{IsFull}
 use Rattle.nc_base.specs.Sayable.{trimmed, trimmed_att}
-use Rattle.cdl_parse.specs.State.{in_turn}
+use Rattle.cdl_meaning.specs.State.{in_turn}
 use Rattle.cdl_laws.proofs.Lists.{Each}
 use Rattle.cdl_laws.proofs.Takes.{is_open}
 use Rattle.cdl_laws.proofs.Acts.{AreDistinctDims, HaveNames}

@@ -18,12 +18,12 @@ use Rattle.cdl_text.specs.declared.token.TokenKind.TheVariants as kinds
 use Rattle.cdl_text.specs.declared.piece.CutState.TheVariants as places
 use Rattle.cdl_text.specs.Scan.{scan, word_len, until, scan_opening, token}
 use Rattle.cdl_text.specs.Lexemes.{Lexeme, role}
-use Rattle.cdl_parse.specs.Meaning.{piece_read, empty}
+use Rattle.cdl_meaning.specs.Meaning.{piece_read, empty}
 use Rattle.cdl_text.specs.Pieces.{pieces_at, is_section}
 use Rattle.cdl_laws.specs.Reading.{lexemes_at, lexemes, pieces_of}
 use Rattle.nc_base.specs.Sayable.{trimmed_att}
 use Rattle.cdl_text.specs.Shapes.{Mark, shape}
-use Rattle.cdl_parse.specs.State.{State, Draft, act, in_turn}
+use Rattle.cdl_meaning.specs.State.{State, Draft, act, in_turn}
 use Rattle.cdl_laws.proofs.Bools.{and_left}
 use Rattle.cdl_laws.proofs.Lists.{Each}
 use Rattle.cdl_laws.proofs.NameTexts.{rest_of, begins_goes_on, Begins, marked, bare, begins}

@@ -10,7 +10,7 @@ use Rattle.nc_base.specs.ValueText.{is_nul, is_char}
 use Rattle.cdl_text.specs.Escapes.{stands}
 use Rattle.cdl_text.proofs.Strings.{stands_for}
 use Rattle.cdl_text.specs.Shapes.{Characters, each, both, constant, constants}
-use Rattle.cdl_parse.specs.State.{Capacity, add_value, in_turn, filled}
+use Rattle.cdl_meaning.specs.State.{Capacity, add_value, in_turn, filled}
 use Rattle.cdl_laws.proofs.Lists.{Each}
 use Rattle.cdl_laws.proofs.Characters.{shown, flat}
 use Rattle.cdl_laws.proofs.Strings.{string, unescape_all, between_quotes}

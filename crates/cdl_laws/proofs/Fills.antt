@@ -13,7 +13,7 @@ use Rattle.nc_base.specs.Numbers.{number_of}
 use Rattle.nc_base.specs.Types.{code_of, size_of}
 use Rattle.nc_base.specs.ValueText.{is_char}
 use Rattle.cdl_laws.specs.Trims.{is_cut, FillsAreKept, MeaningsAreSayable, MeaningsComeBack}
-use Rattle.cdl_parse.specs.Meaning.{meaning}
+use Rattle.cdl_meaning.specs.Meaning.{meaning}
 use Rattle.nc_base.specs.Sayable.{trimmed, trimmed_att}
 use Rattle.cdl_laws.proofs.MeaningsAreGood.{meanings_are_good, meanings_are_nearly_sayable, nearly_is_sayable}
 use Rattle.cdl_laws.proofs.Bools.{and_left, and_right}

@@ -20,8 +20,8 @@ use Rattle.nc_base.specs.Numbers.{numbers, bytes_of_number, IsInRange}
 use Rattle.nc_base.specs.Sizes.{is_record_var, slab_count}
 use Rattle.nc_base.specs.ValueText.{Look, look_of, is_char}
 use Rattle.nc_base.specs.Sayable.{trimmed_att, trimmed_var}
-use Rattle.cdl_parse.specs.State.{capacity_of, filled, fits}
-use Rattle.cdl_parse.specs.Meaning.{array_of}
+use Rattle.cdl_meaning.specs.State.{capacity_of, filled, fits}
+use Rattle.cdl_meaning.specs.Meaning.{array_of}
 use Rattle.cdl_laws.proofs.Attributes.{numbers_back, numbers_range, all_fit, all_small, count_is, numbers_len}
 use Rattle.cdl_laws.proofs.Bools.{and_left, off}
 use Rattle.cdl_laws.proofs.Characters.{flat}

@@ -10,7 +10,7 @@ use Rattle.nc_base.specs.Headers.{value_count, AreArrays, AreDimids, IsDimid}
 use Rattle.nc_base.specs.Sizes.{is_record_var, is_record_dim, slab_count, slab_lens, slab_size, product, dim_len, record_vars, record_size_of, padded_size, padded_total, slab_limit, array_limit}
 use Rattle.nc_base.specs.Types.{size_of}
 use Rattle.nc_base.specs.Sayable.{trimmed_var}
-use Rattle.cdl_parse.specs.Meaning.{is_small}
+use Rattle.cdl_meaning.specs.Meaning.{is_small}
 use Rattle.cdl_laws.proofs.Bools.{and_both}
 use Rattle.cdl_laws.proofs.DataTexts.{given_draft, given_drafts}
 use Rattle.cdl_laws.proofs.Datasets.{AreBack, listings}

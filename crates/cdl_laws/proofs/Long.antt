@@ -16,7 +16,7 @@ use Rattle.nc_base.specs.Dump.{Options, Section, shown_values, content_of, selec
 use Rattle.nc_base.specs.Headers.{IsGood}
 use Rattle.nc_base.specs.HeadText.{without_trailing_nuls}
 use Rattle.nc_base.specs.Names.{IsName}
-use Rattle.cdl_parse.specs.Meaning.{meaning, is_small_enough}
+use Rattle.cdl_meaning.specs.Meaning.{meaning, is_small_enough}
 use Rattle.cdl_laws.specs.RoundTrip.{IsFull}
 use Rattle.nc_base.specs.Sayable.{trimmed}
 use Rattle.nc_base.specs.Bytes.{concat_parts}

@@ -2,7 +2,7 @@
 use Rattle.std.proofs.Common.{◌≡◌, ℕ, ◌+◌, ◌≤◌, Bool, true, false, List, [], ◌∷◌, ◌++◌, refl, subst, arith, zero, suc}
 use Rattle.std.specs.Prelude.{All, if◌then◌else◌, Option, None, Some, Result, Ok, Err, ⊤, take, drop}
 use Rattle.std.specs.Option.{option_map, option_and_then}
-use Rattle.cdl_parse.specs.State.{in_turn, unless, when, found, ◌>>=◌}
+use Rattle.cdl_meaning.specs.State.{in_turn, unless, when, found, ◌>>=◌}
 use Rattle.cdl_text.specs.Shapes.{both, each, either, given}
 use Rattle.cdl_text.specs.declared.fault.CdlKind.{CdlKind}
 use Rattle.cdl_laws.proofs.Lists.{Each}

@@ -20,8 +20,8 @@ use Rattle.cdl_text.specs.Statements.{statements}
 use Rattle.cdl_text.specs.Lexemes.{word_value, name_of}
 use Rattle.cdl_text.specs.Numerals.{suffix, numeral, parts}
 use Rattle.cdl_text.specs.Shapes.{shape}
-use Rattle.cdl_parse.specs.State.{act, fits, add_dim, type_of, add_dimid, add_var, at_variable, add_att, capacity_of, add_value}
-use Rattle.cdl_parse.specs.Meaning.{run, piece_read, meaning, finished, is_small_enough}
+use Rattle.cdl_meaning.specs.State.{act, fits, add_dim, type_of, add_dimid, add_var, at_variable, add_att, capacity_of, add_value}
+use Rattle.cdl_meaning.specs.Meaning.{run, piece_read, meaning, finished, is_small_enough}
 
 -- ---- how faults are written down
 

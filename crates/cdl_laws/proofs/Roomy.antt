@@ -9,7 +9,7 @@ use Rattle.nc_base.specs.declared.version.Version.{Version}
 use Rattle.nc_base.specs.Sizes.{dim_len, product, slab_lens, slab_count}
 use Rattle.nc_base.specs.ValueText.{is_char, row_len}
 use Rattle.cdl_text.specs.Shapes.{Value, Number, Characters, Underscore}
-use Rattle.cdl_parse.specs.State.{Draft, Capacity, capacity_of, in_turn, unless, ◌>>=◌, fits, filled, add_string, add_number, add_character, add_value, is_listed, with_values}
+use Rattle.cdl_meaning.specs.State.{Draft, Capacity, capacity_of, in_turn, unless, ◌>>=◌, fits, filled, add_string, add_number, add_character, add_value, is_listed, with_values}
 use Rattle.cdl_text.specs.declared.fault.CdlKind.TheVariants.{TooManyValues, StringTooLong, DuplicateData, NumberRange}
 use Rattle.cdl_laws.proofs.Arrays.{rows_in, last_place}
 use Rattle.cdl_laws.proofs.Limits.{slab_some}

@@ -17,8 +17,8 @@ use Rattle.nc_base.specs.Sayable.{IsSayable, IsSayableVar, trimmed_var}
 use Rattle.nc_base.specs.ValueText.{is_char, look_of, variable_text}
 use Rattle.cdl_text.specs.declared.section.Section.TheVariants.{Values}
 use Rattle.cdl_text.specs.Shapes.{Listed}
-use Rattle.cdl_parse.specs.Meaning.{array_of}
-use Rattle.cdl_parse.specs.State.{Capacity, capacity_of, in_turn, add_value, filled}
+use Rattle.cdl_meaning.specs.Meaning.{array_of}
+use Rattle.cdl_meaning.specs.State.{Capacity, capacity_of, in_turn, add_value, filled}
 use Rattle.cdl_laws.specs.PieceLaws.{DataReadsBack}
 use Rattle.cdl_laws.specs.RowLaws.{RowReadsBack, RowsReadBack, EmptyRowsReadBack}
 use Rattle.cdl_laws.proofs.Arrays.{row_back, no_bytes}

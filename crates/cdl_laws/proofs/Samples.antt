@@ -25,8 +25,8 @@ use Rattle.cdl_text.specs.Pieces.{pieces_at, is_section}
 use Rattle.cdl_text.specs.Lexemes.{word_value, name_of}
 use Rattle.cdl_text.specs.Numerals.{suffix, numeral, parts}
 use Rattle.cdl_text.specs.Shapes.{shape}
-use Rattle.cdl_parse.specs.State.{fits, add_dim, type_of, add_dimid, add_var, at_variable, add_att, capacity_of, add_value, act}
-use Rattle.cdl_parse.specs.Meaning.{piece_read, run, is_small_enough, finished, meaning}
+use Rattle.cdl_meaning.specs.State.{fits, add_dim, type_of, add_dimid, add_var, at_variable, add_att, capacity_of, add_value, act}
+use Rattle.cdl_meaning.specs.Meaning.{piece_read, run, is_small_enough, finished, meaning}
 use Rattle.nc_base.specs.Sayable.{trimmed}
 
 options : ℕ → Options

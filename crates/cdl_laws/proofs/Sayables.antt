@@ -18,7 +18,7 @@ use Rattle.nc_base.specs.Headers.{has_record_dim, IsSoundAtt, IsSoundVar, IsSoun
 use Rattle.nc_base.specs.Names.{IsName}
 use Rattle.nc_base.specs.Versions.{count_limit}
 use Rattle.nc_base.specs.Sayable.{AreDistinct, IsSayableVar, HasSomeNumber, trimmed_att}
-use Rattle.cdl_parse.specs.State.{Draft}
+use Rattle.cdl_meaning.specs.State.{Draft}
 use Rattle.cdl_laws.proofs.Acts.{record_once, no_draft}
 use Rattle.cdl_laws.proofs.Attributes.{speaks}
 use Rattle.cdl_laws.proofs.Bools.{or_left, or_right}

@@ -12,11 +12,11 @@ use Rattle.cdl_text.specs.declared.piece.Role.{Role}
 use Rattle.cdl_text.specs.declared.piece.Role.TheVariants as roles
 use Rattle.cdl_text.specs.declared.piece.CutState.TheVariants.{Begins, Inside}
 use Rattle.cdl_text.specs.Lexemes.{Lexeme, role}
-use Rattle.cdl_parse.specs.Meaning.{piece_read}
+use Rattle.cdl_meaning.specs.Meaning.{piece_read}
 use Rattle.cdl_text.specs.Pieces.{pieces_at, step, going, unless_end, with_first, first_role, is_section}
 use Rattle.cdl_laws.specs.Reading.{lexemes_at, pieces_of}
 use Rattle.cdl_text.specs.Shapes.{Statement, first_bad, token_fault, shape, before_mark, body}
-use Rattle.cdl_parse.specs.State.{State, act, in_turn}
+use Rattle.cdl_meaning.specs.State.{State, act, in_turn}
 use Rattle.cdl_laws.proofs.Bools.{and_left, and_right, and_both}
 use Rattle.cdl_laws.proofs.Texts as texts
 use Rattle.cdl_laws.proofs.Texts.{mark, word, number}

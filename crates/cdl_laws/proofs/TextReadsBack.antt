@@ -17,10 +17,10 @@ use Rattle.nc_base.specs.Headers.{IsGood, IsSoundVar, bare, bare_var}
 use Rattle.nc_base.specs.Names.{IsName}
 use Rattle.nc_base.specs.Sizes.{slab_count, slab_size, slab_limit, record_limit, record_vars, record_size_of}
 use Rattle.cdl_text.specs.declared.section.Section.TheVariants.{Ended}
-use Rattle.cdl_parse.specs.Meaning.{meaning, is_small, is_small_enough, dataset_of, array_of, records_in}
+use Rattle.cdl_meaning.specs.Meaning.{meaning, is_small, is_small_enough, dataset_of, array_of, records_in}
 use Rattle.cdl_laws.specs.RoundTrip.{IsFull, TextReadsBack}
 use Rattle.nc_base.specs.Sayable.{trimmed, trimmed_att, trimmed_var, AreDistinct, IsSayable, IsSayableVar}
-use Rattle.cdl_parse.specs.State.{Draft}
+use Rattle.cdl_meaning.specs.State.{Draft}
 use Rattle.cdl_laws.proofs.Bools.{and_both}
 use Rattle.cdl_laws.proofs.DataTexts.{given_draft, given_drafts}
 use Rattle.cdl_laws.proofs.Datasets.{keeps_fill, are_back, listings, stand_after, AreNewVars, all_given, arrays_back, vars_back, records_back}

@@ -18,7 +18,7 @@ use Rattle.cdl_text.specs.Lexemes.{Lexeme, is_mark}
 use Rattle.cdl_laws.specs.Reading.{lexemes_at}
 use Rattle.cdl_text.specs.Scan.{scan}
 use Rattle.cdl_text.specs.Shapes.{Value, Number, Underscore, members_in, members, each, both, constant, constants}
-use Rattle.cdl_parse.specs.State.{Capacity, add_value, in_turn, fits, add_number}
+use Rattle.cdl_meaning.specs.State.{Capacity, add_value, in_turn, fits, add_number}
 use Rattle.cdl_laws.proofs.Bools.{and_left, and_right, and_both, off}
 use Rattle.cdl_laws.proofs.Lists.{Each}
 use Rattle.cdl_laws.proofs.Words.{word_prefix}

@@ -19,7 +19,7 @@ use Rattle.cdl_text.specs.declared.section.Section.{Section}
 use Rattle.cdl_text.specs.declared.section.Section.TheVariants.{Dimensions, Variables}
 use Rattle.nc_base.specs.Sayable.{trimmed_att, trimmed_var}
 use Rattle.cdl_text.specs.Shapes.{Value, Declared, Typed, Attribute}
-use Rattle.cdl_parse.specs.State.{State, Draft, act, add_dim, add_att, add_constant, first_type, add_var, with_att, in_turn, ◌>>=◌}
+use Rattle.cdl_meaning.specs.State.{State, Draft, act, add_dim, add_att, add_constant, first_type, add_var, with_att, in_turn, ◌>>=◌}
 use Rattle.cdl_laws.specs.PieceLaws.{said_dim, IsBeforeData}
 use Rattle.cdl_laws.proofs.Lists.{Each}
 use Rattle.cdl_laws.proofs.Texts.{word}

@@ -22,7 +22,7 @@ use Rattle.cdl_text.specs.Lexemes.{Lexeme, lexeme, role}
 use Rattle.cdl_text.specs.Pieces.{pieces_at}
 use Rattle.cdl_text.specs.Shapes.{Value, Dimension, Statement, Opening, Mark, Declared, Typed, Attribute, Listed, Brace, End, first_bad, shape}
 use Rattle.cdl_text.specs.Statements.{statements}
-use Rattle.cdl_parse.specs.State.{in_turn, add_dimid, add_constant, first_type, type_of}
+use Rattle.cdl_meaning.specs.State.{in_turn, add_dimid, add_constant, first_type, type_of}
 use Rattle.cdl_laws.specs.Reading.{lexemes, pieces_of}
 
 -- the piece has no bad token, and it is this statement of the section

@@ -10,8 +10,8 @@ use Rattle.nc_base.specs.Sizes.{is_record_var}
 use Rattle.nc_base.specs.ValueText.{look_of, variable_text}
 use Rattle.cdl_text.specs.declared.section.Section.TheVariants.{Values}
 use Rattle.cdl_text.specs.Shapes.{Value, Listed}
-use Rattle.cdl_parse.specs.Meaning.{array_of}
-use Rattle.cdl_parse.specs.State.{in_turn, add_value, capacity_of}
+use Rattle.cdl_meaning.specs.Meaning.{array_of}
+use Rattle.cdl_meaning.specs.State.{in_turn, add_value, capacity_of}
 use Rattle.cdl_laws.specs.PieceLaws.{IsStatement}
 
 -- The text of the values of the variable in this place is one statement, which lists values for it. Added in turn, they give

@@ -15,13 +15,13 @@ use Rattle.cdl_text.specs.declared.due.Due.TheVariants.{AttributeName, Equals, V
 use Rattle.cdl_text.specs.declared.fault.CdlKind.{CdlKind}
 use Rattle.cdl_text.specs.declared.fault.CdlKind.TheVariants.{BadName, DuplicateName}
 use Rattle.cdl_text.proofs.Listing.{value_first}
-use Rattle.cdl_parse.specs.Answers.{Fails}
+use Rattle.cdl_meaning.specs.State.{add_att, add_constant, first_type, in_turn, type_said, unless, when, ◌>>=◌}
+use Rattle.cdl_values.specs.Answers.{Fails, Leaves}
+use Rattle.cdl_values.specs.Meant.{name_first}
+use Rattle.cdl_values.specs.declared.read_error.ReadError.{ReadError}
+use Rattle.cdl_values.specs.declared.read_error.ReadError.TheVariants.{OutOfMemory, Fault}
 use Rattle.cdl_parse.specs.AttributeNames.{has_name}
-use Rattle.cdl_parse.specs.AttributeRead.{Leaves, constants_said, new_attribute}
-use Rattle.cdl_parse.specs.Meant.{name_first}
-use Rattle.cdl_parse.specs.State.{add_att, add_constant, first_type, in_turn, type_said, unless, when, ◌>>=◌}
-use Rattle.cdl_parse.specs.declared.read_error.ReadError.{ReadError}
-use Rattle.cdl_parse.specs.declared.read_error.ReadError.TheVariants.{OutOfMemory, Fault}
+use Rattle.cdl_parse.specs.AttributeRead.{constants_said, new_attribute}
 use Rattle.cdl_parse.proofs.StatementWords.{begins, goes_past}
 
 -- the attributes with one more, whose values these are, if they have no fault

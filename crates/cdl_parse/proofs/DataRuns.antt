@@ -5,12 +5,12 @@ use Rattle.nc_base.specs.declared.header.Var.{Var}
 use Rattle.cdl_text.specs.Cutters.{after, is_done, pieces_left, text_of, version_of, words}
 use Rattle.cdl_text.specs.declared.cutter.Cutter.{Cutter}
 use Rattle.cdl_text.specs.declared.section.Section.TheVariants.{Values}
+use Rattle.cdl_meaning.specs.Meaning.{piece_read, run}
+use Rattle.cdl_meaning.specs.State.{State, Draft}
+use Rattle.cdl_values.specs.Listed.{AllList, fresh}
+use Rattle.cdl_values.specs.Meant.{Suit, names_of}
+use Rattle.cdl_values.specs.declared.data.Target.{Target}
 use Rattle.cdl_parse.specs.DataSections.{StandsSo}
-use Rattle.cdl_parse.specs.Listed.{AllList, fresh}
-use Rattle.cdl_parse.specs.Meaning.{piece_read, run}
-use Rattle.cdl_parse.specs.Meant.{Suit, names_of}
-use Rattle.cdl_parse.specs.State.{State, Draft}
-use Rattle.cdl_parse.specs.declared.data.Target.{Target}
 use Rattle.cdl_parse.proofs.DataStates.{names_are, none_listed}
 use Rattle.cdl_parse.proofs.RunSteps.{goes_on}
 

@@ -14,15 +14,15 @@ use Rattle.cdl_text.specs.declared.fault.CdlKind.TheVariants.{Syntax}
 use Rattle.cdl_text.specs.declared.section.Section.TheVariants.{Values, Closed}
 use Rattle.cdl_text.proofs.Listing.{fine_on}
 use Rattle.cdl_text.proofs.Shaping.{data_is, data_said}
+use Rattle.cdl_meaning.specs.Meaning.{checked, piece_read, shaped}
+use Rattle.cdl_meaning.specs.State.{Draft, State, act}
+use Rattle.cdl_values.specs.Listed.{AllList}
+use Rattle.cdl_values.specs.Meant.{Means, begins_brace, listing, name_first, names_of}
+use Rattle.cdl_values.specs.NameIndices.{position_of}
+use Rattle.cdl_values.specs.declared.data.Target.{Target}
+use Rattle.cdl_values.specs.declared.read_error.ReadError.{ReadError}
 use Rattle.cdl_parse.specs.DataSections.{Closes, ReadsOne, StandsSo, given_at}
-use Rattle.cdl_parse.specs.Listed.{AllList}
-use Rattle.cdl_parse.specs.Meaning.{checked, piece_read, shaped}
-use Rattle.cdl_parse.specs.Meant.{Means, begins_brace, listing, name_first, names_of}
-use Rattle.cdl_parse.specs.NameIndices.{position_of}
-use Rattle.cdl_parse.specs.State.{Draft, State, act}
-use Rattle.cdl_parse.specs.declared.data.Target.{Target}
 use Rattle.cdl_parse.specs.declared.data_section.Passed.{Passed}
-use Rattle.cdl_parse.specs.declared.read_error.ReadError.{ReadError}
 use Rattle.cdl_parse.proofs.DataStates.{listed_at}
 
 pub bad_first : (v : Version) (s : State) (ws : List Lexeme) (k : CdlKind) → first_bad v ws ≡ Some k → piece_read v s ws ≡ Err k

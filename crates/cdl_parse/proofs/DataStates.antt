@@ -6,12 +6,12 @@ use Rattle.std.specs.Str.{bytes_eq}
 use Rattle.nc_base.specs.Numbers.{bytes_of_number}
 use Rattle.nc_base.specs.declared.header.Dim.{Dim}
 use Rattle.nc_base.specs.declared.header.Var.{Var}
+use Rattle.cdl_meaning.specs.State.{Draft}
+use Rattle.cdl_values.specs.Listed.{AllList, Lists, fresh}
+use Rattle.cdl_values.specs.Meant.{Suit, Suits, bytes_at, listing, names_of}
+use Rattle.cdl_values.specs.NameIndices.{position_of}
+use Rattle.cdl_values.specs.declared.data.Target.{Target}
 use Rattle.cdl_parse.specs.DataSections.{given_at}
-use Rattle.cdl_parse.specs.Listed.{AllList, Lists, fresh}
-use Rattle.cdl_parse.specs.Meant.{Suit, Suits, bytes_at, listing, names_of}
-use Rattle.cdl_parse.specs.NameIndices.{position_of}
-use Rattle.cdl_parse.specs.State.{Draft}
-use Rattle.cdl_parse.specs.declared.data.Target.{Target}
 
 -- the drafts have the names of their variables
 pub names_are : (vars : List Var) (arrays : List (List ℕ)) (ds : List Draft) → AllList vars arrays ds → names_of ds ≡ map (λ (var : Var). var.name) vars

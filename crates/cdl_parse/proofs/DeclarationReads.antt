@@ -17,14 +17,13 @@ use Rattle.cdl_text.specs.declared.due.Due.TheVariants.{AfterVariable, VariableN
 use Rattle.cdl_text.specs.declared.fault.CdlKind.{CdlKind}
 use Rattle.cdl_text.specs.declared.fault.CdlKind.TheVariants.{BadName, BadShape, DuplicateName, UnknownDimension}
 use Rattle.cdl_text.proofs.VariableNames.{name_kind}
-use Rattle.cdl_parse.specs.Answers.{Continues, Fails}
-use Rattle.cdl_parse.specs.AttributeRead.{Leaves}
+use Rattle.cdl_meaning.specs.State.{Draft, add_dimid, add_var, found, in_turn, type_of, unless, when, ◌>>=◌}
+use Rattle.cdl_values.specs.Answers.{Continues, Fails, Leaves}
+use Rattle.cdl_values.specs.declared.read_error.ReadError.{ReadError}
+use Rattle.cdl_values.specs.declared.read_error.ReadError.TheVariants.{OutOfMemory, Fault}
 use Rattle.cdl_parse.specs.Declarations.{added, continued, declared, new_variable, next_dimid, read_on, type_first}
 use Rattle.cdl_parse.specs.Drafts.{draft, is_taken}
-use Rattle.cdl_parse.specs.State.{Draft, add_dimid, add_var, found, in_turn, type_of, unless, when, ◌>>=◌}
 use Rattle.cdl_parse.specs.declared.declaration.Begun.{Begun}
-use Rattle.cdl_parse.specs.declared.read_error.ReadError.{ReadError}
-use Rattle.cdl_parse.specs.declared.read_error.ReadError.TheVariants.{OutOfMemory, Fault}
 use Rattle.cdl_parse.proofs.AttributeReads.{fails_then}
 use Rattle.cdl_parse.proofs.StatementWords.{goes_past}
 

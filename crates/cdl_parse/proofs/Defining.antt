@@ -18,17 +18,17 @@ use Rattle.cdl_text.specs.declared.fault.CdlKind.TheVariants.{Syntax}
 use Rattle.cdl_text.specs.declared.section.Section.{Section}
 use Rattle.cdl_text.specs.declared.section.Section.TheVariants.{Unopened, Globals, Dimensions, Variables, Values, Closed, Ended}
 use Rattle.cdl_text.proofs.Options.{none_of}
+use Rattle.cdl_meaning.specs.Meaning.{piece_read}
+use Rattle.cdl_meaning.specs.State.{State, Draft, act, add_att, add_dim, add_var, at_variable, in_turn, type_of, with_att, ◌>>=◌}
+use Rattle.cdl_values.specs.Answers.{Fails, Leaves}
+use Rattle.cdl_values.specs.Meant.{name_first}
+use Rattle.cdl_values.specs.declared.read_error.ReadError.{ReadError}
+use Rattle.cdl_values.specs.declared.read_error.ReadError.TheVariants.{OutOfMemory, Fault}
 use Rattle.cdl_parse.proofs.StatementWords.{begins, goes_past}
-use Rattle.cdl_parse.specs.Answers.{Fails}
-use Rattle.cdl_parse.specs.AttributeRead.{Leaves, constants_said}
+use Rattle.cdl_parse.specs.AttributeRead.{constants_said}
 use Rattle.cdl_parse.specs.Declarations.{declared}
 use Rattle.cdl_parse.specs.Defined.{Makes, after_mark, is_defining, is_past, state_of}
 use Rattle.cdl_parse.specs.declared.definitions.Definitions.{Definitions}
-use Rattle.cdl_parse.specs.Meaning.{piece_read}
-use Rattle.cdl_parse.specs.Meant.{name_first}
-use Rattle.cdl_parse.specs.State.{State, Draft, act, add_att, add_dim, add_var, at_variable, in_turn, type_of, with_att, ◌>>=◌}
-use Rattle.cdl_parse.specs.declared.read_error.ReadError.{ReadError}
-use Rattle.cdl_parse.specs.declared.read_error.ReadError.TheVariants.{OutOfMemory, Fault}
 
 pub opens : (v : Version) (s : State) (l : Lexeme) (ls ws : List Lexeme) → ws ≡ l ∷ ls → act v s (statement_said v Unopened ws) ≡ Ok (record s { section = Globals })
 unfolding act statement_said

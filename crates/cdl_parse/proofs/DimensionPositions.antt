@@ -6,8 +6,8 @@ use Rattle.std.specs.Str.{bytes_eq}
 use Rattle.std.proofs.lemmas.Iterator.Adapters.{position_from-zero}
 use Rattle.nc_base.specs.Headers.{has_record_dim}
 use Rattle.nc_base.specs.declared.header.Dim.{Dim}
-use Rattle.cdl_parse.specs.NameIndices.{IsIndex, position_of}
-use Rattle.cdl_parse.specs.declared.name_index.NameIndex.{NameIndex}
+use Rattle.cdl_values.specs.NameIndices.{IsIndex, position_of}
+use Rattle.cdl_values.specs.declared.name_index.NameIndex.{NameIndex}
 
 abbrev dim_names : List Dim → List (List ℕ)
 dim_names dims = map (λ (d : Dim). d.name) dims

@@ -13,11 +13,11 @@ use Rattle.cdl_text.specs.declared.due.Due.TheVariants.{DimensionName}
 use Rattle.cdl_text.specs.declared.fault.CdlKind.{CdlKind}
 use Rattle.cdl_text.specs.declared.fault.CdlKind.TheVariants.{BadName, DuplicateName}
 use Rattle.cdl_text.proofs.DimensionSteps.{first_goes, second_goes, third_goes, on}
-use Rattle.cdl_parse.specs.AttributeRead.{Leaves}
+use Rattle.cdl_meaning.specs.State.{add_dim, dim_len_of, unless, when, ◌>>=◌}
+use Rattle.cdl_values.specs.Answers.{Leaves}
+use Rattle.cdl_values.specs.NameIndices.{position_of}
+use Rattle.cdl_values.specs.declared.read_error.ReadError.{ReadError}
 use Rattle.cdl_parse.specs.DimensionLengths.{named}
-use Rattle.cdl_parse.specs.NameIndices.{position_of}
-use Rattle.cdl_parse.specs.State.{add_dim, dim_len_of, unless, when, ◌>>=◌}
-use Rattle.cdl_parse.specs.declared.read_error.ReadError.{ReadError}
 use Rattle.cdl_parse.proofs.Lengths.{any_is}
 
 -- ---- a dimension

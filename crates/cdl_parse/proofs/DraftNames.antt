@@ -7,12 +7,12 @@ use Rattle.std.specs.declared.alloc.AllocError.{AllocError}
 use Rattle.std.specs.List.{position_from}
 use Rattle.std.specs.Str.{bytes_eq}
 use Rattle.nc_base.specs.declared.header.Var.{Var}
+use Rattle.cdl_meaning.specs.State.{Draft}
+use Rattle.cdl_values.specs.Listed.{fresh}
+use Rattle.cdl_values.specs.Meant.{names_of}
+use Rattle.cdl_values.specs.NameIndices.{IsIndex, position_of}
+use Rattle.cdl_values.specs.declared.name_index.NameIndex.{NameIndex}
 use Rattle.cdl_parse.specs.Drafts.{draft_of, drafts_of, is_taken, var_of}
-use Rattle.cdl_parse.specs.Listed.{fresh}
-use Rattle.cdl_parse.specs.Meant.{names_of}
-use Rattle.cdl_parse.specs.NameIndices.{IsIndex, position_of}
-use Rattle.cdl_parse.specs.State.{Draft}
-use Rattle.cdl_parse.specs.declared.name_index.NameIndex.{NameIndex}
 use Rattle.cdl_parse.specs.declared.variables.Variable.{Variable}
 use Rattle.cdl_parse.proofs.NameSets.{where_ok}
 

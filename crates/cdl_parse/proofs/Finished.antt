@@ -14,12 +14,12 @@ use Rattle.nc_base.specs.Headers.{value_count}
 use Rattle.nc_base.specs.Numbers.{bytes_of_number}
 use Rattle.nc_base.specs.SizeParts.{checked_record_size, has_small_slab}
 use Rattle.nc_base.specs.Sizes.{record_limit, record_size, array_limit, is_record_var}
+use Rattle.cdl_meaning.specs.Meaning.{array_of, dataset_of, finished, header_of, is_small, is_small_enough, records_in, values_of}
+use Rattle.cdl_values.specs.Listed.{AllList, AreShaped}
 use Rattle.cdl_parse.specs.Extents.{records_kept}
-use Rattle.cdl_parse.specs.Listed.{AllList, AreShaped}
-use Rattle.cdl_parse.specs.Meaning.{array_of, dataset_of, finished, header_of, is_small, is_small_enough, records_in, values_of}
 use Rattle.nc_base.specs.OwedValues.{fills, whole_array, whole_arrays}
+use Rattle.cdl_meaning.specs.State.{Draft, State}
 use Rattle.cdl_parse.specs.DeclaredDatasets.{dataset_of_declared, or_too_large}
-use Rattle.cdl_parse.specs.State.{Draft, State}
 use Rattle.cdl_parse.specs.declared.declared_values.Declared.{Declared}
 use Rattle.cdl_parse.proofs.SizeLimits.{all_are, all_small, has_small, listed_count, listed_of, var_of, widest_in}
 

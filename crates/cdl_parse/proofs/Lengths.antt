@@ -3,7 +3,7 @@ use Rattle.std.proofs.Common.{◌≡◌, ℕ, zero, suc, ◌≤◌, Bool, ◌+�
 use Rattle.std.specs.Prelude.{is_some, pos, None, Some, Ok, Err, int_le, nat_lt, nat_le, ◌-◌, if◌then◌else◌, ◌||◌, ◌==◌}
 use Rattle.std.specs.List.{list_any, position_from}
 use Rattle.std.specs.Str.{bytes_eq}
-use Rattle.cdl_parse.specs.NameIndices.{position_of}
+use Rattle.cdl_values.specs.NameIndices.{position_of}
 use Rattle.std.specs.Ordering.{int_eq}
 use Rattle.nc_base.specs.Versions.{count_limit}
 use Rattle.nc_base.specs.declared.header.Dim.{Dim}
@@ -13,8 +13,8 @@ use Rattle.cdl_text.specs.Numerals.{Parts, number, signed}
 use Rattle.cdl_text.specs.Magnitudes.{held}
 use Rattle.cdl_text.specs.declared.fault.CdlKind.TheVariants.{NumberRange}
 use Rattle.nc_base.specs.declared.nc_type.NcType.{NcType}
+use Rattle.cdl_meaning.specs.State.{dim_len_of, unless, ◌>>=◌}
 use Rattle.cdl_parse.specs.DimensionLengths.{number_len}
-use Rattle.cdl_parse.specs.State.{dim_len_of, unless, ◌>>=◌}
 
 limit_word : (v : Version) → count_limit v ≤ 18446744073709551615
 limit_word Cdf1 = search rules

@@ -1,14 +1,5 @@
-pub mod NamePositions
-pub mod PackedTokens
-pub mod Ranges
-pub mod Turns
-pub mod DataReads
-pub mod Joins
-pub mod Places
 pub mod Lengths
-pub mod Suited
 pub mod NameSets
-pub mod ConstantBytes
 pub mod StatementWords
 pub mod AttributeReads
 pub mod VariableNames
@@ -24,8 +15,6 @@ pub mod Finished
 pub mod DataStates
 pub mod DataStatements
 pub mod DataRuns
-pub mod Counts
-pub mod InRange
 pub mod DraftNames
 pub mod VariableAttributes
 pub mod DeclarationReads

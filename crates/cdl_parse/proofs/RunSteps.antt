@@ -6,11 +6,11 @@ use Rattle.cdl_text.specs.Lexemes.{Lexeme, lexeme}
 use Rattle.cdl_text.specs.declared.cutter.Cutter.{Cutter}
 use Rattle.cdl_text.specs.declared.fault.CdlKind.{CdlKind}
 use Rattle.cdl_text.specs.declared.token.Token.{Token}
-use Rattle.cdl_parse.specs.Answers.{Fails}
-use Rattle.cdl_parse.specs.Meaning.{piece_read, run}
+use Rattle.cdl_meaning.specs.Meaning.{piece_read, run}
+use Rattle.cdl_meaning.specs.State.{State}
+use Rattle.cdl_values.specs.Answers.{Fails}
+use Rattle.cdl_values.specs.declared.read_error.ReadError.{ReadError}
 use Rattle.cdl_parse.specs.Runs.{FailsAt, at_line, run_after}
-use Rattle.cdl_parse.specs.State.{State}
-use Rattle.cdl_parse.specs.declared.read_error.ReadError.{ReadError}
 use Rattle.cdl_parse.proofs.Runs.{fails_at, run_first}
 use Rattle.cdl_parse.proofs.StatementWords.{begins}
 

@@ -8,12 +8,12 @@ use Rattle.cdl_text.specs.Pieces.{pieces_at}
 use Rattle.cdl_text.specs.declared.cutter.Cutter.{Cutter}
 use Rattle.cdl_text.specs.declared.fault.CdlKind.{CdlKind}
 use Rattle.cdl_text.specs.declared.token.Token.{Token}
-use Rattle.cdl_parse.specs.Answers.{Fails}
-use Rattle.cdl_parse.specs.Meaning.{line_of, piece_read, run}
+use Rattle.cdl_meaning.specs.Meaning.{line_of, piece_read, run}
+use Rattle.cdl_meaning.specs.State.{State}
+use Rattle.cdl_values.specs.Answers.{Fails}
+use Rattle.cdl_values.specs.declared.read_error.ReadError.{ReadError}
+use Rattle.cdl_values.specs.declared.read_error.ReadError.TheVariants.{OutOfMemory, Fault}
 use Rattle.cdl_parse.specs.Runs.{FailsAt, at_line, run_after}
-use Rattle.cdl_parse.specs.State.{State}
-use Rattle.cdl_parse.specs.declared.read_error.ReadError.{ReadError}
-use Rattle.cdl_parse.specs.declared.read_error.ReadError.TheVariants.{OutOfMemory, Fault}
 use Rattle.cdl_parse.proofs.StatementWords.{begins}
 
 line_is : (p : List Token) (ps : List (List Token)) → first_line (p ∷ ps) ≡ line_of p

@@ -13,10 +13,10 @@ use Rattle.cdl_text.specs.Lexemes.{Lexeme}
 use Rattle.cdl_text.specs.Shapes.{Dimension, Statement, Value, Opening, Mark, Declared, Typed, Attribute, Listed, Brace, End, first_bad, shape}
 use Rattle.cdl_text.specs.declared.fault.CdlKind.{CdlKind}
 use Rattle.cdl_text.specs.declared.fault.CdlKind.TheVariants.{BadName, DuplicateData, DuplicateName}
+use Rattle.cdl_meaning.specs.Meaning.{checked, piece_read, shaped}
+use Rattle.cdl_meaning.specs.State.{State, Draft, act, add_att, add_dim, add_var, at_variable, capacity_of, add_value, dim_len_of, in_turn, is_listed, type_of, unless, when, with_att, with_values, ◌>>=◌}
+use Rattle.cdl_values.specs.Listed.{AreShaped}
 use Rattle.cdl_parse.proofs.Shapes.{Keeps, added_shaped, att_keeps, ok_then, variable_shaped}
-use Rattle.cdl_parse.specs.Listed.{AreShaped}
-use Rattle.cdl_parse.specs.Meaning.{checked, piece_read, shaped}
-use Rattle.cdl_parse.specs.State.{State, Draft, act, add_att, add_dim, add_var, at_variable, capacity_of, add_value, dim_len_of, in_turn, is_listed, type_of, unless, when, with_att, with_values, ◌>>=◌}
 
 any : {A : Type 0} (r : Result A CdlKind) → IfOk r (λ a. ⊤)
 any (Ok a) = tt

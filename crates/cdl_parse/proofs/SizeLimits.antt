@@ -13,10 +13,10 @@ use Rattle.nc_base.specs.Sizes.{is_record_var, is_record_dim, slab_count, slab_l
 use Rattle.nc_base.specs.Types.{size_of}
 use Rattle.nc_base.proofs.FilePlaces.{length-number}
 use Rattle.nc_base.proofs.SoundLaws.{some_size}
+use Rattle.cdl_meaning.specs.Meaning.{is_small, records_in, values_of}
+use Rattle.cdl_meaning.specs.State.{Draft}
+use Rattle.cdl_values.specs.Listed.{AllList, AreShaped}
 use Rattle.cdl_parse.specs.Extents.{records_for, records_kept, records_within, with_all}
-use Rattle.cdl_parse.specs.Listed.{AllList, AreShaped}
-use Rattle.cdl_parse.specs.Meaning.{is_small, records_in, values_of}
-use Rattle.cdl_parse.specs.State.{Draft}
 use Rattle.cdl_parse.specs.declared.records.Extent.{Extent}
 
 -- ---- a slab has a value

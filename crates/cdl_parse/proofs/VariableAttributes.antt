@@ -9,13 +9,13 @@ use Rattle.cdl_text.specs.Lexemes.{Lexeme, word_value}
 use Rattle.cdl_text.specs.Shapes.{Value}
 use Rattle.cdl_text.specs.declared.due.Due.TheVariants.{AttributeName}
 use Rattle.cdl_text.specs.declared.fault.CdlKind.{CdlKind}
-use Rattle.cdl_parse.specs.AttributeRead.{Leaves}
+use Rattle.cdl_meaning.specs.State.{Draft, add_att, with_att, ◌>>=◌}
+use Rattle.cdl_values.specs.Answers.{Leaves}
+use Rattle.cdl_values.specs.Meant.{name_first, names_of}
+use Rattle.cdl_values.specs.declared.read_error.ReadError.{ReadError}
+use Rattle.cdl_values.specs.declared.read_error.ReadError.TheVariants.{OutOfMemory, Fault}
 use Rattle.cdl_parse.specs.Drafts.{draft_of, drafts_of}
-use Rattle.cdl_parse.specs.Meant.{name_first, names_of}
-use Rattle.cdl_parse.specs.State.{Draft, add_att, with_att, ◌>>=◌}
 use Rattle.cdl_parse.specs.VariablePositions.{at_position}
-use Rattle.cdl_parse.specs.declared.read_error.ReadError.{ReadError}
-use Rattle.cdl_parse.specs.declared.read_error.ReadError.TheVariants.{OutOfMemory, Fault}
 use Rattle.cdl_parse.specs.declared.variables.Variable.{Variable}
 
 -- ---- the tokens before the attribute's name

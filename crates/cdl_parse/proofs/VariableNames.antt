@@ -6,9 +6,9 @@ use Rattle.std.specs.Str.{bytes_eq}
 use Rattle.nc_base.specs.Names.{is_name}
 use Rattle.cdl_text.specs.declared.fault.CdlKind.{CdlKind}
 use Rattle.cdl_text.specs.declared.fault.CdlKind.TheVariants.{BadName, UnknownVariable}
-use Rattle.cdl_parse.specs.Meant.{names_of}
-use Rattle.cdl_parse.specs.NameIndices.{position_of}
-use Rattle.cdl_parse.specs.State.{Draft, at_named, at_variable, ◌>>=◌}
+use Rattle.cdl_meaning.specs.State.{Draft, at_named, at_variable, ◌>>=◌}
+use Rattle.cdl_values.specs.Meant.{names_of}
+use Rattle.cdl_values.specs.NameIndices.{position_of}
 use Rattle.cdl_parse.specs.VariablePositions.{at_position}
 
 module _ (name : List ℕ) (f : Draft → Result Draft CdlKind) where

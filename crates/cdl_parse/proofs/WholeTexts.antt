@@ -10,13 +10,13 @@ use Rattle.cdl_text.specs.declared.fault.CdlFault.{CdlFault}
 use Rattle.cdl_text.specs.declared.section.Section.{Section}
 use Rattle.cdl_text.specs.declared.section.Section.TheVariants.{Unopened, Globals, Dimensions, Variables, Values, Closed, Ended}
 use Rattle.cdl_text.specs.declared.token.Token.{Token}
+use Rattle.cdl_meaning.specs.Meaning.{finished, run}
+use Rattle.cdl_meaning.specs.State.{State, Draft}
+use Rattle.cdl_values.specs.Listed.{AllList, AreShaped, fresh}
 use Rattle.cdl_parse.specs.Defined.{is_early, is_past}
-use Rattle.cdl_parse.specs.Listed.{AllList, AreShaped, fresh}
-use Rattle.cdl_parse.specs.Meaning.{finished, run}
 use Rattle.cdl_parse.specs.Runs.{FailsAt}
-use Rattle.cdl_parse.specs.State.{State, Draft}
-use Rattle.cdl_parse.specs.declared.read_error.ParseError.{ParseError}
-use Rattle.cdl_parse.specs.declared.read_error.ParseError.TheVariants as stops
+use Rattle.cdl_parse.specs.declared.parse_error.ParseError.{ParseError}
+use Rattle.cdl_parse.specs.declared.parse_error.ParseError.TheVariants as stops
 
 -- of no variable anything is listed
 pub none_listed : (vars : List Var) → AllList vars (replicate (length vars) []) (fresh vars)

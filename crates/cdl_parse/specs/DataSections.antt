@@ -4,17 +4,17 @@ use Rattle.nc_base.specs.declared.header.Var.{Var}
 use Rattle.cdl_text.specs.Cutters.{pieces_left, text_of, version_of, words}
 use Rattle.cdl_text.specs.declared.cutter.Cutter.{Cutter}
 use Rattle.cdl_text.specs.declared.section.Section.TheVariants.{Values, Closed}
-use Rattle.cdl_parse.specs.Answers.{Fails}
-use Rattle.cdl_parse.specs.Listed.{AllList}
-use Rattle.cdl_parse.specs.Meaning.{piece_read, run}
-use Rattle.cdl_parse.specs.Meant.{Suit}
+use Rattle.cdl_meaning.specs.Meaning.{piece_read, run}
+use Rattle.cdl_meaning.specs.State.{State, Draft}
+use Rattle.cdl_values.specs.Answers.{Fails}
+use Rattle.cdl_values.specs.Listed.{AllList}
+use Rattle.cdl_values.specs.Meant.{Suit}
+use Rattle.cdl_values.specs.declared.data.Target.{Target}
+use Rattle.cdl_values.specs.declared.read_error.ReadError.{ReadError}
 use Rattle.cdl_parse.specs.Runs.{FailsAt}
-use Rattle.cdl_parse.specs.State.{State, Draft}
-use Rattle.cdl_parse.specs.declared.data.Target.{Target}
 use Rattle.cdl_parse.specs.declared.data_section.DataSection.{DataSection}
 use Rattle.cdl_parse.specs.declared.data_section.Passed.{Passed}
-use Rattle.cdl_parse.specs.declared.read_error.ParseError.{ParseError}
-use Rattle.cdl_parse.specs.declared.read_error.ReadError.{ReadError}
+use Rattle.cdl_parse.specs.declared.parse_error.ParseError.{ParseError}
 
 -- the targets, the one at this position with its values given
 abbrev pub given_at : ℕ → List Target → List Target

@@ -11,8 +11,8 @@ use Rattle.cdl_text.specs.Contents.{Declaration, declaration_said}
 use Rattle.cdl_text.specs.Lexemes.{Lexeme}
 use Rattle.cdl_text.specs.declared.fault.CdlKind.{CdlKind}
 use Rattle.cdl_text.specs.declared.fault.CdlKind.TheVariants.{BadName, BadShape, DuplicateName, UnknownDimension, UnknownType}
+use Rattle.cdl_meaning.specs.State.{Draft, add_dimid, add_var, found, in_turn, type_of, unless, when, ◌>>=◌}
 use Rattle.cdl_parse.specs.Drafts.{draft, is_taken}
-use Rattle.cdl_parse.specs.State.{Draft, add_dimid, add_var, found, in_turn, type_of, unless, when, ◌>>=◌}
 use Rattle.cdl_parse.specs.declared.declaration.Begun.{Begun}
 
 -- the type that the first of these words says

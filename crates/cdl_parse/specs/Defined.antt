@@ -7,11 +7,11 @@ use Rattle.cdl_text.specs.declared.fault.CdlKind.{CdlKind}
 use Rattle.cdl_text.specs.declared.section.Section.{Section}
 use Rattle.cdl_text.specs.declared.section.Section.TheVariants.{Unopened, Globals, Dimensions, Variables, Closed, Ended}
 use Rattle.cdl_text.specs.Contents.{statement_said}
-use Rattle.cdl_parse.specs.Answers.{Fails}
-use Rattle.cdl_parse.specs.Meaning.{piece_read}
-use Rattle.cdl_parse.specs.State.{State, act}
+use Rattle.cdl_meaning.specs.Meaning.{piece_read}
+use Rattle.cdl_meaning.specs.State.{State, act}
+use Rattle.cdl_values.specs.Answers.{Fails}
+use Rattle.cdl_values.specs.declared.read_error.ReadError.{ReadError}
 use Rattle.cdl_parse.specs.declared.definitions.Definitions.{Definitions}
-use Rattle.cdl_parse.specs.declared.read_error.ReadError.{ReadError}
 
 abbrev pub state_of : Definitions → State
 state_of d = record { section = d.section; dims = d.dims; gatts = d.gatts; drafts = d.variables }

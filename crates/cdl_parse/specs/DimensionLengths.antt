@@ -4,7 +4,7 @@ use Rattle.std.specs.List.{list_any}
 use Rattle.std.specs.Str.{bytes_eq}
 use Rattle.nc_base.specs.Names.{is_name}
 use Rattle.nc_base.specs.declared.header.Dim.{Dim}
-use Rattle.cdl_parse.specs.State.{unless, when, ◌>>=◌}
+use Rattle.cdl_meaning.specs.State.{unless, when, ◌>>=◌}
 use Rattle.nc_base.specs.Versions.{count_limit}
 use Rattle.nc_base.specs.declared.version.Version.{Version}
 use Rattle.cdl_text.specs.declared.fault.CdlKind.{CdlKind}

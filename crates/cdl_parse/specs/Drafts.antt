@@ -5,7 +5,7 @@ use Rattle.std.specs.Str.{bytes_eq}
 use Rattle.nc_base.specs.declared.nc_type.NcType.{NcType}
 use Rattle.nc_base.specs.declared.header.Att.{Att}
 use Rattle.nc_base.specs.declared.header.Var.{Var}
-use Rattle.cdl_parse.specs.State.{Draft}
+use Rattle.cdl_meaning.specs.State.{Draft}
 use Rattle.cdl_parse.specs.declared.variables.Variable.{Variable}
 
 -- a variable before the data section

@@ -5,8 +5,8 @@ use Rattle.nc_base.specs.declared.header.Dim.{Dim}
 use Rattle.nc_base.specs.declared.header.Var.{Var}
 use Rattle.nc_base.specs.Sizes.{is_record_var, slab_count, slab_size, slab_limit, array_limit}
 use Rattle.nc_base.specs.Types.{size_of}
-use Rattle.cdl_parse.specs.Meaning.{is_small, records_in}
-use Rattle.cdl_parse.specs.State.{Draft}
+use Rattle.cdl_meaning.specs.Meaning.{is_small, records_in}
+use Rattle.cdl_meaning.specs.State.{Draft}
 use Rattle.cdl_parse.specs.declared.records.Extent.{Extent}
 
 -- how many records of so many values hold n of them

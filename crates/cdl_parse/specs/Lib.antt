@@ -1,17 +1,8 @@
-pub mod State
-pub mod Meaning
-pub mod NameIndices
-pub mod PackedValues
-pub mod Answers
-pub mod Capacities
-pub mod DataRead
-pub mod Meant
 pub mod DimensionLengths
 pub mod AttributeNames
 pub mod AttributeRead
 pub mod VariablePositions
 pub mod Runs
-pub mod Listed
 pub mod Defined
 pub mod DeclaredDatasets
 pub mod Extents

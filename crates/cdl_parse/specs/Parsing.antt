@@ -6,16 +6,16 @@ use Rattle.cdl_text.specs.declared.fault.CdlFault.{CdlFault}
 use Rattle.cdl_text.specs.declared.fault.CdlKind.TheVariants.{OutOfMemory}
 use Rattle.cdl_text.specs.Cutters.{pieces_left, text_of, version_of}
 use Rattle.cdl_text.specs.declared.cutter.Cutter.{Cutter}
-use Rattle.cdl_parse.specs.Listed.{AllList, AreShaped}
-use Rattle.cdl_parse.specs.Meaning.{run}
+use Rattle.cdl_meaning.specs.Meaning.{run}
+use Rattle.cdl_meaning.specs.State.{State, Draft}
+use Rattle.cdl_values.specs.Listed.{AllList, AreShaped}
 use Rattle.cdl_parse.specs.DeclaredDatasets.{dataset_of_declared}
 use Rattle.cdl_parse.specs.Runs.{FailsAt}
-use Rattle.cdl_parse.specs.State.{State, Draft}
 use Rattle.cdl_parse.specs.declared.declared_values.Declared.{Declared}
 use Rattle.cdl_parse.specs.declared.text.Contents.{Contents}
 use Rattle.cdl_parse.specs.declared.text.Values.{Values}
-use Rattle.cdl_parse.specs.declared.read_error.ParseError.{ParseError}
-use Rattle.cdl_parse.specs.declared.read_error.ParseError.TheVariants as stops
+use Rattle.cdl_parse.specs.declared.parse_error.ParseError.{ParseError}
+use Rattle.cdl_parse.specs.declared.parse_error.ParseError.TheVariants as stops
 
 -- a growth was refused
 abbrev pub refused : CdlFault

@@ -4,12 +4,12 @@ use Rattle.nc_base.specs.declared.version.Version.{Version}
 use Rattle.cdl_text.specs.declared.fault.CdlFault.{CdlFault}
 use Rattle.cdl_text.specs.declared.fault.CdlKind.{CdlKind}
 use Rattle.cdl_text.specs.declared.token.Token.{Token}
-use Rattle.cdl_parse.specs.Meaning.{run}
-use Rattle.cdl_parse.specs.State.{State}
-use Rattle.cdl_parse.specs.declared.read_error.ParseError.{ParseError}
-use Rattle.cdl_parse.specs.declared.read_error.ParseError.TheVariants as stops
-use Rattle.cdl_parse.specs.declared.read_error.ReadError.{ReadError}
-use Rattle.cdl_parse.specs.declared.read_error.ReadError.TheVariants.{OutOfMemory, Fault}
+use Rattle.cdl_meaning.specs.Meaning.{run}
+use Rattle.cdl_meaning.specs.State.{State}
+use Rattle.cdl_values.specs.declared.read_error.ReadError.{ReadError}
+use Rattle.cdl_values.specs.declared.read_error.ReadError.TheVariants.{OutOfMemory, Fault}
+use Rattle.cdl_parse.specs.declared.parse_error.ParseError.{ParseError}
+use Rattle.cdl_parse.specs.declared.parse_error.ParseError.TheVariants as stops
 
 abbrev pub at_line : ℕ → ReadError → ParseError
 at_line line OutOfMemory = stops.OutOfMemory

@@ -2,7 +2,7 @@
 use Rattle.std.specs.Prelude.{ℕ, zero, suc, List, [], ◌∷◌, Result, Ok, Err}
 use Rattle.cdl_text.specs.declared.fault.CdlKind.{CdlKind}
 use Rattle.cdl_text.specs.declared.fault.CdlKind.TheVariants.{UnknownVariable}
-use Rattle.cdl_parse.specs.State.{Draft, ◌>>=◌}
+use Rattle.cdl_meaning.specs.State.{Draft, ◌>>=◌}
 
 -- the variables, the one at this position changed
 abbrev pub at_position : ℕ → (Draft → Result Draft CdlKind) → List Draft → Result (List Draft) CdlKind

@@ -5,17 +5,14 @@ ghost use Rattle.cdl_text.specs.Cutters.{is_done, version_of, words};
 ghost use Rattle.cdl_text.specs.DueTokens.{completes};
 ghost use Rattle.cdl_text.specs.Lexemes.{word_value};
 ghost use Rattle.cdl_text.specs.declared.due.Due.TheVariants.{AttributeName};
-ghost use Rattle.cdl_parse.specs.Answers.{Gives};
-ghost use Rattle.cdl_parse.specs.AttributeRead.{Leaves, constants_said, new_attribute};
-ghost use Rattle.cdl_parse.specs.Meant.{name_first};
-ghost use Rattle.cdl_parse.specs.State.{add_att};
+ghost use Rattle.cdl_meaning.specs.State.{add_att};
+ghost use Rattle.cdl_values.specs.Answers.{Gives, Leaves};
+ghost use Rattle.cdl_values.specs.Meant.{name_first};
+ghost use Rattle.cdl_parse.specs.AttributeRead.{constants_said, new_attribute};
 
-use crate::array::Array;
 use crate::attributes::Attributes;
-use crate::constant::{read_constants, type_said};
-use crate::name::name_of_word;
-use crate::read_error::ReadError;
 use cdl_text::{CdlKind, Cutter};
+use cdl_values::{Array, ReadError, name_of_word, read_constants, type_said};
 use nc_base::{Att, NcType, Sequence, check_name};
 use std::alloc::{AllocError, Global};
 

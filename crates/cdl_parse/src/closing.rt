@@ -3,7 +3,7 @@
 ghost use Rattle.std.specs.Prelude.{◌≡◌, false};
 ghost use Rattle.cdl_text.specs.Cutters.{after, is_done, pieces_left, text_of};
 ghost use Rattle.cdl_text.specs.Statements.{statements};
-ghost use Rattle.cdl_parse.specs.Meaning.{closing_line};
+ghost use Rattle.cdl_meaning.specs.Meaning.{closing_line};
 
 use cdl_text::Cutter;
 use nc_base::Version;

@@ -4,17 +4,15 @@ ghost use Rattle.std.specs.Prelude.{◌≡◌, ◌<◌, ◌^◌, length, List, [
 ghost use Rattle.nc_base.specs.declared.header.Var.{Var};
 ghost use Rattle.cdl_text.specs.Cutters.{after, is_done, pieces_left, text_of, version_of, words};
 ghost use Rattle.cdl_text.specs.declared.section.Section.TheVariants.{Values};
+ghost use Rattle.cdl_meaning.specs.State.{State};
+ghost use Rattle.cdl_values.specs.Listed.{fresh};
+ghost use Rattle.cdl_values.specs.Meant.{Suit, begins_brace, names_of};
+ghost use Rattle.cdl_values.specs.NameIndices.{IsIndex};
 ghost use Rattle.cdl_parse.specs.DataSections.{Closes, ReadsData, ReadsOne, StandsSo, given_at};
-ghost use Rattle.cdl_parse.specs.Listed.{fresh};
-ghost use Rattle.cdl_parse.specs.Meant.{Suit, begins_brace, names_of};
-ghost use Rattle.cdl_parse.specs.NameIndices.{IsIndex};
-ghost use Rattle.cdl_parse.specs.State.{State};
 
-use crate::array::Array;
-use crate::data::{Target, read};
-use crate::name_index::NameIndex;
-use crate::read_error::{ParseError, ReadError};
+use crate::parse_error::ParseError;
 use cdl_text::{CdlKind, Cutter, Section, look_over};
+use cdl_values::{Array, NameIndex, ReadError, Target, read};
 use std::alloc::{AllocError, Global};
 
 /// What the data section lists, and what comes after it.
@@ -82,7 +80,7 @@ pub fn read_data<'a>(
                     });
                 }
             }
-            Err(e) => return Err(e.at_line(cutter.line())),
+            Err(e) => return Err(ParseError::at_line(cutter.line(), e)),
         }
     }
 }

@@ -11,17 +11,15 @@ ghost use Rattle.cdl_text.specs.Lexemes as lexemes;
 ghost use Rattle.cdl_text.specs.Lexemes.{is_mark, is_mark_kind, word_value};
 ghost use Rattle.cdl_text.specs.Views.{lexeme_of};
 ghost use Rattle.cdl_text.specs.declared.due.Due.TheVariants.{VariableName};
-ghost use Rattle.cdl_parse.specs.Answers.{Continues, Gives};
-ghost use Rattle.cdl_parse.specs.AttributeRead.{Leaves};
+ghost use Rattle.cdl_meaning.specs.State.{Draft, is_word_of, type_of};
+ghost use Rattle.cdl_values.specs.Answers.{Continues, Gives, Leaves};
 ghost use Rattle.cdl_parse.specs.Declarations.{added, continued, declared, new_variable, next_dimid, read_on};
 ghost use Rattle.cdl_parse.specs.Drafts.{draft, is_taken};
-ghost use Rattle.cdl_parse.specs.State.{Draft, is_word_of, type_of};
 
 use crate::dimensions::Dimensions;
-use crate::name::name_of_word;
-use crate::read_error::ReadError;
 use crate::variables::Variables;
 use cdl_text::{CdlKind, Cutter, Lexeme, TokenKind};
+use cdl_values::{ReadError, name_of_word};
 use nc_base::{NcType, Version, check_name, is_record_dim};
 use std::alloc::Global;
 
@@ -85,7 +83,7 @@ pub fn read_declaration(
 ///
 /// The word of a floating type, `float`, `real` or `double` (`FloatingType`); a word of no type of the version
 /// (`UnknownType`).
-#[tactic(auto, unfolding(crate::specs::State::type_of))]
+#[tactic(auto, unfolding(cdl_meaning::specs::State::type_of))]
 pub fn type_of_word(version: Version, word: Lexeme<'_>) -> Result<NcType, CdlKind>
     ensures { result ≡ type_of version (lexeme_of word.entry) }
 {

@@ -8,8 +8,7 @@ ghost use Rattle.nc_base.specs.Numbers.{bytes_of_number};
 ghost use Rattle.nc_base.specs.GeneratedFile.{known_records};
 ghost use Rattle.nc_base.specs.OwedValues.{fills, owed_count, whole_array, whole_arrays};
 
-use crate::array::Array;
-use crate::number::put_number;
+use cdl_values::{Array, put_number};
 use nc_base::{Dataset, Dim, Header, NumRecs, Sequence, Var, fill_of, has_records, slab_of};
 use std::alloc::{AllocError, Global};
 

@@ -2,13 +2,13 @@
 
 ghost use Rattle.std.specs.Prelude.{◌≡◌, IfOk, false};
 ghost use Rattle.cdl_text.specs.Cutters.{is_done, pieces_left, text_of, version_of};
+ghost use Rattle.cdl_meaning.specs.Meaning.{empty, run};
+ghost use Rattle.cdl_values.specs.Listed.{AreShaped};
 ghost use Rattle.cdl_parse.specs.Defined.{is_early, state_of};
-ghost use Rattle.cdl_parse.specs.Listed.{AreShaped};
-ghost use Rattle.cdl_parse.specs.Meaning.{empty, run};
 ghost use Rattle.cdl_parse.specs.Runs.{ReadsOn};
 
 use crate::definitions::Definitions;
-use crate::read_error::ParseError;
+use crate::parse_error::ParseError;
 use cdl_text::{Cutter, Section};
 use std::alloc::Global;
 
@@ -43,7 +43,7 @@ pub fn read_definitions<'a>(alloc: Global, start: Cutter<'a>) -> Result<Defined<
         }
         match definitions.read_statement(alloc, cutter) {
             Ok(rest) => cutter = rest,
-            Err(e) => return Err(e.at_line(cutter.line())),
+            Err(e) => return Err(ParseError::at_line(cutter.line(), e)),
         }
     }
 }

@@ -14,10 +14,10 @@ use crate::attributes::Attributes;
 use crate::declaration::read_declaration;
 use crate::dimension_list::read_dimensions;
 use crate::dimensions::Dimensions;
-use crate::read_error::ReadError;
 use crate::statement::pass;
 use crate::variables::Variables;
 use cdl_text::{Cutter, Lexeme, Section};
+use cdl_values::ReadError;
 use std::alloc::Global;
 
 /// What the statements of a text up to its data section declare.
@@ -32,9 +32,9 @@ pub struct Definitions {
 }
 
 impl Definitions {
+    ghost use Rattle.cdl_meaning.specs.Meaning.{empty, piece_read};
+    ghost use Rattle.cdl_meaning.specs.State.{act};
     ghost use Rattle.cdl_parse.specs.Defined.{Makes, after_mark, is_defining, is_early, state_of};
-    ghost use Rattle.cdl_parse.specs.Meaning.{empty, piece_read};
-    ghost use Rattle.cdl_parse.specs.State.{act};
 
     /// What stands before the first statement: nothing. It takes no memory.
     pub fn new(alloc: Global) -> Definitions

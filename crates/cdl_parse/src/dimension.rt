@@ -5,12 +5,12 @@ ghost use Rattle.nc_base.specs.Headers.{has_record_dim};
 ghost use Rattle.nc_base.specs.declared.header.Dim.{Dim};
 ghost use Rattle.cdl_text.specs.Magnitudes.{held};
 ghost use Rattle.cdl_text.specs.Numerals.{Parts, number};
+ghost use Rattle.cdl_meaning.specs.State.{dim_len_of};
+ghost use Rattle.cdl_values.specs.NameIndices.{IsIndex};
 ghost use Rattle.cdl_parse.specs.DimensionLengths.{new_name, number_len};
-ghost use Rattle.cdl_parse.specs.NameIndices.{IsIndex};
-ghost use Rattle.cdl_parse.specs.State.{dim_len_of};
 
-use crate::name_index::NameIndex;
 use cdl_text::{CdlKind, Numeral};
+use cdl_values::NameIndex;
 use nc_base::{Version, check_name};
 
 /// The length of a new dimension, 0 for the record dimension, which None stands for.

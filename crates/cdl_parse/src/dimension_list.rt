@@ -9,18 +9,15 @@ ghost use Rattle.cdl_text.specs.DueTokens.{completes};
 ghost use Rattle.cdl_text.specs.Lexemes.{word_value};
 ghost use Rattle.cdl_text.specs.Views.{lexeme_of};
 ghost use Rattle.cdl_text.specs.declared.due.Due.TheVariants.{DimensionName};
-ghost use Rattle.cdl_parse.specs.Answers.{Gives};
-ghost use Rattle.cdl_parse.specs.AttributeRead.{Leaves};
+ghost use Rattle.cdl_meaning.specs.State.{add_dim, dim_len_of, in_turn};
+ghost use Rattle.cdl_values.specs.Answers.{Gives, Leaves};
+ghost use Rattle.cdl_values.specs.NameIndices.{position_of};
 ghost use Rattle.cdl_parse.specs.DimensionLengths.{named};
-ghost use Rattle.cdl_parse.specs.NameIndices.{position_of};
-ghost use Rattle.cdl_parse.specs.State.{add_dim, dim_len_of, in_turn};
 
 use crate::dimension::dim_len;
 use crate::dimensions::Dimensions;
-use crate::name::name_of_word;
-use crate::number::number_or_zero;
-use crate::read_error::ReadError;
 use cdl_text::{CdlKind, Cutter, Lexeme};
+use cdl_values::{ReadError, name_of_word, number_or_zero};
 use nc_base::{Dim, Sequence, Version};
 use std::alloc::Global;
 

@@ -5,12 +5,12 @@ ghost use Rattle.std.specs.List.{position};
 ghost use Rattle.std.specs.Str.{bytes_eq};
 ghost use Rattle.nc_base.specs.Headers.{has_record_dim};
 ghost use Rattle.nc_base.specs.declared.header.Dim as header;
+ghost use Rattle.cdl_values.specs.NameIndices.{position_of};
 ghost use Rattle.cdl_parse.specs.DimensionLengths.{new_name};
-ghost use Rattle.cdl_parse.specs.NameIndices.{position_of};
 
 use crate::dimension::check_new;
-use crate::name_index::NameIndex;
 use cdl_text::CdlKind;
+use cdl_values::NameIndex;
 use nc_base::{Dim, Sequence};
 use std::alloc::{AllocError, Global};
 use std::marker::Model;
@@ -29,7 +29,7 @@ impl Model for Dimensions {
     ghost use Rattle.std.specs.Prelude.{List, ◌≡◌, map};
     ghost use Rattle.nc_base.specs.Headers.{has_record_dim};
     ghost use Rattle.nc_base.specs.declared.header.Dim.{Dim};
-    ghost use Rattle.cdl_parse.specs.NameIndices.{IsIndex};
+    ghost use Rattle.cdl_values.specs.NameIndices.{IsIndex};
 
     ghost Value = { List Dim };
 

@@ -1,14 +1,14 @@
 //! The end of a text: the number of records, and the limits on sizes.
 
 ghost use Rattle.std.specs.Prelude.{◌≡◌, ℕ, Ok};
-ghost use Rattle.cdl_parse.specs.Listed.{AllList, AreShaped};
-ghost use Rattle.cdl_parse.specs.Meaning.{finished};
+ghost use Rattle.cdl_meaning.specs.Meaning.{finished};
+ghost use Rattle.cdl_meaning.specs.State.{State};
+ghost use Rattle.cdl_values.specs.Listed.{AllList, AreShaped};
 ghost use Rattle.cdl_parse.specs.DeclaredDatasets.{or_too_large};
-ghost use Rattle.cdl_parse.specs.State.{State};
 
-use crate::array::Array;
 use crate::declared_values::Declared;
 use crate::records::records_of;
+use cdl_values::Array;
 use nc_base::{Att, Dim, Header, NumRecs, Sequence, Var, Version, rec_size};
 
 /// What a text with these dimensions, attributes, variables and listed values declares. There are as many records as the

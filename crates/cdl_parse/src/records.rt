@@ -3,11 +3,11 @@
 ghost use Rattle.std.specs.Prelude.{◌≡◌, ◌<◌, All, List, Some};
 ghost use Rattle.nc_base.specs.Sizes.{slab_count};
 ghost use Rattle.nc_base.specs.declared.header.Var as header;
+ghost use Rattle.cdl_meaning.specs.State.{Draft};
+ghost use Rattle.cdl_values.specs.Listed.{AllList, AreShaped};
 ghost use Rattle.cdl_parse.specs.Extents.{records_for, records_kept, with_all};
-ghost use Rattle.cdl_parse.specs.Listed.{AllList, AreShaped};
-ghost use Rattle.cdl_parse.specs.State.{Draft};
 
-use crate::array::Array;
+use cdl_values::Array;
 use nc_base::{Dim, Var, has_records, slab_of};
 
 /// The greatest array, in bytes.

@@ -4,8 +4,8 @@ ghost use Rattle.std.specs.Prelude.{◌≡◌, IfOk, false, true};
 ghost use Rattle.cdl_text.specs.Cutters.{after, is_done, pieces_left, text_of, version_of, words};
 ghost use Rattle.cdl_text.specs.DueTokens.{completes};
 ghost use Rattle.cdl_text.specs.declared.due.Due.TheVariants.{First};
+ghost use Rattle.cdl_meaning.specs.State.{State};
 ghost use Rattle.cdl_parse.specs.Defined.{Passes};
-ghost use Rattle.cdl_parse.specs.State.{State};
 
 use cdl_text::{CdlKind, Cutter, Section, look_over};
 

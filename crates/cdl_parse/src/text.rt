@@ -3,28 +3,26 @@
 ghost use Rattle.std.specs.Prelude.{if◌then◌else◌, ◌≡◌, ◌<◌, ◌≤◌, ◌^◌, IfOk, List, Ok, false, length, true};
 ghost use Rattle.nc_base.specs.declared.header.Var as header;
 ghost use Rattle.cdl_text.specs.Cutters.{is_done, pieces_left, text_of, version_of};
+ghost use Rattle.cdl_meaning.specs.Meaning.{empty, meaning, run};
+ghost use Rattle.cdl_meaning.specs.State.{State};
+ghost use Rattle.cdl_values.specs.Listed.{AreShaped, fresh};
+ghost use Rattle.cdl_values.specs.Meant.{names_of};
+ghost use Rattle.cdl_values.specs.NameIndices.{IsIndex};
 ghost use Rattle.cdl_parse.specs.Defined.{is_early, is_past};
-ghost use Rattle.cdl_parse.specs.Listed.{AreShaped, fresh};
-ghost use Rattle.cdl_parse.specs.Meaning.{empty, meaning, run};
-ghost use Rattle.cdl_parse.specs.Meant.{names_of};
-ghost use Rattle.cdl_parse.specs.NameIndices.{IsIndex};
 ghost use Rattle.cdl_parse.specs.DeclaredDatasets.{dataset_of_declared};
 ghost use Rattle.cdl_parse.specs.Parsing.{Answers, ReadsAll, ReadsValues, as_dataset, fault_of};
 ghost use Rattle.cdl_parse.specs.Runs.{ReadsOn};
-ghost use Rattle.cdl_parse.specs.State.{State};
 
-use crate::array::Array;
 use crate::closing::closing_line;
 use crate::data_section::{read_data, without_values};
 use crate::declared_values::Declared;
 use crate::definition_sections::{Defined, read_definitions};
 use crate::definitions::Definitions;
 use crate::finishing::finish;
-use crate::name_index::NameIndex;
-use crate::read_error::ParseError;
-use crate::targets::targets_of;
+use crate::parse_error::ParseError;
 use crate::text_end::read_end;
 use cdl_text::{CdlFault, CdlKind, Cutter, Section};
+use cdl_values::{Array, NameIndex, targets_of};
 use nc_base::{Att, Dataset, Dim, Sequence, Var, Version};
 use std::alloc::Global;
 

@@ -2,9 +2,9 @@
 
 ghost use Rattle.std.specs.Prelude.{◌≡◌, false, true};
 ghost use Rattle.cdl_text.specs.Cutters.{is_done, pieces_left, text_of, version_of};
+ghost use Rattle.cdl_meaning.specs.Meaning.{run};
+ghost use Rattle.cdl_meaning.specs.State.{State};
 ghost use Rattle.cdl_parse.specs.Defined.{EndsAs, is_past};
-ghost use Rattle.cdl_parse.specs.Meaning.{run};
-ghost use Rattle.cdl_parse.specs.State.{State};
 
 use crate::statement::pass;
 use cdl_text::{CdlFault, Cutter, Section};

@@ -3,16 +3,14 @@
 ghost use Rattle.std.specs.Prelude.{◌≡◌, ◌<◌, List, Result, IfOk, length};
 ghost use Rattle.cdl_text.specs.Lexemes.{word_value};
 ghost use Rattle.cdl_text.specs.declared.fault.CdlKind as fault;
-ghost use Rattle.cdl_parse.specs.Answers.{Continues};
-ghost use Rattle.cdl_parse.specs.Meant.{names_of};
-ghost use Rattle.cdl_parse.specs.NameIndices.{IsIndex};
-ghost use Rattle.cdl_parse.specs.State.{Draft, at_variable};
+ghost use Rattle.cdl_meaning.specs.State.{Draft, at_variable};
+ghost use Rattle.cdl_values.specs.Answers.{Continues};
+ghost use Rattle.cdl_values.specs.Meant.{names_of};
+ghost use Rattle.cdl_values.specs.NameIndices.{IsIndex};
 ghost use Rattle.cdl_parse.specs.VariablePositions.{at_position};
 
-use crate::name::name_of_word;
-use crate::name_index::NameIndex;
-use crate::read_error::ReadError;
 use cdl_text::CdlKind;
+use cdl_values::{NameIndex, ReadError, name_of_word};
 use nc_base::check_name;
 use std::alloc::Global;
 

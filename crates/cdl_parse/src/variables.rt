@@ -4,19 +4,19 @@ ghost use Rattle.std.specs.Prelude.{◌≡◌, ◌++◌, ◌∷◌, [], drop, fa
 ghost use Rattle.cdl_text.specs.Cutters.{is_done, version_of, words};
 ghost use Rattle.cdl_text.specs.DueTokens.{completes};
 ghost use Rattle.cdl_text.specs.declared.due.Due.TheVariants.{AttributeName};
-ghost use Rattle.cdl_parse.specs.AttributeRead.{Leaves, constants_said};
+ghost use Rattle.cdl_meaning.specs.State.{at_variable, with_att};
+ghost use Rattle.cdl_values.specs.Answers.{Leaves};
+ghost use Rattle.cdl_values.specs.Listed.{fresh};
+ghost use Rattle.cdl_values.specs.Meant.{name_first, names_of};
+ghost use Rattle.cdl_values.specs.NameIndices.{IsIndex};
+ghost use Rattle.cdl_parse.specs.AttributeRead.{constants_said};
 ghost use Rattle.cdl_parse.specs.Drafts.{draft, is_taken, var_of};
-ghost use Rattle.cdl_parse.specs.Listed.{fresh};
-ghost use Rattle.cdl_parse.specs.Meant.{name_first, names_of};
-ghost use Rattle.cdl_parse.specs.NameIndices.{IsIndex};
-ghost use Rattle.cdl_parse.specs.State.{at_variable, with_att};
 
 use crate::attribute::read_attribute;
 use crate::attributes::Attributes;
-use crate::name_index::NameIndex;
-use crate::read_error::ReadError;
 use crate::variable_lookup::variable_position;
 use cdl_text::Cutter;
+use cdl_values::{NameIndex, ReadError};
 use nc_base::{NcType, Sequence, Var};
 use std::alloc::{AllocError, Global};
 use std::marker::Model;
@@ -42,13 +42,13 @@ pub struct Variables {
 
 impl Model for Variables {
     ghost use Rattle.std.specs.Prelude.{List};
-    ghost use Rattle.cdl_parse.specs.State.{Draft};
+    ghost use Rattle.cdl_meaning.specs.State.{Draft};
 
     ghost Value = { List Draft };
 
+    ghost use Rattle.cdl_values.specs.Meant.{names_of};
+    ghost use Rattle.cdl_values.specs.NameIndices.{IsIndex};
     ghost use Rattle.cdl_parse.specs.Drafts.{drafts_of};
-    ghost use Rattle.cdl_parse.specs.Meant.{names_of};
-    ghost use Rattle.cdl_parse.specs.NameIndices.{IsIndex};
 
     ghost view = { λ variables. drafts_of variables.list.items };
 

@@ -1,7 +1,8 @@
 //! Attributes, as statements of CDL text declare them.
 
-use cdl_parse::{Attributes, NameIndex, ReadError, read_attribute, variable_position};
+use cdl_parse::{Attributes, read_attribute, variable_position};
 use cdl_text::{CdlKind, Cutter, Due, first_pass};
+use cdl_values::{NameIndex, ReadError};
 use nc_base::{NcType, Version};
 use std::alloc::Global;
 use std::process::Abort;

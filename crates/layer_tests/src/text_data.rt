@@ -1,7 +1,8 @@
 //! The data section of CDL text.
 
-use cdl_parse::{Array, DataSection, Fill, Filling, NameIndex, ParseError, Target, read_data};
+use cdl_parse::{DataSection, ParseError, read_data};
 use cdl_text::{CdlFault, CdlKind, Cutter, TokenKind};
+use cdl_values::{Array, Fill, Filling, NameIndex, Target};
 use nc_base::{NcType, Version};
 use std::alloc::{AllocError, Global};
 use std::process::Abort;

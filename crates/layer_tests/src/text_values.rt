@@ -1,7 +1,8 @@
 //! The values of statements of the data section, and the lengths and names of dimensions.
 
-use cdl_parse::{Fill, Filling, NameIndex, ReadError, Target, check_new, dim_len, read};
+use cdl_parse::{check_new, dim_len};
 use cdl_text::{CdlKind, Cutter, Numeral};
+use cdl_values::{Fill, Filling, NameIndex, ReadError, Target, read};
 use nc_base::{NcType, Version};
 use std::alloc::Global;
 use std::process::Abort;

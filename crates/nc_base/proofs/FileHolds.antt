@@ -29,7 +29,7 @@ use Rattle.nc_base.proofs.WholeValues.{map-map}
 
 -- ---- begins change nothing else
 
-bare-after : (h : Header) (before vars : List Var) → map bare_var (vars_after h before vars) ≡ map bare_var vars
+pub bare-after : (h : Header) (before vars : List Var) → map bare_var (vars_after h before vars) ≡ map bare_var vars
 bare-after h before [] = refl
 bare-after h before (var ∷ vars) = ap (λ (vs : List Var). bare_var var ∷ vs) (bare-after h (before ++ var ∷ []) vars)
 
@@ -42,7 +42,7 @@ all-after P same h before (var ∷ vars) all =
 
 -- ---- the record size
 
-records-bare : (dims : List Dim) (vars : List Var) → record_vars dims (map bare_var vars) ≡ map bare_var (record_vars dims vars)
+pub records-bare : (dims : List Dim) (vars : List Var) → record_vars dims (map bare_var vars) ≡ map bare_var (record_vars dims vars)
 records-bare dims [] = refl
 records-bare dims (var ∷ vars) =
     ap (λ (vs : List Var). cond (is_record_var dims var) (bare_var var ∷ vs) vs) (records-bare dims vars) ∙ at (is_record_var dims var)
@@ -111,7 +111,7 @@ len-after h =
 abbrev HasNames : Var → Type 0
 HasNames var = IsName var.name × All (λ (att : Att). IsName att.name) var.atts
 
-sound-after : (h : Header) → IsSound h → IsSound (record h { vars = vars_after h [] h.vars })
+pub sound-after : (h : Header) → IsSound h → IsSound (record h { vars = vars_after h [] h.vars })
 sound-after h s = record {
   numrecs = s.numrecs;
   dim_count = s.dim_count;

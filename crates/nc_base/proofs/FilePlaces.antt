@@ -35,7 +35,7 @@ length-number Int64 n = refl
 length-number Uint64 n = refl
 
 -- the padding of whole values is whole values
-whole-padding : (ty : NcType) (c : ℕ) → padding_len (c * size_of ty) / size_of ty * size_of ty ≡ padding_len (c * size_of ty)
+pub whole-padding : (ty : NcType) (c : ℕ) → padding_len (c * size_of ty) / size_of ty * size_of ty ≡ padding_len (c * size_of ty)
 whole-padding Byte c = omega arith
 whole-padding Char c = omega arith
 whole-padding Short c = omega arith
@@ -235,7 +235,7 @@ Agree h bytes n [] (array ∷ arrays) = ⊥
 Agree h bytes n (var ∷ vars) [] = ⊥
 Agree h bytes n (var ∷ vars) (array ∷ arrays) = Agrees h bytes n var array × Agree h bytes n vars arrays
 
-flat_map-below : (f g : ℕ → List ℕ) (k n : ℕ) → ((r : ℕ) → k ≤ r → r < k + n → f r ≡ g r) → flat_map f (range_with_len k n) ≡ flat_map g (range_with_len k n)
+pub flat_map-below : (f g : ℕ → List ℕ) (k n : ℕ) → ((r : ℕ) → k ≤ r → r < k + n → f r ≡ g r) → flat_map f (range_with_len k n) ≡ flat_map g (range_with_len k n)
 flat_map-below f g k zero same = refl
 flat_map-below f g k (suc n) same =
     ap (λ (xs : List ℕ). xs ++ flat_map f (range_with_len (k + 1) n)) (same k (omega arith) (omega arith))

@@ -16,4 +16,6 @@ pub mod FilePlaces
 pub mod HeaderSpelled
 pub mod FileHolds
 pub mod HeldDump
+pub mod Fitting
+pub mod ListedArrays
 mod FileExamples

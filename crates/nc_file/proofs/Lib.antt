@@ -13,3 +13,6 @@ pub mod HeadersAgain
 pub mod Outcomes
 pub mod Answered
 pub mod FileLaws
+pub mod Shapes
+pub mod HeaderLen
+pub mod BeginLaws

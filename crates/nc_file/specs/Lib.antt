@@ -2,3 +2,5 @@ pub mod Reading
 pub mod Window
 pub mod Answers
 pub mod OneOutcome
+pub mod Lengths
+pub mod Begins

@@ -1,7 +1,9 @@
 //! The header of a netCDF classic file.
 //!
 //! [`read_header`] reads the header of a file from any source, through a caller's buffer, and answers a [`HeadFault`] where there
-//! is none. The devices of `devices` are named here too, for the crates above.
+//! is none. A header is written in two steps: [`with_begins`] gives each variable the offset of its values, or answers
+//! [`OffsetTooLarge`], and [`write_header`] writes the one spelling of a header to any sink. [`header_len`] is that spelling's
+//! length. The devices of `devices` are named here too, for the crates above.
 #![tactic(auto)]
 
 mod head_fault;
@@ -10,6 +12,7 @@ pub mod laws;
 mod read;
 mod sized_var;
 mod window;
+mod write;
 
 pub use devices::{
     DripSource, FailWhen, FileSource, IoSink, Listed, ListedFile, MemSink, MemSource, OpenFailed,
@@ -17,3 +20,4 @@ pub use devices::{
 };
 pub use head_fault::HeadFault;
 pub use header::read_header;
+pub use write::{OffsetTooLarge, header_len, with_begins, write_header};

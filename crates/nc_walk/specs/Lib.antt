@@ -3,3 +3,5 @@ pub mod Fills
 pub mod Walks
 pub mod Chunks
 pub mod Walked
+pub mod Filled
+pub mod RecordTables

@@ -12,6 +12,8 @@ pub mod laws;
 mod reading;
 mod slabs;
 mod walk;
+mod write;
 
 pub use fault::WalkFault;
 pub use walk::Walk;
+pub use write::write_data;

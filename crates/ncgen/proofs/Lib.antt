@@ -1,3 +1,8 @@
+pub mod Filling
+pub mod ListedValues
+pub mod Placing
+pub mod Preparing
+pub mod TextFiles
 pub mod CommandLines
 pub mod TextParts
 pub mod CutOutputs

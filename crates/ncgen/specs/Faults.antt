@@ -11,12 +11,12 @@ use Rattle.ncgen.specs.declared.fault.GenFault.{GenFault}
 use Rattle.ncgen.specs.declared.fault.GenFault.TheVariants.{Cdl, OffsetTooLarge, WriteFailed}
 use Rattle.ncgen.specs.declared.fault.TextFault.{TextFault}
 use Rattle.ncgen.specs.declared.fault.TextFault.TheVariants as text
-use Rattle.ncgen.specs.declared.fault.InputFault.{InputFault}
-use Rattle.ncgen.specs.declared.fault.InputFault.TheVariants as input
-use Rattle.ncgen.specs.declared.fault.OutputFault.{OutputFault}
-use Rattle.ncgen.specs.declared.fault.OutputFault.TheVariants as output
-use Rattle.ncgen.specs.declared.fault.Failure.{Failure}
-use Rattle.ncgen.specs.declared.fault.Failure.TheVariants.{CommandLine, Input, Output}
+use Rattle.ncgen.specs.declared.failure.InputFault.{InputFault}
+use Rattle.ncgen.specs.declared.failure.InputFault.TheVariants as input
+use Rattle.ncgen.specs.declared.failure.OutputFault.{OutputFault}
+use Rattle.ncgen.specs.declared.failure.OutputFault.TheVariants as output
+use Rattle.ncgen.specs.declared.failure.Failure.{Failure}
+use Rattle.ncgen.specs.declared.failure.Failure.TheVariants.{CommandLine, Input, Output}
 
 -- what is said of a fault of this kind
 unfoldable pub kind_words : CdlKind → List ℕ

@@ -4,14 +4,14 @@ use Rattle.std.specs.Bool.{OnTrue}
 use Rattle.std.specs.Global.{Vec}
 use Rattle.nc_base.specs.declared.version.Version.{Version}
 use Rattle.devices.specs.Readers.{ReaderView}
-use Rattle.cdl_parse.specs.Meaning.{text_limit}
+use Rattle.cdl_meaning.specs.Meaning.{text_limit}
 use Rattle.ncgen.specs.Generated.{generated, Refuses}
 use Rattle.ncgen.specs.Prepared.{IsReady, file_of_prepared}
 use Rattle.ncgen.specs.TextReads.{ReadsText}
 use Rattle.ncgen.specs.declared.fault.GenFault.{GenFault}
 use Rattle.ncgen.specs.declared.fault.TextFault.TheVariants.{TooLong}
-use Rattle.ncgen.specs.declared.fault.InputFault.{InputFault}
-use Rattle.ncgen.specs.declared.fault.InputFault.TheVariants.{CannotOpen, Text, Generate}
+use Rattle.ncgen.specs.declared.failure.InputFault.{InputFault}
+use Rattle.ncgen.specs.declared.failure.InputFault.TheVariants.{CannotOpen, Text, Generate}
 use Rattle.ncgen.specs.declared.prepared.Prepared.{Prepared}
 
 -- The texts that paths name, if they are transparent, and standard input before a call and after it.

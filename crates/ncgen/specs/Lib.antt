@@ -1,5 +1,6 @@
 pub mod Generated
 pub mod Prepared
+pub mod Laws
 pub mod CommandLine
 pub mod Faults
 pub mod TextReads

@@ -3,8 +3,8 @@ use Rattle.std.specs.Prelude.{◌≡◌, ℕ, ◌+◌, ◌⊎◌, Bool, List, []
 use Rattle.std.specs.Bool.{OnTrue}
 use Rattle.devices.specs.Creators.{CreatorView, HasFailed, Output, Unmade, give}
 use Rattle.devices.specs.Sinks.{IsPrefix}
-use Rattle.ncgen.specs.declared.fault.OutputFault.{OutputFault}
-use Rattle.ncgen.specs.declared.fault.OutputFault.TheVariants.{CannotOpen, WriteFailed}
+use Rattle.ncgen.specs.declared.failure.OutputFault.{OutputFault}
+use Rattle.ncgen.specs.declared.failure.OutputFault.TheVariants.{CannotOpen, WriteFailed}
 
 -- the outputs before a call and after it, and if they are transparent
 pub record Outputs : Type 0 where

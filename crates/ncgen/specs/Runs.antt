@@ -7,10 +7,10 @@ use Rattle.ncgen.specs.CommandLine.{Asked}
 use Rattle.ncgen.specs.Faults.{line_of_failure}
 use Rattle.ncgen.specs.Inputs.{Inputs, Gives, InputFails}
 use Rattle.ncgen.specs.Outputs.{Outputs, IsMade, OutputFails}
-use Rattle.ncgen.specs.declared.fault.InputFault.{InputFault}
-use Rattle.ncgen.specs.declared.fault.OutputFault.{OutputFault}
-use Rattle.ncgen.specs.declared.fault.Failure.{Failure}
-use Rattle.ncgen.specs.declared.fault.Failure.TheVariants.{CommandLine, Input, Output}
+use Rattle.ncgen.specs.declared.failure.InputFault.{InputFault}
+use Rattle.ncgen.specs.declared.failure.OutputFault.{OutputFault}
+use Rattle.ncgen.specs.declared.failure.Failure.{Failure}
+use Rattle.ncgen.specs.declared.failure.Failure.TheVariants.{CommandLine, Input, Output}
 
 -- what is asked for was made: the file that the text gives in the version, at the output's path, if there is one
 pub record IsGenerated (i : Inputs) (o : Outputs) (asked : Option Asked) : Type 0 where

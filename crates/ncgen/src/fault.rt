@@ -1,14 +1,13 @@
-//! Why the program could not do what was asked of it.
+//! Why no file was generated, or no text read.
 
 ghost use Rattle.std.specs.Prelude.{◌≡◌};
-ghost use Rattle.ncgen.specs.declared.fault.Failure.TheVariants.{CommandLine as command_line};
-ghost use Rattle.ncgen.specs.declared.fault.InputFault.TheVariants as input;
-ghost use Rattle.ncgen.specs.declared.fault.OutputFault.TheVariants as output;
+ghost use Rattle.cdl_parse.specs.Parsing.{refused};
+ghost use Rattle.ncgen.specs.declared.fault.GenFault.TheVariants as gen;
 ghost use Rattle.ncgen.specs.declared.fault.TextFault.TheVariants as text;
 
-use cdl_parse::CdlFault;
-use cli_base::OptFault;
-use devices::{CloseFailed, CreateFailed, OpenFailed, SourceFailed, WriteFailed};
+use cdl_parse::{CdlFault, CdlKind};
+use devices::SourceFailed;
+use nc_file::{OffsetTooLarge, WriteFailed};
 use std::alloc::AllocError;
 
 /// Why no file was generated from a text: for a fault of the text, because its dataset doesn't fit, or because the sink failed.
@@ -33,35 +32,39 @@ pub enum TextFault {
     TooLong,
 }
 
-/// Why no file was made of a text.
-#[derive(Clone, Copy, Debug, PartialEq, Eq)]
-pub enum InputFault {
-    /// The path can't be opened.
-    CannotOpen,
-    /// The text could not be read.
-    Text(TextFault),
-    /// The text gives no file.
-    Generate(GenFault),
+impl From<CdlFault> for GenFault {
+    ghost from_gives = { λ fault e. e ≡ gen.Cdl fault };
+
+    fn from(fault: CdlFault) -> GenFault {
+        GenFault::Cdl(fault)
+    }
 }
 
-/// Why a file was not written.
-#[derive(Clone, Copy, Debug, PartialEq, Eq)]
-pub enum OutputFault {
-    /// The output can't be created.
-    CannotOpen,
-    /// The output could not be written.
-    WriteFailed,
+impl From<AllocError> for GenFault {
+    ghost from_gives = { λ _ e. e ≡ gen.Cdl refused };
+
+    fn from(_e: AllocError) -> GenFault {
+        GenFault::Cdl(CdlFault {
+            line: 0,
+            kind: CdlKind::OutOfMemory,
+        })
+    }
 }
 
-/// Why a run failed.
-#[derive(Debug, Drop)]
-pub enum Failure {
-    /// What is wrong with the command line.
-    CommandLine(OptFault),
-    /// What is wrong with the text at this path, or on standard input.
-    Input(Option<String>, InputFault),
-    /// What is wrong with the output at this path.
-    Output(String, OutputFault),
+impl From<OffsetTooLarge> for GenFault {
+    ghost from_gives = { λ _ e. e ≡ gen.OffsetTooLarge };
+
+    fn from(_e: OffsetTooLarge) -> GenFault {
+        GenFault::OffsetTooLarge
+    }
+}
+
+impl From<WriteFailed> for GenFault {
+    ghost from_gives = { λ _ e. e ≡ gen.WriteFailed };
+
+    fn from(_e: WriteFailed) -> GenFault {
+        GenFault::WriteFailed
+    }
 }
 
 impl From<SourceFailed> for TextFault {
@@ -77,61 +80,5 @@ impl From<AllocError> for TextFault {
 
     fn from(_refusal: AllocError) -> TextFault {
         TextFault::OutOfMemory
-    }
-}
-
-impl From<OpenFailed> for InputFault {
-    ghost from_gives = { λ _ e. e ≡ input.CannotOpen };
-
-    fn from(_failure: OpenFailed) -> InputFault {
-        InputFault::CannotOpen
-    }
-}
-
-impl From<TextFault> for InputFault {
-    ghost from_gives = { λ fault e. e ≡ input.Text fault };
-
-    fn from(fault: TextFault) -> InputFault {
-        InputFault::Text(fault)
-    }
-}
-
-impl From<GenFault> for InputFault {
-    ghost from_gives = { λ fault e. e ≡ input.Generate fault };
-
-    fn from(fault: GenFault) -> InputFault {
-        InputFault::Generate(fault)
-    }
-}
-
-impl From<CreateFailed> for OutputFault {
-    ghost from_gives = { λ _ e. e ≡ output.CannotOpen };
-
-    fn from(_failure: CreateFailed) -> OutputFault {
-        OutputFault::CannotOpen
-    }
-}
-
-impl From<WriteFailed> for OutputFault {
-    ghost from_gives = { λ _ e. e ≡ output.WriteFailed };
-
-    fn from(_failure: WriteFailed) -> OutputFault {
-        OutputFault::WriteFailed
-    }
-}
-
-impl From<CloseFailed> for OutputFault {
-    ghost from_gives = { λ _ e. e ≡ output.WriteFailed };
-
-    fn from(_failure: CloseFailed) -> OutputFault {
-        OutputFault::WriteFailed
-    }
-}
-
-impl From<OptFault> for Failure {
-    ghost from_gives = { λ fault e. e ≡ command_line fault };
-
-    fn from(fault: OptFault) -> Failure {
-        Failure::CommandLine(fault)
     }
 }

@@ -5,7 +5,8 @@ ghost use Rattle.nc_base.specs.Bytes.{concat_parts};
 ghost use Rattle.devices.specs.Sinks.{Wrote};
 ghost use Rattle.ncgen.specs.Faults.{cdl_text, fault_text, input_line, input_words, kind_words, line_of, line_of_failure, line_of_text, opt_fault_line, output_words, place_text, program_words, text_name, usage_line};
 
-use crate::fault::{Failure, GenFault, InputFault, OutputFault, TextFault};
+use crate::failure::{Failure, InputFault, OutputFault};
+use crate::fault::{GenFault, TextFault};
 use cdl_parse::{CdlFault, CdlKind};
 use cli_base::OptFault;
 use devices::{Sink, WriteFailed, put, put_decimal};

@@ -4,7 +4,7 @@ ghost use Rattle.std.specs.Prelude.{◌≡◌, option_map, string_bytes};
 ghost use Rattle.devices.specs.Readers.{view_of};
 ghost use Rattle.ncgen.specs.Inputs.{inputs, ReadsAt, ReadsInput};
 
-use crate::fault::InputFault;
+use crate::failure::InputFault;
 use crate::reading::read_text;
 use devices::{CountedRead, Texts};
 use std::alloc::Global;

@@ -3,7 +3,7 @@
 ghost use Rattle.ncgen.specs.Outputs.{outputs, WritesAt};
 ghost use Rattle.ncgen.specs.Prepared.{file_of_prepared, IsReady};
 
-use crate::fault::OutputFault;
+use crate::failure::OutputFault;
 use crate::prepared::Prepared;
 use devices::Creator;
 

@@ -9,7 +9,7 @@ ghost use Rattle.ncgen.specs.Prepared.{file_of_prepared, IsReady};
 ghost use Rattle.ncgen.specs.Runs.{Failed, GeneratesAsked, Succeeded, WritesAsked};
 
 use crate::command_line::options_by;
-use crate::fault::{Failure, InputFault};
+use crate::failure::{Failure, InputFault};
 use crate::fault_text::put_failure;
 use crate::generating::prepare;
 use crate::input::read_input;

@@ -6,10 +6,10 @@ use Rattle.cdl_text.specs.Cutters.{is_done, next_token, text_of, version_of, wor
 use Rattle.cdl_text.specs.Lexemes.{lexeme}
 use Rattle.cdl_text.specs.Views.{lexeme_of}
 use Rattle.cdl_text.specs.declared.fault.CdlKind.{CdlKind}
-use Rattle.cdl_parse.specs.Answers.{Fails}
+use Rattle.cdl_meaning.specs.State.{add_att, add_constant, in_turn}
+use Rattle.cdl_values.specs.Answers.{Fails}
+use Rattle.cdl_values.specs.Meant.{name_first}
 use Rattle.cdl_parse.specs.AttributeRead.{constants_said}
-use Rattle.cdl_parse.specs.Meant.{name_first}
-use Rattle.cdl_parse.specs.State.{add_att, add_constant, in_turn}
 use Rattle.cdl_parse.proofs.AttributeReads.{fails_then, goes_equals, goes_name, name_fails, read_as, refused, with_values}
 use Rattle.cdl_parse.proofs.StatementWords.{begins}
 use Rattle.cdl_parse.proofs.attribute.read_attribute.Goals as goal

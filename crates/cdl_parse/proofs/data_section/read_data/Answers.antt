@@ -2,11 +2,11 @@ use Rattle.std.proofs.Common.{rules, ◌≡◌, ◌<◌, ℕ, false, List, [], l
 use Rattle.std.specs.Prelude.{replicate, ◌^◌}
 use Rattle.cdl_text.specs.Cutters.{is_done, pieces_left, text_of, version_of}
 use Rattle.cdl_text.specs.declared.section.Section.{Section}
+use Rattle.cdl_meaning.specs.Meaning.{run}
+use Rattle.cdl_values.specs.NameIndices.{IsIndex}
 use Rattle.cdl_parse.specs.DataSections.{Takes}
-use Rattle.cdl_parse.specs.Meaning.{run}
-use Rattle.cdl_parse.specs.NameIndices.{IsIndex}
 use Rattle.cdl_parse.specs.Runs.{FailsAt, at_line}
-use Rattle.cdl_parse.specs.declared.read_error.ParseError.{ParseError}
+use Rattle.cdl_parse.specs.declared.parse_error.ParseError.{ParseError}
 use Rattle.cdl_parse.proofs.DataRuns.{none_so_far, values_on}
 use Rattle.cdl_parse.proofs.RunSteps.{fewer, goes_on, stops}
 use Rattle.cdl_parse.proofs.data_section.read_data.Goals as goal

@@ -3,10 +3,10 @@ use Rattle.std.specs.Prelude.{◌^◌}
 use Rattle.nc_base.specs.declared.header.Var.{Var}
 use Rattle.cdl_text.specs.Cutters.{pieces_left, text_of, version_of}
 use Rattle.cdl_text.specs.declared.section.Section.TheVariants.{Values}
-use Rattle.cdl_parse.specs.Listed.{fresh}
-use Rattle.cdl_parse.specs.Meant.{Suit, names_of}
-use Rattle.cdl_parse.specs.NameIndices.{IsIndex}
-use Rattle.cdl_parse.specs.State.{State}
+use Rattle.cdl_meaning.specs.State.{State}
+use Rattle.cdl_values.specs.Listed.{fresh}
+use Rattle.cdl_values.specs.Meant.{Suit, names_of}
+use Rattle.cdl_values.specs.NameIndices.{IsIndex}
 use Rattle.cdl_parse.proofs.DataRuns.{SoFar}
 use Rattle.cdl_parse.proofs.data_section.read_data.Given as goal
 

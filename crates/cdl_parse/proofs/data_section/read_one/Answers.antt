@@ -1,8 +1,8 @@
 use Rattle.std.proofs.Common.{◌≡◌, ℕ, List, false, sym, ap, ◌∙◌, subst}
 use Rattle.cdl_text.specs.Cutters.{version_of, words}
+use Rattle.cdl_values.specs.Meant.{Suit, begins_brace, names_of}
+use Rattle.cdl_values.specs.declared.data.Target.{Target}
 use Rattle.cdl_parse.specs.DataSections.{StandsSo, given_at}
-use Rattle.cdl_parse.specs.Meant.{Suit, begins_brace, names_of}
-use Rattle.cdl_parse.specs.declared.data.Target.{Target}
 use Rattle.cdl_parse.proofs.DataStatements.{closed, takes}
 use Rattle.cdl_parse.proofs.data_section.read_one.Goals as goal
 

@@ -4,8 +4,8 @@ use Rattle.cdl_text.specs.DueTokens.{completes}
 use Rattle.cdl_text.specs.Lexemes.{lexeme}
 use Rattle.cdl_text.specs.Views.{lexeme_of}
 use Rattle.cdl_text.specs.declared.due.Due.TheVariants.{VariableName}
-use Rattle.cdl_parse.specs.AttributeRead.{Leaves}
-use Rattle.cdl_parse.specs.State.{type_of}
+use Rattle.cdl_meaning.specs.State.{type_of}
+use Rattle.cdl_values.specs.Answers.{Leaves}
 use Rattle.cdl_parse.proofs.DeclarationReads.{goes_on, typed}
 use Rattle.cdl_parse.proofs.declaration.read_declaration.Goals as goal
 

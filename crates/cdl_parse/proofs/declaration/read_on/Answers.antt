@@ -1,12 +1,12 @@
 use Rattle.std.proofs.Common.{rules, ◌≡◌, ◌++◌, ◌∷◌, [], true, sym, subst}
 use Rattle.cdl_text.specs.Views.{lexeme_of}
-use Rattle.cdl_parse.specs.Answers.{Continues}
 use Rattle.cdl_text.specs.Contents.{declaration_said}
+use Rattle.cdl_values.specs.Answers.{Continues}
+use Rattle.cdl_values.proofs.PackedTokens.{no_mark}
 use Rattle.cdl_parse.specs.Declarations.{read_on}
 use Rattle.cdl_parse.specs.Drafts.{draft}
 use Rattle.cdl_parse.specs.declared.declaration.Begun.{Begun}
 use Rattle.cdl_parse.proofs.DeclarationReads.{dimension_on, next_variable}
-use Rattle.cdl_parse.proofs.PackedTokens.{no_mark}
 use Rattle.cdl_parse.proofs.declaration.read_on.Goals as goal
 
 pub returns-in_default-clause-reads : goal.returns-in_default-clause-reads

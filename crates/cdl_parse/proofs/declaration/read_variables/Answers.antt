@@ -3,7 +3,7 @@ use Rattle.cdl_text.specs.Cutters.{next_token, text_of, words}
 use Rattle.cdl_text.specs.Lexemes.{lexeme}
 use Rattle.cdl_text.specs.Views.{lexeme_of}
 use Rattle.cdl_text.proofs.Surveys.{first_word, going}
-use Rattle.cdl_parse.specs.AttributeRead.{Leaves}
+use Rattle.cdl_values.specs.Answers.{Leaves}
 use Rattle.cdl_parse.specs.Declarations.{added}
 use Rattle.cdl_parse.proofs.DeclarationReads.{all_read, begins_name, goes_name}
 use Rattle.cdl_parse.proofs.declaration.read_variables.Goals as goal

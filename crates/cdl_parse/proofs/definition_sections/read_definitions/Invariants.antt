@@ -1,8 +1,8 @@
 use Rattle.std.proofs.Common.{◌≡◌, length}
 use Rattle.cdl_text.specs.Cutters.{pieces_left, text_of, version_of}
+use Rattle.cdl_meaning.specs.Meaning.{empty, run}
+use Rattle.cdl_values.specs.Listed.{AreShaped}
 use Rattle.cdl_parse.specs.Defined.{state_of}
-use Rattle.cdl_parse.specs.Listed.{AreShaped}
-use Rattle.cdl_parse.specs.Meaning.{empty, run}
 use Rattle.cdl_parse.proofs.definition_sections.read_definitions.Given as goal
 
 abbrev pub invariant-statements : goal.invariant-statements

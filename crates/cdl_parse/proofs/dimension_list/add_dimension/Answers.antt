@@ -5,9 +5,9 @@ use Rattle.cdl_text.specs.Contents.{dimension_said}
 use Rattle.cdl_text.specs.Lexemes.{word_value}
 use Rattle.cdl_text.specs.Views.{lexeme_of}
 use Rattle.cdl_text.specs.declared.fault.CdlKind.{CdlKind}
-use Rattle.cdl_parse.specs.Answers.{Fails}
+use Rattle.cdl_meaning.specs.State.{add_dim, dim_len_of, ◌>>=◌}
+use Rattle.cdl_values.specs.Answers.{Fails}
 use Rattle.cdl_parse.specs.DimensionLengths.{named}
-use Rattle.cdl_parse.specs.State.{add_dim, dim_len_of, ◌>>=◌}
 use Rattle.cdl_parse.proofs.AttributeReads.{fails_then, refused}
 use Rattle.cdl_parse.proofs.DimensionReads.{is_new, leaves_as, name_first, with_len}
 use Rattle.cdl_parse.proofs.dimension_list.add_dimension.Goals as goal

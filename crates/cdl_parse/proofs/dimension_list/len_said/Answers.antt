@@ -3,7 +3,7 @@ use Rattle.std.specs.Prelude.{None, Some, if◌then◌else◌}
 use Rattle.cdl_text.specs.Contents.{is_unlimited, parts_or_zero}
 use Rattle.cdl_text.specs.Numerals.{number, parts}
 use Rattle.cdl_text.specs.Views.{lexeme_of}
-use Rattle.cdl_parse.specs.State.{dim_len_of}
+use Rattle.cdl_meaning.specs.State.{dim_len_of}
 use Rattle.cdl_parse.proofs.dimension_list.len_said.Goals as goal
 
 pub returns-then-is_unlimited : goal.returns-then-is_unlimited

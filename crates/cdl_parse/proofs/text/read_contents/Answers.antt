@@ -1,10 +1,10 @@
 use Rattle.std.proofs.Common.{rules, ◌≡◌, ◌<◌, length, refl, ap, sym, ◌∙◌, subst}
 use Rattle.std.specs.Prelude.{◌^◌}
 use Rattle.cdl_text.specs.Cutters.{pieces_left, text_of, version_of}
+use Rattle.cdl_meaning.specs.Meaning.{empty, run}
+use Rattle.cdl_meaning.specs.State.{State}
+use Rattle.cdl_values.specs.Listed.{AllList, AreShaped, fresh}
 use Rattle.cdl_parse.specs.Defined.{state_of}
-use Rattle.cdl_parse.specs.Listed.{AllList, AreShaped, fresh}
-use Rattle.cdl_parse.specs.Meaning.{empty, run}
-use Rattle.cdl_parse.specs.State.{State}
 use Rattle.cdl_parse.proofs.WholeTexts.{listed_shapes, same_end, same_run}
 use Rattle.cdl_parse.proofs.text.read_contents.Goals as goal
 

@@ -1,7 +1,7 @@
 use Rattle.std.proofs.Common.{rules, ◌<◌, length, sym, subst}
 use Rattle.cdl_text.specs.Cutters.{pieces_left, text_of, version_of}
 use Rattle.cdl_text.specs.Statements.{statements}
-use Rattle.cdl_parse.specs.Meaning.{closing_line, empty, run}
+use Rattle.cdl_meaning.specs.Meaning.{closing_line, empty, run}
 use Rattle.std.specs.Prelude.{◌^◌}
 use Rattle.cdl_parse.specs.Runs.{FailsAt}
 use Rattle.cdl_parse.proofs.WholeTexts.{run_fails, same_fault}

@@ -1,8 +1,8 @@
 use Rattle.std.proofs.Common.{◌≡◌, length, true, false}
 use Rattle.cdl_text.specs.Cutters.{is_done, pieces_left, text_of, version_of}
+use Rattle.cdl_meaning.specs.Meaning.{run}
+use Rattle.cdl_meaning.specs.State.{State}
 use Rattle.cdl_parse.specs.Defined.{is_past}
-use Rattle.cdl_parse.specs.Meaning.{run}
-use Rattle.cdl_parse.specs.State.{State}
 use Rattle.cdl_parse.proofs.text_end.read_end.Given as goal
 
 abbrev pub invariant-statements : goal.invariant-statements

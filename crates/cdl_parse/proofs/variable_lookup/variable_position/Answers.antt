@@ -1,8 +1,8 @@
 use Rattle.std.proofs.Common.{rules, ◌≡◌, true, false, sym, ap, ◌∙◌}
 use Rattle.nc_base.specs.Names.{is_name}
 use Rattle.cdl_text.specs.Lexemes.{word_value}
-use Rattle.cdl_parse.specs.Meant.{names_of}
-use Rattle.cdl_parse.specs.NameIndices.{position_of}
+use Rattle.cdl_values.specs.Meant.{names_of}
+use Rattle.cdl_values.specs.NameIndices.{position_of}
 use Rattle.cdl_parse.proofs.VariableNames.{changed, no_name, unknown, within}
 use Rattle.cdl_parse.proofs.variable_lookup.variable_position.Goals as goal
 

@@ -1,7 +1,7 @@
 use Rattle.std.proofs.Common.{rules, ◌≡◌, ◌++◌, ◌∷◌, [], map, sym, ap, ◌∙◌, length, List}
 use Rattle.std.specs.Prelude.{◌||◌, ◌==◌, None}
 use Rattle.nc_base.specs.declared.header.Dim.{Dim}
-use Rattle.cdl_parse.specs.NameIndices.{position_of}
+use Rattle.cdl_values.specs.NameIndices.{position_of}
 use Rattle.cdl_parse.proofs.DimensionPositions.{has_record_more, index_more, names_length}
 use Rattle.cdl_parse.proofs.NameSets.{where_ok}
 use Rattle.cdl_parse.proofs.dimensions.Dimensions.add.Goals as goal

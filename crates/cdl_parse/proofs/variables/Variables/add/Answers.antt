@@ -1,7 +1,7 @@
 use Rattle.std.proofs.Common.{rules, ◌≡◌, ◌++◌, ◌∷◌, [], ◌-◌, ◌∙◌, sym, ap, length, take, false, subst}
+use Rattle.cdl_values.specs.Meant.{names_of}
+use Rattle.cdl_values.specs.NameIndices.{IsIndex}
 use Rattle.cdl_parse.specs.Drafts.{drafts_of, is_taken}
-use Rattle.cdl_parse.specs.Meant.{names_of}
-use Rattle.cdl_parse.specs.NameIndices.{IsIndex}
 use Rattle.cdl_parse.specs.declared.variables.Variable.{Variable}
 use Rattle.cdl_parse.proofs.DraftNames.{indexed, where_refused, without_last}
 use Rattle.cdl_parse.proofs.variables.Variables.add.Goals as goal

@@ -1,7 +1,7 @@
 use Rattle.std.proofs.Common.{◌∙◌, ap, sym}
 use Rattle.std.specs.Prelude.{is_some}
+use Rattle.cdl_values.specs.Meant.{names_of}
 use Rattle.cdl_parse.specs.Drafts.{drafts_of, is_taken}
-use Rattle.cdl_parse.specs.Meant.{names_of}
 use Rattle.cdl_parse.proofs.DraftNames.{taken_is}
 use Rattle.cdl_parse.proofs.variables.Variables.has_name.Goals as goal
 

@@ -5,11 +5,12 @@ use Rattle.cdl_text.specs.DueTokens.{completes}
 use Rattle.cdl_text.specs.Lexemes.{lexeme, word_value}
 use Rattle.cdl_text.specs.Views.{lexeme_of}
 use Rattle.cdl_text.specs.declared.due.Due.TheVariants.{AttributeName}
-use Rattle.cdl_parse.specs.AttributeRead.{Leaves, constants_said}
+use Rattle.cdl_meaning.specs.State.{at_variable, with_att}
+use Rattle.cdl_values.specs.Answers.{Leaves}
+use Rattle.cdl_values.specs.Meant.{name_first}
+use Rattle.cdl_values.specs.NameIndices.{IsIndex}
+use Rattle.cdl_parse.specs.AttributeRead.{constants_said}
 use Rattle.cdl_parse.specs.Drafts.{draft_of, drafts_of}
-use Rattle.cdl_parse.specs.Meant.{name_first}
-use Rattle.cdl_parse.specs.NameIndices.{IsIndex}
-use Rattle.cdl_parse.specs.State.{at_variable, with_att}
 use Rattle.cdl_parse.specs.VariablePositions.{at_position}
 use Rattle.cdl_parse.proofs.VariableAttributes.{changed_at, name_is, names_kept, past_colon, past_name, unchanged_at, with_atts}
 use Rattle.cdl_parse.proofs.variables.Variables.read_attribute.Goals as goal

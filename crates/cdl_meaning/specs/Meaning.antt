@@ -1,0 +1,112 @@
+-- What a text means: a dataset, or its first fault with its line.
+use Rattle.std.specs.Prelude.{ℕ, ◌+◌, ◌-◌, ◌*◌, ◌/◌, nat_le, max, Bool, ◌&&◌, if◌then◌else◌, ℤ, List, [], ◌∷◌, length, map, Option, None, Some, Result, Ok, Err}
+use Rattle.std.specs.List.{flat_map, list_all}
+use Rattle.nc_base.specs.declared.dataset.Dataset.{Dataset}
+use Rattle.nc_base.specs.declared.header.Dim.{Dim}
+use Rattle.nc_base.specs.declared.header.Header.{Header}
+use Rattle.nc_base.specs.declared.header.NumRecs.TheVariants.{Known}
+use Rattle.nc_base.specs.declared.version.Version.{Version}
+use Rattle.nc_base.specs.Fill.{fill_value}
+use Rattle.nc_base.specs.Headers.{value_count}
+use Rattle.nc_base.specs.Numbers.{bytes_of_number}
+use Rattle.nc_base.specs.Sizes.{is_record_var, slab_count, slab_size, record_size, slab_limit, array_limit, record_limit}
+use Rattle.nc_base.specs.Types.{size_of}
+use Rattle.cdl_text.specs.Lexemes.{Lexeme, lexeme}
+use Rattle.cdl_text.specs.Shapes.{Statement, shape, first_bad}
+use Rattle.cdl_text.specs.Statements.{statements}
+use Rattle.cdl_text.specs.declared.fault.CdlFault.{CdlFault}
+use Rattle.cdl_text.specs.declared.fault.CdlKind.{CdlKind}
+use Rattle.cdl_text.specs.declared.fault.CdlKind.TheVariants.{Syntax, TooLarge}
+use Rattle.cdl_text.specs.declared.section.Section.TheVariants.{Unopened}
+use Rattle.cdl_text.specs.declared.token.Token.{Token}
+use Rattle.cdl_meaning.specs.State.{State, Draft, act, filled}
+
+-- the longest text, in bytes
+abbrev pub text_limit : ℕ
+text_limit = 268435456
+
+-- ---- statements
+
+-- a fault of syntax comes before those of meaning
+abbrev pub shaped : Version → State → Option Statement → Result State CdlKind
+shaped v s None = Err Syntax
+shaped v s (Some statement) = act v s statement
+
+-- a bad token or a bad number comes before a fault of syntax
+abbrev pub checked : Version → State → Option CdlKind → List Lexeme → Result State CdlKind
+checked v s (Some bad) piece = Err bad
+checked v s None piece = shaped v s (shape v s.section piece)
+
+-- what a piece makes of the state
+unfoldable pub piece_read : Version → State → List Lexeme → Result State CdlKind
+piece_read v s piece = checked v s (first_bad v piece) piece
+
+-- the line of its first token
+abbrev pub line_of : List Token → ℕ
+line_of [] = 0
+line_of (t ∷ ts) = t.line
+
+-- the first bad statement decides
+unfoldable pub run : List ℕ → Version → State → List (List Token) → Result State CdlFault
+run text v s [] = Ok s
+run text v s (p ∷ ps) =
+    elim (piece_read v s (map (lexeme text) p)) [
+      | Ok t ↦ run text v t ps
+      | Err kind ↦ Err (record { line = line_of p; kind = kind })
+    ]
+
+abbrev pub empty : State
+empty = record { section = Unopened; dims = []; gatts = []; drafts = [] }
+
+-- ---- arrays
+
+abbrev pub values_of : Draft → List ℤ
+values_of d = elim d.listed [ None ↦ [] | Some values ↦ values ]
+
+-- how many records hold the values of a variable
+abbrev pub records_of : List Dim → Draft → ℕ
+records_of dims d =
+    if is_record_var dims d.var then (length (values_of d) + slab_count dims d.var - 1) / slab_count dims d.var else 0
+
+-- how many hold those of all
+abbrev pub records_in : List Dim → List Draft → ℕ
+records_in dims [] = 0
+records_in dims (d ∷ ds) = max (records_of dims d) (records_in dims ds)
+
+-- the array of a variable over n records: its values, and the fill value where there is none
+abbrev pub array_of : List Dim → ℕ → Draft → List ℕ
+array_of dims n d = flat_map (bytes_of_number d.var.ty) (filled (value_count dims d.var n) (fill_value d.var) (values_of d))
+
+abbrev pub header_of : Version → State → Header
+header_of v s = record {
+  version = v;
+  numrecs = Known (records_in s.dims s.drafts);
+  dims = s.dims;
+  gatts = s.gatts;
+  vars = map (λ (d : Draft). d.var) s.drafts;
+}
+
+abbrev pub dataset_of : Version → State → Dataset
+dataset_of v s = record { header = header_of v s; arrays = map (array_of s.dims (records_in s.dims s.drafts)) s.drafts }
+
+-- the slab and the array of a variable over n records keep their limits
+abbrev pub is_small : List Dim → ℕ → Draft → Bool
+is_small dims n d = nat_le (slab_size dims d.var) slab_limit && nat_le (value_count dims d.var n * size_of d.var.ty) array_limit
+
+-- the slabs, the arrays and the record keep their limits
+unfoldable pub is_small_enough : Version → State → Bool
+is_small_enough v s = list_all (is_small s.dims (records_in s.dims s.drafts)) s.drafts && nat_le (record_size (header_of v s)) record_limit
+
+-- the line of the last piece but one, which is the closing brace
+abbrev pub closing_line : List (List Token) → ℕ
+closing_line [] = 0
+closing_line (p ∷ []) = 0
+closing_line (p ∷ q ∷ []) = line_of p
+closing_line (p ∷ q ∷ r ∷ ps) = closing_line (q ∷ r ∷ ps)
+
+unfoldable pub finished : Version → ℕ → Result State CdlFault → Result Dataset CdlFault
+finished v line (Err fault) = Err fault
+finished v line (Ok s) = if is_small_enough v s then Ok (dataset_of v s) else Err (record { line = line; kind = TooLarge })
+
+abbrev pub meaning : List ℕ → Version → Result Dataset CdlFault
+meaning text v = finished v (closing_line (statements text)) (run text v empty (statements text))

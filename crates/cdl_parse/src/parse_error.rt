@@ -1,0 +1,29 @@
+//! Why the calls that read several statements give up.
+
+ghost use Rattle.std.specs.Prelude.{◌≡◌};
+
+use cdl_text::CdlFault;
+use cdl_values::ReadError;
+
+/// Why a call that reads several statements gives up.
+#[derive(Clone, Copy, Debug, PartialEq, Eq)]
+pub enum ParseError {
+    /// A growth of memory was refused; nothing is said of the text.
+    OutOfMemory,
+    /// The first bad statement has this fault.
+    Fault(CdlFault),
+}
+
+impl ParseError {
+    ghost use Rattle.cdl_parse.specs.Runs.{at_line};
+
+    /// That of a statement that begins on this line.
+    pub fn at_line(line: u64, error: ReadError) -> ParseError
+        ensures { result ≡ at_line line error }
+    {
+        match error {
+            ReadError::OutOfMemory => ParseError::OutOfMemory,
+            ReadError::Fault(kind) => ParseError::Fault(CdlFault { line, kind }),
+        }
+    }
+}

@@ -1,0 +1,149 @@
+-- The bytes of an attribute's constants.
+use Rattle.std.proofs.Common.{◌≡◌, ℕ, zero, suc, ◌+◌, ◌*◌, ◌-◌, ◌<◌, Bool, true, false, List, [], ◌∷◌, ◌++◌, length, take, drop, refl, sym, ap, ◌∙◌, arith}
+use Rattle.std.specs.Prelude.{Option, None, Some, Result, Ok, Err, ⊤, nat_lt, ◌==◌, slice_index, if◌then◌else◌}
+use Rattle.nc_base.specs.Numbers.{bytes_of_number}
+use Rattle.nc_base.specs.declared.nc_type.NcType.{NcType}
+use Rattle.nc_base.specs.declared.nc_type.NcType.TheVariants.{Char}
+use Rattle.nc_base.specs.declared.version.Version.{Version}
+use Rattle.cdl_text.specs.Contents.{value_of, values}
+use Rattle.cdl_text.specs.Lexemes.{Lexeme}
+use Rattle.cdl_text.specs.declared.token.TokenKind.{TokenKind}
+use Rattle.cdl_text.specs.declared.token.TokenKind.TheVariants as kinds
+use Rattle.std.specs.List.{prefix_len}
+use Rattle.cdl_text.specs.Bytes.{is_octal, is_hex}
+use Rattle.cdl_text.specs.Escapes.{character, escape, octal_escape, octal_number, hex_escape, byte, plain_escape, or_zero, digit, stands, stands_at}
+use Rattle.cdl_text.specs.declared.scan.Character.{Character}
+use Rattle.cdl_text.specs.Magnitudes.{word, held}
+use Rattle.cdl_text.specs.declared.numeral.Numeral.{Numeral as Held}
+use Rattle.cdl_text.specs.Numerals.{Parts, number}
+use Rattle.cdl_text.specs.Shapes.{Value, Number, Characters, inner}
+use Rattle.cdl_text.specs.declared.fault.CdlKind.{CdlKind}
+use Rattle.cdl_text.specs.declared.fault.CdlKind.TheVariants.{NumberRange}
+use Rattle.cdl_meaning.specs.State.{add_constant, fits, in_turn, same_type, type_said, unless, ◌>>=◌}
+use Rattle.cdl_values.specs.Answers.{Adds, Continues, Leaves}
+use Rattle.cdl_values.specs.PackedValues.{char_bytes, held_bytes, joined, number_bytes, text_bytes}
+use Rattle.cdl_values.specs.declared.read_error.ReadError.{ReadError}
+use Rattle.cdl_values.specs.declared.read_error.ReadError.TheVariants.{OutOfMemory, Fault}
+use Rattle.cdl_values.proofs.PackedTokens.{one_char}
+use Rattle.cdl_values.proofs.Ranges.{held_is}
+
+-- ---- one constant, and those after it
+
+pub turn_on : {S A : Type 0} (f : S → A → Result S CdlKind) (s t : S) (x : A) (xs : List A) (r : Result ⊤ ReadError) → Leaves t r (f s x) → Continues (λ u. in_turn f t xs) r (in_turn f s (x ∷ xs))
+turn_on {S = S} f s t x xs (Ok u) h = ap (λ (r : Result S CdlKind). elim r as (λ _. Result S CdlKind) [ Ok w ↦ in_turn f w xs | Err e ↦ Err e ]) h
+turn_on f s t x xs (Err OutOfMemory) h = tt
+turn_on {S = S} f s t x xs (Err (Fault k)) h = ap (λ (r : Result S CdlKind). elim r as (λ _. Result S CdlKind) [ Ok w ↦ in_turn f w xs | Err e ↦ Err e ]) h
+
+pub none_left : (f : List ℕ → Value → Result (List ℕ) CdlKind) (bytes : List ℕ) (v : Version) → in_turn f bytes (values v []) ≡ Ok bytes
+unfolding values
+none_left f bytes v = refl
+
+-- ---- numbers
+
+range_first : (ty : NcType) (before : List ℕ) (p : Parts) →
+    (unless (fits ty (number p).value) NumberRange >>= (λ u. Ok (before ++ bytes_of_number ty (number p).value))) ≡ joined (Ok before) (number_bytes ty (number p).value)
+range_first ty before p = by (fits ty (number p).value)
+  where
+    by : (b : Bool) → (unless b NumberRange >>= (λ u. Ok (before ++ bytes_of_number ty (number p).value))) ≡ joined (Ok before) (if b then Ok (bytes_of_number ty (number p).value) else Err NumberRange)
+    by true = refl
+    by false = refl
+
+pub number_of_type : (ty : NcType) (before : List ℕ) (p : Parts) → same_type p.ty ty ≡ true → add_constant ty before (Number (number p)) ≡ joined (Ok before) (held_bytes ty p.minus (word p.magnitude))
+number_of_type ty before p same = rw (same) (range_first ty before p ∙ ap (joined (Ok before)) (held_is ty p))
+
+joined_left : (before after : List ℕ) (r : Result ⊤ ReadError) (bytes read : Result (List ℕ) CdlKind) → read ≡ joined (Ok before) bytes → Adds before after r bytes → Leaves after r read
+joined_left before after (Ok u) bytes read is h = is ∙ h
+joined_left before after (Err OutOfMemory) bytes read is h = tt
+joined_left before after (Err (Fault k)) bytes read is h = is ∙ ap (joined (Ok before)) h
+
+pub number_left : (ty : NcType) (before after : List ℕ) (p : Parts) (n : Held) (r : Result ⊤ ReadError) → n ≡ held p → same_type n.ty ty ≡ true →
+    Adds before after r (held_bytes ty n.minus n.magnitude) → Leaves after r (add_constant ty before (Number (number p)))
+number_left ty before after p n r is same h =
+    joined_left before after r (held_bytes ty n.minus n.magnitude) (add_constant ty before (Number (number p)))
+    (number_of_type ty before p (ap (λ (m : Held). same_type m.ty ty) (sym is) ∙ same) ∙ ap (λ (m : Held). joined (Ok before) (held_bytes ty m.minus m.magnitude)) (sym is)) h
+
+-- a token that is no number says characters, if anything
+pub no_number : (v : Version) (l : Lexeme) (kind : TokenKind) → (kind ≡ kinds.Number → ⊥) → type_said (value_of v l kind) ≡ Char
+unfolding value_of
+no_number v l kinds.Opening h = refl
+no_number v l kinds.Word h = refl
+no_number v l kinds.Number h = absurd (h refl)
+no_number v l kinds.Text h = refl
+no_number v l kinds.Mark h = refl
+no_number v l kinds.Bad h = refl
+no_number v l kinds.End h = refl
+
+-- ---- the characters of a string are bytes
+
+small_byte : (n : ℕ) → or_zero (byte n) < 256
+small_byte n = by (nat_lt 255 n) refl
+  where
+    by : (b : Bool) → b ≡ nat_lt 255 n → or_zero (if b then None else Some n) < 256
+    by true is = omega arith
+    by false is = grind (arith, is)
+
+plain_small : (b : ℕ) → b < 256 → plain_escape b < 256
+plain_small b h = grind (arith, h)
+
+abbrev pub AreBytes : List ℕ → Type 0
+AreBytes bs = (k : ℕ) → slice_index bs k < 256
+
+after_first : (b : ℕ) (bs : List ℕ) → AreBytes (b ∷ bs) → AreBytes bs
+after_first b bs h = λ k. h (suc k)
+
+without_first : (bs : List ℕ) → AreBytes bs → AreBytes (drop 1 bs)
+without_first [] h = h
+without_first (b ∷ bs) h = after_first b bs h
+
+first_ones : (n : ℕ) (bs : List ℕ) → AreBytes bs → AreBytes (take n bs)
+first_ones zero bs h = λ k. omega arith
+first_ones (suc n) [] h = h
+first_ones (suc n) (b ∷ bs) h = by (first_ones n bs (after_first b bs h))
+  where
+    by : AreBytes (take n bs) → (k : ℕ) → slice_index (b ∷ take n bs) k < 256
+    by rest zero = h 0
+    by rest (suc k) = rest k
+
+abbrev value_in : Character → Option ℕ
+value_in c = c.value
+
+hex_small : (bs : List ℕ) (n : ℕ) → or_zero (hex_escape bs n).value < 256
+hex_small bs n = by (n == 0) (n == 1)
+  where
+    by : (none one : Bool) → or_zero (value_in (if none then record { value = None; len = 2 } else (if one then record { value = byte (digit (slice_index bs 0)); len = 3 } else record { value = byte (16 * digit (slice_index bs 0) + digit (slice_index bs 1)); len = 4 }))) < 256
+    by true one = omega arith
+    by false true = small_byte (digit (slice_index bs 0))
+    by false false = small_byte (16 * digit (slice_index bs 0) + digit (slice_index bs 1))
+
+escape_small : (bs : List ℕ) → AreBytes bs → or_zero (escape bs).value < 256
+escape_small bs h = by (is_octal (slice_index bs 0)) (slice_index bs 0 == 0x78)
+  where
+    by : (octal hex : Bool) → or_zero (value_in (if octal then octal_escape bs (prefix_len is_octal (take 3 bs)) else (if hex then hex_escape (drop 1 bs) (prefix_len is_hex (take 2 (drop 1 bs))) else record { value = Some (plain_escape (slice_index bs 0)); len = 2 }))) < 256
+    by true hex = small_byte (octal_number bs (prefix_len is_octal (take 3 bs)))
+    by false true = hex_small (drop 1 bs) (prefix_len is_hex (take 2 (drop 1 bs)))
+    by false false = plain_small (slice_index bs 0) (h 0)
+
+character_small : (bs : List ℕ) → AreBytes bs → or_zero (character bs).value < 256
+unfolding character
+character_small bs h = by (slice_index bs 0 == 0x5c)
+  where
+    by : (escaped : Bool) → or_zero (value_in (if escaped then escape (drop 1 bs) else record { value = Some (slice_index bs 0); len = 1 })) < 256
+    by true = escape_small (drop 1 bs) (without_first bs h)
+    by false = h 0
+
+stand_at : (more : ℕ) (bs : List ℕ) → AreBytes bs → char_bytes (stands_at more bs) ≡ stands_at more bs
+unfolding stands_at
+stand_at more [] h = refl
+stand_at (suc more) (b ∷ bs) h = stand_at more bs (after_first b bs h)
+stand_at zero (b ∷ bs) h =
+    let v = or_zero (character (b ∷ bs)).value in
+    let rest = stands_at ((character (b ∷ bs)).len - 1) bs in
+    one_char v rest (character_small (b ∷ bs) h) ∙ ap (λ xs. v ∷ xs) (stand_at ((character (b ∷ bs)).len - 1) bs (after_first b bs h))
+
+pub stand : (bytes : List ℕ) → AreBytes bytes → char_bytes (stands (inner bytes)) ≡ stands (inner bytes)
+stand bytes h = stand_at 0 (inner bytes) (first_ones (length bytes - 2) (drop 1 bytes) (without_first bytes h))
+
+pub characters_left : (ty : NcType) (before after bytes : List ℕ) (r : Result ⊤ ReadError) → same_type Char ty ≡ true → AreBytes bytes →
+    Adds before after r (text_bytes None (Characters (stands (inner bytes)))) → Leaves after r (add_constant ty before (Characters (stands (inner bytes))))
+characters_left ty before after bytes r same small h =
+    joined_left before after r (Ok (char_bytes (stands (inner bytes)))) (add_constant ty before (Characters (stands (inner bytes)))) (rw (same) (ap (λ bs. Ok (before ++ bs)) (sym (stand bytes small)))) h

@@ -1,0 +1,118 @@
+-- What a statement of the data section means, case by case.
+use Rattle.std.proofs.Common.{◌≡◌, ℕ, true, false, List, [], ◌∷◌, refl, sym, ap, ◌∙◌, Bool}
+use Rattle.std.specs.Prelude.{None, Some, Result, Ok, Err, ◌&&◌, ◌==◌, not, slice_index, if◌then◌else◌}
+use Rattle.std.proofs.lemmas.Bool.{false≢true}
+use Rattle.nc_base.specs.declared.version.Version.{Version}
+use Rattle.cdl_text.specs.Lexemes.{Lexeme, word_value, is_mark, is_word_kind, is_mark_kind}
+use Rattle.cdl_text.specs.Shapes.{first_bad, token_fault}
+use Rattle.cdl_text.specs.DueTokens.{completes, next, is_name, only, is_whole}
+use Rattle.nc_base.specs.Escapes.{is_reserved}
+use Rattle.cdl_text.proofs.Listing.{only_completes}
+use Rattle.cdl_text.specs.Contents.{values}
+use Rattle.cdl_text.specs.declared.due.Due.{Due}
+use Rattle.cdl_text.specs.declared.due.Due.TheVariants.{DataName, Equals, Value}
+use Rattle.cdl_text.specs.declared.fault.CdlKind.{CdlKind}
+use Rattle.cdl_text.specs.declared.fault.CdlKind.TheVariants.{Syntax}
+use Rattle.cdl_text.proofs.Surveys.{good_on}
+use Rattle.cdl_text.specs.declared.token.TokenKind.{TokenKind}
+use Rattle.cdl_text.specs.declared.token.TokenKind.TheVariants as kinds
+use Rattle.cdl_values.specs.PackedValues.{packed}
+use Rattle.cdl_values.specs.Answers.{Fails}
+use Rattle.cdl_values.specs.DataRead.{data_read, assigned, filled, target_of}
+use Rattle.cdl_values.specs.declared.data.Target.{Target}
+use Rattle.cdl_values.specs.declared.read_error.ReadError.{ReadError}
+use Rattle.cdl_values.specs.declared.read_error.ReadError.TheVariants.{OutOfMemory, Fault}
+
+pub bad_read : (version : Version) (names : List (List ℕ)) (targets : List Target) (ws : List Lexeme) (k : CdlKind) → first_bad version ws ≡ Some k → data_read version names targets ws ≡ Err k
+unfolding data_read
+bad_read version names targets ws k bad = rw (bad) refl
+
+pub unshaped_read : (version : Version) (names : List (List ℕ)) (targets : List Target) (ws : List Lexeme) → first_bad version ws ≡ None → completes DataName ws ≡ false → data_read version names targets ws ≡ Err Syntax
+unfolding data_read
+unshaped_read version names targets ws bad off = rw (bad) (rw (off) refl)
+
+good_read : (version : Version) (names : List (List ℕ)) (targets : List Target) (ws : List Lexeme) → first_bad version ws ≡ None → completes DataName ws ≡ true → data_read version names targets ws ≡ assigned version names targets ws
+unfolding data_read
+good_read version names targets ws bad on = rw (bad) (rw (on) refl)
+
+and_right : (a b : Bool) → (a && b) ≡ true → b ≡ true
+and_right true b h = h
+and_right false b h = cc
+
+lone : (b : Bool) (due : Due) → is_whole due ≡ false → completes (only b due) [] ≡ true → ⊥
+unfolding completes
+lone true due h k = false≢true (sym h ∙ k)
+lone false due h k = false≢true k
+
+-- the statement goes on after its name, and after its `=`
+pub name_goes : (l : Lexeme) (ws all : List Lexeme) (ends : Bool) → all ≡ l ∷ (if ends then [] else ws) → completes DataName all ≡ true → ends ≡ false
+unfolding completes next
+name_goes l ws all true is h = absurd (lone (is_name l) (Equals true) refl (sym (ap (completes DataName) is) ∙ h))
+name_goes l ws all false is h = refl
+
+pub name_on : (l : Lexeme) (ws all : List Lexeme) (ends : Bool) → all ≡ l ∷ (if ends then [] else ws) → completes DataName all ≡ true → completes (Equals true) ws ≡ true
+unfolding completes next
+name_on l ws all true is h = absurd (lone (is_name l) (Equals true) refl (sym (ap (completes DataName) is) ∙ h))
+name_on l ws all false is h = and_right (is_name l) (completes (Equals true) ws) (sym (only_completes (is_name l) (Equals true) ws) ∙ sym (ap (completes DataName) is) ∙ h)
+
+pub equals_goes : (l : Lexeme) (ws all : List Lexeme) (ends : Bool) → all ≡ l ∷ (if ends then [] else ws) → completes (Equals true) all ≡ true → ends ≡ false
+unfolding completes next
+equals_goes l ws all true is h = absurd (lone (is_mark 0x3d l) (Value true) refl (sym (ap (completes (Equals true)) is) ∙ h))
+equals_goes l ws all false is h = refl
+
+-- a good statement
+pub read_on : (version : Version) (names : List (List ℕ)) (targets : List Target) (ws es vs : List Lexeme) (n e : Lexeme) (a b : Bool) →
+    ws ≡ n ∷ (if a then [] else es) → es ≡ e ∷ (if b then [] else vs) → first_bad version ws ≡ None → completes DataName ws ≡ true →
+    data_read version names targets ws ≡ filled version vs (target_of names targets (word_value n.bytes))
+read_on version names targets ws es vs n e a b first second bad on =
+    let off : a ≡ false = name_goes n es ws a first on in
+    let last : b ≡ false = equals_goes e vs es b second (name_on n es ws a first on) in
+    let here : ws ≡ n ∷ e ∷ vs = first ∙ rw (off) (rw (second) (rw (last) refl)) in
+    good_read version names targets ws bad on ∙ ap (assigned version names targets) here
+
+pub filled_ok : (version : Version) (vs : List Lexeme) (r : Result Target CdlKind) (t : Target) → r ≡ Ok t → filled version vs r ≡ packed t.filling t.capacity (values version vs)
+filled_ok version vs r t is = rw (is) refl
+
+pub filled_err : (version : Version) (vs : List Lexeme) (r : Result Target CdlKind) (e : ReadError) → Fails e r → Fails e (filled version vs r)
+filled_err version vs r OutOfMemory h = tt
+filled_err version vs r (Fault k) h = rw (h) refl
+
+and_left : (a b : Bool) → (a && b) ≡ true → a ≡ true
+and_left true b h = refl
+and_left false b h = cc
+
+good_word : (version : Version) (l : Lexeme) (k : TokenKind) → is_word_kind k ≡ true → token_fault version k l.bytes ≡ None
+good_word version l kinds.Opening h = cc
+good_word version l kinds.Word h = refl
+good_word version l kinds.Number h = cc
+good_word version l kinds.Text h = cc
+good_word version l kinds.Mark h = cc
+good_word version l kinds.Bad h = cc
+good_word version l kinds.End h = cc
+
+good_mark : (version : Version) (l : Lexeme) (k : TokenKind) → is_mark_kind k ≡ true → token_fault version k l.bytes ≡ None
+good_mark version l kinds.Opening h = cc
+good_mark version l kinds.Word h = cc
+good_mark version l kinds.Number h = cc
+good_mark version l kinds.Text h = cc
+good_mark version l kinds.Mark h = refl
+good_mark version l kinds.Bad h = cc
+good_mark version l kinds.End h = cc
+
+name_good : (version : Version) (l : Lexeme) (ls : List Lexeme) → completes DataName (l ∷ ls) ≡ true → token_fault version l.kind l.bytes ≡ None
+unfolding completes next
+name_good version l ls h = good_word version l l.kind (and_left (is_word_kind l.kind) (not (is_reserved l.bytes)) (and_left (is_name l) (completes (Equals true) ls) (sym (only_completes (is_name l) (Equals true) ls) ∙ h)))
+
+equals_good : (version : Version) (l : Lexeme) (ls : List Lexeme) → completes (Equals true) (l ∷ ls) ≡ true → token_fault version l.kind l.bytes ≡ None
+unfolding completes next
+equals_good version l ls h = good_mark version l l.kind (and_left (is_mark_kind l.kind) (slice_index l.bytes 0 == 0x3d) (and_left (is_mark 0x3d l) (completes (Value true) ls) (sym (only_completes (is_mark 0x3d l) (Value true) ls) ∙ h)))
+
+-- nothing is bad before good values
+pub quick_good : (version : Version) (ws es vs : List Lexeme) (n e : Lexeme) (a b : Bool) →
+    ws ≡ n ∷ (if a then [] else es) → es ≡ e ∷ (if b then [] else vs) → a ≡ false → b ≡ false → completes DataName ws ≡ true → first_bad version vs ≡ None → first_bad version ws ≡ None
+quick_good version ws es vs n e a b first second a-off b-off on good =
+    let one : ws ≡ n ∷ es = first ∙ rw (a-off) refl in
+    let two : es ≡ e ∷ vs = second ∙ rw (b-off) refl in
+    let next = name_on n es ws a first on in
+    ap (first_bad version) one ∙ good_on version n es (name_good version n es (sym (ap (completes DataName) one) ∙ on)) ∙
+    ap (first_bad version) two ∙ good_on version e vs (equals_good version e vs (sym (ap (completes (Equals true)) two) ∙ next)) ∙ good

@@ -1,0 +1,11 @@
+pub mod NamePositions
+pub mod PackedTokens
+pub mod Ranges
+pub mod InRange
+pub mod ConstantBytes
+pub mod Turns
+pub mod Counts
+pub mod DataReads
+pub mod Joins
+pub mod Places
+pub mod Suited

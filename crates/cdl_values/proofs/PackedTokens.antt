@@ -1,0 +1,88 @@
+-- The values of a statement, one token on.
+use Rattle.std.proofs.Common.{◌≡◌, ℕ, suc, ◌<◌, true, false, List, [], ◌∷◌, ◌++◌, refl, sym, ap, ◌∙◌, append_assoc, rules, append-nil, drop, length}
+use Rattle.std.specs.Prelude.{Option, Result, Ok, Err}
+use Rattle.nc_base.specs.declared.nc_type.NcType.TheVariants.{Char}
+use Rattle.std.specs.Prelude.{pos}
+use Rattle.nc_base.specs.declared.version.Version.{Version}
+use Rattle.nc_base.specs.Numbers.{bytes_of_number}
+use Rattle.cdl_text.specs.Lexemes.{Lexeme, is_mark_kind}
+use Rattle.cdl_text.specs.Contents.{values, value_of}
+use Rattle.cdl_text.specs.Shapes.{Value}
+use Rattle.cdl_text.specs.declared.fault.CdlKind.{CdlKind}
+use Rattle.cdl_values.specs.declared.filling.Filling.{Filling}
+use Rattle.cdl_values.specs.PackedValues.{char_bytes, bytes_of, capacity_after, joined, followed_by, packed}
+use Rattle.cdl_values.specs.declared.read_error.ReadError.{ReadError}
+use Rattle.cdl_values.specs.declared.read_error.ReadError.TheVariants.{OutOfMemory, Fault}
+use Rattle.cdl_values.specs.Answers.{Fails}
+use Rattle.std.proofs.Math.Seq.{drop-append_seam}
+use Rattle.cdl_text.specs.declared.token.TokenKind.{TokenKind}
+use Rattle.cdl_text.specs.declared.token.TokenKind.TheVariants as kinds
+
+-- what stands before a fault is given up
+pub joined_assoc : (bs cs : List ℕ) (r : Result (List ℕ) CdlKind) → joined (Ok bs) (joined (Ok cs) r) ≡ joined (Ok (bs ++ cs)) r
+joined_assoc bs cs (Ok ds) = ap Ok (sym (append_assoc bs cs ds))
+joined_assoc bs cs (Err e) = refl
+
+pub joined_none : (r : Result (List ℕ) CdlKind) → joined (Ok []) r ≡ r
+joined_none (Ok bs) = refl
+joined_none (Err e) = refl
+
+-- over a mark
+pub over_mark : (version : Version) (l : Lexeme) (ls : List Lexeme) → is_mark_kind l.kind ≡ true → values version (l ∷ ls) ≡ values version ls
+unfolding values
+over_mark version l ls mark = rw (mark) refl
+
+pub over_value : (version : Version) (l : Lexeme) (ls : List Lexeme) → is_mark_kind l.kind ≡ false → values version (l ∷ ls) ≡ value_of version l l.kind ∷ values version ls
+unfolding values
+over_value version l ls other = rw (other) refl
+
+-- a value more is packed
+pub one_packed : (filling : Filling) (capacity : Option ℕ) (v : Value) (vs : List Value) (bs cs ds : List ℕ) →
+    bytes_of filling capacity v ≡ Ok ds → cs ≡ bs ++ ds →
+    joined (Ok bs) (packed filling capacity (v ∷ vs)) ≡ joined (Ok cs) (packed filling (capacity_after filling ds capacity) vs)
+unfolding packed
+one_packed filling capacity v vs bs cs ds is e =
+    ap (λ r. joined (Ok bs) (followed_by r (λ bytes. packed filling (capacity_after filling bytes capacity) vs))) is ∙ joined_assoc bs ds (packed filling (capacity_after filling ds capacity) vs) ∙
+    ap (λ xs. joined (Ok xs) (packed filling (capacity_after filling ds capacity) vs)) (sym e)
+
+-- a fault decides
+pub one_wrong : (filling : Filling) (capacity : Option ℕ) (v : Value) (vs : List Value) (e : CdlKind) (bs : List ℕ) →
+    bytes_of filling capacity v ≡ Err e → joined (Ok bs) (packed filling capacity (v ∷ vs)) ≡ Err e
+unfolding packed
+one_wrong filling capacity v vs e bs is = ap (λ r. joined (Ok bs) (followed_by r (λ bytes. packed filling (capacity_after filling bytes capacity) vs))) is
+
+pub none_packed : (filling : Filling) (capacity : Option ℕ) (version : Version) (bs : List ℕ) → joined (Ok bs) (packed filling capacity (values version [])) ≡ Ok bs
+unfolding packed values
+none_packed filling capacity version bs = ap Ok (append-nil bs)
+
+pub no_mark : (kind : TokenKind) → (kind ≡ kinds.Mark → ⊥) → is_mark_kind kind ≡ false
+no_mark kinds.Opening h = refl
+no_mark kinds.Word h = refl
+no_mark kinds.Number h = refl
+no_mark kinds.Text h = refl
+no_mark kinds.Mark h = absurd (h refl)
+no_mark kinds.Bad h = refl
+no_mark kinds.End h = refl
+
+-- a refused value is a refused list
+pub refused : (filling : Filling) (capacity : Option ℕ) (v : Value) (vs : List Value) (e : ReadError) (bs : List ℕ) →
+    Fails e (bytes_of filling capacity v) → Fails e (joined (Ok bs) (packed filling capacity (v ∷ vs)))
+refused filling capacity v vs OutOfMemory bs h = h
+refused filling capacity v vs (Fault k) bs h = one_wrong filling capacity v vs k bs h
+
+-- bytes that were added are after those before
+pub added : (bs cs : List ℕ) (r : Result (List ℕ) CdlKind) → joined (Ok bs) r ≡ Ok cs → r ≡ Ok (drop (length bs) cs)
+added bs cs (Ok ds) is = let e : bs ++ ds ≡ cs = cc in ap Ok (sym (ap (drop (length bs)) (sym e) ∙ drop-append_seam bs ds))
+added bs cs (Err e) is = cc
+
+pub is_after : (bs cs : List ℕ) (r : Result (List ℕ) CdlKind) → joined (Ok bs) r ≡ Ok cs → cs ≡ bs ++ drop (length bs) cs
+is_after bs cs (Ok ds) is = let e : bs ++ ds ≡ cs = cc in sym e ∙ ap (λ xs. bs ++ xs) (sym (ap (drop (length bs)) (sym e) ∙ drop-append_seam bs ds))
+is_after bs cs (Err e) is = cc
+
+-- characters
+pub one_char : (b : ℕ) (bs : List ℕ) → b < 256 → char_bytes (b ∷ bs) ≡ b ∷ char_bytes bs
+one_char b bs h = ap (λ xs. xs ++ char_bytes bs) (let e : bytes_of_number Char (pos b) ≡ b ∷ [] = search rules in e)
+
+pub chars_len : (bs : List ℕ) → length (char_bytes bs) ≡ length bs
+chars_len [] = refl
+chars_len (b ∷ bs) = ap suc (chars_len bs)

@@ -1,0 +1,39 @@
+-- Targets that suit a state's drafts: the premises of the data section's reader can be met.
+use Rattle.std.proofs.Common.{List, [], ◌∷◌, refl, false, arith, rules, ◌<◌, ◌^◌, ◌-◌}
+use Rattle.std.specs.Prelude.{codes, Some, None, pos, neg_ℤ}
+use Rattle.nc_base.specs.Fill.{fill_value}
+use Rattle.nc_base.specs.declared.header.Dim.{Dim}
+use Rattle.nc_base.specs.declared.nc_type.NcType.TheVariants.{Int, Char}
+use Rattle.cdl_meaning.specs.State.{Draft, capacity_of, fits}
+use Rattle.cdl_values.specs.Meant.{Suit}
+use Rattle.cdl_values.specs.declared.data.Target.{Target}
+use Rattle.cdl_values.specs.declared.fill.Fill.{Fill}
+use Rattle.cdl_values.specs.declared.filling.Filling.TheVariants.{Numbers, Joined, Rows}
+
+dims : List Dim
+dims = record { name = codes "n"; len = 2 } ∷ record { name = codes "k"; len = 3 } ∷ record { name = codes "w"; len = 2 ^ 40 } ∷ []
+
+drafts : List Draft
+drafts =
+    record { var = record { name = codes "a"; dimids = 0 ∷ []; atts = []; ty = Int; begin_at = 0 }; listed = None } ∷
+    record { var = record { name = codes "r"; dimids = 0 ∷ 1 ∷ []; atts = []; ty = Char; begin_at = 0 }; listed = None } ∷
+    record { var = record { name = codes "j"; dimids = 1 ∷ []; atts = []; ty = Char; begin_at = 0 }; listed = None } ∷
+    record { var = record { name = codes "b"; dimids = 2 ∷ 2 ∷ []; atts = []; ty = Int; begin_at = 0 }; listed = None } ∷ []
+
+-- the default fill value
+int_fill : Fill
+unfolding fits
+int_fill = record { ty = Int; value = neg_ℤ (pos 2147483647); in_range = search rules }
+
+targets : List Target
+targets =
+    record { filling = Numbers int_fill; capacity = Some 2; given = false } ∷
+    record { filling = Rows 3 0; capacity = Some 2; given = false } ∷ record { filling = Joined; capacity = Some 3; given = false } ∷
+    record { filling = Numbers int_fill; capacity = Some (2 ^ 64 - 1); given = false } ∷ []
+
+suited : Suit dims targets drafts
+unfolding dims drafts int_fill targets capacity_of fill_value
+suited = (
+  record { given = refl; fills = (refl, refl, refl); takes = (refl, 2, refl, refl) },
+  (record { given = refl; fills = (refl, refl, refl, (let e : 0 < 3 = omega arith in e), refl); takes = (refl, 2, refl, refl) }, (record { given = refl; fills = (refl, refl); takes = (refl, 3, refl, refl) }, (record { given = refl; fills = (refl, refl, refl); takes = (refl, 2 ^ 80, refl, refl) }, tt))),
+)

@@ -1,0 +1,12 @@
+use Rattle.std.proofs.Common.{rules, arith, ◌≡◌, ◌<◌, true}
+use Rattle.std.specs.Prelude.{slice_index}
+use Rattle.nc_base.specs.declared.nc_type.NcType.TheVariants.{Char}
+use Rattle.cdl_meaning.specs.State.{same_type}
+use Rattle.cdl_values.proofs.ConstantBytes.{characters_left}
+use Rattle.cdl_values.proofs.constant.put_characters.Goals as goal
+
+pub returns : goal.returns
+returns c =
+    let bytes = c.args.bytes.now in
+    let same : same_type Char c.args.ty ≡ true = search rules in
+    characters_left c.args.ty c.args.vals.now c.put_text.new.array bytes c.put_text.result same (λ k. let small : slice_index bytes k < 256 = omega (arith, c.type_inv.bytes k) in small) c.put_text.ensures

@@ -1,0 +1,15 @@
+use Rattle.std.proofs.Common.{◌≡◌, ◌-◌, [], length, false}
+use Rattle.cdl_text.specs.Contents.{values}
+use Rattle.cdl_text.specs.Cutters.{words, is_done, offset_of, text_of}
+use Rattle.cdl_meaning.specs.State.{add_constant, in_turn}
+use Rattle.cdl_values.proofs.constant.read_constants.Given as goal
+
+abbrev pub invariant-tokens : goal.invariant-tokens
+invariant-tokens l = record {
+  text : text_of l.cutter ≡ text_of l.fn.start;
+  goes : is_done l.cutter ≡ false;
+  rest : in_turn (add_constant l.fn.ty) l.vals (values l.version (words l.cutter)) ≡ in_turn (add_constant l.fn.ty) [] (values l.version (words l.fn.start));
+}
+
+abbrev pub decreases-tokens : goal.decreases-tokens
+decreases-tokens l = length (text_of l.cutter) - offset_of l.cutter

@@ -1,0 +1,14 @@
+use Rattle.std.proofs.Common.{ap, sym, ◌∙◌}
+use Rattle.cdl_text.specs.Contents.{value_of}
+use Rattle.cdl_text.specs.Views.{lexeme_of}
+use Rattle.cdl_text.specs.declared.numeral.Numeral.{Numeral}
+use Rattle.cdl_meaning.specs.State.{type_said}
+use Rattle.cdl_values.proofs.ConstantBytes.{no_number}
+use Rattle.cdl_values.proofs.constant.type_said.Goals as goal
+
+pub returns-in-Number : goal.returns-in-Number
+unfolding value_of
+returns-in-Number c = ap (λ (n : Numeral). n.ty) c.number_or_zero.ensures ∙ ap (λ kind. type_said (value_of c.args.version (lexeme_of c.args.token) kind)) (sym c.in-Number.is)
+
+pub returns-in_default : goal.returns-in_default
+returns-in_default c = sym (no_number c.args.version (lexeme_of c.args.token) c.args.token.kind c.in_default.not-Number)

@@ -1,0 +1,53 @@
+use Rattle.std.proofs.Common.{rules, sym, ap, ◌∙◌, [], Ok}
+use Rattle.cdl_text.specs.Contents.{values}
+use Rattle.cdl_text.specs.Lexemes.{lexeme}
+use Rattle.cdl_text.specs.Shapes.{first_bad}
+use Rattle.cdl_text.specs.DueTokens.{completes}
+use Rattle.cdl_text.specs.Cutters.{next_token, text_of, words}
+use Rattle.cdl_text.specs.Views.{lexeme_of}
+use Rattle.cdl_text.proofs.Surveys.{going, ending, good_on, good_end}
+use Rattle.cdl_values.specs.PackedValues.{packed, joined}
+use Rattle.cdl_values.proofs.PackedTokens.{none_packed}
+use Rattle.cdl_values.proofs.packing.pack_good.Goals as goal
+
+pub returns-then-is_whole-clause-bad : goal.returns-then-is_whole-clause-bad
+returns-then-is_whole-clause-bad c =
+    let a = c.args in
+    let t = c.tokens in
+    let l = lexeme_of c.lexeme-token.result in
+    let here = ending (words t.cutter) (words c.advance-ends.new.self) (lexeme (text_of t.cutter) (next_token t.cutter)) l c.advance-ends.result c.advance-ends.ensures.words (sym c.lexeme-token.ensures.lexeme) c.if-ends.true in
+    ap (λ v. first_bad v (words a.start)) (sym c.version-version.ensures) ∙ sym t.invariant.bad ∙ ap (first_bad c.version-version.result) here ∙ good_end c.version-version.result l c.in-Ok.ensures.good
+
+pub returns-then-is_whole-clause-packs : goal.returns-then-is_whole-clause-packs
+returns-then-is_whole-clause-packs c =
+    let a = c.args in
+    let t = c.tokens in
+    let l = lexeme_of c.lexeme-token.result in
+    let here = ending (words t.cutter) (words c.advance-ends.new.self) (lexeme (text_of t.cutter) (next_token t.cutter)) l c.advance-ends.result c.advance-ends.ensures.words (sym c.lexeme-token.ensures.lexeme) c.if-ends.true in
+    ap (λ v. packed a.filling a.capacity (values v (words a.start))) (sym c.version-version.ensures) ∙ sym t.invariant.packs ∙ ap (λ ws. joined (Ok t.array) (packed a.filling t.left (values c.version-version.result ws))) here ∙ c.in-Ok.ensures.packs [] ∙ none_packed a.filling c.in-Ok.capacity c.version-version.result c.take_good.new.array
+
+pub tokens-preserved : goal.tokens-preserved
+unfolding completes
+tokens-preserved c =
+    let a = c.args in
+    let t = c.tokens in
+    let rest = words c.advance-ends.new.self in
+    let l = lexeme_of c.lexeme-token.result in
+    let here = going (words t.cutter) rest (lexeme (text_of t.cutter) (next_token t.cutter)) l c.advance-ends.result c.advance-ends.ensures.words (sym c.lexeme-token.ensures.lexeme) c.if-ends.false in
+    record {
+      text = c.advance-ends.ensures.text ∙ t.invariant.text;
+      version = c.advance-ends.ensures.version ∙ t.invariant.version;
+      goes = c.advance-ends.ensures.goes c.if-ends.false;
+      bad = sym (good_on c.version-version.result l rest c.in-Ok.ensures.good) ∙ sym (ap (first_bad c.version-version.result) here) ∙ t.invariant.bad;
+      shaped = ap (λ d. completes d rest) c.in-Ok.ensures.shape ∙ ap (completes t.due) (sym here) ∙ t.invariant.shaped;
+      packs = sym (c.in-Ok.ensures.packs rest) ∙ sym (ap (λ ws. joined (Ok t.array) (packed a.filling t.left (values c.version-version.result ws))) here) ∙ t.invariant.packs;
+      rest = search rules;
+    }
+
+pub returns-then-is_whole-clause-shaped : goal.returns-then-is_whole-clause-shaped
+unfolding completes
+returns-then-is_whole-clause-shaped c =
+    let t = c.tokens in
+    let l = lexeme_of c.lexeme-token.result in
+    let here = ending (words t.cutter) (words c.advance-ends.new.self) (lexeme (text_of t.cutter) (next_token t.cutter)) l c.advance-ends.result c.advance-ends.ensures.words (sym c.lexeme-token.ensures.lexeme) c.if-ends.true in
+    sym t.invariant.shaped ∙ ap (completes t.due) here ∙ ap (λ d. completes d []) (sym c.in-Ok.ensures.shape) ∙ sym c.is_whole.ensures ∙ c.if-is_whole.true

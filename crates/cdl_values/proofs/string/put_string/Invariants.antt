@@ -1,0 +1,10 @@
+use Rattle.std.proofs.Common.{length, ◌-◌, ◌≡◌, ◌++◌, drop}
+use Rattle.cdl_text.specs.Escapes.{stands}
+use Rattle.cdl_values.specs.PackedValues.{char_bytes}
+use Rattle.cdl_values.proofs.string.put_string.Given as goal
+
+abbrev pub invariant-loop-at : goal.invariant-loop-at
+invariant-loop-at l = l.array ++ char_bytes (stands (drop l.at l.raw)) ≡ l.fn.array ++ char_bytes (stands l.raw)
+
+abbrev pub decreases-loop-at : goal.decreases-loop-at
+decreases-loop-at l = length l.raw - l.at

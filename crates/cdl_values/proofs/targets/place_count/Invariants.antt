@@ -1,0 +1,10 @@
+use Rattle.std.proofs.Common.{◌≡◌, ◌*◌, ◌≤◌, drop, map, min}
+use Rattle.nc_base.specs.Sizes.{dim_len, product}
+use Rattle.cdl_values.specs.Capacities.{most}
+use Rattle.cdl_values.proofs.targets.place_count.Given as goal
+
+-- what has been multiplied, times the lengths that are left, keeps the capped product
+abbrev pub invariant-loop-id : goal.invariant-loop-id
+invariant-loop-id l =
+    (min (l.count * product (map (dim_len l.dims) (drop l.id-index l.dimids))) most ≡ min (product (map (dim_len l.dims) l.dimids)) most)
+    × (l.count ≤ most)

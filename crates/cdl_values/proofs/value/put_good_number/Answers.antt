@@ -1,0 +1,16 @@
+use Rattle.std.proofs.Common.{rules, ◌≡◌, sym, ◌∙◌, Ok, false}
+use Rattle.std.specs.Prelude.{Some, option_map}
+use Rattle.cdl_text.specs.Contents.{value_of}
+use Rattle.cdl_text.specs.Numerals.{parts}
+use Rattle.cdl_text.specs.Magnitudes.{held}
+use Rattle.cdl_values.specs.PackedValues.{joined, held_bytes, is_full}
+use Rattle.cdl_values.proofs.Ranges.{number_added}
+use Rattle.cdl_values.proofs.value.put_good_number.Goals as goal
+
+pub returns-in-Ok-clause-adds : goal.returns-in-Ok-clause-adds
+unfolding value_of
+returns-in-Ok-clause-adds c =
+    let off : is_full c.args.capacity ≡ false = sym c.is_full.ensures ∙ c.if-is_full.false in
+    let said : Some c.in-Some.n ≡ option_map held (parts c.args.version c.args.bytes.now) = sym c.in-Some.is ∙ c.number_of_token.ensures in
+    let adds : joined (Ok c.args.array.now) (held_bytes c.in-Numbers.fill.ty c.in-Some.n.minus c.in-Some.n.magnitude) ≡ Ok c.put_numeral.new.array = search rules in
+    rw (c.in-Numbers.is) (rw (off) (number_added c.args.array.now c.put_numeral.new.array c.in-Numbers.fill.ty c.in-Numbers.fill.value (parts c.args.version c.args.bytes.now) c.in-Some.n said adds))

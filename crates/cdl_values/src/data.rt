@@ -1,0 +1,215 @@
+//! The statements of the data section.
+
+ghost use Rattle.std.specs.Prelude.{◌≡◌, ◌<◌, ◌^◌, ℕ, List, Ok, Some, IfOk, false, length, option_map};
+ghost use Rattle.cdl_text.specs.Cutters.{after, is_done, pieces_left, text_of, version_of, words};
+ghost use Rattle.cdl_text.specs.Lexemes.{word_value};
+ghost use Rattle.cdl_text.specs.declared.section.Section.TheVariants.{Values};
+ghost use Rattle.cdl_meaning.specs.State.{State};
+ghost use Rattle.cdl_values.specs.Answers.{Gives};
+ghost use Rattle.cdl_values.specs.DataRead.{data_read, if_new, target_of};
+ghost use Rattle.cdl_values.specs.Meant.{Suit, Tells, array_of, begins_brace, name_first, names_of};
+ghost use Rattle.cdl_values.specs.NameIndices.{IsIndex, position_of};
+
+use crate::array::Array;
+use crate::filling::Filling;
+use crate::name::name_of_word;
+use crate::name_index::NameIndex;
+use crate::packing::{pack, pack_good};
+use crate::read_error::ReadError;
+use crate::value::{Stop, stop_of};
+use cdl_text::{CdlKind, Cutter, Due, first_pass};
+use nc_base::check_name;
+use std::alloc::Global;
+
+/// What a variable takes of the data section.
+#[derive(Clone, Copy)]
+pub struct Target {
+    pub filling: Filling,
+    /// How many values, bytes or rows; None: any number.
+    pub capacity: Option<u64>,
+    /// An earlier statement gave its values.
+    pub given: bool,
+}
+
+/// The target of a variable, and the variable's position.
+#[derive(Clone, Copy)]
+struct Place {
+    position: u64,
+    target: Target,
+}
+
+/// What a statement gives: its variable's values, and the statements after it.
+#[derive(Drop)]
+pub struct Given<'a> {
+    /// The variable's position among the names.
+    pub position: u64,
+    pub array: Array,
+    pub rest: Cutter<'a>,
+}
+
+/// Reads the next statement, which stands in the data section: the values of the variable that it names.
+///
+/// The names are those of the targets, in their order.
+///
+/// # Errors
+///
+/// The statement's first fault; or a growth was refused.
+pub fn read<'a>(
+    alloc: Global,
+    names: &NameIndex,
+    targets: &[Target],
+    start: Cutter<'a>,
+) -> Result<Given<'a>, ReadError>
+    requires { is_done start ≡ false }
+    ensures tells { (s : State) → s.section ≡ Values → IsIndex names.now (names_of s.drafts) → Suit s.dims targets.now s.drafts → begins_brace (words start.entry) ≡ false → length (text_of start.entry) < 2 ^ 63 → Tells (version_of start.entry) s (words start.entry) (array_of (λ (g : Given). g.array) result) }
+    ensures position { (all : List (List ℕ)) → IsIndex names.now all → IfOk result (λ g. position_of all (name_first (words start.entry)) ≡ Some g.position) }
+    ensures rest { IfOk result (λ g. pieces_left g.rest ≡ after start.entry) }
+    ensures text { IfOk result (λ g. text_of g.rest ≡ text_of start.entry) }
+    ensures version { IfOk result (λ g. version_of g.rest ≡ version_of start.entry) }
+{
+    read_either(alloc, names, targets, start)
+}
+
+/// Reads a statement in one pass, or in two where something is wrong with it.
+fn read_either<'a>(
+    alloc: Global,
+    index: &NameIndex,
+    targets: &[Target],
+    start: Cutter<'a>,
+) -> Result<Given<'a>, ReadError>
+    requires { is_done start ≡ false }
+    ensures read { (names : List (List ℕ)) → IsIndex index.now names → Gives (λ g. g.array) result (data_read (version_of start.entry) names targets.now (words start.entry)) }
+    ensures position { (names : List (List ℕ)) → IsIndex index.now names → IfOk result (λ g. position_of names (name_first (words start.entry)) ≡ Some g.position) }
+    ensures rest { IfOk result (λ g. pieces_left g.rest ≡ after start.entry) }
+    ensures text { IfOk result (λ g. text_of g.rest ≡ text_of start.entry) }
+    ensures version { IfOk result (λ g. version_of g.rest ≡ version_of start.entry) }
+{
+    match read_quickly(alloc, index, targets, start) {
+        Ok(given) => Ok(given),
+        Err(Stop::OutOfMemory) => Err(ReadError::OutOfMemory),
+        Err(Stop::SomeFault) => read_slowly(alloc, index, targets, start),
+    }
+}
+
+/// Reads a good statement in one pass; where something is wrong with it, it doesn't say what.
+fn read_quickly<'a>(
+    alloc: Global,
+    index: &NameIndex,
+    targets: &[Target],
+    start: Cutter<'a>,
+) -> Result<Given<'a>, Stop>
+    requires { is_done start ≡ false }
+    ensures read { IfOk result (λ g. (names : List (List ℕ)) → IsIndex index.now names → data_read (version_of start.entry) names targets.now (words start.entry) ≡ Ok g.array) }
+    ensures position { (names : List (List ℕ)) → IsIndex index.now names → IfOk result (λ g. position_of names (name_first (words start.entry)) ≡ Some g.position) }
+    ensures rest { IfOk result (λ g. pieces_left g.rest ≡ after start.entry) }
+    ensures text { IfOk result (λ g. text_of g.rest ≡ text_of start.entry) }
+    ensures version { IfOk result (λ g. version_of g.rest ≡ version_of start.entry) }
+{
+    let name = start.lexeme();
+    let equals_due = Due::DataName.after(name);
+    let (equals, name_ends) = start.advanced();
+    if name_ends {
+        return Err(Stop::SomeFault);
+    }
+    let sign = equals.lexeme();
+    let value_due = equals_due.after(sign);
+    let (value, sign_ends) = equals.advanced();
+    if sign_ends {
+        return Err(Stop::SomeFault);
+    }
+    match value_due {
+        Due::Value { takes_fill } => {
+            if !takes_fill {
+                return Err(Stop::SomeFault);
+            }
+        }
+        _ => return Err(Stop::SomeFault),
+    }
+    match target_of(alloc, index, targets, name.bytes) {
+        Ok(place) => match pack_good(alloc, value, place.target.filling, place.target.capacity) {
+            Ok(packed) => Ok(Given {
+                position: place.position,
+                array: packed.array,
+                rest: packed.rest,
+            }),
+            Err(e) => Err(e),
+        },
+        Err(e) => Err(stop_of(e)),
+    }
+}
+
+/// Reads a statement in two passes: the first says whether it has a bad token or no shape.
+fn read_slowly<'a>(
+    alloc: Global,
+    index: &NameIndex,
+    targets: &[Target],
+    start: Cutter<'a>,
+) -> Result<Given<'a>, ReadError>
+    requires { is_done start ≡ false }
+    ensures read { (names : List (List ℕ)) → IsIndex index.now names → Gives (λ g. g.array) result (data_read (version_of start.entry) names targets.now (words start.entry)) }
+    ensures position { (names : List (List ℕ)) → IsIndex index.now names → IfOk result (λ g. position_of names (name_first (words start.entry)) ≡ Some g.position) }
+    ensures rest { IfOk result (λ g. pieces_left g.rest ≡ after start.entry) }
+    ensures text { IfOk result (λ g. text_of g.rest ≡ text_of start.entry) }
+    ensures version { IfOk result (λ g. version_of g.rest ≡ version_of start.entry) }
+{
+    let found = first_pass(start, Due::DataName);
+    match found.bad {
+        Some(kind) => return Err(ReadError::Fault(kind)),
+        None => {}
+    }
+    if !found.shaped {
+        return Err(ReadError::Fault(CdlKind::Syntax));
+    }
+    let name = start.lexeme();
+    let (equals, _) = start.advanced();
+    let (value, _) = equals.advanced();
+    match target_of(alloc, index, targets, name.bytes) {
+        Ok(place) => match pack(alloc, value, place.target.filling, place.target.capacity) {
+            Ok(array) => Ok(Given {
+                position: place.position,
+                array,
+                rest: found.rest,
+            }),
+            Err(e) => Err(e),
+        },
+        Err(e) => Err(e),
+    }
+}
+
+/// The target of the variable that a word names, and the variable's position.
+fn target_of(
+    alloc: Global,
+    index: &NameIndex,
+    targets: &[Target],
+    word: &[u8],
+) -> Result<Place, ReadError>
+    ensures target { (names : List (List ℕ)) → IsIndex index.now names → Gives (λ place. place.target) result (target_of names targets.now (word_value word.now)) }
+    ensures position { (names : List (List ℕ)) → IsIndex index.now names → IfOk result (λ place. position_of names (word_value word.now) ≡ Some place.position) }
+{
+    match name_of_word(alloc, word) {
+        Ok(name) => {
+            if !check_name(name.as_slice()) {
+                return Err(ReadError::Fault(CdlKind::BadName));
+            }
+            match index.find(name.as_slice()) {
+                Some(position) => match if_new(targets.get(position as usize)) {
+                    Ok(target) => Ok(Place { position, target }),
+                    Err(kind) => Err(ReadError::Fault(kind)),
+                },
+                None => Err(ReadError::Fault(CdlKind::UnknownVariable)),
+            }
+        }
+        Err(_) => Err(ReadError::OutOfMemory),
+    }
+}
+
+/// The target, if no statement gave its values.
+fn if_new(target: Option<&Target>) -> Result<Target, CdlKind>
+    ensures { result ≡ if_new (option_map (λ t. t.now) target.entry) }
+{
+    match target {
+        Some(target) if target.given => Err(CdlKind::DuplicateData),
+        Some(target) => Ok(*target),
+        None => Err(CdlKind::UnknownVariable),
+    }
+}

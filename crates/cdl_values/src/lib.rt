@@ -1,0 +1,31 @@
+//! The values of CDL text, as a file has them: the constants of an attribute, and what a statement of the data section lists.
+//!
+//! What a statement means is defined in `cdl_meaning`.
+#![tactic(auto)]
+
+mod array;
+mod constant;
+mod data;
+mod fill;
+mod filling;
+mod name;
+mod name_index;
+mod number;
+mod packing;
+mod read_error;
+mod string;
+mod targets;
+mod value;
+
+pub use array::Array;
+pub use constant::{read_constants, type_said};
+pub use data::{Given, Target, read};
+pub use fill::Fill;
+pub use filling::Filling;
+pub use name::name_of_word;
+pub use name_index::NameIndex;
+pub use number::{number_or_zero, put_number};
+pub use packing::{Packed, pack, pack_good};
+pub use read_error::ReadError;
+pub use targets::targets_of;
+pub use value::Stop;

@@ -1,0 +1,98 @@
+//! Numbers of the data section.
+
+ghost use Rattle.std.specs.Prelude.{◌≡◌, ◌++◌, OnOk};
+ghost use Rattle.nc_base.specs.Numbers.{IsInRange, bytes_of_number};
+ghost use Rattle.cdl_text.specs.Contents.{parts_or_zero};
+ghost use Rattle.cdl_text.specs.Magnitudes.{held};
+ghost use Rattle.cdl_text.specs.Numerals.{parts, signed};
+ghost use Rattle.cdl_values.specs.Answers.{Adds};
+ghost use Rattle.cdl_values.specs.PackedValues.{greatest, held_bytes};
+
+use crate::array::Array;
+use crate::read_error::ReadError;
+use cdl_text::{CdlKind, Numeral, number_of_token};
+use nc_base::{NcType, Version};
+use std::alloc::AllocError;
+
+/// What a number token says; 0 for one that is no number.
+pub fn number_or_zero(version: Version, bytes: &[u8]) -> Numeral
+    ensures { result ≡ held (parts_or_zero (parts version bytes.now)) }
+{
+    match number_of_token(version, bytes) {
+        Some(n) => n,
+        None => Numeral {
+            minus: false,
+            magnitude: Some(0),
+            ty: NcType::Int,
+        },
+    }
+}
+
+/// Adds the bytes of a number, the highest first, where it is in the range of the type.
+#[inline]
+pub fn put_numeral(array: &mut Array, ty: NcType, n: Numeral) -> Result<(), ReadError>
+    ensures { Adds array.old array.new result (held_bytes ty n.minus n.magnitude) }
+{
+    match n.magnitude {
+        Some(magnitude) => {
+            if magnitude > greatest(ty, n.minus) {
+                return Err(ReadError::Fault(CdlKind::NumberRange));
+            }
+            if put_number(array, ty, signed(n.minus, magnitude)).is_err() {
+                return Err(ReadError::OutOfMemory);
+            }
+            Ok(())
+        }
+        None => Err(ReadError::Fault(CdlKind::NumberRange)),
+    }
+}
+
+/// Adds the bytes of a number, the highest first.
+#[inline]
+pub fn put_number(array: &mut Array, ty: NcType, number: i128) -> Result<(), AllocError>
+    requires { IsInRange ty number }
+    ensures { OnOk result (array.new ≡ array.old ++ bytes_of_number ty number) }
+{
+    match ty {
+        NcType::Byte => array.add(&(number as i8).to_be_bytes()),
+        NcType::Char => array.add(&(number as u8).to_be_bytes()),
+        NcType::Ubyte => array.add(&(number as u8).to_be_bytes()),
+        NcType::Short => array.add(&(number as i16).to_be_bytes()),
+        NcType::Ushort => array.add(&(number as u16).to_be_bytes()),
+        NcType::Int => array.add(&(number as i32).to_be_bytes()),
+        NcType::Uint => array.add(&(number as u32).to_be_bytes()),
+        NcType::Int64 => array.add(&(number as i64).to_be_bytes()),
+        NcType::Uint64 => array.add(&(number as u64).to_be_bytes()),
+    }
+}
+
+/// The greatest magnitude of the type's numbers, with a minus or without one.
+fn greatest(ty: NcType, minus: bool) -> u64
+    ensures { result ≡ greatest ty minus }
+{
+    match ty {
+        NcType::Byte => if minus { 128 } else { 127 },
+        NcType::Char | NcType::Ubyte => if minus { 0 } else { 255 },
+        NcType::Short => if minus { 32768 } else { 32767 },
+        NcType::Int => if minus { 2147483648 } else { 2147483647 },
+        NcType::Ushort => if minus { 0 } else { 65535 },
+        NcType::Uint => if minus { 0 } else { 4294967295 },
+        NcType::Int64 => if minus {
+            9223372036854775808
+        } else {
+            9223372036854775807
+        },
+        NcType::Uint64 => if minus { 0 } else { 18446744073709551615 },
+    }
+}
+
+/// The number of this sign and magnitude.
+fn signed(minus: bool, magnitude: u64) -> i128
+    ensures { result ≡ signed minus magnitude }
+{
+    if minus {
+        -(magnitude as i128)
+    } else {
+        magnitude as i128
+    }
+}

@@ -1,0 +1,102 @@
+//! The values of a statement of the data section, packed.
+
+ghost use Rattle.std.specs.Prelude.{◌≡◌, None, Ok, OnOk, IfOk, false, true};
+ghost use Rattle.cdl_text.specs.Contents.{values};
+ghost use Rattle.cdl_text.specs.Cutters.{after, is_done, pieces_left, text_of, version_of, words};
+ghost use Rattle.cdl_text.specs.DueTokens.{completes};
+ghost use Rattle.cdl_text.specs.Shapes.{first_bad};
+ghost use Rattle.cdl_values.specs.Answers.{Gives};
+ghost use Rattle.cdl_values.specs.PackedValues.{packed};
+
+use crate::array::Array;
+use crate::filling::Filling;
+use crate::read_error::ReadError;
+use crate::value::{Stop, put_token, take_good};
+use cdl_text::{Cutter, Due};
+use std::alloc::Global;
+
+/// What a pass over good values leaves: the values, and the statements after theirs.
+#[derive(Drop)]
+pub struct Packed<'a> {
+    pub array: Array,
+    pub rest: Cutter<'a>,
+}
+
+/// Packs the values up to the end of the statement; the first one is next.
+///
+/// # Errors
+///
+/// The fault of the first value that has one; or a growth was refused.
+#[inline(never)]
+pub fn pack(
+    alloc: Global,
+    start: Cutter<'_>,
+    filling: Filling,
+    capacity: Option<u64>,
+) -> Result<Array, ReadError>
+    requires { is_done start ≡ false }
+    ensures { Gives (λ a. a) result (packed filling capacity (values (version_of start.entry) (words start.entry))) }
+{
+    let version = start.version();
+    let mut cutter = start;
+    let mut left = capacity;
+    let mut array = Array::new(alloc);
+    'tokens: loop {
+        let token = cutter.lexeme();
+        let ends = cutter.advance();
+        match put_token(&mut array, version, filling, left, token) {
+            Ok(capacity) => left = capacity,
+            Err(e) => return Err(e),
+        }
+        if ends {
+            return Ok(array);
+        }
+    }
+}
+
+/// Packs the values up to the end of the statement, in one pass, where nothing is wrong with it; the first one is next.
+///
+/// # Errors
+///
+/// The statement has some fault; or a growth was refused.
+#[inline(never)]
+pub fn pack_good<'a>(
+    alloc: Global,
+    start: Cutter<'a>,
+    filling: Filling,
+    capacity: Option<u64>,
+) -> Result<Packed<'a>, Stop>
+    requires { is_done start ≡ false }
+    ensures bad { OnOk result (first_bad (version_of start.entry) (words start.entry) ≡ None) }
+    ensures shaped { OnOk result (completes (Due.Value true) (words start.entry) ≡ true) }
+    ensures packs { IfOk result (λ p. packed filling capacity (values (version_of start.entry) (words start.entry)) ≡ Ok p.array) }
+    ensures rest { IfOk result (λ p. pieces_left p.rest ≡ after start.entry) }
+    ensures text { IfOk result (λ p. text_of p.rest ≡ text_of start.entry) }
+    ensures version { IfOk result (λ p. version_of p.rest ≡ version_of start.entry) }
+{
+    let version = start.version();
+    let mut cutter = start;
+    let mut left = capacity;
+    let mut due = Due::Value { takes_fill: true };
+    let mut array = Array::new(alloc);
+    'tokens: loop {
+        let token = cutter.lexeme();
+        let ends = cutter.advance();
+        match take_good(&mut array, version, filling, left, due, token) {
+            Ok((capacity, then)) => {
+                left = capacity;
+                due = then;
+            }
+            Err(e) => return Err(e),
+        }
+        if ends {
+            if due.is_whole() {
+                return Ok(Packed {
+                    array,
+                    rest: cutter,
+                });
+            }
+            return Err(Stop::SomeFault);
+        }
+    }
+}

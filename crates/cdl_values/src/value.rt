@@ -1,0 +1,197 @@
+//! Values of the data section.
+
+ghost use Rattle.std.specs.Prelude.{◌≡◌, ◌∷◌, List, None, Ok, OnOk, IfOk};
+ghost use Rattle.cdl_text.specs.Contents.{value_of, values};
+ghost use Rattle.cdl_text.specs.DueTokens.{next};
+ghost use Rattle.cdl_text.specs.Lexemes as lexemes;
+ghost use Rattle.cdl_text.specs.Shapes.{token_fault};
+ghost use Rattle.cdl_text.specs.Views.{lexeme_of, lexeme_with};
+ghost use Rattle.cdl_text.specs.declared.fault.CdlKind.{CdlKind};
+ghost use Rattle.cdl_values.specs.Answers.{Adds, Continues};
+ghost use Rattle.cdl_values.specs.PackedValues.{bytes_of, joined, packed, value_bytes};
+
+use crate::array::Array;
+use crate::fill::Fill;
+use crate::filling::{Filling, is_full};
+use crate::number::{number_or_zero, put_number, put_numeral};
+use crate::read_error::ReadError;
+use crate::string::{put_row, put_text};
+use cdl_text::{CdlKind, Due, Lexeme, TokenKind, number_of_token};
+use nc_base::Version;
+
+/// Why a pass that knows no faults stops.
+#[derive(Clone, Copy, Debug)]
+pub enum Stop {
+    OutOfMemory,
+    /// The statement has some fault.
+    SomeFault,
+}
+
+/// The reason to stop, without its fault.
+pub fn stop_of(error: ReadError) -> Stop
+    ensures memory { error ≡ ReadError.OutOfMemory → result ≡ Stop.OutOfMemory }
+    ensures fault { (kind : CdlKind) → error ≡ ReadError.Fault kind → result ≡ Stop.SomeFault }
+{
+    match error {
+        ReadError::OutOfMemory => Stop::OutOfMemory,
+        ReadError::Fault(_) => Stop::SomeFault,
+    }
+}
+
+/// Adds a token's value, if it has one, and says what capacity is left.
+pub fn put_token(
+    array: &mut Array,
+    version: Version,
+    filling: Filling,
+    capacity: Option<u64>,
+    token: Lexeme<'_>,
+) -> Result<Option<u64>, ReadError>
+    ensures { (rest : List lexemes.Lexeme) → Continues (λ left. joined (Ok array.new) (packed filling left (values version rest))) result (joined (Ok array.old) (packed filling capacity (values version (lexeme_of token.entry ∷ rest)))) }
+{
+    match token.kind {
+        TokenKind::Mark => Ok(capacity),
+        _ => {
+            let before = array.len();
+            match put(array, version, filling, capacity, token) {
+                Ok(()) => Ok(filling.capacity_after(array.len().saturating_sub(before), capacity)),
+                Err(e) => Err(e),
+            }
+        }
+    }
+}
+
+/// Adds a token's value, if it has one and the token is good, and says what capacity is left and which token comes next.
+#[inline]
+pub fn take_good(
+    array: &mut Array,
+    version: Version,
+    filling: Filling,
+    capacity: Option<u64>,
+    due: Due,
+    token: Lexeme<'_>,
+) -> Result<(Option<u64>, Due), Stop>
+    ensures good { OnOk result (token_fault version token.entry.kind token.entry.bytes.now ≡ None) }
+    ensures shape { IfOk result (λ r. r.1 ≡ next due (lexeme_of token.entry)) }
+    ensures packs { IfOk result (λ r. (rest : List lexemes.Lexeme) → joined (Ok array.old) (packed filling capacity (values version (lexeme_of token.entry ∷ rest))) ≡ joined (Ok array.new) (packed filling r.0 (values version rest))) }
+{
+    let then = due.after(token);
+    match token.kind {
+        TokenKind::Mark => Ok((capacity, then)),
+        _ => {
+            let before = array.len();
+            match put_good(array, version, filling, capacity, token) {
+                Ok(()) => Ok((
+                    filling.capacity_after(array.len().saturating_sub(before), capacity),
+                    then,
+                )),
+                Err(e) => Err(e),
+            }
+        }
+    }
+}
+
+/// Adds the bytes of a value, if its token is good.
+fn put_good(
+    array: &mut Array,
+    version: Version,
+    filling: Filling,
+    capacity: Option<u64>,
+    token: Lexeme<'_>,
+) -> Result<(), Stop>
+    ensures good { OnOk result (token_fault version token.entry.kind token.entry.bytes.now ≡ None) }
+    ensures adds { OnOk result (joined (Ok array.old) (bytes_of filling capacity (value_of version (lexeme_of token.entry) token.entry.kind)) ≡ Ok array.new) }
+{
+    match token.kind {
+        TokenKind::Number => put_good_number(array, version, filling, capacity, token.bytes),
+        TokenKind::Bad => Err(Stop::SomeFault),
+        _ => match put(array, version, filling, capacity, token) {
+            Ok(()) => Ok(()),
+            Err(e) => Err(stop_of(e)),
+        },
+    }
+}
+
+/// Adds the bytes of a number, if its token is good.
+#[tactic(auto, unfolding(cdl_text::specs::Contents::value_of), using(crate::proofs::Ranges::number_added, crate::proofs::Ranges::good_number))]
+fn put_good_number(
+    array: &mut Array,
+    version: Version,
+    filling: Filling,
+    capacity: Option<u64>,
+    bytes: &[u8],
+) -> Result<(), Stop>
+    ensures good { OnOk result (token_fault version TokenKind.Number bytes.now ≡ None) }
+    ensures adds { OnOk result (joined (Ok array.old) (bytes_of filling capacity (value_of version (lexeme_with TokenKind.Number bytes.now) TokenKind.Number)) ≡ Ok array.new) }
+{
+    match filling {
+        Filling::Numbers(fill) => {
+            if is_full(capacity) {
+                return Err(Stop::SomeFault);
+            }
+            match number_of_token(version, bytes) {
+                Some(n) => match put_numeral(array, fill.ty, n) {
+                    Ok(()) => Ok(()),
+                    Err(e) => Err(stop_of(e)),
+                },
+                None => Err(Stop::SomeFault),
+            }
+        }
+        _ => Err(Stop::SomeFault),
+    }
+}
+
+/// Adds the bytes of a value.
+#[tactic(auto, unfolding(cdl_text::specs::Contents::value_of))]
+fn put(
+    array: &mut Array,
+    version: Version,
+    filling: Filling,
+    capacity: Option<u64>,
+    token: Lexeme<'_>,
+) -> Result<(), ReadError>
+    ensures { Adds array.old array.new result (bytes_of filling capacity (value_of version (lexeme_of token.entry) token.entry.kind)) }
+{
+    let full = is_full(capacity);
+    match filling {
+        Filling::Numbers(fill) => put_value(array, version, fill, full, token),
+        Filling::Joined => match token.kind {
+            TokenKind::Text => put_text(array, capacity, token.bytes),
+            _ => Err(ReadError::Fault(CdlKind::WrongKind)),
+        },
+        Filling::Rows { len, fill } => match token.kind {
+            TokenKind::Text => put_row(array, len, fill, full, token.bytes),
+            _ => Err(ReadError::Fault(CdlKind::WrongKind)),
+        },
+    }
+}
+
+/// Adds the bytes of a value of a variable of numbers.
+#[tactic(auto, unfolding(cdl_text::specs::Contents::value_of), using(crate::proofs::Ranges::held_is, crate::proofs::InRange::has_it))]
+fn put_value(
+    array: &mut Array,
+    version: Version,
+    fill: Fill,
+    full: bool,
+    token: Lexeme<'_>,
+) -> Result<(), ReadError>
+    ensures { Adds array.old array.new result (value_bytes fill.ty fill.value full (value_of version (lexeme_of token.entry) token.entry.kind)) }
+{
+    match token.kind {
+        TokenKind::Text => Err(ReadError::Fault(CdlKind::WrongKind)),
+        TokenKind::Number => {
+            if full {
+                return Err(ReadError::Fault(CdlKind::TooManyValues));
+            }
+            put_numeral(array, fill.ty, number_or_zero(version, token.bytes))
+        }
+        _ => {
+            if full {
+                return Err(ReadError::Fault(CdlKind::TooManyValues));
+            }
+            if put_number(array, fill.ty, fill.value).is_err() {
+                return Err(ReadError::OutOfMemory);
+            }
+            Ok(())
+        }
+    }
+}

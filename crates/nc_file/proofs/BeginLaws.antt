@@ -1,0 +1,173 @@
+-- Begins that are summed up as they go are those of the padded slabs before.
+use Rattle.std.proofs.Common.{◌≡◌, ℕ, ◌+◌, ◌-◌, ◌^◌, ◌≤◌, inl, inr, min, Ok, Err, Bool, true, false, ◌&&◌, List, [], ◌∷◌, ◌++◌, length, refl, sym, ◌∙◌, ap, subst, arith}
+use Rattle.std.specs.Prelude.{if◌then◌else◌}
+use Rattle.std.specs.List.{list_all}
+use Rattle.std.proofs.lemmas.Bool.{cases_lt, le-ltb}
+use Rattle.nc_base.specs.declared.header.Dim.{Dim}
+use Rattle.nc_base.specs.declared.header.Var.{Var}
+use Rattle.nc_base.specs.declared.header.Header.{Header}
+use Rattle.nc_base.specs.declared.version.Version.{Version}
+use Rattle.nc_base.specs.declared.version.Version.TheVariants.{Cdf1, Cdf2, Cdf5}
+use Rattle.nc_base.specs.Sizes.{is_record_var, padded_size, padded_total, record_vars}
+use Rattle.nc_base.specs.Versions.{offset_limit}
+use Rattle.nc_base.specs.GeneratedFile.{header_spelling, fixed_vars, begin_after, vars_after, with_begins, fits}
+use Rattle.nc_base.proofs.FilePlaces.{fixed_total, fixed-push}
+use Rattle.nc_base.proofs.HeaderSpelled.{total-append}
+use Rattle.nc_file.specs.Begins.{after, is_below, offset_of, placed}
+use Rattle.nc_file.specs.declared.write.begins.Offsets.{Offsets}
+
+record-push : (dims : List Dim) (before : List Var) (var : Var)
+    → padded_total dims (record_vars dims (before ++ var ∷ [])) ≡ padded_total dims (record_vars dims before) + (if is_record_var dims var then padded_size dims var else 0)
+record-push dims before var = total-append dims before (var ∷ []) ∙ ap (λ (n : ℕ). padded_total dims (record_vars dims before) + n) (one (is_record_var dims var))
+  where
+    one : (b : Bool) → padded_total dims (if b then (var ∷ []) else []) ≡ (if b then padded_size dims var else 0)
+    one true = omega arith
+    one false = refl
+
+-- ---- the offsets after these variables, where the header has this number of bytes
+
+abbrev pub offsets_after : Header → ℕ → List Var → Offsets
+offsets_after h head before = record {
+  block = head + fixed_total h.dims before;
+  slab = head + (fixed_total h.dims h.vars + padded_total h.dims (record_vars h.dims before));
+}
+
+same-offsets : (a b c d : ℕ) → a ≡ c → b ≡ d → let left : Offsets = record { block = a; slab = b } in let right : Offsets = record { block = c; slab = d } in left ≡ right
+same-offsets a b c d e f =
+    ap (λ (n : ℕ). let next : Offsets = record { block = n; slab = b } in next) e ∙ ap (λ (n : ℕ). let next : Offsets = record { block = c; slab = n } in next) f
+
+-- one variable more
+after-push : (h : Header) (head : ℕ) (before : List Var) (var : Var) → after h.dims (offsets_after h head before) var ≡ offsets_after h head (before ++ var ∷ [])
+after-push h head before var = choose (is_record_var h.dims var) _ _ (fixed-push h.dims before var) (record-push h.dims before var)
+  where
+    choose : (b : Bool) (f g : ℕ) → f ≡ fixed_total h.dims before + (if b then 0 else padded_size h.dims var)
+        → g ≡ padded_total h.dims (record_vars h.dims before) + (if b then padded_size h.dims var else 0)
+        → let next = offsets_after h head before in let last : Offsets = record { block = head + f; slab = head + (fixed_total h.dims h.vars + g) } in
+        (if b then record next { slab = next.slab + padded_size h.dims var } else record next { block = next.block + padded_size h.dims var }) ≡ last
+    choose true f g e k = same-offsets _ _ _ _ (omega (arith, e)) (omega (arith, k))
+    choose false f g e k = same-offsets _ _ _ _ (omega (arith, e)) (omega (arith, k))
+
+offset-begin : (h : Header) (before : List Var) (var : Var) → offset_of h.dims (offsets_after h (length (header_spelling h)) before) var ≡ begin_after h before var
+offset-begin h before var = choose (is_record_var h.dims var) (length (header_spelling h)) _ _
+  where
+    choose : (b : Bool) (head m n : ℕ) → (if b then head + m else head + n) ≡ head + (if b then m else n)
+    choose true head m n = refl
+    choose false head m n = refl
+
+placed-after : (h : Header) (before vars : List Var) → placed h.dims (offsets_after h (length (header_spelling h)) before) vars ≡ vars_after h before vars
+placed-after h before [] = refl
+placed-after h before (var ∷ vars) =
+    let head : ℕ = length (header_spelling h) in
+    ap (λ (n : ℕ). record var { begin_at = n } ∷ placed h.dims (after h.dims (offsets_after h head before) var) vars) (offset-begin h before var)
+    ∙ ap (λ (next : Offsets). record var { begin_at = begin_after h before var } ∷ placed h.dims next vars) (after-push h head before var)
+    ∙ ap (λ (vs : List Var). record var { begin_at = begin_after h before var } ∷ vs) (placed-after h (before ++ var ∷ []) vars)
+
+-- ---- from the first variable on
+
+-- the first offsets, where the header has this number of bytes
+abbrev pub first_offsets : Header → ℕ → Offsets
+first_offsets h head = record { block = head; slab = head + fixed_total h.dims h.vars }
+
+first-after : (h : Header) (head : ℕ) → first_offsets h head ≡ offsets_after h head []
+first-after h head = same-offsets _ _ _ _ (omega arith) (omega arith)
+
+placed-whole : (h : Header) → placed h.dims (first_offsets h (length (header_spelling h))) h.vars ≡ (with_begins h).vars
+unfolding with_begins
+placed-whole h = ap (λ (next : Offsets). placed h.dims next h.vars) (first-after h (length (header_spelling h))) ∙ placed-after h [] h.vars
+
+-- ---- headers longer than the greatest u64
+
+limit-le : (v : Version) → offset_limit v ≤ 2 ^ 63
+limit-le Cdf1 = omega arith
+limit-le Cdf2 = omega arith
+limit-le Cdf5 = omega arith
+
+not-first : (a b : Bool) → a ≡ false → (a && b) ≡ false
+not-first true b e = cc
+not-first false b e = refl
+
+picked-le : (b : Bool) (m n k : ℕ) → k ≤ m → k ≤ n → k ≤ (if b then m else n)
+picked-le true m n k e f = e
+picked-le false m n k e f = f
+
+not-both : true ≡ false → ⊥
+not-both e = cc
+
+-- the first begin doesn't fit then, wherever the sum starts
+late-placed : (h : Header) (start : ℕ) (var : Var) (vars : List Var) → 2 ^ 63 ≤ start
+    → list_all (is_below (offset_limit h.version)) (placed h.dims (first_offsets h start) (var ∷ vars)) ≡ false
+late-placed h start var vars late =
+    let begin : ℕ = offset_of h.dims (first_offsets h start) var in
+    let past : 2 ^ 63 ≤ begin = picked-le (is_record_var h.dims var) (start + fixed_total h.dims h.vars) start (2 ^ 63) (omega (arith, late)) late in
+    not-first _ _ (le-ltb begin (offset_limit h.version) (omega (arith, limit-le h.version, past)))
+
+late-after : (h : Header) (var : Var) (vars : List Var) → 2 ^ 63 ≤ length (header_spelling h)
+    → list_all (is_below (offset_limit h.version)) (vars_after h [] (var ∷ vars)) ≡ false
+late-after h var vars late =
+    let begin : ℕ = begin_after h [] var in
+    let past : 2 ^ 63 ≤ begin = omega (arith, late) in
+    not-first _ _ (le-ltb begin (offset_limit h.version) (omega (arith, limit-le h.version, past)))
+
+late-answer : (h : Header) (start : ℕ) (vars : List Var) → 2 ^ 63 ≤ start → 2 ^ 63 ≤ length (header_spelling h)
+    → list_all (is_below (offset_limit h.version)) (placed h.dims (first_offsets h start) vars) ≡ list_all (is_below (offset_limit h.version)) (vars_after h [] vars)
+late-answer h start [] late long = refl
+late-answer h start (var ∷ vars) late long = late-placed h start var vars late ∙ sym (late-after h var vars long)
+
+late-begins : (h : Header) (start : ℕ) (vars : List Var) → 2 ^ 63 ≤ length (header_spelling h)
+    → list_all (is_below (offset_limit h.version)) (vars_after h [] vars) ≡ true → placed h.dims (first_offsets h start) vars ≡ vars_after h [] vars
+late-begins h start [] long e = refl
+late-begins h start (var ∷ vars) long e = absurd (not-both (sym e ∙ late-after h var vars long))
+
+-- ---- variables that are placed tell whether the begins of a header fit, and what they are
+pub record ArePlaced (h : Header) (vars : List Var) : Type 0 where
+  pub answer : list_all (is_below (offset_limit h.version)) vars ≡ fits h
+  pub begins : fits h ≡ true → vars ≡ (with_begins h).vars
+
+placed-late : (h : Header) (start : ℕ) → 2 ^ 63 ≤ start → 2 ^ 63 ≤ length (header_spelling h) → ArePlaced h (placed h.dims (first_offsets h start) h.vars)
+unfolding with_begins
+placed-late h start late long = record { answer = late-answer h start h.vars late long; begins = late-begins h start h.vars long }
+
+placed-exact : (h : Header) → ArePlaced h (placed h.dims (first_offsets h (length (header_spelling h))) h.vars)
+placed-exact h = record { answer = ap (list_all (is_below (offset_limit h.version))) (placed-whole h); begins = λ e. placed-whole h }
+
+pub placed-capped : (h : Header) (start : ℕ) → start ≡ min (length (header_spelling h)) (2 ^ 64 - 1) → ArePlaced h (placed h.dims (first_offsets h start) h.vars)
+placed-capped h start e =
+    elim (cases_lt (length (header_spelling h)) (2 ^ 64 - 1)) [
+      | inl short ↦
+          let exact : length (header_spelling h) ≡ start = omega (arith, e, short) in
+          subst (λ (n : ℕ). ArePlaced h (placed h.dims (first_offsets h n) h.vars)) exact (placed-exact h)
+      | inr long ↦ placed-late h start (omega (arith, e, long)) (omega (arith, long))
+    ]
+
+-- the same of what the function sees: copies of the header's parts
+pub placed-as-seen : (h : Header) (dims dims' : List Dim) (vars vars' : List Var) (start total limit : ℕ)
+    → dims ≡ h.dims → dims' ≡ h.dims → vars ≡ h.vars → vars' ≡ h.vars
+    → start ≡ min (length (header_spelling h)) (2 ^ 64 - 1) → total ≡ padded_total dims (fixed_vars dims vars) → limit ≡ offset_limit h.version
+    → (let first : Offsets = record { block = start; slab = start + total } in
+    (list_all (is_below limit) (placed dims' first vars') ≡ fits h) × (fits h ≡ true → placed dims' first vars' ≡ (with_begins h).vars))
+placed-as-seen h dims dims' vars vars' start total limit d d' v v' head size bound =
+    let total_is : total ≡ fixed_total h.dims h.vars =
+    size ∙ ap (λ (ds : List Dim). padded_total ds (fixed_vars ds vars)) d ∙ ap (λ (vs : List Var). padded_total h.dims (fixed_vars h.dims vs)) v in
+    let first : Offsets = record { block = start; slab = start + total } in
+    let first_is : first ≡ first_offsets h start = same-offsets _ _ _ _ refl (ap (λ (n : ℕ). start + n) total_is) in
+    let same : placed dims' first vars' ≡ placed h.dims (first_offsets h start) h.vars =
+    ap (λ (ds : List Dim). placed ds first vars') d' ∙ ap (placed h.dims first) v' ∙ ap (λ (next : Offsets). placed h.dims next h.vars) first_is in
+    let are = placed-capped h start head in (
+      ap (list_all (is_below limit)) same ∙ ap (λ (n : ℕ). list_all (is_below n) (placed h.dims (first_offsets h start) h.vars)) bound ∙ are.answer,
+      λ e. same ∙ are.begins e,
+    )
+
+pub header-placed : (h : Header) (vars : List Var) → vars ≡ (with_begins h).vars
+    → let k : Header = record { version = h.version; numrecs = h.numrecs; dims = h.dims; gatts = h.gatts; vars = vars } in k ≡ with_begins h
+unfolding with_begins
+header-placed h vars e = ap (λ (vs : List Var). let k : Header = record h { vars = vs } in k) e
+
+-- ---- the answer
+
+pub is_ok : {E : Type 0} (b : Bool) (h k : Header) (error : E) → b ≡ true → h ≡ k → Ok h ≡ (if b then Ok k else Err error)
+is_ok true h k error e same = ap Ok same
+is_ok false h k error e same = absurd (not-both (sym e))
+
+pub is_err : {E : Type 0} (b : Bool) (k : Header) (error : E) → b ≡ false → Err error ≡ (if b then Ok k else Err error)
+is_err true k error e = absurd (not-both e)
+is_err false k error e = refl

@@ -1,0 +1,112 @@
+-- The bytes of a header's spelling are those of its parts.
+use Rattle.std.proofs.Common.{◌≡◌, ℕ, ◌+◌, ◌*◌, ◌/◌, List, [], ◌∷◌, ◌++◌, length, refl, ◌∙◌, arith, length-append}
+use Rattle.std.specs.Int.{to_be_bytes, byte_len}
+use Rattle.std.specs.List.{flat_map, sum_by}
+use Rattle.std.proofs.lemmas.List.{length-replicate}
+use Rattle.std.proofs.lemmas.List.Sums.{sum_by-cons}
+use Rattle.nc_base.specs.declared.header.Att.{Att}
+use Rattle.nc_base.specs.declared.header.Dim.{Dim}
+use Rattle.nc_base.specs.declared.header.Header.{Header}
+use Rattle.nc_base.specs.declared.header.NumRecs.{NumRecs}
+use Rattle.nc_base.specs.declared.header.NumRecs.TheVariants.{Known, Streaming}
+use Rattle.nc_base.specs.declared.header.Var.{Var}
+use Rattle.nc_base.specs.declared.version.Version.{Version}
+use Rattle.nc_base.specs.declared.version.Version.TheVariants.{Cdf1, Cdf2, Cdf5}
+use Rattle.nc_base.specs.Bytes.{padding_len}
+use Rattle.nc_base.specs.Grammar.{dimension_tag}
+use Rattle.nc_base.specs.Sizes.{padded_size}
+use Rattle.nc_base.specs.Types.{code_of, size_of}
+use Rattle.nc_base.specs.Versions.{offset_width, streaming_mark}
+use Rattle.nc_base.specs.GeneratedFile.{count_spelling, word_spelling, magic_spelling, zero_padded, name_spelling, list_head, list_spelling, dim_spelling, att_spelling, atts_spelling, vsize_of, var_spelling, numrecs_spelling, header_spelling}
+use Rattle.nc_file.specs.Lengths as len
+
+-- ---- numbers
+
+count-len : (v : Version) (n : ℕ) → length (count_spelling v n) ≡ len.count_len v
+count-len Cdf1 n = refl
+count-len Cdf2 n = refl
+count-len Cdf5 n = refl
+
+offset-len : (v : Version) (n : ℕ) → length (to_be_bytes (offset_width v) n) ≡ byte_len (offset_width v)
+offset-len Cdf1 n = refl
+offset-len Cdf2 n = refl
+offset-len Cdf5 n = refl
+
+word-len : (n : ℕ) → length (word_spelling n) ≡ 4
+unfolding word_spelling
+word-len n = refl
+
+numrecs-len : (v : Version) (numrecs : NumRecs) → length (numrecs_spelling v numrecs) ≡ len.count_len v
+numrecs-len v (Known n) = count-len v n
+numrecs-len v Streaming = count-len v (streaming_mark v)
+
+magic-len : (v : Version) → length (magic_spelling v) ≡ 4
+unfolding magic_spelling
+magic-len v = refl
+
+-- ---- lists of bytes
+
+joined : (xs ys : List ℕ) (m n : ℕ) → length xs ≡ m → length ys ≡ n → length (xs ++ ys) ≡ m + n
+joined xs ys m n e f = omega (arith, length-append xs ys, e, f)
+
+padded-len : (bytes : List ℕ) → length (zero_padded bytes) ≡ len.padded_len (length bytes)
+padded-len bytes = joined bytes _ _ _ refl (length-replicate (padding_len (length bytes)) 0)
+
+name-len : (v : Version) (name : List ℕ) → length (name_spelling v name) ≡ len.name_len v name
+name-len v name = joined (count_spelling v (length name)) _ _ _ (count-len v (length name)) (padded-len name)
+
+-- ---- lists of elements
+
+each-len : {A : Type 0} (spelling : A → List ℕ) (size : A → ℕ) → ((x : A) → length (spelling x) ≡ size x) → (xs : List A)
+    → length (flat_map spelling xs) ≡ sum_by size xs
+each-len spelling size one [] = refl
+each-len spelling size one (x ∷ xs) =
+    omega (arith, sum_by-cons size x xs, joined (spelling x) (flat_map spelling xs) _ _ (one x) (each-len spelling size one xs))
+
+list-len : {A : Type 0} (v : Version) (tag : ℕ) (spelling : A → List ℕ) (size : A → ℕ) → ((x : A) → length (spelling x) ≡ size x) → (xs : List A)
+    → length (list_spelling v tag spelling xs) ≡ len.list_head_len v + sum_by size xs
+list-len v tag spelling size one xs =
+    joined (list_head v tag (length xs)) _ _ _ (joined _ (count_spelling v (length xs)) _ _ (word-len _) (count-len v (length xs))) (each-len spelling size one xs)
+
+-- ---- dimensions, attributes and variables
+
+dim-len : (v : Version) (dim : Dim) → length (dim_spelling v dim) ≡ len.dim_len v dim
+unfolding dim_spelling
+dim-len v dim = joined (name_spelling v dim.name) _ _ _ (name-len v dim.name) (count-len v dim.len)
+
+att-len : (v : Version) (att : Att) → length (att_spelling v att) ≡ len.att_len v att
+unfolding att_spelling
+att-len v att =
+    joined (name_spelling v att.name) _ _ _ (name-len v att.name)
+    (joined (word_spelling (code_of att.ty)) _ _ _ (word-len (code_of att.ty))
+    (joined (count_spelling v (length att.vals / size_of att.ty)) _ _ _ (count-len v (length att.vals / size_of att.ty)) (padded-len att.vals)))
+
+atts-len : (v : Version) (atts : List Att) → length (atts_spelling v atts) ≡ len.atts_len v atts
+atts-len v atts = list-len v _ (att_spelling v) (len.att_len v) (att-len v) atts
+
+ids-len : (v : Version) (ids : List ℕ) → length (flat_map (count_spelling v) ids) ≡ length ids * len.count_len v
+ids-len v [] = omega arith
+ids-len v (id ∷ ids) = joined (count_spelling v id) _ _ _ (count-len v id) (ids-len v ids) ∙ omega arith
+
+var-len : (v : Version) (dims : List Dim) (var : Var) → length (var_spelling v dims var) ≡ len.var_len v var
+unfolding var_spelling
+var-len v dims var =
+    joined (name_spelling v var.name) _ _ _ (name-len v var.name)
+    (joined (count_spelling v (length var.dimids) ++ flat_map (count_spelling v) var.dimids) _ _ _
+    (joined (count_spelling v (length var.dimids)) _ _ _ (count-len v (length var.dimids)) (ids-len v var.dimids))
+    (joined (atts_spelling v var.atts) _ _ _ (atts-len v var.atts)
+    (joined (word_spelling (code_of var.ty)) _ _ _ (word-len (code_of var.ty))
+    (joined (count_spelling v (vsize_of v (padded_size dims var))) _ _ _ (count-len v (vsize_of v (padded_size dims var))) (offset-len v var.begin_at)))))
+
+-- ---- the whole
+
+pub header-len : (h : Header) → length (header_spelling h) ≡ len.header_len h
+unfolding header_spelling
+header-len h =
+    let v = h.version in
+    joined (magic_spelling v) _ _ _ (magic-len v)
+    (joined (numrecs_spelling v h.numrecs) _ _ _ (numrecs-len v h.numrecs)
+    (joined (list_spelling v dimension_tag (dim_spelling v) h.dims) _ _ _ (list-len v _ (dim_spelling v) (len.dim_len v) (dim-len v) h.dims)
+    (joined (atts_spelling v h.gatts) _ _ _ (atts-len v h.gatts) (list-len v _ (var_spelling v h.dims) (len.var_len v) (var-len v h.dims) h.vars))))
+
+pub ruleset header_len = (header-len)

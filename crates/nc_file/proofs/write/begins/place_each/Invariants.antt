@@ -1,0 +1,16 @@
+use Rattle.std.proofs.Common.{◌≡◌, ◌+◌, ◌*◌, ◌^◌, ◌<◌, ◌≤◌, ◌++◌, true, take, drop}
+use Rattle.std.specs.Prelude.{All}
+use Rattle.std.specs.List.{list_all}
+use Rattle.nc_base.specs.declared.header.Var.{Var}
+use Rattle.nc_base.specs.Sizes.{slab_size, slab_limit}
+use Rattle.nc_file.specs.Begins.{placed, is_below}
+use Rattle.nc_file.proofs.write.begins.place_each.Given as goal
+
+abbrev pub invariant-loop-v : goal.invariant-loop-v
+invariant-loop-v l = record {
+  so_far : placed l.dims l.fn.first l.fn.vars ≡ take l.v l.vars ++ placed l.dims l.next (drop l.v l.vars);
+  small : All (λ (var : Var). slab_size l.dims var ≤ slab_limit) l.vars;
+  block : l.next.block < 2 ^ 120 + l.v * 2 ^ 49;
+  slab : l.next.slab < 2 ^ 120 + l.v * 2 ^ 49;
+  below : list_all (is_below l.limit) (take l.v l.vars) ≡ true;
+}

@@ -1,0 +1,7 @@
+use Rattle.std.proofs.Common.{◌≡◌, ◌+◌, ◌-◌, ◌^◌, min, take}
+use Rattle.std.specs.List.{sum_by}
+use Rattle.nc_file.specs.Lengths.{list_head_len, dim_len}
+use Rattle.nc_file.proofs.write.length.dims_len.Given as goal
+
+abbrev pub invariant-loop-dim : goal.invariant-loop-dim
+invariant-loop-dim l = l.total ≡ min (list_head_len l.version + sum_by (dim_len l.version) (take l.dim-index l.dims)) (2 ^ 64 - 1)

@@ -1,0 +1,54 @@
+//! Lists of attributes.
+
+ghost use Rattle.std.specs.Prelude.{◌<◌, All, length};
+ghost use Rattle.std.specs.List.{flat_map};
+ghost use Rattle.nc_base.specs.GeneratedFile.{att_spelling, atts_spelling};
+ghost use Rattle.nc_base.specs.Headers.{IsSoundAtt};
+ghost use Rattle.nc_base.specs.Versions.{count_limit};
+ghost use Rattle.devices.specs.Sinks.{Wrote};
+
+use super::list::{put_list_head, put_name, put_zero_padded};
+use super::number::{put_count, put_word};
+use devices::{Sink, WriteFailed};
+use nc_base::{Att, Version};
+
+/// The tag of a list of attributes.
+const ATTRIBUTE: u32 = 12;
+
+/// Writes a list of attributes.
+#[tactic(auto, using(devices::proofs::Writes::writes))]
+pub(crate) fn put_att_list<W: Sink>(
+    sink: &mut W,
+    version: Version,
+    atts: &[Att],
+) -> Result<(), WriteFailed>
+    requires few { length atts.now < count_limit version }
+    requires sound { All (IsSoundAtt version) atts.now }
+    ensures { Wrote (W.view sink.old) (W.view sink.new) (atts_spelling version atts.now) result }
+{
+    put_list_head(sink, version, ATTRIBUTE, atts.len() as u64)?;
+    put_atts(sink, version, atts)
+}
+
+/// Writes one attribute after another.
+fn put_atts<W: Sink>(sink: &mut W, version: Version, atts: &[Att]) -> Result<(), WriteFailed>
+    requires { All (IsSoundAtt version) atts.now }
+    ensures { Wrote (W.view sink.old) (W.view sink.new) (flat_map (att_spelling version) atts.now) result }
+{
+    for att in atts {
+        put_att(sink, version, att)?;
+    }
+    Ok(())
+}
+
+/// Writes an attribute: its name, the type and the number of its values, and the values with their padding.
+#[tactic(auto, using(devices::proofs::Writes::writes), unfolding(nc_base::specs::GeneratedFile::att_spelling))]
+fn put_att<W: Sink>(sink: &mut W, version: Version, att: &Att) -> Result<(), WriteFailed>
+    requires { IsSoundAtt version att.now }
+    ensures { Wrote (W.view sink.old) (W.view sink.new) (att_spelling version att.now) result }
+{
+    put_name(sink, version, att.name.as_slice())?;
+    put_word(sink, att.ty.code())?;
+    put_count(sink, version, att.vals.len() as u64 / att.ty.size())?;
+    put_zero_padded(sink, att.vals.as_slice())
+}

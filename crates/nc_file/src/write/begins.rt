@@ -1,0 +1,136 @@
+//! The begin of each variable.
+
+ghost use Rattle.std.specs.Prelude.{◌≡◌, ◌+◌, ◌*◌, ◌<◌, ◌≤◌, ◌^◌, All, Ok, Err, if◌then◌else◌, length, true};
+ghost use Rattle.std.specs.List.{list_all};
+ghost use Rattle.nc_base.specs.GeneratedFile.{fits, fixed_vars, with_begins};
+ghost use Rattle.nc_base.specs.Headers.{IsSound};
+ghost use Rattle.nc_base.specs.Sizes.{padded_total, slab_limit, slab_size};
+ghost use Rattle.nc_file.specs.Begins.{after, is_below, offset_of, offset_too_large, placed};
+
+use super::length::header_len;
+use super::slab::padded_slab_bytes;
+use nc_base::{Dim, Header, Sequence, Var, has_records};
+
+/// An offset that the version has no room for.
+#[derive(Clone, Copy, Debug, PartialEq, Eq)]
+pub struct OffsetTooLarge;
+
+/// Where the next values are to stand, in bytes from the file's start.
+#[derive(Clone, Copy)]
+pub(crate) struct Offsets {
+    /// All values of the next variable that isn't a record variable.
+    pub(crate) block: u128,
+    /// The values of the next record variable in the first record.
+    pub(crate) slab: u128,
+}
+
+/// The header with the begin of each variable: after the header come the variables that aren't record variables, and after
+/// them the records, each variable padded to a multiple of four bytes.
+///
+/// # Errors
+///
+/// A begin is too large for its field. The header is dropped then.
+pub fn with_begins(header: Header) -> Result<Header, OffsetTooLarge>
+    requires { IsSound header }
+    ensures { result ≡ (if fits header then Ok (with_begins header) else Err offset_too_large) }
+{
+    let start = header_len(&header) as u128;
+    let Header {
+        version,
+        numrecs,
+        dims,
+        gatts,
+        vars,
+    } = header;
+    let mut vars = vars.into_vec();
+    let first = Offsets {
+        block: start,
+        slab: start + fixed_total(dims.as_slice(), vars.as_slice()),
+    };
+    if !place_each(
+        dims.as_slice(),
+        vars.as_mut_slice(),
+        first,
+        version.offset_limit(),
+    ) {
+        return Err(OffsetTooLarge);
+    }
+    Ok(Header {
+        version,
+        numrecs,
+        dims,
+        gatts,
+        vars: Sequence::from_vec(vars),
+    })
+}
+
+/// The padded slabs of the variables that aren't record variables together, in bytes.
+fn fixed_total(dims: &[Dim], vars: &[Var]) -> u128
+    requires { All (λ var. slab_size dims.now var ≤ slab_limit) vars.now }
+    ensures size { result ≡ padded_total dims.now (fixed_vars dims.now vars.now) }
+    ensures small { result ≤ length vars.now * 2 ^ 49 }
+{
+    let mut total: u128 = 0;
+    for var in vars {
+        if !has_records(dims, var.dimids.as_slice()) {
+            total += padded_slab_bytes(dims, var) as u128;
+        }
+    }
+    total
+}
+
+/// Gives each variable its begin, and says whether all of them are below the limit. It stops at the first that isn't.
+fn place_each(dims: &[Dim], vars: &mut [Var], first: Offsets, limit: u64) -> bool
+    requires small { All (λ var. slab_size dims.now var ≤ slab_limit) vars.old }
+    requires block { first.block < 2 ^ 120 }
+    requires slab { first.slab < 2 ^ 120 }
+    ensures placed { result ≡ true → vars.new ≡ placed dims.now first vars.old }
+    ensures fits { result ≡ list_all (is_below limit) (placed dims.now first vars.old) }
+{
+    let mut next = first;
+    for v in 0..vars.len() {
+        let begin = next.begin_of(dims, &vars[v]);
+        if begin >= limit as u128 {
+            return false;
+        }
+        next = next.after(dims, &vars[v]);
+        vars[v].begin_at = begin as u64;
+    }
+    true
+}
+
+impl Offsets {
+    /// The begin of the next variable.
+    fn begin_of(self, dims: &[Dim], var: &Var) -> u128
+        ensures { result ≡ offset_of dims.now self var.now }
+    {
+        if has_records(dims, var.dimids.as_slice()) {
+            self.slab
+        } else {
+            self.block
+        }
+    }
+
+    /// The offsets after the values of the next variable.
+    fn after(self, dims: &[Dim], var: &Var) -> Offsets
+        requires small { slab_size dims.now var.now ≤ slab_limit }
+        requires block { self.block < 2 ^ 127 }
+        requires slab { self.slab < 2 ^ 127 }
+        ensures next { result ≡ after dims.now self var.now }
+        ensures block { result.block < self.block + 2 ^ 49 }
+        ensures slab { result.slab < self.slab + 2 ^ 49 }
+    {
+        let bytes = padded_slab_bytes(dims, var) as u128;
+        if has_records(dims, var.dimids.as_slice()) {
+            Offsets {
+                block: self.block,
+                slab: self.slab + bytes,
+            }
+        } else {
+            Offsets {
+                block: self.block + bytes,
+                slab: self.slab,
+            }
+        }
+    }
+}

@@ -1,0 +1,53 @@
+//! The list of dimensions.
+
+ghost use Rattle.std.specs.Prelude.{◌<◌, All, length};
+ghost use Rattle.std.specs.List.{flat_map};
+ghost use Rattle.nc_base.specs.GeneratedFile.{dim_spelling, list_spelling};
+ghost use Rattle.nc_base.specs.Grammar.{dimension_tag};
+ghost use Rattle.nc_base.specs.Headers.{IsSoundDim};
+ghost use Rattle.nc_base.specs.Versions.{count_limit};
+ghost use Rattle.devices.specs.Sinks.{Wrote};
+
+use super::list::{put_list_head, put_name};
+use super::number::put_count;
+use devices::{Sink, WriteFailed};
+use nc_base::{Dim, Version};
+
+/// The tag of the list of dimensions.
+const DIMENSION: u32 = 10;
+
+/// Writes the list of dimensions.
+#[tactic(auto, using(devices::proofs::Writes::writes))]
+pub(crate) fn put_dim_list<W: Sink>(
+    sink: &mut W,
+    version: Version,
+    dims: &[Dim],
+) -> Result<(), WriteFailed>
+    requires few { length dims.now < count_limit version }
+    requires sound { All (IsSoundDim version) dims.now }
+    ensures { Wrote (W.view sink.old) (W.view sink.new) (list_spelling version dimension_tag (dim_spelling version) dims.now) result }
+{
+    put_list_head(sink, version, DIMENSION, dims.len() as u64)?;
+    put_dims(sink, version, dims)
+}
+
+/// Writes one dimension after another.
+fn put_dims<W: Sink>(sink: &mut W, version: Version, dims: &[Dim]) -> Result<(), WriteFailed>
+    requires { All (IsSoundDim version) dims.now }
+    ensures { Wrote (W.view sink.old) (W.view sink.new) (flat_map (dim_spelling version) dims.now) result }
+{
+    for dim in dims {
+        put_dim(sink, version, dim)?;
+    }
+    Ok(())
+}
+
+/// Writes a dimension: its name and its length.
+#[tactic(auto, using(devices::proofs::Writes::writes), unfolding(nc_base::specs::GeneratedFile::dim_spelling))]
+fn put_dim<W: Sink>(sink: &mut W, version: Version, dim: &Dim) -> Result<(), WriteFailed>
+    requires { IsSoundDim version dim.now }
+    ensures { Wrote (W.view sink.old) (W.view sink.new) (dim_spelling version dim.now) result }
+{
+    put_name(sink, version, dim.name.as_slice())?;
+    put_count(sink, version, dim.len)
+}

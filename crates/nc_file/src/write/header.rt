@@ -1,0 +1,71 @@
+//! The whole header.
+
+ghost use Rattle.std.specs.Prelude.{◌≡◌, ◌<◌, All};
+ghost use Rattle.nc_base.specs.GeneratedFile.{header_spelling, magic_spelling, numrecs_spelling};
+ghost use Rattle.nc_base.specs.Headers.{IsSound, IsSoundNumRecs};
+ghost use Rattle.nc_base.specs.Versions.{offset_limit, version_byte};
+ghost use Rattle.devices.specs.Sinks.{Wrote};
+
+use super::attribute::put_att_list;
+use super::dimension::put_dim_list;
+use super::number::{put_count, put_number};
+use super::variable::put_var_list;
+use devices::{Sink, WriteFailed, put};
+use nc_base::{Header, NumRecs, Version};
+
+/// Writes the header of a file, as the format spells it: its `vsize` fields follow from the shapes. It takes no memory, and
+/// hands one field at a time to the sink.
+///
+/// The begin of each variable is to fit its field, as `with_begins` makes sure.
+///
+/// # Errors
+///
+/// The sink failed. It took some prefix of the header.
+#[tactic(auto, using(devices::proofs::Writes::writes), unfolding(nc_base::specs::GeneratedFile::header_spelling))]
+pub fn write_header<W: Sink>(sink: &mut W, header: &Header) -> Result<(), WriteFailed>
+    requires sound { IsSound header.now }
+    requires begins { All (λ var. var.begin_at < offset_limit header.now.version) header.now.vars }
+    ensures { Wrote (W.view sink.old) (W.view sink.new) (header_spelling header.now) result }
+{
+    let version = header.version;
+    put_magic(sink, version)?;
+    put_numrecs(sink, version, header.numrecs)?;
+    put_dim_list(sink, version, header.dims.as_slice())?;
+    put_att_list(sink, version, header.gatts.as_slice())?;
+    put_var_list(
+        sink,
+        version,
+        header.dims.as_slice(),
+        header.vars.as_slice(),
+    )
+}
+
+/// Writes `CDF` and the version byte.
+#[tactic(auto, unfolding(nc_base::specs::GeneratedFile::magic_spelling))]
+fn put_magic<W: Sink>(sink: &mut W, version: Version) -> Result<(), WriteFailed>
+    ensures { Wrote (W.view sink.old) (W.view sink.new) (magic_spelling version) result }
+{
+    put(sink, &[b'C', b'D', b'F', version_byte(version)])
+}
+
+/// The byte after `CDF`.
+fn version_byte(version: Version) -> u8
+    ensures { result ≡ version_byte version }
+{
+    match version {
+        Version::Cdf1 => 1,
+        Version::Cdf2 => 2,
+        Version::Cdf5 => 5,
+    }
+}
+
+/// Writes the number of records, or the mark for an unknown one.
+fn put_numrecs<W: Sink>(sink: &mut W, version: Version, numrecs: NumRecs) -> Result<(), WriteFailed>
+    requires { IsSoundNumRecs version numrecs }
+    ensures { Wrote (W.view sink.old) (W.view sink.new) (numrecs_spelling version numrecs) result }
+{
+    match numrecs {
+        NumRecs::Known(n) => put_count(sink, version, n),
+        NumRecs::Streaming => put_number(sink, version, version.streaming_mark()),
+    }
+}

@@ -1,0 +1,57 @@
+//! The parts that several lists share: a name, bytes with their padding, and what stands before the elements of a list.
+
+ghost use Rattle.std.specs.Prelude.{◌<◌, length, replicate};
+ghost use Rattle.nc_base.specs.GeneratedFile.{list_head, name_spelling, zero_padded};
+ghost use Rattle.nc_base.specs.Versions.{count_limit};
+ghost use Rattle.devices.specs.Sinks.{Wrote};
+
+use super::number::{put_count, put_word};
+use devices::{Sink, WriteFailed, put};
+use nc_base::{Version, padding_len};
+
+/// Writes a name: its length, its bytes and their padding.
+#[tactic(auto, using(devices::proofs::Writes::writes))]
+pub(crate) fn put_name<W: Sink>(
+    sink: &mut W,
+    version: Version,
+    name: &[u8],
+) -> Result<(), WriteFailed>
+    requires { length name.now < count_limit version }
+    ensures { Wrote (W.view sink.old) (W.view sink.new) (name_spelling version name.now) result }
+{
+    put_count(sink, version, name.len() as u64)?;
+    put_zero_padded(sink, name)
+}
+
+/// Writes bytes, and zeros up to the next multiple of four.
+#[tactic(auto, using(devices::proofs::Writes::writes))]
+pub(crate) fn put_zero_padded<W: Sink>(sink: &mut W, bytes: &[u8]) -> Result<(), WriteFailed>
+    ensures { Wrote (W.view sink.old) (W.view sink.new) (zero_padded bytes.now) result }
+{
+    put(sink, bytes)?;
+    put_zeros(sink, padding_len(bytes.len() as u128))
+}
+
+/// Writes at most three zeros.
+fn put_zeros<W: Sink>(sink: &mut W, n: u64) -> Result<(), WriteFailed>
+    requires { n < 4 }
+    ensures { Wrote (W.view sink.old) (W.view sink.new) (replicate n 0) result }
+{
+    let zeros = [0; 4];
+    put(sink, &zeros[..n as usize])
+}
+
+/// Writes what stands before the elements of a list: its tag, which is 0 where it has none, and their number.
+#[tactic(auto, using(devices::proofs::Writes::writes))]
+pub(crate) fn put_list_head<W: Sink>(
+    sink: &mut W,
+    version: Version,
+    tag: u32,
+    n: u64,
+) -> Result<(), WriteFailed>
+    requires { n < count_limit version }
+    ensures { Wrote (W.view sink.old) (W.view sink.new) (list_head version tag n) result }
+{
+    put_word(sink, if n == 0 { 0 } else { tag })?;
+    put_count(sink, version, n)
+}

@@ -1,0 +1,52 @@
+//! Numbers of the widths of a version.
+
+ghost use Rattle.std.specs.Prelude.{◌+◌, ◌<◌};
+ghost use Rattle.std.specs.Int.{to_be_bytes};
+ghost use Rattle.nc_base.specs.GeneratedFile.{count_spelling, word_spelling};
+ghost use Rattle.nc_base.specs.Versions.{count_limit, offset_limit, offset_width};
+ghost use Rattle.devices.specs.Sinks.{Wrote};
+
+use devices::{Sink, WriteFailed, put};
+use nc_base::Version;
+
+/// Writes a number of 32 bits: a tag, or the code of a type.
+#[tactic(auto, unfolding(nc_base::specs::GeneratedFile::word_spelling))]
+pub(crate) fn put_word<W: Sink>(sink: &mut W, n: u32) -> Result<(), WriteFailed>
+    ensures { Wrote (W.view sink.old) (W.view sink.new) (word_spelling n) result }
+{
+    put(sink, &n.to_be_bytes())
+}
+
+/// Writes a number of the width of the version's counts, which may have its top bit set.
+pub(crate) fn put_number<W: Sink>(sink: &mut W, version: Version, n: u64) -> Result<(), WriteFailed>
+    requires { n < count_limit version + count_limit version }
+    ensures { Wrote (W.view sink.old) (W.view sink.new) (count_spelling version n) result }
+{
+    match version {
+        Version::Cdf1 | Version::Cdf2 => put(sink, &(n as u32).to_be_bytes()),
+        Version::Cdf5 => put(sink, &n.to_be_bytes()),
+    }
+}
+
+/// Writes a count, a length or the id of a dimension: `NON_NEG`, whose top bit is 0.
+pub(crate) fn put_count<W: Sink>(sink: &mut W, version: Version, n: u64) -> Result<(), WriteFailed>
+    requires { n < count_limit version }
+    ensures { Wrote (W.view sink.old) (W.view sink.new) (count_spelling version n) result }
+{
+    put_number(sink, version, n)
+}
+
+/// Writes an offset: `OFFSET`, whose top bit is 0.
+pub(crate) fn put_offset<W: Sink>(
+    sink: &mut W,
+    version: Version,
+    offset: u64,
+) -> Result<(), WriteFailed>
+    requires { offset < offset_limit version }
+    ensures { Wrote (W.view sink.old) (W.view sink.new) (to_be_bytes (offset_width version) offset) result }
+{
+    match version {
+        Version::Cdf1 => put(sink, &(offset as u32).to_be_bytes()),
+        Version::Cdf2 | Version::Cdf5 => put(sink, &offset.to_be_bytes()),
+    }
+}

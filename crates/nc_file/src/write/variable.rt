@@ -1,0 +1,138 @@
+//! The list of variables.
+
+ghost use Rattle.std.specs.Prelude.{◌≡◌, ◌<◌, ◌++◌, All, length};
+ghost use Rattle.std.specs.List.{flat_map};
+ghost use Rattle.nc_base.specs.GeneratedFile.{count_spelling, list_spelling, var_spelling, vsize_of};
+ghost use Rattle.nc_base.specs.Grammar.{variable_tag};
+ghost use Rattle.nc_base.specs.Headers.{IsSoundVar};
+ghost use Rattle.nc_base.specs.Sizes.{padded_size};
+ghost use Rattle.nc_base.specs.Versions.{count_limit, offset_limit};
+ghost use Rattle.devices.specs.Sinks.{Wrote};
+
+use super::attribute::put_att_list;
+use super::list::{put_list_head, put_name};
+use super::number::{put_count, put_number, put_offset, put_word};
+use super::slab::padded_slab_bytes;
+use devices::{Sink, WriteFailed};
+use nc_base::{Dim, Var, Version};
+
+/// The tag of the list of variables.
+const VARIABLE: u32 = 11;
+
+/// Writes the list of variables.
+#[tactic(auto, using(devices::proofs::Writes::writes))]
+pub(crate) fn put_var_list<W: Sink>(
+    sink: &mut W,
+    version: Version,
+    dims: &[Dim],
+    vars: &[Var],
+) -> Result<(), WriteFailed>
+    requires few { length vars.now < count_limit version }
+    requires few_dims { length dims.now < count_limit version }
+    requires sound { All (IsSoundVar version dims.now) vars.now }
+    requires begins { All (λ var. var.begin_at < offset_limit version) vars.now }
+    ensures { Wrote (W.view sink.old) (W.view sink.new) (list_spelling version variable_tag (var_spelling version dims.now) vars.now) result }
+{
+    put_list_head(sink, version, VARIABLE, vars.len() as u64)?;
+    put_vars(sink, version, dims, vars)
+}
+
+/// Writes one variable after another.
+fn put_vars<W: Sink>(
+    sink: &mut W,
+    version: Version,
+    dims: &[Dim],
+    vars: &[Var],
+) -> Result<(), WriteFailed>
+    requires few_dims { length dims.now < count_limit version }
+    requires sound { All (IsSoundVar version dims.now) vars.now }
+    requires begins { All (λ var. var.begin_at < offset_limit version) vars.now }
+    ensures { Wrote (W.view sink.old) (W.view sink.new) (flat_map (var_spelling version dims.now) vars.now) result }
+{
+    for var in vars {
+        put_var(sink, version, dims, var)?;
+    }
+    Ok(())
+}
+
+/// Writes a variable: its name, its shape, its attributes, its type, its `vsize` and its begin.
+#[tactic(auto, using(devices::proofs::Writes::writes), unfolding(nc_base::specs::GeneratedFile::var_spelling))]
+fn put_var<W: Sink>(
+    sink: &mut W,
+    version: Version,
+    dims: &[Dim],
+    var: &Var,
+) -> Result<(), WriteFailed>
+    requires few_dims { length dims.now < count_limit version }
+    requires sound { IsSoundVar version dims.now var.now }
+    requires begin { var.now.begin_at < offset_limit version }
+    ensures { Wrote (W.view sink.old) (W.view sink.new) (var_spelling version dims.now var.now) result }
+{
+    put_name(sink, version, var.name.as_slice())?;
+    put_shape(sink, version, dims, var.dimids.as_slice())?;
+    put_att_list(sink, version, var.atts.as_slice())?;
+    put_word(sink, var.ty.code())?;
+    put_vsize(sink, version, dims, var)?;
+    put_offset(sink, version, var.begin_at)
+}
+
+/// Writes a shape: its rank and the ids of its dimensions.
+#[tactic(auto, using(devices::proofs::Writes::writes))]
+fn put_shape<W: Sink>(
+    sink: &mut W,
+    version: Version,
+    dims: &[Dim],
+    dimids: &[u64],
+) -> Result<(), WriteFailed>
+    requires rank { length dimids.now < count_limit version }
+    requires few_dims { length dims.now < count_limit version }
+    requires known { All (λ id. id < length dims.now) dimids.now }
+    ensures { Wrote (W.view sink.old) (W.view sink.new) (count_spelling version (length dimids.now) ++ flat_map (count_spelling version) dimids.now) result }
+{
+    put_count(sink, version, dimids.len() as u64)?;
+    put_dimids(sink, version, dims, dimids)
+}
+
+/// Writes one id of a dimension after another.
+fn put_dimids<W: Sink>(
+    sink: &mut W,
+    version: Version,
+    dims: &[Dim],
+    dimids: &[u64],
+) -> Result<(), WriteFailed>
+    requires few_dims { length dims.now < count_limit version }
+    requires known { All (λ id. id < length dims.now) dimids.now }
+    ensures { Wrote (W.view sink.old) (W.view sink.new) (flat_map (count_spelling version) dimids.now) result }
+{
+    for id in dimids {
+        put_count(sink, version, *id)?;
+    }
+    Ok(())
+}
+
+/// Writes the `vsize` of a variable.
+fn put_vsize<W: Sink>(
+    sink: &mut W,
+    version: Version,
+    dims: &[Dim],
+    var: &Var,
+) -> Result<(), WriteFailed>
+    requires { IsSoundVar version dims.now var.now }
+    ensures { Wrote (W.view sink.old) (W.view sink.new) (count_spelling version (vsize_of version (padded_size dims.now var.now))) result }
+{
+    put_number(
+        sink,
+        version,
+        vsize_of(version, padded_slab_bytes(dims, var)),
+    )
+}
+
+/// The padded slab, or the greatest number of 32 bits where the version has no room for it.
+fn vsize_of(version: Version, padded: u64) -> u64
+    ensures { result ≡ vsize_of version padded }
+{
+    match version {
+        Version::Cdf1 | Version::Cdf2 if padded >= 1 << 32 => u32::MAX as u64,
+        _ => padded,
+    }
+}

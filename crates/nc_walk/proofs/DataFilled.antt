@@ -1,0 +1,263 @@
+-- What is written of all arrays is the data part of the file.
+use Rattle.std.proofs.Common.{◌≡◌, ℕ, zero, suc, ◌+◌, ◌-◌, ◌*◌, ◌/◌, ◌<◌, ◌≤◌, Bool, true, false, List, [], ◌∷◌, ◌++◌, length, get_or, take, drop, replicate, refl, sym, ◌∙◌, ap, arith, length-append, length-take, length-drop, append-nil}
+use Rattle.std.specs.Prelude.{if◌then◌else◌, nat_lt}
+use Rattle.std.specs.List.{concat, flat_map, range_with_len}
+use Rattle.std.proofs.Math.Nat.{mul-le-mul_right}
+use Rattle.std.proofs.lemmas.List.{take_all, nil_from_length}
+use Rattle.nc_base.specs.declared.header.Dim.{Dim}
+use Rattle.nc_base.specs.declared.header.Var.{Var}
+use Rattle.nc_base.specs.declared.header.Header.{Header}
+use Rattle.nc_base.specs.declared.nc_type.NcType.{NcType}
+use Rattle.nc_base.specs.declared.nc_type.NcType.TheVariants.{Byte, Char, Short, Int, Ubyte, Ushort, Uint, Int64, Uint64}
+use Rattle.nc_base.specs.Bytes.{padding_len}
+use Rattle.nc_base.specs.GeneratedFile.{blocks, data_of, fill_bytes, known_records, is_sole_narrow, padded_slab, record_of, slab_in}
+use Rattle.nc_base.specs.OwedValues.{whole_array, whole_arrays, IsListed, AreListed}
+use Rattle.nc_base.specs.Sizes.{is_record_var, is_narrow, record_vars, slab_count, slab_size}
+use Rattle.nc_base.specs.Fill.{fill_value}
+use Rattle.nc_base.specs.Numbers.{bytes_of_number}
+use Rattle.nc_base.specs.Types.{size_of}
+use Rattle.nc_base.proofs.FilePlaces.{flat_map-below}
+use Rattle.nc_base.proofs.IsAt.{runs-all}
+use Rattle.nc_walk.specs.Filled.{ArrayView, array_view, filled_slab, filled_blocks, filled_record, filled_records, filled_slabs, record_arrays}
+use Rattle.nc_walk.proofs.DataParts.{arrays-split, records-append}
+use Rattle.nc_walk.proofs.FilledArrays.{block-filled, record-filled, slabs-filled, whole-length}
+
+-- one list of bytes for each variable
+pub listed-len : (dims : List Dim) (n : ℕ) (vars : List Var) (listed : List (List ℕ)) → AreListed dims n vars listed → length listed ≡ length vars
+listed-len dims n [] [] are = refl
+listed-len dims n [] (array ∷ arrays) are = absurd are
+listed-len dims n (var ∷ vars) [] are = absurd are
+listed-len dims n (var ∷ vars) (array ∷ arrays) are = ap suc (listed-len dims n vars arrays are.1)
+
+-- ---- blocks
+
+pub blocks-filled : (dims : List Dim) (n : ℕ) (vars : List Var) (listed : List (List ℕ)) → AreListed dims n vars listed
+    → filled_blocks dims vars listed ≡ blocks dims vars (whole_arrays dims n vars listed)
+blocks-filled dims n [] [] are = refl
+blocks-filled dims n [] (array ∷ arrays) are = absurd are
+blocks-filled dims n (var ∷ vars) [] are = absurd are
+blocks-filled dims n (var ∷ vars) (array ∷ arrays) are =
+    ap (λ (x : List ℕ). x ++ filled_blocks dims vars arrays) (of_kind (is_record_var dims var) refl)
+    ∙ ap (λ (x : List ℕ). (if is_record_var dims var then [] else padded_slab var (whole_array dims n var array)) ++ x) (blocks-filled dims n vars arrays are.1)
+  where
+    of_kind : (kind : Bool) → is_record_var dims var ≡ kind
+        → (if kind then [] else filled_slab (array_view dims var array) array) ≡ (if kind then [] else padded_slab var (whole_array dims n var array))
+    of_kind true e = refl
+    of_kind false e = sym (block-filled dims n var array e are.0)
+
+-- ---- records
+
+pub record-filled-all : (dims : List Dim) (n r : ℕ) (vars : List Var) (listed : List (List ℕ)) → r < n → AreListed dims n vars listed
+    → filled_records r (record_arrays dims vars listed) ≡ record_of false dims r vars (whole_arrays dims n vars listed)
+record-filled-all dims n r [] [] lt are = refl
+record-filled-all dims n r [] (array ∷ arrays) lt are = absurd are
+record-filled-all dims n r (var ∷ vars) [] lt are = absurd are
+record-filled-all dims n r (var ∷ vars) (array ∷ arrays) lt are =
+    records-append r (if is_record_var dims var then array_view dims var array ∷ [] else []) (record_arrays dims vars arrays)
+    ∙ ap (λ (x : List ℕ). x ++ filled_records r (record_arrays dims vars arrays)) (of_kind (is_record_var dims var) refl)
+    ∙ ap (λ (x : List ℕ). (if is_record_var dims var then padded_slab var (slab_in dims var (whole_array dims n var array) r) else []) ++ x)
+    (record-filled-all dims n r vars arrays lt are.1)
+  where
+    of_kind : (kind : Bool) → is_record_var dims var ≡ kind
+        → filled_records r (if kind then array_view dims var array ∷ [] else []) ≡ (if kind then padded_slab var (slab_in dims var (whole_array dims n var array) r) else [])
+    of_kind true e = append-nil (filled_record r (array_view dims var array)) ∙ sym (record-filled dims n r var array lt e are.0)
+    of_kind false e = refl
+
+-- as many record variables as record arrays
+record-arrays-len : (dims : List Dim) (vars : List Var) (listed : List (List ℕ)) → length listed ≡ length vars → length (record_arrays dims vars listed) ≡ length (record_vars dims vars)
+record-arrays-len dims [] [] same = refl
+record-arrays-len dims [] (array ∷ arrays) same = absurd (omega arith)
+record-arrays-len dims (var ∷ vars) [] same = absurd (omega arith)
+record-arrays-len dims (var ∷ vars) (array ∷ arrays) same = of_kind (is_record_var dims var) (record-arrays-len dims vars arrays (omega arith))
+  where
+    of_kind : (kind : Bool) → length (record_arrays dims vars arrays) ≡ length (record_vars dims vars)
+        → length ((if kind then array_view dims var array ∷ [] else []) ++ record_arrays dims vars arrays) ≡ length (if kind then var ∷ record_vars dims vars else record_vars dims vars)
+    of_kind true e = ap suc e
+    of_kind false e = e
+
+-- none or several record variables
+not-sole : (vars : List Var) → (length vars ≡ 1 → ⊥) → is_sole_narrow vars ≡ false
+not-sole [] several = refl
+not-sole (x ∷ []) several = absurd (several refl)
+not-sole (x ∷ y ∷ xs) several = refl
+
+-- the records of variables of which none or several are record variables
+pub records-filled : (dims : List Dim) (n : ℕ) (vars : List Var) (listed : List (List ℕ)) → AreListed dims n vars listed → (length (record_arrays dims vars listed) ≡ 1 → ⊥)
+    → flat_map (λ r. filled_records r (record_arrays dims vars listed)) (range_with_len 0 n)
+    ≡ flat_map (λ r. record_of (is_sole_narrow (record_vars dims vars)) dims r vars (whole_arrays dims n vars listed)) (range_with_len 0 n)
+records-filled dims n vars listed are several =
+    let padded : is_sole_narrow (record_vars dims vars) ≡ false =
+    not-sole (record_vars dims vars) (λ one. several (record-arrays-len dims vars listed (listed-len dims n vars listed are) ∙ one)) in
+    flat_map-below (λ r. filled_records r (record_arrays dims vars listed)) (λ r. record_of (is_sole_narrow (record_vars dims vars)) dims r vars (whole_arrays dims n vars listed)) 0 n
+    (λ r low high.
+    record-filled-all dims n r vars listed (omega arith) are
+    ∙ ap (λ (b : Bool). record_of b dims r vars (whole_arrays dims n vars listed)) (sym padded))
+
+pub no-records : (n k : ℕ) → flat_map (λ r. filled_records r []) (range_with_len k n) ≡ []
+no-records zero k = refl
+no-records (suc n) k = no-records n (k + 1)
+
+-- ---- one record variable
+
+-- where there is no record variable, a record has no slab
+none-of : (is_sole : Bool) (dims : List Dim) (n r : ℕ) (vars : List Var) (listed : List (List ℕ)) → AreListed dims n vars listed → record_arrays dims vars listed ≡ []
+    → record_of is_sole dims r vars (whole_arrays dims n vars listed) ≡ []
+none-of is_sole dims n r [] [] are none = refl
+none-of is_sole dims n r [] (array ∷ arrays) are none = absurd are
+none-of is_sole dims n r (var ∷ vars) [] are none = absurd are
+none-of is_sole dims n r (var ∷ vars) (array ∷ arrays) are none = of_kind (none-of is_sole dims n r vars arrays are.1) (is_record_var dims var) none
+  where
+    slab : List ℕ
+    slab = slab_in dims var (whole_array dims n var array) r
+
+    of_kind : (record_arrays dims vars arrays ≡ [] → record_of is_sole dims r vars (whole_arrays dims n vars arrays) ≡ []) → (kind : Bool)
+        → (if kind then array_view dims var array ∷ [] else []) ++ record_arrays dims vars arrays ≡ []
+        → (if kind then (if is_sole then slab else padded_slab var slab) else []) ++ record_of is_sole dims r vars (whole_arrays dims n vars arrays) ≡ []
+    of_kind later true e = absurd cc
+    of_kind later false e = later e
+
+-- the sole record variable
+record IsSole (dims : List Dim) (n : ℕ) (vars : List Var) (listed : List (List ℕ)) (view : ArrayView) : Type 0 where
+  pub var : Var
+  pub bytes : List ℕ
+  pub view_is : view ≡ array_view dims var bytes
+  pub growing : is_record_var dims var ≡ true
+  pub listed_is : IsListed dims n var bytes
+  pub vars_are : record_vars dims vars ≡ var ∷ []
+  pub record_is : (is_sole : Bool) (r : ℕ) → record_of is_sole dims r vars (whole_arrays dims n vars listed)
+      ≡ (if is_sole then slab_in dims var (whole_array dims n var bytes) r else padded_slab var (slab_in dims var (whole_array dims n var bytes) r))
+
+sole-found : (dims : List Dim) (n : ℕ) (vars : List Var) (listed : List (List ℕ)) (view : ArrayView) → AreListed dims n vars listed → record_arrays dims vars listed ≡ view ∷ []
+    → IsSole dims n vars listed view
+sole-found dims n [] [] view are one = absurd cc
+sole-found dims n [] (array ∷ arrays) view are one = absurd are
+sole-found dims n (var ∷ vars) [] view are one = absurd are
+sole-found dims n (var ∷ vars) (array ∷ arrays) view are one = of_kind (sole-found dims n vars arrays view are.1) (is_record_var dims var) refl one
+  where
+    others : List (List ℕ)
+    others = whole_arrays dims n vars arrays
+
+    of_kind : (record_arrays dims vars arrays ≡ view ∷ [] → IsSole dims n vars arrays view) → (kind : Bool) → is_record_var dims var ≡ kind
+        → (if kind then array_view dims var array ∷ [] else []) ++ record_arrays dims vars arrays ≡ view ∷ [] → IsSole dims n (var ∷ vars) (array ∷ arrays) view
+    of_kind found true e first =
+        let none : record_arrays dims vars arrays ≡ [] = cc in
+        let no_vars : record_vars dims vars ≡ [] =
+        nil_from_length (record_vars dims vars) (sym (record-arrays-len dims vars arrays (listed-len dims n vars arrays are.1)) ∙ ap (λ (xs : List ArrayView). length xs) none) in
+        let slab = λ (r : ℕ). slab_in dims var (whole_array dims n var array) r in
+        record {
+          var = var;
+          bytes = array;
+          view_is = cc;
+          growing = e;
+          listed_is = are.0;
+          vars_are = ap (λ (b : Bool). if b then var ∷ record_vars dims vars else record_vars dims vars) e ∙ ap (λ (xs : List Var). var ∷ xs) no_vars;
+          record_is = λ is_sole r.
+              ap (λ (b : Bool). (if b then (if is_sole then slab r else padded_slab var (slab r)) else []) ++ record_of is_sole dims r vars others) e
+              ∙ ap (λ (x : List ℕ). (if is_sole then slab r else padded_slab var (slab r)) ++ x) (none-of is_sole dims n r vars arrays are.1 none)
+              ∙ append-nil (if is_sole then slab r else padded_slab var (slab r));
+        }
+    of_kind found false e later =
+        let rest = found later in
+        record {
+          var = rest.var;
+          bytes = rest.bytes;
+          view_is = rest.view_is;
+          growing = rest.growing;
+          listed_is = rest.listed_is;
+          vars_are = ap (λ (b : Bool). if b then var ∷ record_vars dims vars else record_vars dims vars) e ∙ rest.vars_are;
+          record_is = λ is_sole r.
+              ap (λ (b : Bool).
+              (if b then (if is_sole then slab_in dims var (whole_array dims n var array) r else padded_slab var (slab_in dims var (whole_array dims n var array) r)) else [])
+              ++ record_of is_sole dims r vars others) e
+              ∙ rest.record_is is_sole r;
+        }
+
+-- values of four bytes or more are padded by nothing
+wide-padding : (ty : NcType) (c : ℕ) → nat_lt (size_of ty) 4 ≡ false → padding_len (c * size_of ty) ≡ 0
+wide-padding Byte c wide = absurd cc
+wide-padding Char c wide = absurd cc
+wide-padding Short c wide = absurd cc
+wide-padding Int c wide = omega arith
+wide-padding Ubyte c wide = absurd cc
+wide-padding Ushort c wide = absurd cc
+wide-padding Uint c wide = omega arith
+wide-padding Int64 c wide = omega arith
+wide-padding Uint64 c wide = omega arith
+
+no-values : (ty : NcType) → 0 / size_of ty ≡ 0
+no-values Byte = refl
+no-values Char = refl
+no-values Short = refl
+no-values Int = refl
+no-values Ubyte = refl
+no-values Ushort = refl
+no-values Uint = refl
+no-values Int64 = refl
+no-values Uint64 = refl
+
+-- the slab of a sole record variable stands without padding, whatever its type
+unpadded : (dims : List Dim) (var : Var) (slab : List ℕ) (narrow : Bool) → is_narrow var ≡ narrow → length slab ≡ slab_size dims var
+    → (if narrow then slab else padded_slab var slab) ≡ slab
+unfolding padded_slab fill_bytes
+unpadded dims var slab true e long = refl
+unpadded dims var slab false e long =
+    let none : padding_len (length slab) ≡ 0 = ap (λ (k : ℕ). padding_len k) long ∙ wide-padding var.ty (slab_count dims var) e in
+    ap (λ (k : ℕ). slab ++ concat (replicate (k / size_of var.ty) (bytes_of_number var.ty (fill_value var)))) none
+    ∙ ap (λ (k : ℕ). slab ++ concat (replicate k (bytes_of_number var.ty (fill_value var)))) (no-values var.ty)
+    ∙ append-nil slab
+
+-- the records of a sole record variable are its array
+pub sole-filled : (dims : List Dim) (n : ℕ) (vars : List Var) (listed : List (List ℕ)) (view : ArrayView) → AreListed dims n vars listed → record_arrays dims vars listed ≡ view ∷ []
+    → filled_slabs n view ≡ flat_map (λ r. record_of (is_sole_narrow (record_vars dims vars)) dims r vars (whole_arrays dims n vars listed)) (range_with_len 0 n)
+sole-filled dims n vars listed view are one =
+    let sole = sole-found dims n vars listed view are one in
+    let var = sole.var in
+    let s : ℕ = slab_size dims var in
+    let whole = whole_array dims n var sole.bytes in
+    let long : length whole ≡ n * s = whole-length dims n var sole.bytes sole.growing sole.listed_is in
+    let narrow : is_sole_narrow (record_vars dims vars) ≡ is_narrow var = ap is_sole_narrow sole.vars_are in
+    ap (filled_slabs n) sole.view_is
+    ∙ sym (slabs-filled dims n var sole.bytes sole.growing sole.listed_is)
+    ∙ sym (runs-all whole s n long)
+    ∙ flat_map-below (slab_in dims var whole) (λ r. record_of (is_sole_narrow (record_vars dims vars)) dims r vars (whole_arrays dims n vars listed)) 0 n
+    (λ r low high.
+    let up : (r + 1) * s ≤ n * s = mul-le-mul_right s (let h : r + 1 ≤ n = omega arith in h) in
+    let next : (r + 1) * s ≡ r * s + s = omega arith in
+    let slab_long : length (slab_in dims var whole r) ≡ s = omega (arith, up, next, long, length-take s (drop (r * s) whole), length-drop (r * s) whole) in
+    sym (unpadded dims var (slab_in dims var whole r) (is_narrow var) refl slab_long)
+    ∙ ap (λ (b : Bool). if b then slab_in dims var whole r else padded_slab var (slab_in dims var whole r)) (sym narrow)
+    ∙ sym (sole.record_is (is_sole_narrow (record_vars dims vars)) r))
+
+-- ---- the record arrays that are gathered
+
+pub gathered-all : (dims : List Dim) (vars : List Var) (listed : List (List ℕ)) (end : ℕ) (gathered : List ArrayView) → length listed ≡ length vars
+    → gathered ≡ record_arrays dims (take end vars) (take end listed) → end ≡ length vars → gathered ≡ record_arrays dims vars listed
+gathered-all dims vars listed end gathered same is all =
+    is
+    ∙ ap (λ (xs : List Var). record_arrays dims xs (take end listed)) (take_all end vars (omega (arith, all)))
+    ∙ ap (record_arrays dims vars) (take_all end listed (omega (arith, all, same)))
+
+pub gathered-few : (dims : List Dim) (vars : List Var) (listed : List (List ℕ)) (end : ℕ) (gathered : List ArrayView)
+    → gathered ≡ record_arrays dims (take end vars) (take end listed) → length gathered ≤ length (record_arrays dims vars listed)
+gathered-few dims vars listed end gathered is =
+    let before = record_arrays dims (take end vars) (take end listed) in
+    let later = record_arrays dims (drop end vars) (drop end listed) in
+    omega (arith, ap (λ (xs : List ArrayView). length xs) is, ap (λ (xs : List ArrayView). length xs) (arrays-split dims vars listed end), length-append before later)
+
+-- one array alone
+pub one-view : (views : List ArrayView) (view : ArrayView) → 1 ≤ length views → length views ≤ 1 → view ≡ get_or views 0 view → views ≡ view ∷ []
+one-view [] view some one is = absurd (omega arith)
+one-view (x ∷ []) view some one is = ap (λ (v : ArrayView). v ∷ []) (sym is)
+one-view (x ∷ y ∷ views) view some one is = absurd (omega arith)
+
+-- ---- both parts
+
+pub data-filled : (h : Header) (listed : List (List ℕ)) → AreListed h.dims (known_records h.numrecs) h.vars listed
+    → data_of h (whole_arrays h.dims (known_records h.numrecs) h.vars listed)
+    ≡ filled_blocks h.dims h.vars listed
+    ++ flat_map (λ r. record_of (is_sole_narrow (record_vars h.dims h.vars)) h.dims r h.vars (whole_arrays h.dims (known_records h.numrecs) h.vars listed)) (range_with_len 0 (known_records h.numrecs))
+unfolding data_of
+data-filled h listed are =
+    ap (λ (x : List ℕ).
+    x ++ flat_map (λ r. record_of (is_sole_narrow (record_vars h.dims h.vars)) h.dims r h.vars (whole_arrays h.dims (known_records h.numrecs) h.vars listed)) (range_with_len 0 (known_records h.numrecs)))
+    (sym (blocks-filled h.dims (known_records h.numrecs) h.vars listed are))

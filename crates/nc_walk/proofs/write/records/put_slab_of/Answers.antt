@@ -1,0 +1,10 @@
+use Rattle.std.proofs.Common.{◌≡◌, false, ◌∙◌, ap, sym}
+use Rattle.nc_base.specs.Sizes.{has_records, is_record_var}
+use Rattle.nc_walk.proofs.Unwritten.{appended-nothing}
+use Rattle.nc_walk.proofs.write.records.put_slab_of.Goals as goal
+
+pub returns-then-not-has_records : goal.returns-then-not-has_records
+returns-then-not-has_records g c =
+    let e : is_record_var c.args.dims.now c.args.var.now ≡ false =
+    ap (has_records c.args.dims.now) (sym c.as_slice.ensures) ∙ sym c.has_records.ensures ∙ c.if-not-has_records.true in
+    rw e (appended-nothing _)

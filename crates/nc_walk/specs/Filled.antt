@@ -1,0 +1,51 @@
+-- What is written of a variable's array: the bytes that are listed, and fill values in place of those that are not.
+use Rattle.std.specs.Prelude.{ℕ, ◌+◌, ◌-◌, ◌*◌, List, [], ◌∷◌, ◌++◌, length, take, drop, replicate, if◌then◌else◌}
+use Rattle.std.specs.List.{concat, flat_map}
+use Rattle.nc_base.specs.declared.header.Dim.{Dim}
+use Rattle.nc_base.specs.declared.header.Var.{Var}
+use Rattle.nc_base.specs.declared.header.Header.{Header}
+use Rattle.nc_base.specs.Bytes.{padding_len}
+use Rattle.nc_base.specs.GeneratedFile.{fill_bytes, known_records}
+use Rattle.nc_base.specs.OwedValues.{whole_arrays}
+use Rattle.nc_base.specs.Sizes.{is_record_var, slab_size}
+
+-- the first n bytes of a unit that is repeated
+unfoldable pub repeated : List ℕ → ℕ → List ℕ
+repeated unit n = take n (concat (replicate n unit))
+
+-- a variable's array as far as it is listed, the bytes of one of its slabs, and eight bytes of its fill values
+pub record ArrayView : Type 0 where
+  pub listed : List ℕ
+  pub slab : ℕ
+  pub unit : List ℕ
+
+-- the listed bytes of a slab, and fill values up to the slab's end and on to the next multiple of four
+abbrev pub filled_slab : ArrayView → List ℕ → List ℕ
+filled_slab array part = part ++ repeated array.unit (array.slab - length part + padding_len array.slab)
+
+-- the slab of record r
+abbrev pub filled_record : ℕ → ArrayView → List ℕ
+filled_record r array = filled_slab array (take array.slab (drop (r * array.slab) array.listed))
+
+-- the slabs of n records, none of them padded
+abbrev pub filled_slabs : ℕ → ArrayView → List ℕ
+filled_slabs n array = array.listed ++ repeated array.unit (n * array.slab - length array.listed)
+
+-- the array of a variable, of which these bytes are listed
+abbrev pub array_view : List Dim → Var → List ℕ → ArrayView
+array_view dims var listed = record { listed = listed; slab = slab_size dims var; unit = fill_bytes var 8 }
+
+-- the blocks of the variables that aren't record variables
+abbrev pub filled_blocks : List Dim → List Var → List (List ℕ) → List ℕ
+filled_blocks dims (var ∷ vars) (listed ∷ others) =
+    (if is_record_var dims var then [] else filled_slab (array_view dims var listed) listed) ++ filled_blocks dims vars others
+filled_blocks dims _ _ = []
+
+-- the arrays of the record variables
+abbrev pub record_arrays : List Dim → List Var → List (List ℕ) → List ArrayView
+record_arrays dims (var ∷ vars) (listed ∷ others) = (if is_record_var dims var then array_view dims var listed ∷ [] else []) ++ record_arrays dims vars others
+record_arrays dims _ _ = []
+
+-- a record of these variables: a slab of each
+abbrev pub filled_records : ℕ → List ArrayView → List ℕ
+filled_records r arrays = flat_map (filled_record r) arrays

@@ -1,0 +1,46 @@
+//! The blocks of the variables that aren't record variables.
+
+ghost use Rattle.std.specs.Prelude.{◌≡◌, ◌≤◌, All, [], if◌then◌else◌, length};
+ghost use Rattle.devices.specs.Sinks.{Wrote};
+ghost use Rattle.nc_base.specs.Headers.{IsSound};
+ghost use Rattle.nc_base.specs.Sizes.{is_record_var, slab_limit, slab_size};
+ghost use Rattle.nc_walk.specs.Filled.{array_view, filled_blocks, filled_slab};
+
+use super::array::Array;
+use devices::{Sink, WriteFailed};
+use nc_base::{Dim, Header, Sequence, Var, has_records};
+
+/// Writes the blocks of the variables that aren't record variables, each with its padding.
+pub(super) fn put_blocks<W: Sink>(
+    sink: &mut W,
+    header: &Header,
+    arrays: &[Sequence<u8>],
+) -> Result<(), WriteFailed>
+    requires sound { IsSound header.now }
+    requires one_each { length arrays.now ≡ length header.now.vars }
+    ensures { Wrote (W.view sink.old) (W.view sink.new) (filled_blocks header.now.dims header.now.vars arrays.now) result }
+{
+    let dims = header.dims.as_slice();
+    let vars = header.vars.as_slice();
+    for v in 0..vars.len() {
+        put_block(sink, dims, &vars[v], arrays[v].as_slice())?;
+    }
+    Ok(())
+}
+
+/// Writes the block of a variable; nothing of a record variable.
+fn put_block<W: Sink>(
+    sink: &mut W,
+    dims: &[Dim],
+    var: &Var,
+    listed: &[u8],
+) -> Result<(), WriteFailed>
+    requires { slab_size dims.now var.now ≤ slab_limit }
+    ensures { Wrote (W.view sink.old) (W.view sink.new)
+        (if is_record_var dims.now var.now then [] else filled_slab (array_view dims.now var.now listed.now) listed.now) result }
+{
+    if has_records(dims, var.dimids.as_slice()) {
+        return Ok(());
+    }
+    Array::of(dims, var, listed).put_block(sink)
+}

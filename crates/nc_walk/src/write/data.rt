@@ -1,0 +1,32 @@
+//! The data part of a file.
+
+ghost use Rattle.devices.specs.Sinks.{Wrote};
+ghost use Rattle.nc_base.specs.GeneratedFile.{data_of, known_records};
+ghost use Rattle.nc_base.specs.Headers.{IsSound};
+ghost use Rattle.nc_base.specs.OwedValues.{AreListed, whole_arrays};
+
+use super::blocks::put_blocks;
+use super::records::put_records;
+use devices::{Sink, WriteFailed};
+use nc_base::{Header, Sequence};
+
+/// Writes the data part of a file: the blocks of the variables that aren't record variables, in header order, and after them
+/// one record after the other (`data` of the NetCDF Classic Format Specification). The arrays are written straight from the
+/// slices, without memory: a block or a slab in one piece. An array may lack values at its end; they are written as the fill
+/// value of the variable, as is padding.
+///
+/// # Errors
+///
+/// The sink failed. It took some prefix of the data part.
+pub fn write_data<W: Sink>(
+    sink: &mut W,
+    header: &Header,
+    arrays: &[Sequence<u8>],
+) -> Result<(), WriteFailed>
+    requires sound { IsSound header.now }
+    requires listed { AreListed header.now.dims (known_records header.now.numrecs) header.now.vars arrays.now }
+    ensures { Wrote (W.view sink.old) (W.view sink.new) (data_of header.now (whole_arrays header.now.dims (known_records header.now.numrecs) header.now.vars arrays.now)) result }
+{
+    put_blocks(sink, header, arrays)?;
+    put_records(sink, header, arrays)
+}

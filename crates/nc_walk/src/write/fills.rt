@@ -1,0 +1,75 @@
+//! Fill values, as many as it takes, out of a small buffer.
+
+ghost use Rattle.std.specs.Prelude.{◌≡◌, ◌++◌};
+ghost use Rattle.devices.specs.Sinks.{Wrote};
+ghost use Rattle.nc_base.specs.GeneratedFile.{fill_bytes};
+ghost use Rattle.nc_walk.specs.Filled.{repeated};
+
+use devices::{Sink, WriteFailed, put};
+use nc_base::{NcType, Var, fill_of};
+
+/// How often the unit stands in the buffer.
+const UNITS: usize = 1024;
+
+/// Writes the first `n` bytes of the unit, repeated.
+pub(super) fn put_fills<W: Sink>(sink: &mut W, unit: [u8; 8], n: u128) -> Result<(), WriteFailed>
+    ensures { Wrote (W.view sink.old) (W.view sink.new) (repeated unit n) result }
+{
+    if n <= 8 {
+        return put(sink, &unit[..n as usize]);
+    }
+    put_many_fills(sink, unit, n)
+}
+
+/// The same in pieces as long as the buffer.
+fn put_many_fills<W: Sink>(sink: &mut W, unit: [u8; 8], n: u128) -> Result<(), WriteFailed>
+    ensures { Wrote (W.view sink.old) (W.view sink.new) (repeated unit n) result }
+{
+    let units = [unit; UNITS];
+    let buffer = units.as_flattened();
+    let mut left = n;
+    while left > 0 {
+        let piece = left.min(buffer.len() as u128);
+        put(sink, &buffer[..piece as usize])?;
+        left -= piece;
+    }
+    Ok(())
+}
+
+/// Eight bytes of a variable's fill values, however many values these are.
+#[tactic(auto, unfolding(nc_base::specs::GeneratedFile::fill_bytes))]
+pub(super) fn fill_unit(var: &Var) -> [u8; 8]
+    ensures { result ≡ fill_bytes var.now 8 }
+{
+    let fill = fill_of(var);
+    match var.ty {
+        NcType::Byte => eight_times((fill as i8).to_be_bytes()),
+        NcType::Char | NcType::Ubyte => eight_times((fill as u8).to_be_bytes()),
+        NcType::Short => four_times((fill as i16).to_be_bytes()),
+        NcType::Ushort => four_times((fill as u16).to_be_bytes()),
+        NcType::Int => twice((fill as i32).to_be_bytes()),
+        NcType::Uint => twice((fill as u32).to_be_bytes()),
+        NcType::Int64 => (fill as i64).to_be_bytes(),
+        NcType::Uint64 => (fill as u64).to_be_bytes(),
+    }
+}
+
+fn eight_times(value: [u8; 1]) -> [u8; 8]
+    ensures { result ≡ value ++ (value ++ (value ++ (value ++ (value ++ (value ++ (value ++ value)))))) }
+{
+    [value[0]; 8]
+}
+
+fn four_times(value: [u8; 2]) -> [u8; 8]
+    ensures { result ≡ value ++ (value ++ (value ++ value)) }
+{
+    let [a, b] = value;
+    [a, b, a, b, a, b, a, b]
+}
+
+fn twice(value: [u8; 4]) -> [u8; 8]
+    ensures { result ≡ value ++ value }
+{
+    let [a, b, c, d] = value;
+    [a, b, c, d, a, b, c, d]
+}

@@ -1,0 +1,153 @@
+-- A text's file stands ready to be written.
+use Rattle.std.proofs.Common.{◌≡◌, ◌≤◌, ◌<◌, ◌⊎◌, inl, inr, ◌∙◌, ℕ, List, [], ◌++◌, length, Bool, true, false, if◌then◌else◌, Result, Ok, Err, refl, sym, ap, subst}
+use Rattle.std.specs.Prelude.{All}
+use Rattle.nc_base.specs.Bytes.{AreBytes}
+use Rattle.nc_base.specs.declared.dataset.Dataset.{Dataset}
+use Rattle.nc_base.specs.declared.header.Header.{Header}
+use Rattle.nc_base.specs.declared.header.NumRecs.{NumRecs}
+use Rattle.nc_base.specs.declared.header.Var.{Var}
+use Rattle.nc_base.specs.declared.version.Version.{Version}
+use Rattle.nc_base.specs.GeneratedFile.{data_of, file_of, fits, header_spelling, known_records, with_begins}
+use Rattle.nc_base.specs.Headers.{AreArrays, IsGood, IsSound}
+use Rattle.nc_base.specs.OwedValues.{AreListed, whole_arrays}
+use Rattle.nc_base.specs.Versions.{offset_limit}
+use Rattle.devices.specs.Sinks.{SinkView}
+use Rattle.nc_file.specs.Begins.{offset_too_large}
+use Rattle.nc_file.specs.declared.write.begins.OffsetTooLarge.{OffsetTooLarge as NoRoom}
+use Rattle.nc_base.proofs.Fitting.{IsSound-with_begins, begins-below}
+use Rattle.cdl_text.specs.declared.fault.CdlFault.{CdlFault}
+use Rattle.cdl_parse.specs.DeclaredDatasets.{dataset_of_declared}
+use Rattle.cdl_parse.specs.declared.declared_values.Declared.{Declared}
+use Rattle.cdl_meaning.specs.Meaning.{meaning, text_limit}
+use Rattle.cdl_parse.specs.Parsing.{Answers, as_dataset, refused}
+use Rattle.cdl_laws.proofs.MeaningsAreGood.{meanings_are_good}
+use Rattle.ncgen.specs.Generated.{Generates, Refuses, file_or_fault, generated}
+use Rattle.ncgen.specs.Prepared.{AreFilledUp, IsReady, Prepares, file_of_prepared, listed_data}
+use Rattle.ncgen.specs.declared.fault.GenFault.{GenFault}
+use Rattle.ncgen.specs.declared.fault.GenFault.TheVariants.{Cdl, OffsetTooLarge, WriteFailed}
+use Rattle.ncgen.specs.declared.prepared.Prepared.{Prepared}
+use Rattle.ncgen.proofs.ListedValues.{AreTheListed, the-listed}
+use Rattle.ncgen.proofs.Placing.{data-after, listed-after}
+
+-- ---- faults of the text
+
+pub text-fault : (text : List ℕ) (v : Version) (fault : CdlFault) → Answers (as_dataset (Err fault)) (meaning text v) → Refuses (generated text v) (Cdl fault)
+unfolding generated
+text-fault text v fault (inl stated) = inl (ap file_or_fault (sym stated))
+text-fault text v fault (inr memory) = inr (ap (λ (r : Result Dataset CdlFault). Cdl (fault-or refused r)) memory)
+  where
+    fault-or : CdlFault → Result Dataset CdlFault → CdlFault
+    fault-or other (Ok d) = other
+    fault-or other (Err fault) = fault
+
+-- ---- what a text declares
+
+means : (text : List ℕ) (v : Version) (d : Declared) → Answers (as_dataset (Ok d)) (meaning text v) → meaning text v ≡ Ok (dataset_of_declared d)
+means text v d (inl stated) = sym stated
+means text v d (inr memory) = absurd (ok-is-no-err (dataset_of_declared d) refused memory)
+  where
+    is-ok : Result Dataset CdlFault → Type 0
+    is-ok (Ok d) = Unit {0}
+    is-ok (Err fault) = ⊥
+
+    ok-is-no-err : (d : Dataset) (fault : CdlFault) → (Ok d ≡ Err fault) → ⊥
+    ok-is-no-err d fault e = subst is-ok e tt
+
+module _ (text : List ℕ) (v : Version) (d : Declared) (bytes : AreBytes text) (few : length text ≤ text_limit) (answers : Answers (as_dataset (Ok d)) (meaning text v)) where
+  is-meaning : meaning text v ≡ Ok (dataset_of_declared d)
+  is-meaning = means text v d answers
+
+  pub good : IsGood (dataset_of_declared d)
+  good = (meanings_are_good text v (dataset_of_declared d) bytes few is-meaning).0
+
+  abbrev n : ℕ
+  n = known_records d.header.numrecs
+
+  arrays : AreArrays d.header.dims n d.header.vars (whole_arrays d.header.dims n d.header.vars d.listed)
+  arrays = subst (λ (k : ℕ). AreArrays d.header.dims k d.header.vars (whole_arrays d.header.dims n d.header.vars d.listed))
+      (sym (ap (λ (h : Header). known_records h.numrecs) good.is_bare)) good.arrays
+
+  -- the dataset doesn't fit
+  pub too-large : fits d.header ≡ false → Refuses (generated text v) OffsetTooLarge
+  unfolding generated
+  too-large e = inl (ap file_or_fault is-meaning ∙ ap (λ (b : Bool). if b then Ok (file_of (dataset_of_declared d)) else Err OffsetTooLarge) e)
+
+  module _ (listed : List (List ℕ)) (filled : AreFilledUp d.header.vars d.listed listed) (fit : fits d.header ≡ true) where
+    the : AreTheListed d.header.dims n d.header.vars d.listed listed
+    the = the-listed d.header.dims n d.header.vars d.listed listed arrays filled
+
+    abbrev prepared : Prepared
+    prepared = record { header = with_begins d.header; listed = listed }
+
+    is-ready : IsReady prepared
+    unfolding with_begins
+    is-ready = record {
+      sound = IsSound-with_begins d.header good.is_sound;
+      begins = begins-below d.header fit;
+      listed = listed-after d.header d.header.dims n [] d.header.vars listed the.are;
+    }
+
+    is-file : file_of (dataset_of_declared d) ≡ file_of_prepared prepared
+    unfolding file_of file_of_prepared
+    is-file =
+        ap (λ (values : List ℕ). header_spelling (with_begins d.header) ++ values)
+        (ap (λ (xs : List (List ℕ)). data_of d.header xs) (sym the.same) ∙ sym (data-after d.header listed))
+
+    pub ready : Prepares (generated text v) (Ok prepared)
+    unfolding generated
+    ready = (is-ready,
+        ap file_or_fault is-meaning ∙ ap (λ (b : Bool). if b then Ok (file_of (dataset_of_declared d)) else Err OffsetTooLarge) fit ∙ ap Ok is-file)
+
+-- ---- the answer of with_begins
+
+pub record Fitting (h placed : Header) : Type 0 where
+  pub fit : fits h ≡ true
+  pub same : placed ≡ with_begins h
+
+abbrev Answer : Type 0
+Answer = Result Header NoRoom
+
+abbrev IsPlaced : Answer → Type 0
+IsPlaced (Ok h) = Unit {0}
+IsPlaced (Err e) = ⊥
+
+abbrev or-placed : Header → Answer → Header
+or-placed other (Ok h) = h
+or-placed other (Err e) = other
+
+pub placed : (h : Header) (b : Bool) (h' : Header) → fits h ≡ b → Ok h' ≡ (if b then Ok (with_begins h) else Err offset_too_large) → Fitting h h'
+placed h true h' fit e = record { fit = fit; same = ap (or-placed h') e }
+placed h false h' fit e = absurd (subst IsPlaced e tt)
+
+pub not-placed : (h : Header) (b : Bool) (fault : NoRoom) → fits h ≡ b → Err fault ≡ (if b then Ok (with_begins h) else Err offset_too_large) → fits h ≡ false
+not-placed h true fault fit e = absurd (subst IsPlaced (sym e) tt)
+not-placed h false fault fit e = fit
+
+-- ---- a refusal writes nothing
+
+abbrev IsOfText : GenFault → Type 0
+IsOfText (Cdl fault) = Unit {0}
+IsOfText OffsetTooLarge = Unit {0}
+IsOfText WriteFailed = ⊥
+
+abbrev StatesText : Result (List ℕ) GenFault → Type 0
+StatesText (Ok file) = Unit {0}
+StatesText (Err fault) = IsOfText fault
+
+fitting-states : (d : Dataset) (b : Bool) → StatesText (if b then Ok (file_of d) else Err OffsetTooLarge)
+fitting-states d true = tt
+fitting-states d false = tt
+
+states : (m : Result Dataset CdlFault) → StatesText (file_or_fault m)
+states (Ok d) = fitting-states d (fits d.header)
+states (Err fault) = tt
+
+of-text : (text : List ℕ) (v : Version) (fault : GenFault) → Refuses (generated text v) fault → IsOfText fault
+unfolding generated
+of-text text v fault (inl stated) = subst StatesText stated (states (meaning text v))
+of-text text v fault (inr memory) = subst IsOfText (sym memory) tt
+
+pub refused-text : (text : List ℕ) (v : Version) (sink : SinkView) (fault : GenFault) → Refuses (generated text v) fault → Generates {A = Unit {0}} (generated text v) sink sink (Err fault)
+refused-text text v sink (Cdl fault) refuses = (refl, refuses)
+refused-text text v sink OffsetTooLarge refuses = (refl, refuses)
+refused-text text v sink WriteFailed refuses = absurd (of-text text v WriteFailed refuses)

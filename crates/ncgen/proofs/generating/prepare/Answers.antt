@@ -1,0 +1,45 @@
+use Rattle.std.proofs.Common.{rules, ◌≡◌, ◌≤◌, length, Ok, Err, refl, sym, subst}
+use Rattle.nc_base.specs.Bytes.{AreBytes}
+use Rattle.nc_base.specs.declared.header.Header.{Header}
+use Rattle.ncgen.specs.Generated.{generated}
+use Rattle.ncgen.specs.Prepared.{AreFilledUp, Prepares}
+use Rattle.ncgen.specs.declared.fault.GenFault.TheVariants.{Cdl, OffsetTooLarge}
+use Rattle.ncgen.specs.declared.prepared.Prepared.{Prepared}
+use Rattle.nc_base.specs.GeneratedFile.{fits}
+use Rattle.ncgen.proofs.Preparing.{good, not-placed, placed, ready, text-fault, too-large}
+use Rattle.ncgen.proofs.generating.prepare.Goals as goal
+
+pub returns-in_err-header : goal.returns-in_err-header
+returns-in_err-header c =
+    let text = c.args.text.now in
+    let v = c.args.version in
+    let fault = c.in_err-header.field-0.0 in
+    let is : c.from_residual.result ≡ Err (Cdl fault) = search rules in
+    subst (Prepares (generated text v)) (sym is) (text-fault text v fault c.in_err-header.ensures)
+
+pub with_begins-requires : goal.with_begins-requires
+with_begins-requires c =
+    let bytes : AreBytes c.args.text.now = search rules in
+    (good c.args.text.now c.args.version c.in_ok-header.field-0 bytes c.requires c.in_ok-header.ensures).is_sound
+
+pub returns-in_err-header-2 : goal.returns-in_err-header-2
+returns-in_err-header-2 c =
+    let text = c.args.text.now in
+    let v = c.args.version in
+    let d = c.in_ok-header.field-0 in
+    let bytes : AreBytes text = search rules in
+    let is : c.from_residual-in_err-header-2.result ≡ Err OffsetTooLarge = search rules in
+    let none = not-placed d.header (fits d.header) c.in_err-header-2.field-0.0 refl c.in_err-header-2.ensures in
+    subst (Prepares (generated text v)) (sym is) (too-large text v d bytes c.requires c.in_ok-header.ensures none)
+
+pub returns : goal.returns
+returns c =
+    let text = c.args.text.now in
+    let v = c.args.version in
+    let d = c.in_ok-header.field-0 in
+    let listed = c.in_ok-listed.listed in
+    let bytes : AreBytes text = search rules in
+    let p = placed d.header (fits d.header) c.in_ok-header-2.header refl c.in_ok-header-2.ensures in
+    let filled : AreFilledUp d.header.vars d.listed listed = search rules in
+    subst (λ (h : Header). Prepares (generated text v) (Ok (record { header = h; listed = listed }))) (sym p.same)
+        (ready text v d bytes c.requires c.in_ok-header.ensures listed filled p.fit)

@@ -1,0 +1,43 @@
+-- A file that stands ready to be written.
+use Rattle.std.specs.Prelude.{◌≡◌, ◌<◌, ℕ, List, [], ◌∷◌, ◌++◌, All, Result, Ok, Err}
+use Rattle.nc_base.specs.declared.header.Header.{Header}
+use Rattle.nc_base.specs.declared.header.Var.{Var}
+use Rattle.nc_base.specs.GeneratedFile.{data_of, header_spelling, known_records}
+use Rattle.nc_base.specs.Headers.{IsSound}
+use Rattle.nc_base.specs.OwedValues.{AreListed, fills, whole_arrays}
+use Rattle.nc_base.specs.Versions.{offset_limit}
+use Rattle.ncgen.specs.Generated.{Refuses}
+use Rattle.ncgen.specs.declared.fault.GenFault.{GenFault}
+use Rattle.ncgen.specs.declared.prepared.Prepared.{Prepared}
+
+-- the values of a header's variables, of which these are listed
+abbrev pub listed_data : Header → List (List ℕ) → List ℕ
+listed_data h listed = data_of h (whole_arrays h.dims (known_records h.numrecs) h.vars listed)
+
+-- the file
+unfoldable pub file_of_prepared : Prepared → List ℕ
+file_of_prepared p = header_spelling p.header ++ listed_data p.header p.listed
+
+-- its header is sound, each begin fits its field, and of each variable no more is listed than it has
+pub record IsReady (p : Prepared) : Type 0 where
+  pub sound : IsSound p.header
+  pub begins : All (λ (var : Var). var.begin_at < offset_limit p.header.version) p.header.vars
+  pub listed : AreListed p.header.dims (known_records p.header.numrecs) p.header.vars p.listed
+
+-- the stated file stands ready to be written; or there is the stated fault, or want of memory
+abbrev pub Prepares : Result (List ℕ) GenFault → Result Prepared GenFault → Type 0
+Prepares stated (Ok p) = IsReady p × (stated ≡ Ok (file_of_prepared p))
+Prepares stated (Err fault) = Refuses stated fault
+
+-- ---- filling that is owed
+
+-- with some fill values after the listed bytes they are the array
+pub record IsFilledUp (var : Var) (array listed : List ℕ) : Type 0 where
+  pub count : ℕ
+  pub joined : array ≡ listed ++ fills var count
+
+-- the same of each variable, as far as there are arrays
+abbrev pub AreFilledUp : List Var → List (List ℕ) → List (List ℕ) → Type 0
+AreFilledUp (var ∷ vars) (array ∷ arrays) (listed ∷ others) = IsFilledUp var array listed × AreFilledUp vars arrays others
+AreFilledUp (var ∷ vars) (array ∷ arrays) [] = ⊥
+AreFilledUp _ _ listed = listed ≡ []

@@ -1,0 +1,35 @@
+//! A file that stands ready to be written.
+
+ghost use Rattle.ncgen.specs.Prepared.{IsReady, file_of_prepared};
+ghost use Rattle.devices.specs.Sinks.{Wrote};
+
+use nc_base::{Header, Sequence};
+use nc_file::{Sink, WriteFailed, write_header};
+use nc_walk::write_data;
+
+/// A file that stands ready to be written: its header, and the values that a text lists.
+///
+/// What a variable lacks is written as its fill value, and never stands in memory.
+#[derive(Drop)]
+pub struct Prepared {
+    /// The header, with the begin of each variable.
+    pub(crate) header: Header,
+    /// For each variable the listed values, big-endian and one after the other.
+    pub(crate) listed: Sequence<Sequence<u8>>,
+}
+
+impl Prepared {
+    /// Writes the file: the header, and after it the values (the NetCDF Classic Format Specification). It takes no memory.
+    ///
+    /// # Errors
+    ///
+    /// The sink failed. It took some prefix of the file.
+    #[tactic(auto, using(devices::proofs::Writes::writes), unfolding(crate::specs::Prepared::file_of_prepared))]
+    pub fn write<W: Sink>(&self, sink: &mut W) -> Result<(), WriteFailed>
+        requires { IsReady self.now }
+        ensures { Wrote (W.view sink.old) (W.view sink.new) (file_of_prepared self.now) result }
+    {
+        write_header(sink, &self.header)?;
+        write_data(sink, &self.header, self.listed.as_slice())
+    }
+}
