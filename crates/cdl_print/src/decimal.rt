@@ -1,23 +1,10 @@
-//! Numbers in decimal.
+//! Integers in decimal.
 
-ghost use Rattle.std.specs.Prelude.{decimal};
 ghost use Rattle.std.specs.Fmt.{signed_decimal};
 ghost use Rattle.devices.specs.Sinks.{Wrote};
 
 use devices::{Sink, WriteFailed, put};
 use itoa::Buffer;
-
-/// Writes a number in decimal.
-///
-/// # Errors
-///
-/// The sink failed, and took some prefix of the text.
-pub fn put_decimal<W: Sink>(sink: &mut W, n: u128) -> Result<(), WriteFailed>
-    ensures { Wrote (W.view sink.old) (W.view sink.new) (decimal n) result }
-{
-    let mut digits = Buffer::new();
-    put(sink, digits.format(n).as_bytes())
-}
 
 /// Writes an integer in decimal.
 pub fn put_integer<W: Sink>(sink: &mut W, n: i128) -> Result<(), WriteFailed>

@@ -6,11 +6,10 @@ ghost use Rattle.nc_base.specs.HeadText.{att_lines, currently_word, dim_extent, 
 ghost use Rattle.devices.specs.Sinks.{Wrote};
 
 use crate::attribute::put_att_lines;
-use crate::decimal::put_decimal;
 use crate::name::put_name;
 use crate::variable::put_vars;
 use crate::word::Word;
-use devices::{Sink, WriteFailed, put};
+use devices::{Sink, WriteFailed, put, put_decimal};
 use nc_base::{Att, Dim, Header};
 
 /// Writes the head of a dump of the dataset with this name, up to `data:`.

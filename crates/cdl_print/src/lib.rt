@@ -21,7 +21,6 @@ mod string;
 mod variable;
 mod word;
 
-pub use decimal::put_decimal;
 pub use head::put_head;
 pub use name::put_name;
 pub use printer::ValuePrinter;

@@ -6,3 +6,7 @@ pub mod Memory
 pub mod Openers
 pub mod Listed
 pub mod Ahead
+pub mod Texts
+pub mod Readers
+pub mod Creators
+pub mod Made

@@ -16,6 +16,14 @@ pub struct WriteFailed;
 #[derive(Clone, Copy, Debug, PartialEq, Eq)]
 pub struct OpenFailed;
 
+/// An output could not be created.
+#[derive(Clone, Copy, Debug, PartialEq, Eq)]
+pub struct CreateFailed;
+
+/// What was written to an output could not all be handed on.
+#[derive(Clone, Copy, Debug, PartialEq, Eq)]
+pub struct CloseFailed;
+
 impl From<SinkFailed> for WriteFailed {
     fn from(_failure: SinkFailed) -> WriteFailed {
         WriteFailed

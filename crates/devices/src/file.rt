@@ -132,6 +132,13 @@ impl<W: Write> IoSink<W> {
         counted(answer, &mut self.failures)
     }
 
+    /// How often it has failed.
+    pub(crate) fn failures(&self) -> u128
+        ensures { result ≡ (⟦<IoSink<W> as Sink>⟧.view self.now).failures }
+    {
+        self.failures
+    }
+
     /// The writer.
     pub fn into_inner(self) -> W
         ensures { W.contents result ≡ (⟦<IoSink<W> as Sink>⟧.view self).taken }

@@ -3,30 +3,45 @@
 //! A [`Source`] gives bytes from any offset, and a [`Sink`] takes bytes one after another. Each counts its failures and says
 //! nothing of their cause. [`MemSource`] and [`MemSink`] stand in memory, [`FileSource`] is a file of the system, and [`IoSink`]
 //! goes over any writer of the standard library. [`DripSource`] gives few bytes a read and fails on request, and [`SliceSink`]
-//! fills a slice, a few bytes a call. [`put`] writes all of the bytes that it is given. An [`Opener`] opens paths as sources:
-//! [`SystemFiles`] those of the system, and [`Listed`] those of a list in memory.
+//! fills a slice, a few bytes a call. [`put`] writes all of the bytes that it is given, and [`put_decimal`] a number.
+//!
+//! An [`Opener`] opens paths as sources: [`SystemFiles`] those of the system, and [`Listed`] those of a list in memory. In the
+//! same way [`Texts`] opens them as readers, of which a [`CountedRead`] counts what they do, and a [`Creator`] creates outputs at
+//! paths: [`SystemOutputs`] in the files of the system, and [`MadeFiles`] in memory.
 #![tactic(auto)]
 
 mod ahead;
+mod creator;
+mod decimal;
 mod drip;
 mod fault;
 mod file;
 mod listed;
+mod made;
 mod memory;
 mod opener;
+mod output;
+mod reader;
 mod sink;
 mod slice;
 mod source;
 mod system;
+mod texts;
 
 pub use ahead::ReadAhead;
+pub use creator::Creator;
+pub use decimal::put_decimal;
 pub use drip::{DripSource, FailWhen};
-pub use fault::{OpenFailed, SinkFailed, SourceFailed, WriteFailed};
+pub use fault::{CloseFailed, CreateFailed, OpenFailed, SinkFailed, SourceFailed, WriteFailed};
 pub use file::{FileSource, IoSink};
 pub use listed::{Listed, ListedFile};
+pub use made::{MadeFile, MadeFiles};
 pub use memory::{MemSink, MemSource};
 pub use opener::Opener;
+pub use output::SystemOutputs;
+pub use reader::CountedRead;
 pub use sink::{Sink, put};
 pub use slice::SliceSink;
 pub use source::Source;
 pub use system::SystemFiles;
+pub use texts::{ListedTexts, SystemTexts, Texts};

@@ -43,7 +43,7 @@ impl<'a> Opener for Listed<'a> {
 }
 
 /// The first file at this path.
-fn file_at<'a>(files: &'a [ListedFile<'a>], path: &str) -> Option<&'a ListedFile<'a>>
+pub(crate) fn file_at<'a>(files: &'a [ListedFile<'a>], path: &str) -> Option<&'a ListedFile<'a>>
     ensures { option_map (λ file. file.now) result ≡ find (λ (file : ListedFile). is_at file path.now) files.now }
 {
     files.iter().find(|file| is_at(file, path))

@@ -93,6 +93,13 @@ impl MemSink {
     {
         self.bytes.as_slice()
     }
+
+    /// How often it has failed.
+    pub(crate) fn failures(&self) -> u128
+        ensures { result ≡ (⟦<MemSink as Sink>⟧.view self.now).failures }
+    {
+        self.failures
+    }
 }
 
 impl Sink for MemSink {

@@ -1,35 +1,22 @@
--- What a flag, a width and the whole command line read.
-use Rattle.std.proofs.Common.{ℕ, Bool, true, false, List, [], ◌∷◌, Option, Some, None, Result, Ok, Err, ◌≡◌, ◌<◌, ◌^◌, ◌∙◌, refl, ap, rules, tests, arith, codes, length, ◌⊎◌, ◌≢◌, IsErrAnd, inl, inr}
+-- What a width and the whole command line read.
+use Rattle.std.proofs.Common.{ℕ, Bool, true, false, List, [], ◌∷◌, Option, Some, None, Result, Ok, Err, ◌≡◌, ◌<◌, ◌^◌, ◌∙◌, refl, ap, rules, tests, arith, length, ◌⊎◌, IsErrAnd}
 use Rattle.std.specs.Bool.{then_some}
 use Rattle.std.specs.Char.{is_ascii_digit}
 use Rattle.std.specs.Int.{is_in_range}
 use Rattle.std.specs.List.{list_all}
-use Rattle.std.specs.Option.{option_map_or}
-use Rattle.std.specs.Prelude.{if◌then◌else◌, option_and_then, unwrap_or}
-use Rattle.std.specs.Str.{bytes_eq}
-use Rattle.std.specs.Str.Parse.{ParsesBool, ParsesUnsigned, digits_value}
+use Rattle.std.specs.Prelude.{if◌then◌else◌, option_and_then}
+use Rattle.std.specs.Str.Parse.{ParsesUnsigned, digits_value}
 use Rattle.std.specs.Result.{OkIff, result_ok}
-use Rattle.std.proofs.lemmas.Slice.Eq.{bytes_eq-Decides}
 use Rattle.std.proofs.lemmas.Str.Parse.{IsNumeralModel, numerals_by_value, parse_digits}
-use Rattle.clap.specs.Matches.{ReadsOne}
-use Rattle.clap.specs.Kinds.{IsAmong, Kinds}
+use Rattle.clap.specs.Kinds.{IsAmong}
 use Rattle.clap.specs.Words.{Row, fault_of, is_simple, is_simple_and_free, matches_of}
 use Rattle.clap.specs.declared.error.kind.ErrorKind.{ErrorKind}
 use Rattle.clap.proofs.OnLiterals.{clap_on_literals}
 use Rattle.clap.specs.declared.error.kind.ErrorKind.TheVariants as kinds
-use Rattle.ncdump.specs.declared.fault.OptFault.{OptFault}
-use Rattle.ncdump.specs.declared.fault.OptFault.TheVariants.{OutOfMemory, Usage}
+use Rattle.cli_base.proofs.Refusals.{TellsKind, refusal_answers, unless_none}
+use Rattle.cli_base.specs.declared.fault.OptFault.{OptFault}
 use Rattle.ncdump.specs.declared.options.DumpOptions.{DumpOptions}
-use Rattle.ncdump.specs.CommandLine.{Answers, Asked, asked_by, asked_in, ncdump, unless, width_of}
-
--- the flag that a text says, read as a `bool`
-pub flag_read : (E : Type 0) (text : Option (List ℕ)) (r : Option Bool) → (text ≡ None → r ≡ None)
-    → ((t : List ℕ) → text ≡ Some t → ReadsOne (ParsesBool {E = E}) t r)
-    → unwrap_or r false ≡ option_map_or (λ (value : List ℕ). bytes_eq value (codes "true")) text false
-flag_read E None r none some = rw (none refl) refl
-flag_read E (Some t) (Some true) none some = rw (some t refl) refl
-flag_read E (Some t) (Some false) none some = rw (some t refl) refl
-flag_read E (Some t) None none some = search (rules, bytes_eq-Decides t (codes "true"), some t refl)
+use Rattle.ncdump.specs.CommandLine.{Answers, asked_by, asked_for, asked_in, ncdump, width_of}
 
 digits : IsNumeralModel (λ ds. list_all is_ascii_digit ds ≡ true) (digits_value 10)
 digits = numerals_by_value _ (search rules)
@@ -69,32 +56,14 @@ pub is_exact : is_simple ncdump ≡ true
 unfolding clap_on_literals ncdump
 is_exact = refl
 
-unless_none : (kinds : Kinds) (asked : Option Asked) → kinds ≡ [] → asked ≡ unless kinds asked
-unless_none kinds asked none = rw none refl
-
-unless_some : (kinds : Kinds) (kind : ErrorKind) (asked : Option Asked) → IsAmong kind kinds → unless kinds asked ≡ None
-unless_some [] kind asked among = absurd among
-unless_some (k ∷ ks) kind asked among = refl
-
 -- words that the command takes ask for what its entries do
 pub asked_by_taken : (words : List (List ℕ)) (rows : List Row) → fault_of ncdump words ≡ [] → rows ≡ matches_of ncdump words
     → asked_in rows ≡ asked_by words
 unfolding asked_by
 asked_by_taken words rows none is = ap asked_in is ∙ unless_none (fault_of ncdump words) (asked_in (matches_of ncdump words)) none
 
--- words that the command doesn't take ask for nothing
-pub asked_by_refused : (words : List (List ℕ)) (kind : ErrorKind) → IsAmong kind (fault_of ncdump words) → asked_by words ≡ None
-unfolding asked_by
-asked_by_refused words kind among = unless_some (fault_of ncdump words) kind (asked_in (matches_of ncdump words)) among
-
--- the fault for an error of this kind
-abbrev pub TellsKind : ErrorKind → OptFault → Type 0
-TellsKind kind fault = (kind ≡ kinds.OutOfMemory → fault ≡ OutOfMemory) × (kind ≢ kinds.OutOfMemory → fault ≡ Usage)
-
--- the answer to an error of this kind
-pub refusal_answers : (words : List (List ℕ)) (kind : ErrorKind) (r : Result DumpOptions OptFault) → IsErrAnd r (TellsKind kind)
+-- the answer to words that the command doesn't take
+pub refused_words : (words : List (List ℕ)) (kind : ErrorKind) (r : Result DumpOptions OptFault) → IsErrAnd r (TellsKind kind)
     → (kind ≡ kinds.OutOfMemory) ⊎ IsAmong kind (fault_of ncdump words) → Answers (asked_by words) r
-refusal_answers words kind (Ok options) transparent has = absurd transparent
-refusal_answers words kind (Err OutOfMemory) transparent has = tt
-refusal_answers words kind (Err Usage) transparent (inl is) = let bad : Usage ≡ OutOfMemory = transparent.0 is in search (rules, bad)
-refusal_answers words kind (Err Usage) transparent (inr among) = asked_by_refused words kind among
+unfolding asked_by
+refused_words words kind r tells has = refusal_answers asked_for (fault_of ncdump words) (asked_in (matches_of ncdump words)) kind r tells has

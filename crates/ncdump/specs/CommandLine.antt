@@ -1,33 +1,19 @@
 -- What the words of the command line ask for.
-use Rattle.std.specs.Prelude.{ℕ, ◌≡◌, Bool, true, false, ◌==◌, ◌&&◌, List, [], ◌∷◌, codes, Option, Some, None, option_map, unwrap_or, fold, slice_get, Result, Ok, Err, string_bytes, if◌then◌else◌}
+use Rattle.std.specs.Prelude.{ℕ, ◌==◌, ◌&&◌, List, [], ◌∷◌, Bool, codes, Option, Some, None, option_map, unwrap_or, fold, Result, string_bytes, if◌then◌else◌}
 use Rattle.std.specs.Int.{is_in_range}
 use Rattle.std.specs.Char.{is_ascii_digit}
 use Rattle.std.specs.List.{list_all, slice_split}
-use Rattle.std.specs.Option.{option_map_or}
-use Rattle.std.specs.Str.{bytes_eq}
 use Rattle.std.specs.Str.Parse.{digits_value}
-use Rattle.clap.specs.Words.{App, Kinds, Row, Rule, fault_of, first_of, matches_of, new_app, new_rule, one_of, with_rule}
-use Rattle.clap.specs.declared.builder.ArgAction.TheVariants.{Set, SetTrue}
+use Rattle.clap.specs.Words.{App, Row, fault_of, first_of, matches_of, new_app, new_rule, with_rule}
+use Rattle.cli_base.specs.Arguments.{flag, is_given, option, quiet}
+use Rattle.cli_base.specs.CommandLines.{AnswersBy, unless}
+use Rattle.cli_base.specs.declared.fault.OptFault.{OptFault}
 use Rattle.nc_base.specs.Dump.{Options}
 use Rattle.nc_base.specs.Paths.{stem_of}
 use Rattle.ncdump.specs.Dumps.{options_of}
 use Rattle.ncdump.specs.declared.options.DumpOptions.{DumpOptions}
-use Rattle.ncdump.specs.declared.fault.OptFault.{OptFault}
-use Rattle.ncdump.specs.declared.fault.OptFault.TheVariants.{OutOfMemory, Usage}
 
 -- ---- the command, as a parse reads it
-
--- an option of one letter that takes no value
-abbrev pub flag : List ℕ → List ℕ → Rule
-flag id letter = record (new_rule id) { short = slice_get letter 0; action = Some SetTrue }
-
--- an option of one letter that takes a value
-abbrev pub option : List ℕ → List ℕ → Rule
-option id letter = record (new_rule id) { short = slice_get letter 0; action = Some Set }
-
--- a command that answers no request for help or the version
-abbrev pub quiet : App → App
-quiet app = record app { top = record app.top { disable_help_flag = true; disable_version_flag = true } }
 
 -- `ncdump [-h] [-c] [-v names] [-n name] [-l width] file`
 unfoldable pub ncdump : App
@@ -40,10 +26,6 @@ ncdump = fold with_rule (quiet (new_app (codes "ncdump"))) (
     new_rule (codes "file") ∷ [])
 
 -- ---- what its entries ask for
-
--- the flag is given
-abbrev pub is_given : List Row → List ℕ → Bool
-is_given rows id = option_map_or (λ (value : List ℕ). bytes_eq value (codes "true")) (one_of id rows) false
 
 -- the width that a word of decimal digits writes, from 20 to 1000
 abbrev pub width_of : List ℕ → Option ℕ
@@ -87,11 +69,6 @@ unfoldable pub asked_in : List Row → Option Asked
 asked_in rows = if is_given rows (codes "head") && is_given rows (codes "coords") then None
     else asked_with rows (first_of (codes "file") rows) (width_in (first_of (codes "width") rows))
 
--- what is asked for, if the words have no fault
-abbrev pub unless : Kinds → Option Asked → Option Asked
-unless [] asked = asked
-unless (kind ∷ kinds) asked = None
-
 -- what the words ask for, the first of which is the program's name
 unfoldable pub asked_by : List (List ℕ) → Option Asked
 asked_by words = unless (fault_of ncdump words) (asked_in (matches_of ncdump words))
@@ -104,6 +81,4 @@ asked_for o = record { file = string_bytes o.file; options = options_of o }
 
 -- the answer to what is asked for, if anything; memory may be refused
 abbrev pub Answers : Option Asked → Result DumpOptions OptFault → Type 0
-Answers asked (Ok options) = asked ≡ Some (asked_for options)
-Answers asked (Err OutOfMemory) = Unit {0}
-Answers asked (Err Usage) = asked ≡ None
+Answers asked result = AnswersBy asked_for asked result

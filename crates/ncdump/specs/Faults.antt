@@ -7,8 +7,8 @@ use Rattle.nc_file.specs.declared.head_fault.HeadFault.{HeadFault}
 use Rattle.nc_file.specs.declared.head_fault.HeadFault.TheVariants as head
 use Rattle.ncdump.specs.declared.fault.DumpFault.{DumpFault}
 use Rattle.ncdump.specs.declared.fault.DumpFault.TheVariants.{OutOfMemory, ReadFailed, WriteFailed, Format, NoSuchVariable, DataTruncated}
-use Rattle.ncdump.specs.declared.fault.OptFault.{OptFault}
-use Rattle.ncdump.specs.declared.fault.OptFault.TheVariants as opt
+use Rattle.cli_base.specs.declared.fault.OptFault.{OptFault}
+use Rattle.cli_base.specs.declared.fault.OptFault.TheVariants as opt
 use Rattle.ncdump.specs.declared.fault.FileFault.{FileFault}
 use Rattle.ncdump.specs.declared.fault.FileFault.TheVariants.{CannotOpen, Dump}
 use Rattle.ncdump.specs.declared.fault.Failure.{Failure}

@@ -6,7 +6,7 @@ use Rattle.devices.specs.Sinks.{SinkView, Appended, FailedPartway}
 use Rattle.ncdump.specs.CommandLine.{Asked}
 use Rattle.ncdump.specs.Dumps as dumps
 use Rattle.ncdump.specs.Faults.{line_of_failure}
-use Rattle.ncdump.specs.declared.fault.OptFault.TheVariants.{OutOfMemory, Usage}
+use Rattle.cli_base.specs.declared.fault.OptFault.TheVariants.{OutOfMemory, Usage}
 use Rattle.ncdump.specs.declared.fault.Failure.{Failure}
 use Rattle.ncdump.specs.declared.fault.Failure.TheVariants.{CommandLine, File}
 use Rattle.ncdump.specs.declared.fault.FileFault.{FileFault}

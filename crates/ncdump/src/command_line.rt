@@ -1,16 +1,16 @@
 //! The words of the command line.
 
-ghost use Rattle.std.specs.Prelude.{◌≡◌, [], ◌∷◌, false, IfOk, map, option_map, unwrap_or};
+ghost use Rattle.std.specs.Prelude.{◌≡◌, IfOk, map, option_map, unwrap_or};
 ghost use Rattle.std.specs.Char.{is_ascii_digit};
 ghost use Rattle.std.specs.Int.{is_in_range};
 ghost use Rattle.std.specs.List.{list_all};
-ghost use Rattle.clap.specs.Words.{app_of, found_of, first_of, rows_of, rule_of};
+ghost use Rattle.clap.specs.Words.{app_of, found_of, rows_of};
 ghost use Rattle.nc_base.specs.Paths.{stem_of};
-ghost use Rattle.ncdump.specs.CommandLine.{ncdump, asked_by, asked_in, flag, option, is_given, names_in, width_in, width_of, Answers};
+ghost use Rattle.ncdump.specs.CommandLine.{ncdump, asked_by, asked_in, names_in, width_in, width_of, Answers};
 
-use crate::fault::OptFault;
 use crate::options::DumpOptions;
-use clap::{Arg, ArgAction, ArgMatches, Command};
+use clap::{Arg, ArgMatches, Command};
+use cli_base::{OptFault, bytes_of, flag, is_given, option, value_of};
 use nc_base::{Sequence, stem};
 use std::alloc::{AllocError, Global};
 
@@ -33,22 +33,6 @@ pub fn command<'a>(alloc: Global) -> Result<Command<'a>, AllocError>
         .arg(option(alloc, "name", 'n'))?
         .arg(option(alloc, "width", 'l'))?
         .arg(Arg::new(alloc, "file"))
-}
-
-/// An option of one letter that takes no value.
-fn flag<'a>(alloc: Global, id: &'a str, letter: char) -> Arg<'a>
-    ensures rule { rule_of result ≡ flag id.entry.now (letter ∷ []) }
-    ensures local { result.global ≡ false }
-{
-    Arg::new(alloc, id).short(letter).action(ArgAction::SetTrue)
-}
-
-/// An option of one letter that takes a value.
-fn option<'a>(alloc: Global, id: &'a str, letter: char) -> Arg<'a>
-    ensures rule { rule_of result ≡ option id.entry.now (letter ∷ []) }
-    ensures local { result.global ≡ false }
-{
-    Arg::new(alloc, id).short(letter).action(ArgAction::Set)
 }
 
 /// What the words ask for, the first of which is the program's name.
@@ -92,20 +76,6 @@ pub fn options_of(alloc: Global, matches: &ArgMatches) -> Result<DumpOptions, Op
         chosen: chosen_in(alloc, value_of(matches, "names"))?,
         width,
     })
-}
-
-/// Says whether the flag with this id is given.
-fn is_given(matches: &ArgMatches, id: &str) -> bool
-    ensures { result ≡ is_given (rows_of (found_of matches.now)) id.now }
-{
-    matches.get_one(id).unwrap_or(false)
-}
-
-/// The value of the argument with this id, if it is given.
-fn value_of<'a>(matches: &ArgMatches<'a>, id: &str) -> Option<&'a str>
-    ensures { option_map (λ value. value.now) result ≡ first_of id.now (rows_of (found_of matches.now)) }
-{
-    matches.get_str(id)
 }
 
 /// The width that `-l` asks for, or else 80, in bytes.
@@ -172,12 +142,4 @@ fn names_in(alloc: Global, word: &str) -> Result<Sequence<Sequence<u8>>, AllocEr
         names.push(bytes_of(alloc, name)?)?;
     }
     Ok(names)
-}
-
-/// The bytes of a text.
-fn bytes_of(alloc: Global, text: &str) -> Result<Sequence<u8>, AllocError>
-    ensures { IfOk result (λ bytes. bytes ≡ text.now) }
-{
-    let bytes = Vec::from_slice(alloc, text.as_bytes())?;
-    Ok(Sequence::from_vec(bytes))
 }

@@ -1,28 +1,15 @@
 //! Why the program could not do what was asked of it.
 
-ghost use Rattle.std.specs.Prelude.{◌≡◌, ◌≢◌};
-ghost use Rattle.clap.specs.Words.{kind_of};
-ghost use Rattle.clap.specs.declared.error.kind.ErrorKind.TheVariants as kind;
+ghost use Rattle.std.specs.Prelude.{◌≡◌};
 ghost use Rattle.ncdump.specs.Faults.{fault_of_head};
 ghost use Rattle.ncdump.specs.declared.fault.DumpFault.TheVariants.{OutOfMemory as out_of_memory, WriteFailed as write_failed};
-ghost use Rattle.ncdump.specs.declared.fault.OptFault.TheVariants as opt;
 ghost use Rattle.ncdump.specs.declared.fault.Failure.TheVariants.{CommandLine as command_line};
 ghost use Rattle.ncdump.specs.declared.fault.FileFault.TheVariants.{CannotOpen, Dump};
 
-use clap::Error;
-use clap::error::ErrorKind;
+use cli_base::OptFault;
 use nc_base::FormatFault;
 use nc_file::{HeadFault, OpenFailed, WriteFailed};
 use std::alloc::AllocError;
-
-/// Why the command line could not be read.
-#[derive(Clone, Copy, Debug, PartialEq, Eq)]
-pub enum OptFault {
-    /// Memory was refused.
-    OutOfMemory,
-    /// The words are not those that the program takes.
-    Usage,
-}
 
 /// Why a file could not be dumped: for want of memory, because a device failed, for what is wrong with the file, or for
 /// what was asked of it.
@@ -63,25 +50,6 @@ pub enum Failure {
     CommandLine(OptFault),
     /// What is wrong with the file at this path, or with the writing of its dump.
     File(String, FileFault),
-}
-
-impl From<AllocError> for OptFault {
-    ghost from_gives = { λ _ e. e ≡ opt.OutOfMemory };
-
-    fn from(_refusal: AllocError) -> OptFault {
-        OptFault::OutOfMemory
-    }
-}
-
-impl From<Error> for OptFault {
-    ghost from_gives = { λ error e. (kind_of error ≡ kind.OutOfMemory → e ≡ opt.OutOfMemory) × (kind_of error ≢ kind.OutOfMemory → e ≡ opt.Usage) };
-
-    fn from(error: Error) -> OptFault {
-        match error.kind() {
-            ErrorKind::OutOfMemory => OptFault::OutOfMemory,
-            _ => OptFault::Usage,
-        }
-    }
 }
 
 impl From<HeadFault> for DumpFault {

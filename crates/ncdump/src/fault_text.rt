@@ -5,10 +5,10 @@ ghost use Rattle.nc_base.specs.Bytes.{concat_parts};
 ghost use Rattle.devices.specs.Sinks.{Wrote};
 ghost use Rattle.ncdump.specs.Faults.{cannot_open_line, cannot_open_words, fault_numbers, fault_text, fault_words, file_line, format_words, line_of, line_of_failure, opt_fault_line, program_words, truncated_words, usage_line};
 
-use crate::fault::{DumpFault, Failure, FileFault, OptFault};
-use cdl_print::put_decimal;
+use crate::fault::{DumpFault, Failure, FileFault};
+use cli_base::OptFault;
+use devices::{Sink, WriteFailed, put, put_decimal};
 use nc_base::FormatFault;
-use nc_file::{Sink, WriteFailed, put};
 
 /// Writes the line of a failure.
 ///

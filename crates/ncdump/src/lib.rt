@@ -16,9 +16,10 @@ mod running;
 mod selection;
 mod showing;
 
+pub use cli_base::OptFault;
 pub use command_line::{command, options_of};
 pub use dumping::dump;
-pub use fault::{DumpFault, OptFault};
+pub use fault::DumpFault;
 pub use fault_text::{fault_line, opt_fault_line};
 pub use options::DumpOptions;
 pub use running::run_with;

@@ -4,18 +4,14 @@
 //! is done by [`ncdump::run_with`]; here are the words, the files of the system and the standard streams.
 #![tactic(auto)]
 
-mod status;
-mod words;
-
+use cli_base::{OptFault, flushed, unread};
 use nc_file::{IoSink, Sink, SystemFiles};
-use ncdump::{OptFault, opt_fault_line, run_with};
-use status::flushed;
+use ncdump::{opt_fault_line, run_with};
 use std::fs::File;
 use std::io::BufWriter;
 use std::process::ExitCode;
 use std::rt::{Env, Files};
 use std::{env, io};
-use words::unread;
 
 /// How many bytes are held back before standard output.
 const HELD_BACK: usize = 65536;

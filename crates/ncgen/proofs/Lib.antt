@@ -3,3 +3,6 @@ pub mod ListedValues
 pub mod Placing
 pub mod Preparing
 pub mod TextFiles
+pub mod CommandLines
+pub mod TextParts
+pub mod CutOutputs

@@ -1,3 +1,9 @@
 pub mod Generated
 pub mod Prepared
 pub mod Laws
+pub mod CommandLine
+pub mod Faults
+pub mod TextReads
+pub mod Inputs
+pub mod Outputs
+pub mod Runs

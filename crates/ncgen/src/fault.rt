@@ -1,10 +1,12 @@
-//! Why no file was generated.
+//! Why no file was generated, or no text read.
 
 ghost use Rattle.std.specs.Prelude.{◌≡◌};
 ghost use Rattle.cdl_parse.specs.Parsing.{refused};
 ghost use Rattle.ncgen.specs.declared.fault.GenFault.TheVariants as gen;
+ghost use Rattle.ncgen.specs.declared.fault.TextFault.TheVariants as text;
 
 use cdl_parse::{CdlFault, CdlKind};
+use devices::SourceFailed;
 use nc_file::{OffsetTooLarge, WriteFailed};
 use std::alloc::AllocError;
 
@@ -17,6 +19,17 @@ pub enum GenFault {
     OffsetTooLarge,
     /// The sink failed.
     WriteFailed,
+}
+
+/// Why a text could not be read: for want of memory, because the reader failed, or for its length.
+#[derive(Clone, Copy, Debug, PartialEq, Eq)]
+pub enum TextFault {
+    /// A growth of memory was refused.
+    OutOfMemory,
+    /// The reader failed.
+    ReadFailed,
+    /// The text has more bytes than a text may have.
+    TooLong,
 }
 
 impl From<CdlFault> for GenFault {
@@ -51,5 +64,21 @@ impl From<WriteFailed> for GenFault {
 
     fn from(_e: WriteFailed) -> GenFault {
         GenFault::WriteFailed
+    }
+}
+
+impl From<SourceFailed> for TextFault {
+    ghost from_gives = { λ _ e. e ≡ text.ReadFailed };
+
+    fn from(_failure: SourceFailed) -> TextFault {
+        TextFault::ReadFailed
+    }
+}
+
+impl From<AllocError> for TextFault {
+    ghost from_gives = { λ _ e. e ≡ text.OutOfMemory };
+
+    fn from(_refusal: AllocError) -> TextFault {
+        TextFault::OutOfMemory
     }
 }

@@ -1,0 +1,22 @@
+-- The arguments of a command, as a parse reads them, and what its entries say of them.
+use Rattle.std.specs.Prelude.{ℕ, Bool, true, false, List, codes, Some, slice_get}
+use Rattle.std.specs.Option.{option_map_or}
+use Rattle.std.specs.Str.{bytes_eq}
+use Rattle.clap.specs.Words.{App, Row, Rule, new_rule, one_of}
+use Rattle.clap.specs.declared.builder.ArgAction.TheVariants.{Set, SetTrue}
+
+-- an option of one letter that takes no value
+abbrev pub flag : List ℕ → List ℕ → Rule
+flag id letter = record (new_rule id) { short = slice_get letter 0; action = Some SetTrue }
+
+-- an option of one letter that takes a value
+abbrev pub option : List ℕ → List ℕ → Rule
+option id letter = record (new_rule id) { short = slice_get letter 0; action = Some Set }
+
+-- a command that answers no request for help or the version
+abbrev pub quiet : App → App
+quiet app = record app { top = record app.top { disable_help_flag = true; disable_version_flag = true } }
+
+-- the flag is given
+abbrev pub is_given : List Row → List ℕ → Bool
+is_given rows id = option_map_or (λ (value : List ℕ). bytes_eq value (codes "true")) (one_of id rows) false

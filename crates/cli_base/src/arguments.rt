@@ -1,0 +1,47 @@
+//! The arguments of a command, and what its matches say of them.
+
+ghost use Rattle.std.specs.Prelude.{◌≡◌, [], ◌∷◌, false, IfOk, option_map};
+ghost use Rattle.clap.specs.Words.{found_of, first_of, rows_of, rule_of};
+ghost use Rattle.cli_base.specs.Arguments.{flag, option, is_given};
+
+use clap::{Arg, ArgAction, ArgMatches};
+use nc_base::Sequence;
+use std::alloc::{AllocError, Global};
+
+/// An option of one letter that takes no value.
+pub fn flag<'a>(alloc: Global, id: &'a str, letter: char) -> Arg<'a>
+    ensures rule { rule_of result ≡ flag id.entry.now (letter ∷ []) }
+    ensures local { result.global ≡ false }
+{
+    Arg::new(alloc, id).short(letter).action(ArgAction::SetTrue)
+}
+
+/// An option of one letter that takes a value.
+pub fn option<'a>(alloc: Global, id: &'a str, letter: char) -> Arg<'a>
+    ensures rule { rule_of result ≡ option id.entry.now (letter ∷ []) }
+    ensures local { result.global ≡ false }
+{
+    Arg::new(alloc, id).short(letter).action(ArgAction::Set)
+}
+
+/// Says whether the flag with this id is given.
+pub fn is_given(matches: &ArgMatches, id: &str) -> bool
+    ensures { result ≡ is_given (rows_of (found_of matches.now)) id.now }
+{
+    matches.get_one(id).unwrap_or(false)
+}
+
+/// The value of the argument with this id, if it is given.
+pub fn value_of<'a>(matches: &ArgMatches<'a>, id: &str) -> Option<&'a str>
+    ensures { option_map (λ value. value.now) result ≡ first_of id.now (rows_of (found_of matches.now)) }
+{
+    matches.get_str(id)
+}
+
+/// The bytes of a text.
+pub fn bytes_of(alloc: Global, text: &str) -> Result<Sequence<u8>, AllocError>
+    ensures { IfOk result (λ bytes. bytes ≡ text.now) }
+{
+    let bytes = Vec::from_slice(alloc, text.as_bytes())?;
+    Ok(Sequence::from_vec(bytes))
+}

@@ -1,0 +1,13 @@
+//! What the programs' command lines have in common: the parts of a command, what its matches say, and its faults; and the
+//! status after the flush of standard output.
+#![tactic(auto)]
+
+mod arguments;
+mod fault;
+mod status;
+mod words;
+
+pub use arguments::{bytes_of, flag, is_given, option, value_of};
+pub use fault::OptFault;
+pub use status::flushed;
+pub use words::unread;

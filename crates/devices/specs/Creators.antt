@@ -1,0 +1,55 @@
+-- What creating and closing an output has done.
+use Rattle.std.specs.Prelude.{ℕ, ◌≡◌, ◌+◌, ◌^◌, ◌<◌, ◌≤◌, ◌⊎◌, Bool, List, [], ◌∷◌, ◌++◌, Option, Some, Result, Ok, Err}
+use Rattle.std.specs.Bool.{OnTrue}
+use Rattle.devices.specs.Sinks.{SinkView}
+
+-- a path and the bytes that it was given
+pub record Output : Type 0 where
+  pub path : List ℕ
+  pub bytes : Option (List ℕ)
+
+-- What paths were given, in order, where the creator is transparent, and how many outputs were created, and how often
+-- creating or writing one failed. A path holds the last that it was given.
+pub record CreatorView : Type 0 where
+  pub given : List Output
+  pub creations : ℕ
+  pub failures : ℕ
+
+-- and then the path was given these bytes
+abbrev pub give : List Output → List ℕ → Option (List ℕ) → List Output
+give given path bytes = given ++ (record { path = path; bytes = bytes } ∷ [])
+
+-- it has failed since it had failed so often, or it can count no further
+unfoldable pub HasFailed : ℕ → CreatorView → Type 0
+HasFailed before now = (before < now.failures) ⊎ (2 ^ 128 ≤ now.failures + 1)
+
+-- an empty output was created at the path
+pub record CreatedAt (is_transparent : Bool) (old new : CreatorView) (path : List ℕ) (sink : SinkView) : Type 0 where
+  pub creations : new.creations ≡ old.creations + 1
+  pub failures : new.failures ≡ old.failures
+  pub given : OnTrue is_transparent (new.given ≡ give old.given path (Some []))
+  pub sink_failures : sink.failures ≡ 0
+  pub sink_taken : OnTrue is_transparent (sink.taken ≡ Some [])
+
+-- nothing was created or given, and it has failed
+pub record Unmade (old new : CreatorView) : Type 0 where
+  pub creations : new.creations ≡ old.creations
+  pub given : new.given ≡ old.given
+  pub failures : HasFailed old.failures new
+
+-- what creating an output at the path has done
+abbrev pub Created : {S E : Type 0} → Bool → (S → SinkView) → CreatorView → CreatorView → List ℕ → Result S E → Type 0
+Created is_transparent view old new path (Ok sink) = CreatedAt is_transparent old new path (view sink)
+Created is_transparent view old new path (Err failure) = Unmade old new
+
+-- the path was given what the sink took, and the creator has failed if the sink has
+pub record ClosedAt (is_transparent : Bool) (old new : CreatorView) (path : List ℕ) (sink : SinkView) : Type 0 where
+  pub creations : new.creations ≡ old.creations
+  pub unfailed : sink.failures ≡ 0 → new.failures ≡ old.failures
+  pub failed : 0 < sink.failures → HasFailed old.failures new
+  pub given : OnTrue is_transparent (new.given ≡ give old.given path sink.taken)
+
+-- what closing the output at the path has done
+abbrev pub Closed : {A E : Type 0} → Bool → CreatorView → CreatorView → List ℕ → SinkView → Result A E → Type 0
+Closed is_transparent old new path sink (Ok done) = ClosedAt is_transparent old new path sink
+Closed is_transparent old new path sink (Err failure) = Unmade old new

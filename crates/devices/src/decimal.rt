@@ -1,0 +1,19 @@
+//! Numbers in decimal.
+
+ghost use Rattle.std.specs.Prelude.{decimal};
+ghost use Rattle.devices.specs.Sinks.{Wrote};
+
+use crate::{Sink, WriteFailed, put};
+use itoa::Buffer;
+
+/// Writes a number in decimal.
+///
+/// # Errors
+///
+/// The sink failed, and took some prefix of the text.
+pub fn put_decimal<W: Sink>(sink: &mut W, n: u128) -> Result<(), WriteFailed>
+    ensures { Wrote (W.view sink.old) (W.view sink.new) (decimal n) result }
+{
+    let mut digits = Buffer::new();
+    put(sink, digits.format(n).as_bytes())
+}

@@ -1,0 +1,101 @@
+//! Outputs in the files of the system.
+
+ghost use Rattle.std.specs.Prelude.{◌≡◌, [], IfOk, false};
+
+use crate::{CloseFailed, CreateFailed, Creator, IoSink, Sink};
+use std::alloc::Global;
+use std::fs::File;
+use std::io;
+use std::io::{BufWriter, ErrorKind, Write};
+use std::rt::Files;
+
+/// How many bytes are held back before a file.
+const HELD_BACK: usize = 65536;
+
+/// Outputs in the files of the system, which are opaque. Each is written through one buffer.
+#[derive(Drop)]
+pub struct SystemOutputs<'a, R: Files<File = File>> {
+    rt: &'a R,
+    alloc: Global,
+    creations: u128,
+    failures: u128,
+}
+
+impl<'a, R: Files<File = File>> SystemOutputs<'a, R> {
+    /// The files of the system that the runtime stands for, with buffers from `alloc`.
+    pub fn new(rt: &'a R, alloc: Global) -> SystemOutputs<'a, R>
+        ensures { ⟦<SystemOutputs<'static, R> as Creator>⟧.view result ≡ record { given = []; creations = 0; failures = 0 } }
+    {
+        SystemOutputs {
+            rt,
+            alloc,
+            creations: 0,
+            failures: 0,
+        }
+    }
+
+    /// Creates or empties the file at the path. Where its buffer is refused, nothing is touched.
+    fn create_file(&self, path: &str) -> io::Result<IoSink<BufWriter<OutputFile>>>
+        ensures { IfOk result (λ sink. (⟦<IoSink<BufWriter<OutputFile>> as Sink>⟧.view sink).failures ≡ 0) }
+    {
+        let nothing = OutputFile { file: None };
+        let mut writer = BufWriter::with_capacity(self.alloc, HELD_BACK, nothing)?;
+        let file = File::create(self.rt, path)?;
+        writer.get_mut().file = Some(file);
+        Ok(IoSink::new(writer))
+    }
+}
+
+impl<R: Files<File = File>> Creator for SystemOutputs<'_, R> {
+    type Output = IoSink<BufWriter<OutputFile>>;
+
+    ghost is_transparent = { false };
+
+    ghost view = { λ s. record { given = []; creations = s.creations; failures = s.failures } };
+
+    #[tactic(auto, unfolding(crate::specs::Creators::HasFailed))]
+    fn create(&mut self, path: &str) -> Result<IoSink<BufWriter<OutputFile>>, CreateFailed> {
+        if self.creations < u128::MAX {
+            if let Ok(sink) = self.create_file(path) {
+                self.creations += 1;
+                return Ok(sink);
+            }
+        }
+        self.failures = self.failures.saturating_add(1);
+        Err(CreateFailed)
+    }
+
+    #[tactic(auto, unfolding(crate::specs::Creators::HasFailed))]
+    fn close(
+        &mut self,
+        _path: &str,
+        mut output: IoSink<BufWriter<OutputFile>>,
+    ) -> Result<(), CloseFailed> {
+        let failures = output.failures();
+        if output.flush().is_err() {
+            self.failures = self.failures.saturating_add(1);
+            return Err(CloseFailed);
+        }
+        self.failures = self.failures.saturating_add(failures);
+        Ok(())
+    }
+}
+
+/// A file of the system, once it is created.
+#[derive(Drop)]
+pub struct OutputFile {
+    file: Option<File>,
+}
+
+impl Write for OutputFile {
+    fn write(&mut self, bytes: &[u8]) -> io::Result<usize> {
+        match &mut self.file {
+            Some(file) => file.write(bytes),
+            None => Err(ErrorKind::NotFound.into()),
+        }
+    }
+
+    fn flush(&mut self) -> io::Result<()> {
+        Ok(())
+    }
+}

@@ -1,0 +1,60 @@
+//! A reader that counts.
+
+ghost use Rattle.std.specs.Prelude.{◌≡◌};
+ghost use Rattle.devices.specs.Readers.{view_of, Reads};
+
+use crate::SourceFailed;
+use std::io::Read;
+
+/// A reader that counts its reads, the bytes that it has handed over, and its failures.
+///
+/// An error of the reader, of any kind, is a failure. A read that fails is not tried again.
+#[derive(Drop)]
+pub struct CountedRead<R: Read> {
+    reader: R,
+    failures: u128,
+    reads: u128,
+    handed: u128,
+}
+
+impl<R: Read> CountedRead<R> {
+    /// A reader of the bytes that are still to come of this one.
+    pub fn new(reader: R) -> CountedRead<R>
+        ensures { view_of R.remaining result ≡ record { remaining = R.remaining reader; failures = 0; reads = 0; handed = 0 } }
+    {
+        CountedRead {
+            reader,
+            failures: 0,
+            reads: 0,
+            handed: 0,
+        }
+    }
+
+    /// Reads the next bytes to the start of `into`, and gives their number.
+    ///
+    /// It is 0 at the end, and where `into` is empty.
+    ///
+    /// # Errors
+    ///
+    /// The reader failed, or a count would reach 2^128. No byte is handed over, and `into` may hold anything.
+    #[tactic(auto, unfolding(crate::specs::Readers::HasFailed))]
+    pub fn read_some(&mut self, into: &mut [u8]) -> Result<usize, SourceFailed>
+        ensures { Reads (view_of R.remaining self.old) (view_of R.remaining self.new) into.old into.new result }
+    {
+        let is_full = self.reads == u128::MAX || u128::MAX - self.handed < into.len() as u128;
+        if is_full {
+            return Err(SourceFailed);
+        }
+        self.reads += 1;
+        match self.reader.read(into) {
+            Ok(n) => {
+                self.handed += n as u128;
+                Ok(n)
+            }
+            Err(_) => {
+                self.failures = self.failures.saturating_add(1);
+                Err(SourceFailed)
+            }
+        }
+    }
+}

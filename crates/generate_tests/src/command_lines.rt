@@ -1,0 +1,83 @@
+//! What the words of the command line ask for.
+
+use crate::files::{FIFTH_FILE, FIRST_FILE, SECOND_FILE, TEXT};
+use crate::invocations::{Invocation, makes, refuses};
+use devices::ListedFile;
+
+/// How the program is used.
+const USAGE: &[u8] = b"usage: ncgen [-b] [-o file] [-k kind] [file]\n";
+
+/// The text under two paths.
+const TEXTS: &[ListedFile<'static>] = &[
+    ListedFile {
+        path: "d/f.cdl",
+        bytes: TEXT,
+    },
+    ListedFile {
+        path: "-x",
+        bytes: TEXT,
+    },
+];
+
+/// A run on these words.
+fn invocation<'a>(words: &'a [&'a str]) -> Invocation<'a> {
+    Invocation {
+        words,
+        texts: TEXTS,
+        input: TEXT,
+    }
+}
+
+#[test]
+fn outputs(rt: HostRuntime) {
+    let rows: [(&[&str], &str); 7] = [
+        (&["ncgen", "-b", "d/f.cdl"], "f.nc"),
+        (&["ncgen", "-b", "-o", "x", "d/f.cdl"], "x"),
+        (&["ncgen", "-o", "x", "d/f.cdl"], "x"),
+        (&["ncgen", "d/f.cdl", "-ox"], "x"),
+        (&["ncgen", "-o", "x"], "x"),
+        (&["ncgen", "-bo", "x"], "x"),
+        (&["ncgen", "-b", "--", "-x"], "-x.nc"),
+    ];
+    for (words, path) in rows {
+        makes(&rt, rt.alloc(), invocation(words), path, FIRST_FILE);
+    }
+}
+
+#[test]
+fn kinds(rt: HostRuntime) {
+    let rows: [(&str, &[u8]); 6] = [
+        ("classic", FIRST_FILE),
+        ("nc3", FIRST_FILE),
+        ("64-bit offset", SECOND_FILE),
+        ("nc6", SECOND_FILE),
+        ("64-bit data", FIFTH_FILE),
+        ("nc5", FIFTH_FILE),
+    ];
+    for (kind, file) in rows {
+        let words = ["ncgen", "-b", "-k", kind, "d/f.cdl"];
+        makes(&rt, rt.alloc(), invocation(&words), "f.nc", file);
+    }
+}
+
+#[test]
+fn words_that_are_not_taken(rt: HostRuntime) {
+    let rows: [&[&str]; 13] = [
+        &["ncgen", "-b"],
+        &["ncgen", "-k", "nc4", "d/f.cdl"],
+        &["ncgen", "-k", "NC3", "d/f.cdl"],
+        &["ncgen", "-k", "64-bit", "d/f.cdl"],
+        &["ncgen", "-k", "", "d/f.cdl"],
+        &["ncgen", "-k"],
+        &["ncgen", "-b", "-b", "d/f.cdl"],
+        &["ncgen", "-o", "x", "-o", "x", "d/f.cdl"],
+        &["ncgen", "-k", "nc3", "-k", "nc3", "d/f.cdl"],
+        &["ncgen", "d/f.cdl", "d/f.cdl"],
+        &["ncgen", "--help"],
+        &["ncgen", "-V"],
+        &["ncgen", "-x", "d/f.cdl"],
+    ];
+    for words in rows {
+        refuses(&rt, rt.alloc(), invocation(words), USAGE);
+    }
+}

@@ -1,0 +1,73 @@
+//! What the tests of runs have in common: a run on texts and outputs in memory.
+
+use devices::{CountedRead, ListedFile, ListedTexts, MadeFiles, SliceSink};
+use ncgen::run_with;
+use std::alloc::Global;
+use std::process::Abort;
+
+/// A run of the program on these words, of which the first is its name, where these are the texts that paths name and this is
+/// standard input.
+#[derive(Clone, Copy)]
+pub struct Invocation<'a> {
+    pub words: &'a [&'a str],
+    pub texts: &'a [ListedFile<'a>],
+    pub input: &'a [u8],
+}
+
+/// How it ends: with this status and this line on standard error, and what this path was given, if one was.
+#[derive(Clone, Copy)]
+pub struct Outcome<'a> {
+    pub status: u8,
+    pub line: &'a [u8],
+    pub made: Option<ListedFile<'a>>,
+}
+
+/// Runs the program, and asserts how it ends.
+pub fn ends(rt: &impl Abort, alloc: Global, run: Invocation<'_>, outcome: Outcome<'_>) {
+    let mut outputs = MadeFiles::new(alloc);
+    let mut input = CountedRead::new(run.input);
+    let mut line = [0; 128];
+    let mut err = SliceSink::new(&mut line, 5);
+    let status = run_with(
+        &ListedTexts::new(run.texts),
+        &mut outputs,
+        alloc,
+        run.words,
+        &mut input,
+        &mut err,
+    );
+    assert!(rt; status == outcome.status);
+    assert!(rt; err.taken() == outcome.line);
+    holds(rt, &outputs, outcome.made);
+}
+
+/// The path was given nothing and then these bytes, and no other path anything.
+fn holds(rt: &impl Abort, outputs: &MadeFiles, made: Option<ListedFile<'_>>) {
+    match (outputs.given(), made) {
+        ([created, closed], Some(file)) => {
+            assert!(rt; created.path() == file.path && created.bytes().is_empty());
+            assert!(rt; closed.path() == file.path && closed.bytes() == file.bytes);
+        }
+        (given, made) => assert!(rt; given.is_empty() && made.is_none()),
+    }
+}
+
+/// The run writes these bytes to the path, and no line.
+pub fn makes(rt: &impl Abort, alloc: Global, run: Invocation<'_>, path: &str, bytes: &[u8]) {
+    let outcome = Outcome {
+        status: 0,
+        line: b"",
+        made: Some(ListedFile { path, bytes }),
+    };
+    ends(rt, alloc, run, outcome);
+}
+
+/// The run ends with this line, and nothing is created.
+pub fn refuses(rt: &impl Abort, alloc: Global, run: Invocation<'_>, line: &[u8]) {
+    let outcome = Outcome {
+        status: 1,
+        line,
+        made: None,
+    };
+    ends(rt, alloc, run, outcome);
+}

@@ -1,0 +1,71 @@
+//! Readers that fail on request.
+
+ghost use Rattle.std.specs.Prelude.{None, false};
+
+use devices::{OpenFailed, Texts};
+use std::io;
+use std::io::{ErrorKind, Read};
+
+/// A reader of the bytes of a slice, which gives at most `step` of them a read, and fails at the read of this number, counted
+/// from 0.
+#[derive(Drop)]
+pub struct FailingReader<'a> {
+    bytes: &'a [u8],
+    step: usize,
+    fail: u64,
+    reads: u64,
+}
+
+impl<'a> FailingReader<'a> {
+    /// A reader that has read nothing.
+    pub fn new(bytes: &'a [u8], step: usize, fail: u64) -> FailingReader<'a> {
+        FailingReader {
+            bytes,
+            step,
+            fail,
+            reads: 0,
+        }
+    }
+}
+
+impl Read for FailingReader<'_> {
+    fn read(&mut self, into: &mut [u8]) -> io::Result<usize> {
+        let read = self.reads;
+        self.reads = self.reads.saturating_add(1);
+        if read == self.fail {
+            return Err(ErrorKind::Interrupted.into());
+        }
+        let n = into.len().min(self.step).min(self.bytes.len());
+        let (first, rest) = self.bytes.split_at(n);
+        into[..n].copy_from_slice(first);
+        self.bytes = rest;
+        Ok(n)
+    }
+}
+
+/// Texts of these bytes at every path, which fail so.
+#[derive(Drop)]
+pub struct FailingTexts<'a> {
+    bytes: &'a [u8],
+    step: usize,
+    fail: u64,
+}
+
+impl<'a> FailingTexts<'a> {
+    /// These texts.
+    pub fn new(bytes: &'a [u8], step: usize, fail: u64) -> FailingTexts<'a> {
+        FailingTexts { bytes, step, fail }
+    }
+}
+
+impl<'a> Texts for FailingTexts<'a> {
+    type Text = FailingReader<'a>;
+
+    ghost is_transparent = { false };
+
+    ghost named = { λ _ _. None };
+
+    fn open(&self, _path: &str) -> Result<FailingReader<'a>, OpenFailed> {
+        Ok(FailingReader::new(self.bytes, self.step, self.fail))
+    }
+}

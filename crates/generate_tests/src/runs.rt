@@ -1,0 +1,158 @@
+//! Whole runs: what is written where, and what is told.
+
+use crate::files::{FIRST_FILE, REFUSED_TEXT, TEXT};
+use crate::full_disks::{FullDisk, leaves};
+use crate::invocations::{Invocation, Outcome, ends, makes, refuses};
+use crate::readers::{FailingReader, FailingTexts};
+use devices::{CountedRead, ListedFile, ListedTexts, MadeFiles, SliceSink};
+use ncgen::run_with;
+
+/// Texts, one of which has a fault.
+const TEXTS: &[ListedFile<'static>] = &[
+    ListedFile {
+        path: "t.cdl",
+        bytes: TEXT,
+    },
+    ListedFile {
+        path: "bad.cdl",
+        bytes: REFUSED_TEXT,
+    },
+];
+
+/// A run on these words, with this standard input.
+fn invocation<'a>(words: &'a [&'a str], input: &'a [u8]) -> Invocation<'a> {
+    Invocation {
+        words,
+        texts: TEXTS,
+        input,
+    }
+}
+
+#[test]
+fn checked_texts(rt: HostRuntime) {
+    let silent = Outcome {
+        status: 0,
+        line: b"",
+        made: None,
+    };
+    ends(&rt, rt.alloc(), invocation(&["ncgen"], TEXT), silent);
+    ends(
+        &rt,
+        rt.alloc(),
+        invocation(&["ncgen", "t.cdl"], b""),
+        silent,
+    );
+}
+
+#[test]
+fn refused_texts(rt: HostRuntime) {
+    let rows: [(&[&str], &[u8], &[u8]); 4] = [
+        (
+            &["ncgen", "-b", "bad.cdl"],
+            b"",
+            b"ncgen: bad.cdl: line 5: number out of range\n",
+        ),
+        (
+            &["ncgen", "-o", "x"],
+            REFUSED_TEXT,
+            b"ncgen: -: line 5: number out of range\n",
+        ),
+        (&["ncgen"], b"", b"ncgen: -: line 1: syntax\n"),
+        (&["ncgen", "no.cdl"], TEXT, b"ncgen: no.cdl: cannot open\n"),
+    ];
+    for (words, input, line) in rows {
+        refuses(&rt, rt.alloc(), invocation(words, input), line);
+    }
+}
+
+/// A text that two variables of nearly 2^31 bytes are declared in.
+const FAR_TEXT: &[u8] =
+    b"netcdf t {\ndimensions:\n x = 2147483647 ;\nvariables:\n byte a(x), b(x) ;\n}\n";
+
+#[test]
+fn values_too_far_from_the_start(rt: HostRuntime) {
+    let run = invocation(&["ncgen", "-o", "x"], FAR_TEXT);
+    refuses(&rt, rt.alloc(), run, b"ncgen: -: offset too large\n");
+}
+
+#[test]
+fn output_in_place_of_the_text(rt: HostRuntime) {
+    let run = invocation(&["ncgen", "-o", "t.cdl", "t.cdl"], b"");
+    makes(&rt, rt.alloc(), run, "t.cdl", FIRST_FILE);
+}
+
+#[test]
+fn standard_input_that_fails(rt: HostRuntime) {
+    let mut outputs = MadeFiles::new(rt.alloc());
+    let mut input = CountedRead::new(FailingReader::new(TEXT, 7, 3));
+    let mut line = [0; 64];
+    let mut err = SliceSink::new(&mut line, 1);
+    let texts = ListedTexts::new(TEXTS);
+    let words = ["ncgen", "-o", "x"];
+    let status = run_with(
+        &texts,
+        &mut outputs,
+        rt.alloc(),
+        &words,
+        &mut input,
+        &mut err,
+    );
+    assert!(rt; status == 1 && outputs.given().is_empty());
+    assert!(rt; err.taken() == b"ncgen: -: read failed\n".as_slice());
+}
+
+#[test]
+fn path_that_fails(rt: HostRuntime) {
+    let mut outputs = MadeFiles::new(rt.alloc());
+    let mut input = CountedRead::new(TEXT);
+    let mut line = [0; 64];
+    let mut err = SliceSink::new(&mut line, 1);
+    let texts = FailingTexts::new(TEXT, 7, 3);
+    let words = ["ncgen", "-b", "t.cdl"];
+    let status = run_with(
+        &texts,
+        &mut outputs,
+        rt.alloc(),
+        &words,
+        &mut input,
+        &mut err,
+    );
+    assert!(rt; status == 1 && outputs.given().is_empty());
+    assert!(rt; err.taken() == b"ncgen: t.cdl: read failed\n".as_slice());
+}
+
+#[test]
+fn disk_of_every_size(rt: HostRuntime) {
+    let line = b"ncgen: t.nc: write failed\n";
+    for size in 0..FIRST_FILE.len() {
+        let disk = FullDisk::new(rt.alloc(), 1, size);
+        leaves(&rt, rt.alloc(), disk, line, &FIRST_FILE[..size]);
+    }
+    let disk = FullDisk::new(rt.alloc(), 1, FIRST_FILE.len());
+    leaves(&rt, rt.alloc(), disk, b"", FIRST_FILE);
+}
+
+#[test]
+fn output_that_is_not_created(rt: HostRuntime) {
+    let disk = FullDisk::new(rt.alloc(), 0, FIRST_FILE.len());
+    leaves(&rt, rt.alloc(), disk, b"ncgen: t.nc: cannot open\n", b"");
+}
+
+#[test]
+fn standard_error_that_is_full(rt: HostRuntime) {
+    let mut outputs = MadeFiles::new(rt.alloc());
+    let mut input = CountedRead::new(REFUSED_TEXT);
+    let mut line = [0; 10];
+    let mut err = SliceSink::new(&mut line, 3);
+    let texts = ListedTexts::new(TEXTS);
+    let status = run_with(
+        &texts,
+        &mut outputs,
+        rt.alloc(),
+        &["ncgen"],
+        &mut input,
+        &mut err,
+    );
+    assert!(rt; status == 1);
+    assert!(rt; err.taken() == b"ncgen: -: ".as_slice());
+}

@@ -1,0 +1,82 @@
+-- What reading the text that is asked for has done.
+use Rattle.std.specs.Prelude.{◌≡◌, ℕ, ◌<◌, ◌≤◌, Bool, List, length, Option, Some, None, IsSome, IsSomeAnd, IfSome, Result, Ok, Err}
+use Rattle.std.specs.Bool.{OnTrue}
+use Rattle.std.specs.Global.{Vec}
+use Rattle.nc_base.specs.declared.version.Version.{Version}
+use Rattle.devices.specs.Readers.{ReaderView}
+use Rattle.cdl_meaning.specs.Meaning.{text_limit}
+use Rattle.ncgen.specs.Generated.{generated, Refuses}
+use Rattle.ncgen.specs.Prepared.{IsReady, file_of_prepared}
+use Rattle.ncgen.specs.TextReads.{ReadsText}
+use Rattle.ncgen.specs.declared.fault.GenFault.{GenFault}
+use Rattle.ncgen.specs.declared.fault.TextFault.TheVariants.{TooLong}
+use Rattle.ncgen.specs.declared.failure.InputFault.{InputFault}
+use Rattle.ncgen.specs.declared.failure.InputFault.TheVariants.{CannotOpen, Text, Generate}
+use Rattle.ncgen.specs.declared.prepared.Prepared.{Prepared}
+
+-- The texts that paths name, if they are transparent, and standard input before a call and after it.
+pub record Inputs : Type 0 where
+  pub is_transparent : Bool
+  pub named : List ℕ → Option (List ℕ)
+  pub before : ReaderView
+  pub after : ReaderView
+
+abbrev pub inputs : Bool → (List ℕ → Option (List ℕ)) → ReaderView → ReaderView → Inputs
+inputs is_transparent named before after = record { is_transparent = is_transparent; named = named; before = before; after = after }
+
+-- this is the text at the path, or that of standard input, where it is known
+abbrev pub IsText : Inputs → Option (List ℕ) → List ℕ → Type 0
+IsText i (Some path) text = OnTrue i.is_transparent (i.named path ≡ Some text)
+IsText i None text = IfSome i.before.remaining (λ bytes. text ≡ bytes)
+
+-- standard input has not failed, and it was not read for the text at a path
+abbrev pub IsUnharmed : Inputs → Option (List ℕ) → Type 0
+IsUnharmed i (Some path) = i.after ≡ i.before
+IsUnharmed i None = i.after.failures ≡ i.before.failures
+
+-- the text asked for was read
+pub record IsRead (i : Inputs) (file : Option (List ℕ)) (text : List ℕ) : Type 0 where
+  pub is_text : IsText i file text
+  pub within : length text ≤ text_limit
+  pub unharmed : IsUnharmed i file
+
+-- what reading the text at a path has done, which names these bytes, if any
+abbrev pub ReadsAt : Bool → Option (List ℕ) → Result (Vec ℕ) InputFault → Type 0
+ReadsAt is_transparent named (Ok text) = (length text.items ≤ text_limit) × OnTrue is_transparent (named ≡ Some text.items)
+ReadsAt is_transparent named (Err CannotOpen) = OnTrue is_transparent (named ≡ None)
+ReadsAt is_transparent named (Err (Text TooLong)) = OnTrue is_transparent (IsSomeAnd named (λ text. text_limit < length text))
+ReadsAt is_transparent named (Err (Text fault)) = OnTrue is_transparent (IsSome named)
+ReadsAt is_transparent named (Err (Generate fault)) = ⊥
+
+-- why the text could not be read
+abbrev pub FailsToRead : Inputs → Option (List ℕ) → InputFault → Type 0
+FailsToRead i (Some path) fault = ReadsAt i.is_transparent (i.named path) (Err fault) × (i.after ≡ i.before)
+FailsToRead i None (Text fault) = ReadsText text_limit i.before i.after (Err fault)
+FailsToRead i None fault = ⊥
+
+-- what reading the text that is asked for has done
+abbrev pub ReadsInput : Inputs → Option (List ℕ) → Result (Vec ℕ) InputFault → Type 0
+ReadsInput i file (Ok text) = IsRead i file text.items
+ReadsInput i file (Err fault) = FailsToRead i file fault
+
+-- the text asked for gives this file
+pub record Gives (i : Inputs) (file : Option (List ℕ)) (version : Version) (bytes : List ℕ) : Type 0 where
+  pub text : List ℕ
+  pub read : IsRead i file text
+  pub stated : generated text version ≡ Ok bytes
+
+-- the text asked for was read, and refused
+pub record IsRefused (i : Inputs) (file : Option (List ℕ)) (version : Version) (fault : GenFault) : Type 0 where
+  pub text : List ℕ
+  pub read : IsRead i file text
+  pub refused : Refuses (generated text version) fault
+
+-- why no file was made of the text asked for
+abbrev pub InputFails : Inputs → Option (List ℕ) → Version → InputFault → Type 0
+InputFails i file version (Generate fault) = IsRefused i file version fault
+InputFails i file version fault = FailsToRead i file fault
+
+-- a file is ready to be written that the text asked for gives, or there is none
+abbrev pub PreparesInput : Inputs → Option (List ℕ) → Version → Result Prepared InputFault → Type 0
+PreparesInput i file version (Ok prepared) = IsReady prepared × Gives i file version (file_of_prepared prepared)
+PreparesInput i file version (Err fault) = InputFails i file version fault

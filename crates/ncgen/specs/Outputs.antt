@@ -1,0 +1,53 @@
+-- What writing a file to an output has done.
+use Rattle.std.specs.Prelude.{◌≡◌, ℕ, ◌+◌, ◌⊎◌, Bool, List, [], Option, Some, None, Result, Ok, Err}
+use Rattle.std.specs.Bool.{OnTrue}
+use Rattle.devices.specs.Creators.{CreatorView, HasFailed, Output, Unmade, give}
+use Rattle.devices.specs.Sinks.{IsPrefix}
+use Rattle.ncgen.specs.declared.failure.OutputFault.{OutputFault}
+use Rattle.ncgen.specs.declared.failure.OutputFault.TheVariants.{CannotOpen, WriteFailed}
+
+-- the outputs before a call and after it, and if they are transparent
+pub record Outputs : Type 0 where
+  pub is_transparent : Bool
+  pub before : CreatorView
+  pub after : CreatorView
+
+abbrev pub outputs : Bool → CreatorView → CreatorView → Outputs
+outputs is_transparent before after = record { is_transparent = is_transparent; before = before; after = after }
+
+-- what paths were given, where an output was created at this one
+abbrev pub created_at : CreatorView → List ℕ → List Output
+created_at old path = give old.given path (Some [])
+
+-- the path was given exactly these bytes, and no other path anything
+pub record IsWrittenAt (o : Outputs) (path bytes : List ℕ) : Type 0 where
+  pub creations : o.after.creations ≡ o.before.creations + 1
+  pub failures : o.after.failures ≡ o.before.failures
+  pub given : OnTrue o.is_transparent (o.after.given ≡ give (created_at o.before path) path (Some bytes))
+
+-- the path was given a prefix of these bytes
+pub record IsGivenPrefix (o : Outputs) (path bytes : List ℕ) : Type 0 where
+  pub prefix : List ℕ
+  pub is_prefix : IsPrefix prefix bytes
+  pub given : o.after.given ≡ give (created_at o.before path) path (Some prefix)
+
+-- an output was created at the path, and has failed: it was given a prefix of these bytes, or could not be closed
+pub record IsCutShortAt (o : Outputs) (path bytes : List ℕ) : Type 0 where
+  pub creations : o.after.creations ≡ o.before.creations + 1
+  pub failures : HasFailed o.before.failures o.after
+  pub given : OnTrue o.is_transparent ((o.after.given ≡ created_at o.before path) ⊎ IsGivenPrefix o path bytes)
+
+-- why these bytes were not written at the path
+abbrev pub OutputFails : Outputs → List ℕ → List ℕ → OutputFault → Type 0
+OutputFails o path bytes CannotOpen = Unmade o.before o.after
+OutputFails o path bytes WriteFailed = IsCutShortAt o path bytes
+
+-- what writing these bytes at the path has done
+abbrev pub WritesAt : {A : Type 0} → Outputs → List ℕ → List ℕ → Result A OutputFault → Type 0
+WritesAt o path bytes (Ok done) = IsWrittenAt o path bytes
+WritesAt o path bytes (Err fault) = OutputFails o path bytes fault
+
+-- the bytes are at the path, if there is one; and without one nothing was created
+abbrev pub IsMade : Outputs → Option (List ℕ) → List ℕ → Type 0
+IsMade o (Some path) bytes = IsWrittenAt o path bytes
+IsMade o None bytes = o.after ≡ o.before

@@ -1,0 +1,136 @@
+//! The words of the command line.
+
+ghost use Rattle.std.specs.Prelude.{◌≡◌, IfOk, map, option_map, string_bytes};
+ghost use Rattle.clap.specs.Words.{app_of, found_of, rows_of};
+ghost use Rattle.ncgen.specs.CommandLine.{asked_by, asked_in, is_unnamed, ncgen, output_in, output_name, version_in, version_of, Answers};
+
+use crate::options::GenOptions;
+use clap::{Arg, ArgMatches, Command};
+use cli_base::{OptFault, flag, is_given, option, value_of};
+use nc_base::{Version, stem};
+use std::alloc::{AllocError, Global};
+
+/// The command `ncgen [-b] [-o file] [-k kind] [file]` of ncgen(1).
+///
+/// It takes each option once, before the file or after it. What the words ask for is said by [`options_of`].
+///
+/// # Errors
+///
+/// Memory was refused.
+pub fn command<'a>(alloc: Global) -> Result<Command<'a>, AllocError>
+    ensures { IfOk result (λ command. app_of command ≡ ncgen) }
+{
+    Command::new(alloc, "ncgen")
+        .disable_help_flag(true)
+        .disable_version_flag(true)
+        .arg(flag(alloc, "binary", 'b'))?
+        .arg(option(alloc, "output", 'o'))?
+        .arg(option(alloc, "kind", 'k'))?
+        .arg(Arg::new(alloc, "file"))
+}
+
+/// What the words ask for, the first of which is the program's name.
+///
+/// # Errors
+///
+/// Those of [`options_of`], and [`OptFault::Usage`] for words that the command doesn't take.
+pub(crate) fn options_by(alloc: Global, words: &[&str]) -> Result<GenOptions, OptFault>
+    ensures { Answers (asked_by (map (λ word. word.now) words.now)) result }
+{
+    let matches = command(alloc)?.try_get_matches_from(words)?;
+    options_of(alloc, &matches)
+}
+
+/// What the matches of [`command`] ask for.
+///
+/// The output is that of `-o`; or else, with `-b`, the [`stem`] of the text's path and `.nc`, in the current folder. Without
+/// both options nothing is written.
+///
+/// # Errors
+///
+/// [`OptFault::Usage`] for a word of `-k` that names no version, and where `-b` without `-o` stands without a path, which could give
+/// the output its name; [`OptFault::OutOfMemory`] only where memory was refused.
+#[tactic(auto, unfolding(crate::specs::CommandLine::asked_in))]
+pub fn options_of(alloc: Global, matches: &ArgMatches) -> Result<GenOptions, OptFault>
+    ensures { Answers (asked_in (rows_of (found_of matches.now))) result }
+{
+    let is_binary = is_given(matches, "binary");
+    let output = value_of(matches, "output");
+    let file = value_of(matches, "file");
+    if is_unnamed(is_binary, output, file) {
+        return Err(OptFault::Usage);
+    }
+    let kind = version_in(value_of(matches, "kind")).ok_or(OptFault::Usage)?;
+    Ok(GenOptions {
+        kind,
+        out: output_in(alloc, is_binary, output, file)?,
+        file: string_in(alloc, file)?,
+    })
+}
+
+/// Says whether an output is asked for that has no name.
+fn is_unnamed(is_binary: bool, output: Option<&str>, file: Option<&str>) -> bool
+    ensures { result ≡ is_unnamed is_binary (option_map (λ path. path.now) output.entry) (option_map (λ path. path.now) file.entry) }
+{
+    is_binary && output.is_none() && file.is_none()
+}
+
+/// The path of the output, if there is one.
+fn output_in(
+    alloc: Global,
+    is_binary: bool,
+    output: Option<&str>,
+    file: Option<&str>,
+) -> Result<Option<String>, AllocError>
+    ensures { IfOk result (λ path. option_map string_bytes path ≡ output_in is_binary (option_map (λ path. path.now) output.entry) (option_map (λ path. path.now) file.entry)) }
+{
+    match (output, file) {
+        (Some(path), _) => Ok(Some(String::from_str(alloc, path)?)),
+        (None, Some(path)) if is_binary => Ok(Some(output_name(alloc, path)?)),
+        _ => Ok(None),
+    }
+}
+
+/// The output's name after that of the text: its stem and `.nc`.
+fn output_name(alloc: Global, path: &str) -> Result<String, AllocError>
+    ensures { IfOk result (λ name. string_bytes name ≡ output_name path.now) }
+{
+    let mut name = String::from_str(alloc, stem(path))?;
+    name.push_str(".nc")?;
+    Ok(name)
+}
+
+/// A copy of the text, if there is one.
+fn string_in(alloc: Global, text: Option<&str>) -> Result<Option<String>, AllocError>
+    ensures { IfOk result (λ copy. option_map string_bytes copy ≡ option_map (λ text. text.now) text.entry) }
+{
+    match text {
+        Some(text) => Ok(Some(String::from_str(alloc, text)?)),
+        None => Ok(None),
+    }
+}
+
+/// The version that `-k` asks for, or else the first.
+fn version_in(word: Option<&str>) -> Option<Version>
+    ensures { result ≡ version_in (option_map (λ value. value.now) word.entry) }
+{
+    match word {
+        Some(word) => version_of(word),
+        None => Some(Version::Cdf1),
+    }
+}
+
+/// The version that a word names.
+fn version_of(word: &str) -> Option<Version>
+    ensures { result ≡ version_of word.now }
+{
+    if word == "classic" || word == "nc3" {
+        Some(Version::Cdf1)
+    } else if word == "64-bit offset" || word == "nc6" {
+        Some(Version::Cdf2)
+    } else if word == "64-bit data" || word == "nc5" {
+        Some(Version::Cdf5)
+    } else {
+        None
+    }
+}

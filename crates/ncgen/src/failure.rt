@@ -1,0 +1,97 @@
+//! Why a run failed.
+
+ghost use Rattle.std.specs.Prelude.{◌≡◌};
+ghost use Rattle.ncgen.specs.declared.failure.Failure.TheVariants.{CommandLine as command_line};
+ghost use Rattle.ncgen.specs.declared.failure.InputFault.TheVariants as input;
+ghost use Rattle.ncgen.specs.declared.failure.OutputFault.TheVariants as output;
+
+use crate::fault::{GenFault, TextFault};
+use cli_base::OptFault;
+use devices::{CloseFailed, CreateFailed, OpenFailed, WriteFailed};
+
+/// Why no file was made of a text.
+#[derive(Clone, Copy, Debug, PartialEq, Eq)]
+pub enum InputFault {
+    /// The path can't be opened.
+    CannotOpen,
+    /// The text could not be read.
+    Text(TextFault),
+    /// The text gives no file.
+    Generate(GenFault),
+}
+
+/// Why a file was not written.
+#[derive(Clone, Copy, Debug, PartialEq, Eq)]
+pub enum OutputFault {
+    /// The output can't be created.
+    CannotOpen,
+    /// The output could not be written.
+    WriteFailed,
+}
+
+/// Why a run failed.
+#[derive(Debug, Drop)]
+pub enum Failure {
+    /// What is wrong with the command line.
+    CommandLine(OptFault),
+    /// What is wrong with the text at this path, or on standard input.
+    Input(Option<String>, InputFault),
+    /// What is wrong with the output at this path.
+    Output(String, OutputFault),
+}
+
+impl From<OpenFailed> for InputFault {
+    ghost from_gives = { λ _ e. e ≡ input.CannotOpen };
+
+    fn from(_failure: OpenFailed) -> InputFault {
+        InputFault::CannotOpen
+    }
+}
+
+impl From<TextFault> for InputFault {
+    ghost from_gives = { λ fault e. e ≡ input.Text fault };
+
+    fn from(fault: TextFault) -> InputFault {
+        InputFault::Text(fault)
+    }
+}
+
+impl From<GenFault> for InputFault {
+    ghost from_gives = { λ fault e. e ≡ input.Generate fault };
+
+    fn from(fault: GenFault) -> InputFault {
+        InputFault::Generate(fault)
+    }
+}
+
+impl From<CreateFailed> for OutputFault {
+    ghost from_gives = { λ _ e. e ≡ output.CannotOpen };
+
+    fn from(_failure: CreateFailed) -> OutputFault {
+        OutputFault::CannotOpen
+    }
+}
+
+impl From<WriteFailed> for OutputFault {
+    ghost from_gives = { λ _ e. e ≡ output.WriteFailed };
+
+    fn from(_failure: WriteFailed) -> OutputFault {
+        OutputFault::WriteFailed
+    }
+}
+
+impl From<CloseFailed> for OutputFault {
+    ghost from_gives = { λ _ e. e ≡ output.WriteFailed };
+
+    fn from(_failure: CloseFailed) -> OutputFault {
+        OutputFault::WriteFailed
+    }
+}
+
+impl From<OptFault> for Failure {
+    ghost from_gives = { λ fault e. e ≡ command_line fault };
+
+    fn from(fault: OptFault) -> Failure {
+        Failure::CommandLine(fault)
+    }
+}

@@ -1,0 +1,209 @@
+//! The line of each fault.
+
+ghost use Rattle.std.specs.Prelude.{◌≡◌, [], ◌∷◌, codes, decimal};
+ghost use Rattle.nc_base.specs.Bytes.{concat_parts};
+ghost use Rattle.devices.specs.Sinks.{Wrote};
+ghost use Rattle.ncgen.specs.Faults.{cdl_text, fault_text, input_line, input_words, kind_words, line_of, line_of_failure, line_of_text, opt_fault_line, output_words, place_text, program_words, text_name, usage_line};
+
+use crate::failure::{Failure, InputFault, OutputFault};
+use crate::fault::{GenFault, TextFault};
+use cdl_parse::{CdlFault, CdlKind};
+use cli_base::OptFault;
+use devices::{Sink, WriteFailed, put, put_decimal};
+
+/// Writes the line of a failure.
+///
+/// # Errors
+///
+/// The sink failed. It took some prefix of the line.
+#[tactic(auto, unfolding(crate::specs::Faults::line_of_failure))]
+pub(crate) fn put_failure<W: Sink>(sink: &mut W, failure: &Failure) -> Result<(), WriteFailed>
+    ensures { Wrote (W.view sink.old) (W.view sink.new) (line_of_failure failure.now) result }
+{
+    match failure {
+        Failure::CommandLine(fault) => opt_fault_line(sink, *fault),
+        Failure::Input(path, fault) => put_input_fault(sink, text_name(path), fault),
+        Failure::Output(path, fault) => put_line(sink, path.as_bytes(), output_words(*fault)),
+    }
+}
+
+/// Writes the line of a fault of the command line: `ncgen: out of memory`, or how the program is used.
+///
+/// # Errors
+///
+/// The sink failed. It took some prefix of the line.
+#[tactic(auto, unfolding(crate::specs::Faults::opt_fault_line))]
+pub fn opt_fault_line<W: Sink>(sink: &mut W, fault: OptFault) -> Result<(), WriteFailed>
+    ensures { Wrote (W.view sink.old) (W.view sink.new) (opt_fault_line fault) result }
+{
+    match fault {
+        OptFault::OutOfMemory => put(sink, b"ncgen: out of memory\n"),
+        OptFault::Usage => put(sink, usage_line()),
+    }
+}
+
+/// The line that tells how the program is used.
+#[tactic(auto, unfolding(crate::specs::Faults::usage_line))]
+fn usage_line() -> &'static [u8]
+    ensures { result.now ≡ usage_line }
+{
+    b"usage: ncgen [-b] [-o file] [-k kind] [file]\n"
+}
+
+/// What lines call a text: its path, or `-` for standard input.
+#[tactic(auto, unfolding(crate::specs::Faults::text_name))]
+fn text_name(path: &Option<String>) -> &[u8]
+    ensures { result.now ≡ text_name path.now }
+{
+    match path {
+        Some(path) => path.as_bytes(),
+        None => b"-",
+    }
+}
+
+/// Writes the line of a fault of the text with this name.
+#[tactic(auto, unfolding(crate::specs::Faults::input_line))]
+fn put_input_fault<W: Sink>(
+    sink: &mut W,
+    name: &[u8],
+    fault: &InputFault,
+) -> Result<(), WriteFailed>
+    ensures { Wrote (W.view sink.old) (W.view sink.new) (input_line name.now fault.now) result }
+{
+    match fault {
+        InputFault::CannotOpen => put_line(sink, name, b"cannot open"),
+        InputFault::Text(fault) => put_line(sink, name, input_words(*fault)),
+        InputFault::Generate(fault) => fault_line(sink, name, fault),
+    }
+}
+
+/// Writes the line with this text about this file: `ncgen: FILE: TEXT`.
+#[tactic(auto, using(devices::proofs::Writes::writes), unfolding(crate::specs::Faults::line_of_text))]
+fn put_line<W: Sink>(sink: &mut W, file: &[u8], text: &[u8]) -> Result<(), WriteFailed>
+    ensures { Wrote (W.view sink.old) (W.view sink.new) (line_of_text file.now text.now) result }
+{
+    put(sink, program_words())?;
+    put(sink, file)?;
+    put(sink, b": ")?;
+    put(sink, text)?;
+    put(sink, b"\n")
+}
+
+/// Writes the line that tells why no file was generated from this file's text: `ncgen: FILE: TEXT`, with `line N: ` before the
+/// text for what is wrong with the text.
+///
+/// # Errors
+///
+/// The sink failed. It took some prefix of the line.
+#[tactic(auto, using(devices::proofs::Writes::writes), unfolding(crate::specs::Faults::line_of, crate::specs::Faults::line_of_text))]
+pub fn fault_line<W: Sink>(sink: &mut W, file: &[u8], fault: &GenFault) -> Result<(), WriteFailed>
+    ensures { Wrote (W.view sink.old) (W.view sink.new) (line_of file.now fault.now) result }
+{
+    put(sink, program_words())?;
+    put(sink, file)?;
+    put(sink, b": ")?;
+    put_fault(sink, fault)?;
+    put(sink, b"\n")
+}
+
+/// Writes what a fault says.
+#[tactic(auto, unfolding(crate::specs::Faults::fault_text))]
+fn put_fault<W: Sink>(sink: &mut W, fault: &GenFault) -> Result<(), WriteFailed>
+    ensures { Wrote (W.view sink.old) (W.view sink.new) (fault_text fault.now) result }
+{
+    match fault {
+        GenFault::Cdl(fault) => put_cdl_fault(sink, *fault),
+        GenFault::OffsetTooLarge => put(sink, b"offset too large"),
+        GenFault::WriteFailed => put(sink, b"write failed"),
+    }
+}
+
+/// Writes what a fault of a text says.
+#[tactic(auto, using(devices::proofs::Writes::writes), unfolding(crate::specs::Faults::cdl_text))]
+fn put_cdl_fault<W: Sink>(sink: &mut W, fault: CdlFault) -> Result<(), WriteFailed>
+    ensures { Wrote (W.view sink.old) (W.view sink.new) (cdl_text fault) result }
+{
+    put_place(sink, fault.kind, fault.line)?;
+    put(sink, kind_words(fault.kind))
+}
+
+/// Writes which line a fault of this kind is in, if it is in one.
+#[tactic(auto, using(devices::proofs::Writes::writes), unfolding(crate::specs::Faults::place_text))]
+fn put_place<W: Sink>(sink: &mut W, kind: CdlKind, line: u64) -> Result<(), WriteFailed>
+    ensures { Wrote (W.view sink.old) (W.view sink.new) (place_text kind line) result }
+{
+    match kind {
+        CdlKind::OutOfMemory => Ok(()),
+        _ => put_number(sink, line),
+    }
+}
+
+/// Writes the number of a line.
+#[tactic(auto, using(devices::proofs::Writes::writes))]
+fn put_number<W: Sink>(sink: &mut W, line: u64) -> Result<(), WriteFailed>
+    ensures { Wrote (W.view sink.old) (W.view sink.new) (concat_parts (codes "line " ∷ decimal line ∷ codes ": " ∷ [])) result }
+{
+    put(sink, b"line ")?;
+    put_decimal(sink, line as u128)?;
+    put(sink, b": ")
+}
+
+/// What is said of a fault of this kind.
+#[tactic(auto, unfolding(crate::specs::Faults::kind_words))]
+fn kind_words(kind: CdlKind) -> &'static [u8]
+    ensures { result.now ≡ kind_words kind }
+{
+    match kind {
+        CdlKind::OutOfMemory => b"out of memory",
+        CdlKind::BadToken => b"bad token",
+        CdlKind::BadNumber => b"bad number",
+        CdlKind::Syntax => b"syntax",
+        CdlKind::BadName => b"bad name",
+        CdlKind::DuplicateName => b"duplicate name",
+        CdlKind::UnknownDimension => b"unknown dimension",
+        CdlKind::UnknownVariable => b"unknown variable",
+        CdlKind::FloatingType => b"floating type",
+        CdlKind::UnknownType => b"unknown type",
+        CdlKind::ZeroDimension => b"zero dimension",
+        CdlKind::TwoRecordDims => b"two record dimensions",
+        CdlKind::BadShape => b"bad shape",
+        CdlKind::MixedConstants => b"mixed constants",
+        CdlKind::NumberRange => b"number out of range",
+        CdlKind::WrongKind => b"wrong kind of value",
+        CdlKind::TooManyValues => b"too many values",
+        CdlKind::StringTooLong => b"string too long",
+        CdlKind::DuplicateData => b"duplicate data",
+        CdlKind::TooLarge => b"too large",
+    }
+}
+
+/// What is said of a text that could not be read.
+#[tactic(auto, unfolding(crate::specs::Faults::input_words))]
+fn input_words(fault: TextFault) -> &'static [u8]
+    ensures { result.now ≡ input_words fault }
+{
+    match fault {
+        TextFault::OutOfMemory => b"out of memory",
+        TextFault::ReadFailed => b"read failed",
+        TextFault::TooLong => b"CDL text too long",
+    }
+}
+
+/// What is said of an output.
+#[tactic(auto, unfolding(crate::specs::Faults::output_words))]
+fn output_words(fault: OutputFault) -> &'static [u8]
+    ensures { result.now ≡ output_words fault }
+{
+    match fault {
+        OutputFault::CannotOpen => b"cannot open",
+        OutputFault::WriteFailed => b"write failed",
+    }
+}
+
+/// What each line of the program begins with.
+#[tactic(auto, unfolding(crate::specs::Faults::program_words))]
+fn program_words() -> &'static [u8]
+    ensures { result.now ≡ program_words }
+{
+    b"ncgen: "
+}

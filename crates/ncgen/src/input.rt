@@ -1,0 +1,37 @@
+//! The text that is asked for.
+
+ghost use Rattle.std.specs.Prelude.{◌≡◌, option_map, string_bytes};
+ghost use Rattle.devices.specs.Readers.{view_of};
+ghost use Rattle.ncgen.specs.Inputs.{inputs, ReadsAt, ReadsInput};
+
+use crate::failure::InputFault;
+use crate::reading::read_text;
+use devices::{CountedRead, Texts};
+use std::alloc::Global;
+use std::io::Read;
+
+/// How many bytes a text may have.
+const TEXT_LIMIT: usize = 268435456;
+
+/// Reads the text at the path, or without one that of standard input.
+pub fn read_input<T: Texts, R: Read>(
+    texts: &T,
+    alloc: Global,
+    file: &Option<String>,
+    input: &mut CountedRead<R>,
+) -> Result<Vec<u8>, InputFault>
+    ensures { ReadsInput (inputs T.is_transparent (T.named texts.now) (view_of R.remaining input.old) (view_of R.remaining input.new)) (option_map string_bytes file.now) result }
+{
+    match file {
+        Some(path) => read_path(texts, alloc, path.as_str()),
+        None => Ok(read_text(alloc, input, TEXT_LIMIT)?),
+    }
+}
+
+/// Reads the text at the path.
+fn read_path<T: Texts>(texts: &T, alloc: Global, path: &str) -> Result<Vec<u8>, InputFault>
+    ensures { ReadsAt T.is_transparent (T.named texts.now path.now) result }
+{
+    let mut reader = CountedRead::new(texts.open(path)?);
+    Ok(read_text(alloc, &mut reader, TEXT_LIMIT)?)
+}

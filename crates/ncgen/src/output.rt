@@ -1,0 +1,26 @@
+//! The file that is written.
+
+ghost use Rattle.ncgen.specs.Outputs.{outputs, WritesAt};
+ghost use Rattle.ncgen.specs.Prepared.{file_of_prepared, IsReady};
+
+use crate::failure::OutputFault;
+use crate::prepared::Prepared;
+use devices::Creator;
+
+/// Creates the output at the path, or empties what is there, and writes the file to it.
+#[tactic(auto, unfolding(devices::specs::Sinks::append, devices::specs::Sinks::is_transparent))]
+pub fn write_output<C: Creator>(
+    creator: &mut C,
+    path: &str,
+    prepared: &Prepared,
+) -> Result<(), OutputFault>
+    requires { IsReady prepared.now }
+    ensures { WritesAt (outputs C.is_transparent (C.view creator.old) (C.view creator.new)) path.now (file_of_prepared prepared.now) result }
+{
+    let mut output = creator.create(path)?;
+    let written = prepared.write(&mut output);
+    let closed = creator.close(path, output);
+    written?;
+    closed?;
+    Ok(())
+}
