@@ -6,6 +6,7 @@ pub mod PlainTokens
 pub mod Cuts
 pub mod Sizes
 pub mod Suffixes
+pub mod Decimals
 pub mod Surveys
 pub mod Options
 pub mod Listing

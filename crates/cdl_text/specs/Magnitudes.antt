@@ -1,7 +1,13 @@
 -- Numbers as the code holds them.
-use Rattle.std.specs.Prelude.{ℕ, nat_lt, if◌then◌else◌, Option, None, Some}
+use Rattle.std.specs.Prelude.{ℕ, List, nat_lt, take, if◌then◌else◌, Option, None, Some}
+use Rattle.std.specs.List.{prefix_len}
+use Rattle.cdl_text.specs.Bytes.{is_digit}
 use Rattle.cdl_text.specs.Numerals.{Parts}
 use Rattle.cdl_text.specs.declared.numeral.Numeral.{Numeral}
+
+-- the first bytes that are decimal digits
+abbrev pub decimals : List ℕ → List ℕ
+decimals bs = take (prefix_len is_digit bs) bs
 
 -- a number that has 64 bits at most
 abbrev pub word : ℕ → Option ℕ

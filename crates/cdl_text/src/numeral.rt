@@ -2,11 +2,11 @@
 
 ghost use Rattle.std.specs.Str.{bytes_eq};
 ghost use Rattle.std.specs.List.{prefix_len};
-ghost use Rattle.std.specs.Prelude.{find, ◌≡◌, ◌≤◌, ◌+◌, ◌*◌, length, map, option_map, slice_index};
+ghost use Rattle.std.specs.Prelude.{find, ◌≡◌, ◌≤◌, ◌+◌, ◌*◌, drop, length, map, option_map, slice_index};
 ghost use Rattle.nc_base.specs.Types.{number_suffix};
 ghost use Rattle.cdl_text.specs.Bytes.{is_digit};
 ghost use Rattle.cdl_text.specs.Escapes.{digit};
-ghost use Rattle.cdl_text.specs.Magnitudes.{held, word};
+ghost use Rattle.cdl_text.specs.Magnitudes.{decimals, held, word};
 ghost use Rattle.cdl_text.specs.Numerals.{has_suffix, in_base, lower, number_in, parts, suffix, type_of_suffix, unsigned};
 
 use crate::bytes::{byte_at, is_digit, is_sign};
@@ -50,8 +50,51 @@ fn unsigned(version: Version, minus: bool, bytes: &[u8]) -> Option<Numeral>
     if byte_at(bytes, 0) == b'0' {
         after_zero(version, minus, bytes)
     } else {
-        in_base(version, minus, 10, digit_len(bytes), bytes)
+        decimal(version, minus, bytes)
     }
+}
+
+/// The number of decimal digits and a suffix.
+#[inline(always)]
+fn decimal(version: Version, minus: bool, bytes: &[u8]) -> Option<Numeral>
+    ensures { result ≡ option_map held (in_base version minus 10 (prefix_len is_digit bytes.now) bytes.now) }
+{
+    let (n, value) = first_digits(bytes);
+    let (_, rest) = bytes.split_at(n);
+    if is_digit(byte_at(rest, 0)) {
+        return in_base(version, minus, 10, digit_len(bytes), bytes);
+    }
+    if n == 0 {
+        return None;
+    }
+    match suffix(version, rest) {
+        Some(ty) => Some(Numeral {
+            minus,
+            magnitude: Some(value),
+            ty,
+        }),
+        None => None,
+    }
+}
+
+/// How many of the first bytes are decimal digits, and their number: all of them, or so many that one more could pass 64 bits.
+#[inline(always)]
+fn first_digits(bytes: &[u8]) -> (usize, u64)
+    ensures within { result.0 ≤ length bytes.now }
+    ensures count { result.0 + prefix_len is_digit (drop result.0 bytes.now) ≡ prefix_len is_digit bytes.now }
+    ensures value { number_in 10 result.1 (decimals (drop result.0 bytes.now)) ≡ number_in 10 0 (decimals bytes.now) }
+{
+    let mut value = 0;
+    let mut at = 0;
+    'digits: while at < bytes.len() {
+        let b = bytes[at];
+        if !is_digit(b) || value >= 0x0800_0000_0000_0000 {
+            return (at, value);
+        }
+        value = 10 * value + (b - b'0') as u64;
+        at += 1;
+    }
+    (at, value)
 }
 
 /// The number of these bytes, which begin with `0`: the mark of another base.

@@ -44,7 +44,19 @@ impl Token {
     ghost use Rattle.cdl_text.specs.Views.{lexeme_of};
 
     /// The token's bytes, in the text that it is a token of.
+    #[inline(always)]
     pub fn bytes(self, text: &[u8]) -> &[u8]
+        ensures { result.now ≡ raw text.now self }
+    {
+        if self.first <= self.past && self.past <= text.len() {
+            return &text[self.first..self.past];
+        }
+        self.bytes_outside(text)
+    }
+
+    /// The token's bytes, in a text that may have no such token.
+    #[inline(never)]
+    fn bytes_outside(self, text: &[u8]) -> &[u8]
         ensures { result.now ≡ raw text.now self }
     {
         let rest = if self.first < text.len() {

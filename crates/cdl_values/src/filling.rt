@@ -51,7 +51,7 @@ pub fn is_past(n: u128, capacity: Option<u64>) -> bool
 }
 
 /// The capacity without `n`, or 0.
-fn less(n: u128, capacity: Option<u64>) -> Option<u64>
+pub fn less(n: u128, capacity: Option<u64>) -> Option<u64>
     ensures { result ≡ less n capacity }
 {
     match capacity {

@@ -1,6 +1,6 @@
 //! Values of the data section.
 
-ghost use Rattle.std.specs.Prelude.{◌≡◌, ◌∷◌, List, None, Ok, OnOk, IfOk};
+ghost use Rattle.std.specs.Prelude.{◌≡◌, ◌∷◌, ℕ, List, None, Ok, OnOk, IfOk};
 ghost use Rattle.cdl_text.specs.Contents.{value_of, values};
 ghost use Rattle.cdl_text.specs.DueTokens.{next};
 ghost use Rattle.cdl_text.specs.Lexemes as lexemes;
@@ -8,11 +8,11 @@ ghost use Rattle.cdl_text.specs.Shapes.{token_fault};
 ghost use Rattle.cdl_text.specs.Views.{lexeme_of, lexeme_with};
 ghost use Rattle.cdl_text.specs.declared.fault.CdlKind.{CdlKind};
 ghost use Rattle.cdl_values.specs.Answers.{Adds, Continues};
-ghost use Rattle.cdl_values.specs.PackedValues.{bytes_of, joined, packed, value_bytes};
+ghost use Rattle.cdl_values.specs.PackedValues.{bytes_of, capacity_after, joined, less, packed, value_bytes};
 
 use crate::array::Array;
 use crate::fill::Fill;
-use crate::filling::{Filling, is_full};
+use crate::filling::{Filling, is_full, less};
 use crate::number::{number_or_zero, put_number, put_numeral};
 use crate::read_error::ReadError;
 use crate::string::{put_row, put_text};
@@ -77,6 +77,13 @@ pub fn take_good(
     let then = due.after(token);
     match token.kind {
         TokenKind::Mark => Ok((capacity, then)),
+        // A number is one value, so that its bytes needn't be counted.
+        TokenKind::Number => {
+            match put_good_number(array, version, filling, capacity, token.bytes) {
+                Ok(()) => Ok((less(1, capacity), then)),
+                Err(e) => Err(e),
+            }
+        }
         _ => {
             let before = array.len();
             match put_good(array, version, filling, capacity, token) {
@@ -90,7 +97,8 @@ pub fn take_good(
     }
 }
 
-/// Adds the bytes of a value, if its token is good.
+/// Adds the bytes of a value that is no number, if its token is good.
+#[inline(never)]
 fn put_good(
     array: &mut Array,
     version: Version,
@@ -98,11 +106,11 @@ fn put_good(
     capacity: Option<u64>,
     token: Lexeme<'_>,
 ) -> Result<(), Stop>
+    requires { token.kind ≡ TokenKind.Number → ⊥ }
     ensures good { OnOk result (token_fault version token.entry.kind token.entry.bytes.now ≡ None) }
     ensures adds { OnOk result (joined (Ok array.old) (bytes_of filling capacity (value_of version (lexeme_of token.entry) token.entry.kind)) ≡ Ok array.new) }
 {
     match token.kind {
-        TokenKind::Number => put_good_number(array, version, filling, capacity, token.bytes),
         TokenKind::Bad => Err(Stop::SomeFault),
         _ => match put(array, version, filling, capacity, token) {
             Ok(()) => Ok(()),
@@ -121,6 +129,7 @@ fn put_good_number(
     bytes: &[u8],
 ) -> Result<(), Stop>
     ensures good { OnOk result (token_fault version TokenKind.Number bytes.now ≡ None) }
+    ensures counts { OnOk result ((added : List ℕ) → capacity_after filling added capacity ≡ less 1 capacity) }
     ensures adds { OnOk result (joined (Ok array.old) (bytes_of filling capacity (value_of version (lexeme_with TokenKind.Number bytes.now) TokenKind.Number)) ≡ Ok array.new) }
 {
     match filling {
