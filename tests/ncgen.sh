@@ -119,7 +119,7 @@ verdict refused_text_stays 0
 
 # Texts and outputs that can't be opened, and devices that take nothing.
 fault missing_text missing.cdl 'cannot open'
-fault folder_as_text dir 'read failed'
+fault folder_as_text dir 'cannot open'
 stderr 'ncgen: missing/made.nc: cannot open\n'
 run "$ncgen" -o missing/made.nc short.cdl
 verdict output_in_no_folder 1
