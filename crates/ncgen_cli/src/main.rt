@@ -30,7 +30,9 @@ fn run_words<R: Env + Files<File = File> + Input + AllocGlobal, E: Sink>(
     err: &mut E,
 ) -> Result<u8, OptFault> {
     let alloc = rt.alloc();
-    let words: Vec<String> = env::args(rt).map_err(unread)?.collect(alloc)?;
+    let words: Vec<String> = env::args(rt)
+        .map_err(|error| unread(error))?
+        .collect(alloc)?;
     let texts: Vec<&str> = words.iter().map(|word| word.as_str()).collect(alloc)?;
     let mut outputs = SystemOutputs::new(rt, alloc);
     let mut input = CountedRead::new(rt.reader());
