@@ -10,12 +10,12 @@ use Rattle.nc_base.specs.OwedValues.{IsListed, AreListed}
 use Rattle.nc_base.specs.Types.{size_of}
 
 -- one variable more
-pub listed-next : (dims : List Dim) (n : ℕ) (vars : List Var) (arrays : List (List ℕ)) (v : ℕ) → v < length vars → v < length arrays → AreListed dims n (take v vars) (take v arrays)
-    → IfSome (slice_get vars v) (λ var. IsListed dims n var (get_or arrays v [])) → AreListed dims n (take (suc v) vars) (take (suc v) arrays)
-listed-next dims n [] arrays v p q are is = absurd (omega arith)
-listed-next dims n (var ∷ vars) [] v p q are is = absurd (omega arith)
-listed-next dims n (var ∷ vars) (array ∷ arrays) zero p q are is = (is, tt)
-listed-next dims n (var ∷ vars) (array ∷ arrays) (suc v) p q are is = (are.0, listed-next dims n vars arrays v (omega arith) (omega arith) are.1 is)
+pub listed-next : (dims : List Dim) (n : ℕ) (vars : List Var) (arrays : List (List ℕ)) (v : ℕ) (d : List ℕ) → v < length vars → v < length arrays → AreListed dims n (take v vars) (take v arrays)
+    → IfSome (slice_get vars v) (λ var. IsListed dims n var (get_or arrays v d)) → AreListed dims n (take (suc v) vars) (take (suc v) arrays)
+listed-next dims n [] arrays v d p q are is = absurd (omega arith)
+listed-next dims n (var ∷ vars) [] v d p q are is = absurd (omega arith)
+listed-next dims n (var ∷ vars) (array ∷ arrays) zero d p q are is = (is, tt)
+listed-next dims n (var ∷ vars) (array ∷ arrays) (suc v) d p q are is = (are.0, listed-next dims n vars arrays v d (omega arith) (omega arith) are.1 is)
 
 whole-values : (ty : NcType) (n : ℕ) → n % size_of ty ≡ 0 → n ≡ n / size_of ty * size_of ty
 whole-values Byte n none = omega arith

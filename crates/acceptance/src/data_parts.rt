@@ -31,7 +31,13 @@ fn is_listed(header: &Header, v: usize, listed: &[u8]) -> bool
 {
     let size = header.vars.as_slice()[v].ty.size();
     let len = listed.len() as u64;
-    len % size == 0 && (len / size) as u128 <= value_count(header, v, known_records(header))
+    if len % size != 0 {
+        return false;
+    }
+    if (len / size) as u128 > value_count(header, v, known_records(header)) {
+        return false;
+    }
+    true
 }
 
 /// Says whether there is one list of bytes for each variable.

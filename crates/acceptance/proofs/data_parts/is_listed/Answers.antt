@@ -1,0 +1,11 @@
+use Rattle.std.proofs.Common.{rules, ◌≡◌, ℕ, ◌/◌, ◌%◌, ◌≤◌, length, arith}
+use Rattle.nc_base.specs.GeneratedFile.{known_records}
+use Rattle.acceptance.proofs.ListedPush.{one-listed}
+use Rattle.acceptance.proofs.data_parts.is_listed.Goals as goal
+
+pub returns : goal.returns
+returns c =
+    let h = c.args.header.now in
+    λ _.
+    one-listed h.dims (known_records h.numrecs) h.vars c.args.v c.index-as_slice-v.result c.args.listed.now c.size-size.result c.value_count.result (search rules) (search rules)
+    (rw c.known_records.ensures at c.value_count.ensures) (omega arith) (omega arith)
