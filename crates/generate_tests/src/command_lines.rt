@@ -1,6 +1,6 @@
 //! What the words of the command line ask for.
 
-use crate::files::{FIFTH_FILE, FIRST_FILE, SECOND_FILE, TEXT};
+use crate::texts::{FIFTH_FILE, FIRST_FILE, SECOND_FILE, TEXT};
 use crate::invocations::{Invocation, makes, refuses};
 use devices::ListedFile;
 

@@ -2,7 +2,7 @@
 
 ghost use Rattle.std.specs.Prelude.{[], ◌≡◌, None, false};
 
-use crate::files::TEXT;
+use crate::texts::TEXT;
 use devices::{
     CloseFailed, CountedRead, CreateFailed, Creator, ListedFile, ListedTexts, Sink, SinkFailed,
     SliceSink,

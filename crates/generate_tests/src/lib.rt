@@ -1,17 +1,40 @@
-//! Tests of `ncgen`: its command lines, the reading of texts, and whole runs.
+//! Tests of `ncgen` that go across the crates: texts and their files, byte for byte, the way back to the text, command lines, the
+//! reading of texts, and whole runs.
 #![tactic(auto)]
 
 #[cfg(test)]
 mod command_lines;
 #[cfg(test)]
+mod dumped_files;
+#[cfg(test)]
+mod failing_sinks;
+#[cfg(test)]
 mod files;
 #[cfg(test)]
 mod full_disks;
 #[cfg(test)]
+mod generated_files;
+#[cfg(test)]
+mod generating;
+#[cfg(test)]
+mod growths;
+#[cfg(test)]
 mod invocations;
+#[cfg(test)]
+mod large_files;
 #[cfg(test)]
 mod readers;
 #[cfg(test)]
 mod reading_text;
 #[cfg(test)]
+mod refusals;
+#[cfg(test)]
+mod round_trips;
+#[cfg(test)]
+mod rows;
+#[cfg(test)]
 mod runs;
+#[cfg(test)]
+mod texts;
+#[cfg(test)]
+mod wide_files;

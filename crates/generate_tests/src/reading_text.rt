@@ -1,6 +1,6 @@
 //! All the bytes of a text.
 
-use crate::files::TEXT;
+use crate::texts::TEXT;
 use crate::readers::FailingReader;
 use devices::CountedRead;
 use ncgen::{TextFault, read_text};

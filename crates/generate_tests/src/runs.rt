@@ -1,6 +1,6 @@
 //! Whole runs: what is written where, and what is told.
 
-use crate::files::{FIRST_FILE, REFUSED_TEXT, TEXT};
+use crate::texts::{FIRST_FILE, REFUSED_TEXT, TEXT};
 use crate::full_disks::{FullDisk, leaves};
 use crate::invocations::{Invocation, Outcome, ends, makes, refuses};
 use crate::readers::{FailingReader, FailingTexts};
