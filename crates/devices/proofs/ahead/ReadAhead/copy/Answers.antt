@@ -1,4 +1,4 @@
-use Rattle.std.proofs.Common.{◌≡◌, ℕ, ◌+◌, ◌-◌, ◌∙◌, List, take, drop, length, ap, arith, length-take}
+use Rattle.std.proofs.Common.{◌≡◌, ℕ, ◌+◌, ◌-◌, ◌∙◌, take, drop, ap, arith, length-take}
 use Rattle.devices.proofs.Stretches.{copied}
 use Rattle.devices.proofs.ahead.ReadAhead.copy.Goals as goal
 
