@@ -26,3 +26,5 @@ mod types_and_names;
 mod value_rows;
 #[cfg(test)]
 mod values;
+#[cfg(test)]
+mod written_headers;
