@@ -29,7 +29,7 @@ pub fn number_or_zero(version: Version, bytes: &[u8]) -> Numeral
 }
 
 /// Adds the bytes of a number, the highest first, where it is in the range of the type.
-#[inline]
+#[inline(always)]
 pub fn put_numeral(array: &mut Array, ty: NcType, n: Numeral) -> Result<(), ReadError>
     ensures { Adds array.old array.new result (held_bytes ty n.minus n.magnitude) }
 {
