@@ -1,7 +1,7 @@
 -- Decimal numbers, digit by digit.
-use Rattle.std.proofs.Common.{◌≡◌, ℕ, suc, true, false, ◌+◌, ◌*◌, ◌-◌, ◌<◌, List, [], ◌∷◌, get_or, length, take, drop, refl, sym, ap, ◌∙◌, drop-cons, arith}
+use Rattle.std.proofs.Common.{◌≡◌, ℕ, suc, true, false, ◌+◌, ◌*◌, ◌-◌, ◌<◌, List, [], ◌∷◌, get_or, length, take, drop, refl, sym, ap, ◌∙◌, arith}
 use Rattle.std.proofs.lemmas.Grind.{common_steps}
-use Rattle.std.specs.Prelude.{Bool, Some, ◌==◌, if◌then◌else◌, nat_lt, option_map, slice_index}
+use Rattle.std.specs.Prelude.{Bool, Some, ◌==◌, nat_lt, option_map, slice_index}
 use Rattle.std.specs.List.{prefix_len}
 use Rattle.nc_base.specs.declared.nc_type.NcType.{NcType}
 use Rattle.nc_base.specs.declared.version.Version.{Version}

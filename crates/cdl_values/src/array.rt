@@ -42,7 +42,7 @@ impl Array {
     /// # Errors
     ///
     /// A growth was refused.
-    #[inline]
+    #[inline(always)]
     pub fn add(&mut self, bytes: &[u8]) -> Result<(), AllocError>
         ensures { OnOk result (self.new ≡ self.old ++ bytes.now) }
     {

@@ -29,7 +29,7 @@ pub fn number_or_zero(version: Version, bytes: &[u8]) -> Numeral
 }
 
 /// Adds the bytes of a number, the highest first, where it is in the range of the type.
-#[inline]
+#[inline(always)]
 pub fn put_numeral(array: &mut Array, ty: NcType, n: Numeral) -> Result<(), ReadError>
     ensures { Adds array.old array.new result (held_bytes ty n.minus n.magnitude) }
 {
@@ -48,7 +48,7 @@ pub fn put_numeral(array: &mut Array, ty: NcType, n: Numeral) -> Result<(), Read
 }
 
 /// Adds the bytes of a number, the highest first.
-#[inline(always)]
+#[inline(never)]
 pub fn put_number(array: &mut Array, ty: NcType, number: i128) -> Result<(), AllocError>
     requires { IsInRange ty number }
     ensures { OnOk result (array.new ≡ array.old ++ bytes_of_number ty number) }

@@ -82,7 +82,7 @@ pub fn pack_good<'a>(
     'tokens: loop {
         let token = cutter.lexeme();
         let ends = cutter.advance();
-        match take_good(&mut array, version, filling, left, due, token) {
+        match take_good(&mut array, version, &filling, left, due, token) {
             Ok((capacity, then)) => {
                 left = capacity;
                 due = then;

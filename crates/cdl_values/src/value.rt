@@ -65,21 +65,21 @@ pub fn put_token(
 pub fn take_good(
     array: &mut Array,
     version: Version,
-    filling: Filling,
+    filling: &Filling,
     capacity: Option<u64>,
     due: Due,
     token: Lexeme<'_>,
 ) -> Result<(Option<u64>, Due), Stop>
     ensures good { OnOk result (token_fault version token.entry.kind token.entry.bytes.now ≡ None) }
     ensures shape { IfOk result (λ r. r.1 ≡ next due (lexeme_of token.entry)) }
-    ensures packs { IfOk result (λ r. (rest : List lexemes.Lexeme) → joined (Ok array.old) (packed filling capacity (values version (lexeme_of token.entry ∷ rest))) ≡ joined (Ok array.new) (packed filling r.0 (values version rest))) }
+    ensures packs { IfOk result (λ r. (rest : List lexemes.Lexeme) → joined (Ok array.old) (packed filling.now capacity (values version (lexeme_of token.entry ∷ rest))) ≡ joined (Ok array.new) (packed filling.now r.0 (values version rest))) }
 {
     let then = due.after(token);
     match token.kind {
         TokenKind::Mark => Ok((capacity, then)),
         // A number is one value, so that its bytes needn't be counted.
         TokenKind::Number => {
-            match put_good_number(array, version, filling, capacity, token.bytes) {
+            match put_good_number(array, version, *filling, capacity, token.bytes) {
                 Ok(()) => Ok((less(1, capacity), then)),
                 Err(e) => Err(e),
             }
@@ -102,17 +102,17 @@ pub fn take_good(
 fn put_good(
     array: &mut Array,
     version: Version,
-    filling: Filling,
+    filling: &Filling,
     capacity: Option<u64>,
     token: Lexeme<'_>,
 ) -> Result<(), Stop>
     requires { token.kind ≡ TokenKind.Number → ⊥ }
     ensures good { OnOk result (token_fault version token.entry.kind token.entry.bytes.now ≡ None) }
-    ensures adds { OnOk result (joined (Ok array.old) (bytes_of filling capacity (value_of version (lexeme_of token.entry) token.entry.kind)) ≡ Ok array.new) }
+    ensures adds { OnOk result (joined (Ok array.old) (bytes_of filling.now capacity (value_of version (lexeme_of token.entry) token.entry.kind)) ≡ Ok array.new) }
 {
     match token.kind {
         TokenKind::Bad => Err(Stop::SomeFault),
-        _ => match put(array, version, filling, capacity, token) {
+        _ => match put(array, version, *filling, capacity, token) {
             Ok(()) => Ok(()),
             Err(e) => Err(stop_of(e)),
         },

@@ -1,5 +1,5 @@
-use Rattle.std.proofs.Common.{rules, refl, List, ℕ}
-use Rattle.std.specs.Prelude.{Ok, Vec}
+use Rattle.std.proofs.Common.{rules, refl}
+use Rattle.std.specs.Prelude.{Ok}
 use Rattle.cdl_text.specs.Lexemes.{word_value}
 use Rattle.cdl_text.specs.declared.fault.CdlKind.TheVariants.{BadName, DuplicateName}
 use Rattle.cdl_meaning.specs.State.{unless, when, ◌>>=◌}

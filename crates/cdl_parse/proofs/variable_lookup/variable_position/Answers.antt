@@ -1,7 +1,6 @@
-use Rattle.std.proofs.Common.{rules, refl, ap, sym, ◌∙◌}
-use Rattle.std.specs.Prelude.{Result, Err, if◌then◌else◌}
+use Rattle.std.proofs.Common.{rules, ap, sym, ◌∙◌}
 use Rattle.cdl_text.specs.Lexemes.{word_value}
-use Rattle.cdl_meaning.specs.State.{Draft, at_variable}
+use Rattle.cdl_meaning.specs.State.{at_variable}
 use Rattle.cdl_values.specs.Meant.{names_of}
 use Rattle.cdl_values.specs.NameIndices.{position_of}
 use Rattle.cdl_parse.specs.VariablePositions.{at_position}

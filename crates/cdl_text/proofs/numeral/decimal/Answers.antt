@@ -1,5 +1,5 @@
 use Rattle.std.proofs.Common.{rules, ◌≡◌, false, drop, sym, ap, ◌∙◌}
-use Rattle.std.specs.Prelude.{Some, ◌==◌, nat_lt, slice_index}
+use Rattle.std.specs.Prelude.{◌==◌, nat_lt, slice_index}
 use Rattle.cdl_text.specs.Bytes.{is_digit}
 use Rattle.cdl_text.specs.Numerals.{suffix}
 use Rattle.cdl_text.proofs.Decimals.{all_read, said}

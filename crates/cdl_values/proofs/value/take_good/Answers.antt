@@ -11,7 +11,7 @@ use Rattle.cdl_values.proofs.value.take_good.Goals as goal
 pub returns-in-Mark-clause-packs : goal.returns-in-Mark-clause-packs
 returns-in-Mark-clause-packs c = λ rest.
     let a = c.args in
-    ap (λ vs. joined (Ok a.array.now) (packed a.filling a.capacity vs)) (over_mark a.version (lexeme_of a.token) rest (ap is_mark_kind c.in-Mark.is))
+    ap (λ vs. joined (Ok a.array.now) (packed a.filling.now a.capacity vs)) (over_mark a.version (lexeme_of a.token) rest (ap is_mark_kind c.in-Mark.is))
 
 pub returns-in-Ok-clause-packs : goal.returns-in-Ok-clause-packs
 returns-in-Ok-clause-packs c = λ rest.
@@ -22,10 +22,10 @@ returns-in-Ok-clause-packs c = λ rest.
     let new = c.put_good_number.new.array in
     let ds = drop (length old) new in
     let said : value_of a.version (lexeme_with Number a.token.bytes.now) Number ≡ v = ap (λ k. value_of a.version (lexeme_with k a.token.bytes.now) k) (sym c.in-Number.is) in
-    let adds : joined (Ok old) (bytes_of a.filling a.capacity v) ≡ Ok new = ap (λ w. joined (Ok old) (bytes_of a.filling a.capacity w)) (sym said) ∙ c.in-Ok.ensures.adds in
-    ap (λ vs. joined (Ok old) (packed a.filling a.capacity vs)) (over_value a.version l rest (ap is_mark_kind c.in-Number.is)) ∙
-    one_packed a.filling a.capacity v (values a.version rest) old new ds (added old new (bytes_of a.filling a.capacity v) adds) (is_after old new (bytes_of a.filling a.capacity v) adds) ∙
-    ap (λ left. joined (Ok new) (packed a.filling left (values a.version rest))) (c.in-Ok.ensures.counts ds ∙ sym c.less.ensures)
+    let adds : joined (Ok old) (bytes_of a.filling.now a.capacity v) ≡ Ok new = ap (λ w. joined (Ok old) (bytes_of a.filling.now a.capacity w)) (sym said) ∙ c.in-Ok.ensures.adds in
+    ap (λ vs. joined (Ok old) (packed a.filling.now a.capacity vs)) (over_value a.version l rest (ap is_mark_kind c.in-Number.is)) ∙
+    one_packed a.filling.now a.capacity v (values a.version rest) old new ds (added old new (bytes_of a.filling.now a.capacity v) adds) (is_after old new (bytes_of a.filling.now a.capacity v) adds) ∙
+    ap (λ left. joined (Ok new) (packed a.filling.now left (values a.version rest))) (c.in-Ok.ensures.counts ds ∙ sym c.less.ensures)
 
 pub returns-in-Ok-put_good-clause-packs : goal.returns-in-Ok-put_good-clause-packs
 returns-in-Ok-put_good-clause-packs c = λ rest.
@@ -35,7 +35,7 @@ returns-in-Ok-put_good-clause-packs c = λ rest.
     let old = a.array.now in
     let new = c.put_good.new.array in
     let ds = drop (length old) new in
-    let r = bytes_of a.filling a.capacity v in
-    ap (λ vs. joined (Ok old) (packed a.filling a.capacity vs)) (over_value a.version l rest (no_mark l.kind c.in_default.not-Mark)) ∙
-    one_packed a.filling a.capacity v (values a.version rest) old new ds (added old new r c.in-Ok-put_good.ensures.adds) (is_after old new r c.in-Ok-put_good.ensures.adds) ∙
-    ap (λ left. joined (Ok new) (packed a.filling left (values a.version rest))) (sym (c.capacity_after.ensures ds (length-drop (length old) new ∙ ap (λ n. n - length old) (sym c.len.ensures) ∙ ap (λ n. c.len.result - n) (sym c.len-before.ensures) ∙ sym c.saturating_sub.ensures)))
+    let r = bytes_of a.filling.now a.capacity v in
+    ap (λ vs. joined (Ok old) (packed a.filling.now a.capacity vs)) (over_value a.version l rest (no_mark l.kind c.in_default.not-Mark)) ∙
+    one_packed a.filling.now a.capacity v (values a.version rest) old new ds (added old new r c.in-Ok-put_good.ensures.adds) (is_after old new r c.in-Ok-put_good.ensures.adds) ∙
+    ap (λ left. joined (Ok new) (packed a.filling.now left (values a.version rest))) (sym (c.capacity_after.ensures ds (length-drop (length old) new ∙ ap (λ n. n - length old) (sym c.len.ensures) ∙ ap (λ n. c.len.result - n) (sym c.len-before.ensures) ∙ sym c.saturating_sub.ensures)))
