@@ -30,15 +30,15 @@ IsText i (Some path) text = OnTrue i.is_transparent (i.named path ≡ Some text)
 IsText i None text = IfSome i.before.remaining (λ bytes. text ≡ bytes)
 
 -- standard input has not failed, and it was not read for the text at a path
-abbrev pub IsUnharmed : Inputs → Option (List ℕ) → Type 0
-IsUnharmed i (Some path) = i.after ≡ i.before
-IsUnharmed i None = i.after.failures ≡ i.before.failures
+abbrev pub HasNotFailed : Inputs → Option (List ℕ) → Type 0
+HasNotFailed i (Some path) = i.after ≡ i.before
+HasNotFailed i None = i.after.failures ≡ i.before.failures
 
 -- the text asked for was read
 pub record IsRead (i : Inputs) (file : Option (List ℕ)) (text : List ℕ) : Type 0 where
   pub is_text : IsText i file text
   pub within : length text ≤ text_limit
-  pub unharmed : IsUnharmed i file
+  pub input : HasNotFailed i file
 
 -- what reading the text at a path has done, which names these bytes, if any
 abbrev pub ReadsAt : Bool → Option (List ℕ) → Result (Vec ℕ) InputFault → Type 0
