@@ -1,7 +1,7 @@
 -- A slab of an array whose last values are owed: what of it is listed, and fill values.
-use Rattle.std.proofs.Common.{◌≡◌, ℕ, zero, suc, ◌+◌, ◌-◌, ◌*◌, ◌/◌, ◌<◌, ◌≤◌, inl, inr, Bool, true, false, List, [], ◌∷◌, ◌++◌, length, take, drop, replicate, refl, sym, ◌∙◌, ap, arith, append_assoc, length-append, length-take, length-drop}
+use Rattle.std.proofs.Common.{◌≡◌, ℕ, zero, suc, ◌+◌, ◌-◌, ◌*◌, ◌/◌, ◌<◌, ◌≤◌, inl, inr, Bool, true, false, List, [], ◌++◌, length, take, drop, replicate, refl, sym, ◌∙◌, ap, arith, append_assoc, length-append, length-take, length-drop}
 use Rattle.std.specs.Prelude.{if◌then◌else◌}
-use Rattle.std.specs.List.{concat, flat_map}
+use Rattle.std.specs.List.{concat}
 use Rattle.std.proofs.Math.Nat.{mul-div_cancel, mul-le-mul_right, mul-le-mul_left}
 use Rattle.std.proofs.Math.Seq.{take-append-add}
 use Rattle.std.proofs.lemmas.Bool.{cases_lt}
@@ -20,8 +20,8 @@ use Rattle.nc_base.specs.Sizes.{is_record_var, slab_count, slab_size}
 use Rattle.nc_base.specs.Types.{size_of}
 use Rattle.nc_base.proofs.FilePlaces.{length-number, whole-padding}
 use Rattle.nc_base.proofs.SoundLaws.{some_size}
-use Rattle.nc_walk.specs.Filled.{ArrayView, array_view, repeated, filled_slab, filled_record, filled_slabs}
-use Rattle.nc_walk.proofs.Repeats.{length-copies, copies-add, same-copies, repeated-by}
+use Rattle.nc_walk.specs.Filled.{array_view, repeated, filled_slab, filled_record, filled_slabs}
+use Rattle.nc_walk.proofs.Repeats.{length-copies, copies-add, repeated-by}
 
 -- ---- copies of one value
 

@@ -3,10 +3,8 @@ use Rattle.std.specs.Prelude.{ℕ, ◌+◌, ◌-◌, ◌*◌, List, [], ◌∷�
 use Rattle.std.specs.List.{concat, flat_map}
 use Rattle.nc_base.specs.declared.header.Dim.{Dim}
 use Rattle.nc_base.specs.declared.header.Var.{Var}
-use Rattle.nc_base.specs.declared.header.Header.{Header}
 use Rattle.nc_base.specs.Bytes.{padding_len}
-use Rattle.nc_base.specs.GeneratedFile.{fill_bytes, known_records}
-use Rattle.nc_base.specs.OwedValues.{whole_arrays}
+use Rattle.nc_base.specs.GeneratedFile.{fill_bytes}
 use Rattle.nc_base.specs.Sizes.{is_record_var, slab_size}
 
 -- the first n bytes of a unit that is repeated

@@ -28,6 +28,7 @@ impl<'a> Model for Array<'a> {
 }
 
 impl Default for Array<'_> {
+    /// An array without values, for what isn't used of a table.
     fn default() -> Self {
         Array {
             listed: &[],

@@ -8,7 +8,7 @@ ghost use Rattle.nc_walk.specs.Filled.{repeated};
 use devices::{Sink, WriteFailed, put};
 use nc_base::{NcType, Var, fill_of};
 
-/// How often the unit stands in the buffer.
+/// How often the unit stands in the buffer of many fill values.
 const UNITS: usize = 1024;
 
 /// Writes the first `n` bytes of the unit, repeated.
@@ -21,7 +21,7 @@ pub(super) fn put_fills<W: Sink>(sink: &mut W, unit: [u8; 8], n: u128) -> Result
     put_many_fills(sink, unit, n)
 }
 
-/// The same in pieces as long as the buffer.
+/// The same in pieces, each but the last as long as a buffer of 8192 bytes: so many fill values take a few calls.
 fn put_many_fills<W: Sink>(sink: &mut W, unit: [u8; 8], n: u128) -> Result<(), WriteFailed>
     ensures { Wrote (W.view sink.old) (W.view sink.new) (repeated unit n) result }
 {
@@ -54,12 +54,14 @@ pub(super) fn fill_unit(var: &Var) -> [u8; 8]
     }
 }
 
+/// A value of one byte, eight times.
 fn eight_times(value: [u8; 1]) -> [u8; 8]
     ensures { result ≡ value ++ (value ++ (value ++ (value ++ (value ++ (value ++ (value ++ value)))))) }
 {
     [value[0]; 8]
 }
 
+/// A value of two bytes, four times.
 fn four_times(value: [u8; 2]) -> [u8; 8]
     ensures { result ≡ value ++ (value ++ (value ++ value)) }
 {
@@ -67,6 +69,7 @@ fn four_times(value: [u8; 2]) -> [u8; 8]
     [a, b, a, b, a, b, a, b]
 }
 
+/// A value of four bytes, twice.
 fn twice(value: [u8; 4]) -> [u8; 8]
     ensures { result ≡ value ++ value }
 {

@@ -1,4 +1,4 @@
-use Rattle.std.proofs.Common.{◌≡◌, ◌*◌, sym, arith}
+use Rattle.std.proofs.Common.{◌≡◌, ◌*◌, arith}
 use Rattle.nc_walk.proofs.SlabSteps.{joined_offsets}
 use Rattle.nc_walk.proofs.slabs.Slabs.joined.Goals as goal
 

@@ -1,7 +1,7 @@
-use Rattle.std.proofs.Common.{rules, ◌≡◌, ℕ, length, ◌<◌, arith}
+use Rattle.std.proofs.Common.{rules, length, ◌<◌, arith}
 use Rattle.std.proofs.lemmas.Result.{err_from_is_err_and}
-use Rattle.nc_walk.proofs.DataParts.{blocks-left, blocks-none}
-use Rattle.nc_walk.proofs.Unwritten.{nothing-written, part-written, part-failed, all-written}
+use Rattle.nc_walk.proofs.DataParts.{blocks-left}
+use Rattle.nc_walk.proofs.Unwritten.{nothing-written, part-written, part-failed}
 use Rattle.nc_walk.proofs.write.blocks.put_blocks.Goals as goal
 
 pub loop-v-init : goal.loop-v-init

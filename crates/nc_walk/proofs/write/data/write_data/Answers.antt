@@ -1,6 +1,4 @@
-use Rattle.std.proofs.Common.{rules, ◌≡◌, ℕ, ◌∙◌, ◌++◌, List, ap, sym}
 use Rattle.std.proofs.lemmas.Result.{err_from_is_err_and}
-use Rattle.nc_base.specs.GeneratedFile.{data_of, known_records}
 use Rattle.nc_walk.proofs.DataFilled.{listed-len, data-filled}
 use Rattle.nc_walk.proofs.Unwritten.{nothing-written, part-failed, first-then}
 use Rattle.nc_walk.proofs.write.data.write_data.Goals as goal

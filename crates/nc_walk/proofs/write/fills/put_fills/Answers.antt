@@ -1,6 +1,4 @@
-use Rattle.std.proofs.Common.{◌≡◌, ℕ, ◌<◌, ◌≤◌, List, length, take, arith, sym, subst}
-use Rattle.devices.specs.Sinks.{Wrote}
-use Rattle.nc_walk.specs.Filled.{repeated}
+use Rattle.std.proofs.Common.{arith}
 use Rattle.nc_walk.proofs.Repeats.{repeated-short}
 use Rattle.nc_walk.proofs.write.fills.put_fills.Goals as goal
 

@@ -1,4 +1,4 @@
-use Rattle.std.proofs.Common.{rules, ◌≡◌, ℕ, ◌∙◌, ◌<◌, ap, sym, length, true, List, [], ◌∷◌, ◌++◌}
+use Rattle.std.proofs.Common.{rules, ◌≡◌, ℕ, ◌∙◌, ◌<◌, ap, length, List, [], ◌∷◌, ◌++◌}
 use Rattle.nc_base.specs.Sizes.{is_record_var}
 use Rattle.nc_walk.specs.Filled.{ArrayView, array_view}
 use Rattle.nc_walk.proofs.DataParts.{arrays-added, arrays-kept}

@@ -1,6 +1,5 @@
-use Rattle.std.proofs.Common.{rules, ◌≡◌, sym, ◌∙◌}
+use Rattle.std.proofs.Common.{◌∙◌}
 use Rattle.std.proofs.lemmas.Result.{err_from_is_err_and}
-use Rattle.devices.specs.Sinks.{Wrote}
 use Rattle.nc_walk.proofs.DataParts.{record-split}
 use Rattle.nc_walk.proofs.Unwritten.{nothing-written, part-failed, first-then}
 use Rattle.nc_walk.proofs.write.records.put_record.Goals as goal

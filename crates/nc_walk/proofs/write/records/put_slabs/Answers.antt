@@ -1,4 +1,3 @@
-use Rattle.std.proofs.Common.{rules}
 use Rattle.std.proofs.lemmas.Result.{err_from_is_err_and}
 use Rattle.nc_walk.proofs.DataParts.{array-left, array-none}
 use Rattle.nc_walk.proofs.Unwritten.{nothing-written, part-written, part-failed, all-written}

@@ -1,4 +1,4 @@
-use Rattle.std.proofs.Common.{rules, ◌≡◌, ℕ, length, ◌<◌, ◌≤◌, arith}
+use Rattle.std.proofs.Common.{rules, length, ◌<◌, ◌≤◌, arith}
 use Rattle.std.proofs.lemmas.Result.{err_from_is_err_and}
 use Rattle.nc_walk.proofs.DataParts.{slabs-left, slabs-none}
 use Rattle.nc_walk.proofs.Unwritten.{nothing-written, part-written, part-failed, all-written}
