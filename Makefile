@@ -32,6 +32,7 @@ test:
 	tests/ncdump.sh
 	tests/ncgen.sh
 	tests/roundtrip.py
+	tests/hostile.py
 
 # Installs the programs and their manual pages, and proves and builds the programs first where that isn't done.
 install:
