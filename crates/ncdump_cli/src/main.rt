@@ -34,9 +34,13 @@ fn run_words<R: Env + Files<File = File> + Print + AllocGlobal, E: Sink>(
     err: &mut E,
 ) -> Result<u8, OptFault> {
     let alloc = rt.alloc();
-    let words: Vec<String> = env::args(rt).map_err(|error| unread(error))?.collect(alloc)?;
+    let words: Vec<String> = env::args(rt)
+        .map_err(|error| unread(error))?
+        .collect(alloc)?;
     let texts: Vec<&str> = words.iter().map(|word| word.as_str()).collect(alloc)?;
-    let writer = BufWriter::with_capacity(alloc, HELD_BACK, io::writer(rt)).map_err(|error| unread(error))?;
+    let writer = BufWriter::with_capacity(alloc, HELD_BACK, io::writer(rt)).map_err(|error| unread(
+        error,
+    ))?;
     let mut out = IoSink::new(writer);
     let status = run_with(
         &SystemFiles::new(rt),
