@@ -143,10 +143,14 @@ impl Variables {
 }
 
 /// The variables as those of a header.
+///
+/// Its room is taken first: where that is refused, `collect` alone would try for less.
 fn vars_of(alloc: Global, list: Vec<Variable>) -> Result<Vec<Var>, AllocError>
     ensures { IfOk result (λ vars. vars.items ≡ map var_of list.items) }
 {
-    list.into_iter().map(var_of).collect(alloc)
+    let mut vars = Vec::with_capacity(alloc, list.len())?;
+    vars.extend(list.into_iter().map(var_of))?;
+    Ok(vars)
 }
 
 /// The variable as one of a header.
