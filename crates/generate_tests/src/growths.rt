@@ -1,5 +1,8 @@
-//! Texts that are generated, to be run with each growth of memory refused in turn, as `tests/growths.sh` does. A test ends with
-//! the error of memory then, and asserts that nothing was written.
+//! Texts that are generated while one growth of memory is refused, each in turn, as `tests/growths.sh` does. A test ends with the
+//! error of memory then, and asserts that nothing was written.
+//!
+//! It takes long to run the tests once. So a text has several of them, which take 0, 16 or 32 pieces of memory beforehand: where
+//! growth 40 is refused, that is growth 40, 24 or 8 of the text.
 
 use crate::generating::{is_same, short_text};
 use crate::rows::{self, Row};
@@ -16,8 +19,17 @@ const OUT_OF_MEMORY: GenFault = GenFault::Cdl(CdlFault {
     kind: CdlKind::OutOfMemory,
 });
 
-/// Generates the text into a slice: all of the file is written, or nothing for want of memory.
-fn generates(rt: &impl Abort, alloc: Global, row: &Row<'_>) -> Result<(), AllocError> {
+/// Takes so many pieces of memory, and gives each back at once.
+fn grow(alloc: Global, pieces: u64) -> Result<(), AllocError> {
+    for _ in 0..pieces {
+        Vec::from_elem(alloc, 0u8, 1)?;
+    }
+    Ok(())
+}
+
+/// Generates the text into a slice, after so many pieces of memory: all of the file is written, or nothing for want of memory.
+fn generates(rt: &impl Abort, alloc: Global, row: &Row<'_>, pieces: u64) -> Result<(), AllocError> {
+    grow(alloc, pieces)?;
     let mut into = [0; 256];
     let mut sink = SliceSink::new(&mut into, 7);
     match generate(alloc, short_text(rt, row.cdl), row.version, &mut sink) {
@@ -33,8 +45,9 @@ fn generates(rt: &impl Abort, alloc: Global, row: &Row<'_>) -> Result<(), AllocE
     }
 }
 
-/// Prepares the text alone.
-fn prepares(rt: &impl Abort, alloc: Global, row: &Row<'_>) -> Result<(), AllocError> {
+/// Prepares the text alone, after so many pieces of memory.
+fn prepares(rt: &impl Abort, alloc: Global, row: &Row<'_>, pieces: u64) -> Result<(), AllocError> {
+    grow(alloc, pieces)?;
     match prepare(alloc, short_text(rt, row.cdl), row.version) {
         Ok(_) => Ok(()),
         Err(fault) => {
@@ -45,37 +58,67 @@ fn prepares(rt: &impl Abort, alloc: Global, row: &Row<'_>) -> Result<(), AllocEr
 }
 
 #[test]
-fn generation_of_one_variable(rt: HostRuntime) -> Result<(), Fail> {
-    generates(&rt, rt.alloc(), &rows::ONE_VARIABLE)?;
+fn one_variable_generated_after_16(rt: HostRuntime) -> Result<(), Fail> {
+    generates(&rt, rt.alloc(), &rows::ONE_VARIABLE, 16)?;
     Ok(())
 }
 
 #[test]
-fn preparation_of_one_variable(rt: HostRuntime) -> Result<(), Fail> {
-    prepares(&rt, rt.alloc(), &rows::ONE_VARIABLE)?;
+fn one_variable_generated_after_32(rt: HostRuntime) -> Result<(), Fail> {
+    generates(&rt, rt.alloc(), &rows::ONE_VARIABLE, 32)?;
     Ok(())
 }
 
 #[test]
-fn generation_of_rank_three(rt: HostRuntime) -> Result<(), Fail> {
-    generates(&rt, rt.alloc(), &rows::RANK_THREE)?;
+fn one_variable_prepared_after_24(rt: HostRuntime) -> Result<(), Fail> {
+    prepares(&rt, rt.alloc(), &rows::ONE_VARIABLE, 24)?;
     Ok(())
 }
 
 #[test]
-fn preparation_of_rank_three(rt: HostRuntime) -> Result<(), Fail> {
-    prepares(&rt, rt.alloc(), &rows::RANK_THREE)?;
+fn rank_three_generated(rt: HostRuntime) -> Result<(), Fail> {
+    generates(&rt, rt.alloc(), &rows::RANK_THREE, 0)?;
     Ok(())
 }
 
 #[test]
-fn generation_of_names_and_strings(rt: HostRuntime) -> Result<(), Fail> {
-    generates(&rt, rt.alloc(), &rows::NAMES_AND_STRINGS)?;
+fn rank_three_generated_after_16(rt: HostRuntime) -> Result<(), Fail> {
+    generates(&rt, rt.alloc(), &rows::RANK_THREE, 16)?;
     Ok(())
 }
 
 #[test]
-fn preparation_of_names_and_strings(rt: HostRuntime) -> Result<(), Fail> {
-    prepares(&rt, rt.alloc(), &rows::NAMES_AND_STRINGS)?;
+fn rank_three_generated_after_32(rt: HostRuntime) -> Result<(), Fail> {
+    generates(&rt, rt.alloc(), &rows::RANK_THREE, 32)?;
+    Ok(())
+}
+
+#[test]
+fn rank_three_prepared(rt: HostRuntime) -> Result<(), Fail> {
+    prepares(&rt, rt.alloc(), &rows::RANK_THREE, 0)?;
+    Ok(())
+}
+
+#[test]
+fn names_and_strings_generated(rt: HostRuntime) -> Result<(), Fail> {
+    generates(&rt, rt.alloc(), &rows::NAMES_AND_STRINGS, 0)?;
+    Ok(())
+}
+
+#[test]
+fn names_and_strings_generated_after_16(rt: HostRuntime) -> Result<(), Fail> {
+    generates(&rt, rt.alloc(), &rows::NAMES_AND_STRINGS, 16)?;
+    Ok(())
+}
+
+#[test]
+fn names_and_strings_generated_after_32(rt: HostRuntime) -> Result<(), Fail> {
+    generates(&rt, rt.alloc(), &rows::NAMES_AND_STRINGS, 32)?;
+    Ok(())
+}
+
+#[test]
+fn names_and_strings_prepared(rt: HostRuntime) -> Result<(), Fail> {
+    prepares(&rt, rt.alloc(), &rows::NAMES_AND_STRINGS, 0)?;
     Ok(())
 }

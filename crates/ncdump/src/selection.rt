@@ -88,6 +88,8 @@ fn first_unknown(known: &NameSet<'_>, names: &[Sequence<u8>]) -> Option<usize>
 }
 
 /// Says for each variable whether both sets have its name.
+///
+/// Its room is taken first: where that is refused, `collect` alone would try for less.
 fn marks(
     alloc: Global,
     vars: &[Var],
@@ -96,9 +98,12 @@ fn marks(
 ) -> Result<Vec<bool>, AllocError>
     ensures { IfOk result (λ marks. marks.items ≡ map (λ (var : Var). holds_if chosen.now var.name && holds_if dims.now var.name) vars.now) }
 {
-    vars.iter()
-        .map(|var| has_name_of(chosen, var) && has_name_of(dims, var))
-        .collect(alloc)
+    let mut marks = Vec::with_capacity(alloc, vars.len())?;
+    marks.extend(
+        vars.iter()
+            .map(|var| has_name_of(chosen, var) && has_name_of(dims, var)),
+    )?;
+    Ok(marks)
 }
 
 /// Says whether the set, where there is one, has the variable's name.
