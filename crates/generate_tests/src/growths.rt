@@ -1,8 +1,8 @@
 //! Texts that are generated while one growth of memory is refused, each in turn, as `tests/growths.sh` does. A test ends with the
 //! error of memory then, and asserts that nothing was written.
 //!
-//! It takes long to run the tests once. So a text has several of them, which take 0, 16 or 32 pieces of memory beforehand: where
-//! growth 40 is refused, that is growth 40, 24 or 8 of the text.
+//! It takes long to run the tests once. So a text has several of them, most of which take 16 to 32 pieces of memory beforehand:
+//! where growth 40 is refused, that is growth 40 of the text, or 24, or 8.
 
 use crate::generating::{is_same, short_text};
 use crate::rows::{self, Row};
