@@ -1,7 +1,7 @@
 //! What the words of the command line ask for.
 
-use crate::texts::{FIFTH_FILE, FIRST_FILE, SECOND_FILE, TEXT};
 use crate::invocations::{Invocation, makes, refuses};
+use crate::texts::{FIFTH_FILE, FIRST_FILE, SECOND_FILE, TEXT};
 use devices::ListedFile;
 
 /// How the program is used.

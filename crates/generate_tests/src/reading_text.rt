@@ -1,7 +1,7 @@
 //! All the bytes of a text.
 
-use crate::texts::TEXT;
 use crate::readers::FailingReader;
+use crate::texts::TEXT;
 use devices::CountedRead;
 use ncgen::{TextFault, read_text};
 use std::alloc::{AllocError, Global};

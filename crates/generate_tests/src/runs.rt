@@ -1,9 +1,9 @@
 //! Whole runs: what is written where, and what is told.
 
-use crate::texts::{FIRST_FILE, REFUSED_TEXT, TEXT};
 use crate::full_disks::{FullDisk, leaves};
 use crate::invocations::{Invocation, Outcome, ends, makes, refuses};
 use crate::readers::{FailingReader, FailingTexts};
+use crate::texts::{FIRST_FILE, REFUSED_TEXT, TEXT};
 use devices::{CountedRead, ListedFile, ListedTexts, MadeFiles, SliceSink};
 use ncgen::run_with;
 

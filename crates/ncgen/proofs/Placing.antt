@@ -69,4 +69,4 @@ data-after h listed =
     ap (λ (bytes : List ℕ). bytes ++ records (is_sole_narrow (record_vars h.dims vars)) vars arrays) (blocks-after h h.dims n [] h.vars listed)
     ∙ ap (λ (is_sole : Bool). blocks h.dims h.vars (whole_arrays h.dims n h.vars listed) ++ records is_sole vars arrays) (sole-after h)
     ∙ ap (λ (bytes : List ℕ). blocks h.dims h.vars (whole_arrays h.dims n h.vars listed) ++ bytes)
-        (flat_map-same _ _ (range_with_len 0 n) (λ r. record-after h h.dims n (is_sole_narrow (record_vars h.dims h.vars)) r [] h.vars listed))
+    (flat_map-same _ _ (range_with_len 0 n) (λ r. record-after h h.dims n (is_sole_narrow (record_vars h.dims h.vars)) r [] h.vars listed))

@@ -95,8 +95,10 @@ module _ (text : List ℕ) (v : Version) (d : Declared) (bytes : AreBytes text) 
 
     pub ready : Prepares (generated text v) (Ok prepared)
     unfolding generated
-    ready = (is-ready,
-        ap file_or_fault is-meaning ∙ ap (λ (b : Bool). if b then Ok (file_of (dataset_of_declared d)) else Err OffsetTooLarge) fit ∙ ap Ok is-file)
+    ready = (
+      is-ready,
+      ap file_or_fault is-meaning ∙ ap (λ (b : Bool). if b then Ok (file_of (dataset_of_declared d)) else Err OffsetTooLarge) fit ∙ ap Ok is-file,
+    )
 
 -- ---- the answer of with_begins
 

@@ -42,4 +42,4 @@ returns c =
     let p = placed d.header (fits d.header) c.in_ok-header-2.header refl c.in_ok-header-2.ensures in
     let filled : AreFilledUp d.header.vars d.listed listed = search rules in
     subst (λ (h : Header). Prepares (generated text v) (Ok (record { header = h; listed = listed }))) (sym p.same)
-        (ready text v d bytes c.requires c.in_ok-header.ensures listed filled p.fit)
+    (ready text v d bytes c.requires c.in_ok-header.ensures listed filled p.fit)
