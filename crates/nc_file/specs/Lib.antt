@@ -4,3 +4,4 @@ pub mod Answers
 pub mod OneOutcome
 pub mod Lengths
 pub mod Begins
+pub mod WrittenHeaders
