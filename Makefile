@@ -28,7 +28,7 @@ test:
 	$(call keep,ncdump)
 	$(call keep,ncgen)
 	tests/definitions.py
-	tests/growths.sh
+	tests/growths.sh acceptance generate_tests
 	tests/ncdump.sh
 	tests/ncgen.sh
 	tests/roundtrip.py
