@@ -11,6 +11,9 @@ pub drop_some : (n b : ℕ) (bytes : List ℕ) → 0 < n → drop n (b ∷ bytes
 drop_some zero b bytes h = absurd (let e : 0 < 0 = h in omega (arith, e))
 drop_some (suc n) b bytes h = ap (λ m. drop m bytes) (let e : n ≡ suc n - 1 = omega arith in e)
 
+pub drop_one_more : (b n : ℕ) (bytes : List ℕ) → drop (1 + n) (b ∷ bytes) ≡ drop n bytes
+drop_one_more b n bytes = ap (λ m. drop m (b ∷ bytes)) (let e : 1 + n ≡ suc n = omega arith in e)
+
 -- after the bytes that are still to come
 pub tokens_skip : (text : List ℕ) (fresh : Bool) (more : ℕ) (at : ℕ) (bytes : List ℕ) → more ≤ length bytes →
     tokens_at text fresh at more bytes ≡ tokens_at text fresh (at + more) 0 (drop more bytes)

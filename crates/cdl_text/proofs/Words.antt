@@ -1,6 +1,9 @@
 -- A word and a quoted text, one byte or escape on.
-use Rattle.std.proofs.Common.{◌≡◌, ℕ, ◌+◌, ◌<◌, ◌≤◌, Bool, true, false, List, [], ◌∷◌, length, get_or, drop, sym, ◌∙◌, ap, refl, arith, length-drop}
-use Rattle.std.specs.Prelude.{◌&&◌, ◌||◌, ◌==◌, if◌then◌else◌, nat_lt}
+use Rattle.std.proofs.Common.{◌≡◌, ℕ, ◌+◌, ◌<◌, ◌≤◌, Bool, true, false, cond, List, [], ◌∷◌, length, get_or, drop, sym, ◌∙◌, ap, refl, arith, length-drop}
+use Rattle.std.specs.Prelude.{◌&&◌, ◌||◌, ◌==◌, not, if◌then◌else◌, nat_lt}
+use Rattle.std.specs.List.{prefix_len}
+use Rattle.cdl_text.specs.Scanners.{is_ordinary}
+use Rattle.cdl_text.proofs.Steps.{drop_one_more}
 use Rattle.std.proofs.Common.{⊎_elim, append_assoc, ◌++◌}
 use Rattle.std.proofs.lemmas.Bool.{false≢true, cases_lt}
 use Rattle.std.proofs.lemmas.List.{at_drop_more, at_drop_all, drop-drop, get_or-drop, get_or_past}
@@ -66,6 +69,30 @@ until_past close text at h = at_drop_all (until close) text at h
 pub until_byte : (close : ℕ) (text : List ℕ) (at : ℕ) → at < length text → (e : Bool) → e ≡ (get_or text at 0 == 0x5c && nat_lt (at + 1) (length text)) → e ≡ false →
     (get_or text at 0 == close) ≡ false → until close (drop at text) ≡ 1 + until close (drop (at + 1) text)
 until_byte close text at h e is off other = until_at close text at h ∙ rw (← is) (rw (off) (rw (other) refl))
+
+-- up to the first byte that escapes or closes
+until_ordinary : (close : ℕ) (bytes : List ℕ) → until close bytes ≡ prefix_len (is_ordinary close) bytes + until close (drop (prefix_len (is_ordinary close) bytes) bytes)
+until_ordinary close [] = omega arith
+until_ordinary close (b ∷ bytes) = by (b == 0x5c) (b == close) refl refl (until_ordinary close bytes)
+  where
+    n : ℕ
+    n = prefix_len (is_ordinary close) bytes
+
+    by : (e f : Bool) → (b == 0x5c) ≡ e → (b == close) ≡ f → until close bytes ≡ n + until close (drop n bytes) →
+        until close (b ∷ bytes) ≡ cond (not e && not f) (1 + n) 0 + until close (drop (cond (not e && not f) (1 + n) 0) (b ∷ bytes))
+    by true f is closes rest = omega arith
+    by false true is closes rest = omega arith
+    by false false is closes rest =
+        until_at_start close b bytes ∙ rw (is) (rw (closes) (
+        ap (λ m. 1 + m) rest ∙
+        (let e : 1 + (n + until close (drop n bytes)) ≡ 1 + n + until close (drop n bytes) = omega arith in e) ∙
+        ap (λ xs. 1 + n + until close xs) (sym (drop_one_more b n bytes))))
+
+pub until_run : (close : ℕ) (text : List ℕ) (at n : ℕ) → n ≡ prefix_len (is_ordinary close) (drop at text) → until close (drop at text) ≡ n + until close (drop (at + n) text)
+until_run close text at n is =
+    until_ordinary close (drop at text) ∙
+    ap (λ m. m + until close (drop m (drop at text))) (sym is) ∙
+    ap (λ xs. n + until close xs) (drop-drop n at text)
 
 -- a word has a byte
 pub word_some : (bytes : List ℕ) → 0 < length bytes → (begins_word (get_or bytes 0 0) || is_escape (get_or bytes 0 0) (get_or bytes 1 0)) ≡ true → 0 < word_len bytes

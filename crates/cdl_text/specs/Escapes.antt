@@ -1,5 +1,5 @@
 -- The escapes of strings.
-use Rattle.std.specs.Prelude.{ℕ, zero, suc, List, [], ◌∷◌, ◌+◌, ◌*◌, ◌-◌, ◌==◌, nat_lt, if◌then◌else◌, slice_index, take, drop, Option, None, Some}
+use Rattle.std.specs.Prelude.{ℕ, Bool, not, zero, suc, List, [], ◌∷◌, ◌+◌, ◌*◌, ◌-◌, ◌==◌, nat_lt, if◌then◌else◌, slice_index, take, drop, Option, None, Some}
 use Rattle.std.specs.List.{prefix_len}
 use Rattle.cdl_text.specs.declared.scan.Character.{Character}
 use Rattle.cdl_text.specs.Bytes.{within, is_octal, is_hex, is_digit}
@@ -46,6 +46,10 @@ escape bs =
     if is_octal (slice_index bs 0) then octal_escape bs (prefix_len is_octal (take 3 bs))
     else (if slice_index bs 0 == 0x78 then hex_escape (drop 1 bs) (prefix_len is_hex (take 2 (drop 1 bs)))
     else record { value = Some (plain_escape (slice_index bs 0)); len = 2 })
+
+-- a byte that stands for itself: any but a backslash
+abbrev pub is_unescaped : ℕ → Bool
+is_unescaped b = not (b == 0x5c)
 
 unfoldable pub character : List ℕ → Character
 character bs = if slice_index bs 0 == 0x5c then escape (drop 1 bs) else record { value = Some (slice_index bs 0); len = 1 }

@@ -1,5 +1,5 @@
 -- What a scanner has before it.
-use Rattle.std.specs.Prelude.{ℕ, Bool, true, false, List, ◌∷◌, [], drop, Option, Some}
+use Rattle.std.specs.Prelude.{ℕ, Bool, not, ◌&&◌, ◌==◌, true, false, List, ◌∷◌, [], drop, Option, Some}
 use Rattle.cdl_text.specs.Tokens.{tokens_at}
 use Rattle.cdl_text.specs.declared.token.Token.{Token}
 use Rattle.cdl_text.specs.declared.token.TokenKind.{TokenKind}
@@ -11,6 +11,10 @@ text_of s = s.text.now
 
 abbrev pub offset_of : Scanner → ℕ
 offset_of s = s.at
+
+-- a byte that neither escapes nor closes
+abbrev pub is_ordinary : ℕ → ℕ → Bool
+is_ordinary close b = not (b == 0x5c) && not (b == close)
 
 -- the tokens that are left
 abbrev pub left : Scanner → List Token

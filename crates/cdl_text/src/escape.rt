@@ -3,7 +3,7 @@
 ghost use Rattle.std.specs.Prelude.{◌≡◌, ◌≤◌, ◌<◌, is_some, length};
 ghost use Rattle.std.specs.List.{prefix_len};
 ghost use Rattle.cdl_text.specs.Bytes.{is_hex, is_octal};
-ghost use Rattle.cdl_text.specs.Escapes.{byte, character, digit, escape, hex_escape, octal_number, plain_escape, unescape};
+ghost use Rattle.cdl_text.specs.Escapes.{byte, character, digit, escape, hex_escape, is_unescaped, octal_number, plain_escape, unescape};
 
 use crate::bytes::{byte_at, first_bytes, is_digit, is_hex, is_octal};
 use crate::scan::Character;
@@ -137,21 +137,31 @@ pub fn character(bytes: &[u8]) -> Character
     }
 }
 
+/// How many of the first bytes stand for themselves: those before the first backslash.
+pub fn unescaped_len(bytes: &[u8]) -> usize
+    ensures len { result ≡ prefix_len is_unescaped bytes.now }
+    ensures within { result ≤ length bytes.now }
+{
+    bytes.iter().take_while(|b| **b != b'\\').count()
+}
+
 /// Says whether each character of these bytes, which stand between quotes, stands for a byte.
 pub fn is_string(raw: &[u8]) -> bool
     ensures { result ≡ is_some (unescape raw.now) }
 {
-    let mut at = 0;
+    let mut at = unescaped_len(raw);
     while at < raw.len() {
-        let (_, rest) = raw.split_at(at);
-        let found = character(rest);
+        let (_, escape) = raw.split_at(at);
+        let found = character(escape);
         if found.value.is_none() {
             return false;
         }
-        if found.len > rest.len() {
+        if found.len > escape.len() {
             return true;
         }
         at += found.len;
+        let (_, rest) = raw.split_at(at);
+        at += unescaped_len(rest);
     }
     true
 }

@@ -22,7 +22,7 @@ mod token;
 pub use bytes::{byte_at, first_bytes, is_escape};
 pub use cutter::{Cutter, OutOfMemory};
 pub use due::Due;
-pub use escape::character;
+pub use escape::{character, unescaped_len};
 pub use fault::{CdlFault, CdlKind};
 pub use lexeme::Lexeme;
 pub use numeral::{Numeral, number_of_token};

@@ -4,7 +4,7 @@ ghost use Rattle.std.specs.Prelude.{◌≡◌, ◌+◌, ◌≤◌, ◌<◌, ◌=
 ghost use Rattle.std.specs.List.{prefix_len};
 ghost use Rattle.cdl_text.specs.Bytes.{goes_on_number};
 ghost use Rattle.cdl_text.specs.Scan.{begins_a_word, begins_comment, begins_number, begins_opening, gap, scan, scan_opening, scan_text, token, until, word_len};
-ghost use Rattle.cdl_text.specs.Scanners.{is_token};
+ghost use Rattle.cdl_text.specs.Scanners.{is_ordinary, is_token};
 
 use crate::bytes::{
     begins_word, byte_at, goes_on_number, goes_on_word, is_blank, is_digit, is_escape, is_mark,
@@ -199,15 +199,30 @@ fn is_escaping(bytes: &[u8], at: usize) -> bool
     bytes[at] == b'\\' && at + 1 < bytes.len()
 }
 
+/// How many of the first bytes are neither a backslash nor `close`.
+fn ordinary_len(bytes: &[u8], close: u8) -> usize
+    ensures len { result ≡ prefix_len (is_ordinary close) bytes.now }
+    ensures within { result ≤ length bytes.now }
+{
+    bytes
+        .iter()
+        .take_while(|b| **b != b'\\' && **b != close)
+        .count()
+}
+
 /// How many bytes stand before the first `close` that isn't escaped; all, where there is none.
-#[tactic(auto, using(crate::proofs::Words::until_at, crate::proofs::Words::until_past))]
+#[tactic(auto, using(crate::proofs::Words::until_at, crate::proofs::Words::until_past, crate::proofs::Words::until_run))]
 fn until(bytes: &[u8], close: u8) -> usize
     ensures len { result ≡ until close bytes.now }
     ensures within { result ≤ length bytes.now }
 {
     let mut at = 0;
     while at < bytes.len() {
-        if is_escaping(bytes, at) {
+        let (_, rest) = bytes.split_at(at);
+        let run = ordinary_len(rest, close);
+        if run > 0 {
+            at += run;
+        } else if is_escaping(bytes, at) {
             at += 2;
         } else if bytes[at] == close {
             return at;

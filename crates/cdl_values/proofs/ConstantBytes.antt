@@ -1,6 +1,6 @@
 -- The bytes of an attribute's constants.
-use Rattle.std.proofs.Common.{◌≡◌, ℕ, zero, suc, ◌+◌, ◌*◌, ◌-◌, ◌<◌, Bool, true, false, List, [], ◌∷◌, ◌++◌, length, take, drop, refl, sym, ap, ◌∙◌, arith}
-use Rattle.std.specs.Prelude.{Option, None, Some, Result, Ok, Err, ⊤, nat_lt, ◌==◌, slice_index, if◌then◌else◌}
+use Rattle.std.proofs.Common.{◌≡◌, ℕ, zero, suc, ◌+◌, ◌*◌, ◌-◌, ◌<◌, Bool, true, false, List, [], ◌∷◌, ◌++◌, length, take, drop, refl, sym, ap, ◌∙◌, append_assoc, arith}
+use Rattle.std.specs.Prelude.{pos, Option, None, Some, Result, Ok, Err, ⊤, nat_lt, ◌==◌, slice_index, if◌then◌else◌}
 use Rattle.nc_base.specs.Numbers.{bytes_of_number}
 use Rattle.nc_base.specs.declared.nc_type.NcType.{NcType}
 use Rattle.nc_base.specs.declared.nc_type.NcType.TheVariants.{Char}
@@ -106,6 +106,24 @@ first_ones (suc n) (b ∷ bs) h = by (first_ones n bs (after_first b bs h))
 
 abbrev value_in : Character → Option ℕ
 value_in c = c.value
+
+-- bytes that stand for themselves
+bytes_stay : (bs : List ℕ) → AreBytes bs → char_bytes bs ≡ bs
+bytes_stay [] h = refl
+bytes_stay (b ∷ bs) h = one_char b bs (h 0) ∙ ap (λ xs. b ∷ xs) (bytes_stay bs (after_first b bs h))
+
+pub first_stay : (n : ℕ) (bs : List ℕ) → AreBytes bs → char_bytes (take n bs) ≡ take n bs
+first_stay n bs h = bytes_stay (take n bs) (first_ones n bs h)
+
+chars_joined : (xs ys : List ℕ) → char_bytes (xs ++ ys) ≡ char_bytes xs ++ char_bytes ys
+chars_joined [] ys = refl
+chars_joined (x ∷ xs) ys =
+    ap (λ bs. bytes_of_number Char (pos x) ++ bs) (chars_joined xs ys) ∙ sym (append_assoc (bytes_of_number Char (pos x)) (char_bytes xs) (char_bytes ys))
+
+pub put_on : (before after first rest whole : List ℕ) → after ≡ before ++ char_bytes first → whole ≡ first ++ rest → after ++ char_bytes rest ≡ before ++ char_bytes whole
+put_on before after first rest whole is cut =
+    ap (λ xs. xs ++ char_bytes rest) is ∙ append_assoc before (char_bytes first) (char_bytes rest) ∙
+    ap (λ xs. before ++ xs) (sym (chars_joined first rest) ∙ ap char_bytes (sym cut))
 
 hex_small : (bs : List ℕ) (n : ℕ) → or_zero (hex_escape bs n).value < 256
 hex_small bs n = by (n == 0) (n == 1)

@@ -1,7 +1,8 @@
 //! Strings of the data section.
 
-ghost use Rattle.std.specs.Prelude.{◌≡◌, ◌++◌, OnOk};
-ghost use Rattle.cdl_text.specs.Escapes.{stands};
+ghost use Rattle.std.specs.Prelude.{◌≡◌, ◌++◌, ◌≤◌, IfOk, OnOk, length, take};
+ghost use Rattle.std.specs.List.{prefix_len};
+ghost use Rattle.cdl_text.specs.Escapes.{is_unescaped, stands};
 ghost use Rattle.cdl_text.specs.Shapes.{Characters, inner};
 ghost use Rattle.cdl_values.specs.Answers.{Adds};
 ghost use Rattle.cdl_values.specs.PackedValues.{char_bytes, row_bytes, text_bytes};
@@ -9,7 +10,7 @@ ghost use Rattle.cdl_values.specs.PackedValues.{char_bytes, row_bytes, text_byte
 use crate::array::Array;
 use crate::filling::is_past;
 use crate::read_error::ReadError;
-use cdl_text::{CdlKind, character, first_bytes};
+use cdl_text::{CdlKind, character, first_bytes, unescaped_len};
 use std::alloc::AllocError;
 
 /// Adds a string of which the capacity is in bytes.
@@ -18,9 +19,7 @@ pub fn put_text(array: &mut Array, capacity: Option<u64>, bytes: &[u8]) -> Resul
     ensures { Adds array.old array.new result (text_bytes capacity (Characters (stands (inner bytes.now)))) }
 {
     let before = array.len();
-    if put_string(array, inner(bytes)).is_err() {
-        return Err(ReadError::OutOfMemory);
-    }
+    put_string(array, inner(bytes))?;
     if is_past(array.len().saturating_sub(before), capacity) {
         return Err(ReadError::Fault(CdlKind::StringTooLong));
     }
@@ -42,16 +41,12 @@ pub fn put_row(
         return Err(ReadError::Fault(CdlKind::TooManyValues));
     }
     let before = array.len();
-    if put_string(array, inner(bytes)).is_err() {
-        return Err(ReadError::OutOfMemory);
-    }
+    put_string(array, inner(bytes))?;
     let n = array.len().saturating_sub(before);
     if (len as u128) < n {
         return Err(ReadError::Fault(CdlKind::StringTooLong));
     }
-    if array.add_filling(len - n as u64, fill).is_err() {
-        return Err(ReadError::OutOfMemory);
-    }
+    array.add_filling(len - n as u64, fill)?;
     Ok(())
 }
 
@@ -59,17 +54,31 @@ pub fn put_row(
 fn put_string(array: &mut Array, raw: &[u8]) -> Result<(), AllocError>
     ensures { OnOk result (array.new ≡ array.old ++ char_bytes (stands raw.now)) }
 {
-    let mut at = 0;
+    let mut at = put_unescaped(array, raw)?;
     while at < raw.len() {
-        let (_, rest) = raw.split_at(at);
-        let found = character(rest);
+        let (_, escape) = raw.split_at(at);
+        let found = character(escape);
         array.add_byte(found.value.unwrap_or(0))?;
-        if found.len > rest.len() {
+        if found.len > escape.len() {
             return Ok(());
         }
         at += found.len;
+        let (_, rest) = raw.split_at(at);
+        at += put_unescaped(array, rest)?;
     }
     Ok(())
+}
+
+/// Adds the bytes before the first backslash, and says how many there are.
+fn put_unescaped(array: &mut Array, bytes: &[u8]) -> Result<usize, AllocError>
+    ensures put { IfOk result (λ n. array.new ≡ array.old ++ char_bytes (take n bytes.now)) }
+    ensures len { IfOk result (λ n. n ≡ prefix_len is_unescaped bytes.now) }
+    ensures within { IfOk result (λ n. n ≤ length bytes.now) }
+{
+    let n = unescaped_len(bytes);
+    let (first, _) = bytes.split_at(n);
+    array.add(first)?;
+    Ok(n)
 }
 
 /// The bytes between a string's quotes.
