@@ -1,11 +1,14 @@
 -- A text that is written from its start: what a loop keeps, whatever it goes over. A loop needs only that what is left is a
 -- piece and the rest.
-use Rattle.std.proofs.Common.{◌≡◌, ℕ, ◌+◌, ◌<◌, ◌≤◌, List, [], ◌++◌, length, get_or, drop, refl, sym, ◌∙◌, ap, subst, append_assoc}
+use Rattle.std.proofs.Common.{◌≡◌, ℕ, ◌+◌, ◌<◌, ◌≤◌, List, [], ◌++◌, length, get_or, drop, refl, sym, ◌∙◌, ap, subst, append_assoc, Result, Ok, Err}
 use Rattle.std.specs.List.{flat_map}
 use Rattle.std.proofs.lemmas.Bool.{OnTrue_from}
 use Rattle.std.proofs.lemmas.List.{append-nil, drop_more, drop_all}
-use Rattle.devices.specs.Sinks.{SinkView, Appended, FailedPartway}
+use Rattle.devices.specs.Sinks.{SinkView, Appended, FailedPartway, Wrote}
 use Rattle.devices.proofs.Writes.{append-none, appended_then, appended_partway}
+
+pub appended-nothing : (s : SinkView) → Appended s s []
+appended-nothing s = record { failures = refl; taken = OnTrue_from _ _ (λ transparent. sym (append-none s)) }
 
 -- of the whole text all but the rest is written
 pub record UpTo (old now : SinkView) (whole rest : List ℕ) : Type 0 where
@@ -15,7 +18,7 @@ pub record UpTo (old now : SinkView) (whole rest : List ℕ) : Type 0 where
 
 -- nothing is written yet
 pub up-start : (s : SinkView) (whole : List ℕ) → UpTo s s whole whole
-up-start s whole = record { prefix = []; is = refl; appended = record { failures = refl; taken = OnTrue_from _ _ (λ transparent. sym (append-none s)) } }
+up-start s whole = record { prefix = []; is = refl; appended = appended-nothing s }
 
 -- one more piece
 pub up-next : (s t u : SinkView) (whole rest piece more : List ℕ) → rest ≡ piece ++ more → UpTo s t whole rest → Appended t u piece → UpTo s u whole more
@@ -33,6 +36,12 @@ up-partway s t u whole rest piece more is up partway =
 -- nothing is left
 pub up-all : (s t : SinkView) (whole rest : List ℕ) → rest ≡ [] → UpTo s t whole rest → Appended s t whole
 up-all s t whole rest none up = subst (Appended s t) (sym (up.is ∙ ap (λ (x : List ℕ). up.prefix ++ x) none ∙ append-nil up.prefix)) up.appended
+
+-- the first part is written, and then the call that writes the other one has ended
+pub up-then : {X E : Type 0} (s t u : SinkView) (whole first second : List ℕ) → whole ≡ first ++ second → Appended s t first → (result : Result X E) → Wrote t u second result → Wrote s u whole result
+up-then s t u whole first second is appended (Ok done) wrote = subst (Appended s u) (sym is) (appended_then s t u first second appended wrote)
+up-then s t u whole first second is appended (Err failure) wrote =
+    subst (FailedPartway s u) (ap (λ (x : List ℕ). first ++ x) (append-nil second) ∙ sym is) (appended_partway s t u first second [] appended wrote)
 
 -- ---- a loop over a list, whose elements have a text each
 

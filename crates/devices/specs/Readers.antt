@@ -32,6 +32,7 @@ HasFailed before now = (before < now.failures) ⊎ (2 ^ 128 ≤ now.handed + 2 ^
 -- it has failed, and handed over nothing
 pub record Failed (old new : ReaderView) : Type 0 where
   pub failures : HasFailed old.failures new
+  pub no_fewer_reads : old.reads ≤ new.reads
   pub reads : new.reads ≤ old.reads + 1
   pub handed : new.handed ≡ old.handed
   pub bytes : Keeps old.remaining new.remaining

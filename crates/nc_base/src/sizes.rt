@@ -5,6 +5,7 @@ ghost use Rattle.nc_base.specs.Types.{size_of};
 ghost use Rattle.nc_base.specs.Bytes.{padding_len};
 ghost use Rattle.nc_base.specs.Sizes.{dim_len, is_record_dim, has_records, is_record_var, is_narrow, product, slab_of, slab_size, padded_size, slab_limit, record_size, record_limit, record_vars, record_count};
 ghost use Rattle.nc_base.specs.SizeParts.{slab_at, checked_record_size, end_of, first_begin, lesser};
+ghost use Rattle.nc_base.specs.GeneratedFile.{known_records};
 ghost use Rattle.nc_base.specs.Places.{extent_end};
 ghost use Rattle.nc_base.specs.Headers.{IsSound, value_count};
 
@@ -52,6 +53,18 @@ pub fn rec_size(header: &Header) -> Option<u64>
         Some(size as u64)
     } else {
         None
+    }
+}
+
+impl NumRecs {
+    /// The number of records, where it is known, and else 0.
+    pub fn known(self) -> u64
+        ensures { result ≡ known_records self }
+    {
+        match self {
+            NumRecs::Known(n) => n,
+            NumRecs::Streaming => 0,
+        }
     }
 }
 

@@ -8,7 +8,6 @@ pub mod ChunkSteps
 pub mod Missing
 pub mod Stored
 pub mod WalkSteps
-pub mod Unwritten
 pub mod Repeats
 pub mod DataParts
 pub mod FilledArrays

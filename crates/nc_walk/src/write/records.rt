@@ -13,7 +13,7 @@ ghost use Rattle.nc_walk.specs.RecordTables.{Gathered};
 use super::array::Array;
 use super::gathering::{RecordArrays, gather};
 use devices::{Sink, WriteFailed};
-use nc_base::{Dim, Header, NumRecs, Sequence, Var, has_records};
+use nc_base::{Dim, Header, Sequence, Var, has_records};
 
 /// Writes all records. The array of a sole record variable is written at once, since its slabs stand without padding.
 pub(super) fn put_records<W: Sink>(
@@ -27,22 +27,12 @@ pub(super) fn put_records<W: Sink>(
         (flat_map (λ r. record_of (is_sole_narrow (record_vars header.now.dims header.now.vars)) header.now.dims r header.now.vars
         (whole_arrays header.now.dims (known_records header.now.numrecs) header.now.vars arrays.now)) (range_with_len 0 (known_records header.now.numrecs))) result }
 {
-    let records = known_records(header);
+    let records = header.numrecs.known();
     let gathered = gather(header, arrays);
     match gathered.arrays.as_slice() {
         [] => Ok(()),
         [array] => array.put_records(sink, records),
         _ => put_each_record(sink, header, arrays, &gathered, records),
-    }
-}
-
-/// The number of records that the header has; 0 where it is unknown.
-fn known_records(header: &Header) -> u64
-    ensures { result ≡ known_records header.now.numrecs }
-{
-    match header.numrecs {
-        NumRecs::Known(n) => n,
-        NumRecs::Streaming => 0,
     }
 }
 

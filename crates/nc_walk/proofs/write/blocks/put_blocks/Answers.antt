@@ -1,18 +1,18 @@
 use Rattle.std.proofs.Common.{rules, length, ◌<◌, arith}
 use Rattle.std.proofs.lemmas.Result.{err_from_is_err_and}
 use Rattle.nc_walk.proofs.DataParts.{blocks-left}
-use Rattle.nc_walk.proofs.Unwritten.{nothing-written, part-written, part-failed}
+use Rattle.devices.proofs.UpTo.{up-start, up-next, up-partway}
 use Rattle.nc_walk.proofs.write.blocks.put_blocks.Goals as goal
 
 pub loop-v-init : goal.loop-v-init
-loop-v-init g c = nothing-written _ _
+loop-v-init g c = up-start _ _
 
 pub returns-in_err-put_block : goal.returns-in_err-put_block
 returns-in_err-put_block g c =
     let here : c.loop-v.v < length c.args.header.now.vars = search rules in
     let held : c.loop-v.v < length c.args.arrays.now = omega (arith, here, c.requires.one_each) in
     let p = err_from_is_err_and c.from_residual.result c.from_residual.ensures.1 in
-    rw p.1 (part-failed _ _ _ _ _ _ _
+    rw p.1 (up-partway _ _ _ _ _ _ _
     (blocks-left c.args.header.now.dims c.args.header.now.vars c.args.arrays.now c.loop-v.v c.index-vars-v.result c.index-arrays-v.result here held (search rules)
     c.index-arrays-v.is)
     c.loop-v.invariant (rw (c.as_slice-dims.ensures, c.as_slice.ensures) at c.in_err-put_block.ensures))
@@ -21,7 +21,7 @@ pub loop-v-preserved : goal.loop-v-preserved
 loop-v-preserved g c =
     let here : c.loop-v.v < length c.args.header.now.vars = search rules in
     let held : c.loop-v.v < length c.args.arrays.now = omega (arith, here, c.requires.one_each) in
-    part-written _ _ _ _ _ _ _
+    up-next _ _ _ _ _ _ _
     (blocks-left c.args.header.now.dims c.args.header.now.vars c.args.arrays.now c.loop-v.v c.index-vars-v.result c.index-arrays-v.result here held (search rules)
     c.index-arrays-v.is)
     c.loop-v.invariant (rw (c.as_slice-dims.ensures, c.as_slice.ensures) at c.in_ok-put_block.ensures)

@@ -1,8 +1,8 @@
 use Rattle.std.proofs.Common.{drop}
 use Rattle.nc_walk.specs.Filled.{filled_blocks}
-use Rattle.nc_walk.proofs.Unwritten.{WrittenBut}
+use Rattle.devices.proofs.UpTo.{UpTo}
 use Rattle.nc_walk.proofs.write.blocks.put_blocks.Given as goal
 
 abbrev pub invariant-loop-v : goal.invariant-loop-v
 invariant-loop-v g l =
-    WrittenBut (g.W.Sink.view l.fn.sink) (g.W.Sink.view l.sink) (filled_blocks l.header.dims l.header.vars l.arrays) (filled_blocks l.header.dims (drop l.v l.header.vars) (drop l.v l.arrays))
+    UpTo (g.W.Sink.view l.fn.sink) (g.W.Sink.view l.sink) (filled_blocks l.header.dims l.header.vars l.arrays) (filled_blocks l.header.dims (drop l.v l.header.vars) (drop l.v l.arrays))

@@ -5,7 +5,7 @@ use Rattle.devices.specs.Sinks.{Wrote, Appended}
 use Rattle.nc_base.specs.GeneratedFile.{known_records}
 use Rattle.nc_walk.specs.Filled.{ArrayView, filled_records, filled_slabs, record_arrays}
 use Rattle.nc_walk.proofs.DataFilled.{listed-len, records-filled, no-records, sole-filled, gathered-all, gathered-few, one-view}
-use Rattle.nc_walk.proofs.Unwritten.{appended-nothing}
+use Rattle.devices.proofs.UpTo.{appended-nothing}
 use Rattle.nc_walk.proofs.write.records.put_records.Goals as goal
 
 pub gather-gathered-requires-clause-one_each : goal.gather-gathered-requires-clause-one_each
@@ -41,7 +41,7 @@ returns-in-len1 g c =
     (c.gather-gathered.ensures.all (omega (arith, same))) in
     let one = one-view c.as_slice.result.now c.array-item.result (omega arith) (omega arith) c.array-item.is in
     subst (λ (text : List ℕ). Wrote (g.W.Sink.view c.args.sink.now) (g.W.Sink.view c.put_records.new.sink) text c.put_records.result)
-    (ap (λ (k : ℕ). filled_slabs k c.array-item.result) c.known_records-records.ensures
+    (ap (λ (k : ℕ). filled_slabs k c.array-item.result) c.known-records.ensures
     ∙ sole-filled h.dims n h.vars c.args.arrays.now c.array-item.result c.requires.listed (sym all ∙ sym c.as_slice.ensures.value ∙ one))
     c.put_records.ensures
 
@@ -54,6 +54,6 @@ returns-in_default g c =
     let same : length c.as_slice.result.now ≡ length items = ap (λ (xs : List ArrayView). length xs) c.as_slice.ensures.value in
     let few : length items ≤ length arrays = gathered-few h.dims h.vars c.args.arrays.now c.gather-gathered.result.end items c.gather-gathered.ensures.arrays in
     subst (λ (text : List ℕ). Wrote (g.W.Sink.view c.args.sink.now) (g.W.Sink.view c.put_each_record.new.sink) text c.put_each_record.result)
-    (ap (λ (k : ℕ). flat_map (λ r. filled_records r arrays) (range_with_len 0 k)) c.known_records-records.ensures
+    (ap (λ (k : ℕ). flat_map (λ r. filled_records r arrays) (range_with_len 0 k)) c.known-records.ensures
     ∙ records-filled h.dims n h.vars c.args.arrays.now c.requires.listed (λ one. absurd (omega (arith, few, same, one))))
     c.put_each_record.ensures

@@ -1,6 +1,6 @@
 use Rattle.std.proofs.Common.{◌≡◌, false, ◌∙◌, ap, sym}
 use Rattle.nc_base.specs.Sizes.{has_records, is_record_var}
-use Rattle.nc_walk.proofs.Unwritten.{appended-nothing}
+use Rattle.devices.proofs.UpTo.{appended-nothing}
 use Rattle.nc_walk.proofs.write.records.put_slab_of.Goals as goal
 
 pub returns-then-not-has_records : goal.returns-then-not-has_records
