@@ -41,10 +41,8 @@ pub fn read_attribute(
     let (first, _) = equals.advanced();
     let ty = type_said(first.version(), first.lexeme());
     let vals = read_constants(alloc, ty, first)?;
-    match add(alloc, attributes, name, ty, vals) {
-        Ok(()) => Ok(()),
-        Err(_) => Err(ReadError::OutOfMemory),
-    }
+    add(alloc, attributes, name, ty, vals)?;
+    Ok(())
 }
 
 /// The name that a word stands for, where a new attribute may have it.

@@ -11,7 +11,8 @@ ghost use Rattle.cdl_values.specs.NameIndices.{IsIndex};
 ghost use Rattle.cdl_parse.specs.DataSections.{Closes, ReadsData, ReadsOne, IsInDataSection, given_at};
 
 use crate::parse_error::ParseError;
-use cdl_text::{CdlKind, Cutter, Section, look_over};
+use crate::statement::pass;
+use cdl_text::{Cutter, Section};
 use cdl_values::{Array, NameIndex, ReadError, Target, read};
 use std::alloc::{AllocError, Global};
 
@@ -56,10 +57,7 @@ pub fn read_data<'a>(
     ensures version { IfOk result (λ d. version_of d.rest ≡ version_of start.entry) }
 {
     let mut targets = targets;
-    let mut arrays = match without_values(alloc, targets.len()) {
-        Ok(arrays) => arrays,
-        Err(_) => return Err(ParseError::OutOfMemory),
-    };
+    let mut arrays = without_values(alloc, targets.len())?;
     let mut cutter = start;
     'statements: loop {
         if cutter.is_done() {
@@ -113,17 +111,13 @@ fn read_one<'a>(
     if start.lexeme().is_mark(b'}') {
         return close(start);
     }
-    match read(alloc, names, targets, start) {
-        Ok(given) => {
-            store(arrays, given.position, given.array);
-            mark_given(targets, given.position);
-            Ok(Passed {
-                is_brace: false,
-                rest: given.rest,
-            })
-        }
-        Err(e) => Err(e),
-    }
+    let given = read(alloc, names, targets, start)?;
+    store(arrays, given.position, given.array);
+    mark_given(targets, given.position);
+    Ok(Passed {
+        is_brace: false,
+        rest: given.rest,
+    })
 }
 
 /// Reads the closing brace.
@@ -135,17 +129,10 @@ fn close(start: Cutter<'_>) -> Result<Passed<'_>, ReadError>
     ensures text { IfOk result (λ passed. text_of passed.rest ≡ text_of start.entry) }
     ensures version { IfOk result (λ passed. version_of passed.rest ≡ version_of start.entry) }
 {
-    let found = look_over(start, Section::Values);
-    match found.bad {
-        Some(kind) => return Err(ReadError::Fault(kind)),
-        None => {}
-    }
-    if !found.shaped {
-        return Err(ReadError::Fault(CdlKind::Syntax));
-    }
+    let rest = pass(start, Section::Values)?;
     Ok(Passed {
         is_brace: true,
-        rest: found.rest,
+        rest,
     })
 }
 

@@ -222,14 +222,8 @@ fn dimid_of_word(
 ) -> Result<u64, ReadError>
     ensures { Gives (λ dimid. dimid) result (next_dimid dims.now before.now (word_value word.now)) }
 {
-    let name = match name_of_word(alloc, word) {
-        Ok(name) => name,
-        Err(_) => return Err(ReadError::OutOfMemory),
-    };
-    match next_dimid(dims, before, name.as_slice()) {
-        Ok(dimid) => Ok(dimid),
-        Err(kind) => Err(ReadError::Fault(kind)),
-    }
+    let name = name_of_word(alloc, word)?;
+    Ok(next_dimid(dims, before, name.as_slice())?)
 }
 
 /// The position of the dimension of this name, for a shape that has these dimensions before it.
@@ -258,8 +252,6 @@ fn put(alloc: Global, variables: &mut Variables, ty: NcType, begun: Begun) -> Re
         dimids,
         is_open: _,
     } = begun;
-    match variables.add(alloc, name, dimids, ty) {
-        Ok(()) => Ok(()),
-        Err(_) => Err(ReadError::OutOfMemory),
-    }
+    variables.add(alloc, name, dimids, ty)?;
+    Ok(())
 }

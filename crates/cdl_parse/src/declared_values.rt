@@ -5,11 +5,10 @@ ghost use Rattle.std.specs.List.{concat};
 ghost use Rattle.nc_base.specs.Fill.{fill_value};
 ghost use Rattle.nc_base.specs.Headers.{value_count};
 ghost use Rattle.nc_base.specs.Numbers.{bytes_of_number};
-ghost use Rattle.nc_base.specs.GeneratedFile.{known_records};
 ghost use Rattle.nc_base.specs.OwedValues.{fills, owed_count, whole_array, whole_arrays};
 
 use cdl_values::{Array, put_number};
-use nc_base::{Dataset, Dim, Header, NumRecs, Sequence, Var, fill_of, has_records, slab_of};
+use nc_base::{Dataset, Dim, Header, Sequence, Var, fill_of, has_records, slab_of};
 use std::alloc::{AllocError, Global};
 
 /// What a text declares: the header, and of each variable the values that the data section lists. What a variable lacks is
@@ -35,7 +34,7 @@ impl Declared {
         ensures { IfOk result (λ dataset. dataset ≡ dataset_of_declared self) }
     {
         let Declared { header, listed } = self;
-        let records = known_records(header.numrecs);
+        let records = header.numrecs.known();
         let arrays = whole_arrays(
             alloc,
             header.dims.as_slice(),
@@ -44,16 +43,6 @@ impl Declared {
             listed.into_vec(),
         )?;
         Ok(Dataset { header, arrays })
-    }
-}
-
-/// The number of records, where it is known, and else 0.
-fn known_records(numrecs: NumRecs) -> u64
-    ensures { result ≡ known_records numrecs }
-{
-    match numrecs {
-        NumRecs::Known(n) => n,
-        NumRecs::Streaming => 0,
     }
 }
 

@@ -96,23 +96,17 @@ fn add_dimension(
     ensures { Leaves dims.new result (add_dim version dims.old (dimension_said version (lexeme_of name.entry) (lexeme_of length.entry))) }
 {
     let name = new_name(alloc, dims, name.bytes)?;
-    match len_said(version, dims.has_record(), length) {
-        Ok(len) => push(alloc, dims, name, len),
-        Err(kind) => Err(ReadError::Fault(kind)),
-    }
+    let len = len_said(version, dims.has_record(), length)?;
+    push(alloc, dims, name, len)
 }
 
 /// The name that a word stands for, where a new dimension may have it.
 fn new_name(alloc: Global, dims: &Dimensions, word: &[u8]) -> Result<Vec<u8>, ReadError>
     ensures { Gives (λ name. name.items) result (named dims.now (word_value word.now)) }
 {
-    match name_of_word(alloc, word) {
-        Ok(name) => match dims.check_new(name.as_slice()) {
-            Ok(()) => Ok(name),
-            Err(kind) => Err(ReadError::Fault(kind)),
-        },
-        Err(_) => Err(ReadError::OutOfMemory),
-    }
+    let name = name_of_word(alloc, word)?;
+    dims.check_new(name.as_slice())?;
+    Ok(name)
 }
 
 /// The length that a token says, 0 for the record dimension.
@@ -145,8 +139,6 @@ fn push(alloc: Global, dims: &mut Dimensions, name: Vec<u8>, len: u64) -> Result
         name: Sequence::from_vec(name),
         len,
     };
-    match dims.add(alloc, dim) {
-        Ok(()) => Ok(()),
-        Err(_) => Err(ReadError::OutOfMemory),
-    }
+    dims.add(alloc, dim)?;
+    Ok(())
 }

@@ -1,9 +1,11 @@
 //! Why the calls that read several statements give up.
 
 ghost use Rattle.std.specs.Prelude.{◌≡◌};
+ghost use Rattle.cdl_parse.specs.declared.parse_error.ParseError.TheVariants.{Fault, OutOfMemory};
 
 use cdl_text::CdlFault;
 use cdl_values::ReadError;
+use std::alloc::AllocError;
 
 /// Why a call that reads several statements gives up.
 #[derive(Clone, Copy, Debug, PartialEq, Eq)]
@@ -25,5 +27,21 @@ impl ParseError {
             ReadError::OutOfMemory => ParseError::OutOfMemory,
             ReadError::Fault(kind) => ParseError::Fault(CdlFault { line, kind }),
         }
+    }
+}
+
+impl From<AllocError> for ParseError {
+    ghost from_gives = { λ _ e. e ≡ OutOfMemory };
+
+    fn from(_e: AllocError) -> ParseError {
+        ParseError::OutOfMemory
+    }
+}
+
+impl From<CdlFault> for ParseError {
+    ghost from_gives = { λ fault e. e ≡ Fault fault };
+
+    fn from(fault: CdlFault) -> ParseError {
+        ParseError::Fault(fault)
     }
 }

@@ -38,12 +38,10 @@ use std::alloc::Global;
 pub fn parse(alloc: Global, text: &[u8], version: Version) -> Result<Dataset, CdlFault>
     ensures { Answers result (meaning text.now version) }
 {
-    match declared(alloc, text, version) {
-        Ok(declared) => match declared.into_dataset(alloc) {
-            Ok(dataset) => Ok(dataset),
-            Err(_) => Err(ParseError::OutOfMemory.fault()),
-        },
-        Err(fault) => Err(fault),
+    let declared = declared(alloc, text, version)?;
+    match declared.into_dataset(alloc) {
+        Ok(dataset) => Ok(dataset),
+        Err(_) => Err(ParseError::OutOfMemory.fault()),
     }
 }
 
@@ -80,16 +78,12 @@ impl ParseError {
 fn read_text(alloc: Global, text: &[u8], version: Version) -> Result<Declared, ParseError>
     ensures { ReadsOn (λ d. Ok (dataset_of_declared d)) result (meaning text.now version) }
 {
-    let contents = match read_contents(alloc, Cutter::new(text, version)) {
-        Ok(contents) => contents,
-        Err(e) => return Err(e),
-    };
     let Contents {
         dims,
         gatts,
         vars,
         listed,
-    } = contents;
+    } = read_contents(alloc, Cutter::new(text, version))?;
     match finish(version, dims, gatts, vars, listed) {
         Some(declared) => Ok(declared),
         None => Err(ParseError::Fault(CdlFault {
@@ -114,41 +108,30 @@ struct Contents {
 fn read_contents(alloc: Global, start: Cutter<'_>) -> Result<Contents, ParseError>
     ensures { length (text_of start.entry) < 2 ^ 63 → ReadsAll result (run (text_of start.entry) (version_of start.entry) empty (pieces_left start.entry)) }
 {
-    let Defined { definitions, rest } = match read_definitions(alloc, start) {
-        Ok(defined) => defined,
-        Err(e) => return Err(e),
-    };
+    let Defined { definitions, rest } = read_definitions(alloc, start)?;
     let Definitions {
         section,
         dims,
         gatts,
         variables,
     } = definitions;
-    let (vars, names) = match variables.into_parts(alloc) {
-        Ok(parts) => parts,
-        Err(_) => return Err(ParseError::OutOfMemory),
-    };
+    let (vars, names) = variables.into_parts(alloc)?;
     let dims = dims.into_sequence();
-    let values = match read_values(
+    let values = read_values(
         alloc,
         dims.as_slice(),
         vars.as_slice(),
         &names,
         rest,
         section,
-    ) {
-        Ok(values) => values,
-        Err(e) => return Err(e),
-    };
-    match read_end(values.rest, values.section) {
-        Ok(()) => Ok(Contents {
-            dims,
-            gatts: gatts.into_sequence(),
-            vars,
-            listed: values.listed,
-        }),
-        Err(fault) => Err(ParseError::Fault(fault)),
-    }
+    )?;
+    read_end(values.rest, values.section)?;
+    Ok(Contents {
+        dims,
+        gatts: gatts.into_sequence(),
+        vars,
+        listed: values.listed,
+    })
 }
 
 /// What the data section lists, if the text has one, and what comes after it.
@@ -178,14 +161,11 @@ fn read_values<'a>(
 {
     match section {
         Section::Values => read_section(alloc, dims, vars, names, start),
-        _ => match without_values(alloc, vars.len()) {
-            Ok(listed) => Ok(Values {
-                listed,
-                section,
-                rest: start,
-            }),
-            Err(_) => Err(ParseError::OutOfMemory),
-        },
+        _ => Ok(Values {
+            listed: without_values(alloc, vars.len())?,
+            section,
+            rest: start,
+        }),
     }
 }
 
@@ -202,18 +182,13 @@ fn read_section<'a>(
     ensures text { IfOk result (λ values. text_of values.rest ≡ text_of start.entry) }
     ensures version { IfOk result (λ values. version_of values.rest ≡ version_of start.entry) }
 {
-    let targets = match targets_of(alloc, dims, vars) {
-        Ok(targets) => targets,
-        Err(_) => return Err(ParseError::OutOfMemory),
-    };
-    match read_data(alloc, names, targets, start) {
-        Ok(data) => Ok(Values {
-            section: after_data(data.is_closed),
-            rest: data.rest,
-            listed: data.arrays,
-        }),
-        Err(e) => Err(e),
-    }
+    let targets = targets_of(alloc, dims, vars)?;
+    let data = read_data(alloc, names, targets, start)?;
+    Ok(Values {
+        section: after_data(data.is_closed),
+        rest: data.rest,
+        listed: data.arrays,
+    })
 }
 
 /// The section after the data section, closed or not.

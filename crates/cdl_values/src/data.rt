@@ -162,17 +162,13 @@ fn read_slowly<'a>(
     let name = start.lexeme();
     let (equals, _) = start.advanced();
     let (value, _) = equals.advanced();
-    match target_of(alloc, index, targets, name.bytes) {
-        Ok(place) => match pack(alloc, value, place.target.filling, place.target.capacity) {
-            Ok(array) => Ok(Given {
-                position: place.position,
-                array,
-                rest: found.rest,
-            }),
-            Err(e) => Err(e),
-        },
-        Err(e) => Err(e),
-    }
+    let Place { position, target } = target_of(alloc, index, targets, name.bytes)?;
+    let array = pack(alloc, value, target.filling, target.capacity)?;
+    Ok(Given {
+        position,
+        array,
+        rest: found.rest,
+    })
 }
 
 /// The target of the variable that a word names, and the variable's position.
@@ -187,10 +183,10 @@ fn target_of(
 {
     let name = read_name(alloc, word)?;
     match index.find(name.as_slice()) {
-        Some(position) => match if_new(targets.get(position as usize)) {
-            Ok(target) => Ok(Place { position, target }),
-            Err(kind) => Err(ReadError::Fault(kind)),
-        },
+        Some(position) => {
+            let target = if_new(targets.get(position as usize))?;
+            Ok(Place { position, target })
+        }
         None => Err(ReadError::Fault(CdlKind::UnknownVariable)),
     }
 }

@@ -22,11 +22,11 @@ pub fn read_name(alloc: Global, word: &[u8]) -> Result<Vec<u8>, ReadError>
     ensures allowed { OnOk result (is_name (word_value word.now) ≡ true) }
     ensures fault { IfErr result (λ e. Fails e (unless (is_name (word_value word.now)) BadName)) }
 {
-    match name_of_word(alloc, word) {
-        Ok(name) if check_name(name.as_slice()) => Ok(name),
-        Ok(_) => Err(ReadError::Fault(CdlKind::BadName)),
-        Err(_) => Err(ReadError::OutOfMemory),
+    let name = name_of_word(alloc, word)?;
+    if !check_name(name.as_slice()) {
+        return Err(ReadError::Fault(CdlKind::BadName));
     }
+    Ok(name)
 }
 
 /// The name that a word stands for: its bytes, each escape as the byte that it escapes.

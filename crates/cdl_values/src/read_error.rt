@@ -1,6 +1,10 @@
 //! Why the calls that read a statement give up.
 
+ghost use Rattle.std.specs.Prelude.{◌≡◌};
+ghost use Rattle.cdl_values.specs.declared.read_error.ReadError.TheVariants.{Fault, OutOfMemory};
+
 use cdl_text::CdlKind;
+use std::alloc::AllocError;
 
 /// Why a call that reads a statement gives up.
 #[derive(Clone, Copy, Debug, PartialEq, Eq)]
@@ -9,4 +13,20 @@ pub enum ReadError {
     OutOfMemory,
     /// The statement has this fault.
     Fault(CdlKind),
+}
+
+impl From<AllocError> for ReadError {
+    ghost from_gives = { λ _ e. e ≡ OutOfMemory };
+
+    fn from(_e: AllocError) -> ReadError {
+        ReadError::OutOfMemory
+    }
+}
+
+impl From<CdlKind> for ReadError {
+    ghost from_gives = { λ kind e. e ≡ Fault kind };
+
+    fn from(kind: CdlKind) -> ReadError {
+        ReadError::Fault(kind)
+    }
 }

@@ -1,20 +1,22 @@
 //! Why a command line could not be read.
 
 ghost use Rattle.std.specs.Prelude.{◌≡◌, ◌≢◌};
+ghost use Rattle.std.specs.IoError.{error_kind};
+ghost use Rattle.std.specs.declared.io.ErrorKind.TheVariants as io_kind;
 ghost use Rattle.clap.specs.Words.{kind_of};
 ghost use Rattle.clap.specs.declared.error.kind.ErrorKind.TheVariants as kind;
 ghost use Rattle.cli_base.specs.declared.fault.OptFault.TheVariants as opt;
 
-use clap::Error;
 use clap::error::ErrorKind;
 use std::alloc::AllocError;
+use std::io;
 
 /// Why the command line could not be read.
 #[derive(Clone, Copy, Debug, PartialEq, Eq)]
 pub enum OptFault {
     /// Memory was refused.
     OutOfMemory,
-    /// The words are not those that the program takes.
+    /// The words are not those that the program takes, or one of them isn't UTF-8.
     Usage,
 }
 
@@ -26,10 +28,23 @@ impl From<AllocError> for OptFault {
     }
 }
 
-impl From<Error> for OptFault {
+// words that could not be read
+impl From<io::Error> for OptFault {
+    ghost from_gives = { λ error e. (error_kind error ≡ io_kind.OutOfMemory → e ≡ opt.OutOfMemory) × (error_kind error ≢ io_kind.OutOfMemory → e ≡ opt.Usage) };
+
+    fn from(error: io::Error) -> OptFault {
+        match error.kind() {
+            io::ErrorKind::OutOfMemory => OptFault::OutOfMemory,
+            _ => OptFault::Usage,
+        }
+    }
+}
+
+// words that are not those of the program
+impl From<clap::Error> for OptFault {
     ghost from_gives = { λ error e. (kind_of error ≡ kind.OutOfMemory → e ≡ opt.OutOfMemory) × (kind_of error ≢ kind.OutOfMemory → e ≡ opt.Usage) };
 
-    fn from(error: Error) -> OptFault {
+    fn from(error: clap::Error) -> OptFault {
         match error.kind() {
             ErrorKind::OutOfMemory => OptFault::OutOfMemory,
             _ => OptFault::Usage,

@@ -5,9 +5,7 @@
 mod arguments;
 mod fault;
 mod status;
-mod words;
 
 pub use arguments::{bytes_of, flag, is_given, option, value_of};
 pub use fault::OptFault;
-pub use status::flushed;
-pub use words::unread;
+pub use status::status_after_flush;

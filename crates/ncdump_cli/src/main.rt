@@ -4,7 +4,7 @@
 //! is done by [`ncdump::run_with`]; here are the words, the files of the system and the standard streams.
 #![tactic(auto)]
 
-use cli_base::{OptFault, flushed, unread};
+use cli_base::{OptFault, status_after_flush};
 use nc_file::{IoSink, Sink, SystemFiles};
 use ncdump::{opt_fault_line, run_with};
 use std::fs::File;
@@ -34,13 +34,9 @@ fn run_words<R: Env + Files<File = File> + Print + AllocGlobal, E: Sink>(
     err: &mut E,
 ) -> Result<u8, OptFault> {
     let alloc = rt.alloc();
-    let words: Vec<String> = env::args(rt)
-        .map_err(|error| unread(error))?
-        .collect(alloc)?;
+    let words: Vec<String> = env::args(rt)?.collect(alloc)?;
     let texts: Vec<&str> = words.iter().map(|word| word.as_str()).collect(alloc)?;
-    let writer = BufWriter::with_capacity(alloc, HELD_BACK, io::writer(rt)).map_err(|error| unread(
-        error,
-    ))?;
+    let writer = BufWriter::with_capacity(alloc, HELD_BACK, io::writer(rt))?;
     let mut out = IoSink::new(writer);
     let status = run_with(
         &SystemFiles::new(rt),
@@ -49,5 +45,5 @@ fn run_words<R: Env + Files<File = File> + Print + AllocGlobal, E: Sink>(
         &mut out,
         err,
     );
-    Ok(flushed(&mut out, status))
+    Ok(status_after_flush(&mut out, status))
 }

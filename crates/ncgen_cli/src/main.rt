@@ -4,7 +4,7 @@
 //! [`ncgen::run_with`]; here are the words, the files of the system, standard input and standard error.
 #![tactic(auto)]
 
-use cli_base::{OptFault, unread};
+use cli_base::OptFault;
 use devices::{CountedRead, IoSink, Sink, SystemOutputs, SystemTexts};
 use ncgen::{opt_fault_line, run_with};
 use std::env;
@@ -30,9 +30,7 @@ fn run_words<R: Env + Files<File = File> + Input + AllocGlobal, E: Sink>(
     err: &mut E,
 ) -> Result<u8, OptFault> {
     let alloc = rt.alloc();
-    let words: Vec<String> = env::args(rt)
-        .map_err(|error| unread(error))?
-        .collect(alloc)?;
+    let words: Vec<String> = env::args(rt)?.collect(alloc)?;
     let texts: Vec<&str> = words.iter().map(|word| word.as_str()).collect(alloc)?;
     let mut outputs = SystemOutputs::new(rt, alloc);
     let mut input = CountedRead::new(rt.reader());

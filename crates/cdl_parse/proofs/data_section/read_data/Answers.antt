@@ -14,17 +14,17 @@ use Rattle.cdl_parse.proofs.data_section.read_data.Goals as goal
 pub statements-init : goal.statements-init
 statements-init c =
     let count : c.len.result ≡ length c.args.targets.items = search rules in
-    let empty = c.in-Ok.ensures ∙ ap (λ (n : ℕ). replicate {A = List ℕ} n []) count in
-    record { text = refl; version = refl; reads = λ vars s section index suit is short. none_so_far vars s c.args.start c.args.targets.items c.in-Ok.arrays.items section suit is empty }
+    let empty = c.in_ok-arrays.ensures ∙ ap (λ (n : ℕ). replicate {A = List ℕ} n []) count in
+    record { text = refl; version = refl; reads = λ vars s section index suit is short. none_so_far vars s c.args.start c.args.targets.items c.in_ok-arrays.arrays.items section suit is empty }
 
 pub statements-smaller : goal.statements-smaller
-statements-smaller c = fewer c.statements.cutter c.in-Ok-read_one.passed.rest (sym c.is_done.ensures ∙ c.if-is_done.false) c.in-Ok-read_one.ensures.rest
+statements-smaller c = fewer c.statements.cutter c.in-Ok.passed.rest (sym c.is_done.ensures ∙ c.if-is_done.false) c.in-Ok.ensures.rest
 
 pub statements-preserved : goal.statements-preserved
 statements-preserved c =
     let start = c.args.start in
     let t = c.statements in
-    let found = c.in-Ok-read_one.ensures in
+    let found = c.in-Ok.ensures in
     let more : is_done t.cutter ≡ false = sym c.is_done.ensures ∙ c.if-is_done.false in
     record {
       text = found.text ∙ t.invariant.text;
@@ -32,7 +32,7 @@ statements-preserved c =
       reads = λ vars s section index suit is short.
           let so = t.invariant.reads vars s section index suit is short in
           let taken = found.reads vars (record s { drafts = so.0 }) (subst (IsIndex c.args.names.now) (sym so.2) index) so.1 (subst (λ text. length text < 2 ^ 63) (sym t.invariant.text) short) in
-          values_on start t.cutter t.invariant.text t.invariant.version more vars s t.targets.items c.read_one.new.targets.items t.arrays.items c.read_one.new.arrays.items c.in-Ok-read_one.passed.rest found.rest so
+          values_on start t.cutter t.invariant.text t.invariant.version more vars s t.targets.items c.read_one.new.targets.items t.arrays.items c.read_one.new.arrays.items c.in-Ok.passed.rest found.rest so
           (subst (λ b. Takes b vars t.cutter (record s { drafts = so.0 }) c.read_one.new.targets.items c.read_one.new.arrays.items) c.if-passed.false taken);
     }
 
@@ -46,19 +46,19 @@ pub returns-then-passed-clause-reads : goal.returns-then-passed-clause-reads
 returns-then-passed-clause-reads c = λ vars s section index suit is short.
     let start = c.args.start in
     let t = c.statements in
-    let found = c.in-Ok-read_one.ensures in
+    let found = c.in-Ok.ensures in
     let more : is_done t.cutter ≡ false = sym c.is_done.ensures ∙ c.if-is_done.false in
     let so = t.invariant.reads vars s section index suit is short in
     let taken = found.reads vars (record s { drafts = so.0 }) (subst (IsIndex c.args.names.now) (sym so.2) index) so.1 (subst (λ text. length text < 2 ^ 63) (sym t.invariant.text) short) in
     let closed = subst (λ b. Takes b vars t.cutter (record s { drafts = so.0 }) c.read_one.new.targets.items c.read_one.new.arrays.items) c.if-passed.true taken in
-    (so.0, closed.1, so.3 ∙ goes_on start t.cutter t.invariant.text t.invariant.version more (record s { drafts = so.0 }) (record s { section = Section.Closed; drafts = so.0 }) c.in-Ok-read_one.passed.rest closed.0 found.rest)
+    (so.0, closed.1, so.3 ∙ goes_on start t.cutter t.invariant.text t.invariant.version more (record s { drafts = so.0 }) (record s { section = Section.Closed; drafts = so.0 }) c.in-Ok.passed.rest closed.0 found.rest)
 
-pub returns-in-Err-read_one-clause-reads : goal.returns-in-Err-read_one-clause-reads
-returns-in-Err-read_one-clause-reads c = λ vars s section index suit is short.
+pub returns-in-Err-clause-reads : goal.returns-in-Err-clause-reads
+returns-in-Err-clause-reads c = λ vars s section index suit is short.
     let start = c.args.start in
     let t = c.statements in
     let more : is_done t.cutter ≡ false = sym c.is_done.ensures ∙ c.if-is_done.false in
     let so = t.invariant.reads vars s section index suit is short in
-    let fault = c.in-Err-read_one.ensures.reads vars (record s { drafts = so.0 }) (subst (IsIndex c.args.names.now) (sym so.2) index) so.1 (subst (λ text. length text < 2 ^ 63) (sym t.invariant.text) short) in
+    let fault = c.in-Err.ensures.reads vars (record s { drafts = so.0 }) (subst (IsIndex c.args.names.now) (sym so.2) index) so.1 (subst (λ text. length text < 2 ^ 63) (sym t.invariant.text) short) in
     subst (λ (e : ParseError). FailsAt e (run (text_of start) (version_of start) s (pieces_left start))) (sym c.at_line.ensures)
-    (subst (FailsAt (at_line c.line.result c.in-Err-read_one.e)) (sym so.3) (stops start t.cutter t.invariant.text t.invariant.version more (record s { drafts = so.0 }) c.in-Err-read_one.e c.line.result (c.line.ensures more) fault))
+    (subst (FailsAt (at_line c.line.result c.in-Err.e)) (sym so.3) (stops start t.cutter t.invariant.text t.invariant.version more (record s { drafts = so.0 }) c.in-Err.e c.line.result (c.line.ensures more) fault))

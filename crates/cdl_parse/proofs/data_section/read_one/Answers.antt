@@ -9,10 +9,10 @@ use Rattle.cdl_parse.proofs.data_section.read_one.Goals as goal
 pub returns-then-is_mark-clause-reads : goal.returns-then-is_mark-clause-reads
 returns-then-is_mark-clause-reads c = λ vars s index stands short. closed vars c.args.start s c.args.targets.now.items c.args.arrays.now.items c.close.result stands (c.close.ensures.reads s stands.section)
 
-pub returns-in-Ok-clause-reads : goal.returns-in-Ok-clause-reads
-returns-in-Ok-clause-reads c = λ vars s index stands short.
+pub returns-clause-reads : goal.returns-clause-reads
+returns-clause-reads c = λ vars s index stands short.
     let off : begins_brace (words c.args.start) ≡ false = ap begins_brace (c.lexeme.ensures.first c.requires) ∙ sym c.is_mark.ensures ∙ c.if-is_mark.false in
     let suit = subst (λ (ts : List Target). Suit s.dims ts s.drafts) (sym c.deref.ensures.value) stands.suit in
-    let after = takes vars (version_of c.args.start) s (words c.args.start) c.args.targets.now.items c.args.arrays.now.items c.in-Ok.given.array c.in-Ok.given.position stands
-    (c.in-Ok.ensures.means s stands.section index suit off short) (c.in-Ok.ensures.position (names_of s.drafts) index) in
-    (after.0, after.1, subst (λ (ts : List Target). IsInDataSection vars ts c.store.new.arrays.items (record s { drafts = after.0 })) (sym c.mark_given.ensures) (subst (λ (arrays : List (List ℕ)). IsInDataSection vars (given_at c.in-Ok.given.position c.args.targets.now.items) arrays (record s { drafts = after.0 })) (sym c.store.ensures) after.2))
+    let after = takes vars (version_of c.args.start) s (words c.args.start) c.args.targets.now.items c.args.arrays.now.items c.in_ok-given.given.array c.in_ok-given.given.position stands
+    (c.in_ok-given.ensures.means s stands.section index suit off short) (c.in_ok-given.ensures.position (names_of s.drafts) index) in
+    (after.0, after.1, subst (λ (ts : List Target). IsInDataSection vars ts c.store.new.arrays.items (record s { drafts = after.0 })) (sym c.mark_given.ensures) (subst (λ (arrays : List (List ℕ)). IsInDataSection vars (given_at c.in_ok-given.given.position c.args.targets.now.items) arrays (record s { drafts = after.0 })) (sym c.store.ensures) after.2))

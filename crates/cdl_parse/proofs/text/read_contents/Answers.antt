@@ -1,31 +1,35 @@
 use Rattle.std.proofs.Common.{rules, ◌≡◌, ◌<◌, length, refl, ap, sym, ◌∙◌, subst}
-use Rattle.std.specs.Prelude.{◌^◌}
+use Rattle.std.specs.Prelude.{◌^◌, Result, Err}
 use Rattle.cdl_text.specs.Cutters.{pieces_left, text_of, version_of}
 use Rattle.cdl_meaning.specs.Meaning.{empty, run}
 use Rattle.cdl_meaning.specs.State.{State}
 use Rattle.cdl_values.specs.Listed.{AllList, AreShaped, fresh}
 use Rattle.cdl_parse.specs.Defined.{state_of}
+use Rattle.cdl_parse.specs.Parsing.{ReadsAll}
+use Rattle.cdl_parse.specs.declared.parse_error.ParseError.{ParseError}
+use Rattle.cdl_parse.specs.declared.parse_error.ParseError.TheVariants.{Fault}
+use Rattle.cdl_parse.specs.declared.text.Contents.{Contents}
 use Rattle.cdl_parse.proofs.WholeTexts.{listed_shapes, same_end, same_run}
 use Rattle.cdl_parse.proofs.text.read_contents.Goals as goal
 
-pub returns-in-Ok-read_end : goal.returns-in-Ok-read_end
-returns-in-Ok-read_end c = λ small.
+pub returns : goal.returns
+returns c = λ small.
     let start = c.args.start in
-    let rest = c.in-Ok.defined.rest in
-    let s = state_of c.in-Ok.defined.definitions in
-    let vars = c.in-Ok-into_parts.parts.0 in
-    let values = c.in-Ok-read_values.values in
-    let short : length (text_of rest) < 2 ^ 63 = subst (λ text. length text < 2 ^ 63) (sym c.in-Ok.ensures.text) small in
+    let rest = c.in_ok-definitions.field-0.rest in
+    let s = state_of c.in_ok-definitions.field-0.definitions in
+    let vars = c.in_ok-vars.vars in
+    let values = c.in_ok-values.values in
+    let short : length (text_of rest) < 2 ^ 63 = subst (λ text. length text < 2 ^ 63) (sym c.in_ok-definitions.ensures.text) small in
     let dims : s.dims ≡ c.as_slice.result.now = search rules in
     let listed_of : c.as_slice-2.result.now ≡ vars = search rules in
-    let drafts : s.drafts ≡ fresh c.as_slice-2.result.now = sym c.in-Ok-into_parts.ensures.vars ∙ ap fresh (sym listed_of) in
-    let read = c.in-Ok-read_values.ensures.reads s refl dims drafts c.in-Ok-into_parts.ensures.names c.in-Ok.ensures.shaped short in
+    let drafts : s.drafts ≡ fresh c.as_slice-2.result.now = sym c.in_ok-vars.ensures.vars ∙ ap fresh (sym listed_of) in
+    let read = c.in_ok-values.ensures.reads s refl dims drafts c.in_ok-vars.ensures.names c.in_ok-definitions.ensures.shaped short in
     let at : State = record s { section = values.section; drafts = read.0 } in
     let so_far : run (text_of start) (version_of start) empty (pieces_left start) ≡ run (text_of start) (version_of start) at (pieces_left values.rest) =
-    c.in-Ok.ensures.reads ∙ same_run (text_of start) (text_of rest) (version_of start) (version_of rest) s at (pieces_left rest) (pieces_left values.rest) c.in-Ok.ensures.text c.in-Ok.ensures.version read.2 in
-    let text = c.in-Ok-read_values.ensures.text ∙ c.in-Ok.ensures.text in
-    let version = c.in-Ok-read_values.ensures.version ∙ c.in-Ok.ensures.version in
-    let ended = c.in-Ok-read_end.ensures at refl in
+    c.in_ok-definitions.ensures.reads ∙ same_run (text_of start) (text_of rest) (version_of start) (version_of rest) s at (pieces_left rest) (pieces_left values.rest) c.in_ok-definitions.ensures.text c.in_ok-definitions.ensures.version read.2 in
+    let text = c.in_ok-values.ensures.text ∙ c.in_ok-definitions.ensures.text in
+    let version = c.in_ok-values.ensures.version ∙ c.in_ok-definitions.ensures.version in
+    let ended = c.in_ok-read_end.ensures at refl in
     let lists = subst (λ vs. AllList vs values.listed.items read.0) listed_of read.1 in (
       record at { section = ended.0 },
       record {
@@ -33,26 +37,29 @@ returns-in-Ok-read_end c = λ small.
         gatts = search rules;
         listed = lists;
         shaped = subst (λ ds. AreShaped ds read.0) (let same : s.dims ≡ c.into_sequence-dims.result = search rules in same)
-            (listed_shapes s.dims vars values.listed.items read.0 lists (subst (AreShaped s.dims) (sym c.in-Ok-into_parts.ensures.vars) c.in-Ok.ensures.shaped));
+            (listed_shapes s.dims vars values.listed.items read.0 lists (subst (AreShaped s.dims) (sym c.in_ok-vars.ensures.vars) c.in_ok-definitions.ensures.shaped));
       },
       so_far ∙ same_end (text_of start) (text_of values.rest) (version_of start) (version_of values.rest) at (pieces_left values.rest) _ text version ended.1,
     )
 
-pub returns-in-Err-read_end : goal.returns-in-Err-read_end
-returns-in-Err-read_end c = λ small.
+pub returns-in_err-read_end : goal.returns-in_err-read_end
+returns-in_err-read_end c = λ small.
     let start = c.args.start in
-    let rest = c.in-Ok.defined.rest in
-    let s = state_of c.in-Ok.defined.definitions in
-    let vars = c.in-Ok-into_parts.parts.0 in
-    let values = c.in-Ok-read_values.values in
-    let short : length (text_of rest) < 2 ^ 63 = subst (λ text. length text < 2 ^ 63) (sym c.in-Ok.ensures.text) small in
+    let rest = c.in_ok-definitions.field-0.rest in
+    let s = state_of c.in_ok-definitions.field-0.definitions in
+    let vars = c.in_ok-vars.vars in
+    let values = c.in_ok-values.values in
+    let short : length (text_of rest) < 2 ^ 63 = subst (λ text. length text < 2 ^ 63) (sym c.in_ok-definitions.ensures.text) small in
     let dims : s.dims ≡ c.as_slice.result.now = search rules in
     let listed_of : c.as_slice-2.result.now ≡ vars = search rules in
-    let drafts : s.drafts ≡ fresh c.as_slice-2.result.now = sym c.in-Ok-into_parts.ensures.vars ∙ ap fresh (sym listed_of) in
-    let read = c.in-Ok-read_values.ensures.reads s refl dims drafts c.in-Ok-into_parts.ensures.names c.in-Ok.ensures.shaped short in
+    let drafts : s.drafts ≡ fresh c.as_slice-2.result.now = sym c.in_ok-vars.ensures.vars ∙ ap fresh (sym listed_of) in
+    let read = c.in_ok-values.ensures.reads s refl dims drafts c.in_ok-vars.ensures.names c.in_ok-definitions.ensures.shaped short in
     let at : State = record s { section = values.section; drafts = read.0 } in
     let so_far : run (text_of start) (version_of start) empty (pieces_left start) ≡ run (text_of start) (version_of start) at (pieces_left values.rest) =
-    c.in-Ok.ensures.reads ∙ same_run (text_of start) (text_of rest) (version_of start) (version_of rest) s at (pieces_left rest) (pieces_left values.rest) c.in-Ok.ensures.text c.in-Ok.ensures.version read.2 in
-    let text = c.in-Ok-read_values.ensures.text ∙ c.in-Ok.ensures.text in
-    let version = c.in-Ok-read_values.ensures.version ∙ c.in-Ok.ensures.version in
-    so_far ∙ same_end (text_of start) (text_of values.rest) (version_of start) (version_of values.rest) at (pieces_left values.rest) _ text version (c.in-Err-read_end.ensures at refl)
+    c.in_ok-definitions.ensures.reads ∙ same_run (text_of start) (text_of rest) (version_of start) (version_of rest) s at (pieces_left rest) (pieces_left values.rest) c.in_ok-definitions.ensures.text c.in_ok-definitions.ensures.version read.2 in
+    let text = c.in_ok-values.ensures.text ∙ c.in_ok-definitions.ensures.text in
+    let version = c.in_ok-values.ensures.version ∙ c.in_ok-definitions.ensures.version in
+    let fault = c.in_err-read_end.field-0.0 in
+    let is : c.from_residual-in_err-read_end.result ≡ Err (Fault fault) = search rules in
+    subst (λ (r : Result Contents ParseError). ReadsAll r (run (text_of start) (version_of start) empty (pieces_left start))) (sym is)
+    (so_far ∙ same_end (text_of start) (text_of values.rest) (version_of start) (version_of values.rest) at (pieces_left values.rest) _ text version (c.in_err-read_end.ensures at refl))

@@ -6,11 +6,11 @@ use Rattle.cdl_values.specs.Listed.{AllList, fresh}
 use Rattle.cdl_parse.proofs.WholeTexts.{none_listed, past_values}
 use Rattle.cdl_parse.proofs.text.read_values.Goals as goal
 
-pub returns-in-Ok : goal.returns-in-Ok
-returns-in-Ok c =
+pub returns-in_ok-without_values-in_default : goal.returns-in_ok-without_values-in_default
+returns-in_ok-without_values-in_default c =
     let start = c.args.start in
     let vars = c.args.vars.now in
-    let empty : c.in-Ok.listed.items ≡ replicate (length vars) [] = c.in-Ok.ensures in
+    let empty : c.in_ok-without_values-in_default.field-0.items ≡ replicate (length vars) [] = c.in_ok-without_values-in_default.ensures in
     record {
       reads = λ s section dims drafts index shaped short. (
         fresh vars,

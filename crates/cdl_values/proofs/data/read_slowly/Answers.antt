@@ -8,7 +8,9 @@ use Rattle.cdl_text.specs.Cutters.{next_token, text_of, version_of, words}
 use Rattle.cdl_text.specs.declared.fault.CdlKind.{CdlKind}
 use Rattle.cdl_values.specs.Answers.{Fails}
 use Rattle.cdl_values.specs.PackedValues.{packed}
-use Rattle.cdl_values.specs.DataRead.{filled, target_of}
+use Rattle.cdl_values.specs.DataRead.{data_read, filled, target_of}
+use Rattle.cdl_values.specs.declared.data.Given.{Given}
+use Rattle.cdl_values.proofs.AllowedNames.{refused}
 use Rattle.cdl_values.proofs.DataReads.{bad_read, unshaped_read, read_on, name_goes, name_on, equals_goes, filled_ok, filled_err}
 use Rattle.cdl_values.proofs.data.read_slowly.Goals as goal
 
@@ -32,36 +34,42 @@ pack-requires c =
     let next = name_on (lexeme (text_of c.args.start) (next_token c.args.start)) (words equals) (words c.args.start) c.advanced.result.1 c.advanced.ensures.words on in
     c.advanced-2.ensures.goes (equals_goes (lexeme (text_of equals) (next_token equals)) (words c.advanced-2.result.0) (words equals) c.advanced-2.result.1 c.advanced-2.ensures.words next)
 
-pub returns-in-Ok-pack-clause-read : goal.returns-in-Ok-pack-clause-read
-returns-in-Ok-pack-clause-read c = λ names h.
+pub returns-clause-read : goal.returns-clause-read
+returns-clause-read c = λ names h.
     let on : completes DataName (words c.args.start) ≡ true = search rules in
     let equals = c.advanced.result.0 in
     let version = (version_of c.args.start) in
     let n = lexeme (text_of c.args.start) (next_token c.args.start) in
+    let target = c.in_ok-position.field-0.target in
     read_on version names c.args.targets.now (words c.args.start) (words equals) (words c.advanced-2.result.0) n (lexeme (text_of equals) (next_token equals)) c.advanced.result.1 c.advanced-2.result.1
     c.advanced.ensures.words c.advanced-2.ensures.words (sym c.first_pass-found.ensures.bad ∙ c.in-None.is) on ∙
-    filled_ok version (words c.advanced-2.result.0) (target_of names c.args.targets.now (word_value n.bytes)) c.in-Ok.place.target (ap (λ (l : Lexeme). target_of names c.args.targets.now (word_value l.bytes)) (sym c.lexeme-name.ensures.lexeme) ∙ c.in-Ok.ensures.target names h) ∙
-    ap (λ v. packed c.in-Ok.place.target.filling c.in-Ok.place.target.capacity (values v (words c.advanced-2.result.0))) (sym (c.advanced-2.ensures.version ∙ c.advanced.ensures.version)) ∙ c.in-Ok-pack.ensures
+    filled_ok version (words c.advanced-2.result.0) (target_of names c.args.targets.now (word_value n.bytes)) target (ap (λ (l : Lexeme). target_of names c.args.targets.now (word_value l.bytes)) (sym c.lexeme-name.ensures.lexeme) ∙ c.in_ok-position.ensures.target names h) ∙
+    ap (λ v. packed target.filling target.capacity (values v (words c.advanced-2.result.0))) (sym (c.advanced-2.ensures.version ∙ c.advanced.ensures.version)) ∙ c.in_ok-array.ensures
 
-pub returns-in-Err-pack-clause-read : goal.returns-in-Err-pack-clause-read
-returns-in-Err-pack-clause-read c = λ names h.
+pub returns-in_err-array-clause-read : goal.returns-in_err-array-clause-read
+returns-in_err-array-clause-read c = λ names h.
     let on : completes DataName (words c.args.start) ≡ true = search rules in
     let equals = c.advanced.result.0 in
     let version = (version_of c.args.start) in
     let n = lexeme (text_of c.args.start) (next_token c.args.start) in
+    let target = c.in_ok-position.field-0.target in
+    let e = c.in_err-array.field-0.0 in
     let read = read_on version names c.args.targets.now (words c.args.start) (words equals) (words c.advanced-2.result.0) n (lexeme (text_of equals) (next_token equals)) c.advanced.result.1 c.advanced-2.result.1
     c.advanced.ensures.words c.advanced-2.ensures.words (sym c.first_pass-found.ensures.bad ∙ c.in-None.is) on ∙
-    filled_ok version (words c.advanced-2.result.0) (target_of names c.args.targets.now (word_value n.bytes)) c.in-Ok.place.target (ap (λ (l : Lexeme). target_of names c.args.targets.now (word_value l.bytes)) (sym c.lexeme-name.ensures.lexeme) ∙ c.in-Ok.ensures.target names h) ∙
-    ap (λ v. packed c.in-Ok.place.target.filling c.in-Ok.place.target.capacity (values v (words c.advanced-2.result.0))) (sym (c.advanced-2.ensures.version ∙ c.advanced.ensures.version)) in
-    subst (λ (r : Result (List ℕ) CdlKind). Fails c.in-Err-pack.e r) (sym read) c.in-Err-pack.ensures
+    filled_ok version (words c.advanced-2.result.0) (target_of names c.args.targets.now (word_value n.bytes)) target (ap (λ (l : Lexeme). target_of names c.args.targets.now (word_value l.bytes)) (sym c.lexeme-name.ensures.lexeme) ∙ c.in_ok-position.ensures.target names h) ∙
+    ap (λ v. packed target.filling target.capacity (values v (words c.advanced-2.result.0))) (sym (c.advanced-2.ensures.version ∙ c.advanced.ensures.version)) in
+    refused (λ (g : Given). g.array) c.from_residual-in_err-array.result e (data_read version names c.args.targets.now (words c.args.start)) (search rules)
+    (subst (λ (r : Result (List ℕ) CdlKind). Fails e r) (sym read) c.in_err-array.ensures)
 
-pub returns-in-Err-clause-read : goal.returns-in-Err-clause-read
-returns-in-Err-clause-read c = λ names h.
+pub returns-in_err-position-clause-read : goal.returns-in_err-position-clause-read
+returns-in_err-position-clause-read c = λ names h.
     let on : completes DataName (words c.args.start) ≡ true = search rules in
     let equals = c.advanced.result.0 in
     let version = (version_of c.args.start) in
     let n = lexeme (text_of c.args.start) (next_token c.args.start) in
+    let e = c.in_err-position.field-0.0 in
     let read = read_on version names c.args.targets.now (words c.args.start) (words equals) (words c.advanced-2.result.0) n (lexeme (text_of equals) (next_token equals)) c.advanced.result.1 c.advanced-2.result.1
     c.advanced.ensures.words c.advanced-2.ensures.words (sym c.first_pass-found.ensures.bad ∙ c.in-None.is) on ∙
     ap (λ (l : Lexeme). filled version (words c.advanced-2.result.0) (target_of names c.args.targets.now (word_value l.bytes))) (sym c.lexeme-name.ensures.lexeme) in
-    subst (λ (r : Result (List ℕ) CdlKind). Fails c.in-Err.e r) (sym read) (filled_err version (words c.advanced-2.result.0) (target_of names c.args.targets.now (word_value c.lexeme-name.result.bytes.now)) c.in-Err.e (c.in-Err.ensures.target names h))
+    refused (λ (g : Given). g.array) c.from_residual.result e (data_read version names c.args.targets.now (words c.args.start)) (search rules)
+    (subst (λ (r : Result (List ℕ) CdlKind). Fails e r) (sym read) (filled_err version (words c.advanced-2.result.0) (target_of names c.args.targets.now (word_value c.lexeme-name.result.bytes.now)) e (c.in_err-position.ensures.target names h)))
