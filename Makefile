@@ -21,14 +21,14 @@ bin/ncgen: FORCE
 	$(call keep,ncgen)
 
 # The merge gate: every proof from nothing, the must-fail edits, the tests and the programs' stored runs; then wrong definitions,
-# which the laws have to refuse, the tests with each growth of memory refused in turn, and the programs that the gate has built
-# from end to end, and on random datasets.
+# which the laws have to refuse, the tests and the programs that the gate has built with each growth of memory refused in turn, and
+# the programs from end to end, and on random datasets.
 test:
 	rt ci
 	$(call keep,ncdump)
 	$(call keep,ncgen)
 	tests/definitions.py
-	tests/growths.sh acceptance generate_tests
+	tests/growths.sh
 	tests/ncdump.sh
 	tests/ncgen.sh
 	tests/roundtrip.py

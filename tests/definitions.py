@@ -30,6 +30,7 @@ UNREAD = re.compile(r"is not in scope|has no field|is no name|operand is missing
 
 def copy_crates(to):
     """Copies the crates, with what earlier checks kept of them, but for their worked examples."""
+    (to / "crates").mkdir(parents=True)
     lines = (TOP / "crates.txt").read_text().splitlines()
     (to / "crates.txt").write_text("\n".join(l for l in lines if l.split(":")[0] in CRATES) + "\n")
     for crate in CRATES:
@@ -90,10 +91,6 @@ def verdict(edit, top):
 
 
 def work(edits, top):
-    copy_crates(top)
-    is_proved, said = check(top, CRATES[-1])
-    if not is_proved:
-        return [(False, f"the copy is not proved as it stands:\n{said[-2000:]}")]
     results = []
     for edit in edits:
         results.append(verdict(edit, top))
@@ -105,15 +102,15 @@ def main():
     edits = sorted(EDITS.glob("*.edit"))
     if sys.argv[1:]:
         edits = [edit for edit in edits if edit.stem in sys.argv[1:]]
-    for crate in CRATES:
-        is_proved, said = check(TOP, crate)
-        if not is_proved:
-            print(f"{crate} is not proved as it stands:\n{said[-2000:]}")
-            return 1
     with tempfile.TemporaryDirectory() as folder, ThreadPoolExecutor(AT_ONCE) as pool:
         tops = [Path(folder, str(n)) for n in range(AT_ONCE)]
-        for top in tops:
-            (top / "crates").mkdir(parents=True)
+        copy_crates(tops[0])
+        is_proved, said = check(tops[0], CRATES[-1])
+        if not is_proved:
+            print(f"the copy is not proved as it stands:\n{said[-2000:]}")
+            return 1
+        for top in tops[1:]:
+            shutil.copytree(tops[0], top, symlinks=True)
         tried = [it for part in pool.map(work, [edits[n::AT_ONCE] for n in range(AT_ONCE)], tops) for it in part]
     for is_refused, line in tried:
         if not is_refused:

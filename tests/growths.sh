@@ -1,90 +1,178 @@
 #!/usr/bin/env bash
-# Runs the tests of growths with one growth of memory refused, and so for each growth in turn. A test has to end with the error of
-# memory as long as it grows so often, and to pass from then on. How often is written here beside its name:
+# Runs the tests of crates/growth_tests, and bin/ncdump and bin/ncgen, with one growth of memory refused (refuse.c), and so for each
+# growth in turn. It proves nothing.
+#
+# A test ends with the error of memory where one of its growths is refused, and passes where none is. How many it has is written
+# here beside its name:
 # - a dump grows as often as the header and the selection that it begins with, since it takes no memory for values;
 # - a text is generated with as many growths as it is prepared, since it takes no memory for the file.
-# It proves nothing.
 #
-#   tests/growths.sh [CRATE..]
+# A program says in one line that it is out of memory where one of its growths is refused, writes nothing else, and leaves an old
+# output as it was; where none is, it does what it was asked for. So it does where room for one of two lists of its words is refused:
+# that is asked for again.
 set -u
-cd "$(dirname "$0")/../crates" || exit 1
-at_once=4
-work=$(mktemp -d)
-trap 'rm -rf "$work"' EXIT
-trap 'exit 1' HUP INT TERM
-failed=0
+. "$(dirname "$0")/verdicts.sh"
+crate=$top/crates/growth_tests
+tests=$crate/out/growth_tests_tests
+names=()
+made=
 
-# refuse CRATE MODULE FIRST LAST: runs the tests with growth FIRST refused, then with the next one, up to LAST, and keeps what
-# they say.
+# refuse N COMMAND..: runs the command with growth N refused, and keeps what it writes, its status, and how often it grew.
 refuse() {
-    local n
-    for n in $(seq "$3" "$4"); do
-        while [ "$(jobs -rp | wc -l)" -ge "$at_once" ]; do wait -n; done
-        (cd "$1" && rt try --test --fail-alloc "$n" -- "$2::" >"$work/$1.$n" 2>&1) &
-    done
-    wait
+    : >"$work/growths"
+    REFUSED=$1 GROWTHS=$work/growths LD_PRELOAD=$work/refuse.so run "${@:2}"
+    refused=$1
+    read -r growths <"$work/growths"
+    read -r status <"$work/got/status"
+    IFS= read -r -d '' out <"$work/got/stdout"
+    IFS= read -r -d '' err <"$work/got/stderr"
 }
 
-# is_sound CRATE: each run ended, and each test that failed had too little memory.
-is_sound() {
-    local run
-    for run in "$work/$1".*; do
-        if ! grep -q '^test result: ' "$run" || grep -qE 'assertion failed|panicked' "$run" ||
-            [ "$(grep -c 'FAILED$' "$run")" -ne "$(grep -c '^    error: AllocError$' "$run")" ]; then
-            failed=1
-            echo "$1, growth ${run##*.} refused:"
-            cat "$run"
-        fi
-    done
+# fails NAME: what the test NAME shows doesn't hold in the last run.
+fails() {
+    failed=$((failed + 1))
+    echo "FAILED $1: $status with growth $refused refused, of ${growths:-?}"
+    printf '%s' "$out" "$err"
 }
 
-# grows CRATE MODULE FIRST LAST TEST COUNT: the test had too little memory where one of its COUNT growths was refused, and only there.
+# has_memory_error: the last run is that of a test, and ended with the error of memory.
+has_memory_error() {
+    [ "$status" = 'status 101' ] && [ -z "$out" ] &&
+        [ "$err" = $'error: AllocError\nthe test failed: its result gives status 1\n' ]
+}
+
+# grows TEST COUNT: the test ends with the error of memory where one of its COUNT growths is refused, and passes where none is.
 grows() {
-    local n word
-    for n in $(seq "$3" "$4"); do
-        word=FAILED
-        if [ "$n" -gt "$6" ]; then word=ok; fi
-        if ! grep -q "^test $2::$5 \.\.\. $word\$" "$work/$1.$n"; then
-            failed=1
-            echo "$1: $5 with growth $n of $6 refused isn't $word"
+    local n
+    names+=("$1: test")
+    for n in $(seq "$2"); do
+        refuse "$n" "$tests" "$1"
+        if ! has_memory_error; then
+            fails "$1"
+            return
+        fi
+    done
+    refuse $(($2 + 1)) "$tests" "$1"
+    if [ "$growths" = "$2" ]; then
+        stdout '\ntest result: ok\n'
+        verdict "$1" 0
+    else
+        fails "$1"
+    fi
+}
+
+# makes FILE LIKE: the next command is to make the file, with the bytes of the file LIKE, in the place of an old one.
+makes() {
+    made=$1
+    cp "$2" "$work/want/$made"
+}
+
+# is_out_of_memory OF: the last run says that it is, for its text or file OF, or for its words, or that it can't open its output, for
+# which it has no buffer; nothing else is written, and an old output is as it was.
+is_out_of_memory() {
+    local old=
+    if [ -n "$made" ]; then IFS= read -r -d '' old <"$made"; fi
+    [ "$status" = 'status 1' ] && [ -z "$out" ] && [ "$old" = "${made:+$'old\n'}" ] || return
+    [ "$err" = "$1: out of memory"$'\n' ] || [ "$err" = "${1%%:*}: out of memory"$'\n' ] ||
+        [ "$err" = "ncgen: $made: cannot open"$'\n' ]
+}
+
+# runs_out OF COMMAND..: the command is out of memory where one of its growths is refused, but for two, without which it does what is
+# wanted all the same. It has one at least, and the last run is one in which none is refused.
+runs_out() {
+    local n again=0
+    for ((n = 1; ; n++)); do
+        if [ -n "$made" ]; then echo old >"$made"; fi
+        refuse "$n" "${@:2}"
+        if [[ $growths -lt $n ]]; then
+            [ "$n" -gt 1 ]
+            return
+        fi
+        if ! is_out_of_memory "$1"; then
+            again=$((again + 1))
+            [ "$again" -le 2 ] && diff -r "$work/want" "$work/got" >/dev/null || return
         fi
     done
 }
 
-# try CRATE MODULE FIRST LAST TEST=COUNT..: all of this for the tests of a crate.
-try() {
-    local row
-    refuse "$1" "$2" "$3" "$4"
-    is_sound "$1"
-    for row in "${@:5}"; do grows "$1" "$2" "$3" "$4" "${row%=*}" "${row#*=}"; done
-    echo "$1: growths $3 to $4 refused in $(($# - 4)) tests"
+# endures NAME STATUS OF COMMAND..: the command runs out of memory where growths are refused, and else it ends so and does what is
+# wanted.
+endures() {
+    echo "status $2" >"$work/want/status"
+    if runs_out "${@:3}"; then verdict "$1" "$2"; else fails "$1"; fi
+    rm -f "$work"/want/*.nc "$work"/got/*.nc
+    made=
+    nothing
 }
 
-acceptance() {
-    local rows=() row
-    for row in one_variable=7 one_variable_of_version_5=7 a_rank_three_selection=16 padded_records=9 nuls_in_a_row=7 \
-        a_text_attribute=4 a_hidden_variable=14; do
-        rows+=("dump_of_$row" "header_and_selection_of_$row")
-    done
-    try acceptance growths 1 17 "${rows[@]}"
+# dumps NAME SAMPLE WORD..: bin/ncdump with these words endures, and prints the sample's text.
+dumps() {
+    cp "$samples/$2.cdl" "$work/want/stdout"
+    endures "$1" 0 "ncdump: $samples/$2.nc" "$ncdump" "${@:3}" "$samples/$2.nc"
 }
 
-parse_tests() {
-    try parse_tests parse_growths 1 55 \
-        text_of_three_shorts=17 text_of_names_and_attributes=34 text_of_rows_of_characters=54 \
-        declarations_of_rows_of_characters=46 text_of_numbers_of_cdf5=52 text_with_a_fault_in_its_last_statement=36 \
-        text_with_an_array_too_large=18
+# generates NAME SAMPLE WORD..: bin/ncgen with these words endures, and makes the sample.
+generates() {
+    makes made.nc "$samples/$2.nc"
+    endures "$1" 0 "ncgen: $samples/$2.cdl" "$ncgen" -o made.nc "${@:3}" "$samples/$2.cdl"
 }
 
-# Of each text, one test shows growths 33 to 48, and those that take 16 or 32 pieces of memory beforehand the ones before them.
-generate_tests() {
-    try generate_tests growths 33 48 \
-        one_variable_generated_after_16=32 one_variable_generated_after_32=48 one_variable_prepared_after_24=40 \
-        rank_three_generated=34 rank_three_generated_after_16=50 rank_three_generated_after_32=66 rank_three_prepared=34 \
-        names_and_strings_generated=41 names_and_strings_generated_after_16=57 \
-        names_and_strings_generated_after_32=73 names_and_strings_prepared=41
+# note_on_standard_input: bin/ncgen makes a file of a sample that it is given there.
+note_on_standard_input() {
+    "$ncgen" -o made.nc <"$samples/note.cdl"
 }
 
-if [ $# -eq 0 ]; then set -- acceptance parse_tests generate_tests; fi
-for crate; do "$crate"; done
-exit "$failed"
+# tests_of_the_crate: their names, as the program lists them.
+tests_of_the_crate() {
+    "$tests" --list | grep ': test$' | sort
+}
+
+${CC:-cc} -shared -fPIC -o "$work/refuse.so" "$top/tests/refuse.c" || exit 1
+[ -x "$tests" ] || (cd "$crate" && rt test) || exit 1
+cd "$work/got" || exit 1
+
+# The tests, each with its growths.
+for row in one_variable=7 one_variable_of_version_5=7 a_rank_three_selection=16 padded_records=9 three_padded_records=12 \
+    nuls_in_a_row=7 a_text_attribute=4 a_hidden_variable=14; do
+    grows "dumps::dump_of_${row%=*}" "${row#*=}"
+    grows "dumps::header_and_selection_of_${row%=*}" "${row#*=}"
+done
+grows dumps::header_of_names_and_strings 17
+for row in text_of_three_shorts=17 text_of_forty_shorts=21 text_of_names_and_attributes=34 text_of_rows_of_characters=54 \
+    declarations_of_rows_of_characters=46 text_of_numbers_of_cdf5=52 text_with_a_fault_in_its_last_statement=36 \
+    text_with_an_array_too_large=18; do
+    grows "parsed::${row%=*}" "${row#*=}"
+done
+for row in one_variable=16 forty_shorts=20 rank_three=34 three_padded_records=33 names_and_strings=41; do
+    grows "generated::${row%=*}_generated" "${row#*=}"
+    grows "generated::${row%=*}_prepared" "${row#*=}"
+done
+grows generated::text_read_in_three_parts 3
+printf '%s\n' "${names[@]}" | sort >"$work/want/stdout"
+run tests_of_the_crate
+verdict each_test_has_its_growths 0
+
+# The programs.
+dumps dump_of_note note
+dumps dump_of_stations stations
+dumps dump_of_counters counters
+dumps dump_of_all_that_is_named stations -n stations -l 80 -v temperature,time,station_name
+{ sed '/^data:$/,$d' "$samples/counters.cdl" && echo '}'; } >"$work/want/stdout"
+endures head_of_counters 0 "ncdump: $samples/counters.nc" "$ncdump" -h "$samples/counters.nc"
+stderr 'usage: ncdump [-h] [-c] [-v names] [-n name] [-l width] file\n'
+endures word_that_is_no_option 1 ncdump: "$ncdump" -x
+stderr 'ncdump: none.nc: cannot open\n'
+endures file_that_is_not_there 1 'ncdump: none.nc' "$ncdump" none.nc
+generates file_of_note note
+generates file_of_stations stations -k nc6
+generates file_of_counters counters -k '64-bit data'
+makes note.nc "$samples/note.nc"
+endures file_named_after_its_text 0 "ncgen: $samples/note.cdl" "$ncgen" -b "$samples/note.cdl"
+makes made.nc "$samples/note.nc"
+endures file_of_standard_input 0 'ncgen: -' note_on_standard_input
+endures text_without_an_output 0 "ncgen: $samples/note.cdl" "$ncgen" "$samples/note.cdl"
+echo old >"$work/old"
+makes made.nc "$work/old"
+stderr "ncgen: $samples/counters.cdl: line 5: unknown type\n"
+endures text_with_a_fault 1 "ncgen: $samples/counters.cdl" "$ncgen" -o made.nc "$samples/counters.cdl"
+summary

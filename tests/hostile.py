@@ -10,6 +10,8 @@ Each run has 256 MiB of memory and 5 seconds. Of each answer:
 - a refused text leaves no output, and the line that its fault names is one of the text;
 - what is generated is dumped, and generated from that dump again byte for byte;
 - the same text on standard input has the same answer.
+
+The last line is 'N passed, M failed', of seeds with 20 cases each.
 """
 
 import os
@@ -27,7 +29,7 @@ from datasets import Datasets
 BIN = Path(__file__).resolve().parent.parent / "bin"
 MEMORY = 256 << 20
 SECONDS = 5
-# how many cases one dataset gives
+# how many cases one seed's dataset gives
 EACH = 20
 HEADER_FAULT = re.compile(
     rb"not a netCDF classic file|unknown version \d+|header truncated|bad (tag|count|name|type|shape|offset)|floating type"
@@ -182,7 +184,9 @@ class Cases:
                 raise Broken("the text has another fault on standard input")
             return
         again, second = self.text(dump)
-        if again is not None and self.text(again) != (again, second):
+        if again is None:
+            raise Broken(f"the dump of a generated file is refused: {second!r}")
+        if self.text(again) != (again, second):
             raise Broken("what is generated from a dump is not generated again")
 
     def cut_text(self):
@@ -214,16 +218,17 @@ def tried(seed):
 
 
 def main(cases=20_000, seed=1):
-    broken = 0
+    seeds = range(seed, seed + cases // EACH)
+    failed = 0
     with tempfile.TemporaryDirectory() as folder:
         os.environ["HOSTILE"] = folder
         with ProcessPoolExecutor(initializer=limited) as pool:
-            for why in pool.map(tried, range(seed, seed + cases // EACH), chunksize=8):
+            for why in pool.map(tried, seeds, chunksize=8):
                 if why:
-                    broken += 1
+                    failed += 1
                     print(why)
-    print(f"{cases // EACH * EACH} cases, {broken} seeds broken")
-    return 1 if broken else 0
+    print(f"{len(seeds) - failed} passed, {failed} failed")
+    return 1 if failed else 0
 
 
 if __name__ == "__main__":

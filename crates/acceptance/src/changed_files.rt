@@ -5,7 +5,7 @@ use crate::rows::GENERATED_TEXT;
 use crate::runs::dumps;
 use nc_base::FormatFault;
 use ncdump::DumpFault;
-use std::alloc::{AllocError, Global};
+use std::alloc::Global;
 use std::process::Abort;
 use std::test::Fail;
 
@@ -14,52 +14,38 @@ fn dumps_with(
     rt: &impl Abort,
     alloc: Global,
     file: &[u8],
-    place: (usize, &[u8]),
+    (at, bytes): (usize, &[u8]),
     answer: Result<(), DumpFault>,
     text: &[u8],
-) -> Result<(), AllocError> {
-    let (at, bytes) = place;
-    let mut changed = Vec::from_slice(alloc, file)?;
-    for (i, byte) in bytes.iter().enumerate() {
-        if let Some(slot) = changed.as_mut_slice().get_mut(at.saturating_add(i)) {
-            *slot = *byte;
-        }
-    }
+) -> Result<(), Fail> {
+    let changed = files::patched(alloc, file, at, bytes)?;
     dumps(rt, alloc, changed.as_slice(), answer, text)
 }
 
 #[test]
 fn padding_and_vsize_are_not_looked_at(rt: HostRuntime) -> Result<(), Fail> {
-    let padding: (usize, &[u8]) = (21, b"\xff");
-    let vsize: (usize, &[u8]) = (72, b"\xff\xff\xff\xff");
-    for place in [padding, vsize] {
-        dumps_with(
-            &rt,
-            rt.alloc(),
-            files::GENERATED,
-            place,
-            Ok(()),
-            GENERATED_TEXT,
-        )?;
+    const PLACES: [(usize, &[u8]); 2] = [(21, b"\xff"), (72, b"\xff\xff\xff\xff")];
+    for place in PLACES {
+        let file = files::GENERATED;
+        dumps_with(&rt, rt.alloc(), file, place, Ok(()), GENERATED_TEXT)?;
     }
     Ok(())
 }
 
 #[test]
 fn an_offset_with_its_top_bit_set(rt: HostRuntime) -> Result<(), Fail> {
+    const PLACE: (usize, &[u8]) = (76, b"\x80\0\0\0\0\0\0\0");
     let answer = Err(DumpFault::Format(FormatFault::BadOffset));
-    let place: (usize, &[u8]) = (76, b"\x80\0\0\0\0\0\0\0");
-    dumps_with(&rt, rt.alloc(), files::GENERATED_CDF2, place, answer, b"")?;
-    Ok(())
+    dumps_with(&rt, rt.alloc(), files::GENERATED_CDF2, PLACE, answer, b"")
 }
 
 #[test]
 fn the_greatest_offset(rt: HostRuntime) -> Result<(), Fail> {
+    const PLACE: (usize, &[u8]) = (76, b"\x7f\xff\xff\xff\xff\xff\xff\xff");
+    const TEXT: &[u8] =
+        b"netcdf t {\ndimensions:\n\tx = 3 ;\nvariables:\n\tshort s(x) ;\ndata:\n\n s =";
     let answer = Err(DumpFault::DataTruncated { var: 0, value: 0 });
-    let place: (usize, &[u8]) = (76, b"\x7f\xff\xff\xff\xff\xff\xff\xff");
-    let text = b"netcdf t {\ndimensions:\n\tx = 3 ;\nvariables:\n\tshort s(x) ;\ndata:\n\n s =";
-    dumps_with(&rt, rt.alloc(), files::GENERATED_CDF2, place, answer, text)?;
-    Ok(())
+    dumps_with(&rt, rt.alloc(), files::GENERATED_CDF2, PLACE, answer, TEXT)
 }
 
 #[test]
@@ -70,8 +56,17 @@ fn the_padding_after_the_last_value_may_be_missing(rt: HostRuntime) -> Result<()
         &files::GENERATED_CDF5[..134],
         Ok(()),
         GENERATED_TEXT,
-    )?;
-    Ok(())
+    )
+}
+
+/// A header that is cut there is refused, with nothing written.
+fn refuses_cut_header(rt: &impl Abort, alloc: Global, cut: &[u8]) -> Result<(), Fail> {
+    let fault = if cut.len() < 3 {
+        FormatFault::NotNetcdf
+    } else {
+        FormatFault::HeaderTruncated
+    };
+    dumps(rt, alloc, cut, Err(DumpFault::Format(fault)), b"")
 }
 
 /// Every prefix of the header is refused, with nothing written.
@@ -80,14 +75,9 @@ fn refuses_cut_headers(
     alloc: Global,
     file: &[u8],
     header_len: usize,
-) -> Result<(), AllocError> {
+) -> Result<(), Fail> {
     for len in 0..header_len.min(file.len()) {
-        let fault = if len < 3 {
-            FormatFault::NotNetcdf
-        } else {
-            FormatFault::HeaderTruncated
-        };
-        dumps(rt, alloc, &file[..len], Err(DumpFault::Format(fault)), b"")?;
+        refuses_cut_header(rt, alloc, &file[..len])?;
     }
     Ok(())
 }
@@ -95,13 +85,25 @@ fn refuses_cut_headers(
 #[test]
 fn cut_headers(rt: HostRuntime) -> Result<(), Fail> {
     refuses_cut_headers(&rt, rt.alloc(), files::RECORD_BYTES, 80)?;
-    refuses_cut_headers(&rt, rt.alloc(), files::PADDED_RECORDS, 116)?;
-    Ok(())
+    refuses_cut_headers(&rt, rt.alloc(), files::PADDED_RECORDS, 116)
+}
+
+/// The dump of the first `len` bytes of records of one byte ends at this value.
+fn cut_records(
+    rt: &impl Abort,
+    alloc: Global,
+    len: usize,
+    value: u128,
+    text: &[u8],
+) -> Result<(), Fail> {
+    let answer = Err(DumpFault::DataTruncated { var: 0, value });
+    let file = &files::RECORD_BYTES[..len.min(files::RECORD_BYTES.len())];
+    dumps(rt, alloc, file, answer, text)
 }
 
 #[test]
 fn cut_records_of_one_byte(rt: HostRuntime) -> Result<(), Fail> {
-    let rows: [(usize, u128, &[u8]); 3] = [
+    const ROWS: [(usize, u128, &[u8]); 3] = [
         (
             80,
             0,
@@ -118,10 +120,8 @@ fn cut_records_of_one_byte(rt: HostRuntime) -> Result<(), Fail> {
             b"netcdf t {\ndimensions:\n\tt = UNLIMITED ; // (3 currently)\nvariables:\n\tbyte b(t) ;\ndata:\n\n b = 1, 2",
         ),
     ];
-    for (len, value, text) in rows {
-        let answer = Err(DumpFault::DataTruncated { var: 0, value });
-        let file = &files::RECORD_BYTES[..len.min(files::RECORD_BYTES.len())];
-        dumps(&rt, rt.alloc(), file, answer, text)?;
+    for (len, value, text) in ROWS {
+        cut_records(&rt, rt.alloc(), len, value, text)?;
     }
     Ok(())
 }

@@ -1,7 +1,10 @@
 //! Chunks of a walk: whole values, of one slab after the other, up to the first missing one.
 
-use nc_file::{DripSource, FailWhen, read_header};
-use nc_walk::{Walk, WalkFault, laws};
+use crate::reading::{ends, gives, header_through, walk_over};
+use nc_file::{DripSource, FailWhen};
+use nc_walk::{WalkFault, laws};
+use std::alloc::Global;
+use std::process::Abort;
 use std::test::Fail;
 
 /// `short s(x)`, x = 3, with the values 1, 2 and 3 after 80 bytes of header.
@@ -35,19 +38,22 @@ const THREE_RECORDS: &[u8] = b"CDF\x01\0\0\0\x03\
     \x02\0\0\0\0\x05\0\0\
     \x03\0\0\0\0\x06\0\0";
 
+/// The law on the bytes of values is called for its contract alone.
+#[test]
+fn law_of_stored_values(_rt: HostRuntime) {
+    laws::values_are_read();
+}
+
 #[test]
 fn whole_values_before_a_missing_one(rt: HostRuntime) -> Result<(), Fail> {
-    laws::values_are_read();
     let mut buf = [0; 16];
     let mut source = DripSource::new(&THREE_SHORTS[..85], 3, FailWhen::Never);
-    let header = read_header(rt.alloc(), &mut source, &mut buf)?;
-    assert!(rt; header.sound() && header.vars.len() == 1);
-    let mut walk = Walk::new(&header, 0, 0, &mut buf);
-    let first = walk.next(&mut source);
-    assert!(rt; matches!(first, Ok(Some(chunk)) if chunk == b"\0\x01\0\x02".as_slice()));
+    let header = header_through(&rt, rt.alloc(), &mut source, &mut buf)?;
+    let mut walk = walk_over(&rt, &header, 0, 0, &mut buf);
+    gives(&rt, &mut walk, &mut source, b"\0\x01\0\x02");
     let missing = Err(WalkFault::DataTruncated(2));
-    assert!(rt; walk.next(&mut source) == missing);
-    assert!(rt; walk.next(&mut source) == missing);
+    ends(&rt, &mut walk, &mut source, missing);
+    ends(&rt, &mut walk, &mut source, missing);
     Ok(())
 }
 
@@ -55,45 +61,41 @@ fn whole_values_before_a_missing_one(rt: HostRuntime) -> Result<(), Fail> {
 fn none_after_the_last_value(rt: HostRuntime) -> Result<(), Fail> {
     let mut buf = [0; 16];
     let mut source = DripSource::new(THREE_SHORTS, 9, FailWhen::Never);
-    let header = read_header(rt.alloc(), &mut source, &mut buf)?;
-    assert!(rt; header.sound() && header.vars.len() == 1);
-    let mut walk = Walk::new(&header, 0, 0, &mut buf);
-    let all = walk.next(&mut source);
-    assert!(rt; matches!(all, Ok(Some(chunk)) if chunk == b"\0\x01\0\x02\0\x03".as_slice()));
-    assert!(rt; matches!(walk.next(&mut source), Ok(None)));
-    assert!(rt; matches!(walk.next(&mut source), Ok(None)));
+    let header = header_through(&rt, rt.alloc(), &mut source, &mut buf)?;
+    let mut walk = walk_over(&rt, &header, 0, 0, &mut buf);
+    gives(&rt, &mut walk, &mut source, b"\0\x01\0\x02\0\x03");
+    ends(&rt, &mut walk, &mut source, Ok(()));
+    ends(&rt, &mut walk, &mut source, Ok(()));
+    Ok(())
+}
+
+/// Fails unless three records of the variable in place `v` come in one chunk, with these bytes.
+fn gives_records(rt: &impl Abort, alloc: Global, v: usize, bytes: &[u8]) -> Result<(), Fail> {
+    let mut buf = [0; 16];
+    let mut source = DripSource::new(THREE_RECORDS, 3, FailWhen::Never);
+    let header = header_through(rt, alloc, &mut source, &mut buf)?;
+    let mut walk = walk_over(rt, &header, v, 3, &mut buf);
+    gives(rt, &mut walk, &mut source, bytes);
+    ends(rt, &mut walk, &mut source, Ok(()));
     Ok(())
 }
 
 #[test]
 fn records_in_one_chunk(rt: HostRuntime) -> Result<(), Fail> {
-    let mut buf = [0; 16];
-    let mut source = DripSource::new(THREE_RECORDS, 3, FailWhen::Never);
-    let header = read_header(rt.alloc(), &mut source, &mut buf)?;
-    assert!(rt; header.sound() && header.vars.len() == 2);
-    let mut bytes = Walk::new(&header, 0, 3, &mut buf);
-    let all = bytes.next(&mut source);
-    assert!(rt; matches!(all, Ok(Some(chunk)) if chunk == b"\x01\x02\x03".as_slice()));
-    assert!(rt; matches!(bytes.next(&mut source), Ok(None)));
-    let mut shorts = Walk::new(&header, 1, 3, &mut buf);
-    let all = shorts.next(&mut source);
-    assert!(rt; matches!(all, Ok(Some(chunk)) if chunk == b"\0\x04\0\x05\0\x06".as_slice()));
-    assert!(rt; matches!(shorts.next(&mut source), Ok(None)));
-    Ok(())
+    gives_records(&rt, rt.alloc(), 0, b"\x01\x02\x03")?;
+    gives_records(&rt, rt.alloc(), 1, b"\0\x04\0\x05\0\x06")
 }
 
 #[test]
 fn whole_records_before_a_missing_one(rt: HostRuntime) -> Result<(), Fail> {
     let mut buf = [0; 16];
     let mut source = DripSource::new(&THREE_RECORDS[..137], 3, FailWhen::Never);
-    let header = read_header(rt.alloc(), &mut source, &mut buf)?;
-    assert!(rt; header.sound() && header.vars.len() == 2);
-    let mut walk = Walk::new(&header, 1, 3, &mut buf);
-    let first = walk.next(&mut source);
-    assert!(rt; matches!(first, Ok(Some(chunk)) if chunk == b"\0\x04\0\x05".as_slice()));
+    let header = header_through(&rt, rt.alloc(), &mut source, &mut buf)?;
+    let mut walk = walk_over(&rt, &header, 1, 3, &mut buf);
+    gives(&rt, &mut walk, &mut source, b"\0\x04\0\x05");
     let missing = Err(WalkFault::DataTruncated(2));
-    assert!(rt; walk.next(&mut source) == missing);
-    assert!(rt; walk.next(&mut source) == missing);
+    ends(&rt, &mut walk, &mut source, missing);
+    ends(&rt, &mut walk, &mut source, missing);
     Ok(())
 }
 
@@ -101,10 +103,9 @@ fn whole_records_before_a_missing_one(rt: HostRuntime) -> Result<(), Fail> {
 fn failure_in_second_record(rt: HostRuntime) -> Result<(), Fail> {
     let mut buf = [0; 16];
     let mut source = DripSource::new(THREE_RECORDS, 3, FailWhen::From(128));
-    let header = read_header(rt.alloc(), &mut source, &mut buf)?;
-    assert!(rt; header.sound() && header.vars.len() == 2);
-    let mut walk = Walk::new(&header, 1, 3, &mut buf);
-    assert!(rt; walk.next(&mut source) == Err(WalkFault::ReadFailed));
-    assert!(rt; walk.next(&mut source) == Err(WalkFault::ReadFailed));
+    let header = header_through(&rt, rt.alloc(), &mut source, &mut buf)?;
+    let mut walk = walk_over(&rt, &header, 1, 3, &mut buf);
+    ends(&rt, &mut walk, &mut source, Err(WalkFault::ReadFailed));
+    ends(&rt, &mut walk, &mut source, Err(WalkFault::ReadFailed));
     Ok(())
 }

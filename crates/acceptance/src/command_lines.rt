@@ -22,18 +22,28 @@ struct Run<'a> {
     line: &'a [u8],
 }
 
-/// Runs the program.
-fn runs(rt: &impl Abort, alloc: Global, run: Run<'_>) {
+/// The status of a run where the file `t.nc` has these bytes and is the only one.
+fn status_of(
+    alloc: Global,
+    bytes: &[u8],
+    words: &[&str],
+    out: &mut SliceSink<'_>,
+    err: &mut SliceSink<'_>,
+) -> u8 {
     let listed = [ListedFile {
         path: "t.nc",
-        bytes: run.bytes,
+        bytes,
     }];
+    run_with(&Listed::new(&listed), alloc, words, out, err)
+}
+
+/// Runs the program.
+fn runs(rt: &impl Abort, alloc: Global, run: Run<'_>) {
     let mut text_space = [0; 512];
     let mut line_space = [0; 128];
     let mut out = SliceSink::new(&mut text_space, 7);
     let mut err = SliceSink::new(&mut line_space, 5);
-    let opener = Listed::new(&listed);
-    let status = run_with(&opener, alloc, run.words, &mut out, &mut err);
+    let status = status_of(alloc, run.bytes, run.words, &mut out, &mut err);
     assert!(rt; status == run.status);
     assert!(rt; out.taken() == run.text);
     assert!(rt; err.taken() == run.line);
@@ -72,21 +82,17 @@ fn whole_file(rt: HostRuntime) {
 #[test]
 fn chosen_variable(rt: HostRuntime) {
     let words = ["ncdump", "-v", "b", "t.nc"];
-    writes(
-        &rt,
-        rt.alloc(),
-        files::THREE_VARIABLES,
-        &words,
-        SELECTION_TEXT,
-    );
+    let file = files::THREE_VARIABLES;
+    writes(&rt, rt.alloc(), file, &words, SELECTION_TEXT);
 }
 
 #[test]
 fn chosen_variable_that_is_no_coordinate(rt: HostRuntime) {
-    for words in [
-        ["ncdump", "-c", "-v", "y", "t.nc"].as_slice(),
-        ["ncdump", "t.nc", "-cv", "y"].as_slice(),
-    ] {
+    const ROWS: [&[&str]; 2] = [
+        &["ncdump", "-c", "-v", "y", "t.nc"],
+        &["ncdump", "t.nc", "-cv", "y"],
+    ];
+    for words in ROWS {
         writes(&rt, rt.alloc(), files::COORDINATES, words, COORDINATES_TEXT);
     }
 }
@@ -103,7 +109,7 @@ const NO_VALUES_TEXT: &[u8] =
 
 #[test]
 fn names_and_widths(rt: HostRuntime) {
-    let rows: [(&[&str], &[u8]); 8] = [
+    const ROWS: [(&[&str], &[u8]); 8] = [
         (&["ncdump", "-n", "other", "t.nc"], WIDE_TEXT),
         (
             &["ncdump", "-v", "v", "-n", "other", "-l", "20", "t.nc"],
@@ -130,22 +136,23 @@ fn names_and_widths(rt: HostRuntime) {
         ),
         (&["ncdump", "-nother", "-v", "v,v", "--", "t.nc"], WIDE_TEXT),
     ];
-    for (words, text) in rows {
+    for (words, text) in ROWS {
         writes(&rt, rt.alloc(), files::LONG_LINE, words, text);
     }
 }
 
 #[test]
 fn head_alone(rt: HostRuntime) {
-    let text = b"netcdf t {\ndimensions:\n\tx = 3 ;\nvariables:\n\tint v(x) ;\n}\n";
-    for words in [["ncdump", "-h", "t.nc"], ["ncdump", "t.nc", "-h"]] {
-        writes(&rt, rt.alloc(), files::LONG_LINE, &words, text);
+    const TEXT: &[u8] = b"netcdf t {\ndimensions:\n\tx = 3 ;\nvariables:\n\tint v(x) ;\n}\n";
+    const ROWS: [&[&str]; 2] = [&["ncdump", "-h", "t.nc"], &["ncdump", "t.nc", "-h"]];
+    for words in ROWS {
+        writes(&rt, rt.alloc(), files::LONG_LINE, words, TEXT);
     }
 }
 
 #[test]
 fn usage_faults(rt: HostRuntime) {
-    let rows: [&[&str]; 16] = [
+    const ROWS: [&[&str]; 16] = [
         &[],
         &["ncdump"],
         &["ncdump", "-h"],
@@ -163,14 +170,20 @@ fn usage_faults(rt: HostRuntime) {
         &["ncdump", "-k", "t.nc"],
         &["ncdump", "-v"],
     ];
-    for words in rows {
+    for words in ROWS {
         refuses(&rt, rt.alloc(), files::GENERATED, words, USAGE);
     }
 }
 
+/// A run with this width is answered with the usage.
+fn refuses_width(rt: &impl Abort, alloc: Global, width: &str) {
+    let words = ["ncdump", "-l", width, "t.nc"];
+    refuses(rt, alloc, files::GENERATED, &words, USAGE);
+}
+
 #[test]
 fn widths_that_are_none(rt: HostRuntime) {
-    for width in [
+    const WIDTHS: [&str; 10] = [
         "19",
         "1001",
         "20x",
@@ -181,36 +194,39 @@ fn widths_that_are_none(rt: HostRuntime) {
         " 20",
         "2_0",
         "18446744073709551696",
-    ] {
-        let words = ["ncdump", "-l", width, "t.nc"];
-        refuses(&rt, rt.alloc(), files::GENERATED, &words, USAGE);
+    ];
+    for width in WIDTHS {
+        refuses_width(&rt, rt.alloc(), width);
     }
 }
 
 #[test]
 fn names_that_no_variable_has(rt: HostRuntime) {
-    let line = b"ncdump: t.nc: no such variable: item 1 of -v\n";
-    let words = ["ncdump", "-v", "s,nope", "t.nc"];
-    refuses(&rt, rt.alloc(), files::GENERATED, &words, line);
+    const LINE: &[u8] = b"ncdump: t.nc: no such variable: item 1 of -v\n";
+    let unknown = ["ncdump", "-v", "s,nope", "t.nc"];
+    refuses(&rt, rt.alloc(), files::GENERATED, &unknown, LINE);
     let empty = ["ncdump", "-v", "a,,b", "t.nc"];
-    refuses(&rt, rt.alloc(), files::UNSIGNED_FILLS, &empty, line);
+    refuses(&rt, rt.alloc(), files::UNSIGNED_FILLS, &empty, LINE);
 }
 
 #[test]
 fn path_that_is_not_there(rt: HostRuntime) {
+    const LINE: &[u8] = b"ncdump: u.nc: cannot open\n";
     let words = ["ncdump", "u.nc"];
-    let line = b"ncdump: u.nc: cannot open\n";
-    refuses(&rt, rt.alloc(), files::GENERATED, &words, line);
+    refuses(&rt, rt.alloc(), files::GENERATED, &words, LINE);
 }
 
 #[test]
 fn truncated_data(rt: HostRuntime) {
+    const TEXT: &[u8] =
+        b"netcdf t {\ndimensions:\n\tx = 3 ;\nvariables:\n\tshort s(x) ;\ndata:\n\n s = 1, _";
+    const LINE: &[u8] = b"ncdump: t.nc: variable 0: data truncated at value 2\n";
     let run = Run {
         bytes: &files::GENERATED[..84],
         words: &["ncdump", "t.nc"],
         status: 1,
-        text: b"netcdf t {\ndimensions:\n\tx = 3 ;\nvariables:\n\tshort s(x) ;\ndata:\n\n s = 1, _",
-        line: b"ncdump: t.nc: variable 0: data truncated at value 2\n",
+        text: TEXT,
+        line: LINE,
     };
     runs(&rt, rt.alloc(), run);
 }
@@ -226,27 +242,28 @@ fn every_number_of_words(rt: HostRuntime) -> Result<(), Fail> {
     Ok(())
 }
 
+/// A run with these names chosen, on a file with a long line.
+fn writes_chosen(rt: &impl Abort, alloc: Global, names: &str) {
+    let words = ["ncdump", "-nother", "-v", names, "t.nc"];
+    writes(rt, alloc, files::LONG_LINE, &words, WIDE_TEXT);
+}
+
 /// The same of the names of variables.
 #[test]
 fn every_number_of_names(rt: HostRuntime) -> Result<(), Fail> {
     let mut names = String::from_str(rt.alloc(), "v")?;
     for _ in 0..1100 {
         names.push_str(",v")?;
-        let words = ["ncdump", "-nother", "-v", names.as_str(), "t.nc"];
-        writes(&rt, rt.alloc(), files::LONG_LINE, &words, WIDE_TEXT);
+        writes_chosen(&rt, rt.alloc(), names.as_str());
     }
     Ok(())
 }
 
 /// A run of the program on the smallest file, with room for these numbers of bytes on standard output and standard error.
 fn runs_into(rt: &impl Abort, alloc: Global, words: &[&str], out: &mut [u8], err: &mut [u8]) {
-    let listed = [ListedFile {
-        path: "t.nc",
-        bytes: files::SMALLEST,
-    }];
     let mut out = SliceSink::new(out, 3);
     let mut err = SliceSink::new(err, 5);
-    assert!(rt; run_with(&Listed::new(&listed), alloc, words, &mut out, &mut err) == 1);
+    assert!(rt; status_of(alloc, files::SMALLEST, words, &mut out, &mut err) == 1);
 }
 
 #[test]
@@ -265,28 +282,29 @@ fn failing_standard_output(rt: HostRuntime) {
     assert!(rt; err == *b"ncdump: t.nc: write failed\n");
 }
 
+/// Fails unless the head of the file with coordinates was written, or, where memory was refused, nothing but a line that says so.
+fn has_head_or_line(rt: &impl Abort, status: u8, out: &[u8], err: &[u8]) {
+    const HEAD: &[u8] =
+        b"netcdf t {\ndimensions:\n\tx = 2 ;\nvariables:\n\tint x(x) ;\n\tint y(x) ;\n}\n";
+    const OF_WORDS: &[u8] = b"ncdump: out of memory\n";
+    const OF_FILE: &[u8] = b"ncdump: t.nc: out of memory\n";
+    if status == 0 {
+        assert!(rt; out == HEAD);
+        assert!(rt; err.is_empty());
+    } else {
+        assert!(rt; out.is_empty());
+        assert!(rt; err == OF_WORDS || err == OF_FILE);
+    }
+}
+
 /// With ample memory a run writes the head. Where memory is refused, it writes nothing but a line that says so.
 #[test]
 fn memory_is_ample_or_refused(rt: HostRuntime) {
-    let listed = [ListedFile {
-        path: "t.nc",
-        bytes: files::COORDINATES,
-    }];
+    const WORDS: &[&str] = &["ncdump", "-v", "x,y", "-n", "t", "-h", "t.nc"];
     let mut text_space = [0; 128];
     let mut line_space = [0; 64];
     let mut out = SliceSink::new(&mut text_space, 7);
     let mut err = SliceSink::new(&mut line_space, 5);
-    let words = ["ncdump", "-v", "x,y", "-n", "t", "-h", "t.nc"];
-    let opener = Listed::new(&listed);
-    if run_with(&opener, rt.alloc(), words.as_slice(), &mut out, &mut err) == 0 {
-        let head =
-            b"netcdf t {\ndimensions:\n\tx = 2 ;\nvariables:\n\tint x(x) ;\n\tint y(x) ;\n}\n";
-        assert!(rt; out.taken() == head.as_slice());
-        assert!(rt; err.taken().is_empty());
-    } else {
-        let of_words = b"ncdump: out of memory\n".as_slice();
-        let of_file = b"ncdump: t.nc: out of memory\n".as_slice();
-        assert!(rt; out.taken().is_empty());
-        assert!(rt; err.taken() == of_words || err.taken() == of_file);
-    }
+    let status = status_of(rt.alloc(), files::COORDINATES, WORDS, &mut out, &mut err);
+    has_head_or_line(&rt, status, out.taken(), err.taken());
 }

@@ -4,12 +4,15 @@
 ghost use Rattle.std.specs.Prelude.{false, replicate};
 
 use crate::files;
+use crate::reading::{ends, gives, header_through, walk_over};
 use crate::rows::GENERATED_TEXT;
 use crate::runs::{dumps_through, options};
 use nc_base::FormatFault;
-use nc_file::{HeadFault, MemSource, Source, SourceFailed, read_header};
-use nc_walk::{Walk, WalkFault};
-use ncdump::DumpFault;
+use nc_file::{HeadFault, MemSource, Source, SourceFailed};
+use nc_walk::WalkFault;
+use ncdump::{DumpFault, DumpOptions};
+use std::alloc::Global;
+use std::process::Abort;
 use std::test::Fail;
 
 /// A source of these bytes, which are said to be `len`.
@@ -65,52 +68,55 @@ fn answer_to(len: usize) -> (Result<(), DumpFault>, usize) {
     }
 }
 
+/// Dumps the first bytes of the file with three shorts, through a buffer of so many bytes.
+fn dumps_cut(rt: &impl Abort, alloc: Global, options: &DumpOptions, len: usize, buffer_len: usize) {
+    let (answer, written) = answer_to(len);
+    assert!(rt; written <= GENERATED_TEXT.len());
+    let text = &GENERATED_TEXT[..written];
+    let mut source = cut(files::GENERATED, len);
+    dumps_through(rt, alloc, &mut source, options, buffer_len, answer, text);
+}
+
 #[test]
 fn dumps_of_cut_sources(rt: HostRuntime) -> Result<(), Fail> {
     let all = options(rt.alloc(), false)?;
     for len in 0..files::GENERATED.len() {
-        let (answer, written) = answer_to(len);
-        assert!(rt; written <= GENERATED_TEXT.len());
-        let text = &GENERATED_TEXT[..written];
-        let mut few = cut(files::GENERATED, len);
-        dumps_through(&rt, rt.alloc(), &mut few, &all, &mut [0; 16], answer, text);
-        let mut many = cut(files::GENERATED, len);
-        dumps_through(
-            &rt,
-            rt.alloc(),
-            &mut many,
-            &all,
-            &mut [0; 4096],
-            answer,
-            text,
-        );
+        dumps_cut(&rt, rt.alloc(), &all, len, 16);
+        dumps_cut(&rt, rt.alloc(), &all, len, 4096);
     }
     Ok(())
 }
 
+/// Fails unless the header of the first bytes of the file with three shorts has this fault.
+fn refuses_cut(rt: &impl Abort, alloc: Global, len: usize, fault: FormatFault) {
+    let mut source = cut(files::GENERATED, len);
+    let answer = header_through(rt, alloc, &mut source, &mut [0; 16]);
+    assert!(rt; matches!(answer, Err(found) if found == HeadFault::Format(fault)));
+}
+
 #[test]
 fn headers_of_cut_sources(rt: HostRuntime) {
-    for len in 0..80 {
-        let fault = if len < 3 {
-            FormatFault::NotNetcdf
-        } else {
-            FormatFault::HeaderTruncated
-        };
-        let mut source = cut(files::GENERATED, len);
-        let answer = read_header(rt.alloc(), &mut source, &mut [0; 16]);
-        assert!(rt; matches!(answer, Err(found) if found == HeadFault::Format(fault)));
+    for len in 0..3 {
+        refuses_cut(&rt, rt.alloc(), len, FormatFault::NotNetcdf);
+    }
+    for len in 3..80 {
+        refuses_cut(&rt, rt.alloc(), len, FormatFault::HeaderTruncated);
     }
 }
 
 #[test]
 fn walks_over_cut_sources(rt: HostRuntime) -> Result<(), Fail> {
     let mut buf = [0; 16];
-    let header = read_header(rt.alloc(), &mut MemSource::new(files::GENERATED), &mut buf)?;
-    assert!(rt; header.sound() && header.vars.len() == 1);
+    let mut whole = MemSource::new(files::GENERATED);
+    let header = header_through(&rt, rt.alloc(), &mut whole, &mut buf)?;
     let mut source = cut(files::GENERATED, 83);
-    let mut walk = Walk::new(&header, 0, 0, &mut buf);
-    let first = walk.next(&mut source);
-    assert!(rt; matches!(first, Ok(Some(chunk)) if chunk == b"\0\x01".as_slice()));
-    assert!(rt; walk.next(&mut source) == Err(WalkFault::DataTruncated(1)));
+    let mut walk = walk_over(&rt, &header, 0, 0, &mut buf);
+    gives(&rt, &mut walk, &mut source, b"\0\x01");
+    ends(
+        &rt,
+        &mut walk,
+        &mut source,
+        Err(WalkFault::DataTruncated(1)),
+    );
     Ok(())
 }

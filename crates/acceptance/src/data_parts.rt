@@ -6,10 +6,11 @@ ghost use Rattle.nc_base.specs.Headers.{IsSound};
 ghost use Rattle.nc_base.specs.OwedValues.{AreListed, IsListed};
 
 use crate::files;
+use crate::reading::header_through;
 use nc_base::{Header, NumRecs, Sequence, value_count};
-use nc_file::{MemSource, SliceSink, WriteFailed, read_header};
+use nc_file::{MemSource, SliceSink};
 use nc_walk::write_data;
-use std::alloc::Global;
+use std::alloc::{AllocError, Global};
 use std::process::Abort;
 use std::test::Fail;
 
@@ -57,8 +58,47 @@ fn are_listed(header: &Header, arrays: &[Sequence<u8>]) -> bool
     true
 }
 
-/// Writes the data part of these arrays under the header of a file to sinks that take up to all of its bytes, one and three
-/// at a time, and asserts that each has taken what fits of these bytes.
+/// These bytes, as arrays.
+fn arrays_of(alloc: Global, listed: &[&[u8]]) -> Result<Vec<Sequence<u8>>, AllocError> {
+    let mut arrays = Vec::new(alloc);
+    for bytes in listed {
+        arrays.push(Sequence::from_vec(Vec::from_slice(alloc, *bytes)?))?;
+    }
+    Ok(arrays)
+}
+
+/// Writes the data part of these arrays under the header, and says whether all of it was written.
+fn is_written(
+    rt: &impl Abort,
+    header: &Header,
+    arrays: &[Sequence<u8>],
+    sink: &mut SliceSink<'_>,
+) -> bool {
+    assert!(rt; header.sound());
+    assert!(rt; are_listed(header, arrays));
+    write_data(sink, header, arrays).is_ok()
+}
+
+/// The same to a sink that takes up to `capacity` bytes, so many at a time, and asserts that it has taken what fits of these
+/// bytes.
+fn fills_sink(
+    rt: &impl Abort,
+    alloc: Global,
+    header: &Header,
+    arrays: &[Sequence<u8>],
+    data: &[u8],
+    (capacity, step): (usize, usize),
+) -> Result<(), Fail> {
+    assert!(rt; 1 <= step && capacity <= data.len());
+    let mut into = Vec::from_elem(alloc, 0, capacity)?;
+    let mut sink = SliceSink::new(into.as_mut_slice(), step);
+    let is_whole = is_written(rt, header, arrays, &mut sink);
+    assert!(rt; sink.taken() == &data[..capacity]);
+    assert!(rt; is_whole == (capacity == data.len()));
+    Ok(())
+}
+
+/// The same to sinks that take up to all of the bytes, one and three at a time.
 fn writes(
     rt: &impl Abort,
     alloc: Global,
@@ -66,108 +106,104 @@ fn writes(
     listed: &[&[u8]],
     data: &[u8],
 ) -> Result<(), Fail> {
-    let header = read_header(alloc, &mut MemSource::new(file), &mut [0; 16])?;
-    let mut arrays = Vec::new(alloc);
-    for bytes in listed {
-        arrays.push(Sequence::from_vec(Vec::from_slice(alloc, *bytes)?))?;
-    }
-    assert!(rt; header.sound());
-    assert!(rt; are_listed(&header, arrays.as_slice()));
+    let mut source = MemSource::new(file);
+    let header = header_through(rt, alloc, &mut source, &mut [0; 16])?;
+    let arrays = arrays_of(alloc, listed)?;
     for capacity in 0..=data.len() {
-        for step in [1, 3] {
-            let mut into = Vec::from_elem(alloc, 0, capacity)?;
-            let mut sink = SliceSink::new(into.as_mut_slice(), step);
-            let answer = write_data(&mut sink, &header, arrays.as_slice());
-            assert!(rt; sink.taken() == &data[..capacity]);
-            assert!(rt; answer.is_ok() == (capacity == data.len()));
-        }
+        fills_sink(rt, alloc, &header, arrays.as_slice(), data, (capacity, 1))?;
+        fills_sink(rt, alloc, &header, arrays.as_slice(), data, (capacity, 3))?;
+    }
+    Ok(())
+}
+
+/// A file with the header of a data part, the bytes that are listed for each variable, and the bytes of the part.
+type Part = (&'static [u8], &'static [&'static [u8]], &'static [u8]);
+
+/// Writes each of the data parts.
+fn write_all(rt: &impl Abort, alloc: Global, parts: &[Part]) -> Result<(), Fail> {
+    for (file, listed, data) in parts {
+        writes(rt, alloc, *file, *listed, *data)?;
     }
     Ok(())
 }
 
 #[test]
 fn generated_file(rt: HostRuntime) -> Result<(), Fail> {
-    let data = b"\0\x01\x80\x01\0\x03\x80\x01";
-    for file in [
-        files::GENERATED,
-        files::GENERATED_CDF2,
-        files::GENERATED_CDF5,
-    ] {
-        writes(&rt, rt.alloc(), file, &[b"\0\x01\x80\x01\0\x03"], data)?;
-    }
-    Ok(())
+    const LISTED: &[&[u8]] = &[b"\0\x01\x80\x01\0\x03"];
+    const DATA: &[u8] = b"\0\x01\x80\x01\0\x03\x80\x01";
+    const PARTS: &[Part] = &[
+        (files::GENERATED, LISTED, DATA),
+        (files::GENERATED_CDF2, LISTED, DATA),
+        (files::GENERATED_CDF5, LISTED, DATA),
+    ];
+    write_all(&rt, rt.alloc(), PARTS)
 }
 
 #[test]
 fn unpadded_records(rt: HostRuntime) -> Result<(), Fail> {
-    let file = files::RECORD_BYTES;
-    writes(&rt, rt.alloc(), file, &[b"\x01\x02\x03"], b"\x01\x02\x03")
-}
-
-#[test]
-fn padding_returns(rt: HostRuntime) -> Result<(), Fail> {
-    let data =
-        b"\x01\x81\x81\x81\0\x04\x80\x01\x02\x81\x81\x81\0\x05\x80\x01\x03\x81\x81\x81\0\x06\x80\x01";
-    let arrays: [&[u8]; 2] = [b"\x01\x02\x03", b"\0\x04\0\x05\0\x06"];
-    writes(&rt, rt.alloc(), files::PADDED_RECORDS, &arrays, data)
+    const DATA: &[u8] = b"\x01\x02\x03";
+    writes(&rt, rt.alloc(), files::RECORD_BYTES, &[DATA], DATA)
 }
 
 #[test]
 fn records_off_boundary(rt: HostRuntime) -> Result<(), Fail> {
-    let data = b"\0\x01\0\x02\0\x03\0\x04\0\x05\0\x06\0\x07\0\x08\0\x09";
-    writes(
-        &rt,
-        rt.alloc(),
-        files::RECORDS_OFF_BOUNDARY,
-        &[data.as_slice()],
-        data,
-    )
-}
-
-#[test]
-fn blocks_before_records(rt: HostRuntime) -> Result<(), Fail> {
-    let a = b"\0\0\0\x0a\0\0\0\x14".as_slice();
-    let b =
-        b"\0\0\0\x01\0\0\0\x02\0\0\0\x03\0\0\0\x04\0\0\0\x05\0\0\0\x06\0\0\0\x07\0\0\0\x08".as_slice();
-    let c = b"\0\0\0\x07".as_slice();
-    let file = files::THREE_VARIABLES;
-    writes(&rt, rt.alloc(), file, &[a, b, c], &file[180..])
+    const DATA: &[u8] = b"\0\x01\0\x02\0\x03\0\x04\0\x05\0\x06\0\x07\0\x08\0\x09";
+    writes(&rt, rt.alloc(), files::RECORDS_OFF_BOUNDARY, &[DATA], DATA)
 }
 
 #[test]
 fn no_records(rt: HostRuntime) -> Result<(), Fail> {
-    writes(&rt, rt.alloc(), files::NO_RECORDS, &[b"".as_slice()], b"")
+    writes(&rt, rt.alloc(), files::NO_RECORDS, &[b""], b"")
+}
+
+#[test]
+fn padding_returns(rt: HostRuntime) -> Result<(), Fail> {
+    const LISTED: &[&[u8]] = &[b"\x01\x02\x03", b"\0\x04\0\x05\0\x06"];
+    const DATA: &[u8] =
+        b"\x01\x81\x81\x81\0\x04\x80\x01\x02\x81\x81\x81\0\x05\x80\x01\x03\x81\x81\x81\0\x06\x80\x01";
+    writes(&rt, rt.alloc(), files::PADDED_RECORDS, LISTED, DATA)
+}
+
+#[test]
+fn blocks_before_records(rt: HostRuntime) -> Result<(), Fail> {
+    const A: &[u8] = b"\0\0\0\x0a\0\0\0\x14";
+    const B: &[u8] =
+        b"\0\0\0\x01\0\0\0\x02\0\0\0\x03\0\0\0\x04\0\0\0\x05\0\0\0\x06\0\0\0\x07\0\0\0\x08";
+    const C: &[u8] = b"\0\0\0\x07";
+    let file = files::THREE_VARIABLES;
+    writes(&rt, rt.alloc(), file, &[A, B, C], &file[180..])
 }
 
 #[test]
 fn lacking_values_are_filled(rt: HostRuntime) -> Result<(), Fail> {
-    let file = files::GENERATED;
-    let filled = b"\0\x01\x80\x01\x80\x01\x80\x01";
-    writes(&rt, rt.alloc(), file, &[b"\0\x01".as_slice()], filled)?;
-    let file = files::RECORD_BYTES;
-    writes(
-        &rt,
-        rt.alloc(),
-        file,
-        &[b"\x01".as_slice()],
-        b"\x01\x81\x81",
-    )?;
-    let file = files::PADDED_RECORDS;
-    let filled =
-        b"\x01\x81\x81\x81\0\x04\x80\x01\x81\x81\x81\x81\0\x05\x80\x01\x81\x81\x81\x81\x80\x01\x80\x01";
-    let arrays: [&[u8]; 2] = [b"\x01", b"\0\x04\0\x05"];
-    writes(&rt, rt.alloc(), file, &arrays, filled)?;
-    let file = files::RECORDS_OFF_BOUNDARY;
-    let filled = b"\0\x01\0\x02\0\x03\0\x04\x80\x01\x80\x01\x80\x01\x80\x01\x80\x01";
-    writes(&rt, rt.alloc(), file, &[&filled[..8]], filled)?;
+    const PARTS: &[Part] = &[
+        (
+            files::GENERATED,
+            &[b"\0\x01"],
+            b"\0\x01\x80\x01\x80\x01\x80\x01",
+        ),
+        (files::RECORD_BYTES, &[b"\x01"], b"\x01\x81\x81"),
+        (
+            files::PADDED_RECORDS,
+            &[b"\x01", b"\0\x04\0\x05"],
+            b"\x01\x81\x81\x81\0\x04\x80\x01\x81\x81\x81\x81\0\x05\x80\x01\x81\x81\x81\x81\x80\x01\x80\x01",
+        ),
+        (
+            files::RECORDS_OFF_BOUNDARY,
+            &[b"\0\x01\0\x02\0\x03\0\x04"],
+            b"\0\x01\0\x02\0\x03\0\x04\x80\x01\x80\x01\x80\x01\x80\x01\x80\x01",
+        ),
+        (
+            files::MANY_HELD_NULS,
+            &[b"a"],
+            b"a\0\0\0\0\0\0\0\0\0\0\0\0\0\0\0\0\0\0\0",
+        ),
+    ];
+    write_all(&rt, rt.alloc(), PARTS)
+}
+
+#[test]
+fn scalars_without_values_are_filled(rt: HostRuntime) -> Result<(), Fail> {
     let file = files::UNSIGNED_FILLS;
-    writes(&rt, rt.alloc(), file, &[b"".as_slice(), b""], &file[228..])?;
-    let file = files::MANY_HELD_NULS;
-    writes(
-        &rt,
-        rt.alloc(),
-        file,
-        &[b"a".as_slice()],
-        b"a\0\0\0\0\0\0\0\0\0\0\0\0\0\0\0\0\0\0\0",
-    )
+    writes(&rt, rt.alloc(), file, &[b"", b""], &file[228..])
 }

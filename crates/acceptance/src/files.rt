@@ -1,5 +1,18 @@
 //! The files of the tests, byte by byte.
 
+use std::alloc::{AllocError, Global};
+
+/// The file with these bytes in place of its own from an offset on.
+pub fn patched(alloc: Global, file: &[u8], at: usize, patch: &[u8]) -> Result<Vec<u8>, AllocError> {
+    let mut all = Vec::from_slice(alloc, file)?;
+    for (i, byte) in patch.iter().enumerate() {
+        if let Some(place) = all.as_mut_slice().get_mut(at.saturating_add(i)) {
+            *place = *byte;
+        }
+    }
+    Ok(all)
+}
+
 /// CDF-1 without anything: magic, no records, three absent lists.
 pub const SMALLEST: &[u8] = b"CDF\x01\0\0\0\0\
     \0\0\0\0\0\0\0\0\

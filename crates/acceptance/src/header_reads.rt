@@ -1,23 +1,28 @@
 //! Headers read from failing devices, and long ones.
 
-ghost use Rattle.std.specs.Prelude.{◌≤◌, length};
-
 use crate::files;
+use crate::reading::header_through;
 use crate::runs::{choosing, options};
+use nc_base::Header;
 use nc_file::{DripSource, FailWhen, HeadFault, MemSource, read_header};
-use ncdump::{DumpFault, DumpOptions, select};
+use ncdump::{DumpOptions, select};
 use std::alloc::{AllocError, Global};
 use std::process::Abort;
 use std::test::Fail;
 
-/// A failed read is answered at once, whichever it is: the header has as many bytes as there are reads of one byte.
-fn failed_reads(rt: &impl Abort, alloc: Global, bytes: &[u8], header_len: u64, buf: &mut [u8])
-    requires { 16 ≤ length buf.old }
-{
+/// A failed read is answered at once: the nth one, of a byte each.
+fn failed_read(rt: &impl Abort, alloc: Global, bytes: &[u8], n: u64, buffer_len: usize) {
+    let mut space = [0; 4096];
+    assert!(rt; buffer_len <= 4096);
+    let mut source = DripSource::new(bytes, 1, FailWhen::Read(n));
+    let answer = header_through(rt, alloc, &mut source, &mut space[..buffer_len]);
+    assert!(rt; matches!(answer, Err(HeadFault::ReadFailed)));
+}
+
+/// The same whichever read it is: the header has as many bytes as there are reads.
+fn failed_reads(rt: &impl Abort, alloc: Global, bytes: &[u8], header_len: u64, buffer_len: usize) {
     for n in 0..header_len {
-        let mut source = DripSource::new(bytes, 1, FailWhen::Read(n));
-        let answer = read_header(alloc, &mut source, buf);
-        assert!(rt; matches!(answer, Err(HeadFault::ReadFailed)));
+        failed_read(rt, alloc, bytes, n, buffer_len);
     }
 }
 
@@ -28,60 +33,63 @@ fn read_alone(
     bytes: &[u8],
     step: usize,
     header_len: u64,
-    buf: &mut [u8],
-)
-    requires steps { 1 ≤ step }
-    requires room { 16 ≤ length buf.old }
-{
+    buffer_len: usize,
+) {
+    let mut space = [0; 4096];
+    assert!(rt; 1 <= step && buffer_len <= 4096);
     let mut source = DripSource::new(bytes, step, FailWhen::From(header_len));
-    let answer = read_header(alloc, &mut source, buf);
+    let answer = header_through(rt, alloc, &mut source, &mut space[..buffer_len]);
     assert!(rt; answer.is_ok());
-    assert!(rt; source.handed() <= header_len as u128 + buf.len() as u128);
+    assert!(rt; source.handed() <= header_len as u128 + buffer_len as u128);
 }
 
 #[test]
 fn each_read_fails_in_turn(rt: HostRuntime) {
-    failed_reads(&rt, rt.alloc(), files::GENERATED, 80, &mut [0; 16]);
-    failed_reads(&rt, rt.alloc(), files::GENERATED, 80, &mut [0; 4096]);
-    failed_reads(&rt, rt.alloc(), files::GENERATED_CDF5, 128, &mut [0; 17]);
+    failed_reads(&rt, rt.alloc(), files::GENERATED, 80, 16);
+    failed_reads(&rt, rt.alloc(), files::GENERATED, 80, 4096);
+    failed_reads(&rt, rt.alloc(), files::GENERATED_CDF5, 128, 17);
 }
 
 #[test]
 fn no_read_begins_after_the_header(rt: HostRuntime) {
-    read_alone(&rt, rt.alloc(), files::GENERATED, 1, 80, &mut [0; 16]);
-    read_alone(&rt, rt.alloc(), files::GENERATED, 3, 80, &mut [0; 17]);
-    read_alone(&rt, rt.alloc(), files::GENERATED, 7, 80, &mut [0; 31]);
-    read_alone(&rt, rt.alloc(), files::GENERATED, 4096, 80, &mut [0; 16]);
-    read_alone(&rt, rt.alloc(), files::GENERATED_CDF5, 7, 128, &mut [0; 31]);
+    read_alone(&rt, rt.alloc(), files::GENERATED, 1, 80, 16);
+    read_alone(&rt, rt.alloc(), files::GENERATED, 3, 80, 17);
+    read_alone(&rt, rt.alloc(), files::GENERATED, 7, 80, 31);
+    read_alone(&rt, rt.alloc(), files::GENERATED, 4096, 80, 16);
+    read_alone(&rt, rt.alloc(), files::GENERATED_CDF5, 7, 128, 31);
 }
 
 /// This many variables `int v`, all alike, and nothing else.
 fn many_variables(alloc: Global, count: u32) -> Result<Vec<u8>, AllocError> {
-    let mut bytes = Vec::from_slice(
-        alloc,
-        b"CDF\x01\0\0\0\0\0\0\0\0\0\0\0\0\0\0\0\0\0\0\0\0\0\0\0\x0b",
-    )?;
+    const BEFORE: &[u8] = b"CDF\x01\0\0\0\0\0\0\0\0\0\0\0\0\0\0\0\0\0\0\0\0\0\0\0\x0b";
+    const VARIABLE: &[u8] =
+        b"\0\0\0\x01v\0\0\0\0\0\0\0\0\0\0\0\0\0\0\0\0\0\0\x04\0\0\0\x04\0\0\0\0";
+    let mut bytes = Vec::from_slice(alloc, BEFORE)?;
     bytes.extend_from_slice(&count.to_be_bytes())?;
     for _ in 0..count {
-        bytes.extend_from_slice(
-            b"\0\0\0\x01v\0\0\0\0\0\0\0\0\0\0\0\0\0\0\0\0\0\0\x04\0\0\0\x04\0\0\0\0",
-        )?;
+        bytes.extend_from_slice(VARIABLE)?;
     }
     Ok(bytes)
+}
+
+/// The header of this many variables.
+fn header_of_variables(alloc: Global, count: u32) -> Result<Header, Fail> {
+    let bytes = many_variables(alloc, count)?;
+    let mut source = MemSource::new(bytes.as_slice());
+    Ok(read_header(alloc, &mut source, &mut [0; 4096])?)
 }
 
 /// Reads a header of this many variables, and selects those that are named as a dimension, which are none.
 fn reads_variables(
     rt: &impl Abort,
     alloc: Global,
-    bytes: &[u8],
-    count: usize,
+    count: u32,
     coordinates: &DumpOptions,
-) -> Result<(), DumpFault> {
-    let header = read_header(alloc, &mut MemSource::new(bytes), &mut [0; 4096])?;
-    assert_eq!(rt; header.vars.len(), count);
+) -> Result<(), Fail> {
+    let header = header_of_variables(alloc, count)?;
+    assert!(rt; header.vars.len() == count as usize);
     let shown = select(alloc, &header, coordinates)?;
-    assert_eq!(rt; shown.len(), count);
+    assert!(rt; shown.len() == count as usize);
     Ok(())
 }
 
@@ -91,9 +99,7 @@ fn every_number_of_variables(rt: HostRuntime) -> Result<(), Fail> {
     let mut coordinates = choosing(rt.alloc(), &[b"v"])?;
     coordinates.coords = true;
     for count in 1..200 {
-        let bytes = many_variables(rt.alloc(), count)?;
-        let count = count as usize;
-        reads_variables(&rt, rt.alloc(), bytes.as_slice(), count, &coordinates)?;
+        reads_variables(&rt, rt.alloc(), count, &coordinates)?;
     }
     Ok(())
 }
@@ -102,7 +108,5 @@ fn every_number_of_variables(rt: HostRuntime) -> Result<(), Fail> {
 fn twenty_thousand_variables(rt: HostRuntime) -> Result<(), Fail> {
     let mut coordinates = options(rt.alloc(), false)?;
     coordinates.coords = true;
-    let bytes = many_variables(rt.alloc(), 20_000)?;
-    reads_variables(&rt, rt.alloc(), bytes.as_slice(), 20_000, &coordinates)?;
-    Ok(())
+    reads_variables(&rt, rt.alloc(), 20_000, &coordinates)
 }

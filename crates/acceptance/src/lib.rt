@@ -18,11 +18,11 @@ mod failures;
 #[cfg(test)]
 mod files;
 #[cfg(test)]
-mod growths;
-#[cfg(test)]
 mod header_reads;
 #[cfg(test)]
 mod headers;
+#[cfg(test)]
+mod reading;
 #[cfg(test)]
 mod rows;
 #[cfg(test)]

@@ -1,4 +1,4 @@
-//! Dumps that tests repeat with devices that fail, and with growths that are refused.
+//! Dumps that tests repeat with devices that fail.
 
 use crate::files;
 use ncdump::DumpOptions;
@@ -183,27 +183,5 @@ pub fn many_nuls_in_a_row<'a>(all: &'a DumpOptions) -> Row<'a> {
         options: all,
         text: b"netcdf t {\ndimensions:\n\tx = 20 ;\nvariables:\n\tchar c(x) ;\ndata:\n\n c = \"a\\000\\000\\000\\000\\000\\000\\000\\000\\000\\000\\000\\000\\000\\000\\000\\000\\000\\000b\" ;\n}\n",
         stops: MANY_NULS_STOPS,
-    }
-}
-
-/// A text attribute of the file.
-pub fn text_attribute<'a>(all: &'a DumpOptions) -> Row<'a> {
-    Row {
-        bytes: files::TEXT_ATTRIBUTE,
-        header_len: 52,
-        options: all,
-        text: b"netcdf t {\n\n// global attributes:\n\t\t:note = \"a\\n\",\n\t\t\t\"b\\n\" ;\n}\n",
-        stops: &[],
-    }
-}
-
-/// A chosen variable, where only the values of coordinate variables are shown, and it is none.
-pub fn hidden_variable<'a>(chosen: &'a DumpOptions) -> Row<'a> {
-    Row {
-        bytes: files::COORDINATES,
-        header_len: 116,
-        options: chosen,
-        text: COORDINATES_TEXT,
-        stops: &[],
     }
 }

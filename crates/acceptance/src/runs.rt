@@ -1,12 +1,11 @@
 //! What the tests of dumps have in common: a dump through buffers of every length, and in reads of several lengths.
 
-ghost use Rattle.std.specs.Prelude.{◌≤◌, length};
-
 use nc_base::Sequence;
-use nc_file::{DripSource, FailWhen, MemSink, MemSource, Source};
+use nc_file::{DripSource, FailWhen, MemSink, MemSource, Sink, Source};
 use ncdump::{DumpFault, DumpOptions, dump};
 use std::alloc::{AllocError, Global};
 use std::process::Abort;
+use std::test::Fail;
 
 /// The options of a plain dump with the name `t`.
 pub fn options(alloc: Global, head_only: bool) -> Result<DumpOptions, AllocError> {
@@ -20,44 +19,40 @@ pub fn options(alloc: Global, head_only: bool) -> Result<DumpOptions, AllocError
     })
 }
 
-/// Dumps the source through this buffer, and asserts the answer and what was written.
+/// Dumps the source through a buffer of so many bytes, and asserts the answer and what was written.
 pub fn dumps_through<S: Source>(
     rt: &impl Abort,
     alloc: Global,
     source: &mut S,
     options: &DumpOptions,
-    buf: &mut [u8],
+    buffer_len: usize,
     answer: Result<(), DumpFault>,
     text: &[u8],
-)
-    requires { 16 ≤ length buf.old }
-{
+) {
+    let mut space = [0; 4096];
+    assert!(rt; 16 <= buffer_len && buffer_len <= 4096);
     let mut sink = MemSink::new(alloc);
-    let found = dump(alloc, source, options, buf, &mut sink);
+    let found = dump(alloc, source, options, &mut space[..buffer_len], &mut sink);
     assert!(rt; found == answer);
     assert!(rt; sink.as_slice() == text);
 }
 
 /// The same of bytes in memory, of which each read gives as many as there are, at most 1, 3, or 7.
-pub fn dumps_in_steps(
+fn dumps_in_steps(
     rt: &impl Abort,
     alloc: Global,
     bytes: &[u8],
     options: &DumpOptions,
-    buf: &mut [u8],
+    buffer_len: usize,
     answer: Result<(), DumpFault>,
     text: &[u8],
-)
-    requires { 16 ≤ length buf.old }
-{
+) {
     let mut all = MemSource::new(bytes);
-    dumps_through(rt, alloc, &mut all, options, buf, answer, text);
-    let mut one = DripSource::new(bytes, 1, FailWhen::Never);
-    dumps_through(rt, alloc, &mut one, options, buf, answer, text);
-    let mut three = DripSource::new(bytes, 3, FailWhen::Never);
-    dumps_through(rt, alloc, &mut three, options, buf, answer, text);
-    let mut seven = DripSource::new(bytes, 7, FailWhen::Never);
-    dumps_through(rt, alloc, &mut seven, options, buf, answer, text);
+    dumps_through(rt, alloc, &mut all, options, buffer_len, answer, text);
+    for step in [1, 3, 7] {
+        let mut few = DripSource::new(bytes, step, FailWhen::Never);
+        dumps_through(rt, alloc, &mut few, options, buffer_len, answer, text);
+    }
 }
 
 /// The same through buffers of several lengths.
@@ -69,10 +64,9 @@ pub fn dumps_as(
     answer: Result<(), DumpFault>,
     text: &[u8],
 ) {
-    dumps_in_steps(rt, alloc, bytes, options, &mut [0; 16], answer, text);
-    dumps_in_steps(rt, alloc, bytes, options, &mut [0; 17], answer, text);
-    dumps_in_steps(rt, alloc, bytes, options, &mut [0; 31], answer, text);
-    dumps_in_steps(rt, alloc, bytes, options, &mut [0; 4096], answer, text);
+    for buffer_len in [16, 17, 31, 4096] {
+        dumps_in_steps(rt, alloc, bytes, options, buffer_len, answer, text);
+    }
 }
 
 /// The plain dump of bytes in memory.
@@ -82,10 +76,35 @@ pub fn dumps(
     bytes: &[u8],
     answer: Result<(), DumpFault>,
     text: &[u8],
-) -> Result<(), AllocError> {
+) -> Result<(), Fail> {
     let options = options(alloc, false)?;
     dumps_as(rt, alloc, bytes, &options, answer, text);
     Ok(())
+}
+
+/// The plain dumps of whole files, each with its text.
+pub fn dump_all(rt: &impl Abort, alloc: Global, rows: &[(&[u8], &[u8])]) -> Result<(), Fail> {
+    for (bytes, text) in rows {
+        dumps(rt, alloc, *bytes, Ok(()), *text)?;
+    }
+    Ok(())
+}
+
+/// The head of the file.
+pub fn shows_head(rt: &impl Abort, alloc: Global, bytes: &[u8], text: &[u8]) -> Result<(), Fail> {
+    let options = options(alloc, true)?;
+    dumps_as(rt, alloc, bytes, &options, Ok(()), text);
+    Ok(())
+}
+
+/// Dumps the source through a buffer of 16 bytes.
+pub fn dumped<S: Source, W: Sink>(
+    alloc: Global,
+    source: &mut S,
+    options: &DumpOptions,
+    sink: &mut W,
+) -> Result<(), DumpFault> {
+    dump(alloc, source, options, &mut [0; 16], sink)
 }
 
 /// The options that show the values of the variables with these names alone.

@@ -1,10 +1,10 @@
 //! Dumps that show no value: of the header alone, of no records, and of variables that aren't chosen.
 
-use crate::runs::{choosing, dumps, dumps_as, options};
+use crate::runs::{choosing, dumped, dumps, dumps_as, options, shows_head};
 use crate::{files, rows};
 use nc_base::Sequence;
 use nc_file::{MemSource, SliceSink};
-use ncdump::{DumpFault, DumpOptions, dump, select};
+use ncdump::{DumpFault, DumpOptions, select};
 use std::alloc::{AllocError, Global};
 use std::process::Abort;
 use std::test::Fail;
@@ -15,7 +15,18 @@ const NO_RECORDS_TEXT: &[u8] =
 
 #[test]
 fn no_records(rt: HostRuntime) -> Result<(), Fail> {
-    dumps(&rt, rt.alloc(), files::NO_RECORDS, Ok(()), NO_RECORDS_TEXT)?;
+    dumps(&rt, rt.alloc(), files::NO_RECORDS, Ok(()), NO_RECORDS_TEXT)
+}
+
+/// Dumps into a slice of this length: as much of the text as it has room for is written.
+fn cut_off(rt: &impl Abort, alloc: Global, options: &DumpOptions, room: usize) -> Result<(), Fail> {
+    assert!(rt; room < NO_RECORDS_TEXT.len());
+    let mut into = Vec::from_elem(alloc, 0, room)?;
+    let mut sink = SliceSink::new(into.as_mut_slice(), 7);
+    let mut source = MemSource::new(files::NO_RECORDS);
+    let answer = dumped(alloc, &mut source, options, &mut sink);
+    assert!(rt; answer == Err(DumpFault::WriteFailed));
+    assert!(rt; sink.taken() == &NO_RECORDS_TEXT[..room]);
     Ok(())
 }
 
@@ -23,23 +34,13 @@ fn no_records(rt: HostRuntime) -> Result<(), Fail> {
 fn no_records_in_every_slice(rt: HostRuntime) -> Result<(), Fail> {
     let options = options(rt.alloc(), false)?;
     for room in 0..NO_RECORDS_TEXT.len() {
-        let mut into = Vec::from_elem(rt.alloc(), 0, room)?;
-        let mut sink = SliceSink::new(into.as_mut_slice(), 7);
-        let mut source = MemSource::new(files::NO_RECORDS);
-        let answer = dump(rt.alloc(), &mut source, &options, &mut [0; 16], &mut sink);
-        assert!(rt; answer == Err(DumpFault::WriteFailed));
-        assert!(rt; sink.taken() == &NO_RECORDS_TEXT[..room]);
+        cut_off(&rt, rt.alloc(), &options, room)?;
     }
     Ok(())
 }
 
 /// The dump with these names chosen ends with the fault, and nothing is written.
-fn unknown(
-    rt: &impl Abort,
-    alloc: Global,
-    names: &[&[u8]],
-    index: usize,
-) -> Result<(), AllocError> {
+fn unknown(rt: &impl Abort, alloc: Global, names: &[&[u8]], index: usize) -> Result<(), Fail> {
     let mut options = choosing(alloc, names)?;
     let answer = Err(DumpFault::NoSuchVariable(index));
     dumps_as(rt, alloc, files::GENERATED, &options, answer, b"");
@@ -50,56 +51,54 @@ fn unknown(
 
 #[test]
 fn unknown_name(rt: HostRuntime) -> Result<(), Fail> {
-    unknown(&rt, rt.alloc(), &[b"s", b"nope"], 1)?;
-    unknown(&rt, rt.alloc(), &[b"nope", b"s", b"never"], 0)?;
-    unknown(&rt, rt.alloc(), &[b"s", b"", b"s"], 1)?;
-    unknown(&rt, rt.alloc(), &[b"s", b"s", b"x"], 2)?;
+    const ROWS: [(&[&[u8]], usize); 4] = [
+        (&[b"s", b"nope"], 1),
+        (&[b"nope", b"s", b"never"], 0),
+        (&[b"s", b"", b"s"], 1),
+        (&[b"s", b"s", b"x"], 2),
+    ];
+    for (names, index) in ROWS {
+        unknown(&rt, rt.alloc(), names, index)?;
+    }
     Ok(())
+}
+
+/// The dump of the coordinates with these options shows no value.
+fn shows_no_value(rt: &impl Abort, alloc: Global, options: &DumpOptions) {
+    let text = rows::COORDINATES_TEXT;
+    dumps_as(rt, alloc, files::COORDINATES, options, Ok(()), text);
 }
 
 #[test]
 fn coordinate_variables_that_are_not_chosen(rt: HostRuntime) -> Result<(), Fail> {
     let mut options = choosing(rt.alloc(), &[b"y"])?;
     options.coords = true;
-    dumps_as(
-        &rt,
-        rt.alloc(),
-        files::COORDINATES,
-        &options,
-        Ok(()),
-        rows::COORDINATES_TEXT,
-    );
+    shows_no_value(&rt, rt.alloc(), &options);
     Ok(())
 }
 
 #[test]
 fn no_name_is_chosen(rt: HostRuntime) -> Result<(), Fail> {
     let options = choosing(rt.alloc(), &[])?;
-    dumps_as(
-        &rt,
-        rt.alloc(),
-        files::COORDINATES,
-        &options,
-        Ok(()),
-        rows::COORDINATES_TEXT,
-    );
+    shows_no_value(&rt, rt.alloc(), &options);
     Ok(())
 }
 
-/// Which of the variables x and y are marked.
+/// Which of the variables x and y are marked with these options.
+fn marks(alloc: Global, options: &DumpOptions) -> Result<Vec<bool>, DumpFault> {
+    let mut source = MemSource::new(files::COORDINATES);
+    let header = nc_file::read_header(alloc, &mut source, &mut [0; 16])?;
+    select(alloc, &header, options)
+}
+
+/// Fails unless these of the variables x and y are marked.
 fn marked(
     rt: &impl Abort,
     alloc: Global,
     options: &DumpOptions,
-    marks: &[bool],
+    want: &[bool],
 ) -> Result<(), DumpFault> {
-    let header = nc_file::read_header(
-        alloc,
-        &mut MemSource::new(files::COORDINATES),
-        &mut [0; 16],
-    )?;
-    let shown = select(alloc, &header, options)?;
-    assert!(rt; shown.as_slice() == marks);
+    assert!(rt; marks(alloc, options)?.as_slice() == want);
     Ok(())
 }
 
@@ -109,54 +108,44 @@ fn marks_of_variables(rt: HostRuntime) -> Result<(), Fail> {
     marked(&rt, rt.alloc(), &all, &[true, true])?;
     all.coords = true;
     marked(&rt, rt.alloc(), &all, &[true, false])?;
+    Ok(())
+}
+
+#[test]
+fn marks_of_chosen_variables(rt: HostRuntime) -> Result<(), Fail> {
     let mut last = choosing(rt.alloc(), &[b"y", b"y"])?;
     marked(&rt, rt.alloc(), &last, &[false, true])?;
     last.coords = true;
     marked(&rt, rt.alloc(), &last, &[false, false])?;
+    Ok(())
+}
+
+#[test]
+fn no_marks_of_an_unknown_variable(rt: HostRuntime) -> Result<(), Fail> {
     let unknown = choosing(rt.alloc(), &[b"y", b"z", b"a"])?;
     let answer = marked(&rt, rt.alloc(), &unknown, &[]);
     assert!(rt; answer == Err(DumpFault::NoSuchVariable(1)));
     Ok(())
 }
 
-/// The head of the file is this text.
-fn head(rt: &impl Abort, alloc: Global, bytes: &[u8], text: &[u8]) -> Result<(), AllocError> {
-    let options = options(alloc, true)?;
-    dumps_as(rt, alloc, bytes, &options, Ok(()), text);
-    Ok(())
-}
-
 #[test]
 fn escaped_names(rt: HostRuntime) -> Result<(), Fail> {
-    head(
-        &rt,
-        rt.alloc(),
-        files::ESCAPED_NAMES,
-        b"netcdf t {\nvariables:\n\tint \\data ;\n\t\t\\data:units = \"m\" ;\n\tshort \\2\\ b ;\n}\n",
-    )?;
-    Ok(())
+    const TEXT: &[u8] =
+        b"netcdf t {\nvariables:\n\tint \\data ;\n\t\t\\data:units = \"m\" ;\n\tshort \\2\\ b ;\n}\n";
+    shows_head(&rt, rt.alloc(), files::ESCAPED_NAMES, TEXT)
 }
 
 #[test]
 fn fill_of_bytes(rt: HostRuntime) -> Result<(), Fail> {
-    head(
-        &rt,
-        rt.alloc(),
-        files::FILL_OF_BYTES,
-        b"netcdf t {\nvariables:\n\tbyte b ;\n\t\tb:_FillValue = -127b ;\n}\n",
-    )?;
-    Ok(())
+    const TEXT: &[u8] = b"netcdf t {\nvariables:\n\tbyte b ;\n\t\tb:_FillValue = -127b ;\n}\n";
+    shows_head(&rt, rt.alloc(), files::FILL_OF_BYTES, TEXT)
 }
 
 #[test]
 fn unsigned_fills(rt: HostRuntime) -> Result<(), Fail> {
-    head(
-        &rt,
-        rt.alloc(),
-        files::UNSIGNED_FILLS,
-        b"netcdf t {\nvariables:\n\tubyte a ;\n\t\ta:_FillValue = 255UB ;\n\tuint64 b ;\n\t\tb:r = 0ULL, 18446744073709551615ULL ;\n}\n",
-    )?;
-    Ok(())
+    const TEXT: &[u8] =
+        b"netcdf t {\nvariables:\n\tubyte a ;\n\t\ta:_FillValue = 255UB ;\n\tuint64 b ;\n\t\tb:r = 0ULL, 18446744073709551615ULL ;\n}\n";
+    shows_head(&rt, rt.alloc(), files::UNSIGNED_FILLS, TEXT)
 }
 
 /// A file with one dimension of length 1, whose name is n letters (a multiple of four, so that no padding follows).
@@ -180,32 +169,34 @@ fn long_name_text(alloc: Global, letters: u32) -> Result<Vec<u8>, AllocError> {
     Ok(text)
 }
 
-#[test]
-fn long_names(rt: HostRuntime) -> Result<(), Fail> {
-    for letters in [1_000, 65_536] {
-        let bytes = with_long_name(rt.alloc(), letters)?;
-        let text = long_name_text(rt.alloc(), letters)?;
-        dumps(&rt, rt.alloc(), bytes.as_slice(), Ok(()), text.as_slice())?;
-    }
-    Ok(())
+/// The dump of a file whose only name has so many letters.
+fn dumps_long_name(rt: &impl Abort, alloc: Global, letters: u32) -> Result<(), Fail> {
+    let bytes = with_long_name(alloc, letters)?;
+    let text = long_name_text(alloc, letters)?;
+    dumps(rt, alloc, bytes.as_slice(), Ok(()), text.as_slice())
 }
 
-/// Many names, each of a variable: looked up in less time than each against each would take.
+#[test]
+fn long_names(rt: HostRuntime) -> Result<(), Fail> {
+    dumps_long_name(&rt, rt.alloc(), 1_000)?;
+    dumps_long_name(&rt, rt.alloc(), 65_536)
+}
+
+/// Many names, each of a variable `v`.
+fn many_names(alloc: Global) -> Result<Sequence<Sequence<u8>>, AllocError> {
+    let mut names = Sequence::new(alloc);
+    for _ in 0..20_000 {
+        names.push(Sequence::from_vec(Vec::from_slice(alloc, b"v")?))?;
+    }
+    Ok(names)
+}
+
+/// Many names are looked up in less time than each against each would take.
 #[test]
 fn twenty_thousand_names(rt: HostRuntime) -> Result<(), Fail> {
-    let mut names = Sequence::new(rt.alloc());
-    for _ in 0..20_000 {
-        names.push(Sequence::from_vec(Vec::from_slice(rt.alloc(), b"v")?))?;
-    }
     let mut options = options(rt.alloc(), false)?;
-    options.chosen = Some(names);
-    dumps_as(
-        &rt,
-        rt.alloc(),
-        files::NO_RECORDS,
-        &options,
-        Ok(()),
-        NO_RECORDS_TEXT,
-    );
+    options.chosen = Some(many_names(rt.alloc())?);
+    let file = files::NO_RECORDS;
+    dumps_as(&rt, rt.alloc(), file, &options, Ok(()), NO_RECORDS_TEXT);
     Ok(())
 }

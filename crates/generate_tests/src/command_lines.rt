@@ -3,6 +3,8 @@
 use crate::invocations::{Invocation, makes, refuses};
 use crate::texts::{FIFTH_FILE, FIRST_FILE, SECOND_FILE, TEXT};
 use devices::ListedFile;
+use std::alloc::Global;
+use std::process::Abort;
 
 /// How the program is used.
 const USAGE: &[u8] = b"usage: ncgen [-b] [-o file] [-k kind] [file]\n";
@@ -30,7 +32,7 @@ fn invocation<'a>(words: &'a [&'a str]) -> Invocation<'a> {
 
 #[test]
 fn outputs(rt: HostRuntime) {
-    let rows: [(&[&str], &str); 7] = [
+    const ROWS: [(&[&str], &str); 7] = [
         (&["ncgen", "-b", "d/f.cdl"], "f.nc"),
         (&["ncgen", "-b", "-o", "x", "d/f.cdl"], "x"),
         (&["ncgen", "-o", "x", "d/f.cdl"], "x"),
@@ -39,14 +41,20 @@ fn outputs(rt: HostRuntime) {
         (&["ncgen", "-bo", "x"], "x"),
         (&["ncgen", "-b", "--", "-x"], "-x.nc"),
     ];
-    for (words, path) in rows {
+    for (words, path) in ROWS {
         makes(&rt, rt.alloc(), invocation(words), path, FIRST_FILE);
     }
 }
 
+/// A run with this kind makes this file.
+fn makes_kind(rt: &impl Abort, alloc: Global, kind: &str, file: &[u8]) {
+    let words = ["ncgen", "-b", "-k", kind, "d/f.cdl"];
+    makes(rt, alloc, invocation(&words), "f.nc", file);
+}
+
 #[test]
 fn kinds(rt: HostRuntime) {
-    let rows: [(&str, &[u8]); 6] = [
+    const ROWS: [(&str, &[u8]); 6] = [
         ("classic", FIRST_FILE),
         ("nc3", FIRST_FILE),
         ("64-bit offset", SECOND_FILE),
@@ -54,15 +62,14 @@ fn kinds(rt: HostRuntime) {
         ("64-bit data", FIFTH_FILE),
         ("nc5", FIFTH_FILE),
     ];
-    for (kind, file) in rows {
-        let words = ["ncgen", "-b", "-k", kind, "d/f.cdl"];
-        makes(&rt, rt.alloc(), invocation(&words), "f.nc", file);
+    for (kind, file) in ROWS {
+        makes_kind(&rt, rt.alloc(), kind, file);
     }
 }
 
 #[test]
 fn words_that_are_not_taken(rt: HostRuntime) {
-    let rows: [&[&str]; 13] = [
+    const ROWS: [&[&str]; 13] = [
         &["ncgen", "-b"],
         &["ncgen", "-k", "nc4", "d/f.cdl"],
         &["ncgen", "-k", "NC3", "d/f.cdl"],
@@ -77,7 +84,7 @@ fn words_that_are_not_taken(rt: HostRuntime) {
         &["ncgen", "-V"],
         &["ncgen", "-x", "d/f.cdl"],
     ];
-    for words in rows {
+    for words in ROWS {
         refuses(&rt, rt.alloc(), invocation(words), USAGE);
     }
 }

@@ -2,12 +2,12 @@
 
 ghost use Rattle.std.specs.Prelude.{[], ◌≡◌, None, false};
 
+use crate::invocations::status_of;
 use crate::texts::TEXT;
 use devices::{
     CloseFailed, CountedRead, CreateFailed, Creator, ListedFile, ListedTexts, Sink, SinkFailed,
     SliceSink,
 };
-use ncgen::run_with;
 use std::alloc::Global;
 use std::process::Abort;
 
@@ -124,14 +124,8 @@ pub fn leaves(rt: &impl Abort, alloc: Global, mut disk: FullDisk, line: &[u8], b
     let mut space = [0; 64];
     let mut err = SliceSink::new(&mut space, 64);
     let words = ["ncgen", "-b", "t.cdl"];
-    let status = run_with(
-        &ListedTexts::new(&files),
-        &mut disk,
-        alloc,
-        &words,
-        &mut input,
-        &mut err,
-    );
+    let texts = ListedTexts::new(&files);
+    let status = status_of(alloc, &texts, &mut disk, &words, &mut input, &mut err);
     assert!(rt; status == if line.is_empty() { 0 } else { 1 });
     assert!(rt; err.taken() == line);
     assert!(rt; disk.held() == bytes);

@@ -5,11 +5,12 @@ ghost use Rattle.cdl_meaning.specs.Meaning.{text_limit};
 
 use crate::rows::Row;
 use nc_base::{Sequence, Version};
-use nc_file::{MemSink, MemSource};
-use ncdump::{DumpOptions, dump};
-use ncgen::generate;
+use nc_file::{MemSink, MemSource, Sink};
+use ncdump::{DumpFault, DumpOptions, dump};
+use ncgen::{GenFault, generate};
 use std::alloc::{AllocError, Global};
 use std::process::Abort;
+use std::test::Fail;
 
 /// The bytes of the text, which fails if it is too long to be generated.
 pub fn short_text<'a>(rt: &impl Abort, text: &'a [u8]) -> &'a [u8]
@@ -36,14 +37,33 @@ pub fn whole(alloc: Global, width: usize) -> Result<DumpOptions, AllocError> {
     })
 }
 
+/// Writes the file of the text to the sink.
+pub fn writes<W: Sink>(
+    rt: &impl Abort,
+    alloc: Global,
+    version: Version,
+    text: &[u8],
+    sink: &mut W,
+) -> Result<(), GenFault> {
+    generate(alloc, short_text(rt, text), version, sink)
+}
+
 /// The file of the text.
 pub fn file_of(rt: &impl Abort, alloc: Global, text: &[u8], version: Version) -> MemSink {
     let mut sink = MemSink::new(alloc);
-    assert_eq!(rt;
-        generate(alloc, short_text(rt, text), version, &mut sink),
-        Ok(())
-    );
+    let answer = writes(rt, alloc, version, text, &mut sink);
+    assert!(rt; answer.is_ok());
     sink
+}
+
+/// Dumps the source.
+fn dumps(
+    alloc: Global,
+    source: &mut MemSource<'_>,
+    options: &DumpOptions,
+    sink: &mut MemSink,
+) -> Result<(), DumpFault> {
+    dump(alloc, source, options, &mut [0; 16], sink)
 }
 
 /// The dump of everything in the file, in lines of this width.
@@ -56,16 +76,16 @@ pub fn dump_of(
     let options = whole(alloc, width)?;
     let mut source = MemSource::new(file);
     let mut sink = MemSink::new(alloc);
-    let answer = dump(alloc, &mut source, &options, &mut [0; 16], &mut sink);
-    assert_eq!(rt; answer, Ok(()));
+    let answer = dumps(alloc, &mut source, &options, &mut sink);
+    assert!(rt; answer.is_ok());
     Ok(sink)
 }
 
 /// Fails unless the text gives its file, and the file its dump.
-pub fn generates(rt: &impl Abort, alloc: Global, row: &Row<'_>) -> Result<(), AllocError> {
+pub fn generates(rt: &impl Abort, alloc: Global, row: &Row<'_>) -> Result<(), Fail> {
     let file = file_of(rt, alloc, row.cdl, row.version);
-    assert_eq!(rt; file.as_slice(), row.file);
+    assert!(rt; is_same(file.as_slice(), row.file));
     let dump = dump_of(rt, alloc, file.as_slice(), 80)?;
-    assert_eq!(rt; dump.as_slice(), row.dump);
+    assert!(rt; is_same(dump.as_slice(), row.dump));
     Ok(())
 }

@@ -1,8 +1,9 @@
 //! What the tests of runs have in common: a run on texts and outputs in memory.
 
-use devices::{CountedRead, ListedFile, ListedTexts, MadeFiles, SliceSink};
+use devices::{CountedRead, Creator, ListedFile, ListedTexts, MadeFiles, SliceSink, Texts};
 use ncgen::run_with;
 use std::alloc::Global;
+use std::io::Read;
 use std::process::Abort;
 
 /// A run of the program on these words, of which the first is its name, where these are the texts that paths name and this is
@@ -22,20 +23,26 @@ pub struct Outcome<'a> {
     pub made: Option<ListedFile<'a>>,
 }
 
+/// The status of a run on these words and devices.
+pub fn status_of<T: Texts, C: Creator, R: Read>(
+    alloc: Global,
+    texts: &T,
+    outputs: &mut C,
+    words: &[&str],
+    input: &mut CountedRead<R>,
+    err: &mut SliceSink<'_>,
+) -> u8 {
+    run_with(texts, outputs, alloc, words, input, err)
+}
+
 /// Runs the program, and asserts how it ends.
 pub fn ends(rt: &impl Abort, alloc: Global, run: Invocation<'_>, outcome: Outcome<'_>) {
     let mut outputs = MadeFiles::new(alloc);
     let mut input = CountedRead::new(run.input);
     let mut line = [0; 128];
     let mut err = SliceSink::new(&mut line, 5);
-    let status = run_with(
-        &ListedTexts::new(run.texts),
-        &mut outputs,
-        alloc,
-        run.words,
-        &mut input,
-        &mut err,
-    );
+    let texts = ListedTexts::new(run.texts);
+    let status = status_of(alloc, &texts, &mut outputs, run.words, &mut input, &mut err);
     assert!(rt; status == outcome.status);
     assert!(rt; err.taken() == outcome.line);
     holds(rt, &outputs, outcome.made);

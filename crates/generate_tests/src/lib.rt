@@ -17,8 +17,6 @@ mod generated_files;
 #[cfg(test)]
 mod generating;
 #[cfg(test)]
-mod growths;
-#[cfg(test)]
 mod invocations;
 #[cfg(test)]
 mod large_files;

@@ -1,11 +1,13 @@
 //! Whole runs: what is written where, and what is told.
 
 use crate::full_disks::{FullDisk, leaves};
-use crate::invocations::{Invocation, Outcome, ends, makes, refuses};
+use crate::invocations::{Invocation, Outcome, ends, makes, refuses, status_of};
 use crate::readers::{FailingReader, FailingTexts};
 use crate::texts::{FIRST_FILE, REFUSED_TEXT, TEXT};
-use devices::{CountedRead, ListedFile, ListedTexts, MadeFiles, SliceSink};
-use ncgen::run_with;
+use devices::{CountedRead, ListedFile, ListedTexts, MadeFiles, SliceSink, Texts};
+use std::alloc::Global;
+use std::io::Read;
+use std::process::Abort;
 
 /// Texts, one of which has a fault.
 const TEXTS: &[ListedFile<'static>] = &[
@@ -30,23 +32,20 @@ fn invocation<'a>(words: &'a [&'a str], input: &'a [u8]) -> Invocation<'a> {
 
 #[test]
 fn checked_texts(rt: HostRuntime) {
-    let silent = Outcome {
+    const SILENT: Outcome<'static> = Outcome {
         status: 0,
         line: b"",
         made: None,
     };
-    ends(&rt, rt.alloc(), invocation(&["ncgen"], TEXT), silent);
-    ends(
-        &rt,
-        rt.alloc(),
-        invocation(&["ncgen", "t.cdl"], b""),
-        silent,
-    );
+    let input = invocation(&["ncgen"], TEXT);
+    ends(&rt, rt.alloc(), input, SILENT);
+    let path = invocation(&["ncgen", "t.cdl"], b"");
+    ends(&rt, rt.alloc(), path, SILENT);
 }
 
 #[test]
 fn refused_texts(rt: HostRuntime) {
-    let rows: [(&[&str], &[u8], &[u8]); 4] = [
+    const ROWS: [(&[&str], &[u8], &[u8]); 4] = [
         (
             &["ncgen", "-b", "bad.cdl"],
             b"",
@@ -60,7 +59,7 @@ fn refused_texts(rt: HostRuntime) {
         (&["ncgen"], b"", b"ncgen: -: line 1: syntax\n"),
         (&["ncgen", "no.cdl"], TEXT, b"ncgen: no.cdl: cannot open\n"),
     ];
-    for (words, input, line) in rows {
+    for (words, input, line) in ROWS {
         refuses(&rt, rt.alloc(), invocation(words, input), line);
     }
 }
@@ -81,52 +80,47 @@ fn output_in_place_of_the_text(rt: HostRuntime) {
     makes(&rt, rt.alloc(), run, "t.cdl", FIRST_FILE);
 }
 
+/// A run whose text fails to be read ends with this line, and nothing is created.
+fn fails_to_read<T: Texts, R: Read + Drop>(
+    rt: &impl Abort,
+    alloc: Global,
+    texts: &T,
+    words: &[&str],
+    reader: R,
+    line: &[u8],
+) {
+    let mut outputs = MadeFiles::new(alloc);
+    let mut input = CountedRead::new(reader);
+    let mut space = [0; 64];
+    let mut err = SliceSink::new(&mut space, 1);
+    let status = status_of(alloc, texts, &mut outputs, words, &mut input, &mut err);
+    assert!(rt; status == 1 && outputs.given().is_empty());
+    assert!(rt; err.taken() == line);
+}
+
 #[test]
 fn standard_input_that_fails(rt: HostRuntime) {
-    let mut outputs = MadeFiles::new(rt.alloc());
-    let mut input = CountedRead::new(FailingReader::new(TEXT, 7, 3));
-    let mut line = [0; 64];
-    let mut err = SliceSink::new(&mut line, 1);
+    const LINE: &[u8] = b"ncgen: -: read failed\n";
     let texts = ListedTexts::new(TEXTS);
     let words = ["ncgen", "-o", "x"];
-    let status = run_with(
-        &texts,
-        &mut outputs,
-        rt.alloc(),
-        &words,
-        &mut input,
-        &mut err,
-    );
-    assert!(rt; status == 1 && outputs.given().is_empty());
-    assert!(rt; err.taken() == b"ncgen: -: read failed\n".as_slice());
+    let reader = FailingReader::new(TEXT, 7, 3);
+    fails_to_read(&rt, rt.alloc(), &texts, &words, reader, LINE);
 }
 
 #[test]
 fn path_that_fails(rt: HostRuntime) {
-    let mut outputs = MadeFiles::new(rt.alloc());
-    let mut input = CountedRead::new(TEXT);
-    let mut line = [0; 64];
-    let mut err = SliceSink::new(&mut line, 1);
+    const LINE: &[u8] = b"ncgen: t.cdl: read failed\n";
     let texts = FailingTexts::new(TEXT, 7, 3);
     let words = ["ncgen", "-b", "t.cdl"];
-    let status = run_with(
-        &texts,
-        &mut outputs,
-        rt.alloc(),
-        &words,
-        &mut input,
-        &mut err,
-    );
-    assert!(rt; status == 1 && outputs.given().is_empty());
-    assert!(rt; err.taken() == b"ncgen: t.cdl: read failed\n".as_slice());
+    fails_to_read(&rt, rt.alloc(), &texts, &words, TEXT, LINE);
 }
 
 #[test]
 fn disk_of_every_size(rt: HostRuntime) {
-    let line = b"ncgen: t.nc: write failed\n";
+    const LINE: &[u8] = b"ncgen: t.nc: write failed\n";
     for size in 0..FIRST_FILE.len() {
         let disk = FullDisk::new(rt.alloc(), 1, size);
-        leaves(&rt, rt.alloc(), disk, line, &FIRST_FILE[..size]);
+        leaves(&rt, rt.alloc(), disk, LINE, &FIRST_FILE[..size]);
     }
     let disk = FullDisk::new(rt.alloc(), 1, FIRST_FILE.len());
     leaves(&rt, rt.alloc(), disk, b"", FIRST_FILE);
@@ -145,11 +139,12 @@ fn standard_error_that_is_full(rt: HostRuntime) {
     let mut line = [0; 10];
     let mut err = SliceSink::new(&mut line, 3);
     let texts = ListedTexts::new(TEXTS);
-    let status = run_with(
+    let words = ["ncgen"];
+    let status = status_of(
+        rt.alloc(),
         &texts,
         &mut outputs,
-        rt.alloc(),
-        &["ncgen"],
+        &words,
         &mut input,
         &mut err,
     );

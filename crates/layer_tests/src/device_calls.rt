@@ -2,11 +2,17 @@
 
 ghost use Rattle.std.specs.Prelude.{None};
 
-use devices::{
-    DripSource, FailWhen, FileSource, IoSink, Listed, ListedFile, MemSink, MemSource, OpenFailed,
-    Opener, ReadAhead, Sink, SinkFailed, Source, SourceFailed, SystemFiles, WriteFailed, put,
+use crate::device_rows::{
+    Read, drip_of, expect_bytes, expect_put, expect_read, expect_reads, expect_write,
 };
+use devices::{
+    FailWhen, FileSource, IoSink, Listed, ListedFile, MemSink, MemSource, OpenFailed, Opener,
+    ReadAhead, Sink, SinkFailed, Source, SourceFailed, SystemFiles, WriteFailed,
+};
+use std::fs::File;
 use std::io::{ErrorKind, Write};
+use std::process::Abort;
+use std::rt::Files;
 use std::test::*;
 use std::{fs, io};
 
@@ -74,65 +80,73 @@ impl Sink for Failing {
 
 #[test]
 fn memory_hands_over_its_bytes(rt: HostRuntime) {
+    const READS: [Read; 4] = [
+        (0, Ok(4), b"abcd"),
+        (2, Ok(4), b"cdef"),
+        (5, Ok(2), b"fg"),
+        (6, Ok(1), b"g"),
+    ];
     let mut source = MemSource::new(b"abcdefg");
-    assert_eq!(rt; source.len(), 7);
-    let rows: [(u64, &[u8]); 4] = [(0, b"abcd"), (2, b"cdef"), (5, b"fg"), (6, b"g")];
-    for (at, want) in rows {
-        let mut into = [0u8; 4];
-        assert!(rt; at < source.len());
-        assert_eq!(rt; source.read_at(at, &mut into), Ok(want.len()), "at {at}");
-        assert!(rt; into.starts_with(want), "at {at}");
-    }
+    assert!(rt; source.len() == 7);
+    expect_reads(&rt, &mut source, 4, &READS);
 }
 
 #[test]
 fn memory_takes_bytes(rt: HostRuntime) {
     let mut sink = MemSink::new(rt.alloc());
-    assert_eq!(rt; sink.write_some(b"ab"), Ok(2));
-    assert_eq!(rt; sink.write_some(b""), Ok(0));
-    assert_eq!(rt; put(&mut sink, b"cdefg"), Ok(()));
-    assert_eq!(rt; sink.as_slice(), b"abcdefg".as_slice());
+    expect_write(&rt, &mut sink, b"ab", Ok(2));
+    expect_write(&rt, &mut sink, b"", Ok(0));
+    expect_put(&rt, &mut sink, b"cdefg", Ok(()));
+    expect_bytes(&rt, sink.as_slice(), b"abcdefg");
+}
+
+/// Fails unless the sink's writer is flushed.
+fn expect_flush<W: Write>(rt: &impl Abort, sink: &mut IoSink<W>) {
+    assert_eq!(rt; sink.flush(), Ok(()));
 }
 
 #[test]
 fn writer_takes_bytes(rt: HostRuntime) {
     let mut sink = IoSink::new(Vec::new(rt.alloc()));
-    assert_eq!(rt; put(&mut sink, b"abcde"), Ok(()));
-    assert_eq!(rt; sink.flush(), Ok(()));
-    assert_eq!(rt; sink.into_inner().as_slice(), b"abcde".as_slice());
+    expect_put(&rt, &mut sink, b"abcde", Ok(()));
+    expect_flush(&rt, &mut sink);
+    expect_bytes(&rt, sink.into_inner().as_slice(), b"abcde");
+}
+
+/// Fails unless a writer that takes two bytes a call takes the first of these bytes, in so many calls.
+fn expect_two_by_two(
+    rt: &impl Abort,
+    bytes: &[u8],
+    answer: Result<(), WriteFailed>,
+    taken: &[u8],
+    calls: u32,
+) {
+    let mut sink = IoSink::new(TwoByTwo {
+        bytes: [0; 8],
+        len: 0,
+        calls: 0,
+    });
+    expect_put(rt, &mut sink, bytes, answer);
+    let writer = sink.into_inner();
+    expect_bytes(rt, writer.bytes.as_slice(), taken);
+    assert!(rt; writer.calls == calls);
 }
 
 #[test]
 fn slow_writer_takes_all(rt: HostRuntime) {
-    let mut sink = IoSink::new(TwoByTwo {
-        bytes: [0; 8],
-        len: 0,
-        calls: 0,
-    });
-    assert_eq!(rt; put(&mut sink, b"abcde"), Ok(()));
-    let writer = sink.into_inner();
-    assert_eq!(rt; writer.bytes, *b"abcde\0\0\0");
-    assert_eq!(rt; writer.calls, 3);
+    expect_two_by_two(&rt, b"abcde", Ok(()), b"abcde\0\0\0", 3);
 }
 
 #[test]
 fn full_writer_fails(rt: HostRuntime) {
-    let mut sink = IoSink::new(TwoByTwo {
-        bytes: [0; 8],
-        len: 0,
-        calls: 0,
-    });
-    assert_eq!(rt; put(&mut sink, b"abcdefghij"), Err(WriteFailed));
-    let writer = sink.into_inner();
-    assert_eq!(rt; writer.bytes, *b"abcdefgh");
-    assert_eq!(rt; writer.calls, 5);
+    expect_two_by_two(&rt, b"abcdefghij", Err(WriteFailed), b"abcdefgh", 5);
 }
 
 #[test]
 fn failed_write_is_not_tried_again(rt: HostRuntime) {
     let mut sink = IoSink::new(Refusing { calls: 0 });
-    assert_eq!(rt; put(&mut sink, b"abcde"), Err(WriteFailed));
-    assert_eq!(rt; sink.into_inner().calls, 1);
+    expect_put(&rt, &mut sink, b"abcde", Err(WriteFailed));
+    assert!(rt; sink.into_inner().calls == 1);
 }
 
 #[test]
@@ -144,33 +158,31 @@ fn failed_flush_is_a_failure(rt: HostRuntime) {
 #[test]
 fn failed_write_is_counted(rt: HostRuntime) {
     let mut sink = Failing { failures: 0 };
-    assert_eq!(rt; put(&mut sink, b"abcde"), Err(WriteFailed));
-    assert_eq!(rt; sink.failures, 1);
-    assert_eq!(rt; put(&mut sink, b""), Ok(()));
+    expect_put(&rt, &mut sink, b"abcde", Err(WriteFailed));
+    assert!(rt; sink.failures == 1);
+    expect_put(&rt, &mut sink, b"", Ok(()));
+}
+
+/// A source of a file of the system with these bytes, at this path, where the file is removed again.
+fn source_of(rt: &impl Files<File = File>, path: &str, bytes: &[u8]) -> Result<FileSource, Fail> {
+    fs::write(rt, path, bytes)?;
+    let source = FileSource::open(rt, path).ok().ok_or("no source")?;
+    fs::remove_file(rt, path)?;
+    Ok(source)
 }
 
 #[test]
 fn file_hands_over_its_bytes(rt: HostRuntime) -> Result<(), Fail> {
-    let path = "nc_file_source.bin";
-    fs::write(&rt, path, b"abcdefg".as_slice())?;
-    let mut source = FileSource::open(&rt, path).ok().ok_or("no source")?;
-    fs::remove_file(&rt, path)?;
-    assert_eq!(rt; source.len(), 7);
-    let rows: [(u64, &[u8]); 3] = [(2, b"cdef"), (5, b"fg"), (0, b"abcd")];
-    for (at, want) in rows {
-        let mut into = [0u8; 4];
-        assert!(rt; at < source.len());
-        assert_eq!(rt; source.read_at(at, &mut into), Ok(want.len()), "at {at}");
-        assert!(rt; into.starts_with(want), "at {at}");
-    }
+    const READS: [Read; 3] = [(2, Ok(4), b"cdef"), (5, Ok(2), b"fg"), (0, Ok(4), b"abcd")];
+    let mut source = source_of(&rt, "nc_file_source.bin", b"abcdefg")?;
+    assert!(rt; source.len() == 7);
+    expect_reads(&rt, &mut source, 4, &READS);
     Ok(())
 }
 
 #[test]
 fn stretches_are_read_again_after_a_failure(rt: HostRuntime) {
-    let mut source = ReadAhead::new(DripSource::new(b"abcdefg", 3, FailWhen::Read(1)));
-    assert_eq!(rt; source.len(), 7);
-    let rows: [(u64, Result<usize, SourceFailed>, &[u8]); 6] = [
+    const READS: [Read; 6] = [
         (1, Ok(2), b"bc"),
         (2, Ok(2), b"cd"),
         (0, Err(SourceFailed), b""),
@@ -178,12 +190,9 @@ fn stretches_are_read_again_after_a_failure(rt: HostRuntime) {
         (2, Ok(1), b"c"),
         (6, Ok(1), b"g"),
     ];
-    for (at, answer, want) in rows {
-        let mut into = [0u8; 2];
-        assert!(rt; at < source.len());
-        assert_eq!(rt; source.read_at(at, &mut into), answer, "at {at}");
-        assert!(rt; into.starts_with(want), "at {at}");
-    }
+    let mut source = ReadAhead::new(drip_of(&rt, b"abcdefg", 3, FailWhen::Read(1)));
+    assert!(rt; source.len() == 7);
+    expect_reads(&rt, &mut source, 2, &READS);
 }
 
 #[test]
@@ -192,28 +201,27 @@ fn only_a_file_opens(rt: HostRuntime) {
     assert!(rt; matches!(FileSource::open(&rt, "."), Err(OpenFailed)));
 }
 
+/// Three files, of which two have the same path.
+const FILES: [ListedFile<'static>; 3] = [
+    ListedFile {
+        path: "a.nc",
+        bytes: b"abc",
+    },
+    ListedFile {
+        path: "b.nc",
+        bytes: b"defg",
+    },
+    ListedFile {
+        path: "b.nc",
+        bytes: b"",
+    },
+];
+
 #[test]
 fn first_file_of_a_path_opens(rt: HostRuntime) -> Result<(), Fail> {
-    let files = [
-        ListedFile {
-            path: "a.nc",
-            bytes: b"abc",
-        },
-        ListedFile {
-            path: "b.nc",
-            bytes: b"defg",
-        },
-        ListedFile {
-            path: "b.nc",
-            bytes: b"",
-        },
-    ];
-    let listed = Listed::new(&files);
+    let listed = Listed::new(&FILES);
     let mut source = listed.open("b.nc")?;
-    let mut into = [0u8; 8];
-    assert!(rt; 1 < source.len());
-    assert_eq!(rt; source.read_at(1, &mut into), Ok(3));
-    assert!(rt; into.starts_with(b"efg"));
+    expect_read(&rt, &mut source, 8, &(1, Ok(3), b"efg"));
     assert!(rt; listed.open("c.nc").is_err());
     Ok(())
 }
@@ -225,7 +233,7 @@ fn path_of_the_system_opens(rt: HostRuntime) -> Result<(), Fail> {
     let files = SystemFiles::new(&rt);
     let source = files.open(path)?;
     fs::remove_file(&rt, path)?;
-    assert_eq!(rt; source.len(), 7);
+    assert!(rt; source.len() == 7);
     assert!(rt; files.open(path).is_err());
     Ok(())
 }

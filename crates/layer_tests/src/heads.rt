@@ -42,9 +42,30 @@ fn header_with_dims(alloc: Global) -> Result<Header, AllocError> {
     Ok(header)
 }
 
+/// Fails unless the name is written so.
+fn expect_name(rt: &impl Abort, alloc: Global, name: &[u8], want: &[u8]) {
+    let mut sink = MemSink::new(alloc);
+    assert!(rt; put_name(&mut sink, name).is_ok());
+    assert_eq!(rt; sink.as_slice(), want);
+}
+
+/// Fails unless each of the names is written as the bytes beside it.
+fn expect_names(rt: &impl Abort, alloc: Global, rows: &[(&[u8], &[u8])]) {
+    for (name, want) in rows {
+        expect_name(rt, alloc, *name, *want);
+    }
+}
+
+/// Fails unless this is the head of a dump over so many records.
+fn expect_head(rt: &impl Abort, alloc: Global, header: &Header, records: u64, want: &[u8]) {
+    let mut sink = MemSink::new(alloc);
+    assert!(rt; put_head(&mut sink, b"t", header, records).is_ok());
+    assert_eq!(rt; sink.as_slice(), want);
+}
+
 #[test]
 fn names_are_escaped(rt: HostRuntime) {
-    let rows: [(&[u8], &[u8]); 8] = [
+    const ROWS: &[(&[u8], &[u8])] = &[
         (b"data", b"\\data"),
         (b"2 b", b"\\2\\ b"),
         (b"x", b"x"),
@@ -54,87 +75,107 @@ fn names_are_escaped(rt: HostRuntime) {
         (b"int64", b"\\int64"),
         (b"", b""),
     ];
-    for (name, want) in rows {
-        let mut sink = MemSink::new(rt.alloc());
-        assert_eq!(rt; put_name(&mut sink, name), Ok(()));
-        assert_eq!(rt; sink.as_slice(), want);
-    }
+    expect_names(&rt, rt.alloc(), ROWS);
 }
 
 #[test]
 fn dimensions_are_listed(rt: HostRuntime) -> Result<(), Fail> {
+    const WANT: &[u8] = b"netcdf t {\ndimensions:\n\tt = UNLIMITED ; // (2 currently)\n\tx = 3 ;\n";
     let header = header_with_dims(rt.alloc())?;
-    let mut sink = MemSink::new(rt.alloc());
-    assert_eq!(rt; put_head(&mut sink, b"t", &header, 2), Ok(()));
-    let want = b"netcdf t {\ndimensions:\n\tt = UNLIMITED ; // (2 currently)\n\tx = 3 ;\n";
-    assert_eq!(rt; sink.as_slice(), want.as_slice());
+    expect_head(&rt, rt.alloc(), &header, 2, WANT);
     Ok(())
 }
 
-/// A header with the variables `2 v`, which has two attributes, and `s`, which has no dimension.
-fn header_with_vars(alloc: Global) -> Result<Header, AllocError> {
-    let mut header = header_with_dims(alloc)?;
+/// The variable `2 v`, which has two dimensions and two attributes.
+fn var_with_atts(alloc: Global) -> Result<Var, AllocError> {
     let mut atts = Sequence::new(alloc);
     atts.push(att(alloc, b"units", NcType::Char, b"m")?)?;
     atts.push(att(alloc, b"valid_range", NcType::Short, b"\xff\xfe\x01\x00")?)?;
-    header.vars.push(Var {
+    Ok(Var {
         name: sequence(alloc, b"2 v")?,
         dimids: Sequence::from_vec(Vec::from_slice(alloc, &[0u64, 1])?),
         atts,
         ty: NcType::Ushort,
         begin_at: 0,
-    })?;
-    header.vars.push(Var {
+    })
+}
+
+/// The variable `s`, which has no dimension.
+fn scalar(alloc: Global) -> Result<Var, AllocError> {
+    Ok(Var {
         name: sequence(alloc, b"s")?,
         dimids: Sequence::new(alloc),
         atts: Sequence::new(alloc),
         ty: NcType::Int64,
         begin_at: 0,
-    })?;
+    })
+}
+
+/// A header with these two variables.
+fn header_with_vars(alloc: Global) -> Result<Header, AllocError> {
+    let mut header = header_with_dims(alloc)?;
+    header.vars.push(var_with_atts(alloc)?)?;
+    header.vars.push(scalar(alloc)?)?;
     Ok(header)
 }
 
 #[test]
 fn variables_are_declared(rt: HostRuntime) -> Result<(), Fail> {
-    let header = header_with_vars(rt.alloc())?;
-    let mut sink = MemSink::new(rt.alloc());
-    assert_eq!(rt; put_head(&mut sink, b"t", &header, 0), Ok(()));
-    let want =
+    const WANT: &[u8] =
         b"netcdf t {\ndimensions:\n\tt = UNLIMITED ; // (0 currently)\n\tx = 3 ;\nvariables:\n\tushort \\2\\ v(t, x) ;\n\t\t\\2\\ v:units = \"m\" ;\n\t\t\\2\\ v:valid_range = -2s, 256s ;\n\tint64 s ;\n";
-    assert_eq!(rt; sink.as_slice(), want.as_slice());
+    let header = header_with_vars(rt.alloc())?;
+    expect_head(&rt, rt.alloc(), &header, 0, WANT);
     Ok(())
 }
 
-/// Fails unless the values of an attribute are listed so.
-fn lists(rt: &impl Abort, alloc: Global, ty: NcType, vals: &[u8], want: &[u8]) -> Result<(), Fail> {
+/// A type, values of it, and how an attribute with these values lists them.
+type Listed = (NcType, &'static [u8], &'static [u8]);
+
+/// A header with the only attribute `note`, of these values.
+fn noted(alloc: Global, ty: NcType, vals: &[u8]) -> Result<Header, AllocError> {
     let mut header = empty_header(alloc);
     header.gatts.push(att(alloc, b"note", ty, vals)?)?;
-    let mut sink = MemSink::new(alloc);
-    assert_eq!(rt; put_head(&mut sink, b"t", &header, 0), Ok(()));
-    let text = sink.as_slice();
-    let line = text
-        .strip_prefix(b"netcdf t {\n\n// global attributes:\n\t\t:note = ".as_slice())
-        .ok_or("no line")?;
-    assert_eq!(rt; line.strip_suffix(b" ;\n".as_slice()), Some(want));
-    Ok(())
+    Ok(header)
 }
 
-#[test]
-fn strings_are_listed(rt: HostRuntime) -> Result<(), Fail> {
-    let rows: [(&[u8], &[u8]); 3] = [
-        (b"a\nb\n", b"\"a\\n\",\n\t\t\t\"b\\n\""),
-        (b"\t\"\\\x7f\xc3\xa9\0\0", b"\"\\t\\\"\\\\\\177\xc3\xa9\""),
-        (b"", b"\"\""),
-    ];
-    for (vals, want) in rows {
-        lists(&rt, rt.alloc(), NcType::Char, vals, want)?;
+/// The line of the head with the only attribute `note`, from its values on.
+fn line_of_note(text: &[u8]) -> Option<&[u8]> {
+    text.strip_prefix(b"netcdf t {\n\n// global attributes:\n\t\t:note = ".as_slice())?
+        .strip_suffix(b" ;\n".as_slice())
+}
+
+/// Fails unless the head lists the values of its only attribute so.
+fn expect_note(rt: &impl Abort, alloc: Global, header: &Header, want: &[u8]) {
+    let mut sink = MemSink::new(alloc);
+    assert!(rt; put_head(&mut sink, b"t", header, 0).is_ok());
+    assert_eq!(rt; line_of_note(sink.as_slice()), Some(want));
+}
+
+/// Fails unless the values of each row are listed so.
+fn list(rt: &impl Abort, alloc: Global, rows: &[Listed]) -> Result<(), Fail> {
+    for (ty, vals, want) in rows {
+        expect_note(rt, alloc, &noted(alloc, *ty, *vals)?, *want);
     }
     Ok(())
 }
 
 #[test]
+fn strings_are_listed(rt: HostRuntime) -> Result<(), Fail> {
+    const ROWS: &[Listed] = &[
+        (NcType::Char, b"a\nb\n", b"\"a\\n\",\n\t\t\t\"b\\n\""),
+        (
+            NcType::Char,
+            b"\t\"\\\x7f\xc3\xa9\0\0",
+            b"\"\\t\\\"\\\\\\177\xc3\xa9\"",
+        ),
+        (NcType::Char, b"", b"\"\""),
+    ];
+    list(&rt, rt.alloc(), ROWS)
+}
+
+#[test]
 fn numbers_are_listed(rt: HostRuntime) -> Result<(), Fail> {
-    let rows: [(NcType, &[u8], &[u8]); 9] = [
+    const ROWS: &[Listed] = &[
         (NcType::Byte, b"\xff\x01", b"-1b, 1b"),
         (NcType::Short, b"\x80\x00", b"-32768s"),
         (NcType::Int, b"\x00\x00\x01\x00\xff\xff\xff\xff", b"256, -1"),
@@ -153,8 +194,5 @@ fn numbers_are_listed(rt: HostRuntime) -> Result<(), Fail> {
         ),
         (NcType::Int, b"", b""),
     ];
-    for (ty, vals, want) in rows {
-        lists(&rt, rt.alloc(), ty, vals, want)?;
-    }
-    Ok(())
+    list(&rt, rt.alloc(), ROWS)
 }

@@ -5,9 +5,13 @@
 #[cfg(test)]
 mod device_calls;
 #[cfg(test)]
+mod device_rows;
+#[cfg(test)]
 mod heads;
 #[cfg(test)]
 mod lines;
+#[cfg(test)]
+mod name_indices;
 #[cfg(test)]
 mod sizes;
 #[cfg(test)]

@@ -8,6 +8,7 @@ use std::alloc::{AllocError, Global};
 use std::process::Abort;
 use std::test::Fail;
 
+/// A variable without a name and attributes.
 fn variable(alloc: Global, dimids: &[u64], ty: NcType, begin_at: u64) -> Result<Var, AllocError> {
     let mut ids = Sequence::new(alloc);
     ids.extend_from_slice(dimids)?;
@@ -46,22 +47,55 @@ fn header(
     })
 }
 
-fn expect_slab(rt: &impl Abort, header: &Header, dimids: &[u64], ty: NcType, slab: Option<u64>) {
-    let dims = header.dims.as_slice();
+/// The ids of a variable's dimensions, its type and where it begins.
+type Shape = (&'static [u64], NcType, u64);
+
+/// Fails unless a variable of this shape and type has slabs of so many bytes.
+fn expect_slab(rt: &impl Abort, dims: &[Dim], dimids: &[u64], ty: NcType, slab: Option<u64>) {
     assert!(rt; dimids.iter().all(|id| *id < dims.len() as u64));
     assert_eq!(rt; slab_of(dims, dimids, ty), slab);
 }
 
-fn expect_record(rt: &impl Abort, header: &Header, record: Option<u64>) {
-    assert!(rt; header.sound());
-    assert_eq!(rt; rec_size(header), record);
+/// Fails unless variables of these shapes and types have slabs of so many bytes, where the dimensions have these lengths.
+fn expect_slabs(
+    rt: &impl Abort,
+    alloc: Global,
+    lens: &[u64],
+    rows: &[(&[u64], NcType, Option<u64>)],
+) -> Result<(), Fail> {
+    let header = header(alloc, lens, &[])?;
+    for (dimids, ty, slab) in rows {
+        expect_slab(rt, header.dims.as_slice(), *dimids, *ty, *slab);
+    }
+    Ok(())
 }
 
+/// Fails unless a record of the header has so many bytes.
+fn expect_record(rt: &impl Abort, header: &Header, record: u64) {
+    assert!(rt; header.sound());
+    assert_eq!(rt; rec_size(header), Some(record));
+}
+
+/// Fails unless the records of variables of these shapes have so many bytes, where the dimensions have these lengths.
+fn expect_record_sizes(
+    rt: &impl Abort,
+    alloc: Global,
+    lens: &[u64],
+    rows: &[(&[Shape], u64)],
+) -> Result<(), Fail> {
+    for (shapes, record) in rows {
+        expect_record(rt, &header(alloc, lens, *shapes)?, *record);
+    }
+    Ok(())
+}
+
+/// Fails unless the header has so many records in a file of this length.
 fn expect_records(rt: &impl Abort, header: &Header, len: u64, count: u64) {
     assert!(rt; header.sound());
     assert_eq!(rt; records(header, len), count);
 }
 
+/// Fails unless the values of variable `v` end there over so many records.
 fn expect_end(rt: &impl Abort, header: &Header, v: usize, count: u64, end: u128) {
     assert!(rt; header.sound());
     assert!(rt; v < header.vars.len());
@@ -70,61 +104,64 @@ fn expect_end(rt: &impl Abort, header: &Header, v: usize, count: u64, end: u128)
 
 #[test]
 fn slabs_leave_out_the_record_dimension(rt: HostRuntime) -> Result<(), Fail> {
-    let small = header(rt.alloc(), &[0, 3, 2], &[])?;
-    expect_slab(&rt, &small, &[], NcType::Int, Some(4));
-    expect_slab(&rt, &small, &[1], NcType::Short, Some(6));
-    expect_slab(&rt, &small, &[0, 2, 2], NcType::Int, Some(16));
-    Ok(())
+    const ROWS: &[(&[u64], NcType, Option<u64>)] = &[
+        (&[], NcType::Int, Some(4)),
+        (&[1], NcType::Short, Some(6)),
+        (&[0, 2, 2], NcType::Int, Some(16)),
+    ];
+    expect_slabs(&rt, rt.alloc(), &[0, 3, 2], ROWS)
 }
 
 #[test]
 fn slabs_end_at_their_limit(rt: HostRuntime) -> Result<(), Fail> {
-    let lens = [
+    const LENS: &[u64] = &[
         2147483647,
         16777216,
         281474976710657,
         9223372036854775807,
         0,
     ];
-    let large = header(rt.alloc(), &lens, &[])?;
-    expect_slab(&rt, &large, &[0, 0], NcType::Byte, None);
-    expect_slab(&rt, &large, &[1, 1], NcType::Byte, Some(281474976710656));
-    expect_slab(&rt, &large, &[2], NcType::Byte, None);
-    expect_slab(&rt, &large, &[3], NcType::Int64, None);
-    expect_slab(&rt, &large, &[3, 3, 4], NcType::Int64, Some(0));
-    Ok(())
+    const ROWS: &[(&[u64], NcType, Option<u64>)] = &[
+        (&[0, 0], NcType::Byte, None),
+        (&[1, 1], NcType::Byte, Some(281474976710656)),
+        (&[2], NcType::Byte, None),
+        (&[3], NcType::Int64, None),
+        (&[3, 3, 4], NcType::Int64, Some(0)),
+    ];
+    expect_slabs(&rt, rt.alloc(), LENS, ROWS)
 }
 
 #[test]
 fn sole_narrow_record_variable_is_not_padded(rt: HostRuntime) -> Result<(), Fail> {
-    let byte = (&[0u64] as &[u64], NcType::Byte, 116);
-    let short = (&[0u64] as &[u64], NcType::Short, 120);
-    let shorts = (&[0u64, 2] as &[u64], NcType::Short, 0);
-    let int = (&[0u64] as &[u64], NcType::Int, 0);
-    let square = (&[0u64, 1, 1] as &[u64], NcType::Int, 0);
-    let fixed = (&[1u64] as &[u64], NcType::Int, 0);
-    let cases = [
-        (&[fixed] as &[(&[u64], NcType, u64)], 0),
-        (&[fixed, byte], 1),
-        (&[byte, short], 8),
-        (&[shorts, fixed], 6),
-        (&[shorts, shorts], 16),
-        (&[int, square], 20),
+    const BYTE: Shape = (&[0], NcType::Byte, 116);
+    const SHORT: Shape = (&[0], NcType::Short, 120);
+    const SHORTS: Shape = (&[0, 2], NcType::Short, 0);
+    const INT: Shape = (&[0], NcType::Int, 0);
+    const SQUARE: Shape = (&[0, 1, 1], NcType::Int, 0);
+    const FIXED: Shape = (&[1], NcType::Int, 0);
+    const ROWS: &[(&[Shape], u64)] = &[
+        (&[FIXED], 0),
+        (&[FIXED, BYTE], 1),
+        (&[BYTE, SHORT], 8),
+        (&[SHORTS, FIXED], 6),
+        (&[SHORTS, SHORTS], 16),
+        (&[INT, SQUARE], 20),
     ];
-    for (shapes, record) in cases {
-        expect_record(&rt, &header(rt.alloc(), &[0, 2, 3], shapes)?, Some(record));
-    }
-    Ok(())
+    expect_record_sizes(&rt, rt.alloc(), &[0, 2, 3], ROWS)
 }
+
+/// A variable that is no record variable, and two that are.
+const FIXED: Shape = (&[1], NcType::Short, 100);
+
+const BYTE: Shape = (&[0], NcType::Byte, 116);
+
+const SHORT: Shape = (&[0], NcType::Short, 120);
 
 #[test]
 fn records_are_counted_from_the_least_begin(rt: HostRuntime) -> Result<(), Fail> {
-    let fixed = (&[1u64] as &[u64], NcType::Short, 100);
-    let byte = (&[0u64] as &[u64], NcType::Byte, 116);
-    let short = (&[0u64] as &[u64], NcType::Short, 120);
-    let without = header(rt.alloc(), &[0, 3], &[fixed])?;
+    let without = header(rt.alloc(), &[0, 3], &[FIXED])?;
     expect_records(&rt, &without, 139, 0);
-    let streaming = header(rt.alloc(), &[0, 3], &[fixed, short, byte])?;
+    let streaming = header(rt.alloc(), &[0, 3], &[FIXED, SHORT, BYTE])?;
     expect_records(&rt, &streaming, 139, 2);
     expect_records(&rt, &streaming, 100, 0);
     expect_end(&rt, &streaming, 0, 3, 106);
@@ -133,21 +170,35 @@ fn records_are_counted_from_the_least_begin(rt: HostRuntime) -> Result<(), Fail>
     Ok(())
 }
 
-#[test]
-fn sound_headers_keep_the_limits(rt: HostRuntime) -> Result<(), Fail> {
-    let fine = (&[0u64, 1] as &[u64], NcType::Ubyte, 0);
-    let reversed = (&[1u64, 0] as &[u64], NcType::Ubyte, 0);
-    let unknown = (&[2u64] as &[u64], NcType::Ubyte, 0);
-    assert!(rt; header(rt.alloc(), &[0, 3], &[fine])?.sound());
-    assert!(rt; !header(rt.alloc(), &[0, 3], &[reversed])?.sound());
-    assert!(rt; !header(rt.alloc(), &[0, 3], &[unknown])?.sound());
-    assert!(rt; !header(rt.alloc(), &[0, 0], &[fine])?.sound());
+/// Fails unless a header with this variable alone is sound, or is not, as the last of a row says.
+fn expect_sound(
+    rt: &impl Abort,
+    alloc: Global,
+    rows: &[(&[u64], Shape, bool)],
+) -> Result<(), Fail> {
+    for (lens, shape, is_sound) in rows {
+        let header = header(alloc, *lens, &[*shape])?;
+        assert!(rt; header.sound() == *is_sound);
+    }
     Ok(())
 }
 
 #[test]
-fn weight_counts_names_values_and_ids(rt: HostRuntime) -> Result<(), Fail> {
-    let alloc = rt.alloc();
+fn sound_headers_keep_the_limits(rt: HostRuntime) -> Result<(), Fail> {
+    const FINE: Shape = (&[0, 1], NcType::Ubyte, 0);
+    const REVERSED: Shape = (&[1, 0], NcType::Ubyte, 0);
+    const UNKNOWN: Shape = (&[2], NcType::Ubyte, 0);
+    const ROWS: &[(&[u64], Shape, bool)] = &[
+        (&[0, 3], FINE, true),
+        (&[0, 3], REVERSED, false),
+        (&[0, 3], UNKNOWN, false),
+        (&[0, 0], FINE, false),
+    ];
+    expect_sound(&rt, rt.alloc(), ROWS)
+}
+
+/// The attribute `title`, of 13 characters.
+fn title(alloc: Global) -> Result<Att, AllocError> {
     let mut title = Att {
         name: Sequence::new(alloc),
         ty: NcType::Char,
@@ -155,8 +206,13 @@ fn weight_counts_names_values_and_ids(rt: HostRuntime) -> Result<(), Fail> {
     };
     title.name.extend_from_slice(b"title")?;
     title.vals.extend_from_slice(b"sizes by hand")?;
-    let mut small = header(alloc, &[0, 3], &[(&[0, 1], NcType::Short, 0)])?;
-    small.gatts.push(title)?;
+    Ok(title)
+}
+
+#[test]
+fn weight_counts_names_values_and_ids(rt: HostRuntime) -> Result<(), Fail> {
+    let mut small = header(rt.alloc(), &[0, 3], &[(&[0, 1], NcType::Short, 0)])?;
+    small.gatts.push(title(rt.alloc())?)?;
     assert_eq!(rt; weight(&small), 24);
     Ok(())
 }

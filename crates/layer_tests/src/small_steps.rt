@@ -1,10 +1,9 @@
 //! Tests of the devices that give and take few bytes at a time.
 
-ghost use Rattle.std.specs.Prelude.{◌<◌, ◌≤◌, length};
+ghost use Rattle.std.specs.Prelude.{◌≤◌, length};
 
-use devices::{
-    DripSource, FailWhen, Sink, SinkFailed, SliceSink, Source, SourceFailed, WriteFailed, put,
-};
+use crate::device_rows::{Read, drip_of, expect_bytes, expect_put, expect_reads, expect_write};
+use devices::{DripSource, FailWhen, SinkFailed, SliceSink, Source, SourceFailed, WriteFailed};
 use nc_base::FormatFault;
 use nc_file::{HeadFault, read_header};
 use std::alloc::Global;
@@ -25,6 +24,35 @@ fn has_no_dims<S: Source>(alloc: Global, source: &mut S, buf: &mut [u8]) -> Resu
     Ok(read_header(alloc, source, buf)?.dims.is_empty())
 }
 
+/// Fails unless reading the header from the source, through a buffer of so many bytes, gives that answer.
+fn expect_header(
+    rt: &impl Abort,
+    alloc: Global,
+    source: &mut DripSource<'_>,
+    buffer_len: usize,
+    want: Result<bool, HeadFault>,
+) {
+    let mut space = [0; 4096];
+    assert!(rt; 16 <= buffer_len && buffer_len <= 4096);
+    let found = has_no_dims(alloc, source, &mut space[..buffer_len]);
+    assert_eq!(rt; found, want);
+}
+
+/// Reads the header with its nth read failing.
+fn fails_to_read(
+    rt: &impl Abort,
+    alloc: Global,
+    file: &[u8],
+    step: usize,
+    buffer_len: usize,
+    n: u64,
+) {
+    let mut source = drip_of(rt, file, step, FailWhen::Read(n));
+    let failed = Err(HeadFault::ReadFailed);
+    expect_header(rt, alloc, &mut source, buffer_len, failed);
+    assert!(rt; source.handed() == n as u128 * step as u128, "at {n}");
+}
+
 /// Reads the header with no failing read, and then with each of its reads failing in turn.
 fn reads_header(
     rt: &impl Abort,
@@ -32,143 +60,116 @@ fn reads_header(
     file: &[u8],
     want: Result<bool, HeadFault>,
     step: usize,
-    buf: &mut [u8],
-)
-    requires some { 1 ≤ step }
-    requires buffer_len { 16 ≤ length buf.old }
-{
-    let mut source = DripSource::new(file, step, FailWhen::Never);
-    assert_eq!(rt; has_no_dims(alloc, &mut source, buf), want);
-    assert_eq!(rt; source.handed(), file.len() as u128);
+    buffer_len: usize,
+) {
+    let mut source = drip_of(rt, file, step, FailWhen::Never);
+    expect_header(rt, alloc, &mut source, buffer_len, want);
+    assert!(rt; source.handed() == file.len() as u128);
 
+    assert!(rt; 1 <= step);
     let reads = file.len().div_ceil(step) as u64;
     for n in 0..reads {
-        let mut source = DripSource::new(file, step, FailWhen::Read(n));
-        assert_eq!(rt;
-            has_no_dims(alloc, &mut source, buf),
-            Err(HeadFault::ReadFailed),
-            "at {n}"
-        );
-        assert_eq!(rt; source.handed(), n as u128 * step as u128, "at {n}");
+        fails_to_read(rt, alloc, file, step, buffer_len, n);
     }
-    let mut source = DripSource::new(file, step, FailWhen::Read(reads));
-    assert_eq!(rt; has_no_dims(alloc, &mut source, buf), want);
-}
-
-/// Reads both headers through buffers of several lengths.
-fn reads_headers(rt: &impl Abort, alloc: Global, step: usize)
-    requires { 1 ≤ step }
-{
-    let cut = Err(HeadFault::Format(FormatFault::HeaderTruncated));
-    reads_header(rt, alloc, &EMPTY, Ok(true), step, &mut [0; 16]);
-    reads_header(rt, alloc, &EMPTY, Ok(true), step, &mut [0; 17]);
-    reads_header(rt, alloc, &EMPTY, Ok(true), step, &mut [0; 31]);
-    reads_header(rt, alloc, &EMPTY, Ok(true), step, &mut [0; 4096]);
-    reads_header(rt, alloc, &CUT, cut, step, &mut [0; 16]);
-    reads_header(rt, alloc, &CUT, cut, step, &mut [0; 17]);
-    reads_header(rt, alloc, &CUT, cut, step, &mut [0; 31]);
-    reads_header(rt, alloc, &CUT, cut, step, &mut [0; 4096]);
+    let mut source = drip_of(rt, file, step, FailWhen::Read(reads));
+    expect_header(rt, alloc, &mut source, buffer_len, want);
 }
 
 #[test]
 fn header_drips_in(rt: HostRuntime) {
-    reads_headers(&rt, rt.alloc(), 1);
-    reads_headers(&rt, rt.alloc(), 3);
-    reads_headers(&rt, rt.alloc(), 7);
-}
-
-/// Reads from this offset on, which has to be before the source's end.
-fn reads(
-    rt: &impl Abort,
-    source: &mut DripSource<'_>,
-    at: u64,
-    into: &mut [u8],
-) -> Result<usize, SourceFailed>
-    requires { 0 < length into.old }
-{
-    assert!(rt; at < source.len());
-    source.read_at(at, into)
-}
-
-/// Reads ten bytes to their end.
-fn drips_to_the_end(rt: &impl Abort, alloc: Global, step: usize) -> Result<(), Fail>
-    requires { 1 ≤ step }
-{
-    let bytes = b"abcdefghij";
-    let mut source = DripSource::new(bytes, step, FailWhen::Never);
-    let mut all = Vec::new(alloc);
-    assert_eq!(rt; source.len(), 10);
-    for _ in 0..10usize.div_ceil(step) {
-        let at = all.len();
-        let mut into = [0; 10];
-        if let Ok(n) = reads(rt, &mut source, at as u64, &mut into) {
-            assert_eq!(rt; n, step.min(10usize.saturating_sub(at)), "at {at}");
-            all.extend_from_slice(&into[..n])?;
+    for step in [1, 3, 7] {
+        for buffer_len in [16, 17, 31, 4096] {
+            reads_header(&rt, rt.alloc(), &EMPTY, Ok(true), step, buffer_len);
         }
-        assert_eq!(rt; source.handed(), all.len() as u128, "at {at}");
     }
-    assert_eq!(rt; all.as_slice(), bytes.as_slice());
-    Ok(())
 }
 
 #[test]
-fn drip_hands_over_its_bytes(rt: HostRuntime) -> Result<(), Fail> {
-    drips_to_the_end(&rt, rt.alloc(), 1)?;
-    drips_to_the_end(&rt, rt.alloc(), 3)?;
-    drips_to_the_end(&rt, rt.alloc(), 7)
+fn cut_header_drips_in(rt: HostRuntime) {
+    for step in [1, 3, 7] {
+        for buffer_len in [16, 17, 31, 4096] {
+            let cut = Err(HeadFault::Format(FormatFault::HeaderTruncated));
+            reads_header(&rt, rt.alloc(), &CUT, cut, step, buffer_len);
+        }
+    }
+}
+
+/// Ten bytes, one unlike the other.
+const TEXT: [u8; 10] = *b"abcdefghij";
+
+/// Fails unless a read from this offset on gives the next bytes of the text, as many as a step has.
+fn expect_drip(rt: &impl Abort, source: &mut DripSource<'_>, at: usize, step: usize) {
+    let past = at.saturating_add(step).min(10);
+    assert!(rt; at < past && past <= 10 && (at as u64) < source.len());
+    let mut into = [0; 10];
+    let found = source.read_at(at as u64, &mut into);
+    assert!(rt; found == Ok(past - at), "at {at}");
+    assert!(rt; into.starts_with(&TEXT[at..past]), "at {at}");
+    assert!(rt; source.handed() == past as u128, "at {at}");
+}
+
+#[test]
+fn drip_hands_over_its_bytes(rt: HostRuntime) {
+    for step in [1usize, 3, 7] {
+        let mut source = drip_of(&rt, &TEXT, step, FailWhen::Never);
+        assert!(rt; source.len() == 10);
+        for n in 0..10usize.div_ceil(step) {
+            expect_drip(&rt, &mut source, n * step, step);
+        }
+    }
 }
 
 #[test]
 fn drip_fails_from_an_offset_on(rt: HostRuntime) {
-    let mut source = DripSource::new(b"abcdefghij", 3, FailWhen::From(4));
-    let mut into = [0; 10];
-    assert_eq!(rt; reads(&rt, &mut source, 3, &mut into), Ok(3));
-    assert_eq!(rt; &into[..3], b"def".as_slice());
-    assert_eq!(rt; reads(&rt, &mut source, 4, &mut into), Err(SourceFailed));
-    assert_eq!(rt; reads(&rt, &mut source, 9, &mut into), Err(SourceFailed));
-    assert_eq!(rt; reads(&rt, &mut source, 0, &mut into), Ok(3));
-    assert_eq!(rt; reads(&rt, &mut source, 5, &mut into), Err(SourceFailed));
-    assert_eq!(rt; source.handed(), 6);
+    const READS: [Read; 5] = [
+        (3, Ok(3), b"def"),
+        (4, Err(SourceFailed), b""),
+        (9, Err(SourceFailed), b""),
+        (0, Ok(3), b"abc"),
+        (5, Err(SourceFailed), b""),
+    ];
+    let mut source = drip_of(&rt, &TEXT, 3, FailWhen::From(4));
+    expect_reads(&rt, &mut source, 10, &READS);
+    assert!(rt; source.handed() == 6);
 }
 
 #[test]
 fn drip_fails_once(rt: HostRuntime) {
-    let mut source = DripSource::new(b"abcdefghij", 3, FailWhen::Read(1));
-    let mut into = [0; 10];
-    assert_eq!(rt; reads(&rt, &mut source, 0, &mut into), Ok(3));
-    assert_eq!(rt; reads(&rt, &mut source, 3, &mut into), Err(SourceFailed));
-    assert_eq!(rt; reads(&rt, &mut source, 3, &mut into), Ok(3));
-    assert_eq!(rt; &into[..3], b"def".as_slice());
-    assert_eq!(rt; source.handed(), 6);
+    const READS: [Read; 3] = [
+        (0, Ok(3), b"abc"),
+        (3, Err(SourceFailed), b""),
+        (3, Ok(3), b"def"),
+    ];
+    let mut source = drip_of(&rt, &TEXT, 3, FailWhen::Read(1));
+    expect_reads(&rt, &mut source, 10, &READS);
+    assert!(rt; source.handed() == 6);
 }
 
-/// Puts ten bytes into slices of each length up to ten.
-fn fills_slices(rt: &impl Abort, step: usize)
-    requires { 1 ≤ step }
-{
-    let text = b"abcdefghij";
-    for len in 0..11 {
-        let mut space = [0; 10];
-        let mut sink = SliceSink::new(&mut space[..len], step);
-        let want = if len < 10 { Err(WriteFailed) } else { Ok(()) };
-        assert_eq!(rt; put(&mut sink, text), want, "at {len}");
-        assert_eq!(rt; sink.taken(), &text[..len], "at {len}");
-        assert_eq!(rt; sink.write_some(b""), Ok(0), "at {len}");
-        assert_eq!(rt; sink.write_some(b"k"), Err(SinkFailed), "at {len}");
-    }
+/// Puts ten bytes into a slice of this length, up to ten.
+fn fills_slice(rt: &impl Abort, step: usize, len: usize) {
+    let mut space = [0; 10];
+    assert!(rt; 1 <= step && len <= 10);
+    let mut sink = SliceSink::new(&mut space[..len], step);
+    let want = if len < 10 { Err(WriteFailed) } else { Ok(()) };
+    expect_put(rt, &mut sink, &TEXT, want);
+    expect_bytes(rt, sink.taken(), &TEXT[..len]);
+    expect_write(rt, &mut sink, b"", Ok(0));
+    expect_write(rt, &mut sink, b"k", Err(SinkFailed));
 }
 
 #[test]
 fn slice_takes_what_fits(rt: HostRuntime) {
-    fills_slices(&rt, 1);
-    fills_slices(&rt, 7);
+    for len in 0..11 {
+        fills_slice(&rt, 1, len);
+        fills_slice(&rt, 7, len);
+    }
 }
 
 #[test]
 fn slice_takes_few_bytes_a_call(rt: HostRuntime) {
     let mut space = [0; 10];
     let mut sink = SliceSink::new(&mut space, 7);
-    assert_eq!(rt; sink.write_some(b"abcdefgh"), Ok(7));
-    assert_eq!(rt; sink.write_some(b"hijkl"), Ok(3));
-    assert_eq!(rt; sink.taken(), b"abcdefghij".as_slice());
+    expect_write(&rt, &mut sink, b"abcdefgh", Ok(7));
+    expect_write(&rt, &mut sink, b"hijkl", Ok(3));
+    expect_bytes(&rt, sink.taken(), b"abcdefghij");
 }

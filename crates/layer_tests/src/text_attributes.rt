@@ -1,9 +1,10 @@
 //! Attributes, as statements of CDL text declare them.
 
+use crate::name_indices::index_of;
 use cdl_parse::{Attributes, read_attribute, variable_position};
 use cdl_text::{CdlKind, Cutter, Due, first_pass};
 use cdl_values::{NameIndex, ReadError};
-use nc_base::{NcType, Version};
+use nc_base::{Att, NcType, Version};
 use std::alloc::Global;
 use std::process::Abort;
 use std::test::*;
@@ -27,34 +28,33 @@ fn add(
     read_attribute(alloc, attributes, start)
 }
 
-fn expect_attribute(
-    rt: &impl Abort,
-    alloc: Global,
-    version: Version,
-    text: &[u8],
-    ty: NcType,
-    vals: &[u8],
-) {
+/// Fails unless this is the attribute `a` of this type, with values of these bytes.
+fn expect_attribute(rt: &impl Abort, found: Option<&Att>, ty: NcType, vals: &[u8]) {
+    match found {
+        Some(att) => {
+            assert!(rt; att.name.as_slice() == b"a".as_slice());
+            assert!(rt; att.ty == ty);
+            assert!(rt; att.vals.as_slice() == vals, "{ty:?}");
+        }
+        None => assert!(rt; false, "{ty:?}"),
+    }
+}
+
+/// Fails unless the text declares the attribute `a` of this type, with values of these bytes.
+fn declares(rt: &impl Abort, alloc: Global, text: &[u8], ty: NcType, vals: &[u8]) {
     let mut attributes = Attributes::new(alloc);
-    match add(alloc, &mut attributes, version, text) {
+    match add(alloc, &mut attributes, Version::Cdf5, text) {
         Ok(()) => {
             let list = attributes.into_sequence();
-            match list.as_slice().first() {
-                Some(att) => {
-                    assert_eq!(rt; att.name.as_slice(), b"a".as_slice());
-                    assert_eq!(rt; att.ty, ty);
-                    assert_eq!(rt; att.vals.as_slice(), vals);
-                }
-                None => assert!(rt; false),
-            }
+            expect_attribute(rt, list.as_slice().first(), ty, vals);
         }
-        Err(e) => assert_eq!(rt; e, ReadError::OutOfMemory),
+        Err(e) => assert!(rt; e == ReadError::OutOfMemory, "{text:?}"),
     }
 }
 
 #[test]
 fn constants_are_packed(rt: HostRuntime) {
-    let rows: [(&[u8], NcType, &[u8]); 7] = [
+    const ROWS: [(&[u8], NcType, &[u8]); 7] = [
         (
             b"a = 1, -2 ;",
             NcType::Int,
@@ -71,14 +71,33 @@ fn constants_are_packed(rt: HostRuntime) {
             b"\xff\xff\xff\xff\xff\xff\xff\xff",
         ),
     ];
-    for (text, ty, vals) in rows {
-        expect_attribute(&rt, rt.alloc(), Version::Cdf5, text, ty, vals);
+    for (text, ty, vals) in ROWS {
+        declares(&rt, rt.alloc(), text, ty, vals);
     }
+}
+
+/// Fails unless the answer is this fault, or that memory was refused.
+fn expect_fault(rt: &impl Abort, answer: Result<(), ReadError>, kind: CdlKind) {
+    match answer {
+        Ok(()) => assert!(rt; false, "{kind:?}"),
+        Err(ReadError::Fault(fault)) => assert!(rt; fault == kind, "{kind:?}"),
+        Err(ReadError::OutOfMemory) => {}
+    }
+}
+
+/// Fails unless the text has this fault after an attribute `t`, and no attribute is added.
+fn refuses(rt: &impl Abort, alloc: Global, text: &[u8], kind: CdlKind) {
+    let mut attributes = Attributes::new(alloc);
+    match add(alloc, &mut attributes, Version::Cdf1, b"t = 1 ;") {
+        Ok(()) => expect_fault(rt, add(alloc, &mut attributes, Version::Cdf1, text), kind),
+        Err(e) => assert!(rt; e == ReadError::OutOfMemory),
+    }
+    assert!(rt; attributes.into_sequence().len() <= 1);
 }
 
 #[test]
 fn first_fault_of_an_attribute_wins(rt: HostRuntime) {
-    let rows: [(&[u8], CdlKind); 12] = [
+    const ROWS: [(&[u8], CdlKind); 12] = [
         (b"t = 1, %, 08 ;", CdlKind::BadToken),
         (b"t = 1 08 ;", CdlKind::BadNumber),
         (b"t = 1ub ;", CdlKind::BadNumber),
@@ -92,65 +111,68 @@ fn first_fault_of_an_attribute_wins(rt: HostRuntime) {
         (b"a = -129b ;", CdlKind::NumberRange),
         (b"a = 2147483648 ;", CdlKind::NumberRange),
     ];
-    for (text, kind) in rows {
-        let mut attributes = Attributes::new(rt.alloc());
-        match add(rt.alloc(), &mut attributes, Version::Cdf1, b"t = 1 ;") {
-            Ok(()) => match add(rt.alloc(), &mut attributes, Version::Cdf1, text) {
-                Ok(()) => assert!(rt; false),
-                Err(ReadError::Fault(fault)) => assert_eq!(rt; fault, kind),
-                Err(ReadError::OutOfMemory) => {}
-            },
-            Err(e) => assert_eq!(rt; e, ReadError::OutOfMemory),
-        }
-        assert!(rt; attributes.into_sequence().len() <= 1);
+    for (text, kind) in ROWS {
+        refuses(&rt, rt.alloc(), text, kind);
+    }
+}
+
+/// Adds the attribute of the text, where memory allows.
+fn add_if_room(rt: &impl Abort, alloc: Global, attributes: &mut Attributes, text: &[u8]) {
+    match add(alloc, attributes, Version::Cdf1, text) {
+        Ok(()) => {}
+        Err(e) => assert!(rt; e == ReadError::OutOfMemory, "{text:?}"),
+    }
+}
+
+/// Fails unless these are the names of the attributes.
+fn expect_names(rt: &impl Abort, atts: &[Att], names: &[&[u8]]) {
+    for (att, name) in atts.iter().zip(names.iter()) {
+        assert!(rt; att.name.as_slice() == *name, "{name:?}");
     }
 }
 
 #[test]
 fn attributes_stand_in_the_order_of_the_text(rt: HostRuntime) {
+    const TEXTS: [&[u8]; 3] = [b"z = 1 ;", b"a = \"x\" ;", b"m = 2b ;"];
+    const NAMES: [&[u8]; 3] = [b"z", b"a", b"m"];
     let mut attributes = Attributes::new(rt.alloc());
-    let rows: [&[u8]; 3] = [b"z = 1 ;", b"a = \"x\" ;", b"m = 2b ;"];
-    for text in rows {
-        match add(rt.alloc(), &mut attributes, Version::Cdf1, text) {
-            Ok(()) => {}
-            Err(e) => assert_eq!(rt; e, ReadError::OutOfMemory),
-        }
+    for text in TEXTS {
+        add_if_room(&rt, rt.alloc(), &mut attributes, text);
     }
     assert!(rt; !attributes.has_name(b"b"));
-    let names = [b"z", b"a", b"m"];
     let list = attributes.into_sequence();
-    for (att, name) in list.as_slice().iter().zip(names.iter()) {
-        if list.len() == 3 {
-            assert_eq!(rt; att.name.as_slice(), name.as_slice());
-        }
+    if list.len() == 3 {
+        expect_names(&rt, list.as_slice(), &NAMES);
     }
 }
 
-/// An index of two names.
-fn index_of(alloc: Global, first: &[u8], second: &[u8]) -> Result<NameIndex, ReadError> {
-    let mut index = NameIndex::new(alloc);
-    let first = Vec::from_slice(alloc, first).map_err(|_| ReadError::OutOfMemory)?;
-    index.add(first, 0).map_err(|_| ReadError::OutOfMemory)?;
-    let second = Vec::from_slice(alloc, second).map_err(|_| ReadError::OutOfMemory)?;
-    index.add(second, 1).map_err(|_| ReadError::OutOfMemory)?;
-    Ok(index)
+/// Fails unless the word names the variable in this place, or has this fault.
+fn expect_position(
+    rt: &impl Abort,
+    alloc: Global,
+    index: &NameIndex,
+    word: &[u8],
+    want: Result<u64, ReadError>,
+) {
+    let found = variable_position(alloc, index, word);
+    assert!(rt;
+        found == want || found == Err(ReadError::OutOfMemory),
+        "{word:?}"
+    );
 }
 
 #[test]
 fn variables_are_found_by_name(rt: HostRuntime) {
-    let rows: [(&[u8], Result<u64, ReadError>); 4] = [
+    const NAMES: [&[u8]; 2] = [b"v", b"w x"];
+    const ROWS: [(&[u8], Result<u64, ReadError>); 4] = [
         (b"v", Ok(0)),
         (b"w\\ x", Ok(1)),
         (b"w", Err(ReadError::Fault(CdlKind::UnknownVariable))),
         (b"w\\/x", Err(ReadError::Fault(CdlKind::BadName))),
     ];
-    for (word, want) in rows {
-        match index_of(rt.alloc(), b"v", b"w x") {
-            Ok(index) => {
-                let found = variable_position(rt.alloc(), &index, word);
-                assert!(rt; found == want || found == Err(ReadError::OutOfMemory));
-            }
-            Err(e) => assert_eq!(rt; e, ReadError::OutOfMemory),
+    if let Ok(index) = index_of(rt.alloc(), &NAMES) {
+        for (word, want) in ROWS {
+            expect_position(&rt, rt.alloc(), &index, word, want);
         }
     }
 }

@@ -1,22 +1,16 @@
 //! The data section of CDL text.
 
+use crate::name_indices::index_of;
 use cdl_parse::{DataSection, ParseError, read_data};
 use cdl_text::{CdlFault, CdlKind, Cutter, TokenKind};
-use cdl_values::{Array, Fill, Filling, NameIndex, Target};
+use cdl_values::{Array, Fill, Filling, Target};
 use nc_base::{NcType, Version};
 use std::alloc::{AllocError, Global};
 use std::process::Abort;
 use std::test::*;
 
-/// An index of the names `v` and `c`.
-fn index(alloc: Global) -> Result<NameIndex, AllocError> {
-    let names: [&[u8]; 2] = [b"v", b"c"];
-    let mut index = NameIndex::new(alloc);
-    for (position, name) in names.iter().enumerate() {
-        index.add(Vec::from_slice(alloc, *name)?, position as u64)?;
-    }
-    Ok(index)
-}
+/// The names of the variables.
+const NAMES: [&[u8]; 2] = [b"v", b"c"];
 
 /// What `v` and `c` take: three shorts, and four characters.
 fn targets(alloc: Global) -> Result<Vec<Target>, AllocError> {
@@ -36,7 +30,7 @@ fn targets(alloc: Global) -> Result<Vec<Target>, AllocError> {
 
 /// Reads a text that is a data section from its start on.
 fn section(alloc: Global, start: Cutter<'_>) -> Result<DataSection<'_>, ParseError> {
-    let index = index(alloc).map_err(|_| ParseError::OutOfMemory)?;
+    let index = index_of(alloc, &NAMES).map_err(|_| ParseError::OutOfMemory)?;
     let targets = targets(alloc).map_err(|_| ParseError::OutOfMemory)?;
     read_data(alloc, &index, targets, start)
 }
@@ -53,34 +47,51 @@ fn expect_last(rt: &impl Abort, arrays: &mut Vec<Array>, want: &[u8]) {
     }
 }
 
+/// Fails unless the section is closed, its text ends there, and the variables have these bytes.
+fn expect_arrays(rt: &impl Abort, found: DataSection<'_>, v: &[u8], c: &[u8]) {
+    assert!(rt; found.is_closed);
+    assert!(rt; !found.rest.is_done());
+    assert!(rt; found.rest.lexeme().kind == TokenKind::End);
+    let mut arrays = found.arrays;
+    expect_last(rt, &mut arrays, c);
+    expect_last(rt, &mut arrays, v);
+    assert!(rt; arrays.is_empty());
+}
+
+/// Fails unless the text gives these bytes to the variables.
+fn gives(rt: &impl Abort, alloc: Global, text: &[u8], v: &[u8], c: &[u8]) {
+    match section(alloc, Cutter::new(text, Version::Cdf1)) {
+        Ok(found) => expect_arrays(rt, found, v, c),
+        Err(e) => assert!(rt; e == ParseError::OutOfMemory, "{text:?}"),
+    }
+}
+
 #[test]
 fn values_go_to_their_variables(rt: HostRuntime) {
-    let rows: [(&[u8], &[u8], &[u8]); 5] = [
+    const ROWS: [(&[u8], &[u8], &[u8]); 5] = [
         (b"c = \"ab\" ; v = 1, 2 ; }", b"\x00\x01\x00\x02", b"ab"),
         (b"v = 1, 2 ;\nc = \"ab\" ;\n}", b"\x00\x01\x00\x02", b"ab"),
         (b"c = \"ab\" ; }", b"", b"ab"),
         (b"\\v = _ ; }", b"\x80\x01", b""),
         (b"}", b"", b""),
     ];
-    for (text, v, c) in rows {
-        match section(rt.alloc(), Cutter::new(text, Version::Cdf1)) {
-            Ok(found) => {
-                assert!(rt; found.is_closed);
-                assert!(rt; !found.rest.is_done());
-                assert_eq!(rt; found.rest.lexeme().kind, TokenKind::End);
-                let mut arrays = found.arrays;
-                expect_last(&rt, &mut arrays, c);
-                expect_last(&rt, &mut arrays, v);
-                assert!(rt; arrays.is_empty());
-            }
-            Err(e) => assert_eq!(rt; e, ParseError::OutOfMemory),
-        }
+    for (text, v, c) in ROWS {
+        gives(&rt, rt.alloc(), text, v, c);
+    }
+}
+
+/// Fails unless the text has this fault.
+fn refuses(rt: &impl Abort, alloc: Global, text: &[u8], want: CdlFault) {
+    match section(alloc, Cutter::new(text, Version::Cdf1)) {
+        Ok(_) => assert!(rt; false, "{text:?}"),
+        Err(ParseError::Fault(fault)) => assert!(rt; fault == want, "{text:?}"),
+        Err(ParseError::OutOfMemory) => {}
     }
 }
 
 #[test]
 fn first_bad_statement_has_its_line(rt: HostRuntime) {
-    let rows: [(&[u8], u64, CdlKind); 9] = [
+    const ROWS: [(&[u8], u64, CdlKind); 9] = [
         (
             b"v = 1 ;\nc = \"a\" ;\nv = 2 ;\n}",
             3,
@@ -99,12 +110,8 @@ fn first_bad_statement_has_its_line(rt: HostRuntime) {
         (b"v = 1 ;\ndata:\nc = \"a\" ; }", 2, CdlKind::Syntax),
         (b"", 1, CdlKind::Syntax),
     ];
-    for (text, line, kind) in rows {
-        match section(rt.alloc(), Cutter::new(text, Version::Cdf1)) {
-            Ok(_) => assert!(rt; false),
-            Err(ParseError::Fault(fault)) => assert_eq!(rt; fault, CdlFault { line, kind }),
-            Err(ParseError::OutOfMemory) => {}
-        }
+    for (text, line, kind) in ROWS {
+        refuses(&rt, rt.alloc(), text, CdlFault { line, kind });
     }
 }
 
@@ -116,9 +123,9 @@ fn after_the_last_statement_nothing_is_read(rt: HostRuntime) {
         Ok(found) => {
             assert!(rt; !found.is_closed);
             assert!(rt; found.rest.is_done());
-            assert_eq!(rt; found.arrays.len(), 2);
+            assert!(rt; found.arrays.len() == 2);
         }
-        Err(e) => assert_eq!(rt; e, ParseError::OutOfMemory),
+        Err(e) => assert!(rt; e == ParseError::OutOfMemory),
     }
 }
 

@@ -35,9 +35,14 @@ fn has_pieces(alloc: Global, text: &[u8], lens: &[usize]) -> Result<bool, OutOfM
     Ok(cutter.is_done())
 }
 
+/// Fails unless the statements of the text have these numbers of tokens.
+fn expect_pieces(rt: &impl Abort, alloc: Global, text: &[u8], lens: &[usize]) {
+    assert!(rt; has_pieces(alloc, text, lens) == Ok(true), "{text:?}");
+}
+
 #[test]
 fn texts_are_cut_into_statements(rt: HostRuntime) {
-    let rows: [(&[u8], &[usize]); 6] = [
+    const ROWS: [(&[u8], &[usize]); 6] = [
         (b"netcdf t { x = 3 ; } y", &[1, 4, 1, 1, 1]),
         (b"netcdf t {} y", &[1, 1, 1, 1]),
         (b"netcdf t { dimensions: x = 3 }", &[1, 2, 4, 1]),
@@ -45,28 +50,38 @@ fn texts_are_cut_into_statements(rt: HostRuntime) {
         (b"", &[1]),
         (b"data: x = 1, 2; ; }}", &[2, 6, 1, 1, 1, 1]),
     ];
-    for (text, lens) in rows {
-        assert_eq!(rt; has_pieces(rt.alloc(), text, lens), Ok(true));
+    for (text, lens) in ROWS {
+        expect_pieces(&rt, rt.alloc(), text, lens);
     }
+}
+
+/// Fails unless the next token is the last of its statement, or is not, as `is_last` says.
+fn advances(rt: &impl Abort, cutter: &mut Cutter<'_>, is_last: bool) {
+    assert!(rt; !cutter.is_done());
+    assert!(rt; cutter.advance() == is_last);
 }
 
 #[test]
 fn advancing_ends_where_statements_end(rt: HostRuntime) {
-    let text = b"netcdf t { dimensions: x = 3 ; data: v = \"a;b\", 2 ; }";
-    let mut cutter = Cutter::new(text, Version::Cdf1);
+    const TEXT: &[u8] = b"netcdf t { dimensions: x = 3 ; data: v = \"a;b\", 2 ; }";
+    let mut cutter = Cutter::new(TEXT, Version::Cdf1);
     for len in [1, 2, 4, 2, 6, 1, 1] {
         for i in 0..len {
-            assert!(rt; !cutter.is_done());
-            assert_eq!(rt; cutter.advance(), i + 1 == len);
+            advances(&rt, &mut cutter, i + 1 == len);
         }
     }
     assert!(rt; cutter.is_done());
 }
 
+/// Fails unless this is the next token.
+fn expect_token(rt: &impl Abort, scanner: &mut Scanner<'_>, want: Token) {
+    assert_eq!(rt; scanner.token(), want);
+}
+
 #[test]
 fn tokens_have_kinds_places_and_lines(rt: HostRuntime) {
-    let mut scanner = Scanner::new(b"netcdf t\n{ // a comment\n\\data=\"b\n\",-0x1f;\"");
-    let want = [
+    const TEXT: &[u8] = b"netcdf t\n{ // a comment\n\\data=\"b\n\",-0x1f;\"";
+    const TOKENS: [(TokenKind, u64, usize, usize); 10] = [
         (TokenKind::Opening, 1, 0, 10),
         (TokenKind::Word, 3, 24, 29),
         (TokenKind::Mark, 3, 29, 30),
@@ -78,20 +93,37 @@ fn tokens_have_kinds_places_and_lines(rt: HostRuntime) {
         (TokenKind::End, 4, 42, 42),
         (TokenKind::End, 4, 42, 42),
     ];
-    for (kind, line, first, past) in want {
+    let mut scanner = Scanner::new(TEXT);
+    for (kind, line, first, past) in TOKENS {
         let token = Token {
             kind,
             line,
             first,
             past,
         };
-        assert_eq!(rt; scanner.token(), token);
+        expect_token(&rt, &mut scanner, token);
     }
+}
+
+/// A number: whether it has a minus sign, its magnitude where that has 64 bits, and its type.
+type Number = (bool, Option<u64>, NcType);
+
+/// Fails unless these bytes are this number of CDF-5, or none.
+fn expect_number(rt: &impl Abort, bytes: &[u8], want: Option<Number>) {
+    let want = match want {
+        Some((minus, magnitude, ty)) => Some(Numeral {
+            minus,
+            magnitude,
+            ty,
+        }),
+        None => None,
+    };
+    assert_eq!(rt; number_of_token(Version::Cdf5, bytes), want);
 }
 
 #[test]
 fn numbers_have_values_and_types(rt: HostRuntime) {
-    let rows: [(&[u8], Option<(bool, Option<u64>, NcType)>); 20] = [
+    const ROWS: [(&[u8], Option<Number>); 20] = [
         (b"0", Some((false, Some(0), NcType::Int))),
         (b"-12", Some((true, Some(12), NcType::Int))),
         (b"+7b", Some((false, Some(7), NcType::Byte))),
@@ -116,31 +148,42 @@ fn numbers_have_values_and_types(rt: HostRuntime) {
         (b"18446744073709551616", Some((false, None, NcType::Int))),
         (b"-0xffffffffffffffffb", Some((true, None, NcType::Int))),
     ];
-    for (bytes, want) in rows {
-        let want = want.map(|(minus, magnitude, ty)| Numeral {
-            minus,
-            magnitude,
-            ty,
-        });
-        assert_eq!(rt; number_of_token(Version::Cdf5, bytes), want);
+    for (bytes, want) in ROWS {
+        expect_number(&rt, bytes, want);
     }
+}
+
+/// Fails unless these bytes are a number of the version, or are none, as `is_number` says.
+fn expect_is_number(rt: &impl Abort, version: Version, bytes: &[u8], is_number: bool) {
+    assert!(rt;
+        number_of_token(version, bytes).is_some() == is_number,
+        "{bytes:?}"
+    );
 }
 
 #[test]
 fn five_suffixes_are_of_cdf5_alone(rt: HostRuntime) {
+    const OF_CDF5: [&[u8]; 5] = [b"3ub", b"3us", b"3u", b"3ll", b"3ull"];
+    const OF_ALL: [&[u8]; 4] = [b"3b", b"3s", b"3l", b"3"];
     for version in [Version::Cdf1, Version::Cdf2] {
-        for bytes in [b"3ub".as_slice(), b"3us", b"3u", b"3ll", b"3ull"] {
-            assert!(rt; number_of_token(version, bytes).is_none());
+        for bytes in OF_CDF5 {
+            expect_is_number(&rt, version, bytes, false);
         }
-        for bytes in [b"3b".as_slice(), b"3s", b"3l", b"3"] {
-            assert!(rt; number_of_token(version, bytes).is_some());
+        for bytes in OF_ALL {
+            expect_is_number(&rt, version, bytes, true);
         }
     }
 }
 
+/// Fails unless these bytes begin with so many that stand for this character, or for none.
+fn expect_character(rt: &impl Abort, bytes: &[u8], value: Option<u8>, len: usize) {
+    assert!(rt; !bytes.is_empty());
+    assert!(rt; character(bytes) == Character { value, len }, "{bytes:?}");
+}
+
 #[test]
 fn characters_stand_for_bytes(rt: HostRuntime) {
-    let rows: [(&[u8], Option<u8>, usize); 17] = [
+    const ROWS: [(&[u8], Option<u8>, usize); 17] = [
         (b"a", Some(b'a'), 1),
         (b"\\a", Some(0x07), 2),
         (b"\\b", Some(0x08), 2),
@@ -159,21 +202,27 @@ fn characters_stand_for_bytes(rt: HostRuntime) {
         (b"\\x414", Some(b'A'), 4),
         (b"\\xg", None, 2),
     ];
-    for (bytes, value, len) in rows {
-        assert!(rt; !bytes.is_empty());
-        assert_eq!(rt; character(bytes), Character { value, len });
+    for (bytes, value, len) in ROWS {
+        expect_character(&rt, bytes, value, len);
     }
 }
 
-/// What the first pass finds of the first statement of these bytes, in this section and read for CDF-1.
-fn survey(bytes: &[u8], section: Section) -> (Option<CdlKind>, bool) {
+/// Fails unless the first pass over the first statement of these bytes, in this section and read for CDF-1, finds no bad
+/// token, and the shape of a statement or none, as `shaped` says.
+fn expect_shape(rt: &impl Abort, section: Section, bytes: &[u8], shaped: bool) {
     let found = look_over(Cutter::new(bytes, Version::Cdf1), section);
-    (found.bad, found.shaped)
+    assert!(rt; found.bad.is_none() && found.shaped == shaped, "{bytes:?}");
+}
+
+/// Fails unless this is the kind of the first bad token of the statement of these bytes, in the data section.
+fn expect_bad(rt: &impl Abort, bytes: &[u8], bad: Option<CdlKind>) {
+    let found = look_over(Cutter::new(bytes, Version::Cdf1), Section::Values);
+    assert!(rt; found.bad == bad, "{bytes:?}");
 }
 
 #[test]
 fn statements_have_shapes(rt: HostRuntime) {
-    let rows: [(Section, &[u8], bool); 26] = [
+    const ROWS: [(Section, &[u8], bool); 26] = [
         (Section::Unopened, b"netcdf a {", true),
         (Section::Unopened, b"a ;", false),
         (Section::Globals, b": a = 1, \"b\" ;", true),
@@ -201,21 +250,21 @@ fn statements_have_shapes(rt: HostRuntime) {
         (Section::Closed, b"", true),
         (Section::Closed, b"y ;", false),
     ];
-    for (section, bytes, shaped) in rows {
-        assert_eq!(rt; survey(bytes, section), (None, shaped));
+    for (section, bytes, shaped) in ROWS {
+        expect_shape(&rt, section, bytes, shaped);
     }
 }
 
 #[test]
 fn first_bad_token_decides(rt: HostRuntime) {
-    let rows: [(&[u8], Option<CdlKind>); 5] = [
+    const ROWS: [(&[u8], Option<CdlKind>); 5] = [
         (b"v = 1, 08, % ;", Some(CdlKind::BadNumber)),
         (b"v = 1, %, 08 ;", Some(CdlKind::BadToken)),
         (b"v v 3ub ;", Some(CdlKind::BadNumber)),
         (b"v = \"\\400\" ;", Some(CdlKind::BadToken)),
         (b"v = 1 ; %", None),
     ];
-    for (bytes, bad) in rows {
-        assert_eq!(rt; survey(bytes, Section::Values).0, bad);
+    for (bytes, bad) in ROWS {
+        expect_bad(&rt, bytes, bad);
     }
 }

@@ -1,8 +1,9 @@
 //! The values of statements of the data section, and the lengths and names of dimensions.
 
+use crate::name_indices::index_of;
 use cdl_parse::{check_new, dim_len};
 use cdl_text::{CdlKind, Cutter, Numeral};
-use cdl_values::{Fill, Filling, NameIndex, ReadError, Target, read};
+use cdl_values::{Fill, Filling, ReadError, Target, read};
 use nc_base::{NcType, Version};
 use std::alloc::Global;
 use std::process::Abort;
@@ -10,18 +11,6 @@ use std::test::*;
 
 /// The variables of the rows below: their names, and what they take.
 const NAMES: [&[u8]; 5] = [b"v", b"c", b"r", b"u", b"g"];
-
-/// An index of these names.
-fn index_of(alloc: Global, names: &[&[u8]]) -> Result<NameIndex, ReadError> {
-    let mut index = NameIndex::new(alloc);
-    for (position, name) in names.iter().enumerate() {
-        let name = Vec::from_slice(alloc, *name).map_err(|_| ReadError::OutOfMemory)?;
-        index
-            .add(name, position as u64)
-            .map_err(|_| ReadError::OutOfMemory)?;
-    }
-    Ok(index)
-}
 
 /// The bytes that a statement of the data section gives to its variable: `v` has three shorts, `c` four characters, `r`
 /// two rows of three, `u` any number of ints, and `g` has its values.
@@ -55,14 +44,31 @@ fn values_of(alloc: Global, text: &[u8]) -> Result<Vec<u8>, ReadError> {
             given: true,
         },
     ];
-    let index = index_of(alloc, &NAMES)?;
+    let index = index_of(alloc, &NAMES).map_err(|_| ReadError::OutOfMemory)?;
     let given = read(alloc, &index, &targets, Cutter::new(text, Version::Cdf1))?;
     given.array.into_bytes().map_err(|_| ReadError::OutOfMemory)
 }
 
+/// Fails unless the statement gives these bytes to its variable.
+fn packs(rt: &impl Abort, alloc: Global, text: &[u8], want: &[u8]) {
+    match values_of(alloc, text) {
+        Ok(bytes) => assert!(rt; bytes.as_slice() == want, "{text:?}"),
+        Err(e) => assert!(rt; e == ReadError::OutOfMemory, "{text:?}"),
+    }
+}
+
+/// Fails unless the statement has this fault.
+fn refuses(rt: &impl Abort, alloc: Global, text: &[u8], kind: CdlKind) {
+    match values_of(alloc, text) {
+        Ok(_) => assert!(rt; false, "{text:?}"),
+        Err(ReadError::Fault(fault)) => assert!(rt; fault == kind, "{text:?}"),
+        Err(ReadError::OutOfMemory) => {}
+    }
+}
+
 #[test]
 fn values_are_packed(rt: HostRuntime) {
-    let rows: [(&[u8], &[u8]); 8] = [
+    const ROWS: [(&[u8], &[u8]); 8] = [
         (b"v = 1, -2, _ ;", b"\x00\x01\xff\xfe\x80\x01"),
         (b"v = 0x7fff, -32768 ;", b"\x7f\xff\x80\x00"),
         (b"v = 1b ;", b"\x00\x01"),
@@ -75,17 +81,14 @@ fn values_are_packed(rt: HostRuntime) {
         (b"r = \"ab\", \"c\" ;", b"ab\x00c\x00\x00"),
         (b"\\v = 5 ;", b"\x00\x05"),
     ];
-    for (text, want) in rows {
-        match values_of(rt.alloc(), text) {
-            Ok(bytes) => assert_eq!(rt; bytes.as_slice(), want),
-            Err(e) => assert_eq!(rt; e, ReadError::OutOfMemory),
-        }
+    for (text, want) in ROWS {
+        packs(&rt, rt.alloc(), text, want);
     }
 }
 
 #[test]
 fn first_fault_wins(rt: HostRuntime) {
-    let rows: [(&[u8], CdlKind); 18] = [
+    const ROWS: [(&[u8], CdlKind); 18] = [
         (b"v = 1, 40000, % ;", CdlKind::BadToken),
         (b"w = 1 08 ;", CdlKind::BadNumber),
         (b"v = 1ub ;", CdlKind::BadNumber),
@@ -105,12 +108,8 @@ fn first_fault_wins(rt: HostRuntime) {
         (b"v = -32769 ;", CdlKind::NumberRange),
         (b"u = 100000000000000000000000 ;", CdlKind::NumberRange),
     ];
-    for (text, kind) in rows {
-        match values_of(rt.alloc(), text) {
-            Ok(_) => assert!(rt; false),
-            Err(ReadError::Fault(fault)) => assert_eq!(rt; fault, kind),
-            Err(ReadError::OutOfMemory) => {}
-        }
+    for (text, kind) in ROWS {
+        refuses(&rt, rt.alloc(), text, kind);
     }
 }
 
@@ -119,40 +118,53 @@ fn values_are_read_with_ample_memory(rt: HostRuntime) {
     assert!(rt; values_of(rt.alloc(), b"v = 1 ;").is_ok());
 }
 
+/// Fails unless a dimension after the record dimension has this length, or fault, where this number is written.
+fn expect_len(
+    rt: &impl Abort,
+    version: Version,
+    magnitude: Option<u64>,
+    want: Result<u64, CdlKind>,
+) {
+    let number = Numeral {
+        minus: false,
+        magnitude,
+        ty: NcType::Int,
+    };
+    assert_eq!(rt; dim_len(version, true, Some(number)), want);
+}
+
 #[test]
 fn dimensions_have_lengths(rt: HostRuntime) {
-    let number = |magnitude| {
-        Some(Numeral {
-            minus: false,
-            magnitude,
-            ty: NcType::Int,
-        })
-    };
-    let rows = [
-        (Version::Cdf1, number(Some(0)), Err(CdlKind::ZeroDimension)),
-        (Version::Cdf1, number(Some(2147483647)), Ok(2147483647)),
-        (
-            Version::Cdf1,
-            number(Some(2147483648)),
-            Err(CdlKind::NumberRange),
-        ),
-        (Version::Cdf5, number(Some(2147483648)), Ok(2147483648)),
-        (Version::Cdf5, number(None), Err(CdlKind::NumberRange)),
-        (Version::Cdf5, None, Err(CdlKind::TwoRecordDims)),
+    const ROWS: [(Version, Option<u64>, Result<u64, CdlKind>); 5] = [
+        (Version::Cdf1, Some(0), Err(CdlKind::ZeroDimension)),
+        (Version::Cdf1, Some(2147483647), Ok(2147483647)),
+        (Version::Cdf1, Some(2147483648), Err(CdlKind::NumberRange)),
+        (Version::Cdf5, Some(2147483648), Ok(2147483648)),
+        (Version::Cdf5, None, Err(CdlKind::NumberRange)),
     ];
-    for (version, n, want) in rows {
-        assert_eq!(rt; dim_len(version, true, n), want);
+    for (version, magnitude, want) in ROWS {
+        expect_len(&rt, version, magnitude, want);
     }
-    assert_eq!(rt; dim_len(Version::Cdf1, false, None), Ok(0));
+}
+
+#[test]
+fn one_dimension_is_unlimited(rt: HostRuntime) {
+    assert!(rt; dim_len(Version::Cdf5, true, None) == Err(CdlKind::TwoRecordDims));
+    assert!(rt; dim_len(Version::Cdf1, false, None) == Ok(0));
 }
 
 #[test]
 fn new_dimensions_have_new_names(rt: HostRuntime) {
+    const ROWS: [(&[u8], Result<(), CdlKind>); 3] = [
+        (b"w", Ok(())),
+        (b"g", Err(CdlKind::DuplicateName)),
+        (b"a/b", Err(CdlKind::BadName)),
+    ];
     if let Ok(index) = index_of(rt.alloc(), &NAMES) {
-        assert_eq!(rt; check_new(&index, b"w"), Ok(()));
-        assert_eq!(rt; check_new(&index, b"g"), Err(CdlKind::DuplicateName));
-        assert_eq!(rt; check_new(&index, b"a/b"), Err(CdlKind::BadName));
-        assert_eq!(rt; index.find(b"u"), Some(3));
-        assert_eq!(rt; index.find(b"w"), None);
+        for (name, want) in ROWS {
+            assert!(rt; check_new(&index, name) == want, "{name:?}");
+        }
+        assert!(rt; index.find(b"u") == Some(3));
+        assert!(rt; index.find(b"w").is_none());
     }
 }

@@ -2,81 +2,179 @@
 
 use nc_base::{Att, NcType, Sequence, Var, Version, check_name, fill_of, stem};
 use std::alloc::{AllocError, Global};
+use std::process::Abort;
 use std::test::Fail;
 
-/// The default fill values in `netcdf.h`, in the order of `NcType::ALL`.
-const DEFAULT_FILLS: [i128; 9] = [
-    -127,
-    0,
-    -32767,
-    -2147483647,
-    255,
-    65535,
-    4294967295,
-    -9223372036854775806,
-    18446744073709551614,
+/// A type with the size, the code and the default fill value that `netcdf.h` gives it.
+#[derive(Clone, Copy)]
+struct Wanted {
+    ty: NcType,
+    size: u64,
+    code: u32,
+    fill: i128,
+}
+
+/// The types in the order of `NcType::ALL`.
+const TYPES: [Wanted; 9] = [
+    Wanted {
+        ty: NcType::Byte,
+        size: 1,
+        code: 1,
+        fill: -127,
+    },
+    Wanted {
+        ty: NcType::Char,
+        size: 1,
+        code: 2,
+        fill: 0,
+    },
+    Wanted {
+        ty: NcType::Short,
+        size: 2,
+        code: 3,
+        fill: -32767,
+    },
+    Wanted {
+        ty: NcType::Int,
+        size: 4,
+        code: 4,
+        fill: -2147483647,
+    },
+    Wanted {
+        ty: NcType::Ubyte,
+        size: 1,
+        code: 7,
+        fill: 255,
+    },
+    Wanted {
+        ty: NcType::Ushort,
+        size: 2,
+        code: 8,
+        fill: 65535,
+    },
+    Wanted {
+        ty: NcType::Uint,
+        size: 4,
+        code: 9,
+        fill: 4294967295,
+    },
+    Wanted {
+        ty: NcType::Int64,
+        size: 8,
+        code: 10,
+        fill: -9223372036854775806,
+    },
+    Wanted {
+        ty: NcType::Uint64,
+        size: 8,
+        code: 11,
+        fill: 18446744073709551614,
+    },
 ];
+
+/// Fails unless the type is the wanted one, with its size, code and fill value.
+fn expect_type(rt: &impl Abort, ty: NcType, want: &Wanted) {
+    assert!(rt; ty == want.ty, "{ty:?}");
+    assert!(rt; ty.size() == want.size, "the size of {ty:?}");
+    assert!(rt; ty.code() == want.code, "the code of {ty:?}");
+    assert!(rt; ty.default_fill() == want.fill, "the fill value of {ty:?}");
+}
+
+/// Fails unless this is the type of the code.
+fn expect_code(rt: &impl Abort, code: u32, ty: Option<NcType>) {
+    assert_eq!(rt; NcType::of_code(code), ty, "the code {code}");
+}
 
 #[test]
 fn types_have_the_sizes_and_codes_of_the_format(rt: HostRuntime) {
-    let sizes = [1, 1, 2, 4, 1, 2, 4, 8, 8];
-    let codes = [1, 2, 3, 4, 7, 8, 9, 10, 11];
-    for i in 0..9 {
-        let ty = NcType::ALL[i];
-        assert_eq!(rt; ty.size(), sizes[i], "the size of {ty:?}");
-        assert_eq!(rt; ty.code(), codes[i], "the code of {ty:?}");
-        assert_eq!(rt; NcType::of_code(codes[i]), Some(ty));
-        assert_eq!(rt;
-            ty.default_fill(),
-            DEFAULT_FILLS[i],
-            "the fill value of {ty:?}"
-        );
-    }
-    for code in [0, 5, 6, 12, u32::MAX] {
-        assert_eq!(rt; NcType::of_code(code), None, "the code {code}");
+    for (ty, want) in NcType::ALL.iter().zip(TYPES.iter()) {
+        expect_type(&rt, *ty, want);
+        expect_code(&rt, want.code, Some(*ty));
     }
 }
 
 #[test]
-fn versions_differ_in_limits_and_types(rt: HostRuntime) {
-    for (byte, version) in [
+fn other_codes_are_of_no_type(rt: HostRuntime) {
+    for code in [0, 5, 6, 12, u32::MAX] {
+        expect_code(&rt, code, None);
+    }
+}
+
+/// Fails unless this is the version of the byte.
+fn expect_version(rt: &impl Abort, byte: u8, version: Option<Version>) {
+    assert_eq!(rt; Version::of_byte(byte), version, "the byte {byte}");
+}
+
+/// Fails unless the version's counts end before the limit, and this number says that records are streamed.
+fn expect_limits(rt: &impl Abort, version: Version, count_limit: u64, streaming_mark: u64) {
+    assert!(rt; version.count_limit() == count_limit, "{version:?}");
+    assert!(rt; version.streaming_mark() == streaming_mark, "{version:?}");
+}
+
+#[test]
+fn versions_have_bytes_and_limits(rt: HostRuntime) {
+    const BYTES: [(u8, Option<Version>); 6] = [
         (0, None),
         (1, Some(Version::Cdf1)),
         (2, Some(Version::Cdf2)),
         (3, None),
         (5, Some(Version::Cdf5)),
         (6, None),
-    ] {
-        assert_eq!(rt; Version::of_byte(byte), version, "the byte {byte}");
+    ];
+    for (byte, version) in BYTES {
+        expect_version(&rt, byte, version);
     }
     for version in [Version::Cdf1, Version::Cdf2] {
-        assert_eq!(rt; version.count_limit(), 0x8000_0000);
-        assert_eq!(rt; version.streaming_mark(), 0xffff_ffff);
+        expect_limits(&rt, version, 0x8000_0000, 0xffff_ffff);
     }
-    assert_eq!(rt; Version::Cdf5.count_limit(), 0x8000_0000_0000_0000);
-    assert_eq!(rt; Version::Cdf5.streaming_mark(), 0xffff_ffff_ffff_ffff);
-    for ty in NcType::ALL {
-        let is_old = ty.code() <= 4;
-        assert_eq!(rt; Version::Cdf1.has_type(ty), is_old, "{ty:?}");
-        assert_eq!(rt; Version::Cdf2.has_type(ty), is_old, "{ty:?}");
-        assert!(rt; Version::Cdf5.has_type(ty), "{ty:?}");
+    expect_limits(
+        &rt,
+        Version::Cdf5,
+        0x8000_0000_0000_0000,
+        0xffff_ffff_ffff_ffff,
+    );
+}
+
+/// Fails unless the version has the type, or hasn't, as `has_it` says.
+fn expect_has_type(rt: &impl Abort, version: Version, ty: NcType, has_it: bool) {
+    assert!(rt; version.has_type(ty) == has_it, "{version:?} {ty:?}");
+}
+
+#[test]
+fn versions_differ_in_types(rt: HostRuntime) {
+    for want in TYPES {
+        let is_old = want.code <= 4;
+        expect_has_type(&rt, Version::Cdf1, want.ty, is_old);
+        expect_has_type(&rt, Version::Cdf2, want.ty, is_old);
+        expect_has_type(&rt, Version::Cdf5, want.ty, true);
     }
+}
+
+/// Fails unless these bytes keep the rule of names, or don't, as `is_name` says.
+fn expect_name(rt: &impl Abort, name: &[u8], is_name: bool) {
+    assert!(rt; check_name(name) == is_name, "{name:?}");
 }
 
 #[test]
 fn names_keep_the_rule(rt: HostRuntime) {
     for name in ["x", "_a", "2b", "a b", "naïve", "a-b+c@d.e"] {
-        assert!(rt; check_name(name.as_bytes()), "{name:?}");
+        expect_name(&rt, name.as_bytes(), true);
     }
     for name in ["", "a/b", " a", "a ", "a\u{7f}", "a\tb", "-a", ".a"] {
-        assert!(rt; !check_name(name.as_bytes()), "{name:?}");
+        expect_name(&rt, name.as_bytes(), false);
     }
-    assert!(rt; !check_name(b"\xc3"), "half of a character");
+    // half of a character
+    expect_name(&rt, b"\xc3", false);
+}
+
+/// Fails unless the path has this stem.
+fn expect_stem(rt: &impl Abort, path: &str, name: &str) {
+    assert_eq!(rt; stem(path), name, "{path:?}");
 }
 
 #[test]
 fn stems_lack_folders_and_extensions(rt: HostRuntime) {
-    for (path, name) in [
+    const PATHS: [(&str, &str); 7] = [
         ("dir/a.b.nc", "a.b"),
         (".nc", ".nc"),
         ("a", "a"),
@@ -84,11 +182,13 @@ fn stems_lack_folders_and_extensions(rt: HostRuntime) {
         ("d/", ""),
         ("d/.x.nc", ".x"),
         ("", ""),
-    ] {
-        assert_eq!(rt; stem(path), name, "{path:?}");
+    ];
+    for (path, name) in PATHS {
+        expect_stem(&rt, path, name);
     }
 }
 
+/// These bytes as a sequence.
 fn bytes(alloc: Global, items: &[u8]) -> Result<Sequence<u8>, AllocError> {
     let mut sequence = Sequence::new(alloc);
     sequence.extend_from_slice(items)?;
@@ -114,11 +214,24 @@ fn variable(alloc: Global, ty: NcType, atts: &[(&str, NcType, &[u8])]) -> Result
     })
 }
 
+/// Fails unless a variable of this type, with these attributes, has the fill value.
+fn expect_fill(
+    rt: &impl Abort,
+    alloc: Global,
+    ty: NcType,
+    atts: &[(&str, NcType, &[u8])],
+    fill: i128,
+) -> Result<(), Fail> {
+    let var = variable(alloc, ty, atts)?;
+    assert_eq!(rt; fill_of(&var), fill, "{ty:?}");
+    Ok(())
+}
+
 #[test]
 fn variables_without_a_fill_value_have_the_default(rt: HostRuntime) -> Result<(), Fail> {
-    for i in 0..9 {
-        let var = variable(rt.alloc(), NcType::ALL[i], &[("units", NcType::Char, b"K")])?;
-        assert_eq!(rt; fill_of(&var), DEFAULT_FILLS[i], "{:?}", NcType::ALL[i]);
+    const UNITS: Atts = &[("units", NcType::Char, b"K")];
+    for want in TYPES {
+        expect_fill(&rt, rt.alloc(), want.ty, UNITS, want.fill)?;
     }
     Ok(())
 }
@@ -175,10 +288,14 @@ const OWN_FILLS: [(NcType, Atts, i128); 7] = [
 #[test]
 fn the_first_fill_value_of_the_right_type_counts(rt: HostRuntime) -> Result<(), Fail> {
     for (ty, atts, fill) in OWN_FILLS {
-        let var = variable(rt.alloc(), ty, atts)?;
-        assert_eq!(rt; fill_of(&var), fill);
+        expect_fill(&rt, rt.alloc(), ty, atts, fill)?;
     }
     Ok(())
+}
+
+/// Fails unless these are the items.
+fn expect_items(rt: &impl Abort, items: &[u64], want: &[u64]) {
+    assert_eq!(rt; items, want);
 }
 
 #[test]
@@ -187,12 +304,14 @@ fn sequences_are_made_from_vectors_and_give_them_back(rt: HostRuntime) -> Result
     assert!(rt; !sequence.is_empty());
     sequence.push(4)?;
     sequence.extend_from_slice(&[1, 5])?;
-    assert_eq!(rt; sequence.len(), 5);
-    assert_eq!(rt; sequence.as_slice(), [3, 1, 4, 1, 5].as_slice());
-    let items = sequence.into_vec();
-    assert_eq!(rt; items.as_slice(), [3, 1, 4, 1, 5].as_slice());
+    assert!(rt; sequence.len() == 5);
+    expect_items(&rt, sequence.as_slice(), &[3, 1, 4, 1, 5]);
+    expect_items(&rt, sequence.into_vec().as_slice(), &[3, 1, 4, 1, 5]);
+    Ok(())
+}
 
+#[test]
+fn new_sequences_are_empty(rt: HostRuntime) {
     let none: Sequence<u64> = Sequence::new(rt.alloc());
     assert!(rt; none.is_empty());
-    Ok(())
 }

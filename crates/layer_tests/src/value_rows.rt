@@ -7,7 +7,8 @@ use std::alloc::{AllocError, Global};
 use std::process::Abort;
 use std::test::*;
 
-/// A variable, its values and the text that they are to have.
+/// A variable, its values and the text that they are to have. Its dimensions have these lengths, of which 0 is that of the
+/// record dimension.
 #[derive(Clone, Copy)]
 pub struct Row<'a> {
     pub name: &'a [u8],
@@ -20,25 +21,17 @@ pub struct Row<'a> {
     pub text: &'a [u8],
 }
 
-/// A variable with dimensions of these lengths, of which 0 is that of the record dimension, over two records.
-pub fn row_of<'a>(
-    name: &'a [u8],
-    ty: NcType,
-    lens: &'a [u64],
-    bytes: &'a [u8],
-    text: &'a [u8],
-) -> Row<'a> {
-    Row {
-        name,
-        ty,
-        lens,
-        records: 2,
-        fill: None,
-        width: 80,
-        bytes,
-        text,
-    }
-}
+/// What rows have that say no more: two records, no fill value, and lines of 80 bytes.
+pub const TWO_RECORDS: Row<'static> = Row {
+    name: b"",
+    ty: NcType::Byte,
+    lens: &[],
+    records: 2,
+    fill: None,
+    width: 80,
+    bytes: b"",
+    text: b"",
+};
 
 /// The bytes as a sequence.
 pub fn sequence(alloc: Global, bytes: &[u8]) -> Result<Sequence<u8>, AllocError> {

@@ -1,263 +1,330 @@
 //! Texts of values: characters, fill values, the least and the greatest numbers, and failures.
 
-use crate::value_rows::{Row, header_of, row_of, show_all, shows};
+use crate::value_rows::{Row, TWO_RECORDS, header_of, show_all};
 use cdl_print::ValuePrinter;
-use devices::{SliceSink, WriteFailed};
-use nc_base::NcType;
+use devices::SliceSink;
+use nc_base::{Header, NcType};
+use std::process::Abort;
 use std::test::*;
 
 #[test]
 fn held_back_nuls(rt: HostRuntime) -> Result<(), Fail> {
-    let rows = [
-        row_of(
-            b"c",
-            NcType::Char,
-            &[5],
-            b"a\0\0b\0",
-            b"\n c = \"a\\000\\000b\" ;\n",
-        ),
-        row_of(
-            b"c",
-            NcType::Char,
-            &[20],
-            b"a\0\0\0\0\0\0\0\0\0\0\0\0\0\0\0\0\0\0b",
-            b"\n c = \"a\\000\\000\\000\\000\\000\\000\\000\\000\\000\\000\\000\\000\\000\\000\\000\\000\\000\\000b\" ;\n",
-        ),
+    const ROWS: &[Row<'static>] = &[
+        Row {
+            name: b"c",
+            ty: NcType::Char,
+            lens: &[5],
+            bytes: b"a\0\0b\0",
+            text: b"\n c = \"a\\000\\000b\" ;\n",
+            ..TWO_RECORDS
+        },
+        Row {
+            name: b"c",
+            ty: NcType::Char,
+            lens: &[20],
+            bytes: b"a\0\0\0\0\0\0\0\0\0\0\0\0\0\0\0\0\0\0b",
+            text: b"\n c = \"a\\000\\000\\000\\000\\000\\000\\000\\000\\000\\000\\000\\000\\000\\000\\000\\000\\000\\000b\" ;\n",
+            ..TWO_RECORDS
+        },
     ];
-    show_all(&rt, rt.alloc(), &rows)
+    show_all(&rt, rt.alloc(), ROWS)
 }
 
 #[test]
 fn held_back_nuls_in_rows(rt: HostRuntime) -> Result<(), Fail> {
-    let rows = [
-        row_of(
-            b"c",
-            NcType::Char,
-            &[0, 3],
-            b"a\0\0\0\0\0",
-            b"\n c =\n  \"a\",\n  \"\" ;\n",
-        ),
-        row_of(
-            b"c",
-            NcType::Char,
-            &[3, 2],
-            b"\0a\0\0b\0",
-            b"\n c =\n  \"\\000a\",\n  \"\",\n  \"b\" ;\n",
-        ),
+    const ROWS: &[Row<'static>] = &[
+        Row {
+            name: b"c",
+            ty: NcType::Char,
+            lens: &[0, 3],
+            bytes: b"a\0\0\0\0\0",
+            text: b"\n c =\n  \"a\",\n  \"\" ;\n",
+            ..TWO_RECORDS
+        },
+        Row {
+            name: b"c",
+            ty: NcType::Char,
+            lens: &[3, 2],
+            bytes: b"\0a\0\0b\0",
+            text: b"\n c =\n  \"\\000a\",\n  \"\",\n  \"b\" ;\n",
+            ..TWO_RECORDS
+        },
     ];
-    show_all(&rt, rt.alloc(), &rows)
+    show_all(&rt, rt.alloc(), ROWS)
 }
 
 #[test]
 fn nuls_that_are_shown(rt: HostRuntime) -> Result<(), Fail> {
-    let row = row_of(
-        b"c",
-        NcType::Char,
-        &[0],
-        b"\0\0",
-        b"\n c = \"\\000\\000\" ;\n",
-    );
-    shows(&rt, rt.alloc(), &row)?;
-    let row = row_of(
-        b"c",
-        NcType::Char,
-        &[0, 3],
-        b"a\0\0\0\0\0",
-        b"\n c =\n  \"a\\000\\000\",\n  \"\\000\\000\\000\" ;\n",
-    );
-    shows(
-        &rt,
-        rt.alloc(),
-        &Row {
-            fill: Some(b"x"),
-            ..row
+    const ROWS: &[Row<'static>] = &[
+        Row {
+            name: b"c",
+            ty: NcType::Char,
+            lens: &[0],
+            bytes: b"\0\0",
+            text: b"\n c = \"\\000\\000\" ;\n",
+            ..TWO_RECORDS
         },
-    )
+        Row {
+            name: b"c",
+            ty: NcType::Char,
+            lens: &[0, 3],
+            fill: Some(b"x"),
+            bytes: b"a\0\0\0\0\0",
+            text: b"\n c =\n  \"a\\000\\000\",\n  \"\\000\\000\\000\" ;\n",
+            ..TWO_RECORDS
+        },
+    ];
+    show_all(&rt, rt.alloc(), ROWS)
 }
 
 #[test]
 fn characters_are_escaped(rt: HostRuntime) -> Result<(), Fail> {
-    let row = row_of(
-        b"c",
-        NcType::Char,
-        &[6],
-        b"\x09\x22\x5c\x7f\xc3\xa9",
-        b"\n c = \"\\t\\\"\\\\\\177\xc3\xa9\" ;\n",
-    );
-    shows(&rt, rt.alloc(), &row)
+    const ROWS: &[Row<'static>] = &[Row {
+        name: b"c",
+        ty: NcType::Char,
+        lens: &[6],
+        bytes: b"\x09\x22\x5c\x7f\xc3\xa9",
+        text: b"\n c = \"\\t\\\"\\\\\\177\xc3\xa9\" ;\n",
+        ..TWO_RECORDS
+    }];
+    show_all(&rt, rt.alloc(), ROWS)
 }
 
 #[test]
 fn fill_of_bytes(rt: HostRuntime) -> Result<(), Fail> {
-    let row = row_of(b"b", NcType::Byte, &[], b"\x81", b"\n b = -127 ;\n");
-    let blank = Row {
-        fill: Some(b"\x81"),
-        text: b"\n b = _ ;\n",
-        ..row
-    };
-    show_all(&rt, rt.alloc(), &[row, blank])
+    const ROWS: &[Row<'static>] = &[
+        Row {
+            name: b"b",
+            ty: NcType::Byte,
+            bytes: b"\x81",
+            text: b"\n b = -127 ;\n",
+            ..TWO_RECORDS
+        },
+        Row {
+            name: b"b",
+            ty: NcType::Byte,
+            fill: Some(b"\x81"),
+            bytes: b"\x81",
+            text: b"\n b = _ ;\n",
+            ..TWO_RECORDS
+        },
+    ];
+    show_all(&rt, rt.alloc(), ROWS)
 }
 
 #[test]
 fn fill_of_unsigned_bytes(rt: HostRuntime) -> Result<(), Fail> {
-    let row = Row {
-        records: 3,
-        ..row_of(
-            b"b",
-            NcType::Ubyte,
-            &[0],
-            b"\xff\xfe\x01",
-            b"\n b = 255, 254, 1 ;\n",
-        )
-    };
-    let blank = Row {
-        fill: Some(b"\xff"),
-        ..row_of(b"a", NcType::Ubyte, &[], b"\xff", b"\n a = _ ;\n")
-    };
-    show_all(&rt, rt.alloc(), &[row, blank])
+    const ROWS: &[Row<'static>] = &[
+        Row {
+            name: b"b",
+            ty: NcType::Ubyte,
+            lens: &[0],
+            records: 3,
+            bytes: b"\xff\xfe\x01",
+            text: b"\n b = 255, 254, 1 ;\n",
+            ..TWO_RECORDS
+        },
+        Row {
+            name: b"a",
+            ty: NcType::Ubyte,
+            fill: Some(b"\xff"),
+            bytes: b"\xff",
+            text: b"\n a = _ ;\n",
+            ..TWO_RECORDS
+        },
+    ];
+    show_all(&rt, rt.alloc(), ROWS)
 }
 
 #[test]
 fn fill_of_others(rt: HostRuntime) -> Result<(), Fail> {
-    let rows = [
-        row_of(
-            b"s",
-            NcType::Short,
-            &[3],
-            b"\0\x01\x80\x01\0\x03",
-            b"\n s = 1, _, 3 ;\n",
-        ),
-        row_of(
-            b"b",
-            NcType::Uint64,
-            &[],
-            b"\xff\xff\xff\xff\xff\xff\xff\xfe",
-            b"\n b = _ ;\n",
-        ),
+    const ROWS: &[Row<'static>] = &[
+        Row {
+            name: b"s",
+            ty: NcType::Short,
+            lens: &[3],
+            bytes: b"\0\x01\x80\x01\0\x03",
+            text: b"\n s = 1, _, 3 ;\n",
+            ..TWO_RECORDS
+        },
+        Row {
+            name: b"b",
+            ty: NcType::Uint64,
+            lens: &[],
+            bytes: b"\xff\xff\xff\xff\xff\xff\xff\xfe",
+            text: b"\n b = _ ;\n",
+            ..TWO_RECORDS
+        },
     ];
-    show_all(&rt, rt.alloc(), &rows)
+    show_all(&rt, rt.alloc(), ROWS)
 }
 
 #[test]
 fn least_and_greatest_of_signed_types(rt: HostRuntime) -> Result<(), Fail> {
-    let rows = [
-        row_of(
-            b"v",
-            NcType::Byte,
-            &[2],
-            b"\x80\x7f",
-            b"\n v = -128, 127 ;\n",
-        ),
-        row_of(
-            b"v",
-            NcType::Short,
-            &[2],
-            b"\x80\0\x7f\xff",
-            b"\n v = -32768, 32767 ;\n",
-        ),
-        row_of(
-            b"v",
-            NcType::Int,
-            &[2],
-            b"\x80\0\0\0\x7f\xff\xff\xff",
-            b"\n v = -2147483648, 2147483647 ;\n",
-        ),
-        row_of(
-            b"v",
-            NcType::Int64,
-            &[2],
-            b"\x80\0\0\0\0\0\0\0\x7f\xff\xff\xff\xff\xff\xff\xff",
-            b"\n v = -9223372036854775808, 9223372036854775807 ;\n",
-        ),
+    const ROWS: &[Row<'static>] = &[
+        Row {
+            name: b"v",
+            ty: NcType::Byte,
+            lens: &[2],
+            bytes: b"\x80\x7f",
+            text: b"\n v = -128, 127 ;\n",
+            ..TWO_RECORDS
+        },
+        Row {
+            name: b"v",
+            ty: NcType::Short,
+            lens: &[2],
+            bytes: b"\x80\0\x7f\xff",
+            text: b"\n v = -32768, 32767 ;\n",
+            ..TWO_RECORDS
+        },
+        Row {
+            name: b"v",
+            ty: NcType::Int,
+            lens: &[2],
+            bytes: b"\x80\0\0\0\x7f\xff\xff\xff",
+            text: b"\n v = -2147483648, 2147483647 ;\n",
+            ..TWO_RECORDS
+        },
+        Row {
+            name: b"v",
+            ty: NcType::Int64,
+            lens: &[2],
+            bytes: b"\x80\0\0\0\0\0\0\0\x7f\xff\xff\xff\xff\xff\xff\xff",
+            text: b"\n v = -9223372036854775808, 9223372036854775807 ;\n",
+            ..TWO_RECORDS
+        },
     ];
-    show_all(&rt, rt.alloc(), &rows)
+    show_all(&rt, rt.alloc(), ROWS)
 }
 
 #[test]
 fn least_and_greatest_of_unsigned_types(rt: HostRuntime) -> Result<(), Fail> {
-    let rows = [
-        row_of(
-            b"v",
-            NcType::Char,
-            &[2],
-            b"\x00\xff",
-            b"\n v = \"\\000\xff\" ;\n",
-        ),
-        row_of(b"v", NcType::Ubyte, &[2], b"\0\xff", b"\n v = 0, 255 ;\n"),
-        row_of(
-            b"v",
-            NcType::Uint64,
-            &[2],
-            b"\0\0\0\0\0\0\0\0\xff\xff\xff\xff\xff\xff\xff\xff",
-            b"\n v = 0, 18446744073709551615 ;\n",
-        ),
+    const ROWS: &[Row<'static>] = &[
+        Row {
+            name: b"v",
+            ty: NcType::Char,
+            lens: &[2],
+            bytes: b"\x00\xff",
+            text: b"\n v = \"\\000\xff\" ;\n",
+            ..TWO_RECORDS
+        },
+        Row {
+            name: b"v",
+            ty: NcType::Ubyte,
+            lens: &[2],
+            bytes: b"\0\xff",
+            text: b"\n v = 0, 255 ;\n",
+            ..TWO_RECORDS
+        },
+        Row {
+            name: b"v",
+            ty: NcType::Uint64,
+            lens: &[2],
+            bytes: b"\0\0\0\0\0\0\0\0\xff\xff\xff\xff\xff\xff\xff\xff",
+            text: b"\n v = 0, 18446744073709551615 ;\n",
+            ..TWO_RECORDS
+        },
     ];
-    show_all(&rt, rt.alloc(), &rows)
+    show_all(&rt, rt.alloc(), ROWS)
 }
 
 #[test]
 fn greatest_where_it_is_no_fill_value(rt: HostRuntime) -> Result<(), Fail> {
-    let ushort = Row {
-        fill: Some(b"\0\x01"),
-        ..row_of(
-            b"v",
-            NcType::Ushort,
-            &[2],
-            b"\0\0\xff\xff",
-            b"\n v = 0, 65535 ;\n",
-        )
-    };
-    let uint = Row {
-        fill: Some(b"\0\0\0\x01"),
-        ..row_of(
-            b"v",
-            NcType::Uint,
-            &[2],
-            b"\0\0\0\0\xff\xff\xff\xff",
-            b"\n v = 0, 4294967295 ;\n",
-        )
-    };
-    show_all(&rt, rt.alloc(), &[ushort, uint])
+    const ROWS: &[Row<'static>] = &[
+        Row {
+            name: b"v",
+            ty: NcType::Ushort,
+            lens: &[2],
+            fill: Some(b"\0\x01"),
+            bytes: b"\0\0\xff\xff",
+            text: b"\n v = 0, 65535 ;\n",
+            ..TWO_RECORDS
+        },
+        Row {
+            name: b"v",
+            ty: NcType::Uint,
+            lens: &[2],
+            fill: Some(b"\0\0\0\x01"),
+            bytes: b"\0\0\0\0\xff\xff\xff\xff",
+            text: b"\n v = 0, 4294967295 ;\n",
+            ..TWO_RECORDS
+        },
+    ];
+    show_all(&rt, rt.alloc(), ROWS)
+}
+
+/// A printer of the header's only variable, over no records.
+fn printer_of<'a>(rt: &impl Abort, header: &'a Header) -> ValuePrinter<'a> {
+    assert!(rt; header.sound());
+    assert!(rt; header.vars.len() == 1);
+    ValuePrinter::new(header, 0, 0, 80)
+}
+
+/// Says whether these values, which the printer has to take, are printed.
+fn prints(
+    rt: &impl Abort,
+    printer: &mut ValuePrinter<'_>,
+    sink: &mut SliceSink<'_>,
+    bytes: &[u8],
+) -> bool {
+    assert!(rt; printer.takes(bytes));
+    printer.values(sink, bytes).is_ok()
+}
+
+/// Says whether what stands before the values is printed.
+fn starts(printer: &mut ValuePrinter<'_>, sink: &mut SliceSink<'_>) -> bool {
+    printer.start(sink).is_ok()
+}
+
+/// Says whether what stands after the values is printed.
+fn finishes(printer: &mut ValuePrinter<'_>, sink: &mut SliceSink<'_>) -> bool {
+    printer.finish(sink).is_ok()
+}
+
+/// Says whether the sink has taken these bytes.
+fn has_taken(sink: &SliceSink<'_>, bytes: &[u8]) -> bool {
+    sink.taken() == bytes
 }
 
 #[test]
 fn held_nuls_wait(rt: HostRuntime) -> Result<(), Fail> {
-    let row = row_of(b"c", NcType::Char, &[5], b"", b"");
-    let header = header_of(rt.alloc(), &row)?;
-    assert!(rt; header.sound());
-    assert!(rt; header.vars.len() == 1);
+    const ROW: Row<'static> = Row {
+        name: b"c",
+        ty: NcType::Char,
+        lens: &[5],
+        ..TWO_RECORDS
+    };
+    let header = header_of(rt.alloc(), &ROW)?;
+    let mut printer = printer_of(&rt, &header);
     let mut into = [0u8; 20];
     let mut sink = SliceSink::new(&mut into, 20);
-    let mut printer = ValuePrinter::new(&header, 0, 0, 80);
-    assert_eq!(rt; printer.start(&mut sink), Ok(()));
-    assert!(rt; printer.takes(b"a\0\0"));
-    assert_eq!(rt; printer.values(&mut sink, b"a\0\0"), Ok(()));
-    assert_eq!(rt; sink.taken(), b"\n c = \"a".as_slice());
+    assert!(rt; starts(&mut printer, &mut sink));
+    assert!(rt; prints(&rt, &mut printer, &mut sink, b"a\0\0"));
+    assert!(rt; has_taken(&sink, b"\n c = \"a"));
     assert!(rt; !printer.takes(b"a\0\0"));
     Ok(())
 }
 
 #[test]
 fn failures_repeat(rt: HostRuntime) -> Result<(), Fail> {
-    let row = row_of(b"v", NcType::Short, &[5], b"", b"");
-    let header = header_of(rt.alloc(), &row)?;
-    assert!(rt; header.sound());
-    assert!(rt; header.vars.len() == 1);
+    const ROW: Row<'static> = Row {
+        name: b"v",
+        ty: NcType::Short,
+        lens: &[5],
+        ..TWO_RECORDS
+    };
+    let header = header_of(rt.alloc(), &ROW)?;
+    let mut printer = printer_of(&rt, &header);
     let mut into = [0u8; 9];
     let mut sink = SliceSink::new(&mut into, 20);
-    let mut printer = ValuePrinter::new(&header, 0, 0, 80);
-    assert_eq!(rt; printer.start(&mut sink), Ok(()));
-    assert!(rt; printer.takes(b"\0\x01\0\x02"));
-    assert_eq!(rt;
-        printer.values(&mut sink, b"\0\x01\0\x02"),
-        Err(WriteFailed)
-    );
+    assert!(rt; starts(&mut printer, &mut sink));
+    assert!(rt; !prints(&rt, &mut printer, &mut sink, b"\0\x01\0\x02"));
     let mut other = [0u8; 9];
     let mut sink = SliceSink::new(&mut other, 20);
-    assert!(rt; printer.takes(b""));
-    assert_eq!(rt; printer.values(&mut sink, b""), Err(WriteFailed));
-    assert_eq!(rt; printer.start(&mut sink), Err(WriteFailed));
-    assert_eq!(rt; printer.finish(&mut sink), Err(WriteFailed));
-    assert_eq!(rt; sink.taken(), b"".as_slice());
+    assert!(rt; !prints(&rt, &mut printer, &mut sink, b""));
+    assert!(rt; !starts(&mut printer, &mut sink));
+    assert!(rt; !finishes(&mut printer, &mut sink));
+    assert!(rt; has_taken(&sink, b""));
     Ok(())
 }

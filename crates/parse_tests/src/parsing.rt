@@ -36,93 +36,89 @@ pub const NOTHING: Wanted<'static> = Wanted {
     vars: &[],
 };
 
-/// The answer where a growth of memory was refused.
-pub const OUT_OF_MEMORY: CdlFault = CdlFault {
-    line: 0,
-    kind: CdlKind::OutOfMemory,
+/// The versions.
+pub const VERSIONS: [Version; 3] = [Version::Cdf1, Version::Cdf2, Version::Cdf5];
+
+/// A variable without dimensions, attributes and values.
+pub const PLAIN: WantedVar<'static> = WantedVar {
+    name: b"",
+    ty: NcType::Byte,
+    dimids: &[],
+    atts: &[],
+    values: b"",
 };
 
-/// A variable of these dimensions, without attributes.
-pub fn plain<'a>(name: &'a [u8], ty: NcType, dimids: &'a [u64], values: &'a [u8]) -> WantedVar<'a> {
-    WantedVar {
-        name,
-        ty,
-        dimids,
-        atts: &[],
-        values,
+/// The parts, one after the other.
+pub fn joined(alloc: Global, parts: &[&[u8]]) -> Result<Vec<u8>, AllocError> {
+    let mut text = Vec::new(alloc);
+    for part in parts {
+        text.extend_from_slice(*part)?;
     }
-}
-
-/// The three parts, one after the other.
-pub fn joined(
-    alloc: Global,
-    first: &[u8],
-    second: &[u8],
-    third: &[u8],
-) -> Result<Vec<u8>, AllocError> {
-    let mut text = Vec::from_slice(alloc, first)?;
-    text.extend_from_slice(second)?;
-    text.extend_from_slice(third)?;
     Ok(text)
 }
 
-/// The fault of the text, or none. It is the same whether missing values are filled in or not.
-pub fn fault_of(rt: &impl Abort, alloc: Global, version: Version, text: &[u8]) -> Option<CdlFault> {
-    let fault = match parse(alloc, text, version) {
+/// The dataset of the text, or its fault.
+pub fn parsed(alloc: Global, version: Version, text: &[u8]) -> Result<Dataset, CdlFault> {
+    parse(alloc, text, version)
+}
+
+/// The fault of the text where missing values are filled in, or none.
+fn fault_filled(alloc: Global, version: Version, text: &[u8]) -> Option<CdlFault> {
+    match parse(alloc, text, version) {
         Ok(_) => None,
         Err(fault) => Some(fault),
-    };
-    let fault_unfilled = match declared(alloc, text, version) {
+    }
+}
+
+/// The fault of the text where missing values are not filled in, or none.
+pub fn fault_unfilled(alloc: Global, version: Version, text: &[u8]) -> Option<CdlFault> {
+    match declared(alloc, text, version) {
         Ok(_) => None,
         Err(fault) => Some(fault),
-    };
-    assert_eq!(rt; fault_unfilled, fault);
-    fault
+    }
+}
+
+/// Fails unless the text has this fault.
+pub fn refuses(
+    rt: &impl Abort,
+    alloc: Global,
+    version: Version,
+    text: &[u8],
+    line: u64,
+    kind: CdlKind,
+) {
+    let fault = fault_filled(alloc, version, text);
+    assert!(rt;
+        fault == Some(CdlFault { line, kind }),
+        "{fault:?}: {text:?}"
+    );
+}
+
+/// Fails unless the text has this fault, whatever the version, and whether missing values are filled in or not.
+pub fn refuses_in_all(rt: &impl Abort, alloc: Global, text: &[u8], want: CdlFault) {
+    for version in VERSIONS {
+        let fault = fault_filled(alloc, version, text);
+        assert!(rt; fault == Some(want), "{version:?}, {fault:?}: {text:?}");
+        let unfilled = fault_unfilled(alloc, version, text);
+        assert!(rt;
+            unfilled == Some(want),
+            "{version:?}, {unfilled:?}: {text:?}"
+        );
+    }
+}
+
+/// Fails unless the text gives the dataset, whatever the version.
+pub fn give(rt: &impl Abort, alloc: Global, text: &[u8], want: &Wanted<'_>) {
+    for version in VERSIONS {
+        gives(rt, alloc, version, text, want);
+    }
 }
 
 /// Fails unless the text gives the dataset.
 pub fn gives(rt: &impl Abort, alloc: Global, version: Version, text: &[u8], want: &Wanted<'_>) {
-    assert!(rt; is_given(rt, alloc, version, text, want).is_ok());
-}
-
-/// Fails unless the text gives the dataset, or memory is refused.
-pub fn is_given(
-    rt: &impl Abort,
-    alloc: Global,
-    version: Version,
-    text: &[u8],
-    want: &Wanted<'_>,
-) -> Result<(), AllocError> {
-    match parse(alloc, text, version) {
-        Ok(dataset) => {
-            is_wanted(rt, version, &dataset, want);
-            Ok(())
-        }
-        Err(fault) => {
-            assert_eq!(rt; fault, OUT_OF_MEMORY, "{text:?}");
-            Err(AllocError)
-        }
-    }
-}
-
-/// Fails unless the text has the fault, or memory is refused.
-pub fn has_fault(
-    rt: &impl Abort,
-    alloc: Global,
-    version: Version,
-    text: &[u8],
-    want: CdlFault,
-) -> Result<(), AllocError> {
-    match parse(alloc, text, version) {
-        Ok(_) => {
-            assert!(rt; false, "{text:?}");
-            Ok(())
-        }
-        Err(fault) if fault == OUT_OF_MEMORY => Err(AllocError),
-        Err(fault) => {
-            assert_eq!(rt; fault, want, "{text:?}");
-            Ok(())
-        }
+    match parsed(alloc, version, text) {
+        Ok(dataset) => is_wanted(rt, version, &dataset, want),
+        Err(fault) => assert!(rt; false, "{fault:?}: {text:?}"),
     }
 }
 
@@ -135,15 +131,18 @@ pub fn gives_dimension(
     name: &[u8],
     len: u64,
 ) {
-    match parse(alloc, text, version) {
-        Ok(dataset) => {
-            has_sizes(rt, &dataset, 1, 0, 0);
-            for dim in dataset.header.dims.as_slice() {
-                assert_eq!(rt; dim.name.as_slice(), name);
-                assert_eq!(rt; dim.len, len);
-            }
-        }
+    match parsed(alloc, version, text) {
+        Ok(dataset) => is_dimension(rt, &dataset, name, len),
         Err(fault) => assert!(rt; false, "{fault:?}: {text:?}"),
+    }
+}
+
+/// Fails unless the dataset has one dimension, and nothing else.
+fn is_dimension(rt: &impl Abort, dataset: &Dataset, name: &[u8], len: u64) {
+    has_sizes(rt, dataset, 1, 0, 0);
+    for dim in dataset.header.dims.as_slice() {
+        assert!(rt; dim.name.as_slice() == name);
+        assert!(rt; dim.len == len, "{len}");
     }
 }
 
@@ -153,20 +152,19 @@ pub fn gives_attribute(
     alloc: Global,
     version: Version,
     text: &[u8],
-    name: &[u8],
-    ty: NcType,
-    vals: &[u8],
+    want: &WantedAtt<'_>,
 ) {
-    match parse(alloc, text, version) {
-        Ok(dataset) => {
-            has_sizes(rt, &dataset, 0, 1, 0);
-            for att in dataset.header.gatts.as_slice() {
-                assert_eq!(rt; att.name.as_slice(), name);
-                assert_eq!(rt; att.ty, ty);
-                assert_eq!(rt; att.vals.as_slice(), vals, "{text:?}");
-            }
-        }
+    match parsed(alloc, version, text) {
+        Ok(dataset) => is_attribute(rt, &dataset, want),
         Err(fault) => assert!(rt; false, "{fault:?}: {text:?}"),
+    }
+}
+
+/// Fails unless the dataset has one attribute, and nothing else.
+fn is_attribute(rt: &impl Abort, dataset: &Dataset, want: &WantedAtt<'_>) {
+    has_sizes(rt, dataset, 0, 1, 0);
+    for att in dataset.header.gatts.as_slice() {
+        is_att(rt, att, want);
     }
 }
 
@@ -179,34 +177,37 @@ pub fn gives_variable(
     ty: NcType,
     values: &[u8],
 ) {
-    match parse(alloc, text, version) {
-        Ok(dataset) => {
-            has_sizes(rt, &dataset, 0, 0, 1);
-            for var in dataset.header.vars.as_slice() {
-                assert_eq!(rt; var.ty, ty);
-                assert!(rt; var.dimids.is_empty() && var.atts.is_empty());
-            }
-            for array in dataset.arrays.as_slice() {
-                assert_eq!(rt; array.as_slice(), values, "{text:?}");
-            }
-        }
+    match parsed(alloc, version, text) {
+        Ok(dataset) => is_variable(rt, &dataset, ty, values),
         Err(fault) => assert!(rt; false, "{fault:?}: {text:?}"),
+    }
+}
+
+/// Fails unless the dataset has one variable without dimensions and attributes, and nothing else.
+fn is_variable(rt: &impl Abort, dataset: &Dataset, ty: NcType, values: &[u8]) {
+    has_sizes(rt, dataset, 0, 0, 1);
+    for var in dataset.header.vars.as_slice() {
+        assert!(rt; var.ty == ty, "{ty:?}");
+        assert!(rt; var.dimids.is_empty() && var.atts.is_empty());
+    }
+    for array in dataset.arrays.as_slice() {
+        assert!(rt; array.as_slice() == values, "{values:?}");
     }
 }
 
 /// Fails unless the dataset has so many dimensions, attributes and variables.
 fn has_sizes(rt: &impl Abort, dataset: &Dataset, dims: usize, gatts: usize, vars: usize) {
-    assert_eq!(rt; dataset.header.dims.len(), dims);
-    assert_eq!(rt; dataset.header.gatts.len(), gatts);
-    assert_eq!(rt; dataset.header.vars.len(), vars);
-    assert_eq!(rt; dataset.arrays.len(), vars);
+    assert!(rt; dataset.header.dims.len() == dims);
+    assert!(rt; dataset.header.gatts.len() == gatts);
+    assert!(rt; dataset.header.vars.len() == vars);
+    assert!(rt; dataset.arrays.len() == vars);
 }
 
 /// Fails unless it is the dataset.
 fn is_wanted(rt: &impl Abort, version: Version, dataset: &Dataset, want: &Wanted<'_>) {
     let header = &dataset.header;
-    assert_eq!(rt; header.version, version);
-    assert_eq!(rt; header.numrecs, NumRecs::Known(want.records));
+    assert!(rt; header.version == version);
+    assert!(rt; header.numrecs == NumRecs::Known(want.records));
     are_dims(rt, header.dims.as_slice(), want.dims);
     are_atts(rt, header.gatts.as_slice(), want.gatts);
     are_vars(rt, header.vars.as_slice(), want.vars);
@@ -215,39 +216,50 @@ fn is_wanted(rt: &impl Abort, version: Version, dataset: &Dataset, want: &Wanted
 
 /// Fails unless these are the dimensions.
 fn are_dims(rt: &impl Abort, dims: &[Dim], want: &[(&[u8], u64)]) {
-    assert_eq!(rt; dims.len(), want.len());
+    assert!(rt; dims.len() == want.len());
     for (dim, (name, len)) in dims.iter().zip(want.iter()) {
-        assert_eq!(rt; dim.name.as_slice(), *name);
-        assert_eq!(rt; dim.len, *len);
+        assert!(rt; dim.name.as_slice() == *name, "{name:?}");
+        assert!(rt; dim.len == *len, "{name:?}");
     }
 }
 
 /// Fails unless these are the attributes.
 fn are_atts(rt: &impl Abort, atts: &[Att], want: &[WantedAtt<'_>]) {
-    assert_eq!(rt; atts.len(), want.len());
-    for (att, (name, ty, vals)) in atts.iter().zip(want.iter()) {
-        assert_eq!(rt; att.name.as_slice(), *name);
-        assert_eq!(rt; att.ty, *ty);
-        assert_eq!(rt; att.vals.as_slice(), *vals);
+    assert!(rt; atts.len() == want.len());
+    for (att, wanted) in atts.iter().zip(want.iter()) {
+        is_att(rt, att, wanted);
     }
+}
+
+/// Fails unless it is the attribute.
+fn is_att(rt: &impl Abort, att: &Att, want: &WantedAtt<'_>) {
+    let (name, ty, vals) = *want;
+    assert!(rt; att.name.as_slice() == name, "{name:?}");
+    assert!(rt; att.ty == ty, "{name:?}");
+    assert!(rt; att.vals.as_slice() == vals, "{name:?}");
 }
 
 /// Fails unless these are the variables.
 fn are_vars(rt: &impl Abort, vars: &[Var], want: &[WantedVar<'_>]) {
-    assert_eq!(rt; vars.len(), want.len());
+    assert!(rt; vars.len() == want.len());
     for (var, wanted) in vars.iter().zip(want.iter()) {
-        assert_eq!(rt; var.name.as_slice(), wanted.name);
-        assert_eq!(rt; var.ty, wanted.ty);
-        assert_eq!(rt; var.dimids.as_slice(), wanted.dimids);
-        assert_eq!(rt; var.begin_at, 0);
-        are_atts(rt, var.atts.as_slice(), wanted.atts);
+        is_var(rt, var, wanted);
     }
+}
+
+/// Fails unless it is the variable.
+fn is_var(rt: &impl Abort, var: &Var, want: &WantedVar<'_>) {
+    assert!(rt; var.name.as_slice() == want.name);
+    assert!(rt; var.ty == want.ty);
+    assert!(rt; var.dimids.as_slice() == want.dimids);
+    assert!(rt; var.begin_at == 0);
+    are_atts(rt, var.atts.as_slice(), want.atts);
 }
 
 /// Fails unless these are the values of the variables.
 fn are_values(rt: &impl Abort, arrays: &[Sequence<u8>], want: &[WantedVar<'_>]) {
-    assert_eq!(rt; arrays.len(), want.len());
+    assert!(rt; arrays.len() == want.len());
     for (array, wanted) in arrays.iter().zip(want.iter()) {
-        assert_eq!(rt; array.as_slice(), wanted.values);
+        assert!(rt; array.as_slice() == wanted.values);
     }
 }

@@ -1,42 +1,34 @@
 //! Texts that are refused, each with its fault and its line.
 
-use crate::parsing::{fault_of, joined};
+use crate::parsing::{joined, refuses_in_all};
 use cdl_parse::{CdlFault, CdlKind};
-use nc_base::Version;
-use std::alloc::{AllocError, Global};
+use std::alloc::Global;
 use std::process::Abort;
 use std::test::*;
 
-/// A text of four lines, this fifth line, and a closing brace on the sixth.
-fn with_line_5(alloc: Global, line_5: &str) -> Result<Vec<u8>, AllocError> {
-    let before = b"netcdf t {\n\
+/// Fails unless a text with this fifth line has this fault there.
+fn refuses_line_5(rt: &impl Abort, alloc: Global, line_5: &str, kind: CdlKind) -> Result<(), Fail> {
+    const BEFORE: &[u8] = b"netcdf t {\n\
         dimensions: x = 3, t = UNLIMITED ;\n\
         variables: short s(x) ; char c(t, x) ;\n\
         data:\n";
-    joined(alloc, before, line_5.as_bytes(), b"\n}\n")
+    let text = joined(alloc, &[BEFORE, line_5.as_bytes(), b"\n}\n"])?;
+    refuses_in_all(rt, alloc, text.as_slice(), CdlFault { line: 5, kind });
+    Ok(())
 }
 
-/// A text with this third line.
-fn with_line_3(alloc: Global, line_3: &str) -> Result<Vec<u8>, AllocError> {
-    let before = b"netcdf t {\ndimensions: x = 3, t = UNLIMITED ;\n";
-    let after = b"\ndata:\n s = 1 ;\n}\n";
-    joined(alloc, before, line_3.as_bytes(), after)
-}
-
-/// Fails unless the text has this fault, whatever the version.
-fn refuses(rt: &impl Abort, alloc: Global, text: &[u8], row: &str, line: u64, kind: CdlKind) {
-    for version in [Version::Cdf1, Version::Cdf2, Version::Cdf5] {
-        assert_eq!(rt;
-            fault_of(rt, alloc, version, text),
-            Some(CdlFault { line, kind }),
-            "{row:?} for {version:?}"
-        );
-    }
+/// Fails unless a text with this third line has this fault there.
+fn refuses_line_3(rt: &impl Abort, alloc: Global, line_3: &str, kind: CdlKind) -> Result<(), Fail> {
+    const BEFORE: &[u8] = b"netcdf t {\ndimensions: x = 3, t = UNLIMITED ;\n";
+    const AFTER: &[u8] = b"\ndata:\n s = 1 ;\n}\n";
+    let text = joined(alloc, &[BEFORE, line_3.as_bytes(), AFTER])?;
+    refuses_in_all(rt, alloc, text.as_slice(), CdlFault { line: 3, kind });
+    Ok(())
 }
 
 #[test]
 fn values_are_refused(rt: HostRuntime) -> Result<(), Fail> {
-    let rows = [
+    const ROWS: [(&str, CdlKind); 11] = [
         (" s = 1.5 ;", CdlKind::BadNumber),
         (" s = 40000 ;", CdlKind::NumberRange),
         (" s = 1, 2, 3, 4 ;", CdlKind::TooManyValues),
@@ -49,16 +41,15 @@ fn values_are_refused(rt: HostRuntime) -> Result<(), Fail> {
         (" c = \"abcd\" ;", CdlKind::StringTooLong),
         (" s = 1 ; s = 1 ;", CdlKind::DuplicateData),
     ];
-    for (line_5, kind) in rows {
-        let text = with_line_5(rt.alloc(), line_5)?;
-        refuses(&rt, rt.alloc(), text.as_slice(), line_5, 5, kind);
+    for (line_5, kind) in ROWS {
+        refuses_line_5(&rt, rt.alloc(), line_5, kind)?;
     }
     Ok(())
 }
 
 #[test]
 fn declarations_are_refused(rt: HostRuntime) -> Result<(), Fail> {
-    let rows = [
+    const ROWS: [(&str, CdlKind); 6] = [
         ("variables: float f ;", CdlKind::FloatingType),
         ("variables: quad q ;", CdlKind::UnknownType),
         ("variables: int z(q) ;", CdlKind::UnknownDimension),
@@ -66,16 +57,26 @@ fn declarations_are_refused(rt: HostRuntime) -> Result<(), Fail> {
         ("variables: int z ; int z ;", CdlKind::DuplicateName),
         ("variables: int z ; z:a = 1, 2b ;", CdlKind::MixedConstants),
     ];
-    for (line_3, kind) in rows {
-        let text = with_line_3(rt.alloc(), line_3)?;
-        refuses(&rt, rt.alloc(), text.as_slice(), line_3, 3, kind);
+    for (line_3, kind) in ROWS {
+        refuses_line_3(&rt, rt.alloc(), line_3, kind)?;
     }
     Ok(())
 }
 
+/// Fails unless each text has this fault in this line.
+fn refuse(rt: &impl Abort, alloc: Global, rows: &[(&str, u64, CdlKind)]) {
+    for (text, line, kind) in rows {
+        let want = CdlFault {
+            line: *line,
+            kind: *kind,
+        };
+        refuses_in_all(rt, alloc, text.as_bytes(), want);
+    }
+}
+
 #[test]
 fn texts_are_refused(rt: HostRuntime) {
-    let rows = [
+    const ROWS: &[(&str, u64, CdlKind)] = &[
         ("", 1, CdlKind::Syntax),
         ("\n\n", 3, CdlKind::Syntax),
         ("netcdf t", 1, CdlKind::BadToken),
@@ -108,14 +109,12 @@ fn texts_are_refused(rt: HostRuntime) {
             CdlKind::StringTooLong,
         ),
     ];
-    for (text, line, kind) in rows {
-        refuses(&rt, rt.alloc(), text.as_bytes(), text, line, kind);
-    }
+    refuse(&rt, rt.alloc(), ROWS);
 }
 
 #[test]
 fn openings_are_refused(rt: HostRuntime) {
-    let rows = [
+    const ROWS: &[(&str, u64, CdlKind)] = &[
         ("netcdf", 1, CdlKind::Syntax),
         ("netcdft {}", 1, CdlKind::BadToken),
         ("netcdf\\ {}", 1, CdlKind::BadToken),
@@ -131,14 +130,12 @@ fn openings_are_refused(rt: HostRuntime) {
         ("netcdf t {\nnetcdf t {} }", 2, CdlKind::BadToken),
         ("netcdf t {\nnetcdf ; }", 2, CdlKind::Syntax),
     ];
-    for (text, line, kind) in rows {
-        refuses(&rt, rt.alloc(), text.as_bytes(), text, line, kind);
-    }
+    refuse(&rt, rt.alloc(), ROWS);
 }
 
 #[test]
 fn statements_are_refused(rt: HostRuntime) {
-    let rows = [
+    const ROWS: [(&str, u64); 17] = [
         ("netcdf t {\n; }", 2),
         ("netcdf t {\ny = 3 ; }", 2),
         ("netcdf t {\n: a = 1 }", 2),
@@ -157,21 +154,18 @@ fn statements_are_refused(rt: HostRuntime) {
         ("netcdf t {}\n;", 2),
         ("netcdf t {}\n:a = 1 ;", 2),
     ];
-    for (text, line) in rows {
-        refuses(
-            &rt,
-            rt.alloc(),
-            text.as_bytes(),
-            text,
+    for (text, line) in ROWS {
+        let want = CdlFault {
             line,
-            CdlKind::Syntax,
-        );
+            kind: CdlKind::Syntax,
+        };
+        refuses_in_all(&rt, rt.alloc(), text.as_bytes(), want);
     }
 }
 
 #[test]
 fn dimensions_have_one_form(rt: HostRuntime) -> Result<(), Fail> {
-    let rows = [
+    const ROWS: [&str; 16] = [
         "y ;",
         "y = ;",
         "= 3 ;",
@@ -189,16 +183,15 @@ fn dimensions_have_one_form(rt: HostRuntime) -> Result<(), Fail> {
         "y:a = 1 ;",
         "dimensions: y = 3 ;",
     ];
-    for line_3 in rows {
-        let text = with_line_3(rt.alloc(), line_3)?;
-        refuses(&rt, rt.alloc(), text.as_slice(), line_3, 3, CdlKind::Syntax);
+    for line_3 in ROWS {
+        refuses_line_3(&rt, rt.alloc(), line_3, CdlKind::Syntax)?;
     }
     Ok(())
 }
 
 #[test]
 fn declarations_have_one_form(rt: HostRuntime) -> Result<(), Fail> {
-    let rows = [
+    const ROWS: [&str; 20] = [
         "variables: int ;",
         "variables: int z, ;",
         "variables: int z y ;",
@@ -220,16 +213,15 @@ fn declarations_have_one_form(rt: HostRuntime) -> Result<(), Fail> {
         "variables: variables: int z ;",
         "variables: dimensions: y = 3 ;",
     ];
-    for line_3 in rows {
-        let text = with_line_3(rt.alloc(), line_3)?;
-        refuses(&rt, rt.alloc(), text.as_slice(), line_3, 3, CdlKind::Syntax);
+    for line_3 in ROWS {
+        refuses_line_3(&rt, rt.alloc(), line_3, CdlKind::Syntax)?;
     }
     Ok(())
 }
 
 #[test]
 fn lists_of_values_have_one_form(rt: HostRuntime) -> Result<(), Fail> {
-    let rows = [
+    const ROWS: [&str; 20] = [
         "s ;",
         "s = ;",
         "= 1 ;",
@@ -251,9 +243,8 @@ fn lists_of_values_have_one_form(rt: HostRuntime) -> Result<(), Fail> {
         "s = 1-2 ;",
         "s = (1) ;",
     ];
-    for line_5 in rows {
-        let text = with_line_5(rt.alloc(), line_5)?;
-        refuses(&rt, rt.alloc(), text.as_slice(), line_5, 5, CdlKind::Syntax);
+    for line_5 in ROWS {
+        refuses_line_5(&rt, rt.alloc(), line_5, CdlKind::Syntax)?;
     }
     Ok(())
 }

@@ -1,0 +1,13 @@
+//! Indices of names, for the tests of statements that name variables.
+
+use cdl_values::NameIndex;
+use std::alloc::{AllocError, Global};
+
+/// An index of these names.
+pub fn index_of(alloc: Global, names: &[&[u8]]) -> Result<NameIndex, AllocError> {
+    let mut index = NameIndex::new(alloc);
+    for (position, name) in names.iter().enumerate() {
+        index.add(Vec::from_slice(alloc, *name)?, position as u64)?;
+    }
+    Ok(index)
+}

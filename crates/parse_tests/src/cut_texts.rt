@@ -1,0 +1,78 @@
+//! A text, whole and cut: each of its prefixes and each of its suffixes.
+
+use crate::parsing::{NOTHING, PLAIN, Wanted, WantedVar, give, parsed, refuses};
+use cdl_parse::CdlKind;
+use nc_base::{NcType, Version};
+use std::alloc::Global;
+use std::process::Abort;
+use std::test::*;
+
+/// A text of one variable of three shorts, over seven lines.
+const THREE_SHORTS: &'static [u8] =
+    b"netcdf t {\ndimensions:\n x = 3 ;\nvariables:\n short s(x) ;\ndata:\n s = 1, _, 3 ;\n}\n";
+
+#[test]
+fn three_shorts(rt: HostRuntime) {
+    const WANT: Wanted<'static> = Wanted {
+        dims: &[(b"x", 3)],
+        vars: &[WantedVar {
+            name: b"s",
+            ty: NcType::Short,
+            dimids: &[0],
+            values: b"\x00\x01\x80\x01\x00\x03",
+            ..PLAIN
+        }],
+        ..NOTHING
+    };
+    give(&rt, rt.alloc(), THREE_SHORTS, &WANT);
+}
+
+/// How many line feeds the bytes have.
+fn line_feeds(bytes: &[u8]) -> u64 {
+    bytes.iter().filter(|byte| **byte == b'\n').count() as u64
+}
+
+/// The fault of a prefix of this length.
+fn fault_of_prefix(len: usize) -> CdlKind {
+    match len {
+        7..=9 => CdlKind::BadToken,
+        _ => CdlKind::Syntax,
+    }
+}
+
+/// Fails unless the prefix has its fault in its last line.
+fn refuses_prefix(rt: &impl Abort, alloc: Global, prefix: &[u8]) {
+    let line = line_feeds(prefix).saturating_add(1);
+    let kind = fault_of_prefix(prefix.len());
+    refuses(rt, alloc, Version::Cdf1, prefix, line, kind);
+}
+
+#[test]
+fn each_prefix_of_a_text(rt: HostRuntime) {
+    assert!(rt; THREE_SHORTS.len() == 80);
+    for len in 0..79 {
+        refuses_prefix(&rt, rt.alloc(), &THREE_SHORTS[..len]);
+    }
+    // all but the line feed at the end
+    assert!(rt; parsed(rt.alloc(), Version::Cdf1, &THREE_SHORTS[..79]).is_ok());
+    assert!(rt; line_feeds(THREE_SHORTS) == 8);
+}
+
+/// Fails unless the suffix from this offset on has its fault in its first statement.
+fn refuses_suffix(rt: &impl Abort, alloc: Global, first: usize, suffix: &[u8]) {
+    let kind = if first < 10 {
+        CdlKind::BadToken
+    } else {
+        CdlKind::Syntax
+    };
+    let line = if suffix.starts_with(b"\n") { 2 } else { 1 };
+    refuses(rt, alloc, Version::Cdf1, suffix, line, kind);
+}
+
+#[test]
+fn each_suffix_of_a_text(rt: HostRuntime) {
+    assert!(rt; THREE_SHORTS.len() == 80);
+    for first in 1..80 {
+        refuses_suffix(&rt, rt.alloc(), first, &THREE_SHORTS[first..]);
+    }
+}

@@ -1,0 +1,219 @@
+//! Strings with each byte and with each escape.
+
+use crate::parsing::{gives_attribute, joined, refuses};
+use cdl_parse::CdlKind;
+use nc_base::{NcType, Version};
+use std::alloc::Global;
+use std::process::Abort;
+use std::test::*;
+
+/// Fails unless a string with these bytes between its quotes stands for these characters, or is a bad token.
+fn stands_for(
+    rt: &impl Abort,
+    alloc: Global,
+    inside: &[u8],
+    want: Option<&[u8]>,
+) -> Result<(), Fail> {
+    let text = joined(alloc, &[b"netcdf t {\n\n:a = \"", inside, b"\" ; }"])?;
+    let version = Version::Cdf1;
+    match want {
+        Some(vals) => {
+            let att = (b"a".as_slice(), NcType::Char, vals);
+            gives_attribute(rt, alloc, version, text.as_slice(), &att);
+        }
+        None => refuses(rt, alloc, version, text.as_slice(), 3, CdlKind::BadToken),
+    }
+    Ok(())
+}
+
+#[test]
+fn each_byte_in_a_string(rt: HostRuntime) -> Result<(), Fail> {
+    for byte in 0..=255u8 {
+        let vals = [byte];
+        let want = match byte {
+            b'"' | b'\\' => None,
+            _ => Some(vals.as_slice()),
+        };
+        stands_for(&rt, rt.alloc(), &[byte], want)?;
+    }
+    Ok(())
+}
+
+/// What an escape of one byte stands for, or none for `x`.
+fn escaped(byte: u8) -> Option<u8> {
+    match byte {
+        b'a' => Some(7),
+        b'b' => Some(8),
+        b't' => Some(9),
+        b'n' => Some(10),
+        b'v' => Some(11),
+        b'f' => Some(12),
+        b'r' => Some(13),
+        b'0' => Some(0),
+        b'1' => Some(1),
+        b'2' => Some(2),
+        b'3' => Some(3),
+        b'4' => Some(4),
+        b'5' => Some(5),
+        b'6' => Some(6),
+        b'7' => Some(7),
+        b'x' => None,
+        _ => Some(byte),
+    }
+}
+
+/// Fails unless an escape of this byte stands for its character, or is a bad token, also with a minus sign after it.
+fn escapes_one_byte(rt: &impl Abort, alloc: Global, byte: u8) -> Result<(), Fail> {
+    match escaped(byte) {
+        Some(char) => {
+            stands_for(rt, alloc, &[b'\\', byte], Some(&[char]))?;
+            stands_for(rt, alloc, &[b'\\', byte, b'-'], Some(&[char, b'-']))
+        }
+        None => {
+            stands_for(rt, alloc, &[b'\\', byte], None)?;
+            stands_for(rt, alloc, &[b'\\', byte, b'-'], None)
+        }
+    }
+}
+
+#[test]
+fn each_escape_of_one_byte(rt: HostRuntime) -> Result<(), Fail> {
+    for byte in 0..=255u8 {
+        escapes_one_byte(&rt, rt.alloc(), byte)?;
+    }
+    Ok(())
+}
+
+/// The octal digits.
+const OCTAL: [u8; 8] = *b"01234567";
+
+/// The hexadecimal digits.
+const LOWER: [u8; 16] = *b"0123456789abcdef";
+
+/// The hexadecimal digits, with capitals.
+const UPPER: [u8; 16] = *b"0123456789ABCDEF";
+
+/// The octal digit of this number.
+fn octal(number: u8) -> u8 {
+    OCTAL[(number % 8) as usize]
+}
+
+/// The hexadecimal digit of this number.
+fn lower(number: u8) -> u8 {
+    LOWER[(number % 16) as usize]
+}
+
+/// The hexadecimal digit of this number, a capital where it is a letter.
+fn upper(number: u8) -> u8 {
+    UPPER[(number % 16) as usize]
+}
+
+/// Fails unless an escape of these two octal digits stands for its character, also with a digit after it that is not octal.
+fn escapes_two_octal_digits(
+    rt: &impl Abort,
+    alloc: Global,
+    first: u8,
+    second: u8,
+) -> Result<(), Fail> {
+    let (a, b) = (octal(first), octal(second));
+    let char = ((first as u32 * 8 + second as u32) % 256) as u8;
+    stands_for(rt, alloc, &[b'\\', a, b], Some(&[char]))?;
+    stands_for(rt, alloc, &[b'\\', a, b, b'8'], Some(&[char, b'8']))
+}
+
+/// Fails unless an escape of these three octal digits, with one more after it, stands for its character, or is a bad token.
+fn escapes_three_octal_digits(
+    rt: &impl Abort,
+    alloc: Global,
+    first: u8,
+    second: u8,
+    third: u8,
+) -> Result<(), Fail> {
+    let number = first as u32 * 64 + second as u32 * 8 + third as u32;
+    let inside = [b'\\', octal(first), octal(second), octal(third), b'1'];
+    let vals = [(number % 256) as u8, b'1'];
+    let want = if number < 256 {
+        Some(vals.as_slice())
+    } else {
+        None
+    };
+    stands_for(rt, alloc, &inside, want)
+}
+
+/// The same for each third digit.
+fn escapes_octal_digits(rt: &impl Abort, alloc: Global, first: u8, second: u8) -> Result<(), Fail> {
+    for third in 0..8u8 {
+        escapes_three_octal_digits(rt, alloc, first, second, third)?;
+    }
+    Ok(())
+}
+
+#[test]
+fn each_octal_escape(rt: HostRuntime) -> Result<(), Fail> {
+    for first in 0..8u8 {
+        for second in 0..8u8 {
+            escapes_two_octal_digits(&rt, rt.alloc(), first, second)?;
+            escapes_octal_digits(&rt, rt.alloc(), first, second)?;
+        }
+    }
+    Ok(())
+}
+
+/// Fails unless an escape of this hexadecimal digit stands for its character, also with a letter after it that is no digit.
+fn escapes_one_hexadecimal_digit(rt: &impl Abort, alloc: Global, digit: u8) -> Result<(), Fail> {
+    let inside = [b'\\', b'x', lower(digit)];
+    stands_for(rt, alloc, &inside, Some(&[digit]))?;
+    let inside = [b'\\', b'x', upper(digit), b'g'];
+    stands_for(rt, alloc, &inside, Some(&[digit, b'g']))
+}
+
+/// Fails unless an escape of these two hexadecimal digits stands for its character, also with one more after it.
+fn escapes_two_hexadecimal_digits(
+    rt: &impl Abort,
+    alloc: Global,
+    first: u8,
+    second: u8,
+) -> Result<(), Fail> {
+    let char = ((first as u32 * 16 + second as u32) % 256) as u8;
+    let inside = [b'\\', b'x', lower(first), upper(second), b'f'];
+    stands_for(rt, alloc, &inside, Some(&[char, b'f']))?;
+    let inside = [b'\\', b'x', upper(first), lower(second)];
+    stands_for(rt, alloc, &inside, Some(&[char]))
+}
+
+#[test]
+fn each_hexadecimal_escape(rt: HostRuntime) -> Result<(), Fail> {
+    for first in 0..16u8 {
+        escapes_one_hexadecimal_digit(&rt, rt.alloc(), first)?;
+        for second in 0..16u8 {
+            escapes_two_hexadecimal_digits(&rt, rt.alloc(), first, second)?;
+        }
+    }
+    Ok(())
+}
+
+#[test]
+fn escapes_side_by_side(rt: HostRuntime) -> Result<(), Fail> {
+    const ROWS: [(&[u8], Option<&[u8]>); 16] = [
+        (b"", Some(b"")),
+        (b"\\\"", Some(b"\"")),
+        (b"\\\\", Some(b"\\")),
+        (b"\\\\\\\"\\'", Some(b"\\\"'")),
+        (b"\\\n", Some(b"\n")),
+        (b"a\nb", Some(b"a\nb")),
+        (b"// ; }", Some(b"// ; }")),
+        (b"\\0\\00\\000\\0000", Some(b"\0\0\0\x000")),
+        (b"\\377\\3777", Some(b"\xff\xff7")),
+        (b"\\400", None),
+        (b"\\777\\0", None),
+        (b"\\x41\\x4\\x414", Some(b"A\x04A4")),
+        (b"\\x", None),
+        (b"\\xg1", None),
+        (b"\\X41", Some(b"X41")),
+        (b"\\\\x \\\\400", Some(b"\\x \\400")),
+    ];
+    for (inside, want) in ROWS {
+        stands_for(&rt, rt.alloc(), inside, want)?;
+    }
+    Ok(())
+}

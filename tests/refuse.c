@@ -1,0 +1,69 @@
+/* Refuses one growth of memory. Loaded before a program, it counts the calls of malloc, calloc and realloc from 1; that of the
+ * number REFUSED answers NULL, and all others go through to the C library. As the program ends, it writes how many there were to
+ * the file that GROWTHS names.
+ *
+ *     cc -shared -fPIC -o refuse.so refuse.c
+ *     REFUSED=3 GROWTHS=growths LD_PRELOAD=./refuse.so bin/ncdump samples/note.nc
+ *
+ * What is taken before `begin` isn't counted, so the counts are the program's own. It is for programs of one thread. */
+#include <errno.h>
+#include <stddef.h>
+#include <stdio.h>
+#include <stdlib.h>
+
+/* The C library's own functions, by their second names. (To ask dlsym for the next `malloc` may itself take memory.) */
+extern void *__libc_malloc(size_t size);
+extern void *__libc_calloc(size_t count, size_t size);
+extern void *__libc_realloc(void *old, size_t size);
+
+static unsigned long refused; /* 0: none */
+static unsigned long growths;
+
+/* Counts a call, and says whether it is refused. */
+static int refuses(void)
+{
+    growths++;
+    if (growths != refused)
+        return 0;
+    errno = ENOMEM;
+    return 1;
+}
+
+void *malloc(size_t size)
+{
+    return refuses() ? NULL : __libc_malloc(size);
+}
+
+void *calloc(size_t count, size_t size)
+{
+    return refuses() ? NULL : __libc_calloc(count, size);
+}
+
+void *realloc(void *old, size_t size)
+{
+    return refuses() ? NULL : __libc_realloc(old, size);
+}
+
+/* Runs before the program's main. */
+__attribute__((constructor)) static void begin(void)
+{
+    const char *number = getenv("REFUSED");
+
+    refused = number ? strtoul(number, NULL, 10) : 0;
+    growths = 0;
+}
+
+/* Runs after it. */
+__attribute__((destructor)) static void end(void)
+{
+    const char *path = getenv("GROWTHS");
+    unsigned long all = growths;
+    FILE *file;
+
+    refused = 0;
+    file = path ? fopen(path, "w") : NULL;
+    if (file) {
+        fprintf(file, "%lu\n", all);
+        fclose(file);
+    }
+}
