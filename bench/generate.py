@@ -4,8 +4,8 @@
     bench/generate.py [NAME ...]
 
 It makes the texts, runs both programs in turn, each of which makes the file, and prints for each text its size, the least time of
-each in milliseconds, how many times as fast ours is, how many megabytes of text a second that is, the most memory that each took, and
-how much of ours isn't the text and the packed values. Wants GNU time, and bin/ncgen built.
+each in milliseconds, how many times as fast ours is, how many megabytes of text a second that is, and how many are read where ours
+only checks the text; the most memory that each took, and how much of ours isn't the text and the packed values. Wants GNU time, and bin/ncgen built.
 
 Some texts come in two lengths. The run fails where four times the length takes more than six times as long.
 """
@@ -126,10 +126,13 @@ def timed(name, content, out="made.nc"):
     path = f"{name}.cdl"
     Path(path).write_text(content)
     size = len(content)
-    words = ["-k", KINDS.get(name, "nc3"), "-o", out, path]
+    kind = KINDS.get(name, "nc3")
+    words = ["-k", kind, "-o", out, path]
     ours, theirs = run([OURS, *words]), run([THEIRS, *words], STOPPED / 1000)
+    reading = run([OURS, "-k", kind, path])
     for _ in range(RUNS - 1):
         ours = min(ours, run([OURS, *words]))
+        reading = min(reading, run([OURS, "-k", kind, path]))
         if theirs and theirs < SLOW:
             theirs = min(theirs, run([THEIRS, *words]))
     shown = f"{theirs:9.1f} {ours:9.1f} {theirs / ours:7.1f}" if theirs else f"{'none':>9} {ours:9.1f} {'-':>7}"
@@ -137,7 +140,8 @@ def timed(name, content, out="made.nc"):
     their_peak = peak([THEIRS, *words]) if theirs else 0
     made = os.path.getsize(out) if os.path.isfile(out) else 0
     beside = held - (size + made) // 1024
-    print(f"{name:30} {size:10} {shown} {size / ours / 1000:7.1f} {their_peak:8} {held:8} {beside:8}", flush=True)
+    speeds = f"{size / ours / 1000:7.1f} {size / reading / 1000:7.1f}"
+    print(f"{name:30} {size:10} {shown} {speeds} {their_peak:8} {held:8} {beside:8}", flush=True)
     os.remove(path)
     return ours
 
@@ -147,7 +151,7 @@ def main():
     faults = []
     with tempfile.TemporaryDirectory() as folder:
         os.chdir(folder)
-        columns = f"{'MB/s':>7} {'its KiB':>8} {'our KiB':>8} {'beside':>8}"
+        columns = f"{'MB/s':>7} {'read':>7} {'its KiB':>8} {'our KiB':>8} {'beside':>8}"
         print(f"{'text':30} {'bytes':>10} {'Unidata':>9} {'ours':>9} {'times':>7} {columns}")
         for name, make in TEXTS.items():
             if not wanted or name in wanted:
