@@ -20,13 +20,14 @@ bin/ncgen: FORCE
 	cd crates/ncgen_cli && rt run -- ../../$(sample).cdl
 	$(call keep,ncgen)
 
-# The merge gate: every proof from nothing, the must-fail edits, the tests and the programs' stored runs; then wrong definitions,
-# which the laws have to refuse, the tests and the programs that the gate has built with each growth of memory refused in turn, and
-# the programs from end to end, and on random datasets.
+# The merge gate: every proof from nothing, the tests and the programs' stored runs; then wrong bodies, which the contracts have to
+# refuse, and wrong definitions, which the laws have to refuse; the tests and the programs that the gate has built with each growth
+# of memory refused in turn, and the programs from end to end, and on random datasets.
 test:
 	rt ci
 	$(call keep,ncdump)
 	$(call keep,ncgen)
+	tests/wrong_bodies.py
 	tests/definitions.py
 	tests/growths.sh
 	tests/ncdump.sh

@@ -1,0 +1,201 @@
+#!/usr/bin/env python3
+"""Puts wrong bodies into the crates, and asks whether the contracts refuse each of them.
+
+    tests/wrong_bodies.py [CRATE ...]
+
+crates/CRATE/wrong-bodies/NAME.edit changes the body of one function, in the format of crates/CRATE/must-fail. A function is proved
+over the contracts of what it calls and never over their bodies, so a body is refused or not whatever the other bodies are. Wrong
+bodies of different functions are therefore tried in one check, which takes a fifth of the time that a check for each takes. Each
+changed function has to be refused for itself, not because it calls one that is refused, and all others have to be proved. What
+the check stands on are the crates below as rt ci has built them. The last line is 'N passed, M failed'.
+"""
+
+import os
+import re
+import shutil
+import subprocess
+import sys
+import tempfile
+from concurrent.futures import ThreadPoolExecutor
+from pathlib import Path
+
+TOP = Path(__file__).resolve().parent.parent
+CRATES = TOP / "crates"
+# the most memory that a check is likely to take
+CHECK_BYTES = 4 << 30
+# the prover's line on a function: it is proved, or why not
+VERDICT = re.compile(r"^fn (\S+): (proved|not proved|no proof: .*)$", re.M)
+# a goal of the function itself stayed open, or an answer to it doesn't hold
+OWN = re.compile(r"not proved|no proof: .*did not prove .*")
+FUNCTION = re.compile(r"^( *)(?:pub(?:\(\w+\))? )?(?:const )?fn (\w+)", re.M)
+IMPL = re.compile(r"^impl\b(?:<[^{]*?>)? (?:(\w+)(?:<[^{]*>)? for )?(\w+)", re.M)
+
+
+class BadEdit(Exception):
+    """An edit that can't be applied."""
+
+
+class Edit:
+    """A wrong body: what it changes, at which places of which files, and the functions that stand there."""
+
+    def __init__(self, crate, path):
+        self.name = path.stem
+        self.changes = [(file, *place_of(crate, file, old), new) for file, old, new in read_pairs(path)]
+        # what can't be changed twice in a round: a function, or a line outside of all
+        self.changed = {function_at(crate, file, start) or (file, start) for file, start, _, _ in self.changes}
+        self.functions = {it for it in self.changed if isinstance(it, str)}
+
+
+def apply(edits, folder):
+    """Changes a copy of the crate."""
+    changes = sorted((it for edit in edits for it in edit.changes), key=lambda it: it[1], reverse=True)
+    for file, start, end, new in changes:
+        text = (folder / file).read_text()
+        (folder / file).write_text(text[:start] + new + text[end:])
+
+
+def read_pairs(path):
+    """The changes of an edit: a file, what stands there, and what is put in its place."""
+    file, old, pairs = None, None, []
+    for line in path.read_text().splitlines():
+        word, _, rest = line.partition(": ")
+        if word == "file":
+            file = rest
+        elif word == "old":
+            old = rest
+        elif word.rstrip(":") == "new":
+            pairs.append((file, old, rest))
+    if not pairs:
+        raise BadEdit(f"{path.name}: it has no pair of an old and a new text")
+    return pairs
+
+
+def place_of(crate, file, old):
+    """Where a text stands in a file: once, or once as a whole line."""
+    text = (CRATES / crate / file).read_text()
+    found = [it.span() for it in re.finditer(re.escape(old), text)]
+    if len(found) != 1:
+        found = [it.span() for it in re.finditer(f"^{re.escape(old)}$", text, re.M)]
+    if len(found) != 1:
+        raise BadEdit(f"{crate}: an 'old' doesn't stand in {file} just once: {old}")
+    return found[0]
+
+
+def function_at(crate, file, place):
+    """The prover's name of the function that stands at a place of a file, or None at a place before all."""
+    text = (CRATES / crate / file).read_text()
+    before = [it for it in FUNCTION.finditer(text) if it.start() <= place]
+    if not before:
+        return None
+    indent, name = before[-1].groups()
+    module = [it for it in Path(file).with_suffix("").parts[1:] if it != "lib"]
+    of = []
+    if indent:
+        trait, type_name = [it for it in IMPL.finditer(text) if it.start() < before[-1].start()][-1].groups()
+        of = [type_name + (trait or "")]
+    return "::".join([crate, *module, *of, name])
+
+
+def rounds_of(edits):
+    """The edits in rounds, in each of which no function is changed twice."""
+    rounds = []
+    for edit in edits:
+        free = next((it for it in rounds if not any(edit.changed & other.changed for other in it)), None)
+        if free is None:
+            rounds.append([edit])
+        else:
+            free.append(edit)
+    return rounds
+
+
+def below(crate, lines):
+    """The crates that a crate stands on, from crates.txt: its own line, and all in their order."""
+    named = lines[crate]
+    found = set(named)
+    for it in list(found):
+        found |= below(it, lines)[1] if it in lines else set()
+    return named, found
+
+
+def prover_words(crate):
+    """The prover's command line for a crate, over the libraries of the kit and of the crates below."""
+    kit = Path(subprocess.run(["rt", "doc"], stdout=subprocess.PIPE, text=True, check=True).stdout.strip()).parent
+    lines = {}
+    for line in (TOP / "crates.txt").read_text().splitlines():
+        if not line.startswith("#"):
+            name, _, rest = line.partition(":")
+            lines[name] = rest.split()
+    named, all_below = below(crate, lines)
+    built = lambda it: CRATES / it / "out" / "rlib" / f"{it}.rlib"
+    words = ["rattle", "check", "--crate-name", crate, "src/lib.rt", "-L", f"dependency={kit}/rlibs"]
+    for it in ["std", *named]:
+        words += ["--extern", f"{it}={built(it) if it in lines else kit / 'rlibs' / f'{it}.rlib'}"]
+    for it in lines:
+        words += ["-L", f"dependency={built(it).parent}"] if it in all_below else []
+    return words + ["--antt-project", f"{kit}/rattle/logic/antt-project.json", "--logic-built", f"{kit}/logic_built", "--links", f"{crate}=", "--jobs", "1"]
+
+
+def is_of(name, function):
+    """Whether the prover's name is that of the function, or of a closure in it."""
+    module, _, last = function.rpartition("::")
+    return name == function or re.sub(r"\+.*", "", name).startswith((f"{module}::fn::{last}::", f"{function}::"))
+
+
+def judge(crate, edits, said):
+    """Whether each edit of a round was refused, and a line on each."""
+    verdicts = VERDICT.findall(said)
+    if not verdicts or "logic=" not in said.splitlines()[-1]:
+        errors = [line for line in said.splitlines() if "error" in line] or said.splitlines()[-3:]
+        return [(False, f"{crate}/{it.name}: BAD EDIT: the round did not reach the prover: {errors[0][:300]}") for it in edits]
+    refused = [name for name, verdict in verdicts if OWN.fullmatch(verdict)]
+    lines = []
+    for edit in edits:
+        mine = [name for name in refused if any(is_of(name, it) for it in edit.functions)]
+        refused = [name for name in refused if name not in mine]
+        lines.append((bool(mine), f"{crate}/{edit.name}: {'refused, as it must be: ' + mine[0] if mine else 'NOT REFUSED: ' + ', '.join(edit.functions) + ' is still proved'}"))
+    return lines + [(False, f"{crate}: {name} isn't proved, and no edit changes it") for name in refused]
+
+
+def try_crate(crate):
+    """Tries the wrong bodies of a crate, in as many checks as the function with the most of them needs."""
+    try:
+        edits = [Edit(crate, path) for path in sorted((CRATES / crate / "wrong-bodies").glob("*.edit"))]
+    except BadEdit as why:
+        return [(False, f"BAD EDIT: {why}")]
+    words, results = prover_words(crate), []
+    with tempfile.TemporaryDirectory() as kept:
+        for edits in rounds_of(edits):
+            with tempfile.TemporaryDirectory() as folder:
+                for part in ["src", "specs", "proofs"]:
+                    if (CRATES / crate / part).is_dir():
+                        shutil.copytree(CRATES / crate / part, Path(folder, part))
+                apply(edits, Path(folder))
+                ran = subprocess.run([*words, "--incremental", kept], cwd=folder, stdin=subprocess.DEVNULL, text=True,
+                                     stdout=subprocess.PIPE, stderr=subprocess.STDOUT, errors="replace")
+            results += judge(crate, edits, ran.stdout.rstrip())
+            print("\n".join(line for _, line in results[-len(edits):]), flush=True)
+    return results
+
+
+def at_once():
+    """How many checks to run side by side."""
+    memory = int(re.search(r"MemAvailable: +(\d+)", Path("/proc/meminfo").read_text())[1]) << 10
+    return max(1, min(len(os.sched_getaffinity(0)), memory // CHECK_BYTES))
+
+
+def main():
+    crates = sorted({path.parent.parent.name for path in CRATES.glob("*/wrong-bodies/*.edit")})
+    crates = [it for it in crates if it in sys.argv[1:]] if sys.argv[1:] else crates
+    crates.sort(key=lambda it: -len(list((CRATES / it / "wrong-bodies").glob("*.edit"))))
+    with ThreadPoolExecutor(at_once()) as pool:
+        results = [it for part in pool.map(try_crate, crates) for it in part]
+    for is_well, line in results:
+        if not is_well:
+            print(line)
+    failed = sum(not is_well for is_well, _ in results)
+    print(f"{len(results) - failed} passed, {failed} failed")
+    return 1 if failed or not results else 0
+
+
+if __name__ == "__main__":
+    sys.exit(main())
