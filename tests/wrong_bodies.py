@@ -23,10 +23,10 @@ TOP = Path(__file__).resolve().parent.parent
 CRATES = TOP / "crates"
 # the most memory that a check is likely to take
 CHECK_BYTES = 4 << 30
-# the prover's line on a function: it is proved, or why not
-VERDICT = re.compile(r"^fn (\S+): (proved|not proved|no proof: .*)$", re.M)
-# a goal of the function itself stayed open, or an answer to it doesn't hold
-OWN = re.compile(r"not proved|no proof: .*did not prove .*")
+# the prover's line on a function
+VERDICT = re.compile(r"^fn (\S+): (.+)$", re.M)
+# an answer to a goal of the function itself doesn't hold, or the goal stayed open: else the function waits for one that it calls
+OWN = re.compile(r"not proved|no proof: .*did not prove")
 FUNCTION = re.compile(r"^( *)(?:pub(?:\(\w+\))? )?(?:const )?fn (\w+)", re.M)
 IMPL = re.compile(r"^impl\b(?:<[^{]*?>)? (?:(\w+)(?:<[^{]*>)? for )?(\w+)", re.M)
 
@@ -88,12 +88,12 @@ def function_at(crate, file, place):
     if not before:
         return None
     indent, name = before[-1].groups()
-    module = [it for it in Path(file).with_suffix("").parts[1:] if it != "lib"]
-    of = []
     if indent:
+        # the prover says in which module the type stands, and not where this part of it does
         trait, type_name = [it for it in IMPL.finditer(text) if it.start() < before[-1].start()][-1].groups()
-        of = [type_name + (trait or "")]
-    return "::".join([crate, *module, *of, name])
+        return f"{type_name}{trait or ''}::{name}"
+    module = [it for it in Path(file).with_suffix("").parts[1:] if it != "lib"]
+    return "::".join([crate, *module, name])
 
 
 def rounds_of(edits):
@@ -137,8 +137,10 @@ def prover_words(crate):
 
 def is_of(name, function):
     """Whether the prover's name is that of the function, or of a closure in it."""
+    if function[0].isupper():
+        return name.endswith(f"::{function}") or f"::fn::{function}::" in name
     module, _, last = function.rpartition("::")
-    return name == function or re.sub(r"\+.*", "", name).startswith((f"{module}::fn::{last}::", f"{function}::"))
+    return name == function or name.startswith(f"{module}::fn::{last}::")
 
 
 def judge(crate, edits, said):
@@ -147,7 +149,7 @@ def judge(crate, edits, said):
     if not verdicts or "logic=" not in said.splitlines()[-1]:
         errors = [line for line in said.splitlines() if "error" in line] or said.splitlines()[-3:]
         return [(False, f"{crate}/{it.name}: BAD EDIT: the round did not reach the prover: {errors[0][:300]}") for it in edits]
-    refused = [name for name, verdict in verdicts if OWN.fullmatch(verdict)]
+    refused = [name for name, verdict in verdicts if OWN.match(verdict)]
     lines = []
     for edit in edits:
         mine = [name for name in refused if any(is_of(name, it) for it in edit.functions)]
