@@ -6,7 +6,7 @@
 crates/CRATE/wrong-bodies/NAME.edit changes the body of one function, in the format of crates/CRATE/must-fail. A function is proved
 over the contracts of what it calls and never over their bodies, so a body is refused or not whatever the other bodies are. Wrong
 bodies of different functions are therefore tried in one check, which takes a fifth of the time that a check for each takes. Each
-changed function has to be refused for itself, not because it calls one that is refused, and all others have to be proved. What
+changed function has to be refused for itself, not because it calls one that is refused, and what it calls has to be proved. What
 the check stands on are the crates below as rt ci has built them. The last line is 'N passed, M failed'.
 """
 
@@ -28,7 +28,7 @@ VERDICT = re.compile(r"^fn (\S+): (.+)$", re.M)
 # an answer to a goal of the function itself doesn't hold, or the goal stayed open: else the function waits for one that it calls
 OWN = re.compile(r"not proved|no proof: .*did not prove")
 FUNCTION = re.compile(r"^( *)(?:pub(?:\(\w+\))? )?(?:const )?fn (\w+)", re.M)
-IMPL = re.compile(r"^impl\b(?:<[^{]*?>)? (?:(\w+)(?:<[^{]*>)? for )?(\w+)", re.M)
+IMPL = re.compile(r"^impl\b(?:<[^{]*?>)? (?:(\w+)(?:<([\w:]*)[^{]*>)? for )?(\w+)", re.M)
 
 
 class BadEdit(Exception):
@@ -82,7 +82,7 @@ def place_of(crate, file, old):
 
 
 def function_at(crate, file, place):
-    """The prover's name of the function that stands at a place of a file, or None at a place before all."""
+    """The end of the prover's name of the function that stands at a place of a file, or None at a place before all."""
     text = (CRATES / crate / file).read_text()
     before = [it for it in FUNCTION.finditer(text) if it.start() <= place]
     if not before:
@@ -90,10 +90,10 @@ def function_at(crate, file, place):
     indent, name = before[-1].groups()
     if indent:
         # the prover says in which module the type stands, and not where this part of it does
-        trait, type_name = [it for it in IMPL.finditer(text) if it.start() < before[-1].start()][-1].groups()
-        return f"{type_name}{trait or ''}::{name}"
-    module = [it for it in Path(file).with_suffix("").parts[1:] if it != "lib"]
-    return "::".join([crate, *module, name])
+        trait, of, type_name = [it for it in IMPL.finditer(text) if it.start() < before[-1].start()][-1].groups()
+        of = "".join(it[0].upper() + it[1:] for it in (of or "").split("::") if it)
+        return f"{type_name}{trait or ''}{of}::{name}"
+    return "::".join([*(it for it in Path(file).with_suffix("").parts[1:] if it != "lib"), name])
 
 
 def rounds_of(edits):
@@ -137,16 +137,15 @@ def prover_words(crate):
 
 def is_of(name, function):
     """Whether the prover's name is that of the function, or of a closure in it."""
-    if function[0].isupper():
-        return name.endswith(f"::{function}") or f"::fn::{function}::" in name
     module, _, last = function.rpartition("::")
-    return name == function or name.startswith(f"{module}::fn::{last}::")
+    inside = f"fn::{function}::" if function[0].isupper() else f"{module}::fn::{last}::"
+    return name.endswith(f"::{function}") or f"::{inside}" in name
 
 
 def judge(crate, edits, said):
     """Whether each edit of a round was refused, and a line on each."""
     verdicts = VERDICT.findall(said)
-    if not verdicts or "logic=" not in said.splitlines()[-1]:
+    if not verdicts or not said.splitlines()[-1].startswith("only="):
         errors = [line for line in said.splitlines() if "error" in line] or said.splitlines()[-3:]
         return [(False, f"{crate}/{it.name}: BAD EDIT: the round did not reach the prover: {errors[0][:300]}") for it in edits]
     refused = [name for name, verdict in verdicts if OWN.match(verdict)]
@@ -172,7 +171,8 @@ def try_crate(crate):
                     if (CRATES / crate / part).is_dir():
                         shutil.copytree(CRATES / crate / part, Path(folder, part))
                 apply(edits, Path(folder))
-                ran = subprocess.run([*words, "--incremental", kept], cwd=folder, stdin=subprocess.DEVNULL, text=True,
+                only = [f"--only={it}" for edit in edits for it in sorted(edit.functions)]
+                ran = subprocess.run([*words, "--incremental", kept, *only], cwd=folder, stdin=subprocess.DEVNULL, text=True,
                                      stdout=subprocess.PIPE, stderr=subprocess.STDOUT, errors="replace")
             results += judge(crate, edits, ran.stdout.rstrip())
             print("\n".join(line for _, line in results[-len(edits):]), flush=True)
