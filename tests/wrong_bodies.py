@@ -108,31 +108,24 @@ def rounds_of(edits):
     return rounds
 
 
-def below(crate, lines):
-    """The crates that a crate stands on, from crates.txt: its own line, and all in their order."""
-    named = lines[crate]
-    found = set(named)
-    for it in list(found):
-        found |= below(it, lines)[1] if it in lines else set()
-    return named, found
+def stands_on():
+    """What each crate stands on, from crates.txt: libraries of the kit, and crates."""
+    lines = (line.partition(":") for line in (TOP / "crates.txt").read_text().splitlines() if not line.startswith("#"))
+    return {name: rest.split() for name, _, rest in lines}
 
 
 def prover_words(crate):
     """The prover's command line for a crate, over the libraries of the kit and of the crates below."""
     kit = Path(subprocess.run(["rt", "doc"], stdout=subprocess.PIPE, text=True, check=True).stdout.strip()).parent
-    lines = {}
-    for line in (TOP / "crates.txt").read_text().splitlines():
-        if not line.startswith("#"):
-            name, _, rest = line.partition(":")
-            lines[name] = rest.split()
-    named, all_below = below(crate, lines)
-    built = lambda it: CRATES / it / "out" / "rlib" / f"{it}.rlib"
-    words = ["rattle", "check", "--crate-name", crate, "src/lib.rt", "-L", f"dependency={kit}/rlibs"]
-    for it in ["std", *named]:
-        words += ["--extern", f"{it}={built(it) if it in lines else kit / 'rlibs' / f'{it}.rlib'}"]
-    for it in lines:
-        words += ["-L", f"dependency={built(it).parent}"] if it in all_below else []
-    return words + ["--antt-project", f"{kit}/rattle/logic/antt-project.json", "--logic-built", f"{kit}/logic_built", "--links", f"{crate}=", "--jobs", "1"]
+    below = stands_on()
+    folder_of = lambda library: CRATES / library / "out" / "rlib" if library in below else kit / "rlibs"
+    words = ["rattle", "check", "--crate-name", crate, "src/lib.rt", "--links", f"{crate}=", "--jobs", "1"]
+    words += ["--antt-project", f"{kit}/rattle/logic/antt-project.json", "--logic-built", f"{kit}/logic_built"]
+    for library in ["std", *below[crate]]:
+        words += ["--extern", f"{library}={folder_of(library)}/{library}.rlib"]
+    for library in ["std", *below]:
+        words += ["-L", f"dependency={folder_of(library)}"]
+    return words
 
 
 def is_of(name, function):
@@ -148,34 +141,40 @@ def judge(crate, edits, said):
     if not verdicts or not said.splitlines()[-1].startswith("only="):
         errors = [line for line in said.splitlines() if "error" in line] or said.splitlines()[-3:]
         return [(False, f"{crate}/{it.name}: BAD EDIT: the round did not reach the prover: {errors[0][:300]}") for it in edits]
-    refused = [name for name, verdict in verdicts if OWN.match(verdict)]
-    lines = []
+    refused, lines = [name for name, verdict in verdicts if OWN.match(verdict)], []
     for edit in edits:
-        mine = [name for name in refused if any(is_of(name, it) for it in edit.functions)]
-        refused = [name for name in refused if name not in mine]
-        lines.append((bool(mine), f"{crate}/{edit.name}: {'refused, as it must be: ' + mine[0] if mine else 'NOT REFUSED: ' + ', '.join(edit.functions) + ' is still proved'}"))
+        found = [name for name in refused if any(is_of(name, it) for it in edit.functions)]
+        refused = [name for name in refused if name not in found]
+        verdict = f"refused, as it must be: {found[0]}" if found else f"NOT REFUSED: {' '.join(edit.functions)} is still proved"
+        lines.append((bool(found), f"{crate}/{edit.name}: {verdict}"))
     return lines + [(False, f"{crate}: {name} isn't proved, and no edit changes it") for name in refused]
+
+
+def try_round(crate, edits, kept):
+    """Checks the functions that the edits change, over what earlier rounds kept."""
+    with tempfile.TemporaryDirectory() as folder:
+        for part in ["src", "specs", "proofs"]:
+            if (CRATES / crate / part).is_dir():
+                shutil.copytree(CRATES / crate / part, Path(folder, part))
+        apply(edits, Path(folder))
+        only = [f"--only={it}" for edit in edits for it in sorted(edit.functions)]
+        ran = subprocess.run([*prover_words(crate), "--incremental", kept, *only], cwd=folder, stdin=subprocess.DEVNULL,
+                             text=True, stdout=subprocess.PIPE, stderr=subprocess.STDOUT, errors="replace")
+    return judge(crate, edits, ran.stdout.rstrip())
 
 
 def try_crate(crate):
     """Tries the wrong bodies of a crate, in as many checks as the function with the most of them needs."""
+    results = []
     try:
         edits = [Edit(crate, path) for path in sorted((CRATES / crate / "wrong-bodies").glob("*.edit"))]
     except BadEdit as why:
         return [(False, f"BAD EDIT: {why}")]
-    words, results = prover_words(crate), []
     with tempfile.TemporaryDirectory() as kept:
-        for edits in rounds_of(edits):
-            with tempfile.TemporaryDirectory() as folder:
-                for part in ["src", "specs", "proofs"]:
-                    if (CRATES / crate / part).is_dir():
-                        shutil.copytree(CRATES / crate / part, Path(folder, part))
-                apply(edits, Path(folder))
-                only = [f"--only={it}" for edit in edits for it in sorted(edit.functions)]
-                ran = subprocess.run([*words, "--incremental", kept, *only], cwd=folder, stdin=subprocess.DEVNULL, text=True,
-                                     stdout=subprocess.PIPE, stderr=subprocess.STDOUT, errors="replace")
-            results += judge(crate, edits, ran.stdout.rstrip())
-            print("\n".join(line for _, line in results[-len(edits):]), flush=True)
+        for round_ in rounds_of(edits):
+            tried = try_round(crate, round_, kept)
+            print("\n".join(line for _, line in tried), flush=True)
+            results += tried
     return results
 
 
