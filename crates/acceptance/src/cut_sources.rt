@@ -68,7 +68,7 @@ fn answer_to(len: usize) -> (Result<(), DumpFault>, usize) {
     }
 }
 
-/// Dumps the first bytes of the file with three shorts, through a buffer of so many bytes.
+/// Dumps the first `len` bytes of the file with three shorts, through a buffer of `buffer_len` bytes.
 fn dumps_cut(rt: &impl Abort, alloc: Global, options: &DumpOptions, len: usize, buffer_len: usize) {
     let (answer, written) = answer_to(len);
     assert!(rt; written <= GENERATED_TEXT.len());

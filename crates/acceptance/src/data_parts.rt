@@ -79,7 +79,7 @@ fn is_written(
     write_data(sink, header, arrays).is_ok()
 }
 
-/// The same to a sink that takes up to `capacity` bytes, so many at a time, and asserts that it has taken what fits of these
+/// The same to a sink that takes up to `capacity` bytes, `step` at a time, and asserts that it has taken what fits of these
 /// bytes.
 fn fills_sink(
     rt: &impl Abort,

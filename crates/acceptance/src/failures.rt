@@ -98,7 +98,7 @@ fn fails_to_write(
     Ok(())
 }
 
-/// Each read and each write fails in turn, with devices of so many bytes a call.
+/// Each read and each write fails in turn, with devices of `step` bytes a call.
 fn each_call_fails_in_steps(
     rt: &impl Abort,
     alloc: Global,
@@ -144,7 +144,7 @@ fn each_call_fails_in_the_dump_of_nuls_in_a_row(rt: HostRuntime) -> Result<(), F
     each_call_fails(&rt, rt.alloc(), &rows::many_nuls_in_a_row(&all))
 }
 
-/// Dumps the selection through a buffer of so many bytes, in steps of so many, and asserts the text and the bytes read.
+/// Dumps the selection through a buffer of `buffer_len` bytes, in steps of `step`, and asserts the text and the bytes read.
 fn selection_through(
     rt: &impl Abort,
     alloc: Global,

@@ -8,7 +8,7 @@ use std::alloc::Global;
 use std::process::Abort;
 use std::test::Fail;
 
-/// Reads the header through a buffer of so many bytes, and asserts that its first wrong field has this fault.
+/// Reads the header through a buffer of `buffer_len` bytes, and asserts that its first wrong field has this fault.
 fn refused_through<S: Source>(
     rt: &impl Abort,
     alloc: Global,
@@ -86,7 +86,7 @@ fn assert_generated(rt: &impl Abort, header: &Header, version: Version, begin_at
     assert_variable(rt, header.vars.as_slice(), begin_at);
 }
 
-/// Reads the header of a generated file through a buffer of so many bytes.
+/// Reads the header of a generated file through a buffer of `buffer_len` bytes.
 fn generated_through<S: Source>(
     rt: &impl Abort,
     alloc: Global,

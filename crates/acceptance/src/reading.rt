@@ -17,7 +17,7 @@ pub fn header_through<S: Source>(
     read_header(alloc, source, buf)
 }
 
-/// A walk over the variable in place `v`, over so many records, through this buffer, which has to have 16 bytes.
+/// A walk over the variable in place `v`, over `records` records, through this buffer, which has to have 16 bytes.
 pub fn walk_over<'a>(
     rt: &impl Abort,
     header: &Header,

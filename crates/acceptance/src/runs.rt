@@ -19,7 +19,7 @@ pub fn options(alloc: Global, head_only: bool) -> Result<DumpOptions, AllocError
     })
 }
 
-/// Dumps the source through a buffer of so many bytes, and asserts the answer and what was written.
+/// Dumps the source through a buffer of `buffer_len` bytes, and asserts the answer and what was written.
 pub fn dumps_through<S: Source>(
     rt: &impl Abort,
     alloc: Global,

@@ -169,7 +169,7 @@ fn long_name_text(alloc: Global, letters: u32) -> Result<Vec<u8>, AllocError> {
     Ok(text)
 }
 
-/// The dump of a file whose only name has so many letters.
+/// The dump of a file whose only name has `letters` letters.
 fn dumps_long_name(rt: &impl Abort, alloc: Global, letters: u32) -> Result<(), Fail> {
     let bytes = with_long_name(alloc, letters)?;
     let text = long_name_text(alloc, letters)?;

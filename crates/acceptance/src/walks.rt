@@ -38,7 +38,7 @@ fn walks_to_the_end(
     assert!(rt; source.handed() == handed);
 }
 
-/// Walks so over the variable in place `v`, through a buffer of so many bytes.
+/// Walks so over the variable in place `v`, through a buffer of `buffer_len` bytes.
 fn walks_through(
     rt: &impl Abort,
     alloc: Global,

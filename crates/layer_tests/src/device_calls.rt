@@ -113,7 +113,7 @@ fn writer_takes_bytes(rt: HostRuntime) {
     expect_bytes(&rt, sink.into_inner().as_slice(), b"abcde");
 }
 
-/// Fails unless a writer that takes two bytes a call takes the first of these bytes, in so many calls.
+/// Fails unless a writer that takes two bytes a call takes the first of these bytes, in `calls` calls.
 fn expect_two_by_two(
     rt: &impl Abort,
     bytes: &[u8],

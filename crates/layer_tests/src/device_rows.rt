@@ -7,7 +7,7 @@ use std::test::*;
 /// A read at an offset: what it answers, and the bytes that it gives.
 pub type Read = (u64, Result<usize, SourceFailed>, &'static [u8]);
 
-/// A source of these bytes that gives so many a read.
+/// A source of these bytes that gives up to `step` of them a read.
 pub fn drip_of<'a>(
     rt: &impl Abort,
     bytes: &'a [u8],
@@ -18,7 +18,7 @@ pub fn drip_of<'a>(
     DripSource::new(bytes, step, fail)
 }
 
-/// Fails unless a read of so many bytes, at an offset before the source's end, gives that answer and those bytes.
+/// Fails unless a read of `len` bytes, at an offset before the source's end, gives that answer and those bytes.
 pub fn expect_read<S: Source>(rt: &impl Abort, source: &mut S, len: usize, read: &Read) {
     let (at, answer, want) = *read;
     let mut space = [0; 10];
@@ -28,7 +28,7 @@ pub fn expect_read<S: Source>(rt: &impl Abort, source: &mut S, len: usize, read:
     assert!(rt; space.starts_with(want), "at {at}");
 }
 
-/// Fails unless reads of so many bytes, one after the other, give these answers and bytes.
+/// Fails unless reads of `len` bytes, one after the other, give these answers and bytes.
 pub fn expect_reads<S: Source>(rt: &impl Abort, source: &mut S, len: usize, reads: &[Read]) {
     for read in reads {
         expect_read(rt, source, len, read);

@@ -56,7 +56,7 @@ fn expect_names(rt: &impl Abort, alloc: Global, rows: &[(&[u8], &[u8])]) {
     }
 }
 
-/// Fails unless this is the head of a dump over so many records.
+/// Fails unless this is the head of a dump over `records` records.
 fn expect_head(rt: &impl Abort, alloc: Global, header: &Header, records: u64, want: &[u8]) {
     let mut sink = MemSink::new(alloc);
     assert!(rt; put_head(&mut sink, b"t", header, records).is_ok());

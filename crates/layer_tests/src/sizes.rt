@@ -50,13 +50,13 @@ fn header(
 /// The ids of a variable's dimensions, its type and where it begins.
 type Shape = (&'static [u64], NcType, u64);
 
-/// Fails unless a variable of this shape and type has slabs of so many bytes.
+/// Fails unless a variable of this shape and type has slabs of `slab` bytes.
 fn expect_slab(rt: &impl Abort, dims: &[Dim], dimids: &[u64], ty: NcType, slab: Option<u64>) {
     assert!(rt; dimids.iter().all(|id| *id < dims.len() as u64));
     assert_eq!(rt; slab_of(dims, dimids, ty), slab);
 }
 
-/// Fails unless variables of these shapes and types have slabs of so many bytes, where the dimensions have these lengths.
+/// Fails unless variables of these shapes and types have slabs of these sizes, where the dimensions have these lengths.
 fn expect_slabs(
     rt: &impl Abort,
     alloc: Global,
@@ -70,13 +70,13 @@ fn expect_slabs(
     Ok(())
 }
 
-/// Fails unless a record of the header has so many bytes.
+/// Fails unless a record of the header has `record` bytes.
 fn expect_record(rt: &impl Abort, header: &Header, record: u64) {
     assert!(rt; header.sound());
     assert_eq!(rt; rec_size(header), Some(record));
 }
 
-/// Fails unless the records of variables of these shapes have so many bytes, where the dimensions have these lengths.
+/// Fails unless the records of variables of these shapes have these sizes, where the dimensions have these lengths.
 fn expect_record_sizes(
     rt: &impl Abort,
     alloc: Global,
@@ -89,13 +89,13 @@ fn expect_record_sizes(
     Ok(())
 }
 
-/// Fails unless the header has so many records in a file of this length.
+/// Fails unless the header has `count` records in a file of this length.
 fn expect_records(rt: &impl Abort, header: &Header, len: u64, count: u64) {
     assert!(rt; header.sound());
     assert_eq!(rt; records(header, len), count);
 }
 
-/// Fails unless the values of variable `v` end there over so many records.
+/// Fails unless the values of variable `v` end there over `count` records.
 fn expect_end(rt: &impl Abort, header: &Header, v: usize, count: u64, end: u128) {
     assert!(rt; header.sound());
     assert!(rt; v < header.vars.len());

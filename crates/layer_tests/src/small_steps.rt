@@ -24,7 +24,7 @@ fn has_no_dims<S: Source>(alloc: Global, source: &mut S, buf: &mut [u8]) -> Resu
     Ok(read_header(alloc, source, buf)?.dims.is_empty())
 }
 
-/// Fails unless reading the header from the source, through a buffer of so many bytes, gives that answer.
+/// Fails unless reading the header from the source, through a buffer of `buffer_len` bytes, gives that answer.
 fn expect_header(
     rt: &impl Abort,
     alloc: Global,

@@ -175,7 +175,7 @@ fn five_suffixes_are_of_cdf5_alone(rt: HostRuntime) {
     }
 }
 
-/// Fails unless these bytes begin with so many that stand for this character, or for none.
+/// Fails unless the first `len` of these bytes stand for this character, or for none.
 fn expect_character(rt: &impl Abort, bytes: &[u8], value: Option<u8>, len: usize) {
     assert!(rt; !bytes.is_empty());
     assert!(rt; character(bytes) == Character { value, len }, "{bytes:?}");

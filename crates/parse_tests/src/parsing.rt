@@ -195,7 +195,7 @@ fn is_variable(rt: &impl Abort, dataset: &Dataset, ty: NcType, values: &[u8]) {
     }
 }
 
-/// Fails unless the dataset has so many dimensions, attributes and variables.
+/// Fails unless the dataset has `dims` dimensions, `gatts` attributes of its own and `vars` variables.
 fn has_sizes(rt: &impl Abort, dataset: &Dataset, dims: usize, gatts: usize, vars: usize) {
     assert!(rt; dataset.header.dims.len() == dims);
     assert!(rt; dataset.header.gatts.len() == gatts);
