@@ -119,7 +119,7 @@ def prover_words(crate):
     kit = Path(subprocess.run(["rt", "doc"], stdout=subprocess.PIPE, text=True, check=True).stdout.strip()).parent
     below = stands_on()
     folder_of = lambda library: CRATES / library / "out" / "rlib" if library in below else kit / "rlibs"
-    words = ["rattle", "check", "--crate-name", crate, "src/lib.rt", "--links", f"{crate}=", "--jobs", "1"]
+    words = [f"{kit}/bin/rattle", "check", "--crate-name", crate, "src/lib.rt", "--links", f"{crate}=", "--jobs", "1"]
     words += ["--antt-project", f"{kit}/rattle/logic/antt-project.json", "--logic-built", f"{kit}/logic_built"]
     for library in ["std", *below[crate]]:
         words += ["--extern", f"{library}={folder_of(library)}/{library}.rlib"]
