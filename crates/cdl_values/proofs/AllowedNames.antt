@@ -5,7 +5,7 @@ use Rattle.nc_base.specs.Names.{is_name}
 use Rattle.cdl_text.specs.declared.fault.CdlKind.{CdlKind}
 use Rattle.cdl_text.specs.declared.fault.CdlKind.TheVariants.{BadName}
 use Rattle.cdl_meaning.specs.State.{unless}
-use Rattle.cdl_values.specs.Answers.{Fails, Gives}
+use Rattle.cdl_values.specs.Answers.{Continues, Fails, Gives}
 use Rattle.cdl_values.specs.declared.read_error.ReadError.{ReadError}
 use Rattle.cdl_values.specs.declared.read_error.ReadError.TheVariants.{OutOfMemory, Fault}
 
@@ -23,3 +23,9 @@ refused view (Ok b) e read is h = cc
 refused view (Err OutOfMemory) e read is h = tt
 refused view (Err (Fault k)) OutOfMemory read is h = cc
 refused view (Err (Fault k)) (Fault m) read is h = h ∙ ap Err (let same : m ≡ k = cc in same)
+
+pub stopped : {A B : Type 0} (after : B → Result A CdlKind) (r : Result B ReadError) (e : ReadError) (read : Result A CdlKind) → r ≡ Err e → Fails e read → Continues after r read
+stopped after (Ok b) e read is h = cc
+stopped after (Err OutOfMemory) e read is h = tt
+stopped after (Err (Fault k)) OutOfMemory read is h = cc
+stopped after (Err (Fault k)) (Fault m) read is h = h ∙ ap Err (let same : m ≡ k = cc in same)

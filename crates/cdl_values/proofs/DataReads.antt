@@ -1,6 +1,6 @@
 -- What a statement of the data section means, case by case.
 use Rattle.std.proofs.Common.{◌≡◌, ℕ, true, false, List, [], ◌∷◌, refl, sym, ap, ◌∙◌, Bool}
-use Rattle.std.specs.Prelude.{None, Some, Result, Ok, Err, ◌&&◌, ◌==◌, not, slice_index, if◌then◌else◌}
+use Rattle.std.specs.Prelude.{Option, None, Some, Result, Ok, Err, ◌&&◌, ◌==◌, not, slice_index, if◌then◌else◌}
 use Rattle.std.proofs.lemmas.Bool.{false≢true}
 use Rattle.nc_base.specs.declared.version.Version.{Version}
 use Rattle.cdl_text.specs.Lexemes.{Lexeme, word_value, is_mark, is_word_kind, is_mark_kind}
@@ -26,6 +26,10 @@ use Rattle.cdl_values.specs.declared.read_error.ReadError.TheVariants.{OutOfMemo
 pub bad_read : (version : Version) (names : List (List ℕ)) (targets : List Target) (ws : List Lexeme) (k : CdlKind) → first_bad version ws ≡ Some k → data_read version names targets ws ≡ Err k
 unfolding data_read
 bad_read version names targets ws k bad = rw (bad) refl
+
+pub no_fault : (fault : Option CdlKind) → ((k : CdlKind) → fault ≡ Some k → ⊥) → fault ≡ None
+no_fault None h = refl
+no_fault (Some k) h = absurd (h k refl)
 
 pub unshaped_read : (version : Version) (names : List (List ℕ)) (targets : List Target) (ws : List Lexeme) → first_bad version ws ≡ None → completes DataName ws ≡ false → data_read version names targets ws ≡ Err Syntax
 unfolding data_read

@@ -16,7 +16,7 @@ use crate::name::read_name;
 use crate::name_index::NameIndex;
 use crate::packing::{pack, pack_good};
 use crate::read_error::ReadError;
-use crate::value::{Stop, stop_of};
+use crate::value::Stop;
 use cdl_text::{CdlKind, Cutter, Due, first_pass};
 use std::alloc::Global;
 
@@ -124,17 +124,13 @@ fn read_quickly<'a>(
         }
         _ => return Err(Stop::SomeFault),
     }
-    match target_of(alloc, index, targets, name.bytes) {
-        Ok(place) => match pack_good(alloc, value, place.target.filling, place.target.capacity) {
-            Ok(packed) => Ok(Given {
-                position: place.position,
-                array: packed.array,
-                rest: packed.rest,
-            }),
-            Err(e) => Err(e),
-        },
-        Err(e) => Err(stop_of(e)),
-    }
+    let Place { position, target } = target_of(alloc, index, targets, name.bytes)?;
+    let packed = pack_good(alloc, value, target.filling, target.capacity)?;
+    Ok(Given {
+        position,
+        array: packed.array,
+        rest: packed.rest,
+    })
 }
 
 /// Reads a statement in two passes: the first says whether it has a bad token or no shape.
@@ -152,9 +148,8 @@ fn read_slowly<'a>(
     ensures version { IfOk result (λ g. version_of g.rest ≡ version_of start.entry) }
 {
     let found = first_pass(start, Due::DataName);
-    match found.bad {
-        Some(kind) => return Err(ReadError::Fault(kind)),
-        None => {}
+    if let Some(kind) = found.bad {
+        return Err(ReadError::Fault(kind));
     }
     if !found.shaped {
         return Err(ReadError::Fault(CdlKind::Syntax));

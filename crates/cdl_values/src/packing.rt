@@ -44,10 +44,7 @@ pub fn pack(
     'tokens: loop {
         let token = cutter.lexeme();
         let ends = cutter.advance();
-        match put_token(&mut array, version, filling, left, token) {
-            Ok(capacity) => left = capacity,
-            Err(e) => return Err(e),
-        }
+        left = put_token(&mut array, version, filling, left, token)?;
         if ends {
             return Ok(array);
         }
@@ -82,13 +79,7 @@ pub fn pack_good<'a>(
     'tokens: loop {
         let token = cutter.lexeme();
         let ends = cutter.advance();
-        match take_good(&mut array, version, &filling, left, due, token) {
-            Ok((capacity, then)) => {
-                left = capacity;
-                due = then;
-            }
-            Err(e) => return Err(e),
-        }
+        (left, due) = take_good(&mut array, version, &filling, left, due, token)?;
         if ends {
             if due.is_whole() {
                 return Ok(Packed {

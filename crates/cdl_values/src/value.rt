@@ -27,14 +27,17 @@ pub enum Stop {
     SomeFault,
 }
 
-/// The reason to stop, without its fault.
-pub fn stop_of(error: ReadError) -> Stop
-    ensures memory { error ≡ ReadError.OutOfMemory → result ≡ Stop.OutOfMemory }
-    ensures fault { (kind : CdlKind) → error ≡ ReadError.Fault kind → result ≡ Stop.SomeFault }
-{
-    match error {
-        ReadError::OutOfMemory => Stop::OutOfMemory,
-        ReadError::Fault(_) => Stop::SomeFault,
+impl From<ReadError> for Stop {
+    ghost use Rattle.cdl_values.specs.declared.read_error.ReadError.{ReadError};
+    ghost use Rattle.cdl_values.specs.declared.value.Stop.{Stop};
+
+    ghost from_gives = { λ error stop. (error ≡ ReadError.OutOfMemory → stop ≡ Stop.OutOfMemory) × ((kind : CdlKind) → error ≡ ReadError.Fault kind → stop ≡ Stop.SomeFault) };
+
+    fn from(error: ReadError) -> Stop {
+        match error {
+            ReadError::OutOfMemory => Stop::OutOfMemory,
+            ReadError::Fault(_) => Stop::SomeFault,
+        }
     }
 }
 
@@ -52,10 +55,8 @@ pub fn put_token(
         TokenKind::Mark => Ok(capacity),
         _ => {
             let before = array.len();
-            match put(array, version, filling, capacity, token) {
-                Ok(()) => Ok(filling.capacity_after(array.len().saturating_sub(before), capacity)),
-                Err(e) => Err(e),
-            }
+            put(array, version, filling, capacity, token)?;
+            Ok(filling.capacity_after(array.len().saturating_sub(before), capacity))
         }
     }
 }
@@ -79,20 +80,14 @@ pub fn take_good(
         TokenKind::Mark => Ok((capacity, then)),
         // A number is one value, so that its bytes needn't be counted.
         TokenKind::Number => {
-            match put_good_number(array, version, *filling, capacity, token.bytes) {
-                Ok(()) => Ok((less(1, capacity), then)),
-                Err(e) => Err(e),
-            }
+            put_good_number(array, version, *filling, capacity, token.bytes)?;
+            Ok((less(1, capacity), then))
         }
         _ => {
             let before = array.len();
-            match put_good(array, version, filling, capacity, token) {
-                Ok(()) => Ok((
-                    filling.capacity_after(array.len().saturating_sub(before), capacity),
-                    then,
-                )),
-                Err(e) => Err(e),
-            }
+            put_good(array, version, filling, capacity, token)?;
+            let added = array.len().saturating_sub(before);
+            Ok((filling.capacity_after(added, capacity), then))
         }
     }
 }
@@ -112,10 +107,7 @@ fn put_good(
 {
     match token.kind {
         TokenKind::Bad => Err(Stop::SomeFault),
-        _ => match put(array, version, *filling, capacity, token) {
-            Ok(()) => Ok(()),
-            Err(e) => Err(stop_of(e)),
-        },
+        _ => Ok(put(array, version, *filling, capacity, token)?),
     }
 }
 
@@ -138,10 +130,7 @@ fn put_good_number(
                 return Err(Stop::SomeFault);
             }
             match number_of_token(version, bytes) {
-                Some(n) => match put_numeral(array, fill.ty, n) {
-                    Ok(()) => Ok(()),
-                    Err(e) => Err(stop_of(e)),
-                },
+                Some(n) => Ok(put_numeral(array, fill.ty, n)?),
                 None => Err(Stop::SomeFault),
             }
         }
@@ -197,10 +186,7 @@ fn put_value(
             if full {
                 return Err(ReadError::Fault(CdlKind::TooManyValues));
             }
-            if put_number(array, fill.ty, fill.value).is_err() {
-                return Err(ReadError::OutOfMemory);
-            }
-            Ok(())
+            Ok(put_number(array, fill.ty, fill.value)?)
         }
     }
 }

@@ -42,56 +42,60 @@ fn all_nuls(rt: HostRuntime) {
     give(&rt, rt.alloc(), TEXT, &WANT);
 }
 
+/// A variable of characters with three records and a fill value of its own.
+const RECORDS_OF_B: WantedVar<'static> = WantedVar {
+    atts: &[(b"_FillValue", NcType::Char, b"-")],
+    name: b"b",
+    ty: NcType::Char,
+    dimids: &[0, 2],
+    values: b"ab-------",
+    ..PLAIN
+};
+
+/// Variables of characters with three records.
+const RECORDS: Wanted<'static> = Wanted {
+    records: 3,
+    dims: &[(b"t", 0), (b"y", 2), (b"x", 3)],
+    vars: &[
+        WantedVar {
+            name: b"a",
+            ty: NcType::Char,
+            dimids: &[0],
+            values: b"pqr",
+            ..PLAIN
+        },
+        RECORDS_OF_B,
+        WantedVar {
+            name: b"c",
+            ty: NcType::Char,
+            dimids: &[0, 1, 2],
+            values: b"\0\0\0uvwx\0\0\0\0\0\0\0\0\0\0\0",
+            ..PLAIN
+        },
+        WantedVar {
+            name: b"d",
+            ty: NcType::Char,
+            dimids: &[0, 2],
+            values: b"\0\0\0\0\0\0\0\0\0",
+            ..PLAIN
+        },
+        WantedVar {
+            name: b"e",
+            ty: NcType::Char,
+            dimids: &[0],
+            values: b"\0\0\0",
+            ..PLAIN
+        },
+    ],
+    ..NOTHING
+};
+
 #[test]
 fn records_of_characters(rt: HostRuntime) {
     const TEXT: &[u8] = b"netcdf t {\ndimensions: t = UNLIMITED, y = 2, x = 3 ;\n\
         variables: char a(t), b(t, x), c(t, y, x), d(t, x), e(t) ; b:_FillValue = \"-\" ;\n\
         data: b = \"ab\" ; a = \"pq\", \"\", \"r\" ; c = \"\", \"uvw\", \"x\" ; e = \"\" ;\n}\n";
-    const B: WantedVar<'static> = WantedVar {
-        atts: &[(b"_FillValue", NcType::Char, b"-")],
-        name: b"b",
-        ty: NcType::Char,
-        dimids: &[0, 2],
-        values: b"ab-------",
-        ..PLAIN
-    };
-    const WANT: Wanted<'static> = Wanted {
-        records: 3,
-        dims: &[(b"t", 0), (b"y", 2), (b"x", 3)],
-        vars: &[
-            WantedVar {
-                name: b"a",
-                ty: NcType::Char,
-                dimids: &[0],
-                values: b"pqr",
-                ..PLAIN
-            },
-            B,
-            WantedVar {
-                name: b"c",
-                ty: NcType::Char,
-                dimids: &[0, 1, 2],
-                values: b"\0\0\0uvwx\0\0\0\0\0\0\0\0\0\0\0",
-                ..PLAIN
-            },
-            WantedVar {
-                name: b"d",
-                ty: NcType::Char,
-                dimids: &[0, 2],
-                values: b"\0\0\0\0\0\0\0\0\0",
-                ..PLAIN
-            },
-            WantedVar {
-                name: b"e",
-                ty: NcType::Char,
-                dimids: &[0],
-                values: b"\0\0\0",
-                ..PLAIN
-            },
-        ],
-        ..NOTHING
-    };
-    give(&rt, rt.alloc(), TEXT, &WANT);
+    give(&rt, rt.alloc(), TEXT, &RECORDS);
 }
 
 #[test]
@@ -123,50 +127,52 @@ fn empty_strings_are_rows(rt: HostRuntime) {
     give(&rt, rt.alloc(), TEXT, &WANT);
 }
 
+/// Variables of characters of rank 1 and 0.
+const JOINED: Wanted<'static> = Wanted {
+    dims: &[(b"x", 5)],
+    vars: &[
+        WantedVar {
+            name: b"a",
+            ty: NcType::Char,
+            dimids: &[0],
+            values: b"ab\"c\0",
+            ..PLAIN
+        },
+        WantedVar {
+            name: b"b",
+            ty: NcType::Char,
+            dimids: &[0],
+            values: b"abcde",
+            ..PLAIN
+        },
+        WantedVar {
+            name: b"c",
+            ty: NcType::Char,
+            dimids: &[],
+            values: b"z",
+            ..PLAIN
+        },
+        WantedVar {
+            name: b"d",
+            ty: NcType::Char,
+            dimids: &[],
+            values: b"\0",
+            ..PLAIN
+        },
+        WantedVar {
+            name: b"e",
+            ty: NcType::Char,
+            dimids: &[],
+            values: b"\0",
+            ..PLAIN
+        },
+    ],
+    ..NOTHING
+};
+
 #[test]
 fn strings_of_rank_0_and_1_are_joined(rt: HostRuntime) {
     const TEXT: &[u8] = b"netcdf t { dimensions: x = 5 ; variables: char a(x), b(x), c, d, e ; \
         data: a = \"\", \"ab\", \"\\\"\", \"c\", \"\" ; b = \"abcde\", \"\" ; c = \"\", \"z\", \"\" ; e = \"\" ; }";
-    const WANT: Wanted<'static> = Wanted {
-        dims: &[(b"x", 5)],
-        vars: &[
-            WantedVar {
-                name: b"a",
-                ty: NcType::Char,
-                dimids: &[0],
-                values: b"ab\"c\0",
-                ..PLAIN
-            },
-            WantedVar {
-                name: b"b",
-                ty: NcType::Char,
-                dimids: &[0],
-                values: b"abcde",
-                ..PLAIN
-            },
-            WantedVar {
-                name: b"c",
-                ty: NcType::Char,
-                dimids: &[],
-                values: b"z",
-                ..PLAIN
-            },
-            WantedVar {
-                name: b"d",
-                ty: NcType::Char,
-                dimids: &[],
-                values: b"\0",
-                ..PLAIN
-            },
-            WantedVar {
-                name: b"e",
-                ty: NcType::Char,
-                dimids: &[],
-                values: b"\0",
-                ..PLAIN
-            },
-        ],
-        ..NOTHING
-    };
-    give(&rt, rt.alloc(), TEXT, &WANT);
+    give(&rt, rt.alloc(), TEXT, &JOINED);
 }

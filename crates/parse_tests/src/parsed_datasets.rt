@@ -110,51 +110,53 @@ fn no_records(rt: HostRuntime) {
     give(&rt, rt.alloc(), TEXT, &WANT);
 }
 
+/// Variables with fill values of their own, of which one fits.
+const FILLED: Wanted<'static> = Wanted {
+    dims: &[(b"x", 2)],
+    vars: &[
+        WantedVar {
+            atts: &[(b"_FillValue", NcType::Byte, b"\x05")],
+            name: b"b",
+            ty: NcType::Byte,
+            dimids: &[0],
+            values: b"\x05\x05",
+            ..PLAIN
+        },
+        WantedVar {
+            atts: &[(b"_FillValue", NcType::Int, b"\0\0\0\x05")],
+            name: b"c",
+            ty: NcType::Byte,
+            dimids: &[0],
+            values: b"\x81\x81",
+            ..PLAIN
+        },
+        WantedVar {
+            atts: &[(b"_FillValue", NcType::Byte, b"\x05\x06")],
+            name: b"d",
+            ty: NcType::Byte,
+            dimids: &[0],
+            values: b"\x01\x81",
+            ..PLAIN
+        },
+        WantedVar {
+            atts: &[(b"_FillValue", NcType::Char, b"xy")],
+            name: b"e",
+            ty: NcType::Char,
+            dimids: &[0],
+            values: b"e\0",
+            ..PLAIN
+        },
+    ],
+    ..NOTHING
+};
+
 #[test]
 fn fill_values_are_those_of_the_first_fitting_attribute(rt: HostRuntime) {
     const TEXT: &[u8] =
         b"netcdf t {\ndimensions: x = 2 ;\nvariables: byte b(x), c(x), d(x) ; char e(x) ;\n\
         b:_FillValue = 5b ; c:_FillValue = 5 ; d:_FillValue = 5b, 6b ; e:_FillValue = \"xy\" ;\n\
         data: b = _ ; c = _ ; d = 1 ; e = \"e\" ; }";
-    const WANT: Wanted<'static> = Wanted {
-        dims: &[(b"x", 2)],
-        vars: &[
-            WantedVar {
-                atts: &[(b"_FillValue", NcType::Byte, b"\x05")],
-                name: b"b",
-                ty: NcType::Byte,
-                dimids: &[0],
-                values: b"\x05\x05",
-                ..PLAIN
-            },
-            WantedVar {
-                atts: &[(b"_FillValue", NcType::Int, b"\0\0\0\x05")],
-                name: b"c",
-                ty: NcType::Byte,
-                dimids: &[0],
-                values: b"\x81\x81",
-                ..PLAIN
-            },
-            WantedVar {
-                atts: &[(b"_FillValue", NcType::Byte, b"\x05\x06")],
-                name: b"d",
-                ty: NcType::Byte,
-                dimids: &[0],
-                values: b"\x01\x81",
-                ..PLAIN
-            },
-            WantedVar {
-                atts: &[(b"_FillValue", NcType::Char, b"xy")],
-                name: b"e",
-                ty: NcType::Char,
-                dimids: &[0],
-                values: b"e\0",
-                ..PLAIN
-            },
-        ],
-        ..NOTHING
-    };
-    give(&rt, rt.alloc(), TEXT, &WANT);
+    give(&rt, rt.alloc(), TEXT, &FILLED);
 }
 
 #[test]

@@ -13,9 +13,9 @@ use Rattle.cdl_values.specs.PackedValues.{packed}
 use Rattle.cdl_values.proofs.DataReads.{read_on, filled_ok, quick_good}
 use Rattle.cdl_values.proofs.data.read_quickly.Goals as goal
 
-pub returns-in-Ok-pack_good-clause-read : goal.returns-in-Ok-pack_good-clause-read
+pub returns-clause-read : goal.returns-clause-read
 unfolding completes
-returns-in-Ok-pack_good-clause-read c = λ names h.
+returns-clause-read c = λ names h.
     let version = (version_of c.args.start) in
     let start = c.args.start in
     let equals = c.advanced-name_ends.result.0 in
@@ -26,9 +26,9 @@ returns-in-Ok-pack_good-clause-read c = λ names h.
     let e-is = going (words equals) (words value) e (lexeme_of c.lexeme-sign.result) c.advanced-sign_ends.result.1 c.advanced-sign_ends.ensures.words (sym c.lexeme-sign.ensures.lexeme) c.if-sign_ends.false in
     let on : completes DataName (words start) ≡ true =
     ap (completes DataName) n-is ∙ ap (λ d. completes d (words equals)) (sym c.after-equals_due.ensures) ∙ ap (completes c.after-equals_due.result) e-is ∙ ap (λ d. completes d (words value)) (sym c.after-value_due.ensures) ∙
-    ap (λ due. completes due (words value)) (c.in-Value.is ∙ ap dues.Value (let b : c.in-Value.takes_fill ≡ true = search rules in b)) ∙ c.in-Ok-pack_good.ensures.shaped in
+    ap (λ due. completes due (words value)) (c.in-Value.is ∙ ap dues.Value (let b : c.in-Value.takes_fill ≡ true = search rules in b)) ∙ c.in_ok-packed.ensures.shaped in
     let good = quick_good version (words start) (words equals) (words value) n e c.advanced-name_ends.result.1 c.advanced-sign_ends.result.1 c.advanced-name_ends.ensures.words c.advanced-sign_ends.ensures.words
-    c.if-name_ends.false c.if-sign_ends.false on (ap (λ v. first_bad v (words value)) (sym (c.advanced-sign_ends.ensures.version ∙ c.advanced-name_ends.ensures.version)) ∙ c.in-Ok-pack_good.ensures.bad) in
+    c.if-name_ends.false c.if-sign_ends.false on (ap (λ v. first_bad v (words value)) (sym (c.advanced-sign_ends.ensures.version ∙ c.advanced-name_ends.ensures.version)) ∙ c.in_ok-packed.ensures.bad) in
     read_on version names c.args.targets.now (words start) (words equals) (words value) n e c.advanced-name_ends.result.1 c.advanced-sign_ends.result.1 c.advanced-name_ends.ensures.words c.advanced-sign_ends.ensures.words good on ∙
-    filled_ok version (words value) (target_of names c.args.targets.now (word_value n.bytes)) c.in-Ok.place.target (ap (λ (l : Lexeme). target_of names c.args.targets.now (word_value l.bytes)) (sym c.lexeme-name.ensures.lexeme) ∙ c.in-Ok.ensures.target names h) ∙
-    ap (λ v. packed c.in-Ok.place.target.filling c.in-Ok.place.target.capacity (values v (words value))) (sym (c.advanced-sign_ends.ensures.version ∙ c.advanced-name_ends.ensures.version)) ∙ c.in-Ok-pack_good.ensures.packs
+    filled_ok version (words value) (target_of names c.args.targets.now (word_value n.bytes)) c.in_ok-position.field-0.target (ap (λ (l : Lexeme). target_of names c.args.targets.now (word_value l.bytes)) (sym c.lexeme-name.ensures.lexeme) ∙ c.in_ok-position.ensures.target names h) ∙
+    ap (λ v. packed c.in_ok-position.field-0.target.filling c.in_ok-position.field-0.target.capacity (values v (words value))) (sym (c.advanced-sign_ends.ensures.version ∙ c.advanced-name_ends.ensures.version)) ∙ c.in_ok-packed.ensures.packs

@@ -1,13 +1,15 @@
-use Rattle.std.proofs.Common.{sym, ap, ◌∙◌, [], List, Ok, subst}
+use Rattle.std.proofs.Common.{rules, sym, ap, ◌∙◌, [], List, Ok, subst}
 use Rattle.std.specs.Prelude.{Result, ℕ, if◌then◌else◌}
 use Rattle.cdl_text.specs.declared.fault.CdlKind.{CdlKind}
 use Rattle.cdl_text.specs.Contents.{values}
 use Rattle.cdl_text.specs.Lexemes.{lexeme}
-use Rattle.cdl_text.specs.Cutters.{next_token, text_of, words}
+use Rattle.cdl_text.specs.Cutters.{next_token, text_of, version_of, words}
 use Rattle.cdl_text.specs.Views.{lexeme_of}
 use Rattle.cdl_text.proofs.Surveys.{going, ending, first_word}
 use Rattle.cdl_values.specs.Answers.{Fails}
 use Rattle.cdl_values.specs.PackedValues.{packed, joined}
+use Rattle.cdl_values.specs.declared.array.Array.{Array}
+use Rattle.cdl_values.proofs.AllowedNames.{refused}
 use Rattle.cdl_values.proofs.PackedTokens.{none_packed}
 use Rattle.cdl_values.proofs.packing.pack.Goals as goal
 
@@ -17,7 +19,7 @@ returns-then-ends c =
     let t = c.tokens in
     let l = lexeme_of c.lexeme-token.result in
     let here = ending (words t.cutter) (words c.advance-ends.new.self) (lexeme (text_of t.cutter) (next_token t.cutter)) l c.advance-ends.result c.advance-ends.ensures.words (sym c.lexeme-token.ensures.lexeme) c.if-ends.true in
-    ap (λ v. packed a.filling a.capacity (values v (words a.start))) (sym c.version-version.ensures) ∙ sym t.invariant.rest ∙ ap (λ ws. joined (Ok t.array) (packed a.filling t.left (values c.version-version.result ws))) here ∙ c.in-Ok.ensures [] ∙ none_packed a.filling c.in-Ok.capacity c.version-version.result c.put_token.new.array
+    ap (λ v. packed a.filling a.capacity (values v (words a.start))) (sym c.version-version.ensures) ∙ sym t.invariant.rest ∙ ap (λ ws. joined (Ok t.array) (packed a.filling t.left (values c.version-version.result ws))) here ∙ c.in_ok-left.ensures [] ∙ none_packed a.filling c.in_ok-left.left c.version-version.result c.put_token.new.array
 
 pub tokens-preserved : goal.tokens-preserved
 tokens-preserved c =
@@ -30,14 +32,15 @@ tokens-preserved c =
       text = c.advance-ends.ensures.text ∙ t.invariant.text;
       version = c.advance-ends.ensures.version ∙ t.invariant.version;
       goes = c.advance-ends.ensures.goes c.if-ends.false;
-      rest = sym (c.in-Ok.ensures rest) ∙ sym (ap (λ ws. joined (Ok t.array) (packed a.filling t.left (values c.version-version.result ws))) here) ∙ t.invariant.rest;
+      rest = sym (c.in_ok-left.ensures rest) ∙ sym (ap (λ ws. joined (Ok t.array) (packed a.filling t.left (values c.version-version.result ws))) here) ∙ t.invariant.rest;
     }
 
-pub returns-in-Err : goal.returns-in-Err
-returns-in-Err c =
+pub returns-in_err-left : goal.returns-in_err-left
+returns-in_err-left c =
     let a = c.args in
     let t = c.tokens in
     let l = lexeme_of c.lexeme-token.result in
     let rest = if c.advance-ends.result then [] else words c.advance-ends.new.self in
     let here = first_word (words t.cutter) (words c.advance-ends.new.self) (lexeme (text_of t.cutter) (next_token t.cutter)) l c.advance-ends.result c.advance-ends.ensures.words (sym c.lexeme-token.ensures.lexeme) in
-    subst (λ (r : Result (List ℕ) CdlKind). Fails c.in-Err.e r) (sym (ap (λ v. packed a.filling a.capacity (values v (words a.start))) (sym c.version-version.ensures) ∙ sym t.invariant.rest ∙ ap (λ ws. joined (Ok t.array) (packed a.filling t.left (values c.version-version.result ws))) here)) (c.in-Err.ensures rest)
+    refused (λ (array : Array). array) c.from_residual.result c.in_err-left.field-0.0 (packed a.filling a.capacity (values (version_of a.start) (words a.start))) (search rules)
+    (subst (λ (r : Result (List ℕ) CdlKind). Fails c.in_err-left.field-0.0 r) (sym (ap (λ v. packed a.filling a.capacity (values v (words a.start))) (sym c.version-version.ensures) ∙ sym t.invariant.rest ∙ ap (λ ws. joined (Ok t.array) (packed a.filling t.left (values c.version-version.result ws))) here)) (c.in_err-left.ensures rest))

@@ -16,7 +16,7 @@ returns-then-is_whole-clause-bad c =
     let t = c.tokens in
     let l = lexeme_of c.lexeme-token.result in
     let here = ending (words t.cutter) (words c.advance-ends.new.self) (lexeme (text_of t.cutter) (next_token t.cutter)) l c.advance-ends.result c.advance-ends.ensures.words (sym c.lexeme-token.ensures.lexeme) c.if-ends.true in
-    ap (λ v. first_bad v (words a.start)) (sym c.version-version.ensures) ∙ sym t.invariant.bad ∙ ap (first_bad c.version-version.result) here ∙ good_end c.version-version.result l c.in-Ok.ensures.good
+    ap (λ v. first_bad v (words a.start)) (sym c.version-version.ensures) ∙ sym t.invariant.bad ∙ ap (first_bad c.version-version.result) here ∙ good_end c.version-version.result l c.in_ok-left.ensures.good
 
 pub returns-then-is_whole-clause-packs : goal.returns-then-is_whole-clause-packs
 returns-then-is_whole-clause-packs c =
@@ -24,7 +24,7 @@ returns-then-is_whole-clause-packs c =
     let t = c.tokens in
     let l = lexeme_of c.lexeme-token.result in
     let here = ending (words t.cutter) (words c.advance-ends.new.self) (lexeme (text_of t.cutter) (next_token t.cutter)) l c.advance-ends.result c.advance-ends.ensures.words (sym c.lexeme-token.ensures.lexeme) c.if-ends.true in
-    ap (λ v. packed a.filling a.capacity (values v (words a.start))) (sym c.version-version.ensures) ∙ sym t.invariant.packs ∙ ap (λ ws. joined (Ok t.array) (packed a.filling t.left (values c.version-version.result ws))) here ∙ c.in-Ok.ensures.packs [] ∙ none_packed a.filling c.in-Ok.capacity c.version-version.result c.take_good.new.array
+    ap (λ v. packed a.filling a.capacity (values v (words a.start))) (sym c.version-version.ensures) ∙ sym t.invariant.packs ∙ ap (λ ws. joined (Ok t.array) (packed a.filling t.left (values c.version-version.result ws))) here ∙ c.in_ok-left.ensures.packs [] ∙ none_packed a.filling c.in_ok-left.field-0-0 c.version-version.result c.take_good.new.array
 
 pub tokens-preserved : goal.tokens-preserved
 unfolding completes
@@ -38,9 +38,9 @@ tokens-preserved c =
       text = c.advance-ends.ensures.text ∙ t.invariant.text;
       version = c.advance-ends.ensures.version ∙ t.invariant.version;
       goes = c.advance-ends.ensures.goes c.if-ends.false;
-      bad = sym (good_on c.version-version.result l rest c.in-Ok.ensures.good) ∙ sym (ap (first_bad c.version-version.result) here) ∙ t.invariant.bad;
-      shaped = ap (λ d. completes d rest) c.in-Ok.ensures.shape ∙ ap (completes t.due) (sym here) ∙ t.invariant.shaped;
-      packs = sym (c.in-Ok.ensures.packs rest) ∙ sym (ap (λ ws. joined (Ok t.array) (packed a.filling t.left (values c.version-version.result ws))) here) ∙ t.invariant.packs;
+      bad = sym (good_on c.version-version.result l rest c.in_ok-left.ensures.good) ∙ sym (ap (first_bad c.version-version.result) here) ∙ t.invariant.bad;
+      shaped = ap (λ d. completes d rest) c.in_ok-left.ensures.shape ∙ ap (completes t.due) (sym here) ∙ t.invariant.shaped;
+      packs = sym (c.in_ok-left.ensures.packs rest) ∙ sym (ap (λ ws. joined (Ok t.array) (packed a.filling t.left (values c.version-version.result ws))) here) ∙ t.invariant.packs;
       rest = search rules;
     }
 
@@ -50,4 +50,4 @@ returns-then-is_whole-clause-shaped c =
     let t = c.tokens in
     let l = lexeme_of c.lexeme-token.result in
     let here = ending (words t.cutter) (words c.advance-ends.new.self) (lexeme (text_of t.cutter) (next_token t.cutter)) l c.advance-ends.result c.advance-ends.ensures.words (sym c.lexeme-token.ensures.lexeme) c.if-ends.true in
-    sym t.invariant.shaped ∙ ap (completes t.due) here ∙ ap (λ d. completes d []) (sym c.in-Ok.ensures.shape) ∙ sym c.is_whole.ensures ∙ c.if-is_whole.true
+    sym t.invariant.shaped ∙ ap (completes t.due) here ∙ ap (λ d. completes d []) (sym c.in_ok-left.ensures.shape) ∙ sym c.is_whole.ensures ∙ c.if-is_whole.true

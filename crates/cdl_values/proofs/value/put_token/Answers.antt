@@ -1,4 +1,4 @@
-use Rattle.std.proofs.Common.{sym, ap, ◌∙◌, Ok, subst, drop, length, length-drop}
+use Rattle.std.proofs.Common.{rules, ◌∷◌, sym, ap, ◌∙◌, Ok, subst, drop, length, length-drop}
 use Rattle.std.specs.Prelude.{List, ◌-◌}
 use Rattle.cdl_text.specs.Contents.{values, value_of}
 use Rattle.cdl_text.specs.Shapes.{Value}
@@ -6,6 +6,7 @@ use Rattle.cdl_text.specs.Lexemes.{is_mark_kind}
 use Rattle.cdl_text.specs.Views.{lexeme_of}
 use Rattle.cdl_values.specs.PackedValues.{packed, joined, bytes_of}
 use Rattle.cdl_values.specs.Answers.{Fails}
+use Rattle.cdl_values.proofs.AllowedNames.{stopped}
 use Rattle.cdl_values.proofs.PackedTokens.{over_mark, over_value, one_packed, refused, no_mark, added, is_after}
 use Rattle.cdl_values.proofs.value.put_token.Goals as goal
 
@@ -14,8 +15,8 @@ returns-in-Mark c = λ rest.
     let a = c.args in
     ap (λ vs. joined (Ok a.array.now) (packed a.filling a.capacity vs)) (over_mark a.version (lexeme_of a.token) rest (ap is_mark_kind c.in-Mark.is))
 
-pub returns-in-Ok : goal.returns-in-Ok
-returns-in-Ok c = λ rest.
+pub returns-in_ok-put-in_default : goal.returns-in_ok-put-in_default
+returns-in_ok-put-in_default c = λ rest.
     let a = c.args in
     let l = lexeme_of a.token in
     let v = value_of a.version l l.kind in
@@ -24,13 +25,15 @@ returns-in-Ok c = λ rest.
     let ds = drop (length old) new in
     let r = bytes_of a.filling a.capacity v in
     ap (λ vs. joined (Ok old) (packed a.filling a.capacity vs)) (over_value a.version l rest (no_mark l.kind c.in_default.not-Mark)) ∙
-    one_packed a.filling a.capacity v (values a.version rest) old new ds (added old new r c.in-Ok.ensures) (is_after old new r c.in-Ok.ensures) ∙
+    one_packed a.filling a.capacity v (values a.version rest) old new ds (added old new r c.in_ok-put-in_default.ensures) (is_after old new r c.in_ok-put-in_default.ensures) ∙
     ap (λ left. joined (Ok new) (packed a.filling left (values a.version rest))) (sym (c.capacity_after.ensures ds (length-drop (length old) new ∙ ap (λ n. n - length old) (sym c.len.ensures) ∙ ap (λ n. c.len.result - n) (sym c.len-before.ensures) ∙ sym c.saturating_sub.ensures)))
 
-pub returns-in-Err : goal.returns-in-Err
-returns-in-Err c = λ rest.
+pub returns-in_err-put-in_default : goal.returns-in_err-put-in_default
+returns-in_err-put-in_default c = λ rest.
     let a = c.args in
     let l = lexeme_of a.token in
     let v = value_of a.version l l.kind in
-    subst (λ (vs : List Value). Fails c.in-Err.e (joined (Ok a.array.now) (packed a.filling a.capacity vs))) (sym (over_value a.version l rest (no_mark l.kind c.in_default.not-Mark)))
-    (refused a.filling a.capacity v (values a.version rest) c.in-Err.e a.array.now c.in-Err.ensures)
+    let read = joined (Ok a.array.now) (packed a.filling a.capacity (values a.version (l ∷ rest))) in
+    stopped (λ left. joined (Ok c.put.new.array) (packed a.filling left (values a.version rest))) c.from_residual.result c.in_err-put-in_default.field-0.0 read (search rules)
+    (subst (λ (vs : List Value). Fails c.in_err-put-in_default.field-0.0 (joined (Ok a.array.now) (packed a.filling a.capacity vs))) (sym (over_value a.version l rest (no_mark l.kind c.in_default.not-Mark)))
+    (refused a.filling a.capacity v (values a.version rest) c.in_err-put-in_default.field-0.0 a.array.now c.in_err-put-in_default.ensures))
