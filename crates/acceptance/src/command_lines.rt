@@ -282,29 +282,17 @@ fn failing_standard_output(rt: HostRuntime) {
     assert!(rt; err == *b"ncdump: t.nc: write failed\n");
 }
 
-/// Fails unless the head of the file with coordinates was written, or, where memory was refused, nothing but a line that says so.
-fn has_head_or_line(rt: &impl Abort, status: u8, out: &[u8], err: &[u8]) {
+#[test]
+fn header_of_named_variables_is_written(rt: HostRuntime) {
+    const WORDS: &[&str] = &["ncdump", "-v", "x,y", "-n", "t", "-h", "t.nc"];
     const HEAD: &[u8] =
         b"netcdf t {\ndimensions:\n\tx = 2 ;\nvariables:\n\tint x(x) ;\n\tint y(x) ;\n}\n";
-    const OF_WORDS: &[u8] = b"ncdump: out of memory\n";
-    const OF_FILE: &[u8] = b"ncdump: t.nc: out of memory\n";
-    if status == 0 {
-        assert!(rt; out == HEAD);
-        assert!(rt; err.is_empty());
-    } else {
-        assert!(rt; out.is_empty());
-        assert!(rt; err == OF_WORDS || err == OF_FILE);
-    }
-}
-
-/// With ample memory a run writes the head. Where memory is refused, it writes nothing but a line that says so.
-#[test]
-fn memory_is_ample_or_refused(rt: HostRuntime) {
-    const WORDS: &[&str] = &["ncdump", "-v", "x,y", "-n", "t", "-h", "t.nc"];
     let mut text_space = [0; 128];
     let mut line_space = [0; 64];
     let mut out = SliceSink::new(&mut text_space, 7);
     let mut err = SliceSink::new(&mut line_space, 5);
     let status = status_of(rt.alloc(), files::COORDINATES, WORDS, &mut out, &mut err);
-    has_head_or_line(&rt, status, out.taken(), err.taken());
+    assert!(rt; status == 0);
+    assert!(rt; out.taken() == HEAD);
+    assert!(rt; err.taken().is_empty());
 }

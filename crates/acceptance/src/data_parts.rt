@@ -7,22 +7,12 @@ ghost use Rattle.nc_base.specs.OwedValues.{AreListed, IsListed};
 
 use crate::files;
 use crate::reading::header_through;
-use nc_base::{Header, NumRecs, Sequence, value_count};
+use nc_base::{Header, Sequence, value_count};
 use nc_file::{MemSource, SliceSink};
 use nc_walk::write_data;
 use std::alloc::{AllocError, Global};
 use std::process::Abort;
 use std::test::Fail;
-
-/// The number of records that the header has; 0 where it is unknown.
-fn known_records(header: &Header) -> u64
-    ensures { result ≡ known_records header.now.numrecs }
-{
-    match header.numrecs {
-        NumRecs::Known(n) => n,
-        NumRecs::Streaming => 0,
-    }
-}
 
 /// Says whether these bytes are the first values of a variable, or all of them.
 fn is_listed(header: &Header, v: usize, listed: &[u8]) -> bool
@@ -35,7 +25,7 @@ fn is_listed(header: &Header, v: usize, listed: &[u8]) -> bool
     if len % size != 0 {
         return false;
     }
-    if (len / size) as u128 > value_count(header, v, known_records(header)) {
+    if (len / size) as u128 > value_count(header, v, header.numrecs.known()) {
         return false;
     }
     true

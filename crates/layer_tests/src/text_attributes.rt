@@ -48,7 +48,7 @@ fn declares(rt: &impl Abort, alloc: Global, text: &[u8], ty: NcType, vals: &[u8]
             let list = attributes.into_sequence();
             expect_attribute(rt, list.as_slice().first(), ty, vals);
         }
-        Err(e) => assert!(rt; e == ReadError::OutOfMemory, "{text:?}"),
+        Err(e) => assert!(rt; false, "{e:?}: {text:?}"),
     }
 }
 
@@ -76,23 +76,14 @@ fn constants_are_packed(rt: HostRuntime) {
     }
 }
 
-/// Fails unless the answer is this fault, or that memory was refused.
-fn expect_fault(rt: &impl Abort, answer: Result<(), ReadError>, kind: CdlKind) {
-    match answer {
-        Ok(()) => assert!(rt; false, "{kind:?}"),
-        Err(ReadError::Fault(fault)) => assert!(rt; fault == kind, "{kind:?}"),
-        Err(ReadError::OutOfMemory) => {}
-    }
-}
-
 /// Fails unless the text has this fault after an attribute `t`, and no attribute is added.
 fn refuses(rt: &impl Abort, alloc: Global, text: &[u8], kind: CdlKind) {
     let mut attributes = Attributes::new(alloc);
-    match add(alloc, &mut attributes, Version::Cdf1, b"t = 1 ;") {
-        Ok(()) => expect_fault(rt, add(alloc, &mut attributes, Version::Cdf1, text), kind),
-        Err(e) => assert!(rt; e == ReadError::OutOfMemory),
-    }
-    assert!(rt; attributes.into_sequence().len() <= 1);
+    let first = add(alloc, &mut attributes, Version::Cdf1, b"t = 1 ;");
+    assert_eq!(rt; first, Ok(()));
+    let second = add(alloc, &mut attributes, Version::Cdf1, text);
+    assert!(rt; second == Err(ReadError::Fault(kind)), "{second:?}: {text:?}");
+    assert_eq!(rt; attributes.into_sequence().len(), 1);
 }
 
 #[test]
@@ -116,14 +107,6 @@ fn first_fault_of_an_attribute_wins(rt: HostRuntime) {
     }
 }
 
-/// Adds the attribute of the text, where memory allows.
-fn add_if_room(rt: &impl Abort, alloc: Global, attributes: &mut Attributes, text: &[u8]) {
-    match add(alloc, attributes, Version::Cdf1, text) {
-        Ok(()) => {}
-        Err(e) => assert!(rt; e == ReadError::OutOfMemory, "{text:?}"),
-    }
-}
-
 /// Fails unless these are the names of the attributes.
 fn expect_names(rt: &impl Abort, atts: &[Att], names: &[&[u8]]) {
     for (att, name) in atts.iter().zip(names.iter()) {
@@ -137,13 +120,13 @@ fn attributes_stand_in_the_order_of_the_text(rt: HostRuntime) {
     const NAMES: [&[u8]; 3] = [b"z", b"a", b"m"];
     let mut attributes = Attributes::new(rt.alloc());
     for text in TEXTS {
-        add_if_room(&rt, rt.alloc(), &mut attributes, text);
+        let added = add(rt.alloc(), &mut attributes, Version::Cdf1, text);
+        assert!(rt; added == Ok(()), "{text:?}");
     }
     assert!(rt; !attributes.has_name(b"b"));
     let list = attributes.into_sequence();
-    if list.len() == 3 {
-        expect_names(&rt, list.as_slice(), &NAMES);
-    }
+    assert_eq!(rt; list.len(), 3);
+    expect_names(&rt, list.as_slice(), &NAMES);
 }
 
 /// Fails unless the word names the variable in this place, or has this fault.
@@ -155,14 +138,11 @@ fn expect_position(
     want: Result<u64, ReadError>,
 ) {
     let found = variable_position(alloc, index, word);
-    assert!(rt;
-        found == want || found == Err(ReadError::OutOfMemory),
-        "{word:?}"
-    );
+    assert!(rt; found == want, "{found:?}: {word:?}");
 }
 
 #[test]
-fn variables_are_found_by_name(rt: HostRuntime) {
+fn variables_are_found_by_name(rt: HostRuntime) -> Result<(), Fail> {
     const NAMES: [&[u8]; 2] = [b"v", b"w x"];
     const ROWS: [(&[u8], Result<u64, ReadError>); 4] = [
         (b"v", Ok(0)),
@@ -170,9 +150,9 @@ fn variables_are_found_by_name(rt: HostRuntime) {
         (b"w", Err(ReadError::Fault(CdlKind::UnknownVariable))),
         (b"w\\/x", Err(ReadError::Fault(CdlKind::BadName))),
     ];
-    if let Ok(index) = index_of(rt.alloc(), &NAMES) {
-        for (word, want) in ROWS {
-            expect_position(&rt, rt.alloc(), &index, word, want);
-        }
+    let index = index_of(rt.alloc(), &NAMES)?;
+    for (word, want) in ROWS {
+        expect_position(&rt, rt.alloc(), &index, word, want);
     }
+    Ok(())
 }

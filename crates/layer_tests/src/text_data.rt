@@ -30,44 +30,51 @@ fn targets(alloc: Global) -> Result<Vec<Target>, AllocError> {
 
 /// Reads a text that is a data section from its start on.
 fn section(alloc: Global, start: Cutter<'_>) -> Result<DataSection<'_>, ParseError> {
-    let index = index_of(alloc, &NAMES).map_err(|_| ParseError::OutOfMemory)?;
-    let targets = targets(alloc).map_err(|_| ParseError::OutOfMemory)?;
+    let index = index_of(alloc, &NAMES)?;
+    let targets = targets(alloc)?;
     read_data(alloc, &index, targets, start)
 }
 
-/// The last of these arrays has these bytes, where memory allows.
-fn expect_last(rt: &impl Abort, arrays: &mut Vec<Array>, want: &[u8]) {
+/// Takes the last of these arrays, and fails unless it has these bytes.
+fn expect_last(rt: &impl Abort, arrays: &mut Vec<Array>, want: &[u8]) -> Result<(), Fail> {
     match arrays.pop() {
         Some(array) => {
-            if let Ok(bytes) = array.into_bytes() {
-                assert_eq!(rt; bytes.as_slice(), want);
-            }
+            let bytes = array.into_bytes()?;
+            assert_eq!(rt; bytes.as_slice(), want);
         }
         None => assert!(rt; false),
     }
+    Ok(())
 }
 
 /// Fails unless the section is closed, its text ends there, and the variables have these bytes.
-fn expect_arrays(rt: &impl Abort, found: DataSection<'_>, v: &[u8], c: &[u8]) {
+fn expect_arrays(
+    rt: &impl Abort,
+    found: DataSection<'_>,
+    v: &[u8],
+    c: &[u8],
+) -> Result<(), Fail> {
     assert!(rt; found.is_closed);
     assert!(rt; !found.rest.is_done());
     assert!(rt; found.rest.lexeme().kind == TokenKind::End);
     let mut arrays = found.arrays;
-    expect_last(rt, &mut arrays, c);
-    expect_last(rt, &mut arrays, v);
+    expect_last(rt, &mut arrays, c)?;
+    expect_last(rt, &mut arrays, v)?;
     assert!(rt; arrays.is_empty());
+    Ok(())
 }
 
 /// Fails unless the text gives these bytes to the variables.
-fn gives(rt: &impl Abort, alloc: Global, text: &[u8], v: &[u8], c: &[u8]) {
+fn gives(rt: &impl Abort, alloc: Global, text: &[u8], v: &[u8], c: &[u8]) -> Result<(), Fail> {
     match section(alloc, Cutter::new(text, Version::Cdf1)) {
-        Ok(found) => expect_arrays(rt, found, v, c),
-        Err(e) => assert!(rt; e == ParseError::OutOfMemory, "{text:?}"),
+        Ok(found) => expect_arrays(rt, found, v, c)?,
+        Err(e) => assert!(rt; false, "{e:?}: {text:?}"),
     }
+    Ok(())
 }
 
 #[test]
-fn values_go_to_their_variables(rt: HostRuntime) {
+fn values_go_to_their_variables(rt: HostRuntime) -> Result<(), Fail> {
     const ROWS: [(&[u8], &[u8], &[u8]); 5] = [
         (b"c = \"ab\" ; v = 1, 2 ; }", b"\x00\x01\x00\x02", b"ab"),
         (b"v = 1, 2 ;\nc = \"ab\" ;\n}", b"\x00\x01\x00\x02", b"ab"),
@@ -76,16 +83,16 @@ fn values_go_to_their_variables(rt: HostRuntime) {
         (b"}", b"", b""),
     ];
     for (text, v, c) in ROWS {
-        gives(&rt, rt.alloc(), text, v, c);
+        gives(&rt, rt.alloc(), text, v, c)?;
     }
+    Ok(())
 }
 
 /// Fails unless the text has this fault.
 fn refuses(rt: &impl Abort, alloc: Global, text: &[u8], want: CdlFault) {
     match section(alloc, Cutter::new(text, Version::Cdf1)) {
         Ok(_) => assert!(rt; false, "{text:?}"),
-        Err(ParseError::Fault(fault)) => assert!(rt; fault == want, "{text:?}"),
-        Err(ParseError::OutOfMemory) => {}
+        Err(e) => assert!(rt; e == ParseError::Fault(want), "{e:?}: {text:?}"),
     }
 }
 
@@ -125,11 +132,6 @@ fn after_the_last_statement_nothing_is_read(rt: HostRuntime) {
             assert!(rt; found.rest.is_done());
             assert!(rt; found.arrays.len() == 2);
         }
-        Err(e) => assert!(rt; e == ParseError::OutOfMemory),
+        Err(e) => assert!(rt; false, "{e:?}"),
     }
-}
-
-#[test]
-fn sections_are_read_with_ample_memory(rt: HostRuntime) {
-    assert!(rt; section(rt.alloc(), Cutter::new(b"v = 1 ; }", Version::Cdf1)).is_ok());
 }

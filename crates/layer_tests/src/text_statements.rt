@@ -9,26 +9,17 @@ use std::alloc::Global;
 use std::process::Abort;
 use std::test::*;
 
-/// Fills `into` with the next statement. Where a growth is refused, the list has to be empty, and a second call has to
-/// give the same statement.
-fn next(cutter: &mut Cutter<'_>, into: &mut Vec<Token>) -> Result<bool, OutOfMemory> {
-    match cutter.next(into) {
-        Err(OutOfMemory) if into.is_empty() => cutter.next(into),
-        answer => answer,
-    }
-}
-
 /// Says whether the statements of the text have these numbers of tokens, and none comes after the last.
 fn has_pieces(alloc: Global, text: &[u8], lens: &[usize]) -> Result<bool, OutOfMemory> {
     let mut cutter = Cutter::new(text, Version::Cdf1);
     let mut tokens = Vec::new(alloc);
     for len in lens {
-        if !next(&mut cutter, &mut tokens)? || tokens.len() != *len {
+        if !cutter.next(&mut tokens)? || tokens.len() != *len {
             return Ok(false);
         }
     }
     for _ in 0..2 {
-        if next(&mut cutter, &mut tokens)? || !tokens.is_empty() {
+        if cutter.next(&mut tokens)? || !tokens.is_empty() {
             return Ok(false);
         }
     }
