@@ -20,7 +20,7 @@ pub struct Lexeme<'a> {
 
 impl<'a> Lexeme<'a> {
     ghost use Rattle.cdl_text.specs.DueTokens.{goes_to, is_length, is_name, is_value_of};
-    ghost use Rattle.cdl_text.specs.Lexemes.{is_mark, is_word, role};
+    ghost use Rattle.cdl_text.specs.Lexemes.{is_mark, is_word};
     ghost use Rattle.cdl_text.specs.Shapes.{section_of};
     ghost use Rattle.cdl_text.specs.Views.{lexeme_of};
 
@@ -91,19 +91,6 @@ impl<'a> Lexeme<'a> {
         match self.section() {
             Some(section) => before.number() < section.number(),
             None => false,
-        }
-    }
-
-    /// What the token does where the tokens are cut into statements.
-    pub fn role(self) -> Role
-        ensures { result ≡ role (lexeme_of self.entry) }
-    {
-        match self.kind {
-            TokenKind::Opening => Role::Opening,
-            TokenKind::Word => word_role(self.bytes),
-            TokenKind::Mark => mark_role(byte_at(self.bytes, 0)),
-            TokenKind::End => Role::End,
-            TokenKind::Number | TokenKind::Text | TokenKind::Bad => Role::Other,
         }
     }
 }

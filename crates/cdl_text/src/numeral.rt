@@ -54,6 +54,9 @@ fn unsigned(version: Version, minus: bool, bytes: &[u8]) -> Option<Numeral>
     }
 }
 
+/// A number below it has 64 bits at most with one digit more, in every base.
+const SMALL: u64 = 1 << 59;
+
 /// The number of decimal digits and a suffix.
 #[inline(always)]
 fn decimal(version: Version, minus: bool, bytes: &[u8]) -> Option<Numeral>
@@ -67,14 +70,11 @@ fn decimal(version: Version, minus: bool, bytes: &[u8]) -> Option<Numeral>
     if n == 0 {
         return None;
     }
-    match suffix(version, rest) {
-        Some(ty) => Some(Numeral {
-            minus,
-            magnitude: Some(value),
-            ty,
-        }),
-        None => None,
-    }
+    Some(Numeral {
+        minus,
+        magnitude: Some(value),
+        ty: suffix(version, rest)?,
+    })
 }
 
 /// How many of the first bytes are decimal digits, and their number: all of them, or so many that one more could pass 64 bits.
@@ -88,7 +88,7 @@ fn first_digits(bytes: &[u8]) -> (usize, u64)
     let mut at = 0;
     'digits: while at < bytes.len() {
         let b = bytes[at];
-        if !is_digit(b) || value >= 0x0800_0000_0000_0000 {
+        if !is_digit(b) || value >= SMALL {
             return (at, value);
         }
         value = 10 * value + (b - b'0') as u64;
@@ -123,14 +123,12 @@ fn in_base(version: Version, minus: bool, base: u64, n: usize, bytes: &[u8]) -> 
         return None;
     }
     let (digits, rest) = bytes.split_at(n);
-    match suffix(version, rest) {
-        Some(ty) => Some(Numeral {
-            minus,
-            magnitude: number_in(base, digits),
-            ty,
-        }),
-        None => None,
-    }
+    let ty = suffix(version, rest)?;
+    Some(Numeral {
+        minus,
+        magnitude: number_in(base, digits),
+        ty,
+    })
 }
 
 /// The number of these digits, where it has 64 bits at most.
@@ -141,10 +139,7 @@ fn number_in(base: u64, digits: &[u8]) -> Option<u64>
 {
     let mut value = 0;
     for b in digits {
-        match one_more(base, value, *b) {
-            Some(next) => value = next,
-            None => return None,
-        }
+        value = one_more(base, value, *b)?;
     }
     Some(value)
 }
@@ -156,7 +151,7 @@ fn one_more(base: u64, value: u64, b: u8) -> Option<u64>
     ensures { result ≡ word (base * value + digit b) }
 {
     // Of most numbers neither the product nor the sum can be too large.
-    if value < 0x0800_0000_0000_0000 {
+    if value < SMALL {
         return Some(base * value + digit(b) as u64);
     }
     base.checked_mul(value)?.checked_add(digit(b) as u64)
@@ -179,10 +174,7 @@ fn suffix(version: Version, bytes: &[u8]) -> Option<NcType>
     if bytes.is_empty() {
         return Some(NcType::Int);
     }
-    match type_of_suffix(bytes) {
-        Some(ty) => { if version.has_type(ty) { Some(ty) } else { None } }
-        None => None,
-    }
+    type_of_suffix(bytes).filter(|ty| version.has_type(*ty))
 }
 
 /// The type that a suffix says in CDF-5.

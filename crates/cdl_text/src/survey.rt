@@ -95,8 +95,5 @@ fn number_fault(version: Version, bytes: &[u8]) -> Option<CdlKind>
 fn either(a: Option<CdlKind>, b: Option<CdlKind>) -> Option<CdlKind>
     ensures { result ≡ either a b }
 {
-    match a {
-        Some(kind) => Some(kind),
-        None => b,
-    }
+    a.or(b)
 }

@@ -5,8 +5,8 @@ use Rattle.cdl_text.specs.Numerals.{suffix}
 use Rattle.cdl_text.proofs.Decimals.{all_read, said}
 use Rattle.cdl_text.proofs.numeral.decimal.Goals as goal
 
-pub returns-in-Some : goal.returns-in-Some
-returns-in-Some c =
+pub returns : goal.returns
+returns c =
     let bs = c.args.bytes.now in
     let n = c.first_digits-n.result.0 in
     let value = c.first_digits-n.result.1 in
@@ -15,4 +15,4 @@ returns-in-Some c =
     let all = all_read bs n value c.first_digits-n.ensures.count c.first_digits-n.ensures.value off in
     let some : (n == 0) ≡ false = search rules in
     let small : nat_lt 18446744073709551615 value ≡ false = search rules in
-    said c.args.version c.args.minus bs n value c.in-Some.ty all.0 all.1 (ap (suffix c.args.version) (sym back) ∙ sym c.suffix.ensures ∙ c.in-Some.is) some small
+    said c.args.version c.args.minus bs n value c.in_ok-suffix.field-0 all.0 all.1 (ap (suffix c.args.version) (sym back) ∙ sym c.in_ok-suffix.ensures) some small
