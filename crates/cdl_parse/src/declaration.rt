@@ -54,13 +54,9 @@ pub fn read_declaration(
     requires shaped { completes VariableName (drop 1 (words start)) ≡ true }
     ensures { Leaves variables.new result (declared (version_of start.entry) dims.now variables.old (words start.entry)) }
 {
-    match type_of_word(start.version(), start.lexeme()) {
-        Ok(ty) => {
-            let (names, _) = start.advanced();
-            read_variables(alloc, dims, variables, ty, names)
-        }
-        Err(kind) => Err(ReadError::Fault(kind)),
-    }
+    let ty = type_of_word(start.version(), start.lexeme())?;
+    let (names, _) = start.advanced();
+    read_variables(alloc, dims, variables, ty, names)
 }
 
 /// The type that a type word stands for; `long` is another word for int (the CDL chapter of the NetCDF User's Guide, "CDL
@@ -80,10 +76,7 @@ pub fn type_of_word(version: Version, word: Lexeme<'_>) -> Result<NcType, CdlKin
     if word.is_word(b"long") {
         return Ok(NcType::Int);
     }
-    match first_with_word(&NcType::ALL, version, word) {
-        Some(ty) => Ok(ty),
-        None => Err(CdlKind::UnknownType),
-    }
+    first_with_word(&NcType::ALL, version, word).ok_or(CdlKind::UnknownType)
 }
 
 /// The first of the types that the version has and whose word this is.
@@ -197,7 +190,7 @@ fn is_open_after(is_open: bool, mark: Lexeme<'_>) -> bool
 fn with_dimension(
     alloc: Global,
     dims: &Dimensions,
-    begun: Begun,
+    mut begun: Begun,
     word: &[u8],
 ) -> Result<Begun, ReadError>
     requires { begun.is_open ≡ true }
@@ -205,7 +198,6 @@ fn with_dimension(
     ensures name { IfOk result (λ (b : Begun). b.name.items ≡ begun.name.items) }
     ensures is_open { IfOk result (λ (b : Begun). b.is_open ≡ true) }
 {
-    let mut begun = begun;
     let dimid = dimid_of_word(alloc, dims, begun.dimids.as_slice(), word)?;
     if begun.dimids.push(dimid).is_err() {
         return Err(ReadError::OutOfMemory);

@@ -65,13 +65,9 @@ impl Definitions {
         ensures text { IfOk result (λ c. text_of c ≡ text_of start.entry) }
         ensures version { IfOk result (λ c. version_of c ≡ version_of start.entry) }
     {
-        match pass(start, self.section) {
-            Ok(rest) => {
-                self.act(alloc, start)?;
-                Ok(rest)
-            }
-            Err(kind) => Err(ReadError::Fault(kind)),
-        }
+        let rest = pass(start, self.section)?;
+        self.act(alloc, start)?;
+        Ok(rest)
     }
 
     /// Does what a statement says that has its shape.

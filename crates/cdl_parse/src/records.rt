@@ -18,10 +18,7 @@ const ARRAY_LIMIT: u128 = 1 << 48;
 pub fn records_of(dims: &[Dim], vars: &[Var], listed: &[Array]) -> Option<u64>
     ensures { (drafts : List Draft) → AllList vars.now listed.now drafts → AreShaped dims.now drafts → result ≡ records_kept dims.now drafts }
 {
-    match extent_of(dims, vars, listed) {
-        Some(extent) => extent.records(),
-        None => None,
-    }
+    extent_of(dims, vars, listed)?.records()
 }
 
 /// How far the listed values of the variables reach.

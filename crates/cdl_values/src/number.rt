@@ -38,10 +38,7 @@ pub fn put_numeral(array: &mut Array, ty: NcType, n: Numeral) -> Result<(), Read
             if magnitude > greatest(ty, n.minus) {
                 return Err(ReadError::Fault(CdlKind::NumberRange));
             }
-            if put_number(array, ty, signed(n.minus, magnitude)).is_err() {
-                return Err(ReadError::OutOfMemory);
-            }
-            Ok(())
+            Ok(put_number(array, ty, signed(n.minus, magnitude))?)
         }
         None => Err(ReadError::Fault(CdlKind::NumberRange)),
     }

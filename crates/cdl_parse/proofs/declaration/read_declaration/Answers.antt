@@ -19,12 +19,12 @@ read_variables-requires-clause-shaped c =
     let start = c.args.start in
     ap (completes VariableName) (sym (goes_on VariableName (lexeme (text_of start) (next_token start)) c.advanced.result.1 (words c.advanced.result.0) (words start) refl c.advanced.ensures.words c.requires.shaped).1) ∙ c.requires.shaped
 
-pub returns-in-Ok : goal.returns-in-Ok
-returns-in-Ok c =
+pub returns : goal.returns
+returns c =
     let a = c.args in
     let l = lexeme_of c.lexeme.result in
     let names = words c.advanced.result.0 in
     let others = (goes_on VariableName (lexeme (text_of a.start) (next_token a.start)) c.advanced.result.1 names (words a.start) refl c.advanced.ensures.words c.requires.shaped).1 in
-    let is : type_of (version_of a.start) l ≡ Ok c.in-Ok.ty = ap (λ v. type_of v l) (sym c.version.ensures) ∙ sym c.in-Ok.ensures in
+    let is : type_of (version_of a.start) l ≡ Ok c.in_ok-ty.ty = ap (λ v. type_of v l) (sym c.version.ensures) ∙ sym c.in_ok-ty.ensures in
     subst (Leaves c.read_variables.new.variables c.read_variables.result)
-    (sym (typed (version_of a.start) a.dims.now a.variables.now l c.in-Ok.ty names (words a.start) (c.lexeme.ensures.first c.requires.more) others is)) c.read_variables.ensures
+    (sym (typed (version_of a.start) a.dims.now a.variables.now l c.in_ok-ty.ty names (words a.start) (c.lexeme.ensures.first c.requires.more) others is)) c.read_variables.ensures
