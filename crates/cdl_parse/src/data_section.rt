@@ -83,7 +83,7 @@ pub fn read_data<'a>(
     }
 }
 
-/// Arrays without values, as many as that.
+/// `count` arrays without values.
 pub fn without_values(alloc: Global, count: usize) -> Result<Vec<Array>, AllocError>
     ensures { IfOk result (λ arrays. arrays.items ≡ replicate count []) }
 {
@@ -136,7 +136,7 @@ fn close(start: Cutter<'_>) -> Result<Passed<'_>, ReadError>
     })
 }
 
-/// Puts a variable's values at its place.
+/// Puts a variable's values at its position.
 fn store(arrays: &mut Vec<Array>, position: u64, array: Array)
     ensures { arrays.new.items ≡ slice_set arrays.old.items position array }
 {

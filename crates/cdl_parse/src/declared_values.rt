@@ -93,8 +93,8 @@ fn filled(alloc: Global, var: &Var, listed: Array, owed: u64) -> Result<Sequence
     Ok(Sequence::from_vec(bytes))
 }
 
-/// How many values a variable lacks of which `len` bytes are listed. None, where its slab passes 2^48 bytes, or where that are
-/// 2^64 values or more.
+/// How many values a variable lacks of which `len` bytes are listed. None, where its slab passes 2^48 bytes, or where 2^64
+/// values or more are lacking.
 fn owed_count(dims: &[Dim], var: &Var, records: u64, len: u128) -> Option<u64>
     ensures { IfSome result (λ n. (listed : List ℕ) → length listed ≡ len → n ≡ owed_count dims.now records var.now listed) }
 {

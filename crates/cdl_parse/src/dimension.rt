@@ -13,7 +13,7 @@ use cdl_text::{CdlKind, Numeral};
 use cdl_values::NameIndex;
 use nc_base::{Version, check_name};
 
-/// The length of a new dimension, 0 for the record dimension, which None stands for.
+/// The length of a new dimension. `None` declares the record dimension, whose length is 0.
 ///
 /// # Errors
 ///
@@ -50,7 +50,7 @@ fn number_len(version: Version, n: Numeral) -> Result<u64, CdlKind>
 ///
 /// # Errors
 ///
-/// No name; or the name of another dimension.
+/// A name that the format doesn't allow (`BadName`), or that another dimension has (`DuplicateName`).
 pub fn check_new(index: &NameIndex, name: &[u8]) -> Result<(), CdlKind>
     ensures { (dims : List Dim) → IsIndex index.now (map (λ (d : Dim). d.name) dims) → result ≡ new_name dims name.now }
 {

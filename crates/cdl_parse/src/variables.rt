@@ -144,7 +144,7 @@ impl Variables {
 
 /// The variables as those of a header.
 ///
-/// Its room is taken first: where that is refused, `collect` alone would try for less.
+/// The capacity is reserved first: `collect` would try a refused growth again with less.
 fn vars_of(alloc: Global, list: Vec<Variable>) -> Result<Vec<Var>, AllocError>
     ensures { IfOk result (λ vars. vars.items ≡ map var_of list.items) }
 {

@@ -34,8 +34,7 @@ pub fn put_char_values<W: Sink>(
     Ok(())
 }
 
-/// The length of what goes out next, from this place of a row on: of the prefix of bytes that stand for themselves, up to
-/// the row's end, or one byte.
+/// The length of the next run, from this position of a row on: of bytes that need no escape, up to the row's end, or of one byte.
 fn run_len_in_row(row: u128, row_index: u128, bytes: &[u8]) -> usize
     requires { 0 < length bytes.now }
     ensures some { 0 < result }
@@ -92,7 +91,8 @@ fn put_led_run<W: Sink>(
     Ok(())
 }
 
-/// How many NULs are held back at this index, where `held` were before and the last character waits or not.
+/// How many NULs are held back at this position of a row, where `held` were held back before the last character, and whether
+/// that one `waits`.
 fn held_after(held: u128, row_index: u128, waits: bool) -> u128
     requires { held + 1 < 2 ^ 128 }
     ensures held { result ≡ (if (row_index == 0) || not waits then 0 else held + 1) }
@@ -105,7 +105,7 @@ fn held_after(held: u128, row_index: u128, waits: bool) -> u128
     }
 }
 
-/// Writes characters after n NULs that were held back: nothing, where they wait too.
+/// Writes characters after the NULs that were held back: nothing, where they wait too.
 #[tactic(auto, using(devices::proofs::Writes::writes), unfolding(crate::specs::Printing::run_text, nc_base::specs::Escapes::escaped_text))]
 fn put_run_text<W: Sink>(
     sink: &mut W,
@@ -130,7 +130,7 @@ fn is_one_nul(run: &[u8]) -> bool
     matches!(run, [0])
 }
 
-/// Writes n NULs.
+/// Writes `count` NULs.
 fn put_nuls<W: Sink>(sink: &mut W, count: u128) -> Result<(), WriteFailed>
     ensures { Wrote (W.view sink.old) (W.view sink.new) (escaped_text (replicate count 0)) result }
 {

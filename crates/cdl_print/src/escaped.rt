@@ -47,7 +47,7 @@ fn put_byte<W: Sink>(sink: &mut W, quoting: Quoting, b: u8) -> Result<(), WriteF
     }
 }
 
-/// The length of what goes out next: of the run of bytes that stand for themselves, or one byte.
+/// The length of the next run: of bytes that need no escape, or of one byte.
 pub fn run_len(quoting: Quoting, bytes: &[u8]) -> usize
     ensures { result ≡ max 1 (prefix_len (stands_for_itself quoting) bytes.now) }
 {

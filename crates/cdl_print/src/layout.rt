@@ -34,7 +34,7 @@ pub struct Layout<'a> {
     pub width: usize,
 }
 
-/// The layout of the variable at index `v` over n records, in lines of this width.
+/// The layout of the variable at index `v` over `records` records, in lines of this width.
 pub fn layout_of(header: &Header, v: usize, records: u64, width: usize) -> Layout<'_>
     requires sound { IsSound header.now }
     requires there { v < length header.now.vars }
@@ -44,7 +44,7 @@ pub fn layout_of(header: &Header, v: usize, records: u64, width: usize) -> Layou
     layout_of_var(header, var, value_count(header, v, records), width)
 }
 
-/// The layout of a variable with n values, in lines of this width.
+/// The layout of a variable with `total` values, in lines of this width.
 #[tactic(auto, unfolding(nc_base::specs::ValueText::look_of))]
 fn layout_of_var<'a>(header: &'a Header, var: &'a Var, total: u128, width: usize) -> Layout<'a>
     ensures { (records : ℕ) → total ≡ value_count header.now.dims var.now records → look_at result ≡ look_of header.now var.now records width }
@@ -98,7 +98,7 @@ impl Layout<'_> {
         if self.is_char() { b"\" ;\n" } else { b" ;\n" }
     }
 
-    /// A number in decimal, or `_` for a blank.
+    /// A number in decimal, or `_` for a fill value that is printed so.
     pub fn number_text<'b>(&self, value: i128, digits: &'b mut Buffer) -> &'b [u8]
         ensures text { result.now ≡ number_text (look_at self.now) value }
         ensures short { length result.now ≤ 40 }

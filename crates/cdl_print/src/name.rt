@@ -21,13 +21,13 @@ use nc_base::{Quoting, begins_with_digit_or_mark, is_reserved};
 pub fn put_name<W: Sink>(sink: &mut W, name: &[u8]) -> Result<(), WriteFailed>
     ensures { Wrote (W.view sink.old) (W.view sink.new) (escaped_name name.now) result }
 {
-    put_prefix_escape(sink, name)?;
+    put_leading_backslash(sink, name)?;
     put_escaped(sink, Quoting::InName, name)
 }
 
 /// Writes the backslash before a name that could be read as something else.
 #[tactic(auto, using(devices::proofs::Writes::writes), unfolding(crate::specs::Pieces::prefix_escape))]
-fn put_prefix_escape<W: Sink>(sink: &mut W, name: &[u8]) -> Result<(), WriteFailed>
+fn put_leading_backslash<W: Sink>(sink: &mut W, name: &[u8]) -> Result<(), WriteFailed>
     ensures { Wrote (W.view sink.old) (W.view sink.new) (prefix_escape name.now) result }
 {
     if needs_prefix_escape(name) {

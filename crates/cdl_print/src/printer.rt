@@ -33,7 +33,7 @@ pub struct ValuePrinter<'a> {
 }
 
 impl<'a> ValuePrinter<'a> {
-    /// The printer of the variable at index `v` over n records, in lines of numbers of this width.
+    /// The printer of the variable at index `v` over `records` records, in lines of numbers of this width.
     pub fn new(header: &'a Header, v: usize, records: u64, width: usize) -> ValuePrinter<'a>
         requires sound { IsSound header.now }
         requires there { v < length header.now.vars }
@@ -81,7 +81,7 @@ impl<'a> ValuePrinter<'a> {
         bytes.len() % size == 0 && self.has_values_left((bytes.len() / size) as u128)
     }
 
-    /// Says whether the variable has n values beside those printed.
+    /// Says whether the variable has `count` values beside those printed.
     fn has_values_left(&self, count: u128) -> bool
         ensures { IsTrue result ↔ (position_of self.now + count ≤ (look_in self.now).total) }
     {

@@ -87,7 +87,7 @@ impl<'a> Cutter<'a> {
         self.next.line
     }
 
-    /// Fills `into` with the tokens of the next statement, in place of what it had. After the last statement the answer is
+    /// Fills `into` with the tokens of the next statement, instead of what it had. After the last statement the answer is
     /// false, and `into` is empty.
     ///
     /// # Errors
@@ -163,7 +163,7 @@ fn is_end(kind: TokenKind) -> bool
     matches!(kind, TokenKind::End)
 }
 
-/// Empties the list.
+/// Empties the list, and says that memory was refused.
 fn emptied(into: &mut Vec<Token>) -> Result<bool, OutOfMemory>
     ensures empty { into.new.items ≡ [] }
     ensures err { IsErr result }

@@ -27,7 +27,7 @@ pub enum CdlKind {
     ZeroDimension,
     /// A second record dimension.
     TwoRecordDims,
-    /// The record dimension in another place than a variable's first.
+    /// The record dimension as a later dimension of a variable than the first.
     BadShape,
     /// Constants of different types in one attribute.
     MixedConstants,

@@ -8,7 +8,7 @@ use crate::bytes::{byte_at, is_blank, is_digit, is_mark};
 use crate::scan::{begins_number, number_len, scan};
 use crate::token::{Token, TokenKind};
 
-/// A place of a text, from which on its tokens are read.
+/// Reads the tokens of a text, from an offset on.
 #[derive(Clone, Copy)]
 pub struct Scanner<'a> {
     text: &'a [u8],
@@ -140,7 +140,7 @@ impl<'a> Scanner<'a> {
         }
     }
 
-    /// The place a byte on.
+    /// The scanner a byte further on.
     fn after_byte(self) -> Scanner<'a>
         requires { self.at < length self.text.now }
         ensures text { result.text.now ≡ self.entry.text.now }
@@ -156,7 +156,7 @@ impl<'a> Scanner<'a> {
         }
     }
 
-    /// The place `len` bytes on.
+    /// The scanner `len` bytes further on.
     fn after(self, len: usize, fresh: bool) -> Scanner<'a>
         requires { self.at + len ≤ length self.text.now }
         ensures text { result.text.now ≡ self.entry.text.now }

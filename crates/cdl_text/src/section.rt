@@ -22,7 +22,7 @@ pub enum Section {
 impl Section {
     ghost use Rattle.cdl_text.specs.Shapes.{section_number};
 
-    /// The place of the section in a text, from 0 on.
+    /// The position of the section in a text, from 0 on.
     pub fn number(self) -> u8
         ensures { result ≡ section_number self }
     {

@@ -71,7 +71,7 @@ fn characters(dims: &[Dim], var: &Var) -> Filling
     }
 }
 
-/// How many values, bytes or rows a variable takes that is filled so. None: any number.
+/// How many values, bytes or rows fit a variable that is filled so; `None` where there is no limit.
 fn capacity(dims: &[Dim], var: &Var, filling: Filling) -> Option<u64>
     ensures { Fills filling (capacity_of dims.now var.now) → Takes filling result (capacity_of dims.now var.now) }
 {

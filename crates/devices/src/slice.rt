@@ -63,12 +63,12 @@ impl Sink for SliceSink<'_> {
         if bytes.is_empty() {
             return Ok(0);
         }
-        let buffer_len = self.into.len() - self.len;
-        if buffer_len == 0 {
+        let left = self.into.len() - self.len;
+        if left == 0 {
             self.failures = self.failures.saturating_add(1);
             return Err(SinkFailed);
         }
-        let n = bytes.len().min(buffer_len).min(self.step);
+        let n = bytes.len().min(left).min(self.step);
         self.into[self.len..self.len + n].copy_from_slice(&bytes[..n]);
         self.len += n;
         Ok(n)

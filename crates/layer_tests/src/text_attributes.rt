@@ -82,7 +82,10 @@ fn refuses(rt: &impl Abort, alloc: Global, text: &[u8], kind: CdlKind) {
     let first = add(alloc, &mut attributes, Version::Cdf1, b"t = 1 ;");
     assert_eq!(rt; first, Ok(()));
     let second = add(alloc, &mut attributes, Version::Cdf1, text);
-    assert!(rt; second == Err(ReadError::Fault(kind)), "{second:?}: {text:?}");
+    assert!(rt;
+        second == Err(ReadError::Fault(kind)),
+        "{second:?}: {text:?}"
+    );
     assert_eq!(rt; attributes.into_sequence().len(), 1);
 }
 

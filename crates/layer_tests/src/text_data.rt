@@ -48,12 +48,7 @@ fn expect_last(rt: &impl Abort, arrays: &mut Vec<Array>, want: &[u8]) -> Result<
 }
 
 /// Fails unless the section is closed, its text ends there, and the variables have these bytes.
-fn expect_arrays(
-    rt: &impl Abort,
-    found: DataSection<'_>,
-    v: &[u8],
-    c: &[u8],
-) -> Result<(), Fail> {
+fn expect_arrays(rt: &impl Abort, found: DataSection<'_>, v: &[u8], c: &[u8]) -> Result<(), Fail> {
     assert!(rt; found.is_closed);
     assert!(rt; !found.rest.is_done());
     assert!(rt; found.rest.lexeme().kind == TokenKind::End);

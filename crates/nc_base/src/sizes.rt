@@ -18,7 +18,7 @@ const SLAB_LIMIT: u64 = 1 << 48;
 /// The greatest record in bytes: 2^62.
 pub const RECORD_LIMIT: u128 = 1 << 62;
 
-/// The bytes of the slab of the variable in place `v`, without padding: of its values in one record for a record
+/// The bytes of the slab of the variable at index `v`, without padding: of its values in one record for a record
 /// variable, and of all its values for any other (`vsize` of the NetCDF Classic Format Specification before it is
 /// rounded up to a multiple of four). None above 2^48 bytes.
 pub fn slab_bytes(header: &Header, v: usize) -> Option<u64>
@@ -106,7 +106,7 @@ pub fn record_layout(header: &Header, len: u64) -> RecordLayout
     }
 }
 
-/// How many whole records of this size n bytes have; none where the size isn't known.
+/// How many whole records of this size `bytes` bytes have; none where the size isn't known.
 fn whole_records(bytes: u64, size: Option<u64>) -> u64
     ensures { IfSome size (λ size. result ≡ bytes / size) }
 {
@@ -116,8 +116,8 @@ fn whole_records(bytes: u64, size: Option<u64>) -> u64
     }
 }
 
-/// The first offset after the last value that the variable in place `v` has over n records, in bytes from the file's start;
-/// its begin where it has no value, as a record variable over no records.
+/// The first offset after the last value that the variable at index `v` has over `records` records, in bytes from the
+/// file's start; its begin where it has no value, as a record variable over no records.
 pub fn extent_end(header: &Header, v: usize, records: u64) -> u128
     requires sound { IsSound header.now }
     requires there { v < length header.now.vars }
@@ -126,8 +126,8 @@ pub fn extent_end(header: &Header, v: usize, records: u64) -> u128
     end_of(header, v, records)
 }
 
-/// The same by its parts: the begin and the bytes of the slab, and for a record variable one record size more for each
-/// record after the first.
+/// The first offset after the last value, by its parts: the begin and the bytes of the slab, and for a record variable one
+/// record size more for each record after the first.
 fn end_of(header: &Header, v: usize, records: u64) -> u128
     requires sound { IsSound header.now }
     requires there { v < length header.now.vars }
@@ -145,7 +145,7 @@ fn end_of(header: &Header, v: usize, records: u64) -> u128
     }
 }
 
-/// How many values the variable in place `v` has over n records: a record variable has as many as a slab for each
+/// How many values the variable at index `v` has over `records` records: a record variable has as many as a slab for each
 /// record, and any other those of its one slab.
 pub fn value_count(header: &Header, v: usize, records: u64) -> u128
     requires sound { IsSound header.now }
@@ -222,7 +222,7 @@ fn padded_bytes(slab: u64) -> u128
     slab as u128 + padding_len(slab as u128) as u128
 }
 
-/// How many bytes fill n bytes up to the next multiple of four (`padding` of the NetCDF Classic Format Specification).
+/// How many bytes fill `n` bytes up to the next multiple of four (`padding` of the NetCDF Classic Format Specification).
 pub fn padding_len(n: u128) -> u64
     ensures { result ≡ padding_len n }
 {

@@ -41,8 +41,8 @@ pub fn read_header<S: Source>(
     }
 }
 
-/// Reads the header at the prefix. It is sound where the source is transparent; of the bytes of another source nothing is
-/// known.
+/// Reads the header at the start of the source. It is sound where the source is transparent; of the bytes of another source
+/// nothing is known.
 fn header_at_start<S: Source>(
     alloc: Global,
     source: &mut S,

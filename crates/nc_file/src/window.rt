@@ -38,7 +38,7 @@ impl<S: Source> Window<'_, S> {
         if len <= at {
             return Ok(false);
         }
-        let buffer_len = if len - at < self.buf.len() as u64 {
+        let wanted = if len - at < self.buf.len() as u64 {
             (len - at) as usize
         } else {
             self.buf.len()
@@ -46,7 +46,7 @@ impl<S: Source> Window<'_, S> {
         self.base = at;
         self.filled = 0;
         self.pos = 0;
-        let n = match self.source.read_at(at, &mut self.buf[..buffer_len]) {
+        let n = match self.source.read_at(at, &mut self.buf[..wanted]) {
             Ok(n) => n,
             Err(_) => return Err(HeadFault::ReadFailed),
         };
@@ -187,7 +187,7 @@ impl<S: Source> Window<'_, S> {
         Ok(bytes)
     }
 
-    /// Passes over n bytes.
+    /// Passes over `n` bytes.
     #[tactic(auto, using(crate::proofs::Loops::skip))]
     pub(crate) fn skip(&mut self, n: u64) -> Result<(), HeadFault>
         requires { Opened S.is_transparent S.view self.old }

@@ -20,7 +20,7 @@ pub(crate) struct Chunk {
 }
 
 impl Chunk {
-    /// Whether the last value is the last one of its slab, and there are another slab and capacity for a value of it.
+    /// Whether the last value ends its slab, another slab follows, and the chunk has space for one of its values.
     fn goes_on(self, slabs: Slabs, capacity: u64) -> bool
         requires { IsCursor slabs self.next }
         ensures { IsTrue result ↔ Continues slabs capacity self }
@@ -33,7 +33,7 @@ impl Chunk {
 ///
 /// # Errors
 ///
-/// The source failed, or it has no whole value at this index.
+/// The source failed, or it has no whole value at this cursor.
 #[inline(always)]
 fn read_run<S: Source>(
     slabs: &Slabs,
@@ -60,7 +60,7 @@ fn read_run<S: Source>(
 ///
 /// # Errors
 ///
-/// The source failed, or it has no whole value at this index.
+/// The source failed, or it has no whole value at this cursor.
 // One loop with all of a run inside of it: where a slab has few values, calls would take longer than the reads.
 #[inline(never)]
 pub(crate) fn read_chunk<S: Source>(
@@ -79,8 +79,8 @@ pub(crate) fn read_chunk<S: Source>(
 {
     let mut chunk = read_run(slabs, cursor, capacity, source, into)?;
     while chunk.goes_on(*slabs, capacity) {
-        let prefix = (chunk.values * slabs.size) as usize;
-        let rest = &mut into[prefix..];
+        let bytes_so_far = (chunk.values * slabs.size) as usize;
+        let rest = &mut into[bytes_so_far..];
         match read_run(slabs, chunk.next, capacity - chunk.values, source, rest) {
             Ok(more) => {
                 chunk = Chunk {

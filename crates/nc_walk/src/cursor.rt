@@ -30,7 +30,7 @@ impl Cursor {
         self.slab == slabs.total_slabs
     }
 
-    /// The cursor n values on: the next one, after values of one slab.
+    /// The cursor `n` values further on: the next one, after values of one slab.
     pub(crate) fn following(self, slabs: Slabs, n: u64) -> Cursor
         requires cursor { IsCursor slabs self }
         requires in_slab { self.within + n ≤ slabs.values_per_slab }

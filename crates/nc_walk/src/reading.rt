@@ -15,7 +15,7 @@ use devices::Source;
 ///
 /// # Errors
 ///
-/// The source failed, or it has no whole value at this index.
+/// The source failed, or it has no whole value at this cursor.
 #[inline(always)]
 pub(crate) fn read_values<S: Source>(
     slabs: &Slabs,

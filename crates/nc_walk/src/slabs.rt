@@ -65,7 +65,7 @@ impl Slabs {
         }
     }
 
-    /// The offset of the value at this index.
+    /// The offset of the value at this cursor.
     pub(crate) fn offset(&self, cursor: Cursor) -> u128
         requires sized { IsSized self.now }
         requires within { cursor.within < self.now.values_per_slab }
@@ -76,7 +76,7 @@ impl Slabs {
         slab + cursor.within as u128 * self.size as u128
     }
 
-    /// How many values from the one at this index on lie side by side, are at most `capacity` and end inside of `len` bytes.
+    /// How many values from the one at this cursor on lie side by side, are at most `capacity` and end inside of `len` bytes.
     pub(crate) fn ready(&self, cursor: Cursor, capacity: u64, len: u64) -> u64
         requires sized { IsSized self.now }
         requires within { cursor.within < self.now.values_per_slab }
@@ -95,7 +95,7 @@ impl Slabs {
     }
 }
 
-/// The number of slabs over n records.
+/// The number of slabs over `records` records.
 fn slab_number(dims: &[Dim], var: &Var, records: u64) -> u64
     ensures { result ≡ (if is_record_var dims.now var.now then records else 1) }
 {

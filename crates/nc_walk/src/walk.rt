@@ -44,7 +44,7 @@ impl<'a> Model for Walk<'a> {
 }
 
 impl<'a> Walk<'a> {
-    /// A walk at the first value of the variable at index `v` of the header, over n records. Where the values lie
+    /// A walk at the first value of the variable at index `v` of the header, over `records` records. Where the values lie
     /// follows from the variable's `begin` and its shape, and not from its `vsize` (NetCDF Classic Format Specification).
     pub fn new(header: &Header, v: usize, records: u64, buf: &'a mut [u8]) -> Walk<'a>
         requires sound { IsSound header.now }

@@ -99,7 +99,7 @@ fn width_of(word: &str) -> Option<usize>
     is_width(width).then_some(width)
 }
 
-/// Says whether a line may be n bytes wide.
+/// Says whether a line may be `width` bytes wide.
 fn is_width(width: usize) -> bool
     ensures { result ≡ is_in_range 20 1000 width }
 {

@@ -89,7 +89,7 @@ fn first_unknown(known: &NameSet<'_>, names: &[Sequence<u8>]) -> Option<usize>
 
 /// Says for each variable whether both sets have its name.
 ///
-/// Its room is taken first: where that is refused, `collect` alone would try for less.
+/// The capacity is reserved first: `collect` would try a refused growth again with less.
 fn marks(
     alloc: Global,
     vars: &[Var],

@@ -96,7 +96,7 @@ fn show_marked<S: Source, W: Sink>(
     Ok(())
 }
 
-/// Says whether the variable at index `v` is marked and has a value over n records: a slab of a sound header has at
+/// Says whether the variable at index `v` is marked and has a value over `count` records: a slab of a sound header has at
 /// least one.
 fn is_shown(header: &Header, v: usize, count: u64, is_marked: bool) -> bool
     requires sound { IsSound header.now }
@@ -106,7 +106,7 @@ fn is_shown(header: &Header, v: usize, count: u64, is_marked: bool) -> bool
     is_marked && has_slabs(header, v, count)
 }
 
-/// Says whether the variable at index `v` has a slab over n records.
+/// Says whether the variable at index `v` has a slab over `count` records.
 fn has_slabs(header: &Header, v: usize, count: u64) -> bool
     requires { v < length header.now.vars }
     ensures { IfSome (slice_get header.now.vars v) (λ var. result ≡ (nat_lt 0 count || not (is_record_var header.now.dims var))) }

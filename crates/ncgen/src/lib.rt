@@ -1,9 +1,9 @@
 //! The netCDF classic file of a CDL text, and the command line of the program `ncgen`.
 //!
 //! [`generate`] reads a text and writes its file; [`prepare`] reads it alone, and gives the file ready to be written.
-//! [`read_text`] reads a text of a reader. What to make of which text is said by [`GenOptions`], which [`options_of`] reads from
-//! the matches of [`command`], and [`fault_line`] says why there is no file. [`run_with`] is the whole program, but for what opens
-//! its text and creates its output, and for its streams.
+//! [`read_text`] reads a text of a reader. [`GenOptions`] says which text to read and where to write its file; [`options_of`]
+//! reads it from the matches of [`command`]. [`fault_line`] says why there is no file. [`run_with`] is the whole program, but
+//! for what opens its text and creates its output, and for its streams.
 #![tactic(auto)]
 
 mod command_line;

@@ -92,7 +92,7 @@ impl<S: Source> Window<'_, S> {
         Ok(n)
     }
 
-    /// A variable, after others whose records have n bytes. Its `vsize` may be any number.
+    /// A variable, after others whose records have `total` bytes. Its `vsize` may be any number.
     #[tactic(auto, using(crate::proofs::Parts::parts), unfolding(crate::specs::Reading::var_at))]
     fn var(
         &mut self,

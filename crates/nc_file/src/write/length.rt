@@ -94,7 +94,7 @@ fn name_len(version: Version, name: &[u8]) -> u64
     count_len(version).saturating_add(padded_len(name.len() as u64))
 }
 
-/// The bytes of n bytes with their padding.
+/// The length of `n` bytes with their padding.
 fn padded_len(n: u64) -> u64
     ensures { result ≡ min (padded_len n) (2 ^ 64 - 1) }
 {

@@ -19,25 +19,25 @@ both_fit n m size xs some fits more =
     let up : (n + m) * 1 ≤ (n + m) * size = mul-le-mul_left (n + m) (let h : 1 ≤ size = omega (arith, some) in h) in
     omega (arith, up, rest (n * size) xs fits)
 
-pub read_run-requires-in-loop-prefix-clause-capacity : goal.read_run-requires-in-loop-prefix-clause-capacity
-read_run-requires-in-loop-prefix-clause-capacity g c =
-    capacity_left c.loop-prefix.chunk.values c.args.capacity c.args.slabs.now.size c.loop-prefix.into c.args.into.now
-    (let below = (c.loop-prefix-test.ensures.0 refl).fits in omega arith) c.loop-prefix.invariant.collected.fits c.requires.capacity (c.loop-prefix.auto.into ∙ c.read_run.auto.into)
+pub read_run-requires-in-loop-bytes_so_far-clause-capacity : goal.read_run-requires-in-loop-bytes_so_far-clause-capacity
+read_run-requires-in-loop-bytes_so_far-clause-capacity g c =
+    capacity_left c.loop-bytes_so_far.chunk.values c.args.capacity c.args.slabs.now.size c.loop-bytes_so_far.into c.args.into.now
+    (let below = (c.loop-bytes_so_far-test.ensures.0 refl).fits in omega arith) c.loop-bytes_so_far.invariant.collected.fits c.requires.capacity (c.loop-bytes_so_far.auto.into ∙ c.read_run.auto.into)
 
 pub overflow_add-chunk : goal.overflow_add-chunk
 overflow_add-chunk g c =
-    let few : c.loop-prefix.chunk.values + c.in-Ok.more.values ≤ length c.loop-prefix.into
-    = both_fit c.loop-prefix.chunk.values c.in-Ok.more.values c.args.slabs.now.size c.loop-prefix.into c.requires.sized.some c.loop-prefix.invariant.collected.fits c.in-Ok.ensures.collects.returns_values.capacity in
+    let few : c.loop-bytes_so_far.chunk.values + c.in-Ok.more.values ≤ length c.loop-bytes_so_far.into
+    = both_fit c.loop-bytes_so_far.chunk.values c.in-Ok.more.values c.args.slabs.now.size c.loop-bytes_so_far.into c.requires.sized.some c.loop-bytes_so_far.invariant.collected.fits c.in-Ok.ensures.collects.returns_values.capacity in
     search rules
 
-pub loop-prefix-preserved : goal.loop-prefix-preserved
-loop-prefix-preserved g c =
-    goes_on g.S.Source.is_transparent _ _ _ _ _ _ _ _ _ _ _ c.loop-prefix.invariant (c.loop-prefix-test.ensures.0 refl).slab
-    (omega (arith, rest (c.loop-prefix.chunk.values * c.args.slabs.now.size) c.loop-prefix.into c.loop-prefix.invariant.collected.fits, c.loop-prefix.auto.into, c.read_run.auto.into))
+pub loop-bytes_so_far-preserved : goal.loop-bytes_so_far-preserved
+loop-bytes_so_far-preserved g c =
+    goes_on g.S.Source.is_transparent _ _ _ _ _ _ _ _ _ _ _ c.loop-bytes_so_far.invariant (c.loop-bytes_so_far-test.ensures.0 refl).slab
+    (omega (arith, rest (c.loop-bytes_so_far.chunk.values * c.args.slabs.now.size) c.loop-bytes_so_far.into c.loop-bytes_so_far.invariant.collected.fits, c.loop-bytes_so_far.auto.into, c.read_run.auto.into))
     _ c.in-Ok.ensures.collects c.in-Ok.ensures.slab_read
 
 pub returns-in-Err-ReadFailed : goal.returns-in-Err-ReadFailed
 returns-in-Err-ReadFailed g c =
-    fails g.S.Source.is_transparent _ _ _ _ _ c.read_run-in-loop-prefix.new.into _ _ _ _ 0 c.loop-prefix.invariant (c.loop-prefix-test.ensures.0 refl).slab
-    (omega (arith, rest (c.loop-prefix.chunk.values * c.args.slabs.now.size) c.loop-prefix.into c.loop-prefix.invariant.collected.fits, c.loop-prefix.auto.into, c.read_run.auto.into))
+    fails g.S.Source.is_transparent _ _ _ _ _ c.read_run-in-loop-bytes_so_far.new.into _ _ _ _ 0 c.loop-bytes_so_far.invariant (c.loop-bytes_so_far-test.ensures.0 refl).slab
+    (omega (arith, rest (c.loop-bytes_so_far.chunk.values * c.args.slabs.now.size) c.loop-bytes_so_far.into c.loop-bytes_so_far.invariant.collected.fits, c.loop-bytes_so_far.auto.into, c.read_run.auto.into))
     _ (rw c.in-Err-ReadFailed.field-0-is at c.in-Err-ReadFailed.ensures.collects).1
