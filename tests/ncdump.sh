@@ -62,6 +62,11 @@ in_little_memory() (
     exec "$@"
 )
 
+# both_into_one COMMAND..: runs the command with its standard error joined to its standard output.
+both_into_one() {
+    "$@" 2>&1
+}
+
 # to_full_device FILE, without_stdout FILE, without_stderr FILE: the dump where a device takes nothing.
 to_full_device() {
     "$ncdump" "$1" >/dev/full
@@ -108,6 +113,9 @@ stdout 'netcdf cut {\ndimensions:\n\tx = 3 ;\nvariables:\n\tshort s(x) ;\ndata:\
 stderr 'ncdump: cut.nc: variable 0: data truncated at value 1\n'
 run "$ncdump" cut.nc
 verdict values_up_to_the_first_missing_one 1
+stdout 'netcdf cut {\ndimensions:\n\tx = 3 ;\nvariables:\n\tshort s(x) ;\ndata:\n\n s = 1ncdump: cut.nc: variable 0: data truncated at value 1\n'
+run both_into_one "$ncdump" cut.nc
+verdict line_comes_after_the_text 1
 stderr 'ncdump: generated.nc: no such variable: item 1 of -v\n'
 run "$ncdump" -v s,nope generated.nc
 verdict name_that_no_variable_has 1
@@ -260,11 +268,13 @@ options coordinates_among_chosen "$head\\n x = 1, 2, 3 ;\\n}\\n" -c -v s,x grid.
 options no_coordinates_among_chosen "$head}\\n" -v s -c grid.nc
 
 # Devices that take nothing.
+stderr 'ncdump: write failed\n'
 run to_full_device "$samples/records.nc"
 verdict full_standard_output_at_the_end 1
 stderr 'ncdump: large.nc: write failed\n'
 run to_full_device large.nc
 verdict full_standard_output_on_the_way 1
+stderr 'ncdump: write failed\n'
 run without_stdout "$samples/records.nc"
 verdict closed_standard_output 1
 run without_stderr missing.nc

@@ -3,7 +3,7 @@
 use crate::files;
 use crate::rows::{COORDINATES_TEXT, GENERATED_TEXT, SELECTION_TEXT};
 use nc_file::{Listed, ListedFile, SliceSink};
-use ncdump::run_with;
+use ncdump::{flush_fault_line, run_with};
 use std::alloc::Global;
 use std::process::Abort;
 use std::test::Fail;
@@ -280,6 +280,14 @@ fn failing_standard_output(rt: HostRuntime) {
     runs_into(&rt, rt.alloc(), &["ncdump", "t.nc"], &mut out, &mut err);
     assert!(rt; out == *b"netcdf t");
     assert!(rt; err == *b"ncdump: t.nc: write failed\n");
+}
+
+#[test]
+fn line_of_a_failed_flush(rt: HostRuntime) {
+    let mut space = [0; 32];
+    let mut err = SliceSink::new(&mut space, 5);
+    assert!(rt; flush_fault_line(&mut err).is_ok());
+    assert!(rt; err.taken() == b"ncdump: write failed\n".as_slice());
 }
 
 #[test]

@@ -13,6 +13,9 @@ use crate::bytes::{
 use crate::escape::is_string;
 use crate::token::TokenKind;
 
+/// The length of the word that opens a text, `netcdf`.
+const OPENING_LEN: usize = 6;
+
 /// What bytes begin with: a token, or a gap between tokens.
 #[derive(Clone, Copy, Debug, PartialEq, Eq)]
 pub struct Scanned {
@@ -43,7 +46,7 @@ pub fn scan(fresh: bool, bytes: &[u8]) -> Scanned
 {
     let b = bytes[0];
     if fresh && begins_opening(bytes) {
-        let (_, rest) = bytes.split_at(6);
+        let (_, rest) = bytes.split_at(OPENING_LEN);
         scan_opening(rest)
     } else if begins_a_word(bytes) {
         token(TokenKind::Word, word_len(bytes))
@@ -87,9 +90,9 @@ fn scan_opening(bytes: &[u8]) -> Scanned
 {
     let n = until(bytes, b'{');
     if n < bytes.len() {
-        token(TokenKind::Opening, 6 + n + 1)
+        token(TokenKind::Opening, OPENING_LEN + n + 1)
     } else {
-        token(TokenKind::Bad, 6 + bytes.len())
+        token(TokenKind::Bad, OPENING_LEN + bytes.len())
     }
 }
 
@@ -141,7 +144,7 @@ fn begins_opening(bytes: &[u8]) -> bool
     ensures begins { result ≡ begins_opening bytes.now }
     ensures len { IsTrue result → 6 ≤ length bytes.now }
 {
-    let b = byte_at(bytes, 6);
+    let b = byte_at(bytes, OPENING_LEN);
     bytes.starts_with(b"netcdf") && (is_blank(b) || b == b'{')
 }
 

@@ -11,6 +11,7 @@ mod header;
 pub mod laws;
 mod read;
 mod sized_var;
+mod tag;
 mod window;
 mod write;
 

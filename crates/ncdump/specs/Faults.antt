@@ -85,6 +85,10 @@ unfoldable pub opt_fault_line : OptFault → List ℕ
 opt_fault_line opt.OutOfMemory = codes "ncdump: out of memory\n"
 opt_fault_line opt.Usage = usage_line
 
+-- the line for the last of a text, which was held back and could not be written
+unfoldable pub flush_fault_line : List ℕ
+flush_fault_line = codes "ncdump: write failed\n"
+
 -- the line of a failure
 unfoldable pub line_of_failure : Failure → List ℕ
 line_of_failure (CommandLine fault) = opt_fault_line fault

@@ -78,13 +78,21 @@ pub fn options_of(alloc: Global, matches: &ArgMatches) -> Result<DumpOptions, Op
     })
 }
 
-/// The width that `-l` asks for, or else 80, in bytes.
+/// The width of a line without `-l`, in bytes.
+const DEFAULT_WIDTH: usize = 80;
+
+/// The least and the greatest width that `-l` takes, in bytes.
+const MIN_WIDTH: usize = 20;
+
+const MAX_WIDTH: usize = 1000;
+
+/// The width that `-l` asks for, or else the default.
 fn width_in(word: Option<&str>) -> Option<usize>
     ensures { result ≡ width_in (option_map (λ value. value.now) word.entry) }
 {
     match word {
         Some(word) => width_of(word),
-        None => Some(80),
+        None => Some(DEFAULT_WIDTH),
     }
 }
 
@@ -103,7 +111,7 @@ fn width_of(word: &str) -> Option<usize>
 fn is_width(width: usize) -> bool
     ensures { result ≡ is_in_range 20 1000 width }
 {
-    20 <= width && width <= 1000
+    MIN_WIDTH <= width && width <= MAX_WIDTH
 }
 
 /// Says whether the word is of decimal digits alone.

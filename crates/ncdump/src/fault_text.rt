@@ -3,7 +3,7 @@
 ghost use Rattle.std.specs.Prelude.{◌≡◌, [], ◌∷◌, codes, decimal};
 ghost use Rattle.nc_base.specs.Bytes.{concat_parts};
 ghost use Rattle.devices.specs.Sinks.{Wrote};
-ghost use Rattle.ncdump.specs.Faults.{cannot_open_line, cannot_open_words, fault_numbers, fault_text, fault_words, file_line, format_words, line_of, line_of_failure, opt_fault_line, program_words, truncated_words, usage_line};
+ghost use Rattle.ncdump.specs.Faults.{cannot_open_line, cannot_open_words, fault_numbers, fault_text, fault_words, file_line, flush_fault_line, format_words, line_of, line_of_failure, opt_fault_line, program_words, truncated_words, usage_line};
 
 use crate::fault::{DumpFault, Failure, FileFault};
 use cli_base::OptFault;
@@ -38,6 +38,19 @@ pub fn opt_fault_line<W: Sink>(sink: &mut W, fault: OptFault) -> Result<(), Writ
         OptFault::OutOfMemory => put(sink, b"ncdump: out of memory\n"),
         OptFault::Usage => put(sink, usage_line()),
     }
+}
+
+/// Writes the line for the last of a text, which was held back and which standard output didn't take at the end:
+/// `ncdump: write failed`.
+///
+/// # Errors
+///
+/// The sink failed. It took some prefix of the line.
+#[tactic(auto, unfolding(crate::specs::Faults::flush_fault_line))]
+pub fn flush_fault_line<W: Sink>(sink: &mut W) -> Result<(), WriteFailed>
+    ensures { Wrote (W.view sink.old) (W.view sink.new) flush_fault_line result }
+{
+    put(sink, b"ncdump: write failed\n")
 }
 
 /// The line that tells how the program is used.

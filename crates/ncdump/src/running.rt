@@ -73,6 +73,9 @@ fn dump_path<P: Opener, O: Sink>(
     dump_whole(alloc, &mut source, options, out)
 }
 
+/// The length of the buffer that a file is read through, in bytes.
+const BUFFER_LEN: usize = 4096;
+
 /// Writes the dump of the file that the source has, through a buffer of its own.
 fn dump_whole<S: Source, W: Sink>(
     alloc: Global,
@@ -84,7 +87,7 @@ fn dump_whole<S: Source, W: Sink>(
     ensures writes { OfDump (dumps.WriteFailsOnly (W.view sink.old) (W.view sink.new)) result }
     ensures shows { OnTrue S.is_transparent (OfDump (Dumps (S.view source.old).bytes (options_of options.now) (W.view sink.old) (W.view sink.new)) result) }
 {
-    let mut buf = [0u8; 4096];
+    let mut buf = [0u8; BUFFER_LEN];
     dump(alloc, source, options, &mut buf, sink)?;
     Ok(())
 }

@@ -5,13 +5,11 @@ ghost use Rattle.nc_file.specs.Reading.{att_at, atts_at, att_list_at};
 ghost use Rattle.nc_file.specs.Window.{Opened, ReadPart};
 
 use crate::head_fault::HeadFault;
+use crate::tag::NC_ATTRIBUTE;
 use crate::window::Window;
 use devices::Source;
 use nc_base::{Att, Sequence, Version};
 use std::alloc::Global;
-
-/// The tag `NC_ATTRIBUTE`.
-const ATTRIBUTE_TAG: u32 = 12;
 
 impl<S: Source> Window<'_, S> {
     /// An attribute.
@@ -49,7 +47,7 @@ impl<S: Source> Window<'_, S> {
         requires { Opened S.is_transparent S.view self.old }
         ensures { ReadPart S.is_transparent S.view self.old self.new (att_list_at version) result }
     {
-        let n = self.list_len(version, ATTRIBUTE_TAG)?;
+        let n = self.list_len(version, NC_ATTRIBUTE)?;
         self.atts(alloc, version, n)
     }
 }

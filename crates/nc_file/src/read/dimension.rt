@@ -5,13 +5,11 @@ ghost use Rattle.nc_file.specs.Reading.{dim_at, dims_at, dim_list_at};
 ghost use Rattle.nc_file.specs.Window.{Opened, ReadPart};
 
 use crate::head_fault::HeadFault;
+use crate::tag::NC_DIMENSION;
 use crate::window::Window;
 use devices::Source;
 use nc_base::{Dim, FormatFault, Sequence, Version};
 use std::alloc::Global;
-
-/// The tag `NC_DIMENSION`.
-const DIMENSION_TAG: u32 = 10;
 
 impl<S: Source> Window<'_, S> {
     /// A dimension. Only one may have length 0, and `record_dim_before` says whether one had.
@@ -57,7 +55,7 @@ impl<S: Source> Window<'_, S> {
         requires { Opened S.is_transparent S.view self.old }
         ensures { ReadPart S.is_transparent S.view self.old self.new (dim_list_at version) result }
     {
-        let n = self.list_len(version, DIMENSION_TAG)?;
+        let n = self.list_len(version, NC_DIMENSION)?;
         self.dims(alloc, version, n)
     }
 }

@@ -5,6 +5,7 @@ ghost use Rattle.nc_file.specs.Reading.{type_in, name_at, type_at, list_len_at};
 ghost use Rattle.nc_file.specs.Window.{Opened, ReadPart};
 
 use crate::head_fault::HeadFault;
+use crate::tag::{NC_DOUBLE, NC_FLOAT};
 use crate::window::Window;
 use devices::Source;
 use nc_base::{FormatFault, NcType, Sequence, Version, check_name, padding_len};
@@ -37,7 +38,7 @@ impl<S: Source> Window<'_, S> {
         ensures { ReadPart S.is_transparent S.view self.old self.new (type_at version) result }
     {
         let code = self.read_u32()?;
-        if code == 5 || code == 6 {
+        if code == NC_FLOAT || code == NC_DOUBLE {
             return Err(HeadFault::Format(FormatFault::FloatingType));
         }
         match type_of(version, code) {

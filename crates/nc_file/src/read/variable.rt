@@ -8,6 +8,7 @@ ghost use Rattle.nc_file.specs.Window.{Opened, ReadPart};
 
 use crate::head_fault::HeadFault;
 use crate::sized_var::SizedVar;
+use crate::tag::NC_VARIABLE;
 use crate::window::Window;
 use devices::Source;
 use nc_base::{
@@ -15,9 +16,6 @@ use nc_base::{
     padding_len, slab_of,
 };
 use std::alloc::Global;
-
-/// The tag `NC_VARIABLE`.
-const VARIABLE_TAG: u32 = 11;
 
 impl<S: Source> Window<'_, S> {
     /// A dimension id. That of the record dimension stands in the first place of a shape alone.
@@ -157,7 +155,7 @@ impl<S: Source> Window<'_, S> {
         requires { Opened S.is_transparent S.view self.old }
         ensures { ReadPart S.is_transparent S.view self.old self.new (var_list_at version dims.now) result }
     {
-        let n = self.list_len(version, VARIABLE_TAG)?;
+        let n = self.list_len(version, NC_VARIABLE)?;
         self.vars(alloc, version, dims, n)
     }
 }

@@ -9,11 +9,9 @@ ghost use Rattle.devices.specs.Sinks.{Wrote};
 
 use super::list::{put_list_head, put_name, put_zero_padded};
 use super::number::{put_count, put_word};
+use crate::tag::NC_ATTRIBUTE;
 use devices::{Sink, WriteFailed};
 use nc_base::{Att, Version};
-
-/// The tag of a list of attributes.
-const ATTRIBUTE: u32 = 12;
 
 /// Writes a list of attributes.
 #[tactic(auto, using(devices::proofs::Writes::writes))]
@@ -26,7 +24,7 @@ pub(crate) fn put_att_list<W: Sink>(
     requires sound { All (IsSoundAtt version) atts.now }
     ensures { Wrote (W.view sink.old) (W.view sink.new) (atts_spelling version atts.now) result }
 {
-    put_list_head(sink, version, ATTRIBUTE, atts.len() as u64)?;
+    put_list_head(sink, version, NC_ATTRIBUTE, atts.len() as u64)?;
     put_atts(sink, version, atts)
 }
 

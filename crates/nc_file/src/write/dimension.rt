@@ -10,11 +10,9 @@ ghost use Rattle.devices.specs.Sinks.{Wrote};
 
 use super::list::{put_list_head, put_name};
 use super::number::put_count;
+use crate::tag::NC_DIMENSION;
 use devices::{Sink, WriteFailed};
 use nc_base::{Dim, Version};
-
-/// The tag of the list of dimensions.
-const DIMENSION: u32 = 10;
 
 /// Writes the list of dimensions.
 #[tactic(auto, using(devices::proofs::Writes::writes))]
@@ -27,7 +25,7 @@ pub(crate) fn put_dim_list<W: Sink>(
     requires sound { All (IsSoundDim version) dims.now }
     ensures { Wrote (W.view sink.old) (W.view sink.new) (list_spelling version dimension_tag (dim_spelling version) dims.now) result }
 {
-    put_list_head(sink, version, DIMENSION, dims.len() as u64)?;
+    put_list_head(sink, version, NC_DIMENSION, dims.len() as u64)?;
     put_dims(sink, version, dims)
 }
 

@@ -13,11 +13,9 @@ use super::attribute::put_att_list;
 use super::list::{put_list_head, put_name};
 use super::number::{put_count, put_number, put_offset, put_word};
 use super::slab::padded_slab_bytes;
+use crate::tag::NC_VARIABLE;
 use devices::{Sink, WriteFailed};
 use nc_base::{Dim, Var, Version};
-
-/// The tag of the list of variables.
-const VARIABLE: u32 = 11;
 
 /// Writes the list of variables.
 #[tactic(auto, using(devices::proofs::Writes::writes))]
@@ -33,7 +31,7 @@ pub(crate) fn put_var_list<W: Sink>(
     requires begins { All (λ var. var.begin_at < offset_limit version) vars.now }
     ensures { Wrote (W.view sink.old) (W.view sink.new) (list_spelling version variable_tag (var_spelling version dims.now) vars.now) result }
 {
-    put_list_head(sink, version, VARIABLE, vars.len() as u64)?;
+    put_list_head(sink, version, NC_VARIABLE, vars.len() as u64)?;
     put_vars(sink, version, dims, vars)
 }
 

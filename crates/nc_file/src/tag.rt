@@ -1,0 +1,15 @@
+//! The numbers that stand for the parts of a header (NetCDF Classic Format Specification, "Format in Detail").
+
+/// The tag of a list of dimensions.
+pub(crate) const NC_DIMENSION: u32 = 10;
+
+/// The tag of a list of variables.
+pub(crate) const NC_VARIABLE: u32 = 11;
+
+/// The tag of a list of attributes.
+pub(crate) const NC_ATTRIBUTE: u32 = 12;
+
+/// The codes of the floating types.
+pub(crate) const NC_FLOAT: u32 = 5;
+
+pub(crate) const NC_DOUBLE: u32 = 6;
