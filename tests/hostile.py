@@ -72,10 +72,10 @@ def mangled(pick, some):
     some = bytearray(some)
     for _ in range(pick.choice([1, 1, 1, 2, 5, 20])):
         at = pick.randrange(len(some) + 1)
-        kind = pick.random()
-        if kind < 0.5 and at < len(some):
+        draw = pick.random()
+        if draw < 0.5 and at < len(some):
             some[at] = pick.choice([0, 1, 2, 4, 5, 0x7F, 0x80, 0xFF, pick.randrange(256)])
-        elif kind < 0.7:
+        elif draw < 0.7:
             del some[at : at + pick.choice([1, 4, 40])]
         else:
             some[at:at] = pick.choice([bytes(4), b"\xff" * 4, pick.randbytes(pick.choice([1, 4, 8]))])
@@ -85,12 +85,12 @@ def mangled(pick, some):
 def mangled_text(pick, text):
     for _ in range(pick.choice([1, 1, 2, 5])):
         at = pick.randrange(len(text) + 1)
-        kind = pick.random()
-        if kind < 0.4:
+        draw = pick.random()
+        if draw < 0.4:
             text = text[:at] + pick.choice(SNIPPETS) + text[at:]
-        elif kind < 0.7:
+        elif draw < 0.7:
             text = text[:at] + text[at + pick.choice([1, 3, 30]) :]
-        elif kind < 0.85:
+        elif draw < 0.85:
             text = text[:at] + bytes([pick.randrange(256)]) + text[at + 1 :]
         else:
             other = pick.randrange(len(text) + 1)
@@ -112,12 +112,12 @@ class Cases:
         options = ["-n", "t"]
         if pick.random() < 0.3:
             options += ["-l", str(pick.choice([20, 21, 80, 1000]))]
-        kind = pick.random()
-        if kind < 0.1:
+        draw = pick.random()
+        if draw < 0.1:
             options.append("-h")
-        elif kind < 0.2:
+        elif draw < 0.2:
             options.append("-c")
-        if kind > 0.8:
+        if draw > 0.8:
             options += ["-v", pick.choice(["nope", "x,y", "a"])]
         return options
 

@@ -118,7 +118,7 @@ fn write_all(rt: &impl Abort, alloc: Global, parts: &[Part]) -> Result<(), Fail>
 }
 
 #[test]
-fn generated_file(rt: HostRuntime) -> Result<(), Fail> {
+fn values_of_a_file_of_each_version(rt: HostRuntime) -> Result<(), Fail> {
     const LISTED: &[&[u8]] = &[b"\0\x01\x80\x01\0\x03"];
     const DATA: &[u8] = b"\0\x01\x80\x01\0\x03\x80\x01";
     const PARTS: &[Part] = &[
@@ -147,7 +147,7 @@ fn no_records(rt: HostRuntime) -> Result<(), Fail> {
 }
 
 #[test]
-fn padding_returns(rt: HostRuntime) -> Result<(), Fail> {
+fn padded_records(rt: HostRuntime) -> Result<(), Fail> {
     const LISTED: &[&[u8]] = &[b"\x01\x02\x03", b"\0\x04\0\x05\0\x06"];
     const DATA: &[u8] =
         b"\x01\x81\x81\x81\0\x04\x80\x01\x02\x81\x81\x81\0\x05\x80\x01\x03\x81\x81\x81\0\x06\x80\x01";

@@ -160,7 +160,7 @@ fn selection_through(
 }
 
 #[test]
-fn every_buffer(rt: HostRuntime) -> Result<(), Fail> {
+fn selections_through_every_buffer(rt: HostRuntime) -> Result<(), Fail> {
     let chosen = choosing(rt.alloc(), &[b"b"])?;
     for buffer_len in 16..41 {
         for step in 1..10 {

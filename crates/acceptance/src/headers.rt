@@ -145,7 +145,7 @@ const GENERATED: [Generated; 3] = [
 ];
 
 #[test]
-fn generated_file(rt: HostRuntime) -> Result<(), Fail> {
+fn header_of_a_file_of_each_version(rt: HostRuntime) -> Result<(), Fail> {
     for (file, version, begin_at) in GENERATED {
         generated(&rt, rt.alloc(), file, version, begin_at)?;
     }

@@ -9,7 +9,7 @@ use std::process::Abort;
 use std::test::Fail;
 
 #[test]
-fn dumped_again(rt: HostRuntime) -> Result<(), Fail> {
+fn versions_have_one_text(rt: HostRuntime) -> Result<(), Fail> {
     const ROWS: &[(&[u8], &[u8])] = &[
         (files::GENERATED, GENERATED_TEXT),
         (files::GENERATED_CDF2, GENERATED_TEXT),
@@ -41,7 +41,7 @@ fn unpadded_records(rt: HostRuntime) -> Result<(), Fail> {
 }
 
 #[test]
-fn padding_returns(rt: HostRuntime) -> Result<(), Fail> {
+fn padded_records(rt: HostRuntime) -> Result<(), Fail> {
     const TEXT: &[u8] =
         b"netcdf t {\ndimensions:\n\tt = UNLIMITED ; // (3 currently)\nvariables:\n\tbyte b(t) ;\n\tshort s(t) ;\ndata:\n\n b = 1, 2, 3 ;\n\n s = 4, 5, 6 ;\n}\n";
     dumps(&rt, rt.alloc(), files::PADDED_RECORDS, Ok(()), TEXT)
@@ -71,7 +71,7 @@ fn fills_lines(rt: &impl Abort, alloc: Global, width: usize, text: &[u8]) -> Res
 }
 
 #[test]
-fn line_filling(rt: HostRuntime) -> Result<(), Fail> {
+fn lines_are_filled_up_to_the_width(rt: HostRuntime) -> Result<(), Fail> {
     const NARROW: &[u8] =
         b"netcdf t {\ndimensions:\n\tx = 3 ;\nvariables:\n\tint v(x) ;\ndata:\n\n v = 100, 200, \n    3000 ;\n}\n";
     const WIDE: &[u8] =

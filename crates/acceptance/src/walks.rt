@@ -103,7 +103,7 @@ fn walk_cuts(rt: &impl Abort, alloc: Global, file: &[u8], cuts: &[Cuts]) -> Resu
 }
 
 #[test]
-fn generated_file(rt: HostRuntime) -> Result<(), Fail> {
+fn values_cut_at_each_byte(rt: HostRuntime) -> Result<(), Fail> {
     const CUTS: &[Cuts] = &[
         ((80, 82), 0, b"", Err(WalkFault::DataTruncated(0))),
         ((82, 84), 0, b"\0\x01", Err(WalkFault::DataTruncated(1))),
@@ -151,7 +151,7 @@ fn more_records_than_the_file_has(rt: HostRuntime) -> Result<(), Fail> {
 }
 
 #[test]
-fn padding_returns(rt: HostRuntime) -> Result<(), Fail> {
+fn padded_records(rt: HostRuntime) -> Result<(), Fail> {
     const CUTS: &[Cuts] = &[
         ((116, 117), 0, b"", Err(WalkFault::DataTruncated(0))),
         ((117, 125), 0, b"\x01", Err(WalkFault::DataTruncated(1))),

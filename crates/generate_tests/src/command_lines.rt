@@ -31,7 +31,7 @@ fn invocation<'a>(words: &'a [&'a str]) -> Invocation<'a> {
 }
 
 #[test]
-fn outputs(rt: HostRuntime) {
+fn outputs_have_the_path_of_o_or_of_the_text(rt: HostRuntime) {
     const ROWS: [(&[&str], &str); 7] = [
         (&["ncgen", "-b", "d/f.cdl"], "f.nc"),
         (&["ncgen", "-b", "-o", "x", "d/f.cdl"], "x"),
@@ -53,7 +53,7 @@ fn makes_kind(rt: &impl Abort, alloc: Global, kind: &str, file: &[u8]) {
 }
 
 #[test]
-fn kinds(rt: HostRuntime) {
+fn kinds_choose_the_version(rt: HostRuntime) {
     const ROWS: [(&str, &[u8]); 6] = [
         ("classic", FIRST_FILE),
         ("nc3", FIRST_FILE),

@@ -66,6 +66,6 @@ fn rank_three(rt: HostRuntime) -> Result<(), Fail> {
 }
 
 #[test]
-fn padding_returns(rt: HostRuntime) -> Result<(), Fail> {
+fn padded_records(rt: HostRuntime) -> Result<(), Fail> {
     fills_each_room(&rt, rt.alloc(), &rows::PADDED_RECORDS)
 }

@@ -43,7 +43,7 @@ fn unpadded_records(rt: HostRuntime) -> Result<(), Fail> {
 }
 
 #[test]
-fn padding_returns(rt: HostRuntime) -> Result<(), Fail> {
+fn padded_records(rt: HostRuntime) -> Result<(), Fail> {
     generates(&rt, rt.alloc(), &rows::PADDED_RECORDS)
 }
 

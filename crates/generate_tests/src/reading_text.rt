@@ -28,7 +28,7 @@ fn stops<R: Read + Drop>(rt: &impl Abort, alloc: Global, reader: R, max: u32, fa
 }
 
 #[test]
-fn ten_bytes(rt: HostRuntime) {
+fn texts_up_to_the_limit(rt: HostRuntime) {
     reads(&rt, rt.alloc(), b"0123456789".as_slice(), b"0123456789");
     reads(&rt, rt.alloc(), b"".as_slice(), b"");
 }

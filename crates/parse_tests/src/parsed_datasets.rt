@@ -40,7 +40,7 @@ fn escaped_names(rt: HostRuntime) {
 }
 
 #[test]
-fn constants(rt: HostRuntime) {
+fn constants_of_attributes_and_lengths(rt: HostRuntime) {
     const TEXT: &[u8] =
         b"netcdf t {\n:a = \"x\", \"y\" ;\n:b = 0x1b ;\ndimensions: x = 0x10, y = 010 ; }";
     const WANT: Wanted<'static> = Wanted {
