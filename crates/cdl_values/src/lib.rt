@@ -25,7 +25,5 @@ pub use filling::Filling;
 pub use name::{name_of_word, read_name};
 pub use name_index::NameIndex;
 pub use number::{number_or_zero, put_number};
-pub use packing::{Packed, pack, pack_good};
 pub use read_error::ReadError;
 pub use targets::targets_of;
-pub use value::Stop;
