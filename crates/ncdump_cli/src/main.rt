@@ -32,7 +32,7 @@ fn main(rt: HostRuntime) -> ExitCode {
 }
 
 /// Runs the program on the words that it was called with, and gives its exit status.
-fn run_words<R: Env + Files<File = File> + Print + AllocGlobal, E: Write>(
+fn run_words<R: Env + Files<File = File> + Print + AllocGlobal, E: Write + Drop>(
     rt: &R,
     stderr: E,
 ) -> Result<u8, OptFault> {
