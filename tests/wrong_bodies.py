@@ -10,19 +10,16 @@ changed function has to be refused for itself, not because it calls one that is 
 the check stands on are the crates below as rt ci has built them. The last line is 'N passed, M failed'.
 """
 
-import os
 import re
 import shutil
-import subprocess
 import sys
 import tempfile
 from concurrent.futures import ThreadPoolExecutor
 from pathlib import Path
 
-TOP = Path(__file__).resolve().parent.parent
-CRATES = TOP / "crates"
-# the most memory that a check is likely to take
-CHECK_BYTES = 4 << 30
+import prover
+from prover import CRATES
+
 # the prover's line on a function
 VERDICT = re.compile(r"^fn (\S+): (.+)$", re.M)
 # an answer to a goal of the function itself doesn't hold, or the goal stayed open: else the function waits for one that it calls
@@ -108,26 +105,6 @@ def rounds_of(edits):
     return rounds
 
 
-def stands_on():
-    """What each crate stands on, from crates.txt: libraries of the kit, and crates."""
-    lines = (line.partition(":") for line in (TOP / "crates.txt").read_text().splitlines() if not line.startswith("#"))
-    return {name: rest.split() for name, _, rest in lines}
-
-
-def prover_words(crate):
-    """The prover's command line for a crate, over the libraries of the kit and of the crates below."""
-    kit = Path(subprocess.run(["rt", "doc"], stdout=subprocess.PIPE, text=True, check=True).stdout.strip()).parent
-    below = stands_on()
-    folder_of = lambda library: CRATES / library / "out" / "rlib" if library in below else kit / "rlibs"
-    words = [f"{kit}/bin/rattle", "check", "--crate-name", crate, "src/lib.rt", "--links", f"{crate}=", "--jobs", "1"]
-    words += ["--antt-project", f"{kit}/rattle/logic/antt-project.json", "--logic-built", f"{kit}/logic_built"]
-    for library in ["std", *below[crate]]:
-        words += ["--extern", f"{library}={folder_of(library)}/{library}.rlib"]
-    for library in ["std", *below]:
-        words += ["-L", f"dependency={folder_of(library)}"]
-    return words
-
-
 def is_of(name, function):
     """Whether the prover's name is that of the function, or of a closure in it."""
     module, _, last = function.rpartition("::")
@@ -158,9 +135,9 @@ def try_round(crate, edits, kept):
                 shutil.copytree(CRATES / crate / part, Path(folder, part))
         apply(edits, Path(folder))
         only = [f"--only={it}" for edit in edits for it in sorted(edit.functions)]
-        ran = subprocess.run([*prover_words(crate), "--incremental", kept, *only], cwd=folder, stdin=subprocess.DEVNULL,
-                             text=True, stdout=subprocess.PIPE, stderr=subprocess.STDOUT, errors="replace")
-    return judge(crate, edits, ran.stdout.rstrip())
+        libraries = prover.built(["std", *prover.stands_on()[crate]])
+        said = prover.said([*prover.check_words(crate), *libraries, "--incremental", kept, *only], folder)
+    return judge(crate, edits, said)
 
 
 def try_crate(crate):
@@ -178,17 +155,11 @@ def try_crate(crate):
     return results
 
 
-def at_once():
-    """How many checks to run side by side."""
-    memory = int(re.search(r"MemAvailable: +(\d+)", Path("/proc/meminfo").read_text())[1]) << 10
-    return max(1, min(len(os.sched_getaffinity(0)), memory // CHECK_BYTES))
-
-
 def main():
     crates = sorted({path.parent.parent.name for path in CRATES.glob("*/wrong-bodies/*.edit")})
     crates = [it for it in crates if it in sys.argv[1:]] if sys.argv[1:] else crates
     crates.sort(key=lambda it: -len(list((CRATES / it / "wrong-bodies").glob("*.edit"))))
-    with ThreadPoolExecutor(at_once()) as pool:
+    with ThreadPoolExecutor(prover.at_once()) as pool:
         results = [it for part in pool.map(try_crate, crates) for it in part]
     for is_well, line in results:
         if not is_well:
