@@ -1,23 +1,12 @@
 -- Texts with a dataset in CDF-5, and the files of their datasets, byte by byte, by computation.
 use Rattle.std.proofs.Common.{◌≡◌, ℕ, List, [], ◌∷◌, refl}
-use Rattle.std.specs.Prelude.{codes, Bool, true, false, drop, map, nat_lt, Result, Ok, Err}
+use Rattle.std.specs.Prelude.{codes}
 use Rattle.std.specs.Str.{is_utf8, chars}
 use lib.Utf8.{encode}
-use Rattle.nc_base.specs.declared.dataset.Dataset.{Dataset}
-use Rattle.nc_base.specs.declared.header.Att.{Att}
-use Rattle.nc_base.specs.declared.header.Dim.{Dim}
-use Rattle.nc_base.specs.declared.header.Header.{Header}
-use Rattle.nc_base.specs.declared.header.NumRecs.TheVariants.{Known}
-use Rattle.nc_base.specs.declared.header.Var.{Var}
-use Rattle.nc_base.specs.declared.nc_type.NcType.{NcType}
-use Rattle.nc_base.specs.declared.nc_type.NcType.TheVariants.{Byte, Char, Short, Int, Ubyte}
-use Rattle.nc_base.specs.declared.version.Version.{Version}
-use Rattle.nc_base.specs.declared.version.Version.TheVariants.{Cdf1, Cdf2, Cdf5}
+use Rattle.nc_base.specs.declared.version.Version.TheVariants.{Cdf5}
 use Rattle.nc_base.specs.Escapes.{is_reserved}
 use Rattle.nc_base.specs.Fill.{fill_value}
 use Rattle.nc_base.specs.GeneratedFile.{word_spelling, magic_spelling, dim_spelling, att_spelling, var_spelling, header_spelling, fill_bytes, padded_slab, data_of, with_begins, file_of}
-use Rattle.nc_base.specs.Versions.{offset_limit}
-use Rattle.cdl_text.specs.declared.fault.CdlFault.{CdlFault}
 use Rattle.cdl_text.specs.Scan.{word_len, until, scan}
 use Rattle.cdl_text.specs.Escapes.{unescape_at, stands_at, character}
 use Rattle.cdl_text.specs.Tokens.{tokens_at}

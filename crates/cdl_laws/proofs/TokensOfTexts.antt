@@ -1,5 +1,5 @@
 -- The tokens of a few texts, their pieces, and what words and numbers say, by computation.
-use Rattle.std.proofs.Common.{◌≡◌, ℕ, List, [], ◌∷◌, ◌++◌, refl}
+use Rattle.std.proofs.Common.{◌≡◌, ℕ, List, [], ◌∷◌, refl}
 use Rattle.std.specs.Prelude.{Bool, true, false, ℤ, pos, neg_ℤ, codes, length, map, Option, None, Some}
 use Rattle.nc_base.specs.declared.nc_type.NcType.{NcType}
 use Rattle.nc_base.specs.declared.nc_type.NcType.TheVariants.{Byte, Short, Int, Ubyte, Ushort, Uint, Int64, Uint64}

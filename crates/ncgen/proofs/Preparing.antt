@@ -1,16 +1,12 @@
 -- A text's file stands ready to be written.
-use Rattle.std.proofs.Common.{◌≡◌, ◌≤◌, ◌<◌, ◌⊎◌, inl, inr, ◌∙◌, ℕ, List, [], ◌++◌, length, Bool, true, false, if◌then◌else◌, Result, Ok, Err, refl, sym, ap, subst}
-use Rattle.std.specs.Prelude.{All}
+use Rattle.std.proofs.Common.{◌≡◌, ◌≤◌, inl, inr, ◌∙◌, ℕ, List, [], ◌++◌, length, Bool, true, false, if◌then◌else◌, Result, Ok, Err, refl, sym, ap, subst}
 use Rattle.nc_base.specs.Bytes.{AreBytes}
 use Rattle.nc_base.specs.declared.dataset.Dataset.{Dataset}
 use Rattle.nc_base.specs.declared.header.Header.{Header}
-use Rattle.nc_base.specs.declared.header.NumRecs.{NumRecs}
-use Rattle.nc_base.specs.declared.header.Var.{Var}
 use Rattle.nc_base.specs.declared.version.Version.{Version}
 use Rattle.nc_base.specs.GeneratedFile.{data_of, file_of, fits, header_spelling, known_records, with_begins}
-use Rattle.nc_base.specs.Headers.{AreArrays, IsGood, IsSound}
-use Rattle.nc_base.specs.OwedValues.{AreListed, whole_arrays}
-use Rattle.nc_base.specs.Versions.{offset_limit}
+use Rattle.nc_base.specs.Headers.{AreArrays, IsGood}
+use Rattle.nc_base.specs.OwedValues.{whole_arrays}
 use Rattle.devices.specs.Sinks.{SinkView}
 use Rattle.nc_file.specs.Begins.{offset_too_large}
 use Rattle.nc_file.specs.declared.write.begins.OffsetTooLarge.{OffsetTooLarge as NoRoom}
@@ -22,7 +18,7 @@ use Rattle.cdl_meaning.specs.Meaning.{meaning, text_limit}
 use Rattle.cdl_parse.specs.Parsing.{Answers, as_dataset, refused}
 use Rattle.cdl_laws.proofs.MeaningsAreGood.{meanings_are_good}
 use Rattle.ncgen.specs.Generated.{Generates, Refuses, file_or_fault, generated}
-use Rattle.ncgen.specs.Prepared.{AreFilledUp, IsReady, Prepares, file_of_prepared, listed_data}
+use Rattle.ncgen.specs.Prepared.{AreFilledUp, IsReady, Prepares, file_of_prepared}
 use Rattle.ncgen.specs.declared.fault.GenFault.{GenFault}
 use Rattle.ncgen.specs.declared.fault.GenFault.TheVariants.{Cdl, OffsetTooLarge, WriteFailed}
 use Rattle.ncgen.specs.declared.prepared.Prepared.{Prepared}

@@ -8,4 +8,4 @@ returns c =
     let h = c.args.header.now in
     λ _.
     one-listed h.dims (known_records h.numrecs) h.vars c.args.v c.index-as_slice-v.result c.args.listed.now c.size-size.result c.value_count.result (search rules) (search rules)
-    (rw c.known_records.ensures at c.value_count.ensures) (omega arith) (omega arith)
+    (rw c.known.ensures at c.value_count.ensures) (omega arith) (omega arith)

@@ -1,10 +1,9 @@
-use Rattle.std.proofs.Common.{rules, ◌≡◌, ◌≤◌, length, Ok, Err, refl, sym, subst}
+use Rattle.std.proofs.Common.{rules, ◌≡◌, Ok, Err, refl, sym, subst}
 use Rattle.nc_base.specs.Bytes.{AreBytes}
 use Rattle.nc_base.specs.declared.header.Header.{Header}
 use Rattle.ncgen.specs.Generated.{generated}
 use Rattle.ncgen.specs.Prepared.{AreFilledUp, Prepares}
 use Rattle.ncgen.specs.declared.fault.GenFault.TheVariants.{Cdl, OffsetTooLarge}
-use Rattle.ncgen.specs.declared.prepared.Prepared.{Prepared}
 use Rattle.nc_base.specs.GeneratedFile.{fits}
 use Rattle.ncgen.proofs.Preparing.{good, not-placed, placed, ready, text-fault, too-large}
 use Rattle.ncgen.proofs.generating.prepare.Goals as goal

@@ -1,7 +1,6 @@
 use Rattle.std.proofs.Common.{rules, ◌≡◌, [], ◌∷◌, ◌++◌, ◌∙◌, ap, ℕ, List, replicate}
 use Rattle.nc_base.specs.Fill.{fill_value}
 use Rattle.nc_base.specs.Numbers.{bytes_of_number}
-use Rattle.ncgen.specs.Prepared.{IsFilledUp}
 use Rattle.ncgen.proofs.Filling.{none_owed, some_owed}
 use Rattle.ncgen.proofs.listed.listed_of.Goals as goal
 use Rattle.ncgen.proofs.listed.listed_of.Goals.{in-Some+in_ok-bytes-in-Some, in-None+in_ok-bytes-in-None}

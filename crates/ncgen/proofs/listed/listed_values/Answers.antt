@@ -1,7 +1,7 @@
-use Rattle.std.proofs.Common.{rules, ◌≡◌, [], ◌∷◌, ◌++◌, ℕ, List, drop, subst, append-nil}
+use Rattle.std.proofs.Common.{rules, ◌≡◌, [], drop, subst, append-nil}
 use Rattle.std.proofs.lemmas.List.{drop_all, nil_from_length}
 use Rattle.std.specs.Vec.Iter.{into_iter_items}
-use Rattle.ncgen.specs.Prepared.{AreFilledUp, IsFilledUp}
+use Rattle.ncgen.specs.Prepared.{AreFilledUp}
 use Rattle.ncgen.proofs.Filling.{end_of_arrays, end_of_vars}
 use Rattle.ncgen.proofs.listed.listed_values.Goals as goal
 
