@@ -35,14 +35,8 @@ fn number_len(version: Version, n: Numeral) -> Result<u64, CdlKind>
 {
     match n.magnitude {
         Some(0) => Err(CdlKind::ZeroDimension),
-        Some(len) => {
-            if n.minus || len >= version.count_limit() {
-                Err(CdlKind::NumberRange)
-            } else {
-                Ok(len)
-            }
-        }
-        None => Err(CdlKind::NumberRange),
+        Some(len) if !n.minus && len < version.count_limit() => Ok(len),
+        _ => Err(CdlKind::NumberRange),
     }
 }
 

@@ -75,7 +75,7 @@ impl Dimensions {
     ///
     /// # Errors
     ///
-    /// No name (`BadName`); or the name of another dimension (`DuplicateName`).
+    /// A name that the format doesn't allow (`BadName`); or the name of another dimension (`DuplicateName`).
     pub fn check_new(&self, name: &[u8]) -> Result<(), CdlKind>
         ensures { result ≡ new_name self.now name.now }
     {

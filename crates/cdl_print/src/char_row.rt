@@ -91,8 +91,8 @@ fn put_led_run<W: Sink>(
     Ok(())
 }
 
-/// How many NULs are held back at this position of a row, where `held` were held back before the last character, and whether
-/// that one `waits`.
+/// How many NULs are held back after a character: `held` were before it, `waits` says whether it is a further one, and
+/// `row_index` is the position after it. At the start of a row none are.
 fn held_after(held: u128, row_index: u128, waits: bool) -> u128
     requires { held + 1 < 2 ^ 128 }
     ensures held { result ≡ (if (row_index == 0) || not waits then 0 else held + 1) }

@@ -2,7 +2,7 @@
 //!
 //! `specs/` has the definitions, from bytes to statements: classes of bytes, escapes, what bytes begin with, the tokens of
 //! a text, their cut into statements, numbers, and the shapes of statements. The types that the definitions and their
-//! readers share stand here. What statements mean together is the matter of `cdl_parse`.
+//! readers share stand here. What statements mean together is defined in `cdl_meaning` and read by `cdl_parse`.
 #![tactic(auto)]
 
 mod bytes;

@@ -18,14 +18,11 @@ use std::alloc::AllocError;
 pub fn number_or_zero(version: Version, bytes: &[u8]) -> Numeral
     ensures { result ≡ held (parts_or_zero (parts version bytes.now)) }
 {
-    match number_of_token(version, bytes) {
-        Some(n) => n,
-        None => Numeral {
-            minus: false,
-            magnitude: Some(0),
-            ty: NcType::Int,
-        },
-    }
+    number_of_token(version, bytes).unwrap_or(Numeral {
+        minus: false,
+        magnitude: Some(0),
+        ty: NcType::Int,
+    })
 }
 
 /// Adds the bytes of a number, the highest first, where it is in the range of the type.
@@ -34,13 +31,10 @@ pub fn put_numeral(array: &mut Array, ty: NcType, n: Numeral) -> Result<(), Read
     ensures { Adds array.old array.new result (held_bytes ty n.minus n.magnitude) }
 {
     match n.magnitude {
-        Some(magnitude) => {
-            if magnitude > greatest(ty, n.minus) {
-                return Err(ReadError::Fault(CdlKind::NumberRange));
-            }
+        Some(magnitude) if magnitude <= greatest(ty, n.minus) => {
             Ok(put_number(array, ty, signed(n.minus, magnitude))?)
         }
-        None => Err(ReadError::Fault(CdlKind::NumberRange)),
+        _ => Err(ReadError::Fault(CdlKind::NumberRange)),
     }
 }
 

@@ -124,18 +124,14 @@ fn put_good_number(
     ensures counts { OnOk result ((added : List ℕ) → capacity_after filling added capacity ≡ less 1 capacity) }
     ensures adds { OnOk result (joined (Ok array.old) (bytes_of filling capacity (value_of version (lexeme_with TokenKind.Number bytes.now) TokenKind.Number)) ≡ Ok array.new) }
 {
-    match filling {
-        Filling::Numbers(fill) => {
-            if is_full(capacity) {
-                return Err(Stop::SomeFault);
-            }
-            match number_of_token(version, bytes) {
-                Some(n) => Ok(put_numeral(array, fill.ty, n)?),
-                None => Err(Stop::SomeFault),
-            }
-        }
-        _ => Err(Stop::SomeFault),
+    let Filling::Numbers(fill) = filling else {
+        return Err(Stop::SomeFault);
+    };
+    if is_full(capacity) {
+        return Err(Stop::SomeFault);
     }
+    let n = number_of_token(version, bytes).ok_or(Stop::SomeFault)?;
+    Ok(put_numeral(array, fill.ty, n)?)
 }
 
 /// Adds the bytes of a value.
@@ -176,17 +172,8 @@ fn put_value(
 {
     match token.kind {
         TokenKind::Text => Err(ReadError::Fault(CdlKind::WrongKind)),
-        TokenKind::Number => {
-            if full {
-                return Err(ReadError::Fault(CdlKind::TooManyValues));
-            }
-            put_numeral(array, fill.ty, number_or_zero(version, token.bytes))
-        }
-        _ => {
-            if full {
-                return Err(ReadError::Fault(CdlKind::TooManyValues));
-            }
-            Ok(put_number(array, fill.ty, fill.value)?)
-        }
+        _ if full => Err(ReadError::Fault(CdlKind::TooManyValues)),
+        TokenKind::Number => put_numeral(array, fill.ty, number_or_zero(version, token.bytes)),
+        _ => Ok(put_number(array, fill.ty, fill.value)?),
     }
 }

@@ -35,10 +35,8 @@ impl<'a> Opener for Listed<'a> {
     ghost named = { λ listed path. bytes_named listed.files.now path };
 
     fn open(&self, path: &str) -> Result<MemSource<'a>, OpenFailed> {
-        match file_at(self.files, path) {
-            Some(file) => Ok(MemSource::new(file.bytes)),
-            None => Err(OpenFailed),
-        }
+        let file = file_at(self.files, path).ok_or(OpenFailed)?;
+        Ok(MemSource::new(file.bytes))
     }
 }
 

@@ -9,7 +9,7 @@ use std::io;
 use std::io::{BufWriter, ErrorKind, Write};
 use std::rt::Files;
 
-/// How many bytes are held back before a file.
+/// The capacity of the buffer before a file, in bytes.
 const HELD_BACK: usize = 65536;
 
 /// Outputs in the files of the system, which are opaque. Each is written through one buffer.

@@ -56,10 +56,8 @@ impl<'a> Texts for ListedTexts<'a> {
     ghost named = { λ texts path. bytes_named texts.files.now path };
 
     fn open(&self, path: &str) -> Result<&'a [u8], OpenFailed> {
-        match file_at(self.files, path) {
-            Some(file) => Ok(file.bytes),
-            None => Err(OpenFailed),
-        }
+        let file = file_at(self.files, path).ok_or(OpenFailed)?;
+        Ok(file.bytes)
     }
 }
 

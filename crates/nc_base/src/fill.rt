@@ -45,18 +45,21 @@ fn has_own_fill(var: &Var) -> bool
     }
 }
 
+/// The first attribute named `_FillValue`.
 fn fill_att(atts: &[Att]) -> Option<&Att>
     ensures { option_map (λ att. att.now) result ≡ find is_fill_att atts.now }
 {
     atts.iter().find(|att| is_fill_att(att))
 }
 
+/// Says whether the attribute is named `_FillValue`.
 fn is_fill_att(att: &Att) -> bool
     ensures { result ≡ is_fill_att att.now }
 {
     att.name.as_slice() == b"_FillValue".as_slice()
 }
 
+/// Says whether the attribute has exactly one value, and of this type.
 fn is_one_of_type(ty: NcType, att: &Att) -> bool
     ensures { result ≡ is_one_of_type ty att.now }
 {

@@ -25,6 +25,7 @@ pub fn number_of(ty: NcType, bytes: &[u8]) -> i128
     }
 }
 
+/// Two bytes as an array.
 fn two_bytes(bytes: &[u8]) -> [u8; 2]
     requires { length bytes.now ≡ 2 }
     ensures { result ≡ bytes.now }
@@ -32,6 +33,7 @@ fn two_bytes(bytes: &[u8]) -> [u8; 2]
     [bytes[0], bytes[1]]
 }
 
+/// Four bytes as an array.
 fn four_bytes(bytes: &[u8]) -> [u8; 4]
     requires { length bytes.now ≡ 4 }
     ensures { result ≡ bytes.now }
@@ -39,6 +41,7 @@ fn four_bytes(bytes: &[u8]) -> [u8; 4]
     [bytes[0], bytes[1], bytes[2], bytes[3]]
 }
 
+/// Eight bytes as an array.
 fn eight_bytes(bytes: &[u8]) -> [u8; 8]
     requires { length bytes.now ≡ 8 }
     ensures { result ≡ bytes.now }

@@ -11,6 +11,7 @@ pub fn stem(path: &str) -> &str
     without_extension(file_name(path))
 }
 
+/// The part of a path after its last `/`.
 fn file_name(path: &str) -> &str
     ensures { result.now ≡ file_name_of path.now }
 {
@@ -20,6 +21,7 @@ fn file_name(path: &str) -> &str
     }
 }
 
+/// A name up to its last `.`, if that isn't its first byte.
 fn without_extension(name: &str) -> &str
     ensures { result.now ≡ without_extension name.now }
 {

@@ -16,7 +16,7 @@ pub enum Version {
 }
 
 impl Version {
-    ghost use Rattle.nc_base.specs.Versions.{version_of_byte, count_limit, offset_limit, streaming_mark, has_type};
+    ghost use Rattle.nc_base.specs.Versions.{version_byte, version_of_byte, count_limit, offset_limit, streaming_mark, has_type};
 
     /// The version with this byte; none for any byte but 1, 2 and 5.
     pub fn of_byte(b: u8) -> Option<Version>
@@ -27,6 +27,17 @@ impl Version {
             2 => Some(Version::Cdf2),
             5 => Some(Version::Cdf5),
             _ => None,
+        }
+    }
+
+    /// The byte after `CDF`.
+    pub fn byte(self) -> u8
+        ensures { result ≡ version_byte self }
+    {
+        match self {
+            Version::Cdf1 => 1,
+            Version::Cdf2 => 2,
+            Version::Cdf5 => 5,
         }
     }
 

@@ -1,10 +1,11 @@
 //! Why a header could not be read.
 
 ghost use Rattle.std.specs.Prelude.{◌≡◌};
-ghost use Rattle.nc_file.specs.declared.head_fault.HeadFault.TheVariants.{OutOfMemory};
+ghost use Rattle.nc_file.specs.declared.head_fault.HeadFault.TheVariants.{OutOfMemory, ReadFailed, Format};
 
+use devices::SourceFailed;
 use nc_base::FormatFault;
-use std::alloc::{AllocError, AllocFailed};
+use std::alloc::AllocError;
 
 /// Why a header could not be read: for want of memory, because the source failed, or for what is wrong with its bytes.
 #[derive(Clone, Copy, Debug, PartialEq, Eq)]
@@ -17,18 +18,26 @@ pub enum HeadFault {
     Format(FormatFault),
 }
 
+impl From<SourceFailed> for HeadFault {
+    ghost from_gives = { λ _ e. e ≡ ReadFailed };
+
+    fn from(_e: SourceFailed) -> HeadFault {
+        HeadFault::ReadFailed
+    }
+}
+
+impl From<FormatFault> for HeadFault {
+    ghost from_gives = { λ fault e. e ≡ Format fault };
+
+    fn from(fault: FormatFault) -> HeadFault {
+        HeadFault::Format(fault)
+    }
+}
+
 impl From<AllocError> for HeadFault {
     ghost from_gives = { λ _ e. e ≡ OutOfMemory };
 
     fn from(_e: AllocError) -> HeadFault {
-        HeadFault::OutOfMemory
-    }
-}
-
-impl<T: Drop> From<AllocFailed<T>> for HeadFault {
-    ghost from_gives = { λ _ e. e ≡ OutOfMemory };
-
-    fn from(_e: AllocFailed<T>) -> HeadFault {
         HeadFault::OutOfMemory
     }
 }

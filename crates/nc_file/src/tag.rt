@@ -9,7 +9,8 @@ pub(crate) const NC_VARIABLE: u32 = 11;
 /// The tag of a list of attributes.
 pub(crate) const NC_ATTRIBUTE: u32 = 12;
 
-/// The codes of the floating types.
+/// The code of the type float.
 pub(crate) const NC_FLOAT: u32 = 5;
 
+/// The code of the type double.
 pub(crate) const NC_DOUBLE: u32 = 6;

@@ -46,10 +46,7 @@ impl<S: Source> Window<'_, S> {
         self.base = at;
         self.filled = 0;
         self.pos = 0;
-        let n = match self.source.read_at(at, &mut self.buf[..wanted]) {
-            Ok(n) => n,
-            Err(_) => return Err(HeadFault::ReadFailed),
-        };
+        let n = self.source.read_at(at, &mut self.buf[..wanted])?;
         self.filled = n;
         Ok(0 < n)
     }
@@ -80,6 +77,7 @@ impl<S: Source> Window<'_, S> {
         Ok(b)
     }
 
+    /// A big-endian number of four bytes.
     #[tactic(auto, using(crate::proofs::Parts::parts), unfolding(crate::specs::Reading::u32_at))]
     pub(crate) fn read_u32(&mut self) -> Result<u32, HeadFault>
         requires { Opened S.is_transparent S.view self.old }
@@ -92,6 +90,7 @@ impl<S: Source> Window<'_, S> {
         Ok(u32_of([a, b, c, d]))
     }
 
+    /// A big-endian number of eight bytes.
     #[tactic(auto, using(crate::proofs::Parts::parts), unfolding(crate::specs::Reading::u64_at))]
     pub(crate) fn read_u64(&mut self) -> Result<u64, HeadFault>
         requires { Opened S.is_transparent S.view self.old }
@@ -119,6 +118,7 @@ impl<S: Source> Window<'_, S> {
         }
     }
 
+    /// A number of four bytes, as wide as the others.
     pub(crate) fn narrow_number(&mut self) -> Result<u64, HeadFault>
         requires { Opened S.is_transparent S.view self.old }
         ensures { ReadPart S.is_transparent S.view self.old self.new u32_at result }
@@ -211,12 +211,14 @@ impl<S: Source> Window<'_, S> {
     }
 }
 
+/// The number that these big-endian bytes write.
 fn u32_of(bytes: [u8; 4]) -> u32
     ensures { result ≡ from_be_bytes w32 bytes }
 {
     BigEndian::read_u32(&bytes)
 }
 
+/// The number that these big-endian bytes write.
 fn u64_of(bytes: [u8; 8]) -> u64
     ensures { result ≡ from_be_bytes w64 bytes }
 {

@@ -46,6 +46,12 @@ pub repeated-by : (unit : List ℕ) (n k : ℕ) → 0 < length unit → n ≤ k 
 unfolding repeated
 repeated-by unit n k some within = same-copies unit n k n within (let up : n * 1 ≤ n * length unit = mul-le-mul_left n some in omega (arith, up))
 
+-- out of k copies that are enough
+pub few-copies : (unit buffer : List ℕ) (k n : ℕ) → 0 < length unit → n ≤ k * length unit → buffer ≡ flat_map (λ (x : List ℕ). x) (replicate k unit)
+    → repeated unit n ≡ take n buffer
+few-copies unit buffer k n some within copies =
+    sym (repeated-by unit n k some within) ∙ ap (take n) (sym (copies ∙ flat-copies (replicate k unit)))
+
 -- one piece of it, out of k copies, and the rest
 pub next-piece : (unit buffer : List ℕ) (k n piece : ℕ) → 0 < length unit → buffer ≡ flat_map (λ (x : List ℕ). x) (replicate k unit) → piece ≡ min n (length buffer)
     → repeated unit n ≡ take piece buffer ++ repeated unit (n - piece)

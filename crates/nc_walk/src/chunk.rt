@@ -10,7 +10,7 @@ use crate::reading::read_values;
 use crate::slabs::Slabs;
 use devices::Source;
 
-/// Values that stand before a slice.
+/// Values that were read into the start of a slice.
 #[derive(Clone, Copy)]
 pub(crate) struct Chunk {
     /// How many values.

@@ -40,10 +40,7 @@ pub(crate) fn read_values<S: Source>(
     }
     let at = slabs.offset(cursor) as u64;
     let wanted = (ready * slabs.size) as usize;
-    let got = match fill(source, at, &mut into[..wanted]) {
-        Ok(n) => n,
-        Err(_) => return Err(WalkFault::ReadFailed),
-    };
+    let got = fill(source, at, &mut into[..wanted])?;
     if got == wanted {
         return Ok(ready);
     }

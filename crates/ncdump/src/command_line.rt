@@ -81,9 +81,10 @@ pub fn options_of(alloc: Global, matches: &ArgMatches) -> Result<DumpOptions, Op
 /// The width of a line without `-l`, in bytes.
 const DEFAULT_WIDTH: usize = 80;
 
-/// The least and the greatest width that `-l` takes, in bytes.
+/// The least width that `-l` takes, in bytes.
 const MIN_WIDTH: usize = 20;
 
+/// The greatest width that `-l` takes, in bytes.
 const MAX_WIDTH: usize = 1000;
 
 /// The width that `-l` asks for, or else the default.

@@ -191,6 +191,7 @@ fn program_words() -> &'static [u8]
     b"ncdump: "
 }
 
+/// The words between the numbers of a variable and of its first missing value.
 #[tactic(auto, unfolding(crate::specs::Faults::truncated_words))]
 fn truncated_words() -> &'static [u8]
     ensures { result.now ≡ truncated_words }

@@ -10,8 +10,8 @@ use devices::{CountedRead, Texts};
 use std::alloc::Global;
 use std::io::Read;
 
-/// How many bytes a text may have.
-const TEXT_LIMIT: usize = 268435456;
+/// How many bytes a text may have: 256 MiB.
+const TEXT_LIMIT: usize = 1 << 28;
 
 /// Reads the text at the path, or without one that of standard input.
 pub fn read_input<T: Texts, R: Read>(

@@ -25,6 +25,7 @@ impl<S: Source> Window<'_, S> {
         Ok(Att { name, ty, vals })
     }
 
+    /// This number of attributes.
     #[tactic(auto, using(crate::proofs::Loops::atts))]
     fn atts(&mut self, alloc: Global, version: Version, n: u64) -> Result<Sequence<Att>, HeadFault>
         requires { Opened S.is_transparent S.view self.old }
@@ -38,6 +39,7 @@ impl<S: Source> Window<'_, S> {
         Ok(atts)
     }
 
+    /// A list of attributes: its tag, their number and the attributes.
     #[tactic(auto, using(crate::proofs::Parts::parts), unfolding(crate::specs::Reading::att_list_at))]
     pub(crate) fn att_list(
         &mut self,

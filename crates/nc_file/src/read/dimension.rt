@@ -31,6 +31,7 @@ impl<S: Source> Window<'_, S> {
         Ok(Dim { name, len })
     }
 
+    /// This number of dimensions.
     #[tactic(auto, using(crate::proofs::Loops::dims))]
     fn dims(&mut self, alloc: Global, version: Version, n: u64) -> Result<Sequence<Dim>, HeadFault>
         requires { Opened S.is_transparent S.view self.old }
@@ -46,6 +47,7 @@ impl<S: Source> Window<'_, S> {
         Ok(dims)
     }
 
+    /// The list of dimensions: its tag, their number and the dimensions.
     #[tactic(auto, using(crate::proofs::Parts::parts), unfolding(crate::specs::Reading::dim_list_at))]
     pub(crate) fn dim_list(
         &mut self,

@@ -22,16 +22,14 @@ impl<S: Source> Window<'_, S> {
         }
     }
 
+    /// The version byte.
     #[tactic(auto, using(crate::proofs::Parts::parts), unfolding(crate::specs::Reading::version_at))]
     fn version(&mut self) -> Result<Version, HeadFault>
         requires { Opened S.is_transparent S.view self.old }
         ensures { ReadPart S.is_transparent S.view self.old self.new version_at result }
     {
         let b = self.byte()?;
-        match Version::of_byte(b) {
-            Some(version) => Ok(version),
-            None => Err(HeadFault::Format(FormatFault::UnknownVersion(b))),
-        }
+        Ok(Version::of_byte(b).ok_or(FormatFault::UnknownVersion(b))?)
     }
 
     /// `CDF` and the version byte.

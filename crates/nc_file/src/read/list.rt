@@ -41,10 +41,7 @@ impl<S: Source> Window<'_, S> {
         if code == NC_FLOAT || code == NC_DOUBLE {
             return Err(HeadFault::Format(FormatFault::FloatingType));
         }
-        match type_of(version, code) {
-            Some(ty) => Ok(ty),
-            None => Err(HeadFault::Format(FormatFault::BadType)),
-        }
+        Ok(type_of(version, code).ok_or(FormatFault::BadType)?)
     }
 
     /// The number of elements of a list, after its tag.

@@ -31,6 +31,7 @@ impl<S: Source> Window<'_, S> {
         Ok(id)
     }
 
+    /// This number of dimension ids.
     #[tactic(auto, using(crate::proofs::Loops::dimids))]
     fn dimids(
         &mut self,
@@ -106,10 +107,8 @@ impl<S: Source> Window<'_, S> {
         let dimids = self.shape(alloc, version, dims)?;
         let atts = self.att_list(alloc, version)?;
         let ty = self.nc_type(version)?;
-        let total = match total_with(dims, dimids.as_slice(), ty, total) {
-            Some(total) => total,
-            None => return Err(HeadFault::Format(FormatFault::TooLarge)),
-        };
+        let total =
+            total_with(dims, dimids.as_slice(), ty, total).ok_or(FormatFault::TooLarge)?;
         self.number(version)?;
         let begin_at = self.offset(version)?;
         Ok(SizedVar {
@@ -124,6 +123,7 @@ impl<S: Source> Window<'_, S> {
         })
     }
 
+    /// This number of variables.
     #[tactic(auto, using(crate::proofs::Loops::vars))]
     fn vars(
         &mut self,
@@ -145,6 +145,7 @@ impl<S: Source> Window<'_, S> {
         Ok(vars)
     }
 
+    /// The list of variables: its tag, their number and the variables.
     #[tactic(auto, using(crate::proofs::Parts::parts), unfolding(crate::specs::Reading::var_list_at))]
     pub(crate) fn var_list(
         &mut self,

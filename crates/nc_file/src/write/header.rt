@@ -3,7 +3,7 @@
 ghost use Rattle.std.specs.Prelude.{◌≡◌, ◌<◌, All};
 ghost use Rattle.nc_base.specs.GeneratedFile.{header_spelling, magic_spelling, numrecs_spelling};
 ghost use Rattle.nc_base.specs.Headers.{IsSound, IsSoundNumRecs};
-ghost use Rattle.nc_base.specs.Versions.{offset_limit, version_byte};
+ghost use Rattle.nc_base.specs.Versions.{offset_limit};
 ghost use Rattle.devices.specs.Sinks.{Wrote};
 
 use super::attribute::put_att_list;
@@ -45,18 +45,7 @@ pub fn write_header<W: Sink>(sink: &mut W, header: &Header) -> Result<(), WriteF
 fn put_magic<W: Sink>(sink: &mut W, version: Version) -> Result<(), WriteFailed>
     ensures { Wrote (W.view sink.old) (W.view sink.new) (magic_spelling version) result }
 {
-    put(sink, &[b'C', b'D', b'F', version_byte(version)])
-}
-
-/// The byte after `CDF`.
-fn version_byte(version: Version) -> u8
-    ensures { result ≡ version_byte version }
-{
-    match version {
-        Version::Cdf1 => 1,
-        Version::Cdf2 => 2,
-        Version::Cdf5 => 5,
-    }
+    put(sink, &[b'C', b'D', b'F', version.byte()])
 }
 
 /// Writes the number of records, or the mark for an unknown one.

@@ -1,6 +1,6 @@
 //! Fill values, as many as it takes, out of a small buffer.
 
-ghost use Rattle.std.specs.Prelude.{◌≡◌, ◌++◌};
+ghost use Rattle.std.specs.Prelude.{◌≡◌, ◌≤◌, ◌++◌};
 ghost use Rattle.devices.specs.Sinks.{Wrote};
 ghost use Rattle.nc_base.specs.GeneratedFile.{fill_bytes};
 ghost use Rattle.nc_walk.specs.Filled.{repeated};
@@ -8,8 +8,11 @@ ghost use Rattle.nc_walk.specs.Filled.{repeated};
 use devices::{Sink, WriteFailed, put};
 use nc_base::{NcType, Var, fill_of};
 
-/// How often the unit stands in the buffer of many fill values.
-const UNITS: usize = 1024;
+/// How many units the buffer of few fill values holds: 256 bytes, which a slab of a record fills in a moment.
+const FEW_UNITS: usize = 32;
+
+/// How many units the buffer of many fill values holds: 8 KiB.
+const MANY_UNITS: usize = 1024;
 
 /// Writes the first `n` bytes of the unit, repeated.
 pub(super) fn put_fills<W: Sink>(sink: &mut W, unit: [u8; 8], n: u128) -> Result<(), WriteFailed>
@@ -18,14 +21,27 @@ pub(super) fn put_fills<W: Sink>(sink: &mut W, unit: [u8; 8], n: u128) -> Result
     if n <= 8 {
         return put(sink, &unit[..n as usize]);
     }
+    if n <= 256 {
+        return put_few_fills(sink, unit, n);
+    }
     put_many_fills(sink, unit, n)
 }
 
-/// The same in pieces, each but the last as long as a buffer of 8192 bytes: so many fill values take a few calls.
+/// The same at once, of at most 256 bytes: records that lack short slabs ask for no more, each time anew.
+fn put_few_fills<W: Sink>(sink: &mut W, unit: [u8; 8], n: u128) -> Result<(), WriteFailed>
+    requires { n ≤ 256 }
+    ensures { Wrote (W.view sink.old) (W.view sink.new) (repeated unit n) result }
+{
+    let units = [unit; FEW_UNITS];
+    let buffer = units.as_flattened();
+    put(sink, &buffer[..n as usize])
+}
+
+/// The same in pieces, each but the last as long as a buffer of 8192 bytes, so that many fill values take few calls.
 fn put_many_fills<W: Sink>(sink: &mut W, unit: [u8; 8], n: u128) -> Result<(), WriteFailed>
     ensures { Wrote (W.view sink.old) (W.view sink.new) (repeated unit n) result }
 {
-    let units = [unit; UNITS];
+    let units = [unit; MANY_UNITS];
     let buffer = units.as_flattened();
     let mut left = n;
     while left > 0 {
