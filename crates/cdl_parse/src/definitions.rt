@@ -119,10 +119,7 @@ impl Definitions {
         ensures gatts { self.new.gatts ≡ self.old.gatts }
         ensures variables { self.new.variables ≡ self.old.variables }
     {
-        self.section = match word.section() {
-            Some(section) => section,
-            None => Section::Ended,
-        };
+        self.section = word.section().unwrap_or(Section::Ended);
     }
 
     /// Does what a statement says in the section of the dimensions: the mark of a later section, or dimensions.

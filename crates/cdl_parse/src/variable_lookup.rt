@@ -23,6 +23,8 @@ pub fn variable_position(alloc: Global, index: &NameIndex, word: &[u8]) -> Resul
     ensures within { (drafts : List Draft) → IsIndex index.now (names_of drafts) → IfOk result (λ position. position < length drafts) }
 {
     let name = read_name(alloc, word)?;
-    let position = index.find(name.as_slice());
-    Ok(position.ok_or(CdlKind::UnknownVariable)?)
+    match index.find(name.as_slice()) {
+        Some(position) => Ok(position),
+        None => Err(ReadError::Fault(CdlKind::UnknownVariable)),
+    }
 }

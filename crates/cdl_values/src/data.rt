@@ -177,9 +177,7 @@ fn target_of(
     ensures position { (names : List (List ℕ)) → IsIndex index.now names → IfOk result (λ place. position_of names (word_value word.now) ≡ Some place.position) }
 {
     let name = read_name(alloc, word)?;
-    let position = index
-        .find(name.as_slice())
-        .ok_or(CdlKind::UnknownVariable)?;
+    let position = index.find(name.as_slice()).ok_or(CdlKind::UnknownVariable)?;
     let target = if_new(targets.get(position as usize))?;
     Ok(Place { position, target })
 }

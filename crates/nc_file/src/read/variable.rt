@@ -107,8 +107,7 @@ impl<S: Source> Window<'_, S> {
         let dimids = self.shape(alloc, version, dims)?;
         let atts = self.att_list(alloc, version)?;
         let ty = self.nc_type(version)?;
-        let total =
-            total_with(dims, dimids.as_slice(), ty, total).ok_or(FormatFault::TooLarge)?;
+        let total = total_with(dims, dimids.as_slice(), ty, total).ok_or(FormatFault::TooLarge)?;
         self.number(version)?;
         let begin_at = self.offset(version)?;
         Ok(SizedVar {
