@@ -8,7 +8,7 @@ ghost use Rattle.nc_walk.specs.Filled.{repeated};
 use devices::{Sink, WriteFailed, put};
 use nc_base::{NcType, Var, fill_of};
 
-/// How many units the buffer of few fill values holds: 256 bytes, which a slab of a record fills in a moment.
+/// How many units the buffer of few fill values holds: 256 bytes, since it is made anew for each slab that lacks values.
 const FEW_UNITS: usize = 32;
 
 /// How many units the buffer of many fill values holds: 8 KiB.
@@ -27,7 +27,7 @@ pub(super) fn put_fills<W: Sink>(sink: &mut W, unit: [u8; 8], n: u128) -> Result
     put_many_fills(sink, unit, n)
 }
 
-/// The same at once, of at most 256 bytes: records that lack short slabs ask for no more, each time anew.
+/// The same at once, of at most 256 bytes: where slabs are short, no record lacks more of one.
 fn put_few_fills<W: Sink>(sink: &mut W, unit: [u8; 8], n: u128) -> Result<(), WriteFailed>
     requires { n ≤ 256 }
     ensures { Wrote (W.view sink.old) (W.view sink.new) (repeated unit n) result }
