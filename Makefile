@@ -22,7 +22,7 @@ bin/ncgen: FORCE
 
 # The merge gate: every proof from nothing, the tests and the programs' stored runs; then wrong bodies, which the contracts have to
 # refuse, and wrong definitions, which the laws have to refuse; the tests and the programs that the gate has built with each growth
-# of memory refused in turn, and the programs from end to end, and on random datasets.
+# of memory refused in turn, and the programs from end to end, on random datasets, and on mangled files and texts.
 test:
 	rt ci
 	$(call keep,ncdump)

@@ -79,6 +79,13 @@ def data(n, backwards=False):
     return text("", "".join(f"\tint v{i} ;\n" for i in range(n)), "".join(statements))
 
 
+def records_beside(n):
+    """As many records of 300 record variables as there are other variables."""
+    records = "".join(f"\tint r{i}(t) ;\n" for i in range(300))
+    others = "".join(f"\tbyte v{i} ;\n" for i in range(n))
+    return text("\tt = UNLIMITED ;\n", records + others, f" r0 = {', '.join(['1'] * n)} ;\n")
+
+
 TEXTS = {
     "ints": ints,
     "ones": lambda: listed(["1"] * 10_000_000, ","),
@@ -98,6 +105,7 @@ GROWING = {
     "one_list_of_variables": lambda n: text("\tn = 2 ;\n", "\tint " + ", ".join(f"v{i}(n)" for i in range(n)) + " ;\n"),
     "shapes": lambda n: text("".join(f"\td{i} = 1 ;\n" for i in range(n)), "".join(f"\tint v{i}(d{i}) ;\n" for i in range(n))),
     "attributes": lambda n: text("", "\tint v ;\n" + "".join(f"\t\tv:a{i} = {i} ;\n" for i in range(n))),
+    "records_beside_variables": records_beside,
     "strings": lambda n: text("", "\tint v ;\n\t\tv:a = " + ", ".join(f'"s{i}"' for i in range(n)) + " ;\n"),
 }
 LENGTHS = (10_000, 40_000)

@@ -9,7 +9,7 @@ use crate::files;
 use crate::reading::header_through;
 use nc_base::{Header, Sequence, value_count};
 use nc_file::{MemSource, SliceSink};
-use nc_walk::write_data;
+use nc_walk::{record_slabs, write_data};
 use std::alloc::{AllocError, Global};
 use std::process::Abort;
 use std::test::Fail;
@@ -60,13 +60,15 @@ fn arrays_of(alloc: Global, listed: &[&[u8]]) -> Result<Vec<Sequence<u8>>, Alloc
 /// Writes the data part of these arrays under the header, and says whether all of it was written.
 fn is_written(
     rt: &impl Abort,
+    alloc: Global,
     header: &Header,
     arrays: &[Sequence<u8>],
     sink: &mut SliceSink<'_>,
-) -> bool {
+) -> Result<bool, AllocError> {
     assert!(rt; header.sound());
     assert!(rt; are_listed(header, arrays));
-    write_data(sink, header, arrays).is_ok()
+    let slabs = record_slabs(alloc, header)?;
+    Ok(write_data(sink, header, slabs.as_slice(), arrays).is_ok())
 }
 
 /// The same to a sink that takes up to `capacity` bytes, `step` at a time, and asserts that it has taken what fits of these
@@ -82,7 +84,7 @@ fn fills_sink(
     assert!(rt; 1 <= step && capacity <= data.len());
     let mut into = Vec::from_elem(alloc, 0, capacity)?;
     let mut sink = SliceSink::new(into.as_mut_slice(), step);
-    let is_whole = is_written(rt, header, arrays, &mut sink);
+    let is_whole = is_written(rt, alloc, header, arrays, &mut sink)?;
     assert!(rt; sink.taken() == &data[..capacity]);
     assert!(rt; is_whole == (capacity == data.len()));
     Ok(())

@@ -8,7 +8,7 @@ ghost use Rattle.nc_base.specs.Numbers.{bytes_of_number};
 ghost use Rattle.nc_base.specs.OwedValues.{fills, owed_count, whole_array, whole_arrays};
 
 use cdl_values::{Array, put_number};
-use nc_base::{Dataset, Dim, Header, Sequence, Var, fill_of, has_records, slab_of};
+use nc_base::{Dataset, Dim, Header, Sequence, Var, fill_of, is_record_var, slab_of};
 use std::alloc::{AllocError, Global};
 
 /// What a text declares: the header, and of each variable the values that the data section lists. What a variable lacks is
@@ -109,7 +109,7 @@ fn value_count(dims: &[Dim], var: &Var, records: u64) -> Option<u128>
 {
     let slab = slab_of(dims, var.dimids.as_slice(), var.ty)?;
     let count = (slab / var.ty.size()) as u128;
-    if has_records(dims, var.dimids.as_slice()) {
+    if is_record_var(dims, var) {
         Some(count * records as u128)
     } else {
         Some(count)

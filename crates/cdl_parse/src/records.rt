@@ -8,7 +8,7 @@ ghost use Rattle.cdl_values.specs.Listed.{AllList, AreShaped};
 ghost use Rattle.cdl_parse.specs.Extents.{records_for, records_kept, with_all};
 
 use cdl_values::Array;
-use nc_base::{Dim, Var, has_records, slab_of};
+use nc_base::{Dim, Var, is_record_var, slab_of};
 
 /// The greatest array, in bytes.
 const ARRAY_LIMIT: u128 = 1 << 48;
@@ -38,7 +38,7 @@ impl Extent {
         ensures { 0 < slab_count dims.now var.now → result ≡ with_listed dims.now self var.now listed.now }
     {
         let slab = slab_of(dims, var.dimids.as_slice(), var.ty)?;
-        if !has_records(dims, var.dimids.as_slice()) {
+        if !is_record_var(dims, var) {
             return Some(self);
         }
         let size = var.ty.size();

@@ -9,7 +9,9 @@ ghost use Rattle.cdl_print.specs.Leads.{look_at, next_char_lead, next_gap, row_g
 use crate::gap::Gap;
 use crate::progress::Progress;
 use itoa::Buffer;
-use nc_base::{Dim, Header, NcType, Var, dim_len, fill_of, has_records, prints_fill, value_count};
+use nc_base::{
+    Dim, Header, NcType, Var, dim_len, fill_of, is_record_var, prints_fill, value_count,
+};
 
 /// All that the text of a variable's values depends on, but for the values.
 #[derive(Clone, Copy)]
@@ -78,8 +80,7 @@ fn row_len(dims: &[Dim], dimids: &[u64], total: u128) -> u128
 fn is_trimmed(dims: &[Dim], var: &Var) -> bool
     ensures { result ≡ is_trimmed dims.now var.now }
 {
-    let dimids = var.dimids.as_slice();
-    fill_of(var) == 0 && !(has_records(dims, dimids) && dimids.len() == 1)
+    fill_of(var) == 0 && !(is_record_var(dims, var) && var.dimids.len() == 1)
 }
 
 impl Layout<'_> {

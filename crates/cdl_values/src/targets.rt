@@ -12,7 +12,7 @@ ghost use Rattle.cdl_values.specs.Meant.{Suit, Suits};
 use crate::data::Target;
 use crate::fill::Fill;
 use crate::filling::Filling;
-use nc_base::{Dim, NcType, Var, dim_len, fill_of, has_records};
+use nc_base::{Dim, NcType, Var, dim_len, fill_of, is_record_var};
 use std::alloc::{AllocError, Global};
 
 /// What each variable takes before a statement of the data section gives its values, in the order of the variables.
@@ -76,7 +76,7 @@ fn capacity(dims: &[Dim], var: &Var, filling: Filling) -> Option<u64>
     ensures { Fills filling (capacity_of dims.now var.now) → Takes filling result (capacity_of dims.now var.now) }
 {
     let dimids = var.dimids.as_slice();
-    if has_records(dims, dimids) {
+    if is_record_var(dims, var) {
         return None;
     }
     match filling {

@@ -5,9 +5,9 @@
 //! goes over any writer of the standard library. [`DripSource`] gives few bytes a read and fails on request, and [`SliceSink`]
 //! fills a slice, a few bytes a call. [`put`] writes all of the bytes that it is given, and [`put_decimal`] a number.
 //!
-//! An [`Opener`] opens paths as sources: [`SystemFiles`] those of the system, and [`Listed`] those of a list in memory. In the
-//! same way [`Texts`] opens them as readers, of which a [`CountedRead`] counts what they do, and a [`Creator`] creates outputs at
-//! paths: [`SystemOutputs`] in the files of the system, and [`MadeFiles`] in memory.
+//! An [`Opener`] opens paths as sources, and [`Texts`] opens them as readers, of which a [`CountedRead`] counts what they do.
+//! [`SystemFiles`] opens the files of the system in both ways, and [`Listed`] those of a list in memory. A [`Creator`] creates
+//! outputs at paths: [`SystemOutputs`] in the files of the system, and [`MadeFiles`] in memory.
 #![tactic(auto)]
 
 mod ahead;
@@ -44,4 +44,4 @@ pub use sink::{Sink, put};
 pub use slice::SliceSink;
 pub use source::Source;
 pub use system::SystemFiles;
-pub use texts::{ListedTexts, SystemTexts, Texts};
+pub use texts::Texts;

@@ -1,8 +1,8 @@
 //! The files of the system.
 
-ghost use Rattle.std.specs.Prelude.{None};
+ghost use Rattle.std.specs.Prelude.{None, false};
 
-use crate::{FileSource, OpenFailed, Opener};
+use crate::{FileSource, OpenFailed, Opener, Texts};
 use std::fs::File;
 use std::rt::Files;
 
@@ -26,5 +26,23 @@ impl<R: Files<File = File>> Opener for SystemFiles<'_, R> {
 
     fn open(&self, path: &str) -> Result<FileSource, OpenFailed> {
         FileSource::open(self.rt, path)
+    }
+}
+
+impl<R: Files<File = File>> Texts for SystemFiles<'_, R> {
+    type Text = File;
+
+    ghost is_transparent = { false };
+
+    ghost named = { λ _ _. None };
+
+    fn open_text(&self, path: &str) -> Result<File, OpenFailed> {
+        let file = File::open(self.rt, path).map_err(|_| OpenFailed)?;
+        let metadata = file.metadata().map_err(|_| OpenFailed)?;
+        // a folder is opened, and only fails to be read
+        if metadata.is_dir() {
+            return Err(OpenFailed);
+        }
+        Ok(file)
     }
 }

@@ -5,7 +5,7 @@ ghost use Rattle.std.specs.Prelude.{[], ◌≡◌, None, false};
 use crate::invocations::status_of;
 use crate::texts::TEXT;
 use devices::{
-    CloseFailed, CountedRead, CreateFailed, Creator, ListedFile, ListedTexts, Sink, SinkFailed,
+    CloseFailed, CountedRead, CreateFailed, Creator, Listed, ListedFile, Sink, SinkFailed,
     SliceSink,
 };
 use std::alloc::Global;
@@ -124,7 +124,7 @@ pub fn leaves(rt: &impl Abort, alloc: Global, mut disk: FullDisk, line: &[u8], b
     let mut space = [0; 64];
     let mut err = SliceSink::new(&mut space, 64);
     let words = ["ncgen", "-b", "t.cdl"];
-    let texts = ListedTexts::new(&files);
+    let texts = Listed::new(&files);
     let status = status_of(alloc, &texts, &mut disk, &words, &mut input, &mut err);
     assert!(rt; status == if line.is_empty() { 0 } else { 1 });
     assert!(rt; err.taken() == line);

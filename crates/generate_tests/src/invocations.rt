@@ -1,6 +1,6 @@
 //! What the tests of runs have in common: a run on texts and outputs in memory.
 
-use devices::{CountedRead, Creator, ListedFile, ListedTexts, MadeFiles, SliceSink, Texts};
+use devices::{CountedRead, Creator, Listed, ListedFile, MadeFiles, SliceSink, Texts};
 use ncgen::run_with;
 use std::alloc::Global;
 use std::io::Read;
@@ -41,7 +41,7 @@ pub fn ends(rt: &impl Abort, alloc: Global, run: Invocation<'_>, outcome: Outcom
     let mut input = CountedRead::new(run.input);
     let mut line = [0; 128];
     let mut err = SliceSink::new(&mut line, 5);
-    let texts = ListedTexts::new(run.texts);
+    let texts = Listed::new(run.texts);
     let status = status_of(alloc, &texts, &mut outputs, run.words, &mut input, &mut err);
     assert!(rt; status == outcome.status);
     assert!(rt; err.taken() == outcome.line);

@@ -65,7 +65,7 @@ impl<'a> Texts for FailingTexts<'a> {
 
     ghost named = { λ _ _. None };
 
-    fn open(&self, _path: &str) -> Result<FailingReader<'a>, OpenFailed> {
+    fn open_text(&self, _path: &str) -> Result<FailingReader<'a>, OpenFailed> {
         Ok(FailingReader::new(self.bytes, self.step, self.fail))
     }
 }

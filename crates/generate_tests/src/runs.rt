@@ -4,7 +4,7 @@ use crate::full_disks::{FullDisk, leaves};
 use crate::invocations::{Invocation, Outcome, ends, makes, refuses, status_of};
 use crate::readers::{FailingReader, FailingTexts};
 use crate::texts::{FIRST_FILE, REFUSED_TEXT, TEXT};
-use devices::{CountedRead, ListedFile, ListedTexts, MadeFiles, SliceSink, Texts};
+use devices::{CountedRead, Listed, ListedFile, MadeFiles, SliceSink, Texts};
 use std::alloc::Global;
 use std::io::Read;
 use std::process::Abort;
@@ -101,7 +101,7 @@ fn fails_to_read<T: Texts, R: Read + Drop>(
 #[test]
 fn standard_input_that_fails(rt: HostRuntime) {
     const LINE: &[u8] = b"ncgen: -: read failed\n";
-    let texts = ListedTexts::new(TEXTS);
+    let texts = Listed::new(TEXTS);
     let words = ["ncgen", "-o", "x"];
     let reader = FailingReader::new(TEXT, 7, 3);
     fails_to_read(&rt, rt.alloc(), &texts, &words, reader, LINE);
@@ -138,7 +138,7 @@ fn standard_error_that_is_full(rt: HostRuntime) {
     let mut input = CountedRead::new(REFUSED_TEXT);
     let mut line = [0; 10];
     let mut err = SliceSink::new(&mut line, 3);
-    let texts = ListedTexts::new(TEXTS);
+    let texts = Listed::new(TEXTS);
     let words = ["ncgen"];
     let status = status_of(
         rt.alloc(),

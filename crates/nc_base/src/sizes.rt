@@ -236,8 +236,8 @@ fn is_narrow(var: &Var) -> bool
     var.ty.size() < 4
 }
 
-/// Says whether the variable has values in each record.
-fn is_record_var(dims: &[Dim], var: &Var) -> bool
+/// Says whether the variable is a record variable: its first dimension is the record dimension.
+pub fn is_record_var(dims: &[Dim], var: &Var) -> bool
     ensures { result ≡ is_record_var dims.now var.now }
 {
     has_records(dims, var.dimids.as_slice())

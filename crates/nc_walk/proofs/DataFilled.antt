@@ -1,9 +1,9 @@
 -- What is written of all arrays is the data part of the file.
-use Rattle.std.proofs.Common.{◌≡◌, ℕ, zero, suc, ◌+◌, ◌*◌, ◌/◌, ◌<◌, ◌≤◌, Bool, true, false, List, [], ◌∷◌, ◌++◌, length, get_or, take, drop, replicate, refl, sym, ◌∙◌, ap, arith, length-append, length-take, length-drop, append-nil}
+use Rattle.std.proofs.Common.{◌≡◌, ℕ, zero, suc, ◌+◌, ◌*◌, ◌/◌, ◌<◌, ◌≤◌, Bool, true, false, List, [], ◌∷◌, ◌++◌, length, drop, replicate, refl, sym, ◌∙◌, ap, arith, length-take, length-drop, append-nil}
 use Rattle.std.specs.Prelude.{if◌then◌else◌, nat_lt}
 use Rattle.std.specs.List.{concat, flat_map, range_with_len}
 use Rattle.std.proofs.Math.Nat.{mul-le-mul_right}
-use Rattle.std.proofs.lemmas.List.{take_all, nil_from_length}
+use Rattle.std.proofs.lemmas.List.{nil_from_length}
 use Rattle.nc_base.specs.declared.header.Dim.{Dim}
 use Rattle.nc_base.specs.declared.header.Var.{Var}
 use Rattle.nc_base.specs.declared.header.Header.{Header}
@@ -19,7 +19,7 @@ use Rattle.nc_base.specs.Types.{size_of}
 use Rattle.nc_base.proofs.FilePlaces.{flat_map-below}
 use Rattle.nc_base.proofs.IsAt.{runs-all}
 use Rattle.nc_walk.specs.Filled.{ArrayView, array_view, filled_slab, filled_blocks, filled_record, filled_records, filled_slabs, record_arrays}
-use Rattle.nc_walk.proofs.DataParts.{arrays-split, records-append}
+use Rattle.nc_walk.proofs.DataParts.{records-append}
 use Rattle.nc_walk.proofs.FilledArrays.{block-filled, record-filled, slabs-filled, whole-length}
 
 -- one list of bytes for each variable
@@ -227,28 +227,6 @@ sole-filled dims n vars listed view are one =
     sym (unpadded dims var (slab_in dims var whole r) (is_narrow var) refl slab_long)
     ∙ ap (λ (b : Bool). if b then slab_in dims var whole r else padded_slab var (slab_in dims var whole r)) (sym narrow)
     ∙ sym (sole.record_is (is_sole_narrow (record_vars dims vars)) r))
-
--- ---- the record arrays that are gathered
-
-pub gathered-all : (dims : List Dim) (vars : List Var) (listed : List (List ℕ)) (end : ℕ) (gathered : List ArrayView) → length listed ≡ length vars
-    → gathered ≡ record_arrays dims (take end vars) (take end listed) → end ≡ length vars → gathered ≡ record_arrays dims vars listed
-gathered-all dims vars listed end gathered same is all =
-    is
-    ∙ ap (λ (xs : List Var). record_arrays dims xs (take end listed)) (take_all end vars (omega (arith, all)))
-    ∙ ap (record_arrays dims vars) (take_all end listed (omega (arith, all, same)))
-
-pub gathered-few : (dims : List Dim) (vars : List Var) (listed : List (List ℕ)) (end : ℕ) (gathered : List ArrayView)
-    → gathered ≡ record_arrays dims (take end vars) (take end listed) → length gathered ≤ length (record_arrays dims vars listed)
-gathered-few dims vars listed end gathered is =
-    let before = record_arrays dims (take end vars) (take end listed) in
-    let later = record_arrays dims (drop end vars) (drop end listed) in
-    omega (arith, ap (λ (xs : List ArrayView). length xs) is, ap (λ (xs : List ArrayView). length xs) (arrays-split dims vars listed end), length-append before later)
-
--- one array alone
-pub one-view : (views : List ArrayView) (view : ArrayView) → 1 ≤ length views → length views ≤ 1 → view ≡ get_or views 0 view → views ≡ view ∷ []
-one-view [] view some one is = absurd (omega arith)
-one-view (x ∷ []) view some one is = ap (λ (v : ArrayView). v ∷ []) (sym is)
-one-view (x ∷ y ∷ views) view some one is = absurd (omega arith)
 
 -- ---- both parts
 

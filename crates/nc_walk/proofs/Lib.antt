@@ -12,3 +12,4 @@ pub mod Repeats
 pub mod DataParts
 pub mod FilledArrays
 pub mod DataFilled
+pub mod SlabArrays

@@ -4,4 +4,4 @@ pub mod Walks
 pub mod Chunks
 pub mod Walked
 pub mod Filled
-pub mod RecordTables
+pub mod RecordSlabs

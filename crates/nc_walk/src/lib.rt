@@ -4,7 +4,7 @@
 //! caller's buffer. It reads no byte that isn't a byte of a value, and none twice for the same value, and it takes no memory.
 //!
 //! [`write_data`] writes the data part of a file straight from the arrays of its variables, whose last values may be lacking. It takes
-//! no memory either.
+//! no memory either: what it has to know of each record variable is collected before, by [`record_slabs`].
 #![tactic(auto)]
 
 mod chunk;
@@ -19,4 +19,4 @@ mod write;
 
 pub use fault::WalkFault;
 pub use walk::Walk;
-pub use write::write_data;
+pub use write::{RecordSlab, record_slabs, write_data};

@@ -6,7 +6,7 @@ ghost use Rattle.nc_base.specs.Sizes.{is_record_var, record_size, slab_count, sl
 ghost use Rattle.nc_walk.specs.Slabs.{number_at, offset, offsets_after, IsSized, AreSlabsOf, Ready};
 
 use crate::cursor::Cursor;
-use nc_base::{Dim, Header, RecordLayout, Var, has_records, slab_of};
+use nc_base::{Dim, Header, RecordLayout, Var, is_record_var, slab_of};
 
 /// The slabs of a variable: values side by side in each, and one slab after the other at the same distance.
 #[derive(Clone, Copy)]
@@ -99,11 +99,7 @@ impl Slabs {
 fn slab_number(dims: &[Dim], var: &Var, records: u64) -> u64
     ensures { result ≡ (if is_record_var dims.now var.now then records else 1) }
 {
-    if has_records(dims, var.dimids.as_slice()) {
-        records
-    } else {
-        1
-    }
+    if is_record_var(dims, var) { records } else { 1 }
 }
 
 /// The number of values in a slab that keeps the limit.

@@ -4,7 +4,8 @@ mod array;
 mod blocks;
 mod data;
 mod fills;
-mod gathering;
+mod record_slab;
 mod records;
 
 pub use data::write_data;
+pub use record_slab::{RecordSlab, record_slabs};

@@ -11,7 +11,7 @@ ghost use Rattle.ncdump.specs.Shows.{dumped, marks_in, ReadFailsOnly, ShowsOrFai
 use crate::fault::DumpFault;
 use crate::options::DumpOptions;
 use cdl_print::{ValuePrinter, Word, put_head};
-use nc_base::{Header, RecordLayout, has_records, record_layout};
+use nc_base::{Header, RecordLayout, is_record_var, record_layout};
 use nc_file::{Sink, Source, put};
 use nc_walk::{Walk, WalkFault};
 
@@ -111,8 +111,7 @@ fn has_slabs(header: &Header, v: usize, count: u64) -> bool
     requires { v < length header.now.vars }
     ensures { IfSome (slice_get header.now.vars v) (λ var. result ≡ (nat_lt 0 count || not (is_record_var header.now.dims var))) }
 {
-    let dimids = header.vars.as_slice()[v].dimids.as_slice();
-    count > 0 || !has_records(header.dims.as_slice(), dimids)
+    count > 0 || !is_record_var(header.dims.as_slice(), &header.vars.as_slice()[v])
 }
 
 /// Shows the variable at index `v`: its opening, its values as they are read, and its closing.

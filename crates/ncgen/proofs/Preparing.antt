@@ -5,10 +5,12 @@ use Rattle.nc_base.specs.declared.dataset.Dataset.{Dataset}
 use Rattle.nc_base.specs.declared.header.Header.{Header}
 use Rattle.nc_base.specs.declared.version.Version.{Version}
 use Rattle.nc_base.specs.GeneratedFile.{data_of, file_of, fits, header_spelling, known_records, with_begins}
-use Rattle.nc_base.specs.Headers.{AreArrays, IsGood}
+use Rattle.nc_base.specs.Headers.{AreArrays, IsGood, IsSound}
 use Rattle.nc_base.specs.OwedValues.{whole_arrays}
 use Rattle.devices.specs.Sinks.{SinkView}
 use Rattle.nc_file.specs.Begins.{offset_too_large}
+use Rattle.nc_walk.specs.declared.write.record_slab.RecordSlab.{RecordSlab}
+use Rattle.nc_walk.specs.RecordSlabs.{record_slabs}
 use Rattle.nc_file.specs.declared.write.begins.OffsetTooLarge.{OffsetTooLarge as NoRoom}
 use Rattle.nc_base.proofs.Fitting.{IsSound-with_begins, begins-below}
 use Rattle.cdl_text.specs.declared.fault.CdlFault.{CdlFault}
@@ -68,19 +70,25 @@ module _ (text : List ℕ) (v : Version) (d : Declared) (bytes : AreBytes text) 
   unfolding generated
   too-large e = inl (ap file_or_fault is-meaning ∙ ap (λ (b : Bool). if b then Ok (file_of (dataset_of_declared d)) else Err OffsetTooLarge) e)
 
-  module _ (listed : List (List ℕ)) (filled : AreFilledUp d.header.vars d.listed listed) (fit : fits d.header ≡ true) where
+  -- the header with its begins is sound
+  pub sound : IsSound (with_begins d.header)
+  sound = IsSound-with_begins d.header good.is_sound
+
+  module _ (listed : List (List ℕ)) (filled : AreFilledUp d.header.vars d.listed listed) (fit : fits d.header ≡ true)
+      (slabs : List RecordSlab) (of_record : slabs ≡ record_slabs 0 (with_begins d.header).dims (with_begins d.header).vars) where
     the : AreTheListed d.header.dims n d.header.vars d.listed listed
     the = the-listed d.header.dims n d.header.vars d.listed listed arrays filled
 
     abbrev prepared : Prepared
-    prepared = record { header = with_begins d.header; listed = listed }
+    prepared = record { header = with_begins d.header; listed = listed; slabs = slabs }
 
     is-ready : IsReady prepared
     unfolding with_begins
     is-ready = record {
-      sound = IsSound-with_begins d.header good.is_sound;
+      sound = sound;
       begins = begins-below d.header fit;
       listed = listed-after d.header d.header.dims n [] d.header.vars listed the.are;
+      slabs = of_record;
     }
 
     is-file : file_of (dataset_of_declared d) ≡ file_of_prepared prepared

@@ -11,12 +11,13 @@ use crate::prepared::Prepared;
 use cdl_parse::{Declared, declared};
 use nc_base::Version;
 use nc_file::{Sink, with_begins};
+use nc_walk::record_slabs;
 use std::alloc::Global;
 
 /// Reads a CDL text, and gives the netCDF classic file of the dataset that it declares, ready to be written (ncgen(1)).
 ///
-/// The text has at most 268,435,456 bytes. Memory is taken for names, attributes and the values that the text lists, and
-/// none for the file.
+/// The text has at most 268,435,456 bytes. Memory is taken for what the text declares and for the values that it lists, and none
+/// for the file.
 ///
 /// # Errors
 ///
@@ -29,7 +30,12 @@ pub fn prepare(alloc: Global, text: &[u8], version: Version) -> Result<Prepared,
     let Declared { header, listed } = declared(alloc, text, version)?;
     let listed = listed_values(alloc, header.vars.as_slice(), listed)?;
     let header = with_begins(header)?;
-    Ok(Prepared { header, listed })
+    let slabs = record_slabs(alloc, &header)?;
+    Ok(Prepared {
+        header,
+        listed,
+        slabs,
+    })
 }
 
 /// Writes the netCDF classic file of the dataset that a CDL text declares (ncgen(1)).

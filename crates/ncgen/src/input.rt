@@ -32,6 +32,6 @@ pub fn read_input<T: Texts, R: Read>(
 fn read_path<T: Texts>(texts: &T, alloc: Global, path: &str) -> Result<Vec<u8>, InputFault>
     ensures { ReadsAt T.is_transparent (T.named texts.now path.now) result }
 {
-    let mut reader = CountedRead::new(texts.open(path)?);
+    let mut reader = CountedRead::new(texts.open_text(path)?);
     Ok(read_text(alloc, &mut reader, TEXT_LIMIT)?)
 }

@@ -5,7 +5,7 @@ ghost use Rattle.devices.specs.Sinks.{Wrote};
 
 use nc_base::{Header, Sequence};
 use nc_file::{Sink, WriteFailed, write_header};
-use nc_walk::write_data;
+use nc_walk::{RecordSlab, write_data};
 
 /// A file that stands ready to be written: its header, and the values that a text lists.
 ///
@@ -16,6 +16,8 @@ pub struct Prepared {
     pub(crate) header: Header,
     /// For each variable the listed values, big-endian and one after the other.
     pub(crate) listed: Sequence<Sequence<u8>>,
+    /// The slabs of a record.
+    pub(crate) slabs: Sequence<RecordSlab>,
 }
 
 impl Prepared {
@@ -30,6 +32,11 @@ impl Prepared {
         ensures { Wrote (W.view sink.old) (W.view sink.new) (file_of_prepared self.now) result }
     {
         write_header(sink, &self.header)?;
-        write_data(sink, &self.header, self.listed.as_slice())
+        write_data(
+            sink,
+            &self.header,
+            self.slabs.as_slice(),
+            self.listed.as_slice(),
+        )
     }
 }

@@ -9,7 +9,7 @@ ghost use Rattle.nc_file.specs.Begins.{after, is_below, offset_of, offset_too_la
 
 use super::length::header_len;
 use super::slab::padded_slab_bytes;
-use nc_base::{Dim, Header, Sequence, Var, has_records};
+use nc_base::{Dim, Header, Sequence, Var, is_record_var};
 
 /// An offset that the version has no room for.
 #[derive(Clone, Copy, Debug, PartialEq, Eq)]
@@ -75,7 +75,7 @@ fn fixed_total(dims: &[Dim], vars: &[Var]) -> u128
 {
     let mut total: u128 = 0;
     for var in vars {
-        if !has_records(dims, var.dimids.as_slice()) {
+        if !is_record_var(dims, var) {
             total += padded_slab_bytes(dims, var) as u128;
         }
     }
@@ -107,7 +107,7 @@ impl Offsets {
     fn begin_of(self, dims: &[Dim], var: &Var) -> u128
         ensures { result ≡ offset_of dims.now self var.now }
     {
-        if has_records(dims, var.dimids.as_slice()) {
+        if is_record_var(dims, var) {
             self.slab
         } else {
             self.block
@@ -124,7 +124,7 @@ impl Offsets {
         ensures slab { result.slab < self.slab + 2 ^ 49 }
     {
         let bytes = padded_slab_bytes(dims, var) as u128;
-        if has_records(dims, var.dimids.as_slice()) {
+        if is_record_var(dims, var) {
             Offsets {
                 block: self.block,
                 slab: self.slab + bytes,

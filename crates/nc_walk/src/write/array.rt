@@ -14,28 +14,17 @@ use std::marker::Model;
 #[derive(Drop)]
 pub(super) struct Array<'a> {
     /// The bytes of the values that are listed.
-    listed: &'a [u8],
+    pub(super) listed: &'a [u8],
     /// The bytes of a slab.
-    slab: u64,
+    pub(super) slab: u64,
     /// Eight bytes of fill values.
-    unit: [u8; 8],
+    pub(super) unit: [u8; 8],
 }
 
 impl<'a> Model for Array<'a> {
     ghost Value = { ArrayView };
 
     ghost view = { λ array. record { listed = array.listed.now; slab = array.slab; unit = array.unit } };
-}
-
-impl Default for Array<'_> {
-    /// An array without values, for what isn't used of a table.
-    fn default() -> Self {
-        Array {
-            listed: &[],
-            slab: 0,
-            unit: [0; 8],
-        }
-    }
 }
 
 impl<'a> Array<'a> {

@@ -8,7 +8,7 @@ ghost use Rattle.nc_walk.specs.Filled.{array_view, filled_blocks, filled_slab};
 
 use super::array::Array;
 use devices::{Sink, WriteFailed};
-use nc_base::{Dim, Header, Sequence, Var, has_records};
+use nc_base::{Dim, Header, Sequence, Var, is_record_var};
 
 /// Writes the blocks of the variables that aren't record variables, each with its padding.
 pub(super) fn put_blocks<W: Sink>(
@@ -39,7 +39,7 @@ fn put_block<W: Sink>(
     ensures { Wrote (W.view sink.old) (W.view sink.new)
         (if is_record_var dims.now var.now then [] else filled_slab (array_view dims.now var.now listed.now) listed.now) result }
 {
-    if has_records(dims, var.dimids.as_slice()) {
+    if is_record_var(dims, var) {
         return Ok(());
     }
     Array::of(dims, var, listed).put_block(sink)

@@ -1,19 +1,23 @@
 //! The data part of a file.
 
+ghost use Rattle.std.specs.Prelude.{◌≡◌};
 ghost use Rattle.devices.specs.Sinks.{Wrote};
 ghost use Rattle.nc_base.specs.GeneratedFile.{data_of, known_records};
 ghost use Rattle.nc_base.specs.Headers.{IsSound};
 ghost use Rattle.nc_base.specs.OwedValues.{AreListed, whole_arrays};
+ghost use Rattle.nc_walk.specs.RecordSlabs.{record_slabs};
 
 use super::blocks::put_blocks;
+use super::record_slab::RecordSlab;
 use super::records::put_records;
 use devices::{Sink, WriteFailed};
 use nc_base::{Header, Sequence};
 
 /// Writes the data part of a file: the blocks of the variables that aren't record variables, in header order, and after them
-/// one record after the other (`data` of the NetCDF Classic Format Specification). The arrays are written straight from the
-/// slices, without memory: a block or a slab in one piece. An array may lack values at its end; they are written as the fill
-/// value of the variable, as is padding.
+/// one record after the other (`data` of the NetCDF Classic Format Specification). The slabs are those that
+/// [`record_slabs`](crate::record_slabs) gives for the header. The arrays are written straight from the slices, without memory: a
+/// block or a slab in one piece. An array may lack values at its end; they are written as the fill value of the variable, as is
+/// padding.
 ///
 /// # Errors
 ///
@@ -21,12 +25,14 @@ use nc_base::{Header, Sequence};
 pub fn write_data<W: Sink>(
     sink: &mut W,
     header: &Header,
+    slabs: &[RecordSlab],
     arrays: &[Sequence<u8>],
 ) -> Result<(), WriteFailed>
     requires sound { IsSound header.now }
+    requires slabs { slabs.now ≡ record_slabs 0 header.now.dims header.now.vars }
     requires listed { AreListed header.now.dims (known_records header.now.numrecs) header.now.vars arrays.now }
     ensures { Wrote (W.view sink.old) (W.view sink.new) (data_of header.now (whole_arrays header.now.dims (known_records header.now.numrecs) header.now.vars arrays.now)) result }
 {
     put_blocks(sink, header, arrays)?;
-    put_records(sink, header, arrays)
+    put_records(sink, header, slabs, arrays)
 }

@@ -4,8 +4,10 @@ use Rattle.nc_base.specs.declared.header.Header.{Header}
 use Rattle.ncgen.specs.Generated.{generated}
 use Rattle.ncgen.specs.Prepared.{AreFilledUp, Prepares}
 use Rattle.ncgen.specs.declared.fault.GenFault.TheVariants.{Cdl, OffsetTooLarge}
-use Rattle.nc_base.specs.GeneratedFile.{fits}
-use Rattle.ncgen.proofs.Preparing.{good, not-placed, placed, ready, text-fault, too-large}
+use Rattle.nc_base.specs.GeneratedFile.{fits, with_begins}
+use Rattle.nc_base.specs.Headers.{IsSound}
+use Rattle.nc_walk.specs.RecordSlabs.{record_slabs}
+use Rattle.ncgen.proofs.Preparing.{good, not-placed, placed, ready, sound, text-fault, too-large}
 use Rattle.ncgen.proofs.generating.prepare.Goals as goal
 
 pub returns-in_err-header : goal.returns-in_err-header
@@ -31,6 +33,13 @@ returns-in_err-header-2 c =
     let none = not-placed d.header (fits d.header) c.in_err-header-2.field-0.0 refl c.in_err-header-2.ensures in
     subst (Prepares (generated text v)) (sym is) (too-large text v d bytes c.requires c.in_ok-header.ensures none)
 
+pub record_slabs-requires : goal.record_slabs-requires
+record_slabs-requires c =
+    let d = c.in_ok-header.field-0 in
+    let bytes : AreBytes c.args.text.now = search rules in
+    let p = placed d.header (fits d.header) c.in_ok-header-2.header refl c.in_ok-header-2.ensures in
+    record { sound = subst IsSound (sym p.same) (sound c.args.text.now c.args.version d bytes c.requires c.in_ok-header.ensures) }
+
 pub returns : goal.returns
 returns c =
     let text = c.args.text.now in
@@ -40,5 +49,8 @@ returns c =
     let bytes : AreBytes text = search rules in
     let p = placed d.header (fits d.header) c.in_ok-header-2.header refl c.in_ok-header-2.ensures in
     let filled : AreFilledUp d.header.vars d.listed listed = search rules in
-    subst (λ (h : Header). Prepares (generated text v) (Ok (record { header = h; listed = listed }))) (sym p.same)
-    (ready text v d bytes c.requires c.in_ok-header.ensures listed filled p.fit)
+    let slabs = c.in_ok-slabs.slabs in
+    let of_record = λ (h : Header). slabs ≡ record_slabs 0 h.dims h.vars in
+    let is : of_record (with_begins d.header) = subst of_record p.same c.in_ok-slabs.ensures in
+    subst (λ (h : Header). Prepares (generated text v) (Ok (record { header = h; listed = listed; slabs = slabs }))) (sym p.same)
+    (ready text v d bytes c.requires c.in_ok-header.ensures listed filled p.fit slabs is)

@@ -1,10 +1,9 @@
-use Rattle.std.proofs.Common.{◌≡◌, true, ◌∙◌, ap, sym}
-use Rattle.nc_base.specs.Sizes.{has_records, is_record_var}
+use Rattle.std.proofs.Common.{◌≡◌, true, ◌∙◌, sym}
+use Rattle.nc_base.specs.Sizes.{is_record_var}
 use Rattle.devices.proofs.UpTo.{appended-nothing}
 use Rattle.nc_walk.proofs.write.blocks.put_block.Goals as goal
 
-pub returns-then-has_records : goal.returns-then-has_records
-returns-then-has_records g c =
-    let e : is_record_var c.args.dims.now c.args.var.now ≡ true =
-    ap (has_records c.args.dims.now) (sym c.as_slice.ensures) ∙ sym c.has_records.ensures ∙ c.if-has_records.true in
+pub returns-then-is_record_var : goal.returns-then-is_record_var
+returns-then-is_record_var g c =
+    let e : is_record_var c.args.dims.now c.args.var.now ≡ true = sym c.is_record_var.ensures ∙ c.if-is_record_var.true in
     rw e (appended-nothing _)

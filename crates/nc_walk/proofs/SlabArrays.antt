@@ -1,0 +1,60 @@
+-- The slabs of a record are those of the arrays of the record variables.
+use Rattle.std.proofs.Common.{◌≡◌, ℕ, ◌+◌, ◌<◌, ◌≤◌, Bool, true, false, List, [], ◌∷◌, ◌++◌, All, length, get_or, map, drop, refl, sym, ◌∙◌, ap, arith, subst}
+use Rattle.std.specs.Prelude.{if◌then◌else◌}
+use Rattle.std.proofs.lemmas.List.{drop_more}
+use Rattle.std.proofs.lemmas.List.Elements.{All-cons, All-nil}
+use Rattle.nc_base.specs.declared.header.Dim.{Dim}
+use Rattle.nc_base.specs.declared.header.Var.{Var}
+use Rattle.nc_base.specs.OwedValues.{AreListed}
+use Rattle.nc_base.specs.Sizes.{is_record_var}
+use Rattle.nc_walk.specs.declared.write.record_slab.RecordSlab.{RecordSlab}
+use Rattle.nc_walk.specs.Filled.{ArrayView, array_view, record_arrays}
+use Rattle.nc_walk.specs.RecordSlabs.{array_of, record_slab, record_slabs}
+use Rattle.nc_walk.proofs.DataFilled.{listed-len}
+
+-- ---- the arrays of the slabs
+
+arrays-from : (v : ℕ) (dims : List Dim) (vars : List Var) (arrays : List (List ℕ)) → v + length vars ≡ length arrays
+    → map (array_of arrays) (record_slabs v dims vars) ≡ record_arrays dims vars (drop v arrays)
+arrays-from v dims [] arrays same = refl
+arrays-from v dims (var ∷ vars) arrays same =
+    of_kind (is_record_var dims var)
+    ∙ ap (λ (xs : List ArrayView). (if is_record_var dims var then array_view dims var (get_or arrays v []) ∷ [] else []) ++ xs) (arrays-from (v + 1) dims vars arrays (omega (arith, same)))
+    ∙ sym (ap (record_arrays dims (var ∷ vars)) (drop_more arrays v [] (omega (arith, same))))
+  where
+    rest : List RecordSlab
+    rest = record_slabs (v + 1) dims vars
+
+    of_kind : (kind : Bool) → map (array_of arrays) ((if kind then record_slab v dims var ∷ [] else []) ++ rest)
+        ≡ (if kind then array_view dims var (get_or arrays v []) ∷ [] else []) ++ map (array_of arrays) rest
+    of_kind true = refl
+    of_kind false = refl
+
+pub arrays-of-slabs : (dims : List Dim) (n : ℕ) (vars : List Var) (arrays : List (List ℕ)) (slabs : List RecordSlab) → slabs ≡ record_slabs 0 dims vars → AreListed dims n vars arrays
+    → map (array_of arrays) slabs ≡ record_arrays dims vars arrays
+arrays-of-slabs dims n vars arrays slabs is are =
+    let same = listed-len dims n vars arrays are in
+    ap (λ (xs : List RecordSlab). map (array_of arrays) xs) is ∙ arrays-from 0 dims vars arrays (omega (arith, same))
+
+-- one slab alone
+pub one-array : (arrays : List (List ℕ)) (slabs : List RecordSlab) (d : RecordSlab) (array : ArrayView) → 1 ≤ length slabs → length slabs < 2 → array ≡ array_of arrays (get_or slabs 0 d)
+    → map (array_of arrays) slabs ≡ array ∷ []
+one-array arrays [] d array some one is = absurd (omega arith)
+one-array arrays (slab ∷ []) d array some one is = ap (λ (a : ArrayView). a ∷ []) (sym is)
+one-array arrays (slab ∷ other ∷ slabs) d array some one is = absurd (omega arith)
+
+-- each has the index of a variable
+within-from : (v n : ℕ) (dims : List Dim) (vars : List Var) → v + length vars ≤ n → All (λ (slab : RecordSlab). slab.var_index < n) (record_slabs v dims vars)
+within-from v n dims [] le = All-nil _
+within-from v n dims (var ∷ vars) le = of_kind (is_record_var dims var) (within-from (v + 1) n dims vars (omega (arith, le)))
+  where
+    of_kind : (kind : Bool) → All (λ (slab : RecordSlab). slab.var_index < n) (record_slabs (v + 1) dims vars)
+        → All (λ (slab : RecordSlab). slab.var_index < n) ((if kind then record_slab v dims var ∷ [] else []) ++ record_slabs (v + 1) dims vars)
+    of_kind true rest = All-cons (λ (slab : RecordSlab). slab.var_index < n) (record_slab v dims var) (record_slabs (v + 1) dims vars) (omega (arith, le)) rest
+    of_kind false rest = rest
+
+pub slabs-within : (dims : List Dim) (n : ℕ) (vars : List Var) (arrays : List (List ℕ)) (slabs : List RecordSlab) → slabs ≡ record_slabs 0 dims vars → AreListed dims n vars arrays
+    → All (λ (slab : RecordSlab). slab.var_index < length arrays) slabs
+slabs-within dims n vars arrays slabs is are =
+    let same = listed-len dims n vars arrays are in
+    subst (λ (xs : List RecordSlab). All (λ (slab : RecordSlab). slab.var_index < length arrays) xs) (sym is) (within-from 0 (length arrays) dims vars (omega (arith, same)))

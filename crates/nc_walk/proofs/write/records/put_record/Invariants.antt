@@ -1,0 +1,9 @@
+use Rattle.std.proofs.Common.{drop, map}
+use Rattle.nc_walk.specs.Filled.{filled_records}
+use Rattle.nc_walk.specs.RecordSlabs.{array_of}
+use Rattle.devices.proofs.UpTo.{UpTo}
+use Rattle.nc_walk.proofs.write.records.put_record.Given as goal
+
+abbrev pub invariant-loop-slab : goal.invariant-loop-slab
+invariant-loop-slab g l =
+    UpTo (g.W.Sink.view l.fn.sink) (g.W.Sink.view l.sink) (filled_records l.r (map (array_of l.arrays) l.slabs)) (filled_records l.r (map (array_of l.arrays) (drop l.slab-index l.slabs)))
