@@ -152,6 +152,24 @@ in_little_memory() (
     exec "$@"
 )
 
+# in_little_time COMMAND..: runs the command with 15 seconds of processor time.
+in_little_time() (
+    ulimit -t 15
+    exec "$@"
+)
+
+# Records are written without a look at the variables that have none.
+{
+    printf 'netcdf t {\ndimensions: t = UNLIMITED ;\nvariables:\n'
+    seq -f 'int r%g(t) ;' 300
+    seq -f 'byte v%g ;' 60000
+    printf 'data: r1 = 1'
+    yes ', 1' | head -n 199999 | tr -d '\n'
+    printf ' ;\n}\n'
+} >beside.cdl
+run in_little_time "$ncgen" -o /dev/null beside.cdl
+verdict records_beside_many_variables 0
+
 # Values that a text doesn't list are written as fill values, and take no memory.
 cdl 'netcdf t {\ndimensions: x = 4294967292 ;\nvariables: byte b(x) ;\n}\n' skeleton.cdl
 run in_little_memory "$ncgen" -k nc5 -o /dev/null skeleton.cdl
