@@ -143,7 +143,7 @@ for row in text_of_three_shorts=17 text_of_forty_shorts=21 text_of_names_and_att
     text_with_an_array_too_large=18; do
     grows "parsed::${row%=*}" "${row#*=}"
 done
-for row in one_variable=16 forty_shorts=20 rank_three=34 three_padded_records=33 names_and_strings=41; do
+for row in one_variable=16 forty_shorts=20 rank_three=35 three_padded_records=34 names_and_strings=42; do
     grows "generated::${row%=*}_generated" "${row#*=}"
     grows "generated::${row%=*}_prepared" "${row#*=}"
 done
