@@ -152,19 +152,19 @@ in_little_memory() (
     exec "$@"
 )
 
-# in_little_time COMMAND..: runs the command with 15 seconds of processor time.
+# in_little_time COMMAND..: runs the command with 20 seconds of processor time.
 in_little_time() (
-    ulimit -t 15
+    ulimit -t 20
     exec "$@"
 )
 
 # Records are written without a look at the variables that have none.
 {
     printf 'netcdf t {\ndimensions: t = UNLIMITED ;\nvariables:\n'
-    seq -f 'int r%g(t) ;' 300
-    seq -f 'byte v%g ;' 60000
+    seq -f 'int r%.0f(t) ;' 300
+    seq -f 'byte v%.0f ;' 400000
     printf 'data: r1 = 1'
-    yes ', 1' | head -n 199999 | tr -d '\n'
+    yes ', 1' | head -n 49999 | tr -d '\n'
     printf ' ;\n}\n'
 } >beside.cdl
 run in_little_time "$ncgen" -o /dev/null beside.cdl
