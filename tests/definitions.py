@@ -22,7 +22,7 @@ import prover
 EDITS = prover.TOP / "tests" / "definitions"
 LAWS = "cdl_laws"
 # the crates whose definitions the laws are about, from the lowest
-BELOW = ["nc_base", "cdl_text", "cdl_meaning"]
+BELOW = ["nc_base", "cdl_tokens", "cdl_text", "cdl_meaning"]
 # the files of worked examples, which no other file cites
 EXAMPLES = ["Examples", "FileExamples", "Samples", "Refused", "Generated", "GeneratedCdf5", "ByteClasses", "TokensOfTexts", "Misplaced", "Meanings"]
 # what the prover says of a text that it can't read, or that names what isn't there

@@ -2,9 +2,9 @@
 use Rattle.std.proofs.Common.{◌≡◌, ℕ, List, [], ◌∷◌, ◌++◌, refl}
 use Rattle.std.specs.Prelude.{codes, filter, map, not, ◌==◌, None, Some, Option}
 use Rattle.std.specs.List.{range_with_len}
-use Rattle.cdl_text.specs.Bytes.{is_blank, is_digit, is_octal, is_hex, begins_word, goes_on_word, goes_on_number, is_sign, is_mark, is_escape}
-use Rattle.cdl_text.specs.Escapes.{digit, plain_escape, unescape, unescape_at, stands, stands_at, character}
-use Rattle.cdl_text.specs.Numerals.{lower}
+use Rattle.cdl_tokens.specs.Bytes.{is_blank, is_digit, is_octal, is_hex, begins_word, goes_on_word, goes_on_number, is_sign, is_mark, is_escape}
+use Rattle.cdl_tokens.specs.Escapes.{digit, plain_escape, unescape, unescape_at, stands, stands_at, character}
+use Rattle.cdl_tokens.specs.Numerals.{lower}
 
 abbrev all_bytes : List ℕ
 all_bytes = range_with_len 0 256

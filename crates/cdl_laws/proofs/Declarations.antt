@@ -19,8 +19,8 @@ use Rattle.nc_base.specs.ValueText.{is_char}
 use Rattle.nc_base.specs.Versions.{has_type}
 use Rattle.cdl_text.specs.declared.section.Section.{Section}
 use Rattle.cdl_text.specs.declared.section.Section.TheVariants.{Globals, Dimensions, Variables}
-use Rattle.cdl_text.specs.Bytes.{is_digit}
-use Rattle.cdl_text.specs.Scan.{scan}
+use Rattle.cdl_tokens.specs.Bytes.{is_digit}
+use Rattle.cdl_tokens.specs.Scan.{scan}
 use Rattle.cdl_text.specs.Lexemes.{Lexeme}
 use Rattle.cdl_laws.specs.PieceLaws.{extent_said, said_dim, IsBeforeData, globals, dimensions, variables}
 use Rattle.cdl_laws.specs.Reading.{lexemes_at}

@@ -14,9 +14,9 @@ use Rattle.nc_base.specs.Names.{IsName, may_follow_in_name, may_begin_name}
 use Rattle.cdl_text.specs.declared.section.Section.{Section}
 use Rattle.cdl_text.specs.declared.section.Section.TheVariants.{Globals, Dimensions, Variables, Values, Ended}
 use Rattle.cdl_text.specs.declared.section.Section.TheVariants as sections
-use Rattle.cdl_text.specs.declared.token.TokenKind.TheVariants as kinds
+use Rattle.cdl_tokens.specs.declared.token.TokenKind.TheVariants as kinds
 use Rattle.cdl_text.specs.declared.piece.CutState.TheVariants as places
-use Rattle.cdl_text.specs.Scan.{scan, word_len, until, scan_opening, token}
+use Rattle.cdl_tokens.specs.Scan.{scan, word_len, until, scan_opening, token}
 use Rattle.cdl_text.specs.Lexemes.{Lexeme, role}
 use Rattle.cdl_meaning.specs.Meaning.{piece_read, empty}
 use Rattle.cdl_text.specs.Pieces.{pieces_at, is_section}

@@ -7,8 +7,8 @@ use Rattle.std.proofs.lemmas.List.{map-append, length-replicate, replicate_more}
 use Rattle.nc_base.specs.declared.version.Version.{Version}
 use Rattle.nc_base.specs.Escapes.{escaped_in_string}
 use Rattle.nc_base.specs.ValueText.{is_nul, is_char}
-use Rattle.cdl_text.specs.Escapes.{stands}
-use Rattle.cdl_text.proofs.Strings.{stands_for}
+use Rattle.cdl_tokens.specs.Escapes.{stands}
+use Rattle.cdl_tokens.proofs.Strings.{stands_for}
 use Rattle.cdl_text.specs.Shapes.{Characters, each, both, constant, constants}
 use Rattle.cdl_meaning.specs.State.{Capacity, add_value, in_turn, filled}
 use Rattle.cdl_laws.proofs.Lists.{Each}

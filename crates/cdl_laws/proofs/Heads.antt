@@ -15,8 +15,8 @@ use Rattle.nc_base.specs.Names.{IsName}
 use Rattle.nc_base.specs.Types.{type_word}
 use Rattle.nc_base.specs.ValueText.{Look, is_char, variable_text}
 use Rattle.cdl_text.specs.declared.section.Section.TheVariants.{Values}
-use Rattle.cdl_text.specs.Bytes.{begins_word, goes_on_word}
-use Rattle.cdl_text.specs.Scan.{scan, word_len}
+use Rattle.cdl_tokens.specs.Bytes.{begins_word, goes_on_word}
+use Rattle.cdl_tokens.specs.Scan.{scan, word_len}
 use Rattle.cdl_text.specs.Lexemes.{Lexeme, role}
 use Rattle.cdl_text.specs.Pieces.{is_section}
 use Rattle.cdl_laws.specs.Reading.{lexemes_at}

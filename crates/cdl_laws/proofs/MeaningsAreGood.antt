@@ -33,7 +33,7 @@ use Rattle.cdl_text.specs.declared.fault.CdlFault.{CdlFault}
 use Rattle.cdl_text.specs.declared.fault.CdlKind.{CdlKind}
 use Rattle.cdl_text.specs.declared.fault.CdlKind.TheVariants.{FloatingType, UnknownType, TooLarge}
 use Rattle.cdl_text.specs.declared.section.Section.{Section}
-use Rattle.cdl_text.specs.declared.token.Token.{Token}
+use Rattle.cdl_tokens.specs.declared.token.Token.{Token}
 use Rattle.cdl_laws.proofs.Bools.{and_left, and_right}
 use Rattle.cdl_laws.proofs.Limits.{slab_some}
 use Rattle.cdl_laws.proofs.Lists.{Each, each_map}

@@ -9,9 +9,9 @@ use Rattle.std.proofs.lemmas.Bool.{false≢true, eqb-true}
 use Rattle.std.proofs.lemmas.Slice.Eq.{bytes_eq-Decides}
 use Rattle.nc_base.specs.Escapes.{is_plain, is_name_mark, escaped_in_name, escaped_name, is_reserved, reserved_words, begins_with_digit_or_mark}
 use Rattle.nc_base.specs.Names.{may_begin_name, may_follow_in_name, is_beyond_ascii}
-use Rattle.cdl_text.specs.Bytes.{is_escape, is_escapable, goes_on_word, begins_word}
-use Rattle.cdl_text.specs.Scan.{word_len, begins_a_word}
-use Rattle.cdl_text.specs.Lexemes.{word_value}
+use Rattle.cdl_tokens.specs.Bytes.{is_escape, is_escapable, goes_on_word, begins_word}
+use Rattle.cdl_tokens.specs.Scan.{word_len, begins_a_word}
+use Rattle.cdl_tokens.specs.Escapes.{word_value}
 use Rattle.cdl_laws.proofs.Words.{word_prefix, and_false}
 use Rattle.cdl_laws.proofs.Bools.{and_left, and_right, or_left, or_right, of_any}
 

@@ -14,10 +14,9 @@ use Rattle.nc_base.specs.declared.version.Version.TheVariants.{Cdf1, Cdf2, Cdf5}
 use Rattle.nc_base.specs.Types.{number_suffix}
 use Rattle.nc_base.specs.ValueText.{is_char}
 use Rattle.nc_base.specs.Versions.{has_type}
-use Rattle.cdl_text.specs.Bytes.{is_digit, is_sign, goes_on_number}
-use Rattle.cdl_text.specs.Escapes.{digit}
-use Rattle.cdl_text.specs.Numerals.{number as number_of}
-use Rattle.cdl_text.specs.Numerals.{number_in, suffix, with_suffix, in_base, unsigned, numeral, parts, Parts}
+use Rattle.cdl_tokens.specs.Bytes.{is_digit, is_sign, goes_on_number}
+use Rattle.cdl_tokens.specs.Escapes.{digit}
+use Rattle.cdl_tokens.specs.Numerals.{number as number_of, number_in, suffix, with_suffix, in_base, unsigned, numeral, parts, Parts}
 use Rattle.std.specs.Option.{option_map}
 use Rattle.cdl_laws.proofs.Bools.{and_left, and_right, and_both, off}
 use Rattle.cdl_laws.proofs.Texts.{Reads, number, digits_read, minus_reads}

@@ -15,8 +15,8 @@ use Rattle.nc_base.specs.Versions.{has_type}
 use Rattle.cdl_text.specs.declared.piece.CutState.TheVariants.{Begins}
 use Rattle.cdl_text.specs.declared.section.Section.{Section}
 use Rattle.cdl_text.specs.declared.section.Section.TheVariants.{Unopened, Globals, Dimensions, Variables, Values, Closed}
-use Rattle.cdl_text.specs.declared.token.TokenKind.TheVariants as kinds
-use Rattle.cdl_text.specs.Scan.{scan}
+use Rattle.cdl_tokens.specs.declared.token.TokenKind.TheVariants as kinds
+use Rattle.cdl_tokens.specs.Scan.{scan}
 use Rattle.cdl_text.specs.Lexemes.{role}
 use Rattle.cdl_text.specs.Pieces.{pieces_at}
 use Rattle.cdl_text.specs.Shapes.{Statement, Opening, Mark, Brace, End, Declared, Typed, Attribute, shape}

@@ -18,12 +18,12 @@ use Rattle.nc_base.specs.ValueText.{look_of, number_piece, char_piece, piece, pi
 use Rattle.std.specs.Fmt.{digits}
 use Rattle.std.specs.Str.{is_utf8, chars}
 use lib.Utf8.{encode}
-use Rattle.cdl_text.specs.Scan.{word_len, until, scan}
-use Rattle.cdl_text.specs.Escapes.{unescape_at, stands_at, character}
-use Rattle.cdl_text.specs.Tokens.{tokens_at}
+use Rattle.cdl_tokens.specs.Scan.{word_len, until, scan}
+use Rattle.cdl_tokens.specs.Escapes.{unescape_at, stands_at, character, word_value}
+use Rattle.cdl_tokens.specs.Tokens.{tokens_at}
 use Rattle.cdl_text.specs.Pieces.{pieces_at, is_section}
-use Rattle.cdl_text.specs.Lexemes.{word_value, name_of}
-use Rattle.cdl_text.specs.Numerals.{suffix, numeral, parts}
+use Rattle.cdl_text.specs.Lexemes.{name_of}
+use Rattle.cdl_tokens.specs.Numerals.{suffix, numeral, parts}
 use Rattle.cdl_text.specs.Shapes.{shape}
 use Rattle.cdl_meaning.specs.State.{fits, add_dim, type_of, add_dimid, add_var, at_variable, add_att, capacity_of, add_value, act}
 use Rattle.cdl_meaning.specs.Meaning.{piece_read, run, is_small_enough, finished, meaning}

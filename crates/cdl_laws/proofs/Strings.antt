@@ -6,10 +6,10 @@ use Rattle.std.specs.List.{flat_map}
 use Rattle.std.proofs.lemmas.Bool.{false≢true, eqb-true}
 use Rattle.std.proofs.Math.Seq.{take-append_seam}
 use Rattle.nc_base.specs.Escapes.{escaped_in_string, octal_escape}
-use Rattle.cdl_text.specs.declared.token.TokenKind.TheVariants as kinds
-use Rattle.cdl_text.specs.Bytes.{is_octal, is_digit}
-use Rattle.cdl_text.specs.Scan.{until, scan, scan_text}
-use Rattle.cdl_text.specs.Escapes.{character, byte, digit, plain_escape, unescape, unescape_at, prepended}
+use Rattle.cdl_tokens.specs.declared.token.TokenKind.TheVariants as kinds
+use Rattle.cdl_tokens.specs.Bytes.{is_octal, is_digit}
+use Rattle.cdl_tokens.specs.Scan.{until, scan, scan_text}
+use Rattle.cdl_tokens.specs.Escapes.{character, byte, digit, plain_escape, unescape, unescape_at, prepended}
 use Rattle.cdl_text.specs.Lexemes.{Lexeme}
 use Rattle.cdl_laws.proofs.Words.{until_prefix}
 use Rattle.cdl_laws.proofs.Texts.{Closed, prefix_again}

@@ -2,17 +2,16 @@
 use Rattle.std.proofs.Common.{◌≡◌, ℕ, zero, suc, ◌+◌, ◌-◌, ◌<◌, Bool, true, false, List, [], ◌∷◌, length, get_or, take, drop, sym, ◌∙◌, ap, refl, subst, arith, length-take}
 use Rattle.std.specs.Prelude.{◌&&◌, ◌==◌, nat_lt, not, if◌then◌else◌, Option, None, Some, is_none, is_some}
 use Rattle.std.specs.List.{prefix_len}
-use Rattle.cdl_text.specs.Bytes.{is_blank, goes_on_number, is_mark}
-use Rattle.cdl_text.specs.Escapes.{unescape, stands}
-use Rattle.cdl_text.specs.Scan.{scan, gap, token, scan_text, scan_opening, until, word_len, begins_opening, begins_a_word, begins_number, begins_comment}
-use Rattle.cdl_text.specs.Pieces.{raw}
+use Rattle.cdl_tokens.specs.Bytes.{is_blank, goes_on_number, is_mark}
+use Rattle.cdl_tokens.specs.Escapes.{unescape, stands}
+use Rattle.cdl_tokens.specs.Scan.{scan, gap, token, scan_text, scan_opening, until, word_len, begins_opening, begins_a_word, begins_number, begins_comment}
+use Rattle.cdl_tokens.specs.Tokens.{raw, tokens_at, tokens, with_token, token_at}
 use Rattle.cdl_text.specs.Shapes.{inner}
-use Rattle.cdl_text.specs.Tokens.{tokens_at, tokens, with_token, token_at}
-use Rattle.cdl_text.specs.declared.scan.Scanned.{Scanned}
-use Rattle.cdl_text.specs.declared.token.Token.{Token}
-use Rattle.cdl_text.specs.declared.token.TokenKind.{TokenKind}
-use Rattle.cdl_text.specs.declared.token.TokenKind.TheVariants as kinds
-use Rattle.cdl_text.proofs.Strings.{stands_for}
+use Rattle.cdl_tokens.specs.declared.scan.Scanned.{Scanned}
+use Rattle.cdl_tokens.specs.declared.token.Token.{Token}
+use Rattle.cdl_tokens.specs.declared.token.TokenKind.{TokenKind}
+use Rattle.cdl_tokens.specs.declared.token.TokenKind.TheVariants as kinds
+use Rattle.cdl_tokens.proofs.Strings.{stands_for}
 use Rattle.cdl_laws.specs.TokenLaws.{StandsForBytes, StringsStandForBytes}
 use Rattle.cdl_laws.proofs.Lines.{tail_at}
 use Rattle.cdl_laws.proofs.Lists.{Each, all_of}

@@ -9,12 +9,12 @@ use Rattle.std.specs.Int.{is_in_range}
 use Rattle.nc_base.specs.Escapes.{escaped_name, is_reserved}
 use Rattle.nc_base.specs.Names.{IsName, has_name_bytes, may_begin_name, may_follow_in_name, ends_with_space, is_beyond_ascii}
 use Rattle.std.specs.Str.{is_utf8}
-use Rattle.cdl_text.specs.declared.token.TokenKind.TheVariants as kinds
-use Rattle.cdl_text.specs.Bytes.{is_digit, is_escape, goes_on_word, goes_on_number, begins_word}
-use Rattle.cdl_text.specs.Scan.{word_len, scan, begins_a_word, token}
+use Rattle.cdl_tokens.specs.declared.token.TokenKind.TheVariants as kinds
+use Rattle.cdl_tokens.specs.Bytes.{is_digit, is_escape, goes_on_word, goes_on_number, begins_word}
+use Rattle.cdl_tokens.specs.Scan.{word_len, scan, begins_a_word, token}
 use Rattle.cdl_text.specs.Lexemes.{Lexeme, name_of}
 use Rattle.cdl_laws.specs.Reading.{lexemes_at, with_lexeme}
-use Rattle.cdl_text.specs.declared.token.TokenKind.{TokenKind}
+use Rattle.cdl_tokens.specs.declared.token.TokenKind.{TokenKind}
 use Rattle.cdl_laws.proofs.Words.{word_prefix}
 use Rattle.cdl_laws.proofs.Bools.{and_left, and_right, off}
 use Rattle.cdl_laws.proofs.NameTexts.{rest_of, marked_plain, no_escape, Begins, marked, bare, begins, name_len, name_begins, name_value, name_free}

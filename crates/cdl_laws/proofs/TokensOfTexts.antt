@@ -5,17 +5,17 @@ use Rattle.nc_base.specs.declared.nc_type.NcType.{NcType}
 use Rattle.nc_base.specs.declared.nc_type.NcType.TheVariants.{Byte, Short, Int, Ubyte, Ushort, Uint, Int64, Uint64}
 use Rattle.nc_base.specs.declared.version.Version.TheVariants.{Cdf5}
 use Rattle.nc_base.specs.Escapes.{is_reserved}
-use Rattle.cdl_text.specs.declared.scan.Scanned.{Scanned}
-use Rattle.cdl_text.specs.declared.token.Token.{Token}
-use Rattle.cdl_text.specs.declared.token.TokenKind.{TokenKind}
-use Rattle.cdl_text.specs.declared.token.TokenKind.TheVariants.{Opening, Word, Number, Text, Mark, Bad, End}
-use Rattle.cdl_text.specs.Escapes.{unescape_at, character}
-use Rattle.cdl_text.specs.Scan.{word_len, until, scan}
-use Rattle.cdl_text.specs.Tokens.{tokens, tokens_at}
+use Rattle.cdl_tokens.specs.declared.scan.Scanned.{Scanned}
+use Rattle.cdl_tokens.specs.declared.token.Token.{Token}
+use Rattle.cdl_tokens.specs.declared.token.TokenKind.{TokenKind}
+use Rattle.cdl_tokens.specs.declared.token.TokenKind.TheVariants.{Opening, Word, Number, Text, Mark, Bad, End}
+use Rattle.cdl_tokens.specs.Escapes.{unescape_at, character, word_value}
+use Rattle.cdl_tokens.specs.Scan.{word_len, until, scan}
+use Rattle.cdl_tokens.specs.Tokens.{tokens, tokens_at}
 use Rattle.cdl_text.specs.Pieces.{pieces_at, is_section}
-use Rattle.cdl_text.specs.Lexemes.{is_word, is_mark, word_value, name_of}
+use Rattle.cdl_text.specs.Lexemes.{is_word, is_mark, name_of}
 use Rattle.cdl_text.specs.Statements.{statements}
-use Rattle.cdl_text.specs.Numerals.{Numeral, suffix, numeral, parts}
+use Rattle.cdl_tokens.specs.Numerals.{Numeral, suffix, numeral, parts}
 
 -- ---- what stands at the start of bytes
 

@@ -16,7 +16,7 @@ use Rattle.nc_base.specs.ValueText.{Look, is_char, number_text, number_lead, lin
 use Rattle.cdl_text.specs.declared.fault.CdlKind.{CdlKind}
 use Rattle.cdl_text.specs.Lexemes.{Lexeme, is_mark}
 use Rattle.cdl_laws.specs.Reading.{lexemes_at}
-use Rattle.cdl_text.specs.Scan.{scan}
+use Rattle.cdl_tokens.specs.Scan.{scan}
 use Rattle.cdl_text.specs.Shapes.{Value, Number, Underscore, members_in, members, each, both, constant, constants}
 use Rattle.cdl_meaning.specs.State.{Capacity, add_value, in_turn, fits, add_number}
 use Rattle.cdl_laws.proofs.Bools.{and_left, and_right, and_both, off}

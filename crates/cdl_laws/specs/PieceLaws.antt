@@ -17,7 +17,7 @@ use Rattle.nc_base.specs.ValueText.{look_of, variable_text}
 use Rattle.cdl_text.specs.declared.piece.CutState.TheVariants.{Begins}
 use Rattle.cdl_text.specs.declared.section.Section.{Section}
 use Rattle.cdl_text.specs.declared.section.Section.TheVariants.{Unopened, Globals, Dimensions, Variables, Values, Closed}
-use Rattle.cdl_text.specs.declared.token.TokenKind.TheVariants as kinds
+use Rattle.cdl_tokens.specs.declared.token.TokenKind.TheVariants as kinds
 use Rattle.cdl_text.specs.Lexemes.{Lexeme, lexeme, role}
 use Rattle.cdl_text.specs.Pieces.{pieces_at}
 use Rattle.cdl_text.specs.Shapes.{Value, Dimension, Statement, Opening, Mark, Declared, Typed, Attribute, Listed, Brace, End, first_bad, shape}

@@ -18,7 +18,7 @@ use Rattle.cdl_text.specs.declared.fault.CdlFault.{CdlFault}
 use Rattle.cdl_text.specs.declared.fault.CdlKind.{CdlKind}
 use Rattle.cdl_text.specs.declared.fault.CdlKind.TheVariants.{Syntax, TooLarge}
 use Rattle.cdl_text.specs.declared.section.Section.TheVariants.{Unopened}
-use Rattle.cdl_text.specs.declared.token.Token.{Token}
+use Rattle.cdl_tokens.specs.declared.token.Token.{Token}
 use Rattle.cdl_meaning.specs.State.{State, Draft, act, filled}
 
 -- the longest text, in bytes

@@ -9,7 +9,8 @@ use Rattle.cdl_text.specs.Contents.{value_of, values}
 use Rattle.cdl_text.specs.DueTokens.{completes, is_name, is_value_of, next}
 use Rattle.cdl_text.specs.Cutters.{is_done, next_token, text_of, version_of, words}
 use Rattle.cdl_text.specs.declared.cutter.Cutter.{Cutter}
-use Rattle.cdl_text.specs.Lexemes.{Lexeme, is_mark, lexeme, word_value}
+use Rattle.cdl_tokens.specs.Escapes.{word_value}
+use Rattle.cdl_text.specs.Lexemes.{Lexeme, is_mark, lexeme}
 use Rattle.cdl_text.specs.Shapes.{Value}
 use Rattle.cdl_text.specs.declared.due.Due.TheVariants.{AttributeName, Equals, Value as DueValue, Separator}
 use Rattle.cdl_text.specs.declared.fault.CdlKind.{CdlKind}

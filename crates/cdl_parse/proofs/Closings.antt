@@ -4,7 +4,7 @@ use Rattle.cdl_text.specs.Cutters.{after, first_line, first_piece, is_done, next
 use Rattle.cdl_text.specs.Lexemes.{Lexeme, lexeme}
 use Rattle.cdl_text.specs.Pieces.{pieces_at}
 use Rattle.cdl_text.specs.declared.cutter.Cutter.{Cutter}
-use Rattle.cdl_text.specs.declared.token.Token.{Token}
+use Rattle.cdl_tokens.specs.declared.token.Token.{Token}
 use Rattle.cdl_meaning.specs.Meaning.{closing_line, line_of}
 use Rattle.cdl_parse.proofs.StatementWords.{begins}
 

@@ -11,7 +11,8 @@ use Rattle.nc_base.specs.declared.nc_type.NcType.{NcType}
 use Rattle.nc_base.specs.declared.version.Version.{Version}
 use Rattle.cdl_text.specs.Contents.{Declaration, declaration_said, with_name}
 use Rattle.cdl_text.specs.DueTokens.{completes, is_name as is_name_token, is_whole, next}
-use Rattle.cdl_text.specs.Lexemes.{Lexeme, is_mark, is_mark_kind, word_value}
+use Rattle.cdl_tokens.specs.Escapes.{word_value}
+use Rattle.cdl_text.specs.Lexemes.{Lexeme, is_mark, is_mark_kind}
 use Rattle.cdl_text.specs.declared.due.Due.{Due}
 use Rattle.cdl_text.specs.declared.due.Due.TheVariants.{AfterVariable, VariableName}
 use Rattle.cdl_text.specs.declared.fault.CdlKind.{CdlKind}

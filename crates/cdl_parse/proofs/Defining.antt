@@ -9,7 +9,8 @@ use Rattle.cdl_text.specs.Contents.{attribute_said, declaration_said, dimensions
 use Rattle.cdl_text.specs.Cutters.{is_done, next_token, text_of, words}
 use Rattle.cdl_text.specs.declared.cutter.Cutter.{Cutter}
 use Rattle.cdl_text.specs.DueTokens.{completes, goes_to, is_name, is_whole, next, only}
-use Rattle.cdl_text.specs.Lexemes.{Lexeme, lexeme, is_mark, is_word_kind, word_value}
+use Rattle.cdl_tokens.specs.Escapes.{word_value}
+use Rattle.cdl_text.specs.Lexemes.{Lexeme, lexeme, is_mark, is_word_kind}
 use Rattle.cdl_text.specs.Shapes.{Brace, Declared, End, Statement, Typed, first_bad, section_of, shape}
 use Rattle.cdl_text.specs.declared.due.Due.{Due}
 use Rattle.cdl_text.specs.declared.due.Due.TheVariants as dues

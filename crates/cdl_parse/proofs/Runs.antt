@@ -7,7 +7,7 @@ use Rattle.cdl_text.specs.Lexemes.{Lexeme, lexeme}
 use Rattle.cdl_text.specs.Pieces.{pieces_at}
 use Rattle.cdl_text.specs.declared.cutter.Cutter.{Cutter}
 use Rattle.cdl_text.specs.declared.fault.CdlKind.{CdlKind}
-use Rattle.cdl_text.specs.declared.token.Token.{Token}
+use Rattle.cdl_tokens.specs.declared.token.Token.{Token}
 use Rattle.cdl_meaning.specs.Meaning.{line_of, piece_read, run}
 use Rattle.cdl_meaning.specs.State.{State}
 use Rattle.cdl_values.specs.Answers.{Fails}

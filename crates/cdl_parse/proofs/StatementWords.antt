@@ -7,12 +7,12 @@ use Rattle.cdl_text.specs.DueTokens.{completes, is_whole, next, only}
 use Rattle.cdl_text.specs.Lexemes.{Lexeme, lexeme}
 use Rattle.cdl_text.specs.Pieces.{first_role, pieces_at, step}
 use Rattle.cdl_text.specs.Roles.{role_in}
-use Rattle.cdl_text.specs.Scanners.{followed, left}
+use Rattle.cdl_tokens.specs.Scanners.{followed, left}
 use Rattle.cdl_text.specs.declared.cutter.Cutter.{Cutter}
 use Rattle.cdl_text.specs.declared.due.Due.{Due}
-use Rattle.cdl_text.specs.declared.token.Token.{Token}
-use Rattle.cdl_text.specs.declared.token.TokenKind.{TokenKind}
-use Rattle.cdl_text.specs.declared.token.TokenKind.TheVariants as kinds
+use Rattle.cdl_tokens.specs.declared.token.Token.{Token}
+use Rattle.cdl_tokens.specs.declared.token.TokenKind.{TokenKind}
+use Rattle.cdl_tokens.specs.declared.token.TokenKind.TheVariants as kinds
 use Rattle.cdl_text.proofs.Cuts.{words_on}
 use Rattle.cdl_text.proofs.Listing.{only_completes}
 

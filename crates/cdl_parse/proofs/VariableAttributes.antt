@@ -5,7 +5,8 @@ use Rattle.std.proofs.lemmas.List.{set-get_or}
 use Rattle.std.specs.Prelude.{Result, Ok, Err, ⊤, OnErr, if◌then◌else◌}
 use Rattle.nc_base.specs.declared.header.Att.{Att}
 use Rattle.cdl_text.specs.DueTokens.{completes}
-use Rattle.cdl_text.specs.Lexemes.{Lexeme, word_value}
+use Rattle.cdl_tokens.specs.Escapes.{word_value}
+use Rattle.cdl_text.specs.Lexemes.{Lexeme}
 use Rattle.cdl_text.specs.Shapes.{Value}
 use Rattle.cdl_text.specs.declared.due.Due.TheVariants.{AttributeName}
 use Rattle.cdl_text.specs.declared.fault.CdlKind.{CdlKind}

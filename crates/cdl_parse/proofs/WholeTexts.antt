@@ -9,7 +9,7 @@ use Rattle.nc_base.specs.declared.version.Version.{Version}
 use Rattle.cdl_text.specs.declared.fault.CdlFault.{CdlFault}
 use Rattle.cdl_text.specs.declared.section.Section.{Section}
 use Rattle.cdl_text.specs.declared.section.Section.TheVariants.{Unopened, Globals, Dimensions, Variables, Values, Closed, Ended}
-use Rattle.cdl_text.specs.declared.token.Token.{Token}
+use Rattle.cdl_tokens.specs.declared.token.Token.{Token}
 use Rattle.cdl_meaning.specs.Meaning.{finished, run}
 use Rattle.cdl_meaning.specs.State.{State, Draft}
 use Rattle.cdl_values.specs.Listed.{AllList, AreShaped, fresh}

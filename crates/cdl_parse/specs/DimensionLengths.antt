@@ -9,7 +9,7 @@ use Rattle.nc_base.specs.Versions.{count_limit}
 use Rattle.nc_base.specs.declared.version.Version.{Version}
 use Rattle.cdl_text.specs.declared.fault.CdlKind.{CdlKind}
 use Rattle.cdl_text.specs.declared.fault.CdlKind.TheVariants.{ZeroDimension, NumberRange, BadName, DuplicateName}
-use Rattle.cdl_text.specs.declared.numeral.Numeral.{Numeral}
+use Rattle.cdl_tokens.specs.declared.numeral.Numeral.{Numeral}
 
 abbrev pub number_len : Version → Numeral → Result ℕ CdlKind
 number_len v n = elim n.magnitude [ None ↦ Err NumberRange | Some m ↦ if m == 0 then Err ZeroDimension else (if n.minus || nat_le (count_limit v) m then Err NumberRange else Ok m) ]

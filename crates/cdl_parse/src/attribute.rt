@@ -3,7 +3,7 @@
 ghost use Rattle.std.specs.Prelude.{◌≡◌, ◌++◌, ◌∷◌, [], OnErr, OnOk, false, true};
 ghost use Rattle.cdl_text.specs.Cutters.{is_done, version_of, words};
 ghost use Rattle.cdl_text.specs.DueTokens.{completes};
-ghost use Rattle.cdl_text.specs.Lexemes.{word_value};
+ghost use Rattle.cdl_tokens.specs.Escapes.{word_value};
 ghost use Rattle.cdl_text.specs.declared.due.Due.TheVariants.{AttributeName};
 ghost use Rattle.cdl_meaning.specs.State.{add_att};
 ghost use Rattle.cdl_values.specs.Answers.{Gives, Leaves};

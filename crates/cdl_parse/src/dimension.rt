@@ -3,13 +3,14 @@
 ghost use Rattle.std.specs.Prelude.{◌≡◌, List, Some, None, map};
 ghost use Rattle.nc_base.specs.Headers.{has_record_dim};
 ghost use Rattle.nc_base.specs.declared.header.Dim.{Dim};
-ghost use Rattle.cdl_text.specs.Magnitudes.{held};
-ghost use Rattle.cdl_text.specs.Numerals.{Parts, number};
+ghost use Rattle.cdl_tokens.specs.Magnitudes.{held};
+ghost use Rattle.cdl_tokens.specs.Numerals.{Parts, number};
 ghost use Rattle.cdl_meaning.specs.State.{dim_len_of};
 ghost use Rattle.cdl_values.specs.NameIndices.{IsIndex};
 ghost use Rattle.cdl_parse.specs.DimensionLengths.{new_name, number_len};
 
-use cdl_text::{CdlKind, Numeral};
+use cdl_text::CdlKind;
+use cdl_tokens::Numeral;
 use cdl_values::NameIndex;
 use nc_base::{Version, check_name};
 

@@ -6,7 +6,7 @@ ghost use Rattle.nc_base.specs.declared.header.Dim as header;
 ghost use Rattle.cdl_text.specs.Contents.{dimension_said, dimensions_said, is_unlimited, length_said};
 ghost use Rattle.cdl_text.specs.Cutters.{is_done, offset_of, text_of, version_of, words};
 ghost use Rattle.cdl_text.specs.DueTokens.{completes};
-ghost use Rattle.cdl_text.specs.Lexemes.{word_value};
+ghost use Rattle.cdl_tokens.specs.Escapes.{word_value};
 ghost use Rattle.cdl_text.specs.Views.{lexeme_of};
 ghost use Rattle.cdl_text.specs.declared.due.Due.TheVariants.{DimensionName};
 ghost use Rattle.cdl_meaning.specs.State.{add_dim, dim_len_of, in_turn};

@@ -1,7 +1,7 @@
 //! The variable that a statement names.
 
 ghost use Rattle.std.specs.Prelude.{◌≡◌, ◌<◌, List, Result, IfOk, length};
-ghost use Rattle.cdl_text.specs.Lexemes.{word_value};
+ghost use Rattle.cdl_tokens.specs.Escapes.{word_value};
 ghost use Rattle.cdl_text.specs.declared.fault.CdlKind as fault;
 ghost use Rattle.cdl_meaning.specs.State.{Draft, at_variable};
 ghost use Rattle.cdl_values.specs.Answers.{Continues};

@@ -3,17 +3,18 @@ use Rattle.std.proofs.Common.{◌≡◌, drop, ℕ, Bool, true, false, List, [],
 use Rattle.std.proofs.lemmas.Bool.{false≢true}
 use Rattle.cdl_text.specs.declared.piece.Step.{Step}
 use Rattle.std.specs.Prelude.{if◌then◌else◌}
-use Rattle.cdl_text.specs.declared.token.Token.{Token}
-use Rattle.cdl_text.specs.declared.token.TokenKind.{TokenKind}
-use Rattle.cdl_text.specs.declared.token.TokenKind.TheVariants as kinds
+use Rattle.cdl_tokens.specs.declared.token.Token.{Token}
+use Rattle.cdl_tokens.specs.declared.token.TokenKind.{TokenKind}
+use Rattle.cdl_tokens.specs.declared.token.TokenKind.TheVariants as kinds
 use Rattle.cdl_text.specs.declared.piece.Role.{Role}
 use Rattle.cdl_text.specs.declared.piece.Role.TheVariants.{End}
 use Rattle.cdl_text.specs.declared.piece.CutState.{CutState}
 use Rattle.cdl_text.specs.declared.piece.CutState.TheVariants.{Begins, Inside, Marked, Closed}
-use Rattle.cdl_text.specs.Pieces.{pieces_at, step, ending, with_first, first_role, role_of, raw}
+use Rattle.cdl_tokens.specs.Tokens.{raw}
+use Rattle.cdl_text.specs.Pieces.{pieces_at, step, ending, with_first, first_role, role_of}
 use Rattle.cdl_text.specs.Cutters.{first_line, first_piece, other_pieces}
 use Rattle.cdl_text.specs.Roles.{is_end_role, role_in}
-use Rattle.cdl_text.specs.Scanners.{followed, is_end}
+use Rattle.cdl_tokens.specs.Scanners.{followed, is_end}
 use Rattle.std.specs.Prelude.{map}
 use Rattle.cdl_text.specs.Lexemes.{lexeme}
 

@@ -5,13 +5,14 @@ use Rattle.std.specs.Option.{option_map, option_and_then}
 use Rattle.nc_base.specs.declared.version.Version.{Version}
 use Rattle.cdl_text.specs.Contents.{parts_or_zero, is_unlimited, length_said, dimensions_said}
 use Rattle.cdl_text.specs.DueTokens.{only, next, is_whole, completes, is_name, is_length, is_number}
-use Rattle.cdl_text.specs.Lexemes.{Lexeme, is_mark, word_value}
-use Rattle.cdl_text.specs.Numerals.{Parts, Numeral, parts, number, numeral}
+use Rattle.cdl_tokens.specs.Escapes.{word_value}
+use Rattle.cdl_text.specs.Lexemes.{Lexeme, is_mark}
+use Rattle.cdl_tokens.specs.Numerals.{Parts, Numeral, parts, number, numeral}
 use Rattle.cdl_text.specs.Shapes.{Dimension, dimension, dimensions, length_of, numeral_of, token_fault, first_bad, both, given, before_mark}
 use Rattle.cdl_text.specs.declared.due.Due.TheVariants as dues
 use Rattle.cdl_text.specs.declared.fault.CdlKind.TheVariants.{BadNumber}
-use Rattle.cdl_text.specs.declared.token.TokenKind.{TokenKind}
-use Rattle.cdl_text.specs.declared.token.TokenKind.TheVariants as kinds
+use Rattle.cdl_tokens.specs.declared.token.TokenKind.{TokenKind}
+use Rattle.cdl_tokens.specs.declared.token.TokenKind.TheVariants as kinds
 use Rattle.cdl_text.proofs.Listing.{fine, fine_on, combine, never_completes, nothing_more, no_members, apart}
 use Rattle.cdl_text.proofs.Shaping.{name_is}
 

@@ -1,12 +1,4 @@
-pub mod Words
-pub mod Steps
-pub mod Strings
-pub mod Scans
-pub mod PlainTokens
 pub mod Cuts
-pub mod Sizes
-pub mod Suffixes
-pub mod Decimals
 pub mod Surveys
 pub mod Options
 pub mod Listing

@@ -6,15 +6,15 @@ use Rattle.nc_base.specs.declared.version.Version.{Version}
 use Rattle.cdl_text.specs.Contents.{parts_or_zero, value_of, values}
 use Rattle.cdl_text.specs.DueTokens.{is_value_of, only, next, is_whole, completes}
 use Rattle.cdl_text.specs.Lexemes.{Lexeme, is_mark, is_mark_kind}
-use Rattle.cdl_text.specs.Numerals.{Parts, parts, number, numeral}
+use Rattle.cdl_tokens.specs.Numerals.{Parts, parts, number, numeral}
 use Rattle.cdl_text.specs.Shapes.{Value, Number, token_fault, either, first_bad, constant_of, constant, constants, both, given, before_mark}
 use Rattle.cdl_text.specs.declared.due.Due.{Due}
 use Rattle.cdl_text.specs.declared.due.Due.TheVariants as dues
 use Rattle.cdl_text.specs.declared.fault.CdlKind.{CdlKind}
 use Rattle.cdl_text.specs.declared.fault.CdlKind.TheVariants.{BadNumber}
-use Rattle.cdl_text.specs.declared.token.TokenKind.{TokenKind}
-use Rattle.cdl_text.specs.declared.token.TokenKind.TheVariants as kinds
-use Rattle.cdl_text.proofs.Words.{and_false}
+use Rattle.cdl_tokens.specs.declared.token.TokenKind.{TokenKind}
+use Rattle.cdl_tokens.specs.declared.token.TokenKind.TheVariants as kinds
+use Rattle.cdl_tokens.proofs.Words.{and_false}
 
 -- ---- no bad token
 

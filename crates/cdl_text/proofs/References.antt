@@ -4,7 +4,8 @@ use Rattle.std.specs.Prelude.{Option, None, Some, if◌then◌else◌, ◌||◌,
 use Rattle.std.specs.Option.{option_map, option_and_then}
 use Rattle.cdl_text.specs.Contents.{Declaration, declaration_said}
 use Rattle.cdl_text.specs.DueTokens.{only, separator, next, is_whole, completes, is_name}
-use Rattle.cdl_text.specs.Lexemes.{Lexeme, is_mark, name_of, word_value}
+use Rattle.cdl_tokens.specs.Escapes.{word_value}
+use Rattle.cdl_text.specs.Lexemes.{Lexeme, is_mark, name_of}
 use Rattle.cdl_text.specs.Shapes.{Variable, variable, each, both, given, before_mark, members, members_in, into_first, name_alone}
 use Rattle.cdl_text.specs.declared.due.Due.TheVariants as dues
 use Rattle.cdl_text.proofs.Listing.{never_completes, kind_of_mark}

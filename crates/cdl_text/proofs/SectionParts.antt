@@ -8,7 +8,8 @@ use Rattle.nc_base.specs.Escapes.{is_reserved}
 use Rattle.nc_base.specs.declared.version.Version.{Version}
 use Rattle.cdl_text.specs.Contents.{values}
 use Rattle.cdl_text.specs.DueTokens.{only, next, is_whole, completes, is_name, goes_to, is_after}
-use Rattle.cdl_text.specs.Lexemes.{Lexeme, is_mark, is_mark_kind, is_word_kind, name_of, word_value}
+use Rattle.cdl_tokens.specs.Escapes.{word_value}
+use Rattle.cdl_text.specs.Lexemes.{Lexeme, is_mark, is_mark_kind, is_word_kind, name_of}
 use Rattle.cdl_text.specs.Shapes.{Statement, Mark, Brace, Attribute, first_bad, assigned, given, before_mark, alone, section_mark, section_of, section_number, mark_after, global}
 use Rattle.cdl_text.specs.declared.due.Due.TheVariants as dues
 use Rattle.cdl_text.specs.declared.section.Section.{Section}

@@ -5,15 +5,16 @@ use Rattle.std.specs.Option.{option_map, option_and_then}
 use Rattle.nc_base.specs.declared.version.Version.{Version}
 use Rattle.cdl_text.specs.Contents.{values}
 use Rattle.cdl_text.specs.DueTokens.{only, next, completes, is_name}
-use Rattle.cdl_text.specs.Lexemes.{Lexeme, is_mark, is_mark_kind, is_word, is_word_kind, name_of, word_value}
+use Rattle.cdl_tokens.specs.Escapes.{word_value}
+use Rattle.cdl_text.specs.Lexemes.{Lexeme, is_mark, is_mark_kind, is_word, is_word_kind, name_of}
 use Rattle.cdl_text.specs.Shapes.{Value, Statement, Listed, Brace, first_bad, assigned, constants, both, given, before_mark, either, alone, section_mark, section_of, mark_after, shape}
 use Rattle.cdl_text.specs.declared.due.Due.TheVariants as dues
 use Rattle.cdl_text.specs.declared.section.Section.{Section}
 use Rattle.cdl_text.specs.declared.section.Section.TheVariants.{Dimensions, Variables, Values}
-use Rattle.cdl_text.specs.declared.token.TokenKind.{TokenKind}
-use Rattle.cdl_text.specs.declared.token.TokenKind.TheVariants as kinds
+use Rattle.cdl_tokens.specs.declared.token.TokenKind.{TokenKind}
+use Rattle.cdl_tokens.specs.declared.token.TokenKind.TheVariants as kinds
 use Rattle.cdl_text.proofs.Options.{either_none, given_none}
-use Rattle.cdl_text.proofs.Words.{and_false}
+use Rattle.cdl_tokens.proofs.Words.{and_false}
 use Rattle.cdl_text.proofs.Listing.{fine_on, nothing_more, only_completes, listed, listed_is, kind_of_mark}
 
 pub name_is : (n : Lexeme) → name_of n ≡ (if is_name n then Some (word_value n.bytes) else None)

@@ -6,7 +6,8 @@ use Rattle.std.proofs.lemmas.Bool.{false≢true}
 use Rattle.nc_base.specs.declared.version.Version.{Version}
 use Rattle.cdl_text.specs.Contents.{attribute_said, declaration_said, dimensions_said, mark_said, statement_said, values, variable_said}
 use Rattle.cdl_text.specs.DueTokens.{completes, goes_to, is_name, next, only}
-use Rattle.cdl_text.specs.Lexemes.{Lexeme, is_mark, is_word_kind, word_value}
+use Rattle.cdl_tokens.specs.Escapes.{word_value}
+use Rattle.cdl_text.specs.Lexemes.{Lexeme, is_mark, is_word_kind}
 use Rattle.cdl_text.specs.Shapes as Shapes
 use Rattle.cdl_text.specs.Shapes.{Statement, Listed, Attribute, Brace, Declared, Mark, Typed, Opening, End, alone, body, either, first_bad, given, mark_after, section_mark, section_number, section_of, shape, is_kind_opening, is_kind_end}
 use Rattle.cdl_text.specs.declared.due.Due.TheVariants as dues

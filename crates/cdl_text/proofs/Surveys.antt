@@ -1,11 +1,11 @@
 -- A statement, one token on.
 use Rattle.std.proofs.Common.{◌≡◌, ℕ, true, false, List, [], ◌∷◌, refl, ap, ◌∙◌, Bool}
 use Rattle.std.specs.Prelude.{Option, None, Some, if◌then◌else◌, is_none, option_map}
-use Rattle.cdl_text.specs.Magnitudes.{held}
-use Rattle.cdl_text.specs.declared.numeral.Numeral.{Numeral as Held}
+use Rattle.cdl_tokens.specs.Magnitudes.{held}
+use Rattle.cdl_tokens.specs.declared.numeral.Numeral.{Numeral as Held}
 use Rattle.nc_base.specs.declared.version.Version.{Version}
 use Rattle.cdl_text.specs.Lexemes.{Lexeme}
-use Rattle.cdl_text.specs.Numerals.{Parts, parts, number, numeral}
+use Rattle.cdl_tokens.specs.Numerals.{Parts, parts, number, numeral}
 use Rattle.cdl_text.specs.Shapes.{first_bad, either, token_fault}
 use Rattle.cdl_text.specs.declared.fault.CdlKind.{CdlKind}
 

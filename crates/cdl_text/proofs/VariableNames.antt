@@ -5,12 +5,13 @@ use Rattle.std.specs.Option.{option_map, option_and_then}
 use Rattle.nc_base.specs.Escapes.{is_reserved}
 use Rattle.cdl_text.specs.Contents.{Declaration, with_name, declaration_said}
 use Rattle.cdl_text.specs.DueTokens.{only, separator, next, is_whole, completes, is_name}
-use Rattle.cdl_text.specs.Lexemes.{Lexeme, is_mark, is_mark_kind, is_word_kind, name_of, word_value}
+use Rattle.cdl_tokens.specs.Escapes.{word_value}
+use Rattle.cdl_text.specs.Lexemes.{Lexeme, is_mark, is_mark_kind, is_word_kind, name_of}
 use Rattle.cdl_text.specs.Shapes.{Variable, variable, each, both, given, before_mark, members, members_in, into_first, name_alone}
 use Rattle.cdl_text.specs.declared.due.Due.{Due}
 use Rattle.cdl_text.specs.declared.due.Due.TheVariants as dues
-use Rattle.cdl_text.specs.declared.token.TokenKind.{TokenKind}
-use Rattle.cdl_text.specs.declared.token.TokenKind.TheVariants as kinds
+use Rattle.cdl_tokens.specs.declared.token.TokenKind.{TokenKind}
+use Rattle.cdl_tokens.specs.declared.token.TokenKind.TheVariants as kinds
 use Rattle.cdl_text.proofs.Listing.{never_completes, nothing_more, kind_of_mark}
 use Rattle.cdl_text.proofs.Options.{both_some, given_map, given_none, map_if, none_if, same_if}
 use Rattle.cdl_text.proofs.Shaping.{name_is}

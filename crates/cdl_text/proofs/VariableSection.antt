@@ -5,12 +5,13 @@ use Rattle.std.specs.Option.{option_map, option_and_then}
 use Rattle.nc_base.specs.declared.version.Version.{Version}
 use Rattle.cdl_text.specs.Contents.{declaration_said, values}
 use Rattle.cdl_text.specs.DueTokens.{only, next, is_whole, completes, is_name, goes_to}
-use Rattle.cdl_text.specs.Lexemes.{Lexeme, is_mark, is_mark_kind, is_word_kind, name_of, word_value}
+use Rattle.cdl_tokens.specs.Escapes.{word_value}
+use Rattle.cdl_text.specs.Lexemes.{Lexeme, is_mark, is_mark_kind, is_word_kind, name_of}
 use Rattle.cdl_text.specs.Shapes.{Statement, Attribute, Brace, Typed, Variable, first_bad, alone, assigned, attribute, before_mark, body, each, either, given, global, members, section_mark, shape, typed, variable}
 use Rattle.cdl_text.specs.declared.due.Due.TheVariants as dues
 use Rattle.cdl_text.specs.declared.section.Section.TheVariants.{Variables}
-use Rattle.cdl_text.specs.declared.token.TokenKind.{TokenKind}
-use Rattle.cdl_text.specs.declared.token.TokenKind.TheVariants as kinds
+use Rattle.cdl_tokens.specs.declared.token.TokenKind.{TokenKind}
+use Rattle.cdl_tokens.specs.declared.token.TokenKind.TheVariants as kinds
 use Rattle.cdl_text.proofs.Declarations.{listed_variables, variables_are}
 use Rattle.cdl_text.proofs.VariableNames.{nameless, named, not_variable, one_mark}
 use Rattle.cdl_text.proofs.Listing.{fine_on, never_completes, nothing_more, only_completes}

@@ -2,20 +2,21 @@
 use Rattle.std.specs.Prelude.{ℕ, List, ◌∷◌, [], Bool, true, false, if◌then◌else◌, ◌≡◌, map}
 use Rattle.cdl_text.specs.Lexemes.{Lexeme, lexeme}
 use Rattle.cdl_text.specs.Roles.{role_in}
-use Rattle.cdl_text.specs.Scanners.{left, followed}
+use Rattle.cdl_tokens.specs.Scanners.{followed, left}
+use Rattle.cdl_tokens.specs.Scanners as scanners
 use Rattle.cdl_text.specs.Pieces.{pieces_at}
-use Rattle.cdl_text.specs.declared.token.Token.{Token}
+use Rattle.cdl_tokens.specs.declared.token.Token.{Token}
 use Rattle.nc_base.specs.declared.version.Version.{Version}
 use Rattle.cdl_text.specs.declared.cutter.Cutter.{Cutter}
 
 abbrev pub text_of : Cutter → List ℕ
-text_of c = c.scanner.text.now
+text_of c = scanners.text_of c.scanner
 
 abbrev pub version_of : Cutter → Version
 version_of c = c.version
 
 abbrev pub offset_of : Cutter → ℕ
-offset_of c = c.scanner.at
+offset_of c = scanners.offset_of c.scanner
 
 -- the last statement has been handed out
 abbrev pub is_done : Cutter → Bool
@@ -31,7 +32,7 @@ tokens_left c = if c.done then [] else followed c.next c.next.kind (left c.scann
 
 -- the pieces that are left
 unfoldable pub pieces_left : Cutter → List (List Token)
-pieces_left c = pieces_at (role_in c.scanner.text.now) c.state (tokens_left c)
+pieces_left c = pieces_at (role_in (text_of c)) c.state (tokens_left c)
 
 -- one of the pieces is handed out, or there is none
 abbrev pub HandsOut : Bool → List (List Token) → List (List Token) → List Token → Type 0
@@ -53,7 +54,7 @@ first_line _ = 0
 
 -- what the first piece says
 unfoldable pub words : Cutter → List Lexeme
-words c = map (lexeme c.scanner.text.now) (first_piece (pieces_left c))
+words c = map (lexeme (text_of c)) (first_piece (pieces_left c))
 
 -- the pieces after the first
 unfoldable pub after : Cutter → List (List Token)

@@ -7,8 +7,8 @@ use Rattle.cdl_text.specs.declared.due.Due.{Due}
 use Rattle.cdl_text.specs.declared.due.Due.TheVariants.{First, DataName, Colon, AttributeName, Equals, Value, Separator, DimensionName, LengthEquals, Length, LengthSeparator, AfterWord, VariableName, AfterVariable, ReferenceName, AfterReference, AfterShape, Nothing, Never}
 use Rattle.cdl_text.specs.declared.section.Section.{Section}
 use Rattle.cdl_text.specs.declared.section.Section.TheVariants.{Unopened, Globals, Dimensions, Variables, Values, Closed, Ended}
-use Rattle.cdl_text.specs.declared.token.TokenKind.{TokenKind}
-use Rattle.cdl_text.specs.declared.token.TokenKind.TheVariants as kinds
+use Rattle.cdl_tokens.specs.declared.token.TokenKind.{TokenKind}
+use Rattle.cdl_tokens.specs.declared.token.TokenKind.TheVariants as kinds
 
 abbrev pub is_name : Lexeme → Bool
 is_name l = is_word_kind l.kind && not (is_reserved l.bytes)

@@ -1,12 +1,13 @@
 -- What the tokens of a statement say.
-use Rattle.std.specs.Prelude.{ℕ, Bool, true, false, List, [], ◌∷◌, ◌&&◌, ◌==◌, not, if◌then◌else◌, slice_index, Option, None, Some}
+use Rattle.std.specs.Prelude.{ℕ, Bool, true, false, List, ◌&&◌, ◌==◌, not, if◌then◌else◌, slice_index, Option, None, Some}
 use Rattle.std.specs.Str.{bytes_eq}
-use Rattle.cdl_text.specs.Bytes.{is_escape}
-use Rattle.cdl_text.specs.Pieces.{raw, role_of}
+use Rattle.cdl_tokens.specs.Escapes.{word_value}
+use Rattle.cdl_tokens.specs.Tokens.{raw}
+use Rattle.cdl_text.specs.Pieces.{role_of}
 use Rattle.cdl_text.specs.declared.piece.Role.{Role}
-use Rattle.cdl_text.specs.declared.token.Token.{Token}
-use Rattle.cdl_text.specs.declared.token.TokenKind.{TokenKind}
-use Rattle.cdl_text.specs.declared.token.TokenKind.TheVariants as kinds
+use Rattle.cdl_tokens.specs.declared.token.Token.{Token}
+use Rattle.cdl_tokens.specs.declared.token.TokenKind.{TokenKind}
+use Rattle.cdl_tokens.specs.declared.token.TokenKind.TheVariants as kinds
 use Rattle.nc_base.specs.Escapes.{is_reserved}
 
 -- a token without its place: its kind and its bytes
@@ -36,12 +37,6 @@ is_mark b l = is_mark_kind l.kind && slice_index l.bytes 0 == b
 -- a word of these bytes, none of them escaped
 abbrev pub is_word : List ℕ → Lexeme → Bool
 is_word word l = is_word_kind l.kind && bytes_eq l.bytes word
-
--- the bytes that a word stands for
-unfoldable pub word_value : List ℕ → List ℕ
-word_value [] = []
-word_value (b ∷ []) = b ∷ []
-word_value (b ∷ c ∷ rest) = if is_escape b c then c ∷ word_value rest else b ∷ word_value (c ∷ rest)
 
 -- NAME: a word that isn't an unescaped reserved word
 unfoldable pub name_of : Lexeme → Option (List ℕ)

@@ -1,16 +1,9 @@
-pub mod Bytes
-pub mod Escapes
-pub mod Scan
-pub mod Tokens
 pub mod Pieces
 pub mod Lexemes
-pub mod Numerals
 pub mod Shapes
 pub mod Statements
 pub mod Roles
-pub mod Scanners
 pub mod Cutters
-pub mod Magnitudes
 pub mod Views
 pub mod DueTokens
 pub mod Contents

@@ -1,18 +1,13 @@
 -- The tokens cut into pieces.
-use Rattle.std.specs.Prelude.{ℕ, Bool, true, false, List, [], ◌∷◌, ◌-◌, ◌||◌, ◌==◌, if◌then◌else◌, slice_index, take, drop, codes}
+use Rattle.std.specs.Prelude.{ℕ, Bool, true, false, List, [], ◌∷◌, ◌||◌, ◌==◌, if◌then◌else◌, slice_index, codes}
 use Rattle.std.specs.Str.{bytes_eq}
-use Rattle.cdl_text.specs.declared.token.Token.{Token}
-use Rattle.cdl_text.specs.declared.token.TokenKind.{TokenKind}
-use Rattle.cdl_text.specs.declared.token.TokenKind.TheVariants as kinds
+use Rattle.cdl_tokens.specs.declared.token.TokenKind.{TokenKind}
+use Rattle.cdl_tokens.specs.declared.token.TokenKind.TheVariants as kinds
 use Rattle.cdl_text.specs.declared.piece.Role.{Role}
 use Rattle.cdl_text.specs.declared.piece.Role.TheVariants.{Opening, Section, Colon, Semicolon, Brace, End, Other}
 use Rattle.cdl_text.specs.declared.piece.CutState.{CutState}
 use Rattle.cdl_text.specs.declared.piece.CutState.TheVariants.{Begins, Inside, Marked, Closed}
 use Rattle.cdl_text.specs.declared.piece.Step.{Step}
-
--- a token's bytes
-abbrev pub raw : List ℕ → Token → List ℕ
-raw text t = take (t.past - t.first) (drop t.first text)
 
 -- an unescaped `dimensions`, `variables` or `data`
 unfoldable pub is_section : List ℕ → Bool

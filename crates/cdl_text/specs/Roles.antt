@@ -3,7 +3,7 @@ use Rattle.std.specs.Prelude.{ℕ, Bool, true, false, List}
 use Rattle.cdl_text.specs.Lexemes.{lexeme, role}
 use Rattle.cdl_text.specs.declared.piece.Role.{Role}
 use Rattle.cdl_text.specs.declared.piece.Role.TheVariants.{End}
-use Rattle.cdl_text.specs.declared.token.Token.{Token}
+use Rattle.cdl_tokens.specs.declared.token.Token.{Token}
 
 -- a token of this text
 abbrev pub role_in : List ℕ → Token → Role

@@ -1,11 +1,11 @@
 -- The shapes of statements.
 use Rattle.std.specs.Prelude.{ℕ, ℤ, Bool, true, false, List, [], ◌∷◌, ◌-◌, ◌&&◌, ◌||◌, not, if◌then◌else◌, take, drop, length, codes, Option, None, Some, is_none, nat_lt}
 use Rattle.std.specs.Option.{option_map, option_and_then}
-use Rattle.cdl_text.specs.Escapes.{stands}
+use Rattle.cdl_tokens.specs.Escapes.{stands}
 use Rattle.cdl_text.specs.Lexemes.{Lexeme, is_mark, is_word, is_word_kind, name_of}
-use Rattle.cdl_text.specs.Numerals.{Numeral, numeral}
-use Rattle.cdl_text.specs.declared.token.TokenKind.{TokenKind}
-use Rattle.cdl_text.specs.declared.token.TokenKind.TheVariants as kinds
+use Rattle.cdl_tokens.specs.Numerals.{Numeral, numeral}
+use Rattle.cdl_tokens.specs.declared.token.TokenKind.{TokenKind}
+use Rattle.cdl_tokens.specs.declared.token.TokenKind.TheVariants as kinds
 use Rattle.cdl_text.specs.declared.fault.CdlKind.{CdlKind}
 use Rattle.cdl_text.specs.declared.fault.CdlKind.TheVariants.{BadToken, BadNumber}
 use Rattle.nc_base.specs.declared.version.Version.{Version}

@@ -2,9 +2,9 @@
 use Rattle.std.specs.Prelude.{ℕ, List}
 use Rattle.cdl_text.specs.Lexemes.{role, lexeme}
 use Rattle.cdl_text.specs.Pieces.{pieces_at}
-use Rattle.cdl_text.specs.Tokens.{tokens}
+use Rattle.cdl_tokens.specs.Tokens.{tokens}
 use Rattle.cdl_text.specs.declared.piece.CutState.TheVariants.{Begins}
-use Rattle.cdl_text.specs.declared.token.Token.{Token}
+use Rattle.cdl_tokens.specs.declared.token.Token.{Token}
 
 abbrev pub statements : List ℕ → List (List Token)
 statements text = pieces_at (λ t. role (lexeme text t)) Begins (tokens text)

@@ -2,7 +2,7 @@
 use Rattle.std.specs.Prelude.{ℕ, List}
 use Rattle.cdl_text.specs.Lexemes.{Lexeme}
 use Rattle.cdl_text.specs.declared.lexeme.Lexeme as code
-use Rattle.cdl_text.specs.declared.token.TokenKind.{TokenKind}
+use Rattle.cdl_tokens.specs.declared.token.TokenKind.{TokenKind}
 
 abbrev pub lexeme_with : TokenKind → List ℕ → Lexeme
 lexeme_with kind bytes = record { kind = kind; bytes = bytes }

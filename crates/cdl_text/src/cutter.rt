@@ -4,13 +4,13 @@ ghost use Rattle.std.specs.Prelude.{◌≡◌, ◌∷◌, [], OnOk, OnErr, IfOk,
 ghost use Rattle.cdl_text.specs.Roles.{role_in};
 ghost use Rattle.cdl_text.specs.Lexemes.{lexeme};
 ghost use Rattle.cdl_text.specs.Pieces.{with_first};
-ghost use Rattle.cdl_text.specs.Scanners.{is_end};
+ghost use Rattle.cdl_tokens.specs.Scanners as scanners;
+ghost use Rattle.cdl_tokens.specs.Scanners.{is_end};
 ghost use Rattle.cdl_text.specs.Statements.{statements};
 
 use crate::lexeme::Lexeme;
 use crate::piece::{CutState, Role};
-use crate::scanner::Scanner;
-use crate::token::{Token, TokenKind};
+use cdl_tokens::{Scanner, Token, TokenKind};
 use nc_base::Version;
 
 /// A growth of memory was refused.
@@ -31,7 +31,7 @@ pub struct Cutter<'a> {
     next_role: Role,
     state: CutState,
     done: bool,
-    ghost known: { next_role ≡ role_in scanner.text.now next },
+    ghost known: { next_role ≡ role_in (scanners.text_of scanner) next },
 }
 
 impl<'a> Cutter<'a> {
@@ -51,7 +51,7 @@ impl<'a> Cutter<'a> {
             scanner,
             version,
             next,
-            next_role: next.role(text),
+            next_role: Role::of(next, text),
             state: CutState::Begins,
             done: false,
         }
@@ -77,7 +77,7 @@ impl<'a> Cutter<'a> {
         ensures lexeme { lexeme_of result ≡ lexeme (text_of self.now) (next_token self.now) }
         ensures first { is_done self.now ≡ false → words self.now ≡ lexeme_of result ∷ drop 1 (words self.now) }
     {
-        self.next.lexeme(self.scanner.text())
+        Lexeme::of(self.next, self.scanner.text())
     }
 
     /// The line of the next statement's first token, from 1 on.
@@ -130,7 +130,7 @@ impl<'a> Cutter<'a> {
         ensures goes { result ≡ false → is_done self.new ≡ false }
     {
         let following = self.scanner.token();
-        let following_role = following.role(self.scanner.text());
+        let following_role = Role::of(following, self.scanner.text());
         let found = self.state.step(self.next_role, following_role);
         self.done = is_end(self.next.kind);
         self.state = found.state;

@@ -5,7 +5,7 @@ ghost use Rattle.cdl_text.specs.Shapes.{is_kind_end, is_kind_opening};
 
 use crate::lexeme::Lexeme;
 use crate::section::Section;
-use crate::token::TokenKind;
+use cdl_tokens::TokenKind;
 
 /// Which token comes next in a statement that has its shape so far.
 #[derive(Clone, Copy, Debug, PartialEq, Eq)]

@@ -1,14 +1,11 @@
 //! Tokens without their places.
 
-ghost use Rattle.std.specs.Prelude.{◌≡◌, if◌then◌else◌};
+ghost use Rattle.std.specs.Prelude.{◌≡◌};
 ghost use Rattle.cdl_text.specs.DueTokens.{is_number};
 ghost use Rattle.cdl_text.specs.Lexemes.{is_mark_kind, is_word_kind};
-ghost use Rattle.cdl_text.specs.Pieces.{is_section, mark_role};
 
-use crate::bytes::byte_at;
-use crate::piece::Role;
 use crate::section::Section;
-use crate::token::TokenKind;
+use cdl_tokens::{Token, TokenKind, byte_at};
 use nc_base::is_reserved;
 
 /// A token without its place: its kind and its bytes.
@@ -20,9 +17,20 @@ pub struct Lexeme<'a> {
 
 impl<'a> Lexeme<'a> {
     ghost use Rattle.cdl_text.specs.DueTokens.{goes_to, is_length, is_name, is_value_of};
-    ghost use Rattle.cdl_text.specs.Lexemes.{is_mark, is_word};
+    ghost use Rattle.cdl_text.specs.Lexemes.{is_mark, is_word, lexeme};
     ghost use Rattle.cdl_text.specs.Shapes.{section_of};
     ghost use Rattle.cdl_text.specs.Views.{lexeme_of};
+
+    /// A token of this text, without its place.
+    #[inline]
+    pub fn of(token: Token, text: &'a [u8]) -> Lexeme<'a>
+        ensures { lexeme_of result ≡ lexeme text.now token }
+    {
+        Lexeme {
+            kind: token.kind,
+            bytes: token.bytes(text),
+        }
+    }
 
     /// Says whether the token is this mark.
     pub fn is_mark(self, mark: u8) -> bool
@@ -114,32 +122,4 @@ fn is_number(kind: TokenKind) -> bool
     ensures { result ≡ is_number kind }
 {
     matches!(kind, TokenKind::Number)
-}
-
-/// What a word does.
-#[tactic(auto, unfolding(crate::specs::Pieces::is_section))]
-#[inline(never)]
-pub fn word_role(word: &[u8]) -> Role
-    ensures { result ≡ (if is_section word.now then Role.Section else Role.Other) }
-{
-    let is_section = word == b"dimensions".as_slice()
-        || word == b"variables".as_slice()
-        || word == b"data".as_slice();
-    if is_section {
-        Role::Section
-    } else {
-        Role::Other
-    }
-}
-
-/// What a mark does.
-pub fn mark_role(mark: u8) -> Role
-    ensures { result ≡ mark_role mark }
-{
-    match mark {
-        b':' => Role::Colon,
-        b';' => Role::Semicolon,
-        b'}' => Role::Brace,
-        _ => Role::Other,
-    }
 }

@@ -1,7 +1,9 @@
 //! How a list of tokens is cut into statements.
 
-ghost use Rattle.std.specs.Prelude.{◌≡◌, true};
-ghost use Rattle.cdl_text.specs.Pieces.{ending, going, section_step, unless_end};
+ghost use Rattle.std.specs.Prelude.{◌≡◌, true, if◌then◌else◌};
+ghost use Rattle.cdl_text.specs.Pieces.{ending, going, is_section, mark_role, section_step, unless_end};
+
+use cdl_tokens::{Token, TokenKind, byte_at};
 
 /// What a token does where the tokens are cut.
 #[derive(Clone, Copy, Debug, PartialEq, Eq)]
@@ -14,6 +16,52 @@ pub enum Role {
     Brace,
     End,
     Other,
+}
+
+impl Role {
+    ghost use Rattle.cdl_text.specs.Roles.{role_in};
+
+    /// What a token of this text does where the tokens are cut into statements.
+    #[inline]
+    pub fn of(token: Token, text: &[u8]) -> Role
+        ensures { result ≡ role_in text.now token }
+    {
+        match token.kind {
+            TokenKind::Word => word_role(token.bytes(text)),
+            TokenKind::Mark => mark_role(byte_at(token.bytes(text), 0)),
+            TokenKind::Opening => Role::Opening,
+            TokenKind::End => Role::End,
+            TokenKind::Number | TokenKind::Text | TokenKind::Bad => Role::Other,
+        }
+    }
+}
+
+/// What a word does.
+#[tactic(auto, unfolding(crate::specs::Pieces::is_section))]
+#[inline(never)]
+fn word_role(word: &[u8]) -> Role
+    ensures { result ≡ (if is_section word.now then Role.Section else Role.Other) }
+{
+    let is_section = word == b"dimensions".as_slice()
+        || word == b"variables".as_slice()
+        || word == b"data".as_slice();
+    if is_section {
+        Role::Section
+    } else {
+        Role::Other
+    }
+}
+
+/// What a mark does.
+fn mark_role(mark: u8) -> Role
+    ensures { result ≡ mark_role mark }
+{
+    match mark {
+        b':' => Role::Colon,
+        b';' => Role::Semicolon,
+        b'}' => Role::Brace,
+        _ => Role::Other,
+    }
 }
 
 /// What comes before the next token.

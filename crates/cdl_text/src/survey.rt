@@ -11,9 +11,8 @@ use crate::cutter::Cutter;
 use crate::due::Due;
 use crate::fault::CdlKind;
 use crate::lexeme::Lexeme;
-use crate::numeral::number_of_token;
 use crate::section::Section;
-use crate::token::TokenKind;
+use cdl_tokens::{TokenKind, number_of_token};
 use nc_base::Version;
 
 /// What a first pass over a statement finds.

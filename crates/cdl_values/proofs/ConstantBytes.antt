@@ -7,15 +7,15 @@ use Rattle.nc_base.specs.declared.nc_type.NcType.TheVariants.{Char}
 use Rattle.nc_base.specs.declared.version.Version.{Version}
 use Rattle.cdl_text.specs.Contents.{value_of, values}
 use Rattle.cdl_text.specs.Lexemes.{Lexeme}
-use Rattle.cdl_text.specs.declared.token.TokenKind.{TokenKind}
-use Rattle.cdl_text.specs.declared.token.TokenKind.TheVariants as kinds
+use Rattle.cdl_tokens.specs.declared.token.TokenKind.{TokenKind}
+use Rattle.cdl_tokens.specs.declared.token.TokenKind.TheVariants as kinds
 use Rattle.std.specs.List.{prefix_len}
-use Rattle.cdl_text.specs.Bytes.{is_octal, is_hex}
-use Rattle.cdl_text.specs.Escapes.{character, escape, octal_escape, octal_number, hex_escape, byte, plain_escape, or_zero, digit, stands, stands_at}
-use Rattle.cdl_text.specs.declared.scan.Character.{Character}
-use Rattle.cdl_text.specs.Magnitudes.{word, held}
-use Rattle.cdl_text.specs.declared.numeral.Numeral.{Numeral as Held}
-use Rattle.cdl_text.specs.Numerals.{Parts, number}
+use Rattle.cdl_tokens.specs.Bytes.{is_octal, is_hex}
+use Rattle.cdl_tokens.specs.Escapes.{character, escape, octal_escape, octal_number, hex_escape, byte, plain_escape, or_zero, digit, stands, stands_at}
+use Rattle.cdl_tokens.specs.declared.scan.Character.{Character}
+use Rattle.cdl_tokens.specs.Magnitudes.{word, held}
+use Rattle.cdl_tokens.specs.declared.numeral.Numeral.{Numeral as Held}
+use Rattle.cdl_tokens.specs.Numerals.{Parts, number}
 use Rattle.cdl_text.specs.Shapes.{Value, Number, Characters, inner}
 use Rattle.cdl_text.specs.declared.fault.CdlKind.{CdlKind}
 use Rattle.cdl_text.specs.declared.fault.CdlKind.TheVariants.{NumberRange}

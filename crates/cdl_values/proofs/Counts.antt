@@ -7,17 +7,17 @@ use Rattle.cdl_text.specs.Cutters.{words, pieces_left, tokens_left, text_of, fir
 use Rattle.cdl_text.specs.Lexemes.{Lexeme, lexeme, is_mark_kind}
 use Rattle.cdl_text.specs.Pieces.{pieces_at, step, with_first, first_role}
 use Rattle.cdl_text.specs.Roles.{role_in}
-use Rattle.cdl_text.specs.Scan.{scan}
-use Rattle.cdl_text.specs.Scanners.{followed, left}
+use Rattle.cdl_tokens.specs.Scan.{scan}
+use Rattle.cdl_tokens.specs.Scanners.{followed, left}
 use Rattle.cdl_text.specs.Shapes.{Value}
-use Rattle.cdl_text.specs.Tokens.{tokens_at, with_token}
+use Rattle.cdl_tokens.specs.Tokens.{tokens_at, with_token}
 use Rattle.cdl_text.specs.declared.cutter.Cutter.{Cutter}
 use Rattle.cdl_text.specs.declared.fault.CdlKind.{CdlKind}
 use Rattle.cdl_text.specs.declared.piece.CutState.{CutState}
 use Rattle.cdl_text.specs.declared.piece.Role.{Role}
-use Rattle.cdl_text.specs.declared.token.Token.{Token}
-use Rattle.cdl_text.specs.declared.token.TokenKind.{TokenKind}
-use Rattle.cdl_text.specs.declared.token.TokenKind.TheVariants as kinds
+use Rattle.cdl_tokens.specs.declared.token.Token.{Token}
+use Rattle.cdl_tokens.specs.declared.token.TokenKind.{TokenKind}
+use Rattle.cdl_tokens.specs.declared.token.TokenKind.TheVariants as kinds
 use Rattle.cdl_meaning.specs.State.{Capacity, add_value, in_turn}
 use Rattle.cdl_values.specs.Capacities.{Fills, Takes, as_bytes, capacity_for, most, unit_of}
 use Rattle.cdl_values.specs.PackedValues.{packed, followed_by, value_bytes, row_bytes, is_full}

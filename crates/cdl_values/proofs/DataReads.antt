@@ -3,7 +3,8 @@ use Rattle.std.proofs.Common.{◌≡◌, ℕ, true, false, List, [], ◌∷◌, 
 use Rattle.std.specs.Prelude.{Option, None, Some, Result, Ok, Err, ◌&&◌, ◌==◌, not, slice_index, if◌then◌else◌}
 use Rattle.std.proofs.lemmas.Bool.{false≢true}
 use Rattle.nc_base.specs.declared.version.Version.{Version}
-use Rattle.cdl_text.specs.Lexemes.{Lexeme, word_value, is_mark, is_word_kind, is_mark_kind}
+use Rattle.cdl_tokens.specs.Escapes.{word_value}
+use Rattle.cdl_text.specs.Lexemes.{Lexeme, is_mark, is_word_kind, is_mark_kind}
 use Rattle.cdl_text.specs.Shapes.{first_bad, token_fault}
 use Rattle.cdl_text.specs.DueTokens.{completes, next, is_name, only, is_whole}
 use Rattle.nc_base.specs.Escapes.{is_reserved}
@@ -14,8 +15,8 @@ use Rattle.cdl_text.specs.declared.due.Due.TheVariants.{DataName, Equals, Value}
 use Rattle.cdl_text.specs.declared.fault.CdlKind.{CdlKind}
 use Rattle.cdl_text.specs.declared.fault.CdlKind.TheVariants.{Syntax}
 use Rattle.cdl_text.proofs.Surveys.{good_on}
-use Rattle.cdl_text.specs.declared.token.TokenKind.{TokenKind}
-use Rattle.cdl_text.specs.declared.token.TokenKind.TheVariants as kinds
+use Rattle.cdl_tokens.specs.declared.token.TokenKind.{TokenKind}
+use Rattle.cdl_tokens.specs.declared.token.TokenKind.TheVariants as kinds
 use Rattle.cdl_values.specs.PackedValues.{packed}
 use Rattle.cdl_values.specs.Answers.{Fails}
 use Rattle.cdl_values.specs.DataRead.{data_read, assigned, filled, target_of}

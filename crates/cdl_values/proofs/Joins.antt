@@ -10,7 +10,8 @@ use Rattle.nc_base.specs.declared.header.Dim.{Dim}
 use Rattle.nc_base.specs.declared.version.Version.{Version}
 use Rattle.cdl_text.specs.Contents.{values}
 use Rattle.cdl_text.specs.DueTokens.{completes, next}
-use Rattle.cdl_text.specs.Lexemes.{Lexeme, word_value, is_mark}
+use Rattle.cdl_tokens.specs.Escapes.{word_value}
+use Rattle.cdl_text.specs.Lexemes.{Lexeme, is_mark}
 use Rattle.cdl_text.specs.Shapes.{Listed, Brace, first_bad, shape}
 use Rattle.cdl_text.specs.declared.due.Due.TheVariants as dues
 use Rattle.cdl_text.specs.declared.fault.CdlKind.{CdlKind}

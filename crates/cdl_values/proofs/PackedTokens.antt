@@ -15,8 +15,8 @@ use Rattle.cdl_values.specs.declared.read_error.ReadError.{ReadError}
 use Rattle.cdl_values.specs.declared.read_error.ReadError.TheVariants.{OutOfMemory, Fault}
 use Rattle.cdl_values.specs.Answers.{Fails}
 use Rattle.std.proofs.Math.Seq.{drop-append_seam}
-use Rattle.cdl_text.specs.declared.token.TokenKind.{TokenKind}
-use Rattle.cdl_text.specs.declared.token.TokenKind.TheVariants as kinds
+use Rattle.cdl_tokens.specs.declared.token.TokenKind.{TokenKind}
+use Rattle.cdl_tokens.specs.declared.token.TokenKind.TheVariants as kinds
 
 -- what stands before a fault is given up
 pub joined_assoc : (bs cs : List ℕ) (r : Result (List ℕ) CdlKind) → joined (Ok bs) (joined (Ok cs) r) ≡ joined (Ok (bs ++ cs)) r

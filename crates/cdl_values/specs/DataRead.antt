@@ -2,7 +2,8 @@
 use Rattle.std.specs.Prelude.{ℕ, List, [], ◌∷◌, if◌then◌else◌, drop, Option, None, Some, Result, Ok, Err, slice_get}
 use Rattle.nc_base.specs.declared.version.Version.{Version}
 use Rattle.nc_base.specs.Names.{is_name}
-use Rattle.cdl_text.specs.Lexemes.{Lexeme, word_value}
+use Rattle.cdl_tokens.specs.Escapes.{word_value}
+use Rattle.cdl_text.specs.Lexemes.{Lexeme}
 use Rattle.cdl_text.specs.DueTokens.{completes}
 use Rattle.cdl_text.specs.declared.due.Due.TheVariants.{DataName}
 use Rattle.cdl_text.specs.Contents.{values}

@@ -4,7 +4,7 @@ use Rattle.nc_base.specs.declared.nc_type.NcType.{NcType}
 use Rattle.nc_base.specs.declared.nc_type.NcType.TheVariants.{Byte, Char, Short, Int, Ubyte, Ushort, Uint, Int64, Uint64}
 use Rattle.nc_base.specs.Numbers.{bytes_of_number}
 use Rattle.std.specs.List.{flat_map}
-use Rattle.cdl_text.specs.Numerals.{signed}
+use Rattle.cdl_tokens.specs.Numerals.{signed}
 use Rattle.cdl_text.specs.Shapes.{Value, Number, Characters, Underscore}
 use Rattle.cdl_text.specs.declared.fault.CdlKind.{CdlKind}
 use Rattle.cdl_text.specs.declared.fault.CdlKind.TheVariants.{NumberRange, WrongKind, TooManyValues, StringTooLong}

@@ -3,10 +3,10 @@
 ghost use Rattle.std.specs.Prelude.{◌≡◌, List, [], ◌∷◌, false};
 ghost use Rattle.cdl_text.specs.Contents.{value_of, values};
 ghost use Rattle.cdl_text.specs.Cutters.{is_done, version_of, words};
-ghost use Rattle.cdl_text.specs.Escapes.{stands};
+ghost use Rattle.cdl_tokens.specs.Escapes.{stands};
 ghost use Rattle.cdl_text.specs.Lexemes as lexemes;
-ghost use Rattle.cdl_text.specs.Magnitudes.{held};
-ghost use Rattle.cdl_text.specs.Numerals.{Parts, number};
+ghost use Rattle.cdl_tokens.specs.Magnitudes.{held};
+ghost use Rattle.cdl_tokens.specs.Numerals.{Parts, number};
 ghost use Rattle.cdl_text.specs.Shapes.{Characters, Number, inner};
 ghost use Rattle.cdl_text.specs.Views.{lexeme_of};
 ghost use Rattle.cdl_meaning.specs.State.{add_constant, in_turn, type_said};
@@ -16,7 +16,8 @@ use crate::array::Array;
 use crate::number::{number_or_zero, put_numeral};
 use crate::read_error::ReadError;
 use crate::string::put_text;
-use cdl_text::{CdlKind, Cutter, Lexeme, Numeral, TokenKind};
+use cdl_text::{CdlKind, Cutter, Lexeme};
+use cdl_tokens::{Numeral, TokenKind};
 use nc_base::{NcType, Version};
 use std::alloc::Global;
 

@@ -2,7 +2,7 @@
 
 ghost use Rattle.std.specs.Prelude.{◌≡◌, ◌<◌, ◌^◌, ℕ, List, Ok, Some, IfOk, false, length, option_map};
 ghost use Rattle.cdl_text.specs.Cutters.{after, is_done, pieces_left, text_of, version_of, words};
-ghost use Rattle.cdl_text.specs.Lexemes.{word_value};
+ghost use Rattle.cdl_tokens.specs.Escapes.{word_value};
 ghost use Rattle.cdl_text.specs.declared.section.Section.TheVariants.{Values};
 ghost use Rattle.cdl_meaning.specs.State.{State};
 ghost use Rattle.cdl_values.specs.Answers.{Gives};

@@ -2,13 +2,14 @@
 
 ghost use Rattle.std.specs.Prelude.{◌≡◌, IfErr, IfOk, OnOk, true};
 ghost use Rattle.nc_base.specs.Names.{is_name};
-ghost use Rattle.cdl_text.specs.Lexemes.{word_value};
+ghost use Rattle.cdl_tokens.specs.Escapes.{word_value};
 ghost use Rattle.cdl_text.specs.declared.fault.CdlKind.TheVariants.{BadName};
 ghost use Rattle.cdl_meaning.specs.State.{unless};
 ghost use Rattle.cdl_values.specs.Answers.{Fails};
 
 use crate::read_error::ReadError;
-use cdl_text::{CdlKind, byte_at, is_escape};
+use cdl_text::CdlKind;
+use cdl_tokens::{byte_at, is_escape};
 use nc_base::check_name;
 use std::alloc::{AllocError, Global};
 

@@ -3,14 +3,15 @@
 ghost use Rattle.std.specs.Prelude.{◌≡◌, ◌++◌, OnOk};
 ghost use Rattle.nc_base.specs.Numbers.{IsInRange, bytes_of_number};
 ghost use Rattle.cdl_text.specs.Contents.{parts_or_zero};
-ghost use Rattle.cdl_text.specs.Magnitudes.{held};
-ghost use Rattle.cdl_text.specs.Numerals.{parts, signed};
+ghost use Rattle.cdl_tokens.specs.Magnitudes.{held};
+ghost use Rattle.cdl_tokens.specs.Numerals.{parts, signed};
 ghost use Rattle.cdl_values.specs.Answers.{Adds};
 ghost use Rattle.cdl_values.specs.PackedValues.{greatest, held_bytes};
 
 use crate::array::Array;
 use crate::read_error::ReadError;
-use cdl_text::{CdlKind, Numeral, number_of_token};
+use cdl_text::CdlKind;
+use cdl_tokens::{Numeral, number_of_token};
 use nc_base::{NcType, Version};
 use std::alloc::AllocError;
 

@@ -2,7 +2,7 @@
 
 ghost use Rattle.std.specs.Prelude.{◌≡◌, ◌++◌, ◌≤◌, IfOk, OnOk, length, take};
 ghost use Rattle.std.specs.List.{prefix_len};
-ghost use Rattle.cdl_text.specs.Escapes.{is_unescaped, stands};
+ghost use Rattle.cdl_tokens.specs.Escapes.{is_unescaped, stands};
 ghost use Rattle.cdl_text.specs.Shapes.{Characters, inner};
 ghost use Rattle.cdl_values.specs.Answers.{Adds};
 ghost use Rattle.cdl_values.specs.PackedValues.{char_bytes, row_bytes, text_bytes};
@@ -10,7 +10,8 @@ ghost use Rattle.cdl_values.specs.PackedValues.{char_bytes, row_bytes, text_byte
 use crate::array::Array;
 use crate::filling::is_past;
 use crate::read_error::ReadError;
-use cdl_text::{CdlKind, character, first_bytes, unescaped_len};
+use cdl_text::CdlKind;
+use cdl_tokens::{character, first_bytes, unescaped_len};
 use std::alloc::AllocError;
 
 /// Adds a string of which the capacity is in bytes.

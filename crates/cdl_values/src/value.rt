@@ -16,7 +16,8 @@ use crate::filling::{Filling, is_full, less};
 use crate::number::{number_or_zero, put_number, put_numeral};
 use crate::read_error::ReadError;
 use crate::string::{put_row, put_text};
-use cdl_text::{CdlKind, Due, Lexeme, TokenKind, number_of_token};
+use cdl_text::{CdlKind, Due, Lexeme};
+use cdl_tokens::{TokenKind, number_of_token};
 use nc_base::Version;
 
 /// Why a pass that knows no faults stops.

@@ -2,7 +2,8 @@
 
 use crate::name_indices::index_of;
 use cdl_parse::{DataSection, ParseError, read_data};
-use cdl_text::{CdlFault, CdlKind, Cutter, TokenKind};
+use cdl_text::{CdlFault, CdlKind, Cutter};
+use cdl_tokens::TokenKind;
 use cdl_values::{Array, Fill, Filling, Target};
 use nc_base::{NcType, Version};
 use std::alloc::{AllocError, Global};

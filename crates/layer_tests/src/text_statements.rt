@@ -1,9 +1,7 @@
 //! The tokens, statements and numbers of CDL text.
 
-use cdl_text::{
-    CdlKind, Character, Cutter, Numeral, OutOfMemory, Scanner, Section, Token, TokenKind,
-    character, look_over, number_of_token,
-};
+use cdl_text::{CdlKind, Cutter, OutOfMemory, Section, look_over};
+use cdl_tokens::{Character, Numeral, Scanner, Token, TokenKind, character, number_of_token};
 use nc_base::{NcType, Version};
 use std::alloc::Global;
 use std::process::Abort;

@@ -2,7 +2,8 @@
 
 use crate::name_indices::index_of;
 use cdl_parse::{check_new, dim_len};
-use cdl_text::{CdlKind, Cutter, Numeral};
+use cdl_text::{CdlKind, Cutter};
+use cdl_tokens::Numeral;
 use cdl_values::{Fill, Filling, ReadError, Target, read};
 use nc_base::{NcType, Version};
 use std::alloc::Global;

@@ -1,6 +1,6 @@
 use Rattle.std.proofs.Common.{rules, refl}
 use Rattle.std.specs.Prelude.{Ok}
-use Rattle.cdl_text.specs.Lexemes.{word_value}
+use Rattle.cdl_tokens.specs.Escapes.{word_value}
 use Rattle.cdl_text.specs.declared.fault.CdlKind.TheVariants.{BadName, DuplicateName}
 use Rattle.cdl_meaning.specs.State.{unless, when, ◌>>=◌}
 use Rattle.cdl_values.proofs.AllowedNames.{not_allowed, refused}

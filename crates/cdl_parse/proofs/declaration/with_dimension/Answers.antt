@@ -1,5 +1,5 @@
 use Rattle.std.proofs.Common.{rules, ◌≡◌, ◌++◌, ◌∷◌, [], ap, sym, subst, ◌∙◌}
-use Rattle.cdl_text.specs.Lexemes.{word_value}
+use Rattle.cdl_tokens.specs.Escapes.{word_value}
 use Rattle.cdl_values.specs.Answers.{Fails}
 use Rattle.cdl_parse.specs.Declarations.{continued, next_dimid}
 use Rattle.cdl_parse.specs.declared.declaration.Begun.{Begun}

@@ -2,7 +2,7 @@ use Rattle.std.proofs.Common.{rules, ◌≡◌, ◌∷◌, ◌++◌, [], ap, sym
 use Rattle.std.specs.Prelude.{Result, List, Ok, Err}
 use Rattle.nc_base.specs.declared.header.Dim.{Dim}
 use Rattle.cdl_text.specs.Contents.{dimension_said}
-use Rattle.cdl_text.specs.Lexemes.{word_value}
+use Rattle.cdl_tokens.specs.Escapes.{word_value}
 use Rattle.cdl_text.specs.Views.{lexeme_of}
 use Rattle.cdl_text.specs.declared.fault.CdlKind.{CdlKind}
 use Rattle.cdl_meaning.specs.State.{add_dim, dim_len_of, ◌>>=◌}

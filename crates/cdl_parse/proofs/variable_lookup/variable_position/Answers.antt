@@ -1,5 +1,5 @@
 use Rattle.std.proofs.Common.{rules, ap, sym, ◌∙◌}
-use Rattle.cdl_text.specs.Lexemes.{word_value}
+use Rattle.cdl_tokens.specs.Escapes.{word_value}
 use Rattle.cdl_meaning.specs.State.{at_variable}
 use Rattle.cdl_values.specs.Meant.{names_of}
 use Rattle.cdl_values.specs.NameIndices.{position_of}

@@ -1,6 +1,6 @@
 use Rattle.std.proofs.Common.{rules, ◌≡◌, true, false, sym, ◌∙◌, refl}
 use Rattle.std.specs.Prelude.{is_none}
-use Rattle.cdl_text.specs.Numerals.{numeral}
+use Rattle.cdl_tokens.specs.Numerals.{numeral}
 use Rattle.cdl_text.proofs.Surveys.{bad_number}
 use Rattle.cdl_text.proofs.survey.number_fault.Goals as goal
 

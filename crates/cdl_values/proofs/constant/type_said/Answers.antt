@@ -1,7 +1,7 @@
 use Rattle.std.proofs.Common.{ap, sym, ◌∙◌}
 use Rattle.cdl_text.specs.Contents.{value_of}
 use Rattle.cdl_text.specs.Views.{lexeme_of}
-use Rattle.cdl_text.specs.declared.numeral.Numeral.{Numeral}
+use Rattle.cdl_tokens.specs.declared.numeral.Numeral.{Numeral}
 use Rattle.cdl_meaning.specs.State.{type_said}
 use Rattle.cdl_values.proofs.ConstantBytes.{no_number}
 use Rattle.cdl_values.proofs.constant.type_said.Goals as goal

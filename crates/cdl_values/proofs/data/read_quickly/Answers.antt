@@ -1,5 +1,6 @@
 use Rattle.std.proofs.Common.{rules, ◌≡◌, sym, ap, ◌∙◌, true}
-use Rattle.cdl_text.specs.Lexemes.{Lexeme, lexeme, word_value}
+use Rattle.cdl_tokens.specs.Escapes.{word_value}
+use Rattle.cdl_text.specs.Lexemes.{Lexeme, lexeme}
 use Rattle.cdl_text.specs.DueTokens.{completes}
 use Rattle.cdl_text.specs.declared.due.Due.TheVariants.{DataName}
 use Rattle.cdl_text.specs.Cutters.{next_token, text_of, version_of, words}

@@ -1,7 +1,8 @@
 use Rattle.std.proofs.Common.{rules, ◌≡◌, sym, ap, ◌∙◌, true, false, subst}
 use Rattle.std.specs.Prelude.{Result, List, ℕ}
 use Rattle.cdl_text.specs.Contents.{values}
-use Rattle.cdl_text.specs.Lexemes.{Lexeme, lexeme, word_value}
+use Rattle.cdl_tokens.specs.Escapes.{word_value}
+use Rattle.cdl_text.specs.Lexemes.{Lexeme, lexeme}
 use Rattle.cdl_text.specs.DueTokens.{completes}
 use Rattle.cdl_text.specs.declared.due.Due.TheVariants.{DataName}
 use Rattle.cdl_text.specs.Cutters.{next_token, text_of, version_of, words}

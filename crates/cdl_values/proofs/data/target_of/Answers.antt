@@ -1,6 +1,6 @@
 use Rattle.std.proofs.Common.{rules, refl}
 use Rattle.std.specs.Prelude.{if◌then◌else◌, Err}
-use Rattle.cdl_text.specs.Lexemes.{word_value}
+use Rattle.cdl_tokens.specs.Escapes.{word_value}
 use Rattle.cdl_text.specs.declared.fault.CdlKind.TheVariants.{BadName}
 use Rattle.cdl_values.specs.DataRead.{target_at, target_of}
 use Rattle.cdl_values.specs.NameIndices.{position_of}

@@ -1,5 +1,5 @@
 use Rattle.std.proofs.Common.{length, ◌-◌, ◌≡◌, ◌++◌, ◌≤◌, drop}
-use Rattle.cdl_text.specs.Lexemes.{word_value}
+use Rattle.cdl_tokens.specs.Escapes.{word_value}
 use Rattle.cdl_values.proofs.name.name_of_word.Given as goal
 
 abbrev pub invariant-loop-at : goal.invariant-loop-at

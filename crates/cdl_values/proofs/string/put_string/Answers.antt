@@ -1,7 +1,7 @@
 use Rattle.std.proofs.Common.{rules, arith, ◌≡◌, ◌+◌, ◌<◌, ◌++◌, ◌∷◌, [], drop, take, sym, ap, ◌∙◌, append_assoc, append-nil}
 use Rattle.std.specs.List.{prefix_len}
-use Rattle.cdl_text.specs.Escapes.{stands, character, is_unescaped, or_zero}
-use Rattle.cdl_text.proofs.Strings.{stands_after, stands_more, stands_past, stands_unescaped}
+use Rattle.cdl_tokens.specs.Escapes.{stands, character, is_unescaped, or_zero}
+use Rattle.cdl_tokens.proofs.Strings.{stands_after, stands_more, stands_past, stands_unescaped}
 use Rattle.cdl_values.specs.PackedValues.{char_bytes}
 use Rattle.cdl_values.proofs.ConstantBytes.{put_on}
 use Rattle.cdl_values.proofs.PackedTokens.{one_char}

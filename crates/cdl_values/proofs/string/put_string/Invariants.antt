@@ -1,5 +1,5 @@
 use Rattle.std.proofs.Common.{length, ◌-◌, ◌≡◌, ◌++◌, drop}
-use Rattle.cdl_text.specs.Escapes.{stands}
+use Rattle.cdl_tokens.specs.Escapes.{stands}
 use Rattle.cdl_values.specs.PackedValues.{char_bytes}
 use Rattle.cdl_values.proofs.string.put_string.Given as goal
 

@@ -3,7 +3,7 @@ use Rattle.std.specs.Prelude.{◌-◌}
 use Rattle.cdl_text.specs.Contents.{values, value_of}
 use Rattle.cdl_text.specs.Lexemes.{is_mark_kind}
 use Rattle.cdl_text.specs.Views.{lexeme_of, lexeme_with}
-use Rattle.cdl_text.specs.declared.token.TokenKind.TheVariants.{Number}
+use Rattle.cdl_tokens.specs.declared.token.TokenKind.TheVariants.{Number}
 use Rattle.cdl_values.specs.PackedValues.{packed, joined, bytes_of}
 use Rattle.cdl_values.proofs.PackedTokens.{over_mark, over_value, one_packed, no_mark, added, is_after}
 use Rattle.cdl_values.proofs.value.take_good.Goals as goal

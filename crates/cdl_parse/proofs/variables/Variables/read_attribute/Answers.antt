@@ -2,7 +2,8 @@ use Rattle.std.proofs.Common.{◌≡◌, ◌<◌, drop, true, ap, sym, subst, �
 use Rattle.std.proofs.lemmas.List.{length-map}
 use Rattle.cdl_text.specs.Cutters.{next_token, text_of, version_of, words}
 use Rattle.cdl_text.specs.DueTokens.{completes}
-use Rattle.cdl_text.specs.Lexemes.{lexeme, word_value}
+use Rattle.cdl_tokens.specs.Escapes.{word_value}
+use Rattle.cdl_text.specs.Lexemes.{lexeme}
 use Rattle.cdl_text.specs.Views.{lexeme_of}
 use Rattle.cdl_text.specs.declared.due.Due.TheVariants.{AttributeName}
 use Rattle.cdl_meaning.specs.State.{at_variable, with_att}

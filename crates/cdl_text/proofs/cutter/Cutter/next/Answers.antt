@@ -1,6 +1,7 @@
 use Rattle.std.proofs.Common.{arith, ◌≡◌, ◌∷◌, ◌++◌, [], ap, ◌∙◌}
 use Rattle.std.proofs.lemmas.Grind.{common_steps}
-use Rattle.cdl_text.specs.Scanners.{left, followed}
+use Rattle.cdl_tokens.specs.Scanners as scanners
+use Rattle.cdl_tokens.specs.Scanners.{left, followed}
 use Rattle.cdl_text.specs.Cutters.{pieces_left}
 use Rattle.cdl_text.specs.Roles.{role_in}
 use Rattle.cdl_text.specs.Pieces.{with_first}
@@ -11,7 +12,7 @@ pub returns-then-self-clause-ok : goal.returns-then-self-clause-ok
 unfolding pieces_left
 returns-then-self-clause-ok c =
     let s = c.args.self.now in
-    let e = none_left (role_in s.scanner.text.now) s.state (followed s.next s.next.kind (left s.scanner)) s.done c.if-self.true in
+    let e = none_left (role_in (scanners.text_of s.scanner)) s.state (followed s.next s.next.kind (left s.scanner)) s.done c.if-self.true in
     (e, e, c.clear.ensures.items)
 
 pub piece-preserved : goal.piece-preserved

@@ -1,0 +1,141 @@
+-- Marks and numbers at the start of bytes: they are no other token, and have no line feed.
+use Rattle.std.proofs.Common.{◌≡◌, ℕ, suc, ◌+◌, ◌<◌, ◌≤◌, Bool, true, false, cond, List, [], ◌∷◌, length, get_or, drop, take, sym, ◌∙◌, ap, refl, arith, subst}
+use Rattle.std.specs.Prelude.{◌==◌, ◌&&◌, ◌||◌, count_by}
+use Rattle.std.specs.List.{prefix_len}
+use Rattle.cdl_tokens.specs.declared.token.TokenKind.TheVariants.{Number, Mark}
+use Rattle.cdl_tokens.specs.Bytes.{begins_word, goes_on_number, is_mark, is_blank, is_digit, is_sign}
+use Rattle.cdl_tokens.specs.Scan.{scan, token, gap, begins_number, begins_opening}
+use Rattle.std.specs.Prelude.{Some}
+use Rattle.std.proofs.lemmas.List.{get_or-drop}
+use Rattle.std.proofs.lemmas.List.Sums.{sum_by-append}
+use Rattle.std.proofs.lemmas.Bool.{false≢true}
+use Rattle.std.proofs.Common.{length-drop}
+use Rattle.cdl_tokens.specs.declared.token.TokenKind.{TokenKind}
+use Rattle.cdl_tokens.specs.Scanners.{is_token, followed}
+use Rattle.cdl_tokens.specs.Tokens.{tokens_at, line_at}
+use Rattle.cdl_tokens.proofs.Scans.{step_gap, step_token, line_more}
+use Rattle.cdl_tokens.proofs.Words.{and_false}
+
+no_opening : (bs : List ℕ) → (get_or bs 0 0 == 0x6e) ≡ false → begins_opening bs ≡ false
+no_opening [] h = refl
+no_opening (b ∷ bs) h = grind (arith, h)
+
+or_split : {P : Type 0} (a b : Bool) → (a || b) ≡ true → (a ≡ true → P) → (b ≡ true → P) → P
+or_split true b h first second = first refl
+or_split false b h first second = second h
+
+at_byte : (P : ℕ → Type 0) (k b : ℕ) → P k → (b == k) ≡ true → P b
+at_byte P k b p h = subst P (let e : k ≡ b = grind (arith, h) in e) p
+
+-- what each mark has
+each_mark : (P : ℕ → Type 0) (b : ℕ) → P 0x3a → P 0x3b → P 0x3d → P 0x2c → P 0x28 → P 0x29 → P 0x7d → is_mark b ≡ true → P b
+each_mark P b colon semicolon equals comma left right brace h =
+    or_split (b == 0x3a || b == 0x3b || b == 0x3d || b == 0x2c || b == 0x28 || b == 0x29) (b == 0x7d) h (λ h.
+    or_split (b == 0x3a || b == 0x3b || b == 0x3d || b == 0x2c || b == 0x28) (b == 0x29) h (λ h.
+    or_split (b == 0x3a || b == 0x3b || b == 0x3d || b == 0x2c) (b == 0x28) h (λ h.
+    or_split (b == 0x3a || b == 0x3b || b == 0x3d) (b == 0x2c) h (λ h.
+    or_split (b == 0x3a || b == 0x3b) (b == 0x3d) h (λ h.
+    or_split (b == 0x3a) (b == 0x3b) h (at_byte P 0x3a b colon) (at_byte P 0x3b b semicolon)) (at_byte P 0x3d b equals)) (at_byte P 0x2c b comma)) (at_byte P 0x28 b left)) (at_byte P 0x29 b right)) (at_byte P 0x7d b brace)
+
+-- the classes of which no mark is one
+abbrev MarkClasses : ℕ → Type 0
+MarkClasses b = ((b == 0x6e) ≡ false) × (begins_word b ≡ false) × ((b == 0x5c) ≡ false) × (is_digit b ≡ false) × ((b == 0x2e) ≡ false) × (is_sign b ≡ false) × (is_blank b ≡ false) × ((b == 0x2f) ≡ false) × ((b == 0x22) ≡ false) × ((b == 0x0a) ≡ false)
+
+mark_classes : (b : ℕ) → is_mark b ≡ true → MarkClasses b
+mark_classes b h = each_mark MarkClasses b
+    (refl, refl, refl, refl, refl, refl, refl, refl, refl, refl)
+    (refl, refl, refl, refl, refl, refl, refl, refl, refl, refl)
+    (refl, refl, refl, refl, refl, refl, refl, refl, refl, refl)
+    (refl, refl, refl, refl, refl, refl, refl, refl, refl, refl)
+    (refl, refl, refl, refl, refl, refl, refl, refl, refl, refl)
+    (refl, refl, refl, refl, refl, refl, refl, refl, refl, refl)
+    (refl, refl, refl, refl, refl, refl, refl, refl, refl, refl)
+    h
+
+-- a mark
+pub scan_mark : (fresh : Bool) (bs : List ℕ) → is_mark (get_or bs 0 0) ≡ true → scan fresh bs ≡ token Mark 1
+unfolding scan
+scan_mark fresh bs h =
+    let (netcdf, word, escape, digit, point, sign, blank, slash, quote, feed) = mark_classes (get_or bs 0 0) h in
+    rw (no_opening bs netcdf) (rw (and_false fresh) (rw (word) (rw (escape) (rw (digit) (rw (point) (rw (sign) (rw (blank) (rw (slash) (rw (quote) (rw (h) refl))))))))))
+
+-- the first byte of a number
+number_low : (bs : List ℕ) → begins_number bs ≡ true → (get_or bs 0 0 ≤ 0x39) × (0x2b ≤ get_or bs 0 0)
+number_low bs h = by (get_or bs 0 0) (is_digit (get_or bs 1 0)) (get_or bs 1 0 == 0x2e) (is_digit (get_or bs 2 0)) h
+  where
+    by : (b : ℕ) (c p d : Bool) → (is_digit b || b == 0x2e && c || is_sign b && c || is_sign b && p && d) ≡ true → (b ≤ 0x39) × (0x2b ≤ b)
+    by b c p d h = (grind (arith, h), grind (arith, h))
+
+-- a digit begins a number
+pub digit_number : (bs : List ℕ) → is_digit (get_or bs 0 0) ≡ true → begins_number bs ≡ true
+digit_number bs h = rw (h) refl
+
+-- a number
+pub scan_number : (fresh : Bool) (bs : List ℕ) → begins_number bs ≡ true → scan fresh bs ≡ token Number (1 + prefix_len goes_on_number (drop 1 bs))
+unfolding scan
+scan_number fresh bs h =
+    let low = number_low bs h in
+    let netcdf : (get_or bs 0 0 == 0x6e) ≡ false = grind (arith, low) in
+    let word : begins_word (get_or bs 0 0) ≡ false = grind (arith, low) in
+    let escape : (get_or bs 0 0 == 0x5c) ≡ false = grind (arith, low) in
+    rw (no_opening bs netcdf) (rw (and_false fresh) (rw (word) (rw (escape) (rw (h) refl))))
+
+-- a blank
+pub scan_blank : (fresh : Bool) (bs : List ℕ) → is_blank (get_or bs 0 0) ≡ true → scan fresh bs ≡ gap 1
+unfolding scan
+scan_blank fresh bs h =
+    let low : get_or bs 0 0 ≤ 0x20 = grind (arith, h) in
+    let netcdf : (get_or bs 0 0 == 0x6e) ≡ false = grind (arith, low) in
+    let word : begins_word (get_or bs 0 0) ≡ false = grind (arith, low) in
+    let escape : (get_or bs 0 0 == 0x5c) ≡ false = grind (arith, low) in
+    let digit : is_digit (get_or bs 0 0) ≡ false = grind (arith, low) in
+    let point : (get_or bs 0 0 == 0x2e) ≡ false = grind (arith, low) in
+    let sign : is_sign (get_or bs 0 0) ≡ false = grind (arith, low) in
+    rw (no_opening bs netcdf) (rw (and_false fresh) (rw (word) (rw (escape) (rw (digit) (rw (point) (rw (sign) (rw (h) refl)))))))
+
+-- no byte of a number is a line feed
+feeds_on : (b : ℕ) (xs : List ℕ) → (b == 0x0a) ≡ false → count_by (λ b. b == 0x0a) (b ∷ xs) ≡ count_by (λ b. b == 0x0a) xs
+feeds_on b xs h = sum_by-append (λ b. cond (b == 0x0a) 1 0) (b ∷ []) xs ∙ ap (λ c. 0 + cond c 1 0 + count_by (λ b. b == 0x0a) xs) h ∙ (let e : 0 + 0 + count_by (λ b. b == 0x0a) xs ≡ count_by (λ b. b == 0x0a) xs = omega arith in e)
+
+digits_flat : (bs : List ℕ) → count_by (λ b. b == 0x0a) (take (prefix_len goes_on_number bs) bs) ≡ 0
+digits_flat [] = refl
+digits_flat (b ∷ bs) = by (goes_on_number b) refl (digits_flat bs)
+  where
+    by : (c : Bool) → goes_on_number b ≡ c → count_by (λ b. b == 0x0a) (take (prefix_len goes_on_number bs) bs) ≡ 0 → count_by (λ b. b == 0x0a) (take (cond c (1 + prefix_len goes_on_number bs) 0) (b ∷ bs)) ≡ 0
+    by true h on =
+        let other : (b == 0x0a) ≡ false = grind (arith, h) in
+        ap (λ n. count_by (λ b. b == 0x0a) (take n (b ∷ bs))) (let e : 1 + prefix_len goes_on_number bs ≡ suc (prefix_len goes_on_number bs) = omega arith in e) ∙ feeds_on b (take (prefix_len goes_on_number bs) bs) other ∙ on
+    by false h on = refl
+
+pub number_flat : (bs : List ℕ) → begins_number bs ≡ true → count_by (λ b. b == 0x0a) (take (1 + prefix_len goes_on_number (drop 1 bs)) bs) ≡ 0
+number_flat [] h = absurd (false≢true h)
+number_flat (b ∷ bs) h =
+    let low = number_low (b ∷ bs) h in
+    let other : (b == 0x0a) ≡ false = grind (arith, low) in
+    let n = prefix_len goes_on_number bs in
+    ap (λ m. count_by (λ b. b == 0x0a) (take m (b ∷ bs))) (let e : 1 + n ≡ suc n = omega arith in e) ∙ feeds_on b (take n bs) other ∙ digits_flat bs
+
+pub mark_flat : (bs : List ℕ) → is_mark (get_or bs 0 0) ≡ true → count_by (λ b. b == 0x0a) (take 1 bs) ≡ 0
+mark_flat [] h = refl
+mark_flat (b ∷ bs) h =
+    let (netcdf, word, escape, digit, point, sign, blank, slash, quote, feed) = mark_classes b h in
+    feeds_on b [] feed
+
+-- at a place of a text
+pub blank_at : (text : List ℕ) (fresh : Bool) (at : ℕ) → is_blank (get_or text at 0) ≡ true → scan fresh (drop at text) ≡ gap 1
+blank_at text fresh at h =
+    let here : get_or (drop at text) 0 0 ≡ get_or text at 0 = get_or-drop at text 0 0 ∙ ap (λ n. get_or text n 0) (let e : at + 0 ≡ at = omega arith in e) in
+    scan_blank fresh (drop at text) (ap is_blank here ∙ h)
+
+pub past_blank : (text : List ℕ) (fresh : Bool) (at : ℕ) → at < length text → is_blank (get_or text at 0) ≡ true → tokens_at text fresh at 0 (drop at text) ≡ tokens_at text fresh (at + 1) 0 (drop (at + 1) text)
+past_blank text fresh at inside h =
+    step_gap text fresh at (gap 1) inside (sym (blank_at text fresh at h)) (omega arith) (rw (length-drop at text) (omega (arith, inside))) refl
+
+pub past_token : (text : List ℕ) (fresh : Bool) (at line len : ℕ) (kind : TokenKind) → scan fresh (drop at text) ≡ token kind len → 0 < len → at + len ≤ length text → is_token (Some kind) ≡ true → line ≡ line_at text at →
+    tokens_at text fresh at 0 (drop at text) ≡ followed (record { kind = kind; line = line; first = at; past = at + len }) kind (tokens_at text false (at + len) 0 (drop (at + len) text))
+past_token text fresh at line len kind here some within is on =
+    step_token text fresh at line (token kind len) kind (omega (arith, some, within)) (sym here) some (rw (length-drop at text) (omega (arith, some, within))) is refl on
+
+-- no line feed stands before the place after a token without one
+pub same_line : (text : List ℕ) (at line len : ℕ) → line ≡ line_at text at → count_by (λ b. b == 0x0a) (take len (drop at text)) ≡ 0 → line ≡ line_at text (at + len)
+same_line text at line len on flat = omega (arith, on, flat, line_more text at len)

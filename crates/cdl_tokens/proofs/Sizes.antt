@@ -1,0 +1,32 @@
+-- Numbers of any length.
+use Rattle.std.proofs.Common.{◌≡◌, ℕ, ◌+◌, ◌*◌, ◌<◌, ◌≤◌, List, [], ◌∷◌, length, get_or, drop, ◌∙◌, ap, arith, rules}
+use Rattle.std.specs.Prelude.{None}
+use Rattle.std.proofs.Math.Nat.{mul-le-mul_right}
+use Rattle.std.proofs.lemmas.List.{at_drop_more}
+use Rattle.cdl_tokens.specs.Escapes.{digit}
+use Rattle.cdl_tokens.specs.Numerals.{number_in}
+use Rattle.cdl_tokens.specs.Magnitudes.{word}
+
+grows : (base s : ℕ) → 1 ≤ base → s ≤ base * s
+grows base s h = grind arith
+
+above : (s base : ℕ) (bs : List ℕ) → 1 ≤ base → s ≤ number_in base s bs
+above s base [] h = search rules
+above s base (b ∷ bs) h = let g = grows base s h in let a = above (base * s + digit b) base bs h in omega (arith, g, a)
+
+past : (n m : ℕ) → n ≤ m → word n ≡ None → word m ≡ None
+past n m h k = grind (arith, h, k)
+
+pub past_limit : (base value b : ℕ) (bs : List ℕ) → 1 ≤ base → word (base * value + digit b) ≡ None → word (number_in base value (b ∷ bs)) ≡ None
+past_limit base value b bs h k = past (base * value + digit b) (number_in base (base * value + digit b) bs) (above (base * value + digit b) base bs h) k
+
+pub one_digit : (base value : ℕ) (digits : List ℕ) (i : ℕ) → i < length digits →
+    number_in base value (drop i digits) ≡ number_in base (base * value + digit (get_or digits i 0)) (drop (i + 1) digits)
+one_digit base value digits i k = at_drop_more (λ bs. number_in base value bs) digits i 0 k
+
+pub past_word : (base value : ℕ) (digits : List ℕ) (i : ℕ) → 1 ≤ base → i < length digits → word (base * value + digit (get_or digits i 0)) ≡ None → word (number_in base value (drop i digits)) ≡ None
+past_word base value digits i h k none = ap word (at_drop_more (λ bs. number_in base value bs) digits i 0 k) ∙ past_limit base value (get_or digits i 0) (drop (i + 1) digits) h none
+
+-- a short number's product with a base
+pub small_product : (base value : ℕ) → base ≤ 16 → value < 576460752303423488 → base * value < 9223372036854775808
+small_product base value h k = let wide : base * value ≤ 16 * value = mul-le-mul_right value h in omega (arith, wide, k)

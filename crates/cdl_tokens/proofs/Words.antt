@@ -1,0 +1,126 @@
+-- A word and a quoted text, one byte or escape on.
+use Rattle.std.proofs.Common.{◌≡◌, ℕ, ◌+◌, ◌<◌, ◌≤◌, Bool, true, false, cond, List, [], ◌∷◌, length, get_or, drop, sym, ◌∙◌, ap, refl, arith, length-drop}
+use Rattle.std.specs.Prelude.{◌&&◌, ◌||◌, ◌==◌, not, if◌then◌else◌, nat_lt}
+use Rattle.std.specs.List.{prefix_len}
+use Rattle.cdl_tokens.specs.Scanners.{is_ordinary}
+use Rattle.cdl_tokens.proofs.Steps.{drop_one_more}
+use Rattle.std.proofs.Common.{⊎_elim, append_assoc, ◌++◌}
+use Rattle.std.proofs.lemmas.Bool.{false≢true, cases_lt}
+use Rattle.std.proofs.lemmas.List.{at_drop_more, at_drop_all, drop-drop, get_or-drop, get_or_past}
+use Rattle.cdl_tokens.specs.Bytes.{is_escape, goes_on_word, begins_word}
+use Rattle.cdl_tokens.specs.Scan.{word_len, until}
+use Rattle.cdl_tokens.specs.Escapes.{word_value}
+
+pub and_false : (a : Bool) → (a && false) ≡ false
+and_false a = elim a as (λ v. (v && false) ≡ false) [ true ↦ refl | false ↦ refl ]
+
+-- the definition without its cases
+pub word_at_start : (b : ℕ) (rest : List ℕ) →
+    word_len (b ∷ rest) ≡ (if is_escape b (get_or rest 0 0) then 2 + word_len (drop 1 rest) else (if goes_on_word b then 1 + word_len rest else 0))
+unfolding word_len
+word_at_start b [] = rw (and_false (b == 0x5c)) refl
+word_at_start b (c ∷ rest) = refl
+
+next_byte : (text : List ℕ) (at : ℕ) → get_or (drop (at + 1) text) 0 0 ≡ get_or text (at + 1) 0
+next_byte text at = get_or-drop (at + 1) text 0 0 ∙ ap (λ n. get_or text n 0) (let e : at + 1 + 0 ≡ at + 1 = omega arith in e)
+
+two_on : (text : List ℕ) (at : ℕ) → drop 1 (drop (at + 1) text) ≡ drop (at + 2) text
+two_on text at = drop-drop 1 (at + 1) text ∙ ap (λ n. drop n text) (let e : at + 1 + 1 ≡ at + 2 = omega arith in e)
+
+-- at a state of the text
+pub word_at : (text : List ℕ) (at : ℕ) → at < length text →
+    word_len (drop at text) ≡
+    (if is_escape (get_or text at 0) (get_or text (at + 1) 0) then 2 + word_len (drop (at + 2) text) else (if goes_on_word (get_or text at 0) then 1 + word_len (drop (at + 1) text) else 0))
+word_at text at h =
+    at_drop_more word_len text at 0 h ∙ word_at_start (get_or text at 0) (drop (at + 1) text) ∙ rw (next_byte text at) (rw (two_on text at) refl)
+
+pub word_past : (text : List ℕ) (at : ℕ) → length text ≤ at → word_len (drop at text) ≡ 0
+unfolding word_len
+word_past text at h = at_drop_all word_len text at h
+
+-- an escape's second byte is in the text
+pub escape_inside : (text : List ℕ) (at b : ℕ) → is_escape b (get_or text at 0) ≡ true → at < length text
+escape_inside text at b h = ⊎_elim (λ lt. lt) (λ ge. absurd (false≢true (sym (and_false (b == 0x5c)) ∙ rw (get_or_past text at 0 ge) at h))) (cases_lt at (length text))
+
+pub and_yes : (a b : Bool) → b ≡ true → (a && b) ≡ a
+and_yes a b e = rw (e) (elim a as (λ v. (v && true) ≡ v) [ true ↦ refl | false ↦ refl ])
+
+pub until_at_start : (close b : ℕ) (rest : List ℕ) →
+    until close (b ∷ rest) ≡ (if b == 0x5c && nat_lt 0 (length rest) then 2 + until close (drop 1 rest) else (if b == close then 0 else 1 + until close rest))
+unfolding until
+until_at_start close b [] = rw (and_false (b == 0x5c)) refl
+until_at_start close b (c ∷ rest) =
+    let e : nat_lt 0 (length (c ∷ rest)) ≡ true = grind arith in
+    rw (and_yes (b == 0x5c) (nat_lt 0 (length (c ∷ rest))) e) refl
+
+is_more : (text : List ℕ) (at : ℕ) → at < length text → nat_lt 0 (length (drop (at + 1) text)) ≡ nat_lt (at + 1) (length text)
+is_more text at h = rw (length-drop (at + 1) text) (grind arith)
+
+pub until_at : (close : ℕ) (text : List ℕ) (at : ℕ) → at < length text →
+    until close (drop at text) ≡
+    (if get_or text at 0 == 0x5c && nat_lt (at + 1) (length text) then 2 + until close (drop (at + 2) text) else (if get_or text at 0 == close then 0 else 1 + until close (drop (at + 1) text)))
+until_at close text at h =
+    at_drop_more (until close) text at 0 h ∙ until_at_start close (get_or text at 0) (drop (at + 1) text) ∙ rw (is_more text at h) (rw (two_on text at) refl)
+
+pub until_past : (close : ℕ) (text : List ℕ) (at : ℕ) → length text ≤ at → until close (drop at text) ≡ 0
+unfolding until
+until_past close text at h = at_drop_all (until close) text at h
+
+pub until_byte : (close : ℕ) (text : List ℕ) (at : ℕ) → at < length text → (e : Bool) → e ≡ (get_or text at 0 == 0x5c && nat_lt (at + 1) (length text)) → e ≡ false →
+    (get_or text at 0 == close) ≡ false → until close (drop at text) ≡ 1 + until close (drop (at + 1) text)
+until_byte close text at h e is off other = until_at close text at h ∙ rw (← is) (rw (off) (rw (other) refl))
+
+-- up to the first byte that escapes or closes
+until_ordinary : (close : ℕ) (bytes : List ℕ) → until close bytes ≡ prefix_len (is_ordinary close) bytes + until close (drop (prefix_len (is_ordinary close) bytes) bytes)
+until_ordinary close [] = omega arith
+until_ordinary close (b ∷ bytes) = by (b == 0x5c) (b == close) refl refl (until_ordinary close bytes)
+  where
+    n : ℕ
+    n = prefix_len (is_ordinary close) bytes
+
+    by : (e f : Bool) → (b == 0x5c) ≡ e → (b == close) ≡ f → until close bytes ≡ n + until close (drop n bytes) →
+        until close (b ∷ bytes) ≡ cond (not e && not f) (1 + n) 0 + until close (drop (cond (not e && not f) (1 + n) 0) (b ∷ bytes))
+    by true f is closes rest = omega arith
+    by false true is closes rest = omega arith
+    by false false is closes rest =
+        until_at_start close b bytes ∙ rw (is) (rw (closes) (
+        ap (λ m. 1 + m) rest ∙
+        (let e : 1 + (n + until close (drop n bytes)) ≡ 1 + n + until close (drop n bytes) = omega arith in e) ∙
+        ap (λ xs. 1 + n + until close xs) (sym (drop_one_more b n bytes))))
+
+pub until_run : (close : ℕ) (text : List ℕ) (at n : ℕ) → n ≡ prefix_len (is_ordinary close) (drop at text) → until close (drop at text) ≡ n + until close (drop (at + n) text)
+until_run close text at n is =
+    until_ordinary close (drop at text) ∙
+    ap (λ m. m + until close (drop m (drop at text))) (sym is) ∙
+    ap (λ xs. n + until close xs) (drop-drop n at text)
+
+-- a word has a byte
+pub word_some : (bytes : List ℕ) → 0 < length bytes → (begins_word (get_or bytes 0 0) || is_escape (get_or bytes 0 0) (get_or bytes 1 0)) ≡ true → 0 < word_len bytes
+word_some bytes h k = grind (arith, word_at bytes 0 h, k)
+
+-- what a word stands for, one byte or escape on
+pub value_at_start : (b : ℕ) (rest : List ℕ) →
+    word_value (b ∷ rest) ≡ (if is_escape b (get_or rest 0 0) then get_or rest 0 0 ∷ word_value (drop 1 rest) else b ∷ word_value rest)
+unfolding word_value
+value_at_start b [] = rw (and_false (b == 0x5c)) refl
+value_at_start b (c ∷ rest) = refl
+
+pub value_at : (text : List ℕ) (at : ℕ) → at < length text →
+    word_value (drop at text) ≡
+    (if is_escape (get_or text at 0) (get_or text (at + 1) 0) then get_or text (at + 1) 0 ∷ word_value (drop (at + 2) text) else get_or text at 0 ∷ word_value (drop (at + 1) text))
+value_at text at h =
+    at_drop_more word_value text at 0 h ∙ value_at_start (get_or text at 0) (drop (at + 1) text) ∙ rw (next_byte text at) (rw (two_on text at) refl)
+
+pub value_past : (text : List ℕ) (at : ℕ) → length text ≤ at → word_value (drop at text) ≡ []
+unfolding word_value
+value_past text at h = at_drop_all word_value text at h
+
+pub value_escape : (text : List ℕ) (at next : ℕ) → at < length text → next ≡ get_or text (at + 1) 0 → is_escape (get_or text at 0) next ≡ true → word_value (drop at text) ≡ next ∷ word_value (drop (at + 2) text)
+value_escape text at next h is on = value_at text at h ∙ rw (← is) (rw (on) refl)
+
+pub value_byte : (text : List ℕ) (at next : ℕ) → at < length text → next ≡ get_or text (at + 1) 0 → is_escape (get_or text at 0) next ≡ false → word_value (drop at text) ≡ get_or text at 0 ∷ word_value (drop (at + 1) text)
+value_byte text at next h is off = value_at text at h ∙ rw (← is) (rw (off) refl)
+
+-- what was read, and a byte more
+pub so_far : (items new before after all : List ℕ) (b : ℕ) → new ≡ items ++ b ∷ [] → before ≡ b ∷ after → items ++ before ≡ all → new ++ after ≡ all
+so_far items new before after all b e is h = rw (e) (append_assoc items (b ∷ []) after ∙ ap (λ xs. items ++ xs) (sym is) ∙ h)

@@ -1,0 +1,12 @@
+use Rattle.std.proofs.Common.{arith, ◌+◌, sym, ◌∙◌}
+use Rattle.cdl_tokens.proofs.Scans.{left_of}
+use Rattle.cdl_tokens.proofs.PlainTokens.{past_blank}
+use Rattle.cdl_tokens.proofs.scanner.Scanner.skip_blanks.Goals as goal
+
+pub loop-self-preserved : goal.loop-self-preserved
+loop-self-preserved c =
+    let s = c.loop-self.self in
+    let a = c.after_byte in
+    let step = past_blank s.text.now s.fresh s.at c.loop-self-test.true (sym c.is_blank.ensures ∙ c.if-not-is_blank.false) in
+    let on = left_of a.result s.text.now s.fresh (s.at + 1) a.ensures.text a.ensures.fresh a.ensures.at in
+    record { rest = on ∙ sym step ∙ c.loop-self.invariant.rest; text = a.ensures.text ∙ c.loop-self.invariant.text; on = omega (arith, a.ensures.at, c.loop-self.invariant.on) }

@@ -1,0 +1,7 @@
+pub mod Bytes
+pub mod Escapes
+pub mod Scan
+pub mod Tokens
+pub mod Numerals
+pub mod Scanners
+pub mod Magnitudes

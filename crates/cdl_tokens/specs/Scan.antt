@@ -1,0 +1,69 @@
+-- What stands at the start of bytes: a gap or a token, and how many bytes it has. A place past the end counts as a 0 byte.
+use Rattle.std.specs.Prelude.{ℕ, Bool, List, [], ◌∷◌, ◌+◌, ◌&&◌, ◌||◌, ◌==◌, nat_lt, nat_eq, not, if◌then◌else◌, slice_index, take, drop, length, codes, None, Some, is_some}
+use Rattle.std.specs.List.{prefix_len, starts_with}
+use Rattle.cdl_tokens.specs.Bytes.{is_blank, is_digit, begins_word, goes_on_word, goes_on_number, is_sign, is_mark, is_escape}
+use Rattle.cdl_tokens.specs.Escapes.{unescape}
+use Rattle.cdl_tokens.specs.declared.scan.Scanned.{Scanned}
+use Rattle.cdl_tokens.specs.declared.token.TokenKind.{TokenKind}
+use Rattle.cdl_tokens.specs.declared.token.TokenKind.TheVariants.{Opening, Word, Number, Text, Mark, Bad}
+
+-- the bytes of a word from here on
+unfoldable pub word_len : List ℕ → ℕ
+word_len [] = 0
+word_len (b ∷ []) = if goes_on_word b then 1 else 0
+word_len (b ∷ c ∷ rest) =
+    if is_escape b c then 2 + word_len rest
+    else (if goes_on_word b then 1 + word_len (c ∷ rest) else 0)
+
+-- the bytes before the first `close` that isn't directly after an escaping backslash; all bytes, where there is none
+unfoldable pub until : ℕ → List ℕ → ℕ
+until close [] = 0
+until close (b ∷ []) = if b == close then 0 else 1
+until close (b ∷ c ∷ rest) =
+    if b == 0x5c then 2 + until close rest
+    else (if b == close then 0 else 1 + until close (c ∷ rest))
+
+-- a letter, `_`, a byte from 0x80 or an escape
+abbrev pub begins_a_word : List ℕ → Bool
+begins_a_word bs = begins_word (slice_index bs 0) || is_escape (slice_index bs 0) (slice_index bs 1)
+
+-- a digit, `.` and a digit, a sign and a digit, or a sign, `.` and a digit
+abbrev pub begins_number : List ℕ → Bool
+begins_number bs =
+    is_digit (slice_index bs 0) || slice_index bs 0 == 0x2e && is_digit (slice_index bs 1)
+    || is_sign (slice_index bs 0) && is_digit (slice_index bs 1)
+    || is_sign (slice_index bs 0) && slice_index bs 1 == 0x2e && is_digit (slice_index bs 2)
+
+-- `netcdf`, then a blank or `{`
+abbrev pub begins_opening : List ℕ → Bool
+begins_opening bs = starts_with nat_eq bs (codes "netcdf") && (is_blank (slice_index bs 6) || slice_index bs 6 == 0x7b)
+
+-- two slashes
+abbrev pub begins_comment : List ℕ → Bool
+begins_comment bs = slice_index bs 0 == 0x2f && slice_index bs 1 == 0x2f
+
+abbrev pub gap : ℕ → Scanned
+gap n = record { kind = None; len = n }
+
+abbrev pub token : TokenKind → ℕ → Scanned
+token kind n = record { kind = Some kind; len = n }
+
+-- `netcdf` and then these bytes, of which n stand before the first `{`
+abbrev pub scan_opening : List ℕ → ℕ → Scanned
+scan_opening bs n = if nat_lt n (length bs) then token Opening (6 + n + 1) else token Bad (6 + length bs)
+
+-- a quote and then these bytes, of which n stand before the closing quote
+abbrev pub scan_text : List ℕ → ℕ → Scanned
+scan_text bs n = if nat_lt n (length bs) then token (if is_some (unescape (take n bs)) then Text else Bad) (n + 2) else token Bad (1 + length bs)
+
+-- what stands at the start of these bytes, of which there is one at least; fresh: no token stands before
+unfoldable pub scan : Bool → List ℕ → Scanned
+scan fresh bs =
+    if fresh && begins_opening bs then scan_opening (drop 6 bs) (until 0x7b (drop 6 bs))
+    else (if begins_a_word bs then token Word (word_len bs)
+    else (if begins_number bs then token Number (1 + prefix_len goes_on_number (drop 1 bs))
+    else (if is_blank (slice_index bs 0) then gap 1
+    else (if begins_comment bs then gap (prefix_len (λ b. not (b == 0x0a)) bs)
+    else (if slice_index bs 0 == 0x22 then scan_text (drop 1 bs) (until 0x22 (drop 1 bs))
+    else (if is_mark (slice_index bs 0) then token Mark 1
+    else token Bad 1))))))

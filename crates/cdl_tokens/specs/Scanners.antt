@@ -1,0 +1,35 @@
+-- What a scanner has before it.
+use Rattle.std.specs.Prelude.{ℕ, Bool, not, ◌&&◌, ◌==◌, true, false, List, ◌∷◌, [], drop, Option, Some}
+use Rattle.cdl_tokens.specs.Tokens.{tokens_at}
+use Rattle.cdl_tokens.specs.declared.token.Token.{Token}
+use Rattle.cdl_tokens.specs.declared.token.TokenKind.{TokenKind}
+use Rattle.cdl_tokens.specs.declared.token.TokenKind.TheVariants.{End}
+use Rattle.cdl_tokens.specs.declared.scanner.Scanner.{Scanner}
+
+abbrev pub text_of : Scanner → List ℕ
+text_of s = s.text.now
+
+abbrev pub offset_of : Scanner → ℕ
+offset_of s = s.at
+
+-- a byte that neither escapes nor closes
+abbrev pub is_ordinary : ℕ → ℕ → Bool
+is_ordinary close b = not (b == 0x5c) && not (b == close)
+
+-- the tokens that are left
+abbrev pub left : Scanner → List Token
+left s = tokens_at s.text.now s.fresh s.at 0 (drop s.at s.text.now)
+
+-- a token and those after it; none stands after End
+abbrev pub followed : Token → TokenKind → List Token → List Token
+followed t End rest = t ∷ []
+followed t _ rest = t ∷ rest
+
+abbrev pub is_end : TokenKind → Bool
+is_end End = true
+is_end _ = false
+
+-- a gap, or a token that isn't End
+abbrev pub is_token : Option TokenKind → Bool
+is_token (Some End) = false
+is_token _ = true

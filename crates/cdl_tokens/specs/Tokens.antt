@@ -1,0 +1,33 @@
+-- The tokens of a text.
+use Rattle.std.specs.Prelude.{ℕ, zero, suc, Bool, true, List, [], ◌∷◌, ◌+◌, ◌-◌, ◌&&◌, ◌==◌, take, drop, count_by, Option, None, Some, is_none}
+use Rattle.cdl_tokens.specs.Scan.{scan}
+use Rattle.cdl_tokens.specs.declared.token.Token.{Token}
+use Rattle.cdl_tokens.specs.declared.token.TokenKind.{TokenKind}
+use Rattle.cdl_tokens.specs.declared.token.TokenKind.TheVariants.{End}
+
+-- a token's bytes
+abbrev pub raw : List ℕ → Token → List ℕ
+raw text t = take (t.past - t.first) (drop t.first text)
+
+-- 1 plus the line feeds before this place
+abbrev pub line_at : List ℕ → ℕ → ℕ
+line_at text at = 1 + count_by (λ b. b == 0x0a) (take at text)
+
+abbrev pub token_at : List ℕ → ℕ → TokenKind → ℕ → Token
+token_at text at kind n = record { kind = kind; line = line_at text at; first = at; past = at + n }
+
+-- the token that stands at this place, if one does, and those after it
+abbrev pub with_token : List ℕ → ℕ → Option TokenKind → ℕ → List Token → List Token
+with_token text at None n rest = rest
+with_token text at (Some kind) n rest = token_at text at kind n ∷ rest
+
+-- The tokens from a place of the text on, where `bytes` stand. fresh: no token stands before. Of the gap or token before, `more` bytes are still to come.
+unfoldable pub tokens_at : List ℕ → Bool → ℕ → ℕ → List ℕ → List Token
+tokens_at text fresh at more [] = token_at text at End 0 ∷ []
+tokens_at text fresh at (suc more) (b ∷ bytes) = tokens_at text fresh (at + 1) more bytes
+tokens_at text fresh at zero (b ∷ bytes) =
+    with_token text at (scan fresh (b ∷ bytes)).kind (scan fresh (b ∷ bytes)).len
+    (tokens_at text (fresh && is_none (scan fresh (b ∷ bytes)).kind) (at + 1) ((scan fresh (b ∷ bytes)).len - 1) bytes)
+
+abbrev pub tokens : List ℕ → List Token
+tokens text = tokens_at text true 0 0 text

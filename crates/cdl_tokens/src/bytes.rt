@@ -1,0 +1,101 @@
+//! The classes of bytes.
+
+ghost use Rattle.std.specs.Prelude.{◌≡◌, ◌≤◌, length, slice_index, take};
+ghost use Rattle.cdl_tokens.specs.Bytes.{begins_word, goes_on_number, goes_on_word, is_blank, is_digit, is_escape, is_hex, is_letter, is_mark, is_octal, is_sign};
+
+/// The byte at an offset, or 0 past the end.
+pub fn byte_at(bytes: &[u8], at: usize) -> u8
+    ensures { result ≡ slice_index bytes.now at }
+{
+    if at < bytes.len() { bytes[at] } else { 0 }
+}
+
+/// The first `n` bytes, or all where there are fewer.
+pub fn first_bytes(bytes: &[u8], n: usize) -> &[u8]
+    ensures first { result.now ≡ take n bytes.now }
+    ensures len { length result.now ≤ n }
+{
+    if n < bytes.len() {
+        let (first, _) = bytes.split_at(n);
+        first
+    } else {
+        bytes
+    }
+}
+
+/// Says whether the byte is an ASCII letter.
+pub fn is_letter(b: u8) -> bool
+    ensures { result ≡ is_letter b }
+{
+    b.is_ascii_alphabetic()
+}
+
+/// Says whether the byte is a decimal digit.
+pub fn is_digit(b: u8) -> bool
+    ensures { result ≡ is_digit b }
+{
+    b.is_ascii_digit()
+}
+
+/// Says whether the byte is an octal digit.
+pub fn is_octal(b: u8) -> bool
+    ensures { result ≡ is_octal b }
+{
+    b >= b'0' && b <= b'7'
+}
+
+/// Says whether the byte is a hexadecimal digit, in either case.
+pub fn is_hex(b: u8) -> bool
+    ensures { result ≡ is_hex b }
+{
+    is_digit(b) || b >= b'A' && b <= b'F' || b >= b'a' && b <= b'f'
+}
+
+/// Says whether the byte is white space: one of 0x09 to 0x0d, or a space.
+pub fn is_blank(b: u8) -> bool
+    ensures { result ≡ is_blank b }
+{
+    b >= 0x09 && b <= 0x0d || b == b' '
+}
+
+/// Says whether the byte is a sign of a number.
+pub fn is_sign(b: u8) -> bool
+    ensures { result ≡ is_sign b }
+{
+    b == b'+' || b == b'-'
+}
+
+/// Says whether the byte is a token by itself.
+pub fn is_mark(b: u8) -> bool
+    ensures { result ≡ is_mark b }
+{
+    matches!(b, b':' | b';' | b'=' | b',' | b'(' | b')' | b'}')
+}
+
+/// Says whether a word may begin with the byte: a letter, `_` or a byte from 0x80.
+pub fn begins_word(b: u8) -> bool
+    ensures { result ≡ begins_word b }
+{
+    is_letter(b) || b == b'_' || b >= 0x80
+}
+
+/// Says whether the byte stands for itself in a word that it doesn't begin.
+pub fn goes_on_word(b: u8) -> bool
+    ensures { result ≡ goes_on_word b }
+{
+    b.is_ascii_alphanumeric() || matches!(b, b'_' | b'.' | b'@' | b'+' | b'-') || b >= 0x80
+}
+
+/// Says whether a number token goes on with the byte.
+pub fn goes_on_number(b: u8) -> bool
+    ensures { result ≡ goes_on_number b }
+{
+    is_letter(b) || is_digit(b) || b == b'_' || b == b'.'
+}
+
+/// Says whether the two bytes are an escape of a word: a backslash, and a byte that it may escape.
+pub fn is_escape(b: u8, c: u8) -> bool
+    ensures { result ≡ is_escape b c }
+{
+    b == b'\\' && (c >= 0x20 && c <= 0x7e || c >= 0x80)
+}

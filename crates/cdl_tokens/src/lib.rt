@@ -1,0 +1,19 @@
+//! The tokens of a CDL text (the CDL chapter of the NetCDF User's Guide, "CDL Syntax" and "CDL Notation for Data Constants").
+//!
+//! `specs/` has the definitions: classes of bytes, escapes, what bytes begin with, the tokens of a text, and what number
+//! tokens say. How tokens make statements is defined and read in `cdl_text`.
+#![tactic(auto)]
+
+mod bytes;
+mod escape;
+mod numeral;
+mod scan;
+mod scanner;
+mod token;
+
+pub use bytes::{byte_at, first_bytes, is_escape};
+pub use escape::{character, unescaped_len};
+pub use numeral::{Numeral, number_of_token};
+pub use scan::{Character, Scanned};
+pub use scanner::Scanner;
+pub use token::{Token, TokenKind};

@@ -1,0 +1,237 @@
+//! What bytes begin with.
+
+ghost use Rattle.std.specs.Prelude.{◌≡◌, ◌+◌, ◌≤◌, ◌<◌, ◌==◌, ◌^◌, ◌&&◌, IsTrue, drop, length, not, true, nat_lt, slice_index};
+ghost use Rattle.std.specs.List.{prefix_len};
+ghost use Rattle.cdl_tokens.specs.Bytes.{goes_on_number};
+ghost use Rattle.cdl_tokens.specs.Scan.{begins_a_word, begins_comment, begins_number, begins_opening, gap, scan, scan_opening, scan_text, token, until, word_len};
+ghost use Rattle.cdl_tokens.specs.Scanners.{is_ordinary, is_token};
+
+use crate::bytes::{
+    begins_word, byte_at, goes_on_number, goes_on_word, is_blank, is_digit, is_escape, is_mark,
+    is_sign,
+};
+use crate::escape::is_string;
+use crate::token::TokenKind;
+
+/// The length of the word that opens a text, `netcdf`.
+const OPENING_LEN: usize = 6;
+
+/// What bytes begin with: a token, or a gap between tokens.
+#[derive(Clone, Copy, Debug, PartialEq, Eq)]
+pub struct Scanned {
+    /// The token, or None for a gap.
+    pub kind: Option<TokenKind>,
+    /// The number of its bytes.
+    pub len: usize,
+}
+
+/// A character of a string, or an escape in it.
+#[derive(Clone, Copy, Debug, PartialEq, Eq)]
+pub struct Character {
+    /// The byte that it stands for, where it stands for one.
+    pub value: Option<u8>,
+    /// The number of its bytes.
+    pub len: usize,
+}
+
+/// What the bytes begin with: the longest token, or a gap. Only a text's first token is an opening: `fresh` says that none
+/// came before.
+#[tactic(auto, unfolding(crate::specs::Scan::scan))]
+pub fn scan(fresh: bool, bytes: &[u8]) -> Scanned
+    requires { 0 < length bytes.now }
+    ensures scan { result ≡ scan fresh bytes.now }
+    ensures some { 0 < result.len }
+    ensures kind { is_token result.kind ≡ true }
+    ensures within { result.len ≤ length bytes.now }
+{
+    let b = bytes[0];
+    if fresh && begins_opening(bytes) {
+        let (_, rest) = bytes.split_at(OPENING_LEN);
+        scan_opening(rest)
+    } else if begins_a_word(bytes) {
+        token(TokenKind::Word, word_len(bytes))
+    } else if begins_number(bytes) {
+        token(TokenKind::Number, number_len(bytes))
+    } else if is_blank(b) {
+        gap(1)
+    } else if begins_comment(bytes) {
+        gap(line_len(bytes))
+    } else if b == b'"' {
+        scan_text(&bytes[1..])
+    } else if is_mark(b) {
+        token(TokenKind::Mark, 1)
+    } else {
+        token(TokenKind::Bad, 1)
+    }
+}
+
+/// A gap of this length.
+fn gap(len: usize) -> Scanned
+    ensures { result ≡ gap len }
+{
+    Scanned { kind: None, len }
+}
+
+/// A token of this length.
+fn token(kind: TokenKind, len: usize) -> Scanned
+    ensures { result ≡ token kind len }
+{
+    Scanned {
+        kind: Some(kind),
+        len,
+    }
+}
+
+/// The opening that is `netcdf` and goes on with these bytes: up to the first `{` that isn't escaped.
+fn scan_opening(bytes: &[u8]) -> Scanned
+    requires { length bytes.now + 6 < 2 ^ 64 }
+    ensures scan { result ≡ scan_opening bytes.now (until 0x7b bytes.now) }
+    ensures within { result.len ≤ length bytes.now + 6 }
+{
+    let n = until(bytes, b'{');
+    if n < bytes.len() {
+        token(TokenKind::Opening, OPENING_LEN + n + 1)
+    } else {
+        token(TokenKind::Bad, OPENING_LEN + bytes.len())
+    }
+}
+
+/// The string that is a quote and goes on with these bytes: up to the first quote that isn't escaped.
+fn scan_text(bytes: &[u8]) -> Scanned
+    requires { length bytes.now + 1 < 2 ^ 64 }
+    ensures scan { result ≡ scan_text bytes.now (until 0x22 bytes.now) }
+    ensures within { result.len ≤ length bytes.now + 1 }
+{
+    let n = until(bytes, b'"');
+    if n == bytes.len() {
+        token(TokenKind::Bad, 1 + n)
+    } else if is_string(&bytes[..n]) {
+        token(TokenKind::Text, n + 2)
+    } else {
+        token(TokenKind::Bad, n + 2)
+    }
+}
+
+/// Says whether the bytes begin with a byte or an escape with which a word begins.
+fn begins_a_word(bytes: &[u8]) -> bool
+    ensures { result ≡ begins_a_word bytes.now }
+{
+    let b = byte_at(bytes, 0);
+    begins_word(b) || is_escape(b, byte_at(bytes, 1))
+}
+
+/// Says whether the bytes begin with a digit, after a sign, a point, both or neither.
+pub fn begins_number(bytes: &[u8]) -> bool
+    ensures { result ≡ begins_number bytes.now }
+{
+    let a = byte_at(bytes, 0);
+    let b = byte_at(bytes, 1);
+    is_digit(a)
+        || a == b'.' && is_digit(b)
+        || is_sign(a) && is_digit(b)
+        || is_sign(a) && b == b'.' && is_digit(byte_at(bytes, 2))
+}
+
+/// Says whether the bytes begin with two slashes.
+fn begins_comment(bytes: &[u8]) -> bool
+    ensures { result ≡ begins_comment bytes.now }
+{
+    byte_at(bytes, 0) == b'/' && byte_at(bytes, 1) == b'/'
+}
+
+/// Says whether the bytes begin with `netcdf` and then a blank or a `{`.
+fn begins_opening(bytes: &[u8]) -> bool
+    ensures begins { result ≡ begins_opening bytes.now }
+    ensures len { IsTrue result → 6 ≤ length bytes.now }
+{
+    let b = byte_at(bytes, OPENING_LEN);
+    bytes.starts_with(b"netcdf") && (is_blank(b) || b == b'{')
+}
+
+/// The length of the number token that the bytes begin with.
+pub fn number_len(bytes: &[u8]) -> usize
+    requires { begins_number bytes.now ≡ true }
+    ensures len { result ≡ 1 + prefix_len goes_on_number (drop 1 bytes.now) }
+    ensures within { result ≤ length bytes.now }
+{
+    let (_, rest) = bytes.split_at(1);
+    1 + going_on_len(rest)
+}
+
+/// How many of the first bytes go on with a number token.
+fn going_on_len(bytes: &[u8]) -> usize
+    ensures len { result ≡ prefix_len goes_on_number bytes.now }
+    ensures within { result ≤ length bytes.now }
+{
+    bytes.iter().take_while(|b| goes_on_number(**b)).count()
+}
+
+/// How many bytes stand before the line's end.
+fn line_len(bytes: &[u8]) -> usize
+    ensures len { result ≡ prefix_len (λ b. not (b == 0x0a)) bytes.now }
+    ensures within { result ≤ length bytes.now }
+{
+    bytes.iter().take_while(|b| **b != b'\n').count()
+}
+
+/// How many of the first bytes are a word.
+#[tactic(auto, using(crate::proofs::Words::word_at, crate::proofs::Words::word_past, crate::proofs::Words::escape_inside, crate::proofs::Words::word_some))]
+fn word_len(bytes: &[u8]) -> usize
+    ensures len { result ≡ word_len bytes.now }
+    ensures within { result ≤ length bytes.now }
+    ensures some { 0 < length bytes.now → begins_a_word bytes.now ≡ true → 0 < result }
+{
+    let mut at = 0;
+    while at < bytes.len() {
+        if is_escape(bytes[at], byte_at(bytes, at + 1)) {
+            at += 2;
+        } else if goes_on_word(bytes[at]) {
+            at += 1;
+        } else {
+            break;
+        }
+    }
+    at
+}
+
+/// Says whether a backslash stands there, with a byte after it.
+fn is_escaping(bytes: &[u8], at: usize) -> bool
+    requires { at < length bytes.now }
+    ensures { result ≡ (slice_index bytes.now at == 0x5c && nat_lt (at + 1) (length bytes.now)) }
+{
+    bytes[at] == b'\\' && at + 1 < bytes.len()
+}
+
+/// How many of the first bytes are neither a backslash nor `close`.
+fn ordinary_len(bytes: &[u8], close: u8) -> usize
+    ensures len { result ≡ prefix_len (is_ordinary close) bytes.now }
+    ensures within { result ≤ length bytes.now }
+{
+    bytes
+        .iter()
+        .take_while(|b| **b != b'\\' && **b != close)
+        .count()
+}
+
+/// How many bytes stand before the first `close` that isn't escaped; all, where there is none.
+#[tactic(auto, using(crate::proofs::Words::until_at, crate::proofs::Words::until_past, crate::proofs::Words::until_run))]
+fn until(bytes: &[u8], close: u8) -> usize
+    ensures len { result ≡ until close bytes.now }
+    ensures within { result ≤ length bytes.now }
+{
+    let mut at = 0;
+    while at < bytes.len() {
+        let (_, rest) = bytes.split_at(at);
+        let run = ordinary_len(rest, close);
+        if run > 0 {
+            at += run;
+        } else if is_escaping(bytes, at) {
+            at += 2;
+        } else if bytes[at] == close {
+            return at;
+        } else {
+            at += 1;
+        }
+    }
+    at
+}

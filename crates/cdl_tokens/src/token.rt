@@ -1,0 +1,63 @@
+//! Tokens.
+
+ghost use Rattle.std.specs.Prelude.{◌≡◌};
+ghost use Rattle.cdl_tokens.specs.Tokens.{raw};
+
+use crate::bytes::first_bytes;
+
+/// What a token is.
+#[derive(Clone, Copy, Debug, PartialEq, Eq)]
+pub enum TokenKind {
+    /// `netcdf`, the dataset's name and the opening brace.
+    Opening,
+    /// A name, a type, the word of a section, `unlimited` or `_`.
+    Word,
+    /// A number, good or bad.
+    Number,
+    /// A string with its quotes, each of whose characters stands for a byte.
+    Text,
+    /// One of `: ; = , ( ) }`.
+    Mark,
+    /// Bytes that are no token.
+    Bad,
+    /// The end of the text.
+    End,
+}
+
+/// A token of a text.
+#[derive(Clone, Copy, Debug, PartialEq, Eq)]
+pub struct Token {
+    pub kind: TokenKind,
+    /// Its line: 1 plus the number of line feeds before it.
+    pub line: u64,
+    /// The offset of its first byte in the text.
+    pub first: usize,
+    /// The offset of the first byte after it.
+    pub past: usize,
+}
+
+impl Token {
+    /// The token's bytes, in the text that it is a token of.
+    #[inline(always)]
+    pub fn bytes(self, text: &[u8]) -> &[u8]
+        ensures { result.now ≡ raw text.now self }
+    {
+        if self.first <= self.past && self.past <= text.len() {
+            return &text[self.first..self.past];
+        }
+        self.bytes_outside(text)
+    }
+
+    /// The token's bytes, in a text that may have no such token.
+    #[inline(never)]
+    fn bytes_outside(self, text: &[u8]) -> &[u8]
+        ensures { result.now ≡ raw text.now self }
+    {
+        let rest = if self.first < text.len() {
+            &text[self.first..]
+        } else {
+            &[]
+        };
+        first_bytes(rest, self.past.saturating_sub(self.first))
+    }
+}
