@@ -1,7 +1,7 @@
 //! The line of the closing brace.
 
 ghost use Rattle.std.specs.Prelude.{◌≡◌, false};
-ghost use Rattle.cdl_text.specs.Cutters.{after, is_done, pieces_left, text_of};
+ghost use Rattle.cdl_text.specs.Cutters.{Follows, is_done};
 ghost use Rattle.cdl_text.specs.Statements.{statements};
 ghost use Rattle.cdl_meaning.specs.Meaning.{closing_line};
 
@@ -29,8 +29,7 @@ pub fn closing_line(text: &[u8], version: Version) -> u64
 /// The statements after the next one.
 fn after_statement(start: Cutter<'_>) -> Cutter<'_>
     requires { is_done start ≡ false }
-    ensures rest { pieces_left result ≡ after start.entry }
-    ensures text { text_of result ≡ text_of start.entry }
+    ensures { Follows start.entry result }
 {
     let mut cutter = start;
     'tokens: loop {

@@ -2,7 +2,7 @@
 
 ghost use Rattle.std.specs.Prelude.{◌≡◌, ◌<◌, ◌^◌, length, List, [], IfOk, true, false, replicate, slice_set};
 ghost use Rattle.nc_base.specs.declared.header.Var.{Var};
-ghost use Rattle.cdl_text.specs.Cutters.{after, is_done, pieces_left, text_of, version_of, words};
+ghost use Rattle.cdl_text.specs.Cutters.{Follows, SameText, is_done, text_of, words};
 ghost use Rattle.cdl_text.specs.declared.section.Section.TheVariants.{Values};
 ghost use Rattle.cdl_meaning.specs.State.{State};
 ghost use Rattle.cdl_values.specs.Listed.{fresh};
@@ -53,8 +53,7 @@ pub fn read_data<'a>(
 ) -> Result<DataSection<'a>, ParseError>
     ensures reads { (vars : List Var) (s : State) → s.section ≡ Values → IsIndex names.now (names_of s.drafts) → Suit s.dims targets.items s.drafts → s.drafts ≡ fresh vars → length (text_of start.entry) < 2 ^ 63 → ReadsData vars start.entry s result }
     ensures ends { IfOk result (λ d. d.is_closed ≡ false → is_done d.rest ≡ true) }
-    ensures text { IfOk result (λ d. text_of d.rest ≡ text_of start.entry) }
-    ensures version { IfOk result (λ d. version_of d.rest ≡ version_of start.entry) }
+    ensures same { IfOk result (λ d. SameText start.entry d.rest) }
 {
     let mut targets = targets;
     let mut arrays = without_values(alloc, targets.len())?;
@@ -104,9 +103,7 @@ fn read_one<'a>(
 ) -> Result<Passed<'a>, ReadError>
     requires { is_done start ≡ false }
     ensures reads { (vars : List Var) (s : State) → IsIndex names.now (names_of s.drafts) → IsInDataSection vars targets.old.items arrays.old.items s → length (text_of start.entry) < 2 ^ 63 → ReadsOne vars start.entry s targets.new.items arrays.new.items result }
-    ensures rest { IfOk result (λ passed. pieces_left passed.rest ≡ after start.entry) }
-    ensures text { IfOk result (λ passed. text_of passed.rest ≡ text_of start.entry) }
-    ensures version { IfOk result (λ passed. version_of passed.rest ≡ version_of start.entry) }
+    ensures rest { IfOk result (λ passed. Follows start.entry passed.rest) }
 {
     if start.lexeme().is_mark(b'}') {
         return close(start);
@@ -125,9 +122,7 @@ fn close(start: Cutter<'_>) -> Result<Passed<'_>, ReadError>
     requires more { is_done start ≡ false }
     requires brace { begins_brace (words start) ≡ true }
     ensures reads { (s : State) → s.section ≡ Values → Closes start.entry s result }
-    ensures rest { IfOk result (λ passed. pieces_left passed.rest ≡ after start.entry) }
-    ensures text { IfOk result (λ passed. text_of passed.rest ≡ text_of start.entry) }
-    ensures version { IfOk result (λ passed. version_of passed.rest ≡ version_of start.entry) }
+    ensures rest { IfOk result (λ passed. Follows start.entry passed.rest) }
 {
     let rest = pass(start, Section::Values)?;
     Ok(Passed {

@@ -1,7 +1,7 @@
 //! The sections before the data section.
 
 ghost use Rattle.std.specs.Prelude.{◌≡◌, IfOk, false};
-ghost use Rattle.cdl_text.specs.Cutters.{is_done, pieces_left, text_of, version_of};
+ghost use Rattle.cdl_text.specs.Cutters.{SameText, is_done, pieces_left, text_of, version_of};
 ghost use Rattle.cdl_meaning.specs.Meaning.{empty, run};
 ghost use Rattle.cdl_values.specs.Listed.{AreShaped};
 ghost use Rattle.cdl_parse.specs.Defined.{is_early, state_of};
@@ -29,8 +29,7 @@ pub fn read_definitions<'a>(alloc: Global, start: Cutter<'a>) -> Result<Defined<
     ensures reads { ReadsOn (λ d. run (text_of start.entry) (version_of start.entry) (state_of d.definitions) (pieces_left d.rest)) result (run (text_of start.entry) (version_of start.entry) empty (pieces_left start.entry)) }
     ensures shaped { IfOk result (λ d. AreShaped d.definitions.dims d.definitions.variables) }
     ensures ends { IfOk result (λ d. is_done d.rest ≡ false → is_early d.definitions.section ≡ false) }
-    ensures text { IfOk result (λ d. text_of d.rest ≡ text_of start.entry) }
-    ensures version { IfOk result (λ d. version_of d.rest ≡ version_of start.entry) }
+    ensures same { IfOk result (λ d. SameText start.entry d.rest) }
 {
     let mut definitions = Definitions::new(alloc);
     let mut cutter = start;

@@ -2,7 +2,7 @@
 
 ghost use Rattle.std.specs.Prelude.{◌≡◌, IfOk, false, true};
 ghost use Rattle.cdl_text.specs.Contents.{other_said, statement_said, variable_said};
-ghost use Rattle.cdl_text.specs.Cutters.{after, is_done, next_token, pieces_left, text_of, version_of, words};
+ghost use Rattle.cdl_text.specs.Cutters.{Follows, is_done, next_token, text_of, version_of, words};
 ghost use Rattle.cdl_text.specs.DueTokens.{completes};
 ghost use Rattle.cdl_text.specs.Lexemes.{is_mark, lexeme};
 ghost use Rattle.cdl_text.specs.Shapes.{section_of};
@@ -61,9 +61,7 @@ impl Definitions {
         requires more { is_done start ≡ false }
         requires early { is_early self.old.section ≡ true }
         ensures makes { Makes (state_of self.new) result (piece_read (version_of start.entry) (state_of self.old) (words start.entry)) }
-        ensures rest { IfOk result (λ c. pieces_left c ≡ after start.entry) }
-        ensures text { IfOk result (λ c. text_of c ≡ text_of start.entry) }
-        ensures version { IfOk result (λ c. version_of c ≡ version_of start.entry) }
+        ensures rest { IfOk result (λ c. Follows start.entry c) }
     {
         let rest = pass(start, self.section)?;
         self.act(alloc, start)?;

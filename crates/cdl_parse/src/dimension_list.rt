@@ -4,7 +4,7 @@ ghost use Rattle.std.specs.Prelude.{◌≡◌, ◌<◌, ◌∷◌, ◌++◌, [],
 ghost use Rattle.nc_base.specs.Headers.{has_record_dim};
 ghost use Rattle.nc_base.specs.declared.header.Dim as header;
 ghost use Rattle.cdl_text.specs.Contents.{dimension_said, dimensions_said, is_unlimited, length_said};
-ghost use Rattle.cdl_text.specs.Cutters.{is_done, offset_of, text_of, version_of, words};
+ghost use Rattle.cdl_text.specs.Cutters.{SameText, is_done, offset_of, version_of, words};
 ghost use Rattle.cdl_text.specs.DueTokens.{completes};
 ghost use Rattle.cdl_tokens.specs.Escapes.{word_value};
 ghost use Rattle.cdl_text.specs.Views.{lexeme_of};
@@ -66,8 +66,7 @@ pub fn read_dimensions(
 fn next_dimension(start: Cutter<'_>) -> NextDimension<'_>
     requires more { is_done start ≡ false }
     requires shaped { completes DimensionName (words start) ≡ true }
-    ensures text { text_of result.rest ≡ text_of start.entry }
-    ensures version { version_of result.rest ≡ version_of start.entry }
+    ensures same { SameText start.entry result.rest }
     ensures said { dimensions_said (version_of start.entry) (words start.entry) ≡ dimension_said (version_of start.entry) (lexeme_of result.name) (lexeme_of result.length) ∷ (if result.ends then [] else dimensions_said (version_of start.entry) (words result.rest)) }
     ensures moves { result.ends ≡ false → offset_of start.entry < offset_of result.rest }
     ensures goes { result.ends ≡ false → is_done result.rest ≡ false }

@@ -1,7 +1,7 @@
 //! The shape of a statement.
 
 ghost use Rattle.std.specs.Prelude.{◌≡◌, IfOk, false, true};
-ghost use Rattle.cdl_text.specs.Cutters.{after, is_done, pieces_left, text_of, version_of, words};
+ghost use Rattle.cdl_text.specs.Cutters.{Follows, is_done, version_of, words};
 ghost use Rattle.cdl_text.specs.DueTokens.{completes};
 ghost use Rattle.cdl_text.specs.declared.due.Due.TheVariants.{First};
 ghost use Rattle.cdl_meaning.specs.State.{State};
@@ -18,9 +18,7 @@ pub fn pass(start: Cutter<'_>, section: Section) -> Result<Cutter<'_>, CdlKind>
     requires { is_done start ≡ false }
     ensures passes { (s : State) → s.section ≡ section → Passes (version_of start.entry) s (words start.entry) result }
     ensures whole { IfOk result (λ c. completes (First section) (words start.entry) ≡ true) }
-    ensures rest { IfOk result (λ c. pieces_left c ≡ after start.entry) }
-    ensures text { IfOk result (λ c. text_of c ≡ text_of start.entry) }
-    ensures version { IfOk result (λ c. version_of c ≡ version_of start.entry) }
+    ensures rest { IfOk result (λ c. Follows start.entry c) }
 {
     let found = look_over(start, section);
     match found.bad {

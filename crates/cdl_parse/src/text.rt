@@ -2,7 +2,7 @@
 
 ghost use Rattle.std.specs.Prelude.{if◌then◌else◌, ◌≡◌, ◌<◌, ◌≤◌, ◌^◌, IfOk, List, Ok, false, length, true};
 ghost use Rattle.nc_base.specs.declared.header.Var as header;
-ghost use Rattle.cdl_text.specs.Cutters.{is_done, pieces_left, text_of, version_of};
+ghost use Rattle.cdl_text.specs.Cutters.{SameText, is_done, pieces_left, text_of, version_of};
 ghost use Rattle.cdl_meaning.specs.Meaning.{empty, meaning, run};
 ghost use Rattle.cdl_meaning.specs.State.{State};
 ghost use Rattle.cdl_values.specs.Listed.{AreShaped, fresh};
@@ -156,8 +156,7 @@ fn read_values<'a>(
     requires { is_done start ≡ false → is_early section ≡ false }
     ensures reads { (s : State) → s.section ≡ section → s.dims ≡ dims.now → s.drafts ≡ fresh vars.now → IsIndex names.now (names_of s.drafts) → AreShaped s.dims s.drafts → length (text_of start.entry) < 2 ^ 63 → ReadsValues vars.now start.entry s result }
     ensures past { IfOk result (λ values. is_done values.rest ≡ false → is_past values.section ≡ true) }
-    ensures text { IfOk result (λ values. text_of values.rest ≡ text_of start.entry) }
-    ensures version { IfOk result (λ values. version_of values.rest ≡ version_of start.entry) }
+    ensures same { IfOk result (λ values. SameText start.entry values.rest) }
 {
     match section {
         Section::Values => read_section(alloc, dims, vars, names, start),
@@ -179,8 +178,7 @@ fn read_section<'a>(
 ) -> Result<Values<'a>, ParseError>
     ensures reads { (s : State) → s.section ≡ Section.Values → s.dims ≡ dims.now → s.drafts ≡ fresh vars.now → IsIndex names.now (names_of s.drafts) → AreShaped s.dims s.drafts → length (text_of start.entry) < 2 ^ 63 → ReadsValues vars.now start.entry s result }
     ensures past { IfOk result (λ values. is_done values.rest ≡ false → is_past values.section ≡ true) }
-    ensures text { IfOk result (λ values. text_of values.rest ≡ text_of start.entry) }
-    ensures version { IfOk result (λ values. version_of values.rest ≡ version_of start.entry) }
+    ensures same { IfOk result (λ values. SameText start.entry values.rest) }
 {
     let targets = targets_of(alloc, dims, vars)?;
     let data = read_data(alloc, names, targets, start)?;

@@ -59,3 +59,13 @@ words c = map (lexeme (text_of c)) (first_piece (pieces_left c))
 -- the pieces after the first
 unfoldable pub after : Cutter → List (List Token)
 after c = other_pieces (pieces_left c)
+
+-- what a call that goes on in a text leaves of it: the same text, read for the same version
+pub record SameText (start rest : Cutter) : Type 0 where
+  pub text : text_of rest ≡ text_of start
+  pub version : version_of rest ≡ version_of start
+
+-- what a call that reads a statement leaves: the statements after it, of the same text
+pub record Follows (start rest : Cutter) : Type 0 where
+  pub pieces : pieces_left rest ≡ after start
+  pub same : SameText start rest

@@ -35,7 +35,7 @@ pub struct Cutter<'a> {
 }
 
 impl<'a> Cutter<'a> {
-    ghost use Rattle.cdl_text.specs.Cutters.{after, first_line, HandsOut, is_done, next_token, offset_of, pieces_left, text_of, tokens_left, version_of, words};
+    ghost use Rattle.cdl_text.specs.Cutters.{HandsOut, SameText, after, first_line, is_done, next_token, offset_of, pieces_left, text_of, tokens_left, version_of, words};
     ghost use Rattle.cdl_text.specs.Views.{lexeme_of};
 
     /// The start of a text.
@@ -121,8 +121,7 @@ impl<'a> Cutter<'a> {
     #[inline]
     pub fn advance(&mut self) -> bool
         requires { is_done self.old ≡ false }
-        ensures text { text_of self.new ≡ text_of self.old }
-        ensures version { version_of self.new ≡ version_of self.old }
+        ensures same { SameText self.old self.new }
         ensures pieces { pieces_left self.old ≡ with_first result (next_token self.old) (pieces_left self.new) }
         ensures words { words self.old ≡ lexeme (text_of self.old) (next_token self.old) ∷ (if result then [] else words self.new) }
         ensures after { after self.old ≡ (if result then pieces_left self.new else after self.new) }
@@ -142,8 +141,7 @@ impl<'a> Cutter<'a> {
     /// The cutter one token on, and whether that token was the last of its statement. It takes no memory.
     pub fn advanced(self) -> (Cutter<'a>, bool)
         requires { is_done self ≡ false }
-        ensures text { text_of result.0 ≡ text_of self.entry }
-        ensures version { version_of result.0 ≡ version_of self.entry }
+        ensures same { SameText self.entry result.0 }
         ensures pieces { pieces_left self.entry ≡ with_first result.1 (next_token self.entry) (pieces_left result.0) }
         ensures words { words self.entry ≡ lexeme (text_of self.entry) (next_token self.entry) ∷ (if result.1 then [] else words result.0) }
         ensures after { after self.entry ≡ (if result.1 then pieces_left result.0 else after result.0) }

@@ -2,7 +2,7 @@
 
 ghost use Rattle.std.specs.Prelude.{◌≡◌, false, true, is_none, is_some, None, Some};
 ghost use Rattle.cdl_text.specs.Contents.{statement_said};
-ghost use Rattle.cdl_text.specs.Cutters.{after, is_done, next_token, pieces_left, text_of, version_of, words};
+ghost use Rattle.cdl_text.specs.Cutters.{Follows, is_done, version_of, words};
 ghost use Rattle.cdl_text.specs.DueTokens.{completes};
 ghost use Rattle.cdl_text.specs.Shapes.{either, first_bad, shape, token_fault};
 ghost use Rattle.cdl_text.specs.Views.{lexeme_of};
@@ -33,9 +33,7 @@ pub fn look_over(start: Cutter<'_>, section: Section) -> Survey<'_>
     ensures shaped { result.bad ≡ None → result.shaped ≡ is_some (shape (version_of start.entry) section (words start.entry)) }
     ensures says { result.bad ≡ None → result.shaped ≡ true → shape (version_of start.entry) section (words start.entry) ≡ Some (statement_said (version_of start.entry) section (words start.entry)) }
     ensures table { result.shaped ≡ completes (Due.First section) (words start.entry) }
-    ensures rest { pieces_left result.rest ≡ after start.entry }
-    ensures text { text_of result.rest ≡ text_of start.entry }
-    ensures version { version_of result.rest ≡ version_of start.entry }
+    ensures rest { Follows start.entry result.rest }
 {
     first_pass(start, Due::First(section))
 }
@@ -45,9 +43,7 @@ pub fn first_pass(start: Cutter<'_>, first: Due) -> Survey<'_>
     requires { is_done start ≡ false }
     ensures bad { result.bad ≡ first_bad (version_of start.entry) (words start.entry) }
     ensures shaped { result.shaped ≡ completes first (words start.entry) }
-    ensures rest { pieces_left result.rest ≡ after start.entry }
-    ensures text { text_of result.rest ≡ text_of start.entry }
-    ensures version { version_of result.rest ≡ version_of start.entry }
+    ensures rest { Follows start.entry result.rest }
 {
     let version = start.version();
     let mut cutter = start;

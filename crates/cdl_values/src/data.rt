@@ -1,7 +1,7 @@
 //! The statements of the data section.
 
 ghost use Rattle.std.specs.Prelude.{◌≡◌, ◌<◌, ◌^◌, ℕ, List, Ok, Some, IfOk, false, length, option_map};
-ghost use Rattle.cdl_text.specs.Cutters.{after, is_done, pieces_left, text_of, version_of, words};
+ghost use Rattle.cdl_text.specs.Cutters.{Follows, is_done, text_of, version_of, words};
 ghost use Rattle.cdl_tokens.specs.Escapes.{word_value};
 ghost use Rattle.cdl_text.specs.declared.section.Section.TheVariants.{Values};
 ghost use Rattle.cdl_meaning.specs.State.{State};
@@ -62,9 +62,7 @@ pub fn read<'a>(
     requires { is_done start ≡ false }
     ensures means { (s : State) → s.section ≡ Values → IsIndex names.now (names_of s.drafts) → Suit s.dims targets.now s.drafts → begins_brace (words start.entry) ≡ false → length (text_of start.entry) < 2 ^ 63 → ReadsStatement (version_of start.entry) s (words start.entry) (array_of (λ (g : Given). g.array) result) }
     ensures position { (all : List (List ℕ)) → IsIndex names.now all → IfOk result (λ g. position_of all (name_first (words start.entry)) ≡ Some g.position) }
-    ensures rest { IfOk result (λ g. pieces_left g.rest ≡ after start.entry) }
-    ensures text { IfOk result (λ g. text_of g.rest ≡ text_of start.entry) }
-    ensures version { IfOk result (λ g. version_of g.rest ≡ version_of start.entry) }
+    ensures rest { IfOk result (λ g. Follows start.entry g.rest) }
 {
     read_either(alloc, names, targets, start)
 }
@@ -79,9 +77,7 @@ fn read_either<'a>(
     requires { is_done start ≡ false }
     ensures read { (names : List (List ℕ)) → IsIndex index.now names → Gives (λ g. g.array) result (data_read (version_of start.entry) names targets.now (words start.entry)) }
     ensures position { (names : List (List ℕ)) → IsIndex index.now names → IfOk result (λ g. position_of names (name_first (words start.entry)) ≡ Some g.position) }
-    ensures rest { IfOk result (λ g. pieces_left g.rest ≡ after start.entry) }
-    ensures text { IfOk result (λ g. text_of g.rest ≡ text_of start.entry) }
-    ensures version { IfOk result (λ g. version_of g.rest ≡ version_of start.entry) }
+    ensures rest { IfOk result (λ g. Follows start.entry g.rest) }
 {
     match read_quickly(alloc, index, targets, start) {
         Ok(given) => Ok(given),
@@ -100,9 +96,7 @@ fn read_quickly<'a>(
     requires { is_done start ≡ false }
     ensures read { IfOk result (λ g. (names : List (List ℕ)) → IsIndex index.now names → data_read (version_of start.entry) names targets.now (words start.entry) ≡ Ok g.array) }
     ensures position { (names : List (List ℕ)) → IsIndex index.now names → IfOk result (λ g. position_of names (name_first (words start.entry)) ≡ Some g.position) }
-    ensures rest { IfOk result (λ g. pieces_left g.rest ≡ after start.entry) }
-    ensures text { IfOk result (λ g. text_of g.rest ≡ text_of start.entry) }
-    ensures version { IfOk result (λ g. version_of g.rest ≡ version_of start.entry) }
+    ensures rest { IfOk result (λ g. Follows start.entry g.rest) }
 {
     let name = start.lexeme();
     let equals_due = Due::DataName.after(name);
@@ -143,9 +137,7 @@ fn read_slowly<'a>(
     requires { is_done start ≡ false }
     ensures read { (names : List (List ℕ)) → IsIndex index.now names → Gives (λ g. g.array) result (data_read (version_of start.entry) names targets.now (words start.entry)) }
     ensures position { (names : List (List ℕ)) → IsIndex index.now names → IfOk result (λ g. position_of names (name_first (words start.entry)) ≡ Some g.position) }
-    ensures rest { IfOk result (λ g. pieces_left g.rest ≡ after start.entry) }
-    ensures text { IfOk result (λ g. text_of g.rest ≡ text_of start.entry) }
-    ensures version { IfOk result (λ g. version_of g.rest ≡ version_of start.entry) }
+    ensures rest { IfOk result (λ g. Follows start.entry g.rest) }
 {
     let found = first_pass(start, Due::DataName);
     if let Some(kind) = found.bad {

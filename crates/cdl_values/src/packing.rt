@@ -2,7 +2,7 @@
 
 ghost use Rattle.std.specs.Prelude.{◌≡◌, None, Ok, OnOk, IfOk, false, true};
 ghost use Rattle.cdl_text.specs.Contents.{values};
-ghost use Rattle.cdl_text.specs.Cutters.{after, is_done, pieces_left, text_of, version_of, words};
+ghost use Rattle.cdl_text.specs.Cutters.{Follows, is_done, version_of, words};
 ghost use Rattle.cdl_text.specs.DueTokens.{completes};
 ghost use Rattle.cdl_text.specs.Shapes.{first_bad};
 ghost use Rattle.cdl_values.specs.Answers.{Gives};
@@ -67,9 +67,7 @@ pub fn pack_good<'a>(
     ensures bad { OnOk result (first_bad (version_of start.entry) (words start.entry) ≡ None) }
     ensures shaped { OnOk result (completes (Due.Value true) (words start.entry) ≡ true) }
     ensures packs { IfOk result (λ p. packed filling capacity (values (version_of start.entry) (words start.entry)) ≡ Ok p.array) }
-    ensures rest { IfOk result (λ p. pieces_left p.rest ≡ after start.entry) }
-    ensures text { IfOk result (λ p. text_of p.rest ≡ text_of start.entry) }
-    ensures version { IfOk result (λ p. version_of p.rest ≡ version_of start.entry) }
+    ensures rest { IfOk result (λ p. Follows start.entry p.rest) }
 {
     let version = start.version();
     let mut cutter = start;

@@ -48,7 +48,7 @@ returns-in_err-vals-clause-reads c =
     let e = c.in_err-vals.field-0.0 in
     let read =
     read_as start equals first c.advanced.result.1 c.advanced-2.result.1 (lexeme_of c.lexeme.result) (lexeme_of c.lexeme-2.result) ty c.version.result atts c.in_ok-name.name.items
-    c.advanced.ensures.words c.advanced-2.ensures.words more c.requires.shaped named valued c.version.ensures (c.advanced-2.ensures.version ∙ c.advanced.ensures.version) c.type_said-ty.ensures c.in_ok-name.ensures in
+    c.advanced.ensures.words c.advanced-2.ensures.words more c.requires.shaped named valued c.version.ensures (c.advanced-2.ensures.same.version ∙ c.advanced.ensures.same.version) c.type_said-ty.ensures c.in_ok-name.ensures in
     let constants = in_turn (add_constant ty) [] (values (version_of first) (words first)) in
     refused atts c.from_residual-in_err-vals.result e (add_att (name_first (words start)) (constants_said (version_of start) (words start)) atts) (search rules)
     (subst (λ (r : Result (List Att) CdlKind). Fails e r) (sym read) (fails_then e constants (λ vals. Ok (atts ++ record { name = c.in_ok-name.name.items; ty = ty; vals = vals } ∷ [])) c.in_err-vals.ensures))
@@ -64,5 +64,5 @@ returns-clause-reads c =
     let on = (goes_name (lexeme (text_of start) (next_token start)) c.advanced.result.1 (words equals) (words start) c.advanced.ensures.words c.requires.shaped).2 in
     let more : is_done first ≡ false = c.advanced-2.ensures.goes (goes_equals (lexeme (text_of equals) (next_token equals)) c.advanced-2.result.1 (words first) (words equals) c.advanced-2.ensures.words on).0 in
     read_as start equals first c.advanced.result.1 c.advanced-2.result.1 (lexeme_of c.lexeme.result) (lexeme_of c.lexeme-2.result) c.type_said-ty.result c.version.result atts c.in_ok-name.name.items
-    c.advanced.ensures.words c.advanced-2.ensures.words more c.requires.shaped named valued c.version.ensures (c.advanced-2.ensures.version ∙ c.advanced.ensures.version) c.type_said-ty.ensures c.in_ok-name.ensures ∙
+    c.advanced.ensures.words c.advanced-2.ensures.words more c.requires.shaped named valued c.version.ensures (c.advanced-2.ensures.same.version ∙ c.advanced.ensures.same.version) c.type_said-ty.ensures c.in_ok-name.ensures ∙
     ap (with_values atts c.in_ok-name.name.items c.type_said-ty.result) c.in_ok-vals.ensures ∙ ap Ok (sym c.in_ok-add.ensures.ok)

@@ -1,10 +1,10 @@
 use Rattle.std.proofs.Common.{◌≡◌, ◌-◌, length, false}
-use Rattle.cdl_text.specs.Cutters.{after, is_done, offset_of, text_of}
+use Rattle.cdl_text.specs.Cutters.{SameText, after, is_done, offset_of, text_of}
 use Rattle.cdl_parse.proofs.closing.after_statement.Given as goal
 
 abbrev pub invariant-tokens : goal.invariant-tokens
 invariant-tokens l = record {
-  text : text_of l.cutter ≡ text_of l.fn.start;
+  same : SameText l.fn.start l.cutter;
   goes : is_done l.cutter ≡ false;
   rest : after l.cutter ≡ after l.fn.start;
 }

@@ -18,7 +18,7 @@ statements-init c =
     record { text = refl; version = refl; reads = λ vars s section index suit is short. none_so_far vars s c.args.start c.args.targets.items c.in_ok-arrays.arrays.items section suit is empty }
 
 pub statements-smaller : goal.statements-smaller
-statements-smaller c = fewer c.statements.cutter c.in-Ok.passed.rest (sym c.is_done.ensures ∙ c.if-is_done.false) c.in-Ok.ensures.rest
+statements-smaller c = fewer c.statements.cutter c.in-Ok.passed.rest (sym c.is_done.ensures ∙ c.if-is_done.false) c.in-Ok.ensures.rest.pieces
 
 pub statements-preserved : goal.statements-preserved
 statements-preserved c =
@@ -27,12 +27,12 @@ statements-preserved c =
     let found = c.in-Ok.ensures in
     let more : is_done t.cutter ≡ false = sym c.is_done.ensures ∙ c.if-is_done.false in
     record {
-      text = found.text ∙ t.invariant.text;
-      version = found.version ∙ t.invariant.version;
+      text = found.rest.same.text ∙ t.invariant.text;
+      version = found.rest.same.version ∙ t.invariant.version;
       reads = λ vars s section index suit is short.
           let so = t.invariant.reads vars s section index suit is short in
           let taken = found.reads vars (record s { drafts = so.0 }) (subst (IsIndex c.args.names.now) (sym so.2) index) so.1 (subst (λ text. length text < 2 ^ 63) (sym t.invariant.text) short) in
-          values_on start t.cutter t.invariant.text t.invariant.version more vars s t.targets.items c.read_one.new.targets.items t.arrays.items c.read_one.new.arrays.items c.in-Ok.passed.rest found.rest so
+          values_on start t.cutter t.invariant.text t.invariant.version more vars s t.targets.items c.read_one.new.targets.items t.arrays.items c.read_one.new.arrays.items c.in-Ok.passed.rest found.rest.pieces so
           (subst (λ b. Takes b vars t.cutter (record s { drafts = so.0 }) c.read_one.new.targets.items c.read_one.new.arrays.items) c.if-passed.false taken);
     }
 
@@ -51,7 +51,7 @@ returns-then-passed-clause-reads c = λ vars s section index suit is short.
     let so = t.invariant.reads vars s section index suit is short in
     let taken = found.reads vars (record s { drafts = so.0 }) (subst (IsIndex c.args.names.now) (sym so.2) index) so.1 (subst (λ text. length text < 2 ^ 63) (sym t.invariant.text) short) in
     let closed = subst (λ b. Takes b vars t.cutter (record s { drafts = so.0 }) c.read_one.new.targets.items c.read_one.new.arrays.items) c.if-passed.true taken in
-    (so.0, closed.1, so.3 ∙ goes_on start t.cutter t.invariant.text t.invariant.version more (record s { drafts = so.0 }) (record s { section = Section.Closed; drafts = so.0 }) c.in-Ok.passed.rest closed.0 found.rest)
+    (so.0, closed.1, so.3 ∙ goes_on start t.cutter t.invariant.text t.invariant.version more (record s { drafts = so.0 }) (record s { section = Section.Closed; drafts = so.0 }) c.in-Ok.passed.rest closed.0 found.rest.pieces)
 
 pub returns-in-Err-clause-reads : goal.returns-in-Err-clause-reads
 returns-in-Err-clause-reads c = λ vars s section index suit is short.

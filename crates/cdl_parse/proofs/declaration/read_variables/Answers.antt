@@ -19,7 +19,7 @@ tokens-init c =
     let l = lexeme (text_of a.start) (next_token a.start) in
     let goes = (goes_name l ends (words next) (words a.start) c.advanced.ensures.words c.requires.shaped).0 in
     record {
-      text = c.advanced.ensures.text;
+      text = c.advanced.ensures.same.text;
       goes = c.advanced.ensures.goes goes;
       new = c.in_ok-begun.ensures.new;
       rest =

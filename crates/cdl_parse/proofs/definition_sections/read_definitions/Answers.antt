@@ -8,7 +8,7 @@ use Rattle.cdl_parse.proofs.ShapesKept.{kept}
 use Rattle.cdl_parse.proofs.definition_sections.read_definitions.Goals as goal
 
 pub statements-smaller : goal.statements-smaller
-statements-smaller c = fewer c.statements.cutter c.in-Ok.rest (sym c.is_done.ensures ∙ c.if-is_done.false) c.in-Ok.ensures.rest
+statements-smaller c = fewer c.statements.cutter c.in-Ok.rest (sym c.is_done.ensures ∙ c.if-is_done.false) c.in-Ok.ensures.rest.pieces
 
 pub statements-preserved : goal.statements-preserved
 statements-preserved c =
@@ -16,10 +16,10 @@ statements-preserved c =
     let t = c.statements in
     let more : is_done t.cutter ≡ false = sym c.is_done.ensures ∙ c.if-is_done.false in
     record {
-      text = c.in-Ok.ensures.text ∙ t.invariant.text;
-      version = c.in-Ok.ensures.version ∙ t.invariant.version;
+      text = c.in-Ok.ensures.rest.same.text ∙ t.invariant.text;
+      version = c.in-Ok.ensures.rest.same.version ∙ t.invariant.version;
       shaped = kept (version_of t.cutter) (state_of t.definitions) (state_of c.read_statement.new.self) (words t.cutter) c.in-Ok.ensures.makes t.invariant.shaped;
-      runs = t.invariant.runs ∙ goes_on start t.cutter t.invariant.text t.invariant.version more (state_of t.definitions) (state_of c.read_statement.new.self) c.in-Ok.rest c.in-Ok.ensures.makes c.in-Ok.ensures.rest;
+      runs = t.invariant.runs ∙ goes_on start t.cutter t.invariant.text t.invariant.version more (state_of t.definitions) (state_of c.read_statement.new.self) c.in-Ok.rest c.in-Ok.ensures.makes c.in-Ok.ensures.rest.pieces;
     }
 
 pub returns-in-Err-clause-reads : goal.returns-in-Err-clause-reads

@@ -19,16 +19,16 @@ returns c = λ small.
     let s = state_of c.in_ok-definitions.field-0.definitions in
     let vars = c.in_ok-vars.vars in
     let values = c.in_ok-values.values in
-    let short : length (text_of rest) < 2 ^ 63 = subst (λ text. length text < 2 ^ 63) (sym c.in_ok-definitions.ensures.text) small in
+    let short : length (text_of rest) < 2 ^ 63 = subst (λ text. length text < 2 ^ 63) (sym c.in_ok-definitions.ensures.same.text) small in
     let dims : s.dims ≡ c.as_slice.result.now = search rules in
     let listed_of : c.as_slice-2.result.now ≡ vars = search rules in
     let drafts : s.drafts ≡ fresh c.as_slice-2.result.now = sym c.in_ok-vars.ensures.vars ∙ ap fresh (sym listed_of) in
     let read = c.in_ok-values.ensures.reads s refl dims drafts c.in_ok-vars.ensures.names c.in_ok-definitions.ensures.shaped short in
     let at : State = record s { section = values.section; drafts = read.0 } in
     let so_far : run (text_of start) (version_of start) empty (pieces_left start) ≡ run (text_of start) (version_of start) at (pieces_left values.rest) =
-    c.in_ok-definitions.ensures.reads ∙ same_run (text_of start) (text_of rest) (version_of start) (version_of rest) s at (pieces_left rest) (pieces_left values.rest) c.in_ok-definitions.ensures.text c.in_ok-definitions.ensures.version read.2 in
-    let text = c.in_ok-values.ensures.text ∙ c.in_ok-definitions.ensures.text in
-    let version = c.in_ok-values.ensures.version ∙ c.in_ok-definitions.ensures.version in
+    c.in_ok-definitions.ensures.reads ∙ same_run (text_of start) (text_of rest) (version_of start) (version_of rest) s at (pieces_left rest) (pieces_left values.rest) c.in_ok-definitions.ensures.same.text c.in_ok-definitions.ensures.same.version read.2 in
+    let text = c.in_ok-values.ensures.same.text ∙ c.in_ok-definitions.ensures.same.text in
+    let version = c.in_ok-values.ensures.same.version ∙ c.in_ok-definitions.ensures.same.version in
     let ended = c.in_ok-read_end.ensures at refl in
     let lists = subst (λ vs. AllList vs values.listed.items read.0) listed_of read.1 in (
       record at { section = ended.0 },
@@ -49,16 +49,16 @@ returns-in_err-read_end c = λ small.
     let s = state_of c.in_ok-definitions.field-0.definitions in
     let vars = c.in_ok-vars.vars in
     let values = c.in_ok-values.values in
-    let short : length (text_of rest) < 2 ^ 63 = subst (λ text. length text < 2 ^ 63) (sym c.in_ok-definitions.ensures.text) small in
+    let short : length (text_of rest) < 2 ^ 63 = subst (λ text. length text < 2 ^ 63) (sym c.in_ok-definitions.ensures.same.text) small in
     let dims : s.dims ≡ c.as_slice.result.now = search rules in
     let listed_of : c.as_slice-2.result.now ≡ vars = search rules in
     let drafts : s.drafts ≡ fresh c.as_slice-2.result.now = sym c.in_ok-vars.ensures.vars ∙ ap fresh (sym listed_of) in
     let read = c.in_ok-values.ensures.reads s refl dims drafts c.in_ok-vars.ensures.names c.in_ok-definitions.ensures.shaped short in
     let at : State = record s { section = values.section; drafts = read.0 } in
     let so_far : run (text_of start) (version_of start) empty (pieces_left start) ≡ run (text_of start) (version_of start) at (pieces_left values.rest) =
-    c.in_ok-definitions.ensures.reads ∙ same_run (text_of start) (text_of rest) (version_of start) (version_of rest) s at (pieces_left rest) (pieces_left values.rest) c.in_ok-definitions.ensures.text c.in_ok-definitions.ensures.version read.2 in
-    let text = c.in_ok-values.ensures.text ∙ c.in_ok-definitions.ensures.text in
-    let version = c.in_ok-values.ensures.version ∙ c.in_ok-definitions.ensures.version in
+    c.in_ok-definitions.ensures.reads ∙ same_run (text_of start) (text_of rest) (version_of start) (version_of rest) s at (pieces_left rest) (pieces_left values.rest) c.in_ok-definitions.ensures.same.text c.in_ok-definitions.ensures.same.version read.2 in
+    let text = c.in_ok-values.ensures.same.text ∙ c.in_ok-definitions.ensures.same.text in
+    let version = c.in_ok-values.ensures.same.version ∙ c.in_ok-definitions.ensures.same.version in
     let fault = c.in_err-read_end.field-0.0 in
     let is : c.from_residual-in_err-read_end.result ≡ Err (Fault fault) = search rules in
     subst (λ (r : Result Contents ParseError). ReadsAll r (run (text_of start) (version_of start) empty (pieces_left start))) (sym is)

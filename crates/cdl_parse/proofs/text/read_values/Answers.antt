@@ -19,6 +19,5 @@ returns-in_ok-without_values-in_default c =
             ap (λ ds. run (text_of start) (version_of start) (record s { section = c.args.section; drafts = ds }) (pieces_left start)) drafts,
       );
       past = λ more. past_values c.args.section (c.requires more) c.in_default.not-Values;
-      text = refl;
-      version = refl;
+      same = record { text = refl; version = refl };
     }

@@ -18,7 +18,7 @@ statements-init c = record {
 }
 
 pub statements-smaller : goal.statements-smaller
-statements-smaller c = fewer c.statements.cutter c.in-Ok.rest (sym c.is_done.ensures ∙ c.if-is_done.false) c.in-Ok.ensures.rest
+statements-smaller c = fewer c.statements.cutter c.in-Ok.rest (sym c.is_done.ensures ∙ c.if-is_done.false) c.in-Ok.ensures.rest.pieces
 
 pub statements-preserved : goal.statements-preserved
 statements-preserved c =
@@ -27,14 +27,14 @@ statements-preserved c =
     let more : is_done t.cutter ≡ false = sym c.is_done.ensures ∙ c.if-is_done.false in
     let begun = begins t.cutter more in
     record {
-      text = c.in-Ok.ensures.text ∙ t.invariant.text;
-      version = c.in-Ok.ensures.version ∙ t.invariant.version;
+      text = c.in-Ok.ensures.rest.same.text ∙ t.invariant.text;
+      version = c.in-Ok.ensures.rest.same.version ∙ t.invariant.version;
       past = λ more. refl;
       runs = λ s here.
           let at = record s { section = t.here } in
           t.invariant.runs s here ∙
           goes_on start t.cutter t.invariant.text t.invariant.version more at (record s { section = Ended }) c.in-Ok.rest
-          (c.in-Ok.ensures.passes at refl ∙ ends (version_of t.cutter) at (lexeme (text_of t.cutter) (next_token t.cutter)) begun.0 (words t.cutter) (t.invariant.past more) begun.1) c.in-Ok.ensures.rest;
+          (c.in-Ok.ensures.passes at refl ∙ ends (version_of t.cutter) at (lexeme (text_of t.cutter) (next_token t.cutter)) begun.0 (words t.cutter) (t.invariant.past more) begun.1) c.in-Ok.ensures.rest.pieces;
     }
 
 pub returns-then-is_done : goal.returns-then-is_done

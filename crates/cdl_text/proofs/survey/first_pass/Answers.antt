@@ -26,8 +26,8 @@ tokens-preserved c =
     let rest = words c.advance-ends.new.self in
     let here = going (words t.cutter) rest (lexeme (text_of t.cutter) (next_token t.cutter)) l c.advance-ends.result c.advance-ends.ensures.words (sym c.lexeme-token.ensures.lexeme) c.if-ends.false in
     record {
-      text = c.advance-ends.ensures.text ∙ t.invariant.text;
-      version = c.advance-ends.ensures.version ∙ t.invariant.version;
+      text = c.advance-ends.ensures.same.text ∙ t.invariant.text;
+      version = c.advance-ends.ensures.same.version ∙ t.invariant.version;
       goes = c.advance-ends.ensures.goes c.if-ends.false;
       bad = ap (λ b. either b (first_bad v rest)) (c.either-bad.ensures ∙ ap (either t.bad) c.token_fault.ensures) ∙
           sym (ap (either t.bad) (ap (first_bad v) here) ∙ bad_on v t.bad l rest) ∙ t.invariant.bad;

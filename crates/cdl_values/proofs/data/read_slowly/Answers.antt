@@ -45,7 +45,7 @@ returns-clause-read c = λ names h.
     read_on version names c.args.targets.now (words c.args.start) (words equals) (words c.advanced-2.result.0) n (lexeme (text_of equals) (next_token equals)) c.advanced.result.1 c.advanced-2.result.1
     c.advanced.ensures.words c.advanced-2.ensures.words (sym c.first_pass-found.ensures.bad ∙ no_fault c.first_pass-found.result.bad c.in_default.not-Some) on ∙
     filled_ok version (words c.advanced-2.result.0) (target_of names c.args.targets.now (word_value n.bytes)) target (ap (λ (l : Lexeme). target_of names c.args.targets.now (word_value l.bytes)) (sym c.lexeme-name.ensures.lexeme) ∙ c.in_ok-position.ensures.target names h) ∙
-    ap (λ v. packed target.filling target.capacity (values v (words c.advanced-2.result.0))) (sym (c.advanced-2.ensures.version ∙ c.advanced.ensures.version)) ∙ c.in_ok-array.ensures
+    ap (λ v. packed target.filling target.capacity (values v (words c.advanced-2.result.0))) (sym (c.advanced-2.ensures.same.version ∙ c.advanced.ensures.same.version)) ∙ c.in_ok-array.ensures
 
 pub returns-in_err-array-clause-read : goal.returns-in_err-array-clause-read
 returns-in_err-array-clause-read c = λ names h.
@@ -58,7 +58,7 @@ returns-in_err-array-clause-read c = λ names h.
     let read = read_on version names c.args.targets.now (words c.args.start) (words equals) (words c.advanced-2.result.0) n (lexeme (text_of equals) (next_token equals)) c.advanced.result.1 c.advanced-2.result.1
     c.advanced.ensures.words c.advanced-2.ensures.words (sym c.first_pass-found.ensures.bad ∙ no_fault c.first_pass-found.result.bad c.in_default.not-Some) on ∙
     filled_ok version (words c.advanced-2.result.0) (target_of names c.args.targets.now (word_value n.bytes)) target (ap (λ (l : Lexeme). target_of names c.args.targets.now (word_value l.bytes)) (sym c.lexeme-name.ensures.lexeme) ∙ c.in_ok-position.ensures.target names h) ∙
-    ap (λ v. packed target.filling target.capacity (values v (words c.advanced-2.result.0))) (sym (c.advanced-2.ensures.version ∙ c.advanced.ensures.version)) in
+    ap (λ v. packed target.filling target.capacity (values v (words c.advanced-2.result.0))) (sym (c.advanced-2.ensures.same.version ∙ c.advanced.ensures.same.version)) in
     refused (λ (g : Given). g.array) c.from_residual-in_err-array.result e (data_read version names c.args.targets.now (words c.args.start)) (search rules)
     (subst (λ (r : Result (List ℕ) CdlKind). Fails e r) (sym read) c.in_err-array.ensures)
 

@@ -35,8 +35,8 @@ tokens-preserved c =
     let l = lexeme_of c.lexeme-token.result in
     let here = going (words t.cutter) rest (lexeme (text_of t.cutter) (next_token t.cutter)) l c.advance-ends.result c.advance-ends.ensures.words (sym c.lexeme-token.ensures.lexeme) c.if-ends.false in
     record {
-      text = c.advance-ends.ensures.text ∙ t.invariant.text;
-      version = c.advance-ends.ensures.version ∙ t.invariant.version;
+      text = c.advance-ends.ensures.same.text ∙ t.invariant.text;
+      version = c.advance-ends.ensures.same.version ∙ t.invariant.version;
       goes = c.advance-ends.ensures.goes c.if-ends.false;
       bad = sym (good_on c.version-version.result l rest c.in_ok-left.ensures.good) ∙ sym (ap (first_bad c.version-version.result) here) ∙ t.invariant.bad;
       shaped = ap (λ d. completes d rest) c.in_ok-left.ensures.shape ∙ ap (completes t.due) (sym here) ∙ t.invariant.shaped;

@@ -42,7 +42,7 @@ returns-then-is_mark-2 c =
     let off : is_mark 0x7d l ≡ false = ap (is_mark 0x7d) (sym c.lexeme-first.ensures.lexeme) ∙ sym c.is_mark.ensures ∙ c.if-is_mark.false in
     let on : is_mark 0x3a l ≡ true = ap (is_mark 0x3a) (sym c.lexeme-first.ensures.lexeme) ∙ sym c.is_mark-2.ensures ∙ c.if-is_mark-2.true in
     makes_global (version_of start) (state_of c.args.self.now) l c.advanced.result.1 (words c.advanced.result.0) (words start) c.read_attribute.new.attributes c.read_attribute.result c.requires.defining off on c.advanced.ensures.words c.requires.whole
-    (subst (λ v. Leaves c.read_attribute.new.attributes c.read_attribute.result (add_att (name_first (words c.advanced.result.0)) (constants_said v (words c.advanced.result.0)) c.args.self.now.gatts)) c.advanced.ensures.version c.read_attribute.ensures.reads)
+    (subst (λ v. Leaves c.read_attribute.new.attributes c.read_attribute.result (add_att (name_first (words c.advanced.result.0)) (constants_said v (words c.advanced.result.0)) c.args.self.now.gatts)) c.advanced.ensures.same.version c.read_attribute.ensures.reads)
 
 pub returns-in_default : goal.returns-in_default
 returns-in_default c =

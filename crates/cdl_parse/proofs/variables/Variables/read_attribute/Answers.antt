@@ -68,7 +68,7 @@ returns-clause-reads c =
     ap (at_variable (name_first (words start)) (with_att (name_first (drop 2 (words start))) (constants_said (version_of start) (drop 2 (words start))))) (sym c.self.view_is) ∙
     ap (λ n. at_variable n (with_att (name_first (drop 2 (words start))) (constants_said (version_of start) (drop 2 (words start)))) drafts) (name_is (lexeme_of c.lexeme.result) (drop 1 (words start)) (words start) (c.lexeme.ensures.first c.requires.more)) ∙
     ap (λ ws. at_variable word (with_att (name_first ws) (constants_said (version_of start) ws)) drafts) (one.1 ∙ two.1) ∙
-    ap (λ v. at_variable word (with_att (name_first (words name)) (constants_said v (words name))) drafts) (sym (c.advanced-2.ensures.version ∙ c.advanced.ensures.version)) ∙
+    ap (λ v. at_variable word (with_att (name_first (words name)) (constants_said v (words name))) drafts) (sym (c.advanced-2.ensures.same.version ∙ c.advanced.ensures.same.version)) ∙
     c.in_ok-position.ensures.finds drafts c.self.invariant change in
     subst (Leaves (drafts_of (set items at (with_atts atts variable))) c.read_attribute.result) (sym same) put
 

@@ -21,7 +21,7 @@ piece-preserved c =
     let a = c.advanced-ends in
     let items : c.push.new.self.items ≡ c.piece.into.items ++ c.piece.cutter.next ∷ [] = grind (arith, common_steps) in
     record {
-      text = a.ensures.text ∙ i.text;
+      text = a.ensures.same.text ∙ i.text;
       same = i.same;
       goes = a.ensures.goes c.if-ends.false;
       so_far = λ p ps is. rw (items) (goes_on c.piece.into.items c.piece.cutter.next p ps (pieces_left c.piece.cutter) (pieces_left c.args.self.now) i.so_far (pieces_left a.result.0)
