@@ -1,6 +1,6 @@
 //! The statement that declares variables.
 
-ghost use Rattle.std.specs.Prelude.{◌≡◌, ℕ, List, ◌++◌, ◌∷◌, [], ◌&&◌, ◌||◌, not, drop, false, true, IfOk, Ok};
+ghost use Rattle.std.specs.Prelude.{◌≡◌, List, ◌++◌, ◌∷◌, [], ◌&&◌, ◌||◌, not, drop, false, true, IfOk, Ok};
 ghost use Rattle.std.specs.List.{find};
 ghost use Rattle.nc_base.specs.declared.header.Dim as header;
 ghost use Rattle.nc_base.specs.declared.nc_type.NcType as types;

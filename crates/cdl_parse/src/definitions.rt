@@ -1,7 +1,7 @@
 //! What a text declares before its data section.
 
 ghost use Rattle.std.specs.Prelude.{◌≡◌, IfOk, false, true};
-ghost use Rattle.cdl_text.specs.Contents.{other_said, statement_said, variable_said};
+ghost use Rattle.cdl_text.specs.Contents.{statement_said};
 ghost use Rattle.cdl_text.specs.Cutters.{Follows, is_done, next_token, text_of, version_of, words};
 ghost use Rattle.cdl_text.specs.DueTokens.{completes};
 ghost use Rattle.cdl_text.specs.Lexemes.{is_mark, lexeme};

@@ -1,6 +1,6 @@
 //! A whole text.
 
-ghost use Rattle.std.specs.Prelude.{if◌then◌else◌, ◌≡◌, ◌<◌, ◌≤◌, ◌^◌, IfOk, List, Ok, false, length, true};
+ghost use Rattle.std.specs.Prelude.{if◌then◌else◌, ◌≡◌, ◌<◌, ◌≤◌, ◌^◌, IfOk, Ok, false, length, true};
 ghost use Rattle.nc_base.specs.declared.header.Var as header;
 ghost use Rattle.cdl_text.specs.Cutters.{SameText, is_done, pieces_left, text_of, version_of};
 ghost use Rattle.cdl_meaning.specs.Meaning.{empty, meaning, run};

@@ -1,6 +1,6 @@
 //! The statements of a text, one at a time.
 
-ghost use Rattle.std.specs.Prelude.{◌≡◌, ◌∷◌, [], OnOk, OnErr, IfOk, IsErr, true, false, drop, ◌<◌, if◌then◌else◌};
+ghost use Rattle.std.specs.Prelude.{◌≡◌, ◌∷◌, [], OnErr, IfOk, IsErr, true, false, drop, ◌<◌, if◌then◌else◌};
 ghost use Rattle.cdl_text.specs.Roles.{role_in};
 ghost use Rattle.cdl_text.specs.Lexemes.{lexeme};
 ghost use Rattle.cdl_text.specs.Pieces.{with_first};
@@ -35,7 +35,7 @@ pub struct Cutter<'a> {
 }
 
 impl<'a> Cutter<'a> {
-    ghost use Rattle.cdl_text.specs.Cutters.{HandsOut, SameText, after, first_line, is_done, next_token, offset_of, pieces_left, text_of, tokens_left, version_of, words};
+    ghost use Rattle.cdl_text.specs.Cutters.{HandsOut, SameText, after, first_line, is_done, next_token, offset_of, pieces_left, text_of, version_of, words};
     ghost use Rattle.cdl_text.specs.Views.{lexeme_of};
 
     /// The start of a text.

@@ -5,7 +5,6 @@ ghost use Rattle.cdl_text.specs.Contents.{statement_said};
 ghost use Rattle.cdl_text.specs.Cutters.{Follows, is_done, version_of, words};
 ghost use Rattle.cdl_text.specs.DueTokens.{completes};
 ghost use Rattle.cdl_text.specs.Shapes.{either, first_bad, shape, token_fault};
-ghost use Rattle.cdl_text.specs.Views.{lexeme_of};
 
 use crate::cutter::Cutter;
 use crate::due::Due;

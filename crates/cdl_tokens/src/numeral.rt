@@ -3,7 +3,6 @@
 ghost use Rattle.std.specs.Str.{bytes_eq};
 ghost use Rattle.std.specs.List.{prefix_len};
 ghost use Rattle.std.specs.Prelude.{find, ◌≡◌, ◌≤◌, ◌+◌, ◌*◌, drop, length, map, option_map, slice_index};
-ghost use Rattle.nc_base.specs.Types.{number_suffix};
 ghost use Rattle.cdl_tokens.specs.Bytes.{is_digit};
 ghost use Rattle.cdl_tokens.specs.Escapes.{digit};
 ghost use Rattle.cdl_tokens.specs.Magnitudes.{decimals, held, word};
