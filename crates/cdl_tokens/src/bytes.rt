@@ -1,6 +1,6 @@
 //! The classes of bytes.
 
-ghost use Rattle.std.specs.Prelude.{◌≡◌, ◌≤◌, length, slice_index, take};
+ghost use Rattle.std.specs.Prelude.{◌≡◌, ◌≤◌, ◌==◌, count_by, length, slice_index, take};
 ghost use Rattle.cdl_tokens.specs.Bytes.{begins_word, goes_on_number, goes_on_word, is_blank, is_digit, is_escape, is_hex, is_letter, is_mark, is_octal, is_sign};
 
 /// The byte at an offset, or 0 past the end.
@@ -21,6 +21,17 @@ pub fn first_bytes(bytes: &[u8], n: usize) -> &[u8]
     } else {
         bytes
     }
+}
+
+/// How many of the bytes are this one. No byte ends the pass, so that many are compared at once.
+pub fn count_of(bytes: &[u8], byte: u8) -> usize
+    ensures { result ≡ count_by (λ b. b == byte) bytes.now }
+{
+    let mut count = 0;
+    for b in bytes {
+        count += (*b == byte) as usize;
+    }
+    count
 }
 
 /// Says whether the byte is an ASCII letter.

@@ -12,7 +12,7 @@ mod scanner;
 mod token;
 
 pub use bytes::{byte_at, first_bytes, is_escape};
-pub use escape::{character, unescaped_len};
+pub use escape::{character, has_no_escape, unescaped_len};
 pub use numeral::{Numeral, number_of_token};
 pub use scan::{Character, Scanned};
 pub use scanner::Scanner;

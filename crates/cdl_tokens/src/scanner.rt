@@ -4,7 +4,7 @@ ghost use Rattle.std.specs.Prelude.{◌≡◌, ◌+◌, ◌≤◌, ◌<◌, ◌=
 ghost use Rattle.cdl_tokens.specs.Scan.{scan, token};
 ghost use Rattle.cdl_tokens.specs.Tokens.{line_at, tokens};
 
-use crate::bytes::{byte_at, is_blank, is_digit, is_mark};
+use crate::bytes::{byte_at, count_of, is_blank, is_digit, is_mark};
 use crate::scan::{begins_number, number_len, scan};
 use crate::token::{Token, TokenKind};
 
@@ -168,15 +168,8 @@ impl<'a> Scanner<'a> {
         Scanner {
             text: self.text,
             at: self.at + len,
-            line: self.line + line_feeds(passed) as u64,
+            line: self.line + count_of(passed, b'\n') as u64,
             fresh,
         }
     }
-}
-
-/// How many of the bytes are line feeds.
-fn line_feeds(bytes: &[u8]) -> usize
-    ensures { result ≡ count_by (λ b. b == 0x0a) bytes.now }
-{
-    bytes.iter().filter(|b| **b == b'\n').count()
 }

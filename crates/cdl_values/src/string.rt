@@ -11,7 +11,7 @@ use crate::array::Array;
 use crate::filling::is_past;
 use crate::read_error::ReadError;
 use cdl_text::CdlKind;
-use cdl_tokens::{character, first_bytes, unescaped_len};
+use cdl_tokens::{character, first_bytes, has_no_escape, unescaped_len};
 use std::alloc::AllocError;
 
 /// Adds a string of which the capacity is in bytes.
@@ -55,6 +55,10 @@ pub fn put_row(
 fn put_string(array: &mut Array, raw: &[u8]) -> Result<(), AllocError>
     ensures { OnOk result (array.new ≡ array.old ++ char_bytes (stands raw.now)) }
 {
+    // Most strings have no escape.
+    if has_no_escape(raw) {
+        return array.add(raw);
+    }
     let mut at = put_unescaped(array, raw)?;
     while at < raw.len() {
         let (_, escape) = raw.split_at(at);

@@ -7,4 +7,4 @@ use Rattle.cdl_tokens.proofs.scanner.Scanner.after.Goals as goal
 pub invariant_of-result-clause-on_line : goal.invariant_of-result-clause-on_line
 invariant_of-result-clause-on_line c =
     let passed = c.split_at-2.ensures.front ∙ ap (take c.args.len) c.split_at.ensures.back in
-    ap (λ n. n + c.line_feeds.result) c.args.self.on_line ∙ ap (λ n. line_at c.args.self.text.now c.args.self.at + n) (c.line_feeds.ensures ∙ ap (count_by (λ b. b == 0x0a)) passed) ∙ sym (line_more c.args.self.text.now c.args.self.at c.args.len)
+    ap (λ n. n + c.count_of.result) c.args.self.on_line ∙ ap (λ n. line_at c.args.self.text.now c.args.self.at + n) (c.count_of.ensures ∙ ap (count_by (λ b. b == 0x0a)) passed) ∙ sym (line_more c.args.self.text.now c.args.self.at c.args.len)
