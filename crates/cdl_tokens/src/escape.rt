@@ -1,9 +1,9 @@
 //! The escapes of strings.
 
-ghost use Rattle.std.specs.Prelude.{◌≡◌, ◌≤◌, ◌<◌, is_some, length, true};
+ghost use Rattle.std.specs.Prelude.{◌≡◌, ◌≤◌, ◌<◌, is_some, length};
 ghost use Rattle.std.specs.List.{prefix_len};
 ghost use Rattle.cdl_tokens.specs.Bytes.{is_hex, is_octal};
-ghost use Rattle.cdl_tokens.specs.Escapes.{byte, character, digit, escape, hex_escape, is_unescaped, octal_number, plain_escape, unescape};
+ghost use Rattle.cdl_tokens.specs.Escapes.{byte, character, digit, escape, has_no_escape, hex_escape, is_unescaped, octal_number, plain_escape, unescape};
 
 use crate::bytes::{byte_at, count_of, first_bytes, is_digit, is_hex, is_octal};
 use crate::scan::Character;
@@ -147,13 +147,12 @@ pub fn unescaped_len(bytes: &[u8]) -> usize
 
 /// Says whether each of the bytes stands for itself: whether none is a backslash.
 pub fn has_no_escape(bytes: &[u8]) -> bool
-    ensures { result ≡ true → prefix_len is_unescaped bytes.now ≡ length bytes.now }
+    ensures { result ≡ has_no_escape bytes.now }
 {
     count_of(bytes, b'\\') == 0
 }
 
 /// Says whether each character of these bytes, which stand between quotes, stands for a byte.
-#[tactic(auto, using(crate::proofs::Strings::plain_string))]
 pub fn is_string(raw: &[u8]) -> bool
     ensures { result ≡ is_some (unescape raw.now) }
 {

@@ -12,7 +12,7 @@ use Rattle.cdl_values.proofs.string.put_string.Goals as goal
 pub returns-then-has_no_escape : goal.returns-then-has_no_escape
 returns-then-has_no_escape c =
     let raw = c.args.raw.now in
-    let plain = c.has_no_escape.ensures c.if-has_no_escape.true in
+    let plain = sym c.has_no_escape.ensures ∙ c.if-has_no_escape.true in
     let stay = first_stay (length raw) raw (λ k. let small : slice_index raw k < 256 = omega (arith, c.type_inv.raw k) in small) in
     let same : char_bytes (stands raw) ≡ raw = ap char_bytes (plain_stands raw plain ∙ sym (take-length raw)) ∙ stay ∙ take-length raw in
     subst (λ xs. OnOk c.add.result (c.add.new.self ≡ c.args.array.now ++ xs)) (sym same) c.add.ensures
