@@ -1,4 +1,4 @@
--- The text of a dataset is read back.
+-- The text of a dataset is read back, so no two datasets have one text.
 use Rattle.std.specs.Prelude.{◌≡◌, ℕ, false, List, None, Ok}
 use Rattle.nc_base.specs.declared.dataset.Dataset.{Dataset}
 use Rattle.nc_base.specs.Dump.{Options, whole, IsText}
@@ -16,3 +16,8 @@ pub record IsFull (o : Options) : Type 0 where
 abbrev pub TextReadsBack : Type 0
 TextReadsBack = (d : Dataset) (o : Options) (text : List ℕ) → IsSayable d → IsFull o → IsText d o text whole
     → meaning text d.header.version ≡ Ok (trimmed d)
+
+-- datasets of one version with one text are the same without the NULs at the end of their attributes
+abbrev pub DumpsTellDatasetsApart : Type 0
+DumpsTellDatasetsApart = (d e : Dataset) (o p : Options) (text : List ℕ) → IsSayable d → IsSayable e → d.header.version ≡ e.header.version
+    → IsFull o → IsFull p → IsText d o text whole → IsText e p text whole → trimmed d ≡ trimmed e

@@ -3,7 +3,7 @@
 ghost use Rattle.nc_base.specs.declared.version.Version.{Version};
 ghost use Rattle.cdl_laws.specs.Goods.{LimitIsNeeded, MeaningsAreGood, MeaningsAreNearlySayable, NearlyIsSayable};
 ghost use Rattle.cdl_laws.specs.PieceLaws.{PiecesAreStatements, MarksReadBack, DimensionsReadBack, DeclarationsReadBack, AttributesReadBack, GlobalAttributesReadBack, DataReadsBack};
-ghost use Rattle.cdl_laws.specs.RoundTrip.{TextReadsBack};
+ghost use Rattle.cdl_laws.specs.RoundTrip.{DumpsTellDatasetsApart, TextReadsBack};
 ghost use Rattle.cdl_laws.specs.RowLaws.{RowsReadBack, EmptyRowsReadBack};
 ghost use Rattle.cdl_laws.specs.TokenLaws.{BlanksAndMarksStop, NamesReadBack, StringsReadBack, ConstantsReadBack, ValuesReadBack, StringsStandForBytes};
 ghost use Rattle.cdl_laws.specs.Trims.{FillsAreKept, MeaningsAreSayable, MeaningsComeBack, SecondTripIsSame, TrimmedIsSayable, TrimsOnce};
@@ -52,6 +52,12 @@ pub fn row_reads_back()
 /// attributes.
 pub fn text_reads_back()
     ensures { TextReadsBack }
+{}
+
+/// Two datasets of one version that a text can declare, whose full dumps are the same text, whatever their names and widths,
+/// are the same without the NULs at the end of their attributes.
+pub fn dumps_tell_datasets_apart()
+    ensures { DumpsTellDatasetsApart }
 {}
 
 /// What a text of bytes means, of at most 268,435,456 bytes, is a good dataset, of the version asked for.
