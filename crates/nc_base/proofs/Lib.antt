@@ -6,7 +6,6 @@ pub mod SoundLaws
 pub mod Found
 pub mod Extents
 pub mod SoundSpelling
-pub mod SpelledWeight
 pub mod ValueLaws
 pub mod Examples
 pub mod WholeValues

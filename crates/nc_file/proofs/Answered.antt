@@ -5,10 +5,8 @@ use Rattle.nc_base.specs.declared.fault.FormatFault.{FormatFault}
 use Rattle.nc_base.specs.declared.header.Header.{Header}
 use Rattle.nc_base.specs.Bytes.{AreBytes}
 use Rattle.nc_base.specs.FirstFault.{StopsWith}
-use Rattle.nc_base.specs.Weight.{weight_of}
 use Rattle.nc_base.specs.Grammar.{SpellsHeader}
 use Rattle.nc_base.proofs.SoundSpelling.{spelled-sound, spelled-names}
-use Rattle.nc_base.proofs.SpelledWeight.{spelled-weight}
 use Rattle.nc_file.specs.declared.head_fault.HeadFault.{HeadFault}
 use Rattle.nc_file.specs.declared.head_fault.HeadFault.TheVariants.{OutOfMemory, ReadFailed, Format}
 use Rattle.nc_file.specs.declared.window.Window.{Window}
@@ -46,10 +44,6 @@ read-from-start start now o base pos fits e =
     subst (Means (SpellsHeader start.source.bytes) (StopsWith start.source.bytes))
     (sym (ap header_at.run at_start) ∙ e) (means-header start.source.bytes fits)
 
--- the header weighs no more than the bytes up to where reading has ended
-weighs-no-more : (bytes : List ℕ) (h : Header) (rest : List ℕ) (end : ℕ) → end + length rest ≡ length bytes → SpellsHeader bytes h rest → weight_of h ≤ end
-weighs-no-more bytes h rest end ends s = omega (arith, spelled-weight bytes h rest s)
-
 -- where the header ends, or its first wrong field, from how much is left over after it
 ends-of : (bytes : List ℕ) {o : Outcome Header} → Means (SpellsHeader bytes) (StopsWith bytes) o → left_over o ≤ length bytes → EndsAt bytes (length bytes - left_over o)
 unfolding left_over
@@ -82,7 +76,6 @@ answer start now (Ok h) base filled pos kept fits reads =
       handed = handed-up-to true start now base filled kept;
       sound = spelled-sound start.source.bytes h (left now) found;
       names = spelled-names start.source.bytes h (left now) found;
-      weight = weighs-no-more start.source.bytes h (left now) _ (ends-at true start now kept) found;
     }
 answer start now (Err (Format fault)) base filled pos kept fits reads =
     let stopped = fault-of (read-from-start start now (Err (Format fault, left now)) base pos fits reads) in

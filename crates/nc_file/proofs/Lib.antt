@@ -15,4 +15,5 @@ pub mod Answered
 pub mod FileLaws
 pub mod Shapes
 pub mod HeaderLen
+pub mod Weights
 pub mod BeginLaws

@@ -3,7 +3,6 @@ use Rattle.std.specs.Prelude.{◌≡◌, ℕ, ◌+◌, ◌≤◌, List, length, 
 use Rattle.nc_base.specs.declared.fault.FormatFault.{FormatFault}
 use Rattle.nc_base.specs.declared.header.Header.{Header}
 use Rattle.nc_base.specs.Headers.{IsSound, HasValidNames}
-use Rattle.nc_base.specs.Weight.{weight_of}
 use Rattle.nc_base.specs.Grammar.{SpellsHeader}
 use Rattle.nc_base.specs.FirstFault.{StopsAt}
 use Rattle.nc_file.specs.declared.head_fault.HeadFault.{HeadFault}
@@ -13,8 +12,7 @@ use Rattle.nc_file.specs.declared.head_fault.HeadFault.TheVariants.{OutOfMemory,
 abbrev pub ReadUpTo : ℕ → ℕ → ℕ → ℕ → Type 0
 ReadUpTo before after end buffer_len = after ≤ before + end + buffer_len
 
--- The bytes begin with a spelling of the header, with this rest after it. The header is sound, has valid names and weighs
--- no more than the bytes that spell it.
+-- The bytes begin with a spelling of the header, with this rest after it. The header is sound and has valid names.
 pub record IsRead (bytes : List ℕ) (before after buffer_len : ℕ) (h : Header) : Type 0 where
   pub rest : List ℕ
   pub end : ℕ
@@ -23,7 +21,6 @@ pub record IsRead (bytes : List ℕ) (before after buffer_len : ℕ) (h : Header
   pub handed : ReadUpTo before after end buffer_len
   pub sound : IsSound h
   pub names : HasValidNames h
-  pub weight : weight_of h ≤ end
 
 -- the first wrong field has this fault, and ends here
 pub record IsRefused (bytes : List ℕ) (before after buffer_len : ℕ) (fault : FormatFault) : Type 0 where

@@ -1,0 +1,44 @@
+-- A header weighs no more than its spelling has bytes.
+use Rattle.std.proofs.Common.{ℕ, ◌*◌, ◌≤◌, length, arith}
+use Rattle.std.proofs.lemmas.List.Sums.{sum_by-le-sum_by}
+use Rattle.nc_base.specs.declared.header.Att.{Att}
+use Rattle.nc_base.specs.declared.header.Dim.{Dim}
+use Rattle.nc_base.specs.declared.header.Header.{Header}
+use Rattle.nc_base.specs.declared.header.Var.{Var}
+use Rattle.nc_base.specs.declared.version.Version.{Version}
+use Rattle.nc_base.specs.declared.version.Version.TheVariants.{Cdf1, Cdf2, Cdf5}
+use Rattle.nc_base.specs.GeneratedFile.{header_spelling}
+use Rattle.nc_base.specs.Weight.{dim_weight, att_weight, var_weight, weight_of}
+use Rattle.nc_file.specs.Lengths as len
+use Rattle.nc_file.proofs.HeaderLen.{header-len}
+
+some-count : (v : Version) → 1 ≤ len.count_len v
+some-count Cdf1 = omega arith
+some-count Cdf2 = omega arith
+some-count Cdf5 = omega arith
+
+some-each : (v : Version) (n : ℕ) → n ≤ n * len.count_len v
+some-each Cdf1 n = omega arith
+some-each Cdf2 n = omega arith
+some-each Cdf5 n = omega arith
+
+dim-light : (v : Version) (dim : Dim) → dim_weight dim ≤ len.dim_len v dim
+dim-light v dim = omega (arith, some-count v)
+
+att-light : (v : Version) (att : Att) → att_weight att ≤ len.att_len v att
+att-light v att = omega arith
+
+var-light : (v : Version) (var : Var) → var_weight var ≤ len.var_len v var
+var-light v var =
+    omega (arith, some-each v (length var.dimids), sum_by-le-sum_by att_weight (len.att_len v) var.atts (att-light v))
+
+pub weighs_no_more : (h : Header) → weight_of h ≤ length (header_spelling h)
+weighs_no_more h =
+    let v = h.version in
+    omega (
+      arith,
+      header-len h,
+      sum_by-le-sum_by dim_weight (len.dim_len v) h.dims (dim-light v),
+      sum_by-le-sum_by att_weight (len.att_len v) h.gatts (att-light v),
+      sum_by-le-sum_by var_weight (len.var_len v) h.vars (var-light v),
+    )
