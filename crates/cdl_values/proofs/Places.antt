@@ -1,14 +1,14 @@
 -- What the variables take of the data section.
-use Rattle.std.proofs.Common.{◌≡◌, ℕ, suc, ◌+◌, ◌*◌, ◌-◌, ◌<◌, Bool, true, false, List, [], ◌∷◌, ◌++◌, length, map, take, drop, get_or, refl, sym, ap, ◌∙◌, subst, arith, append-nil, append_assoc, drop-cons, rules, ℤ}
-use Rattle.std.specs.Prelude.{nat_lt, not, min, slice_index, Some}
-use Rattle.std.proofs.lemmas.List.{take-append-drop, drop_all, get_or-map, length-map, length-take-le}
+use Rattle.std.proofs.Common.{◌≡◌, ℕ, suc, ◌+◌, ◌<◌, false, List, [], ◌∷◌, ◌++◌, length, map, take, get_or, refl, sym, ap, ◌∙◌, subst, arith, rules, ℤ}
+use Rattle.std.specs.Prelude.{nat_lt, not, min, Some}
+use Rattle.std.proofs.lemmas.List.{get_or-map, length-map}
 use Rattle.std.proofs.lemmas.List.Elements.{All-get_or}
 use Rattle.std.proofs.Math.Seq.{take-suc}
 use Rattle.std.proofs.lemmas.List.{map-append}
 use Rattle.std.specs.Prelude.{unsigned_abs}
 use Rattle.nc_base.specs.Numbers.{IsInRange, bytes_of_number}
-use Rattle.nc_base.specs.Headers.{AreDimids, IsDimid}
-use Rattle.nc_base.specs.Sizes.{dim_len, is_record_dim, is_record_var, product, slab_count}
+use Rattle.nc_base.specs.Headers.{AreDimids}
+use Rattle.nc_base.specs.Sizes.{dim_len, is_record_var, product, slab_count}
 use Rattle.nc_base.specs.ValueText.{is_char}
 use Rattle.nc_base.specs.declared.header.Dim.{Dim}
 use Rattle.nc_base.specs.declared.header.Var.{Var}

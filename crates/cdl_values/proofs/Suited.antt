@@ -1,5 +1,5 @@
 -- Targets that suit a state's drafts: the premises of the data section's reader can be met.
-use Rattle.std.proofs.Common.{List, [], ◌∷◌, refl, false, arith, rules, ◌^◌, ◌-◌}
+use Rattle.std.proofs.Common.{List, [], ◌∷◌, refl, false, rules, ◌^◌, ◌-◌}
 use Rattle.std.specs.Prelude.{codes, Some, None, pos, neg_ℤ}
 use Rattle.nc_base.specs.Fill.{fill_value}
 use Rattle.nc_base.specs.declared.header.Dim.{Dim}

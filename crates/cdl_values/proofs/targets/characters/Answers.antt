@@ -1,4 +1,4 @@
-use Rattle.std.proofs.Common.{rules, ◌≡◌, ◌<◌, ◌-◌, arith, sym, ap, ◌∙◌, subst, nat_lt, length, false, to_z, of_z}
+use Rattle.std.proofs.Common.{rules, ◌≡◌, ◌-◌, sym, ap, ◌∙◌, subst, nat_lt, length, false, to_z, of_z}
 use Rattle.std.specs.Prelude.{not, slice_index, unsigned_abs, [], ◌∷◌}
 use Rattle.std.specs.Int.{w128}
 use Rattle.std.proofs.lemmas.Int.{to_z-of_z}
