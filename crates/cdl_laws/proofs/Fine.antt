@@ -443,7 +443,7 @@ at_keeps v N n m dims name f step ds fine =
     end (Err e) h = tt
     end (Ok es) h = (record { count = (let a = h.count in let b = fine.count in omega (arith, a, b)); fine = h.fine; names = subst AreDistinct (sym h.names) fine.names }, h.count)
 
-filled_count : (n : ℕ) (fill : ℤ) (xs : List ℤ) → length (filled n fill xs) ≡ length xs + (n - length xs)
+pub filled_count : (n : ℕ) (fill : ℤ) (xs : List ℤ) → length (filled n fill xs) ≡ length xs + (n - length xs)
 filled_count n fill xs = length-append xs (replicate (n - length xs) fill) ∙ ap (λ m. length xs + m) (length-replicate (n - length xs) fill)
 
 -- a row is as long by any fill value

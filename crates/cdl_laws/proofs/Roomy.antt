@@ -1,6 +1,6 @@
 -- No more is listed of a variable than it has values, over as many records as the text has bytes.
-use Rattle.std.proofs.Common.{◌≡◌, ℕ, ◌+◌, ◌-◌, ◌*◌, ◌≤◌, ◌<◌, Bool, true, false, List, [], ◌∷◌, ◌++◌, length, map, replicate, sym, ◌∙◌, ap, refl, arith, zero, suc}
-use Rattle.std.proofs.lemmas.List.{length-append, length-replicate, length-map}
+use Rattle.std.proofs.Common.{◌≡◌, ℕ, ◌+◌, ◌*◌, ◌≤◌, ◌<◌, Bool, true, false, List, [], ◌∷◌, ◌++◌, length, map, sym, ◌∙◌, ap, refl, arith, zero, suc}
+use Rattle.std.proofs.lemmas.List.{length-append, length-map}
 use Rattle.std.proofs.lemmas.Grind.{flat_map-append}
 use Rattle.std.proofs.Math.Nat.{mul-le-mul_right, mul_comm, mul-le-mul}
 use Rattle.std.specs.Prelude.{ℤ, pos, if◌then◌else◌, Some, Result, Ok, ◌||◌, not, nat_lt, nat_le}
@@ -18,7 +18,7 @@ use Rattle.cdl_laws.proofs.Limits.{slab_some}
 use Rattle.cdl_laws.proofs.Outcomes.{OkIs, ok_then, ok_unless, ok_when, total, turns}
 use Rattle.cdl_laws.proofs.Said.{cost}
 use Rattle.cdl_laws.proofs.Uttered.{AreFineValues}
-use Rattle.cdl_laws.proofs.Fine.{IsFineDraft, later, one_times, any_each}
+use Rattle.cdl_laws.proofs.Fine.{IsFineDraft, filled_count, later, one_times, any_each}
 
 -- what is listed so far, of values of cost k, has n of `count` positions, with `unit` values in each
 record IsRoomy (capacity : Capacity) (count unit k n : ℕ) (listing : Listing) : Type 0 where
@@ -37,7 +37,7 @@ closed true b h e = cc
 closed false b h e = h
 
 pub filled_len : (n : ℕ) (fill : ℤ) (xs : List ℤ) → length xs ≤ n → length (filled n fill xs) ≡ n
-filled_len n fill xs h = let a = length-append xs (replicate (n - length xs) fill) in let b = length-replicate (n - length xs) fill in omega (arith, a, b, h)
+filled_len n fill xs h = let a = filled_count n fill xs in omega (arith, a, h)
 
 -- m positions more, which cost c
 grown : (capacity : Capacity) (count unit k n m c l : ℕ) (before after : Listing) → IsRoomy capacity count unit k n before → l ≡ n + m → m ≤ c → (capacity.is_open ≡ false → n + m ≤ count) →

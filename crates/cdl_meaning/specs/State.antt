@@ -183,11 +183,12 @@ pub record Capacity : Type 0 where
   pub count : ℕ
   -- the rank is 2 or more
   pub in_rows : Bool
-  -- how many rows a variable that isn't a record variable has then
+  -- how many rows hold as many values then
   pub rows : ℕ
   -- how many values a row has
   pub row : ℕ
 
+-- the product of all dimensions but the last
 abbrev pub row_count : List Dim → Var → ℕ
 row_count dims var = product (map (dim_len dims) (take (length var.dimids - 1) var.dimids))
 
@@ -225,11 +226,9 @@ add_row capacity before (Characters bytes) = do
   Ok (before ++ bytes ∷ [])
 add_row capacity before _ = Err WrongKind
 
--- all that is listed in turn, as a listing
+-- the values in turn, as a listing
 abbrev pub listed_by : {A : Type 0} → (List A → Value → Result (List A) CdlKind) → (List A → Listing) → List Value → Result Listing CdlKind
-listed_by add listing values = do
-  items ← in_turn add [] values
-  Ok (listing items)
+listed_by add listing values = in_turn add [] values >>= (λ items. Ok (listing items))
 
 unfoldable pub listing_of : Capacity → List Value → Result Listing CdlKind
 listing_of capacity values =
