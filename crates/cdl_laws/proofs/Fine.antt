@@ -1,32 +1,30 @@
 -- What holds of the dataset so far, of its attributes, dimensions and declarations.
 use Rattle.std.proofs.Common.{◌≡◌, ℕ, ◌+◌, ◌-◌, ◌*◌, ◌≤◌, ◌<◌, Bool, true, false, List, [], ◌∷◌, ◌++◌, length, map, sym, ◌∙◌, ap, refl, subst, arith, zero, suc, append_assoc, append-nil}
 use Rattle.std.proofs.lemmas.Bool.{false≢true, eqb-true}
-use Rattle.std.proofs.lemmas.List.{length-append, length-replicate, map-append}
+use Rattle.std.proofs.lemmas.List.{length-append, map-append}
 use Rattle.std.proofs.lemmas.List.Folds.{list_any-append}
-use Rattle.std.specs.Prelude.{ℤ, pos, negsuc, IsTrue, if◌then◌else◌, Option, None, Some, Result, Ok, Err, ◌&&◌, ◌||◌, ◌==◌, filter, nat_lt, nat_le, replicate, unsigned_abs}
+use Rattle.std.specs.Prelude.{ℤ, pos, negsuc, IsTrue, if◌then◌else◌, Option, None, Some, Result, Ok, Err, ◌&&◌, ◌||◌, ◌==◌, filter, nat_lt, nat_le, unsigned_abs}
 use Rattle.std.specs.Int.{w8, w16, w32, w64, to_be_bytes, cast_unsigned}
-use Rattle.std.specs.List.{flat_map, list_any, position, position_or_len}
+use Rattle.std.specs.List.{list_any, position, position_or_len}
 use Rattle.std.specs.Ordering.{int_eq}
 use Rattle.std.specs.Str.{bytes_eq}
 use Rattle.nc_base.specs.declared.header.Att.{Att}
 use Rattle.nc_base.specs.declared.header.Dim.{Dim}
-use Rattle.nc_base.specs.declared.header.Var.{Var}
 use Rattle.nc_base.specs.declared.nc_type.NcType.{NcType}
 use Rattle.nc_base.specs.declared.nc_type.NcType.TheVariants.{Byte, Char, Short, Int, Ubyte, Ushort, Uint, Int64, Uint64}
 use Rattle.nc_base.specs.declared.version.Version.{Version}
 use Rattle.nc_base.specs.declared.version.Version.TheVariants.{Cdf1, Cdf2, Cdf5}
 use Rattle.nc_base.specs.Dump.{has_name}
-use Rattle.nc_base.specs.Fill.{fill_value}
 use Rattle.nc_base.specs.Headers.{has_record_dim, IsDimid, AreDimids, value_count}
 use Rattle.nc_base.specs.Names.{IsName, is_name}
 use Rattle.nc_base.specs.Numbers.{bytes_of_number}
 use Rattle.nc_base.specs.Sizes.{is_record_dim}
 use Rattle.nc_base.specs.Types.{size_of}
-use Rattle.nc_base.specs.ValueText.{is_char, row_len}
+use Rattle.nc_base.specs.ValueText.{is_char}
 use Rattle.nc_base.specs.Versions.{count_limit, has_type}
 use Rattle.nc_base.specs.Sayable.{AreDistinct}
 use Rattle.cdl_text.specs.Shapes.{Value, Number, Characters, Underscore, Dimension, Variable}
-use Rattle.cdl_meaning.specs.State.{Draft, Listing, Numbers, Joined, Rows, capacity_of, filled, in_turn, unless, when, found, ◌>>=◌, between, fits, same_type, dim_len_of, add_dim, add_dimid, add_var, at_named, at_variable, add_constant, first_type, add_att, with_att}
+use Rattle.cdl_meaning.specs.State.{Draft, in_turn, unless, when, found, ◌>>=◌, between, fits, same_type, dim_len_of, add_dim, add_dimid, add_var, at_named, at_variable, add_constant, first_type, add_att, with_att}
 use Rattle.cdl_meaning.specs.Meaning.{values_of}
 use Rattle.cdl_text.specs.declared.fault.CdlKind.{CdlKind}
 use Rattle.cdl_text.specs.declared.fault.CdlKind.TheVariants.{BadName, DuplicateName, UnknownDimension, ZeroDimension, TwoRecordDims, BadShape, MixedConstants, NumberRange}
@@ -343,8 +341,8 @@ pub record IsFineDraft (v : Version) (N n : ℕ) (dims : List Dim) (d : Draft) :
   pub ty : has_type v d.var.ty ≡ true
   pub atts : AreFineAtts v N n d.var.atts
   pub bare : d.var.begin_at ≡ 0
-  -- no more than over n records
-  pub listed : length (values_of dims d) ≤ value_count dims d.var N
+  -- no more than over N records, whatever rows are filled with
+  pub listed : (atts : List Att) → length (values_of dims (record d { var = record d.var { atts = atts } })) ≤ value_count dims d.var N
 
 pub record AreFineDrafts (v : Version) (N n : ℕ) (dims : List Dim) (drafts : List Draft) : Type 0 where
   pub count : length drafts ≤ n
@@ -393,7 +391,7 @@ var_step v N dims ty has n drafts x fine small =
           ty = has;
           atts = record { count = omega arith; fine = tt; names = tt };
           bare = refl;
-          listed = omega arith;
+          listed = λ others. omega arith;
         },
         tt,
       );
@@ -443,36 +441,9 @@ at_keeps v N n m dims name f step ds fine =
     end (Err e) h = tt
     end (Ok es) h = (record { count = (let a = h.count in let b = fine.count in omega (arith, a, b)); fine = h.fine; names = subst AreDistinct (sym h.names) fine.names }, h.count)
 
-pub filled_count : (n : ℕ) (fill : ℤ) (xs : List ℤ) → length (filled n fill xs) ≡ length xs + (n - length xs)
-filled_count n fill xs = length-append xs (replicate (n - length xs) fill) ∙ ap (λ m. length xs + m) (length-replicate (n - length xs) fill)
-
--- a row is as long by any fill value
-same_rows : (row : ℕ) (a b : ℤ) (rows : List (List ℕ)) → length (flat_map (λ bytes. filled row a (map pos bytes)) rows) ≡ length (flat_map (λ bytes. filled row b (map pos bytes)) rows)
-same_rows row a b [] = refl
-same_rows row a b (r ∷ rows) =
-    let l = length-append (filled row a (map pos r)) (flat_map (λ bytes. filled row a (map pos bytes)) rows) in
-    let m = length-append (filled row b (map pos r)) (flat_map (λ bytes. filled row b (map pos bytes)) rows) in
-    let o = filled_count row a (map pos r) in
-    let p = filled_count row b (map pos r) in
-    let ih = same_rows row a b rows in
-    omega (arith, l, m, o, p, ih)
-
-same_count : (dims : List Dim) (d : Draft) (atts : List Att) → length (values_of dims (record d { var = record d.var { atts = atts } })) ≡ length (values_of dims d)
-unfolding capacity_of
-same_count dims d atts = by d.listed
-  where
-    var : Var
-    var = record d.var { atts = atts }
-
-    by : (o : Option Listing) → length (values_of dims (record { var = var; listed = o })) ≡ length (values_of dims (record { var = d.var; listed = o }))
-    by None = refl
-    by (Some (Numbers values)) = refl
-    by (Some (Joined bytes)) = refl
-    by (Some (Rows rows)) = same_rows (row_len dims d.var.dimids 0) (fill_value var) (fill_value d.var) rows
-
 pub with_att_keeps : (v : Version) (N n m : ℕ) (dims : List Dim) (name : List ℕ) (cs : List Value) → m ≤ N → AreFineValues v m name cs → (d : Draft) → IsFineDraft v N n dims d →
     OkIs (λ e. IsFineDraft v N (n + m) dims e × (e.var.name ≡ d.var.name)) (with_att name cs d)
 with_att_keeps v N n m dims name cs small said d f =
     ok_then (AreFineAtts v N (n + m)) (λ e. IsFineDraft v N (n + m) dims e × (e.var.name ≡ d.var.name)) (add_att name cs d.var.atts) (λ atts. Ok (record d { var = record d.var { atts = atts } }))
     (att_keeps v N n m name cs d.var.atts small said f.atts)
-    (λ atts fine. (record { name = f.name; short = f.short; rank = f.rank; shape = f.shape; ty = f.ty; bare = f.bare; listed = (let a = same_count dims d atts in let b = f.listed in omega (arith, a, b)); atts = fine }, refl))
+    (λ atts fine. (record { name = f.name; short = f.short; rank = f.rank; shape = f.shape; ty = f.ty; bare = f.bare; listed = f.listed; atts = fine }, refl))

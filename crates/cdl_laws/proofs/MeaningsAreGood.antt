@@ -175,7 +175,7 @@ records_small v N n dims d f =
           let e = (div-lt_iff_lt-mul {k = slab} {x = length (values_of dims d) + slab - 1} {y = suc N} some).1 (omega (arith, a, c, h, some)) in
           omega (arith, e))
       | false ↦ (λ h. omega arith)
-    ] f.listed
+    ] (f.listed d.var.atts)
 
 all_records_small : (v : Version) (N n : ℕ) (dims : List Dim) (ds : List Draft) → Each (IsFineDraft v N n dims) ds → records_in dims ds ≤ N
 all_records_small v N n dims [] f = omega arith
@@ -194,7 +194,7 @@ listed_fits v N n dims r d f h =
           let c = mul_comm slab q in
           omega (arith, a, b, c, some))
       | false ↦ (λ l k. l)
-    ] f.listed h
+    ] (f.listed d.var.atts) h
 
 bytes_each : (bs : List ℕ) → AreBytes bs → Each IsByte bs
 bytes_each [] h = tt

@@ -1,12 +1,13 @@
 -- No more is listed of a variable than it has values, over as many records as the text has bytes.
-use Rattle.std.proofs.Common.{◌≡◌, ℕ, ◌+◌, ◌*◌, ◌≤◌, ◌<◌, Bool, true, false, List, [], ◌∷◌, ◌++◌, length, map, sym, ◌∙◌, ap, refl, arith, zero, suc}
-use Rattle.std.proofs.lemmas.List.{length-append, length-map}
+use Rattle.std.proofs.Common.{◌≡◌, ℕ, ◌+◌, ◌-◌, ◌*◌, ◌≤◌, ◌<◌, Bool, true, false, List, [], ◌∷◌, ◌++◌, length, map, replicate, sym, ◌∙◌, ap, refl, arith, zero, suc}
+use Rattle.std.proofs.lemmas.List.{length-append, length-replicate, length-map}
 use Rattle.std.proofs.lemmas.Grind.{flat_map-append}
 use Rattle.std.proofs.Math.Nat.{mul-le-mul_right, mul_comm, mul-le-mul}
 use Rattle.std.specs.Prelude.{ℤ, pos, if◌then◌else◌, Some, Result, Ok, ◌||◌, not, nat_lt, nat_le}
 use Rattle.nc_base.specs.declared.header.Dim.{Dim}
 use Rattle.nc_base.specs.declared.header.Var.{Var}
 use Rattle.nc_base.specs.declared.version.Version.{Version}
+use Rattle.nc_base.specs.Fill.{fill_value}
 use Rattle.nc_base.specs.ValueText.{is_char}
 use Rattle.cdl_text.specs.Shapes.{Value, Number, Characters, Underscore}
 use Rattle.cdl_meaning.specs.State.{Draft, Listing, Numbers, Joined, Rows, Capacity, capacity_of, in_turn, unless, ◌>>=◌, fits, filled, add_number, add_characters, add_row, listed_by, listing_of, values_in, is_listed, with_values}
@@ -18,13 +19,17 @@ use Rattle.cdl_laws.proofs.Limits.{slab_some}
 use Rattle.cdl_laws.proofs.Outcomes.{OkIs, ok_then, ok_unless, ok_when, total, turns}
 use Rattle.cdl_laws.proofs.Said.{cost}
 use Rattle.cdl_laws.proofs.Uttered.{AreFineValues}
-use Rattle.cdl_laws.proofs.Fine.{IsFineDraft, filled_count, later, one_times, any_each}
+use Rattle.cdl_laws.proofs.Fine.{IsFineDraft, later, one_times, any_each}
+
+-- with another fill value
+abbrev by : ℤ → Capacity → Capacity
+by fill capacity = record capacity { fill = fill }
 
 -- what is listed so far, of values of cost k, has n of `count` positions, with `unit` values in each
 record IsRoomy (capacity : Capacity) (count unit k n : ℕ) (listing : Listing) : Type 0 where
   few : n ≤ k
   within : capacity.is_open ≡ false → n ≤ count
-  whole : length (values_in capacity listing) ≡ n * unit
+  whole : (fill : ℤ) → length (values_in (by fill capacity) listing) ≡ n * unit
 
 under : (a b : ℕ) → nat_lt a b ≡ true → a + 1 ≤ b
 under a b h = grind (arith, h)
@@ -37,15 +42,15 @@ closed true b h e = cc
 closed false b h e = h
 
 pub filled_len : (n : ℕ) (fill : ℤ) (xs : List ℤ) → length xs ≤ n → length (filled n fill xs) ≡ n
-filled_len n fill xs h = let a = filled_count n fill xs in omega (arith, a, h)
+filled_len n fill xs h = let a = length-append xs (replicate (n - length xs) fill) in let b = length-replicate (n - length xs) fill in omega (arith, a, b, h)
 
 -- m positions more, which cost c
 grown : (capacity : Capacity) (count unit k n m c l : ℕ) (before after : Listing) → IsRoomy capacity count unit k n before → l ≡ n + m → m ≤ c → (capacity.is_open ≡ false → n + m ≤ count) →
-    length (values_in capacity after) ≡ length (values_in capacity before) + m * unit → IsRoomy capacity count unit (k + c) l after
+    ((fill : ℤ) → length (values_in (by fill capacity) after) ≡ length (values_in (by fill capacity) before) + m * unit) → IsRoomy capacity count unit (k + c) l after
 grown capacity count unit k n m c l before after is len cheap wide more = record {
   few = (let a = is.few in omega (arith, a, len, cheap));
   within = λ e. let a = wide e in omega (arith, a, len);
-  whole = more ∙ ap (λ x. x + m * unit) is.whole ∙ (let g : n * unit + m * unit ≡ (n + m) * unit = grind arith in g) ∙ ap (λ x. x * unit) (let e : n + m ≡ l = omega (arith, len) in e);
+  whole = λ fill. more fill ∙ ap (λ x. x + m * unit) (is.whole fill) ∙ (let g : n * unit + m * unit ≡ (n + m) * unit = grind arith in g) ∙ ap (λ x. x * unit) (let e : n + m ≡ l = omega (arith, len) in e);
 }
 
 -- where there was room for one
@@ -60,7 +65,7 @@ AreNumbers capacity k values = IsRoomy capacity capacity.count 1 k (length value
 single : (capacity : Capacity) (k : ℕ) (before : List ℤ) (x : ℤ) → AreNumbers capacity k before → (capacity.is_open || nat_lt (length before) capacity.count) ≡ true → AreNumbers capacity (k + 1) (before ++ x ∷ [])
 single capacity k before x is test =
     let len : length (before ++ x ∷ []) ≡ length before + 1 = length-append before (x ∷ []) in
-    grown capacity capacity.count 1 k (length before) 1 1 (length (before ++ x ∷ [])) (Numbers before) (Numbers (before ++ x ∷ [])) is len (omega arith) (one_wide capacity (length before) capacity.count test) len
+    grown capacity capacity.count 1 k (length before) 1 1 (length (before ++ x ∷ [])) (Numbers before) (Numbers (before ++ x ∷ [])) is len (omega arith) (one_wide capacity (length before) capacity.count test) (λ fill. len)
 
 number_step : (capacity : Capacity) (k : ℕ) (before : List ℤ) (x : Value) → AreNumbers capacity k before → Unit {0} → OkIs (AreNumbers capacity (k + cost x)) (add_number capacity before x)
 number_step capacity k before (Characters bytes) is u = tt
@@ -80,21 +85,21 @@ joined_step capacity k before (Characters bytes) is u =
     let all = length-map (before ++ bytes) pos in
     let old = length-map before pos in
     grown capacity capacity.count 1 k (length before) (length bytes) (suc (length bytes)) (length (before ++ bytes)) (Joined before) (Joined (before ++ bytes)) is len (omega arith)
-    (λ e. up_to (length before + length bytes) capacity.count (closed capacity.is_open (nat_le (length before + length bytes) capacity.count) t e)) (omega (arith, len, all, old)))
+    (λ e. up_to (length before + length bytes) capacity.count (closed capacity.is_open (nat_le (length before + length bytes) capacity.count) t e)) (λ fill. omega (arith, len, all, old)))
 joined_step capacity k before Underscore is u = tt
 joined_step capacity k before (Number n) is u = tt
 
 abbrev AreRows : Capacity → ℕ → List (List ℕ) → Type 0
 AreRows capacity k rows = IsRoomy capacity capacity.rows capacity.row k (length rows) (Rows rows)
 
-row_more : (capacity : Capacity) (before : List (List ℕ)) (bytes : List ℕ) → length bytes ≤ capacity.row → length (values_in capacity (Rows (before ++ bytes ∷ []))) ≡ length (values_in capacity (Rows before)) + 1 * capacity.row
-row_more capacity before bytes short =
-    let row = filled capacity.row capacity.fill (map pos bytes) in
+row_more : (capacity : Capacity) (before : List (List ℕ)) (bytes : List ℕ) → length bytes ≤ capacity.row → (fill : ℤ) → length (values_in (by fill capacity) (Rows (before ++ bytes ∷ []))) ≡ length (values_in (by fill capacity) (Rows before)) + 1 * capacity.row
+row_more capacity before bytes short fill =
+    let row = filled capacity.row fill (map pos bytes) in
     let len = length-map bytes pos in
-    let a = ap (λ (xs : List ℤ). length xs) (flat_map-append (λ bs. filled capacity.row capacity.fill (map pos bs)) before (bytes ∷ [])) in
-    let b = length-append (values_in capacity (Rows before)) (row ++ []) in
+    let a = ap (λ (xs : List ℤ). length xs) (flat_map-append (λ bs. filled capacity.row fill (map pos bs)) before (bytes ∷ [])) in
+    let b = length-append (values_in (by fill capacity) (Rows before)) (row ++ []) in
     let c = length-append row [] in
-    let d = filled_len capacity.row capacity.fill (map pos bytes) (omega (arith, len, short)) in
+    let d = filled_len capacity.row fill (map pos bytes) (omega (arith, len, short)) in
     omega (arith, a, b, c, d)
 
 row_step : (capacity : Capacity) (k : ℕ) (before : List (List ℕ)) (x : Value) → AreRows capacity k before → Unit {0} → OkIs (AreRows capacity (k + cost x)) (add_row capacity before x)
@@ -111,27 +116,27 @@ row_step capacity k before (Number n) is u = tt
 
 -- no more than over this many records
 abbrev Fits : Capacity → ℕ → Listing → Type 0
-Fits capacity records listing = length (values_in capacity listing) ≤ capacity.count * (if capacity.is_open then records else 1)
+Fits capacity records listing = (fill : ℤ) → length (values_in (by fill capacity) listing) ≤ capacity.count * (if capacity.is_open then records else 1)
 
 bounded : (capacity : Capacity) (count unit k n records : ℕ) (listing : Listing) → unit ≤ capacity.count → (capacity.is_open ≡ false → count * unit ≡ capacity.count) → k ≤ records → IsRoomy capacity count unit k n listing → Fits capacity records listing
-bounded capacity count unit k n records listing small all le is =
-    elim (capacity.is_open) as (λ b. capacity.is_open ≡ b → length (values_in capacity listing) ≤ capacity.count * (if b then records else 1)) [
+bounded capacity count unit k n records listing small all le is fill =
+    elim (capacity.is_open) as (λ b. capacity.is_open ≡ b → length (values_in (by fill capacity) listing) ≤ capacity.count * (if b then records else 1)) [
       | true ↦ (λ e.
           let few = is.few in
           let a = mul-le-mul (let h : n ≤ records = omega (arith, few, le) in h) small in
           let b = mul_comm records capacity.count in
-          let c = is.whole in
+          let c = is.whole fill in
           omega (arith, a, b, c))
-      | false ↦ (λ e. let a = mul-le-mul_right unit (is.within e) in let b = all e in let c = is.whole in omega (arith, a, b, c))
+      | false ↦ (λ e. let a = mul-le-mul_right unit (is.within e) in let b = all e in let c = is.whole fill in omega (arith, a, b, c))
     ] refl
 
 -- all values in turn
 all_listed : {A : Type 0} (capacity : Capacity) (count unit records : ℕ) (add : List A → Value → Result (List A) CdlKind) (listing : List A → Listing) (xs : List Value) → unit ≤ capacity.count → (capacity.is_open ≡ false → count * unit ≡ capacity.count) → total cost xs ≤ records →
-    values_in capacity (listing []) ≡ [] → ((k : ℕ) (before : List A) (x : Value) → IsRoomy capacity count unit k (length before) (listing before) → Unit {0} → OkIs (λ after. IsRoomy capacity count unit (k + cost x) (length after) (listing after)) (add before x)) →
+    ((fill : ℤ) → values_in (by fill capacity) (listing []) ≡ []) → ((k : ℕ) (before : List A) (x : Value) → IsRoomy capacity count unit k (length before) (listing before) → Unit {0} → OkIs (λ after. IsRoomy capacity count unit (k + cost x) (length after) (listing after)) (add before x)) →
     OkIs (Fits capacity records) (listed_by add listing xs)
 all_listed {A} capacity count unit records add listing xs small all le none step =
     ok_then (IsKept (0 + total cost xs)) (Fits capacity records) (in_turn add [] xs) (λ items. Ok (listing items))
-    (turns add IsKept cost (λ x. Unit {0}) step 0 [] xs (record { few = omega arith; within = (λ e. omega arith); whole = ap (λ (ys : List ℤ). length ys) none ∙ (let z : 0 ≡ 0 * unit = omega arith in z) }) (any_each xs))
+    (turns add IsKept cost (λ x. Unit {0}) step 0 [] xs (record { few = omega arith; within = (λ e. omega arith); whole = λ fill. ap (λ (ys : List ℤ). length ys) (none fill) ∙ (let z : 0 ≡ 0 * unit = omega arith in z) }) (any_each xs))
     (λ items is. bounded capacity count unit (0 + total cost xs) (length items) records (listing items) small all (omega (arith, le)) is)
   where
     IsKept : ℕ → List A → Type 0
@@ -154,12 +159,12 @@ values_fit dims var records xs some le = of_type (is_char var.ty)
     of_rank : (deep : Bool) → not (nat_lt (length var.dimids) 2) ≡ deep → OkIs (Fits r records) (if deep then listed_by (add_row r) Rows xs else listed_by (add_characters r) Joined xs)
     of_rank true deep =
         let s = slab_rows dims var.dimids (off (nat_lt (length var.dimids) 2) deep) in
-        all_listed r r.rows r.row records (add_row r) Rows xs (row_small s.rows r.row r.count s.whole some) (λ e. let a = s.whole in let b = s.all e in ap (λ n. n * r.row) (sym b) ∙ sym a) le refl (row_step r)
-    of_rank false flat = all_listed r r.count 1 records (add_characters r) Joined xs some one le refl (joined_step r)
+        all_listed r r.rows r.row records (add_row r) Rows xs (row_small s.rows r.row r.count s.whole some) (λ e. let a = s.whole in let b = s.all e in ap (λ n. n * r.row) (sym b) ∙ sym a) le (λ fill. refl) (row_step r)
+    of_rank false flat = all_listed r r.count 1 records (add_characters r) Joined xs some one le (λ fill. refl) (joined_step r)
 
     of_type : (char : Bool) → OkIs (Fits r records) (if char then (if r.in_rows then listed_by (add_row r) Rows xs else listed_by (add_characters r) Joined xs) else listed_by (add_number r) Numbers xs)
     of_type true = of_rank r.in_rows refl
-    of_type false = all_listed r r.count 1 records (add_number r) Numbers xs some one le refl (number_step r)
+    of_type false = all_listed r r.count 1 records (add_number r) Numbers xs some one le (λ fill. refl) (number_step r)
 
 pub with_values_keeps : (v : Version) (N n m : ℕ) (dims : List Dim) (name : List ℕ) (xs : List Value) → m ≤ N → AreFineValues v m name xs → (d : Draft) → IsFineDraft v N n dims d →
     OkIs (λ e. IsFineDraft v N (n + m) dims e × (e.var.name ≡ d.var.name)) (with_values dims xs d)
@@ -178,7 +183,7 @@ with_values_keeps v N n m dims name xs small said d f =
         ty = g.ty;
         bare = g.bare;
         atts = g.atts;
-        listed = fit;
+        listed = λ others. fit (fill_value (record d.var { atts = others }));
       },
       refl,
     )))
