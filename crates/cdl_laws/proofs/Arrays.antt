@@ -1,6 +1,6 @@
 -- The array of each variable of a dataset is given back.
-use Rattle.std.proofs.Common.{◌≡◌, ℕ, zero, suc, ◌*◌, ◌-◌, ◌<◌, Bool, true, false, List, [], ◌∷◌, length, map, sym, ◌∙◌, ap, refl, subst, arith}
-use Rattle.std.specs.Prelude.{ℤ, pos, ◌&&◌, ◌==◌, not, if◌then◌else◌, nat_lt, Option, None, Some, slice_index}
+use Rattle.std.proofs.Common.{◌≡◌, ℕ, zero, suc, ◌*◌, ◌<◌, Bool, true, false, List, [], ◌∷◌, length, sym, ◌∙◌, ap, refl, subst, arith}
+use Rattle.std.specs.Prelude.{ℤ, pos, ◌&&◌, ◌==◌, not, if◌then◌else◌, nat_lt, Option, None, Some}
 use Rattle.std.specs.Ordering.{int_eq}
 use Rattle.std.proofs.lemmas.Bool.{false≢true}
 use Rattle.nc_base.specs.declared.header.Dim.{Dim}
@@ -12,33 +12,17 @@ use Rattle.nc_base.specs.Fill.{fill_value}
 use Rattle.nc_base.specs.Headers.{value_count, IsArray}
 use Rattle.nc_base.specs.Names.{IsName}
 use Rattle.nc_base.specs.Numbers.{numbers}
-use Rattle.nc_base.specs.Sizes.{is_record_var, has_records, slab_lens, product, dim_len}
+use Rattle.nc_base.specs.Sizes.{is_record_var, has_records, slab_lens, product}
 use Rattle.nc_base.specs.ValueText.{look_of, is_char, row_len}
 use Rattle.nc_base.specs.Sayable.{trimmed_var}
 use Rattle.cdl_meaning.specs.Meaning.{array_of, values_of}
+use Rattle.cdl_meaning.specs.State.{Listing}
+use Rattle.cdl_laws.proofs.Bools.{off}
 use Rattle.cdl_laws.proofs.DataTexts.{Gives, IsGivenBy, given_draft}
-use Rattle.cdl_laws.proofs.Given.{number_row_reads_back, line_reads_back, table_reads_back, array_none, array_len, not_off}
+use Rattle.cdl_laws.proofs.Given.{slab_rows, number_row_reads_back, line_reads_back, table_reads_back, array_none, array_len, not_off}
 use Rattle.cdl_laws.proofs.Words.{and_false}
 
--- ---- the last dimension divides a slab
-
-inner : (ℕ → ℕ) → ℕ → List ℕ → ℕ
-inner f x [] = 1
-inner f x (y ∷ ys) = f x * inner f y ys
-
-last_divides : (f : ℕ → ℕ) (x : ℕ) (xs : List ℕ) → product (map f (x ∷ xs)) ≡ inner f x xs * f (slice_index (x ∷ xs) (length xs))
-unfolding inner
-last_divides f x [] = let e : f x * 1 ≡ 1 * f x = omega arith in e
-last_divides f x (y ∷ ys) =
-    ap (λ n. f x * n) (last_divides f y ys) ∙ (let g : f x * (inner f y ys * f (slice_index (y ∷ ys) (length ys))) ≡ f x * inner f y ys * f (slice_index (y ∷ ys) (length ys)) = grind arith in g)
-
--- how many rows of the last dimension a slab has
-pub rows_in : (dims : List Dim) (a b : ℕ) (ids : List ℕ) → (k : ℕ) × (product (slab_lens dims (a ∷ b ∷ ids)) ≡ k * dim_len dims (slice_index (b ∷ ids) (length ids)))
-rows_in dims a b ids =
-    elim (has_records dims (a ∷ b ∷ ids)) as (λ w. (k : ℕ) × (product (map (dim_len dims) (if w then b ∷ ids else a ∷ b ∷ ids)) ≡ k * dim_len dims (slice_index (b ∷ ids) (length ids)))) [
-      | true ↦ (inner (dim_len dims) b ids, last_divides (dim_len dims) b ids)
-      | false ↦ (inner (dim_len dims) a (b ∷ ids), last_divides (dim_len dims) a (b ∷ ids))
-    ]
+-- ---- rows
 
 -- whole rows, of which there is one at least
 abbrev WholeRows : ℕ → ℕ → Type 0
@@ -49,20 +33,16 @@ some_rows zero row total e some = absurd (omega (arith, e, some))
 some_rows (suc k) zero total e some = absurd (let z : suc k * 0 ≡ 0 = omega arith in omega (arith, e, z, some))
 some_rows (suc k) (suc row) total e some = (k, e, omega arith)
 
-pub last_place : (n : ℕ) → suc (suc n) - 1 ≡ suc n
-last_place n = omega arith
-
 two_long : (n : ℕ) → nat_lt (suc (suc n)) 2 ≡ false
 two_long n = grind arith
 
 table_rows : (dims : List Dim) (ids : List ℕ) (total m : ℕ) → not (nat_lt (length ids) 2) ≡ true → total ≡ product (slab_lens dims ids) * m → 0 < total → WholeRows total (row_len dims ids total)
-table_rows dims [] total m rank e some = cc
-table_rows dims (a ∷ []) total m rank e some = cc
-table_rows dims (a ∷ b ∷ ids) total m rank e some =
-    let in_one = rows_in dims a b ids in
-    let row = dim_len dims (slice_index (b ∷ ids) (length ids)) in
-    subst (WholeRows total) (sym (rw (two_long (length ids)) (ap (λ j. dim_len dims (slice_index (a ∷ b ∷ ids) j)) (last_place (length ids)))))
-    (some_rows (in_one.0 * m) row total (e ∙ ap (λ p. p * m) in_one.1 ∙ (let g : in_one.0 * row * m ≡ in_one.0 * m * row = grind arith in g)) some)
+table_rows dims ids total m rank e some =
+    let h = off (nat_lt (length ids) 2) rank in
+    let r = slab_rows dims ids h in
+    let row = row_len dims ids 0 in
+    subst (WholeRows total) (let same : row ≡ row_len dims ids total = rw (h) refl in same)
+    (some_rows (r.rows * m) row total (e ∙ ap (λ p. p * m) r.whole ∙ (let g : r.rows * row * m ≡ r.rows * m * row = grind arith in g)) some)
 
 look_rows : (h : Header) (var : Var) (n width : ℕ) → (look_of h var n width).in_rows ≡ true → 0 < value_count h.dims var n → WholeRows (value_count h.dims var n) (look_of h var n width).row
 unfolding look_of
@@ -82,24 +62,24 @@ line_whole h var n width rank is = never_trimmed h.dims var.dimids (int_eq (fill
 
 -- the text of its values, if it has any, gives back its array
 pub record IsBack (v : Version) (h : Header) (n width : ℕ) (var : Var) (array : List ℕ) : Type 0 where
-  pub o : Option (List ℤ)
+  pub o : Option Listing
   pub given : IsGivenBy (has_values h.dims n var) v h.dims (look_of h var n width) var (numbers var.ty array) o
   pub back : array_of h.dims n (given_draft var o) ≡ array
-  pub exact : is_record_var h.dims var ≡ true → length (values_of (given_draft var o)) ≡ value_count h.dims var n
+  pub exact : is_record_var h.dims var ≡ true → length (values_of h.dims (given_draft var o)) ≡ value_count h.dims var n
 
 gives_back : (v : Version) (h : Header) (n width : ℕ) (var : Var) (array : List ℕ) → IsArray h.dims n var array → has_values h.dims n var ≡ true →
-    (g : Gives v h.dims (look_of h var n width) var (numbers var.ty array)) × (array_of h.dims n (given_draft var (Some g.ys)) ≡ array) → IsBack v h n width var array
+    (g : Gives v h.dims (look_of h var n width) var (numbers var.ty array)) × (array_of h.dims n (given_draft var (Some g.listing)) ≡ array) → IsBack v h n width var array
 gives_back v h n width var array is some both = record {
-  o = Some both.0.ys;
-  given = subst (λ b. IsGivenBy b v h.dims (look_of h var n width) var (numbers var.ty array) (Some both.0.ys)) (sym some) (both.0, refl);
+  o = Some both.0.listing;
+  given = subst (λ b. IsGivenBy b v h.dims (look_of h var n width) var (numbers var.ty array) (Some both.0.listing)) (sym some) (both.0, refl);
   back = both.1;
   exact = λ e. ap (λ (ys : List ℤ). length ys) (both.0.exact e) ∙ array_len h.dims n var array is;
 }
 
 pub row_back : (v : Version) (h : Header) (n width : ℕ) (var : Var) (array : List ℕ) → IsArray h.dims n var array → 0 < value_count h.dims var n → IsName var.name → (is_char var.ty ≡ true → fill_value (trimmed_var var) ≡ fill_value var) →
-    (g : Gives v h.dims (look_of h var n width) var (numbers var.ty array)) × (array_of h.dims n (given_draft var (Some g.ys)) ≡ array)
+    (g : Gives v h.dims (look_of h var n width) var (numbers var.ty array)) × (array_of h.dims n (given_draft var (Some g.listing)) ≡ array)
 row_back v h n width var array is some name fill =
-    let Goal : Type 0 = (g : Gives v h.dims (look_of h var n width) var (numbers var.ty array)) × (array_of h.dims n (given_draft var (Some g.ys)) ≡ array) in
+    let Goal : Type 0 = (g : Gives v h.dims (look_of h var n width) var (numbers var.ty array)) × (array_of h.dims n (given_draft var (Some g.listing)) ≡ array) in
     elim (is_char var.ty) as (λ c. is_char var.ty ≡ c → Goal) [
       | true ↦ (λ char. elim ((look_of h var n width).in_rows) as (λ r. (look_of h var n width).in_rows ≡ r → Goal) [
         | true ↦ (λ rank. let rows = look_rows h var n width rank some in table_reads_back v h var n width rows.0 array is rows.1 rows.2 char name (fill char) rank)

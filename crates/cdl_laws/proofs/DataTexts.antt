@@ -1,5 +1,5 @@
 -- The data section of a dump, variable after variable.
-use Rattle.std.proofs.Common.{◌≡◌, ℕ, ◌+◌, ◌<◌, ◌≤◌, Bool, true, false, List, [], ◌∷◌, ◌++◌, length, map, sym, ◌∙◌, ap, refl, subst, arith, append_assoc}
+use Rattle.std.proofs.Common.{◌≡◌, ℕ, ◌+◌, ◌<◌, ◌≤◌, Bool, true, false, List, [], ◌∷◌, ◌++◌, length, map, sym, ◌∙◌, ap, refl, subst, append_assoc}
 use Rattle.std.specs.Prelude.{ℤ, pos, if◌then◌else◌, Option, None, Some, Ok}
 use Rattle.nc_base.specs.declared.header.Att.{Att}
 use Rattle.nc_base.specs.declared.header.Dim.{Dim}
@@ -14,11 +14,11 @@ use Rattle.nc_base.specs.ValueText.{Look, look_of, is_char, variable_text}
 use Rattle.cdl_text.specs.declared.section.Section.TheVariants.{Values}
 use Rattle.nc_base.specs.Sayable.{trimmed_var}
 use Rattle.cdl_text.specs.Shapes.{Value, Characters, Listed}
-use Rattle.cdl_meaning.specs.State.{State, Draft, Capacity, capacity_of, act, add_value, with_values, in_turn, filled, fits, ◌>>=◌}
+use Rattle.cdl_meaning.specs.State.{State, Draft, Listing, Numbers, Joined, Rows, Capacity, capacity_of, act, listing_of, values_in, with_values, filled, fits, ◌>>=◌}
 use Rattle.cdl_laws.proofs.Lists.{Each}
-use Rattle.cdl_laws.proofs.ValueTexts.{AreSmall, value_said, all_added}
+use Rattle.cdl_laws.proofs.ValueTexts.{AreSmall, value_said, numbers_listed}
 use Rattle.cdl_laws.proofs.Characters.{flat, shown}
-use Rattle.cdl_laws.proofs.Filled.{IsCharacter, row_back, rows_added, line_added, back_whole, filled_whole}
+use Rattle.cdl_laws.proofs.Filled.{IsCharacter, row_back, rows_listed, rows_full, line_listed, back_whole, filled_whole}
 use Rattle.cdl_laws.proofs.Takes.{Takes, Says, says_takes, takes_both, takes_nothing}
 use Rattle.cdl_laws.proofs.Heads.{numbers_say, table_says, line_says}
 use Rattle.cdl_laws.proofs.Acts.{no_draft, variable_is}
@@ -31,10 +31,10 @@ use Rattle.cdl_laws.proofs.Wholes.{state, draft_of}
 pub record Gives (v : Version) (dims : List Dim) (look : Look) (var : Var) (values : List ℤ) : Type 0 where
   pub said : List Value
   pub says : Says v Values (variable_text look values) (Listed var.name said)
-  pub ys : List ℤ
-  pub added : in_turn (add_value (capacity_of dims (trimmed_var var))) [] said ≡ Ok ys
-  pub full : filled (length values) (fill_value (trimmed_var var)) ys ≡ values
-  pub exact : is_record_var dims var ≡ true → ys ≡ values
+  pub listing : Listing
+  pub added : listing_of (capacity_of dims (trimmed_var var)) said ≡ Ok listing
+  pub full : filled (length values) (fill_value (trimmed_var var)) (values_in (capacity_of dims (trimmed_var var)) listing) ≡ values
+  pub exact : is_record_var dims var ≡ true → values_in (capacity_of dims (trimmed_var var)) listing ≡ values
 
 -- what a look and a capacity have to share
 pub record IsRoomFor (look : Look) (capacity : Capacity) (var : Var) (count : ℕ) : Type 0 where
@@ -50,24 +50,29 @@ pub gives_numbers : (v : Version) (dims : List Dim) (look : Look) (var : Var) (x
 gives_numbers v dims look var x xs capacity ty small fit range = record {
   said = map (value_said look) (x ∷ xs);
   says = subst (λ n. Says v Values (variable_text look (x ∷ xs)) (Listed n (map (value_said look) (x ∷ xs)))) capacity.name (numbers_say v look x xs capacity.valid ty small fit);
-  ys = x ∷ xs;
-  added = all_added look (capacity_of dims (trimmed_var var)) [] (x ∷ xs) (ap is_char capacity.ty ∙ ty) capacity.fill (λ e. let f = capacity.wide e in omega (arith, f)) range;
+  listing = Numbers (x ∷ xs);
+  added = numbers_listed look (capacity_of dims (trimmed_var var)) (x ∷ xs) (ap is_char capacity.ty ∙ ty) capacity.fill capacity.wide range;
   full = filled_whole (length (x ∷ xs)) (fill_value (trimmed_var var)) (x ∷ xs) refl;
   exact = λ e. refl;
 }
 
 pub gives_table : (v : Version) (dims : List Dim) (look : Look) (var : Var) (r : List ℤ) (rows : List (List ℤ)) → IsRoomFor look (capacity_of dims (trimmed_var var)) var (length (flat (r ∷ rows))) → is_char look.ty ≡ true → look.in_rows ≡ true →
-    (look.trimmed ≡ true → look.fill ≡ pos 0) → look.row ≡ (capacity_of dims (trimmed_var var)).row → 0 < look.row → Each (λ (s : List ℤ). (length s ≡ look.row) × Each IsCharacter s) (r ∷ rows) → Gives v dims look var (flat (r ∷ rows))
-gives_table v dims look var r rows capacity ty h fill row some all = record {
+    (look.trimmed ≡ true → look.fill ≡ pos 0) → look.row ≡ (capacity_of dims (trimmed_var var)).row → 0 < look.row → ((capacity_of dims (trimmed_var var)).is_open ≡ false → length (r ∷ rows) ≤ (capacity_of dims (trimmed_var var)).rows) → Each (λ (s : List ℤ). (length s ≡ look.row) × Each IsCharacter s) (r ∷ rows) → Gives v dims look var (flat (r ∷ rows))
+gives_table v dims look var r rows capacity ty h fill row some few all = record {
   said = map Characters (map (shown look.trimmed 0) (r ∷ rows));
   says = subst (λ n. Says v Values (variable_text look (flat (r ∷ rows))) (Listed n (map Characters (map (shown look.trimmed 0) (r ∷ rows))))) capacity.name (table_says v look r rows capacity.valid ty h some (lens look.row (r ∷ rows) all));
-  ys = flat (r ∷ rows);
-  added = rows_added (capacity_of dims (trimmed_var var)) look.trimmed [] (r ∷ rows) (ap is_char capacity.ty ∙ ty) (capacity.rows ∙ h) (λ e. capacity.fill ∙ fill e) (let e = row in omega (arith, e, some)) (λ e. let f = capacity.wide e in omega (arith, f))
-      (subst (λ n. Each (λ (s : List ℤ). (length s ≡ n) × Each IsCharacter s) (r ∷ rows)) row all);
-  full = filled_whole (length (flat (r ∷ rows))) (fill_value (trimmed_var var)) (flat (r ∷ rows)) refl;
-  exact = λ e. refl;
+  listing = Rows (map (shown look.trimmed 0) (r ∷ rows));
+  added = rows_listed (capacity_of dims (trimmed_var var)) look.trimmed (r ∷ rows) (ap is_char capacity.ty ∙ ty) (capacity.rows ∙ h) few are;
+  full = ap (filled (length (flat (r ∷ rows))) (fill_value (trimmed_var var))) back ∙ filled_whole (length (flat (r ∷ rows))) (fill_value (trimmed_var var)) (flat (r ∷ rows)) refl;
+  exact = λ e. back;
 }
   where
+    are : Each (λ (s : List ℤ). (length s ≡ (capacity_of dims (trimmed_var var)).row) × Each IsCharacter s) (r ∷ rows)
+    are = subst (λ n. Each (λ (s : List ℤ). (length s ≡ n) × Each IsCharacter s) (r ∷ rows)) row all
+
+    back : values_in (capacity_of dims (trimmed_var var)) (Rows (map (shown look.trimmed 0) (r ∷ rows))) ≡ flat (r ∷ rows)
+    back = rows_full (capacity_of dims (trimmed_var var)) look.trimmed (r ∷ rows) (λ e. capacity.fill ∙ fill e) are
+
     lens : (n : ℕ) (all : List (List ℤ)) → Each (λ (s : List ℤ). (length s ≡ n) × Each IsCharacter s) all → Each (λ (s : List ℤ). length s ≡ n) all
     lens n [] e = tt
     lens n (s ∷ all) e = (e.0.0, lens n all e.1)
@@ -77,34 +82,34 @@ pub gives_line : (v : Version) (dims : List Dim) (look : Look) (var : Var) (x : 
 gives_line v dims look var x xs capacity ty h small fill record_whole all = record {
   said = Characters (shown look.trimmed 0 (x ∷ xs)) ∷ [];
   says = subst (λ n. Says v Values (variable_text look (x ∷ xs)) (Listed n (Characters (shown look.trimmed 0 (x ∷ xs)) ∷ []))) capacity.name (line_says v look x xs capacity.valid ty h small);
-  ys = map pos (shown look.trimmed 0 (x ∷ xs));
-  added = line_added (capacity_of dims (trimmed_var var)) look.trimmed (x ∷ xs) (ap is_char capacity.ty ∙ ty) (capacity.rows ∙ h) capacity.wide;
+  listing = Joined (shown look.trimmed 0 (x ∷ xs));
+  added = line_listed (capacity_of dims (trimmed_var var)) look.trimmed (x ∷ xs) (ap is_char capacity.ty ∙ ty) (capacity.rows ∙ h) capacity.wide;
   full = row_back look.trimmed (length (x ∷ xs)) (fill_value (trimmed_var var)) (x ∷ xs) fill refl all;
   exact = λ e. ap (λ t. map pos (shown t 0 (x ∷ xs))) (record_whole e) ∙ back_whole (x ∷ xs) all;
 }
 
 -- ---- all variables
 
-abbrev pub given_draft : Var → Option (List ℤ) → Draft
+abbrev pub given_draft : Var → Option Listing → Draft
 given_draft var o = record { var = trimmed_var var; listed = o }
 
-abbrev pub given_drafts : List Var → List (Option (List ℤ)) → List Draft
+abbrev pub given_drafts : List Var → List (Option Listing) → List Draft
 given_drafts [] os = []
 given_drafts (var ∷ vars) [] = []
 given_drafts (var ∷ vars) (o ∷ os) = given_draft var o ∷ given_drafts vars os
 
 -- a variable that has values has them listed
-abbrev pub IsGivenBy : Bool → Version → List Dim → Look → Var → List ℤ → Option (List ℤ) → Type 0
-IsGivenBy true v dims look var values o = (g : Gives v dims look var values) × (o ≡ Some g.ys)
+abbrev pub IsGivenBy : Bool → Version → List Dim → Look → Var → List ℤ → Option Listing → Type 0
+IsGivenBy true v dims look var values o = (g : Gives v dims look var values) × (o ≡ Some g.listing)
 IsGivenBy false v dims look var values o = o ≡ None
 
-pub record IsGiven (v : Version) (h : Header) (content : ℕ → Var → Content) (n width place : ℕ) (before : List Draft) (var : Var) (o : Option (List ℤ)) : Type 0 where
+pub record IsGiven (v : Version) (h : Header) (content : ℕ → Var → Content) (n width place : ℕ) (before : List Draft) (var : Var) (o : Option Listing) : Type 0 where
   pub name : IsName var.name
   pub new : no_draft var.name before
   pub all : (content place var).missing ≡ None
   pub given : IsGivenBy (has_values h.dims n var) v h.dims (look_of h var n width) var (content place var).values o
 
-abbrev pub AreGiven : Version → Header → (ℕ → Var → Content) → ℕ → ℕ → ℕ → List Draft → List Var → List (Option (List ℤ)) → Type 0
+abbrev pub AreGiven : Version → Header → (ℕ → Var → Content) → ℕ → ℕ → ℕ → List Draft → List Var → List (Option Listing) → Type 0
 AreGiven v h content n width place before [] [] = Unit {0}
 AreGiven v h content n width place before [] (o ∷ os) = ⊥
 AreGiven v h content n width place before (var ∷ vars) [] = ⊥
@@ -114,15 +119,15 @@ abbrev pub all_marked : List Var → List Bool
 all_marked vars = map (λ (w : Var). true) vars
 
 listed_act : (v : Version) (dims : List Dim) (gatts : List Att) (before after : List Draft) (look : Look) (var : Var) (values : List ℤ) (g : Gives v dims look var values) → IsName var.name → no_draft var.name before →
-    act v (state Values dims gatts (before ++ draft_of var ∷ after)) (Listed var.name g.said) ≡ Ok (state Values dims gatts (before ++ given_draft var (Some g.ys) ∷ after))
+    act v (state Values dims gatts (before ++ draft_of var ∷ after)) (Listed var.name g.said) ≡ Ok (state Values dims gatts (before ++ given_draft var (Some g.listing) ∷ after))
 unfolding act
 listed_act v dims gatts before after look var values g valid new =
     ap (λ r. r >>= (λ drafts. Ok (state Values dims gatts drafts)))
-    (variable_is (with_values dims g.said) before (draft_of var) (given_draft var (Some g.ys)) after valid new
-    (ap (λ r. r >>= (λ ys. Ok (given_draft var (Some ys)))) g.added))
+    (variable_is (with_values dims g.said) before (draft_of var) (given_draft var (Some g.listing)) after valid new
+    (ap (λ r. r >>= (λ listing. Ok (given_draft var (Some listing)))) g.added))
 
 -- one variable before others
-one_taken : (v : Version) (h : Header) (gatts : List Att) (before after : List Draft) (look : Look) (var : Var) (c : Content) (o : Option (List ℤ)) (place : ℕ) (others : Section) (t : State) (b : Bool) →
+one_taken : (v : Version) (h : Header) (gatts : List Att) (before after : List Draft) (look : Look) (var : Var) (c : Content) (o : Option Listing) (place : ℕ) (others : Section) (t : State) (b : Bool) →
     IsName var.name → no_draft var.name before → c.missing ≡ None → IsGivenBy b v h.dims look var c.values o →
     Takes v others.text (state Values h.dims gatts (before ++ given_draft var o ∷ after)) t →
     Takes v (if b then values_before look c.values c.missing place others else others).text (state Values h.dims gatts (before ++ draft_of var ∷ after)) t
@@ -134,7 +139,7 @@ one_taken v h gatts before after look var c o place others t true valid new all 
 one_taken v h gatts before after look var c o place others t false valid new all given more =
     subst (λ p. Takes v others.text (state Values h.dims gatts (before ++ given_draft var p ∷ after)) t) given more
 
-pub data_taken : (v : Version) (h : Header) (content : ℕ → Var → Content) (n width place : ℕ) (gatts : List Att) (before : List Draft) (vars : List Var) (os : List (Option (List ℤ))) → AreGiven v h content n width place before vars os →
+pub data_taken : (v : Version) (h : Header) (content : ℕ → Var → Content) (n width place : ℕ) (gatts : List Att) (before : List Draft) (vars : List Var) (os : List (Option Listing)) → AreGiven v h content n width place before vars os →
     Takes v (values_of h content n width place vars (all_marked vars)).text (state Values h.dims gatts (before ++ map draft_of vars)) (state Values h.dims gatts (before ++ given_drafts vars os))
 data_taken v h content n width place gatts before [] [] given = takes_nothing v (state Values h.dims gatts (before ++ []))
 data_taken v h content n width place gatts before [] (o ∷ os) given = absurd given
@@ -149,7 +154,7 @@ data_taken v h content n width place gatts before (var ∷ vars) (o ∷ os) give
     (subst (λ ds. Takes v others.text (state Values h.dims gatts ((before ++ given_draft var o ∷ []) ++ map draft_of vars)) (state Values h.dims gatts ds)) (append_assoc before (given_draft var o ∷ []) (given_drafts vars os)) ih))
 
 -- and the section is whole
-pub data_whole : (v : Version) (h : Header) (content : ℕ → Var → Content) (n width place : ℕ) (before : List Draft) (vars : List Var) (os : List (Option (List ℤ))) → AreGiven v h content n width place before vars os →
+pub data_whole : (v : Version) (h : Header) (content : ℕ → Var → Content) (n width place : ℕ) (before : List Draft) (vars : List Var) (os : List (Option Listing)) → AreGiven v h content n width place before vars os →
     (values_of h content n width place vars (all_marked vars)).ending ≡ whole
 data_whole v h content n width place before [] os given = refl
 data_whole v h content n width place before (var ∷ vars) [] given = absurd given

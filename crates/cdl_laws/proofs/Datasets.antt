@@ -1,6 +1,6 @@
 -- A dataset that a text can declare is read back from its full dump.
 use Rattle.std.proofs.Common.{◌≡◌, ℕ, ◌+◌, ◌*◌, ◌-◌, ◌/◌, ◌<◌, max, true, false, List, [], ◌∷◌, ◌++◌, length, map, sym, ◌∙◌, ap, refl, subst, arith, append_assoc, length-append}
-use Rattle.std.specs.Prelude.{ℤ, if◌then◌else◌, Option, slice_index_or}
+use Rattle.std.specs.Prelude.{if◌then◌else◌, Option, slice_index_or}
 use Rattle.std.proofs.Math.Nat.{mul-add-div, div-eq_of_lt}
 use Rattle.nc_base.specs.declared.dataset.Dataset.{Dataset}
 use Rattle.nc_base.specs.declared.header.Dim.{Dim}
@@ -16,7 +16,7 @@ use Rattle.nc_base.specs.Sizes.{is_record_var, slab_count, record_vars}
 use Rattle.nc_base.specs.ValueText.{is_char, look_of}
 use Rattle.nc_base.specs.Sayable.{trimmed_var}
 use Rattle.cdl_meaning.specs.Meaning.{array_of, values_of, records_of, records_in}
-use Rattle.cdl_meaning.specs.State.{Draft}
+use Rattle.cdl_meaning.specs.State.{Draft, Listing}
 use Rattle.cdl_laws.proofs.Arrays.{IsBack, is_back}
 use Rattle.cdl_laws.proofs.Acts.{no_draft}
 use Rattle.cdl_laws.proofs.DataTexts.{IsGivenBy, AreGiven, given_draft, given_drafts}
@@ -40,7 +40,7 @@ are_back v h n width [] (a ∷ arrays) are all = are
 are_back v h n width (var ∷ vars) [] are all = are
 are_back v h n width (var ∷ vars) (a ∷ arrays) are all = (is_back v h n width var a are.0 all.0.0 all.0.1, are_back v h n width vars arrays are.1 all.1)
 
-abbrev pub listings : (v : Version) (h : Header) (n width : ℕ) (vars : List Var) (arrays : List (List ℕ)) → AreBack v h n width vars arrays → List (Option (List ℤ))
+abbrev pub listings : (v : Version) (h : Header) (n width : ℕ) (vars : List Var) (arrays : List (List ℕ)) → AreBack v h n width vars arrays → List (Option Listing)
 listings v h n width [] [] backs = []
 listings v h n width [] (a ∷ arrays) backs = []
 listings v h n width (var ∷ vars) [] backs = []
@@ -64,7 +64,7 @@ stand_after before (a ∷ arrays) = (
 )
 
 -- no variable before or in the list has another's name
-abbrev pub AreNewVars : List Draft → List Var → List (Option (List ℤ)) → Type 0
+abbrev pub AreNewVars : List Draft → List Var → List (Option Listing) → Type 0
 AreNewVars before [] os = Unit {0}
 AreNewVars before (var ∷ vars) [] = Unit {0}
 AreNewVars before (var ∷ vars) (o ∷ os) = IsName var.name × no_draft var.name before × AreNewVars (before ++ given_draft var o ∷ []) vars os
@@ -110,11 +110,11 @@ one_count : (v : Version) (h : Header) (n width : ℕ) (var : Var) (a : List ℕ
 one_count v h n width var a b some is =
     let len = b.exact is in
     let total : value_count h.dims var n ≡ slab_count h.dims var * n = ap (λ w. slab_count h.dims var * (if w then n else 1)) is in
-    ap (λ w. if w then (length (values_of (given_draft var b.o)) + slab_count h.dims var - 1) / slab_count h.dims var else 0) is ∙
+    ap (λ w. if w then (length (values_of h.dims (given_draft var b.o)) + slab_count h.dims var - 1) / slab_count h.dims var else 0) is ∙
     ap (λ m. (m + slab_count h.dims var - 1) / slab_count h.dims var) (len ∙ total) ∙ counted (slab_count h.dims var) n some
 
-no_count : (h : Header) (var : Var) (o : Option (List ℤ)) → is_record_var h.dims var ≡ false → records_of h.dims (given_draft var o) ≡ 0
-no_count h var o is = ap (λ w. if w then (length (values_of (given_draft var o)) + slab_count h.dims var - 1) / slab_count h.dims var else 0) is
+no_count : (h : Header) (var : Var) (o : Option Listing) → is_record_var h.dims var ≡ false → records_of h.dims (given_draft var o) ≡ 0
+no_count h var o is = ap (λ w. if w then (length (values_of h.dims (given_draft var o)) + slab_count h.dims var - 1) / slab_count h.dims var else 0) is
 
 -- it is the dataset's, where some variable is a record variable, and 0 where none is
 data Counts (dims : List Dim) (vars : List Var) (n r : ℕ) : Type 0 where

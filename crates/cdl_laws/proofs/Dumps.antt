@@ -1,6 +1,6 @@
 -- A full dump is read back.
 use Rattle.std.proofs.Common.{◌≡◌, ℕ, true, false, List, [], ◌∷◌, ◌++◌, length, map, sym, ◌∙◌, ap, refl, append_assoc, append-nil}
-use Rattle.std.specs.Prelude.{ℤ, ◌&&◌, ◌||◌, ◌==◌, not, if◌then◌else◌, Option, None, Ok, codes}
+use Rattle.std.specs.Prelude.{◌&&◌, ◌||◌, ◌==◌, not, if◌then◌else◌, Option, None, Ok, codes}
 use Rattle.nc_base.specs.Bytes.{concat_parts}
 use Rattle.nc_base.specs.declared.dataset.Dataset.{Dataset}
 use Rattle.nc_base.specs.declared.header.Att.{Att}
@@ -20,7 +20,7 @@ use Rattle.cdl_text.specs.Pieces.{pieces_at}
 use Rattle.cdl_laws.specs.Reading.{lexemes, pieces_of}
 use Rattle.cdl_laws.specs.RoundTrip.{IsFull}
 use Rattle.nc_base.specs.Sayable.{trimmed, trimmed_att}
-use Rattle.cdl_meaning.specs.State.{in_turn}
+use Rattle.cdl_meaning.specs.State.{Listing, in_turn}
 use Rattle.cdl_laws.proofs.Lists.{Each}
 use Rattle.cdl_laws.proofs.Takes.{is_open}
 use Rattle.cdl_laws.proofs.Acts.{AreDistinctDims, HaveNames}
@@ -57,7 +57,7 @@ shown_is h o content n full =
     ap (values_of h content n o.width 0 h.vars) (selected h o h.vars full.chosen full.coords)
 
 -- after the head
-data_read : (v : Version) (h : Header) (o : Options) (content : ℕ → Var → Content) (n : ℕ) (gatts : List Att) (os : List (Option (List ℤ))) → IsFull o → (vars : List Var) → h.vars ≡ vars → AreGiven v h content n o.width 0 [] vars os →
+data_read : (v : Version) (h : Header) (o : Options) (content : ℕ → Var → Content) (n : ℕ) (gatts : List Att) (os : List (Option Listing)) → IsFull o → (vars : List Var) → h.vars ≡ vars → AreGiven v h content n o.width 0 [] vars os →
     in_turn (piece_read v) (state (after_vars (after_dims h.dims) vars) h.dims gatts (map draft_of vars)) (pieces_of (data_word h o ++ ((values_of h content n o.width 0 vars (all_marked vars)).text ++ codes "}\n"))) ≡ Ok (state Ended h.dims gatts (given_drafts vars os))
 unfolding data_word
 data_read v h o content n gatts os full [] none given =
@@ -78,7 +78,7 @@ data_read v h o content n gatts os full (var ∷ vars) some given =
 -- ---- the whole text
 
 -- what the parts of a dataset are read back by
-pub record IsReadable (d : Dataset) (n width : ℕ) (os : List (Option (List ℤ))) : Type 0 where
+pub record IsReadable (d : Dataset) (n width : ℕ) (os : List (Option Listing)) : Type 0 where
   pub dims : AreNewDims d.header.version [] d.header.dims
   pub distinct : AreDistinctDims d.header.dims
   pub names : HaveNames d.header.dims
@@ -90,7 +90,7 @@ pub record IsReadable (d : Dataset) (n width : ℕ) (os : List (Option (List ℤ
   pub back : dataset_of d.header.version (state Ended d.header.dims (map trimmed_att d.header.gatts) (given_drafts d.header.vars os)) ≡ trimmed d
 
 -- the state at the end
-pub state_read : (d : Dataset) (o : Options) (n : ℕ) (os : List (Option (List ℤ))) → IsFull o → IsReadable d n o.width os → (section : Section) → section ≡ shown_values d.header o (content_of d) n (selection_of d.header o) →
+pub state_read : (d : Dataset) (o : Options) (n : ℕ) (os : List (Option Listing)) → IsFull o → IsReadable d n o.width os → (section : Section) → section ≡ shown_values d.header o (content_of d) n (selection_of d.header o) →
     in_turn (piece_read d.header.version) empty (pieces_at role places.Begins (lexemes (dump_text d.header o n section))) ≡ Ok (state Ended d.header.dims (map trimmed_att d.header.gatts) (given_drafts d.header.vars os))
 unfolding closing_word
 state_read d o n os full ready section is =
@@ -113,7 +113,7 @@ state_read d o n os full ready section is =
     data_read v h o (content_of d) n (map trimmed_att h.gatts) os full h.vars refl ready.given
 
 -- and what it means
-pub text_back : (d : Dataset) (o : Options) (n : ℕ) (os : List (Option (List ℤ))) → IsFull o → IsReadable d n o.width os → (section : Section) → section ≡ shown_values d.header o (content_of d) n (selection_of d.header o) →
+pub text_back : (d : Dataset) (o : Options) (n : ℕ) (os : List (Option Listing)) → IsFull o → IsReadable d n o.width os → (section : Section) → section ≡ shown_values d.header o (content_of d) n (selection_of d.header o) →
     meaning (dump_text d.header o n section) d.header.version ≡ Ok (trimmed d)
 unfolding finished
 text_back d o n os full ready section is =

@@ -25,7 +25,7 @@ use Rattle.cdl_text.specs.Pieces.{pieces_at, is_section}
 use Rattle.cdl_text.specs.Lexemes.{name_of}
 use Rattle.cdl_tokens.specs.Numerals.{suffix, numeral, parts}
 use Rattle.cdl_text.specs.Shapes.{shape}
-use Rattle.cdl_meaning.specs.State.{fits, add_dim, type_of, add_dimid, add_var, at_variable, add_att, capacity_of, add_value, act}
+use Rattle.cdl_meaning.specs.State.{fits, add_dim, type_of, add_dimid, add_var, at_variable, add_att, capacity_of, listing_of, act}
 use Rattle.cdl_meaning.specs.Meaning.{piece_read, run, is_small_enough, finished, meaning}
 
 abbrev options : Options
@@ -44,7 +44,7 @@ gatts_of (Err f) = []
 
 -- a text has to be bytes: what stands in a string goes into an attribute as it is
 no_bytes : gatts_of (meaning (codes "netcdf t {\n:a = \"" ++ 300 ∷ codes "\" ;\n}\n") Cdf5) ≡ (300 ∷ []) ∷ []
-unfolding concat_parts numbers fill_value is_reserved escaped_name escaped_text dimensions_word unlimited_word currently_word variables_word global_word netcdf_word string_break number_values char_values att_line att_lines dim_extent dim_line dim_lines dims_text shape_text var_lines vars_text gatts_text head_text look_of number_piece char_piece piece pieces opening closing variable_prefix variable_text digits data_word closing_word tokens_at scan word_len until unescape_at stands_at character pieces_at is_section word_value name_of suffix numeral parts shape fits add_dim type_of add_dimid add_var at_variable add_att capacity_of add_value act piece_read run is_small_enough finished is_utf8 chars encode
+unfolding concat_parts numbers fill_value is_reserved escaped_name escaped_text dimensions_word unlimited_word currently_word variables_word global_word netcdf_word string_break number_values char_values att_line att_lines dim_extent dim_line dim_lines dims_text shape_text var_lines vars_text gatts_text head_text look_of number_piece char_piece piece pieces opening closing variable_prefix variable_text digits data_word closing_word tokens_at scan word_len until unescape_at stands_at character pieces_at is_section word_value name_of suffix numeral parts shape fits add_dim type_of add_dimid add_var at_variable add_att capacity_of listing_of act piece_read run is_small_enough finished is_utf8 chars encode
 no_bytes = refl
 
 -- ---- a character and a NUL as fill value
@@ -66,7 +66,7 @@ cut = record {
 
 -- the text means a good dataset, whose array is filled with NULs
 cut_means : meaning cut_text Cdf5 ≡ Ok cut
-unfolding concat_parts numbers fill_value is_reserved escaped_name escaped_text dimensions_word unlimited_word currently_word variables_word global_word netcdf_word string_break number_values char_values att_line att_lines dim_extent dim_line dim_lines dims_text shape_text var_lines vars_text gatts_text head_text look_of number_piece char_piece piece pieces opening closing variable_prefix variable_text digits data_word closing_word tokens_at scan word_len until unescape_at stands_at character pieces_at is_section word_value name_of suffix numeral parts shape fits add_dim type_of add_dimid add_var at_variable add_att capacity_of add_value act piece_read run is_small_enough finished is_utf8 chars encode
+unfolding concat_parts numbers fill_value is_reserved escaped_name escaped_text dimensions_word unlimited_word currently_word variables_word global_word netcdf_word string_break number_values char_values att_line att_lines dim_extent dim_line dim_lines dims_text shape_text var_lines vars_text gatts_text head_text look_of number_piece char_piece piece pieces opening closing variable_prefix variable_text digits data_word closing_word tokens_at scan word_len until unescape_at stands_at character pieces_at is_section word_value name_of suffix numeral parts shape fits add_dim type_of add_dimid add_var at_variable add_att capacity_of listing_of act piece_read run is_small_enough finished is_utf8 chars encode
 cut_means = refl
 
 abbrev has_cut : Dataset → List Bool
@@ -77,5 +77,5 @@ cut_is = refl
 
 -- its dump means another array, filled with the character
 cut_comes_back : arrays_of (meaning (text_of cut 0) Cdf5) ≡ (98 ∷ 97 ∷ 97 ∷ []) ∷ []
-unfolding concat_parts numbers fill_value is_reserved escaped_name escaped_text dimensions_word unlimited_word currently_word variables_word global_word netcdf_word string_break number_values char_values att_line att_lines dim_extent dim_line dim_lines dims_text shape_text var_lines vars_text gatts_text head_text look_of number_piece char_piece piece pieces opening closing variable_prefix variable_text digits data_word closing_word tokens_at scan word_len until unescape_at stands_at character pieces_at is_section word_value name_of suffix numeral parts shape fits add_dim type_of add_dimid add_var at_variable add_att capacity_of add_value act piece_read run is_small_enough finished is_utf8 chars encode
+unfolding concat_parts numbers fill_value is_reserved escaped_name escaped_text dimensions_word unlimited_word currently_word variables_word global_word netcdf_word string_break number_values char_values att_line att_lines dim_extent dim_line dim_lines dims_text shape_text var_lines vars_text gatts_text head_text look_of number_piece char_piece piece pieces opening closing variable_prefix variable_text digits data_word closing_word tokens_at scan word_len until unescape_at stands_at character pieces_at is_section word_value name_of suffix numeral parts shape fits add_dim type_of add_dimid add_var at_variable add_att capacity_of listing_of act piece_read run is_small_enough finished is_utf8 chars encode
 cut_comes_back = refl

@@ -10,7 +10,7 @@ use Rattle.nc_base.specs.ValueText.{is_nul, is_char}
 use Rattle.cdl_tokens.specs.Escapes.{stands}
 use Rattle.cdl_tokens.proofs.Strings.{stands_for}
 use Rattle.cdl_text.specs.Shapes.{Characters, each, both, constant, constants}
-use Rattle.cdl_meaning.specs.State.{Capacity, add_value, in_turn, filled}
+use Rattle.cdl_meaning.specs.State.{Capacity, Joined, Rows, add_characters, add_row, filled, in_turn, listing_of, values_in, ◌>>=◌}
 use Rattle.cdl_laws.proofs.Lists.{Each}
 use Rattle.cdl_laws.proofs.Characters.{shown, flat}
 use Rattle.cdl_laws.proofs.Strings.{string, unescape_all, between_quotes}
@@ -110,35 +110,40 @@ strings_said v takes_fill bytes all = constants_all v takes_fill (string bytes) 
 le_true : (m n : ℕ) → m ≤ n → nat_le m n ≡ true
 le_true m n h = grind (arith, h)
 
-row_added : (capacity : Capacity) (t : Bool) (before r : List ℤ) → is_char capacity.ty ≡ true → capacity.in_rows ≡ true → (t ≡ true → capacity.fill ≡ pos 0) → (capacity.is_open ≡ false → length before < capacity.count) → length r ≡ capacity.row → Each IsCharacter r →
-    add_value capacity before (Characters (shown t 0 r)) ≡ Ok (before ++ r)
-unfolding add_value
-row_added capacity t before r ty rows fill wide len all =
-    rw (ty) (rw (rows) (rw (room_for capacity.is_open (length before) capacity.count wide)
-    (rw (le_true (length (shown t 0 r)) capacity.row (let s = shown_len t 0 r in omega (arith, s, len)))
-    (ap (λ xs. Ok (before ++ xs)) (row_back t capacity.row capacity.fill r fill len all)))))
+row_added : (capacity : Capacity) (t : Bool) (before : List (List ℕ)) (r : List ℤ) → (capacity.is_open ≡ false → length before < capacity.rows) → length r ≡ capacity.row →
+    add_row capacity before (Characters (shown t 0 r)) ≡ Ok (before ++ shown t 0 r ∷ [])
+row_added capacity t before r wide len =
+    rw (room_for capacity.is_open (length before) capacity.rows wide) (rw (le_true (length (shown t 0 r)) capacity.row (let s = shown_len t 0 r in omega (arith, s, len))) refl)
 
-pub rows_added : (capacity : Capacity) (t : Bool) (before : List ℤ) (rows : List (List ℤ)) → is_char capacity.ty ≡ true → capacity.in_rows ≡ true → (t ≡ true → capacity.fill ≡ pos 0) → 0 < capacity.row →
-    (capacity.is_open ≡ false → length before + length (flat rows) ≤ capacity.count) → Each (λ (r : List ℤ). (length r ≡ capacity.row) × Each IsCharacter r) rows →
-    in_turn (add_value capacity) before (map Characters (map (shown t 0) rows)) ≡ Ok (before ++ flat rows)
-rows_added capacity t before [] ty h fill some wide all = ap Ok (sym (append-nil before))
-rows_added capacity t before (r ∷ rows) ty h fill some wide all =
-    let len = length-append r (flat rows) in
-    let more = length-append before r in
-    let is = all.0.0 in
-    turn (add_value capacity) before (before ++ r) (Characters (shown t 0 r)) (map Characters (map (shown t 0) rows))
-    (row_added capacity t before r ty h fill (λ e. let f = wide e in omega (arith, f, len, is, some)) is all.0.1) ∙
-    rows_added capacity t (before ++ r) rows ty h fill some (λ e. let f = wide e in omega (arith, f, len, more)) all.1 ∙ ap Ok (append_assoc before r (flat rows))
+rows_added : (capacity : Capacity) (t : Bool) (before : List (List ℕ)) (rows : List (List ℤ)) → (capacity.is_open ≡ false → length before + length rows ≤ capacity.rows) → Each (λ (r : List ℤ). (length r ≡ capacity.row) × Each IsCharacter r) rows →
+    in_turn (add_row capacity) before (map Characters (map (shown t 0) rows)) ≡ Ok (before ++ map (shown t 0) rows)
+rows_added capacity t before [] wide all = ap Ok (sym (append-nil before))
+rows_added capacity t before (r ∷ rows) wide all =
+    let more = length-append before (shown t 0 r ∷ []) in
+    turn (add_row capacity) before (before ++ shown t 0 r ∷ []) (Characters (shown t 0 r)) (map Characters (map (shown t 0) rows)) (row_added capacity t before r (λ e. let f = wide e in omega (arith, f)) all.0.0) ∙
+    rows_added capacity t (before ++ shown t 0 r ∷ []) rows (λ e. let f = wide e in omega (arith, f, more)) all.1 ∙ ap Ok (append_assoc before (shown t 0 r ∷ []) (map (shown t 0) rows))
+
+pub rows_listed : (capacity : Capacity) (t : Bool) (rows : List (List ℤ)) → is_char capacity.ty ≡ true → capacity.in_rows ≡ true → (capacity.is_open ≡ false → length rows ≤ capacity.rows) → Each (λ (r : List ℤ). (length r ≡ capacity.row) × Each IsCharacter r) rows →
+    listing_of capacity (map Characters (map (shown t 0) rows)) ≡ Ok (Rows (map (shown t 0) rows))
+unfolding listing_of
+rows_listed capacity t rows ty h wide all = rw (ty) (rw (h) (ap (λ items. items >>= (λ bytes. Ok (Rows bytes))) (rows_added capacity t [] rows (λ e. let f = wide e in omega (arith, f)) all)))
+
+-- and the rows filled up are the rows that were shown
+pub rows_full : (capacity : Capacity) (t : Bool) (rows : List (List ℤ)) → (t ≡ true → capacity.fill ≡ pos 0) → Each (λ (r : List ℤ). (length r ≡ capacity.row) × Each IsCharacter r) rows → values_in capacity (Rows (map (shown t 0) rows)) ≡ flat rows
+rows_full capacity t [] fill all = refl
+rows_full capacity t (r ∷ rows) fill all =
+    ap (λ xs. xs ++ values_in capacity (Rows (map (shown t 0) rows))) (row_back t capacity.row capacity.fill r fill all.0.0 all.0.1) ∙ ap (λ xs. r ++ xs) (rows_full capacity t rows fill all.1)
 
 enough : (is_open : Bool) (m n : ℕ) → (is_open ≡ false → m ≤ n) → (is_open || nat_le m n) ≡ true
 enough true m n f = refl
 enough false m n f = le_true m n (f refl)
 
-line_one : (capacity : Capacity) (t : Bool) (r : List ℤ) → is_char capacity.ty ≡ true → capacity.in_rows ≡ false → (capacity.is_open ≡ false → length r ≤ capacity.count) → add_value capacity [] (Characters (shown t 0 r)) ≡ Ok (map pos (shown t 0 r))
-unfolding add_value
-line_one capacity t r ty h wide =
-    rw (ty) (rw (h) (rw (enough capacity.is_open (0 + length (shown t 0 r)) capacity.count (λ e. let s = shown_len t 0 r in let f = wide e in omega (arith, s, f))) refl))
+line_added : (capacity : Capacity) (bytes : List ℕ) → (capacity.is_open ≡ false → length bytes ≤ capacity.count) → add_characters capacity [] (Characters bytes) ≡ Ok bytes
+line_added capacity bytes wide = rw (enough capacity.is_open (0 + length bytes) capacity.count (λ e. let f = wide e in omega (arith, f))) refl
 
-pub line_added : (capacity : Capacity) (t : Bool) (r : List ℤ) → is_char capacity.ty ≡ true → capacity.in_rows ≡ false → (capacity.is_open ≡ false → length r ≤ capacity.count) →
-    in_turn (add_value capacity) [] (Characters (shown t 0 r) ∷ []) ≡ Ok (map pos (shown t 0 r))
-line_added capacity t r ty h wide = turn (add_value capacity) [] (map pos (shown t 0 r)) (Characters (shown t 0 r)) [] (line_one capacity t r ty h wide)
+pub line_listed : (capacity : Capacity) (t : Bool) (r : List ℤ) → is_char capacity.ty ≡ true → capacity.in_rows ≡ false → (capacity.is_open ≡ false → length r ≤ capacity.count) → listing_of capacity (Characters (shown t 0 r) ∷ []) ≡ Ok (Joined (shown t 0 r))
+unfolding listing_of
+line_listed capacity t r ty h wide =
+    let s = shown t 0 r in
+    rw (ty) (rw (h) (ap (λ items. items >>= (λ bytes. Ok (Joined bytes)))
+    (turn (add_characters capacity) [] s (Characters s) [] (line_added capacity s (λ e. let l = shown_len t 0 r in let f = wide e in omega (arith, l, f))))))

@@ -341,8 +341,8 @@ pub record IsFineDraft (v : Version) (N n : ℕ) (dims : List Dim) (d : Draft) :
   pub ty : has_type v d.var.ty ≡ true
   pub atts : AreFineAtts v N n d.var.atts
   pub bare : d.var.begin_at ≡ 0
-  -- no more than over n records
-  pub listed : length (values_of d) ≤ value_count dims d.var N
+  -- no more than over N records, whatever rows are filled with
+  pub listed : (atts : List Att) → length (values_of dims (record d { var = record d.var { atts = atts } })) ≤ value_count dims d.var N
 
 pub record AreFineDrafts (v : Version) (N n : ℕ) (dims : List Dim) (drafts : List Draft) : Type 0 where
   pub count : length drafts ≤ n
@@ -391,7 +391,7 @@ var_step v N dims ty has n drafts x fine small =
           ty = has;
           atts = record { count = omega arith; fine = tt; names = tt };
           bare = refl;
-          listed = omega arith;
+          listed = λ others. omega arith;
         },
         tt,
       );

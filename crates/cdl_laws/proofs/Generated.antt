@@ -25,7 +25,7 @@ use Rattle.cdl_text.specs.Pieces.{pieces_at, is_section}
 use Rattle.cdl_text.specs.Lexemes.{name_of}
 use Rattle.cdl_tokens.specs.Numerals.{suffix, numeral, parts}
 use Rattle.cdl_text.specs.Shapes.{shape}
-use Rattle.cdl_meaning.specs.State.{act, fits, add_dim, type_of, add_dimid, add_var, at_variable, add_att, capacity_of, add_value}
+use Rattle.cdl_meaning.specs.State.{act, fits, add_dim, type_of, add_dimid, add_var, at_variable, add_att, capacity_of, listing_of}
 use Rattle.cdl_meaning.specs.Meaning.{run, piece_read, meaning, finished, is_small_enough}
 
 -- the file of a text's dataset, and no bytes where the text has a fault
@@ -51,7 +51,7 @@ smallest_file =
     ∷ []
 
 smallest : file_from (meaning (codes "netcdf t {\n}\n") Cdf1) ≡ smallest_file
-unfolding tokens_at scan word_len until unescape_at stands_at character pieces_at is_section word_value is_reserved name_of suffix numeral parts shape act fits add_dim type_of add_dimid add_var at_variable add_att capacity_of add_value fill_value run piece_read finished is_small_enough is_utf8 chars encode word_spelling magic_spelling dim_spelling att_spelling var_spelling header_spelling fill_bytes padded_slab data_of with_begins file_of
+unfolding tokens_at scan word_len until unescape_at stands_at character pieces_at is_section word_value is_reserved name_of suffix numeral parts shape act fits add_dim type_of add_dimid add_var at_variable add_att capacity_of listing_of fill_value run piece_read finished is_small_enough is_utf8 chars encode word_spelling magic_spelling dim_spelling att_spelling var_spelling header_spelling fill_bytes padded_slab data_of with_begins file_of
 smallest = refl
 
 -- three shorts, of which the second is missing
@@ -96,7 +96,7 @@ generated_file =
     ∷ []
 
 generated : file_from (meaning (generated_text) Cdf1) ≡ generated_file
-unfolding tokens_at scan word_len until unescape_at stands_at character pieces_at is_section word_value is_reserved name_of suffix numeral parts shape act fits add_dim type_of add_dimid add_var at_variable add_att capacity_of add_value fill_value run piece_read finished is_small_enough is_utf8 chars encode word_spelling magic_spelling dim_spelling att_spelling var_spelling header_spelling fill_bytes padded_slab data_of with_begins file_of
+unfolding tokens_at scan word_len until unescape_at stands_at character pieces_at is_section word_value is_reserved name_of suffix numeral parts shape act fits add_dim type_of add_dimid add_var at_variable add_att capacity_of listing_of fill_value run piece_read finished is_small_enough is_utf8 chars encode word_spelling magic_spelling dim_spelling att_spelling var_spelling header_spelling fill_bytes padded_slab data_of with_begins file_of
 generated = refl
 
 -- 92 bytes in CDF-2, whose begins have 8 bytes
@@ -137,7 +137,7 @@ generated_in_cdf_2_file =
     ∷ []
 
 generated_in_cdf_2 : file_from (meaning (generated_text) Cdf2) ≡ generated_in_cdf_2_file
-unfolding tokens_at scan word_len until unescape_at stands_at character pieces_at is_section word_value is_reserved name_of suffix numeral parts shape act fits add_dim type_of add_dimid add_var at_variable add_att capacity_of add_value fill_value run piece_read finished is_small_enough is_utf8 chars encode word_spelling magic_spelling dim_spelling att_spelling var_spelling header_spelling fill_bytes padded_slab data_of with_begins file_of
+unfolding tokens_at scan word_len until unescape_at stands_at character pieces_at is_section word_value is_reserved name_of suffix numeral parts shape act fits add_dim type_of add_dimid add_var at_variable add_att capacity_of listing_of fill_value run piece_read finished is_small_enough is_utf8 chars encode word_spelling magic_spelling dim_spelling att_spelling var_spelling header_spelling fill_bytes padded_slab data_of with_begins file_of
 generated_in_cdf_2 = refl
 
 -- a record variable without records: 80 bytes
@@ -174,7 +174,7 @@ no_records_file =
     ∷ []
 
 no_records : file_from (meaning (codes "netcdf t {\ndimensions: t = UNLIMITED ;\nvariables: int v(t) ;\n}\n") Cdf1) ≡ no_records_file
-unfolding tokens_at scan word_len until unescape_at stands_at character pieces_at is_section word_value is_reserved name_of suffix numeral parts shape act fits add_dim type_of add_dimid add_var at_variable add_att capacity_of add_value fill_value run piece_read finished is_small_enough is_utf8 chars encode word_spelling magic_spelling dim_spelling att_spelling var_spelling header_spelling fill_bytes padded_slab data_of with_begins file_of
+unfolding tokens_at scan word_len until unescape_at stands_at character pieces_at is_section word_value is_reserved name_of suffix numeral parts shape act fits add_dim type_of add_dimid add_var at_variable add_att capacity_of listing_of fill_value run piece_read finished is_small_enough is_utf8 chars encode word_spelling magic_spelling dim_spelling att_spelling var_spelling header_spelling fill_bytes padded_slab data_of with_begins file_of
 no_records = refl
 
 -- a rank of 3, and a variable without records after two with: 224 bytes, with begins 184, 188 and 180
@@ -239,7 +239,7 @@ rank_three_file =
     ∷ []
 
 rank_three : file_from (meaning (codes "netcdf t {\ndimensions:\n t = UNLIMITED ;\n y = 2 ;\n x = 2 ;\nvariables:\n int a(t) ;\n int b(t, y, x) ;\n int c ;\ndata:\n a = 10, 20 ;\n b = 1, 2, 3, 4, 5, 6, 7, 8 ;\n c = 7 ;\n}\n") Cdf1) ≡ rank_three_file
-unfolding tokens_at scan word_len until unescape_at stands_at character pieces_at is_section word_value is_reserved name_of suffix numeral parts shape act fits add_dim type_of add_dimid add_var at_variable add_att capacity_of add_value fill_value run piece_read finished is_small_enough is_utf8 chars encode word_spelling magic_spelling dim_spelling att_spelling var_spelling header_spelling fill_bytes padded_slab data_of with_begins file_of
+unfolding tokens_at scan word_len until unescape_at stands_at character pieces_at is_section word_value is_reserved name_of suffix numeral parts shape act fits add_dim type_of add_dimid add_var at_variable add_att capacity_of listing_of fill_value run piece_read finished is_small_enough is_utf8 chars encode word_spelling magic_spelling dim_spelling att_spelling var_spelling header_spelling fill_bytes padded_slab data_of with_begins file_of
 rank_three = refl
 
 -- a sole variable of bytes in records, which have no padding: 83 bytes
@@ -272,7 +272,7 @@ unpadded_records_file =
     ∷ []
 
 unpadded_records : file_from (meaning (codes "netcdf t {\ndimensions:\n t = UNLIMITED ;\nvariables:\n byte b(t) ;\ndata:\n b = 1, 2, 3 ;\n}\n") Cdf1) ≡ unpadded_records_file
-unfolding tokens_at scan word_len until unescape_at stands_at character pieces_at is_section word_value is_reserved name_of suffix numeral parts shape act fits add_dim type_of add_dimid add_var at_variable add_att capacity_of add_value fill_value run piece_read finished is_small_enough is_utf8 chars encode word_spelling magic_spelling dim_spelling att_spelling var_spelling header_spelling fill_bytes padded_slab data_of with_begins file_of
+unfolding tokens_at scan word_len until unescape_at stands_at character pieces_at is_section word_value is_reserved name_of suffix numeral parts shape act fits add_dim type_of add_dimid add_var at_variable add_att capacity_of listing_of fill_value run piece_read finished is_small_enough is_utf8 chars encode word_spelling magic_spelling dim_spelling att_spelling var_spelling header_spelling fill_bytes padded_slab data_of with_begins file_of
 unpadded_records = refl
 
 -- a second variable of records, and both are padded with fill values: 140 bytes
@@ -319,7 +319,7 @@ padding_returns_file =
     ∷ []
 
 padding_returns : file_from (meaning (codes "netcdf t {\ndimensions:\n t = UNLIMITED ;\nvariables:\n byte b(t) ;\n short s(t) ;\ndata:\n b = 1, 2, 3 ;\n s = 4, 5, 6 ;\n}\n") Cdf1) ≡ padding_returns_file
-unfolding tokens_at scan word_len until unescape_at stands_at character pieces_at is_section word_value is_reserved name_of suffix numeral parts shape act fits add_dim type_of add_dimid add_var at_variable add_att capacity_of add_value fill_value run piece_read finished is_small_enough is_utf8 chars encode word_spelling magic_spelling dim_spelling att_spelling var_spelling header_spelling fill_bytes padded_slab data_of with_begins file_of
+unfolding tokens_at scan word_len until unescape_at stands_at character pieces_at is_section word_value is_reserved name_of suffix numeral parts shape act fits add_dim type_of add_dimid add_var at_variable add_att capacity_of listing_of fill_value run piece_read finished is_small_enough is_utf8 chars encode word_spelling magic_spelling dim_spelling att_spelling var_spelling header_spelling fill_bytes padded_slab data_of with_begins file_of
 padding_returns = refl
 
 -- records of 6 bytes: 114 bytes
@@ -358,7 +358,7 @@ records_off_boundary_file =
     ∷ []
 
 records_off_boundary : file_from (meaning (codes "netcdf t {\ndimensions:\n t = UNLIMITED ;\n y = 3 ;\nvariables:\n short s(t, y) ;\ndata:\n s = 1, 2, 3, 4, 5, 6, 7, 8, 9 ;\n}\n") Cdf1) ≡ records_off_boundary_file
-unfolding tokens_at scan word_len until unescape_at stands_at character pieces_at is_section word_value is_reserved name_of suffix numeral parts shape act fits add_dim type_of add_dimid add_var at_variable add_att capacity_of add_value fill_value run piece_read finished is_small_enough is_utf8 chars encode word_spelling magic_spelling dim_spelling att_spelling var_spelling header_spelling fill_bytes padded_slab data_of with_begins file_of
+unfolding tokens_at scan word_len until unescape_at stands_at character pieces_at is_section word_value is_reserved name_of suffix numeral parts shape act fits add_dim type_of add_dimid add_var at_variable add_att capacity_of listing_of fill_value run piece_read finished is_small_enough is_utf8 chars encode word_spelling magic_spelling dim_spelling att_spelling var_spelling header_spelling fill_bytes padded_slab data_of with_begins file_of
 records_off_boundary = refl
 
 -- strings of an attribute are joined: 52 bytes
@@ -383,7 +383,7 @@ text_attribute_file =
     ∷ []
 
 text_attribute : file_from (meaning (codes "netcdf t {\n\n// global attributes:\n\t\t:note = \"a\\n\",\n\t\t\t\"b\\n\" ;\n}\n") Cdf1) ≡ text_attribute_file
-unfolding tokens_at scan word_len until unescape_at stands_at character pieces_at is_section word_value is_reserved name_of suffix numeral parts shape act fits add_dim type_of add_dimid add_var at_variable add_att capacity_of add_value fill_value run piece_read finished is_small_enough is_utf8 chars encode word_spelling magic_spelling dim_spelling att_spelling var_spelling header_spelling fill_bytes padded_slab data_of with_begins file_of
+unfolding tokens_at scan word_len until unescape_at stands_at character pieces_at is_section word_value is_reserved name_of suffix numeral parts shape act fits add_dim type_of add_dimid add_var at_variable add_att capacity_of listing_of fill_value run piece_read finished is_small_enough is_utf8 chars encode word_spelling magic_spelling dim_spelling att_spelling var_spelling header_spelling fill_bytes padded_slab data_of with_begins file_of
 text_attribute = refl
 
 -- the second of two rows is filled: 100 bytes
@@ -420,7 +420,7 @@ second_row_filled_file =
     ∷ []
 
 second_row_filled : file_from (meaning (codes "netcdf t {\ndimensions:\n x = 2 ;\n y = 1 ;\nvariables:\n char c(x, y) ;\ndata:\n c = \"a\" ;\n}\n") Cdf1) ≡ second_row_filled_file
-unfolding tokens_at scan word_len until unescape_at stands_at character pieces_at is_section word_value is_reserved name_of suffix numeral parts shape act fits add_dim type_of add_dimid add_var at_variable add_att capacity_of add_value fill_value run piece_read finished is_small_enough is_utf8 chars encode word_spelling magic_spelling dim_spelling att_spelling var_spelling header_spelling fill_bytes padded_slab data_of with_begins file_of
+unfolding tokens_at scan word_len until unescape_at stands_at character pieces_at is_section word_value is_reserved name_of suffix numeral parts shape act fits add_dim type_of add_dimid add_var at_variable add_att capacity_of listing_of fill_value run piece_read finished is_small_enough is_utf8 chars encode word_spelling magic_spelling dim_spelling att_spelling var_spelling header_spelling fill_bytes padded_slab data_of with_begins file_of
 second_row_filled = refl
 
 -- two NULs are two records: 82 bytes
@@ -453,7 +453,7 @@ all_nuls_file =
     ∷ []
 
 all_nuls : file_from (meaning (codes "netcdf t {\ndimensions:\n\tt = UNLIMITED ; // (2 currently)\nvariables:\n\tchar c(t) ;\ndata:\n\n c = \"\\000\\000\" ;\n}\n") Cdf1) ≡ all_nuls_file
-unfolding tokens_at scan word_len until unescape_at stands_at character pieces_at is_section word_value is_reserved name_of suffix numeral parts shape act fits add_dim type_of add_dimid add_var at_variable add_att capacity_of add_value fill_value run piece_read finished is_small_enough is_utf8 chars encode word_spelling magic_spelling dim_spelling att_spelling var_spelling header_spelling fill_bytes padded_slab data_of with_begins file_of
+unfolding tokens_at scan word_len until unescape_at stands_at character pieces_at is_section word_value is_reserved name_of suffix numeral parts shape act fits add_dim type_of add_dimid add_var at_variable add_att capacity_of listing_of fill_value run piece_read finished is_small_enough is_utf8 chars encode word_spelling magic_spelling dim_spelling att_spelling var_spelling header_spelling fill_bytes padded_slab data_of with_begins file_of
 all_nuls = refl
 
 -- a fill value of the variable's type fills and pads, and one of another type doesn't: 180 bytes
@@ -510,7 +510,7 @@ own_fill_pads_file =
     ∷ []
 
 own_fill_pads : file_from (meaning (codes "netcdf t {\ndimensions:\n x = 1 ;\nvariables:\n short s(x) ;\n  s:_FillValue = 7s ;\n short u(x) ;\n  u:_FillValue = 7 ;\n}\n") Cdf1) ≡ own_fill_pads_file
-unfolding tokens_at scan word_len until unescape_at stands_at character pieces_at is_section word_value is_reserved name_of suffix numeral parts shape act fits add_dim type_of add_dimid add_var at_variable add_att capacity_of add_value fill_value run piece_read finished is_small_enough is_utf8 chars encode word_spelling magic_spelling dim_spelling att_spelling var_spelling header_spelling fill_bytes padded_slab data_of with_begins file_of
+unfolding tokens_at scan word_len until unescape_at stands_at character pieces_at is_section word_value is_reserved name_of suffix numeral parts shape act fits add_dim type_of add_dimid add_var at_variable add_att capacity_of listing_of fill_value run piece_read finished is_small_enough is_utf8 chars encode word_spelling magic_spelling dim_spelling att_spelling var_spelling header_spelling fill_bytes padded_slab data_of with_begins file_of
 own_fill_pads = refl
 
 -- a sole variable of bytes in records, which have no padding, and one without records, which has: 121 bytes
@@ -555,7 +555,7 @@ records_after_a_block_file =
     ∷ []
 
 records_after_a_block : file_from (meaning (codes "netcdf t {\ndimensions:\n t = UNLIMITED ;\nvariables:\n byte b(t) ;\n byte c ;\ndata:\n b = 1, 2, 3, 4, 5 ;\n c = 9 ;\n}\n") Cdf1) ≡ records_after_a_block_file
-unfolding tokens_at scan word_len until unescape_at stands_at character pieces_at is_section word_value is_reserved name_of suffix numeral parts shape act fits add_dim type_of add_dimid add_var at_variable add_att capacity_of add_value fill_value run piece_read finished is_small_enough is_utf8 chars encode word_spelling magic_spelling dim_spelling att_spelling var_spelling header_spelling fill_bytes padded_slab data_of with_begins file_of
+unfolding tokens_at scan word_len until unescape_at stands_at character pieces_at is_section word_value is_reserved name_of suffix numeral parts shape act fits add_dim type_of add_dimid add_var at_variable add_att capacity_of listing_of fill_value run piece_read finished is_small_enough is_utf8 chars encode word_spelling magic_spelling dim_spelling att_spelling var_spelling header_spelling fill_bytes padded_slab data_of with_begins file_of
 records_after_a_block = refl
 
 -- ---- datasets
@@ -581,7 +581,7 @@ escaped_names : meaning (codes "netcdf t {\nvariables:\n\tint \\data ;\n\t\t\\da
       };
       arrays = (0 ∷ 0 ∷ 0 ∷ 5 ∷ []) ∷ (0 ∷ 6 ∷ []) ∷ [];
     })
-unfolding tokens_at scan word_len until unescape_at stands_at character pieces_at is_section word_value is_reserved name_of suffix numeral parts shape act fits add_dim type_of add_dimid add_var at_variable add_att capacity_of add_value fill_value run piece_read finished is_small_enough is_utf8 chars encode
+unfolding tokens_at scan word_len until unescape_at stands_at character pieces_at is_section word_value is_reserved name_of suffix numeral parts shape act fits add_dim type_of add_dimid add_var at_variable add_att capacity_of listing_of fill_value run piece_read finished is_small_enough is_utf8 chars encode
 escaped_names = refl
 
 -- two rows of shorts and a byte are two records, filled
@@ -596,7 +596,7 @@ records_filled : meaning (codes "netcdf t {\ndimensions: t = UNLIMITED, x = 2 ;\
       };
       arrays = (0 ∷ 1 ∷ 0 ∷ 2 ∷ 0 ∷ 3 ∷ 128 ∷ 1 ∷ []) ∷ (9 ∷ 129 ∷ []) ∷ [];
     })
-unfolding tokens_at scan word_len until unescape_at stands_at character pieces_at is_section word_value is_reserved name_of suffix numeral parts shape act fits add_dim type_of add_dimid add_var at_variable add_att capacity_of add_value fill_value run piece_read finished is_small_enough is_utf8 chars encode
+unfolding tokens_at scan word_len until unescape_at stands_at character pieces_at is_section word_value is_reserved name_of suffix numeral parts shape act fits add_dim type_of add_dimid add_var at_variable add_att capacity_of listing_of fill_value run piece_read finished is_small_enough is_utf8 chars encode
 records_filled = refl
 
 -- numbers of base 16 and 8 for dimensions, joined strings, and a `b` that is a digit
@@ -611,7 +611,7 @@ constants : meaning (codes "netcdf t {\n:a = \"x\", \"y\" ; :b = 0x1b ;\ndimensi
       };
       arrays = [];
     })
-unfolding tokens_at scan word_len until unescape_at stands_at character pieces_at is_section word_value is_reserved name_of suffix numeral parts shape act fits add_dim type_of add_dimid add_var at_variable add_att capacity_of add_value fill_value run piece_read finished is_small_enough is_utf8 chars encode
+unfolding tokens_at scan word_len until unescape_at stands_at character pieces_at is_section word_value is_reserved name_of suffix numeral parts shape act fits add_dim type_of add_dimid add_var at_variable add_att capacity_of listing_of fill_value run piece_read finished is_small_enough is_utf8 chars encode
 constants = refl
 
 -- a suffix after digits of base 16, and a `b` that still is a digit
@@ -626,7 +626,7 @@ constants_of_cdf_5 : meaning (codes "netcdf t {\n:a = 0x1ub ; :b = 0x1b ;\n}\n")
       };
       arrays = [];
     })
-unfolding tokens_at scan word_len until unescape_at stands_at character pieces_at is_section word_value is_reserved name_of suffix numeral parts shape act fits add_dim type_of add_dimid add_var at_variable add_att capacity_of add_value fill_value run piece_read finished is_small_enough is_utf8 chars encode
+unfolding tokens_at scan word_len until unescape_at stands_at character pieces_at is_section word_value is_reserved name_of suffix numeral parts shape act fits add_dim type_of add_dimid add_var at_variable add_att capacity_of listing_of fill_value run piece_read finished is_small_enough is_utf8 chars encode
 constants_of_cdf_5 = refl
 
 -- rows and joined strings, each with what fills it: a fill value of its own, and the default one
@@ -641,7 +641,7 @@ strings_filled : meaning (codes "netcdf t {\ndimensions: t = UNLIMITED, x = 3 ;\
       };
       arrays = codes "azzzzzbcd" ∷ (65 ∷ 66 ∷ 0 ∷ []) ∷ (117 ∷ 118 ∷ 0 ∷ []) ∷ (0 ∷ []) ∷ [];
     })
-unfolding tokens_at scan word_len until unescape_at stands_at character pieces_at is_section word_value is_reserved name_of suffix numeral parts shape act fits add_dim type_of add_dimid add_var at_variable add_att capacity_of add_value fill_value run piece_read finished is_small_enough is_utf8 chars encode
+unfolding tokens_at scan word_len until unescape_at stands_at character pieces_at is_section word_value is_reserved name_of suffix numeral parts shape act fits add_dim type_of add_dimid add_var at_variable add_att capacity_of listing_of fill_value run piece_read finished is_small_enough is_utf8 chars encode
 strings_filled = refl
 
 -- ---- begins and sizes

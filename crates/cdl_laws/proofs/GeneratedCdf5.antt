@@ -14,7 +14,7 @@ use Rattle.cdl_text.specs.Pieces.{pieces_at, is_section}
 use Rattle.cdl_text.specs.Lexemes.{name_of}
 use Rattle.cdl_tokens.specs.Numerals.{suffix, numeral, parts}
 use Rattle.cdl_text.specs.Shapes.{shape}
-use Rattle.cdl_meaning.specs.State.{act, fits, add_dim, type_of, add_dimid, add_var, at_variable, add_att, capacity_of, add_value}
+use Rattle.cdl_meaning.specs.State.{act, fits, add_dim, type_of, add_dimid, add_var, at_variable, add_att, capacity_of, listing_of}
 use Rattle.cdl_meaning.specs.Meaning.{run, piece_read, meaning, finished, is_small_enough}
 use Rattle.cdl_laws.proofs.Generated.{file_from, generated_text}
 
@@ -34,7 +34,7 @@ smallest_in_cdf_5_file =
     ∷ []
 
 smallest_in_cdf_5 : file_from (meaning (codes "netcdf t {\n}\n") Cdf5) ≡ smallest_in_cdf_5_file
-unfolding tokens_at scan word_len until unescape_at stands_at character pieces_at is_section word_value is_reserved name_of suffix numeral parts shape act fits add_dim type_of add_dimid add_var at_variable add_att capacity_of add_value fill_value run piece_read finished is_small_enough is_utf8 chars encode word_spelling magic_spelling dim_spelling att_spelling var_spelling header_spelling fill_bytes padded_slab data_of with_begins file_of
+unfolding tokens_at scan word_len until unescape_at stands_at character pieces_at is_section word_value is_reserved name_of suffix numeral parts shape act fits add_dim type_of add_dimid add_var at_variable add_att capacity_of listing_of fill_value run piece_read finished is_small_enough is_utf8 chars encode word_spelling magic_spelling dim_spelling att_spelling var_spelling header_spelling fill_bytes padded_slab data_of with_begins file_of
 smallest_in_cdf_5 = refl
 
 -- the three shorts in 136 bytes
@@ -75,7 +75,7 @@ generated_in_cdf_5_file =
     ∷ []
 
 generated_in_cdf_5 : file_from (meaning (generated_text) Cdf5) ≡ generated_in_cdf_5_file
-unfolding tokens_at scan word_len until unescape_at stands_at character pieces_at is_section word_value is_reserved name_of suffix numeral parts shape act fits add_dim type_of add_dimid add_var at_variable add_att capacity_of add_value fill_value run piece_read finished is_small_enough is_utf8 chars encode word_spelling magic_spelling dim_spelling att_spelling var_spelling header_spelling fill_bytes padded_slab data_of with_begins file_of
+unfolding tokens_at scan word_len until unescape_at stands_at character pieces_at is_section word_value is_reserved name_of suffix numeral parts shape act fits add_dim type_of add_dimid add_var at_variable add_att capacity_of listing_of fill_value run piece_read finished is_small_enough is_utf8 chars encode word_spelling magic_spelling dim_spelling att_spelling var_spelling header_spelling fill_bytes padded_slab data_of with_begins file_of
 generated_in_cdf_5 = refl
 
 -- a sole variable of unsigned bytes in records, which have no padding: 131 bytes
@@ -114,7 +114,7 @@ unpadded_records_in_cdf_5_file =
     ∷ []
 
 unpadded_records_in_cdf_5 : file_from (meaning (codes "netcdf t {\ndimensions:\n t = UNLIMITED ;\nvariables:\n ubyte b(t) ;\ndata:\n b = 255, 254, 1 ;\n}\n") Cdf5) ≡ unpadded_records_in_cdf_5_file
-unfolding tokens_at scan word_len until unescape_at stands_at character pieces_at is_section word_value is_reserved name_of suffix numeral parts shape act fits add_dim type_of add_dimid add_var at_variable add_att capacity_of add_value fill_value run piece_read finished is_small_enough is_utf8 chars encode word_spelling magic_spelling dim_spelling att_spelling var_spelling header_spelling fill_bytes padded_slab data_of with_begins file_of
+unfolding tokens_at scan word_len until unescape_at stands_at character pieces_at is_section word_value is_reserved name_of suffix numeral parts shape act fits add_dim type_of add_dimid add_var at_variable add_att capacity_of listing_of fill_value run piece_read finished is_small_enough is_utf8 chars encode word_spelling magic_spelling dim_spelling att_spelling var_spelling header_spelling fill_bytes padded_slab data_of with_begins file_of
 unpadded_records_in_cdf_5 = refl
 
 -- fill values of unsigned types, and their suffixes: 240 bytes
@@ -175,5 +175,5 @@ fills_in_cdf_5_file =
     ∷ []
 
 fills_in_cdf_5 : file_from (meaning (codes "netcdf t {\nvariables:\n\tubyte a ;\n\t\ta:_FillValue = 255UB ;\n\tuint64 b ;\n\t\tb:r = 0ULL, 18446744073709551615ULL ;\ndata:\n\n a = _ ;\n\n b = _ ;\n}\n") Cdf5) ≡ fills_in_cdf_5_file
-unfolding tokens_at scan word_len until unescape_at stands_at character pieces_at is_section word_value is_reserved name_of suffix numeral parts shape act fits add_dim type_of add_dimid add_var at_variable add_att capacity_of add_value fill_value run piece_read finished is_small_enough is_utf8 chars encode word_spelling magic_spelling dim_spelling att_spelling var_spelling header_spelling fill_bytes padded_slab data_of with_begins file_of
+unfolding tokens_at scan word_len until unescape_at stands_at character pieces_at is_section word_value is_reserved name_of suffix numeral parts shape act fits add_dim type_of add_dimid add_var at_variable add_att capacity_of listing_of fill_value run piece_read finished is_small_enough is_utf8 chars encode word_spelling magic_spelling dim_spelling att_spelling var_spelling header_spelling fill_bytes padded_slab data_of with_begins file_of
 fills_in_cdf_5 = refl

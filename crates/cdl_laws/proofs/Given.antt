@@ -1,8 +1,10 @@
 -- The array of a variable is given back by the text of its values.
-use Rattle.std.proofs.Common.{◌≡◌, ℕ, zero, suc, ◌+◌, ◌*◌, ◌<◌, ◌≤◌, Bool, true, false, List, [], ◌∷◌, ◌++◌, length, drop, take, map, sym, ◌∙◌, ap, refl, subst, arith, length-take, length-drop}
-use Rattle.std.specs.Prelude.{ℤ, pos, negsuc, ◌&&◌, ◌==◌, not, if◌then◌else◌, nat_lt, find, None, Some}
+use Rattle.std.proofs.Common.{◌≡◌, ℕ, zero, suc, ◌+◌, ◌*◌, ◌-◌, ◌<◌, ◌≤◌, Bool, true, false, List, [], ◌∷◌, ◌++◌, length, drop, take, map, sym, ◌∙◌, ap, refl, subst, arith, length-take, length-drop}
+use Rattle.std.specs.Prelude.{ℤ, pos, negsuc, ◌&&◌, ◌==◌, not, if◌then◌else◌, nat_lt, slice_index, find, None, Some}
 use Rattle.std.specs.List.{flat_map}
 use Rattle.std.specs.Ordering.{int_eq}
+use Rattle.std.proofs.Math.Nat.{lt_of_mul-lt-mul_right}
+use Rattle.std.proofs.lemmas.Bool.{false≢true}
 use Rattle.std.proofs.lemmas.Bool.Decides.{Decides-int_eq}
 use Rattle.std.proofs.lemmas.Int.{ints}
 use Rattle.std.proofs.lemmas.List.{take-append-drop}
@@ -17,10 +19,10 @@ use Rattle.nc_base.specs.Fill.{fill_value, fill_of_att, fill_or_default, is_fill
 use Rattle.nc_base.specs.Headers.{value_count, IsArray}
 use Rattle.nc_base.specs.Names.{IsName}
 use Rattle.nc_base.specs.Numbers.{numbers, bytes_of_number, IsInRange}
-use Rattle.nc_base.specs.Sizes.{is_record_var, slab_count}
-use Rattle.nc_base.specs.ValueText.{Look, look_of, is_char}
+use Rattle.nc_base.specs.Sizes.{dim_len, has_records, is_record_var, product, slab_count, slab_lens}
+use Rattle.nc_base.specs.ValueText.{Look, look_of, is_char, row_len}
 use Rattle.nc_base.specs.Sayable.{trimmed_att, trimmed_var}
-use Rattle.cdl_meaning.specs.State.{capacity_of, filled, fits}
+use Rattle.cdl_meaning.specs.State.{capacity_of, filled, fits, values_in}
 use Rattle.cdl_meaning.specs.Meaning.{array_of}
 use Rattle.cdl_laws.proofs.Attributes.{numbers_back, numbers_range, all_fit, all_small, count_is, numbers_len}
 use Rattle.cdl_laws.proofs.Bools.{and_left, off}
@@ -126,6 +128,41 @@ listed_line v h var n width (x ∷ xs) some len range char name fill rank whole 
 
 -- ---- characters at rank 2 and up
 
+-- the last dimension divides
+last_divides : (f : ℕ → ℕ) (x : ℕ) (xs : List ℕ) → product (map f (x ∷ xs)) ≡ product (map f (take (length xs) (x ∷ xs))) * f (slice_index (x ∷ xs) (length xs))
+last_divides f x [] = let e : f x * 1 ≡ 1 * f x = omega arith in e
+last_divides f x (y ∷ ys) =
+    let p = product (map f (take (length ys) (y ∷ ys))) in
+    ap (λ n. f x * n) (last_divides f y ys) ∙ (let g : f x * (p * f (slice_index (y ∷ ys) (length ys))) ≡ f x * p * f (slice_index (y ∷ ys) (length ys)) = grind arith in g)
+
+last_place : (n : ℕ) → suc (suc n) - 1 ≡ suc n
+last_place n = omega arith
+
+-- a slab is rows, which all dimensions but the last count where none of them is the record dimension
+pub record HasRows (dims : List Dim) (ids : List ℕ) : Type 0 where
+  pub rows : ℕ
+  pub whole : product (slab_lens dims ids) ≡ rows * row_len dims ids 0
+  pub all : has_records dims ids ≡ false → rows ≡ product (map (dim_len dims) (take (length ids - 1) ids))
+
+pub slab_rows : (dims : List Dim) (ids : List ℕ) → nat_lt (length ids) 2 ≡ false → HasRows dims ids
+slab_rows dims [] h = cc
+slab_rows dims (a ∷ []) h = cc
+slab_rows dims (a ∷ b ∷ ids) h = by (has_records dims (a ∷ b ∷ ids)) refl
+  where
+    f : ℕ → ℕ
+    f = dim_len dims
+
+    row : f (slice_index (b ∷ ids) (length ids)) ≡ row_len dims (a ∷ b ∷ ids) 0
+    row = sym (rw (h) (ap (λ k. f (slice_index (a ∷ b ∷ ids) k)) (last_place (length ids))))
+
+    by : (is : Bool) → has_records dims (a ∷ b ∷ ids) ≡ is → HasRows dims (a ∷ b ∷ ids)
+    by true is =
+        let n = product (map f (take (length ids) (b ∷ ids))) in
+        record { rows = n; whole = rw (is) (last_divides f b ids ∙ ap (λ m. n * m) row); all = λ no. absurd (false≢true (sym no ∙ is)) }
+    by false is =
+        let n = product (map f (take (suc (length ids)) (a ∷ b ∷ ids))) in
+        record { rows = n; whole = rw (is) (last_divides f a (b ∷ ids) ∙ ap (λ m. n * m) row); all = λ no. ap (λ k. product (map f (take k (a ∷ b ∷ ids)))) (sym (last_place (length ids))) }
+
 rows_of : ℕ → ℕ → List ℤ → List (List ℤ)
 rows_of zero row xs = []
 rows_of (suc k) row xs = take row xs ∷ rows_of k row (drop row xs)
@@ -156,9 +193,31 @@ rows_are (suc k) row xs h all =
       rows_are k row (drop row xs) (let e = length-drop row xs in omega (arith, e, g, h)) (each_drop IsCharacter row xs all),
     )
 
+rank_two : (h : Header) (var : Var) (n width : ℕ) → (look_of h var n width).in_rows ≡ true → nat_lt (length var.dimids) 2 ≡ false
+unfolding look_of
+rank_two h var n width e = off (nat_lt (length var.dimids) 2) e
+
 rank_row : (h : Header) (var : Var) (n width : ℕ) → (look_of h var n width).in_rows ≡ true → (look_of h var n width).row ≡ (capacity_of h.dims (trimmed_var var)).row
 unfolding look_of capacity_of
 rank_row h var n width e = let f = off (nat_lt (length var.dimids) 2) e in rw (f) refl
+
+rows_len : (k row : ℕ) (xs : List ℤ) → length (rows_of k row xs) ≡ k
+unfolding rows_of
+rows_len zero row xs = refl
+rows_len (suc k) row xs = ap suc (rows_len k row (drop row xs))
+
+rows_within : (h : Header) (var : Var) (n width k : ℕ) → (look_of h var n width).in_rows ≡ true → suc k * (look_of h var n width).row ≡ value_count h.dims var n → 0 < (look_of h var n width).row →
+    (capacity_of h.dims (trimmed_var var)).is_open ≡ false → suc k ≤ (capacity_of h.dims (trimmed_var var)).rows
+unfolding capacity_of
+rows_within h var n width k rank split some closed =
+    let r = slab_rows h.dims var.dimids (rank_two h var n width rank) in
+    let row = row_len h.dims var.dimids 0 in
+    let same : (look_of h var n width).row ≡ row = rank_row h var n width rank in
+    let all : suc k * row ≡ r.rows * row = ap (λ m. suc k * m) (sym same) ∙ split ∙ ap (λ w. slab_count h.dims var * (if w then n else 1)) closed ∙ (let one : slab_count h.dims var * 1 ≡ slab_count h.dims var = omega arith in one) ∙ r.whole in
+    let next : suc r.rows * row ≡ r.rows * row + row = grind arith in
+    let less = lt_of_mul-lt-mul_right row {m = suc k} {n = suc r.rows} (let e : suc k * row < suc r.rows * row = omega (arith, all, next, same, some) in e) in
+    let count = r.all closed in
+    omega (arith, less, count)
 
 look_fill : (h : Header) (var : Var) (n width : ℕ) → (look_of h var n width).fill ≡ fill_value var
 unfolding look_of
@@ -172,15 +231,16 @@ listed_table v h var n width k xs split some len range char name fill rank =
     let same = flat_rows (suc k) look.row xs split in
     subst (λ ys. Gives v h.dims look var ys) same
     (gives_table v h.dims look var (take look.row xs) (rows_of k look.row (drop look.row xs)) (room_is h var n width (length (flat (rows_of (suc k) look.row xs))) (ap (λ (ys : List ℤ). length ys) same ∙ len) name fill) (ap is_char (look_type h var n width) ∙ char) rank
-    (λ e. look_fill h var n width ∙ trimmed_fill h var n width e) (rank_row h var n width rank) some (rows_are (suc k) look.row xs split (are_characters var.ty xs char range)))
+    (λ e. look_fill h var n width ∙ trimmed_fill h var n width e) (rank_row h var n width rank) some
+    (λ closed. let few = rows_within h var n width k rank (sym split ∙ len) some closed in let m = rows_len k look.row (drop look.row xs) in omega (arith, few, m)) (rows_are (suc k) look.row xs split (are_characters var.ty xs char range)))
 
 -- ---- arrays
 
 -- a listed variable has its array again
 array_valued : (v : Version) (dims : List Dim) (look : Look) (var : Var) (values : List ℤ) (n : ℕ) (array : List ℕ) (g : Gives v dims look var values) → length values ≡ value_count dims var n → flat_map (bytes_of_number var.ty) values ≡ array →
-    array_of dims n (given_draft var (Some g.ys)) ≡ array
+    array_of dims n (given_draft var (Some g.listing)) ≡ array
 array_valued v dims look var values n array g len bytes =
-    ap (λ m. flat_map (bytes_of_number var.ty) (filled m (fill_value (trimmed_var var)) g.ys)) (sym len) ∙ ap (flat_map (bytes_of_number var.ty)) g.full ∙ bytes
+    ap (λ m. flat_map (bytes_of_number var.ty) (filled m (fill_value (trimmed_var var)) (values_in (capacity_of dims (trimmed_var var)) g.listing))) (sym len) ∙ ap (flat_map (bytes_of_number var.ty)) g.full ∙ bytes
 
 -- and one without values has none
 pub array_none : (dims : List Dim) (var : Var) (n : ℕ) → value_count dims var n ≡ 0 → array_of dims n (given_draft var None) ≡ []
@@ -201,7 +261,7 @@ array_range dims n var array is =
 
 -- the array of a number variable is read back: all of it, for every width and wherever the breaks are
 pub number_row_reads_back : (v : Version) (h : Header) (var : Var) (n width : ℕ) (array : List ℕ) → IsArray h.dims n var array → 0 < value_count h.dims var n → is_char var.ty ≡ false → IsName var.name →
-    (g : Gives v h.dims (look_of h var n width) var (numbers var.ty array)) × (array_of h.dims n (given_draft var (Some g.ys)) ≡ array)
+    (g : Gives v h.dims (look_of h var n width) var (numbers var.ty array)) × (array_of h.dims n (given_draft var (Some g.listing)) ≡ array)
 number_row_reads_back v h var n width array is some other name =
     let len = array_len h.dims n var array is in
     let g = listed_numbers v h var n width (numbers var.ty array) (omega (arith, len, some)) len (array_range h.dims n var array is) other name in
@@ -210,7 +270,7 @@ number_row_reads_back v h var n width array is some other name =
 -- that of a variable of characters at rank 0 or 1
 pub line_reads_back : (v : Version) (h : Header) (var : Var) (n width : ℕ) (array : List ℕ) → IsArray h.dims n var array → 0 < value_count h.dims var n → is_char var.ty ≡ true → IsName var.name → fill_value (trimmed_var var) ≡ fill_value var →
     (look_of h var n width).in_rows ≡ false → (is_record_var h.dims var ≡ true → (look_of h var n width).trimmed ≡ false) →
-    (g : Gives v h.dims (look_of h var n width) var (numbers var.ty array)) × (array_of h.dims n (given_draft var (Some g.ys)) ≡ array)
+    (g : Gives v h.dims (look_of h var n width) var (numbers var.ty array)) × (array_of h.dims n (given_draft var (Some g.listing)) ≡ array)
 line_reads_back v h var n width array is some char name fill rank whole =
     let len = array_len h.dims n var array is in
     let g = listed_line v h var n width (numbers var.ty array) (omega (arith, len, some)) len (array_range h.dims n var array is) char name fill rank whole in
@@ -219,7 +279,7 @@ line_reads_back v h var n width array is some char name fill rank whole =
 -- and that of one at rank 2 and up, where the rows divide it
 pub table_reads_back : (v : Version) (h : Header) (var : Var) (n width k : ℕ) (array : List ℕ) → IsArray h.dims n var array → value_count h.dims var n ≡ suc k * (look_of h var n width).row → 0 < (look_of h var n width).row → is_char var.ty ≡ true → IsName var.name →
     fill_value (trimmed_var var) ≡ fill_value var → (look_of h var n width).in_rows ≡ true →
-    (g : Gives v h.dims (look_of h var n width) var (numbers var.ty array)) × (array_of h.dims n (given_draft var (Some g.ys)) ≡ array)
+    (g : Gives v h.dims (look_of h var n width) var (numbers var.ty array)) × (array_of h.dims n (given_draft var (Some g.listing)) ≡ array)
 table_reads_back v h var n width k array is split some char name fill rank =
     let len = array_len h.dims n var array is in
     let g = listed_table v h var n width k (numbers var.ty array) (len ∙ split) some len (array_range h.dims n var array is) char name fill rank in

@@ -23,7 +23,7 @@ use Rattle.cdl_text.specs.Pieces.{pieces_at, is_section}
 use Rattle.cdl_text.specs.Lexemes.{name_of}
 use Rattle.cdl_tokens.specs.Numerals.{suffix, numeral, parts}
 use Rattle.cdl_text.specs.Shapes.{shape}
-use Rattle.cdl_meaning.specs.State.{State, Draft, act, fits, add_dim, type_of, add_dimid, add_var, at_variable, add_att, capacity_of, add_value}
+use Rattle.cdl_meaning.specs.State.{State, Draft, Numbers, act, fits, add_dim, type_of, add_dimid, add_var, at_variable, add_att, capacity_of, listing_of}
 use Rattle.cdl_meaning.specs.Meaning.{text_limit, run, piece_read, meaning, finished, is_small_enough}
 
 -- ---- which fault comes first
@@ -45,7 +45,7 @@ first_faults : map (λ text. fault (meaning (codes "netcdf t {\n" ++ (text ++ co
     ∷ at 2 DuplicateName
     ∷ at 2 DuplicateName
     ∷ []
-unfolding tokens_at scan word_len until unescape_at stands_at character pieces_at is_section word_value is_reserved name_of suffix numeral parts shape act fits add_dim type_of add_dimid add_var at_variable add_att capacity_of add_value fill_value run piece_read finished is_small_enough is_utf8 chars encode
+unfolding tokens_at scan word_len until unescape_at stands_at character pieces_at is_section word_value is_reserved name_of suffix numeral parts shape act fits add_dim type_of add_dimid add_var at_variable add_att capacity_of listing_of fill_value run piece_read finished is_small_enough is_utf8 chars encode
 first_faults = refl
 
 -- ---- datasets
@@ -61,7 +61,7 @@ long_is_int : meaning (codes "netcdf t {\nvariables: long v ;\n}\n") Cdf1
       header = record { version = Cdf1; numrecs = Known 0; dims = []; gatts = []; vars = var (codes "v") [] Int ∷ [] };
       arrays = (128 ∷ 0 ∷ 0 ∷ 1 ∷ []) ∷ [];
     })
-unfolding tokens_at scan word_len until unescape_at stands_at character pieces_at is_section word_value is_reserved name_of suffix numeral parts shape act fits add_dim type_of add_dimid add_var at_variable add_att capacity_of add_value fill_value run piece_read finished is_small_enough is_utf8 chars encode
+unfolding tokens_at scan word_len until unescape_at stands_at character pieces_at is_section word_value is_reserved name_of suffix numeral parts shape act fits add_dim type_of add_dimid add_var at_variable add_att capacity_of listing_of fill_value run piece_read finished is_small_enough is_utf8 chars encode
 long_is_int = refl
 
 -- the strings of a variable of rank 1 or 0, one after the other
@@ -76,7 +76,7 @@ joined_strings : meaning (codes "netcdf t {\ndimensions: x = 3, t = UNLIMITED ;\
       };
       arrays = codes "abc" ∷ codes "abcd" ∷ codes "f" ∷ [];
     })
-unfolding tokens_at scan word_len until unescape_at stands_at character pieces_at is_section word_value is_reserved name_of suffix numeral parts shape act fits add_dim type_of add_dimid add_var at_variable add_att capacity_of add_value fill_value run piece_read finished is_small_enough is_utf8 chars encode
+unfolding tokens_at scan word_len until unescape_at stands_at character pieces_at is_section word_value is_reserved name_of suffix numeral parts shape act fits add_dim type_of add_dimid add_var at_variable add_att capacity_of listing_of fill_value run piece_read finished is_small_enough is_utf8 chars encode
 joined_strings = refl
 
 -- ---- sizes
@@ -94,7 +94,7 @@ after drafts = record {
 }
 
 abbrev draft : List ℕ → List ℕ → NcType → List ℤ → Draft
-draft name ids ty values = record { var = var name ids ty; listed = Some values }
+draft name ids ty values = record { var = var name ids ty; listed = Some (Numbers values) }
 
 abbrev fits_limits : List (List Draft) → List Bool
 fits_limits drafts = map (λ ds. is_small_enough Cdf1 (after ds)) drafts

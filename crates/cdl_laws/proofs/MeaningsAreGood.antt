@@ -168,33 +168,33 @@ records_small : (v : Version) (N n : ℕ) (dims : List Dim) (d : Draft) → IsFi
 records_small v N n dims d f =
     let slab = slab_count dims d.var in
     let some = slab_some dims d.var f.shape in
-    elim (is_record_var dims d.var) as (λ b. length (values_of d) ≤ slab * (if b then N else 1) → (if b then (length (values_of d) + slab - 1) / slab else 0) ≤ N) [
+    elim (is_record_var dims d.var) as (λ b. length (values_of dims d) ≤ slab * (if b then N else 1) → (if b then (length (values_of dims d) + slab - 1) / slab else 0) ≤ N) [
       | true ↦ (λ h.
           let a = one_times N slab in
           let c = mul_comm slab N in
-          let e = (div-lt_iff_lt-mul {k = slab} {x = length (values_of d) + slab - 1} {y = suc N} some).1 (omega (arith, a, c, h, some)) in
+          let e = (div-lt_iff_lt-mul {k = slab} {x = length (values_of dims d) + slab - 1} {y = suc N} some).1 (omega (arith, a, c, h, some)) in
           omega (arith, e))
       | false ↦ (λ h. omega arith)
-    ] f.listed
+    ] (f.listed d.var.atts)
 
 all_records_small : (v : Version) (N n : ℕ) (dims : List Dim) (ds : List Draft) → Each (IsFineDraft v N n dims) ds → records_in dims ds ≤ N
 all_records_small v N n dims [] f = omega arith
 all_records_small v N n dims (d ∷ ds) f = let a = records_small v N n dims d f.0 in let b = all_records_small v N n dims ds f.1 in omega (arith, a, b)
 
 -- what is listed has capacity over the records
-listed_fits : (v : Version) (N n : ℕ) (dims : List Dim) (r : ℕ) (d : Draft) → IsFineDraft v N n dims d → records_of dims d ≤ r → length (values_of d) ≤ value_count dims d.var r
+listed_fits : (v : Version) (N n : ℕ) (dims : List Dim) (r : ℕ) (d : Draft) → IsFineDraft v N n dims d → records_of dims d ≤ r → length (values_of dims d) ≤ value_count dims d.var r
 listed_fits v N n dims r d f h =
     let slab = slab_count dims d.var in
     let some = slab_some dims d.var f.shape in
-    elim (is_record_var dims d.var) as (λ b. length (values_of d) ≤ slab * (if b then N else 1) → (if b then (length (values_of d) + slab - 1) / slab else 0) ≤ r → length (values_of d) ≤ slab * (if b then r else 1)) [
+    elim (is_record_var dims d.var) as (λ b. length (values_of dims d) ≤ slab * (if b then N else 1) → (if b then (length (values_of dims d) + slab - 1) / slab else 0) ≤ r → length (values_of dims d) ≤ slab * (if b then r else 1)) [
       | true ↦ (λ l k.
-          let q = (length (values_of d) + slab - 1) / slab in
-          let a = lt-div-mul-add {a = length (values_of d) + slab - 1} {b = slab} some in
+          let q = (length (values_of dims d) + slab - 1) / slab in
+          let a = lt-div-mul-add {a = length (values_of dims d) + slab - 1} {b = slab} some in
           let b = mul-le-mul_left slab k in
           let c = mul_comm slab q in
           omega (arith, a, b, c, some))
       | false ↦ (λ l k. l)
-    ] f.listed h
+    ] (f.listed d.var.atts) h
 
 bytes_each : (bs : List ℕ) → AreBytes bs → Each IsByte bs
 bytes_each [] h = tt
@@ -232,9 +232,9 @@ each_small dims r (d ∷ ds) h =
 array_is : (v : Version) (N n : ℕ) (dims : List Dim) (r : ℕ) (d : Draft) → IsFineDraft v N n dims d → IsSmall dims r d → records_of dims d ≤ r → IsArray dims r d.var (array_of dims r d)
 array_is v N n dims r d f small h =
     let count = value_count dims d.var r in
-    let all = filled count (fill_value d.var) (values_of d) in
+    let all = filled count (fill_value d.var) (values_of dims d) in
     let len : length (array_of dims r d) ≡ count * size_of d.var.ty =
-    numbers_len d.var.ty all ∙ ap (λ m. m * size_of d.var.ty) (filled_len count (fill_value d.var) (values_of d) (listed_fits v N n dims r d f h)) in
+    numbers_len d.var.ty all ∙ ap (λ m. m * size_of d.var.ty) (filled_len count (fill_value d.var) (values_of dims d) (listed_fits v N n dims r d f h)) in
     record {
       bytes = are_bytes (array_of dims r d) (numbers_bytes d.var.ty all);
       whole = len;
@@ -341,7 +341,7 @@ no_records : (dims : List Dim) (ds : List Draft) → record_vars dims (map (λ (
 no_records dims [] h = refl
 no_records dims (d ∷ ds) h =
     elim (is_record_var dims d.var) as (λ b. (if b then d.var ∷ record_vars dims (map (λ (e : Draft). e.var) ds) else record_vars dims (map (λ (e : Draft). e.var) ds)) ≡ [] →
-    max (if b then (length (values_of d) + slab_count dims d.var - 1) / slab_count dims d.var else 0) (records_in dims ds) ≡ 0) [
+    max (if b then (length (values_of dims d) + slab_count dims d.var - 1) / slab_count dims d.var else 0) (records_in dims ds) ≡ 0) [
       | true ↦ (λ e. absurd (let a = ap (λ (xs : List Var). length xs) e in omega (arith, a)))
       | false ↦ (λ e. let a = no_records dims ds e in omega (arith, a))
     ] h

@@ -17,7 +17,7 @@ use Rattle.cdl_text.specs.Pieces.{pieces_at, is_section}
 use Rattle.cdl_text.specs.Lexemes.{name_of}
 use Rattle.cdl_tokens.specs.Numerals.{suffix, numeral, parts}
 use Rattle.cdl_text.specs.Shapes.{shape}
-use Rattle.cdl_meaning.specs.State.{act, fits, add_dim, type_of, add_dimid, add_var, at_variable, add_att, capacity_of, add_value}
+use Rattle.cdl_meaning.specs.State.{act, fits, add_dim, type_of, add_dimid, add_var, at_variable, add_att, capacity_of, listing_of}
 use Rattle.cdl_meaning.specs.Meaning.{run, piece_read, meaning, finished, is_small_enough}
 
 -- the fault of a text that has one
@@ -78,7 +78,7 @@ attributes : faults (codes "netcdf t {\n") (
     ∷ at 2 Syntax
     ∷ at 2 Syntax
     ∷ []
-unfolding tokens_at scan word_len until unescape_at stands_at character pieces_at is_section word_value is_reserved name_of suffix numeral parts shape act fits add_dim type_of add_dimid add_var at_variable add_att capacity_of add_value fill_value run piece_read finished is_small_enough is_utf8 chars encode
+unfolding tokens_at scan word_len until unescape_at stands_at character pieces_at is_section word_value is_reserved name_of suffix numeral parts shape act fits add_dim type_of add_dimid add_var at_variable add_att capacity_of listing_of fill_value run piece_read finished is_small_enough is_utf8 chars encode
 attributes = refl
 
 -- a dimension: its name, `=`, its length and the commas between dimensions
@@ -125,7 +125,7 @@ dimensions : faults (codes "netcdf t {\ndimensions: ") (
     ∷ at 2 Syntax
     ∷ at 2 Syntax
     ∷ []
-unfolding tokens_at scan word_len until unescape_at stands_at character pieces_at is_section word_value is_reserved name_of suffix numeral parts shape act fits add_dim type_of add_dimid add_var at_variable add_att capacity_of add_value fill_value run piece_read finished is_small_enough is_utf8 chars encode
+unfolding tokens_at scan word_len until unescape_at stands_at character pieces_at is_section word_value is_reserved name_of suffix numeral parts shape act fits add_dim type_of add_dimid add_var at_variable add_att capacity_of listing_of fill_value run piece_read finished is_small_enough is_utf8 chars encode
 dimensions = refl
 
 -- a declaration: its type, its names and their dimensions in parentheses
@@ -188,7 +188,7 @@ declarations : faults (codes "netcdf t {\ndimensions: x = 2, y = 3 ;\nvariables:
     ∷ at 3 Syntax
     ∷ at 3 Syntax
     ∷ []
-unfolding tokens_at scan word_len until unescape_at stands_at character pieces_at is_section word_value is_reserved name_of suffix numeral parts shape act fits add_dim type_of add_dimid add_var at_variable add_att capacity_of add_value fill_value run piece_read finished is_small_enough is_utf8 chars encode
+unfolding tokens_at scan word_len until unescape_at stands_at character pieces_at is_section word_value is_reserved name_of suffix numeral parts shape act fits add_dim type_of add_dimid add_var at_variable add_att capacity_of listing_of fill_value run piece_read finished is_small_enough is_utf8 chars encode
 declarations = refl
 
 -- an attribute of a variable
@@ -225,7 +225,7 @@ attributes_of_variables : faults (codes "netcdf t {\nvariables: int v ; ") (
     ∷ at 2 Syntax
     ∷ at 2 Syntax
     ∷ []
-unfolding tokens_at scan word_len until unescape_at stands_at character pieces_at is_section word_value is_reserved name_of suffix numeral parts shape act fits add_dim type_of add_dimid add_var at_variable add_att capacity_of add_value fill_value run piece_read finished is_small_enough is_utf8 chars encode
+unfolding tokens_at scan word_len until unescape_at stands_at character pieces_at is_section word_value is_reserved name_of suffix numeral parts shape act fits add_dim type_of add_dimid add_var at_variable add_att capacity_of listing_of fill_value run piece_read finished is_small_enough is_utf8 chars encode
 attributes_of_variables = refl
 
 -- the values of a variable
@@ -268,7 +268,7 @@ values : faults (codes "netcdf t {\ndimensions: x = 2 ;\nvariables: int v(x) ;\n
     ∷ at 4 Syntax
     ∷ at 4 Syntax
     ∷ []
-unfolding tokens_at scan word_len until unescape_at stands_at character pieces_at is_section word_value is_reserved name_of suffix numeral parts shape act fits add_dim type_of add_dimid add_var at_variable add_att capacity_of add_value fill_value run piece_read finished is_small_enough is_utf8 chars encode
+unfolding tokens_at scan word_len until unescape_at stands_at character pieces_at is_section word_value is_reserved name_of suffix numeral parts shape act fits add_dim type_of add_dimid add_var at_variable add_att capacity_of listing_of fill_value run piece_read finished is_small_enough is_utf8 chars encode
 values = refl
 
 -- marks of sections, and the closing brace
@@ -309,5 +309,5 @@ marks : faults (codes "netcdf t {\n") (
     ∷ at 2 BadToken
     ∷ at 2 BadToken
     ∷ []
-unfolding tokens_at scan word_len until unescape_at stands_at character pieces_at is_section word_value is_reserved name_of suffix numeral parts shape act fits add_dim type_of add_dimid add_var at_variable add_att capacity_of add_value fill_value run piece_read finished is_small_enough is_utf8 chars encode
+unfolding tokens_at scan word_len until unescape_at stands_at character pieces_at is_section word_value is_reserved name_of suffix numeral parts shape act fits add_dim type_of add_dimid add_var at_variable add_att capacity_of listing_of fill_value run piece_read finished is_small_enough is_utf8 chars encode
 marks = refl

@@ -20,7 +20,7 @@ use Rattle.cdl_text.specs.Statements.{statements}
 use Rattle.cdl_text.specs.Lexemes.{name_of}
 use Rattle.cdl_tokens.specs.Numerals.{suffix, numeral, parts}
 use Rattle.cdl_text.specs.Shapes.{shape}
-use Rattle.cdl_meaning.specs.State.{act, fits, add_dim, type_of, add_dimid, add_var, at_variable, add_att, capacity_of, add_value}
+use Rattle.cdl_meaning.specs.State.{act, fits, add_dim, type_of, add_dimid, add_var, at_variable, add_att, capacity_of, listing_of}
 use Rattle.cdl_meaning.specs.Meaning.{run, piece_read, meaning, finished, is_small_enough}
 
 -- ---- how faults are written down
@@ -49,7 +49,7 @@ one_short = codes "netcdf t {\ndimensions: x = 3 ;\nvariables: short s(x) ;\ndat
 -- a floating constant, a number that is too great, and a value too many
 values_of_a_short : faults Cdf1 one_short (codes "\n}\n") (codes " s = 1.5 ;" ∷ codes " s = 40000 ;" ∷ codes " s = 1, 2, 3, 4 ;" ∷ [])
     ≡ at 5 BadNumber ∷ at 5 NumberRange ∷ at 5 TooManyValues ∷ []
-unfolding tokens_at scan word_len until unescape_at stands_at character pieces_at is_section word_value is_reserved name_of suffix numeral parts shape act fits add_dim type_of add_dimid add_var at_variable add_att capacity_of add_value fill_value run piece_read finished is_small_enough is_utf8 chars encode
+unfolding tokens_at scan word_len until unescape_at stands_at character pieces_at is_section word_value is_reserved name_of suffix numeral parts shape act fits add_dim type_of add_dimid add_var at_variable add_att capacity_of listing_of fill_value run piece_read finished is_small_enough is_utf8 chars encode
 values_of_a_short = refl
 
 abbrev short_and_char : List ℕ
@@ -74,12 +74,12 @@ values_of_a_short_and_a_char : faults Cdf1 short_and_char (codes "\n}\n") (
     ∷ at 5 StringTooLong
     ∷ at 5 DuplicateData
     ∷ []
-unfolding tokens_at scan word_len until unescape_at stands_at character pieces_at is_section word_value is_reserved name_of suffix numeral parts shape act fits add_dim type_of add_dimid add_var at_variable add_att capacity_of add_value fill_value run piece_read finished is_small_enough is_utf8 chars encode
+unfolding tokens_at scan word_len until unescape_at stands_at character pieces_at is_section word_value is_reserved name_of suffix numeral parts shape act fits add_dim type_of add_dimid add_var at_variable add_att capacity_of listing_of fill_value run piece_read finished is_small_enough is_utf8 chars encode
 values_of_a_short_and_a_char = refl
 
 -- the second of two rows of one character has two
 second_string_too_long : faults Cdf1 [] [] (codes "netcdf t {\ndimensions: x = 2, y = 1 ;\nvariables: char c(x, y) ;\ndata:\nc = \"a\", \"ab\" ;\n}\n" ∷ []) ≡ at 5 StringTooLong ∷ []
-unfolding tokens_at scan word_len until unescape_at stands_at character pieces_at is_section word_value is_reserved name_of suffix numeral parts shape act fits add_dim type_of add_dimid add_var at_variable add_att capacity_of add_value fill_value run piece_read finished is_small_enough is_utf8 chars encode
+unfolding tokens_at scan word_len until unescape_at stands_at character pieces_at is_section word_value is_reserved name_of suffix numeral parts shape act fits add_dim type_of add_dimid add_var at_variable add_att capacity_of listing_of fill_value run piece_read finished is_small_enough is_utf8 chars encode
 second_string_too_long = refl
 
 -- ---- declarations
@@ -100,22 +100,22 @@ declarations : faults Cdf1 (codes "netcdf t {\ndimensions: x = 3, t = UNLIMITED 
     ∷ at 3 DuplicateName
     ∷ at 3 MixedConstants
     ∷ []
-unfolding tokens_at scan word_len until unescape_at stands_at character pieces_at is_section word_value is_reserved name_of suffix numeral parts shape act fits add_dim type_of add_dimid add_var at_variable add_att capacity_of add_value fill_value run piece_read finished is_small_enough is_utf8 chars encode
+unfolding tokens_at scan word_len until unescape_at stands_at character pieces_at is_section word_value is_reserved name_of suffix numeral parts shape act fits add_dim type_of add_dimid add_var at_variable add_att capacity_of listing_of fill_value run piece_read finished is_small_enough is_utf8 chars encode
 declarations = refl
 
 -- a second record dimension, in the place of the dimensions
 two_record_dimensions : faults Cdf1 [] [] (codes "netcdf t {\ndimensions: t = UNLIMITED, u = UNLIMITED ;\nvariables: short s(x) ; char c(t, x) ;\ndata:\n\n}\n" ∷ []) ≡ at 2 TwoRecordDims ∷ []
-unfolding tokens_at scan word_len until unescape_at stands_at character pieces_at is_section word_value is_reserved name_of suffix numeral parts shape act fits add_dim type_of add_dimid add_var at_variable add_att capacity_of add_value fill_value run piece_read finished is_small_enough is_utf8 chars encode
+unfolding tokens_at scan word_len until unescape_at stands_at character pieces_at is_section word_value is_reserved name_of suffix numeral parts shape act fits add_dim type_of add_dimid add_var at_variable add_att capacity_of listing_of fill_value run piece_read finished is_small_enough is_utf8 chars encode
 two_record_dimensions = refl
 
 -- a dimension without a length, before a variable that there is not
 first_fault_wins : faults Cdf1 [] [] (codes "netcdf t {\ndimensions: x = 0 ;\ndata: q = 1 ;\n}\n" ∷ []) ≡ at 2 ZeroDimension ∷ []
-unfolding tokens_at scan word_len until unescape_at stands_at character pieces_at is_section word_value is_reserved name_of suffix numeral parts shape act fits add_dim type_of add_dimid add_var at_variable add_att capacity_of add_value fill_value run piece_read finished is_small_enough is_utf8 chars encode
+unfolding tokens_at scan word_len until unescape_at stands_at character pieces_at is_section word_value is_reserved name_of suffix numeral parts shape act fits add_dim type_of add_dimid add_var at_variable add_att capacity_of listing_of fill_value run piece_read finished is_small_enough is_utf8 chars encode
 first_fault_wins = refl
 
 -- a slab that is too large is reported with the line of the closing brace
 too_large_a_slab : faults Cdf1 [] [] (codes "netcdf t {\ndimensions: x = 2147483647 ;\nvariables: byte b(x, x) ;\n}\n" ∷ []) ≡ at 4 TooLarge ∷ []
-unfolding tokens_at scan word_len until unescape_at stands_at character pieces_at is_section word_value is_reserved name_of suffix numeral parts shape act fits add_dim type_of add_dimid add_var at_variable add_att capacity_of add_value fill_value run piece_read finished is_small_enough is_utf8 chars encode
+unfolding tokens_at scan word_len until unescape_at stands_at character pieces_at is_section word_value is_reserved name_of suffix numeral parts shape act fits add_dim type_of add_dimid add_var at_variable add_att capacity_of listing_of fill_value run piece_read finished is_small_enough is_utf8 chars encode
 too_large_a_slab = refl
 
 -- a length past the greatest of its version
@@ -124,11 +124,11 @@ lengths v = faults v (codes "netcdf t {\ndimensions: x = ") (codes " ;\n}\n") (
     codes "2147483647" ∷ codes "2147483648" ∷ codes "9223372036854775807" ∷ codes "9223372036854775808" ∷ codes "-1" ∷ codes "0" ∷ codes "-0" ∷ codes "300b" ∷ [])
 
 lengths_of_32_bits : lengths Cdf1 ≡ None ∷ at 2 NumberRange ∷ at 2 NumberRange ∷ at 2 NumberRange ∷ at 2 NumberRange ∷ at 2 ZeroDimension ∷ at 2 ZeroDimension ∷ None ∷ []
-unfolding tokens_at scan word_len until unescape_at stands_at character pieces_at is_section word_value is_reserved name_of suffix numeral parts shape act fits add_dim type_of add_dimid add_var at_variable add_att capacity_of add_value fill_value run piece_read finished is_small_enough is_utf8 chars encode
+unfolding tokens_at scan word_len until unescape_at stands_at character pieces_at is_section word_value is_reserved name_of suffix numeral parts shape act fits add_dim type_of add_dimid add_var at_variable add_att capacity_of listing_of fill_value run piece_read finished is_small_enough is_utf8 chars encode
 lengths_of_32_bits = refl
 
 lengths_of_64_bits : lengths Cdf5 ≡ None ∷ None ∷ None ∷ at 2 NumberRange ∷ at 2 NumberRange ∷ at 2 ZeroDimension ∷ at 2 ZeroDimension ∷ None ∷ []
-unfolding tokens_at scan word_len until unescape_at stands_at character pieces_at is_section word_value is_reserved name_of suffix numeral parts shape act fits add_dim type_of add_dimid add_var at_variable add_att capacity_of add_value fill_value run piece_read finished is_small_enough is_utf8 chars encode
+unfolding tokens_at scan word_len until unescape_at stands_at character pieces_at is_section word_value is_reserved name_of suffix numeral parts shape act fits add_dim type_of add_dimid add_var at_variable add_att capacity_of listing_of fill_value run piece_read finished is_small_enough is_utf8 chars encode
 lengths_of_64_bits = refl
 
 -- ---- the text as a whole
@@ -136,7 +136,7 @@ lengths_of_64_bits = refl
 -- no text, an opening without a brace, a text without its closing brace, a statement without its semicolon, and one after the brace
 unfinished : faults Cdf1 [] [] (codes "" ∷ codes "netcdf t" ∷ codes "netcdf t {" ∷ codes "netcdf t { dimensions: x = 3 }" ∷ codes "netcdf t {} y" ∷ [])
     ≡ at 1 Syntax ∷ at 1 BadToken ∷ at 1 Syntax ∷ at 1 Syntax ∷ at 1 Syntax ∷ []
-unfolding tokens_at scan word_len until unescape_at stands_at character pieces_at is_section word_value is_reserved name_of suffix numeral parts shape act fits add_dim type_of add_dimid add_var at_variable add_att capacity_of add_value fill_value run piece_read finished is_small_enough is_utf8 chars encode
+unfolding tokens_at scan word_len until unescape_at stands_at character pieces_at is_section word_value is_reserved name_of suffix numeral parts shape act fits add_dim type_of add_dimid add_var at_variable add_att capacity_of listing_of fill_value run piece_read finished is_small_enough is_utf8 chars encode
 unfinished = refl
 
 -- an opening, a statement, the closing brace, what stands after it, and the end
@@ -152,7 +152,7 @@ whole_text = codes "netcdf t {\ndimensions:\n x = 3 ;\nvariables:\n short s(x) ;
 -- up to 78 its end stands before the closing brace.
 prefixes : map (λ n. kind (fault (meaning (take n whole_text) Cdf1))) (range_with_len 0 81)
     ≡ replicate 7 (Some Syntax) ++ (replicate 3 (Some BadToken) ++ (replicate 69 (Some Syntax) ++ replicate 2 None))
-unfolding tokens_at scan word_len until unescape_at stands_at character pieces_at is_section word_value is_reserved name_of suffix numeral parts shape act fits add_dim type_of add_dimid add_var at_variable add_att capacity_of add_value fill_value run piece_read finished is_small_enough is_utf8 chars encode
+unfolding tokens_at scan word_len until unescape_at stands_at character pieces_at is_section word_value is_reserved name_of suffix numeral parts shape act fits add_dim type_of add_dimid add_var at_variable add_att capacity_of listing_of fill_value run piece_read finished is_small_enough is_utf8 chars encode
 prefixes = refl
 
 -- ---- constants
@@ -189,7 +189,7 @@ suffixes_of_cdf_5 : faults Cdf5 (codes "netcdf t {\n") (codes "\n}\n") (
     ∷ at 2 BadNumber
     ∷ at 2 BadNumber
     ∷ []
-unfolding tokens_at scan word_len until unescape_at stands_at character pieces_at is_section word_value is_reserved name_of suffix numeral parts shape act fits add_dim type_of add_dimid add_var at_variable add_att capacity_of add_value fill_value run piece_read finished is_small_enough is_utf8 chars encode
+unfolding tokens_at scan word_len until unescape_at stands_at character pieces_at is_section word_value is_reserved name_of suffix numeral parts shape act fits add_dim type_of add_dimid add_var at_variable add_att capacity_of listing_of fill_value run piece_read finished is_small_enough is_utf8 chars encode
 suffixes_of_cdf_5 = refl
 
 -- the same suffixes are none in CDF-1, but in hexadecimal `b` is a digit
@@ -210,7 +210,7 @@ suffixes_of_cdf_1 : faults Cdf1 (codes "netcdf t {\n") (codes "\n}\n") (
     ∷ at 2 BadNumber
     ∷ at 2 BadNumber
     ∷ []
-unfolding tokens_at scan word_len until unescape_at stands_at character pieces_at is_section word_value is_reserved name_of suffix numeral parts shape act fits add_dim type_of add_dimid add_var at_variable add_att capacity_of add_value fill_value run piece_read finished is_small_enough is_utf8 chars encode
+unfolding tokens_at scan word_len until unescape_at stands_at character pieces_at is_section word_value is_reserved name_of suffix numeral parts shape act fits add_dim type_of add_dimid add_var at_variable add_att capacity_of listing_of fill_value run piece_read finished is_small_enough is_utf8 chars encode
 suffixes_of_cdf_1 = refl
 
 -- nor in CDF-2
@@ -227,7 +227,7 @@ suffixes_of_cdf_2 : faults Cdf2 (codes "netcdf t {\n") (codes "\n}\n") (
     ∷ at 2 BadNumber
     ∷ at 2 BadNumber
     ∷ []
-unfolding tokens_at scan word_len until unescape_at stands_at character pieces_at is_section word_value is_reserved name_of suffix numeral parts shape act fits add_dim type_of add_dimid add_var at_variable add_att capacity_of add_value fill_value run piece_read finished is_small_enough is_utf8 chars encode
+unfolding tokens_at scan word_len until unescape_at stands_at character pieces_at is_section word_value is_reserved name_of suffix numeral parts shape act fits add_dim type_of add_dimid add_var at_variable add_att capacity_of listing_of fill_value run piece_read finished is_small_enough is_utf8 chars encode
 suffixes_of_cdf_2 = refl
 
 -- constants at the ends of their types
@@ -250,7 +250,7 @@ ranges_of_constants : faults Cdf1 (codes "netcdf t {\n") (codes "\n}\n") (
     ∷ at 2 NumberRange
     ∷ at 2 NumberRange
     ∷ []
-unfolding tokens_at scan word_len until unescape_at stands_at character pieces_at is_section word_value is_reserved name_of suffix numeral parts shape act fits add_dim type_of add_dimid add_var at_variable add_att capacity_of add_value fill_value run piece_read finished is_small_enough is_utf8 chars encode
+unfolding tokens_at scan word_len until unescape_at stands_at character pieces_at is_section word_value is_reserved name_of suffix numeral parts shape act fits add_dim type_of add_dimid add_var at_variable add_att capacity_of listing_of fill_value run piece_read finished is_small_enough is_utf8 chars encode
 ranges_of_constants = refl
 
 -- which number tokens are numbers
@@ -285,7 +285,7 @@ numbers : faults Cdf1 (codes "netcdf t {\n") (codes "\n}\n") (
     ∷ at 2 BadToken
     ∷ at 2 BadToken
     ∷ []
-unfolding tokens_at scan word_len until unescape_at stands_at character pieces_at is_section word_value is_reserved name_of suffix numeral parts shape act fits add_dim type_of add_dimid add_var at_variable add_att capacity_of add_value fill_value run piece_read finished is_small_enough is_utf8 chars encode
+unfolding tokens_at scan word_len until unescape_at stands_at character pieces_at is_section word_value is_reserved name_of suffix numeral parts shape act fits add_dim type_of add_dimid add_var at_variable add_att capacity_of listing_of fill_value run piece_read finished is_small_enough is_utf8 chars encode
 numbers = refl
 
 -- the type of the first decides, and a constant of another type is reported before one out of range
@@ -304,7 +304,7 @@ constants_of_one_type : faults Cdf1 (codes "netcdf t {\n") (codes "\n}\n") (
     ∷ at 2 NumberRange
     ∷ at 2 MixedConstants
     ∷ []
-unfolding tokens_at scan word_len until unescape_at stands_at character pieces_at is_section word_value is_reserved name_of suffix numeral parts shape act fits add_dim type_of add_dimid add_var at_variable add_att capacity_of add_value fill_value run piece_read finished is_small_enough is_utf8 chars encode
+unfolding tokens_at scan word_len until unescape_at stands_at character pieces_at is_section word_value is_reserved name_of suffix numeral parts shape act fits add_dim type_of add_dimid add_var at_variable add_att capacity_of listing_of fill_value run piece_read finished is_small_enough is_utf8 chars encode
 constants_of_one_type = refl
 
 -- escapes of strings: an octal one above 255 and a hexadecimal one without a digit are bad
@@ -325,7 +325,7 @@ strings : faults Cdf1 (codes "netcdf t {\n") (codes "\n}\n") (
     ∷ None
     ∷ at 2 BadToken
     ∷ []
-unfolding tokens_at scan word_len until unescape_at stands_at character pieces_at is_section word_value is_reserved name_of suffix numeral parts shape act fits add_dim type_of add_dimid add_var at_variable add_att capacity_of add_value fill_value run piece_read finished is_small_enough is_utf8 chars encode
+unfolding tokens_at scan word_len until unescape_at stands_at character pieces_at is_section word_value is_reserved name_of suffix numeral parts shape act fits add_dim type_of add_dimid add_var at_variable add_att capacity_of listing_of fill_value run piece_read finished is_small_enough is_utf8 chars encode
 strings = refl
 
 -- ---- statements
@@ -378,7 +378,7 @@ statements_before_sections : faults Cdf1 (codes "netcdf t {\n") (codes "\n}\n") 
     ∷ at 2 BadToken
     ∷ at 3 Syntax
     ∷ []
-unfolding tokens_at scan word_len until unescape_at stands_at character pieces_at is_section word_value is_reserved name_of suffix numeral parts shape act fits add_dim type_of add_dimid add_var at_variable add_att capacity_of add_value fill_value run piece_read finished is_small_enough is_utf8 chars encode
+unfolding tokens_at scan word_len until unescape_at stands_at character pieces_at is_section word_value is_reserved name_of suffix numeral parts shape act fits add_dim type_of add_dimid add_var at_variable add_att capacity_of listing_of fill_value run piece_read finished is_small_enough is_utf8 chars encode
 statements_before_sections = refl
 
 -- each section mark at most once, and in order
@@ -411,7 +411,7 @@ marks_of_sections : faults Cdf1 (codes "netcdf t {\n") (codes "\n}\n") (
     ∷ None
     ∷ at 2 Syntax
     ∷ []
-unfolding tokens_at scan word_len until unescape_at stands_at character pieces_at is_section word_value is_reserved name_of suffix numeral parts shape act fits add_dim type_of add_dimid add_var at_variable add_att capacity_of add_value fill_value run piece_read finished is_small_enough is_utf8 chars encode
+unfolding tokens_at scan word_len until unescape_at stands_at character pieces_at is_section word_value is_reserved name_of suffix numeral parts shape act fits add_dim type_of add_dimid add_var at_variable add_att capacity_of listing_of fill_value run piece_read finished is_small_enough is_utf8 chars encode
 marks_of_sections = refl
 
 -- the line of a statement is that of its first token
@@ -428,7 +428,7 @@ lines : faults Cdf1 (codes "netcdf t {\n") (codes "\n}\n") (
     ∷ at 3 BadNumber
     ∷ None
     ∷ []
-unfolding tokens_at scan word_len until unescape_at stands_at character pieces_at is_section word_value is_reserved name_of suffix numeral parts shape act fits add_dim type_of add_dimid add_var at_variable add_att capacity_of add_value fill_value run piece_read finished is_small_enough is_utf8 chars encode
+unfolding tokens_at scan word_len until unescape_at stands_at character pieces_at is_section word_value is_reserved name_of suffix numeral parts shape act fits add_dim type_of add_dimid add_var at_variable add_att capacity_of listing_of fill_value run piece_read finished is_small_enough is_utf8 chars encode
 lines = refl
 
 -- openings and what is none
@@ -459,7 +459,7 @@ openings : faults Cdf1 (codes "") (codes "}\n") (
     ∷ at 1 Syntax
     ∷ at 1 BadNumber
     ∷ []
-unfolding tokens_at scan word_len until unescape_at stands_at character pieces_at is_section word_value is_reserved name_of suffix numeral parts shape act fits add_dim type_of add_dimid add_var at_variable add_att capacity_of add_value fill_value run piece_read finished is_small_enough is_utf8 chars encode
+unfolding tokens_at scan word_len until unescape_at stands_at character pieces_at is_section word_value is_reserved name_of suffix numeral parts shape act fits add_dim type_of add_dimid add_var at_variable add_att capacity_of listing_of fill_value run piece_read finished is_small_enough is_utf8 chars encode
 openings = refl
 
 -- ---- sections
@@ -496,7 +496,7 @@ dimensions : faults Cdf1 (codes "netcdf t {\ndimensions: ") (codes "\n}\n") (
     ∷ at 2 DuplicateName
     ∷ at 2 ZeroDimension
     ∷ []
-unfolding tokens_at scan word_len until unescape_at stands_at character pieces_at is_section word_value is_reserved name_of suffix numeral parts shape act fits add_dim type_of add_dimid add_var at_variable add_att capacity_of add_value fill_value run piece_read finished is_small_enough is_utf8 chars encode
+unfolding tokens_at scan word_len until unescape_at stands_at character pieces_at is_section word_value is_reserved name_of suffix numeral parts shape act fits add_dim type_of add_dimid add_var at_variable add_att capacity_of listing_of fill_value run piece_read finished is_small_enough is_utf8 chars encode
 dimensions = refl
 
 -- the type words of CDF-5 are none in CDF-1, and words of types stand unescaped and in lower case
@@ -539,7 +539,7 @@ words_of_cdf_1 : faults Cdf1 (codes "netcdf t {\nvariables: ") (codes " v ;\n}\n
     ∷ at 2 UnknownType
     ∷ at 2 UnknownType
     ∷ []
-unfolding tokens_at scan word_len until unescape_at stands_at character pieces_at is_section word_value is_reserved name_of suffix numeral parts shape act fits add_dim type_of add_dimid add_var at_variable add_att capacity_of add_value fill_value run piece_read finished is_small_enough is_utf8 chars encode
+unfolding tokens_at scan word_len until unescape_at stands_at character pieces_at is_section word_value is_reserved name_of suffix numeral parts shape act fits add_dim type_of add_dimid add_var at_variable add_att capacity_of listing_of fill_value run piece_read finished is_small_enough is_utf8 chars encode
 words_of_cdf_1 = refl
 
 -- nor in CDF-2
@@ -556,7 +556,7 @@ words_of_cdf_2 : faults Cdf2 (codes "netcdf t {\nvariables: ") (codes " v ;\n}\n
     ∷ at 2 UnknownType
     ∷ at 2 UnknownType
     ∷ []
-unfolding tokens_at scan word_len until unescape_at stands_at character pieces_at is_section word_value is_reserved name_of suffix numeral parts shape act fits add_dim type_of add_dimid add_var at_variable add_att capacity_of add_value fill_value run piece_read finished is_small_enough is_utf8 chars encode
+unfolding tokens_at scan word_len until unescape_at stands_at character pieces_at is_section word_value is_reserved name_of suffix numeral parts shape act fits add_dim type_of add_dimid add_var at_variable add_att capacity_of listing_of fill_value run piece_read finished is_small_enough is_utf8 chars encode
 words_of_cdf_2 = refl
 
 -- and they are in CDF-5
@@ -579,7 +579,7 @@ words_of_cdf_5 : faults Cdf5 (codes "netcdf t {\nvariables: ") (codes " v ;\n}\n
     ∷ at 2 FloatingType
     ∷ at 2 UnknownType
     ∷ []
-unfolding tokens_at scan word_len until unescape_at stands_at character pieces_at is_section word_value is_reserved name_of suffix numeral parts shape act fits add_dim type_of add_dimid add_var at_variable add_att capacity_of add_value fill_value run piece_read finished is_small_enough is_utf8 chars encode
+unfolding tokens_at scan word_len until unescape_at stands_at character pieces_at is_section word_value is_reserved name_of suffix numeral parts shape act fits add_dim type_of add_dimid add_var at_variable add_att capacity_of listing_of fill_value run piece_read finished is_small_enough is_utf8 chars encode
 words_of_cdf_5 = refl
 
 -- shapes, names and attributes of variables
@@ -636,7 +636,7 @@ variables : faults Cdf1 (codes "netcdf t {\ndimensions: x = 3, t = UNLIMITED ;\n
     ∷ at 3 BadName
     ∷ at 3 Syntax
     ∷ []
-unfolding tokens_at scan word_len until unescape_at stands_at character pieces_at is_section word_value is_reserved name_of suffix numeral parts shape act fits add_dim type_of add_dimid add_var at_variable add_att capacity_of add_value fill_value run piece_read finished is_small_enough is_utf8 chars encode
+unfolding tokens_at scan word_len until unescape_at stands_at character pieces_at is_section word_value is_reserved name_of suffix numeral parts shape act fits add_dim type_of add_dimid add_var at_variable add_att capacity_of listing_of fill_value run piece_read finished is_small_enough is_utf8 chars encode
 variables = refl
 
 -- values, strings and rows, each in its order of faults
@@ -699,5 +699,5 @@ values : faults Cdf1 (codes "netcdf t {\ndimensions: x = 3, t = UNLIMITED ;\nvar
     ∷ None
     ∷ at 4 NumberRange
     ∷ []
-unfolding tokens_at scan word_len until unescape_at stands_at character pieces_at is_section word_value is_reserved name_of suffix numeral parts shape act fits add_dim type_of add_dimid add_var at_variable add_att capacity_of add_value fill_value run piece_read finished is_small_enough is_utf8 chars encode
+unfolding tokens_at scan word_len until unescape_at stands_at character pieces_at is_section word_value is_reserved name_of suffix numeral parts shape act fits add_dim type_of add_dimid add_var at_variable add_att capacity_of listing_of fill_value run piece_read finished is_small_enough is_utf8 chars encode
 values = refl

@@ -1,42 +1,37 @@
 -- No more is listed of a variable than it has values, over as many records as the text has bytes.
 use Rattle.std.proofs.Common.{◌≡◌, ℕ, ◌+◌, ◌-◌, ◌*◌, ◌≤◌, ◌<◌, Bool, true, false, List, [], ◌∷◌, ◌++◌, length, map, replicate, sym, ◌∙◌, ap, refl, arith, zero, suc}
 use Rattle.std.proofs.lemmas.List.{length-append, length-replicate, length-map}
-use Rattle.std.proofs.Math.Nat.{mul-le-mul_right, lt_of_mul-lt-mul_right, mul_comm, mul-le-mul}
-use Rattle.std.specs.Prelude.{ℤ, pos, if◌then◌else◌, Some, Ok, ◌&&◌, ◌||◌, not, nat_lt, nat_le, slice_index}
+use Rattle.std.proofs.lemmas.Grind.{flat_map-append}
+use Rattle.std.proofs.Math.Nat.{mul-le-mul_right, mul_comm, mul-le-mul}
+use Rattle.std.specs.Prelude.{ℤ, pos, if◌then◌else◌, Some, Result, Ok, ◌||◌, not, nat_lt, nat_le}
 use Rattle.nc_base.specs.declared.header.Dim.{Dim}
 use Rattle.nc_base.specs.declared.header.Var.{Var}
 use Rattle.nc_base.specs.declared.version.Version.{Version}
-use Rattle.nc_base.specs.Sizes.{dim_len, product, slab_lens, slab_count}
-use Rattle.nc_base.specs.ValueText.{is_char, row_len}
+use Rattle.nc_base.specs.Fill.{fill_value}
+use Rattle.nc_base.specs.ValueText.{is_char}
 use Rattle.cdl_text.specs.Shapes.{Value, Number, Characters, Underscore}
-use Rattle.cdl_meaning.specs.State.{Draft, Capacity, capacity_of, in_turn, unless, ◌>>=◌, fits, filled, add_string, add_number, add_character, add_value, is_listed, with_values}
+use Rattle.cdl_meaning.specs.State.{Draft, Listing, Numbers, Joined, Rows, Capacity, capacity_of, in_turn, unless, ◌>>=◌, fits, filled, add_number, add_characters, add_row, listed_by, listing_of, values_in, is_listed, with_values}
+use Rattle.cdl_text.specs.declared.fault.CdlKind.{CdlKind}
 use Rattle.cdl_text.specs.declared.fault.CdlKind.TheVariants.{TooManyValues, StringTooLong, DuplicateData, NumberRange}
-use Rattle.cdl_laws.proofs.Arrays.{rows_in, last_place}
+use Rattle.cdl_laws.proofs.Bools.{off}
+use Rattle.cdl_laws.proofs.Given.{slab_rows}
 use Rattle.cdl_laws.proofs.Limits.{slab_some}
 use Rattle.cdl_laws.proofs.Outcomes.{OkIs, ok_then, ok_unless, ok_when, total, turns}
 use Rattle.cdl_laws.proofs.Said.{cost}
 use Rattle.cdl_laws.proofs.Uttered.{AreFineValues}
 use Rattle.cdl_laws.proofs.Fine.{IsFineDraft, later, one_times, any_each}
 
--- ---- rows
+-- with another fill value
+abbrev by : ℤ → Capacity → Capacity
+by fill capacity = record capacity { fill = fill }
 
--- what is added at once: a row of characters, or a value
-abbrev unit : Capacity → ℕ
-unit capacity = if is_char capacity.ty && capacity.in_rows then capacity.row else 1
+-- what is listed so far, of values of cost k, has n of `count` positions, with `unit` values in each
+record IsRoomy (capacity : Capacity) (count unit k n : ℕ) (listing : Listing) : Type 0 where
+  few : n ≤ k
+  within : capacity.is_open ≡ false → n ≤ count
+  whole : (fill : ℤ) → length (values_in (by fill capacity) listing) ≡ n * unit
 
--- what is listed so far, of values of this cost
-record IsRoomy (capacity : Capacity) (k : ℕ) (values : List ℤ) : Type 0 where
-  rows : ℕ
-  few : rows ≤ k
-  whole : length values ≡ rows * unit capacity
-  within : capacity.is_open ≡ false → length values ≤ capacity.count
-
--- the capacity is whole units
-record HasUnits (capacity : Capacity) : Type 0 where
-  times : ℕ
-  whole : capacity.count ≡ times * unit capacity
-
-under : (a b : ℕ) → nat_lt a b ≡ true → a < b
+under : (a b : ℕ) → nat_lt a b ≡ true → a + 1 ≤ b
 under a b h = grind (arith, h)
 
 pub up_to : (a b : ℕ) → nat_le a b ≡ true → a ≤ b
@@ -49,128 +44,127 @@ closed false b h e = h
 pub filled_len : (n : ℕ) (fill : ℤ) (xs : List ℤ) → length xs ≤ n → length (filled n fill xs) ≡ n
 filled_len n fill xs h = let a = length-append xs (replicate (n - length xs) fill) in let b = length-replicate (n - length xs) fill in omega (arith, a, b, h)
 
--- a row more
-next_row : (capacity : Capacity) (k : ℕ) (values more : List ℤ) → HasUnits capacity → IsRoomy capacity k values → length more ≡ unit capacity → (capacity.is_open || nat_lt (length values) capacity.count) ≡ true → IsRoomy capacity (k + 1) (values ++ more)
-next_row capacity k values more units is len test = record {
-  rows = suc is.rows;
-  few = (let a = is.few in omega (arith, a));
-  whole = grown;
-  within = λ e.
-      let a : is.rows * unit capacity < units.times * unit capacity = (let b = under (length values) capacity.count (closed capacity.is_open (nat_lt (length values) capacity.count) test e) in let c = is.whole in let d = units.whole in omega (arith, b, c, d)) in
-      let b = mul-le-mul_right (unit capacity) (lt_of_mul-lt-mul_right (unit capacity) a) in
-      let d = units.whole in
-      omega (arith, grown, b, d);
+-- m positions more, which cost c
+grown : (capacity : Capacity) (count unit k n m c l : ℕ) (before after : Listing) → IsRoomy capacity count unit k n before → l ≡ n + m → m ≤ c → (capacity.is_open ≡ false → n + m ≤ count) →
+    ((fill : ℤ) → length (values_in (by fill capacity) after) ≡ length (values_in (by fill capacity) before) + m * unit) → IsRoomy capacity count unit (k + c) l after
+grown capacity count unit k n m c l before after is len cheap wide more = record {
+  few = (let a = is.few in omega (arith, a, len, cheap));
+  within = λ e. let a = wide e in omega (arith, a, len);
+  whole = λ fill. more fill ∙ ap (λ x. x + m * unit) (is.whole fill) ∙ (let g : n * unit + m * unit ≡ (n + m) * unit = grind arith in g) ∙ ap (λ x. x * unit) (let e : n + m ≡ l = omega (arith, len) in e);
 }
-  where
-    grown : length (values ++ more) ≡ suc is.rows * unit capacity
-    grown = let a = length-append values more in let b = is.whole in let c = one_times is.rows (unit capacity) in omega (arith, a, b, c, len)
 
--- the test on rows or on values
-abbrev test : Capacity → List ℤ → Bool
-test capacity before = capacity.is_open || nat_lt (length before) capacity.count
+-- where there was room for one
+one_wide : (capacity : Capacity) (n count : ℕ) → (capacity.is_open || nat_lt n count) ≡ true → capacity.is_open ≡ false → n + 1 ≤ count
+one_wide capacity n count test e = under n count (closed capacity.is_open (nat_lt n count) test e)
 
-later_roomy : (capacity : Capacity) (k m : ℕ) (values : List ℤ) → k ≤ m → IsRoomy capacity k values → IsRoomy capacity m values
-later_roomy capacity k m values le is = record { rows = is.rows; few = (let a = is.few in omega (arith, a, le)); whole = is.whole; within = is.within }
+-- ---- each kind of listing
 
-string_step : (capacity : Capacity) (k : ℕ) (before : List ℤ) (bytes : List ℕ) → is_char capacity.ty ≡ true → HasUnits capacity → IsRoomy capacity k before → OkIs (IsRoomy capacity (k + suc (length bytes))) (add_string capacity before bytes)
-string_step capacity k before bytes char units is =
-    let Q : List ℤ → Type 0 = IsRoomy capacity (k + suc (length bytes)) in
-    elim (capacity.in_rows) as (λ b. capacity.in_rows ≡ b → OkIs Q (if b
-    then unless (capacity.is_open || nat_lt (length before) capacity.count) TooManyValues >>= (λ u. unless (nat_le (length bytes) capacity.row) StringTooLong >>= (λ w. Ok (before ++ filled capacity.row capacity.fill (map pos bytes))))
-    else unless (capacity.is_open || nat_le (length before + length bytes) capacity.count) StringTooLong >>= (λ u. Ok (before ++ map pos bytes)))) [
-      | true ↦ (λ e.
-          let row : capacity.row ≡ unit capacity = sym (ap (λ c. if c && capacity.in_rows then capacity.row else 1) char ∙ ap (λ c. if c then capacity.row else 1) e) in
-          ok_unless Q (capacity.is_open || nat_lt (length before) capacity.count) TooManyValues (λ u. unless (nat_le (length bytes) capacity.row) StringTooLong >>= (λ w. Ok (before ++ filled capacity.row capacity.fill (map pos bytes)))) (λ t.
-          ok_unless Q (nat_le (length bytes) capacity.row) StringTooLong (λ w. Ok (before ++ filled capacity.row capacity.fill (map pos bytes))) (λ short.
-          later_roomy capacity (k + 1) (k + suc (length bytes)) (before ++ filled capacity.row capacity.fill (map pos bytes)) (omega arith)
-          (next_row capacity k before (filled capacity.row capacity.fill (map pos bytes)) units is
-          (filled_len capacity.row capacity.fill (map pos bytes) (let a = length-map bytes pos in let b = up_to (length bytes) capacity.row short in omega (arith, a, b)) ∙ row) t))))
-      | false ↦ (λ e.
-          let one : unit capacity ≡ 1 = ap (λ c. if c && capacity.in_rows then capacity.row else 1) char ∙ ap (λ c. if c then capacity.row else 1) e in
-          let len : length (before ++ map pos bytes) ≡ length before + length bytes = (let a = length-append before (map pos bytes) in let b = length-map bytes pos in omega (arith, a, b)) in
-          ok_unless Q (capacity.is_open || nat_le (length before + length bytes) capacity.count) StringTooLong (λ u. Ok (before ++ map pos bytes)) (λ t.
-          record {
-            rows = is.rows + length bytes;
-            few = (let a = is.few in omega (arith, a));
-            whole = (
-                let a : length before ≡ is.rows * 1 = is.whole ∙ ap (λ m. is.rows * m) one in
-                let b : (is.rows + length bytes) * unit capacity ≡ (is.rows + length bytes) * 1 = ap (λ m. (is.rows + length bytes) * m) one in
-                omega (arith, a, b, len));
-            within = (λ o. let a = up_to (length before + length bytes) capacity.count (closed capacity.is_open (nat_le (length before + length bytes) capacity.count) t o) in omega (arith, a, len));
-          }))
-    ] refl
+abbrev AreNumbers : Capacity → ℕ → List ℤ → Type 0
+AreNumbers capacity k values = IsRoomy capacity capacity.count 1 k (length values) (Numbers values)
 
-single : (capacity : Capacity) (k : ℕ) (before : List ℤ) (x : ℤ) → is_char capacity.ty ≡ false → HasUnits capacity → IsRoomy capacity k before → test capacity before ≡ true → IsRoomy capacity (k + 1) (before ++ x ∷ [])
-single capacity k before x number units is t = next_row capacity k before (x ∷ []) units is (sym (ap (λ c. if c && capacity.in_rows then capacity.row else 1) number)) t
+single : (capacity : Capacity) (k : ℕ) (before : List ℤ) (x : ℤ) → AreNumbers capacity k before → (capacity.is_open || nat_lt (length before) capacity.count) ≡ true → AreNumbers capacity (k + 1) (before ++ x ∷ [])
+single capacity k before x is test =
+    let len : length (before ++ x ∷ []) ≡ length before + 1 = length-append before (x ∷ []) in
+    grown capacity capacity.count 1 k (length before) 1 1 (length (before ++ x ∷ [])) (Numbers before) (Numbers (before ++ x ∷ [])) is len (omega arith) (one_wide capacity (length before) capacity.count test) (λ fill. len)
 
-number_step : (capacity : Capacity) (k : ℕ) (before : List ℤ) (x : Value) → is_char capacity.ty ≡ false → HasUnits capacity → IsRoomy capacity k before → OkIs (IsRoomy capacity (k + cost x)) (add_number capacity before x)
-number_step capacity k before (Characters bytes) number units is = tt
-number_step capacity k before Underscore number units is =
-    ok_unless (IsRoomy capacity (k + 1)) (capacity.is_open || nat_lt (length before) capacity.count) TooManyValues (λ u. Ok (before ++ capacity.fill ∷ [])) (λ t. single capacity k before capacity.fill number units is t)
-number_step capacity k before (Number n) number units is =
-    ok_unless (IsRoomy capacity (k + 1)) (capacity.is_open || nat_lt (length before) capacity.count) TooManyValues (λ u. unless (fits capacity.ty n.value) NumberRange >>= (λ w. Ok (before ++ n.value ∷ []))) (λ t.
-    ok_unless (IsRoomy capacity (k + 1)) (fits capacity.ty n.value) NumberRange (λ w. Ok (before ++ n.value ∷ [])) (λ fit. single capacity k before n.value number units is t))
+number_step : (capacity : Capacity) (k : ℕ) (before : List ℤ) (x : Value) → AreNumbers capacity k before → Unit {0} → OkIs (AreNumbers capacity (k + cost x)) (add_number capacity before x)
+number_step capacity k before (Characters bytes) is u = tt
+number_step capacity k before Underscore is u =
+    ok_unless (AreNumbers capacity (k + 1)) (capacity.is_open || nat_lt (length before) capacity.count) TooManyValues (λ u. Ok (before ++ capacity.fill ∷ [])) (λ t. single capacity k before capacity.fill is t)
+number_step capacity k before (Number n) is u =
+    ok_unless (AreNumbers capacity (k + 1)) (capacity.is_open || nat_lt (length before) capacity.count) TooManyValues (λ u. unless (fits capacity.ty n.value) NumberRange >>= (λ w. Ok (before ++ n.value ∷ []))) (λ t.
+    ok_unless (AreNumbers capacity (k + 1)) (fits capacity.ty n.value) NumberRange (λ w. Ok (before ++ n.value ∷ [])) (λ fit. single capacity k before n.value is t))
 
-character_step : (capacity : Capacity) (k : ℕ) (before : List ℤ) (x : Value) → is_char capacity.ty ≡ true → HasUnits capacity → IsRoomy capacity k before → OkIs (IsRoomy capacity (k + cost x)) (add_character capacity before x)
-character_step capacity k before (Characters bytes) char units is = string_step capacity k before bytes char units is
-character_step capacity k before Underscore char units is = tt
-character_step capacity k before (Number n) char units is = tt
+abbrev AreJoined : Capacity → ℕ → List ℕ → Type 0
+AreJoined capacity k bytes = IsRoomy capacity capacity.count 1 k (length bytes) (Joined bytes)
 
-value_step : (capacity : Capacity) → HasUnits capacity → (k : ℕ) (before : List ℤ) (x : Value) → IsRoomy capacity k before → Unit {0} → OkIs (IsRoomy capacity (k + cost x)) (add_value capacity before x)
-unfolding add_value
-value_step capacity units k before x is u =
-    elim (is_char capacity.ty) as (λ b. is_char capacity.ty ≡ b → OkIs (IsRoomy capacity (k + cost x)) (if b then add_character capacity before x else add_number capacity before x)) [
-      | true ↦ (λ e. character_step capacity k before x e units is)
-      | false ↦ (λ e. number_step capacity k before x e units is)
-    ] refl
+joined_step : (capacity : Capacity) (k : ℕ) (before : List ℕ) (x : Value) → AreJoined capacity k before → Unit {0} → OkIs (AreJoined capacity (k + cost x)) (add_characters capacity before x)
+joined_step capacity k before (Characters bytes) is u =
+    ok_unless (AreJoined capacity (k + suc (length bytes))) (capacity.is_open || nat_le (length before + length bytes) capacity.count) StringTooLong (λ u. Ok (before ++ bytes)) (λ t.
+    let len = length-append before bytes in
+    let all = length-map (before ++ bytes) pos in
+    let old = length-map before pos in
+    grown capacity capacity.count 1 k (length before) (length bytes) (suc (length bytes)) (length (before ++ bytes)) (Joined before) (Joined (before ++ bytes)) is len (omega arith)
+    (λ e. up_to (length before + length bytes) capacity.count (closed capacity.is_open (nat_le (length before + length bytes) capacity.count) t e)) (λ fill. omega (arith, len, all, old)))
+joined_step capacity k before Underscore is u = tt
+joined_step capacity k before (Number n) is u = tt
 
-values_roomy : (capacity : Capacity) (xs : List Value) → HasUnits capacity → OkIs (IsRoomy capacity (0 + total cost xs)) (in_turn (add_value capacity) [] xs)
-values_roomy capacity xs units = turns (add_value capacity) (IsRoomy capacity) cost (λ x. Unit {0}) (value_step capacity units) 0 [] xs (record { rows = 0; few = omega arith; whole = omega arith; within = (λ e. omega arith) }) (any_each xs)
+abbrev AreRows : Capacity → ℕ → List (List ℕ) → Type 0
+AreRows capacity k rows = IsRoomy capacity capacity.rows capacity.row k (length rows) (Rows rows)
 
--- ---- the capacity of a variable
+row_more : (capacity : Capacity) (before : List (List ℕ)) (bytes : List ℕ) → length bytes ≤ capacity.row → (fill : ℤ) → length (values_in (by fill capacity) (Rows (before ++ bytes ∷ []))) ≡ length (values_in (by fill capacity) (Rows before)) + 1 * capacity.row
+row_more capacity before bytes short fill =
+    let row = filled capacity.row fill (map pos bytes) in
+    let len = length-map bytes pos in
+    let a = ap (λ (xs : List ℤ). length xs) (flat_map-append (λ bs. filled capacity.row fill (map pos bs)) before (bytes ∷ [])) in
+    let b = length-append (values_in (by fill capacity) (Rows before)) (row ++ []) in
+    let c = length-append row [] in
+    let d = filled_len capacity.row fill (map pos bytes) (omega (arith, len, short)) in
+    omega (arith, a, b, c, d)
 
--- two or more dimensions make whole rows
-slab_rows : (dims : List Dim) (ids : List ℕ) → nat_lt (length ids) 2 ≡ false → (k : ℕ) × (product (slab_lens dims ids) ≡ k * row_len dims ids 0)
-slab_rows dims [] h = cc
-slab_rows dims (i ∷ []) h = cc
-slab_rows dims (i ∷ j ∷ ids) h =
-    let r = rows_in dims i j ids in
-    let e : row_len dims (i ∷ j ∷ ids) 0 ≡ dim_len dims (slice_index (j ∷ ids) (length ids)) =
-    rw (h) (ap (λ k. dim_len dims (slice_index (i ∷ j ∷ ids) k)) (last_place (length ids))) in
-    (r.0, r.1 ∙ ap (λ m. r.0 * m) (sym e))
-
-units_of : (dims : List Dim) (var : Var) → HasUnits (capacity_of dims var)
-unfolding capacity_of
-units_of dims var =
-    made (elim (is_char var.ty && not (nat_lt (length var.dimids) 2)) as (λ b. (is_char var.ty && not (nat_lt (length var.dimids) 2)) ≡ b → (n : ℕ) × (slab_count dims var ≡ n * (if b then row_len dims var.dimids 0 else 1))) [
-      | true ↦ (λ e. slab_rows dims var.dimids (rank (is_char var.ty) (nat_lt (length var.dimids) 2) e))
-      | false ↦ (λ e. (slab_count dims var, omega arith))
-    ] refl)
-  where
-    rank : (a b : Bool) → (a && not b) ≡ true → b ≡ false
-    rank true true h = cc
-    rank true false h = refl
-    rank false b h = cc
-
-    made : ((n : ℕ) × (slab_count dims var ≡ n * (if is_char var.ty && not (nat_lt (length var.dimids) 2) then row_len dims var.dimids 0 else 1))) → HasUnits (capacity_of dims var)
-    made r = record { times = r.0; whole = r.1 }
+row_step : (capacity : Capacity) (k : ℕ) (before : List (List ℕ)) (x : Value) → AreRows capacity k before → Unit {0} → OkIs (AreRows capacity (k + cost x)) (add_row capacity before x)
+row_step capacity k before (Characters bytes) is u =
+    let Q : List (List ℕ) → Type 0 = AreRows capacity (k + suc (length bytes)) in
+    ok_unless Q (capacity.is_open || nat_lt (length before) capacity.rows) TooManyValues (λ u. unless (nat_le (length bytes) capacity.row) StringTooLong >>= (λ w. Ok (before ++ bytes ∷ []))) (λ t.
+    ok_unless Q (nat_le (length bytes) capacity.row) StringTooLong (λ w. Ok (before ++ bytes ∷ [])) (λ short.
+    grown capacity capacity.rows capacity.row k (length before) 1 (suc (length bytes)) (length (before ++ bytes ∷ [])) (Rows before) (Rows (before ++ bytes ∷ [])) is (length-append before (bytes ∷ [])) (omega arith)
+    (one_wide capacity (length before) capacity.rows t) (row_more capacity before bytes (up_to (length bytes) capacity.row short))))
+row_step capacity k before Underscore is u = tt
+row_step capacity k before (Number n) is u = tt
 
 -- ---- what is listed
 
-bounded : (capacity : Capacity) (N : ℕ) (values : List ℤ) → HasUnits capacity → 0 < capacity.count → IsRoomy capacity N values → length values ≤ capacity.count * (if capacity.is_open then N else 1)
-bounded capacity N values units some is =
-    elim (capacity.is_open) as (λ b. capacity.is_open ≡ b → length values ≤ capacity.count * (if b then N else 1)) [
+-- no more than over this many records
+abbrev Fits : Capacity → ℕ → Listing → Type 0
+Fits capacity records listing = (fill : ℤ) → length (values_in (by fill capacity) listing) ≤ capacity.count * (if capacity.is_open then records else 1)
+
+bounded : (capacity : Capacity) (count unit k n records : ℕ) (listing : Listing) → unit ≤ capacity.count → (capacity.is_open ≡ false → count * unit ≡ capacity.count) → k ≤ records → IsRoomy capacity count unit k n listing → Fits capacity records listing
+bounded capacity count unit k n records listing small all le is fill =
+    elim (capacity.is_open) as (λ b. capacity.is_open ≡ b → length (values_in (by fill capacity) listing) ≤ capacity.count * (if b then records else 1)) [
       | true ↦ (λ e.
-          let a = mul-le-mul is.few (unit_small units.times units.whole) in
-          let b = mul_comm N capacity.count in
-          let c = is.whole in
+          let few = is.few in
+          let a = mul-le-mul (let h : n ≤ records = omega (arith, few, le) in h) small in
+          let b = mul_comm records capacity.count in
+          let c = is.whole fill in
           omega (arith, a, b, c))
-      | false ↦ (λ e. let a = is.within e in omega (arith, a))
+      | false ↦ (λ e. let a = mul-le-mul_right unit (is.within e) in let b = all e in let c = is.whole fill in omega (arith, a, b, c))
     ] refl
+
+-- all values in turn
+all_listed : {A : Type 0} (capacity : Capacity) (count unit records : ℕ) (add : List A → Value → Result (List A) CdlKind) (listing : List A → Listing) (xs : List Value) → unit ≤ capacity.count → (capacity.is_open ≡ false → count * unit ≡ capacity.count) → total cost xs ≤ records →
+    ((fill : ℤ) → values_in (by fill capacity) (listing []) ≡ []) → ((k : ℕ) (before : List A) (x : Value) → IsRoomy capacity count unit k (length before) (listing before) → Unit {0} → OkIs (λ after. IsRoomy capacity count unit (k + cost x) (length after) (listing after)) (add before x)) →
+    OkIs (Fits capacity records) (listed_by add listing xs)
+all_listed {A} capacity count unit records add listing xs small all le none step =
+    ok_then (IsKept (0 + total cost xs)) (Fits capacity records) (in_turn add [] xs) (λ items. Ok (listing items))
+    (turns add IsKept cost (λ x. Unit {0}) step 0 [] xs (record { few = omega arith; within = (λ e. omega arith); whole = λ fill. ap (λ (ys : List ℤ). length ys) (none fill) ∙ (let z : 0 ≡ 0 * unit = omega arith in z) }) (any_each xs))
+    (λ items is. bounded capacity count unit (0 + total cost xs) (length items) records (listing items) small all (omega (arith, le)) is)
   where
-    unit_small : (n : ℕ) → capacity.count ≡ n * unit capacity → unit capacity ≤ capacity.count
-    unit_small zero h = let z : 0 * unit capacity ≡ 0 = grind arith in absurd (omega (arith, h, z, some))
-    unit_small (suc n) h = let a = one_times n (unit capacity) in omega (arith, a, h)
+    IsKept : ℕ → List A → Type 0
+    IsKept k items = IsRoomy capacity count unit k (length items) (listing items)
+
+values_fit : (dims : List Dim) (var : Var) (records : ℕ) (xs : List Value) → 0 < (capacity_of dims var).count → total cost xs ≤ records → OkIs (Fits (capacity_of dims var) records) (listing_of (capacity_of dims var) xs)
+unfolding capacity_of listing_of
+values_fit dims var records xs some le = of_type (is_char var.ty)
+  where
+    r : Capacity
+    r = capacity_of dims var
+
+    one : r.is_open ≡ false → r.count * 1 ≡ r.count
+    one e = omega arith
+
+    row_small : (n row count : ℕ) → count ≡ n * row → 0 < count → row ≤ count
+    row_small zero row count h some = let z : 0 * row ≡ 0 = grind arith in absurd (omega (arith, h, z, some))
+    row_small (suc n) row count h some = let a = one_times n row in omega (arith, a, h)
+
+    of_rank : (deep : Bool) → not (nat_lt (length var.dimids) 2) ≡ deep → OkIs (Fits r records) (if deep then listed_by (add_row r) Rows xs else listed_by (add_characters r) Joined xs)
+    of_rank true deep =
+        let s = slab_rows dims var.dimids (off (nat_lt (length var.dimids) 2) deep) in
+        all_listed r r.rows r.row records (add_row r) Rows xs (row_small s.rows r.row r.count s.whole some) (λ e. let a = s.whole in let b = s.all e in ap (λ n. n * r.row) (sym b) ∙ sym a) le (λ fill. refl) (row_step r)
+    of_rank false flat = all_listed r r.count 1 records (add_characters r) Joined xs some one le (λ fill. refl) (joined_step r)
+
+    of_type : (char : Bool) → OkIs (Fits r records) (if char then (if r.in_rows then listed_by (add_row r) Rows xs else listed_by (add_characters r) Joined xs) else listed_by (add_number r) Numbers xs)
+    of_type true = of_rank r.in_rows refl
+    of_type false = all_listed r r.count 1 records (add_number r) Numbers xs some one le (λ fill. refl) (number_step r)
 
 pub with_values_keeps : (v : Version) (N n m : ℕ) (dims : List Dim) (name : List ℕ) (xs : List Value) → m ≤ N → AreFineValues v m name xs → (d : Draft) → IsFineDraft v N n dims d →
     OkIs (λ e. IsFineDraft v N (n + m) dims e × (e.var.name ≡ d.var.name)) (with_values dims xs d)
@@ -178,8 +172,8 @@ unfolding capacity_of
 with_values_keeps v N n m dims name xs small said d f =
     let Q : Draft → Type 0 = λ e. IsFineDraft v N (n + m) dims e × (e.var.name ≡ d.var.name) in
     let capacity = capacity_of dims d.var in
-    ok_when Q (is_listed d.listed) DuplicateData (λ u. in_turn (add_value capacity) [] xs >>= (λ values. Ok (record d { listed = Some values }))) (λ new.
-    ok_then (IsRoomy capacity (0 + total cost xs)) Q (in_turn (add_value capacity) [] xs) (λ values. Ok (record d { listed = Some values })) (values_roomy capacity xs (units_of dims d.var)) (λ values is.
+    ok_when Q (is_listed d.listed) DuplicateData (λ u. listing_of capacity xs >>= (λ listing. Ok (record d { listed = Some listing }))) (λ new.
+    ok_then (Fits capacity N) Q (listing_of capacity xs) (λ listing. Ok (record d { listed = Some listing })) (values_fit dims d.var N xs (slab_some dims d.var f.shape) (let a = said.1 in omega (arith, a, small))) (λ listing fit.
     let g = later v N n (n + m) dims d (omega arith) f in (
       record {
         name = g.name;
@@ -189,7 +183,7 @@ with_values_keeps v N n m dims name xs small said d f =
         ty = g.ty;
         bare = g.bare;
         atts = g.atts;
-        listed = bounded capacity N values (units_of dims d.var) (slab_some dims d.var f.shape) (later_roomy capacity (0 + total cost xs) N values (let a = said.1 in omega (arith, a, small)) is);
+        listed = λ others. fit (fill_value (record d.var { atts = others }));
       },
       refl,
     )))

@@ -18,7 +18,7 @@ use Rattle.nc_base.specs.ValueText.{is_char, look_of, variable_text}
 use Rattle.cdl_text.specs.declared.section.Section.TheVariants.{Values}
 use Rattle.cdl_text.specs.Shapes.{Listed}
 use Rattle.cdl_meaning.specs.Meaning.{array_of}
-use Rattle.cdl_meaning.specs.State.{Capacity, capacity_of, in_turn, add_value, filled}
+use Rattle.cdl_meaning.specs.State.{Capacity, capacity_of, filled, listing_of, values_in}
 use Rattle.cdl_laws.specs.PieceLaws.{DataReadsBack}
 use Rattle.cdl_laws.specs.RowLaws.{RowReadsBack, RowsReadBack, EmptyRowsReadBack}
 use Rattle.cdl_laws.proofs.Arrays.{row_back, no_bytes}
@@ -64,16 +64,20 @@ same_room dims var fill = ap (λ (f : ℤ). record (capacity_of dims var) { fill
 
 -- what gives the values of a variable gives its array
 row_of : (d : Dataset) (records width place : ℕ) (var : Var) → IsArray d.header.dims records var (slice_index_or d.arrays place []) → fill_value (trimmed_var var) ≡ fill_value var →
-    (g : Gives d.header.version d.header.dims (look_of d.header var records width) var (content_of d place var).values) → array_of d.header.dims records (given_draft var (Some g.ys)) ≡ slice_index_or d.arrays place [] →
+    (g : Gives d.header.version d.header.dims (look_of d.header var records width) var (content_of d place var).values) → array_of d.header.dims records (given_draft var (Some g.listing)) ≡ slice_index_or d.arrays place [] →
     RowReadsBack d records width place var
 row_of d records width place var is fill g back = record {
   values = g.said;
   statement = is_statement d.header.version Values (variable_text (look_of d.header var records width) (content_of d place var).values) (Listed var.name g.said) g.says;
-  listed = g.ys;
-  added = ap (λ (r : Capacity). in_turn (add_value r) [] g.said) (sym (same_room d.header.dims var fill)) ∙ g.added;
-  array = ap (λ (f : ℤ). flat_map (bytes_of_number var.ty) (filled (value_count d.header.dims var records) f g.ys)) (sym fill) ∙ back;
-  whole = λ e. ap (λ (ys : List ℤ). length ys) (g.exact e) ∙ array_len d.header.dims records var (slice_index_or d.arrays place []) is;
+  listing = g.listing;
+  added = ap (λ (r : Capacity). listing_of r g.said) (sym room) ∙ g.added;
+  array = ap (λ (f : ℤ). flat_map (bytes_of_number var.ty) (filled (value_count d.header.dims var records) f (values_in (capacity_of d.header.dims var) g.listing))) (sym fill) ∙
+      ap (λ (r : Capacity). flat_map (bytes_of_number var.ty) (filled (value_count d.header.dims var records) (fill_value (trimmed_var var)) (values_in r g.listing))) (sym room) ∙ back;
+  whole = λ e. ap (λ (r : Capacity). length (values_in r g.listing)) (sym room) ∙ ap (λ (ys : List ℤ). length ys) (g.exact e) ∙ array_len d.header.dims records var (slice_index_or d.arrays place []) is;
 }
+  where
+    room : capacity_of d.header.dims (trimmed_var var) ≡ capacity_of d.header.dims var
+    room = same_room d.header.dims var fill
 
 pub rows_read_back : RowsReadBack
 rows_read_back d records width place var s known at some =

@@ -25,7 +25,7 @@ use Rattle.cdl_text.specs.Pieces.{pieces_at, is_section}
 use Rattle.cdl_text.specs.Lexemes.{name_of}
 use Rattle.cdl_tokens.specs.Numerals.{suffix, numeral, parts}
 use Rattle.cdl_text.specs.Shapes.{shape}
-use Rattle.cdl_meaning.specs.State.{fits, add_dim, type_of, add_dimid, add_var, at_variable, add_att, capacity_of, add_value, act}
+use Rattle.cdl_meaning.specs.State.{fits, add_dim, type_of, add_dimid, add_var, at_variable, add_att, capacity_of, listing_of, act}
 use Rattle.cdl_meaning.specs.Meaning.{piece_read, run, is_small_enough, finished, meaning}
 use Rattle.nc_base.specs.Sayable.{trimmed}
 
@@ -54,5 +54,5 @@ small = record {
 }
 
 back : meaning (text_of small 2 20) Cdf5 ≡ Ok (trimmed small)
-unfolding concat_parts numbers fill_value is_reserved escaped_name escaped_text dimensions_word unlimited_word currently_word variables_word global_word netcdf_word string_break number_values char_values att_line att_lines dim_extent dim_line dim_lines dims_text shape_text var_lines vars_text gatts_text head_text look_of number_piece char_piece piece pieces opening closing variable_prefix variable_text digits data_word closing_word tokens_at scan word_len until unescape_at stands_at character pieces_at is_section word_value name_of suffix numeral parts shape fits add_dim type_of add_dimid add_var at_variable add_att capacity_of add_value act piece_read run is_small_enough finished is_utf8 chars encode
+unfolding concat_parts numbers fill_value is_reserved escaped_name escaped_text dimensions_word unlimited_word currently_word variables_word global_word netcdf_word string_break number_values char_values att_line att_lines dim_extent dim_line dim_lines dims_text shape_text var_lines vars_text gatts_text head_text look_of number_piece char_piece piece pieces opening closing variable_prefix variable_text digits data_word closing_word tokens_at scan word_len until unescape_at stands_at character pieces_at is_section word_value name_of suffix numeral parts shape fits add_dim type_of add_dimid add_var at_variable add_att capacity_of listing_of act piece_read run is_small_enough finished is_utf8 chars encode
 back = refl

@@ -1,6 +1,6 @@
 -- The full dump of a dataset that a text can declare means that dataset, trimmed.
 use Rattle.std.proofs.Common.{◌≡◌, ℕ, ◌<◌, ◌≤◌, true, List, [], ◌∷◌, ◌++◌, map, sym, ◌∙◌, ap, refl, subst, arith}
-use Rattle.std.specs.Prelude.{ℤ, nat_le, All, Option, Ok}
+use Rattle.std.specs.Prelude.{nat_le, All, Option, Ok}
 use Rattle.std.specs.List.{list_all}
 use Rattle.std.proofs.lemmas.List.{map-append}
 use Rattle.nc_base.specs.Bytes.{AreBytes}
@@ -20,7 +20,7 @@ use Rattle.cdl_text.specs.declared.section.Section.TheVariants.{Ended}
 use Rattle.cdl_meaning.specs.Meaning.{meaning, is_small, is_small_enough, dataset_of, array_of, records_in}
 use Rattle.cdl_laws.specs.RoundTrip.{IsFull, TextReadsBack}
 use Rattle.nc_base.specs.Sayable.{trimmed, trimmed_att, trimmed_var, AreDistinct, IsSayable, IsSayableVar}
-use Rattle.cdl_meaning.specs.State.{Draft}
+use Rattle.cdl_meaning.specs.State.{Draft, Listing}
 use Rattle.cdl_laws.proofs.Bools.{and_both}
 use Rattle.cdl_laws.proofs.DataTexts.{given_draft, given_drafts}
 use Rattle.cdl_laws.proofs.Datasets.{keeps_fill, are_back, listings, stand_after, AreNewVars, all_given, arrays_back, vars_back, records_back}
@@ -30,7 +30,7 @@ use Rattle.cdl_laws.proofs.Lists.{Each, each_of, each_map}
 use Rattle.cdl_laws.proofs.Sayables.{AreFresh, fresh_more, any_map, none_before, draft_name, var_name, atts_new, atts_speak, dims_new, IsSayableHead, vars_fit}
 use Rattle.cdl_laws.proofs.Wholes.{state}
 
-new_vars : (before : List Draft) (vars : List Var) (os : List (Option (List ℤ))) → AreFresh (map draft_name before) (map var_name vars) → AreDistinct (map var_name vars) → Each (λ (var : Var). IsName var.name) vars → AreNewVars before vars os
+new_vars : (before : List Draft) (vars : List Var) (os : List (Option Listing)) → AreFresh (map draft_name before) (map var_name vars) → AreDistinct (map var_name vars) → Each (λ (var : Var). IsName var.name) vars → AreNewVars before vars os
 new_vars before [] os fresh distinct names = tt
 new_vars before (var ∷ vars) [] fresh distinct names = tt
 new_vars before (var ∷ vars) (o ∷ os) fresh distinct names = (

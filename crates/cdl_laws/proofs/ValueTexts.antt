@@ -18,7 +18,7 @@ use Rattle.cdl_text.specs.Lexemes.{Lexeme, is_mark}
 use Rattle.cdl_laws.specs.Reading.{lexemes_at}
 use Rattle.cdl_tokens.specs.Scan.{scan}
 use Rattle.cdl_text.specs.Shapes.{Value, Number, Underscore, members_in, members, each, both, constant, constants}
-use Rattle.cdl_meaning.specs.State.{Capacity, add_value, in_turn, fits, add_number}
+use Rattle.cdl_meaning.specs.State.{Capacity, Numbers, add_number, fits, in_turn, listing_of, ◌>>=◌}
 use Rattle.cdl_laws.proofs.Bools.{and_left, and_right, and_both, off}
 use Rattle.cdl_laws.proofs.Lists.{Each}
 use Rattle.cdl_laws.proofs.Words.{word_prefix}
@@ -279,19 +279,23 @@ pub room_for : (is_open : Bool) (m n : ℕ) → (is_open ≡ false → m < n) �
 room_for true m n h = refl
 room_for false m n h = lt_true m n (h refl)
 
-one_added : (look : Look) (capacity : Capacity) (before : List ℤ) (x : ℤ) → is_char capacity.ty ≡ false → capacity.fill ≡ look.fill → (capacity.is_open ≡ false → length before < capacity.count) → fits capacity.ty x ≡ true →
-    add_value capacity before (value_said look x) ≡ Ok (before ++ x ∷ [])
-unfolding add_value
-one_added look capacity before x h same wide fit =
-    rw (h) (elim (is_fill_value look x) as (λ b. is_fill_value look x ≡ b → add_number capacity before (if b then Underscore else Number (record { value = x; ty = Int })) ≡ Ok (before ++ x ∷ [])) [
+one_added : (look : Look) (capacity : Capacity) (before : List ℤ) (x : ℤ) → capacity.fill ≡ look.fill → (capacity.is_open ≡ false → length before < capacity.count) → fits capacity.ty x ≡ true →
+    add_number capacity before (value_said look x) ≡ Ok (before ++ x ∷ [])
+one_added look capacity before x same wide fit =
+    elim (is_fill_value look x) as (λ b. is_fill_value look x ≡ b → add_number capacity before (if b then Underscore else Number (record { value = x; ty = Int })) ≡ Ok (before ++ x ∷ [])) [
       | true ↦ (λ e. rw (room_for capacity.is_open (length before) capacity.count wide) (ap (λ y. Ok (before ++ y ∷ [])) (same ∙ sym ((Decides-int_eq x look.fill).0 (and_right look.prints_fill (int_eq x look.fill) e)))))
       | false ↦ (λ e. rw (room_for capacity.is_open (length before) capacity.count wide) (rw (fit) refl))
-    ] refl)
+    ] refl
 
-pub all_added : (look : Look) (capacity : Capacity) (before xs : List ℤ) → is_char capacity.ty ≡ false → capacity.fill ≡ look.fill → (capacity.is_open ≡ false → length before + length xs ≤ capacity.count) → Each (λ x. fits capacity.ty x ≡ true) xs →
-    in_turn (add_value capacity) before (map (value_said look) xs) ≡ Ok (before ++ xs)
-all_added look capacity before [] h same wide fit = ap Ok (sym (append-nil before))
-all_added look capacity before (x ∷ xs) h same wide fit =
+all_added : (look : Look) (capacity : Capacity) (before xs : List ℤ) → capacity.fill ≡ look.fill → (capacity.is_open ≡ false → length before + length xs ≤ capacity.count) → Each (λ x. fits capacity.ty x ≡ true) xs →
+    in_turn (add_number capacity) before (map (value_said look) xs) ≡ Ok (before ++ xs)
+all_added look capacity before [] same wide fit = ap Ok (sym (append-nil before))
+all_added look capacity before (x ∷ xs) same wide fit =
     let len = length-append before (x ∷ []) in
-    turn (add_value capacity) before (before ++ x ∷ []) (value_said look x) (map (value_said look) xs) (one_added look capacity before x h same (λ e. let f = wide e in omega (arith, f)) fit.0) ∙
-    (all_added look capacity (before ++ x ∷ []) xs h same (λ e. let f = wide e in omega (arith, f, len)) fit.1 ∙ ap Ok (append_assoc before (x ∷ []) xs))
+    turn (add_number capacity) before (before ++ x ∷ []) (value_said look x) (map (value_said look) xs) (one_added look capacity before x same (λ e. let f = wide e in omega (arith, f)) fit.0) ∙
+    (all_added look capacity (before ++ x ∷ []) xs same (λ e. let f = wide e in omega (arith, f, len)) fit.1 ∙ ap Ok (append_assoc before (x ∷ []) xs))
+
+pub numbers_listed : (look : Look) (capacity : Capacity) (xs : List ℤ) → is_char capacity.ty ≡ false → capacity.fill ≡ look.fill → (capacity.is_open ≡ false → length xs ≤ capacity.count) → Each (λ x. fits capacity.ty x ≡ true) xs →
+    listing_of capacity (map (value_said look) xs) ≡ Ok (Numbers xs)
+unfolding listing_of
+numbers_listed look capacity xs h same wide fit = rw (h) (ap (λ values. values >>= (λ ys. Ok (Numbers ys))) (all_added look capacity [] xs same (λ e. let f = wide e in omega (arith, f)) fit))

@@ -1,5 +1,5 @@
 -- The values that the text of a variable lists give its array.
-use Rattle.std.specs.Prelude.{◌≡◌, ℕ, ℤ, true, false, List, [], length, slice_get, slice_index_or, Some, Ok}
+use Rattle.std.specs.Prelude.{◌≡◌, ℕ, true, false, List, [], length, slice_get, slice_index_or, Some, Ok}
 use Rattle.nc_base.specs.declared.dataset.Dataset.{Dataset}
 use Rattle.nc_base.specs.declared.header.NumRecs.TheVariants.{Known}
 use Rattle.nc_base.specs.declared.header.Var.{Var}
@@ -11,19 +11,19 @@ use Rattle.nc_base.specs.ValueText.{look_of, variable_text}
 use Rattle.cdl_text.specs.declared.section.Section.TheVariants.{Values}
 use Rattle.cdl_text.specs.Shapes.{Value, Listed}
 use Rattle.cdl_meaning.specs.Meaning.{array_of}
-use Rattle.cdl_meaning.specs.State.{in_turn, add_value, capacity_of}
+use Rattle.cdl_meaning.specs.State.{Listing, capacity_of, listing_of, values_in}
 use Rattle.cdl_laws.specs.PieceLaws.{IsStatement}
 
 -- The text of the values of the variable in this place is one statement, which lists values for it. Added in turn, they give
--- numbers; and these, with the fill value after them where the variable has more, are the numbers of its array. Those of a
--- record variable are all that its records have, so that they tell how many records there are.
+-- a listing; and its numbers, with the fill value after them where the variable has more, are the numbers of its array. Those
+-- of a record variable are all that its records have, so that they tell how many records there are.
 pub record RowReadsBack (d : Dataset) (records width place : ℕ) (var : Var) : Type 0 where
   pub values : List Value
   pub statement : IsStatement d.header.version Values (variable_text (look_of d.header var records width) (content_of d place var).values) (Listed var.name values)
-  pub listed : List ℤ
-  pub added : in_turn (add_value (capacity_of d.header.dims var)) [] values ≡ Ok listed
-  pub array : array_of d.header.dims records (record { var = var; listed = Some listed }) ≡ slice_index_or d.arrays place []
-  pub whole : is_record_var d.header.dims var ≡ true → length listed ≡ value_count d.header.dims var records
+  pub listing : Listing
+  pub added : listing_of (capacity_of d.header.dims var) values ≡ Ok listing
+  pub array : array_of d.header.dims records (record { var = var; listed = Some listing }) ≡ slice_index_or d.arrays place []
+  pub whole : is_record_var d.header.dims var ≡ true → length (values_in (capacity_of d.header.dims var) listing) ≡ value_count d.header.dims var records
 
 abbrev pub RowsReadBack : Type 0
 RowsReadBack = (d : Dataset) (records width place : ℕ) (var : Var) → IsSayable d

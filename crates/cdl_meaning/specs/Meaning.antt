@@ -19,7 +19,7 @@ use Rattle.cdl_text.specs.declared.fault.CdlKind.{CdlKind}
 use Rattle.cdl_text.specs.declared.fault.CdlKind.TheVariants.{Syntax, TooLarge}
 use Rattle.cdl_text.specs.declared.section.Section.TheVariants.{Unopened}
 use Rattle.cdl_tokens.specs.declared.token.Token.{Token}
-use Rattle.cdl_meaning.specs.State.{State, Draft, act, filled}
+use Rattle.cdl_meaning.specs.State.{State, Draft, act, capacity_of, filled, values_in}
 
 -- the longest text, in bytes
 abbrev pub text_limit : ℕ
@@ -60,13 +60,14 @@ empty = record { section = Unopened; dims = []; gatts = []; drafts = [] }
 
 -- ---- arrays
 
-abbrev pub values_of : Draft → List ℤ
-values_of d = elim d.listed [ None ↦ [] | Some values ↦ values ]
+-- the numbers that are listed of a variable
+abbrev pub values_of : List Dim → Draft → List ℤ
+values_of dims d = elim d.listed [ None ↦ [] | Some listing ↦ values_in (capacity_of dims d.var) listing ]
 
 -- how many records hold the values of a variable
 abbrev pub records_of : List Dim → Draft → ℕ
 records_of dims d =
-    if is_record_var dims d.var then (length (values_of d) + slab_count dims d.var - 1) / slab_count dims d.var else 0
+    if is_record_var dims d.var then (length (values_of dims d) + slab_count dims d.var - 1) / slab_count dims d.var else 0
 
 -- how many hold those of all
 abbrev pub records_in : List Dim → List Draft → ℕ
@@ -75,7 +76,7 @@ records_in dims (d ∷ ds) = max (records_of dims d) (records_in dims ds)
 
 -- the array of a variable over n records: its values, and the fill value where there is none
 abbrev pub array_of : List Dim → ℕ → Draft → List ℕ
-array_of dims n d = flat_map (bytes_of_number d.var.ty) (filled (value_count dims d.var n) (fill_value d.var) (values_of d))
+array_of dims n d = flat_map (bytes_of_number d.var.ty) (filled (value_count dims d.var n) (fill_value d.var) (values_of dims d))
 
 abbrev pub header_of : Version → State → Header
 header_of v s = record {

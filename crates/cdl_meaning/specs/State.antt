@@ -1,6 +1,6 @@
 -- The dataset so far, and what each statement makes of it. A fault is the first from the left.
-use Rattle.std.specs.Prelude.{ℕ, ℤ, pos, neg_ℤ, Bool, true, false, List, [], ◌∷◌, ◌++◌, ◌+◌, ◌-◌, ◌^◌, ◌&&◌, ◌||◌, ◌==◌, not, nat_lt, nat_le, if◌then◌else◌, length, codes, map, replicate, find, Option, None, Some, Result, Ok, Err, ⊤, int_le, unsigned_abs}
-use Rattle.std.specs.List.{list_any, position}
+use Rattle.std.specs.Prelude.{ℕ, ℤ, pos, neg_ℤ, Bool, true, false, List, [], ◌∷◌, ◌++◌, ◌+◌, ◌-◌, ◌^◌, ◌&&◌, ◌||◌, ◌==◌, not, nat_lt, nat_le, if◌then◌else◌, length, take, codes, map, replicate, find, Option, None, Some, Result, Ok, Err, ⊤, int_le, unsigned_abs}
+use Rattle.std.specs.List.{flat_map, list_any, position}
 use Rattle.std.specs.Ordering.{int_eq}
 use Rattle.std.specs.Str.{bytes_eq}
 use mir.Val.{bits, hbits}
@@ -14,7 +14,7 @@ use Rattle.nc_base.specs.Fill.{fill_value}
 use Rattle.nc_base.specs.Headers.{has_record_dim}
 use Rattle.nc_base.specs.Names.{is_name}
 use Rattle.nc_base.specs.Numbers.{bytes_of_number}
-use Rattle.nc_base.specs.Sizes.{is_record_dim, is_record_var, slab_count}
+use Rattle.nc_base.specs.Sizes.{dim_len, is_record_dim, is_record_var, product, slab_count}
 use Rattle.nc_base.specs.Types.{all_types, code_of, type_word, width_of, is_signed}
 use Rattle.nc_base.specs.ValueText.{row_len, is_char}
 use Rattle.nc_base.specs.Versions.{count_limit, has_type}
@@ -25,10 +25,18 @@ use Rattle.cdl_text.specs.declared.fault.CdlKind.TheVariants.{BadName, Duplicate
 use Rattle.cdl_text.specs.declared.section.Section.{Section}
 use Rattle.cdl_text.specs.declared.section.Section.TheVariants.{Globals, Closed, Ended}
 
--- a variable, and what the data section has listed of it, rows of characters filled
+-- what is listed of a variable
+pub data Listing : Type 0 where
+  Numbers : (values : List ℤ) → Listing
+  -- strings, one after the other: characters of rank 0 or 1
+  Joined : (bytes : List ℕ) → Listing
+  -- a string a row: characters of rank 2 and up
+  Rows : (rows : List (List ℕ)) → Listing
+
+-- a variable, and what the data section has listed of it
 pub record Draft : Type 0 where
   pub var : Var
-  pub listed : Option (List ℤ)
+  pub listed : Option Listing
 
 pub record State : Type 0 where
   pub section : Section
@@ -175,8 +183,14 @@ pub record Capacity : Type 0 where
   pub count : ℕ
   -- the rank is 2 or more
   pub in_rows : Bool
-  -- how many values a row has then
+  -- how many rows hold as many values then
+  pub rows : ℕ
+  -- how many values a row has
   pub row : ℕ
+
+-- the product of all dimensions but the last
+abbrev pub row_count : List Dim → Var → ℕ
+row_count dims var = product (map (dim_len dims) (take (length var.dimids - 1) var.dimids))
 
 unfoldable pub capacity_of : List Dim → Var → Capacity
 capacity_of dims var = record {
@@ -185,23 +199,9 @@ capacity_of dims var = record {
   is_open = is_record_var dims var;
   count = slab_count dims var;
   in_rows = not (nat_lt (length var.dimids) 2);
+  rows = row_count dims var;
   row = row_len dims var.dimids 0;
 }
-
--- with the fill value up to n of them
-abbrev pub filled : ℕ → ℤ → List ℤ → List ℤ
-filled n fill values = values ++ replicate (n - length values) fill
-
--- a string more
-abbrev pub add_string : Capacity → List ℤ → List ℕ → Result (List ℤ) CdlKind
-add_string capacity before bytes =
-    if capacity.in_rows then (do
-      _ ← unless (capacity.is_open || nat_lt (length before) capacity.count) TooManyValues
-      _ ← unless (nat_le (length bytes) capacity.row) StringTooLong
-      Ok (before ++ filled capacity.row capacity.fill (map pos bytes)))
-    else (do
-      _ ← unless (capacity.is_open || nat_le (length before + length bytes) capacity.count) StringTooLong
-      Ok (before ++ map pos bytes))
 
 abbrev pub add_number : Capacity → List ℤ → Value → Result (List ℤ) CdlKind
 add_number capacity before (Characters bytes) = Err WrongKind
@@ -213,22 +213,47 @@ add_number capacity before (Number n) = do
   _ ← unless (fits capacity.ty n.value) NumberRange
   Ok (before ++ n.value ∷ [])
 
-abbrev pub add_character : Capacity → List ℤ → Value → Result (List ℤ) CdlKind
-add_character capacity before (Characters bytes) = add_string capacity before bytes
-add_character capacity before _ = Err WrongKind
+abbrev pub add_characters : Capacity → List ℕ → Value → Result (List ℕ) CdlKind
+add_characters capacity before (Characters bytes) = do
+  _ ← unless (capacity.is_open || nat_le (length before + length bytes) capacity.count) StringTooLong
+  Ok (before ++ bytes)
+add_characters capacity before _ = Err WrongKind
 
-unfoldable pub add_value : Capacity → List ℤ → Value → Result (List ℤ) CdlKind
-add_value capacity before x = if is_char capacity.ty then add_character capacity before x else add_number capacity before x
+abbrev pub add_row : Capacity → List (List ℕ) → Value → Result (List (List ℕ)) CdlKind
+add_row capacity before (Characters bytes) = do
+  _ ← unless (capacity.is_open || nat_lt (length before) capacity.rows) TooManyValues
+  _ ← unless (nat_le (length bytes) capacity.row) StringTooLong
+  Ok (before ++ bytes ∷ [])
+add_row capacity before _ = Err WrongKind
 
-abbrev pub is_listed : Option (List ℤ) → Bool
+-- the values in turn, as a listing
+abbrev pub listed_by : {A : Type 0} → (List A → Value → Result (List A) CdlKind) → (List A → Listing) → List Value → Result Listing CdlKind
+listed_by add listing values = in_turn add [] values >>= (λ items. Ok (listing items))
+
+unfoldable pub listing_of : Capacity → List Value → Result Listing CdlKind
+listing_of capacity values =
+    if is_char capacity.ty then (if capacity.in_rows then listed_by (add_row capacity) Rows values else listed_by (add_characters capacity) Joined values)
+    else listed_by (add_number capacity) Numbers values
+
+-- with the fill value up to n of them
+abbrev pub filled : ℕ → ℤ → List ℤ → List ℤ
+filled n fill values = values ++ replicate (n - length values) fill
+
+-- the numbers of a listing, each row filled up
+abbrev pub values_in : Capacity → Listing → List ℤ
+values_in capacity (Numbers values) = values
+values_in capacity (Joined bytes) = map pos bytes
+values_in capacity (Rows rows) = flat_map (λ bytes. filled capacity.row capacity.fill (map pos bytes)) rows
+
+abbrev pub is_listed : Option Listing → Bool
 is_listed None = false
-is_listed (Some values) = true
+is_listed (Some listing) = true
 
 abbrev pub with_values : List Dim → List Value → Draft → Result Draft CdlKind
-with_values dims xs d = do
+with_values dims values d = do
   _ ← when (is_listed d.listed) DuplicateData
-  values ← in_turn (add_value (capacity_of dims d.var)) [] xs
-  Ok (record d { listed = Some values })
+  listing ← listing_of (capacity_of dims d.var) values
+  Ok (record d { listed = Some listing })
 
 -- ---- statements
 

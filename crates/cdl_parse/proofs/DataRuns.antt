@@ -25,7 +25,7 @@ pub none_so_far : (vars : List Var) (s : State) (start : Cutter) (ts : List Targ
 none_so_far vars s start ts arrays section suit is empty =
     let listed = none_listed s.dims vars ts (subst (Suit s.dims ts) is suit) in (
       s.drafts,
-      record { section = section; suit = suit; lists = subst (λ arrays. AllList vars arrays s.drafts) (sym empty) (subst (AllList vars (replicate (length ts) [])) (sym is) listed) },
+      record { section = section; suit = suit; lists = subst (λ arrays. AllList s.dims vars arrays s.drafts) (sym empty) (subst (AllList s.dims vars (replicate (length ts) [])) (sym is) listed) },
       refl,
       refl,
     )
@@ -35,4 +35,4 @@ module _ (start c : Cutter) (text : text_of c ≡ text_of start) (version : vers
   pub values_on : (vars : List Var) (s : State) (ts us : List Target) (arrays others : List (List ℕ)) (rest : Cutter) → pieces_left rest ≡ after c → (so : SoFar vars s start ts arrays c) →
       (ds : List Draft) × (piece_read (version_of c) (record s { drafts = so.0 }) (words c) ≡ Ok (record s { drafts = ds })) × IsInDataSection vars us others (record s { drafts = ds }) → SoFar vars s start us others rest
   values_on vars s ts us arrays others rest on so found =
-      (found.0, found.2, names_are vars others found.0 found.2.lists ∙ sym (names_are vars arrays so.0 so.1.lists) ∙ so.2, so.3 ∙ goes_on start c text version more (record s { drafts = so.0 }) (record s { drafts = found.0 }) rest found.1 on)
+      (found.0, found.2, names_are s.dims vars others found.0 found.2.lists ∙ sym (names_are s.dims vars arrays so.0 so.1.lists) ∙ so.2, so.3 ∙ goes_on start c text version more (record s { drafts = so.0 }) (record s { drafts = found.0 }) rest found.1 on)

@@ -10,7 +10,7 @@ use Rattle.cdl_text.specs.declared.section.Section.TheVariants.{Values, Closed}
 use Rattle.cdl_meaning.specs.Meaning.{piece_read}
 use Rattle.cdl_meaning.specs.State.{Draft, State, act}
 use Rattle.cdl_values.specs.Listed.{AllList}
-use Rattle.cdl_values.specs.Meant.{Means, begins_brace, listing, name_first, names_of}
+use Rattle.cdl_values.specs.Meant.{Means, begins_brace, name_first, names_of, with_listing}
 use Rattle.cdl_values.specs.NameIndices.{position_of}
 use Rattle.cdl_values.specs.declared.data.Target.{Target}
 use Rattle.cdl_values.specs.declared.read_error.ReadError.{ReadError}
@@ -34,6 +34,6 @@ pub takes : (vars : List Var) (v : Version) (s : State) (ws : List Lexeme) (ts :
     Means v s ws (Ok array) → position_of (names_of s.drafts) (name_first ws) ≡ Some k →
     (ds : List Draft) × (piece_read v s ws ≡ Ok (record s { drafts = ds })) × IsInDataSection vars (given_at k ts) (slice_set arrays k array) (record s { drafts = ds })
 takes vars v s ws ts arrays array k stands means is =
-    let ds = listing (name_first ws) means.0 s.drafts in
+    let ds = with_listing (name_first ws) means.0 s.drafts in
     let after = listed_at s.dims (name_first ws) means.0 vars arrays ts s.drafts k stands.lists stands.suit is in
-    (ds, means.2, record { section = stands.section; suit = after.1; lists = subst (λ bytes. AllList vars (slice_set arrays k bytes) ds) means.1 after.0 })
+    (ds, means.2, record { section = stands.section; suit = after.1; lists = subst (λ bytes. AllList s.dims vars (slice_set arrays k bytes) ds) means.1 after.0 })

@@ -52,17 +52,17 @@ record_checked v s small =
 
 -- ---- the arrays
 
-whole_is : (dims : List Dim) (n : ℕ) (d : Draft) → array_of dims n d ≡ whole_array dims n d.var (listed_of d)
+whole_is : (dims : List Dim) (n : ℕ) (d : Draft) → array_of dims n d ≡ whole_array dims n d.var (listed_of dims d)
 whole_is dims n d =
-    flat_map-append (bytes_of_number d.var.ty) (values_of d) (replicate (value_count dims d.var n - length (values_of d)) (fill_value d.var)) ∙
-    ap (λ k. listed_of d ++ fills d.var (value_count dims d.var n - k)) (sym (listed_count d))
+    flat_map-append (bytes_of_number d.var.ty) (values_of dims d) (replicate (value_count dims d.var n - length (values_of dims d)) (fill_value d.var)) ∙
+    ap (λ k. listed_of dims d ++ fills d.var (value_count dims d.var n - k)) (sym (listed_count dims d))
 
-all_whole : (dims : List Dim) (n : ℕ) (drafts : List Draft) → map (array_of dims n) drafts ≡ whole_arrays dims n (map var_of drafts) (map listed_of drafts)
+all_whole : (dims : List Dim) (n : ℕ) (drafts : List Draft) → map (array_of dims n) drafts ≡ whole_arrays dims n (map var_of drafts) (map (listed_of dims) drafts)
 all_whole dims n [] = refl
-all_whole dims n (d ∷ drafts) = ap (λ a. a ∷ map (array_of dims n) drafts) (whole_is dims n d) ∙ ap (λ rest. whole_array dims n d.var (listed_of d) ∷ rest) (all_whole dims n drafts)
+all_whole dims n (d ∷ drafts) = ap (λ a. a ∷ map (array_of dims n) drafts) (whole_is dims n d) ∙ ap (λ rest. whole_array dims n d.var (listed_of dims d) ∷ rest) (all_whole dims n drafts)
 
 abbrev pub declared : Version → State → Declared
-declared v s = record { header = header_of v s; listed = map listed_of s.drafts }
+declared v s = record { header = header_of v s; listed = map (listed_of s.dims) s.drafts }
 
 dataset_is : (v : Version) (s : State) → dataset_of v s ≡ dataset_of_declared (declared v s)
 dataset_is v s = ap (λ arrays. record { header = header_of v s; arrays = arrays }) (all_whole s.dims (records_in s.dims s.drafts) s.drafts)
@@ -101,19 +101,19 @@ same_header v s n is = ap (λ m. header_with v m s) (sym is)
 
 -- ---- by what the code has
 
-pub kept_at : (ds dims : List Dim) (vs vars : List Var) (ls listed : List (List ℕ)) (s : State) (r : Option ℕ) → ds ≡ dims → vs ≡ vars → ls ≡ listed → s.dims ≡ dims → AllList vars listed s.drafts → AreShaped dims s.drafts →
-    ((drafts : List Draft) → AllList vs ls drafts → AreShaped ds drafts → r ≡ records_kept ds drafts) → records_kept s.dims s.drafts ≡ r
+pub kept_at : (ds dims : List Dim) (vs vars : List Var) (ls listed : List (List ℕ)) (s : State) (r : Option ℕ) → ds ≡ dims → vs ≡ vars → ls ≡ listed → s.dims ≡ dims → AllList dims vars listed s.drafts → AreShaped dims s.drafts →
+    ((drafts : List Draft) → AllList ds vs ls drafts → AreShaped ds drafts → r ≡ records_kept ds drafts) → records_kept s.dims s.drafts ≡ r
 kept_at ds dims vs vars ls listed s r a b c is lists shaped h =
-    let lists_here = subst (λ (xs : List (List ℕ)). AllList vs xs s.drafts) (sym c) (subst (λ (xs : List Var). AllList xs listed s.drafts) (sym b) lists) in
+    let lists_here = subst (λ (xs : List (List ℕ)). AllList ds vs xs s.drafts) (sym c) (subst (λ (xs : List Var). AllList ds xs listed s.drafts) (sym b) (subst (λ (xs : List Dim). AllList xs vars listed s.drafts) (sym a) lists)) in
     let shaped_here = subst (λ (xs : List Dim). AreShaped xs s.drafts) (sym a) shaped in
     sym (h s.drafts lists_here shaped_here ∙ ap (λ (xs : List Dim). records_kept xs s.drafts) (a ∙ sym is))
 
-pub header_at : (v : Version) (n : ℕ) (s : State) (dims : List Dim) (gatts : List Att) (vars : List Var) (listed : List (List ℕ)) → s.dims ≡ dims → s.gatts ≡ gatts → AllList vars listed s.drafts →
+pub header_at : (v : Version) (n : ℕ) (s : State) (dims : List Dim) (gatts : List Att) (vars : List Var) (listed : List (List ℕ)) → s.dims ≡ dims → s.gatts ≡ gatts → AllList dims vars listed s.drafts →
     header_with v n s ≡ record { version = v; numrecs = Known n; dims = dims; gatts = gatts; vars = vars }
 header_at v n s dims gatts vars listed is att-is lists =
     ap (λ (ds : List Dim). record { version = v; numrecs = Known n; dims = ds; gatts = s.gatts; vars = map var_of s.drafts }) is ∙
     ap (λ (atts : List Att). record { version = v; numrecs = Known n; dims = dims; gatts = atts; vars = map var_of s.drafts }) att-is ∙
-    ap (λ (vs : List Var). record { version = v; numrecs = Known n; dims = dims; gatts = gatts; vars = vs }) (sym (all_are vars listed s.drafts lists).0)
+    ap (λ (vs : List Var). record { version = v; numrecs = Known n; dims = dims; gatts = gatts; vars = vs }) (sym (all_are dims vars listed s.drafts lists).0)
 
 pub record_too_large : (v : Version) (s : State) (line n : ℕ) → records_kept s.dims s.drafts ≡ Some n → checked_record_size (header_with v n s) ≡ None → finished v line (Ok s) ≡ or_too_large line None
 record_too_large v s line n kept none =
@@ -123,12 +123,12 @@ record_too_large v s line n kept none =
     answer v s line false (enough_is v s true false some.0 over)
 
 pub is_declared : (v : Version) (s : State) (line n : ℕ) → records_kept s.dims s.drafts ≡ Some n → is_some (checked_record_size (header_with v n s)) ≡ true →
-    finished v line (Ok s) ≡ or_too_large line (Some (record { header = header_with v n s; listed = map listed_of s.drafts }))
+    finished v line (Ok s) ≡ or_too_large line (Some (record { header = header_with v n s; listed = map (listed_of s.dims) s.drafts }))
 is_declared v s line n kept there =
     let some = some_of (list_all (is_small s.dims (records_in s.dims s.drafts)) s.drafts) (records_in s.dims s.drafts) n kept in
     let checked = ap is_some (sym (record_checked v s some.0) ∙ ap checked_record_size (sym (same_header v s n some.1))) ∙ there in
     let within = there_of (nat_le (record_size (header_of v s)) record_limit) (record_size (header_of v s)) checked in
-    answer v s line true (enough_is v s true true some.0 within) ∙ ap (λ (h : Header). or_too_large line (Some (record { header = h; listed = map listed_of s.drafts }))) (sym (same_header v s n some.1))
+    answer v s line true (enough_is v s true true some.0 within) ∙ ap (λ (h : Header). or_too_large line (Some (record { header = h; listed = map (listed_of s.dims) s.drafts }))) (sym (same_header v s n some.1))
   where
     there_of : (b : Bool) (m : ℕ) → is_some (if b then Some m else None) ≡ true → b ≡ true
     there_of true m h = refl

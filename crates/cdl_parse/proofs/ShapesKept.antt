@@ -14,7 +14,7 @@ use Rattle.cdl_text.specs.Shapes.{Dimension, Statement, Value, Opening, Mark, De
 use Rattle.cdl_text.specs.declared.fault.CdlKind.{CdlKind}
 use Rattle.cdl_text.specs.declared.fault.CdlKind.TheVariants.{BadName, DuplicateData, DuplicateName}
 use Rattle.cdl_meaning.specs.Meaning.{checked, piece_read, shaped}
-use Rattle.cdl_meaning.specs.State.{State, Draft, act, add_att, add_dim, add_var, at_variable, capacity_of, add_value, dim_len_of, in_turn, is_listed, type_of, unless, when, with_att, with_values, ◌>>=◌}
+use Rattle.cdl_meaning.specs.State.{State, Draft, act, add_att, add_dim, add_var, at_variable, capacity_of, dim_len_of, in_turn, is_listed, listing_of, type_of, unless, when, with_att, with_values, ◌>>=◌}
 use Rattle.cdl_values.specs.Listed.{AreShaped}
 use Rattle.cdl_parse.proofs.Shapes.{Keeps, added_shaped, att_keeps, ok_then, variable_shaped}
 
@@ -87,11 +87,11 @@ grown_shapes dims all drafts grown are = λ k d inside. subst (λ ds. AreDimids 
 
 values_keep : (dims : List Dim) (xs : List Value) → Keeps (with_values dims xs)
 values_keep dims xs d =
-    ok_then (λ u. ⊤) (λ e. e.var.dimids ≡ d.var.dimids) (when (is_listed d.listed) DuplicateData) (λ u. in_turn (add_value (capacity_of dims d.var)) [] xs >>= (λ values. Ok (record d { listed = Some values })))
+    ok_then (λ u. ⊤) (λ e. e.var.dimids ≡ d.var.dimids) (when (is_listed d.listed) DuplicateData) (λ u. listing_of (capacity_of dims d.var) xs >>= (λ listing. Ok (record d { listed = Some listing })))
     (any (when (is_listed d.listed) DuplicateData))
     (λ u w.
-    ok_then (λ values. ⊤) (λ e. e.var.dimids ≡ d.var.dimids) (in_turn (add_value (capacity_of dims d.var)) [] xs) (λ values. Ok (record d { listed = Some values })) (any (in_turn (add_value (capacity_of dims d.var)) [] xs))
-    (λ values w. refl))
+    ok_then (λ listing. ⊤) (λ e. e.var.dimids ≡ d.var.dimids) (listing_of (capacity_of dims d.var) xs) (λ listing. Ok (record d { listed = Some listing })) (any (listing_of (capacity_of dims d.var) xs))
+    (λ listing w. refl))
 
 -- ---- every statement
 

@@ -66,19 +66,19 @@ slab_some dims var are = of_ids var.dimids are
 abbrev pub var_of : Draft → Var
 var_of d = d.var
 
-abbrev pub listed_of : Draft → List ℕ
-listed_of d = flat_map (bytes_of_number d.var.ty) (values_of d)
+abbrev pub listed_of : List Dim → Draft → List ℕ
+listed_of dims d = flat_map (bytes_of_number d.var.ty) (values_of dims d)
 
-pub all_are : (vars : List Var) (arrays : List (List ℕ)) (drafts : List Draft) → AllList vars arrays drafts → (vars ≡ map var_of drafts) × (arrays ≡ map listed_of drafts)
-all_are [] [] [] h = (refl, refl)
-all_are [] [] (d ∷ drafts) h = absurd h
-all_are [] (array ∷ arrays) drafts h = absurd h
-all_are (var ∷ vars) [] drafts h = absurd h
-all_are (var ∷ vars) (array ∷ arrays) [] h = absurd h
-all_are (var ∷ vars) (array ∷ arrays) (d ∷ drafts) h =
-    let others = all_are vars arrays drafts h.1 in (
+pub all_are : (dims : List Dim) (vars : List Var) (arrays : List (List ℕ)) (drafts : List Draft) → AllList dims vars arrays drafts → (vars ≡ map var_of drafts) × (arrays ≡ map (listed_of dims) drafts)
+all_are dims [] [] [] h = (refl, refl)
+all_are dims [] [] (d ∷ drafts) h = absurd h
+all_are dims [] (array ∷ arrays) drafts h = absurd h
+all_are dims (var ∷ vars) [] drafts h = absurd h
+all_are dims (var ∷ vars) (array ∷ arrays) [] h = absurd h
+all_are dims (var ∷ vars) (array ∷ arrays) (d ∷ drafts) h =
+    let others = all_are dims vars arrays drafts h.1 in (
       ap (λ v. v ∷ vars) (sym h.0.is) ∙ ap (λ vs. d.var ∷ vs) others.0,
-      ap (λ a. a ∷ arrays) (h.0.bytes ∙ ap (λ (v : Var). flat_map (bytes_of_number v.ty) (values_of d)) (sym h.0.is)) ∙ ap (λ rest. listed_of d ∷ rest) others.1,
+      ap (λ a. a ∷ arrays) (h.0.bytes ∙ ap (λ (v : Var). flat_map (bytes_of_number v.ty) (values_of dims d)) (sym h.0.is)) ∙ ap (λ rest. listed_of dims d ∷ rest) others.1,
     )
 
 pub bytes_length : (ty : NcType) (values : List ℤ) → length (flat_map (bytes_of_number ty) values) ≡ length values * size_of ty
@@ -90,8 +90,8 @@ bytes_length ty (x ∷ values) =
     let e : suc (length values) * size_of ty ≡ size_of ty + length values * size_of ty = grind arith in
     omega (arith, here, rest, all, e)
 
-pub listed_count : (d : Draft) → length (listed_of d) / size_of d.var.ty ≡ length (values_of d)
-listed_count d = ap (λ n. n / size_of d.var.ty) (bytes_length d.var.ty (values_of d)) ∙ mul-div_cancel (length (values_of d)) (some_size d.var.ty)
+pub listed_count : (dims : List Dim) (d : Draft) → length (listed_of dims d) / size_of d.var.ty ≡ length (values_of dims d)
+listed_count dims d = ap (λ n. n / size_of d.var.ty) (bytes_length d.var.ty (values_of dims d)) ∙ mul-div_cancel (length (values_of dims d)) (some_size d.var.ty)
 
 -- ---- over all variables
 
@@ -116,7 +116,7 @@ max_zero : (a b : ℕ) → max a b ≡ max a (max 0 b)
 max_zero a b = omega arith
 
 pub with_all_is : (dims : List Dim) (drafts : List Draft) (e : Extent) →
-    with_all dims (Some e) (map var_of drafts) (map listed_of drafts) ≡ reached (list_all (has_small dims) drafts) (max e.records (records_in dims drafts)) (max e.widest (widest_in dims drafts))
+    with_all dims (Some e) (map var_of drafts) (map (listed_of dims) drafts) ≡ reached (list_all (has_small dims) drafts) (max e.records (records_in dims drafts)) (max e.widest (widest_in dims drafts))
 with_all_is dims [] e =
     let a : e.records ≡ max e.records 0 = omega arith in
     let b : e.widest ≡ max e.widest 0 = omega arith in
@@ -125,11 +125,11 @@ with_all_is dims (d ∷ drafts) e =
     ap (λ n. with_all dims (if has_small dims d then Some (if is_record_var dims d.var then record {
       records = max e.records (records_for (slab_count dims d.var) n);
       widest = max e.widest (slab_size dims d.var);
-    } else e) else None) (map var_of drafts) (map listed_of drafts)) (listed_count d) ∙
+    } else e) else None) (map var_of drafts) (map (listed_of dims) drafts)) (listed_count dims d) ∙
     by (has_small dims d) (is_record_var dims d.var) (with_all_is dims drafts)
   where
     n : ℕ
-    n = records_for (slab_count dims d.var) (length (values_of d))
+    n = records_for (slab_count dims d.var) (length (values_of dims d))
 
     w : ℕ
     w = slab_size dims d.var
@@ -137,8 +137,8 @@ with_all_is dims (d ∷ drafts) e =
     rest : Extent → Option Extent
     rest f = reached (list_all (has_small dims) drafts) (max f.records (records_in dims drafts)) (max f.widest (widest_in dims drafts))
 
-    by : (small growing : Bool) → ((f : Extent) → with_all dims (Some f) (map var_of drafts) (map listed_of drafts) ≡ rest f) →
-        with_all dims (if small then Some (if growing then record { records = max e.records n; widest = max e.widest w } else e) else None) (map var_of drafts) (map listed_of drafts) ≡
+    by : (small growing : Bool) → ((f : Extent) → with_all dims (Some f) (map var_of drafts) (map (listed_of dims) drafts) ≡ rest f) →
+        with_all dims (if small then Some (if growing then record { records = max e.records n; widest = max e.widest w } else e) else None) (map var_of drafts) (map (listed_of dims) drafts) ≡
         reached (small && list_all (has_small dims) drafts) (max e.records (max (if growing then n else 0) (records_in dims drafts))) (max e.widest (max (if growing then w else 0) (widest_in dims drafts)))
     by false growing more = refl
     by true true more =
@@ -219,7 +219,7 @@ some_wide dims (d ∷ drafts) shaped some =
     slab : 0 < slab_size dims d.var
     slab = times (slab_count dims d.var) (size_of d.var.ty) (slab_some dims d.var (All-head (λ (e : Draft). AreDimids dims [] e.var.dimids) d drafts shaped)) (some_size d.var.ty)
 
-    by : (growing : Bool) → (0 < records_in dims drafts → 0 < widest_in dims drafts) → 0 < max (if growing then records_for (slab_count dims d.var) (length (values_of d)) else 0) (records_in dims drafts) →
+    by : (growing : Bool) → (0 < records_in dims drafts → 0 < widest_in dims drafts) → 0 < max (if growing then records_for (slab_count dims d.var) (length (values_of dims d)) else 0) (records_in dims drafts) →
         0 < max (if growing then slab_size dims d.var else 0) (widest_in dims drafts)
     by true more h = omega (arith, slab)
     by false more h =
@@ -247,10 +247,10 @@ records_are dims drafts shaped =
 abbrev pub nothing : Extent
 nothing = record { records = 0; widest = 0 }
 
-from_nothing : (dims : List Dim) (vars : List Var) (arrays : List (List ℕ)) (drafts : List Draft) → AllList vars arrays drafts →
+from_nothing : (dims : List Dim) (vars : List Var) (arrays : List (List ℕ)) (drafts : List Draft) → AllList dims vars arrays drafts →
     with_all dims (Some nothing) vars arrays ≡ (if list_all (has_small dims) drafts then Some (reach dims drafts) else None)
 from_nothing dims vars arrays drafts lists =
-    let are = all_are vars arrays drafts lists in
+    let are = all_are dims vars arrays drafts lists in
     let a : max 0 (records_in dims drafts) ≡ records_in dims drafts = omega arith in
     let b : max 0 (widest_in dims drafts) ≡ widest_in dims drafts = omega arith in
     ap (λ vs. with_all dims (Some nothing) vs arrays) are.0 ∙ ap (with_all dims (Some nothing) (map var_of drafts)) are.1 ∙ with_all_is dims drafts nothing ∙
@@ -267,7 +267,7 @@ kept_is dims drafts =
     by false b = refl
 
 -- a slab passes the limit
-pub none_kept : (dims : List Dim) (vars : List Var) (arrays : List (List ℕ)) (drafts : List Draft) → AllList vars arrays drafts → with_all dims (Some nothing) vars arrays ≡ None → records_kept dims drafts ≡ None
+pub none_kept : (dims : List Dim) (vars : List Var) (arrays : List (List ℕ)) (drafts : List Draft) → AllList dims vars arrays drafts → with_all dims (Some nothing) vars arrays ≡ None → records_kept dims drafts ≡ None
 none_kept dims vars arrays drafts lists none =
     kept_is dims drafts ∙ by (list_all (has_small dims) drafts) (sym (from_nothing dims vars arrays drafts lists) ∙ none)
   where
@@ -275,7 +275,7 @@ none_kept dims vars arrays drafts lists none =
     by true h = cc
     by false h = refl
 
-pub some_kept : (dims : List Dim) (vars : List Var) (arrays : List (List ℕ)) (drafts : List Draft) (e : Extent) → AllList vars arrays drafts → AreShaped dims drafts → with_all dims (Some nothing) vars arrays ≡ Some e →
+pub some_kept : (dims : List Dim) (vars : List Var) (arrays : List (List ℕ)) (drafts : List Draft) (e : Extent) → AllList dims vars arrays drafts → AreShaped dims drafts → with_all dims (Some nothing) vars arrays ≡ Some e →
     records_within e ≡ records_kept dims drafts
 some_kept dims vars arrays drafts e lists shaped is =
     by (list_all (has_small dims) drafts) (sym (from_nothing dims vars arrays drafts lists) ∙ is) ∙ sym (kept_is dims drafts)
@@ -286,7 +286,7 @@ some_kept dims vars arrays drafts e lists shaped is =
     by false h = cc
 
 -- each slab has a value
-pub each_some : (dims : List Dim) (vars : List Var) (arrays : List (List ℕ)) (drafts : List Draft) → AllList vars arrays drafts → AreShaped dims drafts → All (λ (var : Var). 0 < slab_count dims var) vars
+pub each_some : (dims : List Dim) (vars : List Var) (arrays : List (List ℕ)) (drafts : List Draft) → AllList dims vars arrays drafts → AreShaped dims drafts → All (λ (var : Var). 0 < slab_count dims var) vars
 each_some dims [] [] [] lists shaped = All-nil (λ (var : Var). 0 < slab_count dims var)
 each_some dims [] [] (d ∷ drafts) lists shaped = absurd lists
 each_some dims [] (array ∷ arrays) drafts lists shaped = absurd lists

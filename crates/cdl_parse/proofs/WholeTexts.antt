@@ -19,9 +19,9 @@ use Rattle.cdl_parse.specs.declared.parse_error.ParseError.{ParseError}
 use Rattle.cdl_parse.specs.declared.parse_error.ParseError.TheVariants as stops
 
 -- of no variable anything is listed
-pub none_listed : (vars : List Var) → AllList vars (replicate (length vars) []) (fresh vars)
-none_listed [] = tt
-none_listed (var ∷ vars) = (record { is = refl; bytes = refl }, none_listed vars)
+pub none_listed : (dims : List Dim) (vars : List Var) → AllList dims vars (replicate (length vars) []) (fresh vars)
+none_listed dims [] = tt
+none_listed dims (var ∷ vars) = (record { is = refl; bytes = refl }, none_listed dims vars)
 
 -- neither before the data section nor in it
 pub past_values : (section : Section) → is_early section ≡ false → (section ≡ Values → ⊥) → is_past section ≡ true
@@ -34,7 +34,7 @@ past_values Closed early other = refl
 past_values Ended early other = refl
 
 -- what is listed changes no shape
-pub listed_shapes : (dims : List Dim) (vars : List Var) (arrays : List (List ℕ)) (drafts : List Draft) → AllList vars arrays drafts → AreShaped dims (fresh vars) → AreShaped dims drafts
+pub listed_shapes : (dims : List Dim) (vars : List Var) (arrays : List (List ℕ)) (drafts : List Draft) → AllList dims vars arrays drafts → AreShaped dims (fresh vars) → AreShaped dims drafts
 listed_shapes dims [] [] [] h are = λ k d inside. are k d inside
 listed_shapes dims [] [] (d ∷ drafts) h are = absurd h
 listed_shapes dims [] (a ∷ arrays) drafts h are = absurd h

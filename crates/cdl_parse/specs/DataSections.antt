@@ -26,7 +26,7 @@ given_at (suc position) (t ∷ ts) = t ∷ given_at position ts
 pub record IsInDataSection (vars : List Var) (targets : List Target) (arrays : List (List ℕ)) (s : State) : Type 0 where
   pub section : s.section ≡ Values
   pub suit : Suit s.dims targets s.drafts
-  pub lists : AllList vars arrays s.drafts
+  pub lists : AllList s.dims vars arrays s.drafts
 
 -- the statement closes the section, or it has the fault
 abbrev pub Closes : Cutter → State → Result Passed ReadError → Type 0
@@ -35,7 +35,7 @@ Closes start s (Err e) = Fails e (piece_read (version_of start) s (words start))
 
 -- the statement is the closing brace, and what is listed is these bytes; or it lists values, and afterwards the state stands so
 abbrev pub Takes : Bool → List Var → Cutter → State → List Target → List (List ℕ) → Type 0
-Takes true vars start s targets arrays = (piece_read (version_of start) s (words start) ≡ Ok (record s { section = Closed })) × AllList vars arrays s.drafts
+Takes true vars start s targets arrays = (piece_read (version_of start) s (words start) ≡ Ok (record s { section = Closed })) × AllList s.dims vars arrays s.drafts
 Takes false vars start s targets arrays = (ds : List Draft) × (piece_read (version_of start) s (words start) ≡ Ok (record s { drafts = ds })) × IsInDataSection vars targets arrays (record s { drafts = ds })
 
 -- the statement is taken, or it has the fault
@@ -46,6 +46,6 @@ ReadsOne vars start s targets arrays (Err e) = Fails e (piece_read (version_of s
 -- the bytes are listed of these variables, and the text is read on after the section, open or closed; or there is the fault
 abbrev pub ReadsData : List Var → Cutter → State → Result DataSection ParseError → Type 0
 ReadsData vars start s (Ok d) =
-    (ds : List Draft) × AllList vars d.arrays.items ds ×
+    (ds : List Draft) × AllList s.dims vars d.arrays.items ds ×
     (run (text_of start) (version_of start) s (pieces_left start) ≡ run (text_of start) (version_of start) (record s { section = if d.is_closed then Closed else Values; drafts = ds }) (pieces_left d.rest))
 ReadsData vars start s (Err e) = FailsAt e (run (text_of start) (version_of start) s (pieces_left start))

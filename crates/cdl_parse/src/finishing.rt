@@ -23,7 +23,7 @@ pub fn finish(
     vars: Sequence<Var>,
     listed: Vec<Array>,
 ) -> Option<Declared>
-    ensures { (s : State) → s.dims ≡ dims → s.gatts ≡ gatts → AllList vars listed.items s.drafts → AreShaped dims s.drafts → (line : ℕ) → finished version line (Ok s) ≡ or_too_large line result }
+    ensures { (s : State) → s.dims ≡ dims → s.gatts ≡ gatts → AllList dims vars listed.items s.drafts → AreShaped dims s.drafts → (line : ℕ) → finished version line (Ok s) ≡ or_too_large line result }
 {
     let records = records_of(dims.as_slice(), vars.as_slice(), listed.as_slice())?;
     let header = Header {

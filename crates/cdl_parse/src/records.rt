@@ -16,7 +16,7 @@ const ARRAY_LIMIT: u128 = 1 << 48;
 /// The number of records: as many as the record variable has that lists the most values. None, where a slab, or an array over
 /// that many records, passes 2^48 bytes.
 pub fn records_of(dims: &[Dim], vars: &[Var], listed: &[Array]) -> Option<u64>
-    ensures { (drafts : List Draft) → AllList vars.now listed.now drafts → AreShaped dims.now drafts → result ≡ records_kept dims.now drafts }
+    ensures { (drafts : List Draft) → AllList dims.now vars.now listed.now drafts → AreShaped dims.now drafts → result ≡ records_kept dims.now drafts }
 {
     extent_of(dims, vars, listed)?.records()
 }

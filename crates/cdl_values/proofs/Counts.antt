@@ -1,5 +1,5 @@
 -- A statement has fewer values than the greatest capacity, so that stands for all from there on.
-use Rattle.std.proofs.Common.{◌≡◌, ℕ, zero, suc, ◌+◌, ◌*◌, ◌-◌, ◌≤◌, Bool, true, false, List, [], ◌∷◌, length, map, drop, refl, sym, ap, ◌∙◌, arith}
+use Rattle.std.proofs.Common.{◌≡◌, ℕ, zero, suc, ◌+◌, ◌-◌, ◌≤◌, Bool, true, false, List, [], ◌∷◌, length, map, drop, refl, sym, ap, ◌∙◌, arith}
 use Rattle.std.specs.Prelude.{Option, None, Some, Result, ◌&&◌, if◌then◌else◌, is_none, min, nat_le}
 use Rattle.nc_base.specs.declared.version.Version.{Version}
 use Rattle.cdl_text.specs.Contents.{values, value_of}
@@ -18,8 +18,8 @@ use Rattle.cdl_text.specs.declared.piece.Role.{Role}
 use Rattle.cdl_tokens.specs.declared.token.Token.{Token}
 use Rattle.cdl_tokens.specs.declared.token.TokenKind.{TokenKind}
 use Rattle.cdl_tokens.specs.declared.token.TokenKind.TheVariants as kinds
-use Rattle.cdl_meaning.specs.State.{Capacity, add_value, in_turn}
-use Rattle.cdl_values.specs.Capacities.{Fills, Takes, as_bytes, capacity_for, most, unit_of}
+use Rattle.cdl_meaning.specs.State.{Capacity, listing_of}
+use Rattle.cdl_values.specs.Capacities.{Fills, Takes, as_bytes, capacity_for, most, positions_in}
 use Rattle.cdl_values.specs.PackedValues.{packed, followed_by, value_bytes, row_bytes, is_full}
 use Rattle.cdl_values.specs.declared.fill.Fill.{Fill}
 use Rattle.cdl_values.specs.declared.filling.Filling.{Filling}
@@ -138,9 +138,8 @@ same Joined m xs few = refl
 same (Rows len fill) m xs few = capped (length xs) (λ k. packed (Rows len fill) (Some k) xs) m (λ k a b. rows_same len fill m k xs a b) few
 
 -- the values of a variable with this capacity
-pub all_taken : (f : Filling) (capacity : Option ℕ) (r : Capacity) (xs : List Value) → Fills f r → Takes f capacity r → length xs ≤ most → as_bytes r (in_turn (add_value r) [] xs) ≡ packed f capacity xs
+pub all_taken : (f : Filling) (capacity : Option ℕ) (r : Capacity) (xs : List Value) → Fills f r → Takes f capacity r → length xs ≤ most → as_bytes r (listing_of r xs) ≡ packed f capacity xs
 all_taken f None r xs h takes few = all_turns f None r xs h takes
 all_taken f (Some n) r xs h takes few =
-    let k : r.count ≡ takes.1 * unit_of f = takes.2 in
-    let count : r.count ≡ 0 + takes.1 * unit_of f = grind (arith, k) in
-    all_turns f (Some takes.1) r xs h (takes.0, count) ∙ same f takes.1 xs few ∙ ap (λ k. packed f (Some k) xs) (sym takes.3)
+    let m = positions_in f r in
+    all_turns f (Some m) r xs h (takes.0, (let e : m ≡ 0 + m = omega arith in e)) ∙ same f m xs few ∙ ap (λ k. packed f (Some k) xs) (sym takes.1)

@@ -1,5 +1,5 @@
 -- What a statement of the data section means is what its state lists.
-use Rattle.std.proofs.Common.{◌≡◌, ℕ, suc, ◌+◌, ◌≤◌, arith, ℤ, Bool, true, false, List, [], ◌∷◌, ◌++◌, length, refl, sym, ap, ◌∙◌, subst, length-append, append_assoc}
+use Rattle.std.proofs.Common.{◌≡◌, ℕ, suc, ◌+◌, ◌≤◌, arith, Bool, true, false, List, [], ◌∷◌, ◌++◌, length, refl, sym, ap, ◌∙◌, subst, length-append, append_assoc}
 use Rattle.std.specs.Prelude.{Option, None, Some, Result, Ok, Err, if◌then◌else◌, slice_get, drop}
 use Rattle.std.specs.List.{flat_map, position_from}
 use Rattle.std.specs.Str.{bytes_eq}
@@ -20,9 +20,9 @@ use Rattle.cdl_text.specs.declared.section.Section.TheVariants.{Values}
 use Rattle.cdl_text.proofs.Shaping.{data_is}
 use Rattle.cdl_text.proofs.Listing.{fine_on}
 use Rattle.cdl_meaning.specs.Meaning.{piece_read, checked, shaped}
-use Rattle.cdl_meaning.specs.State.{State, Draft, Capacity, capacity_of, at_named, at_variable, with_values, act, in_turn, add_value, unless, when, ◌>>=◌}
+use Rattle.cdl_meaning.specs.State.{State, Draft, Listing, Capacity, capacity_of, at_named, at_variable, listing_of, values_in, with_values, act, unless, when, ◌>>=◌}
 use Rattle.cdl_values.specs.DataRead.{data_read, assigned, target_of, target_at, if_new, filled, unless_bad}
-use Rattle.cdl_values.specs.Meant.{Suit, names_of, listing, bytes_at, Listing, Means, begins_brace, ReadsStatement, array_of}
+use Rattle.cdl_values.specs.Meant.{Suit, names_of, with_listing, bytes_at, HasListed, Means, begins_brace, ReadsStatement, array_of}
 use Rattle.cdl_values.specs.Answers.{Gives}
 use Rattle.cdl_values.specs.declared.read_error.ReadError.{ReadError}
 use Rattle.cdl_values.specs.declared.read_error.ReadError.TheVariants.{OutOfMemory, Fault}
@@ -58,25 +58,27 @@ found_from dims pre (t ∷ ts) (d ∷ ds) name h = by (bytes_eq d.var.name name)
         ap (λ i. target_at ((pre ++ t ∷ []) ++ ts) (position_from (λ other. bytes_eq other name) i (names_of ds))) (sym (length-append pre (t ∷ []))) ∙ more
 
 -- one draft
-one_listed : (r : Capacity) (d : Draft) (l : Result (List ℤ) CdlKind) (p : Result (List ℕ) CdlKind) → d.var.ty ≡ r.ty → as_bytes r l ≡ p →
-    (name : List ℕ) (ds : List Draft) → bytes_eq d.var.name name ≡ true →
-    Listing name (d ∷ ds) p (l >>= (λ xs. Ok (record d { listed = Some xs })) >>= (λ e. Ok (e ∷ ds)))
-one_listed r d (Ok xs) (Ok bs) ty is name ds same = (xs, rw (same) (ap (λ t. flat_map (bytes_of_number t) xs) ty ∙ (let e : flat_map (bytes_of_number r.ty) xs ≡ bs = cc in e)), rw (same) refl)
-one_listed r d (Ok xs) (Err e) ty is name ds same = cc
-one_listed r d (Err e) (Ok bs) ty is name ds same = cc
-one_listed r d (Err e) (Err g) ty is name ds same = let f : e ≡ g = cc in ap Err f
-
 listed_ty : (dims : List Dim) (d : Draft) → d.var.ty ≡ (capacity_of dims d.var).ty
 unfolding capacity_of
 listed_ty dims d = refl
 
-past_first : (d : Draft) (ds : List Draft) (name : List ℕ) (p : Result (List ℕ) CdlKind) (after : Result (List Draft) CdlKind) → bytes_eq d.var.name name ≡ false → Listing name ds p after →
-    Listing name (d ∷ ds) p (after >>= (λ es. Ok (d ∷ es)))
-past_first d ds name (Err e) after other h = rw (h) refl
-past_first d ds name (Ok bs) after other h = (h.0, rw (other) h.1, rw (other) (rw (h.2) refl))
+one_listed : (dims : List Dim) (d : Draft) (l : Result Listing CdlKind) (p : Result (List ℕ) CdlKind) → as_bytes (capacity_of dims d.var) l ≡ p →
+    (name : List ℕ) (ds : List Draft) → bytes_eq d.var.name name ≡ true →
+    HasListed dims name (d ∷ ds) p (l >>= (λ xs. Ok (record d { listed = Some xs })) >>= (λ e. Ok (e ∷ ds)))
+one_listed dims d (Ok xs) (Ok bs) is name ds same =
+    let r = capacity_of dims d.var in
+    (xs, rw (same) (ap (λ t. flat_map (bytes_of_number t) (values_in r xs)) (listed_ty dims d) ∙ (let e : flat_map (bytes_of_number r.ty) (values_in r xs) ≡ bs = cc in e)), rw (same) refl)
+one_listed dims d (Ok xs) (Err e) is name ds same = cc
+one_listed dims d (Err e) (Ok bs) is name ds same = cc
+one_listed dims d (Err e) (Err g) is name ds same = let f : e ≡ g = cc in ap Err f
+
+past_first : (dims : List Dim) (d : Draft) (ds : List Draft) (name : List ℕ) (p : Result (List ℕ) CdlKind) (after : Result (List Draft) CdlKind) → bytes_eq d.var.name name ≡ false → HasListed dims name ds p after →
+    HasListed dims name (d ∷ ds) p (after >>= (λ es. Ok (d ∷ es)))
+past_first dims d ds name (Err e) after other h = rw (h) refl
+past_first dims d ds name (Ok bs) after other h = (h.0, rw (other) h.1, rw (other) (rw (h.2) refl))
 
 at_target : (v : Version) (dims : List Dim) (ts : List Target) (ds : List Draft) (name : List ℕ) (ws : List Lexeme) → Suit dims ts ds → length (values v ws) ≤ most →
-    Listing name ds (filled v ws (named (names_of ds) ts name)) (at_named name (with_values dims (values v ws)) ds)
+    HasListed dims name ds (filled v ws (named (names_of ds) ts name)) (at_named name (with_values dims (values v ws)) ds)
 unfolding named
 at_target v dims [] [] name ws h few = refl
 at_target v dims [] (d ∷ ds) name ws h few = absurd h
@@ -87,34 +89,34 @@ at_target v dims (t ∷ ts) (d ∷ ds) name ws h few = by (bytes_eq d.var.name n
     r = capacity_of dims d.var
 
     fresh : (given : Bool) → t.given ≡ given → (same : bytes_eq d.var.name name ≡ true) →
-        Listing name (d ∷ ds) (filled v ws (if given then Err DuplicateData else Ok t)) (when given DuplicateData >>= (λ u. in_turn (add_value r) [] (values v ws) >>= (λ xs. Ok (record d { listed = Some xs }))) >>= (λ e. Ok (e ∷ ds)))
+        HasListed dims name (d ∷ ds) (filled v ws (if given then Err DuplicateData else Ok t)) (when given DuplicateData >>= (λ u. listing_of r (values v ws) >>= (λ xs. Ok (record d { listed = Some xs }))) >>= (λ e. Ok (e ∷ ds)))
     fresh true is same = refl
-    fresh false is same = one_listed r d (in_turn (add_value r) [] (values v ws)) (packed t.filling t.capacity (values v ws)) (listed_ty dims d) (all_taken t.filling t.capacity r (values v ws) h.0.fills h.0.takes few) name ds same
+    fresh false is same = one_listed dims d (listing_of r (values v ws)) (packed t.filling t.capacity (values v ws)) (all_taken t.filling t.capacity r (values v ws) h.0.fills h.0.takes few) name ds same
 
-    by : (same : Bool) → bytes_eq d.var.name name ≡ same → Listing name ds (filled v ws (named (names_of ds) ts name)) (at_named name (with_values dims (values v ws)) ds) →
-        Listing name (d ∷ ds) (filled v ws (if same then if_new (Some t) else named (names_of ds) ts name))
+    by : (same : Bool) → bytes_eq d.var.name name ≡ same → HasListed dims name ds (filled v ws (named (names_of ds) ts name)) (at_named name (with_values dims (values v ws)) ds) →
+        HasListed dims name (d ∷ ds) (filled v ws (if same then if_new (Some t) else named (names_of ds) ts name))
         (if same then (with_values dims (values v ws) d >>= (λ e. Ok (e ∷ ds))) else (at_named name (with_values dims (values v ws)) ds >>= (λ es. Ok (d ∷ es))))
-    by true same more = subst (λ (g : Bool). Listing name (d ∷ ds) (filled v ws (if t.given then Err DuplicateData else Ok t)) (when g DuplicateData >>= (λ u. in_turn (add_value r) [] (values v ws) >>= (λ xs. Ok (record d { listed = Some xs }))) >>= (λ e. Ok (e ∷ ds)))) h.0.given (fresh t.given refl same)
-    by false other more = past_first d ds name (filled v ws (named (names_of ds) ts name)) (at_named name (with_values dims (values v ws)) ds) other more
+    by true same more = subst (λ (g : Bool). HasListed dims name (d ∷ ds) (filled v ws (if t.given then Err DuplicateData else Ok t)) (when g DuplicateData >>= (λ u. listing_of r (values v ws) >>= (λ xs. Ok (record d { listed = Some xs }))) >>= (λ e. Ok (e ∷ ds)))) h.0.given (fresh t.given refl same)
+    by false other more = past_first dims d ds name (filled v ws (named (names_of ds) ts name)) (at_named name (with_values dims (values v ws)) ds) other more
 
 -- by its name
 at_name : (v : Version) (dims : List Dim) (ts : List Target) (ds : List Draft) (name : List ℕ) (ws : List Lexeme) → Suit dims ts ds → length (values v ws) ≤ most →
-    Listing name ds (filled v ws (target_of (names_of ds) ts name)) (at_variable name (with_values dims (values v ws)) ds)
+    HasListed dims name ds (filled v ws (target_of (names_of ds) ts name)) (at_variable name (with_values dims (values v ws)) ds)
 unfolding at_variable
 at_name v dims ts ds name ws h few = by (is_name name)
   where
-    there : Listing name ds (filled v ws (target_at ts (position_of (names_of ds) name))) (at_named name (with_values dims (values v ws)) ds)
-    there = subst (λ (t : Result Target CdlKind). Listing name ds (filled v ws t) (at_named name (with_values dims (values v ws)) ds)) (sym (found_from dims [] ts ds name h)) (at_target v dims ts ds name ws h few)
+    there : HasListed dims name ds (filled v ws (target_at ts (position_of (names_of ds) name))) (at_named name (with_values dims (values v ws)) ds)
+    there = subst (λ (t : Result Target CdlKind). HasListed dims name ds (filled v ws t) (at_named name (with_values dims (values v ws)) ds)) (sym (found_from dims [] ts ds name h)) (at_target v dims ts ds name ws h few)
 
-    by : (b : Bool) → Listing name ds (filled v ws (if b then target_at ts (position_of (names_of ds) name) else Err BadName)) (unless b BadName >>= (λ u. at_named name (with_values dims (values v ws)) ds))
+    by : (b : Bool) → HasListed dims name ds (filled v ws (if b then target_at ts (position_of (names_of ds) name) else Err BadName)) (unless b BadName >>= (λ u. at_named name (with_values dims (values v ws)) ds))
     by true = there
     by false = refl
 
-acted : (s : State) (name : List ℕ) (p : Result (List ℕ) CdlKind) (after : Result (List Draft) CdlKind) → Listing name s.drafts p after → (v : Version) (l : Lexeme) (ls : List Lexeme) → word_value l.bytes ≡ name →
+acted : (s : State) (name : List ℕ) (p : Result (List ℕ) CdlKind) (after : Result (List Draft) CdlKind) → HasListed s.dims name s.drafts p after → (v : Version) (l : Lexeme) (ls : List Lexeme) → word_value l.bytes ≡ name →
     piece_read v s (l ∷ ls) ≡ (after >>= (λ ds. Ok (record s { drafts = ds }))) → Means v s (l ∷ ls) p
 acted s name (Err e) after h v l ls same is = is ∙ ap (λ (a : Result (List Draft) CdlKind). a >>= (λ ds. Ok (record s { drafts = ds }))) h
 acted s name (Ok bs) after h v l ls same is =
-    (h.0, ap (λ n. bytes_at n h.0 s.drafts) same ∙ h.1, is ∙ ap (λ (a : Result (List Draft) CdlKind). a >>= (λ ds. Ok (record s { drafts = ds }))) h.2 ∙ ap (λ n. Ok (record s { drafts = listing n h.0 s.drafts })) (sym same))
+    (h.0, ap (λ n. bytes_at s.dims n h.0 s.drafts) same ∙ h.1, is ∙ ap (λ (a : Result (List Draft) CdlKind). a >>= (λ ds. Ok (record s { drafts = ds }))) h.2 ∙ ap (λ n. Ok (record s { drafts = with_listing n h.0 s.drafts })) (sym same))
 
 completes_first : (l : Lexeme) (ls : List Lexeme) → is_mark 0x7d l ≡ false → completes (dues.First Values) (l ∷ ls) ≡ completes dues.DataName (l ∷ ls)
 unfolding completes next

@@ -1,5 +1,5 @@
 -- Targets that suit a state's drafts: the premises of the data section's reader can be met.
-use Rattle.std.proofs.Common.{List, [], ◌∷◌, refl, false, arith, rules, ◌<◌, ◌^◌, ◌-◌}
+use Rattle.std.proofs.Common.{List, [], ◌∷◌, refl, false, rules, ◌^◌, ◌-◌}
 use Rattle.std.specs.Prelude.{codes, Some, None, pos, neg_ℤ}
 use Rattle.nc_base.specs.Fill.{fill_value}
 use Rattle.nc_base.specs.declared.header.Dim.{Dim}
@@ -34,6 +34,6 @@ targets =
 suited : Suit dims targets drafts
 unfolding dims drafts int_fill targets capacity_of fill_value
 suited = (
-  record { given = refl; fills = (refl, refl, refl); takes = (refl, 2, refl, refl) },
-  (record { given = refl; fills = (refl, refl, refl, (let e : 0 < 3 = omega arith in e), refl); takes = (refl, 2, refl, refl) }, (record { given = refl; fills = (refl, refl); takes = (refl, 3, refl, refl) }, (record { given = refl; fills = (refl, refl, refl); takes = (refl, 2 ^ 80, refl, refl) }, tt))),
+  record { given = refl; fills = (refl, refl, refl); takes = (refl, refl) },
+  (record { given = refl; fills = (refl, refl, refl, refl); takes = (refl, refl) }, (record { given = refl; fills = (refl, refl); takes = (refl, refl) }, (record { given = refl; fills = (refl, refl, refl); takes = (refl, refl) }, tt))),
 )

@@ -1,8 +1,9 @@
 -- The values of a statement one by one: their bytes are the bytes of what the state lists.
-use Rattle.std.proofs.Common.{◌≡◌, ℕ, zero, suc, ◌+◌, ◌*◌, ◌-◌, ◌<◌, ℤ, Bool, true, false, List, [], ◌∷◌, ◌++◌, length, map, refl, sym, ap, ◌∙◌, arith, append-nil, length-append, rules, subst}
+use Rattle.std.proofs.Common.{◌≡◌, ℕ, zero, suc, ◌+◌, ◌-◌, ℤ, Bool, true, false, List, [], ◌∷◌, ◌++◌, length, map, refl, sym, ap, ◌∙◌, arith, append-nil, length-append, rules, subst}
 use Rattle.std.specs.Prelude.{pos, Option, None, Some, Result, Ok, Err, ◌||◌, not, nat_lt, nat_le, replicate}
 use Rattle.std.specs.List.{flat_map}
 use Rattle.std.proofs.lemmas.Grind.{flat_map-append}
+use Rattle.std.proofs.lemmas.List.{map-append}
 use Rattle.nc_base.specs.declared.nc_type.NcType.{NcType}
 use Rattle.nc_base.specs.declared.nc_type.NcType.TheVariants.{Char}
 use Rattle.nc_base.specs.Numbers.{bytes_of_number}
@@ -10,122 +11,132 @@ use Rattle.nc_base.specs.ValueText.{is_char}
 use Rattle.cdl_text.specs.Shapes.{Value, Number, Characters, Underscore}
 use Rattle.cdl_text.specs.declared.fault.CdlKind.{CdlKind}
 use Rattle.cdl_text.specs.declared.fault.CdlKind.TheVariants.{TooManyValues, NumberRange, StringTooLong, WrongKind}
-use Rattle.cdl_meaning.specs.State.{Capacity, in_turn, add_value, fits, filled}
-use Rattle.cdl_values.specs.Capacities.{Fills, unit_of, Left, as_bytes}
+use Rattle.cdl_meaning.specs.State.{Capacity, Listing, Numbers, Joined, Rows, add_number, add_characters, add_row, in_turn, listed_by, listing_of, values_in, fits, filled, ◌>>=◌}
+use Rattle.cdl_values.specs.Capacities.{Fills, positions_in, as_bytes}
 use Rattle.cdl_values.specs.PackedValues.{packed, followed_by, joined, bytes_of, capacity_after, is_full, is_past, less, char_bytes}
 use Rattle.cdl_values.specs.declared.fill.Fill.{Fill}
 use Rattle.cdl_values.specs.declared.filling.Filling.{Filling}
-use Rattle.cdl_values.specs.declared.filling.Filling.TheVariants.{Numbers, Joined, Rows}
-use Rattle.cdl_values.proofs.PackedTokens.{joined_assoc, chars_len}
+use Rattle.cdl_values.specs.declared.filling.Filling.TheVariants as fillings
+use Rattle.cdl_values.proofs.PackedTokens.{joined_assoc, joined_none, chars_len}
 
-bytes : Capacity → List ℤ → List ℕ
-bytes r values = flat_map (bytes_of_number r.ty) values
+abbrev bytes : Capacity → Listing → List ℕ
+bytes r listing = flat_map (bytes_of_number r.ty) (values_in r listing)
+
+-- of these positions this capacity is left after the first n
+abbrev Left : Option ℕ → Bool → ℕ → ℕ → Type 0
+Left None is_open count n = is_open ≡ true
+Left (Some left) is_open count n = (is_open ≡ false) × (count ≡ n + left)
 
 -- what a value does to what is listed, and to the bytes
-data Step (f : Filling) (capacity : Option ℕ) (r : Capacity) (before : List ℤ) (x : Value) : Type 0 where
-  wrong : (e : CdlKind) (says : add_value r before x ≡ Err e) (does : bytes_of f capacity x ≡ Err e) → Step f capacity r before x
-  puts : (ys : List ℤ) (says : add_value r before x ≡ Ok (before ++ ys)) (does : bytes_of f capacity x ≡ Ok (flat_map (bytes_of_number r.ty) ys))
-      (left : Left (unit_of f) (capacity_after f (flat_map (bytes_of_number r.ty) ys) capacity) r (before ++ ys)) → Step f capacity r before x
+data Step {A : Type 0} (f : Filling) (r : Capacity) (add : List A → Value → Result (List A) CdlKind) (listing : List A → Listing) (count : ℕ) (capacity : Option ℕ) (before : List A) (x : Value) : Type 0 where
+  wrong : (e : CdlKind) (says : add before x ≡ Err e) (does : bytes_of f capacity x ≡ Err e) → Step f r add listing count capacity before x
+  puts : (ys : List A) (says : add before x ≡ Ok (before ++ ys)) (does : bytes_of f capacity x ≡ Ok (bytes r (listing ys)))
+      (left : Left (capacity_after f (bytes r (listing ys)) capacity) r.is_open count (length (before ++ ys))) → Step f r add listing count capacity before x
 
-capacity_is : (unit : ℕ) (capacity : Option ℕ) (r : Capacity) (before : List ℤ) → 0 < unit → Left unit capacity r before → (r.is_open || nat_lt (length before) r.count) ≡ not (is_full capacity)
-capacity_is unit None r before some h = rw (h) refl
-capacity_is unit (Some zero) r before some h =
-    let e : r.count ≡ length before + 0 * unit = h.1 in
-    let off : nat_lt (length before) r.count ≡ false = grind (arith, e) in
+-- what every value of a variable does
+record Steps {A : Type 0} (f : Filling) (r : Capacity) (add : List A → Value → Result (List A) CdlKind) (listing : List A → Listing) (count : ℕ) : Type 0 where
+  none : values_in r (listing []) ≡ []
+  joins : (xs ys : List A) → values_in r (listing (xs ++ ys)) ≡ values_in r (listing xs) ++ values_in r (listing ys)
+  step : (capacity : Option ℕ) (before : List A) (x : Value) → Left capacity r.is_open count (length before) → Step f r add listing count capacity before x
+
+capacity_is : (capacity : Option ℕ) (is_open : Bool) (count n : ℕ) → Left capacity is_open count n → (is_open || nat_lt n count) ≡ not (is_full capacity)
+capacity_is None is_open count n h = rw (h) refl
+capacity_is (Some zero) is_open count n h =
+    let e : count ≡ n + 0 = h.1 in
+    let off : nat_lt n count ≡ false = grind (arith, e) in
     rw (h.0) (rw (off) refl)
-capacity_is unit (Some (suc n)) r before some h =
-    let e : r.count ≡ length before + suc n * unit = h.1 in
-    let on : nat_lt (length before) r.count ≡ true = grind (arith, e, some) in
-    let some : is_full (Some (suc n)) ≡ false = search rules in
+capacity_is (Some (suc left)) is_open count n h =
+    let e : count ≡ n + suc left = h.1 in
+    let on : nat_lt n count ≡ true = grind (arith, e) in
+    let some : is_full (Some (suc left)) ≡ false = search rules in
     rw (h.0) (rw (on) (ap not (sym some)))
 
 -- one position less
-left_less : (unit : ℕ) (capacity : Option ℕ) (r : Capacity) (before ys : List ℤ) → length ys ≡ unit → is_full capacity ≡ false → Left unit capacity r before → Left unit (less 1 capacity) r (before ++ ys)
-left_less unit None r before ys len some h = h
-left_less unit (Some zero) r before ys len some h = cc
-left_less unit (Some (suc n)) r before ys len some h =
-    let e : r.count ≡ length before + suc n * unit = h.1 in
-    let l = length-append before ys in
-    (h.0, (let g : r.count ≡ length (before ++ ys) + (suc n - 1) * unit = grind (arith, e, l, len) in g))
+left_less : {A : Type 0} (capacity : Option ℕ) (is_open : Bool) (count : ℕ) (before : List A) (y : A) → is_full capacity ≡ false → Left capacity is_open count (length before) → Left (less 1 capacity) is_open count (length (before ++ y ∷ []))
+left_less None is_open count before y some h = h
+left_less (Some zero) is_open count before y some h = cc
+left_less (Some (suc left)) is_open count before y some h =
+    let e : count ≡ length before + suc left = h.1 in
+    let l = length-append before (y ∷ []) in
+    (h.0, (let g : count ≡ length (before ++ y ∷ []) + (suc left - 1) = omega (arith, e, l) in g))
 
 -- ---- numbers
 
-number_step : (fill : Fill) (capacity : Option ℕ) (r : Capacity) (before : List ℤ) (x : Value) → Fills (Numbers fill) r → Left 1 capacity r before → Step (Numbers fill) capacity r before x
-unfolding add_value
-number_step fill capacity r before (Characters bs) h left = wrong WrongKind (rw (ap is_char h.0 ∙ h.1) refl) refl
-number_step fill capacity r before Underscore h left = by (is_full capacity) refl
+number_step : (fill : Fill) (r : Capacity) → Fills (fillings.Numbers fill) r → (capacity : Option ℕ) (before : List ℤ) (x : Value) → Left capacity r.is_open r.count (length before) → Step (fillings.Numbers fill) r (add_number r) Numbers r.count capacity before x
+number_step fill r h capacity before (Characters bs) left = wrong WrongKind refl refl
+number_step fill r h capacity before Underscore left = by (is_full capacity) refl
   where
-    no_char : is_char r.ty ≡ false
-    no_char = ap is_char h.0 ∙ h.1
-
-    by : (full : Bool) → is_full capacity ≡ full → Step (Numbers fill) capacity r before Underscore
+    by : (full : Bool) → is_full capacity ≡ full → Step (fillings.Numbers fill) r (add_number r) Numbers r.count capacity before Underscore
     by true on =
-        let is = capacity_is 1 capacity r before (omega arith) left ∙ ap not on in
-        wrong TooManyValues (rw (no_char) (rw (is) refl)) (rw (on) refl)
+        let is = capacity_is capacity r.is_open r.count (length before) left ∙ ap not on in
+        wrong TooManyValues (rw (is) refl) (rw (on) refl)
     by false off =
-        let is = capacity_is 1 capacity r before (omega arith) left ∙ ap not off in
-        puts (r.fill ∷ []) (rw (no_char) (rw (is) refl)) (rw (off) (ap Ok (ap (bytes_of_number fill.ty) (sym h.2) ∙ ap (λ t. bytes_of_number t r.fill) (sym h.0) ∙ sym (append-nil (bytes_of_number r.ty r.fill))))) (left_less 1 capacity r before (r.fill ∷ []) refl off left)
-number_step fill capacity r before (Number n) h left = by (is_full capacity) (fits r.ty n.value) refl refl
+        let is = capacity_is capacity r.is_open r.count (length before) left ∙ ap not off in
+        puts (r.fill ∷ []) (rw (is) refl) (rw (off) (ap Ok (ap (bytes_of_number fill.ty) (sym h.2) ∙ ap (λ t. bytes_of_number t r.fill) (sym h.0) ∙ sym (append-nil (bytes_of_number r.ty r.fill)))))
+        (left_less capacity r.is_open r.count before r.fill off left)
+number_step fill r h capacity before (Number n) left = by (is_full capacity) (fits r.ty n.value) refl refl
   where
-    no_char : is_char r.ty ≡ false
-    no_char = ap is_char h.0 ∙ h.1
-
-    by : (full fit : Bool) → is_full capacity ≡ full → fits r.ty n.value ≡ fit → Step (Numbers fill) capacity r before (Number n)
+    by : (full fit : Bool) → is_full capacity ≡ full → fits r.ty n.value ≡ fit → Step (fillings.Numbers fill) r (add_number r) Numbers r.count capacity before (Number n)
     by true fit on is-fit =
-        let is = capacity_is 1 capacity r before (omega arith) left ∙ ap not on in
-        wrong TooManyValues (rw (no_char) (rw (is) refl)) (rw (on) refl)
+        let is = capacity_is capacity r.is_open r.count (length before) left ∙ ap not on in
+        wrong TooManyValues (rw (is) refl) (rw (on) refl)
     by false false off is-fit =
-        let is = capacity_is 1 capacity r before (omega arith) left ∙ ap not off in
-        wrong NumberRange (rw (no_char) (rw (is) (rw (is-fit) refl))) (rw (off) (rw (sym (ap (λ t. fits t n.value) h.0) ∙ is-fit) refl))
+        let is = capacity_is capacity r.is_open r.count (length before) left ∙ ap not off in
+        wrong NumberRange (rw (is) (rw (is-fit) refl)) (rw (off) (rw (sym (ap (λ t. fits t n.value) h.0) ∙ is-fit) refl))
     by false true off is-fit =
-        let is = capacity_is 1 capacity r before (omega arith) left ∙ ap not off in
-        puts (n.value ∷ []) (rw (no_char) (rw (is) (rw (is-fit) refl)))
+        let is = capacity_is capacity r.is_open r.count (length before) left ∙ ap not off in
+        puts (n.value ∷ []) (rw (is) (rw (is-fit) refl))
         (rw (off) (rw (sym (ap (λ t. fits t n.value) h.0) ∙ is-fit) (ap Ok (ap (λ t. bytes_of_number t n.value) (sym h.0) ∙ sym (append-nil (bytes_of_number r.ty n.value))))))
-        (left_less 1 capacity r before (n.value ∷ []) refl off left)
+        (left_less capacity r.is_open r.count before n.value off left)
+
+number_steps : (fill : Fill) (r : Capacity) → Fills (fillings.Numbers fill) r → Steps (fillings.Numbers fill) r (add_number r) Numbers r.count
+number_steps fill r h = record { none = refl; joins = λ xs ys. refl; step = number_step fill r h }
 
 -- ---- strings, one after the other
 
-past_is : (n : ℕ) (capacity : Option ℕ) (r : Capacity) (before : List ℤ) → Left 1 capacity r before → (r.is_open || nat_le (length before + n) r.count) ≡ not (is_past n capacity)
-past_is n None r before h = rw (h) refl
-past_is n (Some m) r before h =
-    let e : r.count ≡ length before + m * 1 = h.1 in
-    rw (h.0) (let g : nat_le (length before + n) r.count ≡ not (nat_lt m n) = grind (arith, e) in g)
+past_is : (n : ℕ) (capacity : Option ℕ) (is_open : Bool) (count m : ℕ) → Left capacity is_open count m → (is_open || nat_le (m + n) count) ≡ not (is_past n capacity)
+past_is n None is_open count m h = rw (h) refl
+past_is n (Some left) is_open count m h =
+    let e : count ≡ m + left = h.1 in
+    rw (h.0) (let g : nat_le (m + n) count ≡ not (nat_lt left n) = grind (arith, e) in g)
 
-left_chars : (capacity : Option ℕ) (r : Capacity) (before ys : List ℤ) (n : ℕ) → length ys ≡ n → is_past n capacity ≡ false → Left 1 capacity r before → Left 1 (less n capacity) r (before ++ ys)
-left_chars None r before ys n len some h = h
-left_chars (Some m) r before ys n len some h =
-    let e : r.count ≡ length before + m * 1 = h.1 in
-    let l = length-append before ys in
-    let k : nat_lt m n ≡ false = some in
-    (h.0, (let g : r.count ≡ length (before ++ ys) + (m - n) * 1 = grind (arith, e, l, len, k) in g))
+left_chars : (capacity : Option ℕ) (is_open : Bool) (count : ℕ) (before bs : List ℕ) → is_past (length bs) capacity ≡ false → Left capacity is_open count (length before) → Left (less (length bs) capacity) is_open count (length (before ++ bs))
+left_chars None is_open count before bs some h = h
+left_chars (Some left) is_open count before bs some h =
+    let e : count ≡ length before + left = h.1 in
+    let l = length-append before bs in
+    let k : nat_lt left (length bs) ≡ false = some in
+    (h.0, (let g : count ≡ length (before ++ bs) + (left - length bs) = grind (arith, e, l, k) in g))
 
 chars_are : (ty : NcType) (bs : List ℕ) → ty ≡ Char → char_bytes bs ≡ flat_map (bytes_of_number ty) (map pos bs)
 chars_are ty bs h = ap (λ t. flat_map (bytes_of_number t) (map pos bs)) (sym h)
 
-length_map : (bs : List ℕ) → length (map pos bs) ≡ length bs
-length_map [] = refl
-length_map (b ∷ bs) = ap suc (length_map bs)
-
-joined_step : (capacity : Option ℕ) (r : Capacity) (before : List ℤ) (x : Value) → Fills Joined r → Left 1 capacity r before → Step Joined capacity r before x
-unfolding add_value
-joined_step capacity r before (Characters bs) h left = by (is_past (length bs) capacity) refl
+joined_step : (r : Capacity) → Fills fillings.Joined r → (capacity : Option ℕ) (before : List ℕ) (x : Value) → Left capacity r.is_open r.count (length before) → Step fillings.Joined r (add_characters r) Joined r.count capacity before x
+joined_step r h capacity before (Characters bs) left = by (is_past (length bs) capacity) refl
   where
-    by : (past : Bool) → is_past (length bs) capacity ≡ past → Step Joined capacity r before (Characters bs)
+    by : (past : Bool) → is_past (length bs) capacity ≡ past → Step fillings.Joined r (add_characters r) Joined r.count capacity before (Characters bs)
     by true on =
-        let is = past_is (length bs) capacity r before left ∙ ap not on in
-        wrong StringTooLong (rw (ap is_char h.0) (rw (h.1) (rw (is) refl))) (rw (on) refl)
+        let is = past_is (length bs) capacity r.is_open r.count (length before) left ∙ ap not on in
+        wrong StringTooLong (rw (is) refl) (rw (on) refl)
     by false off =
-        let is = past_is (length bs) capacity r before left ∙ ap not off in
-        puts (map pos bs) (rw (ap is_char h.0) (rw (h.1) (rw (is) refl))) (rw (off) (ap Ok (chars_are r.ty bs h.0)))
-        (subst (λ (n : ℕ). Left 1 (less n capacity) r (before ++ map pos bs)) (sym (chars_len bs) ∙ ap (λ (xs : List ℕ). length xs) (chars_are r.ty bs h.0)) (left_chars capacity r before (map pos bs) (length bs) (length_map bs) off left))
-joined_step capacity r before Underscore h left = wrong WrongKind (rw (ap is_char h.0) refl) refl
-joined_step capacity r before (Number n) h left = wrong WrongKind (rw (ap is_char h.0) refl) refl
+        let is = past_is (length bs) capacity r.is_open r.count (length before) left ∙ ap not off in
+        puts bs (rw (is) refl) (rw (off) (ap Ok (chars_are r.ty bs h.0)))
+        (subst (λ (n : ℕ). Left (less n capacity) r.is_open r.count (length (before ++ bs))) (sym (chars_len bs) ∙ ap (λ (xs : List ℕ). length xs) (chars_are r.ty bs h.0)) (left_chars capacity r.is_open r.count before bs off left))
+joined_step r h capacity before Underscore left = wrong WrongKind refl refl
+joined_step r h capacity before (Number n) left = wrong WrongKind refl refl
+
+joined_steps : (r : Capacity) → Fills fillings.Joined r → Steps fillings.Joined r (add_characters r) Joined r.count
+joined_steps r h = record { none = refl; joins = map-append pos; step = joined_step r h }
 
 -- ---- rows
 
 padding : (n : ℕ) (x : ℤ) (b : ℕ) → bytes_of_number Char x ≡ b ∷ [] → flat_map (bytes_of_number Char) (replicate n x) ≡ replicate n b
 padding zero x b h = refl
 padding (suc n) x b h = ap (λ bs. bs ++ flat_map (bytes_of_number Char) (replicate n x)) h ∙ ap (λ bs. b ∷ bs) (padding n x b h)
+
+length_map : (bs : List ℕ) → length (map pos bs) ≡ length bs
+length_map [] = refl
+length_map (b ∷ bs) = ap suc (length_map bs)
 
 row_bytes_are : (ty : NcType) (len n : ℕ) (x : ℤ) (b : ℕ) (bs : List ℕ) → ty ≡ Char → len ≡ n → bytes_of_number Char x ≡ b ∷ [] →
     char_bytes bs ++ replicate (n - length bs) b ≡ flat_map (bytes_of_number ty) (filled len x (map pos bs))
@@ -134,73 +145,71 @@ row_bytes_are ty len n x b bs is same h =
     ap (λ m. char_bytes bs ++ flat_map (bytes_of_number Char) (replicate (n - m) x)) (sym (length_map bs)) ∙
     sym (flat_map-append (bytes_of_number Char) (map pos bs) (replicate (n - length (map pos bs)) x))))
 
-replicate_len : (n : ℕ) (x : ℤ) → length (replicate n x) ≡ n
-replicate_len zero x = refl
-replicate_len (suc n) x = ap suc (replicate_len n x)
-
-filled_len : (n : ℕ) (x : ℤ) (bs : List ℕ) → nat_le (length bs) n ≡ true → length (filled n x (map pos bs)) ≡ n
-filled_len n x bs h =
-    let a = length-append (map pos bs) (replicate (n - length (map pos bs)) x) in
-    let b = replicate_len (n - length (map pos bs)) x in
-    let c = length_map bs in
-    grind (arith, a, b, c, h)
-
-rows_step : (len fill : ℕ) (capacity : Option ℕ) (r : Capacity) (before : List ℤ) (x : Value) → Fills (Rows len fill) r → Left len capacity r before → Step (Rows len fill) capacity r before x
-unfolding add_value
-rows_step len fill capacity r before (Characters bs) h left = by (is_full capacity) (nat_lt len (length bs)) refl refl
+rows_step : (len fill : ℕ) (r : Capacity) → Fills (fillings.Rows len fill) r → (capacity : Option ℕ) (before : List (List ℕ)) (x : Value) → Left capacity r.is_open r.rows (length before) → Step (fillings.Rows len fill) r (add_row r) Rows r.rows capacity before x
+rows_step len fill r h capacity before (Characters bs) left = by (is_full capacity) (nat_lt len (length bs)) refl refl
   where
-    by : (full long : Bool) → is_full capacity ≡ full → nat_lt len (length bs) ≡ long → Step (Rows len fill) capacity r before (Characters bs)
+    row : r.row ≡ len
+    row = h.2
+
+    by : (full long : Bool) → is_full capacity ≡ full → nat_lt len (length bs) ≡ long → Step (fillings.Rows len fill) r (add_row r) Rows r.rows capacity before (Characters bs)
     by true long on is-long =
-        let is = capacity_is len capacity r before h.3 left ∙ ap not on in
-        wrong TooManyValues (rw (ap is_char h.0) (rw (h.1) (rw (is) refl))) (rw (on) refl)
+        let is = capacity_is capacity r.is_open r.rows (length before) left ∙ ap not on in
+        wrong TooManyValues (rw (is) refl) (rw (on) refl)
     by false true off is-long =
-        let is = capacity_is len capacity r before h.3 left ∙ ap not off in
-        let row : r.row ≡ len = h.2 in
+        let is = capacity_is capacity r.is_open r.rows (length before) left ∙ ap not off in
         let over : nat_le (length bs) r.row ≡ false = grind (arith, row, is-long) in
-        wrong StringTooLong (rw (ap is_char h.0) (rw (h.1) (rw (is) (rw (over) refl)))) (rw (off) (rw (is-long) refl))
+        wrong StringTooLong (rw (is) (rw (over) refl)) (rw (off) (rw (is-long) refl))
     by false false off is-long =
-        let is = capacity_is len capacity r before h.3 left ∙ ap not off in
-        let row : r.row ≡ len = h.2 in
+        let is = capacity_is capacity r.is_open r.rows (length before) left ∙ ap not off in
         let within : nat_le (length bs) r.row ≡ true = grind (arith, row, is-long) in
-        puts (filled r.row r.fill (map pos bs)) (rw (ap is_char h.0) (rw (h.1) (rw (is) (rw (within) refl)))) (rw (off) (rw (is-long) (ap Ok (row_bytes_are r.ty r.row len r.fill fill bs h.0 row h.4))))
-        (left_less len capacity r before (filled r.row r.fill (map pos bs)) (filled_len r.row r.fill bs within ∙ row) off left)
-rows_step len fill capacity r before Underscore h left = wrong WrongKind (rw (ap is_char h.0) refl) refl
-rows_step len fill capacity r before (Number n) h left = wrong WrongKind (rw (ap is_char h.0) refl) refl
+        puts (bs ∷ []) (rw (is) (rw (within) refl))
+        (rw (off) (rw (is-long) (ap Ok (row_bytes_are r.ty r.row len r.fill fill bs h.0 row h.3 ∙ ap (flat_map (bytes_of_number r.ty)) (sym (append-nil (filled r.row r.fill (map pos bs))))))))
+        (left_less capacity r.is_open r.rows before bs off left)
+rows_step len fill r h capacity before Underscore left = wrong WrongKind refl refl
+rows_step len fill r h capacity before (Number n) left = wrong WrongKind refl refl
+
+rows_steps : (len fill : ℕ) (r : Capacity) → Fills (fillings.Rows len fill) r → Steps (fillings.Rows len fill) r (add_row r) Rows r.rows
+rows_steps len fill r h = record { none = refl; joins = flat_map-append (λ bs. filled r.row r.fill (map pos bs)); step = rows_step len fill r h }
 
 -- ---- all
 
-step : (f : Filling) (capacity : Option ℕ) (r : Capacity) (before : List ℤ) (x : Value) → Fills f r → Left (unit_of f) capacity r before → Step f capacity r before x
-step (Numbers fill) capacity r before x h left = number_step fill capacity r before x h left
-step Joined capacity r before x h left = joined_step capacity r before x h left
-step (Rows len fill) capacity r before x h left = rows_step len fill capacity r before x h left
+turn_ok : {A : Type 0} (add : List A → Value → Result (List A) CdlKind) (before after : List A) (x : Value) (xs : List Value) → add before x ≡ Ok after → in_turn add before (x ∷ xs) ≡ in_turn add after xs
+turn_ok add before after x xs e = rw (in_turn, e) refl
 
-turn_ok : (r : Capacity) (before after : List ℤ) (x : Value) (xs : List Value) → add_value r before x ≡ Ok after → in_turn (add_value r) before (x ∷ xs) ≡ in_turn (add_value r) after xs
-turn_ok r before after x xs e = rw (in_turn, e) refl
+turn_err : {A : Type 0} (add : List A → Value → Result (List A) CdlKind) (before : List A) (x : Value) (xs : List Value) (e : CdlKind) → add before x ≡ Err e → in_turn add before (x ∷ xs) ≡ Err e
+turn_err add before x xs e h = rw (in_turn, h) refl
 
-turn_err : (r : Capacity) (before : List ℤ) (x : Value) (xs : List Value) (e : CdlKind) → add_value r before x ≡ Err e → in_turn (add_value r) before (x ∷ xs) ≡ Err e
-turn_err r before x xs e h = rw (in_turn, h) refl
+abbrev listed_as : {A : Type 0} → (List A → Listing) → Result (List A) CdlKind → Result Listing CdlKind
+listed_as listing items = items >>= (λ xs. Ok (listing xs))
 
 -- the bytes of the values one by one are the values packed
-pub turns : (f : Filling) (capacity : Option ℕ) (r : Capacity) (before : List ℤ) (xs : List Value) → Fills f r → Left (unit_of f) capacity r before →
-    as_bytes r (in_turn (add_value r) before xs) ≡ joined (Ok (flat_map (bytes_of_number r.ty) before)) (packed f capacity xs)
+turns : {A : Type 0} (f : Filling) (r : Capacity) (add : List A → Value → Result (List A) CdlKind) (listing : List A → Listing) (count : ℕ) → Steps f r add listing count → (capacity : Option ℕ) (before : List A) (xs : List Value) → Left capacity r.is_open count (length before) →
+    as_bytes r (listed_as listing (in_turn add before xs)) ≡ joined (Ok (bytes r (listing before))) (packed f capacity xs)
 unfolding packed
-turns f capacity r before [] h left = ap Ok (sym (append-nil (flat_map (bytes_of_number r.ty) before)))
-turns f capacity r before (x ∷ xs) h left = by (step f capacity r before x h left) (λ capacity' after on. turns f capacity' r after xs h on)
+turns f r add listing count s capacity before [] left = ap Ok (sym (append-nil (bytes r (listing before))))
+turns {A} f r add listing count s capacity before (x ∷ xs) left = by (s.step capacity before x left) (λ rest after on. turns f r add listing count s rest after xs on)
   where
-    by : Step f capacity r before x → ((capacity' : Option ℕ) (after : List ℤ) → Left (unit_of f) capacity' r after → as_bytes r (in_turn (add_value r) after xs) ≡ joined (Ok (flat_map (bytes_of_number r.ty) after)) (packed f capacity' xs)) →
-        as_bytes r (in_turn (add_value r) before (x ∷ xs)) ≡ joined (Ok (flat_map (bytes_of_number r.ty) before)) (followed_by (bytes_of f capacity x) (λ bs. packed f (capacity_after f bs capacity) xs))
-    by (wrong e says does) more = ap (as_bytes r) (turn_err r before x xs e says) ∙ sym (ap (λ b. joined (Ok (flat_map (bytes_of_number r.ty) before)) (followed_by b (λ bs. packed f (capacity_after f bs capacity) xs))) does)
+    start : List ℕ
+    start = bytes r (listing before)
+
+    by : Step f r add listing count capacity before x → ((rest : Option ℕ) (after : List A) → Left rest r.is_open count (length after) → as_bytes r (listed_as listing (in_turn add after xs)) ≡ joined (Ok (bytes r (listing after))) (packed f rest xs)) →
+        as_bytes r (listed_as listing (in_turn add before (x ∷ xs))) ≡ joined (Ok start) (followed_by (bytes_of f capacity x) (λ bs. packed f (capacity_after f bs capacity) xs))
+    by (wrong e says does) more = ap (λ l. as_bytes r (listed_as listing l)) (turn_err add before x xs e says) ∙ sym (ap (λ b. joined (Ok start) (followed_by b (λ bs. packed f (capacity_after f bs capacity) xs))) does)
     by (puts ys says does on) more =
-        let new = flat_map (bytes_of_number r.ty) ys in
-        ap (as_bytes r) (turn_ok r before (before ++ ys) x xs says) ∙ more (capacity_after f new capacity) (before ++ ys) on ∙
-        ap (λ bs. joined (Ok bs) (packed f (capacity_after f new capacity) xs)) (flat_map-append (bytes_of_number r.ty) before ys) ∙
-        sym (joined_assoc (flat_map (bytes_of_number r.ty) before) new (packed f (capacity_after f new capacity) xs)) ∙
-        sym (ap (λ b. joined (Ok (flat_map (bytes_of_number r.ty) before)) (followed_by b (λ bs. packed f (capacity_after f bs capacity) xs))) does)
+        let new = bytes r (listing ys) in
+        ap (λ l. as_bytes r (listed_as listing l)) (turn_ok add before (before ++ ys) x xs says) ∙ more (capacity_after f new capacity) (before ++ ys) on ∙
+        ap (λ bs. joined (Ok bs) (packed f (capacity_after f new capacity) xs)) (ap (flat_map (bytes_of_number r.ty)) (s.joins before ys) ∙ flat_map-append (bytes_of_number r.ty) (values_in r (listing before)) (values_in r (listing ys))) ∙
+        sym (joined_assoc start new (packed f (capacity_after f new capacity) xs)) ∙
+        sym (ap (λ b. joined (Ok start) (followed_by b (λ bs. packed f (capacity_after f bs capacity) xs))) does)
+
+from_none : {A : Type 0} (f : Filling) (r : Capacity) (add : List A → Value → Result (List A) CdlKind) (listing : List A → Listing) (count : ℕ) → Steps f r add listing count → (capacity : Option ℕ) (xs : List Value) → Left capacity r.is_open count 0 →
+    as_bytes r (listed_by add listing xs) ≡ packed f capacity xs
+from_none f r add listing count s capacity xs left =
+    turns f r add listing count s capacity [] xs left ∙ ap (λ values. joined (Ok (flat_map (bytes_of_number r.ty) values)) (packed f capacity xs)) s.none ∙ joined_none (packed f capacity xs)
 
 -- all values of a variable
-pub all_turns : (f : Filling) (capacity : Option ℕ) (r : Capacity) (xs : List Value) → Fills f r → Left (unit_of f) capacity r [] → as_bytes r (in_turn (add_value r) [] xs) ≡ packed f capacity xs
-all_turns f capacity r xs h left = turns f capacity r [] xs h left ∙ nothing_before (packed f capacity xs)
-  where
-    nothing_before : (b : Result (List ℕ) CdlKind) → joined (Ok []) b ≡ b
-    nothing_before (Ok bs) = refl
-    nothing_before (Err e) = refl
+pub all_turns : (f : Filling) (capacity : Option ℕ) (r : Capacity) (xs : List Value) → Fills f r → Left capacity r.is_open (positions_in f r) 0 → as_bytes r (listing_of r xs) ≡ packed f capacity xs
+unfolding listing_of
+all_turns (fillings.Numbers fill) capacity r xs h left = rw (ap is_char h.0 ∙ h.1) (from_none (fillings.Numbers fill) r (add_number r) Numbers r.count (number_steps fill r h) capacity xs left)
+all_turns fillings.Joined capacity r xs h left = rw (ap is_char h.0) (rw (h.1) (from_none fillings.Joined r (add_characters r) Joined r.count (joined_steps r h) capacity xs left))
+all_turns (fillings.Rows len fill) capacity r xs h left = rw (ap is_char h.0) (rw (h.1) (from_none (fillings.Rows len fill) r (add_row r) Rows r.rows (rows_steps len fill r h) capacity xs left))

@@ -1,11 +1,11 @@
 -- What a variable takes, beside what its values are checked against.
-use Rattle.std.specs.Prelude.{ℕ, ◌≡◌, ◌+◌, ◌-◌, ◌*◌, ◌^◌, ◌<◌, min, ℤ, true, false, List, [], ◌∷◌, length, Option, None, Some, Result, Ok, Err}
+use Rattle.std.specs.Prelude.{ℕ, ◌≡◌, ◌-◌, ◌^◌, min, true, false, List, [], ◌∷◌, Option, None, Some, Result, Ok, Err}
 use Rattle.std.specs.List.{flat_map}
 use Rattle.nc_base.specs.declared.nc_type.NcType.TheVariants.{Char}
 use Rattle.nc_base.specs.Numbers.{bytes_of_number}
 use Rattle.nc_base.specs.ValueText.{is_char}
 use Rattle.cdl_text.specs.declared.fault.CdlKind.{CdlKind}
-use Rattle.cdl_meaning.specs.State.{Capacity}
+use Rattle.cdl_meaning.specs.State.{Capacity, Listing, values_in}
 use Rattle.cdl_values.specs.declared.filling.Filling.{Filling}
 use Rattle.cdl_values.specs.declared.filling.Filling.TheVariants.{Numbers, Joined, Rows}
 
@@ -13,18 +13,7 @@ use Rattle.cdl_values.specs.declared.filling.Filling.TheVariants.{Numbers, Joine
 abbrev pub Fills : Filling → Capacity → Type 0
 Fills (Numbers fill) r = (r.ty ≡ fill.ty) × (is_char fill.ty ≡ false) × (r.fill ≡ fill.value)
 Fills Joined r = (r.ty ≡ Char) × (r.in_rows ≡ false)
-Fills (Rows len fill) r = (r.ty ≡ Char) × (r.in_rows ≡ true) × (r.row ≡ len) × (0 < len) × (bytes_of_number Char r.fill ≡ fill ∷ [])
-
--- how many values one position has
-abbrev pub unit_of : Filling → ℕ
-unit_of (Numbers fill) = 1
-unit_of Joined = 1
-unit_of (Rows len fill) = len
-
--- this many positions are left after these values
-abbrev pub Left : ℕ → Option ℕ → Capacity → List ℤ → Type 0
-Left unit None r before = r.is_open ≡ true
-Left unit (Some n) r before = (r.is_open ≡ false) × (r.count ≡ length before + n * unit)
+Fills (Rows len fill) r = (r.ty ≡ Char) × (r.in_rows ≡ true) × (r.row ≡ len) × (bytes_of_number Char r.fill ≡ fill ∷ [])
 
 -- the greatest capacity
 abbrev pub most : ℕ
@@ -36,12 +25,18 @@ capacity_for (Numbers fill) m = min m most
 capacity_for Joined m = m
 capacity_for (Rows len fill) m = min m most
 
+-- how many positions there are
+abbrev pub positions_in : Filling → Capacity → ℕ
+positions_in (Numbers fill) r = r.count
+positions_in Joined r = r.count
+positions_in (Rows len fill) r = r.rows
+
 -- it has this capacity for values
 abbrev pub Takes : Filling → Option ℕ → Capacity → Type 0
 Takes filling None r = r.is_open ≡ true
-Takes filling (Some n) r = (r.is_open ≡ false) × (m : ℕ) × (r.count ≡ m * unit_of filling) × (n ≡ capacity_for filling m)
+Takes filling (Some n) r = (r.is_open ≡ false) × (n ≡ capacity_for filling (positions_in filling r))
 
--- the bytes of a list of values
-abbrev pub as_bytes : Capacity → Result (List ℤ) CdlKind → Result (List ℕ) CdlKind
-as_bytes r (Ok values) = Ok (flat_map (bytes_of_number r.ty) values)
+-- the bytes of what is listed
+abbrev pub as_bytes : Capacity → Result Listing CdlKind → Result (List ℕ) CdlKind
+as_bytes r (Ok listing) = Ok (flat_map (bytes_of_number r.ty) (values_in r listing))
 as_bytes r (Err e) = Err e

@@ -1,5 +1,5 @@
 -- What a statement of the data section means, in bytes.
-use Rattle.std.specs.Prelude.{ℕ, ◌≡◌, ℤ, Bool, false, List, [], ◌∷◌, if◌then◌else◌, map, Some, Result, Ok, Err, ⊤}
+use Rattle.std.specs.Prelude.{ℕ, ◌≡◌, Bool, false, List, [], ◌∷◌, if◌then◌else◌, map, Some, Result, Ok, Err, ⊤}
 use Rattle.std.specs.List.{flat_map}
 use Rattle.std.specs.Str.{bytes_eq}
 use Rattle.nc_base.specs.Numbers.{bytes_of_number}
@@ -9,7 +9,7 @@ use Rattle.cdl_tokens.specs.Escapes.{word_value}
 use Rattle.cdl_text.specs.Lexemes.{Lexeme, is_mark}
 use Rattle.cdl_text.specs.declared.fault.CdlKind.{CdlKind}
 use Rattle.cdl_meaning.specs.Meaning.{piece_read}
-use Rattle.cdl_meaning.specs.State.{State, Draft, capacity_of, is_listed}
+use Rattle.cdl_meaning.specs.State.{State, Draft, Listing, capacity_of, is_listed, values_in}
 use Rattle.cdl_values.specs.declared.read_error.ReadError.{ReadError}
 use Rattle.cdl_values.specs.declared.read_error.ReadError.TheVariants.{OutOfMemory, Fault}
 use Rattle.cdl_values.specs.Capacities.{Fills, Takes}
@@ -30,20 +30,20 @@ Suit dims _ _ = ⊥
 abbrev pub names_of : List Draft → List (List ℕ)
 names_of drafts = map (λ (d : Draft). d.var.name) drafts
 
--- with these values of the first variable of this name
-abbrev pub listing : List ℕ → List ℤ → List Draft → List Draft
-listing name values [] = []
-listing name values (d ∷ ds) = if bytes_eq d.var.name name then record d { listed = Some values } ∷ ds else d ∷ listing name values ds
+-- with this listing of the first variable of this name
+abbrev pub with_listing : List ℕ → Listing → List Draft → List Draft
+with_listing name listing [] = []
+with_listing name listing (d ∷ ds) = if bytes_eq d.var.name name then record d { listed = Some listing } ∷ ds else d ∷ with_listing name listing ds
 
--- these values as its bytes
-abbrev pub bytes_at : List ℕ → List ℤ → List Draft → List ℕ
-bytes_at name values [] = []
-bytes_at name values (d ∷ ds) = if bytes_eq d.var.name name then flat_map (bytes_of_number d.var.ty) values else bytes_at name values ds
+-- the listing as its bytes
+abbrev pub bytes_at : List Dim → List ℕ → Listing → List Draft → List ℕ
+bytes_at dims name listing [] = []
+bytes_at dims name listing (d ∷ ds) = if bytes_eq d.var.name name then flat_map (bytes_of_number d.var.ty) (values_in (capacity_of dims d.var) listing) else bytes_at dims name listing ds
 
--- the drafts with values of these bytes, or the fault
-abbrev pub Listing : List ℕ → List Draft → Result (List ℕ) CdlKind → Result (List Draft) CdlKind → Type 0
-Listing name drafts (Err e) after = after ≡ Err e
-Listing name drafts (Ok array) after = (values : List ℤ) × (bytes_at name values drafts ≡ array) × (after ≡ Ok (listing name values drafts))
+-- the drafts with a listing of these bytes, or the fault
+abbrev pub HasListed : List Dim → List ℕ → List Draft → Result (List ℕ) CdlKind → Result (List Draft) CdlKind → Type 0
+HasListed dims name drafts (Err e) after = after ≡ Err e
+HasListed dims name drafts (Ok array) after = (listing : Listing) × (bytes_at dims name listing drafts ≡ array) × (after ≡ Ok (with_listing name listing drafts))
 
 abbrev pub name_first : List Lexeme → List ℕ
 name_first [] = []
@@ -53,7 +53,7 @@ name_first (l ∷ ls) = word_value l.bytes
 abbrev pub Means : Version → State → List Lexeme → Result (List ℕ) CdlKind → Type 0
 Means v s ws (Err e) = piece_read v s ws ≡ Err e
 Means v s ws (Ok array) =
-    (values : List ℤ) × (bytes_at (name_first ws) values s.drafts ≡ array) × (piece_read v s ws ≡ Ok (record s { drafts = listing (name_first ws) values s.drafts }))
+    (listing : Listing) × (bytes_at s.dims (name_first ws) listing s.drafts ≡ array) × (piece_read v s ws ≡ Ok (record s { drafts = with_listing (name_first ws) listing s.drafts }))
 
 -- its first token is the closing brace
 abbrev pub begins_brace : List Lexeme → Bool

@@ -2,6 +2,7 @@ use Rattle.std.proofs.Common.{rules, ◌≡◌, ◌∙◌, ap, sym, true}
 use Rattle.std.specs.Prelude.{None, Some, is_some, List, ℕ, map}
 use Rattle.nc_base.specs.declared.header.NumRecs.TheVariants.{Known}
 use Rattle.nc_base.specs.SizeParts.{checked_record_size}
+use Rattle.nc_base.specs.declared.header.Dim.{Dim}
 use Rattle.nc_base.specs.declared.header.Header.{Header}
 use Rattle.cdl_parse.specs.DeclaredDatasets.{or_too_large}
 use Rattle.cdl_parse.proofs.Finished.{array_too_large, header_at, is_declared, kept_at, record_too_large}
@@ -37,5 +38,6 @@ returns c = λ s is att-is lists shaped line.
     is_declared a.version s line n
     (kept_at c.as_slice.result.now a.dims c.as_slice-2.result.now a.vars c.as_slice-3.result.now a.listed.items s c.records_of.result c.as_slice.ensures c.as_slice-2.ensures c.as_slice-3.ensures.value is lists shaped c.records_of.ensures ∙ kept)
     (ap (λ (h : Header). is_some (checked_record_size h)) same ∙ ap is_some (sym c.rec_size.ensures) ∙ there) ∙
-    ap (λ (h : Header). or_too_large line (Some (record { header = h; listed = map listed_of s.drafts }))) same ∙
-    ap (λ (ls : List (List ℕ)). or_too_large line (Some (record { header = record { version = a.version; numrecs = Known n; dims = a.dims; gatts = a.gatts; vars = a.vars }; listed = ls }))) (sym (all_are a.vars a.listed.items s.drafts lists).1 ∙ sym c.from_vec.ensures)
+    ap (λ (h : Header). or_too_large line (Some (record { header = h; listed = map (listed_of s.dims) s.drafts }))) same ∙
+    ap (λ (ls : List (List ℕ)). or_too_large line (Some (record { header = record { version = a.version; numrecs = Known n; dims = a.dims; gatts = a.gatts; vars = a.vars }; listed = ls })))
+    (ap (λ (ds : List Dim). map (listed_of ds) s.drafts) is ∙ sym (all_are a.dims a.vars a.listed.items s.drafts lists).1 ∙ sym c.from_vec.ensures)

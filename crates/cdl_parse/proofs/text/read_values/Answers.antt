@@ -14,7 +14,7 @@ returns-in_ok-without_values-in_default c =
     record {
       reads = λ s section dims drafts index shaped short. (
         fresh vars,
-        subst (λ arrays. AllList vars arrays (fresh vars)) (sym empty) (none_listed vars),
+        subst (λ arrays. AllList s.dims vars arrays (fresh vars)) (sym empty) (none_listed s.dims vars),
         ap (λ here. run (text_of start) (version_of start) (record s { section = here }) (pieces_left start)) section ∙
             ap (λ ds. run (text_of start) (version_of start) (record s { section = c.args.section; drafts = ds }) (pieces_left start)) drafts,
       );

@@ -27,5 +27,5 @@ pub returns-in-Rows : goal.returns-in-Rows
 returns-in-Rows c = λ fills.
     let dims = c.args.dims.now in
     let closed : is_record_var dims c.args.var.now ≡ false = sym c.is_record_var.ensures ∙ c.if-is_record_var.false in
-    takes_rows dims c.args.var.now c.args.filling c.in-Rows.len c.in-Rows.fill c.place_count-in-Rows.result c.in-Rows.is fills closed
+    takes_rows dims c.args.var.now c.args.filling c.in-Rows.len c.in-Rows.fill c.place_count-in-Rows.result c.in-Rows.is closed
     (c.place_count-in-Rows.ensures ∙ ap (λ ids. min (product (map (dim_len dims) ids)) most) (c.all_but_last.ensures ∙ ap (λ ids. take (length ids - 1) ids) c.as_slice-dimids.ensures))

@@ -1,4 +1,4 @@
-use Rattle.std.proofs.Common.{rules, ◌≡◌, ◌<◌, ◌-◌, arith, sym, ap, ◌∙◌, subst, nat_lt, length, false, to_z, of_z}
+use Rattle.std.proofs.Common.{rules, ◌≡◌, ◌-◌, sym, ap, ◌∙◌, subst, nat_lt, length, false, to_z, of_z}
 use Rattle.std.specs.Prelude.{not, slice_index, unsigned_abs, [], ◌∷◌}
 use Rattle.std.specs.Int.{w128}
 use Rattle.std.proofs.lemmas.Int.{to_z-of_z}
@@ -6,7 +6,7 @@ use Rattle.nc_base.specs.Numbers.{IsInRange, bytes_of_number}
 use Rattle.nc_base.specs.Sizes.{dim_len}
 use Rattle.nc_base.specs.declared.nc_type.NcType.TheVariants.{Char}
 use Rattle.cdl_meaning.specs.State.{capacity_of}
-use Rattle.cdl_values.proofs.Places.{last_len, char_byte}
+use Rattle.cdl_values.proofs.Places.{char_byte}
 use Rattle.cdl_values.proofs.targets.characters.Goals as goal
 
 pub returns-then-dimids-lt2 : goal.returns-then-dimids-lt2
@@ -19,10 +19,8 @@ returns c = λ shaped.
     let ids = c.args.var.now.dimids in
     let dims = c.args.dims.now in
     let many : nat_lt (length ids) 2 ≡ false = search rules in
-    let two : 1 < length ids = grind (arith, many) in
     let len : c.dim_len.result ≡ dim_len dims (slice_index ids (length ids - 1)) = c.dim_len.ensures ∙ ap (λ xs. dim_len dims (slice_index xs (length xs - 1))) c.as_slice-dimids.ensures in
-    let some : 0 < c.dim_len.result = subst (λ n. 0 < n) (sym len) (last_len dims ids shaped two) in
     let same = to_z-of_z w128 c.fill_of.result (record { sfits = c.fill_of.type_inv }) in
     let range : IsInRange Char c.fill_of.result = subst (λ ty. IsInRange ty c.fill_of.result) c.requires c.fill_of.ensures.in_range in
     let byte : bytes_of_number Char c.fill_of.result ≡ unsigned_abs (to_z w128 (of_z w128 c.fill_of.result)) ∷ [] = char_byte c.fill_of.result range ∙ ap (λ n. unsigned_abs n ∷ []) (sym same) in
-    (c.requires, ap not many, rw (many) (sym len), some, ap (bytes_of_number Char) (sym c.fill_of.ensures.fill) ∙ byte)
+    (c.requires, ap not many, rw (many) (sym len), ap (bytes_of_number Char) (sym c.fill_of.ensures.fill) ∙ byte)
