@@ -6,8 +6,8 @@ use crate::device_rows::{
     Read, drip_of, expect_bytes, expect_put, expect_read, expect_reads, expect_write,
 };
 use devices::{
-    FailWhen, FileSource, IoSink, Listed, ListedFile, MemSink, MemSource, OpenFailed, Opener,
-    ReadAhead, Sink, SinkFailed, Source, SourceFailed, SystemFiles, WriteFailed,
+    FailWhen, FileSource, Flush, IoSink, Listed, ListedFile, MemSink, MemSource, OpenFailed,
+    Opener, ReadAhead, Sink, SinkFailed, Source, SourceFailed, SystemFiles, WriteFailed,
 };
 use std::fs::File;
 use std::io::{ErrorKind, Write};
@@ -219,7 +219,7 @@ const FILES: [ListedFile<'static>; 3] = [
 
 #[test]
 fn first_file_of_a_path_opens(rt: HostRuntime) -> Result<(), Fail> {
-    let listed = Listed::new(&FILES);
+    let mut listed = Listed::new(&FILES);
     let mut source = listed.open("b.nc")?;
     expect_read(&rt, &mut source, 8, &(1, Ok(3), b"efg"));
     assert!(rt; listed.open("c.nc").is_err());
@@ -230,7 +230,7 @@ fn first_file_of_a_path_opens(rt: HostRuntime) -> Result<(), Fail> {
 fn path_of_the_system_opens(rt: HostRuntime) -> Result<(), Fail> {
     let path = "devices_system_files.bin";
     fs::write(&rt, path, b"abcdefg".as_slice())?;
-    let files = SystemFiles::new(&rt);
+    let mut files = SystemFiles::new(&rt);
     let source = files.open(path)?;
     fs::remove_file(&rt, path)?;
     assert!(rt; source.len() == 7);
