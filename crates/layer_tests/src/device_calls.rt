@@ -6,8 +6,9 @@ use crate::device_rows::{
     Read, drip_of, expect_bytes, expect_put, expect_read, expect_reads, expect_write,
 };
 use devices::{
-    FailWhen, FileSource, Flush, IoSink, Listed, ListedFile, MemSink, MemSource, OpenFailed,
-    Opener, ReadAhead, Sink, SinkFailed, Source, SourceFailed, SystemFiles, WriteFailed,
+    CountedRead, FailWhen, FileSource, Flush, IoSink, Listed, ListedFile, MemSink, MemSource,
+    OpenFailed, Opener, ReadAhead, Sink, SinkFailed, Source, SourceFailed, SystemFiles,
+    WriteFailed,
 };
 use std::fs::File;
 use std::io::{ErrorKind, Write};
@@ -89,6 +90,42 @@ fn memory_hands_over_its_bytes(rt: HostRuntime) {
     let mut source = MemSource::new(b"abcdefg");
     assert!(rt; source.len() == 7);
     expect_reads(&rt, &mut source, 4, &READS);
+}
+
+/// How many bytes a call is tried with at most.
+const MOST: usize = 1000;
+
+#[test]
+fn writes_of_every_length_are_taken(rt: HostRuntime) {
+    let bytes = [b'a'; MOST];
+    let mut kept = MemSink::new(rt.alloc());
+    let mut written = IoSink::new(Vec::new(rt.alloc()));
+    for len in 1..=MOST {
+        expect_write(&rt, &mut kept, &bytes[..len], Ok(len));
+        expect_write(&rt, &mut written, &bytes[..len], Ok(len));
+    }
+}
+
+#[test]
+fn reads_of_every_length_hand_over(rt: HostRuntime) {
+    let bytes = [b'a'; MOST];
+    let mut into = [0; MOST];
+    for len in 1..=MOST {
+        let mut reader = CountedRead::new(&bytes[..len]);
+        assert!(rt; reader.read_some(&mut into) == Ok(len));
+        assert!(rt; reader.read_some(&mut into) == Ok(0) && reader.failures() == 0);
+    }
+}
+
+#[test]
+fn each_of_many_reads_hands_over(rt: HostRuntime) {
+    let bytes = [b'a'; MOST];
+    let mut reader = CountedRead::new(bytes.as_slice());
+    let mut into = [0; 1];
+    for _ in 0..MOST {
+        assert!(rt; reader.read_some(&mut into) == Ok(1));
+    }
+    assert!(rt; reader.read_some(&mut into) == Ok(0));
 }
 
 #[test]
