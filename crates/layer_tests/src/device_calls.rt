@@ -6,10 +6,11 @@ use crate::device_rows::{
     Read, drip_of, expect_bytes, expect_put, expect_read, expect_reads, expect_write,
 };
 use devices::{
-    CountedRead, FailWhen, FileSource, Flush, IoSink, Listed, ListedFile, MemSink, MemSource,
-    OpenFailed, Opener, ReadAhead, Sink, SinkFailed, Source, SourceFailed, SystemFiles,
-    WriteFailed,
+    CountedRead, Creator, FailWhen, FileSource, Flush, IoSink, Listed, ListedFile, MemSink,
+    MemSource, OpenFailed, Opener, ReadAhead, Sink, SinkFailed, Source, SourceFailed, SystemFiles,
+    SystemOutputs, WriteFailed, put,
 };
+use std::alloc::{AllocError, Global};
 use std::fs::File;
 use std::io::{ErrorKind, Write};
 use std::process::Abort;
@@ -272,5 +273,48 @@ fn path_of_the_system_opens(rt: HostRuntime) -> Result<(), Fail> {
     fs::remove_file(&rt, path)?;
     assert!(rt; source.len() == 7);
     assert!(rt; files.open(path).is_err());
+    Ok(())
+}
+
+/// This number of bytes, none of them 0, of which no two that are a power of two apart are the same.
+fn distinct_bytes(alloc: Global, len: usize) -> Result<Vec<u8>, AllocError> {
+    let mut bytes = Vec::new(alloc);
+    for i in 0..len {
+        bytes.push((i % 251) as u8 + 1)?;
+    }
+    Ok(bytes)
+}
+
+/// Writes these bytes to an output at the path in pieces of 12,288, and asserts that the file has them then.
+fn holds_what_was_written<R: Files<File = File> + AllocGlobal + Abort>(
+    rt: &R,
+    path: &str,
+    bytes: &[u8],
+) -> Result<(), Fail> {
+    let mut outputs = SystemOutputs::new(rt, rt.alloc());
+    let mut output = outputs.create(path)?;
+    for piece in bytes.chunks(12288) {
+        put(&mut output, piece)?;
+    }
+    outputs.close(path, output)?;
+    let file = fs::read(rt, path)?;
+    expect_bytes(rt, file.as_slice(), bytes);
+    Ok(())
+}
+
+/// How many bytes a buffer before an output has.
+const BUFFER: usize = 65536;
+
+#[test]
+fn outputs_of_one_buffer_and_two(rt: HostRuntime) -> Result<(), Fail> {
+    let path = "devices_outputs.bin";
+    let bytes = distinct_bytes(rt.alloc(), 2 * BUFFER + 3)?;
+    assert!(rt; bytes.len() == 2 * BUFFER + 3);
+    for end in [0, 4096, 12288, 61440, BUFFER, 2 * BUFFER] {
+        for len in end..end + 4 {
+            holds_what_was_written(&rt, path, &bytes.as_slice()[..len])?;
+        }
+    }
+    fs::remove_file(&rt, path)?;
     Ok(())
 }
