@@ -1,5 +1,5 @@
 -- What a run of the program has done.
-use Rattle.std.specs.Prelude.{ℕ, Bool, true, ◌≡◌, ◌⊎◌, List, [], Option, Some, None, IsSome, option_map, Result, Ok, Err, string_bytes}
+use Rattle.std.specs.Prelude.{ℕ, Bool, ◌≡◌, ◌⊎◌, List, [], Option, Some, None, IsSome, option_map, Result, Ok, Err, string_bytes}
 use Rattle.std.specs.Bool.{OnTrue}
 use Rattle.nc_base.specs.Dump.{Options}
 use Rattle.devices.specs.Openers.{OpenerView, HasFailed, opens_after}

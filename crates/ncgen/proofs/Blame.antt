@@ -1,6 +1,5 @@
 -- Whose failure it was that a text could not be read.
-use Rattle.std.proofs.Common.{◌≡◌, ℕ, subst, ◌∙◌, Result, Ok, Err}
-use Rattle.std.specs.Global.{Vec}
+use Rattle.std.proofs.Common.{◌≡◌, ℕ, subst, ◌∙◌, Err}
 use Rattle.devices.proofs.Openings.{one_failure, no_failure}
 use Rattle.devices.specs.Openers.{OpenerView, OpensOnce, HasBack}
 use Rattle.devices.specs.Readers.{ReaderView}
