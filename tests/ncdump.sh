@@ -246,8 +246,8 @@ for place in 3221225472:00000000c0000000 5368709120:0000000140000000; do
     stderr 'ncdump: far.nc: variable 0: data truncated at value 0\n'
     run "$ncdump" far.nc
     verdict "no_value_at_${place%:*}" 1
-    printf '\000\001\200\001\000\003' >>far.nc
-    cdl "values_at_${place%:*}" far.nc 'netcdf far {\ndimensions:\n\tx = 3 ;\nvariables:\n\tshort s(x) ;\ndata:\n\n s = 1, _, 3 ;\n}\n'
+    printf '\022\064\126\170\232\274' >>far.nc
+    cdl "values_at_${place%:*}" far.nc 'netcdf far {\ndimensions:\n\tx = 3 ;\nvariables:\n\tshort s(x) ;\ndata:\n\n s = 4660, 22136, -25924 ;\n}\n'
     rm far.nc
 done
 

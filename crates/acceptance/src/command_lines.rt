@@ -2,9 +2,12 @@
 
 use crate::files;
 use crate::rows::{COORDINATES_TEXT, GENERATED_TEXT, SELECTION_TEXT};
-use nc_file::{Listed, ListedFile, SliceSink};
-use ncdump::{flush_fault_line, run_with};
+use devices::Flush;
+use nc_file::{IoSink, Listed, ListedFile, SliceSink};
+use ncdump::run_with;
 use std::alloc::Global;
+use std::io;
+use std::io::{ErrorKind, Write};
 use std::process::Abort;
 use std::test::Fail;
 
@@ -23,18 +26,18 @@ struct Run<'a> {
 }
 
 /// The status of a run where the file `t.nc` has these bytes and is the only one.
-fn status_of(
+fn status_of<O: Flush>(
     alloc: Global,
     bytes: &[u8],
     words: &[&str],
-    out: &mut SliceSink<'_>,
+    out: &mut O,
     err: &mut SliceSink<'_>,
 ) -> u8 {
     let listed = [ListedFile {
         path: "t.nc",
         bytes,
     }];
-    run_with(&Listed::new(&listed), alloc, words, out, err)
+    run_with(&mut Listed::new(&listed), alloc, words, out, err)
 }
 
 /// Runs the program.
@@ -282,12 +285,38 @@ fn failing_standard_output(rt: HostRuntime) {
     assert!(rt; err == *b"ncdump: t.nc: write failed\n");
 }
 
+/// A writer that holds back all that it is given, and counts the flushes, each of which fails.
+#[derive(Drop)]
+struct HeldBack {
+    flushes: u32,
+}
+
+impl Write for HeldBack {
+    fn write(&mut self, bytes: &[u8]) -> io::Result<usize> {
+        Ok(bytes.len())
+    }
+
+    fn flush(&mut self) -> io::Result<()> {
+        self.flushes = self.flushes.saturating_add(1);
+        Err(ErrorKind::StorageFull.into())
+    }
+}
+
 #[test]
-fn line_of_a_failed_flush(rt: HostRuntime) {
-    let mut space = [0; 32];
-    let mut err = SliceSink::new(&mut space, 5);
-    assert!(rt; flush_fault_line(&mut err).is_ok());
-    assert!(rt; err.taken() == b"ncdump: write failed\n".as_slice());
+fn failing_flush_of_standard_output(rt: HostRuntime) {
+    const ROWS: [(&[&str], &[u8]); 2] = [
+        (&["ncdump", "t.nc"], b"ncdump: write failed\n"),
+        (&["ncdump", "u.nc"], b"ncdump: u.nc: cannot open\n"),
+    ];
+    for (words, line) in ROWS {
+        let mut out = IoSink::new(HeldBack { flushes: 0 });
+        let mut space = [0; 32];
+        let mut err = SliceSink::new(&mut space, 5);
+        let status = status_of(rt.alloc(), files::GENERATED, words, &mut out, &mut err);
+        assert!(rt; status == 1);
+        assert!(rt; err.taken() == line);
+        assert!(rt; out.into_inner().flushes == 1);
+    }
 }
 
 #[test]

@@ -21,6 +21,7 @@ struct CutSource<'a> {
     bytes: &'a [u8],
     len: u64,
     handed: u128,
+    failures: u128,
 }
 
 /// The first bytes of the file, of which as many are promised as it has.
@@ -29,13 +30,14 @@ fn cut(file: &[u8], len: usize) -> CutSource<'_> {
         bytes: &file[..len.min(file.len())],
         len: file.len() as u64,
         handed: 0,
+        failures: 0,
     }
 }
 
 impl Source for CutSource<'_> {
     ghost is_transparent = { false };
 
-    ghost view = { λ s. record { bytes = replicate s.len 0; failures = 0; handed = s.handed } };
+    ghost view = { λ s. record { bytes = replicate s.len 0; failures = s.failures; handed = s.handed } };
 
     fn len(&self) -> u64 {
         self.len
@@ -44,6 +46,7 @@ impl Source for CutSource<'_> {
     #[tactic(auto, unfolding(devices::specs::Sources::HasFailed))]
     fn read_at(&mut self, at: u64, into: &mut [u8]) -> Result<usize, SourceFailed> {
         if u128::MAX - self.handed < into.len() as u128 {
+            self.failures = self.failures.saturating_add(1);
             return Err(SourceFailed);
         }
         let rest = &self.bytes[(at as usize).min(self.bytes.len())..];

@@ -1,5 +1,5 @@
 -- What creating and closing an output has done.
-use Rattle.std.specs.Prelude.{ℕ, ◌≡◌, ◌+◌, ◌^◌, ◌<◌, ◌≤◌, ◌⊎◌, Bool, List, [], ◌∷◌, ◌++◌, Option, Some, Result, Ok, Err}
+use Rattle.std.specs.Prelude.{ℕ, ◌≡◌, ◌+◌, ◌-◌, ◌^◌, min, Bool, List, [], ◌∷◌, ◌++◌, Option, Some, Result, Ok, Err}
 use Rattle.std.specs.Bool.{OnTrue}
 use Rattle.devices.specs.Sinks.{SinkView}
 
@@ -19,9 +19,9 @@ pub record CreatorView : Type 0 where
 abbrev pub give : List Output → List ℕ → Option (List ℕ) → List Output
 give given path bytes = given ++ (record { path = path; bytes = bytes } ∷ [])
 
--- it has failed since it had failed so often, or it can count no further
+-- it has failed once since it had failed so often, as far as a count goes
 unfoldable pub HasFailed : ℕ → CreatorView → Type 0
-HasFailed before now = (before < now.failures) ⊎ (2 ^ 128 ≤ now.failures + 1)
+HasFailed before now = now.failures ≡ min (before + 1) (2 ^ 128 - 1)
 
 -- an empty output was created at the path
 pub record CreatedAt (is_transparent : Bool) (old new : CreatorView) (path : List ℕ) (sink : SinkView) : Type 0 where
@@ -42,11 +42,11 @@ abbrev pub Created : {S E : Type 0} → Bool → (S → SinkView) → CreatorVie
 Created is_transparent view old new path (Ok sink) = CreatedAt is_transparent old new path (view sink)
 Created is_transparent view old new path (Err failure) = Unmade old new
 
--- the path was given what the sink took, and the creator has failed if the sink has
+-- the path was given what the sink took, and the sink's failures are the creator's
 pub record ClosedAt (is_transparent : Bool) (old new : CreatorView) (path : List ℕ) (sink : SinkView) : Type 0 where
   pub creations : new.creations ≡ old.creations
   pub unfailed : sink.failures ≡ 0 → new.failures ≡ old.failures
-  pub failed : 0 < sink.failures → HasFailed old.failures new
+  pub failed : new.failures ≡ min (old.failures + sink.failures) (2 ^ 128 - 1)
   pub given : OnTrue is_transparent (new.given ≡ give old.given path sink.taken)
 
 -- what closing the output at the path has done

@@ -1,6 +1,30 @@
--- What opening a path has given.
-use Rattle.std.specs.Prelude.{ℕ, ◌≡◌, List, Option, Some, None, Result, Ok, Err}
+-- What opens paths as its contracts see it, and what opening and closing has done.
+use Rattle.std.specs.Prelude.{ℕ, ◌≡◌, ◌+◌, ◌-◌, ◌^◌, min, List, Option, Some, None, Result, Ok, Err}
 use Rattle.devices.specs.Sources.{SourceView}
+
+-- how often it was to open a path, and how often what it opened and has back has failed
+pub record OpenerView : Type 0 where
+  pub opens : ℕ
+  pub failures : ℕ
+
+-- how often it was to open a path after one time more, as far as a count goes
+abbrev pub opens_after : OpenerView → ℕ
+opens_after old = min (old.opens + 1) (2 ^ 128 - 1)
+
+-- it was to open a path once more
+pub record OpensOnce (old new : OpenerView) : Type 0 where
+  pub opens : new.opens ≡ opens_after old
+  pub failures : new.failures ≡ old.failures
+
+-- it has back what has failed so often
+pub record HasBack (old new : OpenerView) (failures : ℕ) : Type 0 where
+  pub opens : new.opens ≡ old.opens
+  pub unfailed : failures ≡ 0 → new.failures ≡ old.failures
+  pub failed : new.failures ≡ min (old.failures + failures) (2 ^ 128 - 1)
+
+-- what it opened has failed once since that had failed so often, as far as a count goes
+unfoldable pub HasFailed : ℕ → OpenerView → Type 0
+HasFailed before now = now.failures ≡ min (before + 1) (2 ^ 128 - 1)
 
 -- a source of the bytes that the path names, if it names any, and else a failure
 abbrev pub Opened : {S E : Type 0} → (S → SourceView) → Option (List ℕ) → Result S E → Type 0

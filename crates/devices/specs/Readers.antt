@@ -1,33 +1,41 @@
 -- A reader as its contracts see it, and what a read has done.
-use Rattle.std.specs.Prelude.{◌≡◌, ℕ, ◌+◌, ◌^◌, ◌<◌, ◌≤◌, ◌⊎◌, List, length, take, Option, Result, Ok, Err}
+use Rattle.std.specs.Prelude.{◌≡◌, ℕ, ◌+◌, ◌-◌, ◌^◌, ◌<◌, ◌≤◌, min, Bool, true, false, List, [], length, take, Option, Some, Result, Ok, Err}
 use Rattle.std.specs.Io.KnownBytes.{Consumes, IsAtEnd, Keeps}
 use Rattle.devices.specs.declared.reader.CountedRead.{CountedRead}
 
--- The bytes that are still to come, where the reader is transparent, how often it has failed and has been read, and how many
--- bytes it has handed over.
+-- The bytes that are still to come, where the reader is transparent, how often it has failed and has been read, how many
+-- bytes it has handed over, and if a read with room gave none, so that it is at its end.
 pub record ReaderView : Type 0 where
   pub remaining : Option (List ℕ)
   pub failures : ℕ
   pub reads : ℕ
   pub handed : ℕ
+  pub is_ended : Bool
+
+-- what is still to come of a reader that is read no more once it has ended
+abbrev pub left : Option (List ℕ) → Bool → Option (List ℕ)
+left remaining true = Some []
+left remaining false = remaining
 
 -- a reader as contracts see it, given what is still to come of readers of its type
 abbrev pub view_of : {R : Type 0} → (R → Option (List ℕ)) → CountedRead R → ReaderView
-view_of remaining r = record { remaining = remaining r.reader; failures = r.failures; reads = r.reads; handed = r.handed }
+view_of remaining r = record { remaining = left (remaining r.reader) r.is_ended; failures = r.failures; reads = r.reads; handed = r.handed; is_ended = r.is_ended }
 
 -- It has handed over n bytes, which stand at the start now: the next ones, where it is transparent. There are none only at its end, or
 -- where there was no room.
 pub record HandedOver (old new : ReaderView) (before following : List ℕ) (n : ℕ) : Type 0 where
   pub within : n ≤ length before
   pub failures : new.failures ≡ old.failures
-  pub reads : new.reads ≡ old.reads + 1
+  pub reads : new.reads ≤ old.reads + 1
+  pub counted : old.is_ended ≡ false → new.reads ≡ old.reads + 1
   pub handed : new.handed ≡ old.handed + n
   pub bytes : Consumes old.remaining new.remaining (take n following)
   pub some : n ≡ 0 → 0 < length before → IsAtEnd new.remaining
+  pub ended : n ≡ 0 → 0 < length before → new.is_ended ≡ true
 
--- it has failed since it had failed so often, or it can count no further
+-- it has failed once since it had failed so often, as far as a count goes
 unfoldable pub HasFailed : ℕ → ReaderView → Type 0
-HasFailed before now = (before < now.failures) ⊎ (2 ^ 128 ≤ now.handed + 2 ^ 64) ⊎ (2 ^ 128 ≤ now.reads + 1) ⊎ (2 ^ 128 ≤ now.failures + 1)
+HasFailed before now = now.failures ≡ min (before + 1) (2 ^ 128 - 1)
 
 -- it has failed, and handed over nothing
 pub record Failed (old new : ReaderView) : Type 0 where

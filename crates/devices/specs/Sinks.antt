@@ -1,6 +1,6 @@
 -- What a sink has taken, and what a call has written to it.
 use Rattle.std.specs.Bool.{OnTrue}
-use Rattle.std.specs.Prelude.{Bool, is_some, ◌≡◌, ℕ, ◌+◌, ◌^◌, ◌⊎◌, ◌<◌, ◌≤◌, List, [], ◌++◌, length, take, Option, Some, None, option_map, unwrap_or, Result, Ok, Err}
+use Rattle.std.specs.Prelude.{Bool, is_some, ◌≡◌, ℕ, ◌+◌, ◌-◌, ◌^◌, ◌<◌, ◌≤◌, min, List, [], ◌++◌, length, take, Option, Some, None, option_map, unwrap_or, Result, Ok, Err}
 
 -- a sink as its contracts see it: the bytes that it took, where it is transparent, and how often it has failed
 pub record SinkView : Type 0 where
@@ -26,9 +26,9 @@ IsPrefixIf None None = Unit {0}
 IsPrefixIf (Some prefix) None = ⊥
 IsPrefixIf None (Some whole) = ⊥
 
--- it has failed since it had failed so often, or it can count no further
+-- it has failed once since it had failed so often, as far as a count goes
 unfoldable pub HasFailed : ℕ → SinkView → Type 0
-HasFailed before now = (before < now.failures) ⊎ (2 ^ 128 ≤ now.failures + 1)
+HasFailed before now = now.failures ≡ min (before + 1) (2 ^ 128 - 1)
 
 -- now it is what it was to be, cut short
 unfoldable pub IsCut : SinkView → SinkView → Type 0

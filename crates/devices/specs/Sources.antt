@@ -1,5 +1,5 @@
 -- A source as its contracts see it, and what a read has done.
-use Rattle.std.specs.Prelude.{◌≡◌, ℕ, ◌+◌, ◌^◌, ◌<◌, ◌≤◌, ◌⊎◌, Bool, List, length, take, drop, Result, Ok, Err}
+use Rattle.std.specs.Prelude.{◌≡◌, ℕ, ◌+◌, ◌-◌, ◌^◌, ◌<◌, ◌≤◌, Bool, List, length, take, drop, min, Result, Ok, Err}
 use Rattle.std.specs.Bool.{OnTrue}
 
 -- its bytes (where it is opaque, any list of its length), how often it has failed, and how many bytes it
@@ -20,9 +20,9 @@ pub record BytesRead (is_transparent : Bool) (old new : SourceView) (at : ℕ) (
   pub bytes : OnTrue is_transparent (take n following ≡ take n (drop at old.bytes))
   pub some : OnTrue is_transparent (0 < n)
 
--- it has failed since it had failed so often, or it can count no further
+-- it has failed once since it had failed so often, as far as a count goes
 unfoldable pub HasFailed : ℕ → SourceView → Type 0
-HasFailed before now = (before < now.failures) ⊎ (2 ^ 128 ≤ now.handed + 2 ^ 64) ⊎ (2 ^ 128 ≤ now.failures + 1)
+HasFailed before now = now.failures ≡ min (before + 1) (2 ^ 128 - 1)
 
 -- it has failed, and nothing was read
 pub record Failed (old new : SourceView) : Type 0 where

@@ -1,7 +1,7 @@
 //! Reading ahead.
 
-ghost use Rattle.std.specs.Prelude.{◌≡◌, ◌<◌, ◌≤◌, ◌+◌, ◌^◌, IfOk, true, length, take, drop};
-ghost use Rattle.devices.specs.Sources.{ReadSome};
+ghost use Rattle.std.specs.Prelude.{◌≡◌, ◌<◌, ◌≤◌, ◌⊎◌, ◌+◌, ◌^◌, IfOk, OnErr, true, length, take, drop};
+ghost use Rattle.devices.specs.Sources.{HasFailed, ReadSome};
 ghost use Rattle.devices.specs.Ahead.{Answers};
 
 use crate::{Source, SourceFailed};
@@ -49,6 +49,7 @@ impl<S: Source> ReadAhead<S> {
     /// number: 0 where the byte at this offset wasn't read ahead.
     fn copy(&self, at: u64, into: &mut [u8]) -> usize
         ensures within { result ≤ length into.old }
+        ensures held { result ≤ self.now.len }
         ensures bytes { S.is_transparent ≡ true → take result into.new ≡ take result (drop at (S.view self.now.source).bytes) }
         ensures some { 0 < length into.old → at ≡ self.now.at → 0 < self.now.len → 0 < result }
     {
@@ -81,6 +82,8 @@ impl<S: Source> ReadAhead<S> {
         ensures counts { (self.new.failures ≡ self.old.failures) × (self.new.handed ≡ self.old.handed) }
         ensures place { self.new.at ≡ at }
         ensures some { S.is_transparent ≡ true → IfOk result (λ _. 0 < self.new.len) }
+        ensures held { IfOk result (λ _. (S.view self.old.source).handed + self.new.len ≡ (S.view self.new.source).handed) }
+        ensures blame { OnErr result (HasFailed (S.view self.old.source).failures (S.view self.new.source)) }
     {
         let wanted = self.next_len(at);
         self.len = 0;
@@ -97,6 +100,8 @@ impl<S: Source> ReadAhead<S> {
         ensures bytes { (S.view self.new.source).bytes ≡ (S.view self.old.source).bytes }
         ensures counts { (self.new.failures ≡ self.old.failures) × (self.new.handed ≡ self.old.handed) }
         ensures answers { IfOk result (λ n. Answers S.is_transparent (S.view self.old.source).bytes at into.new n) }
+        ensures given { IfOk result (λ n. (S.view self.old.source).handed + n ≤ (S.view self.new.source).handed) }
+        ensures blame { OnErr result (HasFailed (S.view self.old.source).failures (S.view self.new.source)) }
     {
         if MOST_AHEAD <= into.len() {
             return self.source.read_at(at, into);
@@ -112,7 +117,9 @@ impl<S: Source> ReadAhead<S> {
         requires room { 0 < length into.old }
         requires inside { at < length (S.view self.old.source).bytes }
         requires counted { self.old.handed + length into.old < 2 ^ 128 }
-        ensures { ReadSome S.is_transparent (⟦<ReadAhead<S> as Source>⟧.view self.old) (⟦<ReadAhead<S> as Source>⟧.view self.new) at into.old into.new result }
+        ensures read { ReadSome S.is_transparent (⟦<ReadAhead<S> as Source>⟧.view self.old) (⟦<ReadAhead<S> as Source>⟧.view self.new) at into.old into.new result }
+        ensures given { IfOk result (λ n. (S.view self.old.source).handed + n ≤ (S.view self.new.source).handed) }
+        ensures blame { OnErr result (HasFailed (S.view self.old.source).failures (S.view self.new.source)) }
     {
         match self.read_some(at, into) {
             Ok(n) => {
@@ -124,6 +131,13 @@ impl<S: Source> ReadAhead<S> {
                 Err(failure)
             }
         }
+    }
+
+    /// How often it has failed.
+    pub(crate) fn failures(&self) -> u128
+        ensures { result ≡ (⟦<ReadAhead<S> as Source>⟧.view self.now).failures }
+    {
+        self.failures
     }
 }
 
@@ -191,8 +205,17 @@ impl<S: Source> Source for ReadAhead<S> {
     }
 
     #[tactic(auto, unfolding(crate::specs::Sources::HasFailed))]
-    fn read_at(&mut self, at: u64, into: &mut [u8]) -> Result<usize, SourceFailed> {
+    fn read_at(&mut self, at: u64, into: &mut [u8]) -> Result<usize, SourceFailed>
+        requires room { 0 < length into.old }
+        requires inside { at < length (S.view self.old.source).bytes }
+        ensures read { ReadSome S.is_transparent (⟦<ReadAhead<S> as Source>⟧.view self.old) (⟦<ReadAhead<S> as Source>⟧.view self.new) at into.old into.new result }
+
+        // It hands over no more bytes than its source has, and fails where its source has failed, or where it can't count.
+        ensures given { IfOk result (λ n. (S.view self.old.source).handed + n ≤ (S.view self.new.source).handed + self.old.len) }
+        ensures blame { OnErr result (HasFailed (S.view self.old.source).failures (S.view self.new.source) ⊎ (2 ^ 128 ≤ (⟦<ReadAhead<S> as Source>⟧.view self.old).handed + length into.old)) }
+    {
         if u128::MAX - self.handed < into.len() as u128 {
+            self.failures = self.failures.saturating_add(1);
             return Err(SourceFailed);
         }
         let n = self.copy(at, into);

@@ -105,6 +105,7 @@ impl Source for DripSource<'_> {
         let from = at as usize;
         let n = into.len().min(self.bytes.len() - from).min(self.step);
         if u128::MAX - self.handed < n as u128 {
+            self.failures = self.failures.saturating_add(1);
             return Err(SourceFailed);
         }
         let is_due = self.fail.is_due(at, self.reads);

@@ -1,10 +1,9 @@
 //! Devices over the files and writers of the standard library.
 
-ghost use Rattle.std.specs.Prelude.{◌≡◌, ◌+◌, ◌^◌, ◌-◌, ◌<◌, [], false, length, min, replicate, IfOk, IsErr};
-ghost use Rattle.devices.specs.Sinks.{Wrote};
+ghost use Rattle.std.specs.Prelude.{◌≡◌, ◌+◌, ◌^◌, ◌-◌, ◌<◌, false, length, min, replicate, IfOk, IsErr};
 
 use crate::ahead::ReadAhead;
-use crate::{OpenFailed, Sink, SinkFailed, Source, SourceFailed};
+use crate::{Flush, OpenFailed, Sink, SinkFailed, Source, SourceFailed};
 use std::fs::File;
 use std::io::{ErrorKind, Write};
 use std::os::unix::fs::FileExt;
@@ -15,20 +14,17 @@ use std::{fs, io};
 ///
 /// Its length is the file's at the time when it was opened. It reads stretches of the file ahead, so that reads which lie
 /// near each other take few calls of the system. A call that fails is not tried again.
-#[derive(Drop)]
-pub struct FileSource {
-    ahead: ReadAhead<OpenFile>,
-}
+pub type FileSource = ReadAhead<OpenFile>;
 
-impl FileSource {
+impl ReadAhead<OpenFile> {
     /// Opens the regular file at the path, and takes its length.
     ///
     /// # Errors
     ///
     /// The path names nothing, nothing that may be read, or something other than a regular file.
     pub fn open(rt: &impl Files<File = File>, path: &str) -> Result<FileSource, OpenFailed>
-        ensures failures { IfOk result (λ source. (⟦<FileSource as Source>⟧.view source).failures ≡ 0) }
-        ensures handed { IfOk result (λ source. (⟦<FileSource as Source>⟧.view source).handed ≡ 0) }
+        ensures failures { IfOk result (λ source. (⟦<ReadAhead<OpenFile> as Source>⟧.view source).failures ≡ 0) }
+        ensures handed { IfOk result (λ source. (⟦<ReadAhead<OpenFile> as Source>⟧.view source).handed ≡ 0) }
     {
         // asked of the path, since to open a pipe is to wait for its writer
         let named = fs::metadata(rt, path).map_err(|_| OpenFailed)?;
@@ -43,29 +39,13 @@ impl FileSource {
             failures: 0,
             handed: 0,
         };
-        Ok(FileSource {
-            ahead: ReadAhead::new(source),
-        })
-    }
-}
-
-impl Source for FileSource {
-    ghost is_transparent = { false };
-
-    ghost view = { λ s. ⟦<ReadAhead<OpenFile> as Source>⟧.view s.ahead };
-
-    fn len(&self) -> u64 {
-        self.ahead.len()
-    }
-
-    fn read_at(&mut self, at: u64, into: &mut [u8]) -> Result<usize, SourceFailed> {
-        self.ahead.read_at(at, into)
+        Ok(ReadAhead::new(source))
     }
 }
 
 /// A file of the system that was opened, with its length at that time. Each read is a call of the system.
 #[derive(Drop)]
-struct OpenFile {
+pub struct OpenFile {
     file: File,
     len: u64,
     failures: u128,
@@ -84,6 +64,7 @@ impl Source for OpenFile {
     #[tactic(auto, unfolding(crate::specs::Sources::HasFailed))]
     fn read_at(&mut self, at: u64, into: &mut [u8]) -> Result<usize, SourceFailed> {
         if u128::MAX - self.handed < into.len() as u128 {
+            self.failures = self.failures.saturating_add(1);
             return Err(SourceFailed);
         }
         match self.file.read_at(into, at) {
@@ -105,6 +86,7 @@ impl Source for OpenFile {
 #[derive(Drop)]
 pub struct IoSink<W: Write> {
     writer: W,
+    is_flushed: bool,
     failures: u128,
 }
 
@@ -115,21 +97,9 @@ impl<W: Write> IoSink<W> {
     {
         IoSink {
             writer,
+            is_flushed: false,
             failures: 0,
         }
-    }
-
-    /// Hands on what the writer holds back.
-    ///
-    /// # Errors
-    ///
-    /// The writer failed.
-    #[tactic(auto, using(crate::proofs::Writes::devices), unfolding(crate::specs::Sinks::append, crate::specs::Sinks::count, crate::specs::Sinks::IsCut, crate::specs::Sinks::is_transparent, crate::specs::Sinks::HasFailed))]
-    pub fn flush(&mut self) -> Result<(), SinkFailed>
-        ensures { Wrote (⟦<IoSink<W> as Sink>⟧.view self.old) (⟦<IoSink<W> as Sink>⟧.view self.new) [] result }
-    {
-        let answer = self.writer.flush();
-        counted(answer, &mut self.failures)
     }
 
     /// How often it has failed.
@@ -155,10 +125,22 @@ impl<W: Write> Sink for IoSink<W> {
         if bytes.is_empty() {
             return Ok(0);
         }
+        self.is_flushed = false;
         let answer = match self.writer.write(bytes) {
             Ok(0) => Err(ErrorKind::WriteZero.into()),
             answer => answer,
         };
+        counted(answer, &mut self.failures)
+    }
+}
+
+impl<W: Write> Flush for IoSink<W> {
+    ghost is_flushed = { λ s. s.is_flushed };
+
+    #[tactic(auto, using(crate::proofs::Writes::devices), unfolding(crate::specs::Sinks::append, crate::specs::Sinks::count, crate::specs::Sinks::IsCut, crate::specs::Sinks::is_transparent, crate::specs::Sinks::HasFailed))]
+    fn flush(&mut self) -> Result<(), SinkFailed> {
+        let answer = self.writer.flush();
+        self.is_flushed = answer.is_ok();
         counted(answer, &mut self.failures)
     }
 }

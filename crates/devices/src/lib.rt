@@ -40,7 +40,7 @@ pub use memory::{MemSink, MemSource};
 pub use opener::Opener;
 pub use output::SystemOutputs;
 pub use reader::CountedRead;
-pub use sink::{Sink, put};
+pub use sink::{Flush, Sink, put};
 pub use slice::SliceSink;
 pub use source::Source;
 pub use system::SystemFiles;

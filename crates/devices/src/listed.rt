@@ -2,8 +2,11 @@
 
 ghost use Rattle.std.specs.Prelude.{◌≡◌, List, ℕ, find, option_map, true};
 ghost use Rattle.devices.specs.Listed.{bytes_named, is_at};
+ghost use Rattle.devices.specs.Openers.{HasBack};
+ghost use Rattle.devices.specs.Readers.{view_of};
 
-use crate::{MemSource, OpenFailed, Opener, Texts};
+use crate::{CountedRead, MemSource, OpenFailed, Opener, Texts};
+use std::io::Read;
 
 /// A file in memory: a path and its bytes.
 #[derive(Clone, Copy, Debug)]
@@ -18,15 +21,22 @@ pub struct ListedFile<'a> {
 #[derive(Drop)]
 pub struct Listed<'a> {
     files: &'a [ListedFile<'a>],
+    opens: u128,
+    failures: u128,
 }
 
 impl<'a> Listed<'a> {
-    /// These files.
+    /// These files, none of which was opened.
     pub fn new(files: &'a [ListedFile<'a>]) -> Listed<'a>
         ensures sources { (path : List ℕ) → ⟦<Listed<'static> as Opener>⟧.named result path ≡ bytes_named files.now path }
         ensures texts { (path : List ℕ) → ⟦<Listed<'static> as Texts>⟧.named result path ≡ bytes_named files.now path }
+        ensures view { ⟦<Listed<'static> as Opener>⟧.view result ≡ record { opens = 0; failures = 0 } }
     {
-        Listed { files }
+        Listed {
+            files,
+            opens: 0,
+            failures: 0,
+        }
     }
 }
 
@@ -35,9 +45,16 @@ impl<'a> Opener for Listed<'a> {
 
     ghost named = { λ listed path. bytes_named listed.files.now path };
 
-    fn open(&self, path: &str) -> Result<MemSource<'a>, OpenFailed> {
+    ghost view = { λ listed. record { opens = listed.opens; failures = listed.failures } };
+
+    fn open(&mut self, path: &str) -> Result<MemSource<'a>, OpenFailed> {
+        self.opens = self.opens.saturating_add(1);
         let bytes = bytes_at(self.files, path).ok_or(OpenFailed)?;
         Ok(MemSource::new(bytes))
+    }
+
+    fn close(&mut self, source: MemSource<'a>) {
+        self.failures = self.failures.saturating_add(source.failures());
     }
 }
 
@@ -48,8 +65,18 @@ impl<'a> Texts for Listed<'a> {
 
     ghost named = { λ listed path. bytes_named listed.files.now path };
 
-    fn open_text(&self, path: &str) -> Result<&'a [u8], OpenFailed> {
-        bytes_at(self.files, path).ok_or(OpenFailed)
+    ghost view = { λ listed. record { opens = listed.opens; failures = listed.failures } };
+
+    fn open_text(&mut self, path: &str) -> Result<CountedRead<&'a [u8]>, OpenFailed> {
+        self.opens = self.opens.saturating_add(1);
+        let bytes = bytes_at(self.files, path).ok_or(OpenFailed)?;
+        Ok(CountedRead::new(bytes))
+    }
+
+    fn close_text(&mut self, text: CountedRead<&'a [u8]>)
+        ensures { HasBack (⟦<Listed<'static> as Texts>⟧.view self.old) (⟦<Listed<'static> as Texts>⟧.view self.new) (view_of (⟦<&'static [u8] as Read>⟧.remaining) text.entry).failures }
+    {
+        self.failures = self.failures.saturating_add(text.failures());
     }
 }
 

@@ -28,6 +28,13 @@ impl<'a> MemSource<'a> {
             handed: 0,
         }
     }
+
+    /// How often it has failed.
+    pub(crate) fn failures(&self) -> u128
+        ensures { result ≡ (⟦<MemSource<'static> as Source>⟧.view self.now).failures }
+    {
+        self.failures
+    }
 }
 
 impl Source for MemSource<'_> {
@@ -51,6 +58,7 @@ impl Source for MemSource<'_> {
         let from = at as usize;
         let n = into.len().min(self.bytes.len() - from);
         if u128::MAX - self.handed < n as u128 {
+            self.failures = self.failures.saturating_add(1);
             return Err(SourceFailed);
         }
         into[..n].copy_from_slice(&self.bytes[from..from + n]);

@@ -2,13 +2,14 @@
 
 ghost use Rattle.std.specs.Prelude.{◌≡◌, List, ℕ, Option, IfOk};
 ghost use Rattle.std.specs.Bool.{OnTrue};
-ghost use Rattle.devices.specs.Openers.{Opened};
+ghost use Rattle.devices.specs.Openers.{HasBack, Opened, OpenerView, OpensOnce};
 
 use crate::{OpenFailed, Source};
 
 /// What opens paths as sources.
 ///
-/// Where its sources are transparent, contracts know which bytes a path names, and which paths can't be opened.
+/// Contracts see how often it was to open a path, and how often the sources have failed that it has back. Where its sources are
+/// transparent, they also know which bytes a path names, and which paths can't be opened.
 pub trait Opener {
     /// A source that a path is opened as.
     type Source: Source + Drop;
@@ -16,13 +17,21 @@ pub trait Opener {
     // The bytes that a path names, if it can be opened, where the sources are transparent.
     ghost named: { Self → List ℕ → Option (List ℕ) };
 
+    // The opener as contracts see it.
+    ghost view: { Self → OpenerView };
+
     /// Opens the path.
     ///
     /// # Errors
     ///
     /// The path can't be opened.
-    fn open(&self, path: &str) -> Result<Self::Source, OpenFailed>
+    fn open(&mut self, path: &str) -> Result<Self::Source, OpenFailed>
+        ensures once { OpensOnce (view self.old) (view self.new) }
         ensures failures { IfOk result (λ source. (Self.Source.view source).failures ≡ 0) }
         ensures handed { IfOk result (λ source. (Self.Source.view source).handed ≡ 0) }
-        ensures bytes { OnTrue Self.Source.is_transparent (Opened Self.Source.view (named self.now path.now) result) };
+        ensures bytes { OnTrue Self.Source.is_transparent (Opened Self.Source.view (named self.old path.now) result) };
+
+    /// Takes back a source that it opened.
+    fn close(&mut self, source: Self::Source)
+        ensures { HasBack (view self.old) (view self.new) (Self.Source.view source).failures };
 }

@@ -1,8 +1,8 @@
 //! Outputs in the files of the system.
 
-ghost use Rattle.std.specs.Prelude.{◌≡◌, [], IfOk, false};
+ghost use Rattle.std.specs.Prelude.{◌≡◌, [], IfOk, false, option_and_then};
 
-use crate::{CloseFailed, CreateFailed, Creator, IoSink, Sink};
+use crate::{CloseFailed, CreateFailed, Creator, Flush, IoSink, Sink};
 use std::alloc::Global;
 use std::fs::File;
 use std::io;
@@ -35,8 +35,8 @@ impl<'a, R: Files<File = File>> SystemOutputs<'a, R> {
     }
 
     /// Creates or empties the file at the path. Where its buffer is refused, nothing is touched.
-    fn create_file(&self, path: &str) -> io::Result<IoSink<BufWriter<OutputFile>>>
-        ensures { IfOk result (λ sink. (⟦<IoSink<BufWriter<OutputFile>> as Sink>⟧.view sink).failures ≡ 0) }
+    fn create_file(&self, path: &str) -> io::Result<IoSink<BufWriter<OutputFile<File>>>>
+        ensures { IfOk result (λ sink. (⟦<IoSink<BufWriter<OutputFile<File>>> as Sink>⟧.view sink).failures ≡ 0) }
     {
         let nothing = OutputFile { file: None };
         let mut writer = BufWriter::with_capacity(self.alloc, HELD_BACK, nothing)?;
@@ -47,14 +47,14 @@ impl<'a, R: Files<File = File>> SystemOutputs<'a, R> {
 }
 
 impl<R: Files<File = File>> Creator for SystemOutputs<'_, R> {
-    type Output = IoSink<BufWriter<OutputFile>>;
+    type Output = IoSink<BufWriter<OutputFile<File>>>;
 
     ghost is_transparent = { false };
 
     ghost view = { λ s. record { given = []; creations = s.creations; failures = s.failures } };
 
     #[tactic(auto, unfolding(crate::specs::Creators::HasFailed))]
-    fn create(&mut self, path: &str) -> Result<IoSink<BufWriter<OutputFile>>, CreateFailed> {
+    fn create(&mut self, path: &str) -> Result<IoSink<BufWriter<OutputFile<File>>>, CreateFailed> {
         if self.creations < u128::MAX {
             if let Ok(sink) = self.create_file(path) {
                 self.creations += 1;
@@ -69,7 +69,7 @@ impl<R: Files<File = File>> Creator for SystemOutputs<'_, R> {
     fn close(
         &mut self,
         _path: &str,
-        mut output: IoSink<BufWriter<OutputFile>>,
+        mut output: IoSink<BufWriter<OutputFile<File>>>,
     ) -> Result<(), CloseFailed> {
         let failures = output.failures();
         if output.flush().is_err() {
@@ -81,13 +81,15 @@ impl<R: Files<File = File>> Creator for SystemOutputs<'_, R> {
     }
 }
 
-/// A file of the system, once it is created.
+/// A writer to a file, once it is created. It loses no byte of what the writer takes.
 #[derive(Drop)]
-pub struct OutputFile {
-    file: Option<File>,
+pub struct OutputFile<W: Write> {
+    file: Option<W>,
 }
 
-impl Write for OutputFile {
+impl<W: Write> Write for OutputFile<W> {
+    ghost contents = { λ output. option_and_then W.contents output.file };
+
     fn write(&mut self, bytes: &[u8]) -> io::Result<usize> {
         match &mut self.file {
             Some(file) => file.write(bytes),
@@ -96,6 +98,9 @@ impl Write for OutputFile {
     }
 
     fn flush(&mut self) -> io::Result<()> {
-        Ok(())
+        match &mut self.file {
+            Some(file) => file.flush(),
+            None => Ok(()),
+        }
     }
 }

@@ -1,6 +1,6 @@
 //! A reader that counts.
 
-ghost use Rattle.std.specs.Prelude.{◌≡◌};
+ghost use Rattle.std.specs.Prelude.{◌≡◌, false, true};
 ghost use Rattle.devices.specs.Readers.{view_of, Reads};
 
 use crate::SourceFailed;
@@ -8,25 +8,28 @@ use std::io::Read;
 
 /// A reader that counts its reads, the bytes that it has handed over, and its failures.
 ///
-/// An error of the reader, of any kind, is a failure. A read that fails is not tried again.
+/// An error of the reader, of any kind, is a failure. A read that fails is not tried again. Once a read with room gave none, the
+/// reader is at its end, and is not read again: a terminal would wait for more.
 #[derive(Drop)]
 pub struct CountedRead<R: Read> {
     reader: R,
     failures: u128,
     reads: u128,
     handed: u128,
+    is_ended: bool,
 }
 
 impl<R: Read> CountedRead<R> {
     /// A reader of the bytes that are still to come of this one.
     pub fn new(reader: R) -> CountedRead<R>
-        ensures { view_of R.remaining result ≡ record { remaining = R.remaining reader; failures = 0; reads = 0; handed = 0 } }
+        ensures { view_of R.remaining result ≡ record { remaining = R.remaining reader; failures = 0; reads = 0; handed = 0; is_ended = false } }
     {
         CountedRead {
             reader,
             failures: 0,
             reads: 0,
             handed: 0,
+            is_ended: false,
         }
     }
 
@@ -39,15 +42,21 @@ impl<R: Read> CountedRead<R> {
     /// The reader failed, or a count would reach 2^128. No byte is handed over, and `into` may hold anything.
     #[tactic(auto, unfolding(crate::specs::Readers::HasFailed))]
     pub fn read_some(&mut self, into: &mut [u8]) -> Result<usize, SourceFailed>
-        ensures { Reads (view_of R.remaining self.old) (view_of R.remaining self.new) into.old into.new result }
+        ensures read { Reads (view_of R.remaining self.old) (view_of R.remaining self.new) into.old into.new result }
+        ensures ended { (view_of R.remaining self.old).is_ended ≡ true → view_of R.remaining self.new ≡ view_of R.remaining self.old }
     {
+        if self.is_ended {
+            return Ok(0);
+        }
         let is_full = self.reads == u128::MAX || u128::MAX - self.handed < into.len() as u128;
         if is_full {
+            self.failures = self.failures.saturating_add(1);
             return Err(SourceFailed);
         }
         self.reads += 1;
         match self.reader.read(into) {
             Ok(n) => {
+                self.is_ended = n == 0 && !into.is_empty();
                 self.handed += n as u128;
                 Ok(n)
             }
@@ -56,5 +65,12 @@ impl<R: Read> CountedRead<R> {
                 Err(SourceFailed)
             }
         }
+    }
+
+    /// How often it has failed.
+    pub fn failures(&self) -> u128
+        ensures { result ≡ (view_of R.remaining self.now).failures }
+    {
+        self.failures
     }
 }

@@ -1,5 +1,6 @@
 //! Sinks of bytes, and the call that writes all of a text to one.
 
+ghost use Rattle.std.specs.Prelude.{◌≡◌, [], Bool, IfOk, true};
 ghost use Rattle.devices.specs.Sinks.{SinkView, Wrote, WroteSome};
 
 use crate::{SinkFailed, WriteFailed};
@@ -21,6 +22,21 @@ pub trait Sink {
     /// The sink failed, and took none of the bytes. Empty `bytes` never fail.
     fn write_some(&mut self, bytes: &[u8]) -> Result<usize, SinkFailed>
         ensures { WroteSome (view self.old) (view self.new) bytes.now result };
+}
+
+/// A sink that may hold bytes back until it is flushed.
+pub trait Flush: Sink {
+    // All that it took was handed on.
+    ghost is_flushed: { Self → Bool };
+
+    /// Hands on what it holds back.
+    ///
+    /// # Errors
+    ///
+    /// The sink failed.
+    fn flush(&mut self) -> Result<(), SinkFailed>
+        ensures wrote { Wrote (Self.view self.old) (Self.view self.new) [] result }
+        ensures flushed { IfOk result (λ _. is_flushed self.new ≡ true) };
 }
 
 /// Writes all of the bytes to the sink, by as many calls as it takes.

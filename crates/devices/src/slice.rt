@@ -1,9 +1,9 @@
 //! A sink over a slice.
 
-ghost use Rattle.std.specs.Prelude.{◌≡◌, ◌↔◌, ◌<◌, ◌≤◌, ◌+◌, ◌-◌, [], Some, length, take, IsErr, IfOk, OnErr};
+ghost use Rattle.std.specs.Prelude.{◌≡◌, ◌↔◌, ◌<◌, ◌≤◌, ◌+◌, ◌-◌, [], Some, length, take, true, IsErr, IfOk, OnErr};
 ghost use Rattle.devices.specs.Sinks.{WroteSome};
 
-use crate::{Sink, SinkFailed};
+use crate::{Flush, Sink, SinkFailed};
 
 /// A transparent sink that keeps its bytes at the start of a slice. It takes at most `step` of them a call.
 ///
@@ -72,5 +72,15 @@ impl Sink for SliceSink<'_> {
         self.into[self.len..self.len + n].copy_from_slice(&bytes[..n]);
         self.len += n;
         Ok(n)
+    }
+}
+
+impl Flush for SliceSink<'_> {
+    // It holds nothing back.
+    ghost is_flushed = { λ _. true };
+
+    #[tactic(auto, using(crate::proofs::Writes::writes))]
+    fn flush(&mut self) -> Result<(), SinkFailed> {
+        Ok(())
     }
 }

@@ -1,21 +1,42 @@
 //! The files of the system.
 
-ghost use Rattle.std.specs.Prelude.{None, false};
+ghost use Rattle.std.specs.Prelude.{◌≡◌, None, false};
+ghost use Rattle.devices.specs.Openers.{HasBack};
+ghost use Rattle.devices.specs.Readers.{view_of};
 
-use crate::{FileSource, OpenFailed, Opener, Texts};
+use crate::{CountedRead, FileSource, OpenFailed, Opener, Texts};
 use std::fs::File;
+use std::io::Read;
 use std::rt::Files;
 
 /// The files of the system, which are opaque.
 #[derive(Drop)]
 pub struct SystemFiles<'a, R: Files<File = File>> {
     rt: &'a R,
+    opens: u128,
+    failures: u128,
 }
 
 impl<'a, R: Files<File = File>> SystemFiles<'a, R> {
-    /// The files of the system that the runtime stands for.
-    pub fn new(rt: &'a R) -> SystemFiles<'a, R> {
-        SystemFiles { rt }
+    /// The files of the system that the runtime stands for, none of which was opened.
+    pub fn new(rt: &'a R) -> SystemFiles<'a, R>
+        ensures { ⟦<SystemFiles<'static, R> as Opener>⟧.view result ≡ record { opens = 0; failures = 0 } }
+    {
+        SystemFiles {
+            rt,
+            opens: 0,
+            failures: 0,
+        }
+    }
+
+    /// Opens the file at the path, unless it is a folder, which would be opened, and only fail to be read.
+    fn open_file(&self, path: &str) -> Result<File, OpenFailed> {
+        let file = File::open(self.rt, path).map_err(|_| OpenFailed)?;
+        let metadata = file.metadata().map_err(|_| OpenFailed)?;
+        if metadata.is_dir() {
+            return Err(OpenFailed);
+        }
+        Ok(file)
     }
 }
 
@@ -24,8 +45,15 @@ impl<R: Files<File = File>> Opener for SystemFiles<'_, R> {
 
     ghost named = { λ _ _. None };
 
-    fn open(&self, path: &str) -> Result<FileSource, OpenFailed> {
+    ghost view = { λ files. record { opens = files.opens; failures = files.failures } };
+
+    fn open(&mut self, path: &str) -> Result<FileSource, OpenFailed> {
+        self.opens = self.opens.saturating_add(1);
         FileSource::open(self.rt, path)
+    }
+
+    fn close(&mut self, source: FileSource) {
+        self.failures = self.failures.saturating_add(source.failures());
     }
 }
 
@@ -36,13 +64,17 @@ impl<R: Files<File = File>> Texts for SystemFiles<'_, R> {
 
     ghost named = { λ _ _. None };
 
-    fn open_text(&self, path: &str) -> Result<File, OpenFailed> {
-        let file = File::open(self.rt, path).map_err(|_| OpenFailed)?;
-        let metadata = file.metadata().map_err(|_| OpenFailed)?;
-        // a folder is opened, and only fails to be read
-        if metadata.is_dir() {
-            return Err(OpenFailed);
-        }
-        Ok(file)
+    ghost view = { λ files. record { opens = files.opens; failures = files.failures } };
+
+    fn open_text(&mut self, path: &str) -> Result<CountedRead<File>, OpenFailed> {
+        self.opens = self.opens.saturating_add(1);
+        let file = self.open_file(path)?;
+        Ok(CountedRead::new(file))
+    }
+
+    fn close_text(&mut self, text: CountedRead<File>)
+        ensures { HasBack (⟦<SystemFiles<'static, R> as Texts>⟧.view self.old) (⟦<SystemFiles<'static, R> as Texts>⟧.view self.new) (view_of (⟦<File as Read>⟧.remaining) text).failures }
+    {
+        self.failures = self.failures.saturating_add(text.failures());
     }
 }

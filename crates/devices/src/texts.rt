@@ -1,15 +1,18 @@
 //! What opens paths as texts.
 
-ghost use Rattle.std.specs.Prelude.{Bool, List, ℕ, Option};
+ghost use Rattle.std.specs.Prelude.{◌≡◌, Bool, List, ℕ, Option, IfOk};
 ghost use Rattle.std.specs.Bool.{OnTrue};
+ghost use Rattle.devices.specs.Openers.{HasBack, OpenerView, OpensOnce};
+ghost use Rattle.devices.specs.Readers.{view_of};
 ghost use Rattle.devices.specs.Texts.{OpenedText};
 
-use crate::OpenFailed;
+use crate::{CountedRead, OpenFailed};
 use std::io::Read;
 
 /// What opens paths as texts, which are read from their beginning to their end.
 ///
-/// Where it is transparent, contracts know which bytes a path names, and which paths can't be opened.
+/// Contracts see how often it was to open a path, and how often the texts have failed that it has back. Where it is transparent,
+/// they also know which bytes a path names, and which paths can't be opened.
 pub trait Texts {
     /// What a path is opened as.
     type Text: Read + Drop;
@@ -20,11 +23,20 @@ pub trait Texts {
     // The bytes that a path names, if it can be opened, where they are transparent.
     ghost named: { Self → List ℕ → Option (List ℕ) };
 
+    // The opener as contracts see it.
+    ghost view: { Self → OpenerView };
+
     /// Opens the path as a text.
     ///
     /// # Errors
     ///
     /// The path can't be opened.
-    fn open_text(&self, path: &str) -> Result<Self::Text, OpenFailed>
-        ensures { OnTrue is_transparent (OpenedText Self.Text.remaining (named self.now path.now) result) };
+    fn open_text(&mut self, path: &str) -> Result<CountedRead<Self::Text>, OpenFailed>
+        ensures once { OpensOnce (view self.old) (view self.new) }
+        ensures failures { IfOk result (λ text. (view_of Self.Text.remaining text).failures ≡ 0) }
+        ensures bytes { OnTrue is_transparent (OpenedText (view_of Self.Text.remaining) (named self.old path.now) result) };
+
+    /// Takes back a text that it opened.
+    fn close_text(&mut self, text: CountedRead<Self::Text>)
+        ensures { HasBack (view self.old) (view self.new) (view_of Self.Text.remaining text).failures };
 }

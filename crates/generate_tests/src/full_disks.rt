@@ -124,8 +124,8 @@ pub fn leaves(rt: &impl Abort, alloc: Global, mut disk: FullDisk, line: &[u8], b
     let mut space = [0; 64];
     let mut err = SliceSink::new(&mut space, 64);
     let words = ["ncgen", "-b", "t.cdl"];
-    let texts = Listed::new(&files);
-    let status = status_of(alloc, &texts, &mut disk, &words, &mut input, &mut err);
+    let mut texts = Listed::new(&files);
+    let status = status_of(alloc, &mut texts, &mut disk, &words, &mut input, &mut err);
     assert!(rt; status == if line.is_empty() { 0 } else { 1 });
     assert!(rt; err.taken() == line);
     assert!(rt; disk.held() == bytes);

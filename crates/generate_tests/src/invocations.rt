@@ -26,7 +26,7 @@ pub struct Outcome<'a> {
 /// The status of a run on these words and devices.
 pub fn status_of<T: Texts, C: Creator, R: Read>(
     alloc: Global,
-    texts: &T,
+    texts: &mut T,
     outputs: &mut C,
     words: &[&str],
     input: &mut CountedRead<R>,
@@ -41,8 +41,15 @@ pub fn ends(rt: &impl Abort, alloc: Global, run: Invocation<'_>, outcome: Outcom
     let mut input = CountedRead::new(run.input);
     let mut line = [0; 128];
     let mut err = SliceSink::new(&mut line, 5);
-    let texts = Listed::new(run.texts);
-    let status = status_of(alloc, &texts, &mut outputs, run.words, &mut input, &mut err);
+    let mut texts = Listed::new(run.texts);
+    let status = status_of(
+        alloc,
+        &mut texts,
+        &mut outputs,
+        run.words,
+        &mut input,
+        &mut err,
+    );
     assert!(rt; status == outcome.status);
     assert!(rt; err.taken() == outcome.line);
     holds(rt, &outputs, outcome.made);

@@ -1,8 +1,10 @@
 //! Readers that fail on request.
 
 ghost use Rattle.std.specs.Prelude.{None, false};
+ghost use Rattle.devices.specs.Openers.{HasBack};
+ghost use Rattle.devices.specs.Readers.{view_of};
 
-use devices::{OpenFailed, Texts};
+use devices::{CountedRead, OpenFailed, Texts};
 use std::io;
 use std::io::{ErrorKind, Read};
 
@@ -49,12 +51,20 @@ pub struct FailingTexts<'a> {
     bytes: &'a [u8],
     step: usize,
     fail: u64,
+    opens: u128,
+    failures: u128,
 }
 
 impl<'a> FailingTexts<'a> {
     /// These texts.
     pub fn new(bytes: &'a [u8], step: usize, fail: u64) -> FailingTexts<'a> {
-        FailingTexts { bytes, step, fail }
+        FailingTexts {
+            bytes,
+            step,
+            fail,
+            opens: 0,
+            failures: 0,
+        }
     }
 }
 
@@ -65,7 +75,17 @@ impl<'a> Texts for FailingTexts<'a> {
 
     ghost named = { λ _ _. None };
 
-    fn open_text(&self, _path: &str) -> Result<FailingReader<'a>, OpenFailed> {
-        Ok(FailingReader::new(self.bytes, self.step, self.fail))
+    ghost view = { λ texts. record { opens = texts.opens; failures = texts.failures } };
+
+    fn open_text(&mut self, _path: &str) -> Result<CountedRead<FailingReader<'a>>, OpenFailed> {
+        self.opens = self.opens.saturating_add(1);
+        let reader = FailingReader::new(self.bytes, self.step, self.fail);
+        Ok(CountedRead::new(reader))
+    }
+
+    fn close_text(&mut self, text: CountedRead<FailingReader<'a>>)
+        ensures { HasBack (⟦<FailingTexts<'static> as Texts>⟧.view self.old) (⟦<FailingTexts<'static> as Texts>⟧.view self.new) (view_of (⟦<FailingReader<'static> as Read>⟧.remaining) text.entry).failures }
+    {
+        self.failures = self.failures.saturating_add(text.failures());
     }
 }

@@ -84,7 +84,7 @@ fn output_in_place_of_the_text(rt: HostRuntime) {
 fn fails_to_read<T: Texts, R: Read + Drop>(
     rt: &impl Abort,
     alloc: Global,
-    texts: &T,
+    texts: &mut T,
     words: &[&str],
     reader: R,
     line: &[u8],
@@ -101,18 +101,18 @@ fn fails_to_read<T: Texts, R: Read + Drop>(
 #[test]
 fn standard_input_that_fails(rt: HostRuntime) {
     const LINE: &[u8] = b"ncgen: -: read failed\n";
-    let texts = Listed::new(TEXTS);
+    let mut texts = Listed::new(TEXTS);
     let words = ["ncgen", "-o", "x"];
     let reader = FailingReader::new(TEXT, 7, 3);
-    fails_to_read(&rt, rt.alloc(), &texts, &words, reader, LINE);
+    fails_to_read(&rt, rt.alloc(), &mut texts, &words, reader, LINE);
 }
 
 #[test]
 fn path_that_fails(rt: HostRuntime) {
     const LINE: &[u8] = b"ncgen: t.cdl: read failed\n";
-    let texts = FailingTexts::new(TEXT, 7, 3);
+    let mut texts = FailingTexts::new(TEXT, 7, 3);
     let words = ["ncgen", "-b", "t.cdl"];
-    fails_to_read(&rt, rt.alloc(), &texts, &words, TEXT, LINE);
+    fails_to_read(&rt, rt.alloc(), &mut texts, &words, TEXT, LINE);
 }
 
 #[test]
@@ -138,11 +138,11 @@ fn standard_error_that_is_full(rt: HostRuntime) {
     let mut input = CountedRead::new(REFUSED_TEXT);
     let mut line = [0; 10];
     let mut err = SliceSink::new(&mut line, 3);
-    let texts = Listed::new(TEXTS);
+    let mut texts = Listed::new(TEXTS);
     let words = ["ncgen"];
     let status = status_of(
         rt.alloc(),
-        &texts,
+        &mut texts,
         &mut outputs,
         &words,
         &mut input,

@@ -12,7 +12,7 @@ use Rattle.cli_base.specs.declared.fault.OptFault.TheVariants as opt
 use Rattle.ncdump.specs.declared.fault.FileFault.{FileFault}
 use Rattle.ncdump.specs.declared.fault.FileFault.TheVariants.{CannotOpen, Dump}
 use Rattle.ncdump.specs.declared.fault.Failure.{Failure}
-use Rattle.ncdump.specs.declared.fault.Failure.TheVariants.{CommandLine, File}
+use Rattle.ncdump.specs.declared.fault.Failure.TheVariants.{CommandLine, File, Flush}
 
 -- why reading the header failed, as a fault of the dump
 abbrev pub fault_of_head : HeadFault → DumpFault
@@ -93,3 +93,4 @@ flush_fault_line = codes "ncdump: write failed\n"
 unfoldable pub line_of_failure : Failure → List ℕ
 line_of_failure (CommandLine fault) = opt_fault_line fault
 line_of_failure (File path fault) = file_line (string_bytes path) fault
+line_of_failure Flush = flush_fault_line

@@ -1,17 +1,19 @@
 -- What a run of the program has done.
-use Rattle.std.specs.Prelude.{ℕ, Bool, ◌≡◌, ◌⊎◌, List, Option, Some, None, IsSome, option_map, Result, Ok, Err, string_bytes}
+use Rattle.std.specs.Prelude.{ℕ, Bool, ◌≡◌, ◌⊎◌, List, [], Option, Some, None, IsSome, option_map, Result, Ok, Err, string_bytes}
 use Rattle.std.specs.Bool.{OnTrue}
 use Rattle.nc_base.specs.Dump.{Options}
+use Rattle.devices.specs.Openers.{OpenerView, HasFailed, opens_after}
 use Rattle.devices.specs.Sinks.{SinkView, Appended, FailedPartway}
 use Rattle.ncdump.specs.CommandLine.{Asked}
 use Rattle.ncdump.specs.Dumps as dumps
 use Rattle.ncdump.specs.Faults.{line_of_failure}
 use Rattle.cli_base.specs.declared.fault.OptFault.TheVariants.{OutOfMemory, Usage}
 use Rattle.ncdump.specs.declared.fault.Failure.{Failure}
-use Rattle.ncdump.specs.declared.fault.Failure.TheVariants.{CommandLine, File}
+use Rattle.ncdump.specs.declared.fault.Failure.TheVariants.{CommandLine, File, Flush}
 use Rattle.ncdump.specs.declared.fault.FileFault.{FileFault}
 use Rattle.ncdump.specs.declared.fault.FileFault.TheVariants.{CannotOpen, Dump}
 use Rattle.ncdump.specs.declared.fault.DumpFault.{DumpFault}
+use Rattle.ncdump.specs.declared.fault.DumpFault.TheVariants.{ReadFailed}
 
 -- this holds of the dump's answer, and the file could be opened
 abbrev pub OfDump : {A : Type 0} → (Result A DumpFault → Type 0) → Result A FileFault → Type 0
@@ -38,6 +40,7 @@ Ends asked old new (Err (CommandLine OutOfMemory)) = new ≡ old
 Ends asked old new (Err (CommandLine Usage)) = (asked ≡ None) × (new ≡ old)
 Ends {A} asked old new (Err (File path fault)) =
     (file_of asked ≡ Some (string_bytes path)) × WriteFailsOnly {A = A} old new (Err fault)
+Ends asked old new (Err Flush) = ⊥
 
 -- The dump of the file, where these are its bytes, if it can be opened: `CannotOpen` exactly where it can't, and then nothing
 -- is written.
@@ -59,20 +62,81 @@ abbrev pub DumpsOrNot : {A : Type 0} → (List ℕ → Option (List ℕ)) → Op
 DumpsOrNot named asked old new (Ok done) = DumpsAsked named asked old new (Ok done)
 DumpsOrNot {A} named asked old new (Err (File path fault)) = DumpsAsked {A = A} named asked old new (Err fault)
 DumpsOrNot named asked old new (Err (CommandLine fault)) = Unit {0}
+DumpsOrNot named asked old new (Err Flush) = ⊥
 
--- Something is asked for, standard output has not failed, and nothing was written to standard error. Where the files are
--- transparent, the dump of the file that is asked for was written.
-pub record Succeeded (is_transparent : Bool) (named : List ℕ → Option (List ℕ)) (asked : Option Asked) (out out' err err' : SinkView) : Type 0 where
-  pub is_asked : IsSome asked
-  pub output : out'.failures ≡ out.failures
-  pub error : err' ≡ err
-  pub dump : OnTrue is_transparent (DumpsAsked {A = Unit {0}} named asked out out' (Ok tt))
+-- a source has failed exactly where the answer says so
+abbrev pub ReadFailsOnly : {A : Type 0} → OpenerView → OpenerView → Result A FileFault → Type 0
+ReadFailsOnly old new (Err (Dump ReadFailed)) = HasFailed old.failures new
+ReadFailsOnly old new _ = new.failures ≡ old.failures
 
--- The run has failed, and the line that tells it, or a prefix of it, was written to standard error. Where the files are
--- transparent, the failure is one of the command line, or the fault of the dump of the file that is asked for, or that this
--- file can't be opened.
-pub record Failed (is_transparent : Bool) (named : List ℕ → Option (List ℕ)) (asked : Option Asked) (out out' err err' : SinkView) : Type 0 where
+-- a path was opened once, and a source has failed exactly where the answer says so
+pub record OpensFile {A : Type 0} (old new : OpenerView) (result : Result A FileFault) : Type 0 where
+  pub opens : new.opens ≡ opens_after old
+  pub reads : ReadFailsOnly old new result
+
+-- the same, or nothing was opened for want of a command line without fault
+abbrev pub OpensAsked : {A : Type 0} → OpenerView → OpenerView → Result A Failure → Type 0
+OpensAsked old new (Ok done) = OpensFile old new (Ok done)
+OpensAsked {A} old new (Err (File path fault)) = OpensFile {A = A} old new (Err fault)
+OpensAsked old new (Err (CommandLine fault)) = new ≡ old
+OpensAsked old new (Err Flush) = ⊥
+
+-- What the words ask for, with the opener and standard output before and after. Where the files are transparent, contracts know
+-- which bytes paths name.
+pub record Run : Type 0 where
+  pub is_transparent : Bool
+  pub named : List ℕ → Option (List ℕ)
+  pub asked : Option Asked
+  pub files : OpenerView
+  pub files_after : OpenerView
+  pub out : SinkView
+  pub out_after : SinkView
+
+abbrev pub run_of : Bool → (List ℕ → Option (List ℕ)) → Option Asked → OpenerView → OpenerView → SinkView → SinkView → Run
+run_of is_transparent named asked files files_after out out_after =
+    record { is_transparent = is_transparent; named = named; asked = asked; files = files; files_after = files_after; out = out; out_after = out_after }
+
+-- With this answer, where standard output was this afterwards: the dump that is asked for was written, or the answer is the fault
+-- of the command line, of opening the file, or of its dump.
+pub record HasDumped {A : Type 0} (run : Run) (out : SinkView) (answer : Result A Failure) : Type 0 where
+  pub ends : Ends run.asked run.out out answer
+  pub opens : OpensAsked run.files run.files_after answer
+  pub dump : OnTrue run.is_transparent (DumpsOrNot run.named run.asked run.out out answer)
+
+-- and then standard output was flushed
+pub record HasFlushed (run : Run) : Type 0 where
+  pub out : SinkView
+  pub dumped : HasDumped {A = Unit {0}} run out (Ok tt)
+  pub flushed : Appended out run.out_after []
+
+-- the same, where the flush failed
+pub record FailsToFlush (run : Run) : Type 0 where
+  pub out : SinkView
+  pub dumped : HasDumped {A = Unit {0}} run out (Ok tt)
+  pub flushed : FailedPartway out run.out_after []
+
+-- the dump failed, and standard output was to be flushed too
+pub record FailsToDump (run : Run) (failure : Failure) : Type 0 where
+  pub out : SinkView
+  pub dumped : HasDumped {A = Unit {0}} run out (Err failure)
+  pub flushed : Appended out run.out_after [] ⊎ FailedPartway out run.out_after []
+
+abbrev pub Fails : Run → Failure → Type 0
+Fails run Flush = FailsToFlush run
+Fails run failure = FailsToDump run failure
+
+-- what is asked for was done, or this failed
+abbrev pub Runs : {A : Type 0} → Run → Result A Failure → Type 0
+Runs run (Ok done) = HasFlushed run
+Runs run (Err failure) = Fails run failure
+
+-- The dump was written and handed on, and nothing was written to standard error.
+pub record Succeeded (run : Run) (err err_after : SinkView) : Type 0 where
+  pub done : HasFlushed run
+  pub error : err_after ≡ err
+
+-- The run has failed, and the line that tells it, or a prefix of it, was written to standard error.
+pub record Failed (run : Run) (err err_after : SinkView) : Type 0 where
   pub failure : Failure
-  pub output : Ends {A = Unit {0}} asked out out' (Err failure)
-  pub error : Appended err err' (line_of_failure failure) ⊎ FailedPartway err err' (line_of_failure failure)
-  pub dump : OnTrue is_transparent (DumpsOrNot {A = Unit {0}} named asked out out' (Err failure))
+  pub fails : Fails run failure
+  pub error : Appended err err_after (line_of_failure failure) ⊎ FailedPartway err err_after (line_of_failure failure)

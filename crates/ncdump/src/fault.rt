@@ -3,12 +3,12 @@
 ghost use Rattle.std.specs.Prelude.{◌≡◌};
 ghost use Rattle.ncdump.specs.Faults.{fault_of_head};
 ghost use Rattle.ncdump.specs.declared.fault.DumpFault.TheVariants.{OutOfMemory as out_of_memory, WriteFailed as write_failed};
-ghost use Rattle.ncdump.specs.declared.fault.Failure.TheVariants.{CommandLine as command_line};
+ghost use Rattle.ncdump.specs.declared.fault.Failure.TheVariants.{CommandLine as command_line, Flush as flush};
 ghost use Rattle.ncdump.specs.declared.fault.FileFault.TheVariants.{CannotOpen, Dump};
 
 use cli_base::OptFault;
 use nc_base::FormatFault;
-use nc_file::{HeadFault, OpenFailed, WriteFailed};
+use nc_file::{HeadFault, OpenFailed, SinkFailed, WriteFailed};
 use std::alloc::AllocError;
 
 /// Why a file could not be dumped: for want of memory, because a device failed, for what is wrong with the file, or for
@@ -50,6 +50,8 @@ pub enum Failure {
     CommandLine(OptFault),
     /// What is wrong with the file at this path, or with the writing of its dump.
     File(String, FileFault),
+    /// The last of the dump's text, which was held back, was not taken.
+    Flush,
 }
 
 impl From<HeadFault> for DumpFault {
@@ -101,5 +103,13 @@ impl From<OptFault> for Failure {
 
     fn from(fault: OptFault) -> Failure {
         Failure::CommandLine(fault)
+    }
+}
+
+impl From<SinkFailed> for Failure {
+    ghost from_gives = { λ _ e. e ≡ flush };
+
+    fn from(_failure: SinkFailed) -> Failure {
+        Failure::Flush
     }
 }

@@ -22,6 +22,7 @@ pub(crate) fn put_failure<W: Sink>(sink: &mut W, failure: &Failure) -> Result<()
     match failure {
         Failure::CommandLine(fault) => opt_fault_line(sink, *fault),
         Failure::File(path, fault) => put_file_fault(sink, path.as_bytes(), *fault),
+        Failure::Flush => put(sink, flush_fault_line()),
     }
 }
 
@@ -40,17 +41,12 @@ pub fn opt_fault_line<W: Sink>(sink: &mut W, fault: OptFault) -> Result<(), Writ
     }
 }
 
-/// Writes the line for the last of a text, which was held back and which standard output didn't take at the end:
-/// `ncdump: write failed`.
-///
-/// # Errors
-///
-/// The sink failed. It took some prefix of the line.
+/// The line for the last of a text, which was held back and which standard output didn't take at the end.
 #[tactic(auto, unfolding(crate::specs::Faults::flush_fault_line))]
-pub fn flush_fault_line<W: Sink>(sink: &mut W) -> Result<(), WriteFailed>
-    ensures { Wrote (W.view sink.old) (W.view sink.new) flush_fault_line result }
+fn flush_fault_line() -> &'static [u8]
+    ensures { result.now ≡ flush_fault_line }
 {
-    put(sink, b"ncdump: write failed\n")
+    b"ncdump: write failed\n"
 }
 
 /// The line that tells how the program is used.

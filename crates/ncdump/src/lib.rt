@@ -2,8 +2,7 @@
 //!
 //! [`dump`] reads a file and writes its text, and [`fault_line`] says why it could not. What is shown, and under which
 //! name, is said by [`DumpOptions`], which [`options_of`] reads from the matches of [`command`]. [`run_with`] is the whole
-//! program, but for what opens its file and for the flush of its streams; [`flush_fault_line`] writes the line for a flush of
-//! standard output that fails.
+//! program, but for what opens its file and for the flush of standard error.
 #![tactic(auto)]
 
 mod command_line;
@@ -21,7 +20,7 @@ pub use cli_base::OptFault;
 pub use command_line::{command, options_of};
 pub use dumping::dump;
 pub use fault::DumpFault;
-pub use fault_text::{fault_line, flush_fault_line, opt_fault_line};
+pub use fault_text::{fault_line, opt_fault_line};
 pub use options::DumpOptions;
 pub use running::run_with;
 pub use selection::select;

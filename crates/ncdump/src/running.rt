@@ -1,11 +1,11 @@
 //! A run of the program.
 
-ghost use Rattle.std.specs.Prelude.{◌≡◌, ◌⊎◌, map, string_bytes};
+ghost use Rattle.std.specs.Prelude.{◌≡◌, ◌⊎◌, IfOk, map, string_bytes, true};
 ghost use Rattle.std.specs.Bool.{OnTrue};
 ghost use Rattle.ncdump.specs.CommandLine.{asked_by};
 ghost use Rattle.ncdump.specs.Dumps.{options_of, Dumps};
 ghost use Rattle.ncdump.specs.Dumps as dumps;
-ghost use Rattle.ncdump.specs.Runs.{OfDump, WriteFailsOnly, Ends, DumpsFile, DumpsOrNot, Succeeded, Failed};
+ghost use Rattle.ncdump.specs.Runs.{run_of, OfDump, OpensFile, WriteFailsOnly, DumpsFile, HasDumped, Runs, Succeeded, Failed};
 ghost use Rattle.ncdump.specs.Shows.{ReadFailsOnly};
 
 use crate::command_line::options_by;
@@ -13,27 +13,30 @@ use crate::dumping::dump;
 use crate::fault::{Failure, FileFault};
 use crate::fault_text::put_failure;
 use crate::options::DumpOptions;
+use devices::Flush;
 use nc_file::{Opener, Sink, Source};
 use std::alloc::Global;
 
 /// Runs the program on its words, the first of which is its name, with the files that the opener opens, and gives its exit
 /// status.
 ///
-/// The status is 0 where the dump that the words ask for was written to standard output, and 1 otherwise. Then a line is
-/// written to standard error that tells why: the first fault of the command line, of opening the file, and of its dump. A
-/// line that standard error doesn't take changes no status. Neither device is flushed.
-pub fn run_with<P: Opener, O: Sink, E: Sink>(
-    opener: &P,
+/// The status is 0 where the dump that the words ask for was written to standard output, which was flushed, and 1 otherwise. Then a
+/// line is written to standard error that tells why: the first fault of the command line, of opening the file, and of its dump, or
+/// the flush's. A line that standard error doesn't take changes no status. Standard output is flushed before the line is written,
+/// and standard error is not flushed.
+pub fn run_with<P: Opener, O: Flush, E: Sink>(
+    opener: &mut P,
     alloc: Global,
     words: &[&str],
     out: &mut O,
     err: &mut E,
 ) -> u8
     ensures status { (result ≡ 0) ⊎ (result ≡ 1) }
-    ensures success { result ≡ 0 → Succeeded P.Source.is_transparent (P.named opener.now) (asked_by (map (λ word. word.now) words.now)) (O.view out.old) (O.view out.new) (E.view err.old) (E.view err.new) }
-    ensures failure { result ≡ 1 → Failed P.Source.is_transparent (P.named opener.now) (asked_by (map (λ word. word.now) words.now)) (O.view out.old) (O.view out.new) (E.view err.old) (E.view err.new) }
+    ensures success { result ≡ 0 → Succeeded (run_of P.Source.is_transparent (P.named opener.old) (asked_by (map (λ word. word.now) words.now)) (P.view opener.old) (P.view opener.new) (O.Sink.view out.old) (O.Sink.view out.new)) (E.view err.old) (E.view err.new) }
+    ensures failure { result ≡ 1 → Failed (run_of P.Source.is_transparent (P.named opener.old) (asked_by (map (λ word. word.now) words.now)) (P.view opener.old) (P.view opener.new) (O.Sink.view out.old) (O.Sink.view out.new)) (E.view err.old) (E.view err.new) }
+    ensures flushed { result ≡ 0 → O.is_flushed out.new ≡ true }
 {
-    match dump_asked(opener, alloc, words, out) {
+    match dump_and_flush(opener, alloc, words, out) {
         Ok(()) => 0,
         Err(failure) => {
             let _ = put_failure(err, &failure);
@@ -42,15 +45,31 @@ pub fn run_with<P: Opener, O: Sink, E: Sink>(
     }
 }
 
-/// Writes the dump that the words ask for.
-fn dump_asked<P: Opener, O: Sink>(
-    opener: &P,
+/// Writes the dump that the words ask for, and hands on what is held back of it.
+fn dump_and_flush<P: Opener, O: Flush>(
+    opener: &mut P,
     alloc: Global,
     words: &[&str],
     out: &mut O,
 ) -> Result<(), Failure>
-    ensures ends { Ends (asked_by (map (λ word. word.now) words.now)) (O.view out.old) (O.view out.new) result }
-    ensures dump { OnTrue P.Source.is_transparent (DumpsOrNot (P.named opener.now) (asked_by (map (λ word. word.now) words.now)) (O.view out.old) (O.view out.new) result) }
+    ensures runs { Runs (run_of P.Source.is_transparent (P.named opener.old) (asked_by (map (λ word. word.now) words.now)) (P.view opener.old) (P.view opener.new) (O.Sink.view out.old) (O.Sink.view out.new)) result }
+    ensures flushed { IfOk result (λ _. O.is_flushed out.new ≡ true) }
+{
+    let dumped = dump_asked(opener, alloc, words, out);
+    let flushed = out.flush();
+    dumped?;
+    flushed?;
+    Ok(())
+}
+
+/// Writes the dump that the words ask for.
+fn dump_asked<P: Opener, O: Sink>(
+    opener: &mut P,
+    alloc: Global,
+    words: &[&str],
+    out: &mut O,
+) -> Result<(), Failure>
+    ensures { HasDumped (run_of P.Source.is_transparent (P.named opener.old) (asked_by (map (λ word. word.now) words.now)) (P.view opener.old) (P.view opener.new) (O.view out.old) (O.view out.new)) (O.view out.new) result }
 {
     let options = options_by(alloc, words)?;
     match dump_path(opener, alloc, &options, out) {
@@ -61,16 +80,19 @@ fn dump_asked<P: Opener, O: Sink>(
 
 /// Writes the dump of the file that the options name.
 fn dump_path<P: Opener, O: Sink>(
-    opener: &P,
+    opener: &mut P,
     alloc: Global,
     options: &DumpOptions,
     out: &mut O,
 ) -> Result<(), FileFault>
+    ensures opens { OpensFile (P.view opener.old) (P.view opener.new) result }
     ensures writes { WriteFailsOnly (O.view out.old) (O.view out.new) result }
-    ensures dump { OnTrue P.Source.is_transparent (DumpsFile (P.named opener.now (string_bytes options.now.file)) (options_of options.now) (O.view out.old) (O.view out.new) result) }
+    ensures dump { OnTrue P.Source.is_transparent (DumpsFile (P.named opener.old (string_bytes options.now.file)) (options_of options.now) (O.view out.old) (O.view out.new) result) }
 {
     let mut source = opener.open(options.file.as_str())?;
-    dump_whole(alloc, &mut source, options, out)
+    let answer = dump_whole(alloc, &mut source, options, out);
+    opener.close(source);
+    answer
 }
 
 /// The length of the buffer that a file is read through, in bytes.

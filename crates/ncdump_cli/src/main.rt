@@ -5,9 +5,9 @@
 //! held back, and the text goes out first.
 #![tactic(auto)]
 
-use cli_base::{OptFault, status_after_flush};
-use nc_file::{IoSink, SystemFiles};
-use ncdump::{flush_fault_line, opt_fault_line, run_with};
+use cli_base::OptFault;
+use devices::{Flush, IoSink, SystemFiles};
+use ncdump::{opt_fault_line, run_with};
 use std::fs::File;
 use std::io::{BufWriter, Write};
 use std::process::ExitCode;
@@ -39,15 +39,10 @@ fn run_words<R: Env + Files<File = File> + Print + AllocGlobal, E: Write + Drop>
     let alloc = rt.alloc();
     let words: Vec<String> = env::args(rt)?.collect(alloc)?;
     let texts: Vec<&str> = words.iter().map(|word| word.as_str()).collect(alloc)?;
-    let files = SystemFiles::new(rt);
+    let mut files = SystemFiles::new(rt);
     let mut out = IoSink::new(BufWriter::with_capacity(alloc, TEXT_HELD_BACK, io::writer(rt))?);
     let mut err = IoSink::new(BufWriter::with_capacity(alloc, LINE_HELD_BACK, stderr)?);
-    let status = run_with(&files, alloc, texts.as_slice(), &mut out, &mut err);
-    let ended = status_after_flush(&mut out, status);
-    // Of a text that ended well the last bytes were not taken.
-    if ended != status {
-        let _ = flush_fault_line(&mut err);
-    }
+    let status = run_with(&mut files, alloc, texts.as_slice(), &mut out, &mut err);
     let _ = err.flush();
-    Ok(ended)
+    Ok(status)
 }

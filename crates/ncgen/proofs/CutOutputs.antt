@@ -1,16 +1,16 @@
 -- What an output holds that could not be written.
-use Rattle.std.proofs.Common.{ℕ, ◌≡◌, ◌<◌, Bool, true, List, [], ◌++◌, Option, Some, None, Result, Ok, Err, inl, inr, refl, ap, subst, ◌∙◌, arith}
-use Rattle.std.specs.Prelude.{is_some, option_map}
+use Rattle.std.proofs.Common.{ℕ, ◌≡◌, Bool, true, List, [], ◌++◌, Option, Some, None, Result, Ok, Err, inl, inr, refl, ap, subst, ◌∙◌}
+use Rattle.std.specs.Prelude.{◌+◌, ◌-◌, ◌^◌, min, is_some, option_map}
 use Rattle.std.proofs.lemmas.Bool.{OnTrue_at, OnTrue_from}
 use Rattle.devices.specs.Creators.{CreatorView, Closed, CreatedAt, HasFailed, give}
 use Rattle.devices.specs.Sinks.{SinkView, FailedPartway, IsCut, IsPrefix, IsPrefixIf, StoppedShort, append, is_transparent}
 use Rattle.devices.specs.Sinks as sinks
 use Rattle.ncgen.specs.Outputs.{IsCutShortAt, created_at, outputs}
 
-some_failure : (sink : SinkView) → sinks.HasFailed 0 sink → 0 < sink.failures
-unfolding sinks.HasFailed
-some_failure sink (inl more) = more
-some_failure sink (inr full) = omega (arith, full)
+-- the sink's one failure is the creator's
+one_failure : (before : CreatorView) (new : CreatorView) (sink : SinkView) → sinks.HasFailed 0 sink → new.failures ≡ min (before.failures + sink.failures) (2 ^ 128 - 1) → HasFailed before.failures new
+unfolding sinks.HasFailed HasFailed
+one_failure before new sink one added = added ∙ ap (λ (n : ℕ). min (before.failures + n) (2 ^ 128 - 1)) one
 
 -- it took a prefix of the text, of which it had nothing before
 prefix_taken : (start sink : SinkView) (file : List ℕ) → start.taken ≡ Some [] → FailedPartway start sink file
@@ -32,7 +32,7 @@ pub cut_short : {A E : Type 0} (known : Bool) (old between new : CreatorView) (p
     → IsCutShortAt (outputs known old new) path file
 cut_short known old between new path file start sink (Ok done) created partway closed = record {
   creations = closed.creations ∙ created.creations;
-  failures = subst (λ n. HasFailed n new) created.failures (closed.failed (some_failure sink (subst (λ n. sinks.HasFailed n sink) created.sink_failures partway.failures)));
+  failures = subst (λ n. HasFailed n new) created.failures (one_failure between new sink (subst (λ n. sinks.HasFailed n sink) created.sink_failures partway.failures) closed.failed);
   given = OnTrue_from _ _ (λ is.
       let taken = prefix_taken start sink file (OnTrue_at {P = start.taken ≡ Some []} is created.sink_taken) partway in
       let before = OnTrue_at {P = between.given ≡ created_at old path} is created.given in

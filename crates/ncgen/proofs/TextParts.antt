@@ -46,7 +46,7 @@ begins max start = record {
 
 -- a part more was read
 pub grows : (max : ℕ) (start old new : ReaderView) (before after : List ℕ) → HasRead max start old before → HasGrown old new before after
-    → length before < length after → length after ≤ max + 1 → new.reads ≡ old.reads + 1 → HasRead max start new after
+    → length before < length after → length after ≤ max + 1 → new.reads ≤ old.reads + 1 → HasRead max start new after
 grows max start old new before after so_far grown longer within reads =
     let lengths : length after ≡ length before + length grown.part = ap (λ (bytes : List ℕ). length bytes) grown.text ∙ length-append before grown.part in
     record {

@@ -3,36 +3,51 @@ use Rattle.std.specs.Prelude.{◌≡◌, ℕ, ◌<◌, ◌≤◌, Bool, List, le
 use Rattle.std.specs.Bool.{OnTrue}
 use Rattle.std.specs.Global.{Vec}
 use Rattle.nc_base.specs.declared.version.Version.{Version}
+use Rattle.devices.specs.Openers.{OpenerView, HasFailed, opens_after}
 use Rattle.devices.specs.Readers.{ReaderView}
 use Rattle.cdl_meaning.specs.Meaning.{text_limit}
 use Rattle.ncgen.specs.Generated.{generated, Refuses}
 use Rattle.ncgen.specs.Prepared.{IsReady, file_of_prepared}
 use Rattle.ncgen.specs.TextReads.{ReadsText}
 use Rattle.ncgen.specs.declared.fault.GenFault.{GenFault}
-use Rattle.ncgen.specs.declared.fault.TextFault.TheVariants.{TooLong}
+use Rattle.ncgen.specs.declared.fault.TextFault.TheVariants.{ReadFailed, TooLong}
 use Rattle.ncgen.specs.declared.failure.InputFault.{InputFault}
 use Rattle.ncgen.specs.declared.failure.InputFault.TheVariants.{CannotOpen, Text, Generate}
 use Rattle.ncgen.specs.declared.prepared.Prepared.{Prepared}
 
--- The texts that paths name, if they are transparent, and standard input before a call and after it.
+-- The texts that paths name, if they are transparent, what opens them before a call and after it, and standard input before and
+-- after.
 pub record Inputs : Type 0 where
   pub is_transparent : Bool
   pub named : List ℕ → Option (List ℕ)
+  pub texts : OpenerView
+  pub texts_after : OpenerView
   pub before : ReaderView
   pub after : ReaderView
 
-abbrev pub inputs : Bool → (List ℕ → Option (List ℕ)) → ReaderView → ReaderView → Inputs
-inputs is_transparent named before after = record { is_transparent = is_transparent; named = named; before = before; after = after }
+abbrev pub inputs : Bool → (List ℕ → Option (List ℕ)) → OpenerView → OpenerView → ReaderView → ReaderView → Inputs
+inputs is_transparent named texts texts_after before after =
+    record { is_transparent = is_transparent; named = named; texts = texts; texts_after = texts_after; before = before; after = after }
 
 -- this is the text at the path, or that of standard input, where it is known
 abbrev pub IsText : Inputs → Option (List ℕ) → List ℕ → Type 0
 IsText i (Some path) text = OnTrue i.is_transparent (i.named path ≡ Some text)
 IsText i None text = IfSome i.before.remaining (λ bytes. text ≡ bytes)
 
--- standard input has not failed, and it was not read for the text at a path
+-- a text has failed exactly where the answer says so
+abbrev pub ReadFailsOnly : {A : Type 0} → OpenerView → OpenerView → Result A InputFault → Type 0
+ReadFailsOnly old new (Err (Text ReadFailed)) = HasFailed old.failures new
+ReadFailsOnly old new _ = new.failures ≡ old.failures
+
+-- a path was opened once, and a text has failed exactly where the answer says so
+pub record OpensText {A : Type 0} (old new : OpenerView) (result : Result A InputFault) : Type 0 where
+  pub opens : new.opens ≡ opens_after old
+  pub reads : ReadFailsOnly old new result
+
+-- neither the text at a path nor standard input has failed, and the other one was not touched
 abbrev pub HasNotFailed : Inputs → Option (List ℕ) → Type 0
-HasNotFailed i (Some path) = i.after ≡ i.before
-HasNotFailed i None = i.after.failures ≡ i.before.failures
+HasNotFailed i (Some path) = OpensText {A = Unit {0}} i.texts i.texts_after (Ok tt) × (i.after ≡ i.before)
+HasNotFailed i None = (i.after.failures ≡ i.before.failures) × (i.texts_after ≡ i.texts)
 
 -- the text asked for was read
 pub record IsRead (i : Inputs) (file : Option (List ℕ)) (text : List ℕ) : Type 0 where
@@ -50,8 +65,8 @@ ReadsAt is_transparent named (Err (Generate fault)) = ⊥
 
 -- why the text could not be read
 abbrev pub FailsToRead : Inputs → Option (List ℕ) → InputFault → Type 0
-FailsToRead i (Some path) fault = ReadsAt i.is_transparent (i.named path) (Err fault) × (i.after ≡ i.before)
-FailsToRead i None (Text fault) = ReadsText text_limit i.before i.after (Err fault)
+FailsToRead i (Some path) fault = ReadsAt i.is_transparent (i.named path) (Err fault) × OpensText {A = Unit {0}} i.texts i.texts_after (Err fault) × (i.after ≡ i.before)
+FailsToRead i None (Text fault) = ReadsText text_limit i.before i.after (Err fault) × (i.texts_after ≡ i.texts)
 FailsToRead i None fault = ⊥
 
 -- what reading the text that is asked for has done

@@ -23,6 +23,7 @@ pub record IsGenerated (i : Inputs) (o : Outputs) (asked : Option Asked) : Type 
 -- nothing was read, and nothing created
 pub record IsUntouched (i : Inputs) (o : Outputs) : Type 0 where
   pub input : i.after ≡ i.before
+  pub texts : i.texts_after ≡ i.texts
   pub output : o.after ≡ o.before
 
 -- nothing is asked for, unless memory was refused, and nothing was touched

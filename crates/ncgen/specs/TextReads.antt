@@ -44,8 +44,8 @@ pub record HasGrown (old new : ReaderView) (before after : List ℕ) : Type 0 wh
 
 -- what reading a part of a text has done
 abbrev pub ReadsPart : ℕ → ReaderView → ReaderView → List ℕ → List ℕ → Result Bool TextFault → Type 0
-ReadsPart max old new before after (Ok true) = HasGrown old new before after × (length before < length after) × (length after ≤ max + 1) × (new.reads ≡ old.reads + 1)
-ReadsPart max old new before after (Ok false) = HasGrown old new before after × (after ≡ before) × IsAtEnd new.remaining × (new.reads ≡ old.reads + 1)
+ReadsPart max old new before after (Ok true) = HasGrown old new before after × (length before < length after) × (length after ≤ max + 1) × (new.reads ≤ old.reads + 1)
+ReadsPart max old new before after (Ok false) = HasGrown old new before after × (after ≡ before) × IsAtEnd new.remaining × (new.reads ≤ old.reads + 1)
 ReadsPart max old new before after (Err ReadFailed) = HasFailed old.failures new × (new.handed ≡ old.handed) × (new.reads ≤ old.reads + 1)
-ReadsPart max old new before after (Err OutOfMemory) = (new.failures ≡ old.failures) × (new.handed + length before ≤ old.handed + max + 1) × (new.reads ≡ old.reads + 1)
+ReadsPart max old new before after (Err OutOfMemory) = (new.failures ≡ old.failures) × (new.handed + length before ≤ old.handed + max + 1) × (new.reads ≤ old.reads + 1)
 ReadsPart max old new before after (Err TooLong) = ⊥

@@ -2,7 +2,7 @@
 
 ghost use Rattle.std.specs.Prelude.{◌≡◌, option_map, string_bytes};
 ghost use Rattle.devices.specs.Readers.{view_of};
-ghost use Rattle.ncgen.specs.Inputs.{inputs, ReadsAt, ReadsInput};
+ghost use Rattle.ncgen.specs.Inputs.{inputs, OpensText, ReadsAt, ReadsInput};
 
 use crate::failure::InputFault;
 use crate::reading::read_text;
@@ -15,12 +15,12 @@ const TEXT_LIMIT: usize = 1 << 28;
 
 /// Reads the text at the path, or without one that of standard input.
 pub fn read_input<T: Texts, R: Read>(
-    texts: &T,
+    texts: &mut T,
     alloc: Global,
     file: &Option<String>,
     input: &mut CountedRead<R>,
 ) -> Result<Vec<u8>, InputFault>
-    ensures { ReadsInput (inputs T.is_transparent (T.named texts.now) (view_of R.remaining input.old) (view_of R.remaining input.new)) (option_map string_bytes file.now) result }
+    ensures { ReadsInput (inputs T.is_transparent (T.named texts.old) (T.view texts.old) (T.view texts.new) (view_of R.remaining input.old) (view_of R.remaining input.new)) (option_map string_bytes file.now) result }
 {
     match file {
         Some(path) => read_path(texts, alloc, path.as_str()),
@@ -29,9 +29,12 @@ pub fn read_input<T: Texts, R: Read>(
 }
 
 /// Reads the text at the path.
-fn read_path<T: Texts>(texts: &T, alloc: Global, path: &str) -> Result<Vec<u8>, InputFault>
-    ensures { ReadsAt T.is_transparent (T.named texts.now path.now) result }
+fn read_path<T: Texts>(texts: &mut T, alloc: Global, path: &str) -> Result<Vec<u8>, InputFault>
+    ensures text { ReadsAt T.is_transparent (T.named texts.old path.now) result }
+    ensures opens { OpensText (T.view texts.old) (T.view texts.new) result }
 {
-    let mut reader = CountedRead::new(texts.open_text(path)?);
-    Ok(read_text(alloc, &mut reader, TEXT_LIMIT)?)
+    let mut reader = texts.open_text(path)?;
+    let text = read_text(alloc, &mut reader, TEXT_LIMIT);
+    texts.close_text(reader);
+    Ok(text?)
 }

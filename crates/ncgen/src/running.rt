@@ -28,7 +28,7 @@ use std::io::Read;
 /// text, of the text, and of creating and writing the output, which is created only where the text gives a file. A line that
 /// standard error doesn't take changes no status. Standard error is not flushed.
 pub fn run_with<T: Texts, C: Creator, R: Read, E: Sink>(
-    texts: &T,
+    texts: &mut T,
     creator: &mut C,
     alloc: Global,
     words: &[&str],
@@ -36,8 +36,8 @@ pub fn run_with<T: Texts, C: Creator, R: Read, E: Sink>(
     err: &mut E,
 ) -> u8
     ensures status { (result ≡ 0) ⊎ (result ≡ 1) }
-    ensures success { result ≡ 0 → Succeeded (inputs T.is_transparent (T.named texts.now) (view_of R.remaining input.old) (view_of R.remaining input.new)) (outputs C.is_transparent (C.view creator.old) (C.view creator.new)) (asked_by (map (λ word. word.now) words.now)) (E.view err.old) (E.view err.new) }
-    ensures failure { result ≡ 1 → Failed (inputs T.is_transparent (T.named texts.now) (view_of R.remaining input.old) (view_of R.remaining input.new)) (outputs C.is_transparent (C.view creator.old) (C.view creator.new)) (asked_by (map (λ word. word.now) words.now)) (E.view err.old) (E.view err.new) }
+    ensures success { result ≡ 0 → Succeeded (inputs T.is_transparent (T.named texts.old) (T.view texts.old) (T.view texts.new) (view_of R.remaining input.old) (view_of R.remaining input.new)) (outputs C.is_transparent (C.view creator.old) (C.view creator.new)) (asked_by (map (λ word. word.now) words.now)) (E.view err.old) (E.view err.new) }
+    ensures failure { result ≡ 1 → Failed (inputs T.is_transparent (T.named texts.old) (T.view texts.old) (T.view texts.new) (view_of R.remaining input.old) (view_of R.remaining input.new)) (outputs C.is_transparent (C.view creator.old) (C.view creator.new)) (asked_by (map (λ word. word.now) words.now)) (E.view err.old) (E.view err.new) }
 {
     match generate_asked(texts, creator, alloc, words, input) {
         Ok(()) => 0,
@@ -50,13 +50,13 @@ pub fn run_with<T: Texts, C: Creator, R: Read, E: Sink>(
 
 /// Makes what the words ask for.
 fn generate_asked<T: Texts, C: Creator, R: Read>(
-    texts: &T,
+    texts: &mut T,
     creator: &mut C,
     alloc: Global,
     words: &[&str],
     input: &mut CountedRead<R>,
 ) -> Result<(), Failure>
-    ensures { GeneratesAsked (inputs T.is_transparent (T.named texts.now) (view_of R.remaining input.old) (view_of R.remaining input.new)) (outputs C.is_transparent (C.view creator.old) (C.view creator.new)) (asked_by (map (λ word. word.now) words.now)) result }
+    ensures { GeneratesAsked (inputs T.is_transparent (T.named texts.old) (T.view texts.old) (T.view texts.new) (view_of R.remaining input.old) (view_of R.remaining input.new)) (outputs C.is_transparent (C.view creator.old) (C.view creator.new)) (asked_by (map (λ word. word.now) words.now)) result }
 {
     let options = options_by(alloc, words)?;
     match prepare_input(texts, alloc, &options, input) {
@@ -67,12 +67,12 @@ fn generate_asked<T: Texts, C: Creator, R: Read>(
 
 /// Reads the text that the options name, and makes the file ready that it gives.
 fn prepare_input<T: Texts, R: Read>(
-    texts: &T,
+    texts: &mut T,
     alloc: Global,
     options: &GenOptions,
     input: &mut CountedRead<R>,
 ) -> Result<Prepared, InputFault>
-    ensures { PreparesInput (inputs T.is_transparent (T.named texts.now) (view_of R.remaining input.old) (view_of R.remaining input.new)) (option_map string_bytes options.now.file) options.now.kind result }
+    ensures { PreparesInput (inputs T.is_transparent (T.named texts.old) (T.view texts.old) (T.view texts.new) (view_of R.remaining input.old) (view_of R.remaining input.new)) (option_map string_bytes options.now.file) options.now.kind result }
 {
     let text = read_input(texts, alloc, &options.file, input)?;
     Ok(prepare(alloc, text.as_slice(), options.kind)?)

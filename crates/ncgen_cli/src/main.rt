@@ -5,7 +5,7 @@
 #![tactic(auto)]
 
 use cli_base::OptFault;
-use devices::{CountedRead, IoSink, SystemFiles, SystemOutputs};
+use devices::{CountedRead, Flush, IoSink, SystemFiles, SystemOutputs};
 use ncgen::{opt_fault_line, run_with};
 use std::env;
 use std::fs::File;
@@ -39,7 +39,7 @@ fn run_words<R: Env + Files<File = File> + Input + AllocGlobal, E: Write + Drop>
     let mut input = CountedRead::new(rt.reader());
     let mut err = IoSink::new(BufWriter::with_capacity(alloc, LINE_HELD_BACK, stderr)?);
     let status = run_with(
-        &SystemFiles::new(rt),
+        &mut SystemFiles::new(rt),
         &mut outputs,
         alloc,
         texts.as_slice(),

@@ -1,0 +1,12 @@
+-- What an opener counts of what it opened once and has back.
+use Rattle.std.proofs.Common.{◌≡◌, ℕ, ◌+◌, ◌-◌, ◌^◌, ap, ◌∙◌}
+use Rattle.std.specs.Prelude.{min}
+use Rattle.devices.specs.Openers.{OpenerView, OpensOnce, HasBack, HasFailed}
+
+pub one_failure : (old mid new : OpenerView) (failures : ℕ) → OpensOnce old mid → failures ≡ min (0 + 1) (2 ^ 128 - 1) → HasBack mid new failures → HasFailed old.failures new
+unfolding HasFailed
+one_failure old mid new failures opened one back =
+    back.failed ∙ ap (λ (n : ℕ). min (n + failures) (2 ^ 128 - 1)) opened.failures ∙ ap (λ (n : ℕ). min (old.failures + n) (2 ^ 128 - 1)) one
+
+pub no_failure : (old mid new : OpenerView) (failures : ℕ) → OpensOnce old mid → failures ≡ 0 → HasBack mid new failures → new.failures ≡ old.failures
+no_failure old mid new failures opened none back = back.unfailed none ∙ opened.failures
