@@ -284,10 +284,20 @@ fn have_nines(rt: &impl Abort, alloc: Global, ranges: &[Range], count: usize) ->
     Ok(())
 }
 
+/// The greatest number of nines that each range is tried with: 2^128 has one less.
+const ALL_RANGES: usize = 40;
+
+/// Of more nines than that each number is tried with one range, all ranges in turn.
 #[test]
 fn numbers_of_nines(rt: HostRuntime) -> Result<(), Fail> {
     for count in 1..=400 {
-        have_nines(&rt, rt.alloc(), RANGES, count)?;
+        let one = count % RANGES.len();
+        let ranges = if count <= ALL_RANGES {
+            RANGES
+        } else {
+            &RANGES[one..one + 1]
+        };
+        have_nines(&rt, rt.alloc(), ranges, count)?;
     }
     Ok(())
 }
