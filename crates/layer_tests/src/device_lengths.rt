@@ -2,7 +2,8 @@
 
 use crate::device_rows::{distinct_bytes, expect_bytes, expect_write, source_of};
 use devices::{
-    CountedRead, Creator, FileSource, IoSink, MadeFiles, MemSink, Source, SystemOutputs, put,
+    CountedRead, Creator, FileSource, IoSink, MadeFiles, MemSink, Opener, Source, SystemFiles,
+    SystemOutputs, Texts, put,
 };
 use std::fs;
 use std::fs::File;
@@ -192,30 +193,39 @@ fn outputs_of_one_buffer_and_two(rt: HostRuntime) -> Result<(), Fail> {
 fn outputs_of_many_lengths(rt: HostRuntime) -> Result<(), Fail> {
     let path = "devices_short_outputs.bin";
     let bytes = distinct_bytes(rt.alloc(), 2 * BUFFER)?;
-    hold_what_was_written(&rt, path, bytes.as_slice(), (0, 4 * MOST))?;
-    for parts in 65..=2150 {
-        let len = parts * 61;
+    hold_what_was_written(&rt, path, bytes.as_slice(), (0, MOST))?;
+    for parts in 2..=131 {
+        let len = parts * 997;
         hold_what_was_written(&rt, path, bytes.as_slice(), (len, len))?;
     }
     fs::remove_file(&rt, path)?;
     Ok(())
 }
 
-/// Creates an output of the system at the path, closes it again, and removes it.
-fn is_created<R: Files<File = File> + AllocGlobal + Abort>(rt: &R, path: &str) -> Result<(), Fail> {
-    let mut outputs = SystemOutputs::new(rt, rt.alloc());
+/// Creates an output of the system at the path, closes it, opens it as a source and as a text, and removes it.
+fn is_created<R: Files<File = File>>(
+    rt: &R,
+    outputs: &mut SystemOutputs<'_, R>,
+    path: &str,
+) -> Result<(), Fail> {
     let output = outputs.create(path)?;
     outputs.close(path, output)?;
+    let mut files = SystemFiles::new(rt);
+    let source = files.open(path)?;
+    files.close(source);
+    let text = files.open_text(path)?;
+    files.close_text(text);
     fs::remove_file(rt, path)?;
     Ok(())
 }
 
 #[test]
-fn outputs_of_the_system_at_paths_of_every_length(rt: HostRuntime) -> Result<(), Fail> {
+fn files_of_the_system_at_paths_of_every_length(rt: HostRuntime) -> Result<(), Fail> {
+    let mut outputs = SystemOutputs::new(&rt, rt.alloc());
     let mut path = String::new(rt.alloc());
     for _ in 1..=200 {
         path.push('a')?;
-        is_created(&rt, path.as_str())?;
+        is_created(&rt, &mut outputs, path.as_str())?;
     }
     Ok(())
 }
