@@ -284,20 +284,20 @@ fn have_nines(rt: &impl Abort, alloc: Global, ranges: &[Range], count: usize) ->
     Ok(())
 }
 
-/// The greatest number of nines that each range is tried with: 2^128 has one less.
-const ALL_RANGES: usize = 40;
+/// The ranges that this many nines are tried with: all of them up to 40 nines, which are more than 2^128 has, and then one, each in its
+/// turn.
+fn ranges_for(count: usize) -> &'static [Range] {
+    if count <= 40 {
+        return RANGES;
+    }
+    let one = (count % 8).min(RANGES.len());
+    &RANGES[one..(one + 1).min(RANGES.len())]
+}
 
-/// Of more nines than that each number is tried with one range, all ranges in turn.
 #[test]
 fn numbers_of_nines(rt: HostRuntime) -> Result<(), Fail> {
     for count in 1..=400 {
-        let one = count % RANGES.len();
-        let ranges = if count <= ALL_RANGES {
-            RANGES
-        } else {
-            &RANGES[one..one + 1]
-        };
-        have_nines(&rt, rt.alloc(), ranges, count)?;
+        have_nines(&rt, rt.alloc(), ranges_for(count), count)?;
     }
     Ok(())
 }
