@@ -20,7 +20,7 @@ BIN = Path(__file__).resolve().parent.parent / "bin"
 # seconds of processor time below which no growth is asked for
 FLOOR = 0.01
 # how often each time is taken; the least counts
-TIMES = 3
+TIMES = 5
 # letters of which no name is a word of CDL
 LETTERS = "abcdefghjklmnopqrstuvwxyzABCDEFGHIJKLMNOPQRSTUVWXYZ"
 
@@ -142,15 +142,15 @@ KINDS = {
     dimensions: (10_000, 1.5, 1),
     dimension_statements: (10_000, 1.5, 1),
     attributes: (20_000, 5, 1),
-    attributes_of_numbers: (20_000, 6, 1),
+    attributes_of_numbers: (20_000, 6, 2),
     comment: (1_000_000, 1, 1),
     comments: (200_000, 1.5, 1),
     blanks: (500_000, 1, 1),
     opening: (1_000_000, 1, 1),
     named_variables: (5_000, 1, 1),
-    record_variables: (20_000, 6, 1),
-    variables_of_one_statement: (20_000, 4, 1),
-    shapes: (20_000, 6, 1),
+    record_variables: (20_000, 6, 3),
+    variables_of_one_statement: (20_000, 4, 2),
+    shapes: (20_000, 8, 5),
     shape: (5_000, 1, 1),
     numbers: (100_000, 1, 1),
     fill_values: (100_000, 1, 1),
