@@ -141,7 +141,7 @@ cd "$work/got" || exit 1
 
 # The tests, each with its growths.
 for row in one_variable=7 one_variable_of_version_5=7 a_rank_three_selection=16 padded_records=9 three_padded_records=12 \
-    nuls_in_a_row=7 a_text_attribute=4 a_hidden_variable=14; do
+    nuls_in_a_row=7 many_nuls_in_a_row=7 a_text_attribute=4 a_hidden_variable=14; do
     grows "dumps::dump_of_${row%=*}" "${row#*=}"
     grows "dumps::header_and_selection_of_${row%=*}" "${row#*=}"
 done
@@ -151,7 +151,8 @@ for row in text_of_three_shorts=17 text_of_forty_shorts=21 text_of_names_and_att
     text_with_an_array_too_large=18; do
     grows "parsed::${row%=*}" "${row#*=}"
 done
-for row in one_variable=16 forty_shorts=20 rank_three=35 three_padded_records=34 names_and_strings=42; do
+for row in one_variable=16 forty_shorts=20 rank_three=35 padded_records=24 three_padded_records=34 records_of_version_5=16 \
+    names_and_strings=42; do
     grows "generated::${row%=*}_generated" "${row#*=}"
     grows "generated::${row%=*}_prepared" "${row#*=}"
 done
