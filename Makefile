@@ -22,7 +22,8 @@ bin/ncgen: FORCE
 
 # The merge gate: every proof from nothing, the tests and the programs' stored runs; then wrong bodies, which the contracts have to
 # refuse, and wrong definitions, which the laws have to refuse; the tests and the programs that the gate has built with each growth
-# of memory refused in turn, and the programs from end to end, on random datasets, and on mangled files and texts.
+# of memory refused in turn, and the programs from end to end, with their calls of the system counted, on texts and files of many
+# parts, whose time may not grow with a square, on random datasets, and on mangled files and texts.
 test:
 	rt ci
 	$(call keep,ncdump)
@@ -32,6 +33,9 @@ test:
 	tests/growths.sh
 	tests/ncdump.sh
 	tests/ncgen.sh
+	tests/calls.sh
+	tests/lengths.py
+	tests/squares.py
 	tests/roundtrip.py
 	tests/hostile.py
 

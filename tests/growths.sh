@@ -17,12 +17,13 @@ tests=$crate/out/growth_tests_tests
 names=()
 made=
 
-# refuse N COMMAND..: runs the command with growth N refused, and keeps what it writes, its status, and how often it grew.
+# refuse N COMMAND..: runs the command with growth N refused, and keeps what it writes, its status, how often it grew, and the bytes of
+# its growths. With 0 none is refused.
 refuse() {
     : >"$work/growths"
     REFUSED=$1 GROWTHS=$work/growths LD_PRELOAD=$work/refuse.so run "${@:2}"
     refused=$1
-    read -r growths <"$work/growths"
+    read -r growths bytes <"$work/growths"
     read -r status <"$work/got/status"
     IFS= read -r -d '' out <"$work/got/stdout"
     IFS= read -r -d '' err <"$work/got/stderr"
@@ -31,7 +32,7 @@ refuse() {
 # fails NAME: what the test NAME shows doesn't hold in the last run.
 fails() {
     failed=$((failed + 1))
-    echo "FAILED $1: $status with growth $refused refused, of ${growths:-?}"
+    echo "FAILED $1: $status with growth $refused refused, of ${growths:-?} with ${bytes:-?} bytes"
     printf '%s' "$out" "$err"
 }
 
@@ -117,6 +118,13 @@ generates() {
     endures "$1" 0 "ncgen: $samples/$2.cdl" "$ncgen" -o made.nc "${@:3}" "$samples/$2.cdl"
 }
 
+# weighs NAME MOST COMMAND..: the command does what is wanted, and the bytes of its growths, all of them together, are at most MOST.
+weighs() {
+    refuse 0 "${@:3}"
+    if [ -n "$bytes" ] && [ "$bytes" -le "$2" ]; then verdict "$1" 0; else fails "$1"; fi
+    nothing
+}
+
 # note_on_standard_input: bin/ncgen makes a file of a sample that it is given there.
 note_on_standard_input() {
     "$ncgen" -o made.nc <"$samples/note.cdl"
@@ -133,7 +141,7 @@ cd "$work/got" || exit 1
 
 # The tests, each with its growths.
 for row in one_variable=7 one_variable_of_version_5=7 a_rank_three_selection=16 padded_records=9 three_padded_records=12 \
-    nuls_in_a_row=7 a_text_attribute=4 a_hidden_variable=14; do
+    nuls_in_a_row=7 many_nuls_in_a_row=7 a_text_attribute=4 a_hidden_variable=14; do
     grows "dumps::dump_of_${row%=*}" "${row#*=}"
     grows "dumps::header_and_selection_of_${row%=*}" "${row#*=}"
 done
@@ -143,7 +151,8 @@ for row in text_of_three_shorts=17 text_of_forty_shorts=21 text_of_names_and_att
     text_with_an_array_too_large=18; do
     grows "parsed::${row%=*}" "${row#*=}"
 done
-for row in one_variable=16 forty_shorts=20 rank_three=35 three_padded_records=34 names_and_strings=42; do
+for row in one_variable=16 forty_shorts=20 rank_three=35 padded_records=24 three_padded_records=34 records_of_version_5=16 \
+    names_and_strings=42; do
     grows "generated::${row%=*}_generated" "${row#*=}"
     grows "generated::${row%=*}_prepared" "${row#*=}"
 done
@@ -175,4 +184,14 @@ echo old >"$work/old"
 makes made.nc "$work/old"
 stderr "ncgen: $samples/counters.cdl: line 5: unknown type\n"
 endures text_with_a_fault 1 "ncgen: $samples/counters.cdl" "$ncgen" -o made.nc "$samples/counters.cdl"
+
+# Of each of many variables no more is held than its name and a few numbers: at most 1,500 bytes are asked for in a dump, and 3,000
+# where a file is made, with those that are given back as lists grow.
+many=$work/files/many
+{ printf 'netcdf many {\nvariables:\n' && seq -f $'\tbyte v%.0f ;' 10000 && echo '}'; } >"$many.cdl"
+weighs text_of_10000_variables 30000000 "$ncgen" -o "$many.nc" "$many.cdl"
+cp "$many.cdl" "$work/want/stdout"
+weighs head_of_10000_variables 15000000 "$ncdump" -h "$many.nc"
+{ sed '$d' "$many.cdl" && echo data: && seq -f $'\n v%.0f = -127 ;' 10000 && echo '}'; } >"$work/want/stdout"
+weighs dump_of_10000_variables 15000000 "$ncdump" "$many.nc"
 summary

@@ -184,6 +184,22 @@ for words in '-h' '-h -h' '-h data.nc data.nc' '-h -h data.nc' '-hh data.nc' '-c
     run "$ncdump" $words
     verdict "usage_of_$(printf '%s' "$words" | tr ' ' '_')" 1
 done
+# Ten words ask for a dump, and the eleventh is looked at.
+ten=(-c -v s -n other -l 20 -- generated.nc)
+stdout 'netcdf other {\ndimensions:\n\tx = 3 ;\nvariables:\n\tshort s(x) ;\ndata:\n}\n'
+run "$ncdump" "${ten[@]}"
+verdict ten_words 0
+for word in data.nc generated.nc -x -- ''; do
+    stderr "$usage"
+    run "$ncdump" "${ten[@]}" "$word"
+    verdict "usage_of_eleven_words_with_${word:-nothing}" 1
+done
+for count in $(seq 30); do
+    stderr "$usage"
+    # shellcheck disable=SC2046
+    run "$ncdump" data.nc $(yes data.nc | head -n "$count")
+    verdict "usage_of_${count}_words_more" 1
+done
 stderr "$usage"
 run "$ncdump" -l '' data.nc
 verdict usage_of_an_empty_width 1

@@ -142,6 +142,15 @@ for words in '-b' '-b -b short.cdl' '-o' '-o a -o b short.cdl' '-k' '-k nc4 shor
     run "$ncgen" $words </dev/null
     verdict "usage_of_$(printf '%s' "$words" | tr ' ' '_')" 1
 done
+good=(-b -o words.nc -k nc3 -- short.cdl)
+run "$ncgen" "${good[@]}"
+verdict all_options 0
+for count in $(seq 30); do
+    stderr "$usage"
+    # shellcheck disable=SC2046
+    run "$ncgen" "${good[@]}" $(yes short.cdl | head -n "$count")
+    verdict "usage_of_${count}_words_more" 1
+done
 stderr "$usage"
 run "$ncgen" "$(printf 'a\377.cdl')"
 verdict word_that_is_not_utf_8 1

@@ -1,6 +1,6 @@
 /* Refuses one growth of memory. Loaded before a program, it counts the calls of malloc, calloc and realloc from 1; that of the
- * number REFUSED answers NULL, and all others go through to the C library. As the program ends, it writes how many there were to
- * the file that GROWTHS names.
+ * number REFUSED answers NULL, and all others go through to the C library. As the program ends, it writes how many there were, and
+ * the sum of the bytes that they asked for, to the file that GROWTHS names.
  *
  *     cc -shared -fPIC -o refuse.so refuse.c
  *     REFUSED=3 GROWTHS=growths LD_PRELOAD=./refuse.so bin/ncdump samples/note.nc
@@ -18,11 +18,13 @@ extern void *__libc_realloc(void *old, size_t size);
 
 static unsigned long refused; /* 0: none */
 static unsigned long growths;
+static unsigned long bytes; /* what the growths asked for, all of them together */
 
-/* Counts a call, and says whether it is refused. */
-static int refuses(void)
+/* Counts a call for this many bytes, and says whether it is refused. */
+static int refuses(size_t size)
 {
     growths++;
+    bytes += size;
     if (growths != refused)
         return 0;
     errno = ENOMEM;
@@ -31,17 +33,17 @@ static int refuses(void)
 
 void *malloc(size_t size)
 {
-    return refuses() ? NULL : __libc_malloc(size);
+    return refuses(size) ? NULL : __libc_malloc(size);
 }
 
 void *calloc(size_t count, size_t size)
 {
-    return refuses() ? NULL : __libc_calloc(count, size);
+    return refuses(count * size) ? NULL : __libc_calloc(count, size);
 }
 
 void *realloc(void *old, size_t size)
 {
-    return refuses() ? NULL : __libc_realloc(old, size);
+    return refuses(size) ? NULL : __libc_realloc(old, size);
 }
 
 /* Runs before the program's main. */
@@ -51,6 +53,7 @@ __attribute__((constructor)) static void begin(void)
 
     refused = number ? strtoul(number, NULL, 10) : 0;
     growths = 0;
+    bytes = 0;
 }
 
 /* Runs after it. */
@@ -58,12 +61,13 @@ __attribute__((destructor)) static void end(void)
 {
     const char *path = getenv("GROWTHS");
     unsigned long all = growths;
+    unsigned long sum = bytes;
     FILE *file;
 
     refused = 0;
     file = path ? fopen(path, "w") : NULL;
     if (file) {
-        fprintf(file, "%lu\n", all);
+        fprintf(file, "%lu %lu\n", all, sum);
         fclose(file);
     }
 }

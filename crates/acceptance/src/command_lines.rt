@@ -4,7 +4,7 @@ use crate::files;
 use crate::rows::{COORDINATES_TEXT, GENERATED_TEXT, SELECTION_TEXT};
 use devices::Flush;
 use nc_file::{IoSink, Listed, ListedFile, SliceSink};
-use ncdump::run_with;
+use ncdump::{command, options_of, run_with};
 use std::alloc::Global;
 use std::io;
 use std::io::{ErrorKind, Write};
@@ -106,6 +106,7 @@ const NARROW_TEXT: &[u8] =
 
 const WIDE_TEXT: &[u8] =
     b"netcdf other {\ndimensions:\n\tx = 3 ;\nvariables:\n\tint v(x) ;\ndata:\n\n v = 100, 200, 3000 ;\n}\n";
+
 /// The same file's dump without values.
 const NO_VALUES_TEXT: &[u8] =
     b"netcdf other {\ndimensions:\n\tx = 3 ;\nvariables:\n\tint v(x) ;\ndata:\n}\n";
@@ -219,19 +220,35 @@ fn path_that_is_not_there(rt: HostRuntime) {
     refuses(&rt, rt.alloc(), files::GENERATED, &words, LINE);
 }
 
-#[test]
-fn truncated_data(rt: HostRuntime) {
-    const TEXT: &[u8] =
-        b"netcdf t {\ndimensions:\n\tx = 3 ;\nvariables:\n\tshort s(x) ;\ndata:\n\n s = 1, _";
-    const LINE: &[u8] = b"ncdump: t.nc: variable 0: data truncated at value 2\n";
+/// A run on the first `len` bytes of a file is answered with this text and this line.
+fn truncates(rt: &impl Abort, alloc: Global, len: usize, text: &[u8], line: &[u8]) {
     let run = Run {
-        bytes: &files::GENERATED[..84],
+        bytes: &files::GENERATED[..len.min(files::GENERATED.len())],
         words: &["ncdump", "t.nc"],
         status: 1,
-        text: TEXT,
-        line: LINE,
+        text,
+        line,
     };
-    runs(&rt, rt.alloc(), run);
+    runs(rt, alloc, run);
+}
+
+#[test]
+fn truncated_data(rt: HostRuntime) {
+    const ROWS: [(usize, &[u8], &[u8]); 2] = [
+        (
+            83,
+            b"netcdf t {\ndimensions:\n\tx = 3 ;\nvariables:\n\tshort s(x) ;\ndata:\n\n s = 1",
+            b"ncdump: t.nc: variable 0: data truncated at value 1\n",
+        ),
+        (
+            84,
+            b"netcdf t {\ndimensions:\n\tx = 3 ;\nvariables:\n\tshort s(x) ;\ndata:\n\n s = 1, _",
+            b"ncdump: t.nc: variable 0: data truncated at value 2\n",
+        ),
+    ];
+    for (len, text, line) in ROWS {
+        truncates(&rt, rt.alloc(), len, text, line);
+    }
 }
 
 /// With ample memory no command line is answered with out of memory, whatever its length.
@@ -241,6 +258,49 @@ fn every_number_of_words(rt: HostRuntime) -> Result<(), Fail> {
     for _ in 0..100 {
         words.push("t.nc")?;
         refuses(&rt, rt.alloc(), files::GENERATED, words.as_slice(), USAGE);
+    }
+    Ok(())
+}
+
+/// The word after ten that ask for a dump is not passed over.
+#[test]
+fn eleventh_word(rt: HostRuntime) {
+    const WORDS: [&str; 6] = ["u.nc", "t.nc", "-q", "-h", "--", ""];
+    for word in WORDS {
+        let words = [
+            "ncdump", "-c", "-v", "v", "-n", "other", "-l", "20", "--", "t.nc", word,
+        ];
+        refuses(&rt, rt.alloc(), files::LONG_LINE, &words, USAGE);
+    }
+}
+
+/// The words ask for this width and this name.
+fn asks_for(
+    rt: &impl Abort,
+    alloc: Global,
+    words: &[&str],
+    width: usize,
+    name: &[u8],
+) -> Result<(), Fail> {
+    let matches = command(alloc)?.try_get_matches_from(words)?;
+    let options = options_of(alloc, &matches)?;
+    assert!(rt; options.width == width);
+    assert!(rt; options.name.as_slice() == name);
+    Ok(())
+}
+
+#[test]
+fn widths_and_stems(rt: HostRuntime) -> Result<(), Fail> {
+    const ROWS: [(&[&str], usize, &[u8]); 6] = [
+        (&["ncdump", "-l", "20", "dir/a.b.nc"], 20, b"a.b"),
+        (&["ncdump", "-l", "0080", "dir/a.b.nc"], 80, b"a.b"),
+        (&["ncdump", "-l", "1000", ".nc"], 1000, b".nc"),
+        (&["ncdump", "dir/a.b.nc"], 80, b"a.b"),
+        (&["ncdump", "-n", "c.d.nc", "dir/a.b.nc"], 80, b"c.d.nc"),
+        (&["ncdump", "dir/a"], 80, b"a"),
+    ];
+    for (words, width, name) in ROWS {
+        asks_for(&rt, rt.alloc(), words, width, name)?;
     }
     Ok(())
 }

@@ -2,6 +2,8 @@
 #![tactic(auto)]
 
 #[cfg(test)]
+mod call_counts;
+#[cfg(test)]
 mod changed_files;
 #[cfg(test)]
 mod chunks;

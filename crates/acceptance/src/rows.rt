@@ -59,6 +59,10 @@ pub fn is_same(bytes: &[u8], text: &[u8]) -> bool {
 pub const GENERATED_TEXT: &[u8] =
     b"netcdf t {\ndimensions:\n\tx = 3 ;\nvariables:\n\tshort s(x) ;\ndata:\n\n s = 1, _, 3 ;\n}\n";
 
+/// The dump of two record variables with three records.
+pub const PADDED_RECORDS_TEXT: &[u8] =
+    b"netcdf t {\ndimensions:\n\tt = UNLIMITED ; // (3 currently)\nvariables:\n\tbyte b(t) ;\n\tshort s(t) ;\ndata:\n\n b = 1, 2, 3 ;\n\n s = 4, 5, 6 ;\n}\n";
+
 /// The dump of the chosen one of three variables.
 pub const SELECTION_TEXT: &[u8] =
     b"netcdf t {\ndimensions:\n\tt = UNLIMITED ; // (2 currently)\n\ty = 2 ;\n\tx = 2 ;\nvariables:\n\tint a(t) ;\n\tint b(t, y, x) ;\n\tint c ;\ndata:\n\n b =\n  1, 2,\n  3, 4,\n  5, 6,\n  7, 8 ;\n}\n";
@@ -159,7 +163,7 @@ pub fn padded_records<'a>(all: &'a DumpOptions) -> Row<'a> {
         bytes: files::PADDED_RECORDS,
         header_len: 116,
         options: all,
-        text: b"netcdf t {\ndimensions:\n\tt = UNLIMITED ; // (3 currently)\nvariables:\n\tbyte b(t) ;\n\tshort s(t) ;\ndata:\n\n b = 1, 2, 3 ;\n\n s = 4, 5, 6 ;\n}\n",
+        text: PADDED_RECORDS_TEXT,
         stops: RECORDS_STOPS,
     }
 }

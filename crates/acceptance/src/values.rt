@@ -1,7 +1,7 @@
 //! Dumps of values, through buffers of every length.
 
 use crate::files;
-use crate::rows::{GENERATED_TEXT, SELECTION_TEXT};
+use crate::rows::{GENERATED_TEXT, PADDED_RECORDS_TEXT, SELECTION_TEXT};
 use crate::runs::{choosing, dump_all, dumps, dumps_as, options, with_width};
 use ncdump::DumpFault;
 use std::alloc::Global;
@@ -42,9 +42,13 @@ fn unpadded_records(rt: HostRuntime) -> Result<(), Fail> {
 
 #[test]
 fn padded_records(rt: HostRuntime) -> Result<(), Fail> {
-    const TEXT: &[u8] =
-        b"netcdf t {\ndimensions:\n\tt = UNLIMITED ; // (3 currently)\nvariables:\n\tbyte b(t) ;\n\tshort s(t) ;\ndata:\n\n b = 1, 2, 3 ;\n\n s = 4, 5, 6 ;\n}\n";
-    dumps(&rt, rt.alloc(), files::PADDED_RECORDS, Ok(()), TEXT)
+    dumps(
+        &rt,
+        rt.alloc(),
+        files::PADDED_RECORDS,
+        Ok(()),
+        PADDED_RECORDS_TEXT,
+    )
 }
 
 #[test]
@@ -197,13 +201,20 @@ fn truncated_data(rt: HostRuntime) -> Result<(), Fail> {
         let text = (SHORTS_HEAD, line);
         truncated(&rt, rt.alloc(), files::GENERATED, len, (0, value), text)?;
     }
-    dumps(
-        &rt,
-        rt.alloc(),
-        &files::GENERATED[..86],
-        Ok(()),
-        GENERATED_TEXT,
-    )
+    Ok(())
+}
+
+#[test]
+fn truncated_padding(rt: HostRuntime) -> Result<(), Fail> {
+    let rows: [(&[u8], &[u8]); 6] = [
+        (&files::GENERATED[..86], GENERATED_TEXT),
+        (&files::GENERATED[..87], GENERATED_TEXT),
+        (files::GENERATED, GENERATED_TEXT),
+        (&files::PADDED_RECORDS[..138], PADDED_RECORDS_TEXT),
+        (&files::PADDED_RECORDS[..139], PADDED_RECORDS_TEXT),
+        (files::PADDED_RECORDS, PADDED_RECORDS_TEXT),
+    ];
+    dump_all(&rt, rt.alloc(), &rows)
 }
 
 #[test]
@@ -223,20 +234,23 @@ fn truncated_data_of_version_5(rt: HostRuntime) -> Result<(), Fail> {
     Ok(())
 }
 
+/// The first value of three bytes and three shorts in padded records that is missing from the first `len` bytes of their file,
+/// and the lines up to there.
+fn cut_records(len: usize) -> ((usize, u128), &'static [u8]) {
+    match len {
+        ..=116 => ((0, 0), b" b ="),
+        117..=124 => ((0, 1), b" b = 1"),
+        125..=132 => ((0, 2), b" b = 1, 2"),
+        _ => ((1, 2), b" b = 1, 2, 3 ;\n\n s = 4, 5"),
+    }
+}
+
 #[test]
 fn truncated_records(rt: HostRuntime) -> Result<(), Fail> {
     const HEAD: &[u8] =
         b"netcdf t {\ndimensions:\n\tt = UNLIMITED ; // (3 currently)\nvariables:\n\tbyte b(t) ;\n\tshort s(t) ;\ndata:\n\n";
-    const ROWS: [(usize, (usize, u128), &[u8]); 7] = [
-        (116, (0, 0), b" b ="),
-        (117, (0, 1), b" b = 1"),
-        (124, (0, 1), b" b = 1"),
-        (125, (0, 2), b" b = 1, 2"),
-        (132, (0, 2), b" b = 1, 2"),
-        (133, (1, 2), b" b = 1, 2, 3 ;\n\n s = 4, 5"),
-        (137, (1, 2), b" b = 1, 2, 3 ;\n\n s = 4, 5"),
-    ];
-    for (len, place, line) in ROWS {
+    for len in 116..=137 {
+        let (place, line) = cut_records(len);
         truncated(
             &rt,
             rt.alloc(),

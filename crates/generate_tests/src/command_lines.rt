@@ -5,6 +5,7 @@ use crate::texts::{FIFTH_FILE, FIRST_FILE, SECOND_FILE, TEXT};
 use devices::ListedFile;
 use std::alloc::Global;
 use std::process::Abort;
+use std::test::Fail;
 
 /// How the program is used.
 const USAGE: &[u8] = b"usage: ncgen [-b] [-o file] [-k kind] [file]\n";
@@ -87,4 +88,23 @@ fn words_that_are_not_taken(rt: HostRuntime) {
     for words in ROWS {
         refuses(&rt, rt.alloc(), invocation(words), USAGE);
     }
+}
+
+/// With ample memory no command line is answered with out of memory, whatever its length, and no word is passed over.
+#[test]
+fn every_number_of_words(rt: HostRuntime) -> Result<(), Fail> {
+    let good = ["ncgen", "-b", "-o", "x", "-k", "nc3", "--", "d/f.cdl"];
+    let mut words = Vec::from_slice(rt.alloc(), &good)?;
+    makes(
+        &rt,
+        rt.alloc(),
+        invocation(words.as_slice()),
+        "x",
+        FIRST_FILE,
+    );
+    for _ in 0..100 {
+        words.push("d/f.cdl")?;
+        refuses(&rt, rt.alloc(), invocation(words.as_slice()), USAGE);
+    }
+    Ok(())
 }

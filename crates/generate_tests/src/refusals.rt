@@ -119,3 +119,37 @@ fn the_first_offset_too_large(rt: HostRuntime) {
     assert!(rt; fault_of(&rt, rt.alloc(), Version::Cdf1, LAST).is_none());
     passes_31_bits(&rt, rt.alloc(), NEXT);
 }
+
+#[test]
+fn other_faults_come_before_an_offset_too_large(rt: HostRuntime) {
+    const ROWS: [(&[u8], u64, CdlKind); 5] = [
+        (
+            b"netcdf t {\ndimensions: x = 2147483647 ;\nvariables: byte a(x), b(x) ;\ndata:\n a = 128, \"a\" ;\n q = 1 ;\n}\n",
+            5,
+            CdlKind::NumberRange,
+        ),
+        (
+            b"netcdf t {\ndimensions: x = 2147483647 ;\nvariables: byte a(x), b(x) ;\ndata:\n a = 1 ;\n a = 128 ;\n q = 1 ;\n}\n",
+            6,
+            CdlKind::DuplicateData,
+        ),
+        (
+            b"netcdf t {\ndimensions: x = 2147483647 ;\nvariables: byte a(x), b(x), c(x, x) ;\ndata:\n a = 1 ;\n}\n",
+            6,
+            CdlKind::TooLarge,
+        ),
+        (
+            b"netcdf t {\ndimensions: x = 2147483647 ;\nvariables: byte a(x), b(x), c(x, x) ; char d ;\ndata:\n d = \"ab\" ;\n d = \"a\" ;\n}\n",
+            5,
+            CdlKind::StringTooLong,
+        ),
+        (
+            b"netcdf t {\ndimensions: x = 2147483647 ;\nvariables: byte a(x), b(x), c(x, x) ;\ndata:\n a = 1 ;\n}\n q 08",
+            7,
+            CdlKind::BadNumber,
+        ),
+    ];
+    for (text, line, kind) in ROWS {
+        has_fault(&rt, rt.alloc(), text, line, kind);
+    }
+}

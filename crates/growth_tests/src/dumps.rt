@@ -149,6 +149,18 @@ fn header_and_selection_of_nuls_in_a_row(rt: HostRuntime) -> Result<(), Fail> {
 }
 
 #[test]
+fn dump_of_many_nuls_in_a_row(rt: HostRuntime) -> Result<(), Fail> {
+    dumps(&rt, rt.alloc(), &rows::MANY_NULS_IN_A_ROW)?;
+    Ok(())
+}
+
+#[test]
+fn header_and_selection_of_many_nuls_in_a_row(rt: HostRuntime) -> Result<(), Fail> {
+    reads_and_selects(&rt, rt.alloc(), &rows::MANY_NULS_IN_A_ROW)?;
+    Ok(())
+}
+
+#[test]
 fn dump_of_a_text_attribute(rt: HostRuntime) -> Result<(), Fail> {
     dumps(&rt, rt.alloc(), &rows::TEXT_ATTRIBUTE)?;
     Ok(())

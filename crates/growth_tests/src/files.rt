@@ -140,6 +140,30 @@ pub const HELD_NULS: &[u8] = b"CDF\x01\0\0\0\0\
     \0\0\0\x02\0\0\0\x08\0\0\0\x50\
     a\0\0b\0\0\0\0";
 
+/// The same with x = 20 and 18 NULs between the characters.
+pub const MANY_HELD_NULS: &[u8] = b"CDF\x01\0\0\0\0\
+    \0\0\0\x0a\0\0\0\x01\
+    \0\0\0\x01x\0\0\0\0\0\0\x14\
+    \0\0\0\0\0\0\0\0\
+    \0\0\0\x0b\0\0\0\x01\
+    \0\0\0\x01c\0\0\0\
+    \0\0\0\x01\0\0\0\0\
+    \0\0\0\0\0\0\0\0\
+    \0\0\0\x02\0\0\0\x14\0\0\0\x50\
+    a\0\0\0\0\0\0\0\0\0\0\0\0\0\0\0\0\0\0b";
+
+/// CDF-5: `ubyte b(t)` alone, with 255, 254 and 1: 128 bytes of header, and a byte a record.
+pub const UNSIGNED_RECORDS: &[u8] = b"CDF\x05\0\0\0\0\0\0\0\x03\
+    \0\0\0\x0a\0\0\0\0\0\0\0\x01\
+    \0\0\0\0\0\0\0\x01t\0\0\0\0\0\0\0\0\0\0\0\
+    \0\0\0\0\0\0\0\0\0\0\0\0\
+    \0\0\0\x0b\0\0\0\0\0\0\0\x01\
+    \0\0\0\0\0\0\0\x01b\0\0\0\
+    \0\0\0\0\0\0\0\x01\0\0\0\0\0\0\0\0\
+    \0\0\0\0\0\0\0\0\0\0\0\0\
+    \0\0\0\x07\0\0\0\0\0\0\0\x04\0\0\0\0\0\0\0\x80\
+    \xff\xfe\x01";
+
 /// The global attribute `title` = `abc`; the scalar `int data` = 5 with the shorts `range` = 1, -1; and `char c(t, x)`,
 /// x = 3, whose `_FillValue` is `-`, with the rows `ab-` and `---`: 204 bytes of header, and 10 of data.
 pub const NAMES_AND_STRINGS: &[u8] = b"CDF\x01\0\0\0\x02\

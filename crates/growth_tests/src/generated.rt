@@ -8,7 +8,6 @@ use crate::texts;
 use crate::wanted::is_same;
 use cdl_parse::{CdlFault, CdlKind};
 use devices::CountedRead;
-use nc_base::Version;
 use nc_file::SliceSink;
 use ncgen::{GenFault, TextFault, generate, prepare, read_text};
 use std::alloc::{AllocError, Global};
@@ -34,7 +33,7 @@ fn short_text<'a>(rt: &impl Abort, text: &'a [u8]) -> &'a [u8]
 fn generates(rt: &impl Abort, alloc: Global, row: &Made<'_>) -> Result<(), AllocError> {
     let mut into = [0; 256];
     let mut sink = SliceSink::new(&mut into, 7);
-    match generate(alloc, short_text(rt, row.cdl), Version::Cdf1, &mut sink) {
+    match generate(alloc, short_text(rt, row.cdl), row.version, &mut sink) {
         Ok(()) => {
             assert!(rt; is_same(sink.taken(), row.file));
             Ok(())
@@ -49,7 +48,7 @@ fn generates(rt: &impl Abort, alloc: Global, row: &Made<'_>) -> Result<(), Alloc
 
 /// Prepares the text alone.
 fn prepares(rt: &impl Abort, alloc: Global, row: &Made<'_>) -> Result<(), AllocError> {
-    match prepare(alloc, short_text(rt, row.cdl), Version::Cdf1) {
+    match prepare(alloc, short_text(rt, row.cdl), row.version) {
         Ok(_) => Ok(()),
         Err(fault) => {
             assert!(rt; fault == OUT_OF_MEMORY);
@@ -111,6 +110,30 @@ fn rank_three_generated(rt: HostRuntime) -> Result<(), Fail> {
 #[test]
 fn rank_three_prepared(rt: HostRuntime) -> Result<(), Fail> {
     prepares(&rt, rt.alloc(), &rows::RANK_THREE_MADE)?;
+    Ok(())
+}
+
+#[test]
+fn padded_records_generated(rt: HostRuntime) -> Result<(), Fail> {
+    generates(&rt, rt.alloc(), &rows::PADDED_RECORDS_MADE)?;
+    Ok(())
+}
+
+#[test]
+fn padded_records_prepared(rt: HostRuntime) -> Result<(), Fail> {
+    prepares(&rt, rt.alloc(), &rows::PADDED_RECORDS_MADE)?;
+    Ok(())
+}
+
+#[test]
+fn records_of_version_5_generated(rt: HostRuntime) -> Result<(), Fail> {
+    generates(&rt, rt.alloc(), &rows::UNSIGNED_RECORDS_MADE)?;
+    Ok(())
+}
+
+#[test]
+fn records_of_version_5_prepared(rt: HostRuntime) -> Result<(), Fail> {
+    prepares(&rt, rt.alloc(), &rows::UNSIGNED_RECORDS_MADE)?;
     Ok(())
 }
 

@@ -2,7 +2,7 @@
 
 use crate::wanted::{SCALAR, Wanted, WantedVar};
 use crate::{files, texts};
-use nc_base::NcType;
+use nc_base::{NcType, Version};
 
 /// A dump with the name `t`.
 #[derive(Clone, Copy)]
@@ -81,6 +81,15 @@ pub const NULS_IN_A_ROW: Dump<'static> = Dump {
     ..WHOLE
 };
 
+/// More NULs in a row than the buffer of 16 bytes has.
+pub const MANY_NULS_IN_A_ROW: Dump<'static> = Dump {
+    file: files::MANY_HELD_NULS,
+    most_read: 80 + 16 + 20,
+    text: b"netcdf t {\ndimensions:\n\tx = 20 ;\nvariables:\n\tchar c(x) ;\n\
+        data:\n\n c = \"a\\000\\000\\000\\000\\000\\000\\000\\000\\000\\000\\000\\000\\000\\000\\000\\000\\000\\000b\" ;\n}\n",
+    ..WHOLE
+};
+
 /// A text attribute of the file.
 pub const TEXT_ATTRIBUTE: Dump<'static> = Dump {
     file: files::TEXT_ATTRIBUTE,
@@ -132,27 +141,31 @@ pub const NAMES_AND_STRINGS: Headed<'static> = Headed {
     },
 };
 
-/// A text, and its file in CDF-1.
+/// A text, and its file in this version.
 #[derive(Clone, Copy)]
 pub struct Made<'a> {
+    pub version: Version,
     pub cdl: &'a [u8],
     pub file: &'a [u8],
 }
 
 /// One variable, of which the text says one value by `_`.
 pub const ONE_VARIABLE_MADE: Made<'static> = Made {
+    version: Version::Cdf1,
     cdl: texts::ONE_VARIABLE,
     file: files::ONE_VARIABLE,
 };
 
 /// Forty values of one variable.
 pub const FORTY_SHORTS_MADE: Made<'static> = Made {
+    version: Version::Cdf1,
     cdl: texts::FORTY_SHORTS,
     file: files::FORTY_SHORTS,
 };
 
 /// Two record variables, one of them of rank three, and a scalar after them, whose value comes before theirs.
 pub const RANK_THREE_MADE: Made<'static> = Made {
+    version: Version::Cdf1,
     cdl: b"netcdf t {\n\
         dimensions: t = UNLIMITED, y = 2, x = 2 ;\n\
         variables: int a(t) ; int b(t, y, x) ; int c ;\n\
@@ -163,6 +176,7 @@ pub const RANK_THREE_MADE: Made<'static> = Made {
 
 /// Three record variables whose slabs are padded, and a row that is filled up.
 pub const THREE_PADDED_RECORDS_MADE: Made<'static> = Made {
+    version: Version::Cdf1,
     cdl: b"netcdf t {\n\
         dimensions: t = UNLIMITED, x = 3 ;\n\
         variables: byte a(t) ; short b(t, x) ; char c(t, x) ;\n\
@@ -171,8 +185,31 @@ pub const THREE_PADDED_RECORDS_MADE: Made<'static> = Made {
     file: files::THREE_PADDED_RECORDS,
 };
 
+/// Two record variables whose slabs are padded.
+pub const PADDED_RECORDS_MADE: Made<'static> = Made {
+    version: Version::Cdf1,
+    cdl: b"netcdf t {\n\
+        dimensions: t = UNLIMITED ;\n\
+        variables: byte b(t) ; short s(t) ;\n\
+        data: b = 1, 2, 3 ; s = 4, 5, 6 ;\n\
+        }\n",
+    file: files::PADDED_RECORDS,
+};
+
+/// A type that only CDF-5 has.
+pub const UNSIGNED_RECORDS_MADE: Made<'static> = Made {
+    version: Version::Cdf5,
+    cdl: b"netcdf t {\n\
+        dimensions: t = UNLIMITED ;\n\
+        variables: ubyte b(t) ;\n\
+        data: b = 255, 254, 1 ;\n\
+        }\n",
+    file: files::UNSIGNED_RECORDS,
+};
+
 /// A name that is a reserved word, attributes of strings and of numbers, and rows of characters.
 pub const NAMES_AND_STRINGS_MADE: Made<'static> = Made {
+    version: Version::Cdf1,
     cdl: b"netcdf t {\n\
         :title = \"a\", \"\\x62\", \"c\" ;\n\
         dimensions: t = UNLIMITED, x = 3 ;\n\

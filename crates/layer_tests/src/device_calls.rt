@@ -3,18 +3,14 @@
 ghost use Rattle.std.specs.Prelude.{None};
 
 use crate::device_rows::{
-    Read, drip_of, expect_bytes, expect_put, expect_read, expect_reads, expect_write,
+    Read, drip_of, expect_bytes, expect_put, expect_read, expect_reads, expect_write, source_of,
 };
 use devices::{
-    CountedRead, Creator, FailWhen, FileSource, Flush, IoSink, Listed, ListedFile, MemSink,
-    MemSource, OpenFailed, Opener, ReadAhead, Sink, SinkFailed, Source, SourceFailed, SystemFiles,
-    SystemOutputs, WriteFailed, put,
+    FailWhen, FileSource, Flush, IoSink, Listed, ListedFile, MemSink, MemSource, OpenFailed,
+    Opener, ReadAhead, Sink, SinkFailed, Source, SourceFailed, SystemFiles, WriteFailed,
 };
-use std::alloc::{AllocError, Global};
-use std::fs::File;
 use std::io::{ErrorKind, Write};
 use std::process::Abort;
-use std::rt::Files;
 use std::test::*;
 use std::{fs, io};
 
@@ -93,42 +89,6 @@ fn memory_hands_over_its_bytes(rt: HostRuntime) {
     expect_reads(&rt, &mut source, 4, &READS);
 }
 
-/// How many bytes a call is tried with at most.
-const MOST: usize = 1000;
-
-#[test]
-fn writes_of_every_length_are_taken(rt: HostRuntime) {
-    let bytes = [b'a'; MOST];
-    let mut kept = MemSink::new(rt.alloc());
-    let mut written = IoSink::new(Vec::new(rt.alloc()));
-    for len in 1..=MOST {
-        expect_write(&rt, &mut kept, &bytes[..len], Ok(len));
-        expect_write(&rt, &mut written, &bytes[..len], Ok(len));
-    }
-}
-
-#[test]
-fn reads_of_every_length_hand_over(rt: HostRuntime) {
-    let bytes = [b'a'; MOST];
-    let mut into = [0; MOST];
-    for len in 1..=MOST {
-        let mut reader = CountedRead::new(&bytes[..len]);
-        assert!(rt; reader.read_some(&mut into) == Ok(len));
-        assert!(rt; reader.read_some(&mut into) == Ok(0) && reader.failures() == 0);
-    }
-}
-
-#[test]
-fn each_of_many_reads_hands_over(rt: HostRuntime) {
-    let bytes = [b'a'; MOST];
-    let mut reader = CountedRead::new(bytes.as_slice());
-    let mut into = [0; 1];
-    for _ in 0..MOST {
-        assert!(rt; reader.read_some(&mut into) == Ok(1));
-    }
-    assert!(rt; reader.read_some(&mut into) == Ok(0));
-}
-
 #[test]
 fn memory_takes_bytes(rt: HostRuntime) {
     let mut sink = MemSink::new(rt.alloc());
@@ -201,14 +161,6 @@ fn failed_write_is_counted(rt: HostRuntime) {
     expect_put(&rt, &mut sink, b"", Ok(()));
 }
 
-/// A source of a file of the system with these bytes, at this path, where the file is removed again.
-fn source_of(rt: &impl Files<File = File>, path: &str, bytes: &[u8]) -> Result<FileSource, Fail> {
-    fs::write(rt, path, bytes)?;
-    let source = FileSource::open(rt, path).ok().ok_or("no source")?;
-    fs::remove_file(rt, path)?;
-    Ok(source)
-}
-
 #[test]
 fn file_hands_over_its_bytes(rt: HostRuntime) -> Result<(), Fail> {
     const READS: [Read; 3] = [(2, Ok(4), b"cdef"), (5, Ok(2), b"fg"), (0, Ok(4), b"abcd")];
@@ -273,48 +225,5 @@ fn path_of_the_system_opens(rt: HostRuntime) -> Result<(), Fail> {
     fs::remove_file(&rt, path)?;
     assert!(rt; source.len() == 7);
     assert!(rt; files.open(path).is_err());
-    Ok(())
-}
-
-/// This number of bytes, none of them 0, of which no two that are a power of two apart are the same.
-fn distinct_bytes(alloc: Global, len: usize) -> Result<Vec<u8>, AllocError> {
-    let mut bytes = Vec::new(alloc);
-    for i in 0..len {
-        bytes.push((i % 251) as u8 + 1)?;
-    }
-    Ok(bytes)
-}
-
-/// Writes these bytes to an output at the path in pieces of 12,288, and asserts that the file has them then.
-fn holds_what_was_written<R: Files<File = File> + AllocGlobal + Abort>(
-    rt: &R,
-    path: &str,
-    bytes: &[u8],
-) -> Result<(), Fail> {
-    let mut outputs = SystemOutputs::new(rt, rt.alloc());
-    let mut output = outputs.create(path)?;
-    for piece in bytes.chunks(12288) {
-        put(&mut output, piece)?;
-    }
-    outputs.close(path, output)?;
-    let file = fs::read(rt, path)?;
-    expect_bytes(rt, file.as_slice(), bytes);
-    Ok(())
-}
-
-/// How many bytes a buffer before an output has.
-const BUFFER: usize = 65536;
-
-#[test]
-fn outputs_of_one_buffer_and_two(rt: HostRuntime) -> Result<(), Fail> {
-    let path = "devices_outputs.bin";
-    let bytes = distinct_bytes(rt.alloc(), 2 * BUFFER + 3)?;
-    assert!(rt; bytes.len() == 2 * BUFFER + 3);
-    for end in [0, 4096, 12288, 61440, BUFFER, 2 * BUFFER] {
-        for len in end..end + 4 {
-            holds_what_was_written(&rt, path, &bytes.as_slice()[..len])?;
-        }
-    }
-    fs::remove_file(&rt, path)?;
     Ok(())
 }

@@ -1,7 +1,13 @@
 //! What is tried on sources and sinks: rows of reads, writes, and the bytes that they give or take.
 
-use devices::{DripSource, FailWhen, Sink, SinkFailed, Source, SourceFailed, WriteFailed, put};
+use devices::{
+    DripSource, FailWhen, FileSource, Sink, SinkFailed, Source, SourceFailed, WriteFailed, put,
+};
+use std::alloc::{AllocError, Global};
+use std::fs;
+use std::fs::File;
 use std::process::Abort;
+use std::rt::Files;
 use std::test::*;
 
 /// A read at an offset: what it answers, and the bytes that it gives.
@@ -58,4 +64,25 @@ pub fn expect_write<W: Sink>(
 /// Fails unless these are the bytes.
 pub fn expect_bytes(rt: &impl Abort, bytes: &[u8], want: &[u8]) {
     assert_eq!(rt; bytes, want);
+}
+
+/// A source of a file of the system with these bytes, at this path, where the file is removed again.
+pub fn source_of(
+    rt: &impl Files<File = File>,
+    path: &str,
+    bytes: &[u8],
+) -> Result<FileSource, Fail> {
+    fs::write(rt, path, bytes)?;
+    let source = FileSource::open(rt, path).ok().ok_or("no source")?;
+    fs::remove_file(rt, path)?;
+    Ok(source)
+}
+
+/// This number of bytes, none of them 0, of which no two that are a power of two apart are the same.
+pub fn distinct_bytes(alloc: Global, len: usize) -> Result<Vec<u8>, AllocError> {
+    let mut bytes = Vec::new(alloc);
+    for i in 0..len {
+        bytes.push((i % 251) as u8 + 1)?;
+    }
+    Ok(bytes)
 }

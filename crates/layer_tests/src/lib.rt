@@ -5,6 +5,8 @@
 #[cfg(test)]
 mod device_calls;
 #[cfg(test)]
+mod device_lengths;
+#[cfg(test)]
 mod device_rows;
 #[cfg(test)]
 mod heads;

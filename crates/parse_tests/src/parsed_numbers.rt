@@ -284,10 +284,20 @@ fn have_nines(rt: &impl Abort, alloc: Global, ranges: &[Range], count: usize) ->
     Ok(())
 }
 
+/// The ranges that this many nines are tried with: all of them up to 40 nines, which are more than 2^128 has, and then one, each in its
+/// turn.
+fn ranges_for(count: usize) -> &'static [Range] {
+    if count <= 40 {
+        return RANGES;
+    }
+    let one = (count % 8).min(RANGES.len());
+    &RANGES[one..(one + 1).min(RANGES.len())]
+}
+
 #[test]
 fn numbers_of_nines(rt: HostRuntime) -> Result<(), Fail> {
     for count in 1..=400 {
-        have_nines(&rt, rt.alloc(), RANGES, count)?;
+        have_nines(&rt, rt.alloc(), ranges_for(count), count)?;
     }
     Ok(())
 }

@@ -27,6 +27,16 @@ fn faults_of_values_come_from_left_to_right(rt: HostRuntime) -> Result<(), Fail>
         ("s = 1, 2, 3, 40000 ;", 4, CdlKind::TooManyValues),
         ("s = 1, 2, 3, _ ;", 4, CdlKind::TooManyValues),
         ("s = 1, 2, 40000, 4 ;", 4, CdlKind::NumberRange),
+        (
+            "s = 1 ;\ns = 40000, \"a\", 1, 2 ;\nq = 1 ;",
+            5,
+            CdlKind::DuplicateData,
+        ),
+        (
+            "s = 1 ;\ns = 1, 2, 3, 4 ;\nd = \"abcd\" ;\nd = % ;",
+            5,
+            CdlKind::DuplicateData,
+        ),
     ];
     refuse_values(&rt, rt.alloc(), GOOD, ROWS)
 }
@@ -41,6 +51,16 @@ fn faults_of_strings_come_from_left_to_right(rt: HostRuntime) -> Result<(), Fail
         ("d = \"ab\", \"c\", \"\", _ ;", 4, CdlKind::WrongKind),
         ("d = \"abcd\" ;\nd = \"a\" ;", 4, CdlKind::StringTooLong),
         ("d = \"abc\" ; d = \"abcd\" ;", 4, CdlKind::DuplicateData),
+        (
+            "d = \"abcd\", 1 ;\nd = \"a\" ;\nq = 1 ;",
+            4,
+            CdlKind::StringTooLong,
+        ),
+        (
+            "c = \"abc\", \"abcd\", 1 ;\nc = \"a\" ;\ns = 40000 ;",
+            4,
+            CdlKind::StringTooLong,
+        ),
     ];
     refuse_values(&rt, rt.alloc(), GOOD, ROWS)
 }
@@ -74,6 +94,12 @@ fn sizes_come_after_declarations(rt: HostRuntime) -> Result<(), Fail> {
         ("byte b(h, g) ;", 5, CdlKind::TooLarge),
         ("byte b(t, h, g) ;", 5, CdlKind::TooLarge),
         ("byte b(x, x) ;\nbyte b ;", 4, CdlKind::DuplicateName),
+        // three slabs and a record of them, and values that would begin past 2^31
+        (
+            "byte b(x, x), c(t, x, x), d(h, g), e(x), f(x) ;",
+            5,
+            CdlKind::TooLarge,
+        ),
     ];
     refuse_vars(&rt, rt.alloc(), WIDE, ROWS)
 }
@@ -86,6 +112,9 @@ fn sizes_come_after_values(rt: HostRuntime) -> Result<(), Fail> {
         ("q = 1 ;", 4, CdlKind::UnknownVariable),
         ("b = 128 ;", 4, CdlKind::NumberRange),
         ("}\nq", 5, CdlKind::Syntax),
+        ("b = 1 ;\nb = 128 ;\nq = 1 ;", 5, CdlKind::DuplicateData),
+        ("b = \"a\", 128 ;\nq = 1 ;", 4, CdlKind::WrongKind),
+        ("b = 1 ;\n} % 08", 5, CdlKind::BadToken),
     ];
     refuse_values(&rt, rt.alloc(), WIDE, ROWS)
 }

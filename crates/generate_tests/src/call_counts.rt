@@ -1,0 +1,94 @@
+//! How often a text is read and its file is written, where both have some 100,000 bytes: about once for each buffer of the text, and
+//! for each part of the file.
+
+use crate::generating::writes;
+use crate::readers::FailingReader;
+use devices::{CountedRead, IoSink};
+use nc_base::Version;
+use ncgen::read_text;
+use std::alloc::{AllocError, Global};
+use std::io;
+use std::io::Write;
+use std::process::Abort;
+use std::test::Fail;
+
+/// A writer that takes everything, and counts the calls and the bytes.
+#[derive(Drop)]
+struct Counting {
+    calls: u64,
+    len: u64,
+}
+
+impl Write for Counting {
+    fn write(&mut self, bytes: &[u8]) -> io::Result<usize> {
+        self.calls = self.calls.saturating_add(1);
+        self.len = self.len.saturating_add(bytes.len() as u64);
+        Ok(bytes.len())
+    }
+
+    fn flush(&mut self) -> io::Result<()> {
+        Ok(())
+    }
+}
+
+/// The text of the head, `count` times the piece, and the tail.
+fn long_text(
+    alloc: Global,
+    head: &str,
+    (piece, count): (&str, usize),
+    tail: &str,
+) -> Result<String, AllocError> {
+    let mut text = String::from_str(alloc, head)?;
+    for _ in 0..count {
+        text.push_str(piece)?;
+    }
+    text.push_str(tail)?;
+    Ok(text)
+}
+
+#[test]
+fn reads_of_a_long_text(rt: HostRuntime) -> Result<(), Fail> {
+    let text = long_text(rt.alloc(), "", ("0123456789", 10_000), "")?;
+    // two parts of at most 65,536 bytes, and the end
+    let reader = FailingReader::new(text.as_bytes(), 100_000, 3);
+    let mut input = CountedRead::new(reader);
+    let read = read_text(rt.alloc(), &mut input, 1_000_000)
+        .ok()
+        .ok_or("no text")?;
+    assert!(rt; read.as_slice() == text.as_bytes());
+    Ok(())
+}
+
+/// The file of the text has `len` bytes, and is written in at most `calls` calls.
+fn takes_few_writes(rt: &impl Abort, alloc: Global, text: &str, len: u64, calls: u64) {
+    let mut sink = IoSink::new(Counting { calls: 0, len: 0 });
+    let answer = writes(rt, alloc, Version::Cdf1, text.as_bytes(), &mut sink);
+    assert!(rt; answer.is_ok());
+    let counts = sink.into_inner();
+    assert!(rt; counts.len == len, "{}", counts.len);
+    assert!(rt; counts.calls <= calls, "{}", counts.calls);
+}
+
+/// A text of a variable of 50,000 shorts, and its values.
+const SHORTS: &str = "netcdf t {\ndimensions: x = 50000 ;\nvariables: short s(x) ;\ndata: s = 1";
+
+#[test]
+fn writes_of_long_values(rt: HostRuntime) -> Result<(), Fail> {
+    let listed = long_text(rt.alloc(), SHORTS, (", 1", 49_999), " ;\n}\n")?;
+    takes_few_writes(&rt, rt.alloc(), listed.as_str(), 100_080, 40);
+    let filled = long_text(rt.alloc(), SHORTS, (", 1", 2), " ;\n}\n")?;
+    takes_few_writes(&rt, rt.alloc(), filled.as_str(), 100_080, 60);
+    Ok(())
+}
+
+#[test]
+fn writes_of_a_long_attribute(rt: HostRuntime) -> Result<(), Fail> {
+    let text = long_text(
+        rt.alloc(),
+        "netcdf t {\n:note = \"",
+        ("a", 100_000),
+        "\" ;\n}\n",
+    )?;
+    takes_few_writes(&rt, rt.alloc(), text.as_str(), 100_048, 30);
+    Ok(())
+}

@@ -1,0 +1,231 @@
+//! Devices at every length: reads, writes, paths and outputs, none of which fails.
+
+use crate::device_rows::{distinct_bytes, expect_bytes, expect_write, source_of};
+use devices::{
+    CountedRead, Creator, FileSource, IoSink, MadeFiles, MemSink, Opener, Source, SystemFiles,
+    SystemOutputs, Texts, put,
+};
+use std::fs;
+use std::fs::File;
+use std::process::Abort;
+use std::rt::Files;
+use std::test::*;
+
+/// How many bytes a call is tried with at most.
+const MOST: usize = 1000;
+
+/// How many bytes a buffer before an output has.
+const BUFFER: usize = 65536;
+
+#[test]
+fn writes_of_every_length_are_taken(rt: HostRuntime) {
+    let bytes = [b'a'; MOST];
+    let mut kept = MemSink::new(rt.alloc());
+    let mut written = IoSink::new(Vec::new(rt.alloc()));
+    for len in 1..=MOST {
+        expect_write(&rt, &mut kept, &bytes[..len], Ok(len));
+        expect_write(&rt, &mut written, &bytes[..len], Ok(len));
+    }
+}
+
+#[test]
+fn reads_of_every_length_hand_over(rt: HostRuntime) {
+    let bytes = [b'a'; MOST];
+    let mut into = [0; MOST];
+    for len in 1..=MOST {
+        let mut reader = CountedRead::new(&bytes[..len]);
+        assert!(rt; reader.read_some(&mut into) == Ok(len));
+        assert!(rt; reader.read_some(&mut into) == Ok(0) && reader.failures() == 0);
+    }
+}
+
+#[test]
+fn each_of_many_reads_hands_over(rt: HostRuntime) {
+    let bytes = [b'a'; MOST];
+    let mut reader = CountedRead::new(bytes.as_slice());
+    let mut into = [0; 1];
+    for _ in 0..MOST {
+        assert!(rt; reader.read_some(&mut into) == Ok(1));
+    }
+    assert!(rt; reader.read_some(&mut into) == Ok(0));
+}
+
+/// Fails unless reads with room for `room` bytes hand over these bytes, each as many as it has room for, and then none.
+fn expect_pieces(rt: &impl Abort, bytes: &[u8], room: usize) {
+    let mut space = [0; MOST];
+    assert!(rt; 1 <= room && room <= MOST);
+    let mut reader = CountedRead::new(bytes);
+    for piece in bytes.chunks(room) {
+        assert!(rt; reader.read_some(&mut space[..room]) == Ok(piece.len()));
+        assert!(rt; space.starts_with(piece), "{room}");
+    }
+    assert!(rt; reader.read_some(&mut space[..room]) == Ok(0) && reader.failures() == 0);
+}
+
+#[test]
+fn reads_with_room_of_every_length(rt: HostRuntime) -> Result<(), Fail> {
+    let bytes = distinct_bytes(rt.alloc(), MOST)?;
+    for room in 1..=64 {
+        expect_pieces(&rt, bytes.as_slice(), room);
+    }
+    Ok(())
+}
+
+/// Creates an output at the path, and closes it again.
+fn is_made(rt: &impl Abort, outputs: &mut MadeFiles, path: &str) {
+    let output = outputs.create(path);
+    assert!(rt; output.is_ok(), "{path}");
+    if let Ok(output) = output {
+        assert!(rt; outputs.close(path, output).is_ok(), "{path}");
+    }
+}
+
+#[test]
+fn outputs_at_paths_of_every_length(rt: HostRuntime) -> Result<(), Fail> {
+    let mut outputs = MadeFiles::new(rt.alloc());
+    let mut path = String::new(rt.alloc());
+    for _ in 0..=300 {
+        is_made(&rt, &mut outputs, path.as_str());
+        path.push('a')?;
+    }
+    assert!(rt; outputs.given().len() == 602);
+    Ok(())
+}
+
+/// Fails unless a read at this offset hands over the bytes that stand there, as many as it has room for.
+fn expect_read_at(
+    rt: &impl Abort,
+    source: &mut FileSource,
+    bytes: &[u8],
+    at: usize,
+    into: &mut [u8],
+) {
+    assert!(rt; !into.is_empty() && at < bytes.len() && (at as u64) < source.len());
+    let n = source.read_at(at as u64, into);
+    assert!(rt; n == Ok(into.len()), "{at}");
+    assert!(rt; bytes[at..].starts_with(into), "{at}");
+}
+
+#[test]
+fn reads_of_every_length_of_a_file(rt: HostRuntime) -> Result<(), Fail> {
+    let bytes = distinct_bytes(rt.alloc(), MOST)?;
+    let mut source = source_of(&rt, "devices_lengths.bin", bytes.as_slice())?;
+    let mut into = [0; MOST];
+    for len in 1..=MOST {
+        expect_read_at(&rt, &mut source, bytes.as_slice(), 0, &mut into[..len]);
+    }
+    Ok(())
+}
+
+/// Reads that lie so far apart that each of them asks the system.
+#[test]
+fn each_of_many_reads_of_a_file(rt: HostRuntime) -> Result<(), Fail> {
+    let bytes = distinct_bytes(rt.alloc(), 4 * BUFFER)?;
+    let mut source = source_of(&rt, "devices_far_reads.bin", bytes.as_slice())?;
+    let mut into = [0; 1];
+    for at in 0..MOST {
+        expect_read_at(&rt, &mut source, bytes.as_slice(), at, &mut into);
+        expect_read_at(
+            &rt,
+            &mut source,
+            bytes.as_slice(),
+            at + 3 * BUFFER,
+            &mut into,
+        );
+    }
+    Ok(())
+}
+
+#[test]
+fn writes_of_one_byte_are_taken(rt: HostRuntime) {
+    let mut kept = MemSink::new(rt.alloc());
+    let mut written = IoSink::new(Vec::new(rt.alloc()));
+    for _ in 1..=MOST {
+        expect_write(&rt, &mut kept, b"a", Ok(1));
+        expect_write(&rt, &mut written, b"a", Ok(1));
+    }
+}
+
+/// Writes these bytes to an output at the path in pieces of 12,288, and asserts that the file has them then.
+fn holds_what_was_written<R: Files<File = File> + AllocGlobal + Abort>(
+    rt: &R,
+    path: &str,
+    bytes: &[u8],
+) -> Result<(), Fail> {
+    let mut outputs = SystemOutputs::new(rt, rt.alloc());
+    let mut output = outputs.create(path)?;
+    for piece in bytes.chunks(12288) {
+        put(&mut output, piece)?;
+    }
+    outputs.close(path, output)?;
+    let file = fs::read(rt, path)?;
+    expect_bytes(rt, file.as_slice(), bytes);
+    Ok(())
+}
+
+/// Writes the first bytes of these to outputs at the path, `from` of them up to `to`, and asserts that the files have them then.
+fn hold_what_was_written<R: Files<File = File> + AllocGlobal + Abort>(
+    rt: &R,
+    path: &str,
+    bytes: &[u8],
+    (from, to): (usize, usize),
+) -> Result<(), Fail> {
+    for len in from..=to.min(bytes.len()) {
+        holds_what_was_written(rt, path, &bytes[..len.min(bytes.len())])?;
+    }
+    Ok(())
+}
+
+#[test]
+fn outputs_of_one_buffer_and_two(rt: HostRuntime) -> Result<(), Fail> {
+    let path = "devices_outputs.bin";
+    let bytes = distinct_bytes(rt.alloc(), 2 * BUFFER + 3)?;
+    assert!(rt; bytes.len() == 2 * BUFFER + 3);
+    for pages in 1..=32 {
+        let end = pages * 4096;
+        hold_what_was_written(&rt, path, bytes.as_slice(), (end - 3, end + 3))?;
+    }
+    fs::remove_file(&rt, path)?;
+    Ok(())
+}
+
+#[test]
+fn outputs_of_many_lengths(rt: HostRuntime) -> Result<(), Fail> {
+    let path = "devices_short_outputs.bin";
+    let bytes = distinct_bytes(rt.alloc(), 2 * BUFFER)?;
+    hold_what_was_written(&rt, path, bytes.as_slice(), (0, MOST))?;
+    for parts in 2..=131 {
+        let len = parts * 997;
+        hold_what_was_written(&rt, path, bytes.as_slice(), (len, len))?;
+    }
+    fs::remove_file(&rt, path)?;
+    Ok(())
+}
+
+/// Creates an output of the system at the path, closes it, opens it as a source and as a text, and removes it.
+fn is_created<R: Files<File = File>>(
+    rt: &R,
+    outputs: &mut SystemOutputs<'_, R>,
+    path: &str,
+) -> Result<(), Fail> {
+    let output = outputs.create(path)?;
+    outputs.close(path, output)?;
+    let mut files = SystemFiles::new(rt);
+    let source = files.open(path)?;
+    files.close(source);
+    let text = files.open_text(path)?;
+    files.close_text(text);
+    fs::remove_file(rt, path)?;
+    Ok(())
+}
+
+#[test]
+fn files_of_the_system_at_paths_of_every_length(rt: HostRuntime) -> Result<(), Fail> {
+    let mut outputs = SystemOutputs::new(&rt, rt.alloc());
+    let mut path = String::new(rt.alloc());
+    for _ in 1..=200 {
+        path.push('a')?;
+        is_created(&rt, &mut outputs, path.as_str())?;
+    }
+    Ok(())
+}

@@ -1,0 +1,61 @@
+#!/usr/bin/env bash
+# Runs bin/ncdump and bin/ncgen under strace on files and texts of some 100,000 bytes, and counts their calls of the system: each reads
+# and writes large parts. Without strace, nothing is tried.
+set -u
+. "$(dirname "$0")/verdicts.sh"
+
+if ! strace -o "$work/calls" true 2>"$work/said"; then
+    echo "skipped: $(cat "$work/said")"
+    exit 0
+fi
+
+# calls NAME CALL MOST FILE COMMAND..: the command does what is wanted, and once it has opened the file, it makes at most MOST calls of
+# this kind, and one at least.
+calls() {
+    run strace -qq -e "trace=/^(open|openat|$2)\$" -o "$work/calls" "${@:5}"
+    count=$(sed -n "/^open.*\"$4\"/,\$p" "$work/calls" | grep -c "^$2(")
+    if [ "$count" -lt 1 ] || [ "$count" -gt "$3" ]; then echo "$count calls of $2, where 1 to $3 are allowed" >>"$work/got/stderr"; fi
+    verdict "$1" 0
+}
+
+# generated NAME: bin/ncgen makes a file of the text NAME.cdl, and has read and written large parts.
+generated() {
+    calls "reads_of_text_of_$1" read 4 "$1.cdl" "$ncgen" -o "$1.nc" "$1.cdl"
+    calls "writes_of_file_of_$1" write 4 "$1.cdl" "$ncgen" -o "$1.nc" "$1.cdl"
+}
+
+# dumped NAME: bin/ncdump dumps the file NAME.nc as the text NAME.cdl, and has read and written large parts.
+dumped() {
+    cp "$1.cdl" "$work/want/stdout"
+    calls "reads_of_file_of_$1" pread64 20 "$1.nc" "$ncdump" "$1.nc"
+    cp "$1.cdl" "$work/want/stdout"
+    calls "writes_of_dump_of_$1" write 4 "$1.nc" "$ncdump" "$1.nc"
+}
+
+# tenfold COUNT: rows of ten numbers, as values of a variable.
+tenfold() {
+    yes '  1, 2, 3, 4, 5, 6, 7, 8, 9, 10,' | head -n $(($1 - 1))
+    printf '  1, 2, 3, 4, 5, 6, 7, 8, 9, 10 ;\n'
+}
+
+{
+    printf 'netcdf numbers {\ndimensions:\n\ty = 3000 ;\n\tx = 10 ;\nvariables:\n\tint v(y, x) ;\ndata:\n\n v =\n'
+    tenfold 3000 && echo '}'
+} >numbers.cdl
+{
+    printf 'netcdf records {\ndimensions:\n\tt = UNLIMITED ; // (1500 currently)\n\tx = 10 ;\nvariables:\n\tint v(t, x) ;\n\tint w(t, x) ;\n'
+    printf 'data:\n\n v =\n' && tenfold 1500 && printf '\n w =\n' && tenfold 1500 && echo '}'
+} >records.cdl
+{
+    printf 'netcdf characters {\ndimensions:\n\tx = 100000 ;\nvariables:\n\tchar c(x) ;\ndata:\n\n c = "'
+    zeros 100000 | tr '\000' a && printf '" ;\n}\n'
+} >characters.cdl
+{
+    printf 'netcdf attribute {\n\n// global attributes:\n\t\t:note = "'
+    zeros 100000 | tr '\000' a && printf '" ;\n}\n'
+} >attribute.cdl
+for name in numbers records characters attribute; do
+    generated "$name"
+    dumped "$name"
+done
+summary

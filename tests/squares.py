@@ -1,0 +1,236 @@
+#!/usr/bin/env python3
+"""Gives the built programs texts and files of many parts of one kind, and asks that their time doesn't grow with a square.
+
+    tests/squares.py
+
+Each text is generated, and each file that is made so is dumped, with n parts and with 4n. The processor time for 4n has to keep a
+bound, far above what it takes, and to be less than 8 times that for n, or than 8 times FLOOR. A time that grows in step with the parts
+is 4 times as long, and one that grows with their square 16 times. The last line is 'N passed, M failed'.
+"""
+
+import math
+import os
+import resource
+import subprocess
+import sys
+import tempfile
+from pathlib import Path
+
+BIN = Path(__file__).resolve().parent.parent / "bin"
+# seconds of processor time below which no growth is asked for
+FLOOR = 0.01
+# how often each time is taken; the least counts
+TIMES = 5
+# letters of which no name is a word of CDL
+LETTERS = "abcdefghjklmnopqrstuvwxyzABCDEFGHIJKLMNOPQRSTUVWXYZ"
+
+
+def name(number):
+    """A name of three letters, of which each number has another."""
+    more, last = divmod(number, len(LETTERS))
+    first, middle = divmod(more, len(LETTERS))
+    return LETTERS[first] + LETTERS[middle] + LETTERS[last]
+
+
+def each(form, count, between=""):
+    """The form for each number below the count, with the number in place of its braces."""
+    return between.join(form.format(number) for number in range(count))
+
+
+def dataset(dims="", variables="", values="", atts=""):
+    parts = [("", atts), ("dimensions:\n", dims), ("variables:\n", variables), ("data:\n", values)]
+    return "netcdf t {\n" + "".join(mark + part + "\n" for mark, part in parts if part) + "}\n"
+
+
+def escapes(n):
+    return dataset(atts=':a = "' + r"\x61\n\101\"" * (n // 4) + '" ;')
+
+
+def characters(n):
+    return dataset(atts=':a = "' + "a" * n + '" ;')
+
+
+def strings(n):
+    return dataset(atts=":a = " + each('"a{}\\n"', n, ", ") + " ;")
+
+
+def numbers_of_an_attribute(n):
+    return dataset(atts=":a = " + each("{}", n, ", ") + " ;")
+
+
+def dimensions(n):
+    return dataset(dims=each("d{} = 2", n, ", ") + " ;")
+
+
+def dimension_statements(n):
+    return dataset(dims=each("d{} = 2 ; ", n))
+
+
+def attributes(n):
+    return dataset(atts=each(':a{} = "x" ;\n', n))
+
+
+def attributes_of_numbers(n):
+    return dataset(variables="int v ;\n" + each("v:a{0} = {0}, 1, 2, 3 ;\n", n))
+
+
+def comment(n):
+    return dataset(atts="//" + "/" * n + "\n:a = 1 ;")
+
+
+def comments(n):
+    return dataset(atts="// x\n" * n + ":a = 1 ;")
+
+
+def blanks(n):
+    return dataset(atts=" \n" * n + ":a = 1 ;")
+
+
+def opening(n):
+    return "netcdf " + "t" * n + " {\n}\n"
+
+
+def named_variables(n):
+    return dataset(variables="".join(f"byte {name(number)} ;\n" for number in range(n)))
+
+
+def all_names(n):
+    return ["-v", ",".join(map(name, range(n)))]
+
+
+def record_variables(n):
+    values = each("v{} = 1, 2 ;\n", n)
+    return dataset("t = UNLIMITED ;", each("short v{}(t) ;\n", n), values)
+
+
+def variables_of_one_statement(n):
+    return dataset("x = 2 ;", "int " + each("v{}(x)", n, ", ") + " ;")
+
+
+def shapes(n):
+    dims = each("d{} = 1 ;\n", n)
+    variables = each("byte v{0}(d{0}, d0, d{0}) ;\n", n)
+    return dataset(dims, variables)
+
+
+def shape(n):
+    return dataset(each("d{} = 1 ;\n", n), "byte v(" + each("d{}", n, ", ") + ") ;", "v = 5 ;")
+
+
+def numbers(n):
+    return dataset(f"x = {n} ;", "int v(x) ;", "v = " + each("{}", n, ", ") + " ;")
+
+
+def fill_values(n):
+    return dataset(f"x = {n} ;", "int v(x) ;", "v = " + "_, " * (n - 1) + "_ ;")
+
+
+def rows(n):
+    return dataset(f"t = {n}, x = 3 ;", "char c(t, x) ;", "c = " + '"ab", ' * (n - 1) + '"c" ;')
+
+
+def records_of_rows(n):
+    return dataset("t = UNLIMITED, x = 3 ;", "char c(t, x) ;", "c = " + '"ab", ' * (n - 1) + '"c" ;')
+
+
+# what has many parts, n, and the seconds that generating 4n parts and dumping them may take
+KINDS = {
+    escapes: (100_000, 1, 1),
+    characters: (1_000_000, 1, 1),
+    strings: (50_000, 1.5, 1),
+    numbers_of_an_attribute: (50_000, 1, 1),
+    dimensions: (10_000, 1.5, 1),
+    dimension_statements: (10_000, 1.5, 1),
+    attributes: (20_000, 5, 1),
+    attributes_of_numbers: (20_000, 6, 2),
+    comment: (1_000_000, 1, 1),
+    comments: (200_000, 1.5, 1),
+    blanks: (500_000, 1, 1),
+    opening: (1_000_000, 1, 1),
+    named_variables: (5_000, 1, 1),
+    record_variables: (20_000, 6, 3),
+    variables_of_one_statement: (20_000, 4, 2),
+    shapes: (20_000, 8, 5),
+    shape: (5_000, 1, 1),
+    numbers: (100_000, 1, 1),
+    fill_values: (100_000, 1, 1),
+    rows: (50_000, 1, 1),
+    records_of_rows: (50_000, 1, 1),
+}
+# the words of a dump, if they are more than the path
+WORDS = {named_variables: all_names}
+
+
+class Broken(Exception):
+    """Something that has to hold doesn't."""
+
+
+def spent(seconds, *words):
+    """The processor time that the program takes, which is stopped once it has spent more than these seconds."""
+
+    def limited():
+        most = math.ceil(seconds)
+        resource.setrlimit(resource.RLIMIT_CPU, (most, most + 1))
+
+    times = []
+    for _ in range(TIMES):
+        child = subprocess.Popen(words, stdout=subprocess.DEVNULL, preexec_fn=limited)
+        _, status, usage = os.wait4(child.pid, 0)
+        child.returncode = os.waitstatus_to_exitcode(status)
+        if child.returncode < 0:
+            raise Broken(f"stopped after {usage.ru_utime + usage.ru_stime:.3f} s, where {seconds} s are allowed")
+        if child.returncode > 0:
+            raise Broken(f"status {child.returncode}")
+        times.append(usage.ru_utime + usage.ru_stime)
+    return min(times)
+
+
+def compared(few, many, seconds):
+    """The two times in words. They keep the bound, and don't grow with a square."""
+    said = f"{few:.3f} s and {many:.3f} s"
+    if many > seconds:
+        raise Broken(f"{said}, where {seconds} s are allowed")
+    if many >= 8 * max(few, FLOOR):
+        raise Broken(f"{said}: the time grows with more than the parts")
+    return said
+
+
+def made(kind, n, seconds):
+    """The time in which the text of n parts is generated."""
+    Path("many.cdl").write_text(kind(n))
+    return spent(seconds, BIN / "ncgen", "-k", "nc6", "-o", "many.nc", "many.cdl")
+
+
+def dumped(kind, n, seconds):
+    """The time in which the file of the last text is dumped."""
+    words = WORDS[kind](n) if kind in WORDS else []
+    return spent(seconds, BIN / "ncdump", *words, "many.nc")
+
+
+def times(kind):
+    """The times for n parts and for 4n: of ncgen, and of ncdump."""
+    n, to_make, to_dump = KINDS[kind]
+    few = made(kind, n, to_make), dumped(kind, n, to_dump)
+    many = made(kind, 4 * n, to_make), dumped(kind, 4 * n, to_dump)
+    generated = compared(few[0], many[0], to_make)
+    return f"{generated} generated, {compared(few[1], many[1], to_dump)} dumped"
+
+
+def main():
+    failed = 0
+    with tempfile.TemporaryDirectory() as folder:
+        os.chdir(folder)
+        for kind in KINDS:
+            what = kind.__name__
+            try:
+                print(f"ok {what}: {times(kind)}")
+            except Broken as why:
+                failed += 1
+                print(f"FAILED {what}: {why}")
+        os.chdir("/")
+    print(f"{len(KINDS) - failed} passed, {failed} failed")
+    return 1 if failed else 0
+
+
+if __name__ == "__main__":
+    sys.exit(main())
