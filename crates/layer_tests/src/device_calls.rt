@@ -61,6 +61,19 @@ impl Write for Refusing {
     }
 }
 
+/// A reader that refuses each call, and counts them.
+#[derive(Drop)]
+struct Unreadable {
+    calls: u32,
+}
+
+impl io::Read for Unreadable {
+    fn read(&mut self, _into: &mut [u8]) -> io::Result<usize> {
+        self.calls = self.calls.saturating_add(1);
+        Err(ErrorKind::Interrupted.into())
+    }
+}
+
 /// A sink that counts its failures and does nothing else.
 #[derive(Drop)]
 struct Failing {
@@ -127,6 +140,16 @@ fn each_of_many_reads_hands_over(rt: HostRuntime) {
         assert!(rt; reader.read_some(&mut into) == Ok(1));
     }
     assert!(rt; reader.read_some(&mut into) == Ok(0));
+}
+
+#[test]
+fn each_failed_read_is_counted(rt: HostRuntime) {
+    let mut reader = CountedRead::new(Unreadable { calls: 0 });
+    let mut into = [0; 4];
+    for failures in 1..10 {
+        assert!(rt; reader.read_some(&mut into) == Err(SourceFailed));
+        assert!(rt; reader.failures() == failures);
+    }
 }
 
 #[test]
