@@ -74,6 +74,20 @@ impl io::Read for Unreadable {
     }
 }
 
+/// A reader that has nothing at its first call, and a byte at each later one.
+#[derive(Drop)]
+struct Late {
+    calls: u32,
+}
+
+impl io::Read for Late {
+    fn read(&mut self, into: &mut [u8]) -> io::Result<usize> {
+        let most = self.calls.min(1) as usize;
+        self.calls = self.calls.saturating_add(1);
+        Ok(into.len().min(most))
+    }
+}
+
 /// A sink that counts its failures and does nothing else.
 #[derive(Drop)]
 struct Failing {
@@ -150,6 +164,14 @@ fn each_failed_read_is_counted(rt: HostRuntime) {
         assert!(rt; reader.read_some(&mut into) == Err(SourceFailed));
         assert!(rt; reader.failures() == failures);
     }
+}
+
+#[test]
+fn reader_at_its_end_is_not_read_again(rt: HostRuntime) {
+    let mut reader = CountedRead::new(Late { calls: 0 });
+    let mut into = [0; 7];
+    assert!(rt; reader.read_some(&mut into) == Ok(0));
+    assert!(rt; reader.read_some(&mut into) == Ok(0));
 }
 
 #[test]
