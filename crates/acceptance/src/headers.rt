@@ -211,6 +211,16 @@ fn changed_headers(rt: HostRuntime) -> Result<(), Fail> {
 }
 
 #[test]
+fn counts_and_offsets_at_their_limits(rt: HostRuntime) -> Result<(), Fail> {
+    const LIMIT: &[u8] = b"\x80\0\0\0";
+    let count = files::patched(rt.alloc(), files::GENERATED, 24, LIMIT)?;
+    refused(&rt, rt.alloc(), count.as_slice(), FormatFault::BadCount);
+    let offset = files::patched(rt.alloc(), files::GENERATED, 76, LIMIT)?;
+    refused(&rt, rt.alloc(), offset.as_slice(), FormatFault::BadOffset);
+    Ok(())
+}
+
+#[test]
 fn cdf5_headers(rt: HostRuntime) -> Result<(), Fail> {
     const ROWS: &[Changed] = &[(files::SMALLEST_CDF5, 4, 0x80, FormatFault::BadCount)];
     let hostile = files::HOSTILE_COUNT_CDF5;
