@@ -3,11 +3,12 @@
 
     tests/definitions.py [NAME ...]
 
-Each tests/definitions/NAME.edit is a wrong text, token or meaning, in the format of the edits in crates/*/must-fail, but with
-paths from the top of the repository: those edits are tried in their own crate alone, and the laws that join a dump to what is
-read of it stand in cdl_laws, above the definitions. They are proved here over the sources of the crates below, without the
-functions of these: so it is a law that refuses, or a lemma on its way. Worked examples are left out of the copy for the same
-reason. The last line is 'N passed, M failed'.
+Each tests/definitions/NAME.edit is a wrong text, token, meaning, file or header, in the format of the edits in
+crates/*/must-fail, but with paths from the top of the repository: those edits are tried in their own crate alone, and the laws
+stand above the definitions. A line 'law: CRATE LAW' names the law that has to refuse; where there is none, any law of cdl_laws
+may, where those stand that join a dump to what is read of it. The laws are proved here over the sources of the crates below,
+without the functions of these: so it is a law that refuses, or a lemma on its way. Worked examples are left out of the copy for
+the same reason. The last line is 'N passed, M failed'.
 """
 
 import re
@@ -20,9 +21,8 @@ from pathlib import Path
 import prover
 
 EDITS = prover.TOP / "tests" / "definitions"
+# the crate of the laws that have to refuse an edit which names none
 LAWS = "cdl_laws"
-# the crates whose definitions the laws are about, from the lowest
-BELOW = ["nc_base", "cdl_tokens", "cdl_text", "cdl_meaning"]
 # the files of worked examples, which no other file cites
 EXAMPLES = ["Examples", "FileExamples", "Samples", "Refused", "Generated", "GeneratedCdf5", "ByteClasses", "TokensOfTexts", "Misplaced", "Meanings"]
 # what the prover says of a text that it can't read, or that names what isn't there
@@ -57,21 +57,36 @@ def apply(edit, top):
             path.write_text(text.replace(old, rest))
 
 
-def laws_with(edit):
-    """What the prover says of the laws where an edit is applied, or None where nothing is changed."""
+def law_of(edit):
+    """The crate of the law that has to refuse an edit, and the law's name, or None where it may be any."""
+    found = re.search(r"^law: (\w+) (\w+)$", edit.read_text(), re.M)
+    return found.groups() if found else (LAWS, None)
+
+
+def below(crate):
+    """The crates that a crate stands on, from the lowest, and the libraries of the kit that it and they need."""
+    needed = set(prover.below([crate]))
+    crates = [it for it in prover.stands_on() if it in needed]
+    return crates, sorted(needed - set(crates))
+
+
+def laws_with(crate, edit):
+    """What the prover says of the laws of a crate where an edit is applied, or None where nothing is changed."""
+    crates, libraries = below(crate)
     with tempfile.TemporaryDirectory() as folder:
-        for crate in [*BELOW, LAWS]:
-            copy_crate(crate, Path(folder, "crates", crate))
+        for each in [*crates, crate]:
+            copy_crate(each, Path(folder, "crates", each))
         if edit:
             apply(edit, Path(folder))
-        words = [*prover.check_words(LAWS), *prover.built(["std"]), *prover.sources(BELOW), "--only", "laws"]
-        return prover.said(words, Path(folder, "crates", LAWS))
+        words = [*prover.check_words(crate), *prover.built(["std", *libraries]), *prover.sources(crates), "--only", "laws"]
+        return prover.said(words, Path(folder, "crates", crate))
 
 
 def verdict(edit):
     """Tries one edit. Returns whether it was refused, and a line that says so."""
+    crate, law = law_of(edit)
     try:
-        said = laws_with(edit)
+        said = laws_with(crate, edit)
     except ValueError as why:
         return False, f"{edit.stem}: BAD EDIT: {why}"
     refused = re.findall(r"^fn \w+::laws::(\w+): (?!proved)", said, re.M)
@@ -80,19 +95,27 @@ def verdict(edit):
         return False, f"{edit.stem}: NOT REFUSED: every law is still proved"
     if not refused or not errors or UNREAD.search(errors[0]) and "proofs/" not in errors[0]:
         return False, f"{edit.stem}: BAD EDIT: the laws did not reach the prover: {(errors or [said[-200:]])[0][:300]}"
+    if law and law not in refused:
+        return False, f"{edit.stem}: NOT REFUSED by {law}, but by {' '.join(refused)}"
     return True, f"{edit.stem}: refused, as it must be: {' '.join(refused)}"
+
+
+def unproved(crate):
+    """What is wrong with the laws of a crate where nothing is changed, or None."""
+    said = laws_with(crate, None)
+    return None if re.search(r"^only=(\d+) proved=\1$", said, re.M) else f"{crate}: its laws are not proved as they stand:\n{said[-2000:]}"
 
 
 def main():
     edits = sorted(EDITS.glob("*.edit"))
     if sys.argv[1:]:
         edits = [edit for edit in edits if edit.stem in sys.argv[1:]]
-    unchanged = laws_with(None)
-    if not re.search(r"^only=(\d+) proved=\1$", unchanged, re.M):
-        print(f"the laws are not proved as they stand:\n{unchanged[-2000:]}")
-        return 1
-    results = []
+    crates, results = sorted({law_of(edit)[0] for edit in edits}), []
     with ThreadPoolExecutor(prover.at_once()) as pool:
+        wrong = [it for it in pool.map(unproved, crates) if it]
+        if wrong:
+            print("\n".join(wrong))
+            return 1
         for result in pool.map(verdict, edits):
             results.append(result)
             print(result[1], flush=True)

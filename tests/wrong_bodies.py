@@ -1,15 +1,32 @@
 #!/usr/bin/env python3
-"""Puts wrong bodies into the crates, and asks whether the contracts refuse each of them.
+"""Puts wrong bodies into the crates, and asks whether each of them is refused, and why.
 
     tests/wrong_bodies.py [CRATE ...]
+    tests/wrong_bodies.py --tests [N]
 
-crates/CRATE/wrong-bodies/NAME.edit changes the body of one function, in the format of crates/CRATE/must-fail. A function is proved
-over the contracts of what it calls and never over their bodies, so a body is refused or not whatever the other bodies are. Wrong
-bodies of different functions are therefore tried in one check, which takes a fifth of the time that a check for each takes. Each
-changed function has to be refused for itself, not because it calls one that is refused, and what it calls has to be proved. What
-the check stands on are the crates below as rt ci has built them. The last line is 'N passed, M failed'.
+The first form asks the prover. crates/CRATE/wrong-bodies/NAME.edit changes the body of one function (`edits.py` has the format). A
+function is proved over the contracts of what it calls and never over their bodies, so a body is refused or not whatever the other
+bodies are. Wrong bodies of different functions are therefore tried in one check, which takes a fifth of the time that a check for
+each takes. Each changed function has to be refused for itself, not because it calls one that is refused, and what it calls has to
+be proved. What the check stands on are the crates below as rt ci has built them.
+
+That a function isn't proved shows nothing by itself: a right body of another shape isn't proved by the stored proof either. So a
+body counts as refused by its contract only where the prover says so of a goal, and every stored answer to the function's other
+goals still fits:
+
+- it finds values that all known facts allow, and at which the goal is false; or
+- it has searched for a proof of the goal to the end, and there is none that it can find. (Where the body is right it finds one,
+  or one is stored.)
+
+Else only a proof doesn't fit: a stored one names what is gone, or has another type, or the search gave up at one of its limits.
+Then the edit has to name a test, which fails under it.
+
+The second form runs these tests, with the edit and without (`named_tests.py`): those of all edits, or of N edits that the day's
+date draws. The last line of both forms is 'N passed, M failed'.
 """
 
+import datetime
+import random
 import re
 import shutil
 import sys
@@ -17,80 +34,50 @@ import tempfile
 from concurrent.futures import ThreadPoolExecutor
 from pathlib import Path
 
+import named_tests
 import prover
+from edits import BadEdit, apply, crates_with_edits, edits_of
 from prover import CRATES
 
 # the prover's line on a function
 VERDICT = re.compile(r"^fn (\S+): (.+)$", re.M)
 # an answer to a goal of the function itself doesn't hold, or the goal stayed open: else the function waits for one that it calls
 OWN = re.compile(r"not proved|no proof: .*did not prove")
-FUNCTION = re.compile(r"^( *)(?:pub(?:\(\w+\))? )?(?:const )?fn (\w+)", re.M)
-IMPL = re.compile(r"^impl\b(?:<[^{]*?>)? (?:(\w+)(?:<([\w:]*)[^{]*>)? for )?(\w+)", re.M)
+# a goal that stayed open, and what the search for a proof came to; such lines stand right before the line on their function
+OPEN = re.compile(r"^note: src/\S+ it is not proved that .*\((`\S+`)\)(.*)$")
+FALSE = "the facts known there allow values at which this goal is false"
 
 
-class BadEdit(Exception):
-    """An edit that can't be applied."""
+class Said:
+    """What the prover said of the functions of a round."""
 
+    def __init__(self, crate, text):
+        self.verdicts, self.goals = {}, {}
+        open_goals = []
+        for line in text.splitlines():
+            goal, verdict = OPEN.match(line), VERDICT.match(line)
+            if goal:
+                open_goals.append(goal.groups())
+            elif verdict:
+                self.verdicts[verdict[1]] = verdict[2]
+                self.goals[verdict[1]] = open_goals
+                open_goals = []
+        wrong = re.findall(r"^\./proofs/(\S+?)/\w+\.antt:\S+ error", text, re.M)
+        self.unfit = {f"{crate}::{it.replace('/', '::')}" for it in wrong}
 
-class Edit:
-    """A wrong body: what it changes, at which places of which files, and the functions that stand there."""
+    def refused(self):
+        """The functions that are not proved for themselves."""
+        return [name for name, verdict in self.verdicts.items() if OWN.match(verdict)]
 
-    def __init__(self, crate, path):
-        self.name = path.stem
-        self.changes = [(file, *place_of(crate, file, old), new) for file, old, new in read_pairs(path)]
-        # what can't be changed twice in a round: a function, or a line outside of all
-        self.changed = {function_at(crate, file, start) or (file, start) for file, start, _, _ in self.changes}
-        self.functions = {it for it in self.changed if isinstance(it, str)}
-
-
-def apply(edits, folder):
-    """Changes a copy of the crate."""
-    changes = sorted((it for edit in edits for it in edit.changes), key=lambda it: it[1], reverse=True)
-    for file, start, end, new in changes:
-        text = (folder / file).read_text()
-        (folder / file).write_text(text[:start] + new + text[end:])
-
-
-def read_pairs(path):
-    """The changes of an edit: a file, what stands there, and what is put in its place."""
-    file, old, pairs = None, None, []
-    for line in path.read_text().splitlines():
-        word, _, rest = line.partition(": ")
-        if word == "file":
-            file = rest
-        elif word == "old":
-            old = rest
-        elif word.rstrip(":") == "new":
-            pairs.append((file, old, rest))
-    if not pairs:
-        raise BadEdit(f"{path.name}: it has no pair of an old and a new text")
-    return pairs
-
-
-def place_of(crate, file, old):
-    """Where a text stands in a file: once, or once as a whole line."""
-    text = (CRATES / crate / file).read_text()
-    found = [it.span() for it in re.finditer(re.escape(old), text)]
-    if len(found) != 1:
-        found = [it.span() for it in re.finditer(f"^{re.escape(old)}$", text, re.M)]
-    if len(found) != 1:
-        raise BadEdit(f"{crate}: an 'old' doesn't stand in {file} just once: {old}")
-    return found[0]
-
-
-def function_at(crate, file, place):
-    """The end of the prover's name of the function that stands at a place of a file, or None at a place before all."""
-    text = (CRATES / crate / file).read_text()
-    before = [it for it in FUNCTION.finditer(text) if it.start() <= place]
-    if not before:
-        return None
-    indent, name = before[-1].groups()
-    if indent:
-        # the prover says in which module the type stands, and not where this part of it does
-        trait, of, type_name = [it for it in IMPL.finditer(text) if it.start() < before[-1].start()][-1].groups()
-        of = "".join(it[0].upper() + it[1:] for it in (of or "").split("::") if it)
-        return f"{type_name}{trait or ''}{of}::{name}"
-    return "::".join([*(it for it in Path(file).with_suffix("").parts[1:] if it != "lib"), name])
+    def why(self, function):
+        """What the prover says of a goal of a function, or None where only a proof doesn't fit."""
+        if function in self.unfit:
+            return None
+        false = [goal for goal, end in self.goals[function] if FALSE in end]
+        still_open = [goal for goal, end in self.goals[function] if not end]
+        if false:
+            return f"false at values that it allows: {false[0]} of {function}"
+        return f"a goal stays open: {still_open[0]} of {function}" if still_open else None
 
 
 def rounds_of(edits):
@@ -112,18 +99,29 @@ def is_of(name, function):
     return name.endswith(f"::{function}") or f"::{inside}" in name
 
 
-def judge(crate, edits, said):
+def verdict_on(edit, said, found):
+    """Whether an edit was refused, of which these functions are not proved, and a line on it."""
+    why = next((it for it in map(said.why, found) if it), None)
+    if not found:
+        return False, f"{edit}: NOT REFUSED: {' '.join(edit.functions)} is still proved"
+    if why:
+        return True, f"{edit}: refused by its contract: {why}"
+    if edit.test:
+        return True, f"{edit}: refused by its test alone: {' '.join(edit.test)}"
+    return False, f"{edit}: NO TEST: only a proof doesn't fit: {said.verdicts[found[0]]}"
+
+
+def judge(crate, edits, text):
     """Whether each edit of a round was refused, and a line on each."""
-    verdicts = VERDICT.findall(said)
-    if not verdicts or not said.splitlines()[-1].startswith("only="):
-        errors = [line for line in said.splitlines() if "error" in line] or said.splitlines()[-3:]
-        return [(False, f"{crate}/{it.name}: BAD EDIT: the round did not reach the prover: {errors[0][:300]}") for it in edits]
-    refused, lines = [name for name, verdict in verdicts if OWN.match(verdict)], []
+    said = Said(crate, text)
+    if not said.verdicts or not text.splitlines()[-1].startswith("only="):
+        errors = [line for line in text.splitlines() if "error" in line] or text.splitlines()[-3:]
+        return [(False, f"{it}: BAD EDIT: the round did not reach the prover: {errors[0][:300]}") for it in edits]
+    refused, lines = said.refused(), []
     for edit in edits:
         found = [name for name in refused if any(is_of(name, it) for it in edit.functions)]
         refused = [name for name in refused if name not in found]
-        verdict = f"refused, as it must be: {found[0]}" if found else f"NOT REFUSED: {' '.join(edit.functions)} is still proved"
-        lines.append((bool(found), f"{crate}/{edit.name}: {verdict}"))
+        lines.append(verdict_on(edit, said, found))
     return lines + [(False, f"{crate}: {name} isn't proved, and no edit changes it") for name in refused]
 
 
@@ -144,7 +142,7 @@ def try_crate(crate):
     """Tries the wrong bodies of a crate, in as many checks as the function with the most of them needs."""
     results = []
     try:
-        edits = [Edit(crate, path) for path in sorted((CRATES / crate / "wrong-bodies").glob("*.edit"))]
+        edits = edits_of([crate])
     except BadEdit as why:
         return [(False, f"BAD EDIT: {why}")]
     with tempfile.TemporaryDirectory() as kept:
@@ -155,12 +153,34 @@ def try_crate(crate):
     return results
 
 
-def main():
-    crates = sorted({path.parent.parent.name for path in CRATES.glob("*/wrong-bodies/*.edit")})
-    crates = [it for it in crates if it in sys.argv[1:]] if sys.argv[1:] else crates
-    crates.sort(key=lambda it: -len(list((CRATES / it / "wrong-bodies").glob("*.edit"))))
+def try_crates(crates):
+    """Tries the wrong bodies of these crates, several crates at once."""
+    crates = sorted(crates, key=lambda it: -len(list((CRATES / it / "wrong-bodies").glob("*.edit"))))
     with ThreadPoolExecutor(prover.at_once()) as pool:
         results = [it for part in pool.map(try_crate, crates) for it in part]
+    by_contract = sum(is_refused and "by its contract" in line for is_refused, line in results)
+    by_test = sum(is_refused and "by its test alone" in line for is_refused, line in results)
+    print(f"refused by their contracts: {by_contract}; by the tests that they name, which --tests runs: {by_test}")
+    return results
+
+
+def try_tests(count):
+    """Runs the tests that the edits name, or those of so many edits."""
+    try:
+        edits = [it for it in edits_of(crates_with_edits()) if it.test]
+    except BadEdit as why:
+        return [(False, f"BAD EDIT: {why}")]
+    if count is not None:
+        edits = random.Random(datetime.date.today().isoformat()).sample(edits, min(count, len(edits)))
+    return named_tests.run(edits)
+
+
+def main():
+    words = sys.argv[1:]
+    if words[:1] == ["--tests"]:
+        results = try_tests(int(words[1]) if words[1:] else None)
+    else:
+        results = try_crates([it for it in crates_with_edits() if it in words] if words else crates_with_edits())
     for is_well, line in results:
         if not is_well:
             print(line)

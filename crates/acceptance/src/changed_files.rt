@@ -33,6 +33,21 @@ fn padding_and_vsize_are_not_looked_at(rt: HostRuntime) -> Result<(), Fail> {
 }
 
 #[test]
+fn a_wrong_vsize_of_a_record_variable_is_not_looked_at(rt: HostRuntime) -> Result<(), Fail> {
+    const PLACE: (usize, &[u8]) = (112, b"\x7f\xff\xff\xff\xff\xff\xff\xff");
+    const TEXT: &[u8] =
+        b"netcdf t {\ndimensions:\n\tt = UNLIMITED ; // (3 currently)\nvariables:\n\tubyte b(t) ;\ndata:\n\n b = 255, 254, 1 ;\n}\n";
+    dumps_with(
+        &rt,
+        rt.alloc(),
+        files::UNSIGNED_RECORDS,
+        PLACE,
+        Ok(()),
+        TEXT,
+    )
+}
+
+#[test]
 fn an_offset_with_its_top_bit_set(rt: HostRuntime) -> Result<(), Fail> {
     const PLACE: (usize, &[u8]) = (76, b"\x80\0\0\0\0\0\0\0");
     let answer = Err(DumpFault::Format(FormatFault::BadOffset));

@@ -7,6 +7,7 @@ use crate::files;
 use crate::reading::{ends, gives, header_through, walk_over};
 use crate::rows::GENERATED_TEXT;
 use crate::runs::{dumps_through, options};
+use devices::ReadAhead;
 use nc_base::FormatFault;
 use nc_file::{HeadFault, MemSource, Source, SourceFailed};
 use nc_walk::WalkFault;
@@ -122,4 +123,12 @@ fn walks_over_cut_sources(rt: HostRuntime) -> Result<(), Fail> {
         Err(WalkFault::DataTruncated(1)),
     );
     Ok(())
+}
+
+#[test]
+fn nothing_is_read_ahead_past_the_cut(rt: HostRuntime) {
+    let mut source = ReadAhead::new(cut(files::GENERATED, 40));
+    let mut into = [0; 16];
+    assert!(rt; 40 < source.len());
+    assert!(rt; source.read_at(40, &mut into) == Ok(0));
 }

@@ -189,19 +189,35 @@ fn changed_headers(rt: HostRuntime) -> Result<(), Fail> {
         (files::GENERATED, 11, 0x0b, FormatFault::BadTag),
         // No tag, and a count of 1.
         (files::GENERATED, 11, 0, FormatFault::BadCount),
-        // A name `/`.
+        // A name `/`, and a name `d/ta`.
         (files::GENERATED, 20, 0x2f, FormatFault::BadName),
-        // The type codes of `float` and of no type of CDF-1.
+        (files::ESCAPED_NAMES, 37, 0x2f, FormatFault::BadName),
+        // A second record dimension, two places after the first.
+        (files::THREE_VARIABLES, 51, 0, FormatFault::TwoRecordDims),
+        // The type codes of `float`, of `double` and of no type of CDF-1.
         (files::GENERATED, 71, 5, FormatFault::FloatingType),
+        (files::GENERATED, 71, 6, FormatFault::FloatingType),
         (files::GENERATED, 71, 7, FormatFault::BadType),
         // A dimension id that is no dimension's.
         (files::GENERATED, 59, 1, FormatFault::BadShape),
         (files::GENERATED, 56, 0x80, FormatFault::BadShape),
+        // The record dimension in the second place.
+        (files::RECORDS_OFF_BOUNDARY, 75, 0, FormatFault::BadShape),
         // An offset with its top bit set.
         (files::GENERATED, 76, 0x80, FormatFault::BadOffset),
         (files::GENERATED_CDF2, 76, 0x80, FormatFault::BadOffset),
     ];
     refuse_changed(&rt, rt.alloc(), ROWS)
+}
+
+#[test]
+fn counts_and_offsets_at_their_limits(rt: HostRuntime) -> Result<(), Fail> {
+    const LIMIT: &[u8] = b"\x80\0\0\0";
+    let count = files::patched(rt.alloc(), files::GENERATED, 24, LIMIT)?;
+    refused(&rt, rt.alloc(), count.as_slice(), FormatFault::BadCount);
+    let offset = files::patched(rt.alloc(), files::GENERATED, 76, LIMIT)?;
+    refused(&rt, rt.alloc(), offset.as_slice(), FormatFault::BadOffset);
+    Ok(())
 }
 
 #[test]

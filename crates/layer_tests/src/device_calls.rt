@@ -57,6 +57,33 @@ impl Write for Refusing {
     }
 }
 
+/// A reader that refuses each call, and counts them.
+#[derive(Drop)]
+struct Unreadable {
+    calls: u32,
+}
+
+impl io::Read for Unreadable {
+    fn read(&mut self, _into: &mut [u8]) -> io::Result<usize> {
+        self.calls = self.calls.saturating_add(1);
+        Err(ErrorKind::Interrupted.into())
+    }
+}
+
+/// A reader that has nothing at its first call, and a byte at each later one.
+#[derive(Drop)]
+struct Late {
+    calls: u32,
+}
+
+impl io::Read for Late {
+    fn read(&mut self, into: &mut [u8]) -> io::Result<usize> {
+        let most = self.calls.min(1) as usize;
+        self.calls = self.calls.saturating_add(1);
+        Ok(into.len().min(most))
+    }
+}
+
 /// A sink that counts its failures and does nothing else.
 #[derive(Drop)]
 struct Failing {
@@ -87,6 +114,24 @@ fn memory_hands_over_its_bytes(rt: HostRuntime) {
     let mut source = MemSource::new(b"abcdefg");
     assert!(rt; source.len() == 7);
     expect_reads(&rt, &mut source, 4, &READS);
+}
+
+#[test]
+fn each_failed_read_is_counted(rt: HostRuntime) {
+    let mut reader = CountedRead::new(Unreadable { calls: 0 });
+    let mut into = [0; 4];
+    for failures in 1..10 {
+        assert!(rt; reader.read_some(&mut into) == Err(SourceFailed));
+        assert!(rt; reader.failures() == failures);
+    }
+}
+
+#[test]
+fn reader_at_its_end_is_not_read_again(rt: HostRuntime) {
+    let mut reader = CountedRead::new(Late { calls: 0 });
+    let mut into = [0; 4];
+    assert!(rt; reader.read_some(&mut into) == Ok(0));
+    assert!(rt; reader.read_some(&mut into) == Ok(0));
 }
 
 #[test]

@@ -62,10 +62,10 @@ fn one_variable(alloc: Global, version: Version) -> Result<Header, AllocError> {
     header(alloc, version, &[(b"x", 3)], &[(b"s", &[0], NcType::Short)])
 }
 
-/// `byte a(x)` and `byte b(x)`, x = 2147483647.
-fn two_long_variables(alloc: Global, version: Version) -> Result<Header, AllocError> {
+/// `byte a(x)` and `byte b(x)`, x = `len`.
+fn two_variables_of(alloc: Global, version: Version, len: u64) -> Result<Header, AllocError> {
     const VARS: &[NamedShape] = &[(b"a", &[0], NcType::Byte), (b"b", &[0], NcType::Byte)];
-    header(alloc, version, &[(b"x", 2147483647)], VARS)
+    header(alloc, version, &[(b"x", len)], VARS)
 }
 
 /// `int a(x)`, x = 2147483647: a slab of 8589934588 bytes.
@@ -267,11 +267,15 @@ fn is_too_large(rt: &impl Abort, header: Header) -> bool {
 
 #[test]
 fn offsets_have_a_limit(rt: HostRuntime) -> Result<(), Fail> {
-    let cdf1 = two_long_variables(rt.alloc(), Version::Cdf1)?;
+    let cdf1 = two_variables_of(rt.alloc(), Version::Cdf1, 2147483647)?;
     expect_len(&rt, &cdf1, 116);
     assert!(rt; is_too_large(&rt, cdf1));
-    let cdf2 = two_long_variables(rt.alloc(), Version::Cdf2)?;
+    let cdf2 = two_variables_of(rt.alloc(), Version::Cdf2, 2147483647)?;
     expect_begins(&rt, cdf2, 124, &[124, 2147483772]);
+    let at_limit = two_variables_of(rt.alloc(), Version::Cdf1, 2147483532)?;
+    assert!(rt; is_too_large(&rt, at_limit));
+    let below = two_variables_of(rt.alloc(), Version::Cdf1, 2147483528)?;
+    expect_begins(&rt, below, 116, &[116, 2147483644]);
     Ok(())
 }
 
