@@ -8,8 +8,7 @@ ghost use Rattle.cdl_parse.specs.DeclaredDatasets.{or_too_large};
 
 use crate::declared_values::Declared;
 use crate::records::records_of;
-use cdl_values::Array;
-use nc_base::{Att, Dim, Header, NumRecs, Sequence, Var, Version, rec_size};
+use nc_base::{Att, Dim, Header, ListedArray, NumRecs, Sequence, Var, Version, rec_size};
 
 /// What a text with these dimensions, attributes, variables and listed values declares. There are as many records as the
 /// record variable has that lists the most.
@@ -21,7 +20,7 @@ pub fn finish(
     dims: Sequence<Dim>,
     gatts: Sequence<Att>,
     vars: Sequence<Var>,
-    listed: Vec<Array>,
+    listed: Vec<ListedArray>,
 ) -> Option<Declared>
     ensures { (s : State) → s.dims ≡ dims → s.gatts ≡ gatts → AllList dims vars listed.items s.drafts → AreShaped dims s.drafts → (line : ℕ) → finished version line (Ok s) ≡ or_too_large line result }
 {

@@ -22,8 +22,8 @@ use crate::finishing::finish;
 use crate::parse_error::ParseError;
 use crate::text_end::read_end;
 use cdl_text::{CdlFault, CdlKind, Cutter, Section};
-use cdl_values::{Array, NameIndex, targets_of};
-use nc_base::{Att, Dataset, Dim, Sequence, Var, Version};
+use cdl_values::{NameIndex, targets_of};
+use nc_base::{Att, Dataset, Dim, ListedArray, Sequence, Var, Version};
 use std::alloc::Global;
 
 /// The dataset that a CDL text means (the CDL chapter of the NetCDF User's Guide, and ncgen(1)).
@@ -101,7 +101,7 @@ struct Contents {
     gatts: Sequence<Att>,
     vars: Sequence<Var>,
     /// For each variable the listed values.
-    listed: Vec<Array>,
+    listed: Vec<ListedArray>,
 }
 
 /// Reads all statements of a text.
@@ -138,7 +138,7 @@ fn read_contents(alloc: Global, start: Cutter<'_>) -> Result<Contents, ParseErro
 #[derive(Drop)]
 struct Values<'a> {
     /// For each variable the listed values.
-    listed: Vec<Array>,
+    listed: Vec<ListedArray>,
     /// The section that the next statement stands in.
     section: Section,
     rest: Cutter<'a>,
