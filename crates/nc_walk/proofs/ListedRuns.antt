@@ -56,6 +56,15 @@ first-of-run bytes count fill n =
           ∙ ap (λ (k : ℕ). take (min len n) bytes ++ replicate k fill) none
     ]
 
+-- the same, as two pieces that are written
+pub run-pieces : (bytes : List ℕ) (count fill n listed filling : ℕ) → listed ≡ min (length bytes) n → filling ≡ min count (n - listed)
+    → take n (bytes ++ replicate count fill) ≡ take listed bytes ++ repeated (replicate 8 fill) filling
+run-pieces bytes count fill n listed filling is padded =
+    first-of-run bytes count fill n
+    ∙ ap (λ (k : ℕ). take k bytes ++ replicate (min count (n - k)) fill) (sym is)
+    ∙ ap (λ (k : ℕ). take listed bytes ++ replicate k fill) (sym padded)
+    ∙ ap (λ (b : List ℕ). take listed bytes ++ b) (sym (repeated-byte fill filling))
+
 -- what is left from a place on is the rest of a run, and what comes after it
 pub next-run : (filled bytes : List ℕ) (at end count fill k : ℕ) → StandAt filled at bytes count fill → k ≡ min (end - at) (length bytes + count)
     → take (end - at) (drop at filled) ≡ take (end - at) (bytes ++ replicate count fill) ++ take (end - (at + k)) (drop (at + k) filled)
