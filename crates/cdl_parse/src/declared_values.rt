@@ -84,7 +84,12 @@ fn whole_array(
 }
 
 /// The listed values of a variable, and `owed` fill values after them.
-fn filled(alloc: Global, var: &Var, listed: ListedArray, owed: u64) -> Result<Sequence<u8>, AllocError>
+fn filled(
+    alloc: Global,
+    var: &Var,
+    listed: ListedArray,
+    owed: u64,
+) -> Result<Sequence<u8>, AllocError>
     ensures { IfOk result (λ array. array ≡ listed ++ fills var.now owed) }
 {
     let fill = fill_bytes(alloc, var)?;

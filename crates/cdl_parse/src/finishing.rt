@@ -1,6 +1,6 @@
 //! The end of a text: the number of records, and the limits on sizes.
 
-ghost use Rattle.std.specs.Prelude.{◌≡◌, ℕ, Ok};
+ghost use Rattle.std.specs.Prelude.{◌≡◌, ℕ, IfSome, Ok};
 ghost use Rattle.cdl_meaning.specs.Meaning.{finished};
 ghost use Rattle.cdl_meaning.specs.State.{State};
 ghost use Rattle.cdl_values.specs.Listed.{AllList, AreShaped};
@@ -22,7 +22,8 @@ pub fn finish(
     vars: Sequence<Var>,
     listed: Vec<ListedArray>,
 ) -> Option<Declared>
-    ensures { (s : State) → s.dims ≡ dims → s.gatts ≡ gatts → AllList dims vars listed.items s.drafts → AreShaped dims s.drafts → (line : ℕ) → finished version line (Ok s) ≡ or_too_large line result }
+    ensures declares { (s : State) → s.dims ≡ dims → s.gatts ≡ gatts → AllList dims vars listed.items s.drafts → AreShaped dims s.drafts → (line : ℕ) → finished version line (Ok s) ≡ or_too_large line result }
+    ensures keeps { IfSome result (λ d. (d.listed ≡ listed.items) × (d.header.vars ≡ vars)) }
 {
     let records = records_of(dims.as_slice(), vars.as_slice(), listed.as_slice())?;
     let header = Header {

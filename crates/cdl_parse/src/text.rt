@@ -51,7 +51,8 @@ pub fn parse(alloc: Global, text: &[u8], version: Version) -> Result<Dataset, Cd
 ///
 /// Those of [`parse`].
 pub fn declared(alloc: Global, text: &[u8], version: Version) -> Result<Declared, CdlFault>
-    ensures { Answers (as_dataset result) (meaning text.now version) }
+    ensures declares { Answers (as_dataset result) (meaning text.now version) }
+    ensures one_each { IfOk result (λ d. length d.listed ≡ length d.header.vars) }
 {
     match read_text(alloc, text, version) {
         Ok(declared) => Ok(declared),
@@ -76,7 +77,8 @@ impl ParseError {
 
 /// What a text declares.
 fn read_text(alloc: Global, text: &[u8], version: Version) -> Result<Declared, ParseError>
-    ensures { ReadsOn (λ d. Ok (dataset_of_declared d)) result (meaning text.now version) }
+    ensures reads { ReadsOn (λ d. Ok (dataset_of_declared d)) result (meaning text.now version) }
+    ensures one_each { IfOk result (λ d. length d.listed ≡ length d.header.vars) }
 {
     let Contents {
         dims,
