@@ -7,7 +7,7 @@ ghost use Rattle.nc_base.specs.OwedValues.{AreListed, IsListed};
 
 use crate::files;
 use crate::reading::header_through;
-use nc_base::{Header, Sequence, value_count};
+use nc_base::{Header, ListedArray, value_count};
 use nc_file::{MemSource, SliceSink};
 use nc_walk::{record_slabs, write_data};
 use std::alloc::{AllocError, Global};
@@ -15,24 +15,24 @@ use std::process::Abort;
 use std::test::Fail;
 
 /// Says whether these bytes are the first values of a variable, or all of them.
-fn is_listed(header: &Header, v: usize, listed: &[u8]) -> bool
+fn is_listed(header: &Header, v: usize, listed: &ListedArray) -> bool
     requires sound { IsSound header.now }
     requires there { v < length header.now.vars }
     ensures { IsTrue result → IfSome (slice_get header.now.vars v) (λ var. IsListed header.now.dims (known_records header.now.numrecs) var listed.now) }
 {
-    let size = header.vars.as_slice()[v].ty.size();
-    let len = listed.len() as u64;
+    let size = header.vars.as_slice()[v].ty.size() as u128;
+    let len = listed.len();
     if len % size != 0 {
         return false;
     }
-    if (len / size) as u128 > value_count(header, v, header.numrecs.known()) {
+    if len / size > value_count(header, v, header.numrecs.known()) {
         return false;
     }
     true
 }
 
 /// Says whether there is one list of bytes for each variable.
-fn are_listed(header: &Header, arrays: &[Sequence<u8>]) -> bool
+fn are_listed(header: &Header, arrays: &[ListedArray]) -> bool
     requires { IsSound header.now }
     ensures { IsTrue result → AreListed header.now.dims (known_records header.now.numrecs) header.now.vars arrays.now }
 {
@@ -41,7 +41,7 @@ fn are_listed(header: &Header, arrays: &[Sequence<u8>]) -> bool
         return false;
     }
     for v in 0..vars.len() {
-        if !is_listed(header, v, arrays[v].as_slice()) {
+        if !is_listed(header, v, &arrays[v]) {
             return false;
         }
     }
@@ -49,12 +49,24 @@ fn are_listed(header: &Header, arrays: &[Sequence<u8>]) -> bool
 }
 
 /// These bytes, as arrays.
-fn arrays_of(alloc: Global, listed: &[&[u8]]) -> Result<Vec<Sequence<u8>>, AllocError> {
+fn arrays_of(alloc: Global, listed: &[&[u8]]) -> Result<Vec<ListedArray>, AllocError> {
     let mut arrays = Vec::new(alloc);
     for bytes in listed {
-        arrays.push(Sequence::from_vec(Vec::from_slice(alloc, *bytes)?))?;
+        let mut array = ListedArray::new(alloc);
+        array.add(*bytes)?;
+        arrays.push(array)?;
     }
     Ok(arrays)
+}
+
+/// Rows of characters, each with as many dots as it lacks.
+fn rows_of(alloc: Global, rows: &[(&[u8], u64)]) -> Result<ListedArray, AllocError> {
+    let mut array = ListedArray::new(alloc);
+    for (listed, lacking) in rows {
+        array.add(*listed)?;
+        array.end_row(*lacking, b'.')?;
+    }
+    Ok(array)
 }
 
 /// Writes the data part of these arrays under the header, and says whether all of it was written.
@@ -62,7 +74,7 @@ fn is_written(
     rt: &impl Abort,
     alloc: Global,
     header: &Header,
-    arrays: &[Sequence<u8>],
+    arrays: &[ListedArray],
     sink: &mut SliceSink<'_>,
 ) -> Result<bool, AllocError> {
     assert!(rt; header.sound());
@@ -77,7 +89,7 @@ fn fills_sink(
     rt: &impl Abort,
     alloc: Global,
     header: &Header,
-    arrays: &[Sequence<u8>],
+    arrays: &[ListedArray],
     data: &[u8],
     (capacity, step): (usize, usize),
 ) -> Result<(), Fail> {
@@ -101,11 +113,37 @@ fn writes(
     let mut source = MemSource::new(file);
     let header = header_through(rt, alloc, &mut source, &mut [0; 16])?;
     let arrays = arrays_of(alloc, listed)?;
+    fills_sinks(rt, alloc, &header, arrays.as_slice(), data)
+}
+
+/// The same of arrays that are there.
+fn fills_sinks(
+    rt: &impl Abort,
+    alloc: Global,
+    header: &Header,
+    arrays: &[ListedArray],
+    data: &[u8],
+) -> Result<(), Fail> {
     for capacity in 0..=data.len() {
-        fills_sink(rt, alloc, &header, arrays.as_slice(), data, (capacity, 1))?;
-        fills_sink(rt, alloc, &header, arrays.as_slice(), data, (capacity, 3))?;
+        fills_sink(rt, alloc, header, arrays, data, (capacity, 1))?;
+        fills_sink(rt, alloc, header, arrays, data, (capacity, 3))?;
     }
     Ok(())
+}
+
+/// Writes the data part of one array, of which these rows are listed.
+fn writes_rows(
+    rt: &impl Abort,
+    alloc: Global,
+    file: &[u8],
+    rows: &[(&[u8], u64)],
+    data: &[u8],
+) -> Result<(), Fail> {
+    let mut source = MemSource::new(file);
+    let header = header_through(rt, alloc, &mut source, &mut [0; 16])?;
+    let mut arrays = Vec::new(alloc);
+    arrays.push(rows_of(alloc, rows)?)?;
+    fills_sinks(rt, alloc, &header, arrays.as_slice(), data)
 }
 
 /// A file with the header of a data part, the bytes that are listed for each variable, and the bytes of the part.
@@ -192,6 +230,19 @@ fn lacking_values_are_filled(rt: HostRuntime) -> Result<(), Fail> {
         ),
     ];
     write_all(&rt, rt.alloc(), PARTS)
+}
+
+#[test]
+fn listed_rows_are_filled_up(rt: HostRuntime) -> Result<(), Fail> {
+    const CASES: [(&[u8], &[(&[u8], u64)], &[u8]); 3] = [
+        (files::MANY_HELD_NULS, &[(b"ab", 8), (b"", 10)], b"ab.................."),
+        (files::MANY_HELD_NULS, &[(b"a", 4), (b"bcdef", 0), (b"g", 4)], b"a....bcdefg....\0\0\0\0\0"),
+        (files::RECORD_BYTES, &[(b"", 1), (b"a", 0)], b".a\x81"),
+    ];
+    for (file, rows, data) in CASES {
+        writes_rows(&rt, rt.alloc(), file, rows, data)?;
+    }
+    Ok(())
 }
 
 #[test]

@@ -81,6 +81,14 @@ all_are dims (var ∷ vars) (array ∷ arrays) (d ∷ drafts) h =
       ap (λ a. a ∷ arrays) (h.0.bytes ∙ ap (λ (v : Var). flat_map (bytes_of_number v.ty) (values_of dims d)) (sym h.0.is)) ∙ ap (λ rest. listed_of dims d ∷ rest) others.1,
     )
 
+pub one-each : (dims : List Dim) (vars : List Var) (arrays : List (List ℕ)) (drafts : List Draft) → AllList dims vars arrays drafts → length arrays ≡ length vars
+one-each dims [] [] [] h = refl
+one-each dims [] [] (d ∷ drafts) h = absurd h
+one-each dims [] (array ∷ arrays) drafts h = absurd h
+one-each dims (var ∷ vars) [] drafts h = absurd h
+one-each dims (var ∷ vars) (array ∷ arrays) [] h = absurd h
+one-each dims (var ∷ vars) (array ∷ arrays) (d ∷ drafts) h = ap suc (one-each dims vars arrays drafts h.1)
+
 pub bytes_length : (ty : NcType) (values : List ℤ) → length (flat_map (bytes_of_number ty) values) ≡ length values * size_of ty
 bytes_length ty [] = let e : 0 ≡ 0 * size_of ty = omega arith in e
 bytes_length ty (x ∷ values) =

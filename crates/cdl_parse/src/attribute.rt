@@ -12,8 +12,8 @@ ghost use Rattle.cdl_parse.specs.AttributeRead.{constants_said, new_attribute};
 
 use crate::attributes::Attributes;
 use cdl_text::{CdlKind, Cutter};
-use cdl_values::{Array, ReadError, read_constants, read_name, type_said};
-use nc_base::{Att, NcType, Sequence};
+use cdl_values::{ReadError, read_constants, read_name, type_said};
+use nc_base::{Att, ListedArray, NcType, Sequence};
 use std::alloc::{AllocError, Global};
 
 /// Reads an attribute, whose name is next, and adds it to the others of its variable or of the dataset.
@@ -62,12 +62,12 @@ fn add(
     attributes: &mut Attributes,
     name: Vec<u8>,
     ty: NcType,
-    vals: Array,
+    vals: ListedArray,
 ) -> Result<(), AllocError>
     ensures ok { OnOk result (attributes.new ≡ attributes.old ++ record { name = name.items; ty = ty; vals = vals } ∷ []) }
     ensures err { OnErr result (attributes.new ≡ attributes.old) }
 {
-    let vals = Sequence::from_vec(vals.into_bytes()?);
+    let vals = Sequence::from_vec(vals.into_bytes(alloc, 0)?);
     attributes.add(
         alloc,
         Att {

@@ -13,14 +13,15 @@ ghost use Rattle.cdl_parse.specs.DataSections.{Closes, ReadsData, ReadsOne, IsIn
 use crate::parse_error::ParseError;
 use crate::statement::pass;
 use cdl_text::{Cutter, Section};
-use cdl_values::{Array, NameIndex, ReadError, Target, read};
+use cdl_values::{NameIndex, ReadError, Target, read};
+use nc_base::ListedArray;
 use std::alloc::{AllocError, Global};
 
 /// What the data section lists, and what comes after it.
 #[derive(Drop)]
 pub struct DataSection<'a> {
     /// For each variable the listed values.
-    pub arrays: Vec<Array>,
+    pub arrays: Vec<ListedArray>,
     /// The statements after the section.
     pub rest: Cutter<'a>,
     /// The closing brace stood at its end; else no statement is left.
@@ -83,12 +84,12 @@ pub fn read_data<'a>(
 }
 
 /// `count` arrays without values.
-pub fn without_values(alloc: Global, count: usize) -> Result<Vec<Array>, AllocError>
+pub fn without_values(alloc: Global, count: usize) -> Result<Vec<ListedArray>, AllocError>
     ensures { IfOk result (λ arrays. arrays.items ≡ replicate count []) }
 {
     let mut arrays = Vec::new(alloc);
     for _ in 0..count {
-        arrays.push(Array::new(alloc))?;
+        arrays.push(ListedArray::new(alloc))?;
     }
     Ok(arrays)
 }
@@ -98,7 +99,7 @@ fn read_one<'a>(
     alloc: Global,
     names: &NameIndex,
     targets: &mut Vec<Target>,
-    arrays: &mut Vec<Array>,
+    arrays: &mut Vec<ListedArray>,
     start: Cutter<'a>,
 ) -> Result<Passed<'a>, ReadError>
     requires { is_done start ≡ false }
@@ -132,7 +133,7 @@ fn close(start: Cutter<'_>) -> Result<Passed<'_>, ReadError>
 }
 
 /// Puts a variable's values at its position.
-fn store(arrays: &mut Vec<Array>, position: u64, array: Array)
+fn store(arrays: &mut Vec<ListedArray>, position: u64, array: ListedArray)
     ensures { arrays.new.items ≡ slice_set arrays.old.items position array }
 {
     let at = position as usize;

@@ -7,8 +7,8 @@ ghost use Rattle.nc_base.specs.Headers.{value_count};
 ghost use Rattle.nc_base.specs.Numbers.{bytes_of_number};
 ghost use Rattle.nc_base.specs.OwedValues.{fills, owed_count, whole_array, whole_arrays};
 
-use cdl_values::{Array, put_number};
-use nc_base::{Dataset, Dim, Header, Sequence, Var, fill_of, is_record_var, slab_of};
+use cdl_values::put_number;
+use nc_base::{Dataset, Dim, Header, ListedArray, Sequence, Var, fill_of, is_record_var, slab_of};
 use std::alloc::{AllocError, Global};
 
 /// What a text declares: the header, and of each variable the values that the data section lists. What a variable lacks is
@@ -18,7 +18,7 @@ pub struct Declared {
     /// The header, with the number of records.
     pub header: Header,
     /// For each variable the listed values, big-endian and one after the other.
-    pub listed: Sequence<Array>,
+    pub listed: Sequence<ListedArray>,
 }
 
 impl Declared {
@@ -52,7 +52,7 @@ fn whole_arrays(
     dims: &[Dim],
     records: u64,
     vars: &[Var],
-    listed: Vec<Array>,
+    listed: Vec<ListedArray>,
 ) -> Result<Sequence<Sequence<u8>>, AllocError>
     ensures { IfOk result (λ arrays. arrays ≡ whole_arrays dims.now records vars.now listed.items) }
 {
@@ -73,7 +73,7 @@ fn whole_array(
     dims: &[Dim],
     records: u64,
     var: &Var,
-    listed: Array,
+    listed: ListedArray,
 ) -> Result<Sequence<u8>, AllocError>
     ensures { IfOk result (λ array. array ≡ whole_array dims.now records var.now listed) }
 {
@@ -84,11 +84,16 @@ fn whole_array(
 }
 
 /// The listed values of a variable, and `owed` fill values after them.
-fn filled(alloc: Global, var: &Var, listed: Array, owed: u64) -> Result<Sequence<u8>, AllocError>
+fn filled(
+    alloc: Global,
+    var: &Var,
+    listed: ListedArray,
+    owed: u64,
+) -> Result<Sequence<u8>, AllocError>
     ensures { IfOk result (λ array. array ≡ listed ++ fills var.now owed) }
 {
     let fill = fill_bytes(alloc, var)?;
-    let mut bytes = listed.into_bytes_before(fill.len().saturating_mul(owed as usize))?;
+    let mut bytes = listed.into_bytes(alloc, fill.len().saturating_mul(owed as usize))?;
     add_copies(&mut bytes, fill.as_slice(), owed)?;
     Ok(Sequence::from_vec(bytes))
 }
@@ -120,9 +125,9 @@ fn value_count(dims: &[Dim], var: &Var, records: u64) -> Option<u128>
 fn fill_bytes(alloc: Global, var: &Var) -> Result<Vec<u8>, AllocError>
     ensures { IfOk result (λ bytes. bytes.items ≡ bytes_of_number var.now.ty (fill_value var.now)) }
 {
-    let mut fill = Array::new(alloc);
+    let mut fill = ListedArray::new(alloc);
     put_number(&mut fill, var.ty, fill_of(var))?;
-    fill.into_bytes()
+    fill.into_bytes(alloc, 0)
 }
 
 /// Adds `count` copies of these bytes.

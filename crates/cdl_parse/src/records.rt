@@ -7,15 +7,14 @@ ghost use Rattle.cdl_meaning.specs.State.{Draft};
 ghost use Rattle.cdl_values.specs.Listed.{AllList, AreShaped};
 ghost use Rattle.cdl_parse.specs.Extents.{records_for, records_kept, with_all};
 
-use cdl_values::Array;
-use nc_base::{Dim, Var, is_record_var, slab_of};
+use nc_base::{Dim, ListedArray, Var, is_record_var, slab_of};
 
 /// The greatest array, in bytes.
 const ARRAY_LIMIT: u128 = 1 << 48;
 
 /// The number of records: as many as the record variable has that lists the most values. None, where a slab, or an array over
 /// that many records, passes 2^48 bytes.
-pub fn records_of(dims: &[Dim], vars: &[Var], listed: &[Array]) -> Option<u64>
+pub fn records_of(dims: &[Dim], vars: &[Var], listed: &[ListedArray]) -> Option<u64>
     ensures { (drafts : List Draft) → AllList dims.now vars.now listed.now drafts → AreShaped dims.now drafts → result ≡ records_kept dims.now drafts }
 {
     extent_of(dims, vars, listed)?.records()
@@ -34,7 +33,7 @@ impl Extent {
     ghost use Rattle.cdl_parse.specs.Extents.{records_within, with_listed};
 
     /// The same, with a variable of which these values are listed; None where its slab passes 2^48 bytes.
-    fn with(self, dims: &[Dim], var: &Var, listed: &Array) -> Option<Extent>
+    fn with(self, dims: &[Dim], var: &Var, listed: &ListedArray) -> Option<Extent>
         ensures { 0 < slab_count dims.now var.now → result ≡ with_listed dims.now self var.now listed.now }
     {
         let slab = slab_of(dims, var.dimids.as_slice(), var.ty)?;
@@ -71,7 +70,7 @@ fn records_for(count: u64, n: u128) -> u128
 }
 
 /// How far the values of all variables reach; None where a slab passes 2^48 bytes.
-fn extent_of(dims: &[Dim], vars: &[Var], listed: &[Array]) -> Option<Extent>
+fn extent_of(dims: &[Dim], vars: &[Var], listed: &[ListedArray]) -> Option<Extent>
     ensures { All (λ (var : header.Var). 0 < slab_count dims.now var) vars.now → result ≡ with_all dims.now (Some (record { records = 0; widest = 0 })) vars.now listed.now }
 {
     let mut extent = Extent {

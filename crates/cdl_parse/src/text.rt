@@ -22,8 +22,8 @@ use crate::finishing::finish;
 use crate::parse_error::ParseError;
 use crate::text_end::read_end;
 use cdl_text::{CdlFault, CdlKind, Cutter, Section};
-use cdl_values::{Array, NameIndex, targets_of};
-use nc_base::{Att, Dataset, Dim, Sequence, Var, Version};
+use cdl_values::{NameIndex, targets_of};
+use nc_base::{Att, Dataset, Dim, ListedArray, Sequence, Var, Version};
 use std::alloc::Global;
 
 /// The dataset that a CDL text means (the CDL chapter of the NetCDF User's Guide, and ncgen(1)).
@@ -51,7 +51,8 @@ pub fn parse(alloc: Global, text: &[u8], version: Version) -> Result<Dataset, Cd
 ///
 /// Those of [`parse`].
 pub fn declared(alloc: Global, text: &[u8], version: Version) -> Result<Declared, CdlFault>
-    ensures { Answers (as_dataset result) (meaning text.now version) }
+    ensures declares { Answers (as_dataset result) (meaning text.now version) }
+    ensures one_each { IfOk result (λ d. length d.listed ≡ length d.header.vars) }
 {
     match read_text(alloc, text, version) {
         Ok(declared) => Ok(declared),
@@ -76,7 +77,8 @@ impl ParseError {
 
 /// What a text declares.
 fn read_text(alloc: Global, text: &[u8], version: Version) -> Result<Declared, ParseError>
-    ensures { ReadsOn (λ d. Ok (dataset_of_declared d)) result (meaning text.now version) }
+    ensures reads { ReadsOn (λ d. Ok (dataset_of_declared d)) result (meaning text.now version) }
+    ensures one_each { IfOk result (λ d. length d.listed ≡ length d.header.vars) }
 {
     let Contents {
         dims,
@@ -101,7 +103,7 @@ struct Contents {
     gatts: Sequence<Att>,
     vars: Sequence<Var>,
     /// For each variable the listed values.
-    listed: Vec<Array>,
+    listed: Vec<ListedArray>,
 }
 
 /// Reads all statements of a text.
@@ -138,7 +140,7 @@ fn read_contents(alloc: Global, start: Cutter<'_>) -> Result<Contents, ParseErro
 #[derive(Drop)]
 struct Values<'a> {
     /// For each variable the listed values.
-    listed: Vec<Array>,
+    listed: Vec<ListedArray>,
     /// The section that the next statement stands in.
     section: Section,
     rest: Cutter<'a>,

@@ -12,13 +12,12 @@ ghost use Rattle.cdl_text.specs.Views.{lexeme_of};
 ghost use Rattle.cdl_meaning.specs.State.{add_constant, in_turn, type_said};
 ghost use Rattle.cdl_values.specs.Answers.{Continues, Gives, Leaves};
 
-use crate::array::Array;
 use crate::number::{number_or_zero, put_numeral};
 use crate::read_error::ReadError;
 use crate::string::put_text;
 use cdl_text::{CdlKind, Cutter, Lexeme};
 use cdl_tokens::{Numeral, TokenKind};
-use nc_base::{NcType, Version};
+use nc_base::{ListedArray, NcType, Version};
 use std::alloc::Global;
 
 /// The type that a constant says: that of a number's suffix, int for a number without one, and char for a string (the CDL
@@ -38,13 +37,17 @@ pub fn type_said(version: Version, token: Lexeme<'_>) -> NcType
 ///
 /// The fault of the first constant that has one: another type than this (`MixedConstants`), or a number that the type
 /// doesn't have (`NumberRange`). Or a growth was refused.
-pub fn read_constants(alloc: Global, ty: NcType, start: Cutter<'_>) -> Result<Array, ReadError>
+pub fn read_constants(
+    alloc: Global,
+    ty: NcType,
+    start: Cutter<'_>,
+) -> Result<ListedArray, ReadError>
     requires { is_done start ≡ false }
     ensures { Gives (λ vals. vals) result (in_turn (add_constant ty) [] (values (version_of start.entry) (words start.entry))) }
 {
     let version = start.version();
     let mut cutter = start;
-    let mut vals = Array::new(alloc);
+    let mut vals = ListedArray::new(alloc);
     'tokens: loop {
         let token = cutter.lexeme();
         let ends = cutter.advance();
@@ -57,7 +60,7 @@ pub fn read_constants(alloc: Global, ty: NcType, start: Cutter<'_>) -> Result<Ar
 
 /// Adds a token's constant, if it has one: all tokens but the marks are constants.
 fn put_token(
-    vals: &mut Array,
+    vals: &mut ListedArray,
     version: Version,
     ty: NcType,
     token: Lexeme<'_>,
@@ -73,7 +76,7 @@ fn put_token(
 /// Adds the bytes of a constant.
 #[tactic(auto, unfolding(cdl_text::specs::Contents::value_of))]
 fn put_constant(
-    vals: &mut Array,
+    vals: &mut ListedArray,
     version: Version,
     ty: NcType,
     token: Lexeme<'_>,
@@ -88,7 +91,7 @@ fn put_constant(
 }
 
 /// Adds the bytes of a number, where it has the type.
-fn put_number(vals: &mut Array, ty: NcType, n: Numeral) -> Result<(), ReadError>
+fn put_number(vals: &mut ListedArray, ty: NcType, n: Numeral) -> Result<(), ReadError>
     ensures { (p : Parts) → n ≡ held p → Leaves vals.new result (add_constant ty vals.old (Number (number p))) }
 {
     if n.ty.code() != ty.code() {
@@ -98,7 +101,7 @@ fn put_number(vals: &mut Array, ty: NcType, n: Numeral) -> Result<(), ReadError>
 }
 
 /// Adds the characters that a string stands for, where the type is char.
-fn put_characters(vals: &mut Array, ty: NcType, bytes: &[u8]) -> Result<(), ReadError>
+fn put_characters(vals: &mut ListedArray, ty: NcType, bytes: &[u8]) -> Result<(), ReadError>
     ensures { Leaves vals.new result (add_constant ty vals.old (Characters (stands (inner bytes.now)))) }
 {
     if ty.code() != NcType::Char.code() {

@@ -10,7 +10,6 @@ ghost use Rattle.cdl_values.specs.DataRead.{data_read, if_new, target_of};
 ghost use Rattle.cdl_values.specs.Meant.{Suit, ReadsStatement, array_of, begins_brace, name_first, names_of};
 ghost use Rattle.cdl_values.specs.NameIndices.{IsIndex, position_of};
 
-use crate::array::Array;
 use crate::filling::Filling;
 use crate::name::read_name;
 use crate::name_index::NameIndex;
@@ -18,6 +17,7 @@ use crate::packing::{pack, pack_good};
 use crate::read_error::ReadError;
 use crate::value::Stop;
 use cdl_text::{CdlKind, Cutter, Due, first_pass};
+use nc_base::ListedArray;
 use std::alloc::Global;
 
 /// What a variable takes of the data section.
@@ -42,7 +42,7 @@ struct Place {
 pub struct Given<'a> {
     /// The variable's position among the names.
     pub position: u64,
-    pub array: Array,
+    pub array: ListedArray,
     pub rest: Cutter<'a>,
 }
 

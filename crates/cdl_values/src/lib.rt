@@ -3,7 +3,6 @@
 //! What a statement means is defined in `cdl_meaning`.
 #![tactic(auto)]
 
-mod array;
 mod constant;
 mod data;
 mod fill;
@@ -17,7 +16,6 @@ mod string;
 mod targets;
 mod value;
 
-pub use array::Array;
 pub use constant::{read_constants, type_said};
 pub use data::{Given, Target, read};
 pub use fill::Fill;

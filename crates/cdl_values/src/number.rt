@@ -8,11 +8,10 @@ ghost use Rattle.cdl_tokens.specs.Numerals.{parts, signed};
 ghost use Rattle.cdl_values.specs.Answers.{Adds};
 ghost use Rattle.cdl_values.specs.PackedValues.{greatest, held_bytes};
 
-use crate::array::Array;
 use crate::read_error::ReadError;
 use cdl_text::CdlKind;
 use cdl_tokens::{Numeral, number_of_token};
-use nc_base::{NcType, Version};
+use nc_base::{ListedArray, NcType, Version};
 use std::alloc::AllocError;
 
 /// What a number token says; 0 for one that is no number.
@@ -28,7 +27,7 @@ pub fn number_or_zero(version: Version, bytes: &[u8]) -> Numeral
 
 /// Adds the bytes of a number, the highest first, where it is in the range of the type.
 #[inline(always)]
-pub fn put_numeral(array: &mut Array, ty: NcType, n: Numeral) -> Result<(), ReadError>
+pub fn put_numeral(array: &mut ListedArray, ty: NcType, n: Numeral) -> Result<(), ReadError>
     ensures { Adds array.old array.new result (held_bytes ty n.minus n.magnitude) }
 {
     match n.magnitude {
@@ -41,7 +40,7 @@ pub fn put_numeral(array: &mut Array, ty: NcType, n: Numeral) -> Result<(), Read
 
 /// Adds the bytes of a number, the highest first.
 #[inline(never)]
-pub fn put_number(array: &mut Array, ty: NcType, number: i128) -> Result<(), AllocError>
+pub fn put_number(array: &mut ListedArray, ty: NcType, number: i128) -> Result<(), AllocError>
     requires { IsInRange ty number }
     ensures { OnOk result (array.new ≡ array.old ++ bytes_of_number ty number) }
 {

@@ -8,17 +8,17 @@ ghost use Rattle.cdl_text.specs.Shapes.{first_bad};
 ghost use Rattle.cdl_values.specs.Answers.{Gives};
 ghost use Rattle.cdl_values.specs.PackedValues.{packed};
 
-use crate::array::Array;
 use crate::filling::Filling;
 use crate::read_error::ReadError;
 use crate::value::{Stop, put_token, take_good};
 use cdl_text::{Cutter, Due};
+use nc_base::ListedArray;
 use std::alloc::Global;
 
 /// What a pass over good values leaves: the values, and the statements after theirs.
 #[derive(Drop)]
 pub struct Packed<'a> {
-    pub array: Array,
+    pub array: ListedArray,
     pub rest: Cutter<'a>,
 }
 
@@ -33,14 +33,14 @@ pub fn pack(
     start: Cutter<'_>,
     filling: Filling,
     capacity: Option<u64>,
-) -> Result<Array, ReadError>
+) -> Result<ListedArray, ReadError>
     requires { is_done start ≡ false }
     ensures { Gives (λ a. a) result (packed filling capacity (values (version_of start.entry) (words start.entry))) }
 {
     let version = start.version();
     let mut cutter = start;
     let mut left = capacity;
-    let mut array = Array::new(alloc);
+    let mut array = ListedArray::new(alloc);
     'tokens: loop {
         let token = cutter.lexeme();
         let ends = cutter.advance();
@@ -73,7 +73,7 @@ pub fn pack_good<'a>(
     let mut cutter = start;
     let mut left = capacity;
     let mut due = Due::Value { takes_fill: true };
-    let mut array = Array::new(alloc);
+    let mut array = ListedArray::new(alloc);
     'tokens: loop {
         let token = cutter.lexeme();
         let ends = cutter.advance();

@@ -7,16 +7,20 @@ ghost use Rattle.cdl_text.specs.Shapes.{Characters, inner};
 ghost use Rattle.cdl_values.specs.Answers.{Adds};
 ghost use Rattle.cdl_values.specs.PackedValues.{char_bytes, row_bytes, text_bytes};
 
-use crate::array::Array;
 use crate::filling::is_past;
 use crate::read_error::ReadError;
 use cdl_text::CdlKind;
 use cdl_tokens::{character, first_bytes, has_no_escape, unescaped_len};
+use nc_base::ListedArray;
 use std::alloc::AllocError;
 
 /// Adds a string of which the capacity is in bytes.
 #[tactic(auto, using(crate::proofs::PackedTokens::chars_len))]
-pub fn put_text(array: &mut Array, capacity: Option<u64>, bytes: &[u8]) -> Result<(), ReadError>
+pub fn put_text(
+    array: &mut ListedArray,
+    capacity: Option<u64>,
+    bytes: &[u8],
+) -> Result<(), ReadError>
     ensures { Adds array.old array.new result (text_bytes capacity (Characters (stands (inner bytes.now)))) }
 {
     let before = array.len();
@@ -30,7 +34,7 @@ pub fn put_text(array: &mut Array, capacity: Option<u64>, bytes: &[u8]) -> Resul
 /// Adds a row of `len` bytes: a string, filled up.
 #[tactic(auto, using(crate::proofs::PackedTokens::chars_len))]
 pub fn put_row(
-    array: &mut Array,
+    array: &mut ListedArray,
     len: u64,
     fill: u8,
     full: bool,
@@ -47,12 +51,12 @@ pub fn put_row(
     if (len as u128) < n {
         return Err(ReadError::Fault(CdlKind::StringTooLong));
     }
-    array.add_filling(len - n as u64, fill)?;
+    array.end_row(len - n as u64, fill)?;
     Ok(())
 }
 
 /// Adds what the string between the quotes stands for.
-fn put_string(array: &mut Array, raw: &[u8]) -> Result<(), AllocError>
+fn put_string(array: &mut ListedArray, raw: &[u8]) -> Result<(), AllocError>
     ensures { OnOk result (array.new ≡ array.old ++ char_bytes (stands raw.now)) }
 {
     // Most strings have no escape.
@@ -75,7 +79,7 @@ fn put_string(array: &mut Array, raw: &[u8]) -> Result<(), AllocError>
 }
 
 /// Adds the bytes before the first backslash, and says how many there are.
-fn put_unescaped(array: &mut Array, bytes: &[u8]) -> Result<usize, AllocError>
+fn put_unescaped(array: &mut ListedArray, bytes: &[u8]) -> Result<usize, AllocError>
     ensures put { IfOk result (λ n. array.new ≡ array.old ++ char_bytes (take n bytes.now)) }
     ensures len { IfOk result (λ n. n ≡ prefix_len is_unescaped bytes.now) }
     ensures within { IfOk result (λ n. n ≤ length bytes.now) }

@@ -10,7 +10,6 @@ ghost use Rattle.cdl_text.specs.declared.fault.CdlKind.{CdlKind};
 ghost use Rattle.cdl_values.specs.Answers.{Adds, Continues};
 ghost use Rattle.cdl_values.specs.PackedValues.{bytes_of, capacity_after, joined, less, packed, value_bytes};
 
-use crate::array::Array;
 use crate::fill::Fill;
 use crate::filling::{Filling, is_full, less};
 use crate::number::{number_or_zero, put_number, put_numeral};
@@ -18,7 +17,7 @@ use crate::read_error::ReadError;
 use crate::string::{put_row, put_text};
 use cdl_text::{CdlKind, Due, Lexeme};
 use cdl_tokens::{TokenKind, number_of_token};
-use nc_base::Version;
+use nc_base::{ListedArray, Version};
 
 /// Why a pass that knows no faults stops.
 #[derive(Clone, Copy, Debug)]
@@ -44,7 +43,7 @@ impl From<ReadError> for Stop {
 
 /// Adds a token's value, if it has one, and says what capacity is left.
 pub fn put_token(
-    array: &mut Array,
+    array: &mut ListedArray,
     version: Version,
     filling: Filling,
     capacity: Option<u64>,
@@ -65,7 +64,7 @@ pub fn put_token(
 /// Adds a token's value, if it has one and the token is good, and says what capacity is left and which token comes next.
 #[inline]
 pub fn take_good(
-    array: &mut Array,
+    array: &mut ListedArray,
     version: Version,
     filling: &Filling,
     capacity: Option<u64>,
@@ -96,7 +95,7 @@ pub fn take_good(
 /// Adds the bytes of a value that is no number, if its token is good.
 #[inline(never)]
 fn put_good(
-    array: &mut Array,
+    array: &mut ListedArray,
     version: Version,
     filling: &Filling,
     capacity: Option<u64>,
@@ -115,7 +114,7 @@ fn put_good(
 /// Adds the bytes of a number, if its token is good.
 #[tactic(auto, unfolding(cdl_text::specs::Contents::value_of), using(crate::proofs::Ranges::number_added, crate::proofs::Ranges::good_number))]
 fn put_good_number(
-    array: &mut Array,
+    array: &mut ListedArray,
     version: Version,
     filling: Filling,
     capacity: Option<u64>,
@@ -138,7 +137,7 @@ fn put_good_number(
 /// Adds the bytes of a value.
 #[tactic(auto, unfolding(cdl_text::specs::Contents::value_of))]
 fn put(
-    array: &mut Array,
+    array: &mut ListedArray,
     version: Version,
     filling: Filling,
     capacity: Option<u64>,
@@ -163,7 +162,7 @@ fn put(
 /// Adds the bytes of a value of a variable of numbers.
 #[tactic(auto, unfolding(cdl_text::specs::Contents::value_of), using(crate::proofs::Ranges::held_is, crate::proofs::InRange::has_it))]
 fn put_value(
-    array: &mut Array,
+    array: &mut ListedArray,
     version: Version,
     fill: Fill,
     full: bool,

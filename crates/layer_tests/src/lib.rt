@@ -13,6 +13,8 @@ mod heads;
 #[cfg(test)]
 mod lines;
 #[cfg(test)]
+mod listed_rows;
+#[cfg(test)]
 mod name_indices;
 #[cfg(test)]
 mod sizes;

@@ -4,8 +4,8 @@ use crate::name_indices::index_of;
 use cdl_parse::{DataSection, ParseError, read_data};
 use cdl_text::{CdlFault, CdlKind, Cutter};
 use cdl_tokens::TokenKind;
-use cdl_values::{Array, Fill, Filling, Target};
-use nc_base::{NcType, Version};
+use cdl_values::{Fill, Filling, Target};
+use nc_base::{ListedArray, NcType, Version};
 use std::alloc::{AllocError, Global};
 use std::process::Abort;
 use std::test::*;
@@ -37,10 +37,15 @@ fn section(alloc: Global, start: Cutter<'_>) -> Result<DataSection<'_>, ParseErr
 }
 
 /// Takes the last of these arrays, and fails unless it has these bytes.
-fn expect_last(rt: &impl Abort, arrays: &mut Vec<Array>, want: &[u8]) -> Result<(), Fail> {
+fn expect_last(
+    rt: &impl Abort,
+    alloc: Global,
+    arrays: &mut Vec<ListedArray>,
+    want: &[u8],
+) -> Result<(), Fail> {
     match arrays.pop() {
         Some(array) => {
-            let bytes = array.into_bytes()?;
+            let bytes = array.into_bytes(alloc, 0)?;
             assert_eq!(rt; bytes.as_slice(), want);
         }
         None => assert!(rt; false),
@@ -49,13 +54,19 @@ fn expect_last(rt: &impl Abort, arrays: &mut Vec<Array>, want: &[u8]) -> Result<
 }
 
 /// Fails unless the section is closed, its text ends there, and the variables have these bytes.
-fn expect_arrays(rt: &impl Abort, found: DataSection<'_>, v: &[u8], c: &[u8]) -> Result<(), Fail> {
+fn expect_arrays(
+    rt: &impl Abort,
+    alloc: Global,
+    found: DataSection<'_>,
+    v: &[u8],
+    c: &[u8],
+) -> Result<(), Fail> {
     assert!(rt; found.is_closed);
     assert!(rt; !found.rest.is_done());
     assert!(rt; found.rest.lexeme().kind == TokenKind::End);
     let mut arrays = found.arrays;
-    expect_last(rt, &mut arrays, c)?;
-    expect_last(rt, &mut arrays, v)?;
+    expect_last(rt, alloc, &mut arrays, c)?;
+    expect_last(rt, alloc, &mut arrays, v)?;
     assert!(rt; arrays.is_empty());
     Ok(())
 }
@@ -63,7 +74,7 @@ fn expect_arrays(rt: &impl Abort, found: DataSection<'_>, v: &[u8], c: &[u8]) ->
 /// Fails unless the text gives these bytes to the variables.
 fn gives(rt: &impl Abort, alloc: Global, text: &[u8], v: &[u8], c: &[u8]) -> Result<(), Fail> {
     match section(alloc, Cutter::new(text, Version::Cdf1)) {
-        Ok(found) => expect_arrays(rt, found, v, c)?,
+        Ok(found) => expect_arrays(rt, alloc, found, v, c)?,
         Err(e) => assert!(rt; false, "{e:?}: {text:?}"),
     }
     Ok(())

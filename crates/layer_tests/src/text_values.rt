@@ -47,7 +47,7 @@ fn values_of(alloc: Global, text: &[u8]) -> Result<Vec<u8>, ReadError> {
     ];
     let index = index_of(alloc, &NAMES)?;
     let given = read(alloc, &index, &targets, Cutter::new(text, Version::Cdf1))?;
-    Ok(given.array.into_bytes()?)
+    Ok(given.array.into_bytes(alloc, 0)?)
 }
 
 /// Fails unless the statement gives these bytes to its variable.

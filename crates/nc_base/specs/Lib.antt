@@ -19,6 +19,7 @@ pub mod ValueText
 pub mod Dump
 pub mod GeneratedFile
 pub mod OwedValues
+pub mod ListedRows
 pub mod FileLaws
 pub mod Sayable
 pub mod Weight

@@ -13,3 +13,4 @@ pub mod DataParts
 pub mod FilledArrays
 pub mod DataFilled
 pub mod SlabArrays
+pub mod ListedRuns

@@ -4,6 +4,7 @@ mod array;
 mod blocks;
 mod data;
 mod fills;
+mod part;
 mod record_slab;
 mod records;
 

@@ -1,6 +1,4 @@
 pub mod Blame
-pub mod Filling
-pub mod ListedValues
 pub mod Placing
 pub mod Preparing
 pub mod TextFiles

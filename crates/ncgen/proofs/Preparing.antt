@@ -12,6 +12,7 @@ use Rattle.nc_file.specs.Begins.{offset_too_large}
 use Rattle.nc_walk.specs.declared.write.record_slab.RecordSlab.{RecordSlab}
 use Rattle.nc_walk.specs.RecordSlabs.{record_slabs}
 use Rattle.nc_file.specs.declared.write.begins.OffsetTooLarge.{OffsetTooLarge as NoRoom}
+use Rattle.nc_base.proofs.ListedArrays.{are-listed}
 use Rattle.nc_base.proofs.Fitting.{IsSound-with_begins, begins-below}
 use Rattle.cdl_text.specs.declared.fault.CdlFault.{CdlFault}
 use Rattle.cdl_parse.specs.DeclaredDatasets.{dataset_of_declared}
@@ -20,11 +21,10 @@ use Rattle.cdl_meaning.specs.Meaning.{meaning, text_limit}
 use Rattle.cdl_parse.specs.Parsing.{Answers, as_dataset, refused}
 use Rattle.cdl_laws.proofs.MeaningsAreGood.{meanings_are_good}
 use Rattle.ncgen.specs.Generated.{Generates, Refuses, file_or_fault, generated}
-use Rattle.ncgen.specs.Prepared.{AreFilledUp, IsReady, Prepares, file_of_prepared}
+use Rattle.ncgen.specs.Prepared.{IsReady, Prepares, file_of_prepared}
 use Rattle.ncgen.specs.declared.fault.GenFault.{GenFault}
 use Rattle.ncgen.specs.declared.fault.GenFault.TheVariants.{Cdl, OffsetTooLarge, WriteFailed}
 use Rattle.ncgen.specs.declared.prepared.Prepared.{Prepared}
-use Rattle.ncgen.proofs.ListedValues.{AreTheListed, the-listed}
 use Rattle.ncgen.proofs.Placing.{data-after, listed-after}
 
 -- ---- faults of the text
@@ -74,20 +74,17 @@ module _ (text : List ℕ) (v : Version) (d : Declared) (bytes : AreBytes text) 
   pub sound : IsSound (with_begins d.header)
   sound = IsSound-with_begins d.header good.is_sound
 
-  module _ (listed : List (List ℕ)) (filled : AreFilledUp d.header.vars d.listed listed) (fit : fits d.header ≡ true)
+  module _ (each : length d.listed ≡ length d.header.vars) (fit : fits d.header ≡ true)
       (slabs : List RecordSlab) (of_record : slabs ≡ record_slabs 0 (with_begins d.header).dims (with_begins d.header).vars) where
-    the : AreTheListed d.header.dims n d.header.vars d.listed listed
-    the = the-listed d.header.dims n d.header.vars d.listed listed arrays filled
-
     abbrev prepared : Prepared
-    prepared = record { header = with_begins d.header; listed = listed; slabs = slabs }
+    prepared = record { header = with_begins d.header; listed = d.listed; slabs = slabs }
 
     is-ready : IsReady prepared
     unfolding with_begins
     is-ready = record {
       sound = sound;
       begins = begins-below d.header fit;
-      listed = listed-after d.header d.header.dims n [] d.header.vars listed the.are;
+      listed = listed-after d.header d.header.dims n [] d.header.vars d.listed (are-listed d.header.dims n d.header.vars d.listed each arrays);
       slabs = of_record;
     }
 
@@ -95,7 +92,7 @@ module _ (text : List ℕ) (v : Version) (d : Declared) (bytes : AreBytes text) 
     unfolding file_of file_of_prepared
     is-file =
         ap (λ (values : List ℕ). header_spelling (with_begins d.header) ++ values)
-        (ap (λ (xs : List (List ℕ)). data_of d.header xs) (sym the.same) ∙ sym (data-after d.header listed))
+        (sym (data-after d.header d.listed))
 
     pub ready : Prepares (generated text v) (Ok prepared)
     unfolding generated

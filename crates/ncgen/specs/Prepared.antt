@@ -4,7 +4,7 @@ use Rattle.nc_base.specs.declared.header.Header.{Header}
 use Rattle.nc_base.specs.declared.header.Var.{Var}
 use Rattle.nc_base.specs.GeneratedFile.{data_of, header_spelling, known_records}
 use Rattle.nc_base.specs.Headers.{IsSound}
-use Rattle.nc_base.specs.OwedValues.{AreListed, fills, whole_arrays}
+use Rattle.nc_base.specs.OwedValues.{AreListed, whole_arrays}
 use Rattle.nc_base.specs.Versions.{offset_limit}
 use Rattle.nc_walk.specs.RecordSlabs.{record_slabs}
 use Rattle.ncgen.specs.Generated.{Refuses}
@@ -30,16 +30,3 @@ pub record IsReady (p : Prepared) : Type 0 where
 abbrev pub Prepares : Result (List ℕ) GenFault → Result Prepared GenFault → Type 0
 Prepares stated (Ok p) = IsReady p × (stated ≡ Ok (file_of_prepared p))
 Prepares stated (Err fault) = Refuses stated fault
-
--- ---- filling that is owed
-
--- with some fill values after the listed bytes they are the array
-pub record IsFilledUp (var : Var) (array listed : List ℕ) : Type 0 where
-  pub count : ℕ
-  pub joined : array ≡ listed ++ fills var count
-
--- the same of each variable, as far as there are arrays
-abbrev pub AreFilledUp : List Var → List (List ℕ) → List (List ℕ) → Type 0
-AreFilledUp (var ∷ vars) (array ∷ arrays) (listed ∷ others) = IsFilledUp var array listed × AreFilledUp vars arrays others
-AreFilledUp (var ∷ vars) (array ∷ arrays) [] = ⊥
-AreFilledUp _ _ listed = listed ≡ []

@@ -6,7 +6,6 @@ ghost use Rattle.ncgen.specs.Generated.{Generates, generated};
 ghost use Rattle.ncgen.specs.Prepared.{Prepares};
 
 use crate::fault::GenFault;
-use crate::listed::listed_values;
 use crate::prepared::Prepared;
 use cdl_parse::{Declared, declared};
 use nc_base::Version;
@@ -28,7 +27,6 @@ pub fn prepare(alloc: Global, text: &[u8], version: Version) -> Result<Prepared,
     ensures { Prepares (generated text.now version) result }
 {
     let Declared { header, listed } = declared(alloc, text, version)?;
-    let listed = listed_values(alloc, header.vars.as_slice(), listed)?;
     let header = with_begins(header)?;
     let slabs = record_slabs(alloc, &header)?;
     Ok(Prepared {

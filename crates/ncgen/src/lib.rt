@@ -13,7 +13,6 @@ mod fault_text;
 mod generating;
 mod input;
 pub mod laws;
-mod listed;
 mod options;
 mod output;
 mod prepared;

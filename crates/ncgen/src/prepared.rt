@@ -3,7 +3,7 @@
 ghost use Rattle.ncgen.specs.Prepared.{IsReady, file_of_prepared};
 ghost use Rattle.devices.specs.Sinks.{Wrote};
 
-use nc_base::{Header, Sequence};
+use nc_base::{Header, ListedArray, Sequence};
 use nc_file::{Sink, WriteFailed, write_header};
 use nc_walk::{RecordSlab, write_data};
 
@@ -15,7 +15,7 @@ pub struct Prepared {
     /// The header, with the begin of each variable.
     pub(crate) header: Header,
     /// For each variable the listed values, big-endian and one after the other.
-    pub(crate) listed: Sequence<Sequence<u8>>,
+    pub(crate) listed: Sequence<ListedArray>,
     /// The slabs of a record.
     pub(crate) slabs: Sequence<RecordSlab>,
 }

@@ -3,8 +3,8 @@
 use crate::parsing::{
     VERSIONS, fault_unfilled, gives_dimension, gives_variable, joined, parsed, refuses,
 };
-use cdl_parse::{Array, CdlKind, Declared, declared};
-use nc_base::{NcType, NumRecs, Version};
+use cdl_parse::{CdlKind, Declared, declared};
+use nc_base::{ListedArray, NcType, NumRecs, Version};
 use std::alloc::{AllocError, Global};
 use std::process::Abort;
 use std::test::*;
@@ -62,17 +62,17 @@ fn declared_in(alloc: Global, text: &[u8]) -> Option<Declared> {
 }
 
 /// Fails unless the array has these bytes.
-fn expect_array(rt: &impl Abort, array: Array, want: &[u8]) {
-    match array.into_bytes() {
+fn expect_array(rt: &impl Abort, alloc: Global, array: ListedArray, want: &[u8]) {
+    match array.into_bytes(alloc, 0) {
         Ok(bytes) => assert!(rt; bytes.as_slice() == want),
         Err(_) => assert!(rt; false),
     }
 }
 
 /// Fails unless the last of these arrays has these bytes.
-fn expect_last(rt: &impl Abort, arrays: &mut Vec<Array>, want: &[u8]) {
+fn expect_last(rt: &impl Abort, alloc: Global, arrays: &mut Vec<ListedArray>, want: &[u8]) {
     match arrays.pop() {
-        Some(array) => expect_array(rt, array, want),
+        Some(array) => expect_array(rt, alloc, array, want),
         None => assert!(rt; false),
     }
 }
@@ -86,9 +86,9 @@ fn missing_values_are_not_declared(rt: HostRuntime) {
         Some(declared) => {
             assert!(rt; declared.header.numrecs == NumRecs::Known(2));
             let mut arrays = declared.listed.into_vec();
-            expect_last(&rt, &mut arrays, b"\0\x02\0\x03");
-            expect_last(&rt, &mut arrays, b"\0\x01");
-            expect_last(&rt, &mut arrays, b"");
+            expect_last(&rt, rt.alloc(), &mut arrays, b"\0\x02\0\x03");
+            expect_last(&rt, rt.alloc(), &mut arrays, b"\0\x01");
+            expect_last(&rt, rt.alloc(), &mut arrays, b"");
             assert!(rt; arrays.is_empty());
         }
         None => assert!(rt; false),

@@ -6,15 +6,16 @@ ghost use Rattle.nc_base.specs.Sizes.{slab_limit, slab_size};
 ghost use Rattle.nc_walk.specs.Filled.{ArrayView, array_view, filled_record, filled_slab, filled_slabs};
 
 use super::fills::{fill_unit, put_fills};
-use devices::{Sink, WriteFailed, put};
-use nc_base::{Dim, Var, padding_len, slab_of};
+use super::part::put_part;
+use devices::{Sink, WriteFailed};
+use nc_base::{Dim, ListedArray, Var, padding_len, slab_of};
 use std::marker::Model;
 
 /// The array of a variable, whose last values may be lacking: they are its fill value.
 #[derive(Drop)]
 pub(super) struct Array<'a> {
     /// The bytes of the values that are listed.
-    pub(super) listed: &'a [u8],
+    pub(super) listed: &'a ListedArray,
     /// The bytes of a slab.
     pub(super) slab: u64,
     /// Eight bytes of fill values.
@@ -29,7 +30,7 @@ impl<'a> Model for Array<'a> {
 
 impl<'a> Array<'a> {
     /// The array of a variable over these dimensions, of which these bytes are listed.
-    pub(super) fn of(dims: &[Dim], var: &Var, listed: &'a [u8]) -> Array<'a>
+    pub(super) fn of(dims: &[Dim], var: &Var, listed: &'a ListedArray) -> Array<'a>
         requires { slab_size dims.now var.now ≤ slab_limit }
         ensures { result ≡ array_view dims.now var.now listed.now }
     {
@@ -44,14 +45,15 @@ impl<'a> Array<'a> {
     pub(super) fn put_block<W: Sink>(&self, sink: &mut W) -> Result<(), WriteFailed>
         ensures { Wrote (W.view sink.old) (W.view sink.new) (filled_slab self.now self.now.listed) result }
     {
-        self.put_slab(sink, self.listed)
+        self.put_slab(sink, 0, self.listed.len())
     }
 
     /// Writes the slab of record `r`, and its padding.
     pub(super) fn put_record<W: Sink>(&self, sink: &mut W, r: u64) -> Result<(), WriteFailed>
         ensures { Wrote (W.view sink.old) (W.view sink.new) (filled_record r self.now) result }
     {
-        self.put_slab(sink, self.listed_in(r))
+        let len = self.slab as u128;
+        self.put_slab(sink, r as u128 * len, len)
     }
 
     /// Writes the slabs of all records, one after the other and without padding.
@@ -59,32 +61,21 @@ impl<'a> Array<'a> {
     pub(super) fn put_records<W: Sink>(&self, sink: &mut W, records: u64) -> Result<(), WriteFailed>
         ensures { Wrote (W.view sink.old) (W.view sink.new) (filled_slabs records self.now) result }
     {
-        put(sink, self.listed)?;
+        let listed = self.listed.len();
+        put_part(sink, self.listed, 0, listed)?;
         let all = records as u128 * self.slab as u128;
-        put_fills(
-            sink,
-            self.unit,
-            all.saturating_sub(self.listed.len() as u128),
-        )
+        put_fills(sink, self.unit, all.saturating_sub(listed))
     }
 
-    /// Writes a slab of which these bytes are listed, and its padding.
+    /// Writes a slab, of which `len` bytes from a place on are listed or fewer at the end, and its padding.
     #[tactic(auto, using(devices::proofs::Writes::writes))]
-    fn put_slab<W: Sink>(&self, sink: &mut W, listed: &[u8]) -> Result<(), WriteFailed>
-        ensures { Wrote (W.view sink.old) (W.view sink.new) (filled_slab self.now listed.now) result }
+    fn put_slab<W: Sink>(&self, sink: &mut W, start: u128, len: u128) -> Result<(), WriteFailed>
+        ensures { Wrote (W.view sink.old) (W.view sink.new) (filled_slab self.now (take len (drop start self.now.listed))) result }
     {
-        put(sink, listed)?;
-        let owed = self.slab.saturating_sub(listed.len() as u64);
+        put_part(sink, self.listed, start, len)?;
+        let listed = self.listed.len().saturating_sub(start).min(len);
+        let owed = (self.slab as u128).saturating_sub(listed);
         let padding = padding_len(self.slab as u128);
-        put_fills(sink, self.unit, owed as u128 + padding as u128)
-    }
-
-    /// The listed bytes of the slab of record `r`.
-    fn listed_in(&self, r: u64) -> &[u8]
-        ensures { result.now ≡ take self.now.slab (drop (r * self.now.slab) self.now.listed) }
-    {
-        let start = (r as u128 * self.slab as u128).min(self.listed.len() as u128) as usize;
-        let rest = &self.listed[start..];
-        &rest[..rest.len().min(self.slab as usize)]
+        put_fills(sink, self.unit, owed + padding as u128)
     }
 }

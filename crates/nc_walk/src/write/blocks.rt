@@ -8,13 +8,13 @@ ghost use Rattle.nc_walk.specs.Filled.{array_view, filled_blocks, filled_slab};
 
 use super::array::Array;
 use devices::{Sink, WriteFailed};
-use nc_base::{Dim, Header, Sequence, Var, is_record_var};
+use nc_base::{Dim, Header, ListedArray, Var, is_record_var};
 
 /// Writes the blocks of the variables that aren't record variables, each with its padding.
 pub(super) fn put_blocks<W: Sink>(
     sink: &mut W,
     header: &Header,
-    arrays: &[Sequence<u8>],
+    arrays: &[ListedArray],
 ) -> Result<(), WriteFailed>
     requires sound { IsSound header.now }
     requires one_each { length arrays.now ≡ length header.now.vars }
@@ -23,7 +23,7 @@ pub(super) fn put_blocks<W: Sink>(
     let dims = header.dims.as_slice();
     let vars = header.vars.as_slice();
     for v in 0..vars.len() {
-        put_block(sink, dims, &vars[v], arrays[v].as_slice())?;
+        put_block(sink, dims, &vars[v], &arrays[v])?;
     }
     Ok(())
 }
@@ -33,7 +33,7 @@ fn put_block<W: Sink>(
     sink: &mut W,
     dims: &[Dim],
     var: &Var,
-    listed: &[u8],
+    listed: &ListedArray,
 ) -> Result<(), WriteFailed>
     requires { slab_size dims.now var.now ≤ slab_limit }
     ensures { Wrote (W.view sink.old) (W.view sink.new)

@@ -11,7 +11,7 @@ use super::blocks::put_blocks;
 use super::record_slab::RecordSlab;
 use super::records::put_records;
 use devices::{Sink, WriteFailed};
-use nc_base::{Header, Sequence};
+use nc_base::{Header, ListedArray};
 
 /// Writes the data part of a file: the blocks of the variables that aren't record variables, in header order, and after them
 /// one record after the other (`data` of the NetCDF Classic Format Specification). The slabs are those that
@@ -26,7 +26,7 @@ pub fn write_data<W: Sink>(
     sink: &mut W,
     header: &Header,
     slabs: &[RecordSlab],
-    arrays: &[Sequence<u8>],
+    arrays: &[ListedArray],
 ) -> Result<(), WriteFailed>
     requires sound { IsSound header.now }
     requires slabs { slabs.now ≡ record_slabs 0 header.now.dims header.now.vars }

@@ -7,7 +7,7 @@ ghost use Rattle.nc_walk.specs.RecordSlabs.{array_of, record_slab, record_slabs}
 
 use super::array::Array;
 use super::fills::fill_unit;
-use nc_base::{Dim, Header, Sequence, Var, is_record_var, slab_of};
+use nc_base::{Dim, Header, ListedArray, Sequence, Var, is_record_var, slab_of};
 use std::alloc::{AllocError, Global};
 
 /// The slab that a variable has in each record.
@@ -58,12 +58,12 @@ impl RecordSlab {
     }
 
     /// The array of its variable, among those of all variables.
-    pub(super) fn array_in<'a>(&self, arrays: &'a [Sequence<u8>]) -> Array<'a>
+    pub(super) fn array_in<'a>(&self, arrays: &'a [ListedArray]) -> Array<'a>
         requires { self.now.var_index < length arrays.now }
         ensures { result ≡ array_of arrays.now self.now }
     {
         Array {
-            listed: arrays[self.var_index].as_slice(),
+            listed: &arrays[self.var_index],
             slab: self.len,
             unit: self.unit,
         }

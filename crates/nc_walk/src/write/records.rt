@@ -12,14 +12,14 @@ ghost use Rattle.nc_walk.specs.RecordSlabs.{array_of, record_slabs};
 
 use super::record_slab::RecordSlab;
 use devices::{Sink, WriteFailed};
-use nc_base::{Header, Sequence};
+use nc_base::{Header, ListedArray};
 
 /// Writes all records. The array of a sole record variable is written at once, since its slabs stand without padding.
 pub(super) fn put_records<W: Sink>(
     sink: &mut W,
     header: &Header,
     slabs: &[RecordSlab],
-    arrays: &[Sequence<u8>],
+    arrays: &[ListedArray],
 ) -> Result<(), WriteFailed>
     requires sound { IsSound header.now }
     requires slabs { slabs.now ≡ record_slabs 0 header.now.dims header.now.vars }
@@ -40,7 +40,7 @@ pub(super) fn put_records<W: Sink>(
 fn put_each_record<W: Sink>(
     sink: &mut W,
     slabs: &[RecordSlab],
-    arrays: &[Sequence<u8>],
+    arrays: &[ListedArray],
     records: u64,
 ) -> Result<(), WriteFailed>
     requires { All (λ slab. slab.var_index < length arrays.now) slabs.now }
@@ -57,7 +57,7 @@ fn put_each_record<W: Sink>(
 fn put_record<W: Sink>(
     sink: &mut W,
     slabs: &[RecordSlab],
-    arrays: &[Sequence<u8>],
+    arrays: &[ListedArray],
     r: u64,
 ) -> Result<(), WriteFailed>
     requires { All (λ slab. slab.var_index < length arrays.now) slabs.now }

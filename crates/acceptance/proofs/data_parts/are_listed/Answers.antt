@@ -15,5 +15,5 @@ loop-v-preserved c =
     let e : suc c.loop-v.v ≡ c.loop-v.v + 1 = omega arith in
     subst (λ (k : ℕ). AreListed h.dims n (take k h.vars) (take k arrays)) e
     (listed-next h.dims n h.vars arrays c.loop-v.v c.index-arrays-v.result here held c.loop-v.invariant
-    (subst (λ (x : List ℕ). IfSome (slice_get h.vars c.loop-v.v) (λ var. IsListed h.dims n var x)) (c.as_slice.ensures ∙ c.index-arrays-v.is)
+    (subst (λ (x : List ℕ). IfSome (slice_get h.vars c.loop-v.v) (λ var. IsListed h.dims n var x)) c.index-arrays-v.is
     (c.is_listed.ensures c.if-not-is_listed.false)))

@@ -9,8 +9,8 @@ use Rattle.cdl_parse.proofs.Finished.{array_too_large, header_at, is_declared, k
 use Rattle.cdl_parse.proofs.SizeLimits.{all_are, listed_of}
 use Rattle.cdl_parse.proofs.finishing.finish.Goals as goal
 
-pub returns-in_err-records : goal.returns-in_err-records
-returns-in_err-records c = λ s is att-is lists shaped line.
+pub returns-in_err-records-clause-declares : goal.returns-in_err-records-clause-declares
+returns-in_err-records-clause-declares c = λ s is att-is lists shaped line.
     let a = c.args in
     let none : c.records_of.result ≡ None = search rules in
     let gives : c.from_residual.result ≡ None = search rules in
@@ -18,8 +18,8 @@ returns-in_err-records c = λ s is att-is lists shaped line.
     (kept_at c.as_slice.result.now a.dims c.as_slice-2.result.now a.vars c.as_slice-3.result.now a.listed.items s c.records_of.result c.as_slice.ensures c.as_slice-2.ensures c.as_slice-3.ensures.value is lists shaped c.records_of.ensures ∙ none) ∙
     ap (or_too_large line) (sym gives)
 
-pub returns-then-is_none : goal.returns-then-is_none
-returns-then-is_none c = λ s is att-is lists shaped line.
+pub returns-then-is_none-clause-declares : goal.returns-then-is_none-clause-declares
+returns-then-is_none-clause-declares c = λ s is att-is lists shaped line.
     let a = c.args in
     let n = c.in_ok-records.records in
     let kept : c.records_of.result ≡ Some n = search rules in
@@ -28,8 +28,8 @@ returns-then-is_none c = λ s is att-is lists shaped line.
     (kept_at c.as_slice.result.now a.dims c.as_slice-2.result.now a.vars c.as_slice-3.result.now a.listed.items s c.records_of.result c.as_slice.ensures c.as_slice-2.ensures c.as_slice-3.ensures.value is lists shaped c.records_of.ensures ∙ kept)
     (ap checked_record_size (header_at a.version n s a.dims a.gatts a.vars a.listed.items is att-is lists) ∙ sym c.rec_size.ensures ∙ none)
 
-pub returns : goal.returns
-returns c = λ s is att-is lists shaped line.
+pub returns-clause-declares : goal.returns-clause-declares
+returns-clause-declares c = λ s is att-is lists shaped line.
     let a = c.args in
     let n = c.in_ok-records.records in
     let kept : c.records_of.result ≡ Some n = search rules in

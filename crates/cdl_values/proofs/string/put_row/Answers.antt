@@ -24,5 +24,5 @@ returns c =
     let long : length c.put_string.new.array ≡ length old + length s = ap (λ (xs : List ℕ). length xs) put ∙ length-append old (char_bytes s) ∙ ap (λ n. length old + n) (chars_len s) in
     let n-is : c.saturating_sub-n.result ≡ length s = omega (arith, long, c.len.ensures, c.len-before.ensures, c.saturating_sub-n.ensures) in
     let off : nat_lt c.args.len (length s) ≡ false = grind (arith, n-is, c.if-len-n.false) in
-    let filled : c.add_filling.new.self ≡ c.put_string.new.array ++ replicate (c.args.len - c.saturating_sub-n.result) c.args.fill = search rules in
+    let filled : c.end_row.new.self ≡ c.put_string.new.array ++ replicate (c.args.len - c.saturating_sub-n.result) c.args.fill = search rules in
     rw (c.if-full.false) (rw (off) (ap Ok (sym (append_assoc old (char_bytes s) (replicate (c.args.len - length s) c.args.fill)) ∙ sym (filled ∙ ap (λ n. c.put_string.new.array ++ replicate (c.args.len - n) c.args.fill) n-is ∙ ap (λ xs. xs ++ replicate (c.args.len - length s) c.args.fill) put))))

@@ -15,7 +15,7 @@ returns-in_err-put_block g c =
     rw p.1 (up-partway _ _ _ _ _ _ _
     (blocks-left c.args.header.now.dims c.args.header.now.vars c.args.arrays.now c.loop-v.v c.index-vars-v.result c.index-arrays-v.result here held (search rules)
     c.index-arrays-v.is)
-    c.loop-v.invariant (rw (c.as_slice-dims.ensures, c.as_slice.ensures) at c.in_err-put_block.ensures))
+    c.loop-v.invariant (rw (c.as_slice-dims.ensures) at c.in_err-put_block.ensures))
 
 pub loop-v-preserved : goal.loop-v-preserved
 loop-v-preserved g c =
@@ -24,4 +24,4 @@ loop-v-preserved g c =
     up-next _ _ _ _ _ _ _
     (blocks-left c.args.header.now.dims c.args.header.now.vars c.args.arrays.now c.loop-v.v c.index-vars-v.result c.index-arrays-v.result here held (search rules)
     c.index-arrays-v.is)
-    c.loop-v.invariant (rw (c.as_slice-dims.ensures, c.as_slice.ensures) at c.in_ok-put_block.ensures)
+    c.loop-v.invariant (rw (c.as_slice-dims.ensures) at c.in_ok-put_block.ensures)

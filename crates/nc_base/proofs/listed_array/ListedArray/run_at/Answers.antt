@@ -1,0 +1,78 @@
+use Rattle.std.proofs.Common.{ℕ, ◌≡◌, ◌<◌, ◌≤◌, ◌+◌, ◌-◌, ◌*◌, ◌/◌, ◌%◌, List, [], length, get_or, take, drop, min, max, refl, ap, sym, ◌∙◌, subst, arith, rules}
+use Rattle.std.proofs.Math.Nat.{mod-add-div}
+use Rattle.std.proofs.lemmas.List.{take_all, length-drop, length-take, length-take-le, drop-drop, drop_min}
+use Rattle.nc_base.specs.ListedRows.{filled_rows, AreRowEnds, StandAt, row_start}
+use Rattle.nc_base.proofs.FilledRows.{IsRow, RowOf, row-of, in_row, after_rows, stands-told}
+use Rattle.nc_base.proofs.listed_array.ListedArray.run_at.Goals as goal
+
+pub row_at-row-requires-clause-after : goal.row_at-row-requires-clause-after
+row_at-row-requires-clause-after c =
+    let l = c.self.inside in
+    let row = row-of l.row_len l.rows_end c.args.at c.len.result l.row_ends.items c.self.invariant.0 (omega (arith, c.len.ensures, l.row_ends.ok.0)) c.if-at-in_rows.true in
+    subst (λ (ends : List ℕ). row_start 0 ends (c.args.at / l.row_len) ≤ get_or ends (c.args.at / l.row_len) 0) (sym c.as_slice-then-at-in_rows.ensures.value) row.is.after
+
+pub row_at-row-requires-clause-inside : goal.row_at-row-requires-clause-inside
+row_at-row-requires-clause-inside c =
+    let l = c.self.inside in
+    let r : ℕ = c.args.at / l.row_len in
+    let row = row-of l.row_len l.rows_end c.args.at c.len.result l.row_ends.items c.self.invariant.0 (omega (arith, c.len.ensures, l.row_ends.ok.0)) c.if-at-in_rows.true in
+    let end : get_or c.as_slice-then-at-in_rows.result.now r 0 ≡ get_or l.row_ends.items r 0 = ap (λ (ends : List ℕ). get_or ends r 0) c.as_slice-then-at-in_rows.ensures.value in
+    let long : length c.as_slice.result.now ≡ length l.bytes.items = ap length c.as_slice.ensures.value in
+    omega (arith, end, long, row.is.inside, c.self.invariant.1)
+
+pub run_in_row-requires-clause-listed : goal.run_in_row-requires-clause-listed
+run_in_row-requires-clause-listed c =
+    let l = c.self.inside in
+    let r : ℕ = c.args.at / l.row_len in
+    let row = row-of l.row_len l.rows_end c.args.at c.len.result l.row_ends.items c.self.invariant.0 (omega (arith, c.len.ensures, l.row_ends.ok.0)) c.if-at-in_rows.true in
+    let ends : List ℕ = c.as_slice-then-at-in_rows.result.now in
+    let n : ℕ = get_or ends r 0 - row_start 0 ends r in
+    let told : n ≡ get_or l.row_ends.items r 0 - row_start 0 l.row_ends.items r = ap (λ (es : List ℕ). get_or es r 0 - row_start 0 es r) c.as_slice-then-at-in_rows.ensures.value in
+    omega (arith, ap length c.row_at-row.ensures, length-take n (drop (row_start 0 ends r) c.as_slice.result.now), told, row.is.within)
+
+pub returns-then-at-in_rows : goal.returns-then-at-in_rows
+returns-then-at-in_rows c =
+    let l = c.self.inside in
+    let at : ℕ = c.args.at in
+    let len : ℕ = l.row_len in
+    let r : ℕ = at / len in
+    let column : ℕ = at % len in
+    let all : c.len.result ≡ length l.row_ends.items = omega (arith, c.len.ensures, l.row_ends.ok.0) in
+    let row = row-of len l.rows_end at c.len.result l.row_ends.items c.self.invariant.0 all c.if-at-in_rows.true in
+    let start : ℕ = row_start 0 l.row_ends.items r in
+    let n : ℕ = get_or l.row_ends.items r 0 - start in
+    let listed : c.row_at-row.result.now ≡ take n (drop start l.bytes.items) =
+    c.row_at-row.ensures
+    ∙ ap (λ (es : List ℕ). take (get_or es r 0 - row_start 0 es r) (drop (row_start 0 es r) c.as_slice.result.now)) c.as_slice-then-at-in_rows.ensures.value
+    ∙ ap (λ (b : List ℕ). take n (drop start b)) c.as_slice.ensures.value in
+    let long : length c.row_at-row.result.now ≡ n =
+    ap length listed ∙ length-take-le n (drop start l.bytes.items) (omega (arith, length-drop start l.bytes.items, row.is.inside, c.self.invariant.1)) in
+    let here : r * len + column ≡ at = omega (arith, mod-add-div at len) in
+    let bytes : drop (min column n) (take n (drop start l.bytes.items)) ≡ c.run_in_row.result.bytes.now =
+    ap (λ (b : List ℕ). drop (min column n) b) (sym listed) ∙ ap (λ (k : ℕ). drop (min column k) c.row_at-row.result.now) (sym long) ∙ sym c.run_in_row.ensures.listed in
+    let count : len - max column n ≡ c.run_in_row.result.filling = ap (λ (k : ℕ). len - max column k) (sym long) ∙ sym c.run_in_row.ensures.filling in
+    stands-told _ _ _ _ _ _ _ _ _ _ c.self.view_is here bytes count (sym c.run_in_row.ensures.fill)
+    (in_row len l.rows_end l.fill l.row_ends.items l.bytes.items r column 0 c.self.invariant.0 c.self.invariant.1 row.of row.column n refl)
+
+pub returns : goal.returns
+returns c =
+    let l = c.self.inside in
+    let at : ℕ = c.args.at in
+    let len : ℕ = l.row_len in
+    let last : ℕ = l.rows_end in
+    let all : c.len.result ≡ length l.row_ends.items = omega (arith, c.len.ensures, l.row_ends.ok.0) in
+    let in_rows : c.len.result * len ≡ length l.row_ends.items * len = ap (λ (k : ℕ). k * len) all in
+    let skipped : ℕ = at - c.len.result * len in
+    let here : length l.row_ends.items * len + skipped ≡ at = omega (arith, in_rows, c.if-at-in_rows.false) in
+    let held : List ℕ = c.deref.result.now in
+    let after : List ℕ = take (length held - last) (drop last held) in
+    let is_after : after ≡ drop last l.bytes.items =
+    take_all (length held - last) (drop last held) (omega (arith, length-drop last held)) ∙ ap (drop last) c.deref.ensures.value in
+    let bytes : drop (last + skipped) l.bytes.items ≡ take (length after - c.min-skipped.result) (drop c.min-skipped.result after) =
+    sym (drop-drop skipped last l.bytes.items)
+    ∙ ap (drop skipped) (sym is_after)
+    ∙ sym (drop_min skipped after)
+    ∙ ap (λ (k : ℕ). drop k after) (sym c.min-skipped.ensures)
+    ∙ sym (take_all (length after - c.min-skipped.result) (drop c.min-skipped.result after) (omega (arith, length-drop c.min-skipped.result after))) in
+    stands-told _ _ _ _ _ _ _ _ _ _ c.self.view_is here bytes refl refl
+    (after_rows len last l.fill l.row_ends.items l.bytes.items skipped c.self.invariant.0 c.self.invariant.1)

@@ -1,0 +1,227 @@
+//! The bytes that are listed of a variable's array, with each row as long as it is listed.
+
+ghost use Rattle.std.specs.Prelude.{◌≡◌, ◌++◌, ◌∷◌, ◌≤◌, ◌<◌, ◌-◌, [], drop, get_or, length, max, min, replicate, take, IfOk, OnOk, OnErr};
+ghost use Rattle.nc_base.specs.ListedRows.{StandAt, row_start};
+
+use std::alloc::{AllocError, Global};
+use std::marker::Model;
+
+/// The bytes that are listed of a variable's array, big-endian and one value after the other.
+///
+/// A row may lack bytes at its end. They are a fill byte, and don't stand in memory: a row takes the bytes that are listed of it, and
+/// four bytes more. Contracts see the bytes with each row filled up.
+#[derive(Drop)]
+pub struct ListedArray {
+    bytes: Vec<u8>,
+    /// Where each row ends among the bytes.
+    row_ends: Vec<u32>,
+    /// Where the last row ends.
+    rows_end: usize,
+    /// The length of a row that is filled up.
+    row_len: u64,
+    fill: u8,
+}
+
+/// Bytes that stand one after the other, and how many fill bytes come after them.
+#[derive(Clone, Copy, Debug)]
+pub struct Run<'a> {
+    pub bytes: &'a [u8],
+    pub filling: u64,
+    pub fill: u8,
+}
+
+impl Model for ListedArray {
+    ghost use Rattle.std.specs.Prelude.{List, ℕ, ◌≤◌, length};
+    ghost use Rattle.nc_base.specs.ListedRows.{AreRowEnds, filled_rows};
+
+    ghost Value = { List ℕ };
+
+    ghost view = { λ l. filled_rows l.row_len l.fill 0 l.row_ends.items l.bytes.items };
+
+    ghost invariant = { λ l. AreRowEnds l.row_len 0 l.row_ends.items l.rows_end × (l.rows_end ≤ length l.bytes.items) };
+}
+
+impl ListedArray {
+    /// Without bytes. It takes no memory.
+    #[tactic(auto, unfolding(crate::specs::ListedRows::filled_rows))]
+    pub fn new(alloc: Global) -> ListedArray
+        ensures { result ≡ [] }
+    {
+        ListedArray {
+            bytes: Vec::new(alloc),
+            row_ends: Vec::new(alloc),
+            rows_end: 0,
+            row_len: 0,
+            fill: 0,
+        }
+    }
+
+    /// Adds bytes.
+    ///
+    /// # Errors
+    ///
+    /// A growth was refused.
+    #[inline(always)]
+    #[tactic(auto, using(crate::proofs::FilledRows::filled_append))]
+    pub fn add(&mut self, bytes: &[u8]) -> Result<(), AllocError>
+        ensures { OnOk result (self.new ≡ self.old ++ bytes.now) }
+    {
+        self.bytes.extend_from_slice(bytes)?;
+        Ok(())
+    }
+
+    /// Adds a byte.
+    ///
+    /// # Errors
+    ///
+    /// A growth was refused.
+    #[tactic(auto, using(crate::proofs::FilledRows::filled_append))]
+    pub fn add_byte(&mut self, byte: u8) -> Result<(), AllocError>
+        ensures { OnOk result (self.new ≡ self.old ++ byte ∷ []) }
+    {
+        self.bytes.push(byte)?;
+        Ok(())
+    }
+
+    /// Ends a row that lacks `lacking` bytes, which are `fill`.
+    ///
+    /// They stand in memory only where the rows before have another length or another fill byte, or where an offset takes more than
+    /// four bytes.
+    ///
+    /// # Errors
+    ///
+    /// A growth was refused.
+    #[tactic(auto, using(crate::proofs::FilledRows::filled_append, crate::proofs::FilledRows::filled_end, crate::proofs::FilledRows::ends_end))]
+    pub fn end_row(&mut self, lacking: u64, fill: u8) -> Result<(), AllocError>
+        ensures { OnOk result (self.new ≡ self.old ++ replicate lacking fill) }
+    {
+        let end = self.bytes.len();
+        let row_len = (end - self.rows_end) as u128 + lacking as u128;
+        let is_like_others = self.row_ends.is_empty()
+            || (row_len == self.row_len as u128 && fill == self.fill);
+        if !is_like_others || end > u32::MAX as usize || row_len > u64::MAX as u128 {
+            return fill_up(&mut self.bytes, lacking, fill);
+        }
+        self.row_ends.push(end as u32)?;
+        self.rows_end = end;
+        self.row_len = row_len as u64;
+        self.fill = fill;
+        Ok(())
+    }
+
+    /// The number of bytes, with each row filled up.
+    #[tactic(auto, using(crate::proofs::FilledRows::length_filled))]
+    pub fn len(&self) -> u128
+        ensures { result ≡ length self.now }
+    {
+        let in_rows = self.row_ends.len() as u128 * self.row_len as u128;
+        in_rows + (self.bytes.len() - self.rows_end) as u128
+    }
+
+    /// What stands at an offset into the bytes with each row filled up: a run, which isn't empty before their end.
+    pub fn run_at(&self, at: u128) -> Run<'_>
+        ensures { StandAt self.now at result.bytes.now result.filling result.fill }
+    {
+        let row_len = self.row_len as u128;
+        let in_rows = self.row_ends.len() as u128 * row_len;
+        if at < in_rows {
+            let row = row_at(
+                self.bytes.as_slice(),
+                self.row_ends.as_slice(),
+                (at / row_len) as usize,
+            );
+            return run_in_row(row, (at % row_len) as u64, self.row_len, self.fill);
+        }
+        let after = &self.bytes[self.rows_end..];
+        let skipped = (at - in_rows).min(after.len() as u128) as usize;
+        Run {
+            bytes: &after[skipped..],
+            filling: 0,
+            fill: self.fill,
+        }
+    }
+
+    /// The bytes with each row filled up, with capacity for `more` after them.
+    ///
+    /// # Errors
+    ///
+    /// A growth was refused.
+    pub fn into_bytes(self, alloc: Global, more: usize) -> Result<Vec<u8>, AllocError>
+        ensures { IfOk result (λ bytes. bytes.items ≡ self) }
+    {
+        if self.row_ends.is_empty() {
+            let mut bytes = self.bytes;
+            bytes.reserve_exact(more)?;
+            return Ok(bytes);
+        }
+        self.to_bytes(alloc, more)
+    }
+
+    fn to_bytes(&self, alloc: Global, more: usize) -> Result<Vec<u8>, AllocError>
+        ensures { IfOk result (λ bytes. bytes.items ≡ self.now) }
+    {
+        let len = self.len();
+        let mut filled = Vec::new(alloc);
+        filled.reserve_exact(
+            usize::try_from(len)
+                .unwrap_or(usize::MAX)
+                .saturating_add(more),
+        )?;
+        while (filled.len() as u128) < len {
+            let run = self.run_at(filled.len() as u128);
+            filled.extend_from_slice(run.bytes)?;
+            fill_up(&mut filled, run.filling, run.fill)?;
+        }
+        Ok(filled)
+    }
+}
+
+/// The bytes that are listed of row `r`, of rows that end at these offsets.
+fn row_at<'a>(bytes: &'a [u8], row_ends: &[u32], r: usize) -> &'a [u8]
+    requires of { r < length row_ends.now }
+    requires after { row_start 0 row_ends.now r ≤ get_or row_ends.now r 0 }
+    requires inside { get_or row_ends.now r 0 ≤ length bytes.now }
+    ensures { result.now ≡ take (get_or row_ends.now r 0 - row_start 0 row_ends.now r) (drop (row_start 0 row_ends.now r) bytes.now) }
+{
+    let start = start_of(row_ends, r);
+    &bytes[start..row_ends[r] as usize]
+}
+
+/// What stands in a row from a column on.
+fn run_in_row(row: &[u8], column: u64, row_len: u64, fill: u8) -> Run<'_>
+    requires listed { length row.now ≤ row_len }
+    requires column { column < row_len }
+    ensures listed { result.bytes.now ≡ drop (min column (length row.now)) row.now }
+    ensures filling { result.filling ≡ row_len - max column (length row.now) }
+    ensures fill { result.fill ≡ fill }
+{
+    let listed = row.len() as u64;
+    Run {
+        bytes: &row[column.min(listed) as usize..],
+        filling: row_len - column.max(listed),
+        fill,
+    }
+}
+
+/// Where row `r` starts, of rows that end at these offsets.
+#[tactic(auto, using(crate::proofs::FilledRows::row_start_after), unfolding(crate::specs::ListedRows::row_start))]
+fn start_of(row_ends: &[u32], r: usize) -> usize
+    requires { r ≤ length row_ends.now }
+    ensures { result ≡ row_start 0 row_ends.now r }
+{
+    if r == 0 {
+        return 0;
+    }
+    row_ends[r - 1] as usize
+}
+
+/// Adds `n` copies of a byte.
+#[inline(never)]
+fn fill_up(bytes: &mut Vec<u8>, n: u64, fill: u8) -> Result<(), AllocError>
+    ensures ok { OnOk result (bytes.new.items ≡ bytes.old.items ++ replicate n fill) }
+    ensures err { OnErr result (bytes.new.items ≡ bytes.old.items) }
+{
+    let len = bytes.len().saturating_add(n as usize);
+    bytes.resize(len, fill)?;
+    Ok(())
+}

@@ -1,0 +1,30 @@
+use Rattle.std.proofs.Common.{ℕ, List, [], ◌≡◌, ◌+◌, ◌++◌, ◌-◌, take, length, replicate, refl, sym, ap, ◌∙◌, arith, subst}
+use Rattle.std.specs.Prelude.{min}
+use Rattle.std.proofs.lemmas.Result.{err_from_is_err_and}
+use Rattle.nc_walk.specs.Filled.{repeated}
+use Rattle.std.proofs.lemmas.List.{append-nil}
+use Rattle.nc_walk.proofs.ListedRuns.{run-pieces}
+use Rattle.devices.specs.Sinks.{Appended, FailedPartway}
+use Rattle.devices.proofs.Writes.{appended_then, appended_partway}
+use Rattle.devices.proofs.UpTo.{up-start, up-next, up-partway, up-all}
+use Rattle.nc_walk.proofs.write.part.put_run.Goals as goal
+
+pub returns-in_err-put-clause-writes : goal.returns-in_err-put-clause-writes
+returns-in_err-put-clause-writes g c =
+    let run = c.args.run in
+    let p = err_from_is_err_and c.from_residual.result c.from_residual.ensures.1 in
+    rw p.1 (up-partway _ _ _ _ _ _ _ (run-pieces run.bytes.now run.filling run.fill c.args.n c.min-listed.result _ c.min-listed.ensures refl) (up-start _ _) c.in_err-put.ensures)
+
+pub returns-in_err-put_fills-clause-writes : goal.returns-in_err-put_fills-clause-writes
+returns-in_err-put_fills-clause-writes g c =
+    let run = c.args.run in
+    let p = err_from_is_err_and c.from_residual-in_err-put_fills.result c.from_residual-in_err-put_fills.ensures.1 in
+    let pieces = run-pieces run.bytes.now run.filling run.fill c.args.n c.min-listed.result c.min-filling.result c.min-listed.ensures c.min-filling.ensures in
+    let second : List ℕ = repeated (replicate 8 run.fill) c.min-filling.result in
+    rw p.1 (subst (FailedPartway _ _) (sym (pieces ∙ ap (λ (b : List ℕ). take c.min-listed.result run.bytes.now ++ b) (sym (append-nil second)))) (appended_partway _ _ _ _ _ [] c.in_ok-put.ensures c.in_err-put_fills.ensures))
+
+pub returns-clause-writes : goal.returns-clause-writes
+returns-clause-writes g c =
+    let run = c.args.run in
+    subst (Appended _ _) (sym (run-pieces run.bytes.now run.filling run.fill c.args.n c.min-listed.result c.min-filling.result c.min-listed.ensures c.min-filling.ensures))
+    (appended_then _ _ _ _ _ c.in_ok-put.ensures c.in_ok-put_fills.ensures)

@@ -1,0 +1,40 @@
+//! The bytes of a listed array, written run by run.
+
+ghost use Rattle.std.specs.Prelude.{◌≡◌, ◌+◌, ◌++◌, IfOk, drop, length, min, replicate, take};
+ghost use Rattle.devices.specs.Sinks.{Wrote};
+
+use super::fills::put_fills;
+use devices::{Sink, WriteFailed, put};
+use nc_base::{ListedArray, Run};
+
+/// Writes `len` bytes of a listed array from a place on, or those up to its end.
+pub(super) fn put_part<W: Sink>(
+    sink: &mut W,
+    listed: &ListedArray,
+    start: u128,
+    len: u128,
+) -> Result<(), WriteFailed>
+    ensures { Wrote (W.view sink.old) (W.view sink.new) (take len (drop start listed.now)) result }
+{
+    let end = start.saturating_add(len).min(listed.len());
+    let mut at = start;
+    while at < end {
+        let run = listed.run_at(at);
+        let n = put_run(sink, run, end - at)?;
+        at += n;
+    }
+    Ok(())
+}
+
+/// Writes the first `n` bytes of a run, or all where it has fewer, and says how many.
+#[tactic(auto, using(devices::proofs::Writes::writes))]
+fn put_run<W: Sink>(sink: &mut W, run: Run<'_>, n: u128) -> Result<u128, WriteFailed>
+    ensures writes { Wrote (W.view sink.old) (W.view sink.new) (take n (run.entry.bytes.now ++ replicate run.entry.filling run.entry.fill)) result }
+    ensures count { IfOk result (λ k. k ≡ min n (length run.entry.bytes.now + run.entry.filling)) }
+{
+    let listed = (run.bytes.len() as u128).min(n);
+    put(sink, &run.bytes[..listed as usize])?;
+    let filling = (run.filling as u128).min(n - listed);
+    put_fills(sink, [run.fill; 8], filling)?;
+    Ok(listed + filling)
+}
