@@ -235,8 +235,16 @@ fn lacking_values_are_filled(rt: HostRuntime) -> Result<(), Fail> {
 #[test]
 fn listed_rows_are_filled_up(rt: HostRuntime) -> Result<(), Fail> {
     const CASES: [(&[u8], &[(&[u8], u64)], &[u8]); 3] = [
-        (files::MANY_HELD_NULS, &[(b"ab", 8), (b"", 10)], b"ab.................."),
-        (files::MANY_HELD_NULS, &[(b"a", 4), (b"bcdef", 0), (b"g", 4)], b"a....bcdefg....\0\0\0\0\0"),
+        (
+            files::MANY_HELD_NULS,
+            &[(b"ab", 8), (b"", 10)],
+            b"ab..................",
+        ),
+        (
+            files::MANY_HELD_NULS,
+            &[(b"a", 4), (b"bcdef", 0), (b"g", 4)],
+            b"a....bcdefg....\0\0\0\0\0",
+        ),
         (files::RECORD_BYTES, &[(b"", 1), (b"a", 0)], b".a\x81"),
     ];
     for (file, rows, data) in CASES {

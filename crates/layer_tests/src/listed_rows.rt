@@ -35,7 +35,12 @@ fn expect_run(rt: &impl Abort, run: Run<'_>, want: &[u8]) {
 }
 
 /// Fails unless the array has these bytes, from each place on.
-fn expect_bytes(rt: &impl Abort, alloc: Global, array: ListedArray, want: &[u8]) -> Result<(), Fail> {
+fn expect_bytes(
+    rt: &impl Abort,
+    alloc: Global,
+    array: ListedArray,
+    want: &[u8],
+) -> Result<(), Fail> {
     assert!(rt; array.len() == want.len() as u128);
     for at in 0..=want.len() {
         expect_run(rt, array.run_at(at as u128), &want[at..]);
@@ -52,10 +57,18 @@ fn rows_are_filled_up_where_they_are_read(rt: HostRuntime) -> Result<(), Fail> {
     const CASES: [(&[Row], &[u8], &[u8]); 9] = [
         (&[], b"", b""),
         (&[], b"abc", b"abc"),
-        (&[(b"a", 2, b'.'), (b"bc", 1, b'.'), (b"", 3, b'.')], b"", b"a..bc...."),
+        (
+            &[(b"a", 2, b'.'), (b"bc", 1, b'.'), (b"", 3, b'.')],
+            b"",
+            b"a..bc....",
+        ),
         (&[(b"abc", 0, b'.'), (b"d", 2, b'.')], b"", b"abcd.."),
         (&[(b"a", 2, b'.'), (b"b", 2, b'.')], b"cd", b"a..b..cd"),
-        (&[(b"a", 2, b'.'), (b"b", 3, b'.'), (b"c", 2, b'.')], b"", b"a..b...c.."),
+        (
+            &[(b"a", 2, b'.'), (b"b", 3, b'.'), (b"c", 2, b'.')],
+            b"",
+            b"a..b...c..",
+        ),
         (&[(b"a", 2, b'.'), (b"b", 2, b'-')], b"", b"a..b--"),
         (&[(b"", 2, 0), (b"", 2, 0)], b"x", b"\0\0\0\0x"),
         (&[(b"", 0, 0), (b"", 0, 0), (b"a", 1, b'.')], b"x", b"a.x"),
@@ -69,7 +82,11 @@ fn rows_are_filled_up_where_they_are_read(rt: HostRuntime) -> Result<(), Fail> {
 
 #[test]
 fn rows_that_pass_memory_have_a_length(rt: HostRuntime) -> Result<(), Fail> {
-    let array = array_of(rt.alloc(), &[(b"a", u64::MAX - 1, b'.'), (b"b", u64::MAX - 1, b'.')], b"c")?;
+    let array = array_of(
+        rt.alloc(),
+        &[(b"a", u64::MAX - 1, b'.'), (b"b", u64::MAX - 1, b'.')],
+        b"c",
+    )?;
     assert!(rt; array.len() == 2 * u64::MAX as u128 + 1);
     let second = array.run_at(u64::MAX as u128);
     assert_eq!(rt; second.bytes, b"b");
