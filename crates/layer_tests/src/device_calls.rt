@@ -6,8 +6,9 @@ use crate::device_rows::{
     Read, drip_of, expect_bytes, expect_put, expect_read, expect_reads, expect_write, source_of,
 };
 use devices::{
-    FailWhen, FileSource, Flush, IoSink, Listed, ListedFile, MemSink, MemSource, OpenFailed,
-    Opener, ReadAhead, Sink, SinkFailed, Source, SourceFailed, SystemFiles, WriteFailed,
+    CountedRead, FailWhen, FileSource, Flush, IoSink, Listed, ListedFile, MemSink, MemSource,
+    OpenFailed, Opener, ReadAhead, Sink, SinkFailed, Source, SourceFailed, SystemFiles,
+    WriteFailed,
 };
 use std::io::{ErrorKind, Write};
 use std::process::Abort;

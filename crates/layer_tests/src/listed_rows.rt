@@ -89,9 +89,9 @@ fn rows_that_pass_memory_have_a_length(rt: HostRuntime) -> Result<(), Fail> {
     )?;
     assert!(rt; array.len() == 2 * u64::MAX as u128 + 1);
     let second = array.run_at(u64::MAX as u128);
-    assert_eq!(rt; second.bytes, b"b");
+    assert_eq!(rt; second.bytes, b"b".as_slice());
     assert!(rt; second.filling == u64::MAX - 1);
-    assert_eq!(rt; array.run_at(2 * u64::MAX as u128).bytes, b"c");
+    assert_eq!(rt; array.run_at(2 * u64::MAX as u128).bytes, b"c".as_slice());
     assert!(rt; array.into_bytes(rt.alloc(), 0).is_err());
     Ok(())
 }
