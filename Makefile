@@ -20,8 +20,8 @@ bin/ncgen: FORCE
 	cd crates/ncgen_cli && rt run -- ../../$(sample).cdl
 	$(call keep,ncgen)
 
-# The merge gate: every proof from nothing, the tests and the programs' stored runs; then wrong bodies, each of which its contract or
-# a test that it names has to refuse, and wrong definitions, which the laws have to refuse; the tests and the programs that the gate
+# The merge gate: every proof from nothing, the tests and the programs' stored runs; then wrong bodies, which the prover has to
+# refuse, and wrong definitions, which the laws have to refuse; the tests and the programs that the gate
 # has built with each growth of memory refused in turn, and the programs from end to end, with their calls of the system counted, on
 # texts and files of many parts, whose time may not grow with a square, on random datasets, and on mangled files and texts.
 test:
@@ -29,7 +29,6 @@ test:
 	$(call keep,ncdump)
 	$(call keep,ncgen)
 	tests/wrong_bodies.py
-	tests/wrong_bodies.py --tests 4
 	tests/definitions.py
 	tests/growths.sh
 	tests/ncdump.sh

@@ -9,6 +9,7 @@ Each run has 256 MiB of memory and 5 seconds. Of each answer:
 - no dump begins where the header has a fault; where data are cut short the text is a prefix of that of the whole file;
 - a refused text leaves no output, and the line that its fault names is one of the text;
 - what is generated is dumped, and generated from that dump again byte for byte;
+- a text whose rows pass the limit on an array is too large, however few strings it has;
 - the same text on standard input has the same answer.
 
 The last line is 'N passed, M failed', of seeds with 20 cases each.
@@ -195,8 +196,19 @@ class Cases:
         if dump is not None:
             raise Broken("a text without its last brace is read")
 
+    def long_rows(self):
+        """Few strings, in rows so long that the array is too large."""
+        pick = self.pick
+        rows, longest = ("x", 2**31) if self.dataset.kind != "nc5" else (pick.choice("tx"), 2**63)
+        length = pick.randrange(2**24 + 1 if rows == "x" else 2**48 + 1, longest)
+        strings = ", ".join(f'"{"a" * pick.choice([0, 1, 100])}"' for _ in range(pick.choice([1, 2, 50])))
+        head = f"netcdf t {{ dimensions: t = UNLIMITED, x = {length} ; variables: char c({rows}, x) ;"
+        dump, fault = self.text(f"{head} data: c = {strings} ;\n}}\n".encode())
+        if dump is not None or fault != b"line 2: too large":
+            raise Broken(f"the fault of rows of {length} characters is {fault[:100]!r}")
+
     def all(self):
-        kinds = [self.cut_file, self.mangled_file, self.random_file, self.mangled_text, self.cut_text]
+        kinds = [self.cut_file, self.mangled_file, self.random_file, self.mangled_text, self.cut_text, self.long_rows]
         for number in range(EACH):
             kinds[number % len(kinds)]()
 

@@ -184,4 +184,37 @@ cdl 'netcdf t {\ndimensions: x = 4294967292 ;\nvariables: byte b(x) ;\n}\n' skel
 run in_little_memory "$ncgen" -k nc5 -o /dev/null skeleton.cdl
 verdict skeleton_of_four_gib 0
 
+# Rows stand in memory as they are listed, and are asked whether they are too large before they are filled up.
+# in_memory_of_rows COMMAND..: runs the command with 64 MiB of memory and a second of processor time.
+in_memory_of_rows() (
+    ulimit -v 65536 -t 1
+    exec "$@"
+)
+# in_memory_of_many_rows COMMAND..: runs the command with 32 MiB of memory and a minute of processor time.
+in_memory_of_many_rows() (
+    ulimit -v 32768 -t 60
+    exec "$@"
+)
+# long_rows NAME KIND LENGTH FIRST: a variable of two strings, whose rows have that length, and which is too large.
+long_rows() {
+    cdl "netcdf t {\ndimensions: x = $3, t = UNLIMITED ;\nvariables: char c($4, x) ;\ndata: c = \"a\",\n\"b\" ;\n}\n" rows.cdl
+    stderr 'ncgen: rows.cdl: line 6: too large\n'
+    run in_memory_of_rows "$ncgen" -k "$2" -o rows.nc rows.cdl
+    verdict "$1" 1
+    nothing
+}
+long_rows long_rows nc3 2147483647 x
+long_rows longest_rows nc5 9223372036854775807 x
+long_rows longest_rows_of_records nc5 9223372036854775807 t
+cdl 'netcdf t {\ndimensions: x = 2, y = 100000000 ;\nvariables: char c(x, y) ;\ndata: c = "a", "b" ;\n}\n' rows.cdl
+run in_little_memory "$ncgen" -o /dev/null rows.cdl
+verdict two_strings_of_200_megabytes 0
+{
+    printf 'netcdf t {\ndimensions: x = 100000 ;\nvariables: char c(x, x) ;\ndata: c =\n'
+    yes '"a",' | head -n 99999
+    printf '"a" ;\n}\n'
+} >rows.cdl
+run in_memory_of_many_rows "$ncgen" -k nc5 -o /dev/null rows.cdl
+verdict short_strings_of_ten_gigabytes 0
+
 summary
