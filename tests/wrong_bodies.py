@@ -158,8 +158,8 @@ def try_crates(crates):
     crates = sorted(crates, key=lambda it: -len(list((CRATES / it / "wrong-bodies").glob("*.edit"))))
     with ThreadPoolExecutor(prover.at_once()) as pool:
         results = [it for part in pool.map(try_crate, crates) for it in part]
-    by_contract = sum(is_refused and "by its contract" in line for is_refused, line in results)
-    by_test = sum(is_refused and "by its test alone" in line for is_refused, line in results)
+    by_contract = sum("refused by its contract" in line for _, line in results)
+    by_test = sum("refused by its test alone" in line for _, line in results)
     by_neither = sum(is_refused is None for is_refused, _ in results)
     print(f"refused by their contracts: {by_contract}; by the tests that they name, which --tests runs: {by_test}; by neither: {by_neither}")
     return [it for it in results if it[0] is not None]
