@@ -121,9 +121,9 @@ fn memory_hands_over_its_bytes(rt: HostRuntime) {
 fn each_failed_read_is_counted(rt: HostRuntime) {
     let mut reader = CountedRead::new(Unreadable { calls: 0 });
     let mut into = [0; 4];
-    for failures in 1..10 {
+    for n in 1..10u64 {
         assert!(rt; reader.read_some(&mut into) == Err(SourceFailed));
-        assert!(rt; reader.failures() == failures);
+        assert!(rt; reader.failures() == n as u128);
     }
 }
 
