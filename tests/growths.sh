@@ -146,12 +146,12 @@ for row in one_variable=7 one_variable_of_version_5=7 a_rank_three_selection=16 
     grows "dumps::header_and_selection_of_${row%=*}" "${row#*=}"
 done
 grows dumps::header_of_names_and_strings 17
-for row in text_of_three_shorts=17 text_of_forty_shorts=21 text_of_names_and_attributes=34 text_of_rows_of_characters=54 \
-    declarations_of_rows_of_characters=46 text_of_numbers_of_cdf5=52 text_with_a_fault_in_its_last_statement=36 \
+for row in text_of_three_shorts=17 text_of_forty_shorts=21 text_of_names_and_attributes=34 text_of_rows_of_characters=55 \
+    declarations_of_rows_of_characters=47 text_of_numbers_of_cdf5=52 text_with_a_fault_in_its_last_statement=36 \
     text_with_an_array_too_large=18; do
     grows "parsed::${row%=*}" "${row#*=}"
 done
-for row in one_variable=16 forty_shorts=20 rank_three=35 padded_records=24 three_padded_records=34 records_of_version_5=16 \
+for row in one_variable=15 forty_shorts=19 rank_three=34 padded_records=22 three_padded_records=34 records_of_version_5=16 \
     names_and_strings=42; do
     grows "generated::${row%=*}_generated" "${row#*=}"
     grows "generated::${row%=*}_prepared" "${row#*=}"
