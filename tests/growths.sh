@@ -146,8 +146,8 @@ for row in one_variable=7 one_variable_of_version_5=7 a_rank_three_selection=16 
     grows "dumps::header_and_selection_of_${row%=*}" "${row#*=}"
 done
 grows dumps::header_of_names_and_strings 17
-for row in text_of_three_shorts=17 text_of_forty_shorts=21 text_of_names_and_attributes=34 text_of_rows_of_characters=55 \
-    declarations_of_rows_of_characters=47 text_of_numbers_of_cdf5=52 text_with_a_fault_in_its_last_statement=36 \
+for row in text_of_three_shorts=17 text_of_forty_shorts=21 text_of_names_and_attributes=34 text_of_rows_of_characters=56 \
+    declarations_of_rows_of_characters=48 text_of_numbers_of_cdf5=52 text_with_a_fault_in_its_last_statement=36 \
     text_with_an_array_too_large=18; do
     grows "parsed::${row%=*}" "${row#*=}"
 done
