@@ -34,7 +34,7 @@ test:
 	tests/ncdump.sh
 	tests/ncgen.sh
 	tests/calls.sh
-	tests/lengths.py
+	tests/lengths.py 8
 	tests/squares.py
 	tests/roundtrip.py
 	tests/hostile.py

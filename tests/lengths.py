@@ -1,9 +1,10 @@
 #!/usr/bin/env python3
-"""Has bin/ncgen make a file of every length up to that of two buffers, and compares each byte for byte.
+"""Has bin/ncgen make files of every length up to that of two buffers, and compares each byte for byte.
 
     tests/lengths.py [STEP]
 
-The files have one variable of characters, a record each, so nothing is padded. With a STEP, only each of so many lengths is tried.
+The files have one variable of characters, a record each, so nothing is padded. With a STEP, only one of so many lengths is tried, and
+each that is near the end of a buffer.
 The last line is 'N passed, M failed', of stretches of lengths.
 """
 
@@ -17,6 +18,8 @@ NCGEN = Path(__file__).resolve().parent.parent / "bin" / "ncgen"
 # how many bytes the buffer before an output has
 BUFFER = 65536
 HEADER = 80
+# how far from the end of a buffer each length is tried
+NEAR = 300
 # how many lengths one stretch has
 STRETCH = 1024
 # characters that stand for themselves in a string, and as many of them as no power of two divides
@@ -60,6 +63,7 @@ def settled():
 def main(step=1):
     most = 2 * BUFFER - HEADER + 4
     stretches = [range(at, min(at + STRETCH * step, most), step) for at in range(0, most, STRETCH * step)]
+    stretches += [range(at - NEAR, min(at + NEAR, most)) for at in (BUFFER - HEADER, 2 * BUFFER - HEADER)]
     failed = 0
     with tempfile.TemporaryDirectory() as folder:
         os.environ["LENGTHS"] = folder
