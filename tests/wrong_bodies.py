@@ -7,8 +7,8 @@
 The first form asks the prover. crates/CRATE/wrong-bodies/NAME.edit changes the body of one function (`edits.py` has the format). A
 function is proved over the contracts of what it calls and never over their bodies, so a body is refused or not whatever the other
 bodies are. Wrong bodies of different functions are therefore tried in one check, which takes a fifth of the time that a check for
-each takes. Each changed function has to be refused for itself, not because it calls one that is refused, and what it calls has to
-be proved. What the check stands on are the crates below as rt ci has built them.
+each takes. Each changed function has to be refused for itself: where the prover waits for one that it calls, which is refused too, its
+body is tried again in a check without that one's. What the check stands on are the crates below as rt ci has built them.
 
 That a function isn't proved shows nothing by itself: a right body of another shape isn't proved by the stored proof either. So a
 body counts as refused by its contract only where the prover says so of a goal, and every stored answer to the function's other
@@ -41,8 +41,9 @@ from prover import CRATES
 
 # the prover's line on a function
 VERDICT = re.compile(r"^fn (\S+): (.+)$", re.M)
-# an answer to a goal of the function itself doesn't hold, or the goal stayed open: else the function waits for one that it calls
-OWN = re.compile(r"not proved|no proof: .*did not prove")
+PROVED = re.compile(r"proved|no holes")
+# nothing is said of the function itself, since one that it calls isn't proved
+WAITS = re.compile(r"not proved; it calls|no proof: (it calls|the borrow checker's part in its proof is not made yet)")
 # a goal that stayed open, and what the search for a proof came to; such lines stand right before the line on their function
 OPEN = re.compile(r"^note: src/\S+ it is not proved that .*\((`\S+`)\)(.*)$")
 FALSE = "the facts known there allow values at which this goal is false"
@@ -66,8 +67,12 @@ class Said:
         self.unfit = {f"{crate}::{it.replace('/', '::')}" for it in wrong}
 
     def refused(self):
-        """The functions that are not proved for themselves."""
-        return [name for name, verdict in self.verdicts.items() if OWN.match(verdict)]
+        """The functions that are not proved."""
+        return [name for name, verdict in self.verdicts.items() if not PROVED.match(verdict)]
+
+    def waits(self, function):
+        """Whether the prover says nothing of a function that is not proved, but that it calls such a function."""
+        return WAITS.match(self.verdicts[function])
 
     def why(self, function):
         """What the prover says of a goal of a function, or None where only a proof doesn't fit."""
@@ -112,17 +117,21 @@ def verdict_on(edit, said, found):
 
 
 def judge(crate, edits, text):
-    """Whether each edit of a round was refused, and a line on each."""
+    """Whether each edit of a round was refused, and a line on each; and the edits of which nothing is said yet."""
     said = Said(crate, text)
     if not said.verdicts or not text.splitlines()[-1].startswith("only="):
         errors = [line for line in text.splitlines() if "error" in line] or text.splitlines()[-3:]
-        return [(False, f"{it}: BAD EDIT: the round did not reach the prover: {errors[0][:300]}") for it in edits]
-    refused, lines = said.refused(), []
+        return [(False, f"{it}: BAD EDIT: the round did not reach the prover: {errors[0][:300]}") for it in edits], []
+    refused, verdicts, waiting = said.refused(), [], []
     for edit in edits:
         found = [name for name in refused if any(is_of(name, it) for it in edit.functions)]
         refused = [name for name in refused if name not in found]
-        lines.append(verdict_on(edit, said, found))
-    return lines + [(False, f"{crate}: {name} isn't proved, and no edit changes it") for name in refused]
+        if found and all(map(said.waits, found)) and not any(map(said.why, found)):
+            waiting.append(edit)
+        else:
+            verdicts.append(verdict_on(edit, said, found))
+    others = [name for name in refused if not said.waits(name)]
+    return verdicts + [(False, f"{crate}: {name} isn't proved, and no edit changes it") for name in others], waiting
 
 
 def try_round(crate, edits, kept):
@@ -146,9 +155,16 @@ def try_crate(crate):
     except BadEdit as why:
         return [(False, f"BAD EDIT: {why}")]
     with tempfile.TemporaryDirectory() as kept:
-        for round_ in rounds_of(edits):
-            tried = try_round(crate, round_, kept)
-            print("\n".join(line for _, line in tried), flush=True)
+        rounds = rounds_of(edits)
+        while rounds:
+            round_ = rounds.pop(0)
+            tried, waiting = try_round(crate, round_, kept)
+            if len(waiting) == len(round_):
+                tried += [(False, f"{it}: BAD EDIT: what it calls isn't proved") for it in waiting]
+            elif waiting:
+                rounds.append(waiting)
+            for _, line in tried:
+                print(line, flush=True)
             results += tried
     return results
 
