@@ -7,4 +7,5 @@ pub mod CharRows
 pub mod Openings
 pub mod PrinterLaws
 pub mod Takes
+pub mod Digits
 pub mod Batches

@@ -4,10 +4,11 @@ use Rattle.std.specs.Prelude.{codes, ◌==◌, ◌&&◌, unwrap_or}
 use Rattle.std.proofs.lemmas.Bool.{OnTrue_at, OnTrue_from, false≢true, cases_lt, cond-false, lt-ltb}
 use Rattle.std.proofs.lemmas.Bool.Decides.{nat_tests}
 use Rattle.nc_base.specs.ValueText.{Look, is_char, begins_row, column, number_text, number_lead, line_break, number_piece, piece, variable_prefix, later_pieces}
-use Rattle.nc_base.proofs.ValueLaws.{prefix-append, later_one, column-flat, column-broken, number_flat, place-add}
+use Rattle.nc_base.proofs.ValueLaws.{prefix-append, later_none, later_one, column-flat, column-broken, number_flat, place-add}
 use Rattle.devices.specs.Sinks.{SinkView, append, is_transparent, Appended, FailedPartway, Wrote}
-use Rattle.cdl_print.specs.Leads.{gap_bytes, row_gap, next_gap, columns_left_after}
-use Rattle.cdl_print.specs.Printing.{gathered, number_bytes, IsAfterNumber, IsAfter, PrintedMore, PrintsMore}
+use Rattle.cdl_print.specs.Leads.{gap_bytes, row_gap, gap_in_row, next_gap, columns_left_after}
+use Rattle.cdl_print.specs.Printing.{gathered, number_bytes, bytes_in_row, columns_left_in_row, IsAfterNumber, IsAfter, PrintedMore, PrintsMore, PrintedInRow}
+use Rattle.cdl_print.proofs.PrintingLaws.{printed_more_then}
 use Rattle.cdl_print.specs.declared.gap.Gap.{Gap}
 use Rattle.cdl_print.specs.declared.gap.Gap.TheVariants.{Space, FirstRow, NextRow, Comma, NewLine}
 use Rattle.cdl_print.specs.declared.progress.Progress.{Progress}
@@ -136,3 +137,75 @@ goes_gathered look ys p q text old new (Err failure) printed_more wrote = record
   failures = wrote.failures;
   partway = λ xs following. subst (FailedPartway old new) (gathered_is text _ (printed_more.appended xs following)) wrote;
 }
+
+-- ---- numbers of one row
+
+-- no number
+pub in_row_none : (look : Look) (columns_left : ℕ) (text : List ℕ) → PrintedInRow look [] columns_left columns_left text text
+unfolding append
+in_row_none look columns_left text p q is before after some within fits position row_index =
+    let same : q.row_index ≡ p.row_index = row_index ∙ cond-false (p.row_index + 0 == look.row) 0 (p.row_index + 0) (grind (arith, nat_tests)) ∙ omega arith in
+    let place : q.position ≡ p.position = omega (arith, position) in
+    record {
+      position = position;
+      failures = refl;
+      following = λ xs following. subst (λ (ys : List ℤ). IsAfter look ys q) (sym (append-nil xs)) (record {
+        position = place ∙ following.position;
+        row_index = same ∙ following.row_index;
+        columns_left = λ c. after ∙ sym before ∙ following.columns_left c;
+        held = λ c. absurd (false≢true (sym is ∙ c));
+      });
+      appended = λ xs following. subst (Appended (gathered text) (gathered text)) (sym (later_none look xs)) (gathered_appended text text [] (sym (append-nil text)));
+    }
+
+-- how far the values are printed after n more, none of which is its row's last
+abbrev within_row : Progress → ℕ → ℕ → Progress
+within_row p n columns_left = record {
+  position = p.position + n;
+  row_index = p.row_index + n;
+  columns_left = columns_left;
+  held = 0;
+  in_row = omega (arith, p.in_row);
+  waiting = omega arith;
+}
+
+-- a number more
+pub in_row_next : (look : Look) (ys : List ℤ) (x : ℤ) (first before after : ℕ) (old now new : List ℕ) → PrintedInRow look ys first before old now
+    → new ≡ now ++ bytes_in_row look before x → after ≡ columns_left_in_row look before x → PrintedInRow look (ys ++ x ∷ []) first after old new
+in_row_next look ys x first before after old now new printed text columns p q is start finish some within fits position row_index =
+    let n = length-append ys (x ∷ []) in
+    let m = within_row p (length ys) before in
+    let more : m.row_index + 1 ≡ p.row_index + length (ys ++ x ∷ []) = omega (arith, n) in
+    let not_first : (m.row_index == 0) ≡ false = grind (arith, nat_tests) in
+    let not_full : (p.row_index + length ys == look.row) ≡ false = let lt : p.row_index + length ys < look.row = omega (arith, n, fits) in grind (arith, nat_tests) in
+    let gap : next_gap look m (length (number_text look x)) ≡ gap_in_row before (length (number_text look x)) = cond-false (m.row_index == 0) _ _ not_first in
+    printed_more_then look ys (x ∷ []) p m q (gathered old) (gathered now) (gathered new)
+    (printed p m is start refl some within (omega (arith, n, fits)) refl (sym (cond-false (p.row_index + length ys == look.row) 0 (p.row_index + length ys) not_full)))
+    (printed_more_number look x m q now new is
+    (text ∙ ap (λ g. now ++ (gap_bytes g ++ number_text look x)) (sym gap))
+    (record {
+      position = omega (arith, position, n);
+      row_index = row_index ∙ ap (λ k. cond (k == look.row) 0 k) (sym more);
+      columns_left = finish ∙ columns ∙ ap (λ g. columns_left_after g before look.width - length (number_text look x)) (sym gap);
+    }))
+
+-- of all numbers, those done are printed in a row, and the others are to come
+pub record IsInRow (look : Look) (first now : ℕ) (old new : List ℕ) (others all : List ℤ) : Type 0 where
+  pub done : List ℤ
+  pub printed : PrintedInRow look done first now old new
+  pub joined : done ++ others ≡ all
+
+pub in_row_at_first : (look : Look) (first : ℕ) (text : List ℕ) (all : List ℤ) → IsInRow look first first text text all all
+in_row_at_first look first text all = record { done = []; printed = in_row_none look first text; joined = refl }
+
+pub in_row_goes_on : (look : Look) (first before after : ℕ) (old now new : List ℕ) (x : ℤ) (others later all : List ℤ) → IsInRow look first before old now others all → others ≡ x ∷ later
+    → new ≡ now ++ bytes_in_row look before x → after ≡ columns_left_in_row look before x → IsInRow look first after old new later all
+in_row_goes_on look first before after old now new x others later all along is text columns = record {
+  done = along.done ++ x ∷ [];
+  printed = in_row_next look along.done x first before after old now new along.printed text columns;
+  joined = append_assoc along.done (x ∷ []) later ∙ ap (λ (ys : List ℤ). along.done ++ ys) (sym is) ∙ along.joined;
+}
+
+pub in_row_all : (look : Look) (first now : ℕ) (old new : List ℕ) (others all : List ℤ) → IsInRow look first now old new others all → others ≡ [] → PrintedInRow look all first now old new
+in_row_all look first now old new others all along none =
+    subst (λ (ys : List ℤ). PrintedInRow look ys first now old new) (sym (append-nil along.done) ∙ ap (λ (ys : List ℤ). along.done ++ ys) (sym none) ∙ along.joined) along.printed

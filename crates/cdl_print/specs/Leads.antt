@@ -39,11 +39,14 @@ columns_left_after NewLine columns_left width = width - 4
 abbrev pub row_gap : Look → ℕ → Gap
 row_gap look position = if look.in_rows then (if position == 0 then FirstRow else NextRow) else Space
 
--- before the next number, which has this length: a new line begins where `, `, the number and two bytes after it would pass
--- the width
+-- before a number of this length that isn't its row's first, where a line has these columns left: a new line begins where
+-- `, `, the number and two bytes after it would pass the width
+abbrev pub gap_in_row : ℕ → ℕ → Gap
+gap_in_row columns_left len = if nat_lt columns_left (len + 4) then NewLine else Comma
+
+-- before the next number, which has this length
 abbrev pub next_gap : Look → Progress → ℕ → Gap
-next_gap look p len =
-    if p.row_index == 0 then row_gap look p.position else (if nat_lt p.columns_left (len + 4) then NewLine else Comma)
+next_gap look p len = if p.row_index == 0 then row_gap look p.position else gap_in_row p.columns_left len
 
 -- before the next character
 abbrev pub next_char_lead : Look → Progress → List ℕ

@@ -1,9 +1,9 @@
 -- What a call that prints values has done.
-use Rattle.std.specs.Prelude.{ℕ, ◌≡◌, ◌+◌, ◌-◌, ◌%◌, ◌==◌, ◌&&◌, ◌||◌, ℤ, Bool, true, false, not, if◌then◌else◌, List, [], ◌∷◌, ◌++◌, length, replicate, Some, Result, Ok, Err}
+use Rattle.std.specs.Prelude.{ℕ, ◌≡◌, ◌+◌, ◌-◌, ◌%◌, ◌<◌, ◌≤◌, ◌==◌, ◌&&◌, ◌||◌, ℤ, Bool, true, false, not, if◌then◌else◌, List, [], ◌∷◌, ◌++◌, length, replicate, Some, Result, Ok, Err}
 use Rattle.nc_base.specs.Escapes.{escaped_text}
 use Rattle.nc_base.specs.ValueText.{Look, is_char, column, held, number_text, variable_prefix, later_pieces}
 use Rattle.devices.specs.Sinks.{SinkView, Appended, FailedPartway, HasFailed}
-use Rattle.cdl_print.specs.Leads.{gap_bytes, next_gap, next_char_lead, columns_left_after}
+use Rattle.cdl_print.specs.Leads.{gap_bytes, gap_in_row, next_gap, next_char_lead, columns_left_after}
 use Rattle.cdl_print.specs.declared.progress.Progress.{Progress}
 
 -- ---- one number
@@ -21,6 +21,21 @@ pub record IsAfterNumber (look : Look) (p : Progress) (value : ℤ) (q : Progres
   pub position : q.position ≡ p.position + 1
   pub row_index : q.row_index ≡ (if p.row_index + 1 == look.row then 0 else p.row_index + 1)
   pub columns_left : q.columns_left ≡ columns_left_after (next_gap look p (length (number_text look value))) p.columns_left look.width - length (number_text look value)
+
+-- ---- numbers that aren't their row's first
+
+-- a number with what stands before it, where a line has these columns left
+abbrev pub bytes_in_row : Look → ℕ → ℤ → List ℕ
+bytes_in_row look columns_left value = gap_bytes (gap_in_row columns_left (length (number_text look value))) ++ number_text look value
+
+-- the columns left after it
+abbrev pub columns_left_in_row : Look → ℕ → ℤ → ℕ
+columns_left_in_row look columns_left value =
+    columns_left_after (gap_in_row columns_left (length (number_text look value))) columns_left look.width - length (number_text look value)
+
+-- n values more go on in the row that has begun; or there are none
+abbrev pub GoesOnInRow : Look → Progress → ℕ → Type 0
+GoesOnInRow look p n = 0 < n → (0 < p.row_index) × (p.row_index + n ≤ look.row)
 
 -- ---- characters of one row: one, or some that stand for themselves
 
@@ -62,6 +77,14 @@ pub record PrintedMore (look : Look) (ys : List ℤ) (p q : Progress) (old new :
   pub failures : new.failures ≡ old.failures
   pub following : (xs : List ℤ) → IsAfter look xs p → IsAfter look (xs ++ ys) q
   pub appended : (xs : List ℤ) → IsAfter look xs p → Appended old new (later_pieces look xs ys)
+
+-- the values ys more are printed in a row that has begun, which takes the columns left from one number to the other
+abbrev pub PrintedInRow : Look → List ℤ → ℕ → ℕ → List ℕ → List ℕ → Type 0
+PrintedInRow look ys columns_before columns_after old new =
+    (p q : Progress) → is_char look.ty ≡ false → p.columns_left ≡ columns_before → q.columns_left ≡ columns_after
+    → 0 < p.row_index → p.row_index < look.row → p.row_index + length ys ≤ look.row
+    → q.position ≡ p.position + length ys → q.row_index ≡ (if p.row_index + length ys == look.row then 0 else p.row_index + length ys)
+    → PrintedMore look ys p q (gathered old) (gathered new)
 
 -- the sink failed inside the text of the values ys
 pub record FailedPrinting (look : Look) (ys : List ℤ) (p : Progress) (old new : SinkView) : Type 0 where

@@ -1,7 +1,7 @@
 //! What stands before a number.
 
 ghost use Rattle.std.specs.Prelude.{◌≡◌, ◌≤◌, length};
-ghost use Rattle.cdl_print.specs.Leads.{gap_bytes, columns_left_after};
+ghost use Rattle.cdl_print.specs.Leads.{gap_bytes, gap_in_row, columns_left_after};
 
 /// What stands before a number.
 #[derive(Clone, Copy)]
@@ -34,6 +34,7 @@ impl Gap {
     }
 
     /// How many bytes more a line of this width may have after the gap, where it had these columns left before.
+    #[inline(always)]
     pub fn columns_left_after(self, columns_left: usize, width: usize) -> usize
         ensures { result ≡ columns_left_after self columns_left width }
     {
@@ -43,5 +44,19 @@ impl Gap {
             Gap::Comma => columns_left.saturating_sub(2),
             Gap::NewLine => width.saturating_sub(4),
         }
+    }
+}
+
+/// What stands before a number of `len` bytes that isn't its row's first: a line begins where `, `, the number and two bytes
+/// after it would pass the width.
+#[inline(always)]
+pub fn gap_in_row(columns_left: usize, len: usize) -> Gap
+    requires { len ≤ 40 }
+    ensures { result ≡ gap_in_row columns_left len }
+{
+    if columns_left < len + 4 {
+        Gap::NewLine
+    } else {
+        Gap::Comma
     }
 }

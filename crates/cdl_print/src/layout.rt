@@ -1,14 +1,15 @@
 //! What the text of a variable's values depends on.
 
-ghost use Rattle.std.specs.Prelude.{ℕ, ◌≡◌, ◌<◌, ◌≤◌, IfSome, length, slice_get};
+ghost use Rattle.std.specs.Prelude.{ℕ, ◌≡◌, ◌+◌, ◌<◌, ◌≤◌, ◌^◌, ◌&&◌, ◌++◌, IfSome, length, slice_get, take, unsigned_abs};
+ghost use Rattle.std.specs.Ordering.{int_eq};
 ghost use Rattle.nc_base.specs.Headers.{IsSound, value_count};
 ghost use Rattle.nc_base.specs.Sizes.{is_record_var};
 ghost use Rattle.nc_base.specs.ValueText.{closing, is_char, is_trimmed, look_of, number_text, row_len};
 ghost use Rattle.cdl_print.specs.Leads.{look_at, next_char_lead, next_gap, row_gap};
 
-use crate::gap::Gap;
+use crate::gap::{Gap, gap_in_row};
+use crate::number_text::{decimal_len, put_decimal};
 use crate::progress::Progress;
-use itoa::Buffer;
 use nc_base::{
     Dim, Header, NcType, Var, dim_len, fill_of, is_record_var, prints_fill, value_count,
 };
@@ -99,30 +100,64 @@ impl Layout<'_> {
         if self.is_char() { b"\" ;\n" } else { b" ;\n" }
     }
 
-    /// A number in decimal, or `_` for a fill value that is printed so.
-    pub fn number_text<'b>(&self, value: i128, digits: &'b mut Buffer) -> &'b [u8]
-        ensures text { result.now ≡ number_text (look_at self.now) value }
-        ensures short { length result.now ≤ 40 }
+    /// Says whether a number prints as `_`.
+    #[inline(always)]
+    fn is_blank(&self, number: i128) -> bool
+        ensures { result ≡ self.now.prints_fill && int_eq number self.now.fill }
     {
-        if self.prints_fill && value == self.fill {
-            b"_"
+        self.prints_fill && number == self.fill
+    }
+
+    /// How many bytes the text of a number has.
+    #[inline(always)]
+    pub fn number_len(&self, number: i128) -> usize
+        requires { unsigned_abs number < 2 ^ 64 }
+        ensures len { result ≡ length (number_text (look_at self.now) number) }
+        ensures short { result ≤ 21 }
+    {
+        if self.is_blank(number) {
+            1
         } else {
-            digits.format(value).as_bytes()
+            decimal_len(number)
         }
     }
 
-    /// What stands before the next number, whose text has `len` bytes. A number that isn't its row's first begins a line where
-    /// `, `, the number and two bytes after it would pass the width.
+    /// Writes the text of a number at this place, where it has `len` bytes.
+    #[inline(always)]
+    pub fn put_number(&self, text: &mut [u8], at: usize, len: usize, number: i128)
+        requires short { unsigned_abs number < 2 ^ 64 }
+        requires len { len ≡ length (number_text (look_at self.now) number) }
+        requires fits { at + len ≤ length text.old }
+        ensures { take (at + len) text.new ≡ take at text.old ++ number_text (look_at self.now) number }
+    {
+        if self.is_blank(number) {
+            text[at] = b'_';
+        } else {
+            put_decimal(text, at, len, number);
+        }
+    }
+
+    /// How many values are left in the row after its first `row_index`; none, if the next value is its row's first.
+    pub fn left_in_row(&self, row_index: u128) -> u128
+        ensures some { 0 < result → 0 < row_index }
+        ensures within { 0 < result → row_index + result ≤ self.now.row }
+    {
+        if row_index == 0 {
+            0
+        } else {
+            self.row.saturating_sub(row_index)
+        }
+    }
+
+    /// What stands before the next number, whose text has `len` bytes.
     pub fn number_gap(&self, progress: &Progress, len: usize) -> Gap
         requires { len ≤ 40 }
         ensures { result ≡ next_gap (look_at self.now) progress.now len }
     {
         if progress.row_index == 0 {
             self.row_gap(progress.position)
-        } else if progress.columns_left < len + 4 {
-            Gap::NewLine
         } else {
-            Gap::Comma
+            gap_in_row(progress.columns_left, len)
         }
     }
 

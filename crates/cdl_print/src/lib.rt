@@ -14,6 +14,7 @@ mod layout;
 mod name;
 mod number;
 mod number_row;
+mod number_text;
 mod opening;
 mod printer;
 mod progress;

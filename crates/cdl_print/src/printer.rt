@@ -50,7 +50,7 @@ impl<'a> ValuePrinter<'a> {
                 held: 0,
             },
             has_failed: false,
-            text: Gathered::new(),
+            text: [0; 4096],
         }
     }
 

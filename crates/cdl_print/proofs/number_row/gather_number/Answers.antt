@@ -1,10 +1,19 @@
-use Rattle.std.proofs.Common.{◌++◌, arith, ap, length, length-append}
-use Rattle.cdl_print.specs.Leads.{gap_bytes}
-use Rattle.cdl_print.proofs.NumberRows.{gap_short}
+use Rattle.std.proofs.Common.{◌∙◌, ◌++◌, List, ℕ, ap, length, take, append_assoc, to_z-of_z}
+use Rattle.std.specs.Int.{w128}
+use Rattle.nc_base.specs.ValueText.{number_text}
+use Rattle.cdl_print.specs.Leads.{gap_bytes, next_gap, look_at}
+use Rattle.cdl_print.specs.Printing.{number_bytes}
 use Rattle.cdl_print.proofs.number_row.gather_number.Goals as goal
 
-pub returns-clause-short : goal.returns-clause-short
-returns-clause-short c =
-    let gap = gap_bytes c.number_gap-gap.result in
-    let number = c.number_text-number.result.now in
-    omega (arith, ap length c.gather_both.ensures, length-append c.args.text.now.items (gap ++ number), length-append gap number, gap_short c.number_gap-gap.result, c.number_text-number.ensures.short)
+pub returns-clause-text : goal.returns-clause-text
+returns-clause-text c =
+    let look = look_at c.args.layout.now in
+    let before = take c.args.at c.args.text.now in
+    let text = number_text look c.number_of-number.result in
+    let back = to_z-of_z {w = w128} (record { sfits = c.number_of-number.type_inv }) in
+    c.put_number.ensures
+    ∙ ap (λ z. take c.put_gap-start.result c.put_gap-start.new.text ++ number_text look z) back
+    ∙ ap (λ (t : List ℕ). t ++ text) c.put_gap-start.ensures.written
+    ∙ append_assoc before (gap_bytes c.number_gap-gap.result) text
+    ∙ ap (λ g. before ++ (gap_bytes g ++ text)) (c.number_gap-gap.ensures ∙ ap (λ n. next_gap look c.args.progress.now n) (c.number_len-len.ensures.len ∙ ap (λ z. length (number_text look z)) back))
+    ∙ ap (λ x. before ++ number_bytes look c.args.progress.now x) c.number_of-number.ensures.number

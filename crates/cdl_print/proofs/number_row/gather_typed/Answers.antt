@@ -1,0 +1,23 @@
+use Rattle.std.proofs.Common.{◌∙◌, arith, ap, length, refl}
+use Rattle.cdl_print.proofs.Joined.{numbers_parts, numbers-none}
+use Rattle.cdl_print.proofs.NumberRows.{in_row_at_first, in_row_goes_on, in_row_all}
+use Rattle.cdl_print.proofs.number_row.gather_typed.Goals as goal
+
+pub loop-rest-init : goal.loop-rest-init
+loop-rest-init c = (in_row_at_first _ _ _ _, omega arith, refl)
+
+pub gather_next-now-requires-clause-fits : goal.gather_next-now-requires-clause-fits
+gather_next-now-requires-clause-fits c =
+    let parts = numbers_parts c.args.ty c.size-size.result c.loop-rest.rest.now _ _ c.size-size.ensures c.loop-rest-test.true c.split_at.ensures.front c.split_at.ensures.back in
+    omega (arith, ap length parts, c.loop-rest.invariant.1, c.loop-rest.invariant.2, c.requires.fits)
+
+pub loop-rest-preserved : goal.loop-rest-preserved
+loop-rest-preserved c =
+    let parts = numbers_parts c.args.ty c.size-size.result c.loop-rest.rest.now _ _ c.size-size.ensures c.loop-rest-test.true c.split_at.ensures.front c.split_at.ensures.back in (
+      in_row_goes_on _ _ _ _ _ _ _ _ _ _ _ c.loop-rest.invariant.0 parts c.gather_next-now.ensures.text c.gather_next-now.ensures.columns,
+      omega (arith, ap length parts, c.loop-rest.invariant.1, c.gather_next-now.ensures.short),
+      c.gather_next-now.auto.text ∙ c.loop-rest.invariant.2,
+    )
+
+pub returns-clause-more : goal.returns-clause-more
+returns-clause-more c = in_row_all _ _ _ _ _ _ _ c.loop-rest.invariant.0 (numbers-none c.args.ty c.loop-rest.rest.now (omega arith))

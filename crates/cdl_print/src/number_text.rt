@@ -1,0 +1,91 @@
+//! Numbers in decimal, written straight to their place.
+
+ghost use Rattle.std.specs.Prelude.{◌≡◌, ◌+◌, ◌<◌, ◌≤◌, ◌^◌, ◌++◌, unsigned_abs, length, take};
+ghost use Rattle.std.specs.Fmt.{decimal, signed_decimal};
+
+use itoa::write_digits;
+
+/// How many bytes a number has in decimal.
+#[inline(always)]
+pub fn decimal_len(number: i128) -> usize
+    requires { unsigned_abs number < 2 ^ 64 }
+    ensures len { result ≡ length (signed_decimal number) }
+    ensures short { result ≤ 21 }
+{
+    let digits = digit_count(number.unsigned_abs() as u64);
+    if number < 0 { digits + 1 } else { digits }
+}
+
+/// How many digits a number has.
+#[inline(always)]
+fn digit_count(n: u64) -> usize
+    ensures len { result ≡ length (decimal n) }
+    ensures short { result ≤ 20 }
+{
+    if n < 10_000 {
+        few_digit_count(n)
+    } else if n < 100_000_000 {
+        4 + few_digit_count(n / 10_000)
+    } else if n < 1_000_000_000_000 {
+        8 + few_digit_count(n / 100_000_000)
+    } else if n < 10_000_000_000_000_000 {
+        12 + few_digit_count(n / 1_000_000_000_000)
+    } else {
+        16 + few_digit_count(n / 10_000_000_000_000_000)
+    }
+}
+
+/// How many digits a number below 10,000 has.
+#[inline(always)]
+fn few_digit_count(n: u64) -> usize
+    requires { n < 10000 }
+    ensures len { result ≡ length (decimal n) }
+    ensures short { result ≤ 4 }
+{
+    if n < 100 {
+        if n < 10 { 1 } else { 2 }
+    } else if n < 1_000 {
+        3
+    } else {
+        4
+    }
+}
+
+/// Writes a number in decimal at this place, where it has `len` bytes.
+#[inline(always)]
+pub fn put_decimal(text: &mut [u8], at: usize, len: usize, number: i128)
+    requires short { unsigned_abs number < 2 ^ 64 }
+    requires len { len ≡ length (signed_decimal number) }
+    requires fits { at + len ≤ length text.old }
+    ensures { take (at + len) text.new ≡ take at text.old ++ signed_decimal number }
+{
+    let magnitude = number.unsigned_abs() as u64;
+    if number < 0 {
+        let start = put_at(text, at, b"-");
+        put_digits(text, start, len - 1, magnitude);
+    } else {
+        put_digits(text, at, len, magnitude);
+    }
+}
+
+/// Writes a number without a sign at this place, where it has `len` digits.
+#[inline(always)]
+fn put_digits(text: &mut [u8], at: usize, len: usize, n: u64)
+    requires len { len ≡ length (decimal n) }
+    requires fits { at + len ≤ length text.old }
+    ensures { take (at + len) text.new ≡ take at text.old ++ decimal n }
+{
+    write_digits(n, text, at + len);
+}
+
+/// Writes bytes at this place, and returns where they end.
+#[inline(always)]
+pub fn put_at(text: &mut [u8], at: usize, bytes: &[u8]) -> usize
+    requires { at + length bytes.now ≤ length text.old }
+    ensures end { result ≡ at + length bytes.now }
+    ensures written { take result text.new ≡ take at text.old ++ bytes.now }
+{
+    let end = at + bytes.len();
+    text[at..end].copy_from_slice(bytes);
+    end
+}
