@@ -1,6 +1,6 @@
 //! The statements of a text, one at a time.
 
-ghost use Rattle.std.specs.Prelude.{◌≡◌, ◌∷◌, [], OnErr, IfOk, IsErr, true, false, drop, ◌<◌, if◌then◌else◌};
+ghost use Rattle.std.specs.Prelude.{◌≡◌, ◌∷◌, [], None, OnErr, IfOk, IfSome, IsErr, true, false, drop, ◌<◌, if◌then◌else◌};
 ghost use Rattle.cdl_text.specs.Roles.{role_in};
 ghost use Rattle.cdl_text.specs.Lexemes.{lexeme};
 ghost use Rattle.cdl_text.specs.Pieces.{with_first};
@@ -10,12 +10,9 @@ ghost use Rattle.cdl_text.specs.Statements.{statements};
 
 use crate::lexeme::Lexeme;
 use crate::piece::{CutState, Role};
-use cdl_tokens::{Scanner, Token, TokenKind};
+use cdl_tokens::{Numeral, Scanner, Token, TokenKind};
 use nc_base::Version;
-
-/// A growth of memory was refused.
-#[derive(Clone, Copy, Debug, PartialEq, Eq)]
-pub struct OutOfMemory;
+use std::alloc::AllocError;
 
 /// Cuts a text into its statements (the CDL chapter of the NetCDF User's Guide, "CDL Syntax").
 ///
@@ -36,6 +33,7 @@ pub struct Cutter<'a> {
 
 impl<'a> Cutter<'a> {
     ghost use Rattle.cdl_text.specs.Cutters.{HandsOut, SameText, after, first_line, is_done, next_token, offset_of, pieces_left, text_of, version_of, words};
+    ghost use Rattle.cdl_text.specs.ListedNumbers.{IsAtComma, PassesNumber};
     ghost use Rattle.cdl_text.specs.Views.{lexeme_of};
 
     /// The start of a text.
@@ -93,7 +91,7 @@ impl<'a> Cutter<'a> {
     /// # Errors
     ///
     /// A growth of `into` was refused. Then `into` is empty, and the cutter is where it was.
-    pub fn next(&mut self, into: &mut Vec<Token>) -> Result<bool, OutOfMemory>
+    pub fn next(&mut self, into: &mut Vec<Token>) -> Result<bool, AllocError>
         ensures ok { IfOk result (λ more. HandsOut more (pieces_left self.old) (pieces_left self.new) into.new.items) }
         ensures err_same { OnErr result (self.new ≡ self.old) }
         ensures err_empty { OnErr result (into.new.items ≡ []) }
@@ -106,8 +104,8 @@ impl<'a> Cutter<'a> {
         'piece: loop {
             let token = cutter.next;
             let (after, ends) = cutter.advanced();
-            if into.push(token).is_err() {
-                return emptied(into);
+            if let Err(refused) = into.push(token) {
+                return emptied(into, refused.into());
             }
             cutter = after;
             if ends {
@@ -138,6 +136,33 @@ impl<'a> Cutter<'a> {
         found.ends
     }
 
+    /// Says whether a comma comes next, inside of a statement.
+    pub fn is_at_comma(&self) -> bool
+        ensures { result ≡ true → IsAtComma self.now }
+    {
+        !self.done && is_inside(self.state) && self.lexeme().is_mark(b',')
+    }
+
+    /// Goes on past the comma that comes next and a plain number, if another comma follows, and hands out the number. Else the
+    /// cutter stays where it is. It takes no memory.
+    #[inline(always)]
+    pub fn number_and_comma(&mut self) -> Option<Numeral>
+        requires { IsAtComma self.old }
+        ensures same { SameText self.old self.new }
+        ensures at { IsAtComma self.new }
+        ensures passes { IfSome result (λ n. PassesNumber self.old self.new n) }
+        ensures after { after self.new ≡ after self.old }
+        ensures moves { IfSome result (λ n. offset_of self.old < offset_of self.new) }
+        ensures stays { result ≡ None → self.new ≡ self.old }
+    {
+        let mut scanner = self.scanner;
+        let listed = scanner.number_and_comma()?;
+        self.scanner = scanner;
+        self.next = listed.comma;
+        self.next_role = Role::Other;
+        Some(listed.numeral)
+    }
+
     /// The cutter one token on, and whether that token was the last of its statement. It takes no memory.
     pub fn advanced(self) -> (Cutter<'a>, bool)
         requires { is_done self ≡ false }
@@ -154,6 +179,13 @@ impl<'a> Cutter<'a> {
     }
 }
 
+/// Says whether the first part of a statement came before.
+fn is_inside(state: CutState) -> bool
+    ensures { result ≡ true → state ≡ CutState.Inside }
+{
+    matches!(state, CutState::Inside)
+}
+
 /// Says whether the token ends the text.
 fn is_end(kind: TokenKind) -> bool
     ensures { result ≡ is_end kind }
@@ -161,11 +193,11 @@ fn is_end(kind: TokenKind) -> bool
     matches!(kind, TokenKind::End)
 }
 
-/// Empties the list, and says that memory was refused.
-fn emptied(into: &mut Vec<Token>) -> Result<bool, OutOfMemory>
+/// Empties the list that could not grow.
+fn emptied(into: &mut Vec<Token>, refusal: AllocError) -> Result<bool, AllocError>
     ensures empty { into.new.items ≡ [] }
     ensures err { IsErr result }
 {
     into.clear();
-    Err(OutOfMemory)
+    Err(refusal)
 }

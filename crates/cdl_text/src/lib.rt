@@ -13,7 +13,7 @@ mod piece;
 mod section;
 mod survey;
 
-pub use cutter::{Cutter, OutOfMemory};
+pub use cutter::Cutter;
 pub use due::Due;
 pub use fault::{CdlFault, CdlKind};
 pub use lexeme::Lexeme;

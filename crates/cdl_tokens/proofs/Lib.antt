@@ -6,3 +6,5 @@ pub mod PlainTokens
 pub mod Sizes
 pub mod Suffixes
 pub mod Decimals
+pub mod PlainNumbers
+pub mod Searches

@@ -127,6 +127,15 @@ blank_at text fresh at h =
     let here : get_or (drop at text) 0 0 ≡ get_or text at 0 = get_or-drop at text 0 0 ∙ ap (λ n. get_or text n 0) (let e : at + 0 ≡ at = omega arith in e) in
     scan_blank fresh (drop at text) (ap is_blank here ∙ h)
 
+pub here_dropped : (text : List ℕ) (at : ℕ) → get_or (drop at text) 0 0 ≡ get_or text at 0
+here_dropped text at = get_or-drop at text 0 0 ∙ ap (λ n. get_or text n 0) (let e : at + 0 ≡ at = omega arith in e)
+
+pub comma_at : (text : List ℕ) (fresh : Bool) (at : ℕ) → get_or text at 0 ≡ 0x2c → scan fresh (drop at text) ≡ token Mark 1
+comma_at text fresh at h = scan_mark fresh (drop at text) (ap is_mark (here_dropped text at ∙ h))
+
+pub comma_flat : (text : List ℕ) (at : ℕ) → get_or text at 0 ≡ 0x2c → count_by (λ b. b == 0x0a) (take 1 (drop at text)) ≡ 0
+comma_flat text at h = mark_flat (drop at text) (ap is_mark (here_dropped text at ∙ h))
+
 pub past_blank : (text : List ℕ) (fresh : Bool) (at : ℕ) → at < length text → is_blank (get_or text at 0) ≡ true → tokens_at text fresh at 0 (drop at text) ≡ tokens_at text fresh (at + 1) 0 (drop (at + 1) text)
 past_blank text fresh at inside h =
     step_gap text fresh at (gap 1) inside (sym (blank_at text fresh at h)) (omega arith) (rw (length-drop at text) (omega (arith, inside))) refl

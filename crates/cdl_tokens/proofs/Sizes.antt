@@ -1,8 +1,11 @@
 -- Numbers of any length.
-use Rattle.std.proofs.Common.{◌≡◌, ℕ, ◌+◌, ◌*◌, ◌<◌, ◌≤◌, List, [], ◌∷◌, length, get_or, drop, ◌∙◌, ap, arith, rules}
+use Rattle.std.proofs.Common.{◌≡◌, ℕ, ◌+◌, ◌-◌, ◌*◌, ◌^◌, ◌<◌, ◌≤◌, true, List, [], ◌∷◌, length, get_or, drop, ◌∙◌, ap, arith, rules}
 use Rattle.std.specs.Prelude.{None}
 use Rattle.std.proofs.Math.Nat.{mul-le-mul_right}
+use Rattle.std.proofs.lemmas.Grind.{pow_more}
 use Rattle.std.proofs.lemmas.List.{at_drop_more}
+use Rattle.std.proofs.Math.Nat.{pow-le-pow_right}
+use Rattle.cdl_tokens.specs.Bytes.{is_digit}
 use Rattle.cdl_tokens.specs.Escapes.{digit}
 use Rattle.cdl_tokens.specs.Numerals.{number_in}
 use Rattle.cdl_tokens.specs.Magnitudes.{word}
@@ -30,3 +33,16 @@ past_word base value digits i h k none = ap word (at_drop_more (λ bs. number_in
 -- a short number's product with a base
 pub small_product : (base value : ℕ) → base ≤ 16 → value < 576460752303423488 → base * value < 9223372036854775808
 small_product base value h k = let wide : base * value ≤ 16 * value = mul-le-mul_right value h in omega (arith, wide, k)
+
+-- a digit more
+pub one_longer : (at value b : ℕ) → value < 10 ^ at → is_digit b ≡ true → 10 * value + (b - 0x30) < 10 ^ (at + 1)
+one_longer at value b small is =
+    let d : b ≤ 0x39 = grind (arith, is) in
+    let more : 10 ^ (at + 1) ≡ 10 ^ at * 10 = pow_more 10 at in
+    omega (arith, small, d, more)
+
+-- numbers of few digits
+pub short_number : (at value : ℕ) → at < 19 → value < 10 ^ at → value < 1000000000000000000
+short_number at value few small =
+    let most : 10 ^ at ≤ 10 ^ 18 = pow-le-pow_right {n = 10} (omega arith) {i = at} {j = 18} (omega (arith, few)) in
+    let e : 10 ^ at ≤ 1000000000000000000 = most in omega (arith, small, e)

@@ -7,6 +7,7 @@ ghost use Rattle.cdl_tokens.specs.Escapes.{byte, character, digit, escape, has_n
 
 use crate::bytes::{byte_at, count_of, first_bytes, is_digit, is_hex, is_octal};
 use crate::scan::Character;
+use memchr::memchr;
 
 /// The number of an octal, decimal or hexadecimal digit, in either case.
 pub fn digit(b: u8) -> u8
@@ -138,11 +139,12 @@ pub fn character(bytes: &[u8]) -> Character
 }
 
 /// How many of the first bytes stand for themselves: those before the first backslash.
+#[tactic(auto, using(crate::proofs::Searches::run_before, crate::proofs::Searches::run_within))]
 pub fn unescaped_len(bytes: &[u8]) -> usize
     ensures len { result ≡ prefix_len is_unescaped bytes.now }
     ensures within { result ≤ length bytes.now }
 {
-    bytes.iter().take_while(|b| **b != b'\\').count()
+    memchr(b'\\', bytes).unwrap_or(bytes.len())
 }
 
 /// Says whether each of the bytes stands for itself: whether none is a backslash.

@@ -7,6 +7,7 @@
 mod bytes;
 mod escape;
 mod numeral;
+mod plain_number;
 mod scan;
 mod scanner;
 mod token;
@@ -15,5 +16,5 @@ pub use bytes::{byte_at, first_bytes, is_escape};
 pub use escape::{character, has_no_escape, unescaped_len};
 pub use numeral::{Numeral, number_of_token};
 pub use scan::{Character, Scanned};
-pub use scanner::Scanner;
+pub use scanner::{ListedNumber, Scanner};
 pub use token::{Token, TokenKind};

@@ -56,6 +56,9 @@ fn unsigned(version: Version, minus: bool, bytes: &[u8]) -> Option<Numeral>
 /// A number below it has 64 bits at most with one digit more, in every base.
 const SMALL: u64 = 1 << 59;
 
+/// So many decimal digits have 64 bits at most.
+const SHORT: usize = 19;
+
 /// The number of decimal digits and a suffix.
 #[inline(always)]
 fn decimal(version: Version, minus: bool, bytes: &[u8]) -> Option<Numeral>
@@ -78,16 +81,17 @@ fn decimal(version: Version, minus: bool, bytes: &[u8]) -> Option<Numeral>
 
 /// How many of the first bytes are decimal digits, and their number: all of them, or so many that one more could pass 64 bits.
 #[inline(always)]
-fn first_digits(bytes: &[u8]) -> (usize, u64)
+pub fn first_digits(bytes: &[u8]) -> (usize, u64)
     ensures within { result.0 ≤ length bytes.now }
     ensures count { result.0 + prefix_len is_digit (drop result.0 bytes.now) ≡ prefix_len is_digit bytes.now }
     ensures value { number_in 10 result.1 (decimals (drop result.0 bytes.now)) ≡ number_in 10 0 (decimals bytes.now) }
 {
     let mut value = 0;
     let mut at = 0;
-    'digits: while at < bytes.len() {
+    let most = bytes.len().min(SHORT);
+    'digits: while at < most {
         let b = bytes[at];
-        if !is_digit(b) || value >= SMALL {
+        if !is_digit(b) {
             return (at, value);
         }
         value = 10 * value + (b - b'0') as u64;

@@ -12,6 +12,7 @@ use crate::bytes::{
 };
 use crate::escape::is_string;
 use crate::token::TokenKind;
+use memchr::{memchr, memchr2};
 
 /// The length of the word that opens a text, `netcdf`.
 const OPENING_LEN: usize = 6;
@@ -167,11 +168,12 @@ fn going_on_len(bytes: &[u8]) -> usize
 }
 
 /// How many bytes stand before the line's end.
+#[tactic(auto, using(crate::proofs::Searches::run_before, crate::proofs::Searches::run_within))]
 fn line_len(bytes: &[u8]) -> usize
     ensures len { result ≡ prefix_len (λ b. not (b == 0x0a)) bytes.now }
     ensures within { result ≤ length bytes.now }
 {
-    bytes.iter().take_while(|b| **b != b'\n').count()
+    memchr(b'\n', bytes).unwrap_or(bytes.len())
 }
 
 /// How many of the first bytes are a word.
@@ -203,14 +205,12 @@ fn is_escaping(bytes: &[u8], at: usize) -> bool
 }
 
 /// How many of the first bytes are neither a backslash nor `close`.
+#[tactic(auto, using(crate::proofs::Searches::ordinary_before, crate::proofs::Searches::ordinary_within))]
 fn ordinary_len(bytes: &[u8], close: u8) -> usize
     ensures len { result ≡ prefix_len (is_ordinary close) bytes.now }
     ensures within { result ≤ length bytes.now }
 {
-    bytes
-        .iter()
-        .take_while(|b| **b != b'\\' && **b != close)
-        .count()
+    memchr2(b'\\', close, bytes).unwrap_or(bytes.len())
 }
 
 /// How many bytes stand before the first `close` that isn't escaped; all, where there is none.
@@ -221,16 +221,13 @@ fn until(bytes: &[u8], close: u8) -> usize
 {
     let mut at = 0;
     while at < bytes.len() {
-        let (_, rest) = bytes.split_at(at);
-        let run = ordinary_len(rest, close);
-        if run > 0 {
-            at += run;
-        } else if is_escaping(bytes, at) {
+        if is_escaping(bytes, at) {
             at += 2;
         } else if bytes[at] == close {
             return at;
         } else {
-            at += 1;
+            let (_, rest) = bytes.split_at(at + 1);
+            at += 1 + ordinary_len(rest, close);
         }
     }
     at

@@ -1,10 +1,13 @@
 //! The tokens of a text, one at a time.
 
-ghost use Rattle.std.specs.Prelude.{◌≡◌, ◌+◌, ◌≤◌, ◌<◌, ◌==◌, length, count_by, drop, take, false, true, Some};
+ghost use Rattle.std.specs.Prelude.{◌≡◌, ◌+◌, ◌≤◌, ◌<◌, ◌==◌, length, IfSome, count_by, drop, slice_index, take, false, true, Some, None};
+ghost use Rattle.cdl_tokens.specs.PlainNumbers.{IsListed};
 ghost use Rattle.cdl_tokens.specs.Scan.{scan, token};
-ghost use Rattle.cdl_tokens.specs.Tokens.{line_at, tokens};
+ghost use Rattle.cdl_tokens.specs.Tokens.{line_at, raw, tokens};
 
 use crate::bytes::{byte_at, count_of, is_blank, is_digit, is_mark};
+use crate::numeral::Numeral;
+use crate::plain_number::plain_number;
 use crate::scan::{begins_number, number_len, scan};
 use crate::token::{Token, TokenKind};
 
@@ -20,7 +23,16 @@ pub struct Scanner<'a> {
     ghost on_line: { line ≡ line_at text.now at },
 }
 
+/// A plain number of a list, and the comma after it.
+#[derive(Clone, Copy)]
+pub struct ListedNumber {
+    pub numeral: Numeral,
+    pub number: Token,
+    pub comma: Token,
+}
+
 impl<'a> Scanner<'a> {
+    ghost use Rattle.std.specs.Prelude.{◌∷◌};
     ghost use Rattle.cdl_tokens.specs.Scanners.{followed, is_end, is_token, left, offset_of, text_of};
 
     /// The start of a text.
@@ -51,6 +63,7 @@ impl<'a> Scanner<'a> {
         ensures token { left self.old ≡ followed result result.kind (left self.new) }
         ensures text { text_of self.new ≡ text_of self.old }
         ensures moves { is_end result.kind ≡ false → offset_of self.old < offset_of self.new }
+        ensures stays { is_end result.kind ≡ true → left self.new ≡ left self.old }
     {
         self.skip_blanks();
         let (_, rest) = self.text.split_at(self.at);
@@ -64,6 +77,32 @@ impl<'a> Scanner<'a> {
         } else {
             self.scanned_token()
         }
+    }
+
+    /// Reads a plain number and the comma after it, if they come next; else the scanner stays where it is.
+    #[inline(always)]
+    pub fn number_and_comma(&mut self) -> Option<ListedNumber>
+        ensures tokens { IfSome result (λ l. left self.old ≡ l.number ∷ l.comma ∷ left self.new) }
+        ensures listed { IfSome result (λ l. IsListed (text_of self.old) l) }
+        ensures text { text_of self.new ≡ text_of self.old }
+        ensures moves { IfSome result (λ l. offset_of self.old < offset_of self.new) }
+        ensures stays { result ≡ None → self.new ≡ self.old }
+    {
+        let mut scanner = *self;
+        scanner.skip_to_number();
+        let (_, rest) = scanner.text.split_at(scanner.at);
+        let plain = plain_number(rest)?;
+        let number = scanner.take(TokenKind::Number, plain.len);
+        if !scanner.goes_to_comma() {
+            return None;
+        }
+        let comma = scanner.take(TokenKind::Mark, 1);
+        *self = scanner;
+        Some(ListedNumber {
+            numeral: plain.numeral,
+            number,
+            comma,
+        })
     }
 
     /// Goes past the blanks that stand here.
@@ -80,6 +119,61 @@ impl<'a> Scanner<'a> {
         }
     }
 
+    /// Goes past the blanks that stand here; mostly there is one space.
+    #[inline(always)]
+    fn skip_to_number(&mut self)
+        ensures left { left self.new ≡ left self.old }
+        ensures text { text_of self.new ≡ text_of self.old }
+        ensures on { offset_of self.old ≤ offset_of self.new }
+    {
+        self.skip_space();
+        if self.at < self.text.len() && self.text[self.at] > b' ' {
+            return;
+        }
+        self.skip_blanks();
+    }
+
+    /// Goes past a space, if one stands here.
+    #[inline(always)]
+    fn skip_space(&mut self)
+        ensures left { left self.new ≡ left self.old }
+        ensures text { text_of self.new ≡ text_of self.old }
+        ensures on { offset_of self.old ≤ offset_of self.new }
+    {
+        if self.at < self.text.len() && self.text[self.at] == b' ' {
+            *self = self.after_byte();
+        }
+    }
+
+    /// Goes past the blanks that stand here, mostly none, and says whether a comma comes then.
+    #[inline(always)]
+    fn goes_to_comma(&mut self) -> bool
+        ensures left { left self.new ≡ left self.old }
+        ensures text { text_of self.new ≡ text_of self.old }
+        ensures on { offset_of self.old ≤ offset_of self.new }
+        ensures inside { result ≡ true → offset_of self.new < length (text_of self.new) }
+        ensures comma { result ≡ true → slice_index (text_of self.new) (offset_of self.new) ≡ 0x2c }
+    {
+        if self.is_at_comma() {
+            return true;
+        }
+        self.skip_blanks();
+        self.is_at_comma()
+    }
+
+    /// Says whether a comma stands here.
+    #[inline(always)]
+    fn is_at_comma(&self) -> bool
+        ensures inside { result ≡ true → offset_of self.now < length (text_of self.now) }
+        ensures comma { result ≡ true → slice_index (text_of self.now) (offset_of self.now) ≡ 0x2c }
+    {
+        if self.at < self.text.len() {
+            self.text[self.at] == b','
+        } else {
+            false
+        }
+    }
+
     /// Hands out the token that stands here, which has no line feed.
     #[inline]
     fn take(&mut self, kind: TokenKind, len: usize) -> Token
@@ -88,7 +182,9 @@ impl<'a> Scanner<'a> {
         requires within { self.old.at + len ≤ length self.old.text.now }
         requires kind { is_token (Some kind) ≡ true }
         requires flat { count_by (λ b. b == 0x0a) (take len (drop self.old.at self.old.text.now)) ≡ 0 }
+        ensures kind { result.kind ≡ kind }
         ensures token { left self.old ≡ followed result result.kind (left self.new) }
+        ensures bytes { raw self.old.text.now result ≡ take len (drop self.old.at self.old.text.now) }
         ensures text { text_of self.new ≡ text_of self.old }
         ensures moves { offset_of self.old < offset_of self.new }
     {
@@ -114,6 +210,7 @@ impl<'a> Scanner<'a> {
         ensures token { left self.old ≡ followed result result.kind (left self.new) }
         ensures text { text_of self.new ≡ text_of self.old }
         ensures moves { is_end result.kind ≡ false → offset_of self.old < offset_of self.new }
+        ensures stays { is_end result.kind ≡ true → left self.new ≡ left self.old }
     {
         while self.at < self.text.len() {
             let (_, rest) = self.text.split_at(self.at);

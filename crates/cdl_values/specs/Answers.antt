@@ -24,6 +24,11 @@ abbrev pub Adds : List ℕ → List ℕ → Result ⊤ ReadError → Result (Lis
 Adds before after (Ok u) bytes = joined (Ok before) bytes ≡ Ok after
 Adds before after (Err e) bytes = Fails e bytes
 
+-- a fault is the answer, however much memory there is
+abbrev pub Refuses : Result ⊤ ReadError → Result (List ℕ) CdlKind → Type 0
+Refuses answer (Ok bytes) = Unit {0}
+Refuses answer (Err f) = answer ≡ Err (Fault f)
+
 -- with an Ok the value afterwards is what the definition gives; a fault is its fault
 abbrev pub Leaves : {A : Type 0} → A → Result ⊤ ReadError → Result A CdlKind → Type 0
 Leaves after (Ok u) read = read ≡ Ok after

@@ -10,6 +10,7 @@ mod filling;
 mod name;
 mod name_index;
 mod number;
+mod number_run;
 mod packing;
 mod read_error;
 mod string;

@@ -1,11 +1,11 @@
 //! Numbers of the data section.
 
-ghost use Rattle.std.specs.Prelude.{◌≡◌, ◌++◌, OnOk};
+ghost use Rattle.std.specs.Prelude.{◌≡◌, ◌++◌, OnOk, nat_le};
 ghost use Rattle.nc_base.specs.Numbers.{IsInRange, bytes_of_number};
 ghost use Rattle.cdl_text.specs.Contents.{parts_or_zero};
 ghost use Rattle.cdl_tokens.specs.Magnitudes.{held};
 ghost use Rattle.cdl_tokens.specs.Numerals.{parts, signed};
-ghost use Rattle.cdl_values.specs.Answers.{Adds};
+ghost use Rattle.cdl_values.specs.Answers.{Adds, Refuses};
 ghost use Rattle.cdl_values.specs.PackedValues.{greatest, held_bytes};
 
 use crate::read_error::ReadError;
@@ -28,19 +28,43 @@ pub fn number_or_zero(version: Version, bytes: &[u8]) -> Numeral
 /// Adds the bytes of a number, the highest first, where it is in the range of the type.
 #[inline(always)]
 pub fn put_numeral(array: &mut ListedArray, ty: NcType, n: Numeral) -> Result<(), ReadError>
-    ensures { Adds array.old array.new result (held_bytes ty n.minus n.magnitude) }
+    ensures adds { Adds array.old array.new result (held_bytes ty n.minus n.magnitude) }
+    ensures refuses { Refuses result (held_bytes ty n.minus n.magnitude) }
 {
     match n.magnitude {
-        Some(magnitude) if magnitude <= greatest(ty, n.minus) => {
+        Some(magnitude) if is_in_range(ty, n.minus, magnitude) => {
             Ok(put_number(array, ty, signed(n.minus, magnitude))?)
         }
         _ => Err(ReadError::Fault(CdlKind::NumberRange)),
     }
 }
 
+/// The same inside of its caller, for a loop over numbers of one type.
+#[inline(always)]
+pub fn put_numeral_here(array: &mut ListedArray, ty: NcType, n: Numeral) -> Result<(), ReadError>
+    ensures adds { Adds array.old array.new result (held_bytes ty n.minus n.magnitude) }
+    ensures refuses { Refuses result (held_bytes ty n.minus n.magnitude) }
+{
+    match n.magnitude {
+        Some(magnitude) if is_in_range(ty, n.minus, magnitude) => {
+            Ok(put_number_here(array, ty, signed(n.minus, magnitude))?)
+        }
+        Some(_) | None => Err(ReadError::Fault(CdlKind::NumberRange)),
+    }
+}
+
 /// Adds the bytes of a number, the highest first.
 #[inline(never)]
 pub fn put_number(array: &mut ListedArray, ty: NcType, number: i128) -> Result<(), AllocError>
+    requires { IsInRange ty number }
+    ensures { OnOk result (array.new ≡ array.old ++ bytes_of_number ty number) }
+{
+    put_number_here(array, ty, number)
+}
+
+/// Adds the bytes of a number, the highest first, inside of its caller.
+#[inline(always)]
+fn put_number_here(array: &mut ListedArray, ty: NcType, number: i128) -> Result<(), AllocError>
     requires { IsInRange ty number }
     ensures { OnOk result (array.new ≡ array.old ++ bytes_of_number ty number) }
 {
@@ -55,6 +79,14 @@ pub fn put_number(array: &mut ListedArray, ty: NcType, number: i128) -> Result<(
         NcType::Int64 => array.add(&(number as i64).to_be_bytes()),
         NcType::Uint64 => array.add(&(number as u64).to_be_bytes()),
     }
+}
+
+/// Says whether the type has the number.
+#[inline(always)]
+fn is_in_range(ty: NcType, minus: bool, magnitude: u64) -> bool
+    ensures { result ≡ nat_le magnitude (greatest ty minus) }
+{
+    magnitude <= greatest(ty, minus)
 }
 
 /// The greatest magnitude of the type's numbers, with a minus or without one.

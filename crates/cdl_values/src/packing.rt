@@ -9,6 +9,7 @@ ghost use Rattle.cdl_values.specs.Answers.{Gives};
 ghost use Rattle.cdl_values.specs.PackedValues.{packed};
 
 use crate::filling::Filling;
+use crate::number_run::take_run;
 use crate::read_error::ReadError;
 use crate::value::{Stop, put_token, take_good};
 use cdl_text::{Cutter, Due};
@@ -72,6 +73,7 @@ pub fn pack_good<'a>(
     let version = start.version();
     let mut cutter = start;
     let mut left = capacity;
+    let mut wait = 0;
     let mut due = Due::Value { takes_fill: true };
     let mut array = ListedArray::new(alloc);
     'tokens: loop {
@@ -87,5 +89,8 @@ pub fn pack_good<'a>(
             }
             return Err(Stop::SomeFault);
         }
+        let looked = take_run(&mut array, &mut cutter, &filling, left, due, wait)?;
+        left = looked.left;
+        wait = looked.wait;
     }
 }

@@ -1,11 +1,13 @@
 //! Strings of the data section.
 
-ghost use Rattle.std.specs.Prelude.{◌≡◌, ◌++◌, ◌≤◌, IfOk, OnOk, length, take};
+ghost use Rattle.std.specs.Prelude.{◌≡◌, ◌++◌, ◌≤◌, Err, IfOk, OnOk, length, take, true};
 ghost use Rattle.std.specs.List.{prefix_len};
 ghost use Rattle.cdl_tokens.specs.Escapes.{is_unescaped, stands};
 ghost use Rattle.cdl_text.specs.Shapes.{Characters, inner};
+ghost use Rattle.cdl_text.specs.declared.fault.CdlKind.TheVariants.{TooManyValues};
 ghost use Rattle.cdl_values.specs.Answers.{Adds};
 ghost use Rattle.cdl_values.specs.PackedValues.{char_bytes, row_bytes, text_bytes};
+ghost use Rattle.cdl_values.specs.declared.read_error.ReadError.TheVariants.{Fault};
 
 use crate::filling::is_past;
 use crate::read_error::ReadError;
@@ -40,7 +42,8 @@ pub fn put_row(
     full: bool,
     bytes: &[u8],
 ) -> Result<(), ReadError>
-    ensures { Adds array.old array.new result (row_bytes len fill full (Characters (stands (inner bytes.now)))) }
+    ensures adds { Adds array.old array.new result (row_bytes len fill full (Characters (stands (inner bytes.now)))) }
+    ensures full { full ≡ true → result ≡ Err (Fault TooManyValues) }
 {
     if full {
         return Err(ReadError::Fault(CdlKind::TooManyValues));

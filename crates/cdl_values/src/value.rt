@@ -7,7 +7,7 @@ ghost use Rattle.cdl_text.specs.Lexemes as lexemes;
 ghost use Rattle.cdl_text.specs.Shapes.{token_fault};
 ghost use Rattle.cdl_text.specs.Views.{lexeme_of, lexeme_with};
 ghost use Rattle.cdl_text.specs.declared.fault.CdlKind.{CdlKind};
-ghost use Rattle.cdl_values.specs.Answers.{Adds, Continues};
+ghost use Rattle.cdl_values.specs.Answers.{Adds, Continues, Refuses};
 ghost use Rattle.cdl_values.specs.PackedValues.{bytes_of, capacity_after, joined, less, packed, value_bytes};
 
 use crate::fill::Fill;
@@ -168,7 +168,8 @@ fn put_value(
     full: bool,
     token: Lexeme<'_>,
 ) -> Result<(), ReadError>
-    ensures { Adds array.old array.new result (value_bytes fill.ty fill.value full (value_of version (lexeme_of token.entry) token.entry.kind)) }
+    ensures adds { Adds array.old array.new result (value_bytes fill.ty fill.value full (value_of version (lexeme_of token.entry) token.entry.kind)) }
+    ensures refuses { Refuses result (value_bytes fill.ty fill.value full (value_of version (lexeme_of token.entry) token.entry.kind)) }
 {
     match token.kind {
         TokenKind::Text => Err(ReadError::Fault(CdlKind::WrongKind)),

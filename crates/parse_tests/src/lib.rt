@@ -18,6 +18,8 @@ mod parsed_lengths;
 #[cfg(test)]
 mod parsed_limits;
 #[cfg(test)]
+mod parsed_lists;
+#[cfg(test)]
 mod parsed_names;
 #[cfg(test)]
 mod parsed_numbers;

@@ -113,6 +113,32 @@ fn arrays_at_their_limit(rt: HostRuntime) {
     assert!(rt; parsed(rt.alloc(), Version::Cdf1, NO_RECORDS).is_ok());
 }
 
+/// This many record variables, each of 2^48 bytes a record, of which no two have the same name.
+fn large_records(alloc: Global, count: u16) -> Result<Vec<u8>, AllocError> {
+    const BEFORE: &[u8] = b"netcdf t { dimensions: t = UNLIMITED, x = 16777216 ; variables:";
+    let mut text = Vec::from_slice(alloc, BEFORE)?;
+    for i in 0..count {
+        text.extend_from_slice(b" byte v")?;
+        for shift in [12, 8, 4, 0] {
+            text.push(b'a' + (i >> shift & 15) as u8)?;
+        }
+        text.extend_from_slice(b"(t, x, x) ;")?;
+    }
+    text.extend_from_slice(b" }")?;
+    Ok(text)
+}
+
+/// A record may have 2^62 bytes, and no more.
+#[test]
+fn records_at_their_limit(rt: HostRuntime) -> Result<(), Fail> {
+    let most = large_records(rt.alloc(), 16_384)?;
+    assert!(rt; fault_unfilled(rt.alloc(), Version::Cdf1, most.as_slice()).is_none());
+    let more = large_records(rt.alloc(), 16_385)?;
+    let fault = fault_unfilled(rt.alloc(), Version::Cdf1, more.as_slice());
+    assert!(rt; matches!(fault, Some(found) if found.line == 1 && found.kind == CdlKind::TooLarge));
+    Ok(())
+}
+
 /// Fails unless a dimension of this name and of length 3 is declared.
 fn declares(rt: &impl Abort, alloc: Global, name: &[u8]) -> Result<(), Fail> {
     let text = joined(alloc, &[b"netcdf t { dimensions: ", name, b" = 3 ; }"])?;

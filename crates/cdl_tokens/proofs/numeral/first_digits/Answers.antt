@@ -1,6 +1,7 @@
-use Rattle.std.proofs.Common.{arith, rules, ◌≡◌, true, ◌∙◌, slice_index_or}
+use Rattle.std.proofs.Common.{arith, rules, ◌≡◌, ◌<◌, ◌≤◌, length, true, ◌∙◌, slice_index_or}
 use Rattle.cdl_tokens.specs.Bytes.{is_digit}
 use Rattle.cdl_tokens.proofs.Decimals.{one_digit}
+use Rattle.cdl_tokens.proofs.Sizes.{one_longer, short_number}
 use Rattle.cdl_tokens.proofs.numeral.first_digits.Goals as goal
 
 pub digits-preserved : goal.digits-preserved
@@ -8,9 +9,33 @@ digits-preserved c =
     let l = c.digits in
     let bs = c.args.bytes.now in
     let is : is_digit (slice_index_or bs l.at 0) ≡ true = search rules in
-    let more = one_digit bs l.at l.value c.digits-test.true is in
+    let test = c.digits-test.true in
+    let most = c.min-most.ensures in
+    let room : l.at < length bs = omega (arith, test, most) in
+    let more = one_digit bs l.at l.value room is in
     record {
-      within = omega (arith, c.digits-test.true);
+      short = omega (arith, test, most);
+      small = one_longer l.at l.value (slice_index_or bs l.at 0) l.invariant.small is;
+      within = omega (arith, room);
       count = more.0 ∙ l.invariant.count;
       value = more.1 ∙ l.invariant.value;
     }
+
+pub overflow_mul-value : goal.overflow_mul-value
+overflow_mul-value c =
+    let l = c.digits in
+    let test = c.digits-test.true in
+    let most = c.min-most.ensures in
+    let short = short_number l.at l.value (omega (arith, test, most)) l.invariant.small in
+    omega (arith, short)
+
+pub overflow_add-value : goal.overflow_add-value
+overflow_add-value c =
+    let l = c.digits in
+    let bs = c.args.bytes.now in
+    let is : is_digit (slice_index_or bs l.at 0) ≡ true = search rules in
+    let digit : slice_index_or bs l.at 0 ≤ 0x39 = grind (arith, is) in
+    let test = c.digits-test.true in
+    let most = c.min-most.ensures in
+    let short = short_number l.at l.value (omega (arith, test, most)) l.invariant.small in
+    omega (arith, short, digit)

@@ -1,9 +1,9 @@
-use Rattle.std.proofs.Common.{rules, sym, ap, ◌∙◌, [], Ok}
+use Rattle.std.proofs.Common.{rules, ◌≡◌, sym, ap, ◌∙◌, [], Ok}
 use Rattle.cdl_text.specs.Contents.{values}
 use Rattle.cdl_text.specs.Lexemes.{lexeme}
 use Rattle.cdl_text.specs.Shapes.{first_bad}
 use Rattle.cdl_text.specs.DueTokens.{completes}
-use Rattle.cdl_text.specs.Cutters.{next_token, text_of, words}
+use Rattle.cdl_text.specs.Cutters.{after, next_token, text_of, version_of, words}
 use Rattle.cdl_text.specs.Views.{lexeme_of}
 use Rattle.cdl_text.proofs.Surveys.{going, ending, good_on, good_end}
 use Rattle.cdl_values.specs.PackedValues.{packed, joined}
@@ -34,14 +34,19 @@ tokens-preserved c =
     let rest = words c.advance-ends.new.self in
     let l = lexeme_of c.lexeme-token.result in
     let here = going (words t.cutter) rest (lexeme (text_of t.cutter) (next_token t.cutter)) l c.advance-ends.result c.advance-ends.ensures.words (sym c.lexeme-token.ensures.lexeme) c.if-ends.false in
+    let r = c.in_ok-looked.ensures in
+    let at : version_of c.advance-ends.new.self ≡ c.version-version.result = c.advance-ends.ensures.same.version ∙ t.invariant.version ∙ sym c.version-version.ensures in
+    let filling = a.filling in
     record {
-      text = c.advance-ends.ensures.same.text ∙ t.invariant.text;
-      version = c.advance-ends.ensures.same.version ∙ t.invariant.version;
-      goes = c.advance-ends.ensures.goes c.if-ends.false;
-      bad = sym (good_on c.version-version.result l rest c.in_ok-left.ensures.good) ∙ sym (ap (first_bad c.version-version.result) here) ∙ t.invariant.bad;
-      shaped = ap (λ d. completes d rest) c.in_ok-left.ensures.shape ∙ ap (completes t.due) (sym here) ∙ t.invariant.shaped;
-      packs = sym (c.in_ok-left.ensures.packs rest) ∙ sym (ap (λ ws. joined (Ok t.array) (packed a.filling t.left (values c.version-version.result ws))) here) ∙ t.invariant.packs;
-      rest = search rules;
+      text = r.same.text ∙ c.advance-ends.ensures.same.text ∙ t.invariant.text;
+      version = r.same.version ∙ c.advance-ends.ensures.same.version ∙ t.invariant.version;
+      goes = r.goes;
+      bad = ap (λ v. first_bad v (words c.take_run.new.cutter)) (sym at) ∙ r.bad ∙ ap (λ v. first_bad v rest) at ∙ sym (good_on c.version-version.result l rest c.in_ok-left.ensures.good) ∙ sym (ap (first_bad c.version-version.result) here) ∙ t.invariant.bad;
+      shaped = r.shaped ∙ ap (λ d. completes d rest) c.in_ok-left.ensures.shape ∙ ap (completes t.due) (sym here) ∙ t.invariant.shaped;
+      packs = ap (λ v. joined (Ok c.take_run.new.array) (packed filling c.in_ok-looked.looked.left (values v (words c.take_run.new.cutter)))) (sym at) ∙ r.packs ∙
+          ap (λ v. joined (Ok c.take_good.new.array) (packed filling c.in_ok-left.field-0-0 (values v rest))) at ∙
+          sym (c.in_ok-left.ensures.packs rest) ∙ sym (ap (λ ws. joined (Ok t.array) (packed a.filling t.left (values c.version-version.result ws))) here) ∙ t.invariant.packs;
+      rest = r.others ∙ (let e : after c.advance-ends.new.self ≡ after a.start = search rules in e);
     }
 
 pub returns-then-is_whole-clause-shaped : goal.returns-then-is_whole-clause-shaped

@@ -6,8 +6,8 @@ use Rattle.cdl_values.specs.PackedValues.{char_bytes}
 use Rattle.cdl_values.proofs.PackedTokens.{chars_len}
 use Rattle.cdl_values.proofs.string.put_row.Goals as goal
 
-pub returns-then-len-n : goal.returns-then-len-n
-returns-then-len-n c =
+pub returns-then-len-n-clause-adds : goal.returns-then-len-n-clause-adds
+returns-then-len-n-clause-adds c =
     let s = stands (inner c.args.bytes.now) in
     let old = c.args.array.now in
     let put : c.put_string.new.array ≡ old ++ char_bytes s = search rules in
@@ -16,8 +16,8 @@ returns-then-len-n c =
     let on : nat_lt c.args.len (length s) ≡ true = grind (arith, n-is, c.if-len-n.true) in
     rw (c.if-full.false) (rw (on) refl)
 
-pub returns : goal.returns
-returns c =
+pub returns-clause-adds : goal.returns-clause-adds
+returns-clause-adds c =
     let s = stands (inner c.args.bytes.now) in
     let old = c.args.array.now in
     let put : c.put_string.new.array ≡ old ++ char_bytes s = search rules in

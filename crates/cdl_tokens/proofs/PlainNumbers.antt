@@ -1,0 +1,151 @@
+-- What plain numbers say.
+use Rattle.std.proofs.Common.{◌≡◌, ℕ, zero, suc, ◌+◌, ◌<◌, ◌≤◌, Bool, true, false, List, [], ◌∷◌, length, take, drop, refl, sym, ap, ◌∙◌, arith}
+use Rattle.std.specs.Prelude.{Some, ◌==◌, ◌&&◌, ◌||◌, nat_lt, option_map, slice_index, cond, if◌then◌else◌}
+use Rattle.std.specs.List.{prefix_len}
+use Rattle.nc_base.specs.declared.nc_type.NcType.TheVariants.{Int}
+use Rattle.nc_base.specs.declared.version.Version.{Version}
+use Rattle.cdl_tokens.specs.Bytes.{goes_on_number, is_digit, is_sign}
+use Rattle.cdl_tokens.specs.Magnitudes.{held}
+use Rattle.cdl_tokens.specs.Numerals.{number_in, parts, suffix, unsigned}
+use Rattle.cdl_tokens.specs.PlainNumbers.{AreDigits, Begins}
+use Rattle.cdl_tokens.specs.Scan.{begins_number}
+use Rattle.cdl_tokens.specs.declared.numeral.Numeral.{Numeral}
+use Rattle.cdl_tokens.proofs.Decimals.{said}
+use Rattle.cdl_tokens.proofs.PlainTokens.{digit_number}
+use Rattle.cdl_tokens.proofs.Suffixes.{no_suffix}
+
+-- a number without a suffix
+abbrev pub int : Bool → ℕ → Numeral
+int minus n = record { minus = minus; magnitude = Some n; ty = Int }
+
+-- the digits end where the number token does
+pub same_prefix : (bs : List ℕ) → goes_on_number (slice_index (drop (prefix_len is_digit bs) bs) 0) ≡ false → prefix_len goes_on_number bs ≡ prefix_len is_digit bs
+same_prefix [] h = refl
+same_prefix (b ∷ bs) h = by (same_prefix bs) (is_digit b) refl h
+  where
+    by : (goes_on_number (slice_index (drop (prefix_len is_digit bs) bs) 0) ≡ false → prefix_len goes_on_number bs ≡ prefix_len is_digit bs) → (d : Bool) → is_digit b ≡ d → goes_on_number (slice_index (drop (cond d (1 + prefix_len is_digit bs) 0) (b ∷ bs)) 0) ≡ false → prefix_len goes_on_number (b ∷ bs) ≡ cond d (1 + prefix_len is_digit bs) 0
+    by again true is h =
+        let on : goes_on_number b ≡ true = grind (arith, is) in
+        let step : drop (1 + prefix_len is_digit bs) (b ∷ bs) ≡ drop (prefix_len is_digit bs) bs = ap (λ m. drop m (b ∷ bs)) (let e : 1 + prefix_len is_digit bs ≡ suc (prefix_len is_digit bs) = omega arith in e) in
+        rw (on) (ap (λ m. 1 + m) (again (ap (λ xs. goes_on_number (slice_index xs 0)) (sym step) ∙ h)))
+    by again false is h = rw (let off : goes_on_number b ≡ false = h in off) refl
+
+-- so many of them are digits
+taken_digits : (bs : List ℕ) (n : ℕ) → n ≤ prefix_len is_digit bs → prefix_len is_digit (take n bs) ≡ n
+taken_digits bs zero h = refl
+taken_digits [] (suc n) h = absurd (let e : suc n ≤ 0 = h in omega (arith, e))
+taken_digits (b ∷ bs) (suc n) h = by (taken_digits bs n) (is_digit b) refl h
+  where
+    by : (n ≤ prefix_len is_digit bs → prefix_len is_digit (take n bs) ≡ n) → (d : Bool) → is_digit b ≡ d → suc n ≤ cond d (1 + prefix_len is_digit bs) 0 → cond (is_digit b) (1 + prefix_len is_digit (take n bs)) 0 ≡ suc n
+    by again true is h = rw (is) (rw (again (omega (arith, h))) (omega arith))
+    by again false is h = absurd (omega (arith, h))
+
+taken_twice : (n : ℕ) (bs : List ℕ) → take n (take n bs) ≡ take n bs
+taken_twice zero bs = refl
+taken_twice (suc n) [] = refl
+taken_twice (suc n) (b ∷ bs) = ap (λ xs. b ∷ xs) (taken_twice n bs)
+
+nothing_after : (n : ℕ) (bs : List ℕ) → drop n (take n bs) ≡ []
+nothing_after zero bs = refl
+nothing_after (suc n) [] = refl
+nothing_after (suc n) (b ∷ bs) = nothing_after n bs
+
+pub first_taken : (n : ℕ) (bs : List ℕ) → 0 < n → slice_index (take n bs) 0 ≡ slice_index bs 0
+first_taken zero bs h = absurd (omega (arith, h))
+first_taken (suc n) [] h = refl
+first_taken (suc n) (b ∷ bs) h = refl
+
+-- a zero by itself
+zero_said : (v : Version) (minus : Bool) (bs : List ℕ) (value : ℕ) → 1 ≤ length bs → slice_index bs 0 ≡ 0x30 → number_in 10 0 (take 1 bs) ≡ value → Some (int minus value) ≡ option_map held (unsigned v minus (take 1 bs))
+zero_said v minus [] value within naught is = absurd (let e : 1 ≤ 0 = within in omega (arith, e))
+zero_said v minus (b ∷ bs) value within naught is =
+    rw (← is) (rw (naught) (rw (no_suffix [] v refl) refl))
+
+-- the digits say their number
+pub digits_said : (v : Version) (minus : Bool) (bs : List ℕ) (n value : ℕ) → AreDigits bs n value → Some (int minus value) ≡ option_map held (unsigned v minus (take n bs))
+digits_said v minus bs n value d = by (slice_index bs 0 == 0x30) refl
+  where
+    by : (z : Bool) → (slice_index bs 0 == 0x30) ≡ z → Some (int minus value) ≡ option_map held (unsigned v minus (take n bs))
+    by true is =
+        let naught : slice_index bs 0 ≡ 0x30 = grind (arith, is) in
+        let one : n ≡ 1 = d.plain naught in
+        rw (one) (zero_said v minus bs value (let w = d.within in omega (arith, w, one)) naught (ap (λ m. number_in 10 0 (take m bs)) (sym one) ∙ d.said))
+    by false is =
+        let some : (n == 0) ≡ false = grind (arith, d.some) in
+        let small : nat_lt 18446744073709551615 value ≡ false = grind (arith, d.small) in
+        let all : prefix_len is_digit (take n bs) ≡ n = taken_digits bs n (omega (arith, d.count)) in
+        said v minus (take n bs) n value Int all (ap (number_in 10 0) (taken_twice n bs) ∙ d.said) (ap (suffix v) (nothing_after n bs) ∙ no_suffix [] v refl) some small ∙
+        rw (first_taken n bs d.some) (rw (is) refl)
+
+-- after a sign
+pub sign_said : (v : Version) (bs rest : List ℕ) (n value : ℕ) → is_sign (slice_index bs 0) ≡ true → drop 1 bs ≡ rest → AreDigits rest n value →
+    Some (int (slice_index bs 0 == 0x2d) value) ≡ option_map held (parts v (take (1 + n) bs))
+unfolding parts
+sign_said v [] rest n value sign is d = cc
+sign_said v (b ∷ bs) rest n value sign is d =
+    let step : take (1 + n) (b ∷ bs) ≡ b ∷ take n bs = ap (λ m. take m (b ∷ bs)) (let e : 1 + n ≡ suc n = omega arith in e) in
+    rw (step) (rw (sign) (rw (is) (digits_said v (b == 0x2d) rest n value d)))
+
+-- without a sign
+pub plain_said : (v : Version) (bs : List ℕ) (n value : ℕ) → is_sign (slice_index bs 0) ≡ false → AreDigits bs n value → Some (int false value) ≡ option_map held (parts v (take n bs))
+unfolding parts
+plain_said v bs n value sign d =
+    digits_said v false bs n value d ∙
+    ap (λ s. option_map held (if s then unsigned v (slice_index (take n bs) 0 == 0x2d) (drop 1 (take n bs)) else unsigned v false (take n bs))) (sym (ap is_sign (first_taken n bs d.some) ∙ sign))
+
+-- the first digit
+pub first_digit : (bs : List ℕ) (n value : ℕ) → AreDigits bs n value → is_digit (slice_index bs 0) ≡ true
+first_digit bs n value d = by bs (let e : 0 < prefix_len is_digit bs = omega (arith, d.some, d.count) in e)
+  where
+    by : (bs : List ℕ) → 0 < prefix_len is_digit bs → is_digit (slice_index bs 0) ≡ true
+    by [] h = absurd (let e : 0 < 0 = h in omega (arith, e))
+    by (b ∷ bs) h = on (is_digit b) refl h
+      where
+        on : (c : Bool) → is_digit b ≡ c → 0 < cond c (1 + prefix_len is_digit bs) 0 → is_digit b ≡ true
+        on true is h = is
+        on false is h = absurd (let e : 0 < 0 = h in omega (arith, e))
+
+-- the token goes as far as its digits do
+pub len_of_digits : (bs : List ℕ) (n value : ℕ) → AreDigits bs n value → n ≡ prefix_len goes_on_number bs
+len_of_digits bs n value d = sym (same_prefix bs (ap (λ m. goes_on_number (slice_index (drop m bs) 0)) d.count ∙ d.ends) ∙ d.count)
+
+pub len_after_first : (bs : List ℕ) (n value : ℕ) → AreDigits bs n value → n ≡ 1 + prefix_len goes_on_number (drop 1 bs)
+len_after_first [] n value d = absurd (let e : n ≤ 0 = d.within in omega (arith, e, d.some))
+len_after_first (b ∷ bs) n value d =
+    let first : is_digit b ≡ true = first_digit (b ∷ bs) n value d in
+    let on : goes_on_number b ≡ true = grind (arith, first) in
+    len_of_digits (b ∷ bs) n value d ∙ rw (on) refl
+
+-- a sign and digits
+sign_begins : (bs rest : List ℕ) → is_sign (slice_index bs 0) ≡ true → drop 1 bs ≡ rest → is_digit (slice_index rest 0) ≡ true → begins_number bs ≡ true
+sign_begins [] rest sign is digit = cc
+sign_begins (b ∷ bs) rest sign is digit =
+    by (is_digit b) (b == 0x2e) (is_sign b) (is_digit (slice_index bs 0)) sign (ap (λ xs. is_digit (slice_index xs 0)) is ∙ digit)
+  where
+    by : (a p s d : Bool) → s ≡ true → d ≡ true → (a || p && d || s && d || s && (slice_index bs 0 == 0x2e) && is_digit (slice_index bs 1)) ≡ true
+    by a p s d sign digit = grind (arith, sign, digit)
+
+sign_within : (bs rest : List ℕ) (n : ℕ) → is_sign (slice_index bs 0) ≡ true → drop 1 bs ≡ rest → n ≤ length rest → 1 + n ≤ length bs
+sign_within [] rest n sign is within = cc
+sign_within (b ∷ bs) rest n sign is within =
+    let len : length bs ≡ length rest = ap length is in
+    let e : 1 + n ≤ suc (length bs) = omega (arith, len, within) in e
+
+pub begins_signed : (bs rest : List ℕ) (n value b : ℕ) (m : Numeral) → b ≡ slice_index bs 0 → is_sign b ≡ true → m ≡ int (b == 0x2d) value → drop 1 bs ≡ rest → AreDigits rest n value → Begins bs (record { numeral = m; len = 1 + n })
+begins_signed bs rest n value b m first sign says is d =
+    let signed : is_sign (slice_index bs 0) ≡ true = ap is_sign (sym first) ∙ sign in
+    record {
+      begins = sign_begins bs rest signed is (first_digit rest n value d);
+      len = ap (λ k. 1 + k) (len_of_digits rest n value d ∙ ap (prefix_len goes_on_number) (sym is));
+      within = sign_within bs rest n signed is d.within;
+      says = λ v. ap Some (says ∙ ap (λ x. int (x == 0x2d) value) first) ∙ sign_said v bs rest n value signed is d;
+    }
+
+pub begins_unsigned : (bs : List ℕ) (n value b : ℕ) (m : Numeral) → b ≡ slice_index bs 0 → is_sign b ≡ false → m ≡ int false value → AreDigits bs n value → Begins bs (record { numeral = m; len = n })
+begins_unsigned bs n value b m first sign says d =
+    record {
+      begins = digit_number bs (first_digit bs n value d);
+      len = len_after_first bs n value d;
+      within = d.within;
+      says = λ v. ap Some says ∙ plain_said v bs n value (ap is_sign (sym first) ∙ sign) d;
+    }

@@ -1,0 +1,75 @@
+//! Plain numbers, of which long lists consist: decimal digits after a sign or none, without a suffix.
+
+ghost use Rattle.std.specs.Prelude.{◌≡◌, IfSome, false, true};
+ghost use Rattle.cdl_tokens.specs.Bytes.{goes_on_number};
+ghost use Rattle.cdl_tokens.specs.PlainNumbers.{AreDigits, Begins};
+
+use crate::bytes::{byte_at, is_blank, is_sign};
+use crate::numeral::{Numeral, first_digits};
+use nc_base::NcType;
+
+/// A plain number at the start of bytes.
+#[derive(Clone, Copy)]
+pub struct PlainNumber {
+    pub numeral: Numeral,
+    /// The number of its bytes.
+    pub len: usize,
+}
+
+/// The plain number that the bytes begin with, if a comma or a blank follows it; None where they begin otherwise. The number
+/// is the same in every version.
+#[inline(always)]
+pub fn plain_number(bytes: &[u8]) -> Option<PlainNumber>
+    ensures { IfSome result (λ p. Begins bytes.now p) }
+{
+    let sign = byte_at(bytes, 0);
+    if is_sign(sign) {
+        let (_, rest) = bytes.split_at(1);
+        let (n, value) = plain_digits(rest)?;
+        Some(PlainNumber {
+            numeral: int(sign == b'-', value),
+            len: 1 + n,
+        })
+    } else {
+        let (n, value) = plain_digits(bytes)?;
+        Some(PlainNumber {
+            numeral: int(false, value),
+            len: n,
+        })
+    }
+}
+
+/// A number without a suffix.
+fn int(minus: bool, value: u64) -> Numeral
+    ensures { result ≡ record { minus = minus; magnitude = Some value; ty = NcType.Int } }
+{
+    Numeral {
+        minus,
+        magnitude: Some(value),
+        ty: NcType::Int,
+    }
+}
+
+/// How many digits the bytes begin with, and their number, if it is decimal and a comma or a blank follows.
+#[inline(always)]
+fn plain_digits(bytes: &[u8]) -> Option<(usize, u64)>
+    ensures { IfSome result (λ r. AreDigits bytes.now r.0 r.1) }
+{
+    let (n, value) = first_digits(bytes);
+    let (_, rest) = bytes.split_at(n);
+    if n == 0 || !ends_number(byte_at(rest, 0)) {
+        return None;
+    }
+    // A zero before other digits says that they are octal.
+    if n > 1 && bytes[0] == b'0' {
+        return None;
+    }
+    Some((n, value))
+}
+
+/// Says whether the byte is a comma or a blank, which no number token has.
+fn ends_number(b: u8) -> bool
+    ensures { result ≡ true → goes_on_number b ≡ false }
+{
+    b == b',' || is_blank(b)
+}

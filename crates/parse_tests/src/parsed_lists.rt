@@ -1,0 +1,252 @@
+//! Lists of numbers: of each length up to one past a variable's, with blanks, signs and other values among them, and with a fault.
+
+use crate::fault_order::{GOOD, Row, Sections, refuse_values};
+use crate::number_ranges::{Number, RANGES, Range};
+use crate::parsing::{VERSIONS, joined, parsed, refuses, refuses_in_all};
+use cdl_parse::{CdlFault, CdlKind};
+use nc_base::{Dataset, Version};
+use std::alloc::{AllocError, Global};
+use std::process::Abort;
+use std::test::*;
+
+/// Fails unless the text gives one variable with these values.
+fn has_values(rt: &impl Abort, alloc: Global, version: Version, text: &[u8], want: &[u8]) {
+    match parsed(alloc, version, text) {
+        Ok(dataset) => are_values(rt, &dataset, want),
+        Err(fault) => assert!(rt; false, "{fault:?}: {text:?}"),
+    }
+}
+
+/// Fails unless the dataset has one variable with these values.
+fn are_values(rt: &impl Abort, dataset: &Dataset, want: &[u8]) {
+    assert!(rt; dataset.arrays.len() == 1);
+    for array in dataset.arrays.as_slice() {
+        assert!(rt; array.as_slice() == want, "{want:?}");
+    }
+}
+
+/// Fails unless the text gives one variable with these values, whatever the version.
+fn have_values(rt: &impl Abort, alloc: Global, text: &[u8], want: &[u8]) {
+    for version in VERSIONS {
+        has_values(rt, alloc, version, text, want);
+    }
+}
+
+/// Fails unless a variable of six bytes has these values.
+fn are_six(rt: &impl Abort, alloc: Global, values: &[u8], want: &[u8]) -> Result<(), Fail> {
+    let parts: [&[u8]; 3] = [
+        b"netcdf t {\ndimensions: x = 6 ;\nvariables: byte b(x) ;\ndata: b = ",
+        values,
+        b" ;\n}\n",
+    ];
+    let text = joined(alloc, &parts)?;
+    have_values(rt, alloc, text.as_slice(), want);
+    Ok(())
+}
+
+#[test]
+fn lists_have_their_values(rt: HostRuntime) -> Result<(), Fail> {
+    const ROWS: &[(&[u8], &[u8])] = &[
+        // missing values are -127
+        (b"1", b"\x01\x81\x81\x81\x81\x81"),
+        (b"1, 2", b"\x01\x02\x81\x81\x81\x81"),
+        (b"1, 2, 3", b"\x01\x02\x03\x81\x81\x81"),
+        (b"1, 2, 3, 4", b"\x01\x02\x03\x04\x81\x81"),
+        (b"1, 2, 3, 4, 5, 6", b"\x01\x02\x03\x04\x05\x06"),
+        (b"1,2,3,4,5,6", b"\x01\x02\x03\x04\x05\x06"),
+        (b"1 ,2  ,3 ,  4  ,  5 ,6", b"\x01\x02\x03\x04\x05\x06"),
+        (
+            b"1\n,\n2\n\n,3\t,\r\n4\x0b,\x0c5\n ,\n 6",
+            b"\x01\x02\x03\x04\x05\x06",
+        ),
+        (b"1, -2, +3, -0, +0, 6", b"\x01\xfe\x03\0\0\x06"),
+        (b"1, 127, -128, 100, -99, 6", b"\x01\x7f\x80\x64\x9d\x06"),
+        (b"1, 010, 2, -010, 3, 00", b"\x01\x08\x02\xf8\x03\0"),
+        (b"1,010,2,3", b"\x01\x08\x02\x03\x81\x81"),
+        (b"1, 0x10, 2, -0X1f, 3, 0x0", b"\x01\x10\x02\xe1\x03\0"),
+        (b"1, 2b, 3, 4s, 5, 6L", b"\x01\x02\x03\x04\x05\x06"),
+        (b"1, 2, _, 4, _, 6", b"\x01\x02\x81\x04\x81\x06"),
+        (b"1, 2, // 3,\n 4, 5 // 6\n, 7", b"\x01\x02\x04\x05\x07\x81"),
+        (b"1//,\n, 2 // 3\n, 4, 5", b"\x01\x02\x04\x05\x81\x81"),
+    ];
+    for (values, want) in ROWS {
+        are_six(&rt, rt.alloc(), *values, *want)?;
+    }
+    Ok(())
+}
+
+#[test]
+fn faults_in_lists(rt: HostRuntime) -> Result<(), Fail> {
+    const SIX: Sections = Sections {
+        dims: "x = 6, t = UNLIMITED ;",
+        vars: "byte b(x) ; char c(x) ; byte r(t) ;",
+        ..GOOD
+    };
+    const ROWS: &[Row] = &[
+        ("b = 1, 2, 3, 4, 5, 6, 7 ;", 4, CdlKind::TooManyValues),
+        ("b = 1, 2, 3, 4, 5, 6, 7, 8 ;", 4, CdlKind::TooManyValues),
+        ("b = 1,\n2,\n3, 4, 5, 6, 7, 8 ;", 4, CdlKind::TooManyValues),
+        ("b = 1, 2, 3, 4, 5, 6, 200, 7 ;", 4, CdlKind::TooManyValues),
+        ("b = 1, 2, 3, 4, 200, 6, 7 ;", 4, CdlKind::NumberRange),
+        ("b = 1, 2, 128, 4, 5 ;", 4, CdlKind::NumberRange),
+        ("b = 1, 2, -129\n, 4 ;", 4, CdlKind::NumberRange),
+        (
+            "b = 1, 2, 18446744073709551616, 4 ;",
+            4,
+            CdlKind::NumberRange,
+        ),
+        ("b = 1, 2, 3, 128 ;", 4, CdlKind::NumberRange),
+        ("b = 1, 2,, 3 ;", 4, CdlKind::Syntax),
+        ("b = 1, 2, 3 4, 5 ;", 4, CdlKind::Syntax),
+        ("b = 1, 2, 3, ;", 4, CdlKind::Syntax),
+        ("b = 1, 2, 3,\n", 4, CdlKind::Syntax),
+        ("b = 1, 2, -, 3 ;", 4, CdlKind::BadToken),
+        ("b = 1, 2, 3, 08, 4 ;", 4, CdlKind::BadNumber),
+        ("b = 1, 2, \"a\", 3 ;", 4, CdlKind::WrongKind),
+        ("c = 1, 2, 3 ;", 4, CdlKind::WrongKind),
+        ("r = 1, 2, 3, 4, 5, 6, 7, 128, 9 ;", 4, CdlKind::NumberRange),
+        (
+            "b = 1,\n2,\n3,\n4, 5, 6 ;\nr = 1,\n2,\n128, 4 ;",
+            8,
+            CdlKind::NumberRange,
+        ),
+    ];
+    refuse_values(&rt, rt.alloc(), SIX, ROWS)
+}
+
+/// Fails unless the text has this fault in the statement after a list with twice ten thousand line feeds.
+fn refuses_after_lines(
+    rt: &impl Abort,
+    alloc: Global,
+    last: &[u8],
+    kind: CdlKind,
+) -> Result<(), Fail> {
+    let feeds = Vec::from_elem(alloc, b'\n', 10000)?;
+    let parts: [&[u8]; 7] = [
+        b"netcdf t {\ndimensions: x = 6 ;\nvariables: byte b(x), c(x) ;\ndata: b = 1, 2, 3",
+        feeds.as_slice(),
+        b", ",
+        feeds.as_slice(),
+        b"4, 5, 6 ; c = ",
+        last,
+        b" ;\n}\n",
+    ];
+    let text = joined(alloc, &parts)?;
+    refuses_in_all(rt, alloc, text.as_slice(), CdlFault { line: 20004, kind });
+    Ok(())
+}
+
+#[test]
+fn faults_after_many_lines(rt: HostRuntime) -> Result<(), Fail> {
+    const ROWS: &[(&[u8], CdlKind)] = &[
+        (b"1, 128, 3", CdlKind::NumberRange),
+        (b"1, 2, 3, 4, 5, 6, 7, 8", CdlKind::TooManyValues),
+        (b"1, 2, 3 4", CdlKind::Syntax),
+        (b"1, \"a\", 3", CdlKind::WrongKind),
+    ];
+    for (last, kind) in ROWS {
+        refuses_after_lines(&rt, rt.alloc(), *last, *kind)?;
+    }
+    Ok(())
+}
+
+/// The bytes of a value between zeros, one before it and two after it.
+fn between_zeros(alloc: Global, bytes: &[u8]) -> Result<Vec<u8>, AllocError> {
+    const ZEROS: &[u8] = b"\0\0\0\0\0\0\0\0";
+    let zero = &ZEROS[..bytes.len().min(8)];
+    joined(alloc, &[zero, bytes, zero, zero])
+}
+
+/// Fails unless a number between others of a list has these bytes, or is out of the range.
+fn is_listed(
+    rt: &impl Abort,
+    alloc: Global,
+    version: Version,
+    word: &'static [u8],
+    number: Number,
+    want: Option<&[u8]>,
+) -> Result<(), Fail> {
+    let parts: [&[u8]; 6] = [
+        b"netcdf t {\ndimensions: x = 4 ;\nvariables: ",
+        word,
+        b" v(x) ;\ndata: v = 0, ",
+        number.sign,
+        number.decimal,
+        b", 0, 0 ; }",
+    ];
+    let text = joined(alloc, &parts)?;
+    match want {
+        Some(bytes) => {
+            let values = between_zeros(alloc, bytes)?;
+            has_values(rt, alloc, version, text.as_slice(), values.as_slice());
+        }
+        None => refuses(rt, alloc, version, text.as_slice(), 4, CdlKind::NumberRange),
+    }
+    Ok(())
+}
+
+/// Fails unless the ends of the range have their bytes between others of a list, and the numbers past them are out of the range.
+fn are_listed(rt: &impl Abort, alloc: Global, version: Version, range: &Range) -> Result<(), Fail> {
+    let rows = [
+        (range.low, Some(range.low_bytes)),
+        (range.high, Some(range.high_bytes)),
+        (range.below, None),
+        (range.above, None),
+    ];
+    for (number, want) in rows {
+        is_listed(rt, alloc, version, range.word, number, want)?;
+    }
+    Ok(())
+}
+
+/// The same of the ranges that the version has.
+fn have_ends_in_lists(
+    rt: &impl Abort,
+    alloc: Global,
+    version: Version,
+    ranges: &[Range],
+) -> Result<(), Fail> {
+    for range in ranges {
+        if version.has_type(range.ty) {
+            are_listed(rt, alloc, version, range)?;
+        }
+    }
+    Ok(())
+}
+
+#[test]
+fn ends_of_ranges_in_lists(rt: HostRuntime) -> Result<(), Fail> {
+    for version in VERSIONS {
+        have_ends_in_lists(&rt, rt.alloc(), version, RANGES)?;
+    }
+    Ok(())
+}
+
+/// Fails unless a list of three values, and 300 times as many as are written so before the last, are ones.
+fn are_ones(rt: &impl Abort, alloc: Global, written: &[u8], values: usize) -> Result<(), Fail> {
+    let mut text = Vec::from_slice(
+        alloc,
+        b"netcdf t {\ndimensions: t = UNLIMITED ;\nvariables: byte b(t) ;\ndata: b = 0x1, 1, ",
+    )?;
+    for _ in 0..300 {
+        text.extend_from_slice(written)?;
+    }
+    text.extend_from_slice(b"1 ; }")?;
+    let ones = Vec::from_elem(alloc, 1u8, 3 + 300 * values.min(9))?;
+    have_values(rt, alloc, text.as_slice(), ones.as_slice());
+    Ok(())
+}
+
+#[test]
+fn long_lists(rt: HostRuntime) -> Result<(), Fail> {
+    const ROWS: &[(&[u8], usize)] = &[
+        (b"1,", 1),
+        (b"1 , +1,\n", 2),
+        (b"0x1, 1,", 2),
+        (b"1b, 1, 1, ", 3),
+    ];
+    for (written, values) in ROWS {
+        are_ones(&rt, rt.alloc(), *written, *values)?;
+    }
+    Ok(())
+}
