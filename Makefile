@@ -20,15 +20,17 @@ bin/ncgen: FORCE
 	cd crates/ncgen_cli && rt run -- ../../$(sample).cdl
 	$(call keep,ncgen)
 
-# The merge gate: every proof from nothing, the tests and the programs' stored runs; then wrong bodies, which the prover has to
-# refuse, and wrong definitions, which the laws have to refuse; the tests and the programs that the gate has built with each growth
-# of memory refused in turn, and the programs from end to end, with their calls of the system counted, on texts and files of many
+# The merge gate: every proof from nothing, the tests and the programs' stored runs; then wrong bodies, which the prover or a test
+# has to refuse (of those tests a few are run, drawn by the date), and wrong definitions, which the laws have to refuse; that out of
+# memory is made of refused growths alone; the tests and the programs that the gate has built with each growth of memory refused in turn, and the programs from end to end, with their calls of the system counted, on texts and files of many
 # parts, whose time may not grow with a square, on random datasets, and on mangled files and texts.
 test:
 	rt ci
 	$(call keep,ncdump)
 	$(call keep,ncgen)
 	tests/wrong_bodies.py
+	tests/wrong_bodies.py --tests 4
+	tests/refusals.py
 	tests/definitions.py
 	tests/growths.sh
 	tests/ncdump.sh

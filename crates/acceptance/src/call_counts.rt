@@ -72,6 +72,19 @@ fn dump_of_many_numbers(rt: HostRuntime) -> Result<(), Fail> {
     takes_few_calls(&rt, rt.alloc(), file.as_slice(), 30, 3_000)
 }
 
+/// Values of two record variables lie apart, so that each takes a read of its own, and none takes two.
+#[test]
+fn dump_of_many_records(rt: HostRuntime) -> Result<(), Fail> {
+    let header = files::patched(
+        rt.alloc(),
+        &files::PADDED_RECORDS[..116],
+        4,
+        b"\0\0\x30\xd4",
+    )?;
+    let file = long_file(rt.alloc(), header.as_slice(), (7, COUNT), b"")?;
+    takes_few_calls(&rt, rt.alloc(), file.as_slice(), 25_030, 3_000)
+}
+
 #[test]
 fn dump_of_many_characters(rt: HostRuntime) -> Result<(), Fail> {
     let header = files::patched(rt.alloc(), &files::HELD_NULS[..80], 24, b"\0\x01\x86\xa0")?;

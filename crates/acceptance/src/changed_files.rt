@@ -47,6 +47,26 @@ fn a_wrong_vsize_of_a_record_variable_is_not_looked_at(rt: HostRuntime) -> Resul
     )
 }
 
+/// `byte b(t)` and `byte c(t)` of one record, where the first has a vsize of nearly 2^63.
+#[test]
+fn a_vsize_past_all_limits_is_not_looked_at(rt: HostRuntime) -> Result<(), Fail> {
+    const FILE: &[u8] = b"CDF\x05\0\0\0\0\0\0\0\x01\
+        \0\0\0\x0a\0\0\0\0\0\0\0\x01\
+        \0\0\0\0\0\0\0\x01t\0\0\0\0\0\0\0\0\0\0\0\
+        \0\0\0\0\0\0\0\0\0\0\0\0\
+        \0\0\0\x0b\0\0\0\0\0\0\0\x02\
+        \0\0\0\0\0\0\0\x01b\0\0\0\0\0\0\0\0\0\0\x01\0\0\0\0\0\0\0\0\
+        \0\0\0\0\0\0\0\0\0\0\0\0\
+        \0\0\0\x01\x7f\xff\xff\xff\xff\xff\xff\xff\0\0\0\0\0\0\0\xbc\
+        \0\0\0\0\0\0\0\x01c\0\0\0\0\0\0\0\0\0\0\x01\0\0\0\0\0\0\0\0\
+        \0\0\0\0\0\0\0\0\0\0\0\0\
+        \0\0\0\x01\0\0\0\0\0\0\0\x04\0\0\0\0\0\0\0\xc0\
+        \x01\0\0\0\x02\0\0\0";
+    const TEXT: &[u8] =
+        b"netcdf t {\ndimensions:\n\tt = UNLIMITED ; // (1 currently)\nvariables:\n\tbyte b(t) ;\n\tbyte c(t) ;\ndata:\n\n b = 1 ;\n\n c = 2 ;\n}\n";
+    dumps(&rt, rt.alloc(), FILE, Ok(()), TEXT)
+}
+
 #[test]
 fn an_offset_with_its_top_bit_set(rt: HostRuntime) -> Result<(), Fail> {
     const PLACE: (usize, &[u8]) = (76, b"\x80\0\0\0\0\0\0\0");

@@ -1,5 +1,6 @@
 //! Chunks of a walk: whole values, of one slab after the other, up to the first missing one.
 
+use crate::files;
 use crate::reading::{ends, gives, header_through, walk_over};
 use nc_file::{DripSource, FailWhen};
 use nc_walk::{WalkFault, laws};
@@ -105,6 +106,21 @@ fn failure_in_second_record(rt: HostRuntime) -> Result<(), Fail> {
     let mut source = DripSource::new(THREE_RECORDS, 3, FailWhen::From(128));
     let header = header_through(&rt, rt.alloc(), &mut source, &mut buf)?;
     let mut walk = walk_over(&rt, &header, 1, 3, &mut buf);
+    ends(&rt, &mut walk, &mut source, Err(WalkFault::ReadFailed));
+    ends(&rt, &mut walk, &mut source, Err(WalkFault::ReadFailed));
+    Ok(())
+}
+
+/// The first variable of 20 records has a value in each eighth byte from 116 on.
+#[test]
+fn failure_after_a_chunk(rt: HostRuntime) -> Result<(), Fail> {
+    let mut buf = [0; 16];
+    let mut file = files::patched(rt.alloc(), &THREE_RECORDS[..116], 4, b"\0\0\0\x14")?;
+    file.extend_from_slice(&[7; 160])?;
+    let mut source = DripSource::new(file.as_slice(), 3, FailWhen::From(116 + 16 * 8));
+    let header = header_through(&rt, rt.alloc(), &mut source, &mut buf)?;
+    let mut walk = walk_over(&rt, &header, 0, 20, &mut buf);
+    gives(&rt, &mut walk, &mut source, &[7; 16]);
     ends(&rt, &mut walk, &mut source, Err(WalkFault::ReadFailed));
     ends(&rt, &mut walk, &mut source, Err(WalkFault::ReadFailed));
     Ok(())

@@ -2,7 +2,8 @@
 
 use crate::files;
 use crate::rows::{COORDINATES_TEXT, GENERATED_TEXT, SELECTION_TEXT};
-use devices::Flush;
+use cli_base::OptFault;
+use devices::{Flush, MemSource, OpenFailed, Opener};
 use nc_file::{IoSink, Listed, ListedFile, SliceSink};
 use ncdump::{command, options_of, run_with};
 use std::alloc::Global;
@@ -218,6 +219,67 @@ fn path_that_is_not_there(rt: HostRuntime) {
     const LINE: &[u8] = b"ncdump: u.nc: cannot open\n";
     let words = ["ncdump", "u.nc"];
     refuses(&rt, rt.alloc(), files::GENERATED, &words, LINE);
+}
+
+/// Files in memory, with counts of how often one was opened and given back.
+#[derive(Drop)]
+struct Watched<'a> {
+    files: Listed<'a>,
+    opens: u128,
+    closings: u128,
+}
+
+impl<'a> Opener for Watched<'a> {
+    type Source = MemSource<'a>;
+
+    ghost named = { λ watched path. ⟦<Listed<'static> as Opener>⟧.named watched.files path };
+
+    ghost view = { λ watched. ⟦<Listed<'static> as Opener>⟧.view watched.files };
+
+    fn open(&mut self, path: &str) -> Result<MemSource<'a>, OpenFailed> {
+        self.opens = self.opens.saturating_add(1);
+        Opener::open(&mut self.files, path)
+    }
+
+    fn close(&mut self, source: MemSource<'a>) {
+        self.closings = self.closings.saturating_add(1);
+        self.files.close(source);
+    }
+}
+
+#[test]
+fn path_is_opened_once(rt: HostRuntime) {
+    let listed = [ListedFile {
+        path: "t.nc",
+        bytes: files::GENERATED,
+    }];
+    let mut watched = Watched {
+        files: Listed::new(&listed),
+        opens: 0,
+        closings: 0,
+    };
+    let mut text_space = [0; 512];
+    let mut out = SliceSink::new(&mut text_space, 7);
+    let mut err = SliceSink::new(&mut [], 1);
+    let status = run_with(
+        &mut watched,
+        rt.alloc(),
+        &["ncdump", "t.nc"],
+        &mut out,
+        &mut err,
+    );
+    assert!(rt; status == 0);
+    assert!(rt; (watched.opens, watched.closings) == (1, 1));
+}
+
+/// Words that could not be read for want of memory are no fault of usage.
+#[test]
+fn errors_of_memory_are_no_usage_faults(rt: HostRuntime) {
+    for kind in [ErrorKind::OutOfMemory, ErrorKind::InvalidData] {
+        let fault = OptFault::from(io::Error::from(kind));
+        let is_of_memory = matches!(kind, ErrorKind::OutOfMemory);
+        assert!(rt; (fault == OptFault::OutOfMemory) == is_of_memory);
+    }
 }
 
 /// A run on the first `len` bytes of a file is answered with this text and this line.

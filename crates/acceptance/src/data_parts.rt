@@ -204,6 +204,28 @@ fn blocks_before_records(rt: HostRuntime) -> Result<(), Fail> {
     writes(&rt, rt.alloc(), file, &[A, B, C], &file[180..])
 }
 
+/// 4,100 values, of which one is listed: a buffer of fill values lacks, and six bytes more.
+#[test]
+fn many_lacking_values_are_filled(rt: HostRuntime) -> Result<(), Fail> {
+    let file = files::patched(rt.alloc(), files::GENERATED, 24, b"\0\0\x10\x04")?;
+    let mut data = Vec::from_slice(rt.alloc(), b"\0\x01")?;
+    for _ in 1..4100 {
+        data.extend_from_slice(b"\x80\x01")?;
+    }
+    let mut source = MemSource::new(file.as_slice());
+    let header = header_through(&rt, rt.alloc(), &mut source, &mut [0; 16])?;
+    let arrays = arrays_of(rt.alloc(), &[b"\0\x01"])?;
+    let whole = (data.len(), 4096);
+    fills_sink(
+        &rt,
+        rt.alloc(),
+        &header,
+        arrays.as_slice(),
+        data.as_slice(),
+        whole,
+    )
+}
+
 #[test]
 fn lacking_values_are_filled(rt: HostRuntime) -> Result<(), Fail> {
     const PARTS: &[Part] = &[

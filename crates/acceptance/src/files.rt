@@ -98,6 +98,13 @@ pub const TWO_RECORD_DIMS: &[u8] = b"CDF\x01\0\0\0\0\
     \0\0\0\x01x\0\0\0\0\0\0\0\
     \0\0\0\x01y\0\0\0\0\0\0\0";
 
+/// Another dimension between them.
+pub const RECORD_DIMS_APART: &[u8] = b"CDF\x01\0\0\0\0\
+    \0\0\0\x0a\0\0\0\x03\
+    \0\0\0\x01x\0\0\0\0\0\0\0\
+    \0\0\0\x01y\0\0\0\0\0\0\x03\
+    \0\0\0\x01z\0\0\0\0\0\0\0";
+
 /// `byte b(x, x)`, x = 2147483647: a slab of nearly 2^62 bytes.
 pub const LARGE_SLAB: &[u8] = b"CDF\x01\0\0\0\0\
     \0\0\0\x0a\0\0\0\x01\

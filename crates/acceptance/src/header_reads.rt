@@ -3,7 +3,7 @@
 use crate::files;
 use crate::reading::header_through;
 use crate::runs::{choosing, options};
-use nc_base::Header;
+use nc_base::{FormatFault, Header};
 use nc_file::{DripSource, FailWhen, HeadFault, MemSource, read_header};
 use ncdump::{DumpOptions, select};
 use std::alloc::{AllocError, Global};
@@ -57,6 +57,50 @@ fn no_read_begins_after_the_header(rt: HostRuntime) {
     read_alone(&rt, rt.alloc(), files::GENERATED, 7, 80, 31);
     read_alone(&rt, rt.alloc(), files::GENERATED, 4096, 80, 16);
     read_alone(&rt, rt.alloc(), files::GENERATED_CDF5, 7, 128, 31);
+}
+
+/// Says whether the answer is this fault.
+fn is_fault(answer: Result<Header, HeadFault>, fault: FormatFault) -> bool {
+    matches!(answer, Err(found) if found == HeadFault::Format(fault))
+}
+
+/// A header that is cut off is read up to the cut, and no further, where each read would fail.
+#[test]
+fn no_read_begins_at_the_cut(rt: HostRuntime) {
+    for n in 4..80 {
+        let cut = &files::GENERATED[..n];
+        let mut source = DripSource::new(cut, 7, FailWhen::From(n as u64));
+        let answer = header_through(&rt, rt.alloc(), &mut source, &mut [0; 16]);
+        assert!(rt; is_fault(answer, FormatFault::HeaderTruncated));
+    }
+}
+
+/// This many variables `byte v(t, x, x)`, all alike, each with 2^48 bytes a record, and nothing else.
+fn large_records(alloc: Global, count: u32) -> Result<Vec<u8>, AllocError> {
+    const BEFORE: &[u8] = b"CDF\x01\0\0\0\0\
+        \0\0\0\x0a\0\0\0\x02\0\0\0\x01t\0\0\0\0\0\0\0\0\0\0\x01x\0\0\0\x01\0\0\0\
+        \0\0\0\0\0\0\0\0\0\0\0\x0b";
+    const VARIABLE: &[u8] = b"\0\0\0\x01v\0\0\0\0\0\0\x03\0\0\0\0\0\0\0\x01\0\0\0\x01\
+        \0\0\0\0\0\0\0\0\0\0\0\x01\xff\xff\xff\xff\0\0\0\0";
+    let mut bytes = Vec::from_slice(alloc, BEFORE)?;
+    bytes.extend_from_slice(&count.to_be_bytes())?;
+    for _ in 0..count {
+        bytes.extend_from_slice(VARIABLE)?;
+    }
+    Ok(bytes)
+}
+
+/// A record may have 2^62 bytes, and no more.
+#[test]
+fn records_at_their_limit(rt: HostRuntime) -> Result<(), Fail> {
+    for (count, is_read) in [(16_384, true), (16_385, false)] {
+        let bytes = large_records(rt.alloc(), count)?;
+        let mut source = MemSource::new(bytes.as_slice());
+        let answer = header_through(&rt, rt.alloc(), &mut source, &mut [0; 4096]);
+        assert!(rt; answer.is_ok() == is_read);
+        assert!(rt; is_fault(answer, FormatFault::TooLarge) != is_read);
+    }
+    Ok(())
 }
 
 /// This many variables `int v`, all alike, and nothing else.

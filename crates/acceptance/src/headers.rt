@@ -236,8 +236,9 @@ fn hostile_count(rt: HostRuntime) {
 
 #[test]
 fn two_record_dimensions(rt: HostRuntime) {
-    let file = files::TWO_RECORD_DIMS;
-    refused(&rt, rt.alloc(), file, FormatFault::TwoRecordDims);
+    for file in [files::TWO_RECORD_DIMS, files::RECORD_DIMS_APART] {
+        refused(&rt, rt.alloc(), file, FormatFault::TwoRecordDims);
+    }
 }
 
 #[test]

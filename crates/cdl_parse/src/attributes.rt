@@ -60,11 +60,13 @@ impl Attributes {
     {
         let name = Vec::from_slice(alloc, att.name.as_slice())?;
         self.list.push(att)?;
-        if self.names.insert(name).is_err() {
-            self.list.pop();
-            return Err(AllocError);
+        match self.names.insert(name) {
+            Ok(_) => Ok(()),
+            Err(refused) => {
+                self.list.pop();
+                Err(refused.into())
+            }
         }
-        Ok(())
     }
 
     /// The attributes as a list, without a copy.

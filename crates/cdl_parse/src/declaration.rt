@@ -23,7 +23,7 @@ use cdl_text::{CdlKind, Cutter, Lexeme};
 use cdl_tokens::TokenKind;
 use cdl_values::{ReadError, name_of_word, read_name};
 use nc_base::{NcType, Version, check_name, is_record_dim};
-use std::alloc::Global;
+use std::alloc::{AllocError, Global};
 
 /// A variable as far as its declaration is read.
 #[derive(Drop)]
@@ -201,8 +201,8 @@ fn with_dimension(
     ensures is_open { IfOk result (λ (b : Begun). b.is_open ≡ true) }
 {
     let dimid = dimid_of_word(alloc, dims, begun.dimids.as_slice(), word)?;
-    if begun.dimids.push(dimid).is_err() {
-        return Err(ReadError::OutOfMemory);
+    if let Err(refused) = begun.dimids.push(dimid) {
+        return Err(AllocError::from(refused).into());
     }
     Ok(begun)
 }

@@ -96,12 +96,16 @@ impl Dimensions {
         let has_record = self.has_record || dim.len == 0;
         let position = self.list.len() as u64;
         self.list.push(dim)?;
-        if self.names.add(name, position).is_err() {
-            self.list.pop();
-            return Err(AllocError);
+        match self.names.add(name, position) {
+            Ok(()) => {
+                self.has_record = has_record;
+                Ok(())
+            }
+            Err(refusal) => {
+                self.list.pop();
+                Err(refusal)
+            }
         }
-        self.has_record = has_record;
-        Ok(())
     }
 
     /// The dimensions as a list, without a copy.

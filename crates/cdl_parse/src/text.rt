@@ -41,7 +41,7 @@ pub fn parse(alloc: Global, text: &[u8], version: Version) -> Result<Dataset, Cd
     let declared = declared(alloc, text, version)?;
     match declared.into_dataset(alloc) {
         Ok(dataset) => Ok(dataset),
-        Err(_) => Err(ParseError::OutOfMemory.fault()),
+        Err(refusal) => Err(ParseError::from(refusal).fault()),
     }
 }
 

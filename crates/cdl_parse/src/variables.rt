@@ -97,11 +97,13 @@ impl Variables {
             ty,
             atts: Attributes::new(alloc),
         })?;
-        if self.names.add(key, position).is_err() {
-            self.list.pop();
-            return Err(AllocError);
+        match self.names.add(key, position) {
+            Ok(()) => Ok(()),
+            Err(refusal) => {
+                self.list.pop();
+                Err(refusal)
+            }
         }
-        Ok(())
     }
 
     /// Reads an attribute of a variable, whose name is next, and adds it to the variable's others.

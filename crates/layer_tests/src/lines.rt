@@ -47,6 +47,14 @@ fn long_numbers_begin_a_line(rt: HostRuntime) -> Result<(), Fail> {
             ..TWO_RECORDS
         },
         Row {
+            name: b"m",
+            ty: NcType::Byte,
+            lens: &[3, 1],
+            bytes: b"\x01\xfe\x03",
+            text: b"\n m =\n  1,\n  -2,\n  3 ;\n",
+            ..TWO_RECORDS
+        },
+        Row {
             name: b"v",
             ty: NcType::Uint64,
             lens: &[2, 2],

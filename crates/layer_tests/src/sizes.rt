@@ -188,11 +188,13 @@ fn sound_headers_keep_the_limits(rt: HostRuntime) -> Result<(), Fail> {
     const FINE: Shape = (&[0, 1], NcType::Ubyte, 0);
     const REVERSED: Shape = (&[1, 0], NcType::Ubyte, 0);
     const UNKNOWN: Shape = (&[2], NcType::Ubyte, 0);
+    const ONE: Shape = (&[0], NcType::Ubyte, 0);
     const ROWS: &[(&[u64], Shape, bool)] = &[
         (&[0, 3], FINE, true),
         (&[0, 3], REVERSED, false),
         (&[0, 3], UNKNOWN, false),
         (&[0, 0], FINE, false),
+        (&[0, 0], ONE, false),
     ];
     expect_sound(&rt, rt.alloc(), ROWS)
 }

@@ -1,14 +1,14 @@
 //! The tokens, statements and numbers of CDL text.
 
-use cdl_text::{CdlKind, Cutter, OutOfMemory, Section, look_over};
+use cdl_text::{CdlKind, Cutter, Section, look_over};
 use cdl_tokens::{Character, Numeral, Scanner, Token, TokenKind, character, number_of_token};
 use nc_base::{NcType, Version};
-use std::alloc::Global;
+use std::alloc::{AllocError, Global};
 use std::process::Abort;
 use std::test::*;
 
 /// Says whether the statements of the text have these numbers of tokens, and none comes after the last.
-fn has_pieces(alloc: Global, text: &[u8], lens: &[usize]) -> Result<bool, OutOfMemory> {
+fn has_pieces(alloc: Global, text: &[u8], lens: &[usize]) -> Result<bool, AllocError> {
     let mut cutter = Cutter::new(text, Version::Cdf1);
     let mut tokens = Vec::new(alloc);
     for len in lens {

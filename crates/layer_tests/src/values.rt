@@ -165,9 +165,9 @@ fn least_and_greatest_of_signed_types(rt: HostRuntime) -> Result<(), Fail> {
         Row {
             name: b"v",
             ty: NcType::Byte,
-            lens: &[2],
-            bytes: b"\x80\x7f",
-            text: b"\n v = -128, 127 ;\n",
+            lens: &[12],
+            bytes: b"\x80\x7f\x9c\x9d\xf6\xf7\xff\x00\x09\x0a\x63\x64",
+            text: b"\n v = -128, 127, -100, -99, -10, -9, -1, 0, 9, 10, 99, 100 ;\n",
             ..TWO_RECORDS
         },
         Row {
@@ -212,9 +212,25 @@ fn least_and_greatest_of_unsigned_types(rt: HostRuntime) -> Result<(), Fail> {
         Row {
             name: b"v",
             ty: NcType::Ubyte,
-            lens: &[2],
-            bytes: b"\0\xff",
-            text: b"\n v = 0, 255 ;\n",
+            lens: &[6],
+            bytes: b"\x00\x09\x0a\x63\x64\xff",
+            text: b"\n v = 0, 9, 10, 99, 100, 255 ;\n",
+            ..TWO_RECORDS
+        },
+        Row {
+            name: b"v",
+            ty: NcType::Uint,
+            lens: &[4],
+            bytes: b"\x00\x00\x27\x0f\x00\x00\x27\x10\x05\xf5\xe0\xff\x05\xf5\xe1\x00",
+            text: b"\n v = 9999, 10000, 99999999, 100000000 ;\n",
+            ..TWO_RECORDS
+        },
+        Row {
+            name: b"v",
+            ty: NcType::Uint64,
+            lens: &[4],
+            bytes: b"\x00\x00\x00\xe8\xd4\xa5\x0f\xff\x00\x00\x00\xe8\xd4\xa5\x10\x00\x00\x23\x86\xf2\x6f\xc0\xff\xff\x00\x23\x86\xf2\x6f\xc1\x00\x00",
+            text: b"\n v = 999999999999, 1000000000000, 9999999999999999, 10000000000000000 ;\n",
             ..TWO_RECORDS
         },
         Row {

@@ -1,4 +1,4 @@
-use Rattle.std.proofs.Common.{rules, ◌≡◌, ◌++◌, ◌∷◌, [], map, sym, ap, ◌∙◌, length, List}
+use Rattle.std.proofs.Common.{rules, ◌≡◌, ◌++◌, ◌∷◌, [], map, sym, ap, ◌∙◌, length, List, is_err}
 use Rattle.std.specs.Prelude.{◌||◌, ◌==◌, None}
 use Rattle.nc_base.specs.declared.header.Dim.{Dim}
 use Rattle.cdl_values.specs.NameIndices.{position_of}
@@ -7,8 +7,8 @@ use Rattle.cdl_parse.proofs.NameSets.{where_ok}
 use Rattle.cdl_parse.proofs.dimensions.Dimensions.add.Goals as goal
 use Rattle.cdl_parse.proofs.dimensions.Dimensions.add.Goals.{then-self, else-self}
 
-pub invariant_of-self-2 : goal.invariant_of-self-2
-invariant_of-self-2 c =
+pub invariant_of-self-in-Ok : goal.invariant_of-self-in-Ok
+invariant_of-self-in-Ok c =
     let dims = c.self.inside.list.items in
     let dim = c.args.dim in
     let name = c.in_ok-name.name.items in
@@ -21,6 +21,6 @@ invariant_of-self-2 c =
       | then-self w ↦ search rules
       | else-self w ↦ search rules
     ] in (
-      index_more c.add.new.self dims c.push.new.self.items dim name named listed (where_ok c.add.result _ (sym c.is_err.ensures.value ∙ c.if-is_err.false) (c.add.ensures.ok (map (λ (d : Dim). d.name) dims) c.self.invariant.0 place old)),
+      index_more c.add.new.self dims c.push.new.self.items dim name named listed (where_ok c.add.result _ (ap is_err c.in-Ok.is) (c.add.ensures.ok (map (λ (d : Dim). d.name) dims) c.self.invariant.0 place old)),
       has_record_more dims c.push.new.self.items dim c.self.inside.has_record c.if-self.has_record c.self.invariant.1 either listed,
     )
