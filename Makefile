@@ -21,9 +21,10 @@ bin/ncgen: FORCE
 	$(call keep,ncgen)
 
 # The merge gate: every proof from nothing, the tests and the programs' stored runs; then wrong bodies, which the prover or a test
-# has to refuse (of those tests a few are run, drawn by the date), and wrong definitions, which the laws have to refuse; that out of
-# memory is made of refused growths alone; the tests and the programs that the gate has built with each growth of memory refused in turn, and the programs from end to end, with their calls of the system counted, on texts and files of many
-# parts, whose time may not grow with a square, on random datasets, and on mangled files and texts.
+# has to refuse (of those tests a few are run, drawn by the date); places where out of memory is made of anything but a refused growth;
+# wrong definitions, which the laws have to refuse; the tests and the programs that the gate has built with each growth of memory
+# refused in turn, and the programs from end to end, with their calls of the system counted, on texts and files of many parts, whose
+# time may not grow with a square, on random datasets, and on mangled files and texts.
 test:
 	rt ci
 	$(call keep,ncdump)

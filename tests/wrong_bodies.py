@@ -19,7 +19,7 @@ goals still fits:
   or one is stored.)
 
 Else only a proof doesn't fit: a stored one names what is gone, or has another type, or the search gave up at one of its limits.
-Then the edit has to name a test, which fails under it.
+Then the edit is to name a test, which fails under it. Those that have neither are told, and count as neither passed nor failed.
 
 The second form runs these tests, with the edit and without (`named_tests.py`): those of all edits, or of N edits that the day's
 date draws. The last line of both forms is 'N passed, M failed'.
@@ -105,7 +105,7 @@ def is_of(name, function):
 
 
 def verdict_on(edit, said, found):
-    """Whether an edit was refused, of which these functions are not proved, and a line on it."""
+    """Whether an edit was refused, of which these functions are not proved, or None where nothing shows it, and a line on it."""
     why = next((it for it in map(said.why, found) if it), None)
     if not found:
         return False, f"{edit}: NOT REFUSED: {' '.join(edit.functions)} is still proved"
@@ -113,7 +113,7 @@ def verdict_on(edit, said, found):
         return True, f"{edit}: refused by its contract: {why}"
     if edit.test:
         return True, f"{edit}: refused by its test alone: {' '.join(edit.test)}"
-    return False, f"{edit}: NO TEST: only a proof doesn't fit: {said.verdicts[found[0]]}"
+    return None, f"{edit}: NO TEST: only a proof doesn't fit: {said.verdicts[found[0]]}"
 
 
 def judge(crate, edits, text):
@@ -176,8 +176,9 @@ def try_crates(crates):
         results = [it for part in pool.map(try_crate, crates) for it in part]
     by_contract = sum("refused by its contract" in line for _, line in results)
     by_test = sum("refused by its test alone" in line for _, line in results)
-    print(f"refused by their contracts: {by_contract}; by the tests that they name, which --tests runs: {by_test}")
-    return results
+    by_neither = sum(is_refused is None for is_refused, _ in results)
+    print(f"refused by their contracts: {by_contract}; by the tests that they name, which --tests runs: {by_test}; by neither: {by_neither}")
+    return [it for it in results if it[0] is not None]
 
 
 def try_tests(count):

@@ -125,3 +125,15 @@ fn failure_after_a_chunk(rt: HostRuntime) -> Result<(), Fail> {
     ends(&rt, &mut walk, &mut source, Err(WalkFault::ReadFailed));
     Ok(())
 }
+
+/// A source that fails at one read and at no other has failed once.
+#[test]
+fn failed_read_is_not_tried_again(rt: HostRuntime) -> Result<(), Fail> {
+    let mut buf = [0; 16];
+    let mut sound = DripSource::new(THREE_SHORTS, 9, FailWhen::Never);
+    let header = header_through(&rt, rt.alloc(), &mut sound, &mut buf)?;
+    let mut source = DripSource::new(THREE_SHORTS, 9, FailWhen::Read(0));
+    let mut walk = walk_over(&rt, &header, 0, 0, &mut buf);
+    ends(&rt, &mut walk, &mut source, Err(WalkFault::ReadFailed));
+    Ok(())
+}

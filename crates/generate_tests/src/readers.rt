@@ -1,10 +1,10 @@
 //! Readers that fail on request.
 
-ghost use Rattle.std.specs.Prelude.{None, false};
+ghost use Rattle.std.specs.Prelude.{None, false, true};
 ghost use Rattle.devices.specs.Openers.{HasBack};
 ghost use Rattle.devices.specs.Readers.{view_of};
 
-use devices::{CountedRead, OpenFailed, Texts};
+use devices::{CountedRead, Listed, OpenFailed, Texts};
 use std::io;
 use std::io::{ErrorKind, Read};
 
@@ -87,5 +87,51 @@ impl<'a> Texts for FailingTexts<'a> {
         ensures { HasBack (⟦<FailingTexts<'static> as Texts>⟧.view self.old) (⟦<FailingTexts<'static> as Texts>⟧.view self.new) (view_of (⟦<FailingReader<'static> as Read>⟧.remaining) text.entry).failures }
     {
         self.failures = self.failures.saturating_add(text.failures());
+    }
+}
+
+/// Texts in memory, with counts of how often one was opened and given back.
+#[derive(Drop)]
+pub struct WatchedTexts<'a> {
+    texts: Listed<'a>,
+    opens: u128,
+    closings: u128,
+}
+
+impl<'a> WatchedTexts<'a> {
+    /// These texts.
+    pub fn new(texts: Listed<'a>) -> WatchedTexts<'a> {
+        WatchedTexts {
+            texts,
+            opens: 0,
+            closings: 0,
+        }
+    }
+
+    /// How often a text was opened, and how often one was given back.
+    pub fn counts(&self) -> (u128, u128) {
+        (self.opens, self.closings)
+    }
+}
+
+impl<'a> Texts for WatchedTexts<'a> {
+    type Text = &'a [u8];
+
+    ghost is_transparent = { true };
+
+    ghost named = { λ watched path. ⟦<Listed<'static> as Texts>⟧.named watched.texts path };
+
+    ghost view = { λ watched. ⟦<Listed<'static> as Texts>⟧.view watched.texts };
+
+    fn open_text(&mut self, path: &str) -> Result<CountedRead<&'a [u8]>, OpenFailed> {
+        self.opens = self.opens.saturating_add(1);
+        self.texts.open_text(path)
+    }
+
+    fn close_text(&mut self, text: CountedRead<&'a [u8]>)
+        ensures { HasBack (⟦<WatchedTexts<'static> as Texts>⟧.view self.old) (⟦<WatchedTexts<'static> as Texts>⟧.view self.new) (view_of (⟦<&'static [u8] as Read>⟧.remaining) text.entry).failures }
+    {
+        self.closings = self.closings.saturating_add(1);
+        self.texts.close_text(text);
     }
 }

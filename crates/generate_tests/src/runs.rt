@@ -2,12 +2,13 @@
 
 use crate::full_disks::{FullDisk, leaves};
 use crate::invocations::{Invocation, Outcome, ends, makes, refuses, status_of};
-use crate::readers::{FailingReader, FailingTexts};
+use crate::readers::{FailingReader, FailingTexts, WatchedTexts};
 use crate::texts::{FIRST_FILE, REFUSED_TEXT, TEXT};
 use devices::{CountedRead, Listed, ListedFile, MadeFiles, SliceSink, Texts};
 use std::alloc::Global;
 use std::io::Read;
 use std::process::Abort;
+use std::test::Fail;
 
 /// Texts, one of which has a fault.
 const TEXTS: &[ListedFile<'static>] = &[
@@ -113,6 +114,45 @@ fn path_that_fails(rt: HostRuntime) {
     let mut texts = FailingTexts::new(TEXT, 7, 3);
     let words = ["ncgen", "-b", "t.cdl"];
     fails_to_read(&rt, rt.alloc(), &mut texts, &words, TEXT, LINE);
+}
+
+/// One byte more than a text may have.
+const TOO_LONG: usize = (1 << 28) + 1;
+
+#[test]
+fn text_at_a_path_that_is_too_long(rt: HostRuntime) -> Result<(), Fail> {
+    const LINE: &[u8] = b"ncgen: t.cdl: CDL text too long\n";
+    let text = Vec::from_elem(rt.alloc(), b' ', TOO_LONG)?;
+    let texts = [ListedFile {
+        path: "t.cdl",
+        bytes: text.as_slice(),
+    }];
+    let run = Invocation {
+        words: &["ncgen", "t.cdl"],
+        texts: &texts,
+        input: b"",
+    };
+    refuses(&rt, rt.alloc(), run, LINE);
+    Ok(())
+}
+
+#[test]
+fn path_is_opened_once(rt: HostRuntime) {
+    let mut texts = WatchedTexts::new(Listed::new(TEXTS));
+    let mut outputs = MadeFiles::new(rt.alloc());
+    let mut input = CountedRead::new(b"".as_slice());
+    let mut err = SliceSink::new(&mut [], 1);
+    let words = ["ncgen", "t.cdl"];
+    let status = status_of(
+        rt.alloc(),
+        &mut texts,
+        &mut outputs,
+        &words,
+        &mut input,
+        &mut err,
+    );
+    assert!(rt; status == 0);
+    assert!(rt; texts.counts() == (1, 1));
 }
 
 #[test]
