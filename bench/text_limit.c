@@ -9,21 +9,6 @@
 #include <string.h>
 #include <sys/stat.h>
 
-static char *read_text(const char *path)
-{
-    FILE *file = fopen(path, "rb");
-    struct stat about;
-    if (!file || stat(path, &about))
-        return NULL;
-    size_t size = (size_t)about.st_size;
-    char *text = malloc(size + 1);
-    if (!text || fread(text, 1, size, file) != size)
-        return NULL;
-    text[size] = 0;
-    fclose(file);
-    return text;
-}
-
 static int is_space(char c)
 {
     return c == ' ' || (c >= '\t' && c <= '\r');
@@ -39,11 +24,19 @@ int main(int count, char **words)
     if (count != 4)
         return 2;
     int size = atoi(words[3]);
-    const char *at = read_text(words[1]);
+    FILE *file = fopen(words[1], "rb");
+    struct stat about;
+    if (!file || stat(words[1], &about))
+        return 1;
+    char *text = malloc((size_t)about.st_size + 1);
+    if (!text || fread(text, 1, (size_t)about.st_size, file) != (size_t)about.st_size)
+        return 1;
+    text[about.st_size] = 0;
+    char *at = text;
     FILE *out = fopen(words[2], "wb");
     size_t capacity = 1 << 20, used = 0;
     unsigned char *bytes = malloc(capacity);
-    if (!at || !out || !bytes || !(at = strstr(at, "data:")))
+    if (!out || !bytes || !(at = strstr(at, "data:")))
         return 1;
     uint64_t line = 1;
     while ((at = strstr(at, " = "))) {
