@@ -3,7 +3,7 @@
 
     bench/instructions.py [WORD ...]
 
-It makes texts and files, runs the programs on them, and prints a line for each: a figure, and its goal. The figure is of one of four kinds:
+It makes texts and files, runs the programs on them, and prints a line for each: a figure, its goal, and what it is of:
 
 - times the plain loop: our instructions divided by those of a loop in C that reads the same numbers from the text (text_limit.c), or
   that prints those of the file (limit.c);
