@@ -12,15 +12,12 @@ Some texts come in two lengths. The run fails where four times the length takes 
 
 import os
 import random
-import subprocess
 import sys
 import tempfile
-import time
 from pathlib import Path
 
-TOP = Path(__file__).resolve().parent.parent
-OURS = TOP / "bin" / "ncgen"
-THEIRS = "/usr/bin/ncgen"
+from measure import GENERATE, THEIR_GENERATE, peak, run
+
 RUNS = 5
 # milliseconds from which on a program runs once, and from which on Unidata's is stopped
 SLOW = 2000
@@ -32,8 +29,8 @@ def text(dims="", variables="", data=""):
     return "netcdf t {\n" + "".join(f"{name}:\n{part}" for name, part in parts if part) + "}\n"
 
 
-def listed(values, between):
-    return text(f"\tn = {len(values)} ;\n", "\tint v(n) ;\n", f" v = {between.join(values)} ;\n")
+def listed(values, between, ty="int"):
+    return text(f"\tn = {len(values)} ;\n", f"\t{ty} v(n) ;\n", f" v = {between.join(values)} ;\n")
 
 
 def ints():
@@ -113,22 +110,6 @@ LENGTHS = (10_000, 40_000)
 KINDS = {"int64s": "nc5", "skeleton": "nc5"}
 
 
-def run(words, limit=None):
-    """Milliseconds that the words take, or None where they are stopped or fail."""
-    before = time.perf_counter()
-    try:
-        subprocess.run(words, stdout=subprocess.DEVNULL, stderr=subprocess.DEVNULL, check=True, timeout=limit)
-    except (subprocess.TimeoutExpired, subprocess.CalledProcessError):
-        return None
-    return (time.perf_counter() - before) * 1000
-
-
-def peak(words):
-    """The most memory that the words take, in KiB."""
-    ran = subprocess.run(["/usr/bin/time", "-f", "%M", *words], stdout=subprocess.DEVNULL, stderr=subprocess.PIPE)
-    return int(ran.stderr.decode().split()[-1])
-
-
 def timed(name, content, out="made.nc"):
     """The least time of ours on this text; prints a line."""
     path = f"{name}.cdl"
@@ -136,16 +117,16 @@ def timed(name, content, out="made.nc"):
     size = len(content)
     kind = KINDS.get(name, "nc3")
     words = ["-k", kind, "-o", out, path]
-    ours, theirs = run([OURS, *words]), run([THEIRS, *words], STOPPED / 1000)
-    reading = run([OURS, "-k", kind, path])
+    ours, theirs = run([GENERATE, *words]), run([THEIR_GENERATE, *words], STOPPED / 1000)
+    reading = run([GENERATE, "-k", kind, path])
     for _ in range(RUNS - 1):
-        ours = min(ours, run([OURS, *words]))
-        reading = min(reading, run([OURS, "-k", kind, path]))
+        ours = min(ours, run([GENERATE, *words]))
+        reading = min(reading, run([GENERATE, "-k", kind, path]))
         if theirs and theirs < SLOW:
-            theirs = min(theirs, run([THEIRS, *words]))
+            theirs = min(theirs, run([THEIR_GENERATE, *words]))
     shown = f"{theirs:9.1f} {ours:9.1f} {theirs / ours:7.1f}" if theirs else f"{'none':>9} {ours:9.1f} {'-':>7}"
-    held = peak([OURS, *words])
-    their_peak = peak([THEIRS, *words]) if theirs else 0
+    held = peak([GENERATE, *words])
+    their_peak = peak([THEIR_GENERATE, *words]) if theirs else 0
     made = os.path.getsize(out) if os.path.isfile(out) else 0
     beside = held - (size + made) // 1024
     speeds = f"{size / ours / 1000:7.1f} {size / reading / 1000:7.1f}"

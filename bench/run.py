@@ -4,8 +4,8 @@
     bench/run.py [NAME ...]
 
 It makes the files, runs the programs in turn, and prints for each file the least time of each in milliseconds, how many times as
-fast ours is, the ratio of its time to that of a plain loop in C over the same values (bench/limit.c), and the most memory that ours
-took. Texts are compared with the line breaks inside lists undone.
+fast ours is, the ratio of its time to that of a plain loop in C over the same values (bench/limit.c), and the most memory that each
+took. Texts are compared with the line breaks inside lists undone. Wants GNU time, and bin/ncdump built.
 
 Files of many variables come in two lengths. The run fails where four times the variables take more than six times as long, and
 where ours is slower than Unidata's.
@@ -18,17 +18,15 @@ import struct
 import subprocess
 import sys
 import tempfile
-import time
-from pathlib import Path
 
-TOP = Path(__file__).resolve().parent.parent
-OURS = TOP / "bin" / "ncdump"
+from measure import DUMP, THEIR_DUMP, built, peak, run
+
 RUNS = 7
 # milliseconds from which on a program runs once
 SLOW = 2000
-BYTE, CHAR, SHORT, INT, INT64 = 1, 2, 3, 4, 10
-SIZE = {BYTE: 1, CHAR: 1, SHORT: 2, INT: 4, INT64: 8}
-CODE = {BYTE: "b", SHORT: "h", INT: "i", INT64: "q"}
+BYTE, CHAR, SHORT, INT, UBYTE, INT64 = 1, 2, 3, 4, 7, 10
+SIZE = {BYTE: 1, CHAR: 1, SHORT: 2, INT: 4, UBYTE: 1, INT64: 8}
+CODE = {BYTE: "b", SHORT: "h", INT: "i", UBYTE: "B", INT64: "q"}
 
 
 def padded(data):
@@ -102,7 +100,7 @@ def fixed(name, version, ty, lens, low, high):
     size = total * SIZE[ty]
     dims = [(f"d{i}", n) for i, n in enumerate(lens)]
     head, begin = spelled(version, 0, dims, [("v", ty, list(range(len(lens))))], [size + -size % 4])
-    loop = [begin, 1, 0, 1, 0, total, SIZE[ty], 1]
+    loop = [begin, 1, 0, 1, 0, total, SIZE[ty], int(ty != UBYTE)]
     return File(name, loop=loop).write(head, numbers(ty, total, low, high).tobytes())
 
 
@@ -149,30 +147,16 @@ GROWING = [
 ]
 
 
-def run(words):
-    """Milliseconds that the words take, with what they write thrown away."""
-    before = time.perf_counter()
-    subprocess.run(words, stdout=subprocess.DEVNULL, check=True)
-    return (time.perf_counter() - before) * 1000
-
-
 def text_of(program, file):
     """The text without the blanks and line feeds that may stand in lists."""
     text = subprocess.run([program, *file.options, file.path], stdout=subprocess.PIPE, check=True).stdout
     return text.translate(None, b" \n")
 
 
-def peak(file):
-    """The most memory that ours takes, in KiB, where GNU time is installed: a child of Python would count Python's."""
-    if not os.access("/usr/bin/time", os.X_OK):
-        return "-"
-    ran = subprocess.run(["/usr/bin/time", "-f", "%M", OURS, *file.options, file.path], stdout=subprocess.DEVNULL, stderr=subprocess.PIPE, check=True)
-    return ran.stderr.decode().strip()
-
-
 def timed(file, limit):
     """The least times of both programs, and of the plain loop where there is one; prints a line."""
-    programs = {"theirs": ["ncdump", *file.options, file.path], "ours": [OURS, *file.options, file.path]}
+    programs = {"theirs": [THEIR_DUMP, *file.options, file.path], "ours": [DUMP, *file.options, file.path]}
+    memory = [peak(words) for words in programs.values()]
     if file.loop:
         programs["loop"] = [limit, file.path, *map(str, file.loop)]
     least = {name: run(words) for name, words in programs.items()}
@@ -180,10 +164,10 @@ def timed(file, limit):
         for name, words in programs.items():
             if least[name] < SLOW:
                 least[name] = min(least[name], run(words))
-    same = "same" if text_of("ncdump", file) == text_of(OURS, file) else "differs"
+    same = "same" if text_of(THEIR_DUMP, file) == text_of(DUMP, file) else "differs"
     ratio = f"{least['ours'] / least['loop']:.2f}" if file.loop else "-"
-    print(f"{file.name:18} {least['theirs']:9.1f} {least['ours']:9.1f} {least['theirs'] / least['ours']:7.1f} {ratio:>7} {peak(file):8}  {same}",
-          flush=True)
+    times = f"{least['theirs']:9.1f} {least['ours']:9.1f} {least['theirs'] / least['ours']:7.1f} {ratio:>7}"
+    print(f"{file.name:18} {times} {memory[0]:8} {memory[1]:8}  {same}", flush=True)
     return least
 
 
@@ -192,9 +176,8 @@ def main():
     faults = []
     with tempfile.TemporaryDirectory() as folder:
         os.chdir(folder)
-        limit = Path(folder, "limit")
-        subprocess.run(["cc", "-O2", "-o", limit, TOP / "bench" / "limit.c"], check=True)
-        print(f"{'file':18} {'Unidata':>9} {'ours':>9} {'times':>7} {'to loop':>7} {'KiB':>8}  text")
+        limit = built("limit")
+        print(f"{'file':18} {'Unidata':>9} {'ours':>9} {'times':>7} {'to loop':>7} {'its KiB':>8} {'our KiB':>8}  text")
         for make in FILES:
             file = make()
             if not wanted or file.name in wanted:

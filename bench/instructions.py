@@ -1,0 +1,160 @@
+#!/usr/bin/env python3
+"""Counts the instructions of bin/ncgen and bin/ncdump, which are the same on each run, whatever else the machine does.
+
+    bench/instructions.py [WORD ...]
+
+It makes texts and files, runs the programs on them, and prints a line for each: a figure, its goal, and what it is of:
+
+- times the plain loop: our instructions divided by those of a loop in C that reads the same numbers from the text (text_limit.c), or
+  that prints those of the file (limit.c);
+- instructions a value, and instructions a byte of the text: those of the whole program, divided by the number of values or of bytes.
+  Where there is a known figure of an earlier program, it is the goal, so that nothing gets slower;
+- times as fast as Unidata's (Debian's netcdf-bin): its instructions divided by ours, and its seconds divided by ours, each the least of
+  RUNS runs, one program after the other. The seconds alone can be spoilt by a busy machine.
+
+With words, only the lines that have one of them are measured. The last line says how many goals are met and missed. The run fails
+where one is missed. It wants valgrind, a C compiler, Unidata's ncdump, and both programs built.
+"""
+
+import os
+import random
+import shutil
+import sys
+import tempfile
+from pathlib import Path
+from typing import Callable, NamedTuple
+
+from generate import listed, text
+from measure import DUMP, GENERATE, THEIR_DUMP, built, instructions, least
+from run import BYTE, INT, SHORT, UBYTE, fixed, records
+
+LOOP, VALUE, TEXT_BYTE = "times the plain loop", "instructions a value", "instructions a byte of text"
+FASTER, FASTER_SECONDS = "times as fast as Unidata's, in instructions", "times as fast as Unidata's, in seconds"
+SIZE = {"byte": 1, "short": 2, "int": 4, "int64": 8}
+MANY = 300_000
+MB = 1_000_000
+# runs of each program where seconds are taken
+RUNS = 9
+
+
+def numbers(low, high, count=MANY, form="{}"):
+    """Random numbers from low up to high, which isn't one of them."""
+    seed = random.Random(1)
+    return [form.format(seed.randrange(low, high)) for _ in range(count)]
+
+
+def generating(cdl, kind="nc3"):
+    """The instructions of bin/ncgen, which makes made.nc of a text."""
+    Path("text.cdl").write_text(cdl)
+    return instructions(GENERATE, "-k", kind, "-o", "made.nc", "text.cdl")
+
+
+def read_to_loop(values, ty, between=", ", kind="nc3"):
+    ours = generating(listed(values, between, ty), kind)
+    loop = instructions(built("text_limit"), "text.cdl", "packed", str(SIZE[ty]))
+    assert Path("made.nc").read_bytes().rstrip(b"\0").endswith(Path("packed").read_bytes().rstrip(b"\0"))
+    return ours / loop
+
+
+def a_value(values, ty="int", kind="nc3"):
+    return generating(listed(values, ", ", ty), kind) / len(values)
+
+
+def a_byte(cdl):
+    return generating(cdl) / len(cdl)
+
+
+def string(content, length):
+    """One string of a variable of characters, and how many bytes it stands for."""
+    return text(f"\tn = {length} ;\n", "\tchar c(n) ;\n", f' c = "{content}" ;\n')
+
+
+def letters(count):
+    return "".join(random.Random(1).choices("abcdefgh ", k=count))
+
+
+def rows(count, length):
+    many = letters(count * length)
+    lines = ",\n".join(f'  "{many[at:at + length]}"' for at in range(0, len(many), length))
+    return text(f"\tr = {count} ;\n\tx = {length} ;\n", "\tchar c(r, x) ;\n", f" c =\n{lines} ;\n")
+
+
+def print_to_loop(ty, low, high):
+    file = fixed("file", 5 if ty == UBYTE else 1, ty, [MANY], low, high)
+    return instructions(DUMP, file.path) / instructions(built("limit"), file.path, *map(str, file.loop))
+
+
+def faster(variables, count):
+    path = records("file", variables, count).path
+    return instructions(THEIR_DUMP, path) / instructions(DUMP, path)
+
+
+def faster_seconds(variables, count):
+    path = records("file", variables, count).path
+    theirs, ours = least(RUNS, [THEIR_DUMP, path], [DUMP, path])
+    return theirs / ours
+
+
+class Row(NamedTuple):
+    """A figure, what it counts, and its goal: the most that it may be, or the least where more is better."""
+
+    name: str
+    unit: str
+    goal: float
+    figure: Callable[[], float]
+
+    def is_met(self, figure):
+        return figure >= self.goal if self.unit in (FASTER, FASTER_SECONDS) else figure <= self.goal
+
+
+ROWS = [
+    Row("ncgen, ints of 6 and 7 digits", LOOP, 1.3, lambda: read_to_loop(numbers(10**5, 10**7), "int")),
+    Row("ncgen, shorts", LOOP, 1.3, lambda: read_to_loop(numbers(-(2**15), 2**15), "short")),
+    Row("ncgen, bytes", LOOP, 1.3, lambda: read_to_loop(numbers(-128, 128), "byte")),
+    Row("ncgen, bytes that are 1, without blanks", LOOP, 1.3, lambda: read_to_loop(["1"] * MANY, "byte", ",")),
+    Row("ncgen, int64s of 18 digits", LOOP, 1.3, lambda: read_to_loop(numbers(10**17, 10**18, MANY // 2), "int64", kind="nc5")),
+    Row("ncgen, rows of 80 characters", TEXT_BYTE, 8, lambda: a_byte(rows(30_000, 80))),
+    Row("ncgen, a string of 10 MB", TEXT_BYTE, 8, lambda: a_byte(string(letters(10 * MB), 10 * MB))),
+    Row("ncgen, a comment of 10 MB", TEXT_BYTE, 8, lambda: a_byte("netcdf t {\n//" + "x" * 10 * MB + "\n}\n")),
+    # the goals of the next seven: what commit 18b57d0 took, before lists of plain numbers had a way of their own, reckoned from a build
+    # without proofs, which takes 3 to 7 % more than the program
+    Row("ncgen, ints with the suffix L", VALUE, 664, lambda: a_value(numbers(-(10**6), 10**6, form="{}L"))),
+    Row("ncgen, ubytes with the suffix UB", VALUE, 573, lambda: a_value(numbers(0, 256, form="{}UB"), "ubyte", "nc5")),
+    Row("ncgen, hexadecimal ints", VALUE, 693, lambda: a_value(numbers(0, 2**20, form="0x{:x}"))),
+    Row("ncgen, octal ints", VALUE, 719, lambda: a_value(numbers(0, 2**20, form="0{:o}"))),
+    Row("ncgen, fill values", VALUE, 700, lambda: a_value(["_"] * MANY)),
+    Row("ncgen, a string of escapes", TEXT_BYTE, 101, lambda: a_byte(string(r"\n\t\x41\"\\\101" * 50_000, 300_000))),
+    Row("ncgen, a string of letters and escapes", TEXT_BYTE, 90, lambda: a_byte(string(r"a\n" * 300_000, 600_000))),
+    Row("ncdump, ints of 6 digits", LOOP, 1, lambda: print_to_loop(INT, 10**5, 10**6 - 1)),
+    Row("ncdump, shorts", LOOP, 1, lambda: print_to_loop(SHORT, -(2**15), 2**15 - 1)),
+    Row("ncdump, bytes", LOOP, 2 / 3, lambda: print_to_loop(BYTE, -128, 127)),
+    Row("ncdump, ubytes", LOOP, 2 / 3, lambda: print_to_loop(UBYTE, 0, 255)),
+    Row("ncdump, ints below 100", LOOP, 2 / 3, lambda: print_to_loop(INT, 0, 99)),
+    Row("ncdump, 20 interleaved variables", FASTER, 5, lambda: faster(20, 5_000)),
+    Row("ncdump, 100 interleaved variables", FASTER, 5, lambda: faster(100, 1_000)),
+    Row("ncdump, 20 interleaved variables", FASTER_SECONDS, 5, lambda: faster_seconds(20, 50_000)),
+    Row("ncdump, 100 interleaved variables", FASTER_SECONDS, 5, lambda: faster_seconds(100, 10_000)),
+]
+
+
+def main():
+    if not shutil.which("valgrind"):
+        sys.exit("instructions are counted by valgrind, which isn't installed")
+    words = sys.argv[1:] or [""]
+    wanted = [row for row in ROWS if any(word in row.name for word in words)]
+    if not wanted:
+        sys.exit("no line has one of these words")
+    missed = 0
+    with tempfile.TemporaryDirectory() as folder:
+        os.chdir(folder)
+        for row in wanted:
+            figure = row.figure()
+            missed += not row.is_met(figure)
+            verdict = "" if row.is_met(figure) else "  MISSED"
+            print(f"{row.name:40} {figure:8.3f}  goal {row.goal:7.3f}  {row.unit}{verdict}", flush=True)
+    print(f"{len(wanted) - missed} goals met, {missed} missed")
+    return 1 if missed else 0
+
+
+if __name__ == "__main__":
+    sys.exit(main())

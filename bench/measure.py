@@ -1,0 +1,45 @@
+"""What the scripts of this folder measure of a program: time, memory, and instructions."""
+
+import re
+import subprocess
+import time
+from pathlib import Path
+
+TOP = Path(__file__).resolve().parent.parent
+DUMP, GENERATE = TOP / "bin" / "ncdump", TOP / "bin" / "ncgen"
+# those of Debian's netcdf-bin
+THEIR_DUMP, THEIR_GENERATE = Path("/usr/bin/ncdump"), Path("/usr/bin/ncgen")
+
+
+def built(name):
+    """The program of this folder's name.c, compiled into the working folder."""
+    subprocess.run(["cc", "-O2", "-o", name, TOP / "bench" / f"{name}.c"], check=True)
+    return Path(name).resolve()
+
+
+def run(words, limit=None):
+    """Milliseconds that the words take, with what they write thrown away; or None where they fail, or take more than `limit` seconds."""
+    before = time.perf_counter()
+    try:
+        subprocess.run(words, stdout=subprocess.DEVNULL, stderr=subprocess.DEVNULL, check=True, timeout=limit)
+    except (subprocess.TimeoutExpired, subprocess.CalledProcessError):
+        return None
+    return (time.perf_counter() - before) * 1000
+
+
+def least(runs, *programs):
+    """The least time of each program, in as many runs, one program after the other."""
+    return [min(times) for times in zip(*([run(words) for words in programs] for _ in range(runs)))]
+
+
+def peak(words):
+    """The most memory that the words take, in KiB, by GNU time: a child of Python would count Python's."""
+    ran = subprocess.run(["/usr/bin/time", "-f", "%M", *words], stdout=subprocess.DEVNULL, stderr=subprocess.PIPE, text=True)
+    return int(ran.stderr.split()[-1])
+
+
+def instructions(*words):
+    """How many instructions the words take, their libraries' included: the same number on each run, whatever else the machine does."""
+    valgrind = ["valgrind", "--tool=callgrind", "--callgrind-out-file=/dev/null", *words]
+    ran = subprocess.run(valgrind, stdout=subprocess.DEVNULL, stderr=subprocess.PIPE, text=True, check=True)
+    return int(re.search(r"Collected : (\d+)", ran.stderr)[1])
