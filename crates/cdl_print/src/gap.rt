@@ -1,7 +1,9 @@
 //! What stands before a number.
 
-ghost use Rattle.std.specs.Prelude.{◌≡◌, ◌≤◌, length};
+ghost use Rattle.std.specs.Prelude.{◌≡◌, ◌+◌, ◌++◌, ◌≤◌, length, take};
 ghost use Rattle.cdl_print.specs.Leads.{gap_bytes, gap_in_row, columns_left_after};
+
+use crate::number_text::{put_at, put_comma};
 
 /// What stands before a number.
 #[derive(Clone, Copy)]
@@ -58,5 +60,19 @@ pub fn gap_in_row(columns_left: usize, len: usize) -> Gap
         Gap::NewLine
     } else {
         Gap::Comma
+    }
+}
+
+/// Puts a gap at this place of the text, and returns where it ends. The one between most numbers stands here by itself, since
+/// bytes of a known number are copied without a call.
+#[inline(always)]
+pub fn put_gap(text: &mut [u8], at: usize, gap: Gap) -> usize
+    requires { at + length (gap_bytes gap) ≤ length text.old }
+    ensures end { result ≡ at + length (gap_bytes gap) }
+    ensures written { take result text.new ≡ take at text.old ++ gap_bytes gap }
+{
+    match gap {
+        Gap::Comma => put_comma(text, at),
+        Gap::Space | Gap::FirstRow | Gap::NextRow | Gap::NewLine => put_at(text, at, gap.bytes()),
     }
 }

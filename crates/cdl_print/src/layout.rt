@@ -102,7 +102,7 @@ impl Layout<'_> {
 
     /// Says whether a number prints as `_`.
     #[inline(always)]
-    fn is_blank(&self, number: i128) -> bool
+    pub fn is_blank(&self, number: i128) -> bool
         ensures { result ≡ self.now.prints_fill && int_eq number self.now.fill }
     {
         self.prints_fill && number == self.fill

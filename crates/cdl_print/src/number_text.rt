@@ -1,6 +1,6 @@
 //! Numbers in decimal, written straight to their place.
 
-ghost use Rattle.std.specs.Prelude.{◌≡◌, ◌+◌, ◌<◌, ◌≤◌, ◌^◌, ◌++◌, unsigned_abs, length, take};
+ghost use Rattle.std.specs.Prelude.{◌≡◌, ◌+◌, ◌<◌, ◌≤◌, ◌^◌, ◌++◌, ◌∷◌, [], codes, unsigned_abs, length, take};
 ghost use Rattle.std.specs.Fmt.{decimal, signed_decimal};
 
 use itoa::write_digits;
@@ -70,7 +70,7 @@ pub fn put_decimal(text: &mut [u8], at: usize, len: usize, number: i128)
 
 /// Writes a number without a sign at this place, where it has `len` digits.
 #[inline(always)]
-fn put_digits(text: &mut [u8], at: usize, len: usize, n: u64)
+pub fn put_digits(text: &mut [u8], at: usize, len: usize, n: u64)
     requires len { len ≡ length (decimal n) }
     requires fits { at + len ≤ length text.old }
     ensures { take (at + len) text.new ≡ take at text.old ++ decimal n }
@@ -88,4 +88,26 @@ pub fn put_at(text: &mut [u8], at: usize, bytes: &[u8]) -> usize
     let end = at + bytes.len();
     text[at..end].copy_from_slice(bytes);
     end
+}
+
+/// Writes `, ` at this place, and returns where it ends.
+#[inline(always)]
+pub fn put_comma(text: &mut [u8], at: usize) -> usize
+    requires { at + 2 ≤ length text.old }
+    ensures end { result ≡ at + 2 }
+    ensures written { take result text.new ≡ take at text.old ++ codes ", " }
+{
+    let next = put_byte(text, at, b',');
+    put_byte(text, next, b' ')
+}
+
+/// Writes a byte at this place, and returns where it ends.
+#[inline(always)]
+pub fn put_byte(text: &mut [u8], at: usize, byte: u8) -> usize
+    requires { at + 1 ≤ length text.old }
+    ensures end { result ≡ at + 1 }
+    ensures written { take result text.new ≡ take at text.old ++ byte ∷ [] }
+{
+    text[at] = byte;
+    at + 1
 }
