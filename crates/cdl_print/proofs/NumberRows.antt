@@ -157,7 +157,6 @@ columns_after_comma width columns_left len text long short enough =
     let comma = ap (λ g. columns_left_after g columns_left width - length text) (comma_before columns_left (length text) (omega (arith, long)) enough) in
     omega (arith, comma, long)
 
-
 -- no number
 pub in_row_none : (look : Look) (columns_left : ℕ) (text : List ℕ) → PrintedInRow look [] columns_left columns_left text text
 unfolding append

@@ -21,20 +21,6 @@ pub enum Gap {
 }
 
 impl Gap {
-    /// The bytes of the gap.
-    pub fn bytes(self) -> &'static [u8]
-        ensures bytes { result.now ≡ gap_bytes self }
-        ensures short { length result.now ≤ 7 }
-    {
-        match self {
-            Gap::Space => b" ",
-            Gap::FirstRow => b"\n  ",
-            Gap::NextRow => b",\n  ",
-            Gap::Comma => b", ",
-            Gap::NewLine => b", \n    ",
-        }
-    }
-
     /// How many bytes more a line of this width may have after the gap, where it had these columns left before.
     #[inline(always)]
     pub fn columns_left_after(self, columns_left: usize, width: usize) -> usize
@@ -63,8 +49,8 @@ pub fn gap_in_row(columns_left: usize, len: usize) -> Gap
     }
 }
 
-/// Puts a gap at this place of the text, and returns where it ends. The one between most numbers stands here by itself, since
-/// bytes of a known number are copied without a call.
+/// Writes a gap at this place, and returns where it ends. Each is written by itself, since a known number of bytes is copied
+/// without a call.
 #[inline(always)]
 pub fn put_gap(text: &mut [u8], at: usize, gap: Gap) -> usize
     requires { at + length (gap_bytes gap) ≤ length text.old }
@@ -72,7 +58,10 @@ pub fn put_gap(text: &mut [u8], at: usize, gap: Gap) -> usize
     ensures written { take result text.new ≡ take at text.old ++ gap_bytes gap }
 {
     match gap {
+        Gap::Space => put_at(text, at, b" "),
+        Gap::FirstRow => put_at(text, at, b"\n  "),
+        Gap::NextRow => put_at(text, at, b",\n  "),
         Gap::Comma => put_comma(text, at),
-        Gap::Space | Gap::FirstRow | Gap::NextRow | Gap::NewLine => put_at(text, at, gap.bytes()),
+        Gap::NewLine => put_at(text, at, b", \n    "),
     }
 }

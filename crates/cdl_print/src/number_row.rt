@@ -10,6 +10,7 @@ ghost use Rattle.cdl_print.specs.Printing.{gathered, number_bytes, GoesOnInRow, 
 use crate::gap::put_gap;
 use crate::layout::Layout;
 use crate::number_line::{Line, gather_line};
+use crate::number_text::{put_text, text_len};
 use crate::progress::{Progress, row_index_after};
 use devices::{Sink, WriteFailed, put};
 use nc_base::number_of;
@@ -115,10 +116,11 @@ fn gather_number(
     ensures following { IsAfterNumber (look_at layout.now) progress.old (number_of layout.now.ty value.now) progress.new }
 {
     let number = number_of(layout.ty, value);
-    let len = layout.number_len(number);
+    let is_blank = layout.is_blank(number);
+    let len = text_len(is_blank, number);
     let gap = layout.number_gap(progress, len);
     let start = put_gap(text, at, gap);
-    layout.put_number(text, start, len, number);
+    put_text(text, start, len, is_blank, number);
     let columns_left = gap.columns_left_after(progress.columns_left, layout.width);
     *progress = Progress {
         position: progress.position + 1,

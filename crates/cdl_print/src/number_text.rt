@@ -2,6 +2,7 @@
 
 ghost use Rattle.std.specs.Prelude.{◌≡◌, ◌+◌, ◌<◌, ◌≤◌, ◌^◌, ◌++◌, ◌∷◌, [], codes, unsigned_abs, length, take};
 ghost use Rattle.std.specs.Fmt.{decimal, signed_decimal};
+ghost use Rattle.cdl_print.specs.Fills.{text_of};
 
 use itoa::write_digits;
 
@@ -65,6 +66,31 @@ pub fn put_decimal(text: &mut [u8], at: usize, len: usize, number: i128)
         put_digits(text, start, len - 1, magnitude);
     } else {
         put_digits(text, at, len, magnitude);
+    }
+}
+
+/// How many bytes a number has, which is `_` if it prints as that.
+#[inline(always)]
+pub fn text_len(is_blank: bool, number: i128) -> usize
+    requires { unsigned_abs number < 2 ^ 64 }
+    ensures len { result ≡ length (text_of is_blank number) }
+    ensures short { result ≤ 21 }
+{
+    if is_blank { 1 } else { decimal_len(number) }
+}
+
+/// Writes a number at this place, where it has `len` bytes, or `_` if it prints as that.
+#[inline(always)]
+pub fn put_text(text: &mut [u8], at: usize, len: usize, is_blank: bool, number: i128)
+    requires short { unsigned_abs number < 2 ^ 64 }
+    requires len { len ≡ length (text_of is_blank number) }
+    requires fits { at + len ≤ length text.old }
+    ensures { take (at + len) text.new ≡ take at text.old ++ text_of is_blank number }
+{
+    if is_blank {
+        text[at] = b'_';
+    } else {
+        put_decimal(text, at, len, number);
     }
 }
 
