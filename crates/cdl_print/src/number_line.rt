@@ -81,8 +81,8 @@ fn gather_next(
     put_next(text, line, layout, fill, number_of(ty, value))
 }
 
-/// Puts a number that isn't its row's first at the end of the line, with what stands before it. One below 100 that has room for
-/// itself and two bytes more on the line is told by three comparisons.
+/// Puts a number that isn't its row's first at the end of the line, with what stands before it. Three comparisons find a number
+/// below 100 that isn't the fill value, on a line with room for `, `, two digits and two bytes more: no line begins before it.
 #[inline(always)]
 fn put_next(
     text: &mut [u8],
@@ -91,7 +91,7 @@ fn put_next(
     fill: PrintedFill,
     number: i128,
 ) -> Line
-    requires narrow { unsigned_abs number < 2 ^ 64 }
+    requires magnitude { unsigned_abs number < 2 ^ 64 }
     requires fill { IsFillOf (look_at layout.now) fill }
     requires fits { line.end + 47 ≤ length text.old }
     ensures text { take result.end text.new ≡ take line.end text.old ++ bytes_in_row (look_at layout.now) line.columns_left number }
@@ -151,7 +151,7 @@ fn put_fill(text: &mut [u8], line: Line, width: usize) -> Line
 /// Puts a number in decimal at the end of the line, with what stands before it.
 #[inline(always)]
 fn put_number(text: &mut [u8], line: Line, width: usize, number: i128) -> Line
-    requires narrow { unsigned_abs number < 2 ^ 64 }
+    requires magnitude { unsigned_abs number < 2 ^ 64 }
     requires fits { line.end + 28 ≤ length text.old }
     ensures text { take result.end text.new ≡ take line.end text.old ++ text_in_row line.columns_left (signed_decimal number) }
     ensures columns { result.columns_left ≡ columns_left_after_text width line.columns_left (signed_decimal number) }
