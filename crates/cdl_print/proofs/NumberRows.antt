@@ -7,7 +7,7 @@ use Rattle.nc_base.specs.ValueText.{Look, is_char, begins_row, column, number_te
 use Rattle.nc_base.proofs.ValueLaws.{prefix-append, later_none, later_one, column-flat, column-broken, number_flat, place-add}
 use Rattle.devices.specs.Sinks.{SinkView, append, is_transparent, Appended, FailedPartway, Wrote}
 use Rattle.cdl_print.specs.Leads.{gap_bytes, row_gap, gap_in_row, next_gap, columns_left_after}
-use Rattle.cdl_print.specs.Printing.{gathered, number_bytes, bytes_in_row, columns_left_in_row, IsAfterNumber, IsAfter, PrintedMore, PrintsMore, PrintedInRow}
+use Rattle.cdl_print.specs.Printing.{gathered, number_bytes, bytes_in_row, columns_left_in_row, text_in_row, columns_left_after_text, IsAfterNumber, IsAfter, PrintedMore, PrintsMore, PrintedInRow}
 use Rattle.cdl_print.proofs.PrintingLaws.{printed_more_then}
 use Rattle.cdl_print.specs.declared.gap.Gap.{Gap}
 use Rattle.cdl_print.specs.declared.gap.Gap.TheVariants.{Space, FirstRow, NextRow, Comma, NewLine}
@@ -139,6 +139,23 @@ goes_gathered look ys p q text old new (Err failure) printed_more wrote = record
 }
 
 -- ---- numbers of one row
+
+-- a comma stands before a text of one or two bytes where a line has room for it and two bytes more
+comma_before : (columns_left len : ℕ) → len ≤ 2 → 6 ≤ columns_left → gap_in_row columns_left len ≡ Comma
+comma_before columns_left len short enough = let on_line : nat_lt columns_left (len + 4) ≡ false = grind (arith, nat_tests) in cond-false (nat_lt columns_left (len + 4)) NewLine Comma on_line
+
+pub text_after_comma : (columns_left : ℕ) (before now new text : List ℕ) → length text ≤ 2 → 6 ≤ columns_left → now ≡ before ++ codes ", " → new ≡ now ++ text
+    → new ≡ before ++ text_in_row columns_left text
+text_after_comma columns_left before now new text short enough comma written =
+    written
+    ∙ ap (λ (t : List ℕ). t ++ text) comma
+    ∙ append_assoc before (codes ", ") text
+    ∙ ap (λ g. before ++ (gap_bytes g ++ text)) (sym (comma_before columns_left (length text) short enough))
+
+pub columns_after_comma : (width columns_left len : ℕ) (text : List ℕ) → length text ≡ len → len ≤ 2 → 6 ≤ columns_left → columns_left - (2 + len) ≡ columns_left_after_text width columns_left text
+columns_after_comma width columns_left len text long short enough =
+    let comma = ap (λ g. columns_left_after g columns_left width - length text) (comma_before columns_left (length text) (omega (arith, long)) enough) in
+    omega (arith, comma, long)
 
 -- no number
 pub in_row_none : (look : Look) (columns_left : ℕ) (text : List ℕ) → PrintedInRow look [] columns_left columns_left text text

@@ -3,3 +3,4 @@ pub mod Words
 pub mod Leads
 pub mod Printing
 pub mod Printer
+pub mod Fills

@@ -24,14 +24,21 @@ pub record IsAfterNumber (look : Look) (p : Progress) (value : ℤ) (q : Progres
 
 -- ---- numbers that aren't their row's first
 
+-- a number's text with what stands before it, where a line has these columns left
+abbrev pub text_in_row : ℕ → List ℕ → List ℕ
+text_in_row columns_left text = gap_bytes (gap_in_row columns_left (length text)) ++ text
+
+-- the columns left after it, in lines of this width
+abbrev pub columns_left_after_text : ℕ → ℕ → List ℕ → ℕ
+columns_left_after_text width columns_left text = columns_left_after (gap_in_row columns_left (length text)) columns_left width - length text
+
 -- a number with what stands before it, where a line has these columns left
 abbrev pub bytes_in_row : Look → ℕ → ℤ → List ℕ
-bytes_in_row look columns_left value = gap_bytes (gap_in_row columns_left (length (number_text look value))) ++ number_text look value
+bytes_in_row look columns_left value = text_in_row columns_left (number_text look value)
 
 -- the columns left after it
 abbrev pub columns_left_in_row : Look → ℕ → ℤ → ℕ
-columns_left_in_row look columns_left value =
-    columns_left_after (gap_in_row columns_left (length (number_text look value))) columns_left look.width - length (number_text look value)
+columns_left_in_row look columns_left value = columns_left_after_text look.width columns_left (number_text look value)
 
 -- n values more go on in the row that has begun; or there are none
 abbrev pub GoesOnInRow : Look → Progress → ℕ → Type 0

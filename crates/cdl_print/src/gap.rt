@@ -1,7 +1,9 @@
 //! What stands before a number.
 
-ghost use Rattle.std.specs.Prelude.{◌≡◌, ◌≤◌, length};
+ghost use Rattle.std.specs.Prelude.{◌≡◌, ◌+◌, ◌++◌, ◌≤◌, length, take};
 ghost use Rattle.cdl_print.specs.Leads.{gap_bytes, gap_in_row, columns_left_after};
+
+use crate::number_text::{put_at, put_comma};
 
 /// What stands before a number.
 #[derive(Clone, Copy)]
@@ -19,20 +21,6 @@ pub enum Gap {
 }
 
 impl Gap {
-    /// The bytes of the gap.
-    pub fn bytes(self) -> &'static [u8]
-        ensures bytes { result.now ≡ gap_bytes self }
-        ensures short { length result.now ≤ 7 }
-    {
-        match self {
-            Gap::Space => b" ",
-            Gap::FirstRow => b"\n  ",
-            Gap::NextRow => b",\n  ",
-            Gap::Comma => b", ",
-            Gap::NewLine => b", \n    ",
-        }
-    }
-
     /// How many bytes more a line of this width may have after the gap, where it had these columns left before.
     #[inline(always)]
     pub fn columns_left_after(self, columns_left: usize, width: usize) -> usize
@@ -58,5 +46,22 @@ pub fn gap_in_row(columns_left: usize, len: usize) -> Gap
         Gap::NewLine
     } else {
         Gap::Comma
+    }
+}
+
+/// Writes a gap at this place, and returns where it ends. Each is written by itself, since a known number of bytes is copied
+/// without a call.
+#[inline(always)]
+pub fn put_gap(text: &mut [u8], at: usize, gap: Gap) -> usize
+    requires { at + length (gap_bytes gap) ≤ length text.old }
+    ensures end { result ≡ at + length (gap_bytes gap) }
+    ensures written { take result text.new ≡ take at text.old ++ gap_bytes gap }
+{
+    match gap {
+        Gap::Space => put_at(text, at, b" "),
+        Gap::FirstRow => put_at(text, at, b"\n  "),
+        Gap::NextRow => put_at(text, at, b",\n  "),
+        Gap::Comma => put_comma(text, at),
+        Gap::NewLine => put_at(text, at, b", \n    "),
     }
 }

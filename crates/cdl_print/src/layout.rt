@@ -8,7 +8,6 @@ ghost use Rattle.nc_base.specs.ValueText.{closing, is_char, is_trimmed, look_of,
 ghost use Rattle.cdl_print.specs.Leads.{look_at, next_char_lead, next_gap, row_gap};
 
 use crate::gap::{Gap, gap_in_row};
-use crate::number_text::{decimal_len, put_decimal};
 use crate::progress::Progress;
 use nc_base::{
     Dim, Header, NcType, Var, dim_len, fill_of, is_record_var, prints_fill, value_count,
@@ -102,39 +101,10 @@ impl Layout<'_> {
 
     /// Says whether a number prints as `_`.
     #[inline(always)]
-    fn is_blank(&self, number: i128) -> bool
+    pub fn is_blank(&self, number: i128) -> bool
         ensures { result ≡ self.now.prints_fill && int_eq number self.now.fill }
     {
         self.prints_fill && number == self.fill
-    }
-
-    /// How many bytes the text of a number has.
-    #[inline(always)]
-    pub fn number_len(&self, number: i128) -> usize
-        requires { unsigned_abs number < 2 ^ 64 }
-        ensures len { result ≡ length (number_text (look_at self.now) number) }
-        ensures short { result ≤ 21 }
-    {
-        if self.is_blank(number) {
-            1
-        } else {
-            decimal_len(number)
-        }
-    }
-
-    /// Writes the text of a number at this place, where it has `len` bytes.
-    #[inline(always)]
-    pub fn put_number(&self, text: &mut [u8], at: usize, len: usize, number: i128)
-        requires short { unsigned_abs number < 2 ^ 64 }
-        requires len { len ≡ length (number_text (look_at self.now) number) }
-        requires fits { at + len ≤ length text.old }
-        ensures { take (at + len) text.new ≡ take at text.old ++ number_text (look_at self.now) number }
-    {
-        if self.is_blank(number) {
-            text[at] = b'_';
-        } else {
-            put_decimal(text, at, len, number);
-        }
     }
 
     /// How many values are left in the row after its first `row_index`; none, if the next value is its row's first.

@@ -4,30 +4,22 @@ ghost use Rattle.std.specs.Prelude.{◌≡◌, ◌++◌, [], ◌+◌, ◌*◌, �
 ghost use Rattle.nc_base.specs.Numbers.{number_of, numbers};
 ghost use Rattle.nc_base.specs.Types.{size_of};
 ghost use Rattle.nc_base.specs.ValueText.{is_char};
-ghost use Rattle.cdl_print.specs.Leads.{gap_bytes, look_at};
-ghost use Rattle.cdl_print.specs.Printing.{gathered, number_bytes, bytes_in_row, columns_left_in_row, GoesOnInRow, PrintedInRow, PrintsMore, PrintedMore, IsAfterNumber};
+ghost use Rattle.cdl_print.specs.Leads.{look_at};
+ghost use Rattle.cdl_print.specs.Printing.{gathered, number_bytes, GoesOnInRow, PrintsMore, PrintedMore, IsAfterNumber};
 
-use crate::gap::{Gap, gap_in_row};
+use crate::gap::put_gap;
 use crate::layout::Layout;
-use crate::number_text::put_at;
+use crate::number_line::{Line, gather_line};
+use crate::number_text::{put_text, text_len};
 use crate::progress::{Progress, row_index_after};
 use devices::{Sink, WriteFailed, put};
-use nc_base::{NcType, number_of};
+use nc_base::number_of;
 
 /// How many numbers are written in one piece. Each takes at most 47 bytes: 40 of its own, and 7 that stand before it.
 const AT_ONCE: usize = 80;
 
 /// The text of numbers that are written in one piece.
 pub type Gathered = [u8; 4096];
-
-/// How far a line of numbers is gathered.
-#[derive(Clone, Copy)]
-struct Line {
-    /// Where it ends in the text.
-    end: usize,
-    /// How many bytes more it may have.
-    columns_left: usize,
-}
 
 /// Writes numbers of a variable, each with what stands before it. They are gathered in `text`, a few at a time.
 pub fn put_number_values<W: Sink>(
@@ -124,10 +116,11 @@ fn gather_number(
     ensures following { IsAfterNumber (look_at layout.now) progress.old (number_of layout.now.ty value.now) progress.new }
 {
     let number = number_of(layout.ty, value);
-    let len = layout.number_len(number);
+    let is_blank = layout.is_blank(number);
+    let len = text_len(is_blank, number);
     let gap = layout.number_gap(progress, len);
     let start = put_gap(text, at, gap);
-    layout.put_number(text, start, len, number);
+    put_text(text, start, len, is_blank, number);
     let columns_left = gap.columns_left_after(progress.columns_left, layout.width);
     *progress = Progress {
         position: progress.position + 1,
@@ -136,20 +129,6 @@ fn gather_number(
         held: progress.held,
     };
     start + len
-}
-
-/// Puts a gap at this place of the text, and returns where it ends. The one between most numbers stands here by itself, since
-/// text of a known length is copied without a call.
-#[inline(always)]
-fn put_gap(text: &mut [u8], at: usize, gap: Gap) -> usize
-    requires { at + length (gap_bytes gap) ≤ length text.old }
-    ensures end { result ≡ at + length (gap_bytes gap) }
-    ensures written { take result text.new ≡ take at text.old ++ gap_bytes gap }
-{
-    match gap {
-        Gap::Comma => put_at(text, at, b", "),
-        Gap::Space | Gap::FirstRow | Gap::NextRow | Gap::NewLine => put_at(text, at, gap.bytes()),
-    }
 }
 
 /// Puts numbers of one row at this place of the text, none of which is its row's first, and goes on after them. Returns where
@@ -185,62 +164,4 @@ fn gather_in_row(
         held: progress.held,
     };
     line.end
-}
-
-/// Puts numbers of one row at the end of the line, none of which is its row's first. Each type has a loop of its own.
-fn gather_line(text: &mut [u8], line: Line, layout: &Layout<'_>, bytes: &[u8]) -> Line
-    requires fits { line.end + 47 * length (numbers layout.now.ty bytes.now) ≤ length text.old }
-    ensures more { PrintedInRow (look_at layout.now) (numbers layout.now.ty bytes.now) line.columns_left result.columns_left (take line.end text.old) (take result.end text.new) }
-    ensures short { result.end ≤ line.end + 47 * length (numbers layout.now.ty bytes.now) }
-{
-    match layout.ty {
-        NcType::Byte => gather_typed(NcType::Byte, text, line, layout, bytes),
-        NcType::Char => gather_typed(NcType::Char, text, line, layout, bytes),
-        NcType::Short => gather_typed(NcType::Short, text, line, layout, bytes),
-        NcType::Int => gather_typed(NcType::Int, text, line, layout, bytes),
-        NcType::Ubyte => gather_typed(NcType::Ubyte, text, line, layout, bytes),
-        NcType::Ushort => gather_typed(NcType::Ushort, text, line, layout, bytes),
-        NcType::Uint => gather_typed(NcType::Uint, text, line, layout, bytes),
-        NcType::Int64 => gather_typed(NcType::Int64, text, line, layout, bytes),
-        NcType::Uint64 => gather_typed(NcType::Uint64, text, line, layout, bytes),
-    }
-}
-
-/// The loop of [`gather_line`] for one type.
-#[inline(always)]
-fn gather_typed(ty: NcType, text: &mut [u8], line: Line, layout: &Layout<'_>, bytes: &[u8]) -> Line
-    requires fits { line.end + 47 * length (numbers ty bytes.now) ≤ length text.old }
-    ensures more { PrintedInRow (look_at layout.now) (numbers ty bytes.now) line.columns_left result.columns_left (take line.end text.old) (take result.end text.new) }
-    ensures short { result.end ≤ line.end + 47 * length (numbers ty bytes.now) }
-{
-    let size = ty.size() as usize;
-    let mut now = line;
-    let mut rest = bytes;
-    while size <= rest.len() {
-        let (value, others) = rest.split_at(size);
-        now = gather_next(ty, text, now, layout, value);
-        rest = others;
-    }
-    now
-}
-
-/// Puts a number that isn't its row's first at the end of the line.
-#[inline(always)]
-fn gather_next(ty: NcType, text: &mut [u8], line: Line, layout: &Layout<'_>, value: &[u8]) -> Line
-    requires whole { length value.now ≡ size_of ty }
-    requires fits { line.end + 47 ≤ length text.old }
-    ensures text { take result.end text.new ≡ take line.end text.old ++ bytes_in_row (look_at layout.now) line.columns_left (number_of ty value.now) }
-    ensures columns { result.columns_left ≡ columns_left_in_row (look_at layout.now) line.columns_left (number_of ty value.now) }
-    ensures short { result.end ≤ line.end + 47 }
-{
-    let number = number_of(ty, value);
-    let len = layout.number_len(number);
-    let gap = gap_in_row(line.columns_left, len);
-    let start = put_gap(text, line.end, gap);
-    layout.put_number(text, start, len, number);
-    let columns_left = gap.columns_left_after(line.columns_left, layout.width);
-    Line {
-        end: start + len,
-        columns_left: columns_left.saturating_sub(len),
-    }
 }

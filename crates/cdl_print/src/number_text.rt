@@ -1,7 +1,8 @@
 //! Numbers in decimal, written straight to their place.
 
-ghost use Rattle.std.specs.Prelude.{◌≡◌, ◌+◌, ◌<◌, ◌≤◌, ◌^◌, ◌++◌, unsigned_abs, length, take};
+ghost use Rattle.std.specs.Prelude.{◌≡◌, ◌+◌, ◌<◌, ◌≤◌, ◌^◌, ◌++◌, ◌∷◌, [], codes, unsigned_abs, length, take};
 ghost use Rattle.std.specs.Fmt.{decimal, signed_decimal};
+ghost use Rattle.cdl_print.specs.Fills.{text_of};
 
 use itoa::write_digits;
 
@@ -68,9 +69,34 @@ pub fn put_decimal(text: &mut [u8], at: usize, len: usize, number: i128)
     }
 }
 
+/// How many bytes a number has, which is `_` if it prints as that.
+#[inline(always)]
+pub fn text_len(is_blank: bool, number: i128) -> usize
+    requires { unsigned_abs number < 2 ^ 64 }
+    ensures len { result ≡ length (text_of is_blank number) }
+    ensures short { result ≤ 21 }
+{
+    if is_blank { 1 } else { decimal_len(number) }
+}
+
+/// Writes a number at this place, where it has `len` bytes, or `_` if it prints as that.
+#[inline(always)]
+pub fn put_text(text: &mut [u8], at: usize, len: usize, is_blank: bool, number: i128)
+    requires short { unsigned_abs number < 2 ^ 64 }
+    requires len { len ≡ length (text_of is_blank number) }
+    requires fits { at + len ≤ length text.old }
+    ensures { take (at + len) text.new ≡ take at text.old ++ text_of is_blank number }
+{
+    if is_blank {
+        text[at] = b'_';
+    } else {
+        put_decimal(text, at, len, number);
+    }
+}
+
 /// Writes a number without a sign at this place, where it has `len` digits.
 #[inline(always)]
-fn put_digits(text: &mut [u8], at: usize, len: usize, n: u64)
+pub fn put_digits(text: &mut [u8], at: usize, len: usize, n: u64)
     requires len { len ≡ length (decimal n) }
     requires fits { at + len ≤ length text.old }
     ensures { take (at + len) text.new ≡ take at text.old ++ decimal n }
@@ -88,4 +114,26 @@ pub fn put_at(text: &mut [u8], at: usize, bytes: &[u8]) -> usize
     let end = at + bytes.len();
     text[at..end].copy_from_slice(bytes);
     end
+}
+
+/// Writes `, ` at this place, and returns where it ends.
+#[inline(always)]
+pub fn put_comma(text: &mut [u8], at: usize) -> usize
+    requires { at + 2 ≤ length text.old }
+    ensures end { result ≡ at + 2 }
+    ensures written { take result text.new ≡ take at text.old ++ codes ", " }
+{
+    let next = put_byte(text, at, b',');
+    put_byte(text, next, b' ')
+}
+
+/// Writes a byte at this place, and returns where it ends.
+#[inline(always)]
+pub fn put_byte(text: &mut [u8], at: usize, byte: u8) -> usize
+    requires { at + 1 ≤ length text.old }
+    ensures end { result ≡ at + 1 }
+    ensures written { take result text.new ≡ take at text.old ++ byte ∷ [] }
+{
+    text[at] = byte;
+    at + 1
 }

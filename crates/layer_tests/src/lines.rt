@@ -67,6 +67,46 @@ fn long_numbers_begin_a_line(rt: HostRuntime) -> Result<(), Fail> {
 }
 
 #[test]
+fn short_numbers_fill_a_line(rt: HostRuntime) -> Result<(), Fail> {
+    const ROWS: &[Row<'static>] = &[
+        Row {
+            name: b"v",
+            ty: NcType::Byte,
+            lens: &[11],
+            bytes: b"\x01\x02\x03\x04\x05\x06\x07\x08\x09\x0a\x0b",
+            text: b"\n v = 1, 2, 3, 4, 5, \n    6, 7, 8, 9, 10, \n    11 ;\n",
+            ..TWO_RECORDS
+        },
+        Row {
+            name: b"v",
+            ty: NcType::Byte,
+            lens: &[9],
+            bytes: b"\x01\x02\x03\x04\x32\x3c\x46\x50\x09",
+            text: b"\n v = 1, 2, 3, 4, \n    50, 60, 70, 80, \n    9 ;\n",
+            ..TWO_RECORDS
+        },
+        Row {
+            name: b"v",
+            ty: NcType::Int,
+            lens: &[8],
+            fill: Some(b"\0\0\0\x07"),
+            bytes: b"\0\0\0\x01\0\0\0\x02\0\0\0\x03\0\0\0\x04\0\0\0\x07\0\0\0\x07\0\0\0\x0a\0\0\0\x07",
+            text: b"\n v = 1, 2, 3, 4, _, \n    _, 10, _ ;\n",
+            ..TWO_RECORDS
+        },
+        Row {
+            name: b"v",
+            ty: NcType::Short,
+            lens: &[8],
+            bytes: b"\0\x0a\0\x14\0\x1e\0\x28\0\x05\0\x64\xff\xff\xff\xf6",
+            text: b"\n v = 10, 20, 30, \n    40, 5, 100, -1, \n    -10 ;\n",
+            ..TWO_RECORDS
+        },
+    ];
+    show_all_narrow(&rt, rt.alloc(), ROWS)
+}
+
+#[test]
 fn short_last_numbers_begin_a_line(rt: HostRuntime) -> Result<(), Fail> {
     const ROWS: &[Row<'static>] = &[
         Row {

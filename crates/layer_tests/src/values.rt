@@ -160,6 +160,167 @@ fn fill_of_others(rt: HostRuntime) -> Result<(), Fail> {
 }
 
 #[test]
+fn fill_values_of_few_digits(rt: HostRuntime) -> Result<(), Fail> {
+    const ROWS: &[Row<'static>] = &[
+        Row {
+            name: b"v",
+            ty: NcType::Byte,
+            lens: &[3],
+            fill: Some(b"\x09"),
+            bytes: b"\x01\x09\x0a",
+            text: b"\n v = 1, _, 10 ;\n",
+            ..TWO_RECORDS
+        },
+        Row {
+            name: b"v",
+            ty: NcType::Ubyte,
+            lens: &[6],
+            fill: Some(b"\x63"),
+            bytes: b"\0\x09\x0a\x63\x64\xc8",
+            text: b"\n v = 0, 9, 10, _, 100, 200 ;\n",
+            ..TWO_RECORDS
+        },
+        Row {
+            name: b"v",
+            ty: NcType::Short,
+            lens: &[3],
+            fill: Some(b"\0\0"),
+            bytes: b"\0\x01\0\0\0\x0a",
+            text: b"\n v = 1, _, 10 ;\n",
+            ..TWO_RECORDS
+        },
+        Row {
+            name: b"v",
+            ty: NcType::Ushort,
+            lens: &[3],
+            fill: Some(b"\0\x63"),
+            bytes: b"\0\x62\0\x63\0\x64",
+            text: b"\n v = 98, _, 100 ;\n",
+            ..TWO_RECORDS
+        },
+        Row {
+            name: b"v",
+            ty: NcType::Int,
+            lens: &[4],
+            fill: Some(b"\0\0\0\x64"),
+            bytes: b"\0\0\0\x01\0\0\0\x63\0\0\0\x64\0\0\0\x65",
+            text: b"\n v = 1, 99, _, 101 ;\n",
+            ..TWO_RECORDS
+        },
+        Row {
+            name: b"v",
+            ty: NcType::Uint,
+            lens: &[4],
+            fill: Some(b"\0\0\0\x0a"),
+            bytes: b"\0\0\0\x01\0\0\0\x09\0\0\0\x0a\0\0\0\x0b",
+            text: b"\n v = 1, 9, _, 11 ;\n",
+            ..TWO_RECORDS
+        },
+        Row {
+            name: b"v",
+            ty: NcType::Int64,
+            lens: &[4],
+            fill: Some(b"\xff\xff\xff\xff\xff\xff\xff\xff"),
+            bytes: b"\0\0\0\0\0\0\0\x01\xff\xff\xff\xff\xff\xff\xff\xff\0\0\0\0\0\0\0\x63\0\0\0\0\0\0\0\x64",
+            text: b"\n v = 1, _, 99, 100 ;\n",
+            ..TWO_RECORDS
+        },
+        Row {
+            name: b"v",
+            ty: NcType::Uint64,
+            lens: &[3],
+            fill: Some(b"\0\0\0\0\0\0\0\x01"),
+            bytes: b"\0\0\0\0\0\0\0\x01\0\0\0\0\0\0\0\x63\0\0\0\0\0\0\0\x64",
+            text: b"\n v = _, 99, 100 ;\n",
+            ..TWO_RECORDS
+        },
+    ];
+    show_all(&rt, rt.alloc(), ROWS)
+}
+
+#[test]
+fn fill_values_after_the_first(rt: HostRuntime) -> Result<(), Fail> {
+    const ROWS: &[Row<'static>] = &[
+        Row {
+            name: b"v",
+            ty: NcType::Byte,
+            lens: &[3],
+            fill: Some(b"\x80"),
+            bytes: b"\x01\x81\x80",
+            text: b"\n v = 1, -127, _ ;\n",
+            ..TWO_RECORDS
+        },
+        Row {
+            name: b"v",
+            ty: NcType::Byte,
+            lens: &[2],
+            bytes: b"\x01\x81",
+            text: b"\n v = 1, -127 ;\n",
+            ..TWO_RECORDS
+        },
+        Row {
+            name: b"v",
+            ty: NcType::Ushort,
+            lens: &[2],
+            bytes: b"\0\x01\xff\xff",
+            text: b"\n v = 1, _ ;\n",
+            ..TWO_RECORDS
+        },
+        Row {
+            name: b"v",
+            ty: NcType::Int,
+            lens: &[3],
+            bytes: b"\0\0\0\x01\x80\0\0\x01\x80\0\0\0",
+            text: b"\n v = 1, _, -2147483648 ;\n",
+            ..TWO_RECORDS
+        },
+        Row {
+            name: b"v",
+            ty: NcType::Uint,
+            lens: &[2],
+            bytes: b"\0\0\0\x01\xff\xff\xff\xff",
+            text: b"\n v = 1, _ ;\n",
+            ..TWO_RECORDS
+        },
+        Row {
+            name: b"v",
+            ty: NcType::Int64,
+            lens: &[3],
+            bytes: b"\0\0\0\0\0\0\0\x01\x80\0\0\0\0\0\0\x02\x80\0\0\0\0\0\0\x01",
+            text: b"\n v = 1, _, -9223372036854775807 ;\n",
+            ..TWO_RECORDS
+        },
+        Row {
+            name: b"v",
+            ty: NcType::Uint64,
+            lens: &[3],
+            bytes: b"\0\0\0\0\0\0\0\x01\xff\xff\xff\xff\xff\xff\xff\xfe\xff\xff\xff\xff\xff\xff\xff\xff",
+            text: b"\n v = 1, _, 18446744073709551615 ;\n",
+            ..TWO_RECORDS
+        },
+        Row {
+            name: b"v",
+            ty: NcType::Uint64,
+            lens: &[3],
+            fill: Some(b"\x7f\xff\xff\xff\xff\xff\xff\xff"),
+            bytes: b"\0\0\0\0\0\0\0\x01\x7f\xff\xff\xff\xff\xff\xff\xff\x80\0\0\0\0\0\0\0",
+            text: b"\n v = 1, _, 9223372036854775808 ;\n",
+            ..TWO_RECORDS
+        },
+        Row {
+            name: b"v",
+            ty: NcType::Uint64,
+            lens: &[3],
+            fill: Some(b"\x80\0\0\0\0\0\0\0"),
+            bytes: b"\0\0\0\0\0\0\0\x01\x7f\xff\xff\xff\xff\xff\xff\xff\x80\0\0\0\0\0\0\0",
+            text: b"\n v = 1, 9223372036854775807, _ ;\n",
+            ..TWO_RECORDS
+        },
+    ];
+    show_all(&rt, rt.alloc(), ROWS)
+}
+
+#[test]
 fn least_and_greatest_of_signed_types(rt: HostRuntime) -> Result<(), Fail> {
     const ROWS: &[Row<'static>] = &[
         Row {
@@ -173,25 +334,25 @@ fn least_and_greatest_of_signed_types(rt: HostRuntime) -> Result<(), Fail> {
         Row {
             name: b"v",
             ty: NcType::Short,
-            lens: &[2],
-            bytes: b"\x80\0\x7f\xff",
-            text: b"\n v = -32768, 32767 ;\n",
+            lens: &[12],
+            bytes: b"\0\0\0\x09\0\x0a\0\x63\0\x64\xff\xff\xff\xf7\xff\xf6\xff\x9d\xff\x9c\x80\0\x7f\xff",
+            text: b"\n v = 0, 9, 10, 99, 100, -1, -9, -10, -99, -100, -32768, 32767 ;\n",
             ..TWO_RECORDS
         },
         Row {
             name: b"v",
             ty: NcType::Int,
-            lens: &[2],
-            bytes: b"\x80\0\0\0\x7f\xff\xff\xff",
-            text: b"\n v = -2147483648, 2147483647 ;\n",
+            lens: &[12],
+            bytes: b"\0\0\0\0\0\0\0\x09\0\0\0\x0a\0\0\0\x63\0\0\0\x64\xff\xff\xff\xff\xff\xff\xff\xf7\xff\xff\xff\xf6\xff\xff\xff\x9d\xff\xff\xff\x9c\x80\0\0\0\x7f\xff\xff\xff",
+            text: b"\n v = 0, 9, 10, 99, 100, -1, -9, -10, -99, -100, -2147483648, 2147483647 ;\n",
             ..TWO_RECORDS
         },
         Row {
             name: b"v",
             ty: NcType::Int64,
-            lens: &[2],
-            bytes: b"\x80\0\0\0\0\0\0\0\x7f\xff\xff\xff\xff\xff\xff\xff",
-            text: b"\n v = -9223372036854775808, 9223372036854775807 ;\n",
+            lens: &[12],
+            bytes: b"\0\0\0\0\0\0\0\0\0\0\0\0\0\0\0\x09\0\0\0\0\0\0\0\x0a\0\0\0\0\0\0\0\x63\0\0\0\0\0\0\0\x64\xff\xff\xff\xff\xff\xff\xff\xff\xff\xff\xff\xff\xff\xff\xff\xf7\xff\xff\xff\xff\xff\xff\xff\xf6\xff\xff\xff\xff\xff\xff\xff\x9d\xff\xff\xff\xff\xff\xff\xff\x9c\x80\0\0\0\0\0\0\0\x7f\xff\xff\xff\xff\xff\xff\xff",
+            text: b"\n v = 0, 9, 10, 99, 100, -1, -9, -10, -99, -100, -9223372036854775808, \n    9223372036854775807 ;\n",
             ..TWO_RECORDS
         },
     ];
@@ -219,6 +380,22 @@ fn least_and_greatest_of_unsigned_types(rt: HostRuntime) -> Result<(), Fail> {
         },
         Row {
             name: b"v",
+            ty: NcType::Ushort,
+            lens: &[6],
+            bytes: b"\0\0\0\x09\0\x0a\0\x63\0\x64\xff\xfe",
+            text: b"\n v = 0, 9, 10, 99, 100, 65534 ;\n",
+            ..TWO_RECORDS
+        },
+        Row {
+            name: b"v",
+            ty: NcType::Uint,
+            lens: &[6],
+            bytes: b"\0\0\0\0\0\0\0\x09\0\0\0\x0a\0\0\0\x63\0\0\0\x64\xff\xff\xff\xfe",
+            text: b"\n v = 0, 9, 10, 99, 100, 4294967294 ;\n",
+            ..TWO_RECORDS
+        },
+        Row {
+            name: b"v",
             ty: NcType::Uint,
             lens: &[4],
             bytes: b"\x00\x00\x27\x0f\x00\x00\x27\x10\x05\xf5\xe0\xff\x05\xf5\xe1\x00",
@@ -236,9 +413,9 @@ fn least_and_greatest_of_unsigned_types(rt: HostRuntime) -> Result<(), Fail> {
         Row {
             name: b"v",
             ty: NcType::Uint64,
-            lens: &[2],
-            bytes: b"\0\0\0\0\0\0\0\0\xff\xff\xff\xff\xff\xff\xff\xff",
-            text: b"\n v = 0, 18446744073709551615 ;\n",
+            lens: &[8],
+            bytes: b"\0\0\0\0\0\0\0\0\0\0\0\0\0\0\0\x09\0\0\0\0\0\0\0\x0a\0\0\0\0\0\0\0\x63\0\0\0\0\0\0\0\x64\x7f\xff\xff\xff\xff\xff\xff\xff\x80\0\0\0\0\0\0\0\xff\xff\xff\xff\xff\xff\xff\xff",
+            text: b"\n v = 0, 9, 10, 99, 100, 9223372036854775807, 9223372036854775808, \n    18446744073709551615 ;\n",
             ..TWO_RECORDS
         },
     ];

@@ -1,6 +1,7 @@
 use Rattle.std.proofs.Common.{◌∙◌, ◌++◌, List, ℕ, ap, length, take, append_assoc, to_z-of_z}
-use Rattle.std.specs.Int.{w128}
+use Rattle.std.specs.Int.{w128, cast_signed, cast_unsigned}
 use Rattle.nc_base.specs.ValueText.{number_text}
+use Rattle.cdl_print.specs.Fills.{text_of}
 use Rattle.cdl_print.specs.Leads.{gap_bytes, next_gap, look_at}
 use Rattle.cdl_print.specs.Printing.{number_bytes}
 use Rattle.cdl_print.proofs.number_row.gather_number.Goals as goal
@@ -11,9 +12,10 @@ returns-clause-text c =
     let before = take c.args.at c.args.text.now in
     let text = number_text look c.number_of-number.result in
     let back = to_z-of_z {w = w128} (record { sfits = c.number_of-number.type_inv }) in
-    c.put_number.ensures
-    ∙ ap (λ z. take c.put_gap-start.result c.put_gap-start.new.text ++ number_text look z) back
+    let shown = ap (λ b. text_of b (cast_signed w128 (cast_unsigned w128 c.number_of-number.result))) c.is_blank-is_blank.ensures ∙ ap (λ z. number_text look z) back in
+    c.put_text.ensures
+    ∙ ap (λ (t : List ℕ). take c.put_gap-start.result c.put_gap-start.new.text ++ t) shown
     ∙ ap (λ (t : List ℕ). t ++ text) c.put_gap-start.ensures.written
     ∙ append_assoc before (gap_bytes c.number_gap-gap.result) text
-    ∙ ap (λ g. before ++ (gap_bytes g ++ text)) (c.number_gap-gap.ensures ∙ ap (λ n. next_gap look c.args.progress.now n) (c.number_len-len.ensures.len ∙ ap (λ z. length (number_text look z)) back))
+    ∙ ap (λ g. before ++ (gap_bytes g ++ text)) (c.number_gap-gap.ensures ∙ ap (λ n. next_gap look c.args.progress.now n) (c.text_len-len.ensures.len ∙ ap length shown))
     ∙ ap (λ x. before ++ number_bytes look c.args.progress.now x) c.number_of-number.ensures.number

@@ -1,7 +1,7 @@
 use Rattle.std.proofs.Common.{◌∙◌, arith, ap, length, refl}
 use Rattle.cdl_print.proofs.Joined.{numbers_parts, numbers-none}
 use Rattle.cdl_print.proofs.NumberRows.{in_row_at_first, in_row_goes_on, in_row_all}
-use Rattle.cdl_print.proofs.number_row.gather_typed.Goals as goal
+use Rattle.cdl_print.proofs.number_line.gather_typed.Goals as goal
 
 pub loop-rest-init : goal.loop-rest-init
 loop-rest-init c = (in_row_at_first _ _ _ _, omega arith, refl)

@@ -2,7 +2,7 @@ use Rattle.std.proofs.Common.{◌≡◌, ◌+◌, ◌*◌, ◌≤◌, length, ta
 use Rattle.nc_base.specs.Numbers.{numbers}
 use Rattle.cdl_print.specs.Leads.{look_at}
 use Rattle.cdl_print.proofs.NumberRows.{IsInRow}
-use Rattle.cdl_print.proofs.number_row.gather_typed.Given as goal
+use Rattle.cdl_print.proofs.number_line.gather_typed.Given as goal
 
 abbrev pub invariant-loop-rest : goal.invariant-loop-rest
 invariant-loop-rest l =

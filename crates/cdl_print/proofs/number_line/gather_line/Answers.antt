@@ -3,7 +3,7 @@ use Rattle.nc_base.specs.Numbers.{numbers}
 use Rattle.nc_base.specs.declared.nc_type.NcType.{NcType}
 use Rattle.cdl_print.specs.Leads.{look_at}
 use Rattle.cdl_print.specs.Printing.{PrintedInRow}
-use Rattle.cdl_print.proofs.number_row.gather_line.Goals as goal
+use Rattle.cdl_print.proofs.number_line.gather_line.Goals as goal
 
 pub returns-in-Byte-clause-more : goal.returns-in-Byte-clause-more
 returns-in-Byte-clause-more c =

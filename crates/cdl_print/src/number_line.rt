@@ -1,0 +1,185 @@
+//! The numbers of a row after its first, put one after the other into a line.
+
+ghost use Rattle.std.specs.Prelude.{ℕ, ◌≡◌, ◌++◌, ◌+◌, ◌-◌, ◌*◌, ◌<◌, ◌≤◌, ◌^◌, codes, length, take, unsigned_abs};
+ghost use Rattle.std.specs.Fmt.{decimal, signed_decimal};
+ghost use Rattle.nc_base.specs.Numbers.{number_of, numbers};
+ghost use Rattle.nc_base.specs.Types.{size_of};
+ghost use Rattle.cdl_print.specs.Fills.{IsFillOf};
+ghost use Rattle.cdl_print.specs.Leads.{gap_bytes, gap_in_row, columns_left_after, look_at};
+ghost use Rattle.cdl_print.specs.Printing.{bytes_in_row, columns_left_in_row, text_in_row, columns_left_after_text, PrintedInRow};
+
+use crate::gap::{gap_in_row, put_gap};
+use crate::layout::Layout;
+use crate::number_text::{decimal_len, put_byte, put_comma, put_decimal, put_digits};
+use crate::printed_fill::PrintedFill;
+use nc_base::{NcType, number_of};
+
+/// How far a line of numbers is gathered.
+#[derive(Clone, Copy)]
+pub struct Line {
+    /// Where it ends in the text.
+    pub end: usize,
+    /// How many bytes more it may have.
+    pub columns_left: usize,
+}
+
+/// Puts numbers of one row at the end of the line, none of which is its row's first. Each type has a loop of its own.
+pub fn gather_line(text: &mut [u8], line: Line, layout: &Layout<'_>, bytes: &[u8]) -> Line
+    requires fits { line.end + 47 * length (numbers layout.now.ty bytes.now) ≤ length text.old }
+    ensures more { PrintedInRow (look_at layout.now) (numbers layout.now.ty bytes.now) line.columns_left result.columns_left (take line.end text.old) (take result.end text.new) }
+    ensures short { result.end ≤ line.end + 47 * length (numbers layout.now.ty bytes.now) }
+{
+    match layout.ty {
+        NcType::Byte => gather_typed(NcType::Byte, text, line, layout, bytes),
+        NcType::Char => gather_typed(NcType::Char, text, line, layout, bytes),
+        NcType::Short => gather_typed(NcType::Short, text, line, layout, bytes),
+        NcType::Int => gather_typed(NcType::Int, text, line, layout, bytes),
+        NcType::Ubyte => gather_typed(NcType::Ubyte, text, line, layout, bytes),
+        NcType::Ushort => gather_typed(NcType::Ushort, text, line, layout, bytes),
+        NcType::Uint => gather_typed(NcType::Uint, text, line, layout, bytes),
+        NcType::Int64 => gather_typed(NcType::Int64, text, line, layout, bytes),
+        NcType::Uint64 => gather_typed(NcType::Uint64, text, line, layout, bytes),
+    }
+}
+
+/// The loop of [`gather_line`] for one type.
+#[inline(always)]
+fn gather_typed(ty: NcType, text: &mut [u8], line: Line, layout: &Layout<'_>, bytes: &[u8]) -> Line
+    requires fits { line.end + 47 * length (numbers ty bytes.now) ≤ length text.old }
+    ensures more { PrintedInRow (look_at layout.now) (numbers ty bytes.now) line.columns_left result.columns_left (take line.end text.old) (take result.end text.new) }
+    ensures short { result.end ≤ line.end + 47 * length (numbers ty bytes.now) }
+{
+    let size = ty.size() as usize;
+    let fill = PrintedFill::of(layout);
+    let mut now = line;
+    let mut rest = bytes;
+    while size <= rest.len() {
+        let (value, others) = rest.split_at(size);
+        now = gather_next(ty, text, now, layout, fill, value);
+        rest = others;
+    }
+    now
+}
+
+/// Reads a number that isn't its row's first, and puts it at the end of the line.
+#[inline(always)]
+fn gather_next(
+    ty: NcType,
+    text: &mut [u8],
+    line: Line,
+    layout: &Layout<'_>,
+    fill: PrintedFill,
+    value: &[u8],
+) -> Line
+    requires whole { length value.now ≡ size_of ty }
+    requires fill { IsFillOf (look_at layout.now) fill }
+    requires fits { line.end + 47 ≤ length text.old }
+    ensures text { take result.end text.new ≡ take line.end text.old ++ bytes_in_row (look_at layout.now) line.columns_left (number_of ty value.now) }
+    ensures columns { result.columns_left ≡ columns_left_in_row (look_at layout.now) line.columns_left (number_of ty value.now) }
+    ensures short { result.end ≤ line.end + 47 }
+{
+    put_next(text, line, layout, fill, number_of(ty, value))
+}
+
+/// Puts a number that isn't its row's first at the end of the line, with what stands before it. Three comparisons find a number
+/// below 100 that isn't the fill value, on a line with room for `, `, two digits and two bytes more: no line begins before it.
+#[inline(always)]
+fn put_next(
+    text: &mut [u8],
+    line: Line,
+    layout: &Layout<'_>,
+    fill: PrintedFill,
+    number: i128,
+) -> Line
+    requires magnitude { unsigned_abs number < 2 ^ 64 }
+    requires fill { IsFillOf (look_at layout.now) fill }
+    requires fits { line.end + 47 ≤ length text.old }
+    ensures text { take result.end text.new ≡ take line.end text.old ++ bytes_in_row (look_at layout.now) line.columns_left number }
+    ensures columns { result.columns_left ≡ columns_left_in_row (look_at layout.now) line.columns_left number }
+    ensures short { result.end ≤ line.end + 47 }
+{
+    if fill.shows_below_100(number) && line.columns_left >= 6 {
+        put_below_100(text, line, number as u64)
+    } else if fill.prints(layout, number) {
+        put_fill(text, line, layout.width)
+    } else {
+        put_number(text, line, layout.width, number)
+    }
+}
+
+/// Puts a comma and a number below 100 at the end of the line, which has room for them.
+#[inline(always)]
+fn put_below_100(text: &mut [u8], line: Line, n: u64) -> Line
+    requires below_100 { n < 100 }
+    requires on_line { 6 ≤ line.columns_left }
+    requires fits { line.end + 4 ≤ length text.old }
+    ensures text { take result.end text.new ≡ take line.end text.old ++ text_in_row line.columns_left (decimal n) }
+    ensures columns { (width : ℕ) → result.columns_left ≡ columns_left_after_text width line.columns_left (decimal n) }
+    ensures short { result.end ≤ line.end + 4 }
+{
+    let start = put_comma(text, line.end);
+    if n < 10 {
+        put_digits(text, start, 1, n);
+        Line {
+            end: start + 1,
+            columns_left: line.columns_left - 3,
+        }
+    } else {
+        put_digits(text, start, 2, n);
+        Line {
+            end: start + 2,
+            columns_left: line.columns_left - 4,
+        }
+    }
+}
+
+/// Puts a fill value that prints as `_` at the end of the line, with what stands before it.
+#[inline(always)]
+fn put_fill(text: &mut [u8], line: Line, width: usize) -> Line
+    requires fits { line.end + 8 ≤ length text.old }
+    ensures text { take result.end text.new ≡ take line.end text.old ++ text_in_row line.columns_left (codes "_") }
+    ensures columns { result.columns_left ≡ columns_left_after_text width line.columns_left (codes "_") }
+    ensures short { result.end ≤ line.end + 8 }
+{
+    let start = put_gap_in_row(text, line, width, 1);
+    Line {
+        end: put_byte(text, start.end, b'_'),
+        columns_left: start.columns_left,
+    }
+}
+
+/// Puts a number in decimal at the end of the line, with what stands before it.
+#[inline(always)]
+fn put_number(text: &mut [u8], line: Line, width: usize, number: i128) -> Line
+    requires magnitude { unsigned_abs number < 2 ^ 64 }
+    requires fits { line.end + 28 ≤ length text.old }
+    ensures text { take result.end text.new ≡ take line.end text.old ++ text_in_row line.columns_left (signed_decimal number) }
+    ensures columns { result.columns_left ≡ columns_left_after_text width line.columns_left (signed_decimal number) }
+    ensures short { result.end ≤ line.end + 28 }
+{
+    let len = decimal_len(number);
+    let start = put_gap_in_row(text, line, width, len);
+    put_decimal(text, start.end, len, number);
+    Line {
+        end: start.end + len,
+        columns_left: start.columns_left,
+    }
+}
+
+/// Puts what stands before a text of `len` bytes at the end of the line. Returns where the text begins, and how many columns
+/// are left after it.
+#[inline(always)]
+fn put_gap_in_row(text: &mut [u8], line: Line, width: usize, len: usize) -> Line
+    requires short { len ≤ 40 }
+    requires fits { line.end + 7 ≤ length text.old }
+    ensures text { take result.end text.new ≡ take line.end text.old ++ gap_bytes (gap_in_row line.columns_left len) }
+    ensures columns { result.columns_left ≡ columns_left_after (gap_in_row line.columns_left len) line.columns_left width - len }
+    ensures start { result.end ≡ line.end + length (gap_bytes (gap_in_row line.columns_left len)) }
+{
+    let gap = gap_in_row(line.columns_left, len);
+    let columns_left = gap.columns_left_after(line.columns_left, width);
+    Line {
+        end: put_gap(text, line.end, gap),
+        columns_left: columns_left.saturating_sub(len),
+    }
+}

@@ -1,0 +1,95 @@
+//! The fill value that prints as `_`, and which numbers equal it.
+
+ghost use Rattle.std.specs.Prelude.{ℕ, ℤ, ◌≡◌, ◌==◌, ◌<◌, ◌↔◌, pos, IfSome, IsSome, IsTrue, FitsSigned};
+ghost use Rattle.std.specs.Int.{w64};
+ghost use Rattle.cdl_print.specs.Fills.{IsFillOf, is_fill, prints_as_fill, shows_below_100};
+ghost use Rattle.cdl_print.specs.Leads.{look_at};
+
+use crate::layout::Layout;
+
+/// The fill value of a variable, in the widths in which its numbers are compared with it.
+#[derive(Clone, Copy)]
+pub struct PrintedFill {
+    /// The fill value if it prints as `_` and is below 100; else 100.
+    pub below_100: u64,
+    /// The fill value if it prints as `_` and has 64 bits with a sign.
+    pub narrow: Option<i64>,
+}
+
+impl PrintedFill {
+    /// The fill value of a layout.
+    pub fn of(layout: &Layout<'_>) -> PrintedFill
+        ensures { IsFillOf (look_at layout.now) result }
+    {
+        PrintedFill {
+            below_100: fill_below_100(layout),
+            narrow: narrow_fill(layout),
+        }
+    }
+
+    /// Returns true if a number is below 100 and isn't the fill value.
+    #[inline(always)]
+    pub fn shows_below_100(self, number: i128) -> bool
+        ensures { result ≡ shows_below_100 self.below_100 number }
+    {
+        number >= 0 && number < 100 && number as u64 != self.below_100
+    }
+
+    /// Returns true if a number of the layout prints as `_`.
+    #[inline(always)]
+    pub fn prints(self, layout: &Layout<'_>, number: i128) -> bool
+        requires { IsFillOf (look_at layout.now) self }
+        ensures { result ≡ prints_as_fill (look_at layout.now) number }
+    {
+        match narrow(number) {
+            Some(n) => self.is_narrow(n),
+            None => layout.is_blank(number),
+        }
+    }
+
+    /// Returns true if a number of 64 bits is the fill value.
+    #[inline(always)]
+    fn is_narrow(self, number: i64) -> bool
+        ensures { result ≡ is_fill self.narrow number }
+    {
+        match self.narrow {
+            Some(fill) => number == fill,
+            None => false,
+        }
+    }
+}
+
+/// The fill value if it prints as `_` and is below 100; else 100.
+fn fill_below_100(layout: &Layout<'_>) -> u64
+    ensures { (n : ℕ) → n < 100 → (n == result) ≡ prints_as_fill (look_at layout.now) (pos n) }
+{
+    if layout.prints_fill && layout.fill >= 0 && layout.fill < 100 {
+        layout.fill as u64
+    } else {
+        100
+    }
+}
+
+/// The fill value if it prints as `_` and has 64 bits with a sign.
+fn narrow_fill(layout: &Layout<'_>) -> Option<i64>
+    ensures { (number : ℤ) → FitsSigned w64 number → is_fill result number ≡ prints_as_fill (look_at layout.now) number }
+{
+    if layout.prints_fill {
+        narrow(layout.fill)
+    } else {
+        None
+    }
+}
+
+/// The number in 64 bits, if these have room for it and its sign.
+#[inline(always)]
+fn narrow(number: i128) -> Option<i64>
+    ensures fits { IsSome result ↔ FitsSigned w64 number }
+    ensures same { IfSome result (λ n. n ≡ number) }
+{
+    if number >= i64::MIN as i128 && number <= i64::MAX as i128 {
+        Some(number as i64)
+    } else {
+        None
+    }
+}
