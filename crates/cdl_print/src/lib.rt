@@ -26,5 +26,6 @@ mod word;
 
 pub use head::put_head;
 pub use name::put_name;
+pub use number_row::Gathered;
 pub use printer::ValuePrinter;
 pub use word::Word;

@@ -29,7 +29,6 @@ pub struct ValuePrinter<'a> {
     layout: Layout<'a>,
     progress: Progress,
     has_failed: bool,
-    text: Gathered,
 }
 
 impl<'a> ValuePrinter<'a> {
@@ -50,7 +49,6 @@ impl<'a> ValuePrinter<'a> {
                 held: 0,
             },
             has_failed: false,
-            text: [0; 4096],
         }
     }
 
@@ -91,12 +89,17 @@ impl<'a> ValuePrinter<'a> {
     }
 
     /// Writes these values, which come after those of the calls before: big-endian and one after the other. They are
-    /// whole, and no more than the variable has.
+    /// whole, and no more than the variable has. Numbers are gathered in `text`, which may hold anything: one serves all variables.
     ///
     /// # Errors
     ///
     /// The sink failed, and took some prefix of the text; or an earlier call failed, and nothing is written.
-    pub fn values<W: Sink>(&mut self, sink: &mut W, bytes: &[u8]) -> Result<(), WriteFailed>
+    pub fn values<W: Sink>(
+        &mut self,
+        sink: &mut W,
+        text: &mut Gathered,
+        bytes: &[u8],
+    ) -> Result<(), WriteFailed>
         requires { Takes self.old bytes.now }
         ensures prints { Prints (numbers (look_in self.old).ty bytes.now) self.old self.new (W.view sink.old) (W.view sink.new) result }
         ensures repeats { has_failed self.old ≡ true → IsErr result × (W.view sink.new ≡ W.view sink.old) }
@@ -104,13 +107,7 @@ impl<'a> ValuePrinter<'a> {
         if self.has_failed {
             return Err(WriteFailed);
         }
-        let written = put_values(
-            sink,
-            &self.layout,
-            &mut self.progress,
-            &mut self.text,
-            bytes,
-        );
+        let written = put_values(sink, &self.layout, &mut self.progress, text, bytes);
         self.remember(written)
     }
 

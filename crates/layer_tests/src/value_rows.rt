@@ -98,6 +98,7 @@ pub fn print<W: Sink>(
     assert!(rt; header.sound());
     assert!(rt; header.vars.len() == 1);
     let mut printer = ValuePrinter::new(header, 0, row.records, row.width);
+    let mut text = [0; 4096];
     printer.start(sink)?;
     let size = row.ty.size() as usize;
     let count = row.bytes.len() / size;
@@ -108,7 +109,7 @@ pub fn print<W: Sink>(
             assert!(rt; from <= to && to <= row.bytes.len());
             let piece = &row.bytes[from..to];
             assert!(rt; printer.takes(piece));
-            printer.values(sink, piece)?;
+            printer.values(sink, &mut text, piece)?;
             from = to;
         }
     }

@@ -462,7 +462,7 @@ fn prints(
     bytes: &[u8],
 ) -> bool {
     assert!(rt; printer.takes(bytes));
-    printer.values(sink, bytes).is_ok()
+    printer.values(sink, &mut [0; 4096], bytes).is_ok()
 }
 
 /// Says whether what stands before the values is printed.

@@ -78,8 +78,27 @@ impl<S: Source> Window<'_, S> {
     }
 
     /// A big-endian number of four bytes.
-    #[tactic(auto, using(crate::proofs::Parts::parts), unfolding(crate::specs::Reading::u32_at))]
     pub(crate) fn read_u32(&mut self) -> Result<u32, HeadFault>
+        requires { Opened S.is_transparent S.view self.old }
+        ensures { ReadPart S.is_transparent S.view self.old self.new u32_at result }
+    {
+        if self.filled - self.pos < 4 {
+            return self.u32_by_bytes();
+        }
+        let at = self.pos;
+        let number = u32_of([
+            self.buf[at],
+            self.buf[at + 1],
+            self.buf[at + 2],
+            self.buf[at + 3],
+        ]);
+        self.pos += 4;
+        Ok(number)
+    }
+
+    /// The same, byte for byte: for a number that the window doesn't hold whole.
+    #[tactic(auto, using(crate::proofs::Parts::parts), unfolding(crate::specs::Reading::u32_at))]
+    fn u32_by_bytes(&mut self) -> Result<u32, HeadFault>
         requires { Opened S.is_transparent S.view self.old }
         ensures { ReadPart S.is_transparent S.view self.old self.new u32_at result }
     {
@@ -91,8 +110,31 @@ impl<S: Source> Window<'_, S> {
     }
 
     /// A big-endian number of eight bytes.
-    #[tactic(auto, using(crate::proofs::Parts::parts), unfolding(crate::specs::Reading::u64_at))]
     pub(crate) fn read_u64(&mut self) -> Result<u64, HeadFault>
+        requires { Opened S.is_transparent S.view self.old }
+        ensures { ReadPart S.is_transparent S.view self.old self.new u64_at result }
+    {
+        if self.filled - self.pos < 8 {
+            return self.u64_by_bytes();
+        }
+        let at = self.pos;
+        let number = u64_of([
+            self.buf[at],
+            self.buf[at + 1],
+            self.buf[at + 2],
+            self.buf[at + 3],
+            self.buf[at + 4],
+            self.buf[at + 5],
+            self.buf[at + 6],
+            self.buf[at + 7],
+        ]);
+        self.pos += 8;
+        Ok(number)
+    }
+
+    /// The same, byte for byte: for a number that the window doesn't hold whole.
+    #[tactic(auto, using(crate::proofs::Parts::parts), unfolding(crate::specs::Reading::u64_at))]
+    fn u64_by_bytes(&mut self) -> Result<u64, HeadFault>
         requires { Opened S.is_transparent S.view self.old }
         ensures { ReadPart S.is_transparent S.view self.old self.new u64_at result }
     {
@@ -188,8 +230,20 @@ impl<S: Source> Window<'_, S> {
     }
 
     /// Passes over `n` bytes.
-    #[tactic(auto, using(crate::proofs::Loops::skip))]
     pub(crate) fn skip(&mut self, n: u64) -> Result<(), HeadFault>
+        requires { Opened S.is_transparent S.view self.old }
+        ensures { ReadPart S.is_transparent S.view self.old self.new (skip_at n) result }
+    {
+        if ((self.filled - self.pos) as u64) < n {
+            return self.skip_by_bytes(n);
+        }
+        self.pos += n as usize;
+        Ok(())
+    }
+
+    /// The same, byte for byte: for bytes that the window doesn't hold whole.
+    #[tactic(auto, using(crate::proofs::Loops::skip))]
+    fn skip_by_bytes(&mut self, n: u64) -> Result<(), HeadFault>
         requires { Opened S.is_transparent S.view self.old }
         ensures { ReadPart S.is_transparent S.view self.old self.new (skip_at n) result }
     {

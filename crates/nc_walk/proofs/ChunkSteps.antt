@@ -1,10 +1,11 @@
 -- Values of one slab, and then more of the next ones.
-use Rattle.std.proofs.Common.{◌≡◌, ℕ, ◌+◌, ◌-◌, ◌*◌, ◌<◌, ◌≤◌, Bool, List, ◌++◌, length, take, map, sym, ◌∙◌, ap, subst, arith, length-append, length-take}
+use Rattle.std.proofs.Common.{◌≡◌, ℕ, ◌+◌, ◌-◌, ◌*◌, ◌^◌, ◌<◌, ◌≤◌, min, Bool, List, ◌++◌, length, take, map, sym, ◌∙◌, ap, subst, arith, length-append, length-take}
 use Rattle.std.specs.Prelude.{All}
 use Rattle.std.specs.List.{concat}
 use Rattle.std.proofs.lemmas.List.{map-append}
 use Rattle.std.proofs.lemmas.List.Elements.{All-append}
 use Rattle.std.proofs.lemmas.List.Folds.{concat-append}
+use Rattle.std.proofs.lemmas.Nat.{mod-mul-add}
 use Rattle.std.proofs.Math.Nat.{mul-le-mul_right, lt_of_mul-lt-mul_right}
 use Rattle.std.proofs.Math.Seq.{take-add}
 use borrow.Rule.Slice.PartMut.{put_mid}
@@ -13,11 +14,11 @@ use Rattle.devices.specs.Sources.{SourceView, after, HasFailed}
 use Rattle.nc_walk.specs.declared.slabs.Slabs.{Slabs}
 use Rattle.nc_walk.specs.declared.cursor.Cursor.{Cursor}
 use Rattle.nc_walk.specs.declared.chunk.Chunk.{Chunk}
-use Rattle.nc_walk.specs.Slabs.{total, number_at, offsets_after, offsets_from}
+use Rattle.nc_walk.specs.Slabs.{total, number_at, offset, offsets_after, offsets_from, IsSized, IsOffset, Ready}
 use Rattle.nc_walk.specs.Chunks.{Collected, ReadToSlabEnd}
 use Rattle.nc_walk.specs.Walks.{WalkView, IsWhole, Exactly, ReturnsValues, Failing, Truncated, ReadValues, standing}
 use Rattle.nc_walk.proofs.FillSteps.{transparent_both, after_after, prefix_then, prefix_still}
-use Rattle.nc_walk.proofs.Runs.{length-offsets, drop-offsets}
+use Rattle.nc_walk.proofs.Runs.{offset_at, length-offsets, drop-offsets}
 
 -- the first n values from number i on have been read into the start of the buffer, and after them comes a part of it
 module _ (is_transparent : Bool) (l : Slabs) (i n : ℕ) (had part : List ℕ) (before mid now : SourceView) (within : n ≤ length (offsets_after l i))
@@ -121,6 +122,36 @@ to_slab_end l cursor next n some le number first =
     let further : cursor.slab < next.slab = lt_of_mul-lt-mul_right l.values_per_slab (let h : cursor.slab * l.values_per_slab < next.slab * l.values_per_slab = omega arith in h) in
     let up : (cursor.slab + 1) * l.values_per_slab ≤ next.slab * l.values_per_slab = mul-le-mul_right l.values_per_slab (let h : cursor.slab + 1 ≤ next.slab = omega arith in h) in
     omega (arith, up)
+
+-- ---- a whole slab after the values
+
+-- from its start on, as many values are ready as it has
+pub whole_ready : (l : Slabs) (cursor : Cursor) (capacity len at : ℕ) → IsSized l → cursor.within ≡ 0 → IsOffset l (number_at l cursor) at
+    → at + l.values_per_slab * l.size ≤ len → len < 2 ^ 64 → l.values_per_slab * l.size ≤ capacity
+    → (at ≡ offset l (number_at l cursor)) × Ready l (number_at l cursor) capacity len l.values_per_slab
+whole_ready l cursor capacity len at sized first is fits small in_capacity =
+    let some : 1 * l.size ≤ l.values_per_slab * l.size = mul-le-mul_right l.size (let h : 1 ≤ l.values_per_slab = omega (arith, sized.values_per_slab) in h) in
+    let e : at ≡ offset l (number_at l cursor) = omega (arith, some, sized.some) in (
+      e,
+      record {
+        in_slab = omega (arith, mod-mul-add cursor.slab l.values_per_slab cursor.within (omega (arith, sized.values_per_slab)));
+        in_capacity = in_capacity;
+        whole = λ some. omega arith;
+        none = λ none. absurd (omega (arith, sized.values_per_slab));
+      },
+    )
+
+-- the slab after it is a stride further on
+pub next_offset : (l : Slabs) (cursor next : Cursor) (n at : ℕ) → IsSized l → cursor.within ≡ 0 → next.within ≡ 0 → 0 < n → cursor.within + n ≤ l.values_per_slab
+    → number_at l next ≡ number_at l cursor + n → IsOffset l (number_at l cursor) at → IsOffset l (number_at l next) (min (at + l.stride) (2 ^ 64 - 1))
+next_offset l cursor next n at sized first second some le number is =
+    let all : cursor.within + n ≡ l.values_per_slab = to_slab_end l cursor next n some le number second in
+    let e : number_at l next ≡ (cursor.slab + 1) * l.values_per_slab + 0 = omega (arith, number, all) in
+    let here = offset_at l cursor.slab cursor.within (omega (arith, sized.values_per_slab)) in
+    let there : offset l (number_at l next) ≡ l.begin + (cursor.slab + 1) * l.stride + 0 * l.size = ap (offset l) e ∙ offset_at l (cursor.slab + 1) 0 sized.values_per_slab in
+    let none : cursor.within * l.size ≡ 0 * l.size = ap (λ (k : ℕ). k * l.size) first in
+    let step : offset l (number_at l next) ≡ offset l (number_at l cursor) + l.stride = omega (arith, here, there, none) in
+    omega (arith, step)
 
 -- ---- a chunk, and a run after it
 

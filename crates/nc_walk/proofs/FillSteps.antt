@@ -1,10 +1,11 @@
 -- Bytes that one read after another has brought.
-use Rattle.std.proofs.Common.{◌≡◌, ℕ, ◌+◌, ◌-◌, ◌≤◌, Bool, true, false, List, ◌++◌, length, take, drop, sym, ◌∙◌, ap, arith, length-append, length-take}
+use Rattle.std.proofs.Common.{◌≡◌, ℕ, ◌+◌, ◌-◌, ◌<◌, ◌≤◌, Bool, true, false, List, ◌++◌, length, take, drop, refl, sym, ◌∙◌, ap, subst, arith, length-append, length-take, length-drop}
 use Rattle.std.specs.Bool.{OnTrue}
 use Rattle.std.proofs.lemmas.List.{drop-drop, take-append-le}
 use Rattle.std.proofs.Math.Seq.{take-add, take-append-add, take-append_seam}
-use borrow.Rule.Slice.PartMut.{put_mid, post_of}
-use Rattle.devices.specs.Sources.{SourceView, after, BytesRead}
+use borrow.Rule.Slice.PartMut.{put_mid, post_of, same_len_mid}
+use Rattle.devices.specs.Sources.{SourceView, after, BytesRead, Failed}
+use Rattle.nc_walk.specs.Fills.{Filled, FailedWhileFilling}
 
 -- n bytes from this cursor on stand at the start of the slice
 pub record Filling (is_transparent : Bool) (old new : SourceView) (at got : ℕ) (xs : List ℕ) : Type 0 where
@@ -64,3 +65,39 @@ more is_transparent old mid new at got k n xs before ys len rest same_len f h = 
   same = h.same ∙ ap (λ (s : SourceView). after s n) f.same ∙ after_after old got n;
   bytes = transparent_both is_transparent (more_bytes old.bytes xs ys at got k n f.within (omega (arith, h.within))) f.bytes (transparent_map is_transparent (λ e. e ∙ ap (λ (s : SourceView). take n (drop (at + got) s.bytes)) f.same) h.bytes);
 }
+
+-- one read, and then others until the slice is full or the source has ended
+module _ (is_transparent : Bool) (old mid : SourceView) (at got : ℕ) (xs before ys : List ℕ) (some_left : got < length xs)
+    (part : length ys ≡ length (take (length xs - got) (drop got xs)))
+    (h : BytesRead is_transparent old mid at before xs got) where
+  abbrev k : ℕ
+  k = length xs - got
+
+  len : length ys + got ≡ length xs
+  len = omega (arith, part, length-take k (drop got xs), length-drop got xs)
+
+  whole : length (put_mid got k xs ys) ≡ length xs
+  whole = same_len_mid got k xs ys part
+
+  pub filled_on : (new : SourceView) (n : ℕ) → Filled is_transparent mid new (at + got) ys n → Filled is_transparent old new at (put_mid got k xs ys) (got + n)
+  filled_on new n f =
+      let first : Filling is_transparent old mid at got xs = record { within = omega arith; same = h.same; bytes = h.bytes } in
+      let next : BytesRead is_transparent mid new (at + got) ys ys n = record {
+        within = f.within;
+        same = f.same;
+        bytes = f.bytes;
+        some = transparent_map is_transparent (λ all. omega (arith, len)) f.all;
+      } in
+      let both = more is_transparent old mid new at got k n xs ys ys len refl refl first next in record {
+        within = both.within;
+        same = both.same;
+        all = transparent_map is_transparent (λ all. omega (arith, whole, len)) f.all;
+        bytes = both.bytes;
+      }
+
+  pub fails_on : (new : SourceView) → FailedWhileFilling mid new (length ys) → FailedWhileFilling old new (length (put_mid got k xs ys))
+  fails_on new f = record {
+    n = got + f.n;
+    within = omega (arith, whole, len, f.within);
+    failed = subst (λ (s : SourceView). Failed s new) (ap (λ (s : SourceView). after s f.n) h.same ∙ after_after old got f.n) f.failed;
+  }

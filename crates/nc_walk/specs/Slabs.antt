@@ -1,5 +1,5 @@
 -- The values of a variable by their number, counted from 0 in row-major order.
-use Rattle.std.specs.Prelude.{◌≡◌, ℕ, ◌+◌, ◌-◌, ◌*◌, ◌/◌, ◌%◌, ◌^◌, ◌<◌, ◌≤◌, if◌then◌else◌, List, map, Some}
+use Rattle.std.specs.Prelude.{◌≡◌, ℕ, ◌+◌, ◌-◌, ◌*◌, ◌/◌, ◌%◌, ◌^◌, ◌<◌, ◌≤◌, min, if◌then◌else◌, List, map, Some}
 use Rattle.std.specs.List.{range_with_len, slice_get}
 use Rattle.nc_base.specs.declared.header.Var.{Var}
 use Rattle.nc_base.specs.declared.header.Header.{Header}
@@ -20,6 +20,10 @@ number_at l cursor = cursor.slab * l.values_per_slab + cursor.within
 -- the offset of value number i: i / per slabs stand before its own, and i % per values before it in there
 abbrev pub offset : Slabs → ℕ → ℕ
 offset l i = l.begin + i / l.values_per_slab * l.stride + i % l.values_per_slab * l.size
+
+-- this is the offset of value number i, or 2 ^ 64 - 1 where that is less
+abbrev pub IsOffset : Slabs → ℕ → ℕ → Type 0
+IsOffset l i at = at ≡ min (offset l i) (2 ^ 64 - 1)
 
 -- the offsets of n values, from number i on
 unfoldable pub offsets_from : Slabs → ℕ → ℕ → List ℕ

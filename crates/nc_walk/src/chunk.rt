@@ -1,7 +1,7 @@
 //! Values of one slab after the other, side by side in a slice.
 
-ghost use Rattle.std.specs.Prelude.{◌*◌, ◌<◌, ◌≤◌, ◌↔◌, IsTrue, IfOk, length};
-ghost use Rattle.nc_walk.specs.Slabs.{total, number_at, IsSized, IsCursor};
+ghost use Rattle.std.specs.Prelude.{◌≡◌, ◌+◌, ◌*◌, ◌<◌, ◌≤◌, ◌^◌, ◌↔◌, IsTrue, IfOk, length};
+ghost use Rattle.nc_walk.specs.Slabs.{total, number_at, offset, IsSized, IsCursor, Ready};
 ghost use Rattle.nc_walk.specs.Chunks.{Collects, Continues, ReadToSlabEnd};
 
 use crate::cursor::Cursor;
@@ -29,12 +29,43 @@ impl Chunk {
     }
 }
 
-/// Reads the values from this cursor on into the start of the slice, as many as lie side by side and at most `capacity`.
+/// Reads `ready` values from this cursor on, which is at the offset `at`, into the start of the slice: fewer where the source has
+/// ended.
 ///
 /// # Errors
 ///
 /// The source failed, or it has no whole value at this cursor.
 #[inline(always)]
+fn read_ready<S: Source>(
+    slabs: &Slabs,
+    cursor: Cursor,
+    at: u64,
+    ready: u64,
+    source: &mut S,
+    into: &mut [u8],
+) -> Result<Chunk, WalkFault>
+    requires sized { IsSized slabs.now }
+    requires is_cursor { IsCursor slabs.now cursor }
+    requires more { number_at slabs.now cursor < total slabs.now }
+    requires at { at ≡ offset slabs.now (number_at slabs.now cursor) }
+    requires some { 0 < ready }
+    requires ready { Ready slabs.now (number_at slabs.now cursor) (length into.old) (length (S.view source.old).bytes) ready }
+    requires len { length (S.view source.old).bytes < 2 ^ 64 }
+    ensures collects { Collects S.is_transparent slabs.now cursor into.old into.new (S.view source.old) (S.view source.new) result }
+    ensures in_slab { IfOk result (λ chunk. cursor.within + chunk.values ≤ slabs.now.values_per_slab) }
+    ensures slab_read { IfOk result (ReadToSlabEnd slabs.now cursor into.old (S.view source.old) (S.view source.new)) }
+{
+    let values = read_values(slabs, cursor, at, ready, source, into)?;
+    let next = cursor.following(*slabs, values);
+    Ok(Chunk { values, next })
+}
+
+/// Reads the values from this cursor on into the start of the slice, as many as lie side by side and at most `capacity`.
+///
+/// # Errors
+///
+/// The source failed, or it has no whole value at this cursor.
+#[inline(never)]
 fn read_run<S: Source>(
     slabs: &Slabs,
     cursor: Cursor,
@@ -50,9 +81,12 @@ fn read_run<S: Source>(
     ensures collects { Collects S.is_transparent slabs.now cursor into.old into.new (S.view source.old) (S.view source.new) result }
     ensures slab_read { IfOk result (ReadToSlabEnd slabs.now cursor into.old (S.view source.old) (S.view source.new)) }
 {
-    let values = read_values(slabs, cursor, capacity, source, into)?;
-    let next = cursor.following(*slabs, values);
-    Ok(Chunk { values, next })
+    let ready = slabs.ready(cursor, capacity, source.len());
+    if ready == 0 {
+        return Err(WalkFault::DataTruncated(cursor.number(*slabs)));
+    }
+    let at = slabs.offset(cursor) as u64;
+    read_ready(slabs, cursor, at, ready, source, into)
 }
 
 /// Reads the values from this cursor on into the start of the slice, of one slab after the other, up to `capacity` values or a
@@ -61,7 +95,8 @@ fn read_run<S: Source>(
 /// # Errors
 ///
 /// The source failed, or it has no whole value at this cursor.
-// One loop with all of a run inside of it: where a slab has few values, calls would take longer than the reads.
+// The rest of a slab, then whole slabs, and last what fits of one more. Where a slab has few values, calls and tests would take longer
+// than the reads: so the loop over whole slabs has all of a read inside of it, and no more.
 #[inline(never)]
 pub(crate) fn read_chunk<S: Source>(
     slabs: &Slabs,
@@ -77,20 +112,36 @@ pub(crate) fn read_chunk<S: Source>(
     requires capacity { capacity * slabs.now.size ≤ length into.old }
     ensures { Collects S.is_transparent slabs.now cursor into.old into.new (S.view source.old) (S.view source.new) result }
 {
-    let mut chunk = read_run(slabs, cursor, capacity, source, into)?;
-    while chunk.goes_on(*slabs, capacity) {
+    let slabs = *slabs;
+    let len = source.len();
+    let mut chunk = read_run(&slabs, cursor, capacity, source, into)?;
+    let mut at = slabs.offset_or_most(chunk.next);
+    while chunk.goes_on(slabs, capacity) && slabs.is_whole(at, capacity - chunk.values, len) {
         let bytes_so_far = (chunk.values * slabs.size) as usize;
         let rest = &mut into[bytes_so_far..];
-        match read_run(slabs, chunk.next, capacity - chunk.values, source, rest) {
-            Ok(more) => {
+        match read_ready(&slabs, chunk.next, at, slabs.values_per_slab, source, rest) {
+            Ok(slab) => {
                 chunk = Chunk {
-                    values: chunk.values + more.values,
-                    next: more.next,
-                }
+                    values: chunk.values + slab.values,
+                    next: slab.next,
+                };
+                at = at.saturating_add(slabs.stride);
             }
             Err(WalkFault::DataTruncated(_)) => return Ok(chunk),
             Err(WalkFault::ReadFailed) => return Err(WalkFault::ReadFailed),
         }
     }
-    Ok(chunk)
+    if !chunk.goes_on(slabs, capacity) {
+        return Ok(chunk);
+    }
+    let bytes_so_far = (chunk.values * slabs.size) as usize;
+    let space = &mut into[bytes_so_far..];
+    match read_run(&slabs, chunk.next, capacity - chunk.values, source, space) {
+        Ok(more) => Ok(Chunk {
+            values: chunk.values + more.values,
+            next: more.next,
+        }),
+        Err(WalkFault::DataTruncated(_)) => Ok(chunk),
+        Err(WalkFault::ReadFailed) => Err(WalkFault::ReadFailed),
+    }
 }

@@ -11,12 +11,33 @@ use devices::{Source, SourceFailed};
 /// # Errors
 ///
 /// The source failed.
+// Most slices are filled by one read.
 #[inline(always)]
 pub(crate) fn fill<S: Source>(
     source: &mut S,
     at: u64,
     into: &mut [u8],
 ) -> Result<usize, SourceFailed>
+    requires some { 0 < length into.old }
+    requires fits { at + length into.old < 2 ^ 64 }
+    requires there { at + length into.old ≤ length (S.view source.old).bytes }
+    ensures { Fills S.is_transparent (S.view source.old) (S.view source.new) at into.new result }
+{
+    let got = source.read_at(at, into)?;
+    if got == into.len() || got == 0 {
+        return Ok(got);
+    }
+    let more = fill_on(source, at + got as u64, &mut into[got..])?;
+    Ok(got + more)
+}
+
+/// The same, read by read.
+///
+/// # Errors
+///
+/// The source failed.
+#[inline(never)]
+fn fill_on<S: Source>(source: &mut S, at: u64, into: &mut [u8]) -> Result<usize, SourceFailed>
     requires fits { at + length into.old < 2 ^ 64 }
     requires there { at + length into.old ≤ length (S.view source.old).bytes }
     ensures { Fills S.is_transparent (S.view source.old) (S.view source.new) at into.new result }

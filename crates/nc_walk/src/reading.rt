@@ -1,7 +1,7 @@
 //! One read of a walk.
 
 ghost use Rattle.std.specs.Prelude.{◌≡◌, ◌+◌, ◌*◌, ◌<◌, ◌≤◌, ◌^◌, length, IfOk};
-ghost use Rattle.nc_walk.specs.Slabs.{total, number_at, IsSized};
+ghost use Rattle.nc_walk.specs.Slabs.{total, number_at, offset, IsSized, Ready};
 ghost use Rattle.nc_walk.specs.Walks.{standing, ReadValues, Reads};
 
 use crate::cursor::Cursor;
@@ -10,8 +10,8 @@ use crate::fill::fill;
 use crate::slabs::Slabs;
 use devices::Source;
 
-/// Reads the values from this cursor on into the start of the slice, as many as lie side by side and at most `capacity`, and gives
-/// their number, which isn't 0.
+/// Reads `ready` values from this cursor on, which is at the offset `at`, into the start of the slice, and gives their number, which
+/// isn't 0: fewer where the source has ended.
 ///
 /// # Errors
 ///
@@ -20,25 +20,23 @@ use devices::Source;
 pub(crate) fn read_values<S: Source>(
     slabs: &Slabs,
     cursor: Cursor,
-    capacity: u64,
+    at: u64,
+    ready: u64,
     source: &mut S,
     into: &mut [u8],
 ) -> Result<u64, WalkFault>
     requires sized { IsSized slabs.now }
     requires within { cursor.within < slabs.now.values_per_slab }
     requires more { number_at slabs.now cursor < total slabs.now }
-    requires some { 0 < capacity }
-    requires capacity { capacity * slabs.now.size ≤ length into.old }
+    requires at { at ≡ offset slabs.now (number_at slabs.now cursor) }
+    requires some { 0 < ready }
+    requires ready { Ready slabs.now (number_at slabs.now cursor) (length into.old) (length (S.view source.old).bytes) ready }
+    requires len { length (S.view source.old).bytes < 2 ^ 64 }
     ensures reads { Reads S.is_transparent (standing slabs.now (number_at slabs.now cursor) into.old) into.new (S.view source.old) (S.view source.new) result }
     ensures in_slab { IfOk result (λ n. cursor.within + n ≤ slabs.now.values_per_slab) }
     ensures values_read { IfOk result (λ n. cursor.within + n ≡ slabs.now.values_per_slab
         → ReadValues (standing slabs.now (number_at slabs.now cursor) into.old) (S.view source.old) (S.view source.new) n) }
 {
-    let ready = slabs.ready(cursor, capacity, source.len());
-    if ready == 0 {
-        return Err(WalkFault::DataTruncated(cursor.number(*slabs)));
-    }
-    let at = slabs.offset(cursor) as u64;
     let wanted = (ready * slabs.size) as usize;
     let got = fill(source, at, &mut into[..wanted])?;
     if got == wanted {

@@ -1,9 +1,9 @@
 //! Where a variable's values lie, by their cursor.
 
-ghost use Rattle.std.specs.Prelude.{◌≡◌, ◌+◌, ◌*◌, ◌<◌, ◌≤◌, ◌^◌, if◌then◌else◌, length};
+ghost use Rattle.std.specs.Prelude.{◌≡◌, ◌↔◌, IsTrue, ◌+◌, ◌*◌, ◌<◌, ◌≤◌, ◌^◌, if◌then◌else◌, length};
 ghost use Rattle.nc_base.specs.Headers.{IsSound};
 ghost use Rattle.nc_base.specs.Sizes.{is_record_var, record_size, slab_count, slab_size, slab_limit};
-ghost use Rattle.nc_walk.specs.Slabs.{number_at, offset, offsets_after, IsSized, AreSlabsOf, Ready};
+ghost use Rattle.nc_walk.specs.Slabs.{number_at, offset, offsets_after, IsSized, IsOffset, AreSlabsOf, Ready};
 
 use crate::cursor::Cursor;
 use nc_base::{Dim, Header, RecordLayout, Var, is_record_var, slab_of};
@@ -74,6 +74,26 @@ impl Slabs {
     {
         let slab = self.begin as u128 + cursor.slab as u128 * self.stride as u128;
         slab + cursor.within as u128 * self.size as u128
+    }
+
+    /// The offset of the value at this cursor, or 2^64 - 1 where that is less: no file has a byte there.
+    pub(crate) fn offset_or_most(&self, cursor: Cursor) -> u64
+        requires sized { IsSized self.now }
+        requires within { cursor.within < self.now.values_per_slab }
+        ensures { IsOffset self.now (number_at self.now cursor) result }
+    {
+        self.offset(cursor).min(u64::MAX as u128) as u64
+    }
+
+    /// Whether a slab at the offset `at` has no more than `capacity` values and ends inside of `len` bytes.
+    #[inline(always)]
+    pub(crate) fn is_whole(self, at: u64, capacity: u64, len: u64) -> bool
+        requires sized { IsSized self }
+        requires capacity { capacity * self.size < 2 ^ 64 }
+        ensures { IsTrue result ↔ ((self.values_per_slab ≤ capacity) × (at + self.values_per_slab * self.size ≤ len)) }
+    {
+        self.values_per_slab <= capacity
+            && self.values_per_slab * self.size <= len.saturating_sub(at)
     }
 
     /// How many values from the one at this cursor on lie side by side, are at most `capacity` and end inside of `len` bytes.

@@ -10,7 +10,7 @@ ghost use Rattle.ncdump.specs.Shows.{dumped, marks_in, ReadFailsOnly, ShowsOrFai
 
 use crate::fault::DumpFault;
 use crate::options::DumpOptions;
-use cdl_print::{ValuePrinter, Word, put_head};
+use cdl_print::{Gathered, ValuePrinter, Word, put_head};
 use nc_base::{Header, RecordLayout, is_record_var, record_layout};
 use nc_file::{Sink, Source, put};
 use nc_walk::{Walk, WalkFault};
@@ -87,11 +87,12 @@ fn show_marked<S: Source, W: Sink>(
     ensures sink { ShowsOrFails (W.view sink.old) (W.view sink.new) result }
     ensures shows { OnTrue S.is_transparent (ShowsMarked (dumped header.now (S.view source.old) layout.records width) marks.now (length buf.old) (S.view source.old) (S.view source.new) (W.view sink.old) (W.view sink.new) result) }
 {
+    let mut text = [0; 4096];
     for v in 0..marks.len() {
         if !is_shown(header, v, layout.records, marks[v]) {
             continue;
         }
-        show_variable(source, header, v, layout, width, buf, sink)?;
+        show_variable(source, header, v, layout, width, buf, &mut text, sink)?;
     }
     Ok(())
 }
@@ -122,6 +123,7 @@ fn show_variable<S: Source, W: Sink>(
     layout: RecordLayout,
     width: usize,
     buf: &mut [u8],
+    text: &mut Gathered,
     sink: &mut W,
 ) -> Result<(), DumpFault>
     requires sound { IsSound header.now }
@@ -137,7 +139,7 @@ fn show_variable<S: Source, W: Sink>(
     printer.start(sink)?;
     loop {
         match walk.next(source) {
-            Ok(Some(chunk)) => printer.values(sink, chunk)?,
+            Ok(Some(chunk)) => printer.values(sink, text, chunk)?,
             Ok(None) => break,
             Err(WalkFault::ReadFailed) => return Err(DumpFault::ReadFailed),
             Err(WalkFault::DataTruncated(value)) => {

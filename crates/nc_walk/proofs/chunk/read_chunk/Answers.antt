@@ -1,6 +1,10 @@
-use Rattle.std.proofs.Common.{rules, ◌≡◌, ℕ, ◌+◌, ◌-◌, ◌*◌, ◌<◌, ◌≤◌, List, length, take, drop, arith, ap, ◌∙◌, length-drop, length-take, refl}
-use Rattle.std.proofs.Math.Nat.{mul-le-mul_left}
-use Rattle.nc_walk.proofs.ChunkSteps.{goes_on, fails}
+use Rattle.std.proofs.Common.{rules, ◌≡◌, ℕ, ◌+◌, ◌-◌, ◌*◌, ◌^◌, ◌<◌, ◌≤◌, List, length, take, drop, arith, ap, sym, subst, ◌∙◌, length-drop, length-take, refl}
+use Rattle.std.proofs.Math.Nat.{mul-le-mul_left, mul-le-mul_right}
+use Rattle.nc_walk.proofs.ChunkSteps.{whole_ready, next_offset, goes_on, fails}
+use Rattle.nc_walk.specs.declared.slabs.Slabs.{Slabs}
+use Rattle.nc_walk.specs.declared.cursor.Cursor.{Cursor}
+use Rattle.nc_walk.specs.Slabs.{number_at, offset, IsSized, IsOffset, Ready}
+use Rattle.devices.specs.Sources.{SourceView, after}
 use Rattle.nc_walk.proofs.chunk.read_chunk.Goals as goal
 
 -- the rest of a list, and its prefix, are as long as the list
@@ -19,25 +23,73 @@ both_fit n m size xs some fits more =
     let up : (n + m) * 1 ≤ (n + m) * size = mul-le-mul_left (n + m) (let h : 1 ≤ size = omega (arith, some) in h) in
     omega (arith, up, rest (n * size) xs fits)
 
-pub read_run-requires-in-loop-bytes_so_far-clause-capacity : goal.read_run-requires-in-loop-bytes_so_far-clause-capacity
-read_run-requires-in-loop-bytes_so_far-clause-capacity g c =
-    capacity_left c.loop-bytes_so_far.chunk.values c.args.capacity c.args.slabs.now.size c.loop-bytes_so_far.into c.args.into.now
-    (let below = (c.loop-bytes_so_far-test.ensures.0 refl).fits in omega arith) c.loop-bytes_so_far.invariant.collected.fits c.requires.capacity (c.loop-bytes_so_far.auto.into ∙ c.read_run.auto.into)
+-- the slab that follows is ready
+follows : (l : Slabs) (cursor : Cursor) (values capacity len at : ℕ) (into had : List ℕ) (before now : SourceView) (n : ℕ) → IsSized l → cursor.within ≡ 0 → IsOffset l (number_at l cursor) at
+    → (l.values_per_slab ≤ capacity - values) × (at + l.values_per_slab * l.size ≤ len) → len < 2 ^ 64 → len ≡ length before.bytes → now ≡ after before n
+    → values < capacity → values * l.size ≤ length into → capacity * l.size ≤ length had → length into ≡ length had
+    → (at ≡ offset l (number_at l cursor)) × Ready l (number_at l cursor) (length (take (length into - values * l.size) (drop (values * l.size) into))) (length now.bytes) l.values_per_slab
+follows l cursor values capacity len at into had before now n sized first is fits small known handed below stands most same =
+    let room = length (take (length into - values * l.size) (drop (values * l.size) into)) in
+    let up : l.values_per_slab * l.size ≤ (capacity - values) * l.size = mul-le-mul_right l.size fits.0 in
+    let left : (capacity - values) * l.size ≤ room = capacity_left values capacity l.size into had (omega arith) stands most same in
+    subst (λ (k : ℕ). (at ≡ offset l (number_at l cursor)) × Ready l (number_at l cursor) room k l.values_per_slab) (known ∙ ap (λ (s : SourceView). length s.bytes) (sym handed))
+    (whole_ready l cursor room len at sized first is fits.1 small (omega (arith, up, left)))
 
-pub overflow_add-chunk : goal.overflow_add-chunk
-overflow_add-chunk g c =
-    let few : c.loop-bytes_so_far.chunk.values + c.in-Ok.more.values ≤ length c.loop-bytes_so_far.into
-    = both_fit c.loop-bytes_so_far.chunk.values c.in-Ok.more.values c.args.slabs.now.size c.loop-bytes_so_far.into c.requires.sized.some c.loop-bytes_so_far.invariant.collected.fits c.in-Ok.ensures.collects.returns_values.capacity in
-    search rules
+pub read_ready-requires-clause-at : goal.read_ready-requires-clause-at
+read_ready-requires-clause-at g c =
+    let test = c.loop-slabs-test.ensures.0 refl in
+    (follows c.args.slabs.now c.loop-slabs.chunk.next c.loop-slabs.chunk.values c.args.capacity c.len-len.result c.loop-slabs.at c.loop-slabs.into c.args.into.now (g.S.Source.view c.args.source.now) (g.S.Source.view c.loop-slabs.source) _
+    c.requires.sized test.slab (c.loop-slabs.invariant.at test.slab) (c.if-is_whole.ensures.0 refl) c.len-len.type_inv
+    c.len-len.ensures.length (c.loop-slabs.invariant.going.slab_read test.slab).handed
+    test.fits c.loop-slabs.invariant.going.collected.fits c.requires.capacity (c.loop-slabs.auto.into ∙ c.read_run.auto.into)).0
 
-pub loop-bytes_so_far-preserved : goal.loop-bytes_so_far-preserved
-loop-bytes_so_far-preserved g c =
-    goes_on g.S.Source.is_transparent _ _ _ _ _ _ _ _ _ _ _ c.loop-bytes_so_far.invariant (c.loop-bytes_so_far-test.ensures.0 refl).slab
-    (omega (arith, rest (c.loop-bytes_so_far.chunk.values * c.args.slabs.now.size) c.loop-bytes_so_far.into c.loop-bytes_so_far.invariant.collected.fits, c.loop-bytes_so_far.auto.into, c.read_run.auto.into))
-    _ c.in-Ok.ensures.collects c.in-Ok.ensures.slab_read
+pub read_ready-requires-clause-ready : goal.read_ready-requires-clause-ready
+read_ready-requires-clause-ready g c =
+    let test = c.loop-slabs-test.ensures.0 refl in
+    (follows c.args.slabs.now c.loop-slabs.chunk.next c.loop-slabs.chunk.values c.args.capacity c.len-len.result c.loop-slabs.at c.loop-slabs.into c.args.into.now (g.S.Source.view c.args.source.now) (g.S.Source.view c.loop-slabs.source) _
+    c.requires.sized test.slab (c.loop-slabs.invariant.at test.slab) (c.if-is_whole.ensures.0 refl) c.len-len.type_inv
+    c.len-len.ensures.length (c.loop-slabs.invariant.going.slab_read test.slab).handed
+    test.fits c.loop-slabs.invariant.going.collected.fits c.requires.capacity (c.loop-slabs.auto.into ∙ c.read_run.auto.into)).1
+
+pub loop-slabs-preserved : goal.loop-slabs-preserved
+loop-slabs-preserved g c =
+    let test = c.loop-slabs-test.ensures.0 refl in
+    record {
+      going = goes_on g.S.Source.is_transparent _ _ _ _ _ _ _ _ _ _ _ c.loop-slabs.invariant.going test.slab
+          (omega (arith, rest (c.loop-slabs.chunk.values * c.args.slabs.now.size) c.loop-slabs.into c.loop-slabs.invariant.going.collected.fits, c.loop-slabs.auto.into, c.read_run.auto.into))
+          _ c.in-Ok.ensures.collects c.in-Ok.ensures.slab_read;
+      at = λ first.
+          c.saturating_add-at.ensures
+          ∙ next_offset c.args.slabs.now c.loop-slabs.chunk.next c.in-Ok.slab.next c.in-Ok.slab.values c.loop-slabs.at c.requires.sized test.slab first
+          c.in-Ok.ensures.collects.returns_values.some c.in-Ok.ensures.in_slab c.in-Ok.ensures.collects.number (c.loop-slabs.invariant.at test.slab);
+    }
 
 pub returns-in-Err-ReadFailed : goal.returns-in-Err-ReadFailed
 returns-in-Err-ReadFailed g c =
-    fails g.S.Source.is_transparent _ _ _ _ _ c.read_run-in-loop-bytes_so_far.new.into _ _ _ _ 0 c.loop-bytes_so_far.invariant (c.loop-bytes_so_far-test.ensures.0 refl).slab
-    (omega (arith, rest (c.loop-bytes_so_far.chunk.values * c.args.slabs.now.size) c.loop-bytes_so_far.into c.loop-bytes_so_far.invariant.collected.fits, c.loop-bytes_so_far.auto.into, c.read_run.auto.into))
+    let test = c.loop-slabs-test.ensures.0 refl in
+    fails g.S.Source.is_transparent _ _ _ _ _ c.read_ready.new.into _ _ _ _ 0 c.loop-slabs.invariant.going test.slab
+    (omega (arith, rest (c.loop-slabs.chunk.values * c.args.slabs.now.size) c.loop-slabs.into c.loop-slabs.invariant.going.collected.fits, c.loop-slabs.auto.into, c.read_run.auto.into))
     _ (rw c.in-Err-ReadFailed.field-0-is at c.in-Err-ReadFailed.ensures.collects).1
+
+pub read_run-requires-2-clause-capacity : goal.read_run-requires-2-clause-capacity
+read_run-requires-2-clause-capacity g c =
+    capacity_left c.loop-slabs.chunk.values c.args.capacity c.args.slabs.now.size c.loop-slabs.into c.args.into.now
+    (let below = (c.if-not-goes_on.ensures.0 refl).fits in omega arith) c.loop-slabs.invariant.going.collected.fits c.requires.capacity (c.loop-slabs.auto.into ∙ c.read_run.auto.into)
+
+pub overflow_add-result : goal.overflow_add-result
+overflow_add-result g c =
+    let few : c.loop-slabs.chunk.values + c.in-Ok-read_run.more.values ≤ length c.loop-slabs.into
+    = both_fit c.loop-slabs.chunk.values c.in-Ok-read_run.more.values c.args.slabs.now.size c.loop-slabs.into c.requires.sized.some c.loop-slabs.invariant.going.collected.fits c.in-Ok-read_run.ensures.collects.returns_values.capacity in
+    search rules
+
+pub returns-in-Ok-read_run : goal.returns-in-Ok-read_run
+returns-in-Ok-read_run g c =
+    (goes_on g.S.Source.is_transparent _ _ _ _ _ _ _ _ _ _ _ c.loop-slabs.invariant.going (c.if-not-goes_on.ensures.0 refl).slab
+    (omega (arith, rest (c.loop-slabs.chunk.values * c.args.slabs.now.size) c.loop-slabs.into c.loop-slabs.invariant.going.collected.fits, c.loop-slabs.auto.into, c.read_run.auto.into))
+    _ c.in-Ok-read_run.ensures.collects c.in-Ok-read_run.ensures.slab_read).collected
+
+pub returns-in-Err-ReadFailed-read_run : goal.returns-in-Err-ReadFailed-read_run
+returns-in-Err-ReadFailed-read_run g c =
+    fails g.S.Source.is_transparent _ _ _ _ _ c.read_run-2.new.into _ _ _ _ 0 c.loop-slabs.invariant.going (c.if-not-goes_on.ensures.0 refl).slab
+    (omega (arith, rest (c.loop-slabs.chunk.values * c.args.slabs.now.size) c.loop-slabs.into c.loop-slabs.invariant.going.collected.fits, c.loop-slabs.auto.into, c.read_run.auto.into))
+    _ (rw c.in-Err-ReadFailed-read_run.field-0-is at c.in-Err-ReadFailed-read_run.ensures.collects).1

@@ -1,13 +1,7 @@
-use Rattle.nc_walk.specs.Slabs.{number_at}
-use Rattle.nc_walk.proofs.OneRead.{reached}
-use Rattle.nc_walk.proofs.ChunkSteps.{to_slab_end}
+use Rattle.nc_walk.proofs.OneRead.{not_ready}
 use Rattle.nc_walk.proofs.chunk.read_run.Goals as goal
 
-pub following-next-requires-clause-left : goal.following-next-requires-clause-left
-following-next-requires-clause-left g c =
-    reached g.S.Source.is_transparent c.args.slabs.now (number_at c.args.slabs.now c.args.cursor) _ _ _ _ c.in_ok-values.values c.requires.sized c.requires.is_cursor.reached c.in_ok-values.ensures.reads
-
-pub returns-clause-slab_read : goal.returns-clause-slab_read
-returns-clause-slab_read g c = λ first.
-    c.in_ok-values.ensures.values_read
-    (to_slab_end c.args.slabs.now c.args.cursor c.following-next.result c.in_ok-values.values c.in_ok-values.ensures.reads.1.some c.in_ok-values.ensures.in_slab c.following-next.ensures.number first)
+pub returns-then-ready-eq0-clause-collects : goal.returns-then-ready-eq0-clause-collects
+returns-then-ready-eq0-clause-collects g c =
+    rw c.number.ensures
+    (not_ready g.S.Source.is_transparent _ _ _ c.args.into.now _ c.ready-ready.result c.requires.more (rw c.len.ensures.length at c.ready-ready.ensures) c.if-ready-eq0.true)

@@ -1,9 +1,15 @@
-use Rattle.std.proofs.Common.{◌≡◌, ℕ, ◌+◌, ◌-◌, ◌≤◌, List, length, take, drop, arith, length-drop, length-take, refl, sym}
-use Rattle.nc_walk.proofs.FillSteps.{more}
+use Rattle.std.proofs.Common.{◌<◌, length, arith}
+use Rattle.std.proofs.lemmas.Result.{err_from_is_err_and}
+use Rattle.nc_walk.proofs.FillSteps.{filled_on, fails_on}
 use Rattle.nc_walk.proofs.fill.fill.Goals as goal
 
-len : (got : ℕ) (xs ys : List ℕ) → got ≤ length xs → length ys ≡ length (take (length xs - got) (drop got xs)) → length ys + got ≡ length xs
-len got xs ys le e = omega (arith, e, length-take (length xs - got) (drop got xs), length-drop got xs)
+pub returns-in_err-more : goal.returns-in_err-more
+returns-in_err-more g c =
+    let p = err_from_is_err_and c.from_residual-in_err-more.result c.from_residual-in_err-more.ensures.1 in
+    let some_left : c.in_ok-got.got < length c.read_at.new.into = omega (arith, c.in_ok-got.ensures.within, c.read_at.auto.into) in
+    rw p.1 (fails_on g.S.Source.is_transparent _ _ c.args.at c.in_ok-got.got c.read_at.new.into c.args.into.now c.fill_on.new.into some_left c.fill_on.auto.into c.in_ok-got.ensures _ c.in_err-more.ensures)
 
-pub loop-got-preserved : goal.loop-got-preserved
-loop-got-preserved g c = more g.S.Source.is_transparent _ _ _ _ _ _ _ _ _ _ (len c.loop-got.got c.loop-got.into c.read_at.new.into (omega arith) c.read_at.auto.into) refl (sym c.read_at.auto.into) c.loop-got.invariant c.in-Ok.ensures
+pub returns : goal.returns
+returns g c =
+    let some_left : c.in_ok-got.got < length c.read_at.new.into = omega (arith, c.in_ok-got.ensures.within, c.read_at.auto.into) in
+    filled_on g.S.Source.is_transparent _ _ c.args.at c.in_ok-got.got c.read_at.new.into c.args.into.now c.fill_on.new.into some_left c.fill_on.auto.into c.in_ok-got.ensures _ c.in_ok-more.more c.in_ok-more.ensures
