@@ -3,7 +3,7 @@ use Rattle.std.proofs.Common.{◌≡◌, ℕ, zero, suc, ◌+◌, ◌-◌, ◌*�
 use Rattle.std.specs.Prelude.{replicate}
 use Rattle.std.proofs.Math.Nat.{div-lt_iff_lt-mul, mod-lt}
 use Rattle.std.proofs.lemmas.Bool.{cases_lt}
-use Rattle.std.proofs.lemmas.List.{take-append-le, drop-append-le, length-take-le, length-drop, length-replicate, take_all, drop_all, drop-drop, drop-replicate, drop_at, drop_more}
+use Rattle.std.proofs.lemmas.List.{take-append-drop, take-append-le, drop-append-le, length-take-le, length-drop, length-replicate, take_all, drop_all, drop-drop, drop-replicate, drop_at, drop_more}
 use Rattle.nc_base.specs.ListedRows.{filled_rows, AreRowEnds, StandAt, row_start}
 
 -- a row of so many listed bytes, filled up
@@ -101,6 +101,33 @@ length_filled len last fill start (end ∷ ends) bytes are held =
       length-row len fill n bytes (omega (arith, are.1)) here,
       length_filled len last fill end ends (drop n bytes) are.2 (omega (arith, held, past, are.0, left)),
     )
+
+rows_long : (len last start : ℕ) (ends : List ℕ) → AreRowEnds len start ends last → last ≤ start + length ends * len
+rows_long len last start [] are = omega (arith, are)
+rows_long len last start (end ∷ ends) are = omega (arith, are.1, rows_long len last end ends are.2)
+
+-- as long as the bytes: none is lacking
+pub filled_full : (len last fill start : ℕ) (ends bytes : List ℕ) → AreRowEnds len start ends last → last - start ≤ length bytes
+    → length (filled_rows len fill start ends bytes) ≡ length bytes → filled_rows len fill start ends bytes ≡ bytes
+unfolding filled_rows
+filled_full len last fill start [] bytes are held long = refl
+filled_full len last fill start (end ∷ ends) bytes are held long =
+    let n : ℕ = end - start in
+    let past : end ≤ last = start-le-last len last end ends are.2 in
+    let here : n ≤ length bytes = omega (arith, held, past, are.0) in
+    let left : length (drop n bytes) ≡ length bytes - n = length-drop n bytes in
+    let after : last - end ≤ length (drop n bytes) = omega (arith, held, past, are.0, left) in
+    let rest : List ℕ = filled_rows len fill end ends (drop n bytes) in
+    let rest-long = length_filled len last fill end ends (drop n bytes) are.2 after in
+    let rows = rows_long len last end ends are.2 in
+    let row-long = length-row len fill n bytes (omega (arith, are.1)) here in
+    let all = length-append (row len fill n bytes) rest in
+    let none : len - n ≡ 0 = omega (arith, long, rest-long, rows, row-long, all, left, after, here) in
+    let same : length rest ≡ length (drop n bytes) = omega (arith, long, rest-long, rows, row-long, all, left, after, here, are.1) in
+    ap (λ (k : ℕ). (take n bytes ++ replicate k fill) ++ rest) none
+    ∙ ap (λ (xs : List ℕ). xs ++ rest) (append-nil (take n bytes))
+    ∙ ap (λ (xs : List ℕ). take n bytes ++ xs) (filled_full len last fill end ends (drop n bytes) are.2 after same)
+    ∙ take-append-drop n bytes
 
 pub start_le_row : (len last start : ℕ) (ends : List ℕ) (r : ℕ) → AreRowEnds len start ends last → start ≤ row_start start ends r
 unfolding row_start

@@ -1,6 +1,6 @@
 //! The bytes that are listed of a variable's array, with each row as long as it is listed.
 
-ghost use Rattle.std.specs.Prelude.{◌≡◌, ◌++◌, ◌∷◌, ◌≤◌, ◌<◌, ◌-◌, [], drop, get_or, length, max, min, replicate, take, IfOk, OnOk, OnErr};
+ghost use Rattle.std.specs.Prelude.{◌≡◌, ◌++◌, ◌∷◌, ◌≤◌, ◌<◌, ◌-◌, [], drop, get_or, length, max, min, replicate, take, IfOk, IfSome, OnOk, OnErr};
 ghost use Rattle.nc_base.specs.ListedRows.{StandAt, row_start};
 
 use std::alloc::{AllocError, Global};
@@ -122,6 +122,28 @@ impl ListedArray {
     pub fn run_at(&self, at: u128) -> Run<'_>
         ensures { StandAt self.now at result.bytes.now result.filling result.fill }
     {
+        match self.full_bytes() {
+            Some(bytes) => full_run(bytes, at),
+            None => self.run_of_rows(at),
+        }
+    }
+
+    /// The bytes as they stand in memory, where no row lacks any.
+    #[tactic(auto, using(crate::proofs::FilledRows::filled_full))]
+    fn full_bytes(&self) -> Option<&[u8]>
+        ensures { IfSome result (λ bytes. bytes.now ≡ self.now) }
+    {
+        if self.len() == self.bytes.len() as u128 {
+            Some(self.bytes.as_slice())
+        } else {
+            None
+        }
+    }
+
+    /// What stands at an offset: what is listed of a row from there on, or what comes after the rows.
+    fn run_of_rows(&self, at: u128) -> Run<'_>
+        ensures { StandAt self.now at result.bytes.now result.filling result.fill }
+    {
         let row_len = self.row_len as u128;
         let in_rows = self.row_ends.len() as u128 * row_len;
         if at < in_rows {
@@ -173,6 +195,19 @@ impl ListedArray {
             fill_up(&mut filled, run.filling, run.fill)?;
         }
         Ok(filled)
+    }
+}
+
+/// What stands in bytes from an offset on.
+fn full_run(bytes: &[u8], at: u128) -> Run<'_>
+    ensures { StandAt bytes.now at result.bytes.now result.filling result.fill }
+{
+    let skipped = at.min(bytes.len() as u128) as usize;
+    let (_, rest) = bytes.split_at(skipped);
+    Run {
+        bytes: rest,
+        filling: 0,
+        fill: 0,
     }
 }
 

@@ -1,9 +1,9 @@
-use Rattle.std.proofs.Common.{ℕ, ◌≡◌, ◌<◌, ◌≤◌, ◌+◌, ◌-◌, ◌*◌, ◌/◌, ◌%◌, List, [], length, get_or, take, drop, min, max, refl, ap, sym, ◌∙◌, subst, arith, rules}
+use Rattle.std.proofs.Common.{ℕ, ◌≡◌, ◌≤◌, ◌+◌, ◌-◌, ◌*◌, ◌/◌, ◌%◌, List, length, get_or, take, drop, min, max, refl, ap, sym, ◌∙◌, subst, arith}
 use Rattle.std.proofs.Math.Nat.{mod-add-div}
 use Rattle.std.proofs.lemmas.List.{take_all, length-drop, length-take, length-take-le, drop-drop, drop_min}
-use Rattle.nc_base.specs.ListedRows.{filled_rows, AreRowEnds, StandAt, row_start}
-use Rattle.nc_base.proofs.FilledRows.{IsRow, RowOf, row-of, in_row, after_rows, stands-told}
-use Rattle.nc_base.proofs.listed_array.ListedArray.run_at.Goals as goal
+use Rattle.nc_base.specs.ListedRows.{row_start}
+use Rattle.nc_base.proofs.FilledRows.{row-of, in_row, after_rows, stands-told}
+use Rattle.nc_base.proofs.listed_array.ListedArray.run_of_rows.Goals as goal
 
 pub row_at-row-requires-clause-after : goal.row_at-row-requires-clause-after
 row_at-row-requires-clause-after c =
