@@ -3,10 +3,9 @@ use Rattle.std.proofs.Common.{◌≡◌, ℕ, zero, suc, ◌+◌, ◌-◌, ◌<�
 use Rattle.std.specs.Prelude.{◌&&◌, ◌==◌, nat_lt, not, if◌then◌else◌, Option, None, Some, is_none, is_some}
 use Rattle.std.specs.List.{prefix_len}
 use Rattle.cdl_tokens.specs.Bytes.{is_blank, goes_on_number, is_mark}
-use Rattle.cdl_tokens.specs.Escapes.{unescape, stands}
+use Rattle.cdl_tokens.specs.Escapes.{inner, stands, unescape}
 use Rattle.cdl_tokens.specs.Scan.{scan, gap, token, scan_text, scan_opening, until, word_len, begins_opening, begins_a_word, begins_number, begins_comment}
 use Rattle.cdl_tokens.specs.Tokens.{raw, tokens_at, tokens, with_token, token_at}
-use Rattle.cdl_text.specs.Shapes.{inner}
 use Rattle.cdl_tokens.specs.declared.scan.Scanned.{Scanned}
 use Rattle.cdl_tokens.specs.declared.token.Token.{Token}
 use Rattle.cdl_tokens.specs.declared.token.TokenKind.{TokenKind}

@@ -15,10 +15,9 @@ use Rattle.nc_base.specs.Names.{IsName, may_begin_name, may_follow_in_name}
 use Rattle.nc_base.specs.Numbers.{IsInRange}
 use Rattle.nc_base.specs.Types.{number_suffix}
 use Rattle.cdl_tokens.specs.Bytes.{within, is_digit, is_blank, is_mark, goes_on_word, goes_on_number}
-use Rattle.cdl_tokens.specs.Escapes.{unescape}
+use Rattle.cdl_tokens.specs.Escapes.{inner, unescape}
 use Rattle.cdl_tokens.specs.Scan.{word_len, until, scan, token, begins_opening, begins_a_word, begins_number}
 use Rattle.cdl_tokens.specs.declared.token.TokenKind.TheVariants.{Word, Number, Text}
-use Rattle.cdl_text.specs.Shapes.{inner}
 use Rattle.cdl_tokens.proofs.Strings.{stands_for}
 use Rattle.cdl_laws.specs.TokenLaws.{AreToken, BlanksAndMarksStop, StopsWord, NameReadsBack, NamesReadBack, quoted, StringsReadBack, StopsNumber, ConstantsReadBack, ValuesReadBack}
 use Rattle.cdl_laws.proofs.Attributes.{all_small}

@@ -13,4 +13,4 @@ pub mod DimensionSection
 pub mod VariableSection
 pub mod Sections
 pub mod StatementsSaid
-pub mod ListedNumbers
+pub mod ListedTokens

@@ -3,10 +3,10 @@ use Rattle.std.specs.Prelude.{ℕ, ℤ, Bool, true, false, List, [], ◌∷◌, 
 use Rattle.nc_base.specs.declared.nc_type.NcType.TheVariants.{Int}
 use Rattle.nc_base.specs.declared.version.Version.{Version}
 use Rattle.cdl_text.specs.DueTokens.{goes_to, is_name}
-use Rattle.cdl_tokens.specs.Escapes.{stands, word_value}
+use Rattle.cdl_tokens.specs.Escapes.{inner, stands, word_value}
 use Rattle.cdl_text.specs.Lexemes.{Lexeme, is_mark, is_mark_kind, is_word}
 use Rattle.cdl_tokens.specs.Numerals.{Parts, parts, number}
-use Rattle.cdl_text.specs.Shapes.{Value, Number, Characters, Underscore, Dimension, Variable, Statement, Opening, Mark, Declared, Typed, Attribute, Listed, Brace, End, inner, section_of}
+use Rattle.cdl_text.specs.Shapes.{Value, Number, Characters, Underscore, Dimension, Variable, Statement, Opening, Mark, Declared, Typed, Attribute, Listed, Brace, End, section_of}
 use Rattle.cdl_text.specs.declared.section.Section.{Section}
 use Rattle.cdl_text.specs.declared.section.Section.TheVariants.{Unopened, Globals, Dimensions, Variables, Values, Closed, Ended}
 use Rattle.cdl_tokens.specs.declared.token.TokenKind.{TokenKind}

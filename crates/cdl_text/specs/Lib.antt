@@ -7,4 +7,4 @@ pub mod Cutters
 pub mod Views
 pub mod DueTokens
 pub mod Contents
-pub mod ListedNumbers
+pub mod ListedTokens

@@ -1,7 +1,7 @@
 -- The shapes of statements.
-use Rattle.std.specs.Prelude.{ℕ, ℤ, Bool, true, false, List, [], ◌∷◌, ◌-◌, ◌&&◌, ◌||◌, not, if◌then◌else◌, take, drop, length, codes, Option, None, Some, is_none, nat_lt}
+use Rattle.std.specs.Prelude.{ℕ, ℤ, Bool, true, false, List, [], ◌∷◌, ◌&&◌, ◌||◌, not, if◌then◌else◌, codes, Option, None, Some, is_none, nat_lt}
 use Rattle.std.specs.Option.{option_map, option_and_then}
-use Rattle.cdl_tokens.specs.Escapes.{stands}
+use Rattle.cdl_tokens.specs.Escapes.{inner, stands}
 use Rattle.cdl_text.specs.Lexemes.{Lexeme, is_mark, is_word, is_word_kind, name_of}
 use Rattle.cdl_tokens.specs.Numerals.{Numeral, numeral}
 use Rattle.cdl_tokens.specs.declared.token.TokenKind.{TokenKind}
@@ -102,10 +102,6 @@ abbrev pub dimensions : Version → List Lexeme → Option (List Dimension)
 dimensions v (n ∷ e ∷ l ∷ []) = both (λ d ds. d ∷ ds) (dimension v n e l) (Some [])
 dimensions v (n ∷ e ∷ l ∷ c ∷ ls) = given (is_mark 0x2c c) (both (λ d ds. d ∷ ds) (dimension v n e l) (dimensions v ls))
 dimensions v _ = None
-
--- the bytes between a string's quotes
-abbrev pub inner : List ℕ → List ℕ
-inner bytes = take (length bytes - 2) (drop 1 bytes)
 
 -- CONST, or where `_` is taken VALUE
 abbrev pub constant_of : Version → Bool → Lexeme → TokenKind → Option Value

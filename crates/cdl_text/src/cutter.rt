@@ -5,12 +5,11 @@ ghost use Rattle.cdl_text.specs.Roles.{role_in};
 ghost use Rattle.cdl_text.specs.Lexemes.{lexeme};
 ghost use Rattle.cdl_text.specs.Pieces.{with_first};
 ghost use Rattle.cdl_tokens.specs.Scanners as scanners;
-ghost use Rattle.cdl_tokens.specs.Scanners.{is_end};
 ghost use Rattle.cdl_text.specs.Statements.{statements};
 
 use crate::lexeme::Lexeme;
 use crate::piece::{CutState, Role};
-use cdl_tokens::{Numeral, Scanner, Token, TokenKind};
+use cdl_tokens::{Numeral, Scanner, Token};
 use nc_base::Version;
 use std::alloc::AllocError;
 
@@ -33,7 +32,7 @@ pub struct Cutter<'a> {
 
 impl<'a> Cutter<'a> {
     ghost use Rattle.cdl_text.specs.Cutters.{HandsOut, SameText, after, first_line, is_done, next_token, offset_of, pieces_left, text_of, version_of, words};
-    ghost use Rattle.cdl_text.specs.ListedNumbers.{IsAtComma, PassesNumber};
+    ghost use Rattle.cdl_text.specs.ListedTokens.{IsAtComma, Passes, PassesNumber, PassesString};
     ghost use Rattle.cdl_text.specs.Views.{lexeme_of};
 
     /// The start of a text.
@@ -129,7 +128,7 @@ impl<'a> Cutter<'a> {
         let following = self.scanner.token();
         let following_role = Role::of(following, self.scanner.text());
         let found = self.state.step(self.next_role, following_role);
-        self.done = is_end(self.next.kind);
+        self.done = self.next.kind.is_end();
         self.state = found.state;
         self.next = following;
         self.next_role = following_role;
@@ -148,19 +147,59 @@ impl<'a> Cutter<'a> {
     #[inline(always)]
     pub fn number_and_comma(&mut self) -> Option<Numeral>
         requires { IsAtComma self.old }
-        ensures same { SameText self.old self.new }
-        ensures at { IsAtComma self.new }
         ensures passes { IfSome result (λ n. PassesNumber self.old self.new n) }
-        ensures after { after self.new ≡ after self.old }
-        ensures moves { IfSome result (λ n. offset_of self.old < offset_of self.new) }
         ensures stays { result ≡ None → self.new ≡ self.old }
     {
         let mut scanner = self.scanner;
         let listed = scanner.number_and_comma()?;
-        self.scanner = scanner;
-        self.next = listed.comma;
-        self.next_role = Role::Other;
+        self.go_to(listed.comma, scanner);
         Some(listed.numeral)
+    }
+
+    /// The same with a string without an escape, of which it hands out the bytes, the quotes among them.
+    #[inline(always)]
+    pub fn string_and_comma(&mut self) -> Option<&'a [u8]>
+        requires { IsAtComma self.old }
+        ensures passes { IfSome result (λ bytes. PassesString self.old self.new bytes.now) }
+        ensures stays { result ≡ None → self.new ≡ self.old }
+    {
+        let mut scanner = self.scanner;
+        let listed = scanner.string_and_comma()?;
+        let bytes = listed.token.bytes(self.scanner.text());
+        self.go_to(listed.comma, scanner);
+        Some(bytes)
+    }
+
+    /// The same with any token that neither begins nor ends a statement.
+    #[inline(always)]
+    pub fn token_and_comma(&mut self) -> Option<Lexeme<'a>>
+        requires { IsAtComma self.old }
+        ensures passes { IfSome result (λ token. Passes self.old self.new (lexeme_of token)) }
+        ensures stays { result ≡ None → self.new ≡ self.old }
+    {
+        let mut scanner = self.scanner;
+        let listed = scanner.token_and_comma()?;
+        let text = self.scanner.text();
+        if !is_other(Role::of(listed.token, text)) {
+            return None;
+        }
+        self.go_to(listed.comma, scanner);
+        Some(Lexeme::of(listed.token, text))
+    }
+
+    /// Goes to this comma of the same statement, after which the scanner stands.
+    #[inline(always)]
+    fn go_to(&mut self, comma: Token, scanner: Scanner<'a>)
+        requires { role_in (scanners.text_of scanner) comma ≡ Role.Other }
+        ensures scanner { self.new.scanner ≡ scanner.entry }
+        ensures comma { next_token self.new ≡ comma }
+        ensures state { self.new.state ≡ self.old.state }
+        ensures version { version_of self.new ≡ version_of self.old }
+        ensures done { is_done self.new ≡ is_done self.old }
+    {
+        self.scanner = scanner;
+        self.next = comma;
+        self.next_role = Role::Other;
     }
 
     /// The cutter one token on, and whether that token was the last of its statement. It takes no memory.
@@ -186,11 +225,11 @@ fn is_inside(state: CutState) -> bool
     matches!(state, CutState::Inside)
 }
 
-/// Says whether the token ends the text.
-fn is_end(kind: TokenKind) -> bool
-    ensures { result ≡ is_end kind }
+/// Says whether such a token neither begins nor ends a statement.
+fn is_other(role: Role) -> bool
+    ensures { result ≡ true → role ≡ Role.Other }
 {
-    matches!(kind, TokenKind::End)
+    matches!(role, Role::Other)
 }
 
 /// Empties the list that could not grow.

@@ -7,4 +7,5 @@ pub mod Sizes
 pub mod Suffixes
 pub mod Decimals
 pub mod PlainNumbers
+pub mod PlainStrings
 pub mod Searches

@@ -7,7 +7,7 @@ use Rattle.nc_base.specs.declared.version.Version.{Version}
 use Rattle.cdl_tokens.specs.Bytes.{goes_on_number, is_digit, is_sign}
 use Rattle.cdl_tokens.specs.Magnitudes.{held}
 use Rattle.cdl_tokens.specs.Numerals.{number_in, parts, suffix, unsigned}
-use Rattle.cdl_tokens.specs.PlainNumbers.{AreDigits, Begins}
+use Rattle.cdl_tokens.specs.PlainTokens.{AreDigits, Begins}
 use Rattle.cdl_tokens.specs.Scan.{begins_number}
 use Rattle.cdl_tokens.specs.declared.numeral.Numeral.{Numeral}
 use Rattle.cdl_tokens.proofs.Decimals.{said}

@@ -16,7 +16,7 @@ use Rattle.cdl_tokens.specs.Tokens.{tokens_at, line_at}
 use Rattle.cdl_tokens.proofs.Scans.{step_gap, step_token, line_more}
 use Rattle.cdl_tokens.proofs.Words.{and_false}
 
-no_opening : (bs : List ℕ) → (get_or bs 0 0 == 0x6e) ≡ false → begins_opening bs ≡ false
+pub no_opening : (bs : List ℕ) → (get_or bs 0 0 == 0x6e) ≡ false → begins_opening bs ≡ false
 no_opening [] h = refl
 no_opening (b ∷ bs) h = grind (arith, h)
 
@@ -94,7 +94,7 @@ scan_blank fresh bs h =
     rw (no_opening bs netcdf) (rw (and_false fresh) (rw (word) (rw (escape) (rw (digit) (rw (point) (rw (sign) (rw (h) refl)))))))
 
 -- no byte of a number is a line feed
-feeds_on : (b : ℕ) (xs : List ℕ) → (b == 0x0a) ≡ false → count_by (λ b. b == 0x0a) (b ∷ xs) ≡ count_by (λ b. b == 0x0a) xs
+pub feeds_on : (b : ℕ) (xs : List ℕ) → (b == 0x0a) ≡ false → count_by (λ b. b == 0x0a) (b ∷ xs) ≡ count_by (λ b. b == 0x0a) xs
 feeds_on b xs h = sum_by-append (λ b. cond (b == 0x0a) 1 0) (b ∷ []) xs ∙ ap (λ c. 0 + cond c 1 0 + count_by (λ b. b == 0x0a) xs) h ∙ (let e : 0 + 0 + count_by (λ b. b == 0x0a) xs ≡ count_by (λ b. b == 0x0a) xs = omega arith in e)
 
 digits_flat : (bs : List ℕ) → count_by (λ b. b == 0x0a) (take (prefix_len goes_on_number bs) bs) ≡ 0

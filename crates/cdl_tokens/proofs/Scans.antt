@@ -8,7 +8,7 @@ use Rattle.cdl_tokens.specs.declared.token.TokenKind.{TokenKind}
 use Rattle.cdl_tokens.specs.declared.token.TokenKind.TheVariants.{Opening, Word, Number, Text, Mark, Bad, End}
 use Rattle.cdl_tokens.specs.declared.scanner.Scanner.{Scanner}
 use Rattle.cdl_tokens.specs.Scan.{scan}
-use Rattle.cdl_tokens.specs.Scanners.{is_token, left, followed}
+use Rattle.cdl_tokens.specs.Scanners.{is_end, is_token, left, followed}
 use Rattle.cdl_tokens.specs.Tokens.{tokens_at, line_at}
 use Rattle.cdl_tokens.proofs.Steps.{tokens_more, tokens_past}
 use Rattle.cdl_tokens.proofs.Words.{and_false, and_yes}
@@ -21,6 +21,15 @@ followed_token t Text rest h = refl
 followed_token t Mark rest h = refl
 followed_token t Bad rest h = refl
 followed_token t End rest h = cc
+
+pub no_end : (kind : TokenKind) → is_end kind ≡ false → is_token (Some kind) ≡ true
+no_end Opening h = refl
+no_end Word h = refl
+no_end Number h = refl
+no_end Text h = refl
+no_end Mark h = refl
+no_end Bad h = refl
+no_end End h = cc
 
 pub step_token : (text : List ℕ) (fresh : Bool) (at line : ℕ) (f : Scanned) (kind : TokenKind) → at < length text → f ≡ scan fresh (drop at text) → 0 < f.len → f.len ≤ length (drop at text) → is_token f.kind ≡ true → f.kind ≡ Some kind → line ≡ line_at text at →
     tokens_at text fresh at 0 (drop at text) ≡ followed (record { kind = kind; line = line; first = at; past = at + f.len }) kind (tokens_at text false (at + f.len) 0 (drop (at + f.len) text))
@@ -49,7 +58,7 @@ take_none : (n : ℕ) → take {A = ℕ} n [] ≡ []
 take_none zero = refl
 take_none (suc n) = refl
 
-take_more : (text : List ℕ) (at n : ℕ) → take (at + n) text ≡ take at text ++ take n (drop at text)
+pub take_more : (text : List ℕ) (at n : ℕ) → take (at + n) text ≡ take at text ++ take n (drop at text)
 take_more text zero n = ap (λ m. take m text) (let e : 0 + n ≡ n = omega arith in e)
 take_more [] (suc at) n = ap (λ m. take m []) (let e : suc at + n ≡ suc (at + n) = omega arith in e) ∙ sym (take_none n)
 take_more (b ∷ text) (suc at) n = ap (λ m. take m (b ∷ text)) (let e : suc at + n ≡ suc (at + n) = omega arith in e) ∙ ap (λ xs. b ∷ xs) (take_more text at n)

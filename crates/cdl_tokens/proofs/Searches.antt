@@ -1,67 +1,62 @@
--- What a search for a byte says of the bytes before it, and a count of places of the bytes at them.
-use Rattle.std.proofs.Common.{◌≡◌, ℕ, zero, suc, ◌+◌, ◌-◌, ◌<◌, ◌≤◌, Bool, true, false, cond, List, [], ◌∷◌, length, get_or, drop, take, count_by, sym, ap, ◌∙◌, refl, arith}
-use Rattle.std.specs.Prelude.{◌&&◌, ◌||◌, ◌==◌, not, Option, None, Some, unwrap_or, slice_index, if◌then◌else◌}
-use Rattle.std.specs.List.{prefix_len}
-use Rattle.std.proofs.lemmas.List.{at_drop_more, at_drop_all}
-use Rattle.std.proofs.lemmas.List.Sums.{prefix_len_is, sum_by-cons}
-use Rattle.memchr.specs.Find.{IsFirstByte, is_byte, is_byte2, places, places_from}
-use Rattle.cdl_tokens.specs.Scanners.{is_ordinary}
+-- What a stretch of bytes says of a search that goes on after it, and of a count.
+use Rattle.std.proofs.Common.{◌≡◌, ℕ, zero, suc, ◌+◌, ◌<◌, ◌≤◌, Bool, true, false, cond, eqb, List, [], ◌∷◌, ◌++◌, length, drop, take, count_by, sym, ap, ◌∙◌, refl, arith}
+use Rattle.std.specs.Prelude.{◌&&◌, ◌||◌, ◌==◌, not}
+use Rattle.std.specs.List.{list_any, prefix_len}
+use Rattle.std.proofs.lemmas.List.{drop-drop}
+use Rattle.std.proofs.lemmas.List.Folds.{prefix_len-append}
+use Rattle.std.proofs.lemmas.List.Sums.{prefix_len-le-length, sum_by-append}
+use Rattle.cdl_tokens.specs.Scanners.{is_none_of, is_ordinary}
+use Rattle.cdl_tokens.proofs.Scans.{take_more}
 
--- a byte that doesn't pass a test
-fails : (b : Bool) → ¬ (b ≡ true) → not b ≡ true
-fails true off = absurd (off refl)
-fails false off = refl
+-- the search ends in the first stretch, or goes on after it
+pub stops_near : (p : ℕ → Bool) (bytes near far : List ℕ) → bytes ≡ near ++ far → prefix_len p near < length near → prefix_len p near ≡ prefix_len p bytes
+stops_near p bytes near far is h =
+    let e : eqb (prefix_len p near) (length near) ≡ false = grind (arith, h) in
+    sym (ap (prefix_len p) is ∙ prefix_len-append p near far ∙ ap (λ b. cond b (length near + prefix_len p far) (prefix_len p near)) e)
 
-passes : (b : Bool) → b ≡ true → not b ≡ false
-passes b is = ap not is
+pub goes_far : (p : ℕ → Bool) (bytes near far : List ℕ) → bytes ≡ near ++ far → length near ≤ prefix_len p near → prefix_len p near + prefix_len p far ≡ prefix_len p bytes
+goes_far p bytes near far is h =
+    let same : prefix_len p near ≡ length near = omega (arith, h, prefix_len-le-length p near) in
+    let e : eqb (prefix_len p near) (length near) ≡ true = grind (arith, same) in
+    ap (λ n. n + prefix_len p far) same ∙ sym (ap (prefix_len p) is ∙ prefix_len-append p near far ∙ ap (λ b. cond b (length near + prefix_len p far) (prefix_len p near)) e)
 
--- the bytes before the first one that passes a test
-first_run : (test : ℕ → Bool) (bytes : List ℕ) (r : Option ℕ) → IsFirstByte test bytes r → prefix_len (λ b. not (test b)) bytes ≡ unwrap_or r (length bytes)
-first_run test bytes None h =
-    prefix_len_is (λ b. not (test b)) bytes (length bytes) 0 (omega arith) (λ k lt. fails (test (get_or bytes k 0)) (h k (omega arith) lt)) (λ lt. absurd (omega (arith, lt)))
-first_run test bytes (Some n) h =
-    prefix_len_is (λ b. not (test b)) bytes n 0 (omega (arith, h.0.high)) (λ k lt. fails (test (get_or bytes k 0)) (h.0.before k (omega arith) lt)) (λ lt. passes (test (get_or bytes n 0)) h.1)
+-- a stretch without a byte that is searched
+pub clear_block : (p : ℕ → Bool) (bytes : List ℕ) (n : ℕ) → n ≤ length bytes → list_any (λ b. not (p b)) (take n bytes) ≡ false → prefix_len p bytes ≡ n + prefix_len p (drop n bytes)
+clear_block p bytes zero within none = omega arith
+clear_block p [] (suc n) within none = absurd (omega (arith, within))
+clear_block p (b ∷ bytes) (suc n) within none = by (p b) refl none (clear_block p bytes n (omega (arith, within)))
+  where
+    by : (c : Bool) → p b ≡ c → (not c || list_any (λ b. not (p b)) (take n bytes)) ≡ false →
+        (list_any (λ b. not (p b)) (take n bytes) ≡ false → prefix_len p bytes ≡ n + prefix_len p (drop n bytes)) → cond c (1 + prefix_len p bytes) 0 ≡ suc n + prefix_len p (drop n bytes)
+    by true is none rest = omega (arith, rest none)
+    by false is none rest = cc
 
-first_within : (test : ℕ → Bool) (bytes : List ℕ) (r : Option ℕ) → IsFirstByte test bytes r → unwrap_or r (length bytes) ≤ length bytes
-first_within test bytes None h = omega arith
-first_within test bytes (Some n) h = omega (arith, h.0.high)
+-- the same byte searched thrice
+thrice : (a : Bool) → (not a && not a && not a) ≡ not a
+thrice true = refl
+thrice false = refl
 
--- the bytes before the first that is this one
-pub run_before : (byte : ℕ) (bytes : List ℕ) (r : Option ℕ) → IsFirstByte (is_byte byte) bytes r → unwrap_or r (length bytes) ≡ prefix_len (λ b. not (b == byte)) bytes
-run_before byte bytes r h = sym (first_run (is_byte byte) bytes r h)
-
-pub run_within : (byte : ℕ) (bytes : List ℕ) (r : Option ℕ) → IsFirstByte (is_byte byte) bytes r → unwrap_or r (length bytes) ≤ length bytes
-run_within byte = first_within (is_byte byte)
-
-not_either : (a b : Bool) → not (a || b) ≡ (not a && not b)
-not_either true b = refl
-not_either false b = refl
+twice : (a b : Bool) → (not a && not b && not b) ≡ (not a && not b)
+twice true b = refl
+twice false true = refl
+twice false false = refl
 
 same_run : (p q : ℕ → Bool) (bytes : List ℕ) → ((b : ℕ) → p b ≡ q b) → prefix_len p bytes ≡ prefix_len q bytes
 same_run p q [] same = refl
 same_run p q (b ∷ bytes) same = rw (same b) (ap (λ n. cond (q b) (1 + n) 0) (same_run p q bytes same))
 
--- the bytes before the first that is a backslash or closes
-pub ordinary_before : (close : ℕ) (bytes : List ℕ) (r : Option ℕ) → IsFirstByte (is_byte2 0x5c close) bytes r → unwrap_or r (length bytes) ≡ prefix_len (is_ordinary close) bytes
-ordinary_before close bytes r h =
-    sym (first_run (is_byte2 0x5c close) bytes r h) ∙ same_run (λ b. not (is_byte2 0x5c close b)) (is_ordinary close) bytes (λ b. not_either (b == 0x5c) (b == close))
+pub before_one : (byte : ℕ) (bytes : List ℕ) → prefix_len (is_none_of byte byte byte) bytes ≡ prefix_len (λ b. not (b == byte)) bytes
+before_one byte bytes = same_run (is_none_of byte byte byte) (λ b. not (b == byte)) bytes (λ b. thrice (b == byte))
 
-pub ordinary_within : (close : ℕ) (bytes : List ℕ) (r : Option ℕ) → IsFirstByte (is_byte2 0x5c close) bytes r → unwrap_or r (length bytes) ≤ length bytes
-ordinary_within close = first_within (is_byte2 0x5c close)
+pub before_ordinary : (close : ℕ) (bytes : List ℕ) → prefix_len (is_none_of 0x5c close close) bytes ≡ prefix_len (is_ordinary close) bytes
+before_ordinary close bytes = same_run (is_none_of 0x5c close close) (is_ordinary close) bytes (λ b. twice (b == 0x5c) (b == close))
 
--- a place more
-counted : (byte x i : ℕ) (xs places : List ℕ) (on : Bool) → on ≡ (x == byte) → length places ≡ count_by (λ b. b == byte) xs →
-    length (if on then i ∷ places else places) ≡ count_by (λ b. b == byte) (x ∷ xs)
-counted byte x i xs places true is rest = rw (sum_by-cons (λ b. cond (b == byte) 1 0) x xs) (rw (← is) (omega (arith, rest)))
-counted byte x i xs places false is rest = rw (sum_by-cons (λ b. cond (b == byte) 1 0) x xs) (rw (← is) (omega (arith, rest)))
+-- a search goes on after a stretch
+pub past_block : (p : ℕ → Bool) (bytes : List ℕ) (at n : ℕ) → n ≤ length (drop at bytes) → list_any (λ b. not (p b)) (take n (drop at bytes)) ≡ false → prefix_len p (drop at bytes) ≡ n + prefix_len p (drop (at + n) bytes)
+past_block p bytes at n within none = clear_block p (drop at bytes) n within none ∙ ap (λ xs. n + prefix_len p xs) (drop-drop n at bytes)
 
--- as many places as bytes
-count_from : (byte : ℕ) (bytes : List ℕ) (i n : ℕ) → i + n ≡ length bytes → length (places_from (is_byte byte) bytes i n) ≡ count_by (λ b. b == byte) (drop i bytes)
-unfolding places_from
-count_from byte bytes i zero all = sym (at_drop_all (count_by (λ b. b == byte)) bytes i (omega (arith, all)))
-count_from byte bytes i (suc n) all =
-    counted byte (slice_index bytes i) i (drop (i + 1) bytes) (places_from (is_byte byte) bytes (i + 1) n) (slice_index bytes i == byte) refl (count_from byte bytes (i + 1) n (omega (arith, all)))
-    ∙ sym (at_drop_more (count_by (λ b. b == byte)) bytes i 0 (omega (arith, all)))
-
-pub count_of_places : (byte : ℕ) (bytes : List ℕ) → length (places (is_byte byte) bytes) ≡ count_by (λ b. b == byte) bytes
-count_of_places byte bytes = count_from byte bytes 0 (length bytes - 0) (omega arith)
+-- a count goes on after a stretch
+pub counted_block : (p : ℕ → Bool) (bytes block : List ℕ) (at n count few : ℕ) → block ≡ take n (drop at bytes) → length block ≡ n → count ≡ count_by p (take at bytes) → few ≡ count_by p block → count + few ≡ count_by p (take (at + length block) bytes)
+counted_block p bytes block at n count few is long before here =
+    let cut : take (at + length block) bytes ≡ take at bytes ++ block = ap (λ m. take (at + m) bytes) long ∙ take_more bytes at n ∙ ap (λ xs. take at bytes ++ xs) (sym is) in
+    rw (before) (rw (here) (sym (ap (count_by p) cut ∙ sum_by-append (λ b. cond (p b) 1 0) (take at bytes) block)))

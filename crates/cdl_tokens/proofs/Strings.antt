@@ -1,11 +1,10 @@
 -- A string, one character on.
-use Rattle.std.proofs.Common.{◌≡◌, ℕ, zero, suc, ◌+◌, ◌-◌, ◌<◌, ◌≤◌, Bool, true, false, cond, List, [], ◌∷◌, ◌++◌, length, get_or, take, drop, sym, ◌∙◌, ap, refl, arith, count_by}
+use Rattle.std.proofs.Common.{◌≡◌, ℕ, zero, suc, ◌+◌, ◌-◌, ◌<◌, ◌≤◌, Bool, true, false, cond, List, [], ◌∷◌, ◌++◌, length, get_or, take, drop, sym, ◌∙◌, ap, refl, arith}
 use Rattle.std.specs.Prelude.{◌==◌, not, Option, None, Some, is_some}
 use Rattle.std.specs.List.{prefix_len}
 use Rattle.std.proofs.lemmas.List.{append-nil, at_drop_more, at_drop_all, drop-drop, take_all}
-use Rattle.std.proofs.lemmas.List.Sums.{sum_by-cons}
 use Rattle.cdl_tokens.specs.declared.scan.Character.{Character}
-use Rattle.cdl_tokens.specs.Escapes.{unescape, unescape_at, character, has_no_escape, is_unescaped, prepended, stands, stands_at, or_zero}
+use Rattle.cdl_tokens.specs.Escapes.{unescape, unescape_at, character, is_unescaped, prepended, stands, stands_at, or_zero}
 use Rattle.cdl_tokens.proofs.Steps.{drop_some, drop_one_more}
 
 unescape_skip : (more : ℕ) (bytes : List ℕ) → unescape_at more bytes ≡ unescape_at 0 (drop more bytes)
@@ -100,27 +99,14 @@ stands_unescaped text at n is =
     ap (λ m. take m (drop at text) ++ stands (drop m (drop at text))) (sym is) ∙
     ap (λ xs. take n (drop at text) ++ stands xs) (drop-drop n at text)
 
--- bytes without a backslash
-no_backslash : (bytes : List ℕ) → count_by (λ b. b == 0x5c) bytes ≡ 0 → prefix_len is_unescaped bytes ≡ length bytes
-no_backslash [] h = refl
-no_backslash (b ∷ bytes) h = by (b == 0x5c) (sym (sum_by-cons (λ x. cond (x == 0x5c) 1 0) b bytes) ∙ h) (no_backslash bytes)
-  where
-    by : (e : Bool) → cond e 1 0 + count_by (λ b. b == 0x5c) bytes ≡ 0 → (count_by (λ b. b == 0x5c) bytes ≡ 0 → prefix_len is_unescaped bytes ≡ length bytes) →
-        cond (not e) (1 + prefix_len is_unescaped bytes) 0 ≡ length (b ∷ bytes)
-    by true h on = absurd (omega (arith, h))
-    by false h on = ap (λ n. 1 + n) (on (omega (arith, h))) ∙ (let e : 1 + length bytes ≡ suc (length bytes) = omega arith in e)
+-- bytes without a backslash are a string, and stand for themselves
+pub plain_string : (bytes : List ℕ) → prefix_len is_unescaped bytes ≡ length bytes → is_some (unescape bytes) ≡ true
+plain_string bytes all = after_unescaped bytes ∙ ap (λ n. is_some (unescape (drop n bytes))) all ∙ ap is_some (unescape_past bytes (length bytes) (omega arith))
 
-all_unescaped : (bytes : List ℕ) → has_no_escape bytes ≡ true → prefix_len is_unescaped bytes ≡ length bytes
-all_unescaped bytes h = no_backslash bytes (let none : count_by (λ b. b == 0x5c) bytes ≡ 0 = grind (arith, h) in none)
-
--- they are a string, and stand for themselves
-pub plain_string : (bytes : List ℕ) → has_no_escape bytes ≡ true → is_some (unescape bytes) ≡ true
-plain_string bytes h = after_unescaped bytes ∙ ap (λ n. is_some (unescape (drop n bytes))) (all_unescaped bytes h) ∙ ap is_some (unescape_past bytes (length bytes) (omega arith))
-
-pub plain_stands : (bytes : List ℕ) → has_no_escape bytes ≡ true → stands bytes ≡ bytes
-plain_stands bytes h =
+pub plain_stands : (bytes : List ℕ) → prefix_len is_unescaped bytes ≡ length bytes → stands bytes ≡ bytes
+plain_stands bytes all =
     stands_after bytes ∙
-    ap (λ n. take n bytes ++ stands (drop n bytes)) (all_unescaped bytes h) ∙
+    ap (λ n. take n bytes ++ stands (drop n bytes)) all ∙
     ap (λ xs. take (length bytes) bytes ++ xs) (stands_past bytes (length bytes) (omega arith)) ∙
     ap (λ xs. xs ++ []) (take_all (length bytes) bytes (omega arith)) ∙ append-nil bytes
 

@@ -1,5 +1,5 @@
 -- The escapes of words and of strings.
-use Rattle.std.specs.Prelude.{ℕ, Bool, not, zero, suc, List, [], ◌∷◌, ◌+◌, ◌*◌, ◌-◌, ◌==◌, nat_lt, if◌then◌else◌, slice_index, take, drop, count_by, Option, None, Some}
+use Rattle.std.specs.Prelude.{ℕ, Bool, not, zero, suc, List, [], ◌∷◌, ◌+◌, ◌*◌, ◌-◌, ◌==◌, nat_lt, if◌then◌else◌, slice_index, take, drop, length, Option, None, Some}
 use Rattle.std.specs.List.{prefix_len}
 use Rattle.cdl_tokens.specs.declared.scan.Character.{Character}
 use Rattle.cdl_tokens.specs.Bytes.{is_escape, within, is_octal, is_hex, is_digit}
@@ -57,10 +57,6 @@ escape bs =
 abbrev pub is_unescaped : ℕ → Bool
 is_unescaped b = not (b == 0x5c)
 
--- none is a backslash
-abbrev pub has_no_escape : List ℕ → Bool
-has_no_escape bs = count_by (λ b. b == 0x5c) bs == 0
-
 unfoldable pub character : List ℕ → Character
 character bs = if slice_index bs 0 == 0x5c then escape (drop 1 bs) else record { value = Some (slice_index bs 0); len = 1 }
 
@@ -74,6 +70,10 @@ unfoldable pub unescape_at : ℕ → List ℕ → Option (List ℕ)
 unescape_at more [] = Some []
 unescape_at (suc more) (b ∷ bs) = unescape_at more bs
 unescape_at zero (b ∷ bs) = prepended (character (b ∷ bs)).value (unescape_at ((character (b ∷ bs)).len - 1) bs)
+
+-- what stands between a string's quotes
+abbrev pub inner : List ℕ → List ℕ
+inner bytes = take (length bytes - 2) (drop 1 bytes)
 
 -- the bytes that a string between its quotes stands for
 abbrev pub unescape : List ℕ → Option (List ℕ)

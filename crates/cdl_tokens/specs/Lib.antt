@@ -5,4 +5,4 @@ pub mod Tokens
 pub mod Numerals
 pub mod Scanners
 pub mod Magnitudes
-pub mod PlainNumbers
+pub mod PlainTokens

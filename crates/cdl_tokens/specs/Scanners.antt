@@ -12,6 +12,10 @@ text_of s = s.text.now
 abbrev pub offset_of : Scanner → ℕ
 offset_of s = s.at
 
+-- a byte that is none of the three
+abbrev pub is_none_of : ℕ → ℕ → ℕ → ℕ → Bool
+is_none_of first second third b = not (b == first) && not (b == second) && not (b == third)
+
 -- a byte that neither escapes nor closes
 abbrev pub is_ordinary : ℕ → ℕ → Bool
 is_ordinary close b = not (b == 0x5c) && not (b == close)

@@ -1,9 +1,7 @@
 //! The classes of bytes.
 
-ghost use Rattle.std.specs.Prelude.{◌≡◌, ◌≤◌, ◌==◌, count_by, length, slice_index, take};
+ghost use Rattle.std.specs.Prelude.{◌≡◌, ◌≤◌, length, slice_index, take};
 ghost use Rattle.cdl_tokens.specs.Bytes.{begins_word, goes_on_number, goes_on_word, is_blank, is_digit, is_escape, is_hex, is_letter, is_mark, is_octal, is_sign};
-
-use memchr::memchr_iter;
 
 /// The byte at an offset, or 0 past the end.
 pub fn byte_at(bytes: &[u8], at: usize) -> u8
@@ -23,14 +21,6 @@ pub fn first_bytes(bytes: &[u8], n: usize) -> &[u8]
     } else {
         bytes
     }
-}
-
-/// How many of the bytes are this one.
-#[tactic(auto, using(crate::proofs::Searches::count_of_places))]
-pub fn count_of(bytes: &[u8], byte: u8) -> usize
-    ensures { result ≡ count_by (λ b. b == byte) bytes.now }
-{
-    memchr_iter(byte, bytes).count()
 }
 
 /// Says whether the byte is an ASCII letter.

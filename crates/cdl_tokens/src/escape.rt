@@ -3,11 +3,11 @@
 ghost use Rattle.std.specs.Prelude.{◌≡◌, ◌≤◌, ◌<◌, is_some, length};
 ghost use Rattle.std.specs.List.{prefix_len};
 ghost use Rattle.cdl_tokens.specs.Bytes.{is_hex, is_octal};
-ghost use Rattle.cdl_tokens.specs.Escapes.{byte, character, digit, escape, has_no_escape, hex_escape, is_unescaped, octal_number, plain_escape, unescape};
+ghost use Rattle.cdl_tokens.specs.Escapes.{byte, character, digit, escape, hex_escape, is_unescaped, octal_number, plain_escape, unescape};
 
-use crate::bytes::{byte_at, count_of, first_bytes, is_digit, is_hex, is_octal};
+use crate::bytes::{byte_at, first_bytes, is_digit, is_hex, is_octal};
 use crate::scan::Character;
-use memchr::memchr;
+use crate::search::len_before;
 
 /// The number of an octal, decimal or hexadecimal digit, in either case.
 pub fn digit(b: u8) -> u8
@@ -139,29 +139,18 @@ pub fn character(bytes: &[u8]) -> Character
 }
 
 /// How many of the first bytes stand for themselves: those before the first backslash.
-#[tactic(auto, using(crate::proofs::Searches::run_before, crate::proofs::Searches::run_within))]
+#[tactic(auto, using(crate::proofs::Searches::before_one))]
 pub fn unescaped_len(bytes: &[u8]) -> usize
     ensures len { result ≡ prefix_len is_unescaped bytes.now }
     ensures within { result ≤ length bytes.now }
 {
-    memchr(b'\\', bytes).unwrap_or(bytes.len())
-}
-
-/// Says whether each of the bytes stands for itself: whether none is a backslash.
-pub fn has_no_escape(bytes: &[u8]) -> bool
-    ensures { result ≡ has_no_escape bytes.now }
-{
-    count_of(bytes, b'\\') == 0
+    len_before(bytes, b'\\', b'\\', b'\\')
 }
 
 /// Says whether each character of these bytes, which stand between quotes, stands for a byte.
 pub fn is_string(raw: &[u8]) -> bool
     ensures { result ≡ is_some (unescape raw.now) }
 {
-    // Most strings have no escape.
-    if has_no_escape(raw) {
-        return true;
-    }
     let mut at = unescaped_len(raw);
     while at < raw.len() {
         let (_, escape) = raw.split_at(at);

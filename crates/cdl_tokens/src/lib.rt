@@ -8,13 +8,15 @@ mod bytes;
 mod escape;
 mod numeral;
 mod plain_number;
+mod plain_string;
 mod scan;
 mod scanner;
+mod search;
 mod token;
 
 pub use bytes::{byte_at, first_bytes, is_escape};
-pub use escape::{character, has_no_escape, unescaped_len};
+pub use escape::{character, unescaped_len};
 pub use numeral::{Numeral, number_of_token};
 pub use scan::{Character, Scanned};
-pub use scanner::{ListedNumber, Scanner};
+pub use scanner::{ListedNumber, ListedToken, Scanner};
 pub use token::{Token, TokenKind};

@@ -2,7 +2,7 @@
 
 ghost use Rattle.std.specs.Prelude.{◌≡◌, IfSome, false, true};
 ghost use Rattle.cdl_tokens.specs.Bytes.{goes_on_number};
-ghost use Rattle.cdl_tokens.specs.PlainNumbers.{AreDigits, Begins};
+ghost use Rattle.cdl_tokens.specs.PlainTokens.{AreDigits, Begins};
 
 use crate::bytes::{byte_at, is_blank, is_sign};
 use crate::numeral::{Numeral, first_digits};

@@ -11,8 +11,8 @@ use crate::bytes::{
     is_sign,
 };
 use crate::escape::is_string;
+use crate::search::len_before;
 use crate::token::TokenKind;
-use memchr::{memchr, memchr2};
 
 /// The length of the word that opens a text, `netcdf`.
 const OPENING_LEN: usize = 6;
@@ -168,12 +168,12 @@ fn going_on_len(bytes: &[u8]) -> usize
 }
 
 /// How many bytes stand before the line's end.
-#[tactic(auto, using(crate::proofs::Searches::run_before, crate::proofs::Searches::run_within))]
+#[tactic(auto, using(crate::proofs::Searches::before_one))]
 fn line_len(bytes: &[u8]) -> usize
     ensures len { result ≡ prefix_len (λ b. not (b == 0x0a)) bytes.now }
     ensures within { result ≤ length bytes.now }
 {
-    memchr(b'\n', bytes).unwrap_or(bytes.len())
+    len_before(bytes, b'\n', b'\n', b'\n')
 }
 
 /// How many of the first bytes are a word.
@@ -205,12 +205,12 @@ fn is_escaping(bytes: &[u8], at: usize) -> bool
 }
 
 /// How many of the first bytes are neither a backslash nor `close`.
-#[tactic(auto, using(crate::proofs::Searches::ordinary_before, crate::proofs::Searches::ordinary_within))]
+#[tactic(auto, using(crate::proofs::Searches::before_ordinary))]
 fn ordinary_len(bytes: &[u8], close: u8) -> usize
     ensures len { result ≡ prefix_len (is_ordinary close) bytes.now }
     ensures within { result ≤ length bytes.now }
 {
-    memchr2(b'\\', close, bytes).unwrap_or(bytes.len())
+    len_before(bytes, b'\\', close, close)
 }
 
 /// How many bytes stand before the first `close` that isn't escaped; all, where there is none.

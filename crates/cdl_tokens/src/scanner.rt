@@ -1,14 +1,16 @@
 //! The tokens of a text, one at a time.
 
 ghost use Rattle.std.specs.Prelude.{◌≡◌, ◌+◌, ◌≤◌, ◌<◌, ◌==◌, length, IfSome, count_by, drop, slice_index, take, false, true, Some, None};
-ghost use Rattle.cdl_tokens.specs.PlainNumbers.{IsListed};
+ghost use Rattle.cdl_tokens.specs.PlainTokens.{IsComma, IsListed, IsPlainString};
 ghost use Rattle.cdl_tokens.specs.Scan.{scan, token};
 ghost use Rattle.cdl_tokens.specs.Tokens.{line_at, raw, tokens};
 
-use crate::bytes::{byte_at, count_of, is_blank, is_digit, is_mark};
+use crate::bytes::{byte_at, is_blank, is_digit, is_mark};
 use crate::numeral::Numeral;
 use crate::plain_number::plain_number;
+use crate::plain_string::plain_string_len;
 use crate::scan::{begins_number, number_len, scan};
+use crate::search::count_of;
 use crate::token::{Token, TokenKind};
 
 /// Reads the tokens of a text, from an offset on.
@@ -21,6 +23,13 @@ pub struct Scanner<'a> {
     fresh: bool,
     ghost inside: { at ≤ length text.now },
     ghost on_line: { line ≡ line_at text.now at },
+}
+
+/// A token of a list, and the comma after it.
+#[derive(Clone, Copy)]
+pub struct ListedToken {
+    pub token: Token,
+    pub comma: Token,
 }
 
 /// A plain number of a list, and the comma after it.
@@ -93,16 +102,67 @@ impl<'a> Scanner<'a> {
         let (_, rest) = scanner.text.split_at(scanner.at);
         let plain = plain_number(rest)?;
         let number = scanner.take(TokenKind::Number, plain.len);
-        if !scanner.goes_to_comma() {
-            return None;
-        }
-        let comma = scanner.take(TokenKind::Mark, 1);
+        let comma = scanner.comma()?;
         *self = scanner;
         Some(ListedNumber {
             numeral: plain.numeral,
             number,
             comma,
         })
+    }
+
+    /// Reads a string without an escape or a line feed and the comma after it, if they come next; else the scanner stays where it is.
+    #[inline(always)]
+    pub fn string_and_comma(&mut self) -> Option<ListedToken>
+        ensures tokens { IfSome result (λ l. left self.old ≡ l.token ∷ l.comma ∷ left self.new) }
+        ensures plain { IfSome result (λ l. IsPlainString (text_of self.old) l.token) }
+        ensures comma { IfSome result (λ l. IsComma (text_of self.old) l.comma) }
+        ensures text { text_of self.new ≡ text_of self.old }
+        ensures moves { IfSome result (λ l. offset_of self.old < offset_of self.new) }
+        ensures stays { result ≡ None → self.new ≡ self.old }
+    {
+        let mut scanner = *self;
+        scanner.skip_blanks();
+        let (_, rest) = scanner.text.split_at(scanner.at);
+        let len = plain_string_len(rest)?;
+        let token = scanner.take(TokenKind::Text, len);
+        let comma = scanner.comma()?;
+        *self = scanner;
+        Some(ListedToken { token, comma })
+    }
+
+    /// Reads a token and the comma after it, if they come next; else the scanner stays where it is.
+    #[inline(always)]
+    pub fn token_and_comma(&mut self) -> Option<ListedToken>
+        ensures tokens { IfSome result (λ l. left self.old ≡ l.token ∷ l.comma ∷ left self.new) }
+        ensures comma { IfSome result (λ l. IsComma (text_of self.old) l.comma) }
+        ensures text { text_of self.new ≡ text_of self.old }
+        ensures moves { IfSome result (λ l. offset_of self.old < offset_of self.new) }
+        ensures stays { result ≡ None → self.new ≡ self.old }
+    {
+        let mut scanner = *self;
+        let token = scanner.token();
+        if token.kind.is_end() {
+            return None;
+        }
+        let comma = scanner.comma()?;
+        *self = scanner;
+        Some(ListedToken { token, comma })
+    }
+
+    /// Reads the comma that comes next, if one does after blanks alone.
+    #[inline(always)]
+    fn comma(&mut self) -> Option<Token>
+        ensures token { IfSome result (λ c. left self.old ≡ c ∷ left self.new) }
+        ensures comma { IfSome result (λ c. IsComma (text_of self.old) c) }
+        ensures text { text_of self.new ≡ text_of self.old }
+        ensures on { offset_of self.old ≤ offset_of self.new }
+    {
+        if self.goes_to_comma() {
+            Some(self.take(TokenKind::Mark, 1))
+        } else {
+            None
+        }
     }
 
     /// Goes past the blanks that stand here.

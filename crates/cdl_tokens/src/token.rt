@@ -24,6 +24,17 @@ pub enum TokenKind {
     End,
 }
 
+impl TokenKind {
+    ghost use Rattle.cdl_tokens.specs.Scanners.{is_end};
+
+    /// Says whether such a token ends the text.
+    pub fn is_end(self) -> bool
+        ensures { result ≡ is_end self }
+    {
+        matches!(self, TokenKind::End)
+    }
+}
+
 /// A token of a text.
 #[derive(Clone, Copy, Debug, PartialEq, Eq)]
 pub struct Token {

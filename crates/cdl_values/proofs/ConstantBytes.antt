@@ -11,12 +11,12 @@ use Rattle.cdl_tokens.specs.declared.token.TokenKind.{TokenKind}
 use Rattle.cdl_tokens.specs.declared.token.TokenKind.TheVariants as kinds
 use Rattle.std.specs.List.{prefix_len}
 use Rattle.cdl_tokens.specs.Bytes.{is_octal, is_hex}
-use Rattle.cdl_tokens.specs.Escapes.{character, escape, octal_escape, octal_number, hex_escape, byte, plain_escape, or_zero, digit, stands, stands_at}
+use Rattle.cdl_tokens.specs.Escapes.{byte, character, digit, escape, hex_escape, inner, octal_escape, octal_number, or_zero, plain_escape, stands, stands_at}
 use Rattle.cdl_tokens.specs.declared.scan.Character.{Character}
 use Rattle.cdl_tokens.specs.Magnitudes.{word, held}
 use Rattle.cdl_tokens.specs.declared.numeral.Numeral.{Numeral as Held}
 use Rattle.cdl_tokens.specs.Numerals.{Parts, number}
-use Rattle.cdl_text.specs.Shapes.{Value, Number, Characters, inner}
+use Rattle.cdl_text.specs.Shapes.{Value, Number, Characters}
 use Rattle.cdl_text.specs.declared.fault.CdlKind.{CdlKind}
 use Rattle.cdl_text.specs.declared.fault.CdlKind.TheVariants.{NumberRange}
 use Rattle.cdl_meaning.specs.State.{add_constant, fits, in_turn, same_type, type_said, unless, ◌>>=◌}

@@ -10,4 +10,4 @@ pub mod DataReads
 pub mod Joins
 pub mod Places
 pub mod Suited
-pub mod NumberRuns
+pub mod ValueRuns

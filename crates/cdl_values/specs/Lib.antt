@@ -5,4 +5,4 @@ pub mod Capacities
 pub mod Listed
 pub mod DataRead
 pub mod Meant
-pub mod NumberRuns
+pub mod ValueRuns

@@ -3,11 +3,11 @@
 ghost use Rattle.std.specs.Prelude.{◌≡◌, List, [], ◌∷◌, false};
 ghost use Rattle.cdl_text.specs.Contents.{value_of, values};
 ghost use Rattle.cdl_text.specs.Cutters.{is_done, version_of, words};
-ghost use Rattle.cdl_tokens.specs.Escapes.{stands};
+ghost use Rattle.cdl_tokens.specs.Escapes.{inner, stands};
 ghost use Rattle.cdl_text.specs.Lexemes as lexemes;
 ghost use Rattle.cdl_tokens.specs.Magnitudes.{held};
 ghost use Rattle.cdl_tokens.specs.Numerals.{Parts, number};
-ghost use Rattle.cdl_text.specs.Shapes.{Characters, Number, inner};
+ghost use Rattle.cdl_text.specs.Shapes.{Characters, Number};
 ghost use Rattle.cdl_text.specs.Views.{lexeme_of};
 ghost use Rattle.cdl_meaning.specs.State.{add_constant, in_turn, type_said};
 ghost use Rattle.cdl_values.specs.Answers.{Continues, Gives, Leaves};

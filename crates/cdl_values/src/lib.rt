@@ -10,12 +10,12 @@ mod filling;
 mod name;
 mod name_index;
 mod number;
-mod number_run;
 mod packing;
 mod read_error;
 mod string;
 mod targets;
 mod value;
+mod value_run;
 
 pub use constant::{read_constants, type_said};
 pub use data::{Given, Target, read};

@@ -9,9 +9,9 @@ ghost use Rattle.cdl_values.specs.Answers.{Gives};
 ghost use Rattle.cdl_values.specs.PackedValues.{packed};
 
 use crate::filling::Filling;
-use crate::number_run::take_run;
 use crate::read_error::ReadError;
 use crate::value::{Stop, put_token, take_good};
+use crate::value_run::take_run;
 use cdl_text::{Cutter, Due};
 use nc_base::ListedArray;
 use std::alloc::Global;
@@ -73,7 +73,6 @@ pub fn pack_good<'a>(
     let version = start.version();
     let mut cutter = start;
     let mut left = capacity;
-    let mut wait = 0;
     let mut due = Due::Value { takes_fill: true };
     let mut array = ListedArray::new(alloc);
     'tokens: loop {
@@ -89,8 +88,6 @@ pub fn pack_good<'a>(
             }
             return Err(Stop::SomeFault);
         }
-        let looked = take_run(&mut array, &mut cutter, &filling, left, due, wait)?;
-        left = looked.left;
-        wait = looked.wait;
+        left = take_run(&mut array, &mut cutter, &filling, left, due)?;
     }
 }

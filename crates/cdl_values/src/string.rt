@@ -1,9 +1,9 @@
 //! Strings of the data section.
 
-ghost use Rattle.std.specs.Prelude.{◌≡◌, ◌++◌, ◌≤◌, Err, IfOk, OnOk, length, take, true};
+ghost use Rattle.std.specs.Prelude.{◌≡◌, ◌++◌, ◌≤◌, Err, IfOk, OnOk, length, take, false, true};
 ghost use Rattle.std.specs.List.{prefix_len};
-ghost use Rattle.cdl_tokens.specs.Escapes.{is_unescaped, stands};
-ghost use Rattle.cdl_text.specs.Shapes.{Characters, inner};
+ghost use Rattle.cdl_tokens.specs.Escapes.{inner, is_unescaped, stands};
+ghost use Rattle.cdl_text.specs.Shapes.{Characters};
 ghost use Rattle.cdl_text.specs.declared.fault.CdlKind.TheVariants.{TooManyValues};
 ghost use Rattle.cdl_values.specs.Answers.{Adds};
 ghost use Rattle.cdl_values.specs.PackedValues.{char_bytes, row_bytes, text_bytes};
@@ -12,7 +12,7 @@ ghost use Rattle.cdl_values.specs.declared.read_error.ReadError.TheVariants.{Fau
 use crate::filling::is_past;
 use crate::read_error::ReadError;
 use cdl_text::CdlKind;
-use cdl_tokens::{character, first_bytes, has_no_escape, unescaped_len};
+use cdl_tokens::{character, first_bytes, unescaped_len};
 use nc_base::ListedArray;
 use std::alloc::AllocError;
 
@@ -58,14 +58,30 @@ pub fn put_row(
     Ok(())
 }
 
+/// Adds a row of `len` bytes: a string whose bytes stand for themselves, filled up.
+pub fn put_plain_row(
+    array: &mut ListedArray,
+    len: u64,
+    fill: u8,
+    bytes: &[u8],
+) -> Result<(), ReadError>
+    requires { stands (inner bytes.now) ≡ inner bytes.now }
+    ensures { Adds array.old array.new result (row_bytes len fill false (Characters (stands (inner bytes.now)))) }
+{
+    let characters = inner(bytes);
+    let n = characters.len() as u64;
+    if len < n {
+        return Err(ReadError::Fault(CdlKind::StringTooLong));
+    }
+    array.add(characters)?;
+    array.end_row(len - n, fill)?;
+    Ok(())
+}
+
 /// Adds what the string between the quotes stands for.
 fn put_string(array: &mut ListedArray, raw: &[u8]) -> Result<(), AllocError>
     ensures { OnOk result (array.new ≡ array.old ++ char_bytes (stands raw.now)) }
 {
-    // Most strings have no escape.
-    if has_no_escape(raw) {
-        return array.add(raw);
-    }
     let mut at = put_unescaped(array, raw)?;
     while at < raw.len() {
         let (_, escape) = raw.split_at(at);

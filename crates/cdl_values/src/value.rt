@@ -78,16 +78,36 @@ pub fn take_good(
     let then = due.after(token);
     match token.kind {
         TokenKind::Mark => Ok((capacity, then)),
+        _ => {
+            let left = put_good_value(array, version, filling, capacity, token)?;
+            Ok((left, then))
+        }
+    }
+}
+
+/// Adds a token's value, if the token is good and no mark, and says what capacity is left.
+pub fn put_good_value(
+    array: &mut ListedArray,
+    version: Version,
+    filling: &Filling,
+    capacity: Option<u64>,
+    token: Lexeme<'_>,
+) -> Result<Option<u64>, Stop>
+    requires { token.kind ≡ TokenKind.Mark → ⊥ }
+    ensures good { OnOk result (token_fault version token.entry.kind token.entry.bytes.now ≡ None) }
+    ensures packs { IfOk result (λ left. (rest : List lexemes.Lexeme) → joined (Ok array.old) (packed filling.now capacity (values version (lexeme_of token.entry ∷ rest))) ≡ joined (Ok array.new) (packed filling.now left (values version rest))) }
+{
+    match token.kind {
         // A number is one value, so that its bytes needn't be counted.
         TokenKind::Number => {
             put_good_number(array, version, *filling, capacity, token.bytes)?;
-            Ok((less(1, capacity), then))
+            Ok(less(1, capacity))
         }
         _ => {
             let before = array.len();
             put_good(array, version, filling, capacity, token)?;
             let added = array.len().saturating_sub(before);
-            Ok((filling.capacity_after(added, capacity), then))
+            Ok(filling.capacity_after(added, capacity))
         }
     }
 }

@@ -1,4 +1,5 @@
-//! Lists of numbers: of each length up to one past a variable's, with blanks, signs and other values among them, and with a fault.
+//! Lists of numbers and of rows: of each length up to one past a variable's, with blanks, signs, escapes and other values among them,
+//! and with a fault.
 
 use crate::fault_order::{GOOD, Row, Sections, refuse_values};
 use crate::number_ranges::{Number, RANGES, Range};
@@ -78,8 +79,8 @@ fn lists_have_their_values(rt: HostRuntime) -> Result<(), Fail> {
 #[test]
 fn faults_in_lists(rt: HostRuntime) -> Result<(), Fail> {
     const SIX: Sections = Sections {
-        dims: "x = 6, t = UNLIMITED ;",
-        vars: "byte b(x) ; char c(x) ; byte r(t) ;",
+        dims: "x = 6, t = UNLIMITED, r = 4, y = 3 ;",
+        vars: "byte b(x) ; char c(x) ; byte r(t) ; char m(r, y) ;",
         ..GOOD
     };
     const ROWS: &[Row] = &[
@@ -105,6 +106,32 @@ fn faults_in_lists(rt: HostRuntime) -> Result<(), Fail> {
         ("b = 1, 2, \"a\", 3 ;", 4, CdlKind::WrongKind),
         ("c = 1, 2, 3 ;", 4, CdlKind::WrongKind),
         ("r = 1, 2, 3, 4, 5, 6, 7, 128, 9 ;", 4, CdlKind::NumberRange),
+        ("b = 0x1, 2L, 03, _, 128s, 6 ;", 4, CdlKind::NumberRange),
+        ("b = 0x1, 2L, 03, _, 08, 6 ;", 4, CdlKind::BadNumber),
+        ("b = 1, 2L, 03, _, 5, 6, _, 8 ;", 4, CdlKind::TooManyValues),
+        ("b = 1, 2L, data, 4, 5 ;", 4, CdlKind::Syntax),
+        ("b = 1, 2L, ;, 4, 5 ;", 4, CdlKind::Syntax),
+        ("m = \"abc\", \"abcd\", \"e\" ;", 4, CdlKind::StringTooLong),
+        (
+            "m = \"abc\", \"d\", \"\\n234\", \"e\" ;",
+            4,
+            CdlKind::StringTooLong,
+        ),
+        (
+            "m = \"a\", \"b\",\n \"c\", \"d\", \"e\", \"f\" ;",
+            4,
+            CdlKind::TooManyValues,
+        ),
+        (
+            "m = \"a\", \"b\", \"c\", \"d\", \"long\", \"f\" ;",
+            4,
+            CdlKind::TooManyValues,
+        ),
+        ("m = \"a\", \"b\", 1, \"d\" ;", 4, CdlKind::WrongKind),
+        ("m = \"a\", \"b\", _, \"d\" ;", 4, CdlKind::WrongKind),
+        ("m = \"a\", \"b\" \"c\", \"d\" ;", 4, CdlKind::Syntax),
+        ("m = \"a\", \"b\\x\", \"c\", \"d\" ;", 4, CdlKind::BadToken),
+        ("m = \"a\", \"b\", \"c ;", 4, CdlKind::BadToken),
         (
             "b = 1,\n2,\n3,\n4, 5, 6 ;\nr = 1,\n2,\n128, 4 ;",
             8,
@@ -114,7 +141,95 @@ fn faults_in_lists(rt: HostRuntime) -> Result<(), Fail> {
     refuse_values(&rt, rt.alloc(), SIX, ROWS)
 }
 
-/// Fails unless the text has this fault in the statement after a list with twice ten thousand line feeds.
+/// Fails unless a variable of four rows of three characters has these values.
+fn are_rows(rt: &impl Abort, alloc: Global, values: &[u8], want: &[u8]) -> Result<(), Fail> {
+    let parts: [&[u8]; 3] = [
+        b"netcdf t {\ndimensions: r = 4, x = 3 ;\nvariables: char c(r, x) ;\ndata: c = ",
+        values,
+        b" ;\n}\n",
+    ];
+    let text = joined(alloc, &parts)?;
+    have_values(rt, alloc, text.as_slice(), want);
+    Ok(())
+}
+
+#[test]
+fn rows_have_their_values(rt: HostRuntime) -> Result<(), Fail> {
+    const ROWS: &[(&[u8], &[u8])] = &[
+        (b"\"\"", b"\0\0\0\0\0\0\0\0\0\0\0\0"),
+        (b"\"a\", \"bc\"", b"a\0\0bc\0\0\0\0\0\0\0"),
+        (b"\"abc\",\"def\",\"ghi\",\"jkl\"", b"abcdefghijkl"),
+        (
+            b"\"abc\"\n,\t\"de\" ,\n\n  \"\", \"f\"",
+            b"abcde\0\0\0\0f\0\0",
+        ),
+        (
+            b"\"a\", \"\\n\\x41\", \"b\", \"\\\"\\\\\"",
+            b"a\0\0\nA\0b\0\0\"\\\0",
+        ),
+        (b"\"a\", \"b\nc\", \"d\", \"e\"", b"a\0\0b\ncd\0\0e\0\0"),
+        (b"\"a\", \"\\t\", \"b\", \"c\"", b"a\0\0\t\0\0b\0\0c\0\0"),
+        (
+            b"\"a\", // \"b\", \"long\",\n \"c\" // \"d\"\n, \"e\"",
+            b"a\0\0c\0\0e\0\0\0\0\0",
+        ),
+        (b"\"'\", \"//\", \",;}\", \"_\"", b"'\0\0//\0,;}_\0\0"),
+    ];
+    for (values, want) in ROWS {
+        are_rows(&rt, rt.alloc(), *values, *want)?;
+    }
+    Ok(())
+}
+
+/// A text with three rows of these letters, after the second of which these escapes stand.
+fn with_escapes(alloc: Global, letters: &[u8], escapes: &[u8]) -> Result<Vec<u8>, AllocError> {
+    let parts: [&[u8]; 8] = [
+        b"netcdf t {\ndimensions: r = 3, x = 202 ;\nvariables: char c(r, x) ;\ndata: c = \"",
+        letters,
+        b"\", \"",
+        letters,
+        escapes,
+        b"\", \"",
+        letters,
+        b"\" ; }",
+    ];
+    joined(alloc, &parts)
+}
+
+/// Fails unless such a text of `len` letters has its values, and is refused where it has a bad escape.
+fn is_read(rt: &impl Abort, alloc: Global, len: usize) -> Result<(), Fail> {
+    const BAD: CdlFault = CdlFault {
+        line: 4,
+        kind: CdlKind::BadToken,
+    };
+    let letters = Vec::from_elem(alloc, b'a', len.min(200))?;
+    let padding = Vec::from_elem(alloc, 0u8, 202 - letters.len())?;
+    let bad = with_escapes(alloc, letters.as_slice(), b"\\n\\x")?;
+    refuses_in_all(rt, alloc, bad.as_slice(), BAD);
+    let text = with_escapes(alloc, letters.as_slice(), b"\\n\\\"")?;
+    let rows: [&[u8]; 7] = [
+        letters.as_slice(),
+        padding.as_slice(),
+        letters.as_slice(),
+        b"\n\"",
+        &padding.as_slice()[2..],
+        letters.as_slice(),
+        padding.as_slice(),
+    ];
+    let want = joined(alloc, &rows)?;
+    have_values(rt, alloc, text.as_slice(), want.as_slice());
+    Ok(())
+}
+
+#[test]
+fn strings_of_every_length(rt: HostRuntime) -> Result<(), Fail> {
+    for len in 0..150 {
+        is_read(&rt, rt.alloc(), len)?;
+    }
+    Ok(())
+}
+
+/// Fails unless the text has this fault in the statement after lists with forty thousand line feeds.
 fn refuses_after_lines(
     rt: &impl Abort,
     alloc: Global,
@@ -122,17 +237,26 @@ fn refuses_after_lines(
     kind: CdlKind,
 ) -> Result<(), Fail> {
     let feeds = Vec::from_elem(alloc, b'\n', 10000)?;
-    let parts: [&[u8]; 7] = [
-        b"netcdf t {\ndimensions: x = 6 ;\nvariables: byte b(x), c(x) ;\ndata: b = 1, 2, 3",
+    let letters = Vec::from_elem(alloc, b'a', 100)?;
+    let parts: [&[u8]; 15] = [
+        b"netcdf t {\ndimensions: x = 6, y = 10000 ;\nvariables: byte b(x), c(x) ; char m(x, y), s(y) ;\ndata: b = 1, 2, 3",
         feeds.as_slice(),
         b", ",
         feeds.as_slice(),
-        b"4, 5, 6 ; c = ",
+        b"4, 5, 6 ; m = \"ab\", \"c\", ",
+        feeds.as_slice(),
+        b"\"d\ne\", \"",
+        letters.as_slice(),
+        b"\n",
+        letters.as_slice(),
+        b"\", \"f\" ; s = \"",
+        feeds.as_slice(),
+        b"\" ; c = ",
         last,
         b" ;\n}\n",
     ];
     let text = joined(alloc, &parts)?;
-    refuses_in_all(rt, alloc, text.as_slice(), CdlFault { line: 20004, kind });
+    refuses_in_all(rt, alloc, text.as_slice(), CdlFault { line: 40006, kind });
     Ok(())
 }
 

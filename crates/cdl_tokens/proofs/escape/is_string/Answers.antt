@@ -2,11 +2,8 @@ use Rattle.std.proofs.Common.{rules, arith, ◌≡◌, ◌+◌, true, false, dro
 use Rattle.std.specs.Prelude.{is_some}
 use Rattle.std.specs.List.{prefix_len}
 use Rattle.cdl_tokens.specs.Escapes.{character, is_unescaped, unescape}
-use Rattle.cdl_tokens.proofs.Strings.{after_unescaped, plain_string, string_after_unescaped, unescape_more, unescape_past, prepended_some, prepended_none}
+use Rattle.cdl_tokens.proofs.Strings.{after_unescaped, string_after_unescaped, unescape_more, unescape_past, prepended_some, prepended_none}
 use Rattle.cdl_tokens.proofs.escape.is_string.Goals as goal
-
-pub returns-then-has_no_escape : goal.returns-then-has_no_escape
-returns-then-has_no_escape c = sym (plain_string c.args.raw.now (sym c.has_no_escape.ensures ∙ c.if-has_no_escape.true))
 
 pub loop-at-init : goal.loop-at-init
 loop-at-init c =

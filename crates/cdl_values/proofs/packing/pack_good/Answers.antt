@@ -34,7 +34,7 @@ tokens-preserved c =
     let rest = words c.advance-ends.new.self in
     let l = lexeme_of c.lexeme-token.result in
     let here = going (words t.cutter) rest (lexeme (text_of t.cutter) (next_token t.cutter)) l c.advance-ends.result c.advance-ends.ensures.words (sym c.lexeme-token.ensures.lexeme) c.if-ends.false in
-    let r = c.in_ok-looked.ensures in
+    let r = c.in_ok-left-2.ensures in
     let at : version_of c.advance-ends.new.self ≡ c.version-version.result = c.advance-ends.ensures.same.version ∙ t.invariant.version ∙ sym c.version-version.ensures in
     let filling = a.filling in
     record {
@@ -43,7 +43,7 @@ tokens-preserved c =
       goes = r.goes;
       bad = ap (λ v. first_bad v (words c.take_run.new.cutter)) (sym at) ∙ r.bad ∙ ap (λ v. first_bad v rest) at ∙ sym (good_on c.version-version.result l rest c.in_ok-left.ensures.good) ∙ sym (ap (first_bad c.version-version.result) here) ∙ t.invariant.bad;
       shaped = r.shaped ∙ ap (λ d. completes d rest) c.in_ok-left.ensures.shape ∙ ap (completes t.due) (sym here) ∙ t.invariant.shaped;
-      packs = ap (λ v. joined (Ok c.take_run.new.array) (packed filling c.in_ok-looked.looked.left (values v (words c.take_run.new.cutter)))) (sym at) ∙ r.packs ∙
+      packs = ap (λ v. joined (Ok c.take_run.new.array) (packed filling c.in_ok-left-2.left (values v (words c.take_run.new.cutter)))) (sym at) ∙ r.packs ∙
           ap (λ v. joined (Ok c.take_good.new.array) (packed filling c.in_ok-left.field-0-0 (values v rest))) at ∙
           sym (c.in_ok-left.ensures.packs rest) ∙ sym (ap (λ ws. joined (Ok t.array) (packed a.filling t.left (values c.version-version.result ws))) here) ∙ t.invariant.packs;
       rest = r.others ∙ (let e : after c.advance-ends.new.self ≡ after a.start = search rules in e);

@@ -1,21 +1,11 @@
-use Rattle.std.proofs.Common.{rules, arith, ◌≡◌, ◌+◌, ◌<◌, ◌++◌, ◌∷◌, [], drop, length, take, sym, ap, ◌∙◌, append_assoc, append-nil, subst}
-use Rattle.std.proofs.Math.Seq.{take-length}
-use Rattle.std.specs.Prelude.{OnOk, slice_index}
+use Rattle.std.proofs.Common.{rules, arith, ◌≡◌, ◌+◌, ◌<◌, ◌++◌, ◌∷◌, [], drop, take, sym, ap, ◌∙◌, append_assoc, append-nil}
 use Rattle.std.specs.List.{prefix_len}
 use Rattle.cdl_tokens.specs.Escapes.{stands, character, is_unescaped, or_zero}
-use Rattle.cdl_tokens.proofs.Strings.{plain_stands, stands_after, stands_more, stands_past, stands_unescaped}
+use Rattle.cdl_tokens.proofs.Strings.{stands_after, stands_more, stands_past, stands_unescaped}
 use Rattle.cdl_values.specs.PackedValues.{char_bytes}
-use Rattle.cdl_values.proofs.ConstantBytes.{first_stay, put_on}
+use Rattle.cdl_values.proofs.ConstantBytes.{put_on}
 use Rattle.cdl_values.proofs.PackedTokens.{one_char}
 use Rattle.cdl_values.proofs.string.put_string.Goals as goal
-
-pub returns-then-has_no_escape : goal.returns-then-has_no_escape
-returns-then-has_no_escape c =
-    let raw = c.args.raw.now in
-    let plain = sym c.has_no_escape.ensures ∙ c.if-has_no_escape.true in
-    let stay = first_stay (length raw) raw (λ k. let small : slice_index raw k < 256 = omega (arith, c.type_inv.raw k) in small) in
-    let same : char_bytes (stands raw) ≡ raw = ap char_bytes (plain_stands raw plain ∙ sym (take-length raw)) ∙ stay ∙ take-length raw in
-    subst (λ xs. OnOk c.add.result (c.add.new.self ≡ c.args.array.now ++ xs)) (sym same) c.add.ensures
 
 pub returns : goal.returns
 returns c =

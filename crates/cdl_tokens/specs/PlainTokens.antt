@@ -1,15 +1,17 @@
--- Plain numbers: decimal digits after a sign or none, without a suffix.
-use Rattle.std.specs.Prelude.{◌≡◌, ℕ, ◌+◌, ◌<◌, ◌≤◌, true, false, List, Some, option_map, slice_index, take, drop, length}
+-- Tokens of which long lists consist. A plain number is decimal digits after a sign or none, without a suffix; a plain string has neither an escape nor a line feed.
+use Rattle.std.specs.Prelude.{◌≡◌, ◌==◌, count_by, ℕ, ◌+◌, ◌<◌, ◌≤◌, Bool, true, false, List, Some, option_map, slice_index, take, drop, length}
 use Rattle.std.specs.List.{prefix_len}
 use Rattle.nc_base.specs.declared.version.Version.{Version}
 use Rattle.cdl_tokens.specs.Bytes.{goes_on_number, is_digit}
+use Rattle.cdl_tokens.specs.Escapes.{inner, stands}
 use Rattle.cdl_tokens.specs.Magnitudes.{held}
 use Rattle.cdl_tokens.specs.Numerals.{number_in, parts}
-use Rattle.cdl_tokens.specs.Scan.{begins_number}
+use Rattle.cdl_tokens.specs.Scan.{begins_number, scan, token}
 use Rattle.cdl_tokens.specs.Tokens.{raw}
 use Rattle.cdl_tokens.specs.declared.plain_number.PlainNumber.{PlainNumber}
 use Rattle.cdl_tokens.specs.declared.scanner.ListedNumber.{ListedNumber}
-use Rattle.cdl_tokens.specs.declared.token.TokenKind.TheVariants.{Number, Mark}
+use Rattle.cdl_tokens.specs.declared.token.Token.{Token}
+use Rattle.cdl_tokens.specs.declared.token.TokenKind.TheVariants.{Number, Mark, Text}
 
 -- the first n bytes are decimal digits of this number, and no number token goes on after them
 pub record AreDigits (bs : List ℕ) (n value : ℕ) : Type 0 where
@@ -28,9 +30,25 @@ pub record Begins (bs : List ℕ) (p : PlainNumber) : Type 0 where
   pub within : p.len ≤ length bs
   pub says : (v : Version) → Some p.numeral ≡ option_map held (parts v (take p.len bs))
 
+-- the bytes begin with a string of this length, without a line feed, whose bytes between the quotes stand for themselves
+pub record BeginsString (bs : List ℕ) (len : ℕ) : Type 0 where
+  pub begins : (fresh : Bool) → scan fresh bs ≡ token Text len
+  pub some : 2 ≤ len
+  pub within : len ≤ length bs
+  pub flat : count_by (λ b. b == 0x0a) (take len bs) ≡ 0
+  pub plain : stands (inner (take len bs)) ≡ inner (take len bs)
+
+pub record IsComma (text : List ℕ) (t : Token) : Type 0 where
+  pub mark : t.kind ≡ Mark
+  pub comma : slice_index (raw text t) 0 ≡ 0x2c
+
 -- a number token that says this number in every version, and a comma
 pub record IsListed (text : List ℕ) (l : ListedNumber) : Type 0 where
   pub number : l.number.kind ≡ Number
   pub says : (v : Version) → Some l.numeral ≡ option_map held (parts v (raw text l.number))
-  pub mark : l.comma.kind ≡ Mark
-  pub comma : slice_index (raw text l.comma) 0 ≡ 0x2c
+  pub comma : IsComma text l.comma
+
+-- a string, whose bytes between the quotes stand for themselves
+pub record IsPlainString (text : List ℕ) (t : Token) : Type 0 where
+  pub string : t.kind ≡ Text
+  pub plain : stands (inner (raw text t)) ≡ inner (raw text t)

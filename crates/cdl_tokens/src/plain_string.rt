@@ -1,0 +1,25 @@
+//! Plain strings, of which long lists consist: those without an escape or a line feed.
+
+ghost use Rattle.std.specs.Prelude.{◌≡◌, IfSome};
+ghost use Rattle.cdl_tokens.specs.PlainTokens.{BeginsString};
+
+use crate::bytes::byte_at;
+use crate::search::len_before;
+
+/// The number of bytes of the plain string that the bytes begin with, its quotes among them; None where they begin otherwise.
+#[inline(always)]
+#[tactic(auto, using(crate::proofs::PlainStrings::begins_string))]
+pub fn plain_string_len(bytes: &[u8]) -> Option<usize>
+    ensures { IfSome result (λ len. BeginsString bytes.now len) }
+{
+    if byte_at(bytes, 0) != b'"' {
+        return None;
+    }
+    let (_, rest) = bytes.split_at(1);
+    let n = len_before(rest, b'\\', b'"', b'\n');
+    if byte_at(rest, n) == b'"' {
+        Some(n + 2)
+    } else {
+        None
+    }
+}

@@ -1,0 +1,146 @@
+-- A run of values, one value on.
+use Rattle.std.proofs.Common.{◌≡◌, ℕ, ◌+◌, Bool, true, false, List, ◌∷◌, length, drop, sym, ap, ◌∙◌, refl, subst, arith}
+use Rattle.std.specs.Prelude.{Option, None, Some, Ok, ◌&&◌, ◌==◌, slice_index}
+use Rattle.nc_base.specs.declared.version.Version.{Version}
+use Rattle.cdl_tokens.specs.Escapes.{inner, stands}
+use Rattle.cdl_tokens.specs.declared.numeral.Numeral.{Numeral as Held}
+use Rattle.cdl_tokens.specs.declared.token.TokenKind.{TokenKind}
+use Rattle.cdl_tokens.specs.declared.token.TokenKind.TheVariants as kinds
+use Rattle.cdl_text.specs.Contents.{value_of, values}
+use Rattle.cdl_text.specs.Cutters.{is_done, next_token, text_of, version_of, words}
+use Rattle.cdl_text.specs.DueTokens.{completes, is_value_of, next, only, separator}
+use Rattle.cdl_text.specs.Lexemes.{Lexeme, is_mark, is_mark_kind, lexeme}
+use Rattle.cdl_text.specs.ListedTokens.{IsAtComma, Passes, PassesNumber, PassesString}
+use Rattle.cdl_text.specs.Shapes.{Characters, first_bad, token_fault}
+use Rattle.cdl_text.specs.Views.{lexeme_with}
+use Rattle.cdl_text.specs.declared.cutter.Cutter.{Cutter}
+use Rattle.cdl_text.specs.declared.due.Due.{Due}
+use Rattle.cdl_text.specs.declared.due.Due.TheVariants.{Separator, Value}
+use Rattle.cdl_text.proofs.Surveys.{good_on}
+use Rattle.cdl_values.specs.PackedValues.{bytes_of, capacity_after, held_bytes, is_full, joined, less, packed, row_bytes}
+use Rattle.cdl_values.specs.ValueRuns.{GoesOn, Place, Takes}
+use Rattle.cdl_values.specs.declared.fill.Fill.{Fill}
+use Rattle.cdl_values.specs.declared.filling.Filling.{Filling}
+use Rattle.cdl_values.specs.declared.filling.Filling.TheVariants.{Numbers, Rows}
+use Rattle.cdl_values.proofs.PackedTokens.{added, is_after, one_packed, over_mark, over_value}
+use Rattle.cdl_values.proofs.Ranges.{good_number, number_added}
+
+comma_good : (v : Version) (l : Lexeme) → is_mark 0x2c l ≡ true → (is_mark_kind l.kind ≡ true) × (token_fault v l.kind l.bytes ≡ None)
+comma_good v l h = by l.kind l.bytes h
+  where
+    by : (k : TokenKind) (bytes : List ℕ) → (is_mark_kind k && slice_index bytes 0 == 0x2c) ≡ true → (is_mark_kind k ≡ true) × (token_fault v k bytes ≡ None)
+    by kinds.Opening bytes h = cc
+    by kinds.Word bytes h = cc
+    by kinds.Number bytes h = cc
+    by kinds.Text bytes h = cc
+    by kinds.Mark bytes h = (refl, refl)
+    by kinds.Bad bytes h = cc
+    by kinds.End bytes h = cc
+
+-- nothing is passed
+pub unmoved : (due : Due) (filling : Filling) (start : Place) → is_done start.cutter ≡ false → GoesOn due filling start start
+unmoved due filling start goes = record {
+  same = record { text = refl; version = refl };
+  goes = goes;
+  bad = refl;
+  shaped = refl;
+  packs = refl;
+  others = refl;
+  on = omega arith;
+}
+
+pub stays : (takes_fill : Bool) (filling : Filling) (start : Place) → IsAtComma start.cutter → Takes takes_fill filling start start
+stays takes_fill filling start at = record { at = at; on = unmoved (Separator takes_fill) filling start at.goes }
+
+-- one run after the other
+further : (due : Due) (filling : Filling) (start between rest : Place) → GoesOn due filling start between → GoesOn due filling between rest → GoesOn due filling start rest
+further due filling start between rest so next =
+    let at = so.same.version in
+    record {
+      same = record { text = next.same.text ∙ so.same.text; version = next.same.version ∙ at };
+      goes = next.goes;
+      bad = ap (λ v. first_bad v (words rest.cutter)) (sym at) ∙ next.bad ∙ ap (λ v. first_bad v (words between.cutter)) at ∙ so.bad;
+      shaped = next.shaped ∙ so.shaped;
+      packs = ap (λ v. joined (Ok rest.bytes) (packed filling rest.left (values v (words rest.cutter)))) (sym at) ∙ next.packs ∙ ap (λ v. joined (Ok between.bytes) (packed filling between.left (values v (words between.cutter)))) at ∙ so.packs;
+      others = next.others ∙ so.others;
+      on = let first = so.on in let then = next.on in omega (arith, first, then);
+    }
+
+pub takes_further : (takes_fill : Bool) (filling : Filling) (start between rest : Place) → Takes takes_fill filling start between → Takes takes_fill filling between rest → Takes takes_fill filling start rest
+takes_further takes_fill filling start between rest so next = record { at = next.at; on = further (Separator takes_fill) filling start between rest so.on next.on }
+
+-- a comma and a good value more, whose bytes are added
+pub value_on : (takes_fill : Bool) (filling : Filling) (start rest : Place) (l : Lexeme) → IsAtComma start.cutter → Passes start.cutter rest.cutter l →
+    token_fault (version_of start.cutter) l.kind l.bytes ≡ None → is_value_of takes_fill l l.kind ≡ true →
+    ((ls : List Lexeme) → joined (Ok start.bytes) (packed filling start.left (values (version_of start.cutter) (l ∷ ls))) ≡ joined (Ok rest.bytes) (packed filling rest.left (values (version_of start.cutter) ls))) →
+    Takes takes_fill filling start rest
+unfolding completes next
+value_on takes_fill filling start rest l at passes good value packs =
+    let v = version_of start.cutter in
+    let ws = words rest.cutter in
+    let comma = lexeme (text_of start.cutter) (next_token start.cutter) in
+    let fine = comma_good v comma at.comma in
+    let here : separator (Value takes_fill) comma ≡ Value takes_fill = rw (at.comma) refl in
+    let there : only (is_value_of takes_fill l l.kind) (Separator takes_fill) ≡ Separator takes_fill = rw (value) refl in
+    let on = passes.on in
+    record {
+      at = passes.at;
+      on = record {
+        same = passes.same;
+        goes = passes.at.goes;
+        bad = sym (ap (first_bad v) passes.passed ∙ good_on v comma (l ∷ ws) fine.1 ∙ good_on v l ws good);
+        shaped = sym (ap (completes (Separator takes_fill)) passes.passed ∙ ap (λ d. completes (next d l) ws) here ∙ ap (λ d. completes d ws) there);
+        packs = sym (ap (λ vs. joined (Ok start.bytes) (packed filling start.left vs)) (ap (values v) passes.passed ∙ over_mark v comma (l ∷ ws) fine.0) ∙ packs ws);
+        others = passes.others;
+        on = omega (arith, on);
+      };
+    }
+
+-- a value is packed, of which one is counted
+packs_one : (v : Version) (filling : Filling) (start rest : Place) (l : Lexeme) → is_mark_kind l.kind ≡ false → joined (Ok start.bytes) (bytes_of filling start.left (value_of v l l.kind)) ≡ Ok rest.bytes →
+    ((bytes : List ℕ) → capacity_after filling bytes start.left ≡ rest.left) → (ls : List Lexeme) →
+    joined (Ok start.bytes) (packed filling start.left (values v (l ∷ ls))) ≡ joined (Ok rest.bytes) (packed filling rest.left (values v ls))
+packs_one v filling start rest l other adds counts ls =
+    let w = value_of v l l.kind in
+    let r = bytes_of filling start.left w in
+    let ds = drop (length start.bytes) rest.bytes in
+    ap (λ vs. joined (Ok start.bytes) (packed filling start.left vs)) (over_value v l ls other) ∙
+    one_packed filling start.left w (values v ls) start.bytes rest.bytes ds (added start.bytes rest.bytes r adds) (is_after start.bytes rest.bytes r adds) ∙
+    ap (λ left. joined (Ok rest.bytes) (packed filling left (values v ls))) (counts ds)
+
+-- a number more
+pub number_on : (takes_fill : Bool) (fill : Fill) (start rest : Place) (n : Held) → IsAtComma start.cutter → PassesNumber start.cutter rest.cutter n → is_full start.left ≡ false →
+    joined (Ok start.bytes) (held_bytes fill.ty n.minus n.magnitude) ≡ Ok rest.bytes → rest.left ≡ less 1 start.left → Takes takes_fill (Numbers fill) start rest
+unfolding value_of
+number_on takes_fill fill start rest n at passes full adds left =
+    let v = version_of start.cutter in
+    let l = lexeme_with kinds.Number passes.bytes in
+    let sum : joined (Ok start.bytes) (bytes_of (Numbers fill) start.left (value_of v l kinds.Number)) ≡ Ok rest.bytes = rw (full) (number_added start.bytes rest.bytes fill.ty fill.value _ n (passes.says v) adds) in
+    value_on takes_fill (Numbers fill) start rest l at passes.passes (good_number v passes.bytes n (passes.says v)) refl (packs_one v (Numbers fill) start rest l refl sum (λ _. sym left))
+
+-- a row more
+pub row_on : (takes_fill : Bool) (len fill : ℕ) (start rest : Place) (bytes : List ℕ) → IsAtComma start.cutter → PassesString start.cutter rest.cutter bytes → is_full start.left ≡ false →
+    joined (Ok start.bytes) (row_bytes len fill false (Characters (stands (inner bytes)))) ≡ Ok rest.bytes → rest.left ≡ less 1 start.left → Takes takes_fill (Rows len fill) start rest
+unfolding value_of
+row_on takes_fill len fill start rest bytes at passes full adds left =
+    let v = version_of start.cutter in
+    let l = lexeme_with kinds.Text bytes in
+    let sum : joined (Ok start.bytes) (bytes_of (Rows len fill) start.left (value_of v l kinds.Text)) ≡ Ok rest.bytes =
+    ap (λ b. joined (Ok start.bytes) (row_bytes len fill b (Characters (stands (inner bytes))))) full ∙ adds in
+    value_on takes_fill (Rows len fill) start rest l at passes.passes refl refl (packs_one v (Rows len fill) start rest l refl sum (λ _. sym left))
+
+-- what capacity is left
+pub none_counted : (capacity : Option ℕ) → capacity ≡ less 0 capacity
+none_counted None = refl
+none_counted (Some m) = ap Some (omega arith)
+
+pub counted : (n : ℕ) (capacity : Option ℕ) → less (n + 1) capacity ≡ less 1 (less n capacity)
+counted n None = refl
+counted n (Some m) = ap Some (omega arith)
+
+-- the same place
+pub ended : (takes_fill : Bool) (filling : Filling) (start there : Place) (cutter : Cutter) (left : Option ℕ) → cutter ≡ there.cutter → left ≡ there.left → Takes takes_fill filling start there →
+    Takes takes_fill filling start (record { cutter = cutter; bytes = there.bytes; left = left })
+ended takes_fill filling start there cutter left same_place same_left so =
+    subst (λ (c : Cutter). Takes takes_fill filling start (record { cutter = c; bytes = there.bytes; left = left })) (sym same_place)
+    (subst (λ (n : Option ℕ). Takes takes_fill filling start (record { cutter = there.cutter; bytes = there.bytes; left = n })) (sym same_left) so)

@@ -1,0 +1,36 @@
+-- What goes past several values of a statement at once.
+use Rattle.std.specs.Prelude.{ℕ, List, Bool, ◌≡◌, ◌≤◌, false, Option, Ok}
+use Rattle.cdl_text.specs.Contents.{values}
+use Rattle.cdl_text.specs.Cutters.{SameText, after, is_done, offset_of, version_of, words}
+use Rattle.cdl_text.specs.DueTokens.{completes}
+use Rattle.cdl_text.specs.ListedTokens.{IsAtComma}
+use Rattle.cdl_text.specs.Shapes.{first_bad}
+use Rattle.cdl_text.specs.declared.cutter.Cutter.{Cutter}
+use Rattle.cdl_text.specs.declared.due.Due.{Due}
+use Rattle.cdl_text.specs.declared.due.Due.TheVariants.{Separator}
+use Rattle.cdl_values.specs.PackedValues.{joined, packed}
+use Rattle.cdl_values.specs.declared.filling.Filling.{Filling}
+
+-- A place among the values of a statement: the bytes of those before it, and what capacity is left.
+pub record Place : Type 0 where
+  pub cutter : Cutter
+  pub bytes : List ℕ
+  pub left : Option ℕ
+
+abbrev pub place : Cutter → List ℕ → Option ℕ → Place
+place cutter bytes left = record { cutter = cutter; bytes = bytes; left = left }
+
+-- The tokens between two places are good ones, after which the same token is due. Their values are what the bytes before have become, and what the capacity has lost.
+pub record GoesOn (due : Due) (filling : Filling) (start rest : Place) : Type 0 where
+  pub same : SameText start.cutter rest.cutter
+  pub goes : is_done rest.cutter ≡ false
+  pub bad : first_bad (version_of start.cutter) (words rest.cutter) ≡ first_bad (version_of start.cutter) (words start.cutter)
+  pub shaped : completes due (words rest.cutter) ≡ completes due (words start.cutter)
+  pub packs : joined (Ok rest.bytes) (packed filling rest.left (values (version_of start.cutter) (words rest.cutter))) ≡ joined (Ok start.bytes) (packed filling start.left (values (version_of start.cutter) (words start.cutter)))
+  pub others : after rest.cutter ≡ after start.cutter
+  pub on : offset_of start.cutter ≤ offset_of rest.cutter
+
+-- From comma to comma of a list of values.
+pub record Takes (takes_fill : Bool) (filling : Filling) (start rest : Place) : Type 0 where
+  pub at : IsAtComma rest.cutter
+  pub on : GoesOn (Separator takes_fill) filling start rest
