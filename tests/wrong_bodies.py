@@ -19,7 +19,8 @@ goals still fits:
   or one is stored.)
 
 Else only a proof doesn't fit: a stored one names what is gone, or has another type, or the search gave up at one of its limits.
-Then the edit is to name a test, which fails under it. Those that have neither are told, and count as neither passed nor failed.
+Then the edit is to name a test, which fails under it. Those that have neither are told, and count as neither passed nor failed: of one
+and the same body the prover may say less where the machine is busy.
 
 The second form runs these tests, with the edit and without (`named_tests.py`): those of all edits, or of N edits that the day's
 date draws. The last line of both forms is 'N passed, M failed'.
