@@ -10,7 +10,7 @@ use Rattle.std.proofs.lemmas.List.Sums.{prefix_len-le-length}
 use Rattle.nc_base.specs.Escapes.{escaped_in_string, escaped_text, is_literal}
 use Rattle.nc_base.specs.ValueText.{Look, is_char, begins_row, char_lead, char_text, char_piece, held, piece, pieces, variable_prefix, later_pieces}
 use Rattle.nc_base.proofs.ValueLaws.{place-add, held_other, held_nul, held_first, held_untrimmed}
-use Rattle.devices.specs.Sinks.{SinkView, Appended, FailedPartway, Wrote}
+use Rattle.devices.specs.Sinks.{SinkView, Appended, FailedPartway, Written}
 use Rattle.cdl_print.specs.Pieces.{IsRun}
 use Rattle.cdl_print.specs.Leads.{next_char_lead}
 use Rattle.cdl_print.specs.Printing.{run_text, run_bytes, row_index_after_run, IsAfterRun, IsAfter, PrintsMore}
@@ -214,7 +214,7 @@ in_row_at look xs p run following fits = λ long. let f = fits long in omega (ar
 
 -- a run is printed, or the sink failed inside of its text
 pub goes_run : {X E : Type 0} (look : Look) (run : List ℕ) (p q : Progress) (old new : SinkView) (r : Result X E) → is_char look.ty ≡ true → 0 < length run → IsRun is_literal run
-    → (1 < length run → p.row_index + length run ≤ look.row) → Wrote old new (run_bytes look p run) r → OnOk r (IsAfterRun look p run q) → PrintsMore look (map pos run) p q old new r
+    → (1 < length run → p.row_index + length run ≤ look.row) → Written old new (run_bytes look p run) r → OnOk r (IsAfterRun look p run q) → PrintsMore look (map pos run) p q old new r
 goes_run look run p q old new (Ok done) is some literal fits wrote next = record {
   position = omega (arith, next.position, length-map run pos);
   failures = wrote.failures;

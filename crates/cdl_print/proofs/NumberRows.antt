@@ -5,7 +5,7 @@ use Rattle.std.proofs.lemmas.Bool.{OnTrue_at, OnTrue_from, false≢true, cases_l
 use Rattle.std.proofs.lemmas.Bool.Decides.{nat_tests}
 use Rattle.nc_base.specs.ValueText.{Look, is_char, begins_row, column, number_text, number_lead, line_break, number_piece, piece, variable_prefix, later_pieces}
 use Rattle.nc_base.proofs.ValueLaws.{prefix-append, later_none, later_one, column-flat, column-broken, number_flat, place-add}
-use Rattle.devices.specs.Sinks.{SinkView, append, is_transparent, Appended, FailedPartway, Wrote}
+use Rattle.devices.specs.Sinks.{SinkView, append, is_transparent, Appended, FailedPartway, Written}
 use Rattle.cdl_print.specs.Leads.{gap_bytes, row_gap, gap_in_row, next_gap, columns_left_after}
 use Rattle.cdl_print.specs.Printing.{gathered, number_bytes, bytes_in_row, columns_left_in_row, text_in_row, columns_left_after_text, IsAfterNumber, IsAfter, PrintedMore, PrintsMore, PrintedInRow}
 use Rattle.cdl_print.proofs.PrintingLaws.{printed_more_then}
@@ -126,7 +126,7 @@ printed_more_number look x p q old new is text next = record {
 
 -- what was gathered is written in one piece
 pub goes_gathered : {X E : Type 0} (look : Look) (ys : List ℤ) (p q : Progress) (text : List ℕ) (old new : SinkView) (r : Result X E)
-    → PrintedMore look ys p q (gathered []) (gathered text) → Wrote old new text r → PrintsMore look ys p q old new r
+    → PrintedMore look ys p q (gathered []) (gathered text) → Written old new text r → PrintsMore look ys p q old new r
 goes_gathered look ys p q text old new (Ok done) printed_more wrote = record {
   position = printed_more.position;
   failures = wrote.failures;

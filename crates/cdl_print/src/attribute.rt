@@ -15,7 +15,7 @@ use nc_base::{Att, NcType};
 /// Writes a line for each attribute of the variable with this name; of the dataset where the name is empty.
 #[tactic(auto, using(devices::proofs::Writes::writes), unfolding(nc_base::specs::HeadText::att_lines))]
 pub fn put_att_lines<W: Sink>(sink: &mut W, owner: &[u8], atts: &[Att]) -> Result<(), WriteFailed>
-    ensures { Wrote (W.view sink.old) (W.view sink.new) (att_lines (escaped_name owner.now) atts.now) result }
+    ensures { Wrote W.view sink.old sink.new (att_lines (escaped_name owner.now) atts.now) result }
 {
     for att in atts {
         put_att_line(sink, owner, att)?;
@@ -26,7 +26,7 @@ pub fn put_att_lines<W: Sink>(sink: &mut W, owner: &[u8], atts: &[Att]) -> Resul
 /// Writes the line of an attribute.
 #[tactic(auto, using(devices::proofs::Writes::writes), unfolding(nc_base::specs::HeadText::att_line))]
 fn put_att_line<W: Sink>(sink: &mut W, owner: &[u8], att: &Att) -> Result<(), WriteFailed>
-    ensures { Wrote (W.view sink.old) (W.view sink.new) (att_line (escaped_name owner.now) att.now) result }
+    ensures { Wrote W.view sink.old sink.new (att_line (escaped_name owner.now) att.now) result }
 {
     put_att_name(sink, owner, att.name.as_slice())?;
     put(sink, b" = ")?;
@@ -37,7 +37,7 @@ fn put_att_line<W: Sink>(sink: &mut W, owner: &[u8], att: &Att) -> Result<(), Wr
 /// Writes what an attribute is called, with its variable.
 #[tactic(auto, using(devices::proofs::Writes::writes))]
 fn put_att_name<W: Sink>(sink: &mut W, owner: &[u8], name: &[u8]) -> Result<(), WriteFailed>
-    ensures { Wrote (W.view sink.old) (W.view sink.new) (concat_parts (codes "\t\t" ∷ escaped_name owner.now ∷ codes ":" ∷ escaped_name name.now ∷ [])) result }
+    ensures { Wrote W.view sink.old sink.new (concat_parts (codes "\t\t" ∷ escaped_name owner.now ∷ codes ":" ∷ escaped_name name.now ∷ [])) result }
 {
     put(sink, b"\t\t")?;
     put_name(sink, owner)?;
@@ -47,7 +47,7 @@ fn put_att_name<W: Sink>(sink: &mut W, owner: &[u8], name: &[u8]) -> Result<(), 
 
 /// Writes the values of an attribute.
 fn put_values<W: Sink>(sink: &mut W, att: &Att) -> Result<(), WriteFailed>
-    ensures { Wrote (W.view sink.old) (W.view sink.new) (att_values att.now.ty att.now.vals) result }
+    ensures { Wrote W.view sink.old sink.new (att_values att.now.ty att.now.vals) result }
 {
     match att.ty {
         NcType::Char => put_char_values(sink, att.vals.as_slice()),
@@ -58,7 +58,7 @@ fn put_values<W: Sink>(sink: &mut W, att: &Att) -> Result<(), WriteFailed>
 /// Writes the characters of an attribute as strings, without the NULs at their end.
 #[tactic(auto, using(devices::proofs::Writes::writes), unfolding(nc_base::specs::HeadText::char_values))]
 fn put_char_values<W: Sink>(sink: &mut W, vals: &[u8]) -> Result<(), WriteFailed>
-    ensures { Wrote (W.view sink.old) (W.view sink.new) (char_values vals.now) result }
+    ensures { Wrote W.view sink.old sink.new (char_values vals.now) result }
 {
     put(sink, b"\"")?;
     put_broken_text(sink, without_trailing_nuls(vals))?;

@@ -74,7 +74,7 @@ fn put_led_run<W: Sink>(
     requires within { progress.old.position + length run.now ≤ layout.now.total }
     requires some { 0 < length run.now }
     requires piece { IsRun is_literal run.now }
-    ensures wrote { Wrote (W.view sink.old) (W.view sink.new) (run_bytes (look_at layout.now) progress.old run.now) result }
+    ensures wrote { Wrote W.view sink.old sink.new (run_bytes (look_at layout.now) progress.old run.now) result }
     ensures following { OnOk result (IsAfterRun (look_at layout.now) progress.old run.now progress.new) }
 {
     let waits = layout.trimmed && is_one_nul(run);
@@ -114,7 +114,7 @@ fn put_run_text<W: Sink>(
     run: &[u8],
 ) -> Result<(), WriteFailed>
     requires { IsRun is_literal run.now }
-    ensures { Wrote (W.view sink.old) (W.view sink.new) (run_text waits held run.now) result }
+    ensures { Wrote W.view sink.old sink.new (run_text waits held run.now) result }
 {
     if waits {
         return Ok(());
@@ -132,7 +132,7 @@ fn is_one_nul(run: &[u8]) -> bool
 
 /// Writes `count` NULs.
 fn put_nuls<W: Sink>(sink: &mut W, count: u128) -> Result<(), WriteFailed>
-    ensures { Wrote (W.view sink.old) (W.view sink.new) (escaped_text (replicate count 0)) result }
+    ensures { Wrote W.view sink.old sink.new (escaped_text (replicate count 0)) result }
 {
     for _ in 0..count {
         put(sink, b"\\000")?;

@@ -8,7 +8,7 @@ use itoa::Buffer;
 
 /// Writes an integer in decimal.
 pub fn put_integer<W: Sink>(sink: &mut W, n: i128) -> Result<(), WriteFailed>
-    ensures { Wrote (W.view sink.old) (W.view sink.new) (signed_decimal n) result }
+    ensures { Wrote W.view sink.old sink.new (signed_decimal n) result }
 {
     put(sink, Buffer::new().format(n).as_bytes())
 }

@@ -11,7 +11,7 @@ use nc_base::{Escape, Quoting};
 
 /// Writes bytes of a name or of a string, each with its escape.
 pub fn put_escaped<W: Sink>(sink: &mut W, quoting: Quoting, bytes: &[u8]) -> Result<(), WriteFailed>
-    ensures { Wrote (W.view sink.old) (W.view sink.new) (flat_map (escaped_in quoting) bytes.now) result }
+    ensures { Wrote W.view sink.old sink.new (flat_map (escaped_in quoting) bytes.now) result }
 {
     let mut rest = bytes;
     while !rest.is_empty() {
@@ -25,7 +25,7 @@ pub fn put_escaped<W: Sink>(sink: &mut W, quoting: Quoting, bytes: &[u8]) -> Res
 /// Writes one byte with its escape, or a run of bytes that stand for themselves.
 pub fn put_run<W: Sink>(sink: &mut W, quoting: Quoting, run: &[u8]) -> Result<(), WriteFailed>
     requires { IsRun (stands_for_itself quoting) run.now }
-    ensures { Wrote (W.view sink.old) (W.view sink.new) (flat_map (escaped_in quoting) run.now) result }
+    ensures { Wrote W.view sink.old sink.new (flat_map (escaped_in quoting) run.now) result }
 {
     match *run {
         [b] => put_byte(sink, quoting, b),
@@ -35,7 +35,7 @@ pub fn put_run<W: Sink>(sink: &mut W, quoting: Quoting, run: &[u8]) -> Result<()
 
 /// Writes one byte with its escape.
 fn put_byte<W: Sink>(sink: &mut W, quoting: Quoting, b: u8) -> Result<(), WriteFailed>
-    ensures { Wrote (W.view sink.old) (W.view sink.new) (escaped_in quoting b) result }
+    ensures { Wrote W.view sink.old sink.new (escaped_in quoting b) result }
 {
     match quoting.escape(b) {
         Escape::Plain => put(sink, &[b]),

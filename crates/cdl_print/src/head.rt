@@ -26,7 +26,7 @@ pub fn put_head<W: Sink>(
     header: &Header,
     records: u64,
 ) -> Result<(), WriteFailed>
-    ensures { Wrote (W.view sink.old) (W.view sink.new) (head_text name.now header.now records) result }
+    ensures { Wrote W.view sink.old sink.new (head_text name.now header.now records) result }
 {
     put(sink, Word::Netcdf.bytes())?;
     put_name(sink, name)?;
@@ -39,7 +39,7 @@ pub fn put_head<W: Sink>(
 /// Writes the dimensions, if there are any.
 #[tactic(auto, using(devices::proofs::Writes::writes), unfolding(nc_base::specs::HeadText::dims_text))]
 fn put_dims<W: Sink>(sink: &mut W, dims: &[Dim], records: u64) -> Result<(), WriteFailed>
-    ensures { Wrote (W.view sink.old) (W.view sink.new) (dims_text records dims.now) result }
+    ensures { Wrote W.view sink.old sink.new (dims_text records dims.now) result }
 {
     if dims.is_empty() {
         return Ok(());
@@ -50,7 +50,7 @@ fn put_dims<W: Sink>(sink: &mut W, dims: &[Dim], records: u64) -> Result<(), Wri
 /// Writes the dimensions under their title.
 #[tactic(auto, using(devices::proofs::Writes::writes))]
 fn put_dims_part<W: Sink>(sink: &mut W, dims: &[Dim], records: u64) -> Result<(), WriteFailed>
-    ensures { Wrote (W.view sink.old) (W.view sink.new) (concat_parts (dimensions_word ∷ dim_lines records dims.now ∷ [])) result }
+    ensures { Wrote W.view sink.old sink.new (concat_parts (dimensions_word ∷ dim_lines records dims.now ∷ [])) result }
 {
     put(sink, Word::Dimensions.bytes())?;
     put_dim_lines(sink, dims, records)
@@ -59,7 +59,7 @@ fn put_dims_part<W: Sink>(sink: &mut W, dims: &[Dim], records: u64) -> Result<()
 /// Writes a line for each dimension.
 #[tactic(auto, using(devices::proofs::Writes::writes), unfolding(nc_base::specs::HeadText::dim_lines))]
 fn put_dim_lines<W: Sink>(sink: &mut W, dims: &[Dim], records: u64) -> Result<(), WriteFailed>
-    ensures { Wrote (W.view sink.old) (W.view sink.new) (dim_lines records dims.now) result }
+    ensures { Wrote W.view sink.old sink.new (dim_lines records dims.now) result }
 {
     for dim in dims {
         put_dim_line(sink, dim, records)?;
@@ -70,7 +70,7 @@ fn put_dim_lines<W: Sink>(sink: &mut W, dims: &[Dim], records: u64) -> Result<()
 /// Writes the line of a dimension.
 #[tactic(auto, using(devices::proofs::Writes::writes), unfolding(nc_base::specs::HeadText::dim_line))]
 fn put_dim_line<W: Sink>(sink: &mut W, dim: &Dim, records: u64) -> Result<(), WriteFailed>
-    ensures { Wrote (W.view sink.old) (W.view sink.new) (dim_line records dim.now) result }
+    ensures { Wrote W.view sink.old sink.new (dim_line records dim.now) result }
 {
     put(sink, b"\t")?;
     put_name(sink, dim.name.as_slice())?;
@@ -81,7 +81,7 @@ fn put_dim_line<W: Sink>(sink: &mut W, dim: &Dim, records: u64) -> Result<(), Wr
 /// Writes the length of a dimension; of the record dimension the number of records.
 #[tactic(auto, unfolding(nc_base::specs::HeadText::dim_extent))]
 fn put_extent<W: Sink>(sink: &mut W, len: u64, records: u64) -> Result<(), WriteFailed>
-    ensures { Wrote (W.view sink.old) (W.view sink.new) (dim_extent records len) result }
+    ensures { Wrote W.view sink.old sink.new (dim_extent records len) result }
 {
     if len == 0 {
         put_records(sink, records)
@@ -93,7 +93,7 @@ fn put_extent<W: Sink>(sink: &mut W, len: u64, records: u64) -> Result<(), Write
 /// Writes the length of the record dimension.
 #[tactic(auto, using(devices::proofs::Writes::writes))]
 fn put_records<W: Sink>(sink: &mut W, records: u64) -> Result<(), WriteFailed>
-    ensures { Wrote (W.view sink.old) (W.view sink.new) (concat_parts (unlimited_word ∷ decimal records ∷ currently_word ∷ [])) result }
+    ensures { Wrote W.view sink.old sink.new (concat_parts (unlimited_word ∷ decimal records ∷ currently_word ∷ [])) result }
 {
     put(sink, Word::Unlimited.bytes())?;
     put_decimal(sink, records as u128)?;
@@ -103,7 +103,7 @@ fn put_records<W: Sink>(sink: &mut W, records: u64) -> Result<(), WriteFailed>
 /// Writes the length of a dimension that is fixed.
 #[tactic(auto, using(devices::proofs::Writes::writes))]
 fn put_length<W: Sink>(sink: &mut W, len: u64) -> Result<(), WriteFailed>
-    ensures { Wrote (W.view sink.old) (W.view sink.new) (concat_parts (decimal len ∷ codes " ;\n" ∷ [])) result }
+    ensures { Wrote W.view sink.old sink.new (concat_parts (decimal len ∷ codes " ;\n" ∷ [])) result }
 {
     put_decimal(sink, len as u128)?;
     put(sink, b" ;\n")
@@ -112,7 +112,7 @@ fn put_length<W: Sink>(sink: &mut W, len: u64) -> Result<(), WriteFailed>
 /// Writes the global attributes, if there are any.
 #[tactic(auto, using(devices::proofs::Writes::writes), unfolding(nc_base::specs::HeadText::gatts_text))]
 fn put_gatts<W: Sink>(sink: &mut W, gatts: &[Att]) -> Result<(), WriteFailed>
-    ensures { Wrote (W.view sink.old) (W.view sink.new) (gatts_text gatts.now) result }
+    ensures { Wrote W.view sink.old sink.new (gatts_text gatts.now) result }
 {
     if gatts.is_empty() {
         return Ok(());
@@ -123,7 +123,7 @@ fn put_gatts<W: Sink>(sink: &mut W, gatts: &[Att]) -> Result<(), WriteFailed>
 /// Writes the global attributes under their title.
 #[tactic(auto, using(devices::proofs::Writes::writes, crate::proofs::Runs::nameless))]
 fn put_gatts_part<W: Sink>(sink: &mut W, gatts: &[Att]) -> Result<(), WriteFailed>
-    ensures { Wrote (W.view sink.old) (W.view sink.new) (concat_parts (global_word ∷ att_lines [] gatts.now ∷ [])) result }
+    ensures { Wrote W.view sink.old sink.new (concat_parts (global_word ∷ att_lines [] gatts.now ∷ [])) result }
 {
     put(sink, Word::GlobalAttributes.bytes())?;
     put_att_lines(sink, b"", gatts)

@@ -19,7 +19,7 @@ use nc_base::{Quoting, begins_with_digit_or_mark, is_reserved};
 /// The sink failed. It took some prefix of the text.
 #[tactic(auto, using(devices::proofs::Writes::writes), unfolding(nc_base::specs::Escapes::escaped_name, crate::specs::Pieces::prefix_escape))]
 pub fn put_name<W: Sink>(sink: &mut W, name: &[u8]) -> Result<(), WriteFailed>
-    ensures { Wrote (W.view sink.old) (W.view sink.new) (escaped_name name.now) result }
+    ensures { Wrote W.view sink.old sink.new (escaped_name name.now) result }
 {
     put_leading_backslash(sink, name)?;
     put_escaped(sink, Quoting::InName, name)
@@ -28,7 +28,7 @@ pub fn put_name<W: Sink>(sink: &mut W, name: &[u8]) -> Result<(), WriteFailed>
 /// Writes the backslash before a name that could be read as something else.
 #[tactic(auto, using(devices::proofs::Writes::writes), unfolding(crate::specs::Pieces::prefix_escape))]
 fn put_leading_backslash<W: Sink>(sink: &mut W, name: &[u8]) -> Result<(), WriteFailed>
-    ensures { Wrote (W.view sink.old) (W.view sink.new) (prefix_escape name.now) result }
+    ensures { Wrote W.view sink.old sink.new (prefix_escape name.now) result }
 {
     if needs_prefix_escape(name) {
         return put(sink, b"\\");

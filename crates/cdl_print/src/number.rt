@@ -14,7 +14,7 @@ use nc_base::{NcType, number_of};
 
 /// Writes the numbers of an attribute, each with the suffix of its type.
 pub fn put_numbers<W: Sink>(sink: &mut W, ty: NcType, vals: &[u8]) -> Result<(), WriteFailed>
-    ensures { Wrote (W.view sink.old) (W.view sink.new) (number_values ty vals.now) result }
+    ensures { Wrote W.view sink.old sink.new (number_values ty vals.now) result }
 {
     let size = ty.size() as usize;
     let mut rest = vals;
@@ -35,7 +35,7 @@ fn put_number<W: Sink>(
     is_last: bool,
 ) -> Result<(), WriteFailed>
     requires { length value.now ≡ size_of ty }
-    ensures { Wrote (W.view sink.old) (W.view sink.new) (number_text ty value.now is_last) result }
+    ensures { Wrote W.view sink.old sink.new (number_text ty value.now is_last) result }
 {
     put_value(sink, ty, value)?;
     put(sink, ty.suffix())?;
@@ -48,7 +48,7 @@ fn put_number<W: Sink>(
 /// Writes a number in decimal.
 fn put_value<W: Sink>(sink: &mut W, ty: NcType, value: &[u8]) -> Result<(), WriteFailed>
     requires { length value.now ≡ size_of ty }
-    ensures { Wrote (W.view sink.old) (W.view sink.new) (signed_decimal (number_of ty value.now)) result }
+    ensures { Wrote W.view sink.old sink.new (signed_decimal (number_of ty value.now)) result }
 {
     put_integer(sink, number_of(ty, value))
 }

@@ -13,7 +13,7 @@ use nc_base::Quoting;
 /// Writes what stands before the values of the variable with this name.
 #[tactic(auto, using(devices::proofs::Writes::writes))]
 pub fn put_opening<W: Sink>(sink: &mut W, name: &[u8]) -> Result<(), WriteFailed>
-    ensures { Wrote (W.view sink.old) (W.view sink.new) (concat_parts (codes "\n " ∷ escaped_name name.now ∷ codes " =" ∷ [])) result }
+    ensures { Wrote W.view sink.old sink.new (concat_parts (codes "\n " ∷ escaped_name name.now ∷ codes " =" ∷ [])) result }
 {
     put(sink, b"\n ")?;
     put_name(sink, name)?;

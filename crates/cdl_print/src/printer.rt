@@ -59,7 +59,7 @@ impl<'a> ValuePrinter<'a> {
     /// The sink failed, and took some prefix of the text; or an earlier call failed, and nothing is written.
     #[tactic(auto, unfolding(nc_base::specs::ValueText::opening))]
     pub fn start<W: Sink>(&mut self, sink: &mut W) -> Result<(), WriteFailed>
-        ensures wrote { has_failed self.old ≡ false → Wrote (W.view sink.old) (W.view sink.new) (opening (look_in self.old)) result }
+        ensures wrote { has_failed self.old ≡ false → Wrote W.view sink.old sink.new (opening (look_in self.old)) result }
         ensures ok { OnOk result (self.new ≡ self.old) }
         ensures failed { OnErr result (has_failed self.new ≡ true) }
         ensures repeats { has_failed self.old ≡ true → IsErr result × (W.view sink.new ≡ W.view sink.old) }
@@ -117,7 +117,7 @@ impl<'a> ValuePrinter<'a> {
     ///
     /// The sink failed, and took some prefix of the text; or an earlier call failed, and nothing is written.
     pub fn finish<W: Sink>(&mut self, sink: &mut W) -> Result<(), WriteFailed>
-        ensures wrote { has_failed self.old ≡ false → Wrote (W.view sink.old) (W.view sink.new) (closing (look_in self.old)) result }
+        ensures wrote { has_failed self.old ≡ false → Wrote W.view sink.old sink.new (closing (look_in self.old)) result }
         ensures ok { OnOk result (self.new ≡ self.old) }
         ensures failed { OnErr result (has_failed self.new ≡ true) }
         ensures repeats { has_failed self.old ≡ true → IsErr result × (W.view sink.new ≡ W.view sink.old) }

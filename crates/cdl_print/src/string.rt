@@ -12,7 +12,7 @@ use nc_base::Quoting;
 
 /// Writes the bytes of a string, which is closed and opened again after each line feed but the last byte.
 pub fn put_broken_text<W: Sink>(sink: &mut W, bytes: &[u8]) -> Result<(), WriteFailed>
-    ensures { Wrote (W.view sink.old) (W.view sink.new) (broken_text bytes.now) result }
+    ensures { Wrote W.view sink.old sink.new (broken_text bytes.now) result }
 {
     let mut rest = bytes;
     while !rest.is_empty() {
@@ -44,7 +44,7 @@ fn line_feed(bytes: &[u8]) -> Option<usize>
 /// Writes a line of a string, and the break after it.
 #[tactic(auto, using(devices::proofs::Writes::writes), unfolding(crate::specs::Pieces::line_text, nc_base::specs::Escapes::escaped_text))]
 fn put_line<W: Sink>(sink: &mut W, line: &[u8], is_last: bool) -> Result<(), WriteFailed>
-    ensures { Wrote (W.view sink.old) (W.view sink.new) (line_text line.now is_last) result }
+    ensures { Wrote W.view sink.old sink.new (line_text line.now is_last) result }
 {
     put_escaped(sink, Quoting::InString, line)?;
     if is_last {

@@ -17,7 +17,7 @@ use nc_base::{Dim, NcType, Var};
 /// Writes the variables, if there are any.
 #[tactic(auto, using(devices::proofs::Writes::writes), unfolding(nc_base::specs::HeadText::vars_text, crate::specs::Pieces::var_rows))]
 pub fn put_vars<W: Sink>(sink: &mut W, dims: &[Dim], vars: &[Var]) -> Result<(), WriteFailed>
-    ensures { Wrote (W.view sink.old) (W.view sink.new) (vars_text dims.now vars.now) result }
+    ensures { Wrote W.view sink.old sink.new (vars_text dims.now vars.now) result }
 {
     if vars.is_empty() {
         return Ok(());
@@ -28,7 +28,7 @@ pub fn put_vars<W: Sink>(sink: &mut W, dims: &[Dim], vars: &[Var]) -> Result<(),
 /// Writes the variables under their title.
 #[tactic(auto, using(devices::proofs::Writes::writes))]
 fn put_vars_part<W: Sink>(sink: &mut W, dims: &[Dim], vars: &[Var]) -> Result<(), WriteFailed>
-    ensures { Wrote (W.view sink.old) (W.view sink.new) (concat_parts (variables_word ∷ var_rows dims.now vars.now ∷ [])) result }
+    ensures { Wrote W.view sink.old sink.new (concat_parts (variables_word ∷ var_rows dims.now vars.now ∷ [])) result }
 {
     put(sink, Word::Variables.bytes())?;
     put_var_rows(sink, dims, vars)
@@ -37,7 +37,7 @@ fn put_vars_part<W: Sink>(sink: &mut W, dims: &[Dim], vars: &[Var]) -> Result<()
 /// Writes the lines of each variable.
 #[tactic(auto, using(devices::proofs::Writes::writes), unfolding(crate::specs::Pieces::var_rows))]
 fn put_var_rows<W: Sink>(sink: &mut W, dims: &[Dim], vars: &[Var]) -> Result<(), WriteFailed>
-    ensures { Wrote (W.view sink.old) (W.view sink.new) (var_rows dims.now vars.now) result }
+    ensures { Wrote W.view sink.old sink.new (var_rows dims.now vars.now) result }
 {
     for var in vars {
         put_var_lines(sink, dims, var)?;
@@ -48,7 +48,7 @@ fn put_var_rows<W: Sink>(sink: &mut W, dims: &[Dim], vars: &[Var]) -> Result<(),
 /// Writes the lines of a variable: its declaration and its attributes.
 #[tactic(auto, using(devices::proofs::Writes::writes), unfolding(nc_base::specs::HeadText::var_lines))]
 fn put_var_lines<W: Sink>(sink: &mut W, dims: &[Dim], var: &Var) -> Result<(), WriteFailed>
-    ensures { Wrote (W.view sink.old) (W.view sink.new) (var_lines dims.now var.now) result }
+    ensures { Wrote W.view sink.old sink.new (var_lines dims.now var.now) result }
 {
     put_declared(sink, var.ty, var.name.as_slice())?;
     put_shape(sink, dims, var.dimids.as_slice())?;
@@ -59,7 +59,7 @@ fn put_var_lines<W: Sink>(sink: &mut W, dims: &[Dim], var: &Var) -> Result<(), W
 /// Writes the type and the name of a variable.
 #[tactic(auto, using(devices::proofs::Writes::writes))]
 fn put_declared<W: Sink>(sink: &mut W, ty: NcType, name: &[u8]) -> Result<(), WriteFailed>
-    ensures { Wrote (W.view sink.old) (W.view sink.new) (concat_parts (codes "\t" ∷ type_word ty ∷ codes " " ∷ escaped_name name.now ∷ [])) result }
+    ensures { Wrote W.view sink.old sink.new (concat_parts (codes "\t" ∷ type_word ty ∷ codes " " ∷ escaped_name name.now ∷ [])) result }
 {
     put(sink, b"\t")?;
     put(sink, ty.word())?;
@@ -70,7 +70,7 @@ fn put_declared<W: Sink>(sink: &mut W, ty: NcType, name: &[u8]) -> Result<(), Wr
 /// Writes the shape of a variable, if it has dimensions.
 #[tactic(auto, using(devices::proofs::Writes::writes), unfolding(nc_base::specs::HeadText::shape_text))]
 fn put_shape<W: Sink>(sink: &mut W, dims: &[Dim], dimids: &[u64]) -> Result<(), WriteFailed>
-    ensures { Wrote (W.view sink.old) (W.view sink.new) (shape_text dims.now dimids.now) result }
+    ensures { Wrote W.view sink.old sink.new (shape_text dims.now dimids.now) result }
 {
     if dimids.is_empty() {
         return Ok(());
@@ -81,7 +81,7 @@ fn put_shape<W: Sink>(sink: &mut W, dims: &[Dim], dimids: &[u64]) -> Result<(), 
 /// Writes the dimensions of a shape in parentheses.
 #[tactic(auto, using(devices::proofs::Writes::writes))]
 fn put_dim_list<W: Sink>(sink: &mut W, dims: &[Dim], dimids: &[u64]) -> Result<(), WriteFailed>
-    ensures { Wrote (W.view sink.old) (W.view sink.new) (concat_parts (codes "(" ∷ joined (map (dim_name dims.now) dimids.now) ∷ codes ")" ∷ [])) result }
+    ensures { Wrote W.view sink.old sink.new (concat_parts (codes "(" ∷ joined (map (dim_name dims.now) dimids.now) ∷ codes ")" ∷ [])) result }
 {
     put(sink, b"(")?;
     put_dim_names(sink, dims, dimids)?;
@@ -90,7 +90,7 @@ fn put_dim_list<W: Sink>(sink: &mut W, dims: &[Dim], dimids: &[u64]) -> Result<(
 
 /// Writes the names of the dimensions.
 fn put_dim_names<W: Sink>(sink: &mut W, dims: &[Dim], dimids: &[u64]) -> Result<(), WriteFailed>
-    ensures { Wrote (W.view sink.old) (W.view sink.new) (joined (map (dim_name dims.now) dimids.now)) result }
+    ensures { Wrote W.view sink.old sink.new (joined (map (dim_name dims.now) dimids.now)) result }
 {
     let mut rest = dimids;
     while let Some((&first, others)) = rest.split_first() {
@@ -108,7 +108,7 @@ fn put_dim_name<W: Sink>(
     dimid: u64,
     is_last: bool,
 ) -> Result<(), WriteFailed>
-    ensures { Wrote (W.view sink.old) (W.view sink.new) (dim_text dims.now dimid is_last) result }
+    ensures { Wrote W.view sink.old sink.new (dim_text dims.now dimid is_last) result }
 {
     put_name_of(sink, dims, dimid)?;
     if is_last {
@@ -120,7 +120,7 @@ fn put_dim_name<W: Sink>(
 /// Writes the name of the dimension with this place in the header's list; nothing, if there is none.
 #[tactic(auto, using(devices::proofs::Writes::writes))]
 fn put_name_of<W: Sink>(sink: &mut W, dims: &[Dim], dimid: u64) -> Result<(), WriteFailed>
-    ensures { Wrote (W.view sink.old) (W.view sink.new) (dim_name dims.now dimid) result }
+    ensures { Wrote W.view sink.old sink.new (dim_name dims.now dimid) result }
 {
     match dims.get(dimid as usize) {
         Some(dim) => put_name(sink, dim.name.as_slice()),

@@ -4,7 +4,7 @@ use Rattle.std.proofs.Common.{◌≡◌, ℕ, ◌+◌, ◌<◌, ◌≤◌, List,
 use Rattle.std.specs.List.{flat_map}
 use Rattle.std.proofs.lemmas.Bool.{OnTrue_from}
 use Rattle.std.proofs.lemmas.List.{append-nil, drop_more, drop_all}
-use Rattle.devices.specs.Sinks.{SinkView, Appended, FailedPartway, Wrote}
+use Rattle.devices.specs.Sinks.{SinkView, Appended, FailedPartway, Written}
 use Rattle.devices.proofs.Writes.{append-none, appended_then, appended_partway}
 
 pub appended-nothing : (s : SinkView) → Appended s s []
@@ -38,7 +38,7 @@ pub up-all : (s t : SinkView) (whole rest : List ℕ) → rest ≡ [] → UpTo s
 up-all s t whole rest none up = subst (Appended s t) (sym (up.is ∙ ap (λ (x : List ℕ). up.prefix ++ x) none ∙ append-nil up.prefix)) up.appended
 
 -- the first part is written, and then the call that writes the other one has ended
-pub up-then : {X E : Type 0} (s t u : SinkView) (whole first second : List ℕ) → whole ≡ first ++ second → Appended s t first → (result : Result X E) → Wrote t u second result → Wrote s u whole result
+pub up-then : {X E : Type 0} (s t u : SinkView) (whole first second : List ℕ) → whole ≡ first ++ second → Appended s t first → (result : Result X E) → Written t u second result → Written s u whole result
 up-then s t u whole first second is appended (Ok done) wrote = subst (Appended s u) (sym is) (appended_then s t u first second appended wrote)
 up-then s t u whole first second is appended (Err failure) wrote =
     subst (FailedPartway s u) (ap (λ (x : List ℕ). first ++ x) (append-nil second) ∙ sym is) (appended_partway s t u first second [] appended wrote)

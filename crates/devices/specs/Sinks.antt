@@ -53,10 +53,14 @@ pub record FailedPartway (old new : SinkView) (text : List ℕ) : Type 0 where
   pub failures : HasFailed old.failures new
   pub taken : OnTrue (is_transparent old) (StoppedShort old new (append old text))
 
--- what a call that writes a text has done
-abbrev pub Wrote : {X E : Type 0} → SinkView → SinkView → List ℕ → Result X E → Type 0
-Wrote old new text (Ok done) = Appended old new text
-Wrote old new text (Err failure) = FailedPartway old new text
+-- what has been done between two views: the text is written, or the sink has failed
+abbrev pub Written : {X E : Type 0} → SinkView → SinkView → List ℕ → Result X E → Type 0
+Written old new text (Ok done) = Appended old new text
+Written old new text (Err failure) = FailedPartway old new text
+
+-- what a call that writes a text to a sink has done
+abbrev pub Wrote : {S X E : Type 0} → (S → SinkView) → S → S → List ℕ → Result X E → Type 0
+Wrote view old new text result = Written (view old) (view new) text result
 
 -- it has taken the first n of the bytes, at least one if there is one
 pub record AcceptedSome (old new : SinkView) (bytes : List ℕ) (n : ℕ) : Type 0 where

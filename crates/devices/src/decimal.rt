@@ -12,7 +12,7 @@ use itoa::Buffer;
 ///
 /// The sink failed, and took some prefix of the text.
 pub fn put_decimal<W: Sink>(sink: &mut W, n: u128) -> Result<(), WriteFailed>
-    ensures { Wrote (W.view sink.old) (W.view sink.new) (decimal n) result }
+    ensures { Wrote W.view sink.old sink.new (decimal n) result }
 {
     let mut digits = Buffer::new();
     put(sink, digits.format(n).as_bytes())

@@ -35,7 +35,7 @@ pub trait Flush: Sink {
     ///
     /// The sink failed.
     fn flush(&mut self) -> Result<(), SinkFailed>
-        ensures wrote { Wrote (Self.view self.old) (Self.view self.new) [] result }
+        ensures wrote { Wrote Self.view self.old self.new [] result }
         ensures flushed { IfOk result (λ _. is_flushed self.new ≡ true) };
 }
 
@@ -46,7 +46,7 @@ pub trait Flush: Sink {
 /// The sink failed. It took some prefix of the bytes, and is not tried again.
 #[tactic(auto, using(crate::proofs::Writes::writes))]
 pub fn put<W: Sink>(sink: &mut W, bytes: &[u8]) -> Result<(), WriteFailed>
-    ensures { Wrote (W.view sink.old) (W.view sink.new) bytes.now result }
+    ensures { Wrote W.view sink.old sink.new bytes.now result }
 {
     let mut done = 0;
     while done < bytes.len() {

@@ -17,7 +17,7 @@ use nc_base::FormatFault;
 /// The sink failed. It took some prefix of the line.
 #[tactic(auto, unfolding(crate::specs::Faults::line_of_failure))]
 pub(crate) fn put_failure<W: Sink>(sink: &mut W, failure: &Failure) -> Result<(), WriteFailed>
-    ensures { Wrote (W.view sink.old) (W.view sink.new) (line_of_failure failure.now) result }
+    ensures { Wrote W.view sink.old sink.new (line_of_failure failure.now) result }
 {
     match failure {
         Failure::CommandLine(fault) => opt_fault_line(sink, *fault),
@@ -33,7 +33,7 @@ pub(crate) fn put_failure<W: Sink>(sink: &mut W, failure: &Failure) -> Result<()
 /// The sink failed. It took some prefix of the line.
 #[tactic(auto, unfolding(crate::specs::Faults::opt_fault_line))]
 pub fn opt_fault_line<W: Sink>(sink: &mut W, fault: OptFault) -> Result<(), WriteFailed>
-    ensures { Wrote (W.view sink.old) (W.view sink.new) (opt_fault_line fault) result }
+    ensures { Wrote W.view sink.old sink.new (opt_fault_line fault) result }
 {
     match fault {
         OptFault::OutOfMemory => put(sink, b"ncdump: out of memory\n"),
@@ -60,7 +60,7 @@ fn usage_line() -> &'static [u8]
 /// Writes the line of a fault of the file at this path.
 #[tactic(auto, unfolding(crate::specs::Faults::file_line))]
 fn put_file_fault<W: Sink>(sink: &mut W, path: &[u8], fault: FileFault) -> Result<(), WriteFailed>
-    ensures { Wrote (W.view sink.old) (W.view sink.new) (file_line path.now fault) result }
+    ensures { Wrote W.view sink.old sink.new (file_line path.now fault) result }
 {
     match fault {
         FileFault::CannotOpen => put_cannot_open(sink, path),
@@ -71,7 +71,7 @@ fn put_file_fault<W: Sink>(sink: &mut W, path: &[u8], fault: FileFault) -> Resul
 /// Writes the line for a path that can't be opened.
 #[tactic(auto, using(devices::proofs::Writes::writes), unfolding(crate::specs::Faults::cannot_open_line))]
 fn put_cannot_open<W: Sink>(sink: &mut W, path: &[u8]) -> Result<(), WriteFailed>
-    ensures { Wrote (W.view sink.old) (W.view sink.new) (cannot_open_line path.now) result }
+    ensures { Wrote W.view sink.old sink.new (cannot_open_line path.now) result }
 {
     put(sink, program_words())?;
     put(sink, path)?;
@@ -93,7 +93,7 @@ fn cannot_open_words() -> &'static [u8]
 /// The sink failed. It took some prefix of the line.
 #[tactic(auto, using(devices::proofs::Writes::writes), unfolding(crate::specs::Faults::line_of))]
 pub fn fault_line<W: Sink>(sink: &mut W, file: &[u8], fault: &DumpFault) -> Result<(), WriteFailed>
-    ensures { Wrote (W.view sink.old) (W.view sink.new) (line_of file.now fault.now) result }
+    ensures { Wrote W.view sink.old sink.new (line_of file.now fault.now) result }
 {
     put(sink, program_words())?;
     put(sink, file)?;
@@ -105,7 +105,7 @@ pub fn fault_line<W: Sink>(sink: &mut W, file: &[u8], fault: &DumpFault) -> Resu
 /// Writes what a fault says.
 #[tactic(auto, using(devices::proofs::Writes::writes), unfolding(crate::specs::Faults::fault_text))]
 fn put_fault<W: Sink>(sink: &mut W, fault: &DumpFault) -> Result<(), WriteFailed>
-    ensures { Wrote (W.view sink.old) (W.view sink.new) (fault_text fault.now) result }
+    ensures { Wrote W.view sink.old sink.new (fault_text fault.now) result }
 {
     put(sink, fault_words(fault))?;
     put_numbers(sink, fault)
@@ -114,7 +114,7 @@ fn put_fault<W: Sink>(sink: &mut W, fault: &DumpFault) -> Result<(), WriteFailed
 /// Writes the numbers of a fault.
 #[tactic(auto, using(devices::proofs::Writes::writes), unfolding(crate::specs::Faults::fault_numbers))]
 fn put_numbers<W: Sink>(sink: &mut W, fault: &DumpFault) -> Result<(), WriteFailed>
-    ensures { Wrote (W.view sink.old) (W.view sink.new) (fault_numbers fault.now) result }
+    ensures { Wrote W.view sink.old sink.new (fault_numbers fault.now) result }
 {
     match fault {
         DumpFault::Format(FormatFault::UnknownVersion(n)) => put_decimal(sink, *n as u128),
@@ -127,7 +127,7 @@ fn put_numbers<W: Sink>(sink: &mut W, fault: &DumpFault) -> Result<(), WriteFail
 /// Writes the place of a name among the chosen ones.
 #[tactic(auto, using(devices::proofs::Writes::writes))]
 fn put_index<W: Sink>(sink: &mut W, index: usize) -> Result<(), WriteFailed>
-    ensures { Wrote (W.view sink.old) (W.view sink.new) (concat_parts (decimal index ∷ codes " of -v" ∷ [])) result }
+    ensures { Wrote W.view sink.old sink.new (concat_parts (decimal index ∷ codes " of -v" ∷ [])) result }
 {
     put_decimal(sink, index as u128)?;
     put(sink, b" of -v")
@@ -136,7 +136,7 @@ fn put_index<W: Sink>(sink: &mut W, index: usize) -> Result<(), WriteFailed>
 /// Writes the place of a value.
 #[tactic(auto, using(devices::proofs::Writes::writes))]
 fn put_place<W: Sink>(sink: &mut W, var: usize, value: u128) -> Result<(), WriteFailed>
-    ensures { Wrote (W.view sink.old) (W.view sink.new) (concat_parts (decimal var ∷ truncated_words ∷ decimal value ∷ [])) result }
+    ensures { Wrote W.view sink.old sink.new (concat_parts (decimal var ∷ truncated_words ∷ decimal value ∷ [])) result }
 {
     put_decimal(sink, var as u128)?;
     put(sink, truncated_words())?;

@@ -18,7 +18,7 @@ use devices::{Sink, WriteFailed, put, put_decimal};
 /// The sink failed. It took some prefix of the line.
 #[tactic(auto, unfolding(crate::specs::Faults::line_of_failure))]
 pub(crate) fn put_failure<W: Sink>(sink: &mut W, failure: &Failure) -> Result<(), WriteFailed>
-    ensures { Wrote (W.view sink.old) (W.view sink.new) (line_of_failure failure.now) result }
+    ensures { Wrote W.view sink.old sink.new (line_of_failure failure.now) result }
 {
     match failure {
         Failure::CommandLine(fault) => opt_fault_line(sink, *fault),
@@ -34,7 +34,7 @@ pub(crate) fn put_failure<W: Sink>(sink: &mut W, failure: &Failure) -> Result<()
 /// The sink failed. It took some prefix of the line.
 #[tactic(auto, unfolding(crate::specs::Faults::opt_fault_line))]
 pub fn opt_fault_line<W: Sink>(sink: &mut W, fault: OptFault) -> Result<(), WriteFailed>
-    ensures { Wrote (W.view sink.old) (W.view sink.new) (opt_fault_line fault) result }
+    ensures { Wrote W.view sink.old sink.new (opt_fault_line fault) result }
 {
     match fault {
         OptFault::OutOfMemory => put(sink, b"ncgen: out of memory\n"),
@@ -68,7 +68,7 @@ fn put_input_fault<W: Sink>(
     name: &[u8],
     fault: &InputFault,
 ) -> Result<(), WriteFailed>
-    ensures { Wrote (W.view sink.old) (W.view sink.new) (input_line name.now fault.now) result }
+    ensures { Wrote W.view sink.old sink.new (input_line name.now fault.now) result }
 {
     match fault {
         InputFault::CannotOpen => put_line(sink, name, b"cannot open"),
@@ -80,7 +80,7 @@ fn put_input_fault<W: Sink>(
 /// Writes the line with this text about this file: `ncgen: FILE: TEXT`.
 #[tactic(auto, using(devices::proofs::Writes::writes), unfolding(crate::specs::Faults::line_of_text))]
 fn put_line<W: Sink>(sink: &mut W, file: &[u8], text: &[u8]) -> Result<(), WriteFailed>
-    ensures { Wrote (W.view sink.old) (W.view sink.new) (line_of_text file.now text.now) result }
+    ensures { Wrote W.view sink.old sink.new (line_of_text file.now text.now) result }
 {
     put(sink, program_words())?;
     put(sink, file)?;
@@ -97,7 +97,7 @@ fn put_line<W: Sink>(sink: &mut W, file: &[u8], text: &[u8]) -> Result<(), Write
 /// The sink failed. It took some prefix of the line.
 #[tactic(auto, using(devices::proofs::Writes::writes), unfolding(crate::specs::Faults::line_of, crate::specs::Faults::line_of_text))]
 pub fn fault_line<W: Sink>(sink: &mut W, file: &[u8], fault: &GenFault) -> Result<(), WriteFailed>
-    ensures { Wrote (W.view sink.old) (W.view sink.new) (line_of file.now fault.now) result }
+    ensures { Wrote W.view sink.old sink.new (line_of file.now fault.now) result }
 {
     put(sink, program_words())?;
     put(sink, file)?;
@@ -109,7 +109,7 @@ pub fn fault_line<W: Sink>(sink: &mut W, file: &[u8], fault: &GenFault) -> Resul
 /// Writes what a fault says.
 #[tactic(auto, unfolding(crate::specs::Faults::fault_text))]
 fn put_fault<W: Sink>(sink: &mut W, fault: &GenFault) -> Result<(), WriteFailed>
-    ensures { Wrote (W.view sink.old) (W.view sink.new) (fault_text fault.now) result }
+    ensures { Wrote W.view sink.old sink.new (fault_text fault.now) result }
 {
     match fault {
         GenFault::Cdl(fault) => put_cdl_fault(sink, *fault),
@@ -121,7 +121,7 @@ fn put_fault<W: Sink>(sink: &mut W, fault: &GenFault) -> Result<(), WriteFailed>
 /// Writes what a fault of a text says.
 #[tactic(auto, using(devices::proofs::Writes::writes), unfolding(crate::specs::Faults::cdl_text))]
 fn put_cdl_fault<W: Sink>(sink: &mut W, fault: CdlFault) -> Result<(), WriteFailed>
-    ensures { Wrote (W.view sink.old) (W.view sink.new) (cdl_text fault) result }
+    ensures { Wrote W.view sink.old sink.new (cdl_text fault) result }
 {
     put_place(sink, fault.kind, fault.line)?;
     put(sink, kind_words(fault.kind))
@@ -130,7 +130,7 @@ fn put_cdl_fault<W: Sink>(sink: &mut W, fault: CdlFault) -> Result<(), WriteFail
 /// Writes which line a fault of this kind is in, if it is in one.
 #[tactic(auto, using(devices::proofs::Writes::writes), unfolding(crate::specs::Faults::place_text))]
 fn put_place<W: Sink>(sink: &mut W, kind: CdlKind, line: u64) -> Result<(), WriteFailed>
-    ensures { Wrote (W.view sink.old) (W.view sink.new) (place_text kind line) result }
+    ensures { Wrote W.view sink.old sink.new (place_text kind line) result }
 {
     match kind {
         CdlKind::OutOfMemory => Ok(()),
@@ -141,7 +141,7 @@ fn put_place<W: Sink>(sink: &mut W, kind: CdlKind, line: u64) -> Result<(), Writ
 /// Writes the number of a line.
 #[tactic(auto, using(devices::proofs::Writes::writes))]
 fn put_number<W: Sink>(sink: &mut W, line: u64) -> Result<(), WriteFailed>
-    ensures { Wrote (W.view sink.old) (W.view sink.new) (concat_parts (codes "line " ∷ decimal line ∷ codes ": " ∷ [])) result }
+    ensures { Wrote W.view sink.old sink.new (concat_parts (codes "line " ∷ decimal line ∷ codes ": " ∷ [])) result }
 {
     put(sink, b"line ")?;
     put_decimal(sink, line as u128)?;

@@ -29,7 +29,7 @@ impl Prepared {
     #[tactic(auto, using(devices::proofs::Writes::writes), unfolding(crate::specs::Prepared::file_of_prepared))]
     pub fn write<W: Sink>(&self, sink: &mut W) -> Result<(), WriteFailed>
         requires { IsReady self.now }
-        ensures { Wrote (W.view sink.old) (W.view sink.new) (file_of_prepared self.now) result }
+        ensures { Wrote W.view sink.old sink.new (file_of_prepared self.now) result }
     {
         write_header(sink, &self.header)?;
         write_data(

@@ -22,7 +22,7 @@ pub(crate) fn put_att_list<W: Sink>(
 ) -> Result<(), WriteFailed>
     requires few { length atts.now < count_limit version }
     requires sound { All (IsSoundAtt version) atts.now }
-    ensures { Wrote (W.view sink.old) (W.view sink.new) (atts_spelling version atts.now) result }
+    ensures { Wrote W.view sink.old sink.new (atts_spelling version atts.now) result }
 {
     put_list_head(sink, version, NC_ATTRIBUTE, atts.len() as u64)?;
     put_atts(sink, version, atts)
@@ -31,7 +31,7 @@ pub(crate) fn put_att_list<W: Sink>(
 /// Writes one attribute after another.
 fn put_atts<W: Sink>(sink: &mut W, version: Version, atts: &[Att]) -> Result<(), WriteFailed>
     requires { All (IsSoundAtt version) atts.now }
-    ensures { Wrote (W.view sink.old) (W.view sink.new) (flat_map (att_spelling version) atts.now) result }
+    ensures { Wrote W.view sink.old sink.new (flat_map (att_spelling version) atts.now) result }
 {
     for att in atts {
         put_att(sink, version, att)?;
@@ -43,7 +43,7 @@ fn put_atts<W: Sink>(sink: &mut W, version: Version, atts: &[Att]) -> Result<(),
 #[tactic(auto, using(devices::proofs::Writes::writes), unfolding(nc_base::specs::GeneratedFile::att_spelling))]
 fn put_att<W: Sink>(sink: &mut W, version: Version, att: &Att) -> Result<(), WriteFailed>
     requires { IsSoundAtt version att.now }
-    ensures { Wrote (W.view sink.old) (W.view sink.new) (att_spelling version att.now) result }
+    ensures { Wrote W.view sink.old sink.new (att_spelling version att.now) result }
 {
     put_name(sink, version, att.name.as_slice())?;
     put_word(sink, att.ty.code())?;

@@ -23,7 +23,7 @@ pub(crate) fn put_dim_list<W: Sink>(
 ) -> Result<(), WriteFailed>
     requires few { length dims.now < count_limit version }
     requires sound { All (IsSoundDim version) dims.now }
-    ensures { Wrote (W.view sink.old) (W.view sink.new) (list_spelling version dimension_tag (dim_spelling version) dims.now) result }
+    ensures { Wrote W.view sink.old sink.new (list_spelling version dimension_tag (dim_spelling version) dims.now) result }
 {
     put_list_head(sink, version, NC_DIMENSION, dims.len() as u64)?;
     put_dims(sink, version, dims)
@@ -32,7 +32,7 @@ pub(crate) fn put_dim_list<W: Sink>(
 /// Writes one dimension after another.
 fn put_dims<W: Sink>(sink: &mut W, version: Version, dims: &[Dim]) -> Result<(), WriteFailed>
     requires { All (IsSoundDim version) dims.now }
-    ensures { Wrote (W.view sink.old) (W.view sink.new) (flat_map (dim_spelling version) dims.now) result }
+    ensures { Wrote W.view sink.old sink.new (flat_map (dim_spelling version) dims.now) result }
 {
     for dim in dims {
         put_dim(sink, version, dim)?;
@@ -44,7 +44,7 @@ fn put_dims<W: Sink>(sink: &mut W, version: Version, dims: &[Dim]) -> Result<(),
 #[tactic(auto, using(devices::proofs::Writes::writes), unfolding(nc_base::specs::GeneratedFile::dim_spelling))]
 fn put_dim<W: Sink>(sink: &mut W, version: Version, dim: &Dim) -> Result<(), WriteFailed>
     requires { IsSoundDim version dim.now }
-    ensures { Wrote (W.view sink.old) (W.view sink.new) (dim_spelling version dim.now) result }
+    ensures { Wrote W.view sink.old sink.new (dim_spelling version dim.now) result }
 {
     put_name(sink, version, dim.name.as_slice())?;
     put_count(sink, version, dim.len)

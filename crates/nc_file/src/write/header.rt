@@ -25,7 +25,7 @@ use nc_base::{Header, NumRecs, Version};
 pub fn write_header<W: Sink>(sink: &mut W, header: &Header) -> Result<(), WriteFailed>
     requires sound { IsSound header.now }
     requires begins { All (λ var. var.begin_at < offset_limit header.now.version) header.now.vars }
-    ensures { Wrote (W.view sink.old) (W.view sink.new) (header_spelling header.now) result }
+    ensures { Wrote W.view sink.old sink.new (header_spelling header.now) result }
 {
     let version = header.version;
     put_magic(sink, version)?;
@@ -43,7 +43,7 @@ pub fn write_header<W: Sink>(sink: &mut W, header: &Header) -> Result<(), WriteF
 /// Writes `CDF` and the version byte.
 #[tactic(auto, unfolding(nc_base::specs::GeneratedFile::magic_spelling))]
 fn put_magic<W: Sink>(sink: &mut W, version: Version) -> Result<(), WriteFailed>
-    ensures { Wrote (W.view sink.old) (W.view sink.new) (magic_spelling version) result }
+    ensures { Wrote W.view sink.old sink.new (magic_spelling version) result }
 {
     put(sink, &[b'C', b'D', b'F', version.byte()])
 }
@@ -51,7 +51,7 @@ fn put_magic<W: Sink>(sink: &mut W, version: Version) -> Result<(), WriteFailed>
 /// Writes the number of records, or the mark for an unknown one.
 fn put_numrecs<W: Sink>(sink: &mut W, version: Version, numrecs: NumRecs) -> Result<(), WriteFailed>
     requires { IsSoundNumRecs version numrecs }
-    ensures { Wrote (W.view sink.old) (W.view sink.new) (numrecs_spelling version numrecs) result }
+    ensures { Wrote W.view sink.old sink.new (numrecs_spelling version numrecs) result }
 {
     match numrecs {
         NumRecs::Known(n) => put_count(sink, version, n),

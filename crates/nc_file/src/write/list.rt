@@ -17,7 +17,7 @@ pub(crate) fn put_name<W: Sink>(
     name: &[u8],
 ) -> Result<(), WriteFailed>
     requires { length name.now < count_limit version }
-    ensures { Wrote (W.view sink.old) (W.view sink.new) (name_spelling version name.now) result }
+    ensures { Wrote W.view sink.old sink.new (name_spelling version name.now) result }
 {
     put_count(sink, version, name.len() as u64)?;
     put_zero_padded(sink, name)
@@ -26,7 +26,7 @@ pub(crate) fn put_name<W: Sink>(
 /// Writes bytes, and zeros up to the next multiple of four.
 #[tactic(auto, using(devices::proofs::Writes::writes))]
 pub(crate) fn put_zero_padded<W: Sink>(sink: &mut W, bytes: &[u8]) -> Result<(), WriteFailed>
-    ensures { Wrote (W.view sink.old) (W.view sink.new) (zero_padded bytes.now) result }
+    ensures { Wrote W.view sink.old sink.new (zero_padded bytes.now) result }
 {
     put(sink, bytes)?;
     put_zeros(sink, padding_len(bytes.len() as u128))
@@ -35,7 +35,7 @@ pub(crate) fn put_zero_padded<W: Sink>(sink: &mut W, bytes: &[u8]) -> Result<(),
 /// Writes at most three zeros.
 fn put_zeros<W: Sink>(sink: &mut W, n: u64) -> Result<(), WriteFailed>
     requires { n < 4 }
-    ensures { Wrote (W.view sink.old) (W.view sink.new) (replicate n 0) result }
+    ensures { Wrote W.view sink.old sink.new (replicate n 0) result }
 {
     let zeros = [0; 4];
     put(sink, &zeros[..n as usize])
@@ -50,7 +50,7 @@ pub(crate) fn put_list_head<W: Sink>(
     n: u64,
 ) -> Result<(), WriteFailed>
     requires { n < count_limit version }
-    ensures { Wrote (W.view sink.old) (W.view sink.new) (list_head version tag n) result }
+    ensures { Wrote W.view sink.old sink.new (list_head version tag n) result }
 {
     put_word(sink, if n == 0 { 0 } else { tag })?;
     put_count(sink, version, n)

@@ -12,7 +12,7 @@ use nc_base::Version;
 /// Writes a number of 32 bits: a tag, or the code of a type.
 #[tactic(auto, unfolding(nc_base::specs::GeneratedFile::word_spelling))]
 pub(crate) fn put_word<W: Sink>(sink: &mut W, n: u32) -> Result<(), WriteFailed>
-    ensures { Wrote (W.view sink.old) (W.view sink.new) (word_spelling n) result }
+    ensures { Wrote W.view sink.old sink.new (word_spelling n) result }
 {
     put(sink, &n.to_be_bytes())
 }
@@ -20,7 +20,7 @@ pub(crate) fn put_word<W: Sink>(sink: &mut W, n: u32) -> Result<(), WriteFailed>
 /// Writes a number of the width of the version's counts, which may have its top bit set.
 pub(crate) fn put_number<W: Sink>(sink: &mut W, version: Version, n: u64) -> Result<(), WriteFailed>
     requires { n < count_limit version + count_limit version }
-    ensures { Wrote (W.view sink.old) (W.view sink.new) (count_spelling version n) result }
+    ensures { Wrote W.view sink.old sink.new (count_spelling version n) result }
 {
     match version {
         Version::Cdf1 | Version::Cdf2 => put(sink, &(n as u32).to_be_bytes()),
@@ -31,7 +31,7 @@ pub(crate) fn put_number<W: Sink>(sink: &mut W, version: Version, n: u64) -> Res
 /// Writes a count, a length or the id of a dimension: `NON_NEG`, whose top bit is 0.
 pub(crate) fn put_count<W: Sink>(sink: &mut W, version: Version, n: u64) -> Result<(), WriteFailed>
     requires { n < count_limit version }
-    ensures { Wrote (W.view sink.old) (W.view sink.new) (count_spelling version n) result }
+    ensures { Wrote W.view sink.old sink.new (count_spelling version n) result }
 {
     put_number(sink, version, n)
 }
@@ -43,7 +43,7 @@ pub(crate) fn put_offset<W: Sink>(
     offset: u64,
 ) -> Result<(), WriteFailed>
     requires { offset < offset_limit version }
-    ensures { Wrote (W.view sink.old) (W.view sink.new) (to_be_bytes (offset_width version) offset) result }
+    ensures { Wrote W.view sink.old sink.new (to_be_bytes (offset_width version) offset) result }
 {
     match version {
         Version::Cdf1 => put(sink, &(offset as u32).to_be_bytes()),

@@ -29,7 +29,7 @@ pub(crate) fn put_var_list<W: Sink>(
     requires few_dims { length dims.now < count_limit version }
     requires sound { All (IsSoundVar version dims.now) vars.now }
     requires begins { All (λ var. var.begin_at < offset_limit version) vars.now }
-    ensures { Wrote (W.view sink.old) (W.view sink.new) (list_spelling version variable_tag (var_spelling version dims.now) vars.now) result }
+    ensures { Wrote W.view sink.old sink.new (list_spelling version variable_tag (var_spelling version dims.now) vars.now) result }
 {
     put_list_head(sink, version, NC_VARIABLE, vars.len() as u64)?;
     put_vars(sink, version, dims, vars)
@@ -45,7 +45,7 @@ fn put_vars<W: Sink>(
     requires few_dims { length dims.now < count_limit version }
     requires sound { All (IsSoundVar version dims.now) vars.now }
     requires begins { All (λ var. var.begin_at < offset_limit version) vars.now }
-    ensures { Wrote (W.view sink.old) (W.view sink.new) (flat_map (var_spelling version dims.now) vars.now) result }
+    ensures { Wrote W.view sink.old sink.new (flat_map (var_spelling version dims.now) vars.now) result }
 {
     for var in vars {
         put_var(sink, version, dims, var)?;
@@ -64,7 +64,7 @@ fn put_var<W: Sink>(
     requires few_dims { length dims.now < count_limit version }
     requires sound { IsSoundVar version dims.now var.now }
     requires begin { var.now.begin_at < offset_limit version }
-    ensures { Wrote (W.view sink.old) (W.view sink.new) (var_spelling version dims.now var.now) result }
+    ensures { Wrote W.view sink.old sink.new (var_spelling version dims.now var.now) result }
 {
     put_name(sink, version, var.name.as_slice())?;
     put_shape(sink, version, dims, var.dimids.as_slice())?;
@@ -85,7 +85,7 @@ fn put_shape<W: Sink>(
     requires rank { length dimids.now < count_limit version }
     requires few_dims { length dims.now < count_limit version }
     requires known { All (λ id. id < length dims.now) dimids.now }
-    ensures { Wrote (W.view sink.old) (W.view sink.new) (count_spelling version (length dimids.now) ++ flat_map (count_spelling version) dimids.now) result }
+    ensures { Wrote W.view sink.old sink.new (count_spelling version (length dimids.now) ++ flat_map (count_spelling version) dimids.now) result }
 {
     put_count(sink, version, dimids.len() as u64)?;
     put_dimids(sink, version, dims, dimids)
@@ -100,7 +100,7 @@ fn put_dimids<W: Sink>(
 ) -> Result<(), WriteFailed>
     requires few_dims { length dims.now < count_limit version }
     requires known { All (λ id. id < length dims.now) dimids.now }
-    ensures { Wrote (W.view sink.old) (W.view sink.new) (flat_map (count_spelling version) dimids.now) result }
+    ensures { Wrote W.view sink.old sink.new (flat_map (count_spelling version) dimids.now) result }
 {
     for id in dimids {
         put_count(sink, version, *id)?;
@@ -116,7 +116,7 @@ fn put_vsize<W: Sink>(
     var: &Var,
 ) -> Result<(), WriteFailed>
     requires { IsSoundVar version dims.now var.now }
-    ensures { Wrote (W.view sink.old) (W.view sink.new) (count_spelling version (vsize_of version (padded_size dims.now var.now))) result }
+    ensures { Wrote W.view sink.old sink.new (count_spelling version (vsize_of version (padded_size dims.now var.now))) result }
 {
     put_number(
         sink,

@@ -43,14 +43,14 @@ impl<'a> Array<'a> {
 
     /// Writes the array of a variable without records, and its padding.
     pub(super) fn put_block<W: Sink>(&self, sink: &mut W) -> Result<(), WriteFailed>
-        ensures { Wrote (W.view sink.old) (W.view sink.new) (filled_slab self.now self.now.listed) result }
+        ensures { Wrote W.view sink.old sink.new (filled_slab self.now self.now.listed) result }
     {
         self.put_slab(sink, 0, self.listed.len())
     }
 
     /// Writes the slab of record `r`, and its padding.
     pub(super) fn put_record<W: Sink>(&self, sink: &mut W, r: u64) -> Result<(), WriteFailed>
-        ensures { Wrote (W.view sink.old) (W.view sink.new) (filled_record r self.now) result }
+        ensures { Wrote W.view sink.old sink.new (filled_record r self.now) result }
     {
         let len = self.slab as u128;
         self.put_slab(sink, r as u128 * len, len)
@@ -59,7 +59,7 @@ impl<'a> Array<'a> {
     /// Writes the slabs of all records, one after the other and without padding.
     #[tactic(auto, using(devices::proofs::Writes::writes))]
     pub(super) fn put_records<W: Sink>(&self, sink: &mut W, records: u64) -> Result<(), WriteFailed>
-        ensures { Wrote (W.view sink.old) (W.view sink.new) (filled_slabs records self.now) result }
+        ensures { Wrote W.view sink.old sink.new (filled_slabs records self.now) result }
     {
         let listed = self.listed.len();
         put_part(sink, self.listed, 0, listed)?;
@@ -70,7 +70,7 @@ impl<'a> Array<'a> {
     /// Writes a slab, of which `len` bytes from a place on are listed or fewer at the end, and its padding.
     #[tactic(auto, using(devices::proofs::Writes::writes))]
     fn put_slab<W: Sink>(&self, sink: &mut W, start: u128, len: u128) -> Result<(), WriteFailed>
-        ensures { Wrote (W.view sink.old) (W.view sink.new) (filled_slab self.now (take len (drop start self.now.listed))) result }
+        ensures { Wrote W.view sink.old sink.new (filled_slab self.now (take len (drop start self.now.listed))) result }
     {
         put_part(sink, self.listed, start, len)?;
         let listed = self.listed.len().saturating_sub(start).min(len);

@@ -31,7 +31,7 @@ pub fn write_data<W: Sink>(
     requires sound { IsSound header.now }
     requires slabs { slabs.now ≡ record_slabs 0 header.now.dims header.now.vars }
     requires listed { AreListed header.now.dims (known_records header.now.numrecs) header.now.vars arrays.now }
-    ensures { Wrote (W.view sink.old) (W.view sink.new) (data_of header.now (whole_arrays header.now.dims (known_records header.now.numrecs) header.now.vars arrays.now)) result }
+    ensures { Wrote W.view sink.old sink.new (data_of header.now (whole_arrays header.now.dims (known_records header.now.numrecs) header.now.vars arrays.now)) result }
 {
     put_blocks(sink, header, arrays)?;
     put_records(sink, header, slabs, arrays)

@@ -16,7 +16,7 @@ const MANY_UNITS: usize = 1024;
 
 /// Writes the first `n` bytes of the unit, repeated.
 pub(super) fn put_fills<W: Sink>(sink: &mut W, unit: [u8; 8], n: u128) -> Result<(), WriteFailed>
-    ensures { Wrote (W.view sink.old) (W.view sink.new) (repeated unit n) result }
+    ensures { Wrote W.view sink.old sink.new (repeated unit n) result }
 {
     if n <= 8 {
         return put(sink, &unit[..n as usize]);
@@ -30,7 +30,7 @@ pub(super) fn put_fills<W: Sink>(sink: &mut W, unit: [u8; 8], n: u128) -> Result
 /// The same at once, of at most 256 bytes: where slabs are short, no record lacks more of one.
 fn put_few_fills<W: Sink>(sink: &mut W, unit: [u8; 8], n: u128) -> Result<(), WriteFailed>
     requires { n ≤ 256 }
-    ensures { Wrote (W.view sink.old) (W.view sink.new) (repeated unit n) result }
+    ensures { Wrote W.view sink.old sink.new (repeated unit n) result }
 {
     let units = [unit; FEW_UNITS];
     let buffer = units.as_flattened();
@@ -39,7 +39,7 @@ fn put_few_fills<W: Sink>(sink: &mut W, unit: [u8; 8], n: u128) -> Result<(), Wr
 
 /// The same in pieces, each but the last as long as a buffer of 8192 bytes, so that many fill values take few calls.
 fn put_many_fills<W: Sink>(sink: &mut W, unit: [u8; 8], n: u128) -> Result<(), WriteFailed>
-    ensures { Wrote (W.view sink.old) (W.view sink.new) (repeated unit n) result }
+    ensures { Wrote W.view sink.old sink.new (repeated unit n) result }
 {
     let units = [unit; MANY_UNITS];
     let buffer = units.as_flattened();

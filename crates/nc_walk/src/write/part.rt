@@ -14,7 +14,7 @@ pub(super) fn put_part<W: Sink>(
     start: u128,
     len: u128,
 ) -> Result<(), WriteFailed>
-    ensures { Wrote (W.view sink.old) (W.view sink.new) (take len (drop start listed.now)) result }
+    ensures { Wrote W.view sink.old sink.new (take len (drop start listed.now)) result }
 {
     let end = start.saturating_add(len).min(listed.len());
     let mut at = start;
@@ -29,7 +29,7 @@ pub(super) fn put_part<W: Sink>(
 /// Writes the first `n` bytes of a run, or all where it has fewer, and says how many.
 #[tactic(auto, using(devices::proofs::Writes::writes))]
 fn put_run<W: Sink>(sink: &mut W, run: Run<'_>, n: u128) -> Result<u128, WriteFailed>
-    ensures writes { Wrote (W.view sink.old) (W.view sink.new) (take n (run.entry.bytes.now ++ replicate run.entry.filling run.entry.fill)) result }
+    ensures writes { Wrote W.view sink.old sink.new (take n (run.entry.bytes.now ++ replicate run.entry.filling run.entry.fill)) result }
     ensures count { IfOk result (λ k. k ≡ min n (length run.entry.bytes.now + run.entry.filling)) }
 {
     let listed = (run.bytes.len() as u128).min(n);

@@ -24,7 +24,7 @@ pub(super) fn put_records<W: Sink>(
     requires sound { IsSound header.now }
     requires slabs { slabs.now ≡ record_slabs 0 header.now.dims header.now.vars }
     requires listed { AreListed header.now.dims (known_records header.now.numrecs) header.now.vars arrays.now }
-    ensures { Wrote (W.view sink.old) (W.view sink.new)
+    ensures { Wrote W.view sink.old sink.new
         (flat_map (λ r. record_of (is_sole_narrow (record_vars header.now.dims header.now.vars)) header.now.dims r header.now.vars
         (whole_arrays header.now.dims (known_records header.now.numrecs) header.now.vars arrays.now)) (range_with_len 0 (known_records header.now.numrecs))) result }
 {
@@ -44,7 +44,7 @@ fn put_each_record<W: Sink>(
     records: u64,
 ) -> Result<(), WriteFailed>
     requires { All (λ slab. slab.var_index < length arrays.now) slabs.now }
-    ensures { Wrote (W.view sink.old) (W.view sink.new)
+    ensures { Wrote W.view sink.old sink.new
         (flat_map (λ r. filled_records r (map (array_of arrays.now) slabs.now)) (range_with_len 0 records)) result }
 {
     for r in 0..records {
@@ -61,7 +61,7 @@ fn put_record<W: Sink>(
     r: u64,
 ) -> Result<(), WriteFailed>
     requires { All (λ slab. slab.var_index < length arrays.now) slabs.now }
-    ensures { Wrote (W.view sink.old) (W.view sink.new) (filled_records r (map (array_of arrays.now) slabs.now)) result }
+    ensures { Wrote W.view sink.old sink.new (filled_records r (map (array_of arrays.now) slabs.now)) result }
 {
     for slab in slabs {
         slab.array_in(arrays).put_record(sink, r)?;

@@ -2,7 +2,7 @@ use Rattle.std.proofs.Common.{◌≡◌, ℕ, ◌<◌, ◌∙◌, [], List, leng
 use Rattle.std.specs.List.{flat_map, range_with_len}
 use Rattle.std.proofs.lemmas.List.{length-map, nil_from_length}
 use Rattle.std.proofs.lemmas.List.Elements.{All-get_or}
-use Rattle.devices.specs.Sinks.{Wrote, Appended}
+use Rattle.devices.specs.Sinks.{Written, Appended}
 use Rattle.nc_base.specs.GeneratedFile.{known_records}
 use Rattle.nc_walk.specs.declared.write.record_slab.RecordSlab.{RecordSlab}
 use Rattle.nc_walk.specs.Filled.{ArrayView, filled_records, filled_slabs, record_arrays}
@@ -46,7 +46,7 @@ returns-in-len1 g c =
     let arrays = c.args.arrays.now in
     let all = arrays-of-slabs h.dims n h.vars arrays c.args.slabs.now c.requires.slabs c.requires.listed in
     let one = one-array arrays c.args.slabs.now _ c.array_in.result c.in-len1.len_at_least c.in-len1.len_below c.array_in.ensures in
-    subst (λ (text : List ℕ). Wrote (g.W.Sink.view c.args.sink.now) (g.W.Sink.view c.put_records.new.sink) text c.put_records.result)
+    subst (λ (text : List ℕ). Written (g.W.Sink.view c.args.sink.now) (g.W.Sink.view c.put_records.new.sink) text c.put_records.result)
     (ap (λ (k : ℕ). filled_slabs k c.array_in.result) c.known-records.ensures
     ∙ sole-filled h.dims n h.vars arrays c.array_in.result c.requires.listed (sym all ∙ one))
     c.put_records.ensures
@@ -59,7 +59,7 @@ returns-in_default g c =
     let all = arrays-of-slabs h.dims n h.vars arrays c.args.slabs.now c.requires.slabs c.requires.listed in
     let same : length c.args.slabs.now ≡ length (record_arrays h.dims h.vars arrays) =
     sym (length-map c.args.slabs.now (array_of arrays)) ∙ ap (λ (xs : List ArrayView). length xs) all in
-    subst (λ (text : List ℕ). Wrote (g.W.Sink.view c.args.sink.now) (g.W.Sink.view c.put_each_record.new.sink) text c.put_each_record.result)
+    subst (λ (text : List ℕ). Written (g.W.Sink.view c.args.sink.now) (g.W.Sink.view c.put_each_record.new.sink) text c.put_each_record.result)
     (ap (λ (xs : List ArrayView). flat_map (λ r. filled_records r xs) (range_with_len 0 c.known-records.result)) all
     ∙ ap (λ (k : ℕ). flat_map (λ r. filled_records r (record_arrays h.dims h.vars arrays)) (range_with_len 0 k)) c.known-records.ensures
     ∙ records-filled h.dims n h.vars arrays c.requires.listed (λ one. absurd (omega (arith, same, one))))
