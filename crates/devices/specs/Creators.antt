@@ -15,6 +15,10 @@ pub record CreatorView : Type 0 where
   pub creations : ℕ
   pub failures : ℕ
 
+-- what has created no output yet
+abbrev pub uncreated : CreatorView
+uncreated = record { given = []; creations = 0; failures = 0 }
+
 -- and then the path was given these bytes
 abbrev pub give : List Output → List ℕ → Option (List ℕ) → List Output
 give given path bytes = given ++ (record { path = path; bytes = bytes } ∷ [])

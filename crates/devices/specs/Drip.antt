@@ -1,5 +1,5 @@
 -- When a source that fails on request does so.
-use Rattle.std.specs.Prelude.{◌≡◌, ◌≤◌, ℕ}
+use Rattle.std.specs.Prelude.{◌≡◌, ◌≤◌, ◌+◌, ◌-◌, ◌^◌, ℕ, min}
 use Rattle.devices.specs.Sources.{SourceView}
 use Rattle.devices.specs.declared.drip.DripSource.{DripSource}
 use Rattle.devices.specs.declared.drip.FailWhen.{FailWhen}
@@ -26,3 +26,11 @@ fail_of source = source.fail
 -- how often it has been read
 abbrev pub reads_of : DripSource → ℕ
 reads_of source = source.reads
+
+-- how often it has been read after one time more, as far as a count goes
+abbrev pub reads_after : DripSource → ℕ
+reads_after source = min (source.reads + 1) (2 ^ 128 - 1)
+
+-- a read at this offset is to fail
+abbrev pub IsDueNow : DripSource → ℕ → Type 0
+IsDueNow source at = IsDue source.fail at source.reads

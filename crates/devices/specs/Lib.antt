@@ -4,8 +4,10 @@ pub mod Drip
 pub mod Slice
 pub mod Memory
 pub mod Openers
+pub mod IoSinks
 pub mod Listed
 pub mod Ahead
+pub mod System
 pub mod Texts
 pub mod Readers
 pub mod Creators

@@ -1,6 +1,6 @@
 -- What outputs in memory were given.
 use Rattle.std.specs.Prelude.{ℕ, ◌≡◌, List, map, Some, Result, Ok, Err, string_bytes}
-use Rattle.devices.specs.Creators.{Output, give}
+use Rattle.devices.specs.Creators.{CreatorView, Output, give}
 use Rattle.devices.specs.declared.made.MadeFile.{MadeFile}
 use Rattle.devices.specs.declared.made.MadeFiles.{MadeFiles}
 use Rattle.devices.specs.declared.memory.MemSink.{MemSink}
@@ -12,6 +12,10 @@ output_of made = record { path = string_bytes made.path; bytes = Some made.bytes
 -- what paths were given
 abbrev pub given_of : List MadeFile → List Output
 given_of made = map output_of made
+
+-- the creator as the contracts of all creators see it
+abbrev pub view_of : MadeFiles → CreatorView
+view_of files = record { given = given_of files.made.items; creations = files.creations; failures = files.failures }
 
 -- the path was given what the sink took, or memory was refused, and nothing else changed
 abbrev pub Gave : {A E : Type 0} → MadeFiles → MadeFiles → List ℕ → MemSink → Result A E → Type 0

@@ -1,11 +1,16 @@
 -- What opens paths as its contracts see it, and what opening and closing has done.
-use Rattle.std.specs.Prelude.{ℕ, ◌≡◌, ◌+◌, ◌-◌, ◌^◌, min, List, Option, Some, None, Result, Ok, Err}
+use Rattle.std.specs.Bool.{OnTrue}
+use Rattle.std.specs.Prelude.{Bool, ℕ, ◌≡◌, ◌+◌, ◌-◌, ◌^◌, min, List, Option, Some, None, Result, Ok, Err}
 use Rattle.devices.specs.Sources.{SourceView}
 
 -- how often it was to open a path, and how often what it opened and has back has failed
 pub record OpenerView : Type 0 where
   pub opens : ℕ
   pub failures : ℕ
+
+-- what was to open no path yet
+abbrev pub unopened : OpenerView
+unopened = record { opens = 0; failures = 0 }
 
 -- how often it was to open a path after one time more, as far as a count goes
 abbrev pub opens_after : OpenerView → ℕ
@@ -32,3 +37,7 @@ Opened view (Some bytes) (Ok source) = (view source).bytes ≡ bytes
 Opened view None (Err failure) = Unit {0}
 Opened view (Some bytes) (Err failure) = ⊥
 Opened view None (Ok source) = ⊥
+
+-- what a path is opened as, where the sources are transparent
+abbrev pub Opens : {S E : Type 0} → Bool → (S → SourceView) → Option (List ℕ) → Result S E → Type 0
+Opens is_transparent view bytes result = OnTrue is_transparent (Opened view bytes result)

@@ -17,6 +17,10 @@ abbrev pub left : Option (List ℕ) → Bool → Option (List ℕ)
 left remaining true = Some []
 left remaining false = remaining
 
+-- a reader that has handed over nothing yet of what is still to come
+abbrev pub unread : Option (List ℕ) → ReaderView
+unread remaining = record { remaining = remaining; failures = 0; reads = 0; handed = 0; is_ended = false }
+
 -- a reader as contracts see it, given what is still to come of readers of its type
 abbrev pub view_of : {R : Type 0} → (R → Option (List ℕ)) → CountedRead R → ReaderView
 view_of remaining r = record { remaining = left (remaining r.reader) r.is_ended; failures = r.failures; reads = r.reads; handed = r.handed; is_ended = r.is_ended }
@@ -49,3 +53,11 @@ pub record Failed (old new : ReaderView) : Type 0 where
 abbrev pub Reads : {E : Type 0} → ReaderView → ReaderView → List ℕ → List ℕ → Result ℕ E → Type 0
 Reads old new before following (Ok n) = HandedOver old new before following n
 Reads old new before following (Err failure) = Failed old new
+
+-- what a read of a reader has done, given what is still to come of readers of its type
+abbrev pub ReadsNext : {R E : Type 0} → (R → Option (List ℕ)) → CountedRead R → CountedRead R → List ℕ → List ℕ → Result ℕ E → Type 0
+ReadsNext remaining old new before following result = Reads (view_of remaining old) (view_of remaining new) before following result
+
+-- once it has ended, it stays what it is
+abbrev pub StaysEnded : {R : Type 0} → (R → Option (List ℕ)) → CountedRead R → CountedRead R → Type 0
+StaysEnded remaining old new = (view_of remaining old).is_ended ≡ true → view_of remaining new ≡ view_of remaining old

@@ -7,6 +7,10 @@ pub record SinkView : Type 0 where
   pub taken : Option (List ℕ)
   pub failures : ℕ
 
+-- a sink that has taken this text, where it is transparent, and has never failed
+abbrev pub unfailed : Option (List ℕ) → SinkView
+unfailed text = record { taken = text; failures = 0 }
+
 -- with a text after what it took
 unfoldable pub append : SinkView → List ℕ → SinkView
 append v bytes = record { taken = option_map (λ prefix. prefix ++ bytes) v.taken; failures = v.failures }

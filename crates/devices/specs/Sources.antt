@@ -9,6 +9,22 @@ pub record SourceView : Type 0 where
   pub failures : ℕ
   pub handed : ℕ
 
+-- a source of these bytes, none of which was read
+abbrev pub unread : List ℕ → SourceView
+unread bytes = record { bytes = bytes; failures = 0; handed = 0 }
+
+-- as many bytes more as there is room for can be counted
+abbrev pub CanCount : ℕ → List ℕ → Type 0
+CanCount handed into = handed + length into < 2 ^ 128
+
+-- as many bytes more as there is room for can't be counted
+abbrev pub CantCount : ℕ → List ℕ → Type 0
+CantCount handed into = 2 ^ 128 ≤ handed + length into
+
+-- the first n bytes are those of the file from this offset on
+abbrev pub AreFrom : ℕ → ℕ → List ℕ → List ℕ → Type 0
+AreFrom at n file bytes = take n bytes ≡ take n (drop at file)
+
 -- n bytes more are read
 abbrev pub after : SourceView → ℕ → SourceView
 after s n = record s { handed = s.handed + n }

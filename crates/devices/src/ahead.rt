@@ -1,8 +1,7 @@
 //! Reading ahead.
 
-ghost use Rattle.std.specs.Prelude.{◌≡◌, ◌<◌, ◌≤◌, ◌⊎◌, ◌+◌, ◌^◌, IfOk, OnErr, true, length, take, drop};
-ghost use Rattle.devices.specs.Sources.{HasFailed, ReadSome};
-ghost use Rattle.devices.specs.Ahead.{Answers};
+ghost use Rattle.std.specs.Prelude.{◌≡◌, ◌<◌, ◌≤◌, ◌⊎◌, ◌+◌, IfOk, OnErr, true, length};
+ghost use Rattle.devices.specs.Sources.{AreFrom, CanCount, CantCount, ReadSome, unread};
 
 use crate::{Source, SourceFailed};
 
@@ -27,13 +26,15 @@ pub struct ReadAhead<S: Source> {
     failures: u128,
     handed: u128,
     ghost within: { len ≤ 65536 },
-    ghost stands: { S.is_transparent ≡ true → take len stretch ≡ take len (drop at (S.view source).bytes) },
+    ghost stands: { S.is_transparent ≡ true → AreFrom at len (S.view source).bytes stretch },
 }
 
 impl<S: Source> ReadAhead<S> {
+    ghost use Rattle.devices.specs.Ahead.{Answers, ReadsAhead, SameCounts, SourceFails, bytes_of, taken, view_of};
+
     /// A source of the bytes of this one, of which it has read none.
     pub fn new(source: S) -> ReadAhead<S>
-        ensures { ⟦<ReadAhead<S> as Source>⟧.view result ≡ record { bytes = (S.view source).bytes; failures = 0; handed = 0 } }
+        ensures { view_of result ≡ unread (S.view source).bytes }
     {
         ReadAhead {
             source,
@@ -50,7 +51,7 @@ impl<S: Source> ReadAhead<S> {
     fn copy(&self, at: u64, into: &mut [u8]) -> usize
         ensures within { result ≤ length into.old }
         ensures held { result ≤ self.now.len }
-        ensures bytes { S.is_transparent ≡ true → take result into.new ≡ take result (drop at (S.view self.now.source).bytes) }
+        ensures bytes { S.is_transparent ≡ true → AreFrom at result (bytes_of self.now) into.new }
         ensures some { 0 < length into.old → at ≡ self.now.at → 0 < self.now.len → 0 < result }
     {
         if at < self.at || self.len as u64 <= at - self.at {
@@ -77,13 +78,13 @@ impl<S: Source> ReadAhead<S> {
 
     /// Reads a stretch from the offset `at` on, in place of the one before. Where the source fails, there is none.
     fn refill(&mut self, at: u64) -> Result<(), SourceFailed>
-        requires { at < length (S.view self.old.source).bytes }
-        ensures bytes { (S.view self.new.source).bytes ≡ (S.view self.old.source).bytes }
-        ensures counts { (self.new.failures ≡ self.old.failures) × (self.new.handed ≡ self.old.handed) }
+        requires { at < length (bytes_of self.old) }
+        ensures bytes { bytes_of self.new ≡ bytes_of self.old }
+        ensures counts { SameCounts self.old self.new }
         ensures place { self.new.at ≡ at }
         ensures some { S.is_transparent ≡ true → IfOk result (λ _. 0 < self.new.len) }
-        ensures held { IfOk result (λ _. (S.view self.old.source).handed + self.new.len ≡ (S.view self.new.source).handed) }
-        ensures blame { OnErr result (HasFailed (S.view self.old.source).failures (S.view self.new.source)) }
+        ensures held { IfOk result (λ _. taken self.old + self.new.len ≡ taken self.new) }
+        ensures blame { OnErr result (SourceFails self.old self.new) }
     {
         let wanted = self.next_len(at);
         self.len = 0;
@@ -96,12 +97,12 @@ impl<S: Source> ReadAhead<S> {
     /// is read, and the first of them copied.
     fn read_some(&mut self, at: u64, into: &mut [u8]) -> Result<usize, SourceFailed>
         requires room { 0 < length into.old }
-        requires inside { at < length (S.view self.old.source).bytes }
-        ensures bytes { (S.view self.new.source).bytes ≡ (S.view self.old.source).bytes }
-        ensures counts { (self.new.failures ≡ self.old.failures) × (self.new.handed ≡ self.old.handed) }
-        ensures answers { IfOk result (λ n. Answers S.is_transparent (S.view self.old.source).bytes at into.new n) }
-        ensures given { IfOk result (λ n. (S.view self.old.source).handed + n ≤ (S.view self.new.source).handed) }
-        ensures blame { OnErr result (HasFailed (S.view self.old.source).failures (S.view self.new.source)) }
+        requires inside { at < length (bytes_of self.old) }
+        ensures bytes { bytes_of self.new ≡ bytes_of self.old }
+        ensures counts { SameCounts self.old self.new }
+        ensures answers { IfOk result (Answers S.is_transparent (bytes_of self.old) at into.new) }
+        ensures given { IfOk result (λ n. taken self.old + n ≤ taken self.new) }
+        ensures blame { OnErr result (SourceFails self.old self.new) }
     {
         if MOST_AHEAD <= into.len() {
             return self.source.read_at(at, into);
@@ -115,11 +116,11 @@ impl<S: Source> ReadAhead<S> {
     #[tactic(auto, unfolding(crate::specs::Sources::HasFailed))]
     fn read_on(&mut self, at: u64, into: &mut [u8]) -> Result<usize, SourceFailed>
         requires room { 0 < length into.old }
-        requires inside { at < length (S.view self.old.source).bytes }
-        requires counted { self.old.handed + length into.old < 2 ^ 128 }
-        ensures read { ReadSome S.is_transparent (⟦<ReadAhead<S> as Source>⟧.view self.old) (⟦<ReadAhead<S> as Source>⟧.view self.new) at into.old into.new result }
-        ensures given { IfOk result (λ n. (S.view self.old.source).handed + n ≤ (S.view self.new.source).handed) }
-        ensures blame { OnErr result (HasFailed (S.view self.old.source).failures (S.view self.new.source)) }
+        requires inside { at < length (bytes_of self.old) }
+        requires counted { CanCount self.old.handed into.old }
+        ensures read { ReadsAhead self.old self.new at into.old into.new result }
+        ensures given { IfOk result (λ n. taken self.old + n ≤ taken self.new) }
+        ensures blame { OnErr result (SourceFails self.old self.new) }
     {
         match self.read_some(at, into) {
             Ok(n) => {
@@ -135,7 +136,7 @@ impl<S: Source> ReadAhead<S> {
 
     /// How often it has failed.
     pub(crate) fn failures(&self) -> u128
-        ensures { result ≡ (⟦<ReadAhead<S> as Source>⟧.view self.now).failures }
+        ensures { result ≡ self.now.failures }
     {
         self.failures
     }
@@ -182,23 +183,25 @@ fn copy_many(into: &mut [u8], from: &[u8])
 
 /// Reads into the first bytes of the slice, as many as are wanted at most.
 fn read_first<S: Source>(
-    source: &mut S,
+    from: &mut S,
     at: u64,
     wanted: usize,
-    into: &mut [u8],
+    to: &mut [u8],
 ) -> Result<usize, SourceFailed>
     requires some { 0 < wanted }
-    requires within { wanted ≤ length into.old }
-    requires inside { at < length (S.view source.old).bytes }
-    ensures { ReadSome S.is_transparent (S.view source.old) (S.view source.new) at into.old into.new result }
+    requires within { wanted ≤ length to.old }
+    requires inside { at < length (S.view from.old).bytes }
+    ensures { ReadSome S.is_transparent (S.view from.old) (S.view from.new) at to.old to.new result }
 {
-    source.read_at(at, &mut into[..wanted])
+    from.read_at(at, &mut to[..wanted])
 }
 
 impl<S: Source> Source for ReadAhead<S> {
+    ghost use Rattle.devices.specs.Ahead.{ReadsAhead, SourceFails, bytes_of, taken, view_of};
+
     ghost is_transparent = { S.is_transparent };
 
-    ghost view = { λ s. record { bytes = (S.view s.source).bytes; failures = s.failures; handed = s.handed } };
+    ghost view = { view_of };
 
     fn len(&self) -> u64 {
         self.source.len()
@@ -207,12 +210,12 @@ impl<S: Source> Source for ReadAhead<S> {
     #[tactic(auto, unfolding(crate::specs::Sources::HasFailed))]
     fn read_at(&mut self, at: u64, into: &mut [u8]) -> Result<usize, SourceFailed>
         requires room { 0 < length into.old }
-        requires inside { at < length (S.view self.old.source).bytes }
-        ensures read { ReadSome S.is_transparent (⟦<ReadAhead<S> as Source>⟧.view self.old) (⟦<ReadAhead<S> as Source>⟧.view self.new) at into.old into.new result }
+        requires inside { at < length (bytes_of self.old) }
+        ensures read { ReadsAhead self.old self.new at into.old into.new result }
 
         // It hands over no more bytes than its source has, and fails where its source has failed, or where it can't count.
-        ensures given { IfOk result (λ n. (S.view self.old.source).handed + n ≤ (S.view self.new.source).handed + self.old.len) }
-        ensures blame { OnErr result (HasFailed (S.view self.old.source).failures (S.view self.new.source) ⊎ (2 ^ 128 ≤ (⟦<ReadAhead<S> as Source>⟧.view self.old).handed + length into.old)) }
+        ensures given { IfOk result (λ n. taken self.old + n ≤ taken self.new + self.old.len) }
+        ensures blame { OnErr result (SourceFails self.old self.new ⊎ CantCount self.old.handed into.old) }
     {
         if u128::MAX - self.handed < into.len() as u128 {
             self.failures = self.failures.saturating_add(1);

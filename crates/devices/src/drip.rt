@@ -1,7 +1,7 @@
 //! A source that gives few bytes a read, and fails on request.
 
-ghost use Rattle.std.specs.Prelude.{◌≡◌, ◌↔◌, ◌≤◌, ◌<◌, ◌⊎◌, ◌+◌, ◌-◌, ◌^◌, IfOk, IsErr, IsTrue, true, length, min};
-ghost use Rattle.devices.specs.Sources.{ReadSome};
+ghost use Rattle.std.specs.Prelude.{◌≡◌, ◌↔◌, ◌≤◌, ◌<◌, ◌⊎◌, IfOk, IsErr, IsTrue, true, length};
+ghost use Rattle.devices.specs.Sources.{CanCount, CantCount, ReadSome, unread};
 
 use crate::memory::length_of;
 use crate::{Source, SourceFailed};
@@ -47,12 +47,12 @@ pub struct DripSource<'a> {
 }
 
 impl<'a> DripSource<'a> {
-    ghost use Rattle.devices.specs.Drip.{step_of, fail_of, reads_of};
+    ghost use Rattle.devices.specs.Drip.{view_of, step_of, fail_of, reads_of};
 
     /// A source of these bytes, which has read none of them.
     pub fn new(bytes: &'a [u8], step: usize, fail: FailWhen) -> DripSource<'a>
         requires { 1 ≤ step }
-        ensures view { ⟦<DripSource<'static> as Source>⟧.view result ≡ record { bytes = bytes.now; failures = 0; handed = 0 } }
+        ensures view { view_of result ≡ unread bytes.now }
         ensures step { step_of result ≡ step }
         ensures fail { fail_of result ≡ fail }
         ensures reads { reads_of result ≡ 0 }
@@ -69,14 +69,14 @@ impl<'a> DripSource<'a> {
 
     /// How many bytes it has read.
     pub fn handed(&self) -> u128
-        ensures { result ≡ (⟦<DripSource<'static> as Source>⟧.view self.now).handed }
+        ensures { result ≡ (view_of self.now).handed }
     {
         self.handed
     }
 }
 
 impl Source for DripSource<'_> {
-    ghost use Rattle.devices.specs.Drip.{IsDue, view_of, step_of, fail_of, reads_of};
+    ghost use Rattle.devices.specs.Drip.{IsDueNow, view_of, step_of, fail_of, reads_of, reads_after};
 
     ghost is_transparent = { true };
 
@@ -96,11 +96,11 @@ impl Source for DripSource<'_> {
         // It stays as it is, but counts its reads.
         ensures step { step_of self.new ≡ step_of self.old }
         ensures fail { fail_of self.new ≡ fail_of self.old }
-        ensures reads { (view_of self.old).handed + length into.old < 2 ^ 128 → reads_of self.new ≡ min (reads_of self.old + 1) (2 ^ 128 - 1) }
+        ensures reads { CanCount self.old.handed into.old → reads_of self.new ≡ reads_after self.old }
 
         // It fails on request, and else where it cannot count.
-        ensures due { IsDue (fail_of self.old) at (reads_of self.old) → IsErr result }
-        ensures only_due { IsErr result → IsDue (fail_of self.old) at (reads_of self.old) ⊎ (2 ^ 128 ≤ (view_of self.old).handed + length into.old) }
+        ensures due { IsDueNow self.old at → IsErr result }
+        ensures only_due { IsErr result → IsDueNow self.old at ⊎ CantCount self.old.handed into.old }
     {
         let from = at as usize;
         let n = into.len().min(self.bytes.len() - from).min(self.step);

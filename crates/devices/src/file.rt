@@ -1,6 +1,7 @@
 //! Devices over the files and writers of the standard library.
 
 ghost use Rattle.std.specs.Prelude.{◌≡◌, ◌+◌, ◌^◌, ◌-◌, ◌<◌, false, length, min, replicate, IfOk, IsErr};
+ghost use Rattle.devices.specs.Sinks.{unfailed};
 
 use crate::ahead::ReadAhead;
 use crate::{Flush, OpenFailed, Sink, SinkFailed, Source, SourceFailed};
@@ -23,8 +24,8 @@ impl ReadAhead<OpenFile> {
     ///
     /// The path names nothing, nothing that may be read, or something other than a regular file.
     pub fn open(rt: &impl Files<File = File>, path: &str) -> Result<FileSource, OpenFailed>
-        ensures failures { IfOk result (λ source. (⟦<ReadAhead<OpenFile> as Source>⟧.view source).failures ≡ 0) }
-        ensures handed { IfOk result (λ source. (⟦<ReadAhead<OpenFile> as Source>⟧.view source).handed ≡ 0) }
+        ensures failures { IfOk result (λ source. source.failures ≡ 0) }
+        ensures handed { IfOk result (λ source. source.handed ≡ 0) }
     {
         // asked of the path, since to open a pipe is to wait for its writer
         let named = fs::metadata(rt, path).map_err(|_| OpenFailed)?;
@@ -91,9 +92,11 @@ pub struct IoSink<W: Write> {
 }
 
 impl<W: Write> IoSink<W> {
+    ghost use Rattle.devices.specs.IoSinks.{view_of};
+
     /// A sink over the writer, which counts what the writer holds already as taken.
     pub fn new(writer: W) -> IoSink<W>
-        ensures { ⟦<IoSink<W> as Sink>⟧.view result ≡ record { taken = W.contents writer; failures = 0 } }
+        ensures { view_of W.contents result ≡ unfailed (W.contents writer) }
     {
         IoSink {
             writer,
@@ -104,21 +107,23 @@ impl<W: Write> IoSink<W> {
 
     /// How often it has failed.
     pub(crate) fn failures(&self) -> u128
-        ensures { result ≡ (⟦<IoSink<W> as Sink>⟧.view self.now).failures }
+        ensures { result ≡ (view_of W.contents self.now).failures }
     {
         self.failures
     }
 
     /// The writer.
     pub fn into_inner(self) -> W
-        ensures { W.contents result ≡ (⟦<IoSink<W> as Sink>⟧.view self).taken }
+        ensures { W.contents result ≡ (view_of W.contents self).taken }
     {
         self.writer
     }
 }
 
 impl<W: Write> Sink for IoSink<W> {
-    ghost view = { λ s. record { taken = W.contents s.writer; failures = s.failures } };
+    ghost use Rattle.devices.specs.IoSinks.{view_of};
+
+    ghost view = { view_of W.contents };
 
     #[tactic(auto, using(crate::proofs::Writes::devices), unfolding(crate::specs::Sinks::append, crate::specs::Sinks::count, crate::specs::Sinks::IsCut, crate::specs::Sinks::is_transparent, crate::specs::Sinks::HasFailed))]
     fn write_some(&mut self, bytes: &[u8]) -> Result<usize, SinkFailed> {

@@ -1,9 +1,8 @@
 //! Files in memory.
 
-ghost use Rattle.std.specs.Prelude.{◌≡◌, List, ℕ, find, option_map, true};
-ghost use Rattle.devices.specs.Listed.{bytes_named, is_at};
-ghost use Rattle.devices.specs.Openers.{HasBack};
-ghost use Rattle.devices.specs.Readers.{view_of};
+ghost use Rattle.std.specs.Prelude.{◌≡◌, option_map, true};
+ghost use Rattle.devices.specs.Listed.{bytes_named, file_named, files_of, is_at, view_of};
+ghost use Rattle.devices.specs.Openers.{HasBack, unopened};
 
 use crate::{CountedRead, MemSource, OpenFailed, Opener, Texts};
 use std::io::Read;
@@ -28,9 +27,8 @@ pub struct Listed<'a> {
 impl<'a> Listed<'a> {
     /// These files, none of which was opened.
     pub fn new(files: &'a [ListedFile<'a>]) -> Listed<'a>
-        ensures sources { (path : List ℕ) → ⟦<Listed<'static> as Opener>⟧.named result path ≡ bytes_named files.now path }
-        ensures texts { (path : List ℕ) → ⟦<Listed<'static> as Texts>⟧.named result path ≡ bytes_named files.now path }
-        ensures view { ⟦<Listed<'static> as Opener>⟧.view result ≡ record { opens = 0; failures = 0 } }
+        ensures files { files_of result ≡ files.now }
+        ensures view { view_of result ≡ unopened }
     {
         Listed {
             files,
@@ -43,9 +41,9 @@ impl<'a> Listed<'a> {
 impl<'a> Opener for Listed<'a> {
     type Source = MemSource<'a>;
 
-    ghost named = { λ listed path. bytes_named listed.files.now path };
+    ghost named = { λ listed path. bytes_named (files_of listed) path };
 
-    ghost view = { λ listed. record { opens = listed.opens; failures = listed.failures } };
+    ghost view = { view_of };
 
     fn open(&mut self, path: &str) -> Result<MemSource<'a>, OpenFailed> {
         self.opens = self.opens.saturating_add(1);
@@ -63,9 +61,9 @@ impl<'a> Texts for Listed<'a> {
 
     ghost is_transparent = { true };
 
-    ghost named = { λ listed path. bytes_named listed.files.now path };
+    ghost named = { λ listed path. bytes_named (files_of listed) path };
 
-    ghost view = { λ listed. record { opens = listed.opens; failures = listed.failures } };
+    ghost view = { view_of };
 
     fn open_text(&mut self, path: &str) -> Result<CountedRead<&'a [u8]>, OpenFailed> {
         self.opens = self.opens.saturating_add(1);
@@ -74,7 +72,7 @@ impl<'a> Texts for Listed<'a> {
     }
 
     fn close_text(&mut self, text: CountedRead<&'a [u8]>)
-        ensures { HasBack (⟦<Listed<'static> as Texts>⟧.view self.old) (⟦<Listed<'static> as Texts>⟧.view self.new) (view_of (⟦<&'static [u8] as Read>⟧.remaining) text.entry).failures }
+        ensures { HasBack (view_of self.old) (view_of self.new) text.entry.failures }
     {
         self.failures = self.failures.saturating_add(text.failures());
     }
@@ -90,7 +88,7 @@ fn bytes_at<'a>(files: &'a [ListedFile<'a>], path: &str) -> Option<&'a [u8]>
 
 /// The first file at this path.
 fn file_at<'a>(files: &'a [ListedFile<'a>], path: &str) -> Option<&'a ListedFile<'a>>
-    ensures { option_map (λ file. file.now) result ≡ find (λ (file : ListedFile). is_at file path.now) files.now }
+    ensures { option_map (λ file. file.now) result ≡ file_named files.now path.now }
 {
     files.iter().find(|file| is_at(file, path))
 }

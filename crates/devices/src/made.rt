@@ -1,7 +1,8 @@
 //! Outputs in memory.
 
-ghost use Rattle.std.specs.Prelude.{◌≡◌, [], Some, true};
-ghost use Rattle.devices.specs.Made.{given_of, output_of, Gave};
+ghost use Rattle.std.specs.Prelude.{◌≡◌, Some, true};
+ghost use Rattle.devices.specs.Creators.{uncreated};
+ghost use Rattle.devices.specs.Made.{Gave, given_of, output_of, view_of};
 
 use crate::{CloseFailed, CreateFailed, Creator, MemSink};
 use std::alloc::{AllocError, Global};
@@ -41,7 +42,7 @@ pub struct MadeFiles {
 impl MadeFiles {
     /// No outputs yet.
     pub fn new(alloc: Global) -> MadeFiles
-        ensures { ⟦<MadeFiles as Creator>⟧.view result ≡ record { given = []; creations = 0; failures = 0 } }
+        ensures { view_of result ≡ uncreated }
     {
         MadeFiles {
             alloc,
@@ -53,7 +54,7 @@ impl MadeFiles {
 
     /// What paths were given, in order.
     pub fn given(&self) -> &[MadeFile]
-        ensures { given_of result.now ≡ (⟦<MadeFiles as Creator>⟧.view self.now).given }
+        ensures { given_of result.now ≡ (view_of self.now).given }
     {
         self.made.as_slice()
     }
@@ -73,7 +74,7 @@ impl Creator for MadeFiles {
 
     ghost is_transparent = { true };
 
-    ghost view = { λ s. record { given = given_of s.made.items; creations = s.creations; failures = s.failures } };
+    ghost view = { view_of };
 
     #[tactic(auto, unfolding(crate::specs::Creators::HasFailed))]
     fn create(&mut self, path: &str) -> Result<MemSink, CreateFailed> {

@@ -1,8 +1,9 @@
 //! Devices in memory.
 
-ghost use Rattle.std.specs.Prelude.{◌≡◌, ◌+◌, ◌^◌, ◌<◌, ◌≤◌, [], IsErr, Some, true, length};
+ghost use Rattle.std.specs.Prelude.{◌≡◌, ◌<◌, [], IsErr, Some, true, length};
 ghost use Rattle.nc_base.specs.Bytes.{AreBytes};
-ghost use Rattle.devices.specs.Sources.{ReadSome};
+ghost use Rattle.devices.specs.Sinks.{unfailed};
+ghost use Rattle.devices.specs.Sources.{CantCount, ReadSome, unread};
 
 use crate::{Sink, SinkFailed, Source, SourceFailed};
 use std::alloc::Global;
@@ -18,9 +19,11 @@ pub struct MemSource<'a> {
 }
 
 impl<'a> MemSource<'a> {
+    ghost use Rattle.devices.specs.Memory.{view_of};
+
     /// A source of these bytes, which has read none of them.
     pub fn new(bytes: &'a [u8]) -> MemSource<'a>
-        ensures { ⟦<MemSource<'static> as Source>⟧.view result ≡ record { bytes = bytes.now; failures = 0; handed = 0 } }
+        ensures { view_of result ≡ unread bytes.now }
     {
         MemSource {
             bytes,
@@ -31,7 +34,7 @@ impl<'a> MemSource<'a> {
 
     /// How often it has failed.
     pub(crate) fn failures(&self) -> u128
-        ensures { result ≡ (⟦<MemSource<'static> as Source>⟧.view self.now).failures }
+        ensures { result ≡ (view_of self.now).failures }
     {
         self.failures
     }
@@ -53,7 +56,7 @@ impl Source for MemSource<'_> {
         requires room { 0 < length into.old }
         requires inside { at < length (view_of self.old).bytes }
         ensures read { ReadSome true (view_of self.old) (view_of self.new) at into.old into.new result }
-        ensures only_full { IsErr result → 2 ^ 128 ≤ (view_of self.old).handed + length into.old }
+        ensures only_full { IsErr result → CantCount self.old.handed into.old }
     {
         let from = at as usize;
         let n = into.len().min(self.bytes.len() - from);
@@ -85,9 +88,11 @@ pub struct MemSink {
 }
 
 impl MemSink {
+    ghost use Rattle.devices.specs.Memory.{sink_view_of};
+
     /// An empty sink, which takes its memory from `alloc` as it grows.
     pub fn new(alloc: Global) -> MemSink
-        ensures { ⟦<MemSink as Sink>⟧.view result ≡ record { taken = Some []; failures = 0 } }
+        ensures { sink_view_of result ≡ unfailed (Some []) }
     {
         MemSink {
             bytes: Vec::new(alloc),
@@ -97,21 +102,23 @@ impl MemSink {
 
     /// All the bytes that it took.
     pub fn as_slice(&self) -> &[u8]
-        ensures { (⟦<MemSink as Sink>⟧.view self.now).taken ≡ Some result.now }
+        ensures { (sink_view_of self.now).taken ≡ Some result.now }
     {
         self.bytes.as_slice()
     }
 
     /// How often it has failed.
     pub(crate) fn failures(&self) -> u128
-        ensures { result ≡ (⟦<MemSink as Sink>⟧.view self.now).failures }
+        ensures { result ≡ (sink_view_of self.now).failures }
     {
         self.failures
     }
 }
 
 impl Sink for MemSink {
-    ghost view = { λ s. record { taken = Some s.bytes.items; failures = s.failures } };
+    ghost use Rattle.devices.specs.Memory.{sink_view_of};
+
+    ghost view = { sink_view_of };
 
     #[tactic(auto, using(crate::proofs::Writes::devices), unfolding(crate::specs::Sinks::append, crate::specs::Sinks::count, crate::specs::Sinks::IsCut, crate::specs::Sinks::is_transparent, crate::specs::Sinks::HasFailed))]
     fn write_some(&mut self, bytes: &[u8]) -> Result<usize, SinkFailed> {

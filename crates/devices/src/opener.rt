@@ -1,8 +1,7 @@
 //! What opens paths.
 
 ghost use Rattle.std.specs.Prelude.{◌≡◌, List, ℕ, Option, IfOk};
-ghost use Rattle.std.specs.Bool.{OnTrue};
-ghost use Rattle.devices.specs.Openers.{HasBack, Opened, OpenerView, OpensOnce};
+ghost use Rattle.devices.specs.Openers.{HasBack, OpenerView, Opens, OpensOnce};
 
 use crate::{OpenFailed, Source};
 
@@ -29,7 +28,7 @@ pub trait Opener {
         ensures once { OpensOnce (view self.old) (view self.new) }
         ensures failures { IfOk result (λ source. (Self.Source.view source).failures ≡ 0) }
         ensures handed { IfOk result (λ source. (Self.Source.view source).handed ≡ 0) }
-        ensures bytes { OnTrue Self.Source.is_transparent (Opened Self.Source.view (named self.old path.now) result) };
+        ensures path { Opens Self.Source.is_transparent Self.Source.view (named self.old path.now) result };
 
     /// Takes back a source that it opened.
     fn close(&mut self, source: Self::Source)

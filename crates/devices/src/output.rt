@@ -1,6 +1,7 @@
 //! Outputs in the files of the system.
 
 ghost use Rattle.std.specs.Prelude.{◌≡◌, [], IfOk, false, option_and_then};
+ghost use Rattle.devices.specs.Creators.{uncreated};
 
 use crate::{CloseFailed, CreateFailed, Creator, Flush, IoSink, Sink};
 use std::alloc::Global;
@@ -24,7 +25,7 @@ pub struct SystemOutputs<'a, R: Files<File = File>> {
 impl<'a, R: Files<File = File>> SystemOutputs<'a, R> {
     /// The files of the system that the runtime stands for, with buffers from `alloc`.
     pub fn new(rt: &'a R, alloc: Global) -> SystemOutputs<'a, R>
-        ensures { ⟦<SystemOutputs<'static, R> as Creator>⟧.view result ≡ record { given = []; creations = 0; failures = 0 } }
+        ensures { ⟦<SystemOutputs<'static, R> as Creator>⟧.view result ≡ uncreated }
     {
         SystemOutputs {
             rt,
@@ -36,7 +37,7 @@ impl<'a, R: Files<File = File>> SystemOutputs<'a, R> {
 
     /// Creates or empties the file at the path. Where its buffer is refused, nothing is touched.
     fn create_file(&self, path: &str) -> io::Result<IoSink<BufWriter<OutputFile<File>>>>
-        ensures { IfOk result (λ sink. (⟦<IoSink<BufWriter<OutputFile<File>>> as Sink>⟧.view sink).failures ≡ 0) }
+        ensures { IfOk result (λ sink. sink.failures ≡ 0) }
     {
         let nothing = OutputFile { file: None };
         let mut writer = BufWriter::with_capacity(self.alloc, HELD_BACK, nothing)?;

@@ -1,7 +1,7 @@
 //! A reader that counts.
 
-ghost use Rattle.std.specs.Prelude.{◌≡◌, false, true};
-ghost use Rattle.devices.specs.Readers.{view_of, Reads};
+ghost use Rattle.std.specs.Prelude.{◌≡◌};
+ghost use Rattle.devices.specs.Readers.{ReadsNext, StaysEnded, unread, view_of};
 
 use crate::SourceFailed;
 use std::io::Read;
@@ -22,7 +22,7 @@ pub struct CountedRead<R: Read> {
 impl<R: Read> CountedRead<R> {
     /// A reader of the bytes that are still to come of this one.
     pub fn new(reader: R) -> CountedRead<R>
-        ensures { view_of R.remaining result ≡ record { remaining = R.remaining reader; failures = 0; reads = 0; handed = 0; is_ended = false } }
+        ensures { view_of R.remaining result ≡ unread (R.remaining reader) }
     {
         CountedRead {
             reader,
@@ -42,8 +42,8 @@ impl<R: Read> CountedRead<R> {
     /// The reader failed, or a count would reach 2^128. No byte is handed over, and `into` may hold anything.
     #[tactic(auto, unfolding(crate::specs::Readers::HasFailed))]
     pub fn read_some(&mut self, into: &mut [u8]) -> Result<usize, SourceFailed>
-        ensures read { Reads (view_of R.remaining self.old) (view_of R.remaining self.new) into.old into.new result }
-        ensures ended { (view_of R.remaining self.old).is_ended ≡ true → view_of R.remaining self.new ≡ view_of R.remaining self.old }
+        ensures read { ReadsNext R.remaining self.old self.new into.old into.new result }
+        ensures ended { StaysEnded R.remaining self.old self.new }
     {
         if self.is_ended {
             return Ok(0);

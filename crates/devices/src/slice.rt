@@ -1,7 +1,7 @@
 //! A sink over a slice.
 
 ghost use Rattle.std.specs.Prelude.{◌≡◌, ◌↔◌, ◌<◌, ◌≤◌, ◌+◌, ◌-◌, [], Some, length, take, true, IsErr, IfOk, OnErr};
-ghost use Rattle.devices.specs.Sinks.{WroteSome};
+ghost use Rattle.devices.specs.Sinks.{WroteSome, unfailed};
 
 use crate::{Flush, Sink, SinkFailed};
 
@@ -19,12 +19,12 @@ pub struct SliceSink<'a> {
 }
 
 impl<'a> SliceSink<'a> {
-    ghost use Rattle.devices.specs.Slice.{capacity_left, step_of};
+    ghost use Rattle.devices.specs.Slice.{view_of, capacity_left, step_of};
 
     /// An empty sink over the slice.
     pub fn new(into: &'a mut [u8], step: usize) -> SliceSink<'a>
         requires { 1 ≤ step }
-        ensures view { ⟦<SliceSink<'static> as Sink>⟧.view result ≡ record { taken = Some []; failures = 0 } }
+        ensures view { view_of result ≡ unfailed (Some []) }
         ensures buffer_len { capacity_left result ≡ length into.old }
         ensures step { step_of result ≡ step }
     {
@@ -38,7 +38,7 @@ impl<'a> SliceSink<'a> {
 
     /// All the bytes that it took.
     pub fn taken(&self) -> &[u8]
-        ensures { (⟦<SliceSink<'static> as Sink>⟧.view self.now).taken ≡ Some result.now }
+        ensures { (view_of self.now).taken ≡ Some result.now }
     {
         &self.into[..self.len]
     }

@@ -1,8 +1,8 @@
 //! The files of the system.
 
 ghost use Rattle.std.specs.Prelude.{◌≡◌, None, false};
-ghost use Rattle.devices.specs.Openers.{HasBack};
-ghost use Rattle.devices.specs.Readers.{view_of};
+ghost use Rattle.devices.specs.Openers.{HasBack, unopened};
+ghost use Rattle.devices.specs.System.{view_of};
 
 use crate::{CountedRead, FileSource, OpenFailed, Opener, Texts};
 use std::fs::File;
@@ -20,7 +20,7 @@ pub struct SystemFiles<'a, R: Files<File = File>> {
 impl<'a, R: Files<File = File>> SystemFiles<'a, R> {
     /// The files of the system that the runtime stands for, none of which was opened.
     pub fn new(rt: &'a R) -> SystemFiles<'a, R>
-        ensures { ⟦<SystemFiles<'static, R> as Opener>⟧.view result ≡ record { opens = 0; failures = 0 } }
+        ensures { view_of result ≡ unopened }
     {
         SystemFiles {
             rt,
@@ -45,7 +45,7 @@ impl<R: Files<File = File>> Opener for SystemFiles<'_, R> {
 
     ghost named = { λ _ _. None };
 
-    ghost view = { λ files. record { opens = files.opens; failures = files.failures } };
+    ghost view = { view_of };
 
     fn open(&mut self, path: &str) -> Result<FileSource, OpenFailed> {
         self.opens = self.opens.saturating_add(1);
@@ -64,7 +64,7 @@ impl<R: Files<File = File>> Texts for SystemFiles<'_, R> {
 
     ghost named = { λ _ _. None };
 
-    ghost view = { λ files. record { opens = files.opens; failures = files.failures } };
+    ghost view = { view_of };
 
     fn open_text(&mut self, path: &str) -> Result<CountedRead<File>, OpenFailed> {
         self.opens = self.opens.saturating_add(1);
@@ -73,7 +73,7 @@ impl<R: Files<File = File>> Texts for SystemFiles<'_, R> {
     }
 
     fn close_text(&mut self, text: CountedRead<File>)
-        ensures { HasBack (⟦<SystemFiles<'static, R> as Texts>⟧.view self.old) (⟦<SystemFiles<'static, R> as Texts>⟧.view self.new) (view_of (⟦<File as Read>⟧.remaining) text).failures }
+        ensures { HasBack (view_of self.old) (view_of self.new) text.failures }
     {
         self.failures = self.failures.saturating_add(text.failures());
     }

@@ -1,10 +1,9 @@
 //! What opens paths as texts.
 
 ghost use Rattle.std.specs.Prelude.{◌≡◌, Bool, List, ℕ, Option, IfOk};
-ghost use Rattle.std.specs.Bool.{OnTrue};
 ghost use Rattle.devices.specs.Openers.{HasBack, OpenerView, OpensOnce};
 ghost use Rattle.devices.specs.Readers.{view_of};
-ghost use Rattle.devices.specs.Texts.{OpenedText};
+ghost use Rattle.devices.specs.Texts.{OpensText};
 
 use crate::{CountedRead, OpenFailed};
 use std::io::Read;
@@ -34,7 +33,7 @@ pub trait Texts {
     fn open_text(&mut self, path: &str) -> Result<CountedRead<Self::Text>, OpenFailed>
         ensures once { OpensOnce (view self.old) (view self.new) }
         ensures failures { IfOk result (λ text. (view_of Self.Text.remaining text).failures ≡ 0) }
-        ensures bytes { OnTrue is_transparent (OpenedText (view_of Self.Text.remaining) (named self.old path.now) result) };
+        ensures bytes { OpensText is_transparent Self.Text.remaining (named self.old path.now) result };
 
     /// Takes back a text that it opened.
     fn close_text(&mut self, text: CountedRead<Self::Text>)
