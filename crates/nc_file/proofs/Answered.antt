@@ -12,7 +12,7 @@ use Rattle.nc_file.specs.declared.head_fault.HeadFault.TheVariants.{OutOfMemory,
 use Rattle.nc_file.specs.declared.window.Window.{Window}
 use Rattle.devices.specs.Sources.{SourceView}
 use Rattle.nc_file.specs.Reading.{Outcome, Reads, left_over, header_at}
-use Rattle.nc_file.specs.Window.{State, state, left, Kept, ReadPart}
+use Rattle.nc_file.specs.Window.{State, state, left, Kept, Read}
 use Rattle.nc_file.specs.Answers.{EndsAt, header_end, fault_end, ReadUpTo, IsInterrupted, Answers, HasAnswered}
 use Rattle.nc_file.proofs.Means.{Means, spells, stops}
 use Rattle.nc_file.proofs.HeaderLaws.{means-header}
@@ -88,7 +88,7 @@ answer start now (Err OutOfMemory) base filled pos kept fits reads = broken-off 
 answer start now (Err ReadFailed) base filled pos kept fits reads = broken-off start now base filled pos kept fits reads
 
 pub answered : {S : Type 0} (is_transparent : Bool) (view : S → SourceView) (old new : Window S) (result : Result Header HeadFault) → old.base ≡ 0 → old.filled ≡ 0 → old.pos ≡ 0
-    → OnTrue is_transparent (AreBytes (view old.source.now).bytes) → ReadPart is_transparent view old new header_at result
+    → OnTrue is_transparent (AreBytes (view old.source.now).bytes) → Read is_transparent view old new header_at result
     → OnTrue is_transparent (HasAnswered (view old.source.now).bytes (view old.source.now).handed (view new.source.now).handed (length old.buf.now) result)
 answered false view old new result base filled pos fits d = tt
 answered true view old new result base filled pos fits d = record { answer = answer (state view old) (state view new) result base filled pos d.kept fits d.reads }

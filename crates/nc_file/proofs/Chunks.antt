@@ -10,7 +10,7 @@ use Rattle.std.specs.Bool.{OnTrue}
 use Rattle.std.proofs.lemmas.Bool.{OnTrue_from, OnTrue_at}
 use Rattle.devices.specs.Sources.{SourceView}
 use Rattle.nc_file.specs.declared.window.Window.{Window}
-use Rattle.nc_file.specs.Window.{State, state, left, IsOpen, Opened, ReadPart, Ready}
+use Rattle.nc_file.specs.Window.{State, state, left, IsOpen, Opened, Read, Ready}
 use Rattle.nc_file.proofs.Parts.{left_over-ok, left_over-err}
 
 -- the first k at once
@@ -84,7 +84,7 @@ advanced w n = record { source = w.source; len = w.len; buf = w.buf; base = w.ba
 pub reads_held : {S A : Type 0} (is_transparent : Bool) (view : S → SourceView) (w : Window S) (n : ℕ) (part : Part A) (x : A)
     → Opened is_transparent view w → w.pos + n ≤ w.filled
     → (is_transparent ≡ true → n ≤ length (left (state view w)) → part.run (left (state view w)) ≡ Ok (x, drop n (left (state view w))))
-    → ReadPart is_transparent view w (advanced w n) part (Ok x)
+    → Read is_transparent view w (advanced w n) part (Ok x)
 reads_held is_transparent view w n part x opened within reads = record {
   same_source = refl;
   kept = record {
@@ -127,7 +127,7 @@ u64-run [] le = absurd (omega arith)
 pub u32_held : {S : Type 0} (is_transparent : Bool) (view : S → SourceView) (w : Window S) (x : ℕ)
     → Opened is_transparent view w → 4 ≤ w.filled - w.pos
     → x ≡ from_be_bytes w32 (get_or w.buf.now w.pos 0 ∷ get_or w.buf.now (w.pos + 1) 0 ∷ get_or w.buf.now (w.pos + 2) 0 ∷ get_or w.buf.now (w.pos + 3) 0 ∷ [])
-    → ReadPart is_transparent view w (advanced w 4) u32_at (Ok x)
+    → Read is_transparent view w (advanced w 4) u32_at (Ok x)
 u32_held is_transparent view w x opened some is =
     let within : w.pos + 4 ≤ w.filled = omega arith in
     reads_held is_transparent view w 4 u32_at x opened within (λ known long.
@@ -139,7 +139,7 @@ u32_held is_transparent view w x opened some is =
 pub u64_held : {S : Type 0} (is_transparent : Bool) (view : S → SourceView) (w : Window S) (x : ℕ)
     → Opened is_transparent view w → 8 ≤ w.filled - w.pos
     → x ≡ from_be_bytes w64 (get_or w.buf.now w.pos 0 ∷ get_or w.buf.now (w.pos + 1) 0 ∷ get_or w.buf.now (w.pos + 2) 0 ∷ get_or w.buf.now (w.pos + 3) 0 ∷ get_or w.buf.now (w.pos + 4) 0 ∷ get_or w.buf.now (w.pos + 5) 0 ∷ get_or w.buf.now (w.pos + 6) 0 ∷ get_or w.buf.now (w.pos + 7) 0 ∷ [])
-    → ReadPart is_transparent view w (advanced w 8) u64_at (Ok x)
+    → Read is_transparent view w (advanced w 8) u64_at (Ok x)
 u64_held is_transparent view w x opened some is =
     let within : w.pos + 8 ≤ w.filled = omega arith in
     reads_held is_transparent view w 8 u64_at x opened within (λ known long.
@@ -155,6 +155,6 @@ skip-run (suc n) (b ∷ bytes) le = skip-run n bytes (omega arith)
 
 -- bytes that are passed over
 pub skip_held : {S : Type 0} (is_transparent : Bool) (view : S → SourceView) (w : Window S) (n : ℕ)
-    → Opened is_transparent view w → n ≤ w.filled - w.pos → ReadPart is_transparent view w (advanced w n) (skip_at n) (Ok tt)
+    → Opened is_transparent view w → n ≤ w.filled - w.pos → Read is_transparent view w (advanced w n) (skip_at n) (Ok tt)
 skip_held is_transparent view w n opened some =
     reads_held is_transparent view w n (skip_at n) tt opened (omega (arith, opened.used)) (λ known long. skip-run n (left (state view w)) long)

@@ -1,10 +1,12 @@
 -- What reading a header answers, for the bytes of a source that is transparent.
-use Rattle.std.specs.Prelude.{◌≡◌, ℕ, ◌+◌, ◌≤◌, List, length, Result, Ok, Err}
+use Rattle.std.specs.Bool.{OnTrue}
+use Rattle.std.specs.Prelude.{◌≡◌, Bool, ℕ, ◌+◌, ◌≤◌, List, length, Result, Ok, Err}
 use Rattle.nc_base.specs.declared.fault.FormatFault.{FormatFault}
 use Rattle.nc_base.specs.declared.header.Header.{Header}
 use Rattle.nc_base.specs.Headers.{IsSound, HasValidNames}
 use Rattle.nc_base.specs.Grammar.{SpellsHeader}
 use Rattle.nc_base.specs.FirstFault.{StopsAt}
+use Rattle.devices.specs.Sources.{SourceView}
 use Rattle.nc_file.specs.declared.head_fault.HeadFault.{HeadFault}
 use Rattle.nc_file.specs.declared.head_fault.HeadFault.TheVariants.{OutOfMemory, ReadFailed, Format}
 
@@ -48,3 +50,7 @@ Answers bytes before after buffer_len (Err ReadFailed) = IsInterrupted bytes bef
 -- the answer is right for the bytes that the source had
 pub record HasAnswered (bytes : List ℕ) (before after buffer_len : ℕ) (result : Result Header HeadFault) : Type 0 where
   pub answer : Answers bytes before after buffer_len result
+
+-- the same of the views of a source before and after, where it is transparent
+abbrev pub AnswersIn : Bool → SourceView → SourceView → ℕ → Result Header HeadFault → Type 0
+AnswersIn is_transparent old new buffer_len result = OnTrue is_transparent (HasAnswered old.bytes old.handed new.handed buffer_len result)

@@ -5,3 +5,4 @@ pub mod OneOutcome
 pub mod Lengths
 pub mod Begins
 pub mod WrittenHeaders
+pub mod WrittenParts

@@ -253,10 +253,14 @@ dimids_at v dims (suc n) first before = do
   id ← dimid_at v dims first
   dimids_at v dims n false (before ++ id ∷ [])
 
+-- all ids of a shape of this rank
+abbrev pub dimids_of : Version → List Dim → ℕ → Part (List ℕ)
+dimids_of v dims n = dimids_at v dims n true []
+
 unfoldable pub shape_at : Version → List Dim → Part (List ℕ)
 shape_at v dims = do
   n ← count_at v
-  dimids_at v dims n true []
+  dimids_of v dims n
 
 -- an offset: a number whose top bit is 0
 abbrev pub wide_at : Version → Part ℕ

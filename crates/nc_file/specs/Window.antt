@@ -50,7 +50,7 @@ abbrev pub Opened : {S : Type 0} → Bool → (S → SourceView) → Window S �
 Opened is_transparent view w = IsOpen is_transparent (state view w)
 
 -- A reader's whole contract: what it keeps, why it fails, and that it reads what this part of a header reads.
-pub record ReadPart {S A : Type 0} (is_transparent : Bool) (view : S → SourceView) (old new : Window S) (part : Part A) (result : Result A HeadFault) : Type 0 where
+pub record Read {S A : Type 0} (is_transparent : Bool) (view : S → SourceView) (old new : Window S) (part : Part A) (result : Result A HeadFault) : Type 0 where
   pub same_source : new.source.ghost_name ≡ old.source.ghost_name
   pub kept : Kept is_transparent (state view old) (state view new)
   pub cause : Caused (view old.source.now).failures (view new.source.now) result
@@ -68,7 +68,11 @@ pub record Ready (is_transparent : Bool) (w : State) (most : ℕ) (bytes : List 
   pub in_window : w.pos + length bytes ≤ w.filled
   pub same : OnTrue is_transparent (bytes ≡ take (length bytes) (left w))
 
--- Some of the next bytes, as many as the window has, and at least one.
-abbrev pub ReadNext : Bool → List ℕ → List ℕ → List ℕ → List ℕ → ℕ → Result ℕ HeadFault → Type 0
-ReadNext is_transparent old new before out most (Ok k) = (0 < k) × (k ≤ most) × OnTrue is_transparent ((k ≤ length old) × (out ≡ before ++ take k old) × (new ≡ drop k old))
-ReadNext is_transparent old new before out most (Err e) = OnTrue is_transparent (MatchBool (is_of_bytes e) ((e ≡ Format HeaderTruncated) × (old ≡ []) × (new ≡ [])) (new ≡ old))
+-- The next bytes of those that were left were appended, or there were none.
+abbrev pub Moved : List ℕ → List ℕ → List ℕ → List ℕ → Result ℕ HeadFault → Type 0
+Moved old new before out (Ok k) = (k ≤ length old) × (out ≡ before ++ take k old) × (new ≡ drop k old)
+Moved old new before out (Err e) = MatchBool (is_of_bytes e) ((e ≡ Format HeaderTruncated) × (old ≡ []) × (new ≡ [])) (new ≡ old)
+
+-- what reading some bytes through a window to the end of a list has done
+abbrev pub ReadNext : {S : Type 0} → (S → SourceView) → Window S → Window S → List ℕ → List ℕ → Result ℕ HeadFault → Type 0
+ReadNext view old new before out result = Moved (left (state view old)) (left (state view new)) before out result

@@ -6,7 +6,7 @@ ghost use Rattle.nc_base.specs.GeneratedFile.{header_spelling};
 ghost use Rattle.nc_base.specs.Headers.{IsSound};
 ghost use Rattle.nc_base.specs.Weight.{weight_of};
 ghost use Rattle.nc_file.specs.Reading.{Caused};
-ghost use Rattle.nc_file.specs.Answers.{HasAnswered};
+ghost use Rattle.nc_file.specs.Answers.{AnswersIn};
 
 use crate::head_fault::HeadFault;
 use crate::window::Window;
@@ -35,7 +35,7 @@ pub fn read_header<S: Source>(
     requires { 16 ≤ length buf.old }
     ensures bytes { (S.view source.new).bytes ≡ (S.view source.old).bytes }
     ensures cause { Caused (S.view source.old).failures (S.view source.new) result }
-    ensures answer { OnTrue S.is_transparent (HasAnswered (S.view source.old).bytes (S.view source.old).handed (S.view source.new).handed (length buf.old) result) }
+    ensures answer { AnswersIn S.is_transparent (S.view source.old) (S.view source.new) (length buf.old) result }
     ensures sound { IfOk result IsSound }
     ensures weight { IfOk result (λ h. weight_of h ≤ length (header_spelling h)) }
 {
@@ -55,7 +55,7 @@ fn header_at_start<S: Source>(
     requires { 16 ≤ length buf.old }
     ensures bytes { (S.view source.new).bytes ≡ (S.view source.old).bytes }
     ensures cause { Caused (S.view source.old).failures (S.view source.new) result }
-    ensures answer { OnTrue S.is_transparent (HasAnswered (S.view source.old).bytes (S.view source.old).handed (S.view source.new).handed (length buf.old) result) }
+    ensures answer { AnswersIn S.is_transparent (S.view source.old) (S.view source.new) (length buf.old) result }
 {
     let len = source.len();
     let mut window = Window {

@@ -1,9 +1,10 @@
 //! A window on a source: bytes and numbers, one after the other, through a caller's buffer.
 
-ghost use Rattle.std.specs.Prelude.{◌≡◌, ◌<◌, []};
+ghost use Rattle.std.specs.Bool.{OnTrue};
+ghost use Rattle.std.specs.Prelude.{◌≡◌, ◌<◌, ◌≤◌, [], IfOk};
 ghost use Rattle.std.specs.Int.{w32, w64, from_be_bytes};
 ghost use Rattle.nc_file.specs.Reading.{Caused, byte_at, u32_at, u64_at, number_at, count_at, bytes_at, skip_at, padded_at};
-ghost use Rattle.nc_file.specs.Window.{state, left, Opened, Kept, Refilled, ReadPart, ReadNext, Filled, Ready};
+ghost use Rattle.nc_file.specs.Window.{state, left, Opened, Kept, Refilled, Read, ReadNext, Filled, Ready};
 
 use crate::head_fault::HeadFault;
 use byteorder::{BigEndian, ByteOrder};
@@ -31,7 +32,7 @@ impl<S: Source> Window<'_, S> {
         ensures same_source { self.new.source.ghost_name ≡ self.old.source.ghost_name }
         ensures kept { Kept S.is_transparent (state S.view self.old) (state S.view self.new) }
         ensures cause { Caused (S.view self.old.source.now).failures (S.view self.new.source.now) result }
-        ensures refilled { Refilled S.is_transparent (state S.view self.old) (state S.view self.new) result }
+        ensures bytes { Refilled S.is_transparent (state S.view self.old) (state S.view self.new) result }
     {
         let len = self.len;
         let at = self.base + self.filled as u64;
@@ -69,7 +70,7 @@ impl<S: Source> Window<'_, S> {
     #[tactic(auto, using(crate::proofs::Parts::byte_shorter), unfolding(crate::specs::Reading::byte_or, crate::specs::Reading::left_over))]
     pub(crate) fn byte(&mut self) -> Result<u8, HeadFault>
         requires { Opened S.is_transparent S.view self.old }
-        ensures { ReadPart S.is_transparent S.view self.old self.new byte_at result }
+        ensures { Read S.is_transparent S.view self.old self.new byte_at result }
     {
         self.fill()?;
         let b = self.buf[self.pos];
@@ -80,7 +81,7 @@ impl<S: Source> Window<'_, S> {
     /// A big-endian number of four bytes.
     pub(crate) fn read_u32(&mut self) -> Result<u32, HeadFault>
         requires { Opened S.is_transparent S.view self.old }
-        ensures { ReadPart S.is_transparent S.view self.old self.new u32_at result }
+        ensures { Read S.is_transparent S.view self.old self.new u32_at result }
     {
         if self.filled - self.pos < 4 {
             return self.u32_by_bytes();
@@ -100,7 +101,7 @@ impl<S: Source> Window<'_, S> {
     #[tactic(auto, using(crate::proofs::Parts::parts), unfolding(crate::specs::Reading::u32_at))]
     fn u32_by_bytes(&mut self) -> Result<u32, HeadFault>
         requires { Opened S.is_transparent S.view self.old }
-        ensures { ReadPart S.is_transparent S.view self.old self.new u32_at result }
+        ensures { Read S.is_transparent S.view self.old self.new u32_at result }
     {
         let a = self.byte()?;
         let b = self.byte()?;
@@ -112,7 +113,7 @@ impl<S: Source> Window<'_, S> {
     /// A big-endian number of eight bytes.
     pub(crate) fn read_u64(&mut self) -> Result<u64, HeadFault>
         requires { Opened S.is_transparent S.view self.old }
-        ensures { ReadPart S.is_transparent S.view self.old self.new u64_at result }
+        ensures { Read S.is_transparent S.view self.old self.new u64_at result }
     {
         if self.filled - self.pos < 8 {
             return self.u64_by_bytes();
@@ -136,7 +137,7 @@ impl<S: Source> Window<'_, S> {
     #[tactic(auto, using(crate::proofs::Parts::parts), unfolding(crate::specs::Reading::u64_at))]
     fn u64_by_bytes(&mut self) -> Result<u64, HeadFault>
         requires { Opened S.is_transparent S.view self.old }
-        ensures { ReadPart S.is_transparent S.view self.old self.new u64_at result }
+        ensures { Read S.is_transparent S.view self.old self.new u64_at result }
     {
         let a = self.byte()?;
         let b = self.byte()?;
@@ -152,7 +153,7 @@ impl<S: Source> Window<'_, S> {
     /// A number of the width that counts have in the version.
     pub(crate) fn number(&mut self, version: Version) -> Result<u64, HeadFault>
         requires { Opened S.is_transparent S.view self.old }
-        ensures { ReadPart S.is_transparent S.view self.old self.new (number_at version) result }
+        ensures { Read S.is_transparent S.view self.old self.new (number_at version) result }
     {
         match version {
             Version::Cdf1 | Version::Cdf2 => self.narrow_number(),
@@ -163,7 +164,7 @@ impl<S: Source> Window<'_, S> {
     /// A number of four bytes, as wide as the others.
     pub(crate) fn narrow_number(&mut self) -> Result<u64, HeadFault>
         requires { Opened S.is_transparent S.view self.old }
-        ensures { ReadPart S.is_transparent S.view self.old self.new u32_at result }
+        ensures { Read S.is_transparent S.view self.old self.new u32_at result }
     {
         Ok(self.read_u32()? as u64)
     }
@@ -172,7 +173,7 @@ impl<S: Source> Window<'_, S> {
     #[tactic(auto, using(crate::proofs::Parts::parts), unfolding(crate::specs::Reading::count_at))]
     pub(crate) fn count(&mut self, version: Version) -> Result<u64, HeadFault>
         requires { Opened S.is_transparent S.view self.old }
-        ensures { ReadPart S.is_transparent S.view self.old self.new (count_at version) result }
+        ensures { Read S.is_transparent S.view self.old self.new (count_at version) result }
     {
         let n = self.number(version)?;
         if version.count_limit() <= n {
@@ -205,7 +206,8 @@ impl<S: Source> Window<'_, S> {
         ensures same_source { self.new.source.ghost_name ≡ self.old.source.ghost_name }
         ensures kept { Kept S.is_transparent (state S.view self.old) (state S.view self.new) }
         ensures cause { Caused (S.view self.old.source.now).failures (S.view self.new.source.now) result }
-        ensures read_next { ReadNext S.is_transparent (left (state S.view self.old)) (left (state S.view self.new)) out.old out.new most result }
+        ensures count { IfOk result (λ k. (0 < k) × (k ≤ most)) }
+        ensures read_next { OnTrue S.is_transparent (ReadNext S.view self.old self.new out.old out.new result) }
     {
         self.fill()?;
         let piece = self.ready(most);
@@ -219,7 +221,7 @@ impl<S: Source> Window<'_, S> {
     #[tactic(auto, using(crate::proofs::Chunks::chunks))]
     pub(crate) fn bytes(&mut self, alloc: Global, n: u128) -> Result<Sequence<u8>, HeadFault>
         requires { Opened S.is_transparent S.view self.old }
-        ensures { ReadPart S.is_transparent S.view self.old self.new (bytes_at n []) result }
+        ensures { Read S.is_transparent S.view self.old self.new (bytes_at n []) result }
     {
         let mut bytes = Sequence::new(alloc);
         let mut missing = n;
@@ -232,7 +234,7 @@ impl<S: Source> Window<'_, S> {
     /// Passes over `n` bytes.
     pub(crate) fn skip(&mut self, n: u64) -> Result<(), HeadFault>
         requires { Opened S.is_transparent S.view self.old }
-        ensures { ReadPart S.is_transparent S.view self.old self.new (skip_at n) result }
+        ensures { Read S.is_transparent S.view self.old self.new (skip_at n) result }
     {
         if ((self.filled - self.pos) as u64) < n {
             return self.skip_by_bytes(n);
@@ -245,7 +247,7 @@ impl<S: Source> Window<'_, S> {
     #[tactic(auto, using(crate::proofs::Loops::skip))]
     fn skip_by_bytes(&mut self, n: u64) -> Result<(), HeadFault>
         requires { Opened S.is_transparent S.view self.old }
-        ensures { ReadPart S.is_transparent S.view self.old self.new (skip_at n) result }
+        ensures { Read S.is_transparent S.view self.old self.new (skip_at n) result }
     {
         for _ in 0..n {
             self.byte()?;
@@ -257,7 +259,7 @@ impl<S: Source> Window<'_, S> {
     #[tactic(auto, using(crate::proofs::Parts::parts), unfolding(crate::specs::Reading::padded_at))]
     pub(crate) fn padded(&mut self, alloc: Global, n: u128) -> Result<Sequence<u8>, HeadFault>
         requires { Opened S.is_transparent S.view self.old }
-        ensures { ReadPart S.is_transparent S.view self.old self.new (padded_at n) result }
+        ensures { Read S.is_transparent S.view self.old self.new (padded_at n) result }
     {
         let content = self.bytes(alloc, n)?;
         self.skip(padding_len(n))?;

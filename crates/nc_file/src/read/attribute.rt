@@ -2,7 +2,7 @@
 
 ghost use Rattle.std.specs.Prelude.{[]};
 ghost use Rattle.nc_file.specs.Reading.{att_at, atts_at, att_list_at};
-ghost use Rattle.nc_file.specs.Window.{Opened, ReadPart};
+ghost use Rattle.nc_file.specs.Window.{Opened, Read};
 
 use crate::head_fault::HeadFault;
 use crate::tag::NC_ATTRIBUTE;
@@ -16,7 +16,7 @@ impl<S: Source> Window<'_, S> {
     #[tactic(auto, using(crate::proofs::Parts::parts), unfolding(crate::specs::Reading::att_at))]
     fn att(&mut self, alloc: Global, version: Version) -> Result<Att, HeadFault>
         requires { Opened S.is_transparent S.view self.old }
-        ensures { ReadPart S.is_transparent S.view self.old self.new (att_at version) result }
+        ensures { Read S.is_transparent S.view self.old self.new (att_at version) result }
     {
         let name = self.name(alloc, version)?;
         let ty = self.nc_type(version)?;
@@ -29,7 +29,7 @@ impl<S: Source> Window<'_, S> {
     #[tactic(auto, using(crate::proofs::Loops::atts))]
     fn atts(&mut self, alloc: Global, version: Version, n: u64) -> Result<Sequence<Att>, HeadFault>
         requires { Opened S.is_transparent S.view self.old }
-        ensures { ReadPart S.is_transparent S.view self.old self.new (atts_at version n []) result }
+        ensures { Read S.is_transparent S.view self.old self.new (atts_at version n []) result }
     {
         let mut atts = Sequence::new(alloc);
         for _ in 0..n {
@@ -47,7 +47,7 @@ impl<S: Source> Window<'_, S> {
         version: Version,
     ) -> Result<Sequence<Att>, HeadFault>
         requires { Opened S.is_transparent S.view self.old }
-        ensures { ReadPart S.is_transparent S.view self.old self.new (att_list_at version) result }
+        ensures { Read S.is_transparent S.view self.old self.new (att_list_at version) result }
     {
         let n = self.list_len(version, NC_ATTRIBUTE)?;
         self.atts(alloc, version, n)

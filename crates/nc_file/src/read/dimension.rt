@@ -2,7 +2,7 @@
 
 ghost use Rattle.std.specs.Prelude.{[], false};
 ghost use Rattle.nc_file.specs.Reading.{dim_at, dims_at, dim_list_at};
-ghost use Rattle.nc_file.specs.Window.{Opened, ReadPart};
+ghost use Rattle.nc_file.specs.Window.{Opened, Read};
 
 use crate::head_fault::HeadFault;
 use crate::tag::NC_DIMENSION;
@@ -12,20 +12,20 @@ use nc_base::{Dim, FormatFault, Sequence, Version};
 use std::alloc::Global;
 
 impl<S: Source> Window<'_, S> {
-    /// A dimension. Only one may have length 0, and `record_dim_before` says whether one had.
+    /// A dimension. Only one may have length 0, and `has_record` says whether one had.
     #[tactic(auto, using(crate::proofs::Parts::parts), unfolding(crate::specs::Reading::dim_at))]
     fn dim(
         &mut self,
         alloc: Global,
         version: Version,
-        record_dim_before: bool,
+        has_record: bool,
     ) -> Result<Dim, HeadFault>
         requires { Opened S.is_transparent S.view self.old }
-        ensures { ReadPart S.is_transparent S.view self.old self.new (dim_at version record_dim_before) result }
+        ensures { Read S.is_transparent S.view self.old self.new (dim_at version has_record) result }
     {
         let name = self.name(alloc, version)?;
         let len = self.count(version)?;
-        if record_dim_before && len == 0 {
+        if has_record && len == 0 {
             return Err(HeadFault::Format(FormatFault::TwoRecordDims));
         }
         Ok(Dim { name, len })
@@ -35,13 +35,13 @@ impl<S: Source> Window<'_, S> {
     #[tactic(auto, using(crate::proofs::Loops::dims))]
     fn dims(&mut self, alloc: Global, version: Version, n: u64) -> Result<Sequence<Dim>, HeadFault>
         requires { Opened S.is_transparent S.view self.old }
-        ensures { ReadPart S.is_transparent S.view self.old self.new (dims_at version n false []) result }
+        ensures { Read S.is_transparent S.view self.old self.new (dims_at version n false []) result }
     {
         let mut dims = Sequence::new(alloc);
-        let mut record_dim_before = false;
+        let mut has_record = false;
         for _ in 0..n {
-            let dim = self.dim(alloc, version, record_dim_before)?;
-            record_dim_before = record_dim_before || dim.len == 0;
+            let dim = self.dim(alloc, version, has_record)?;
+            has_record = has_record || dim.len == 0;
             dims.push(dim)?;
         }
         Ok(dims)
@@ -55,7 +55,7 @@ impl<S: Source> Window<'_, S> {
         version: Version,
     ) -> Result<Sequence<Dim>, HeadFault>
         requires { Opened S.is_transparent S.view self.old }
-        ensures { ReadPart S.is_transparent S.view self.old self.new (dim_list_at version) result }
+        ensures { Read S.is_transparent S.view self.old self.new (dim_list_at version) result }
     {
         let n = self.list_len(version, NC_DIMENSION)?;
         self.dims(alloc, version, n)

@@ -1,7 +1,7 @@
 //! The whole header.
 
 ghost use Rattle.nc_file.specs.Reading.{first_at, version_at, magic_at, numrecs_at, header_at};
-ghost use Rattle.nc_file.specs.Window.{Opened, ReadPart};
+ghost use Rattle.nc_file.specs.Window.{Opened, Read};
 
 use crate::head_fault::HeadFault;
 use crate::window::Window;
@@ -14,7 +14,7 @@ impl<S: Source> Window<'_, S> {
     #[tactic(auto, using(crate::proofs::Parts::byte_shorter), unfolding(crate::specs::Reading::byte_or, crate::specs::Reading::left_over))]
     fn first(&mut self) -> Result<u8, HeadFault>
         requires { Opened S.is_transparent S.view self.old }
-        ensures { ReadPart S.is_transparent S.view self.old self.new first_at result }
+        ensures { Read S.is_transparent S.view self.old self.new first_at result }
     {
         match self.byte() {
             Err(HeadFault::Format(_)) => Err(HeadFault::Format(FormatFault::NotNetcdf)),
@@ -26,7 +26,7 @@ impl<S: Source> Window<'_, S> {
     #[tactic(auto, using(crate::proofs::Parts::parts), unfolding(crate::specs::Reading::version_at))]
     fn version(&mut self) -> Result<Version, HeadFault>
         requires { Opened S.is_transparent S.view self.old }
-        ensures { ReadPart S.is_transparent S.view self.old self.new version_at result }
+        ensures { Read S.is_transparent S.view self.old self.new version_at result }
     {
         let b = self.byte()?;
         Ok(Version::of_byte(b).ok_or(FormatFault::UnknownVersion(b))?)
@@ -36,7 +36,7 @@ impl<S: Source> Window<'_, S> {
     #[tactic(auto, using(crate::proofs::Parts::parts), unfolding(crate::specs::Reading::magic_at))]
     fn magic(&mut self) -> Result<Version, HeadFault>
         requires { Opened S.is_transparent S.view self.old }
-        ensures { ReadPart S.is_transparent S.view self.old self.new magic_at result }
+        ensures { Read S.is_transparent S.view self.old self.new magic_at result }
     {
         let a = self.first()?;
         let b = self.first()?;
@@ -52,7 +52,7 @@ impl<S: Source> Window<'_, S> {
     #[tactic(auto, using(crate::proofs::Parts::parts), unfolding(crate::specs::Reading::numrecs_at))]
     fn numrecs(&mut self, version: Version) -> Result<NumRecs, HeadFault>
         requires { Opened S.is_transparent S.view self.old }
-        ensures { ReadPart S.is_transparent S.view self.old self.new (numrecs_at version) result }
+        ensures { Read S.is_transparent S.view self.old self.new (numrecs_at version) result }
     {
         let n = self.number(version)?;
         if n == version.streaming_mark() {
@@ -68,7 +68,7 @@ impl<S: Source> Window<'_, S> {
     #[tactic(auto, using(crate::proofs::Parts::parts), unfolding(crate::specs::Reading::header_at))]
     pub(crate) fn header(&mut self, alloc: Global) -> Result<Header, HeadFault>
         requires { Opened S.is_transparent S.view self.old }
-        ensures { ReadPart S.is_transparent S.view self.old self.new header_at result }
+        ensures { Read S.is_transparent S.view self.old self.new header_at result }
     {
         let version = self.magic()?;
         let numrecs = self.numrecs(version)?;

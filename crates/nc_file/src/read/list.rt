@@ -2,7 +2,7 @@
 
 ghost use Rattle.std.specs.Prelude.{◌≡◌};
 ghost use Rattle.nc_file.specs.Reading.{type_in, name_at, type_at, list_len_at};
-ghost use Rattle.nc_file.specs.Window.{Opened, ReadPart};
+ghost use Rattle.nc_file.specs.Window.{Opened, Read};
 
 use crate::head_fault::HeadFault;
 use crate::tag::{NC_DOUBLE, NC_FLOAT};
@@ -20,7 +20,7 @@ impl<S: Source> Window<'_, S> {
         version: Version,
     ) -> Result<Sequence<u8>, HeadFault>
         requires { Opened S.is_transparent S.view self.old }
-        ensures { ReadPart S.is_transparent S.view self.old self.new (name_at version) result }
+        ensures { Read S.is_transparent S.view self.old self.new (name_at version) result }
     {
         let n = self.count(version)?;
         let name = self.bytes(alloc, n as u128)?;
@@ -35,7 +35,7 @@ impl<S: Source> Window<'_, S> {
     #[tactic(auto, using(crate::proofs::Parts::parts), unfolding(crate::specs::Reading::type_at))]
     pub(crate) fn nc_type(&mut self, version: Version) -> Result<NcType, HeadFault>
         requires { Opened S.is_transparent S.view self.old }
-        ensures { ReadPart S.is_transparent S.view self.old self.new (type_at version) result }
+        ensures { Read S.is_transparent S.view self.old self.new (type_at version) result }
     {
         let code = self.read_u32()?;
         if code == NC_FLOAT || code == NC_DOUBLE {
@@ -48,7 +48,7 @@ impl<S: Source> Window<'_, S> {
     #[tactic(auto, using(crate::proofs::Parts::parts), unfolding(crate::specs::Reading::list_len_at))]
     pub(crate) fn list_len(&mut self, version: Version, tag: u32) -> Result<u64, HeadFault>
         requires { Opened S.is_transparent S.view self.old }
-        ensures { ReadPart S.is_transparent S.view self.old self.new (list_len_at version tag) result }
+        ensures { Read S.is_transparent S.view self.old self.new (list_len_at version tag) result }
     {
         let found = self.read_u32()?;
         if found != 0 && found != tag {

@@ -3,8 +3,8 @@
 ghost use Rattle.std.specs.Prelude.{◌≡◌, ◌+◌, ◌≤◌, [], true, if◌then◌else◌};
 ghost use Rattle.nc_base.specs.Bytes.{padding_len};
 ghost use Rattle.nc_base.specs.Sizes.{has_records, slab_limit};
-ghost use Rattle.nc_file.specs.Reading.{is_dimid, dimid_at, dimids_at, shape_at, wide_at, offset_at, total_with, var_at, vars_at, var_list_at};
-ghost use Rattle.nc_file.specs.Window.{Opened, ReadPart};
+ghost use Rattle.nc_file.specs.Reading.{is_dimid, dimid_at, dimids_of, shape_at, wide_at, offset_at, total_with, var_at, vars_at, var_list_at};
+ghost use Rattle.nc_file.specs.Window.{Opened, Read};
 
 use crate::head_fault::HeadFault;
 use crate::sized_var::SizedVar;
@@ -22,7 +22,7 @@ impl<S: Source> Window<'_, S> {
     #[tactic(auto, using(crate::proofs::Parts::parts), unfolding(crate::specs::Reading::dimid_at))]
     fn dimid(&mut self, version: Version, dims: &[Dim], first: bool) -> Result<u64, HeadFault>
         requires { Opened S.is_transparent S.view self.old }
-        ensures { ReadPart S.is_transparent S.view self.old self.new (dimid_at version dims.now first) result }
+        ensures { Read S.is_transparent S.view self.old self.new (dimid_at version dims.now first) result }
     {
         let id = self.number(version)?;
         if !is_dimid(dims, first, id) {
@@ -41,7 +41,7 @@ impl<S: Source> Window<'_, S> {
         n: u64,
     ) -> Result<Sequence<u64>, HeadFault>
         requires { Opened S.is_transparent S.view self.old }
-        ensures { ReadPart S.is_transparent S.view self.old self.new (dimids_at version dims.now n true []) result }
+        ensures { Read S.is_transparent S.view self.old self.new (dimids_of version dims.now n) result }
     {
         let mut dimids = Sequence::new(alloc);
         let mut first = true;
@@ -61,7 +61,7 @@ impl<S: Source> Window<'_, S> {
         dims: &[Dim],
     ) -> Result<Sequence<u64>, HeadFault>
         requires { Opened S.is_transparent S.view self.old }
-        ensures { ReadPart S.is_transparent S.view self.old self.new (shape_at version dims.now) result }
+        ensures { Read S.is_transparent S.view self.old self.new (shape_at version dims.now) result }
     {
         let n = self.count(version)?;
         self.dimids(alloc, version, dims, n)
@@ -70,7 +70,7 @@ impl<S: Source> Window<'_, S> {
     /// A number of the width that offsets have in the version.
     fn wide(&mut self, version: Version) -> Result<u64, HeadFault>
         requires { Opened S.is_transparent S.view self.old }
-        ensures { ReadPart S.is_transparent S.view self.old self.new (wide_at version) result }
+        ensures { Read S.is_transparent S.view self.old self.new (wide_at version) result }
     {
         match version {
             Version::Cdf1 => self.narrow_number(),
@@ -82,7 +82,7 @@ impl<S: Source> Window<'_, S> {
     #[tactic(auto, using(crate::proofs::Parts::parts), unfolding(crate::specs::Reading::offset_at))]
     fn offset(&mut self, version: Version) -> Result<u64, HeadFault>
         requires { Opened S.is_transparent S.view self.old }
-        ensures { ReadPart S.is_transparent S.view self.old self.new (offset_at version) result }
+        ensures { Read S.is_transparent S.view self.old self.new (offset_at version) result }
     {
         let n = self.wide(version)?;
         if version.offset_limit() <= n {
@@ -101,7 +101,7 @@ impl<S: Source> Window<'_, S> {
         total: u64,
     ) -> Result<SizedVar, HeadFault>
         requires { Opened S.is_transparent S.view self.old }
-        ensures { ReadPart S.is_transparent S.view self.old self.new (var_at version dims.now total) result }
+        ensures { Read S.is_transparent S.view self.old self.new (var_at version dims.now total) result }
     {
         let name = self.name(alloc, version)?;
         let dimids = self.shape(alloc, version, dims)?;
@@ -132,7 +132,7 @@ impl<S: Source> Window<'_, S> {
         n: u64,
     ) -> Result<Sequence<Var>, HeadFault>
         requires { Opened S.is_transparent S.view self.old }
-        ensures { ReadPart S.is_transparent S.view self.old self.new (vars_at version dims.now n 0 []) result }
+        ensures { Read S.is_transparent S.view self.old self.new (vars_at version dims.now n 0 []) result }
     {
         let mut vars = Sequence::new(alloc);
         let mut total = 0;
@@ -153,7 +153,7 @@ impl<S: Source> Window<'_, S> {
         dims: &[Dim],
     ) -> Result<Sequence<Var>, HeadFault>
         requires { Opened S.is_transparent S.view self.old }
-        ensures { ReadPart S.is_transparent S.view self.old self.new (var_list_at version dims.now) result }
+        ensures { Read S.is_transparent S.view self.old self.new (var_list_at version dims.now) result }
     {
         let n = self.list_len(version, NC_VARIABLE)?;
         self.vars(alloc, version, dims, n)

@@ -2,11 +2,11 @@
 
 ghost use Rattle.std.specs.Prelude.{◌<◌, All, length};
 ghost use Rattle.std.specs.List.{flat_map};
-ghost use Rattle.nc_base.specs.GeneratedFile.{dim_spelling, list_spelling};
-ghost use Rattle.nc_base.specs.Grammar.{dimension_tag};
+ghost use Rattle.nc_base.specs.GeneratedFile.{dim_spelling};
 ghost use Rattle.nc_base.specs.Headers.{IsSoundDim};
 ghost use Rattle.nc_base.specs.Versions.{count_limit};
 ghost use Rattle.devices.specs.Sinks.{Wrote};
+ghost use Rattle.nc_file.specs.WrittenParts.{dim_list};
 
 use super::list::{put_list_head, put_name};
 use super::number::put_count;
@@ -23,7 +23,7 @@ pub(crate) fn put_dim_list<W: Sink>(
 ) -> Result<(), WriteFailed>
     requires few { length dims.now < count_limit version }
     requires sound { All (IsSoundDim version) dims.now }
-    ensures { Wrote W.view sink.old sink.new (list_spelling version dimension_tag (dim_spelling version) dims.now) result }
+    ensures { Wrote W.view sink.old sink.new (dim_list version dims.now) result }
 {
     put_list_head(sink, version, NC_DIMENSION, dims.len() as u64)?;
     put_dims(sink, version, dims)

@@ -1,13 +1,12 @@
 //! The list of variables.
 
-ghost use Rattle.std.specs.Prelude.{◌≡◌, ◌<◌, ◌++◌, All, length};
+ghost use Rattle.std.specs.Prelude.{◌≡◌, ◌<◌, All, length};
 ghost use Rattle.std.specs.List.{flat_map};
-ghost use Rattle.nc_base.specs.GeneratedFile.{count_spelling, list_spelling, var_spelling, vsize_of};
-ghost use Rattle.nc_base.specs.Grammar.{variable_tag};
+ghost use Rattle.nc_base.specs.GeneratedFile.{count_spelling, var_spelling, vsize_of};
 ghost use Rattle.nc_base.specs.Headers.{IsSoundVar};
-ghost use Rattle.nc_base.specs.Sizes.{padded_size};
 ghost use Rattle.nc_base.specs.Versions.{count_limit, offset_limit};
 ghost use Rattle.devices.specs.Sinks.{Wrote};
+ghost use Rattle.nc_file.specs.WrittenParts.{shape_spelling, var_list, vars_spelling, vsize_spelling};
 
 use super::attribute::put_att_list;
 use super::list::{put_list_head, put_name};
@@ -29,7 +28,7 @@ pub(crate) fn put_var_list<W: Sink>(
     requires few_dims { length dims.now < count_limit version }
     requires sound { All (IsSoundVar version dims.now) vars.now }
     requires begins { All (λ var. var.begin_at < offset_limit version) vars.now }
-    ensures { Wrote W.view sink.old sink.new (list_spelling version variable_tag (var_spelling version dims.now) vars.now) result }
+    ensures { Wrote W.view sink.old sink.new (var_list version dims.now vars.now) result }
 {
     put_list_head(sink, version, NC_VARIABLE, vars.len() as u64)?;
     put_vars(sink, version, dims, vars)
@@ -45,7 +44,7 @@ fn put_vars<W: Sink>(
     requires few_dims { length dims.now < count_limit version }
     requires sound { All (IsSoundVar version dims.now) vars.now }
     requires begins { All (λ var. var.begin_at < offset_limit version) vars.now }
-    ensures { Wrote W.view sink.old sink.new (flat_map (var_spelling version dims.now) vars.now) result }
+    ensures { Wrote W.view sink.old sink.new (vars_spelling version dims.now vars.now) result }
 {
     for var in vars {
         put_var(sink, version, dims, var)?;
@@ -85,7 +84,7 @@ fn put_shape<W: Sink>(
     requires rank { length dimids.now < count_limit version }
     requires few_dims { length dims.now < count_limit version }
     requires known { All (λ id. id < length dims.now) dimids.now }
-    ensures { Wrote W.view sink.old sink.new (count_spelling version (length dimids.now) ++ flat_map (count_spelling version) dimids.now) result }
+    ensures { Wrote W.view sink.old sink.new (shape_spelling version dimids.now) result }
 {
     put_count(sink, version, dimids.len() as u64)?;
     put_dimids(sink, version, dims, dimids)
@@ -116,7 +115,7 @@ fn put_vsize<W: Sink>(
     var: &Var,
 ) -> Result<(), WriteFailed>
     requires { IsSoundVar version dims.now var.now }
-    ensures { Wrote W.view sink.old sink.new (count_spelling version (vsize_of version (padded_size dims.now var.now))) result }
+    ensures { Wrote W.view sink.old sink.new (vsize_spelling version dims.now var.now) result }
 {
     put_number(
         sink,
