@@ -1,5 +1,6 @@
 -- The arguments of a command, as a parse reads them, and what its entries say of them.
-use Rattle.std.specs.Prelude.{ℕ, Bool, true, false, List, codes, Some, slice_get}
+use Rattle.std.specs.Borrow.{Bor}
+use Rattle.std.specs.Prelude.{ℕ, Bool, true, false, List, codes, map, Option, Some, option_map, slice_get}
 use Rattle.std.specs.Option.{option_map_or}
 use Rattle.std.specs.Str.{bytes_eq}
 use Rattle.clap.specs.Words.{App, Row, Rule, new_rule, one_of}
@@ -20,3 +21,11 @@ quiet app = record app { top = record app.top { disable_help_flag = true; disabl
 -- the flag is given
 abbrev pub is_given : List Row → List ℕ → Bool
 is_given rows id = option_map_or (λ (value : List ℕ). bytes_eq value (codes "true")) (one_of id rows) false
+
+-- the bytes of a text, if there is one
+abbrev pub text_of : Option (Bor (List ℕ)) → Option (List ℕ)
+text_of text = option_map (λ (t : Bor (List ℕ)). t.now) text
+
+-- the bytes of each of the words
+abbrev pub texts_of : List (Bor (List ℕ)) → List (List ℕ)
+texts_of words = map (λ (w : Bor (List ℕ)). w.now) words

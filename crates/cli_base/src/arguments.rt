@@ -1,8 +1,8 @@
 //! The arguments of a command, and what its matches say of them.
 
-ghost use Rattle.std.specs.Prelude.{◌≡◌, [], ◌∷◌, false, IfOk, option_map};
+ghost use Rattle.std.specs.Prelude.{◌≡◌, [], ◌∷◌, false, IfOk};
 ghost use Rattle.clap.specs.Words.{found_of, first_of, rows_of, rule_of};
-ghost use Rattle.cli_base.specs.Arguments.{flag, option, is_given};
+ghost use Rattle.cli_base.specs.Arguments.{flag, is_given, option, text_of};
 
 use clap::{Arg, ArgAction, ArgMatches};
 use nc_base::Sequence;
@@ -24,7 +24,7 @@ pub fn option<'a>(alloc: Global, id: &'a str, letter: char) -> Arg<'a>
     Arg::new(alloc, id).short(letter).action(ArgAction::Set)
 }
 
-/// Says whether the flag with this id is given.
+/// Returns true if the flag with this id is given.
 pub fn is_given(matches: &ArgMatches, id: &str) -> bool
     ensures { result ≡ is_given (rows_of (found_of matches.now)) id.now }
 {
@@ -33,7 +33,7 @@ pub fn is_given(matches: &ArgMatches, id: &str) -> bool
 
 /// The value of the argument with this id, if it is given.
 pub fn value_of<'a>(matches: &ArgMatches<'a>, id: &str) -> Option<&'a str>
-    ensures { option_map (λ value. value.now) result ≡ first_of id.now (rows_of (found_of matches.now)) }
+    ensures { text_of result ≡ first_of id.now (rows_of (found_of matches.now)) }
 {
     matches.get_str(id)
 }

@@ -52,5 +52,5 @@ pub record HasAnswered (bytes : List ℕ) (before after buffer_len : ℕ) (resul
   pub answer : Answers bytes before after buffer_len result
 
 -- the same of the views of a source before and after, where it is transparent
-abbrev pub AnswersIn : Bool → SourceView → SourceView → ℕ → Result Header HeadFault → Type 0
-AnswersIn is_transparent old new buffer_len result = OnTrue is_transparent (HasAnswered old.bytes old.handed new.handed buffer_len result)
+abbrev pub AnswersIn : Bool → SourceView → SourceView → List ℕ → Result Header HeadFault → Type 0
+AnswersIn is_transparent old new buffer result = OnTrue is_transparent (HasAnswered old.bytes old.handed new.handed (length buffer) result)

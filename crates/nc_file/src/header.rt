@@ -35,7 +35,7 @@ pub fn read_header<S: Source>(
     requires { 16 ≤ length buf.old }
     ensures bytes { (S.view source.new).bytes ≡ (S.view source.old).bytes }
     ensures cause { Caused (S.view source.old).failures (S.view source.new) result }
-    ensures answer { AnswersIn S.is_transparent (S.view source.old) (S.view source.new) (length buf.old) result }
+    ensures answer { AnswersIn S.is_transparent (S.view source.old) (S.view source.new) buf.old result }
     ensures sound { IfOk result IsSound }
     ensures weight { IfOk result (λ h. weight_of h ≤ length (header_spelling h)) }
 {
@@ -55,7 +55,7 @@ fn header_at_start<S: Source>(
     requires { 16 ≤ length buf.old }
     ensures bytes { (S.view source.new).bytes ≡ (S.view source.old).bytes }
     ensures cause { Caused (S.view source.old).failures (S.view source.new) result }
-    ensures answer { AnswersIn S.is_transparent (S.view source.old) (S.view source.new) (length buf.old) result }
+    ensures answer { AnswersIn S.is_transparent (S.view source.old) (S.view source.new) buf.old result }
 {
     let len = source.len();
     let mut window = Window {

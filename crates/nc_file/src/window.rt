@@ -207,7 +207,7 @@ impl<S: Source> Window<'_, S> {
         ensures kept { Kept S.is_transparent (state S.view self.old) (state S.view self.new) }
         ensures cause { Caused (S.view self.old.source.now).failures (S.view self.new.source.now) result }
         ensures count { IfOk result (λ k. (0 < k) × (k ≤ most)) }
-        ensures read_next { OnTrue S.is_transparent (ReadNext S.view self.old self.new out.old out.new result) }
+        ensures next { OnTrue S.is_transparent (ReadNext S.view self.old self.new out.old out.new result) }
     {
         self.fill()?;
         let piece = self.ready(most);

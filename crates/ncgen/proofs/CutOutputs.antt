@@ -5,7 +5,7 @@ use Rattle.std.proofs.lemmas.Bool.{OnTrue_at, OnTrue_from}
 use Rattle.devices.specs.Creators.{CreatorView, Closed, CreatedAt, HasFailed, give}
 use Rattle.devices.specs.Sinks.{SinkView, FailedPartway, IsCut, IsPrefix, IsPrefixIf, StoppedShort, append, is_transparent}
 use Rattle.devices.specs.Sinks as sinks
-use Rattle.ncgen.specs.Outputs.{IsCutShortAt, created_at, outputs}
+use Rattle.ncgen.specs.Outputs.{IsCutShortAt, created_at}
 
 -- the sink's one failure is the creator's
 one_failure : (before : CreatorView) (new : CreatorView) (sink : SinkView) → sinks.HasFailed 0 sink → new.failures ≡ min (before.failures + sink.failures) (2 ^ 128 - 1) → HasFailed before.failures new
@@ -29,7 +29,7 @@ prefix_taken start sink file empty partway =
 -- so does the path, unless the output could not be closed
 pub cut_short : {A E : Type 0} (known : Bool) (old between new : CreatorView) (path file : List ℕ) (start sink : SinkView) (closed : Result A E)
     → CreatedAt known old between path start → FailedPartway start sink file → Closed known between new path sink closed
-    → IsCutShortAt (outputs known old new) path file
+    → IsCutShortAt (record { is_transparent = known; before = old; after = new }) path file
 cut_short known old between new path file start sink (Ok done) created partway closed = record {
   creations = closed.creations ∙ created.creations;
   failures = subst (λ n. HasFailed n new) created.failures (one_failure between new sink (subst (λ n. sinks.HasFailed n sink) created.sink_failures partway.failures) closed.failed);

@@ -4,7 +4,7 @@ use Rattle.nc_base.specs.Bytes.{AreBytes}
 use Rattle.nc_base.specs.declared.dataset.Dataset.{Dataset}
 use Rattle.nc_base.specs.declared.header.Header.{Header}
 use Rattle.nc_base.specs.declared.version.Version.{Version}
-use Rattle.nc_base.specs.GeneratedFile.{data_of, file_of, fits, header_spelling, known_records, with_begins}
+use Rattle.nc_base.specs.GeneratedFile.{file_of, fits, header_spelling, known_records, with_begins}
 use Rattle.nc_base.specs.Headers.{AreArrays, IsGood, IsSound}
 use Rattle.nc_base.specs.OwedValues.{whole_arrays}
 use Rattle.devices.specs.Sinks.{SinkView}

@@ -1,5 +1,5 @@
 -- What the words of the command line ask for.
-use Rattle.std.specs.Prelude.{ℕ, Bool, true, false, ◌&&◌, ◌||◌, List, [], ◌∷◌, ◌++◌, codes, Option, Some, None, option_map, is_none, fold, Result, string_bytes, if◌then◌else◌}
+use Rattle.std.specs.Prelude.{◌≡◌, ℕ, String, Bool, true, false, ◌&&◌, ◌||◌, List, [], ◌∷◌, ◌++◌, codes, Option, Some, None, option_map, is_none, fold, Result, string_bytes, if◌then◌else◌}
 use Rattle.std.specs.Str.{bytes_eq}
 use Rattle.clap.specs.Words.{App, Row, fault_of, first_of, matches_of, new_app, new_rule, with_rule}
 use Rattle.cli_base.specs.Arguments.{flag, is_given, option, quiet}
@@ -45,6 +45,10 @@ output_in is_binary (Some output) file = Some output
 output_in true None (Some file) = Some (output_name file)
 output_in true None None = None
 output_in false None file = None
+
+-- this is the path of the output, if there is one
+abbrev pub IsOutputIn : {A : Type 0} → Bool → Option (List ℕ) → Option (List ℕ) → Option (String A) → Type 0
+IsOutputIn is_binary output file path = option_map string_bytes path ≡ output_in is_binary output file
 
 -- an output is asked for by `-b`, and neither `-o` nor the text's path names it
 abbrev pub is_unnamed : Bool → Option (List ℕ) → Option (List ℕ) → Bool

@@ -41,10 +41,14 @@ kind_words cdl.StringTooLong = codes "string too long"
 kind_words cdl.DuplicateData = codes "duplicate data"
 kind_words cdl.TooLarge = codes "too large"
 
--- which line a fault of this kind is in, from 1 on; want of memory is in none
+-- the number of a line, from 1 on
+abbrev pub line_number : ℕ → List ℕ
+line_number line = concat_parts (codes "line " ∷ decimal line ∷ codes ": " ∷ [])
+
+-- which line a fault of this kind is in; want of memory is in none
 unfoldable pub place_text : CdlKind → ℕ → List ℕ
 place_text cdl.OutOfMemory line = []
-place_text kind line = concat_parts (codes "line " ∷ decimal line ∷ codes ": " ∷ [])
+place_text kind line = line_number line
 
 -- what a fault of a text says
 unfoldable pub cdl_text : CdlFault → List ℕ

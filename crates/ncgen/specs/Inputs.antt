@@ -4,7 +4,8 @@ use Rattle.std.specs.Bool.{OnTrue}
 use Rattle.std.specs.Global.{Vec}
 use Rattle.nc_base.specs.declared.version.Version.{Version}
 use Rattle.devices.specs.Openers.{OpenerView, HasFailed, opens_after}
-use Rattle.devices.specs.Readers.{ReaderView}
+use Rattle.devices.specs.Readers.{ReaderView, view_of}
+use Rattle.devices.specs.declared.reader.CountedRead.{CountedRead}
 use Rattle.cdl_meaning.specs.Meaning.{text_limit}
 use Rattle.ncgen.specs.Generated.{generated, Refuses}
 use Rattle.ncgen.specs.Prepared.{IsReady, file_of_prepared}
@@ -25,9 +26,35 @@ pub record Inputs : Type 0 where
   pub before : ReaderView
   pub after : ReaderView
 
-abbrev pub inputs : Bool → (List ℕ → Option (List ℕ)) → OpenerView → OpenerView → ReaderView → ReaderView → Inputs
-inputs is_transparent named texts texts_after before after =
-    record { is_transparent = is_transparent; named = named; texts = texts; texts_after = texts_after; before = before; after = after }
+-- what opens texts, before a call and after it
+pub record Opening : Type 0 where
+  pub is_transparent : Bool
+  pub named : List ℕ → Option (List ℕ)
+  pub before : OpenerView
+  pub after : OpenerView
+
+abbrev pub opening : {T : Type 0} → Bool → (T → List ℕ → Option (List ℕ)) → (T → OpenerView) → T → T → Opening
+opening is_transparent named view old new =
+    record { is_transparent = is_transparent; named = named old; before = view old; after = view new }
+
+-- standard input before a call and after it
+pub record Reading : Type 0 where
+  pub before : ReaderView
+  pub after : ReaderView
+
+abbrev pub reading : {R : Type 0} → (R → Option (List ℕ)) → CountedRead R → CountedRead R → Reading
+reading remaining old new = record { before = view_of remaining old; after = view_of remaining new }
+
+-- both
+abbrev pub inputs : Opening → Reading → Inputs
+inputs texts input = record {
+  is_transparent = texts.is_transparent;
+  named = texts.named;
+  texts = texts.before;
+  texts_after = texts.after;
+  before = input.before;
+  after = input.after;
+}
 
 -- this is the text at the path, or that of standard input, where it is known
 abbrev pub IsText : Inputs → Option (List ℕ) → List ℕ → Type 0

@@ -12,8 +12,8 @@ pub record Outputs : Type 0 where
   pub before : CreatorView
   pub after : CreatorView
 
-abbrev pub outputs : Bool → CreatorView → CreatorView → Outputs
-outputs is_transparent before after = record { is_transparent = is_transparent; before = before; after = after }
+abbrev pub outputs : {C : Type 0} → Bool → (C → CreatorView) → C → C → Outputs
+outputs is_transparent view old new = record { is_transparent = is_transparent; before = view old; after = view new }
 
 -- what paths were given, where an output was created at this one
 abbrev pub created_at : CreatorView → List ℕ → List Output

@@ -65,13 +65,25 @@ WritesAsked o path bytes (Ok done) = IsMade o path bytes
 WritesAsked o path bytes (Err (Output at fault)) = (path ≡ Some (string_bytes at)) × OutputFails o (string_bytes at) bytes fault
 WritesAsked o path bytes (Err other) = ⊥
 
+-- What a run was given and left: what the words ask for, the texts and standard input, the outputs, and standard error before and after.
+pub record Run : Type 0 where
+  pub asked : Option Asked
+  pub inputs : Inputs
+  pub outputs : Outputs
+  pub error : SinkView
+  pub error_after : SinkView
+
 -- What is asked for was made, and nothing was written to standard error.
-pub record Succeeded (i : Inputs) (o : Outputs) (asked : Option Asked) (err err' : SinkView) : Type 0 where
-  pub generated : IsGenerated i o asked
-  pub error : err' ≡ err
+pub record Succeeded (run : Run) : Type 0 where
+  pub generated : IsGenerated run.inputs run.outputs run.asked
+  pub error : run.error_after ≡ run.error
 
 -- The run has failed, and the line that tells it, or a prefix of it, was written to standard error.
-pub record Failed (i : Inputs) (o : Outputs) (asked : Option Asked) (err err' : SinkView) : Type 0 where
+pub record Failed (run : Run) : Type 0 where
   pub failure : Failure
-  pub fails : Fails i o asked failure
-  pub error : Appended err err' (line_of_failure failure) ⊎ FailedPartway err err' (line_of_failure failure)
+  pub fails : Fails run.inputs run.outputs run.asked failure
+  pub error : Appended run.error run.error_after (line_of_failure failure) ⊎ FailedPartway run.error run.error_after (line_of_failure failure)
+
+-- the status is 0 where the run has succeeded, and 1 where it has failed
+abbrev pub Runs : Run → ℕ → Type 0
+Runs run status = (status ≡ 0) × Succeeded run ⊎ (status ≡ 1) × Failed run

@@ -1,8 +1,9 @@
 -- What reading a text has done.
-use Rattle.std.specs.Prelude.{◌≡◌, ℕ, ◌+◌, ◌<◌, ◌≤◌, Bool, true, false, List, ◌++◌, length, IfSome, Result, Ok, Err}
+use Rattle.std.specs.Prelude.{◌≡◌, ℕ, ◌+◌, ◌<◌, ◌≤◌, Bool, true, false, List, ◌++◌, length, Option, IfSome, Result, Ok, Err}
 use Rattle.std.specs.Global.{Vec}
 use Rattle.std.specs.Io.KnownBytes.{Consumes, IsAtEnd}
-use Rattle.devices.specs.Readers.{ReaderView, HasFailed}
+use Rattle.devices.specs.Readers.{ReaderView, HasFailed, view_of}
+use Rattle.devices.specs.declared.reader.CountedRead.{CountedRead}
 use Rattle.ncgen.specs.declared.fault.TextFault.{TextFault}
 use Rattle.ncgen.specs.declared.fault.TextFault.TheVariants.{OutOfMemory, ReadFailed, TooLong}
 
@@ -31,6 +32,10 @@ ReadsText max old new (Err OutOfMemory) = new.failures ≡ old.failures
 pub record ReadsAtMost (max : ℕ) (old new : ReaderView) : Type 0 where
   pub handed : new.handed ≤ old.handed + max + 1
   pub reads : new.reads ≤ old.reads + max + 1
+
+-- what reading a text has done to a reader, given what is still to come of readers of its type
+abbrev pub ReadsTextOf : {R : Type 0} → (R → Option (List ℕ)) → ℕ → CountedRead R → CountedRead R → Result (Vec ℕ) TextFault → Type 0
+ReadsTextOf remaining max old new result = ReadsText max (view_of remaining old) (view_of remaining new) result
 
 -- ---- one part after the other
 

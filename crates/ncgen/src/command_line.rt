@@ -1,8 +1,9 @@
 //! The words of the command line.
 
-ghost use Rattle.std.specs.Prelude.{◌≡◌, IfOk, map, option_map, string_bytes};
+ghost use Rattle.std.specs.Prelude.{◌≡◌, IfOk, option_map, string_bytes};
+ghost use Rattle.cli_base.specs.Arguments.{text_of, texts_of};
 ghost use Rattle.clap.specs.Words.{app_of, found_of, rows_of};
-ghost use Rattle.ncgen.specs.CommandLine.{asked_by, asked_in, is_unnamed, ncgen, output_in, output_name, version_in, version_of, Answers};
+ghost use Rattle.ncgen.specs.CommandLine.{asked_by, asked_in, is_unnamed, ncgen, output_name, version_in, version_of, Answers, IsOutputIn};
 
 use crate::options::GenOptions;
 use clap::{Arg, ArgMatches, Command};
@@ -35,7 +36,7 @@ pub fn command<'a>(alloc: Global) -> Result<Command<'a>, AllocError>
 ///
 /// Those of [`options_of`], and [`OptFault::Usage`] for words that the command doesn't take.
 pub(crate) fn options_by(alloc: Global, words: &[&str]) -> Result<GenOptions, OptFault>
-    ensures { Answers (asked_by (map (λ word. word.now) words.now)) result }
+    ensures { Answers (asked_by (texts_of words.now)) result }
 {
     let matches = command(alloc)?.try_get_matches_from(words)?;
     options_of(alloc, &matches)
@@ -70,7 +71,7 @@ pub fn options_of(alloc: Global, matches: &ArgMatches) -> Result<GenOptions, Opt
 
 /// Says whether an output is asked for that has no name.
 fn is_unnamed(is_binary: bool, output: Option<&str>, file: Option<&str>) -> bool
-    ensures { result ≡ is_unnamed is_binary (option_map (λ path. path.now) output.entry) (option_map (λ path. path.now) file.entry) }
+    ensures { result ≡ is_unnamed is_binary (text_of output.entry) (text_of file.entry) }
 {
     is_binary && output.is_none() && file.is_none()
 }
@@ -82,7 +83,7 @@ fn output_in(
     output: Option<&str>,
     file: Option<&str>,
 ) -> Result<Option<String>, AllocError>
-    ensures { IfOk result (λ path. option_map string_bytes path ≡ output_in is_binary (option_map (λ path. path.now) output.entry) (option_map (λ path. path.now) file.entry)) }
+    ensures { IfOk result (IsOutputIn is_binary (text_of output.entry) (text_of file.entry)) }
 {
     match (output, file) {
         (Some(path), _) => Ok(Some(String::from_str(alloc, path)?)),
@@ -102,7 +103,7 @@ fn output_name(alloc: Global, path: &str) -> Result<String, AllocError>
 
 /// A copy of the text, if there is one.
 fn string_in(alloc: Global, text: Option<&str>) -> Result<Option<String>, AllocError>
-    ensures { IfOk result (λ copy. option_map string_bytes copy ≡ option_map (λ text. text.now) text.entry) }
+    ensures { IfOk result (λ copy. option_map string_bytes copy ≡ text_of text.entry) }
 {
     match text {
         Some(text) => Ok(Some(String::from_str(alloc, text)?)),
@@ -112,7 +113,7 @@ fn string_in(alloc: Global, text: Option<&str>) -> Result<Option<String>, AllocE
 
 /// The version that `-k` asks for, or else the first.
 fn version_in(word: Option<&str>) -> Option<Version>
-    ensures { result ≡ version_in (option_map (λ value. value.now) word.entry) }
+    ensures { result ≡ version_in (text_of word.entry) }
 {
     match word {
         Some(word) => version_of(word),

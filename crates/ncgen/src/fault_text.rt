@@ -1,9 +1,8 @@
 //! The line of each fault.
 
-ghost use Rattle.std.specs.Prelude.{◌≡◌, [], ◌∷◌, codes, decimal};
-ghost use Rattle.nc_base.specs.Bytes.{concat_parts};
+ghost use Rattle.std.specs.Prelude.{◌≡◌};
 ghost use Rattle.devices.specs.Sinks.{Wrote};
-ghost use Rattle.ncgen.specs.Faults.{cdl_text, fault_text, input_line, input_words, kind_words, line_of, line_of_failure, line_of_text, opt_fault_line, output_words, place_text, program_words, text_name, usage_line};
+ghost use Rattle.ncgen.specs.Faults.{cdl_text, fault_text, input_line, input_words, kind_words, line_number, line_of, line_of_failure, line_of_text, opt_fault_line, output_words, place_text, program_words, text_name, usage_line};
 
 use crate::failure::{Failure, InputFault, OutputFault};
 use crate::fault::{GenFault, TextFault};
@@ -141,7 +140,7 @@ fn put_place<W: Sink>(sink: &mut W, kind: CdlKind, line: u64) -> Result<(), Writ
 /// Writes the number of a line.
 #[tactic(auto, using(devices::proofs::Writes::writes))]
 fn put_number<W: Sink>(sink: &mut W, line: u64) -> Result<(), WriteFailed>
-    ensures { Wrote W.view sink.old sink.new (concat_parts (codes "line " ∷ decimal line ∷ codes ": " ∷ [])) result }
+    ensures { Wrote W.view sink.old sink.new (line_number line) result }
 {
     put(sink, b"line ")?;
     put_decimal(sink, line as u128)?;

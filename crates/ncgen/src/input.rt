@@ -1,8 +1,7 @@
 //! The text that is asked for.
 
-ghost use Rattle.std.specs.Prelude.{◌≡◌, option_map, string_bytes};
-ghost use Rattle.devices.specs.Readers.{view_of};
-ghost use Rattle.ncgen.specs.Inputs.{inputs, OpensText, ReadsAt, ReadsInput};
+ghost use Rattle.std.specs.Prelude.{option_map, string_bytes};
+ghost use Rattle.ncgen.specs.Inputs.{inputs, opening, reading, OpensText, ReadsAt, ReadsInput};
 
 use crate::failure::InputFault;
 use crate::reading::read_text;
@@ -20,7 +19,12 @@ pub fn read_input<T: Texts, R: Read>(
     file: &Option<String>,
     input: &mut CountedRead<R>,
 ) -> Result<Vec<u8>, InputFault>
-    ensures { ReadsInput (inputs T.is_transparent (T.named texts.old) (T.view texts.old) (T.view texts.new) (view_of R.remaining input.old) (view_of R.remaining input.new)) (option_map string_bytes file.now) result }
+    ensures { ReadsInput
+        (inputs
+        (opening T.is_transparent T.named T.view texts.old texts.new)
+        (reading R.remaining input.old input.new))
+        (option_map string_bytes file.now)
+        result }
 {
     match file {
         Some(path) => read_path(texts, alloc, path.as_str()),

@@ -15,7 +15,11 @@ pub fn write_output<C: Creator>(
     prepared: &Prepared,
 ) -> Result<(), OutputFault>
     requires { IsReady prepared.now }
-    ensures { WritesAt (outputs C.is_transparent (C.view creator.old) (C.view creator.new)) path.now (file_of_prepared prepared.now) result }
+    ensures { WritesAt
+        (outputs C.is_transparent C.view creator.old creator.new)
+        path.now
+        (file_of_prepared prepared.now)
+        result }
 {
     let mut output = creator.create(path)?;
     let written = prepared.write(&mut output);

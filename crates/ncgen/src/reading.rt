@@ -2,7 +2,7 @@
 
 ghost use Rattle.std.specs.Prelude.{◌+◌, ◌<◌, ◌≤◌, ◌^◌, length, vec_len};
 ghost use Rattle.devices.specs.Readers.{view_of};
-ghost use Rattle.ncgen.specs.TextReads.{ReadsAtMost, ReadsPart, ReadsText};
+ghost use Rattle.ncgen.specs.TextReads.{ReadsAtMost, ReadsPart, ReadsTextOf};
 
 use crate::fault::TextFault;
 use devices::CountedRead;
@@ -26,7 +26,7 @@ pub fn read_text<R: Read>(
     max: usize,
 ) -> Result<Vec<u8>, TextFault>
     requires { max + 1 < 2 ^ 64 }
-    ensures text { ReadsText max (view_of R.remaining input.old) (view_of R.remaining input.new) result }
+    ensures text { ReadsTextOf R.remaining max input.old input.new result }
     ensures effort { ReadsAtMost max (view_of R.remaining input.old) (view_of R.remaining input.new) }
 {
     let mut buf = [0u8; PART];
@@ -50,7 +50,13 @@ fn read_part<R: Read>(
     requires room { 0 < length buf.old }
     requires within { vec_len text.old ≤ max }
     requires max { max + 1 < 2 ^ 64 }
-    ensures { ReadsPart max (view_of R.remaining input.old) (view_of R.remaining input.new) text.old.items text.new.items result }
+    ensures { ReadsPart
+        max
+        (view_of R.remaining input.old)
+        (view_of R.remaining input.new)
+        text.old.items
+        text.new.items
+        result }
 {
     let most = buf.len().min(max + 1 - text.len());
     let n = input.read_some(&mut buf[..most])?;

@@ -1,12 +1,12 @@
 //! A run of the program.
 
-ghost use Rattle.std.specs.Prelude.{◌≡◌, ◌⊎◌, map, option_map, string_bytes};
-ghost use Rattle.devices.specs.Readers.{view_of};
+ghost use Rattle.std.specs.Prelude.{option_map, string_bytes};
+ghost use Rattle.cli_base.specs.Arguments.{texts_of};
 ghost use Rattle.ncgen.specs.CommandLine.{asked_by};
-ghost use Rattle.ncgen.specs.Inputs.{inputs, PreparesInput};
+ghost use Rattle.ncgen.specs.Inputs.{inputs, opening, reading, PreparesInput};
 ghost use Rattle.ncgen.specs.Outputs.{outputs};
 ghost use Rattle.ncgen.specs.Prepared.{file_of_prepared, IsReady};
-ghost use Rattle.ncgen.specs.Runs.{Failed, GeneratesAsked, Succeeded, WritesAsked};
+ghost use Rattle.ncgen.specs.Runs.{GeneratesAsked, Runs, WritesAsked};
 
 use crate::command_line::options_by;
 use crate::failure::{Failure, InputFault};
@@ -35,9 +35,17 @@ pub fn run_with<T: Texts, C: Creator, R: Read, E: Sink>(
     input: &mut CountedRead<R>,
     err: &mut E,
 ) -> u8
-    ensures status { (result ≡ 0) ⊎ (result ≡ 1) }
-    ensures success { result ≡ 0 → Succeeded (inputs T.is_transparent (T.named texts.old) (T.view texts.old) (T.view texts.new) (view_of R.remaining input.old) (view_of R.remaining input.new)) (outputs C.is_transparent (C.view creator.old) (C.view creator.new)) (asked_by (map (λ word. word.now) words.now)) (E.view err.old) (E.view err.new) }
-    ensures failure { result ≡ 1 → Failed (inputs T.is_transparent (T.named texts.old) (T.view texts.old) (T.view texts.new) (view_of R.remaining input.old) (view_of R.remaining input.new)) (outputs C.is_transparent (C.view creator.old) (C.view creator.new)) (asked_by (map (λ word. word.now) words.now)) (E.view err.old) (E.view err.new) }
+    ensures { Runs
+        (record {
+          asked = asked_by (texts_of words.now);
+          inputs = inputs
+              (opening T.is_transparent T.named T.view texts.old texts.new)
+              (reading R.remaining input.old input.new);
+          outputs = outputs C.is_transparent C.view creator.old creator.new;
+          error = E.view err.old;
+          error_after = E.view err.new;
+        })
+        result }
 {
     match generate_asked(texts, creator, alloc, words, input) {
         Ok(()) => 0,
@@ -56,7 +64,13 @@ fn generate_asked<T: Texts, C: Creator, R: Read>(
     words: &[&str],
     input: &mut CountedRead<R>,
 ) -> Result<(), Failure>
-    ensures { GeneratesAsked (inputs T.is_transparent (T.named texts.old) (T.view texts.old) (T.view texts.new) (view_of R.remaining input.old) (view_of R.remaining input.new)) (outputs C.is_transparent (C.view creator.old) (C.view creator.new)) (asked_by (map (λ word. word.now) words.now)) result }
+    ensures { GeneratesAsked
+        (inputs
+        (opening T.is_transparent T.named T.view texts.old texts.new)
+        (reading R.remaining input.old input.new))
+        (outputs C.is_transparent C.view creator.old creator.new)
+        (asked_by (texts_of words.now))
+        result }
 {
     let options = options_by(alloc, words)?;
     match prepare_input(texts, alloc, &options, input) {
@@ -72,7 +86,13 @@ fn prepare_input<T: Texts, R: Read>(
     options: &GenOptions,
     input: &mut CountedRead<R>,
 ) -> Result<Prepared, InputFault>
-    ensures { PreparesInput (inputs T.is_transparent (T.named texts.old) (T.view texts.old) (T.view texts.new) (view_of R.remaining input.old) (view_of R.remaining input.new)) (option_map string_bytes options.now.file) options.now.kind result }
+    ensures { PreparesInput
+        (inputs
+        (opening T.is_transparent T.named T.view texts.old texts.new)
+        (reading R.remaining input.old input.new))
+        (option_map string_bytes options.now.file)
+        options.now.kind
+        result }
 {
     let text = read_input(texts, alloc, &options.file, input)?;
     Ok(prepare(alloc, text.as_slice(), options.kind)?)
@@ -85,7 +105,11 @@ fn write_asked<C: Creator>(
     prepared: &Prepared,
 ) -> Result<(), Failure>
     requires { IsReady prepared.now }
-    ensures { WritesAsked (outputs C.is_transparent (C.view creator.old) (C.view creator.new)) (option_map string_bytes out) (file_of_prepared prepared.now) result }
+    ensures { WritesAsked
+        (outputs C.is_transparent C.view creator.old creator.new)
+        (option_map string_bytes out)
+        (file_of_prepared prepared.now)
+        result }
 {
     match out {
         Some(path) => match write_output(creator, path.as_str(), prepared) {

@@ -14,12 +14,7 @@ use std::alloc::Global;
 impl<S: Source> Window<'_, S> {
     /// A dimension. Only one may have length 0, and `has_record` says whether one had.
     #[tactic(auto, using(crate::proofs::Parts::parts), unfolding(crate::specs::Reading::dim_at))]
-    fn dim(
-        &mut self,
-        alloc: Global,
-        version: Version,
-        has_record: bool,
-    ) -> Result<Dim, HeadFault>
+    fn dim(&mut self, alloc: Global, version: Version, has_record: bool) -> Result<Dim, HeadFault>
         requires { Opened S.is_transparent S.view self.old }
         ensures { Read S.is_transparent S.view self.old self.new (dim_at version has_record) result }
     {
