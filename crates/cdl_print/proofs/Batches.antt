@@ -53,14 +53,17 @@ batch_few ty size n rest prefix is least f =
     let few : length prefix / size_of ty * size_of ty ≤ 80 * size_of ty = omega (arith, short, whole) in
     omega (arith, length-numbers ty prefix, le_of_mul-le-mul_right {k = size_of ty} few (size_some ty))
 
+-- so many whole values have so many bytes
+pub length_taken : (size k : ℕ) (bytes : List ℕ) → k ≤ length bytes / size → length (take (k * size) bytes) ≡ k * size
+length_taken size k bytes few =
+    let whole : k * size ≤ length bytes / size * size = mul-le-mul_right size few in
+    omega (arith, whole, div-mul-le_self (length bytes) size, length-take (k * size) bytes)
+
 -- a count of values taken
 pub count_taken : (ty : NcType) (size k : ℕ) (bytes : List ℕ) → size ≡ size_of ty → k ≤ length bytes / size → length (numbers ty (take (k * size) bytes)) ≡ k
 count_taken ty size k bytes is few =
     let some : 0 < size = omega (arith, is, size_some ty) in
-    let whole : k * size ≤ length bytes / size * size = mul-le-mul_right size few in
-    let within : k * size ≤ length bytes = omega (arith, whole, div-mul-le_self (length bytes) size) in
-    let long : length (take (k * size) bytes) ≡ k * size = omega (arith, within, length-take (k * size) bytes) in
-    length-numbers ty (take (k * size) bytes) ∙ ap (λ s. length (take (k * size) bytes) / s) (sym is) ∙ ap (λ n. n / size) long ∙ mul-div_cancel k some
+    length-numbers ty (take (k * size) bytes) ∙ ap (λ s. length (take (k * size) bytes) / s) (sym is) ∙ ap (λ n. n / size) (length_taken size k bytes few) ∙ mul-div_cancel k some
 
 -- whole values of which there are bytes
 pub some_numbers : (ty : NcType) (bytes : List ℕ) → length bytes ≡ length (numbers ty bytes) * size_of ty → 0 < length bytes → 0 < length (numbers ty bytes)
@@ -71,10 +74,11 @@ some_numbers ty bytes whole some = by (length (numbers ty bytes)) whole
     by (suc n) e = omega arith
 
 -- the values that go on in a row and the others
-pub row_parts : (ty : NcType) (n : ℕ) (bytes row later : List ℕ) → n ≡ length (numbers ty (take n bytes)) * size_of ty → n ≤ length bytes → row ≡ take n bytes → later ≡ drop n bytes
+pub row_parts : (ty : NcType) (n : ℕ) (bytes row later : List ℕ) → length (take n bytes) ≡ length (numbers ty (take n bytes)) * size_of ty → n ≤ length bytes → row ≡ take n bytes → later ≡ drop n bytes
     → numbers ty bytes ≡ numbers ty row ++ numbers ty later
-row_parts ty n bytes row later whole within f o =
+row_parts ty n bytes row later whole_values within f o =
     let k = length (numbers ty (take n bytes)) in
+    let whole : n ≡ k * size_of ty = omega (arith, whole_values, within, length-take n bytes) in
     numbers-split ty k bytes (omega (arith, whole, within))
     ∙ ap (λ m. numbers ty (take m bytes) ++ numbers ty (drop m bytes)) (sym whole)
     ∙ ap (λ (x : List ℕ). numbers ty x ++ numbers ty (drop n bytes)) (sym f)

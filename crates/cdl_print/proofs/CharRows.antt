@@ -1,19 +1,22 @@
 -- The characters of a variable, some after others.
-use Rattle.std.proofs.Common.{◌≡◌, ℕ, zero, suc, ℤ, pos, ◌+◌, ◌-◌, ◌%◌, ◌<◌, ◌≤◌, Bool, true, false, cond, not, ◌&&◌, ◌||◌, List, [], ◌∷◌, ◌++◌, length, map, max, take, drop, replicate, sym, ◌∙◌, ap, refl, subst, arith, append_assoc, append-nil, length-append, Result, Ok, Err}
+use Rattle.std.proofs.Common.{◌≡◌, ℕ, zero, suc, ℤ, pos, ◌+◌, ◌-◌, ◌%◌, ◌<◌, ◌≤◌, Bool, true, false, cond, not, ◌&&◌, ◌||◌, List, [], ◌∷◌, ◌++◌, length, map, max, take, drop, replicate, sym, ◌/◌, ◌∙◌, ap, refl, subst, arith, append_assoc, append-nil, length-append, Result, Ok, Err}
 use Rattle.std.specs.Prelude.{◌==◌, OnOk}
 use Rattle.std.specs.List.{list_all, prefix_len}
 use Rattle.std.proofs.lemmas.Bool.{false≢true, cond-false, cond-true}
 use Rattle.std.proofs.lemmas.Bool.Decides.{nat_tests}
 use Rattle.std.proofs.lemmas.Grind.{flat_map-append}
-use Rattle.std.proofs.lemmas.List.{length-map, length-take-le, map-append, take-append-drop}
+use Rattle.std.proofs.lemmas.List.{nil_from_length, length-map, length-take-le, map-append, take-append-drop}
 use Rattle.std.proofs.lemmas.List.Sums.{prefix_len-le-length}
 use Rattle.nc_base.specs.Escapes.{escaped_in_string, escaped_text, is_literal}
+use Rattle.nc_base.specs.Numbers.{numbers, numbers_from}
 use Rattle.nc_base.specs.ValueText.{Look, is_char, begins_row, char_lead, char_text, char_piece, held, piece, pieces, variable_prefix, later_pieces}
+use Rattle.nc_base.specs.declared.nc_type.NcType.{NcType}
+use Rattle.nc_base.specs.declared.nc_type.NcType.TheVariants.{Byte, Char, Short, Int, Ubyte, Ushort, Uint, Int64, Uint64}
 use Rattle.nc_base.proofs.ValueLaws.{place-add, held_other, held_nul, held_first, held_untrimmed}
 use Rattle.devices.specs.Sinks.{SinkView, Appended, FailedPartway, Written}
 use Rattle.cdl_print.specs.Pieces.{IsRun}
 use Rattle.cdl_print.specs.Leads.{next_char_lead}
-use Rattle.cdl_print.specs.Printing.{run_text, run_bytes, row_index_after_run, IsAfterRun, IsAfter, PrintsMore}
+use Rattle.cdl_print.specs.Printing.{run_text, run_bytes, row_index_after_run, IsAfterRun, IsAfter, values_after, IsAfterNext, WrittenNext}
 use Rattle.cdl_print.specs.declared.progress.Progress.{Progress}
 use Rattle.cdl_print.proofs.Begun.{IsBegun, begun_at_first}
 use Rattle.cdl_print.proofs.Runs.{flat_map_itself, literal_itself, prefix_is_run}
@@ -212,19 +215,45 @@ after_next look xs p q run is some literal fits following next = record {
 in_row_at : (look : Look) (xs : List ℤ) (p : Progress) (run : List ℕ) → IsAfter look xs p → (1 < length run → p.row_index + length run ≤ look.row) → IsInRow look xs run
 in_row_at look xs p run following fits = λ long. let f = fits long in omega (arith, following.row_index)
 
+-- characters as numbers
+chars_from : (bytes : List ℕ) → numbers_from Char (length bytes) bytes ≡ map pos bytes
+chars_from [] = refl
+chars_from (b ∷ bytes) = ap (λ (xs : List ℤ). pos b ∷ xs) (chars_from bytes)
+
+numbers_of_chars : (bytes : List ℕ) → numbers Char bytes ≡ map pos bytes
+unfolding numbers
+numbers_of_chars bytes = ap (λ n. numbers_from Char n bytes) (let e : length bytes / 1 ≡ length bytes = omega arith in e) ∙ chars_from bytes
+
+pub chars_are : (ty : NcType) (bytes : List ℕ) → is_char ty ≡ true → map pos bytes ≡ numbers ty bytes
+chars_are Char bytes is = sym (numbers_of_chars bytes)
+chars_are Byte bytes is = absurd (false≢true is)
+chars_are Short bytes is = absurd (false≢true is)
+chars_are Int bytes is = absurd (false≢true is)
+chars_are Ubyte bytes is = absurd (false≢true is)
+chars_are Ushort bytes is = absurd (false≢true is)
+chars_are Uint bytes is = absurd (false≢true is)
+chars_are Int64 bytes is = absurd (false≢true is)
+chars_are Uint64 bytes is = absurd (false≢true is)
+
 -- a run is printed, or the sink failed inside of its text
-pub goes_run : {X E : Type 0} (look : Look) (run : List ℕ) (p q : Progress) (old new : SinkView) (r : Result X E) → is_char look.ty ≡ true → 0 < length run → IsRun is_literal run
-    → (1 < length run → p.row_index + length run ≤ look.row) → Written old new (run_bytes look p run) r → OnOk r (IsAfterRun look p run q) → PrintsMore look (map pos run) p q old new r
-goes_run look run p q old new (Ok done) is some literal fits wrote next = record {
+pub after_run : {X E : Type 0} (look : Look) (run : List ℕ) (p q : Progress) (r : Result X E) → is_char look.ty ≡ true → 0 < length run → IsRun is_literal run
+    → (1 < length run → p.row_index + length run ≤ look.row) → OnOk r (IsAfterRun look p run q) → OnOk r (IsAfterNext (values_after look p (numbers look.ty run)) q)
+after_run look run p q (Ok done) is some literal fits next = rw (← chars_are look.ty run is) (record {
   position = omega (arith, next.position, length-map run pos);
-  failures = wrote.failures;
   following = λ xs following. after_next look xs p q run is some literal (in_row_at look xs p run following fits) following next;
+})
+after_run look run p q (Err failure) is some literal fits next = tt
+
+pub run_written : {X E : Type 0} (look : Look) (run : List ℕ) (p : Progress) (old new : SinkView) (r : Result X E) → is_char look.ty ≡ true → 0 < length run → IsRun is_literal run
+    → (1 < length run → p.row_index + length run ≤ look.row) → Written old new (run_bytes look p run) r → WrittenNext old new (values_after look p (numbers look.ty run)) r
+run_written look run p old new (Ok done) is some literal fits wrote = rw (← chars_are look.ty run is) (record {
+  failures = wrote.failures;
   appended = λ xs following. subst (Appended old new) (bytes_are look xs p run is some literal (in_row_at look xs p run following fits) following) wrote;
-}
-goes_run look run p q old new (Err failure) is some literal fits wrote next = record {
+})
+run_written look run p old new (Err failure) is some literal fits wrote = rw (← chars_are look.ty run is) (record {
   failures = wrote.failures;
   partway = λ xs following. subst (FailedPartway old new) (bytes_are look xs p run is some literal (in_row_at look xs p run following fits) following) wrote;
-}
+})
 
 -- ---- NULs
 
@@ -269,9 +298,16 @@ run_is n (suc k) row row_index bytes some within fits is =
 
 -- ---- the loop over characters
 
-pub chars_parts : (n : ℕ) (rest prefix back : List ℕ) → prefix ≡ take n rest → back ≡ drop n rest → map pos rest ≡ map pos prefix ++ map pos back
-chars_parts n rest prefix back f b = ap (map pos) (sym (take-append-drop n rest) ∙ ap (λ (x : List ℕ). x ++ drop n rest) (sym f) ∙ ap (λ (x : List ℕ). prefix ++ x) (sym b)) ∙ map-append pos prefix back
+chars_apart : (n : ℕ) (rest prefix back : List ℕ) → prefix ≡ take n rest → back ≡ drop n rest → map pos rest ≡ map pos prefix ++ map pos back
+chars_apart n rest prefix back f b = ap (map pos) (sym (take-append-drop n rest) ∙ ap (λ (x : List ℕ). x ++ drop n rest) (sym f) ∙ ap (λ (x : List ℕ). prefix ++ x) (sym b)) ∙ map-append pos prefix back
 
--- no more characters are to come than the variable has
-pub chars_within : (rest bytes : List ℕ) (m n : ℕ) → m + length (map pos rest) ≡ n + length (map pos bytes) → m + length rest ≡ n + length bytes
-chars_within rest bytes m n e = omega (arith, e, length-map rest pos, length-map bytes pos)
+pub chars_parts : (ty : NcType) (n : ℕ) (rest prefix back : List ℕ) → is_char ty ≡ true → prefix ≡ take n rest → back ≡ drop n rest → numbers ty rest ≡ numbers ty prefix ++ numbers ty back
+chars_parts ty n rest prefix back is f b =
+    sym (chars_are ty rest is) ∙ chars_apart n rest prefix back f b ∙ ap (λ (xs : List ℤ). xs ++ map pos back) (chars_are ty prefix is) ∙ ap (λ (xs : List ℤ). numbers ty prefix ++ xs) (chars_are ty back is)
+
+-- as many numbers as characters
+pub chars_count : (ty : NcType) (bytes : List ℕ) → is_char ty ≡ true → length (numbers ty bytes) ≡ length bytes
+chars_count ty bytes is = ap length (sym (chars_are ty bytes is)) ∙ length-map bytes pos
+
+pub no_chars : (ty : NcType) (bytes : List ℕ) → is_char ty ≡ true → length bytes ≡ 0 → numbers ty bytes ≡ []
+no_chars ty bytes is none = sym (chars_are ty bytes is) ∙ ap (map pos) (nil_from_length bytes none)

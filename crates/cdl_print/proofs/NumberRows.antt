@@ -1,16 +1,20 @@
 -- The numbers of a variable, one after another.
-use Rattle.std.proofs.Common.{◌≡◌, ℕ, ℤ, ◌+◌, ◌-◌, ◌%◌, ◌<◌, ◌≤◌, Bool, true, false, cond, not, List, [], ◌∷◌, ◌++◌, length, sym, ◌∙◌, ap, refl, subst, arith, append_assoc, append-nil, length-append, ⊎_elim, nat_lt, Result, Ok, Err}
+use Rattle.std.proofs.Common.{◌≡◌, ℕ, ℤ, pos, negsuc, unsigned_abs, ◌+◌, ◌-◌, ◌%◌, ◌<◌, ◌≤◌, Bool, true, false, cond, not, List, [], ◌∷◌, ◌++◌, length, take, sym, ◌∙◌, ap, refl, subst, arith, append_assoc, append-nil, length-append, ⊎_elim, nat_lt, Result, Ok, Err}
 use Rattle.std.specs.Prelude.{codes, ◌==◌, ◌&&◌, unwrap_or}
+use Rattle.std.specs.Fmt.{decimal}
 use Rattle.std.proofs.lemmas.Bool.{OnTrue_at, OnTrue_from, false≢true, cases_lt, cond-false, lt-ltb}
 use Rattle.std.proofs.lemmas.Bool.Decides.{nat_tests}
 use Rattle.nc_base.specs.ValueText.{Look, is_char, begins_row, column, number_text, number_lead, line_break, number_piece, piece, variable_prefix, later_pieces}
-use Rattle.nc_base.proofs.ValueLaws.{prefix-append, later_none, later_one, column-flat, column-broken, number_flat, place-add}
+use Rattle.nc_base.proofs.ValueLaws.{prefix-append, later_one, column-flat, column-broken, number_flat, place-add}
 use Rattle.devices.specs.Sinks.{SinkView, append, is_transparent, Appended, FailedPartway, Written}
+use Rattle.cdl_print.specs.Fills.{IsFillOf, shows_below_100}
 use Rattle.cdl_print.specs.Leads.{gap_bytes, row_gap, gap_in_row, next_gap, columns_left_after}
-use Rattle.cdl_print.specs.Printing.{gathered, number_bytes, bytes_in_row, columns_left_in_row, text_in_row, columns_left_after_text, IsAfterNumber, IsAfter, PrintedMore, PrintsMore, PrintedInRow}
-use Rattle.cdl_print.proofs.PrintingLaws.{printed_more_then}
+use Rattle.cdl_print.specs.Printing.{gathered, number_bytes, bytes_in_row, columns_left_in_row, text_in_row, columns_left_after_text, IsAfterNumber, IsAfter, values_after, NextValues, IsAfterNext, AppendedNext, WrittenNext, PrintedInRow, PutAt, PutInRow}
+use Rattle.cdl_print.proofs.PrintingLaws.{after_then, next_appended, none_appended}
 use Rattle.cdl_print.specs.declared.gap.Gap.{Gap}
 use Rattle.cdl_print.specs.declared.gap.Gap.TheVariants.{Space, FirstRow, NextRow, Comma, NewLine}
+use Rattle.cdl_print.specs.declared.number_line.Line.{Line}
+use Rattle.cdl_print.specs.declared.printed_fill.PrintedFill.{PrintedFill}
 use Rattle.cdl_print.specs.declared.progress.Progress.{Progress}
 
 -- a gap is short
@@ -115,27 +119,26 @@ unfolding append is_transparent
 gathered_is text pieces appended = ap (λ (s : SinkView). unwrap_or s.taken []) (OnTrue_at {P = gathered text ≡ append (gathered []) pieces} refl appended.taken)
 
 -- a number is gathered
-pub printed_more_number : (look : Look) (x : ℤ) (p q : Progress) (old new : List ℕ) → is_char look.ty ≡ false
-    → new ≡ old ++ number_bytes look p x → IsAfterNumber look p x q → PrintedMore look (x ∷ []) p q (gathered old) (gathered new)
-printed_more_number look x p q old new is text next = record {
-  position = next.position;
+pub after_number : (look : Look) (x : ℤ) (p q : Progress) → is_char look.ty ≡ false → IsAfterNumber look p x q → IsAfterNext (values_after look p (x ∷ [])) q
+after_number look x p q is next = record { position = next.position; following = λ xs following. after_next look xs p q x is following next }
+
+pub number_appended : (look : Look) (x : ℤ) (p : Progress) (old new : List ℕ) → is_char look.ty ≡ false
+    → new ≡ old ++ number_bytes look p x → AppendedNext (values_after look p (x ∷ [])) (gathered old) (gathered new)
+number_appended look x p old new is text = record {
   failures = refl;
-  following = λ xs following. after_next look xs p q x is following next;
   appended = λ xs following. subst (Appended (gathered old) (gathered new)) (bytes_are look xs p x is following) (gathered_appended old new (number_bytes look p x) text);
 }
 
 -- what was gathered is written in one piece
-pub goes_gathered : {X E : Type 0} (look : Look) (ys : List ℤ) (p q : Progress) (text : List ℕ) (old new : SinkView) (r : Result X E)
-    → PrintedMore look ys p q (gathered []) (gathered text) → Written old new text r → PrintsMore look ys p q old new r
-goes_gathered look ys p q text old new (Ok done) printed_more wrote = record {
-  position = printed_more.position;
+pub gathered_written : {X E : Type 0} (n : NextValues) (text : List ℕ) (old new : SinkView) (r : Result X E)
+    → AppendedNext n (gathered []) (gathered text) → Written old new text r → WrittenNext old new n r
+gathered_written n text old new (Ok done) put wrote = record {
   failures = wrote.failures;
-  following = printed_more.following;
-  appended = λ xs following. subst (Appended old new) (gathered_is text _ (printed_more.appended xs following)) wrote;
+  appended = λ xs following. subst (Appended old new) (gathered_is text _ (put.appended xs following)) wrote;
 }
-goes_gathered look ys p q text old new (Err failure) printed_more wrote = record {
+gathered_written n text old new (Err failure) put wrote = record {
   failures = wrote.failures;
-  partway = λ xs following. subst (FailedPartway old new) (gathered_is text _ (printed_more.appended xs following)) wrote;
+  partway = λ xs following. subst (FailedPartway old new) (gathered_is text _ (put.appended xs following)) wrote;
 }
 
 -- ---- numbers of one row
@@ -144,7 +147,7 @@ goes_gathered look ys p q text old new (Err failure) printed_more wrote = record
 comma_before : (columns_left len : ℕ) → len ≤ 2 → 6 ≤ columns_left → gap_in_row columns_left len ≡ Comma
 comma_before columns_left len short enough = let on_line : nat_lt columns_left (len + 4) ≡ false = grind (arith, nat_tests) in cond-false (nat_lt columns_left (len + 4)) NewLine Comma on_line
 
-pub text_after_comma : (columns_left : ℕ) (before now new text : List ℕ) → length text ≤ 2 → 6 ≤ columns_left → now ≡ before ++ codes ", " → new ≡ now ++ text
+text_after_comma : (columns_left : ℕ) (before now new text : List ℕ) → length text ≤ 2 → 6 ≤ columns_left → now ≡ before ++ codes ", " → new ≡ now ++ text
     → new ≡ before ++ text_in_row columns_left text
 text_after_comma columns_left before now new text short enough comma written =
     written
@@ -152,28 +155,50 @@ text_after_comma columns_left before now new text short enough comma written =
     ∙ append_assoc before (codes ", ") text
     ∙ ap (λ g. before ++ (gap_bytes g ++ text)) (sym (comma_before columns_left (length text) short enough))
 
-pub columns_after_comma : (width columns_left len : ℕ) (text : List ℕ) → length text ≡ len → len ≤ 2 → 6 ≤ columns_left → columns_left - (2 + len) ≡ columns_left_after_text width columns_left text
+columns_after_comma : (width columns_left len : ℕ) (text : List ℕ) → length text ≡ len → len ≤ 2 → 6 ≤ columns_left → columns_left - (2 + len) ≡ columns_left_after_text width columns_left text
 columns_after_comma width columns_left len text long short enough =
     let comma = ap (λ g. columns_left_after g columns_left width - length text) (comma_before columns_left (length text) (omega (arith, long)) enough) in
     omega (arith, comma, long)
 
+-- a number below 100 that isn't the fill value prints in decimal
+pub shown_digits : (look : Look) (fill : PrintedFill) (number : ℤ) → IsFillOf look fill → shows_below_100 fill.below_100 number ≡ true → number_text look number ≡ decimal (unsigned_abs number)
+shown_digits look fill (pos n) is shown =
+    let parts = both (nat_lt n 100) (n == fill.below_100) shown in
+    let below : n < 100 = let lt = parts.0 in grind (arith, nat_tests) in
+    ap (λ b. cond b (codes "_") (decimal n)) (sym (is.below_100 n below) ∙ parts.1)
+  where
+    both : (a b : Bool) → (a && not b) ≡ true → (a ≡ true) × (b ≡ false)
+    both true false e = (refl, refl)
+    both true true e = absurd (false≢true e)
+    both false b e = absurd (false≢true e)
+shown_digits look fill (negsuc n) is shown = absurd (false≢true shown)
+
+-- a text of one or two bytes is put after a comma
+pub put_after_comma : (width : ℕ) (line : Line) (old now new : List ℕ) (start len : ℕ) (text : List ℕ) → length text ≡ len → len ≤ 2 → 6 ≤ line.columns_left
+    → PutAt line.end old start now (codes ", ") → PutAt start now (start + len) new text → PutInRow width text line old (record { end = start + len; columns_left = line.columns_left - (2 + len) }) new
+put_after_comma width line old now new start len text long short enough comma written = record {
+  text = text_after_comma line.columns_left (take line.end old) (take start now) (take (start + len) new) text (omega (arith, long, short)) enough comma written;
+  columns_left = columns_after_comma width line.columns_left len text long short enough;
+}
+
 -- no number
 pub in_row_none : (look : Look) (columns_left : ℕ) (text : List ℕ) → PrintedInRow look [] columns_left columns_left text text
 unfolding append
-in_row_none look columns_left text p q is before after some within fits position row_index =
-    let same : q.row_index ≡ p.row_index = row_index ∙ cond-false (p.row_index + 0 == look.row) 0 (p.row_index + 0) (grind (arith, nat_tests)) ∙ omega arith in
-    let place : q.position ≡ p.position = omega (arith, position) in
-    record {
-      position = position;
-      failures = refl;
-      following = λ xs following. subst (λ (ys : List ℤ). IsAfter look ys q) (sym (append-nil xs)) (record {
-        position = place ∙ following.position;
-        row_index = same ∙ following.row_index;
-        columns_left = λ c. after ∙ sym before ∙ following.columns_left c;
-        held = λ c. absurd (false≢true (sym is ∙ c));
-      });
-      appended = λ xs following. subst (Appended (gathered text) (gathered text)) (sym (later_none look xs)) (gathered_appended text text [] (sym (append-nil text)));
-    }
+in_row_none look columns_left text p is before some within fits = (none_appended look p (gathered text), at_same)
+  where
+    at_same : (q : Progress) → q.columns_left ≡ columns_left → q.position ≡ p.position + 0 → q.row_index ≡ cond (p.row_index + 0 == look.row) 0 (p.row_index + 0) → IsAfterNext (values_after look p []) q
+    at_same q after position row_index =
+        let same : q.row_index ≡ p.row_index = row_index ∙ cond-false (p.row_index + 0 == look.row) 0 (p.row_index + 0) (grind (arith, nat_tests)) ∙ omega arith in
+        let place : q.position ≡ p.position = omega (arith, position) in
+        record {
+          position = position;
+          following = λ xs following. subst (λ (ys : List ℤ). IsAfter look ys q) (sym (append-nil xs)) (record {
+            position = place ∙ following.position;
+            row_index = same ∙ following.row_index;
+            columns_left = λ c. after ∙ sym before ∙ following.columns_left c;
+            held = λ c. absurd (false≢true (sym is ∙ c));
+          });
+        }
 
 -- how far the values are printed after n more, none of which is its row's last
 abbrev within_row : Progress → ℕ → ℕ → Progress
@@ -189,22 +214,23 @@ within_row p n columns_left = record {
 -- a number more
 pub in_row_next : (look : Look) (ys : List ℤ) (x : ℤ) (first before after : ℕ) (old now new : List ℕ) → PrintedInRow look ys first before old now
     → new ≡ now ++ bytes_in_row look before x → after ≡ columns_left_in_row look before x → PrintedInRow look (ys ++ x ∷ []) first after old new
-in_row_next look ys x first before after old now new printed text columns p q is start finish some within fits position row_index =
+in_row_next look ys x first before after old now new printed text columns p is start some within fits =
     let n = length-append ys (x ∷ []) in
     let m = within_row p (length ys) before in
     let more : m.row_index + 1 ≡ p.row_index + length (ys ++ x ∷ []) = omega (arith, n) in
     let not_first : (m.row_index == 0) ≡ false = grind (arith, nat_tests) in
     let not_full : (p.row_index + length ys == look.row) ≡ false = let lt : p.row_index + length ys < look.row = omega (arith, n, fits) in grind (arith, nat_tests) in
     let gap : next_gap look m (length (number_text look x)) ≡ gap_in_row before (length (number_text look x)) = cond-false (m.row_index == 0) _ _ not_first in
-    printed_more_then look ys (x ∷ []) p m q (gathered old) (gathered now) (gathered new)
-    (printed p m is start refl some within (omega (arith, n, fits)) refl (sym (cond-false (p.row_index + length ys == look.row) 0 (p.row_index + length ys) not_full)))
-    (printed_more_number look x m q now new is
-    (text ∙ ap (λ g. now ++ (gap_bytes g ++ number_text look x)) (sym gap))
-    (record {
-      position = omega (arith, position, n);
-      row_index = row_index ∙ ap (λ k. cond (k == look.row) 0 k) (sym more);
-      columns_left = finish ∙ columns ∙ ap (λ g. columns_left_after g before look.width - length (number_text look x)) (sym gap);
-    }))
+    let first_ones = printed p is start some within (omega (arith, n, fits)) in
+    let between = first_ones.1 m refl refl (sym (cond-false (p.row_index + length ys == look.row) 0 (p.row_index + length ys) not_full)) in (
+      next_appended look ys (x ∷ []) p m (gathered old) (gathered now) (gathered new) between first_ones.0
+          (number_appended look x m now new is (text ∙ ap (λ g. now ++ (gap_bytes g ++ number_text look x)) (sym gap))),
+      λ q finish position row_index. after_then look ys (x ∷ []) p m q between (after_number look x m q is (record {
+        position = omega (arith, position, n);
+        row_index = row_index ∙ ap (λ k. cond (k == look.row) 0 k) (sym more);
+        columns_left = finish ∙ columns ∙ ap (λ g. columns_left_after g before look.width - length (number_text look x)) (sym gap);
+      })),
+    )
 
 -- of all numbers, those done are printed in a row, and the others are to come
 pub record IsInRow (look : Look) (first now : ℕ) (old new : List ℕ) (others all : List ℤ) : Type 0 where

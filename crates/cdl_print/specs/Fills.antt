@@ -24,7 +24,15 @@ abbrev pub shows_below_100 : ℕ → ℤ → Bool
 shows_below_100 fill (pos n) = nat_lt n 100 && not (n == fill)
 shows_below_100 fill (negsuc n) = false
 
+-- of the numbers below 100, this one alone prints as `_`
+abbrev pub IsFillBelow100 : Look → ℕ → Type 0
+IsFillBelow100 look fill = (n : ℕ) → n < 100 → (n == fill) ≡ prints_as_fill look (pos n)
+
+-- of the numbers that have 64 bits with a sign, this one alone prints as `_`, or none if there is none
+abbrev pub IsNarrowFill : Look → Option ℤ → Type 0
+IsNarrowFill look fill = (number : ℤ) → FitsSigned w64 number → is_fill fill number ≡ prints_as_fill look number
+
 -- by this fill value each number prints as `_` that does so by the look
 pub record IsFillOf (look : Look) (fill : PrintedFill) : Type 0 where
-  pub below_100 : (n : ℕ) → n < 100 → (n == fill.below_100) ≡ prints_as_fill look (pos n)
-  pub narrow : (number : ℤ) → FitsSigned w64 number → is_fill fill.narrow number ≡ prints_as_fill look number
+  pub below_100 : IsFillBelow100 look fill.below_100
+  pub narrow : IsNarrowFill look fill.narrow

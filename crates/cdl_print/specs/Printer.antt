@@ -1,11 +1,9 @@
 -- What the printer of a variable's values has done, in words for its callers.
-use Rattle.std.specs.Prelude.{ℕ, ◌≡◌, ◌+◌, ◌*◌, ◌≤◌, ℤ, Bool, true, false, List, ◌++◌, length, Result, Ok, Err}
-use Rattle.nc_base.specs.Numbers.{numbers}
-use Rattle.nc_base.specs.Types.{size_of}
+use Rattle.std.specs.Prelude.{ℕ, ◌≡◌, ◌+◌, ℤ, Bool, true, false, List, ◌++◌, length, Result, Ok, Err}
 use Rattle.nc_base.specs.ValueText.{Look, later_pieces}
-use Rattle.devices.specs.Sinks.{SinkView, Appended, FailedPartway, HasFailed}
-use Rattle.cdl_print.specs.Leads.{look_at}
-use Rattle.cdl_print.specs.Printing.{IsAfter}
+use Rattle.devices.specs.Sinks.{SinkView, Appended, FailedPartway, HasFailed, Wrote}
+use Rattle.cdl_print.specs.Leads.{look_at, values, AreWhole}
+use Rattle.cdl_print.specs.Printing.{next, AreLeft, IsAfter}
 use Rattle.cdl_print.specs.declared.printer.ValuePrinter.{ValuePrinter}
 
 -- the look of the printer's variable
@@ -20,10 +18,14 @@ position_of printer = printer.progress.position
 abbrev pub has_failed : ValuePrinter → Bool
 has_failed printer = printer.has_failed
 
+-- if no write of the printer had failed: this part of its variable's text is written, or the sink has failed
+abbrev pub WrotePart : {S X E : Type 0} → ValuePrinter → (S → SinkView) → S → S → (Look → List ℕ) → Result X E → Type 0
+WrotePart printer view old new part result = has_failed printer ≡ false → Wrote view old new (part (look_in printer)) result
+
 -- the bytes are whole values, and no more than the variable has beside those printed
 pub record Takes (printer : ValuePrinter) (bytes : List ℕ) : Type 0 where
-  pub whole : length bytes ≡ length (numbers (look_in printer).ty bytes) * size_of (look_in printer).ty
-  pub within : position_of printer + length (numbers (look_in printer).ty bytes) ≤ (look_in printer).total
+  pub whole : AreWhole printer.layout bytes
+  pub within : AreLeft (next printer.layout printer.progress bytes)
 
 -- the printer of a variable of this look has printed the values xs, and no write of it has failed
 pub record HasPrinted (look : Look) (xs : List ℤ) (printer : ValuePrinter) : Type 0 where
@@ -46,7 +48,7 @@ pub record Stopped (ys : List ℤ) (p q : ValuePrinter) (old new : SinkView) : T
   pub failures : has_failed p ≡ false → HasFailed old.failures new
   pub partway : (look : Look) (xs : List ℤ) → HasPrinted look xs p → FailedPartway old new (later_pieces look xs ys)
 
--- what a call that prints the values ys has done
-abbrev pub Prints : {X E : Type 0} → List ℤ → ValuePrinter → ValuePrinter → SinkView → SinkView → Result X E → Type 0
-Prints ys p q old new (Ok done) = Printed ys p q old new
-Prints ys p q old new (Err failure) = Stopped ys p q old new
+-- what a call that prints the values read from these bytes has done
+abbrev pub Prints : {X E : Type 0} → List ℕ → ValuePrinter → ValuePrinter → SinkView → SinkView → Result X E → Type 0
+Prints bytes p q old new (Ok done) = Printed (values p.layout bytes) p q old new
+Prints bytes p q old new (Err failure) = Stopped (values p.layout bytes) p q old new

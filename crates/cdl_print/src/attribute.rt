@@ -1,10 +1,10 @@
 //! Attributes as CDL writes them.
 
-ghost use Rattle.std.specs.Prelude.{◌≡◌, [], ◌∷◌, codes};
-ghost use Rattle.nc_base.specs.Bytes.{concat_parts};
+ghost use Rattle.std.specs.Prelude.{◌≡◌};
 ghost use Rattle.nc_base.specs.Escapes.{escaped_name};
 ghost use Rattle.nc_base.specs.HeadText.{att_line, att_lines, att_values, char_values, without_trailing_nuls};
 ghost use Rattle.devices.specs.Sinks.{Wrote};
+ghost use Rattle.cdl_print.specs.Pieces.{att_prefix};
 
 use crate::name::put_name;
 use crate::number::put_numbers;
@@ -12,7 +12,7 @@ use crate::string::put_broken_text;
 use devices::{Sink, WriteFailed, put};
 use nc_base::{Att, NcType};
 
-/// Writes a line for each attribute of the variable with this name; of the dataset where the name is empty.
+/// Writes a line for each attribute of the variable with this name, or of the dataset if the name is empty.
 #[tactic(auto, using(devices::proofs::Writes::writes), unfolding(nc_base::specs::HeadText::att_lines))]
 pub fn put_att_lines<W: Sink>(sink: &mut W, owner: &[u8], atts: &[Att]) -> Result<(), WriteFailed>
     ensures { Wrote W.view sink.old sink.new (att_lines (escaped_name owner.now) atts.now) result }
@@ -34,10 +34,10 @@ fn put_att_line<W: Sink>(sink: &mut W, owner: &[u8], att: &Att) -> Result<(), Wr
     put(sink, b" ;\n")
 }
 
-/// Writes what an attribute is called, with its variable.
+/// Writes the name of an attribute after that of its variable.
 #[tactic(auto, using(devices::proofs::Writes::writes))]
 fn put_att_name<W: Sink>(sink: &mut W, owner: &[u8], name: &[u8]) -> Result<(), WriteFailed>
-    ensures { Wrote W.view sink.old sink.new (concat_parts (codes "\t\t" ∷ escaped_name owner.now ∷ codes ":" ∷ escaped_name name.now ∷ [])) result }
+    ensures { Wrote W.view sink.old sink.new (att_prefix owner.now name.now) result }
 {
     put(sink, b"\t\t")?;
     put_name(sink, owner)?;
@@ -65,7 +65,7 @@ fn put_char_values<W: Sink>(sink: &mut W, vals: &[u8]) -> Result<(), WriteFailed
     put(sink, b"\"")
 }
 
-/// The bytes without the NULs at their end.
+/// Returns the bytes without the NULs at their end.
 fn without_trailing_nuls(bytes: &[u8]) -> &[u8]
     ensures { result.now ≡ without_trailing_nuls bytes.now }
 {

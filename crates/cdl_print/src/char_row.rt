@@ -1,12 +1,12 @@
 //! The characters of a variable as CDL writes them.
 
-ghost use Rattle.std.specs.Prelude.{◌≡◌, ◌+◌, ◌<◌, ◌≤◌, ◌==◌, ◌||◌, ◌&&◌, ◌^◌, true, not, pos, map, length, take, replicate, if◌then◌else◌, OnOk};
+ghost use Rattle.std.specs.Prelude.{◌≡◌, ◌+◌, ◌<◌, ◌≤◌, ◌==◌, ◌||◌, ◌&&◌, ◌^◌, true, not, length, take, replicate, if◌then◌else◌, OnOk};
 ghost use Rattle.nc_base.specs.Escapes.{escaped_text, is_literal};
 ghost use Rattle.nc_base.specs.ValueText.{is_char};
 ghost use Rattle.devices.specs.Sinks.{Wrote};
 ghost use Rattle.cdl_print.specs.Leads.{look_at};
 ghost use Rattle.cdl_print.specs.Pieces.{IsRun};
-ghost use Rattle.cdl_print.specs.Printing.{is_one_nul, run_bytes, run_text, PrintsMore, IsAfterRun};
+ghost use Rattle.cdl_print.specs.Printing.{is_one_nul, next, next_run, run_text, IsAfterNext, IsAfterRun, WroteNext};
 
 use crate::escaped::{put_run, run_len};
 use crate::layout::Layout;
@@ -23,7 +23,8 @@ pub fn put_char_values<W: Sink>(
 ) -> Result<(), WriteFailed>
     requires character { is_char layout.now.ty ≡ true }
     requires within { progress.old.position + length bytes.now ≤ layout.now.total }
-    ensures { PrintsMore (look_at layout.now) (map pos bytes.now) progress.old progress.new (W.view sink.old) (W.view sink.new) result }
+    ensures after { OnOk result (IsAfterNext (next layout.now progress.old bytes.now) progress.new) }
+    ensures wrote { WroteNext W.view sink.old sink.new (next layout.now progress.old bytes.now) result }
 {
     let mut rest = bytes;
     while !rest.is_empty() {
@@ -34,7 +35,7 @@ pub fn put_char_values<W: Sink>(
     Ok(())
 }
 
-/// The length of the next run, from this position of a row on: of bytes that need no escape, up to the row's end, or of one byte.
+/// Returns the length of the next run from this index of a row on: of bytes that need no escape, up to the row's end, or of one.
 fn run_len_in_row(row: u128, row_index: u128, bytes: &[u8]) -> usize
     requires { 0 < length bytes.now }
     ensures some { 0 < result }
@@ -58,7 +59,8 @@ fn put_next_run<W: Sink>(
     requires some { 0 < length run.now }
     requires piece { IsRun is_literal run.now }
     requires in_row { 1 < length run.now → progress.old.row_index + length run.now ≤ layout.now.row }
-    ensures { PrintsMore (look_at layout.now) (map pos run.now) progress.old progress.new (W.view sink.old) (W.view sink.new) result }
+    ensures after { OnOk result (IsAfterNext (next layout.now progress.old run.now) progress.new) }
+    ensures wrote { WroteNext W.view sink.old sink.new (next layout.now progress.old run.now) result }
 {
     put_led_run(sink, layout, progress, run)
 }
@@ -74,8 +76,8 @@ fn put_led_run<W: Sink>(
     requires within { progress.old.position + length run.now ≤ layout.now.total }
     requires some { 0 < length run.now }
     requires piece { IsRun is_literal run.now }
-    ensures wrote { Wrote W.view sink.old sink.new (run_bytes (look_at layout.now) progress.old run.now) result }
-    ensures following { OnOk result (IsAfterRun (look_at layout.now) progress.old run.now progress.new) }
+    ensures wrote { Wrote W.view sink.old sink.new (next_run layout.now progress.old run.now) result }
+    ensures after { OnOk result (IsAfterRun (look_at layout.now) progress.old run.now progress.new) }
 {
     let waits = layout.trimmed && is_one_nul(run);
     put(sink, layout.char_lead(progress))?;
@@ -91,8 +93,8 @@ fn put_led_run<W: Sink>(
     Ok(())
 }
 
-/// How many NULs are held back after a character: `held` were before it, `waits` says whether it is a further one, and
-/// `row_index` is the position after it. At the start of a row none are.
+/// Returns how many NULs are held back after a character: `held` were before it, `waits` is true if it is one more, and
+/// `row_index` is the index after it. None are at the start of a row.
 fn held_after(held: u128, row_index: u128, waits: bool) -> u128
     requires { held + 1 < 2 ^ 128 }
     ensures held { result ≡ (if (row_index == 0) || not waits then 0 else held + 1) }
@@ -105,7 +107,7 @@ fn held_after(held: u128, row_index: u128, waits: bool) -> u128
     }
 }
 
-/// Writes characters after the NULs that were held back: nothing, where they wait too.
+/// Writes characters after the NULs that were held back, or nothing if they wait too.
 #[tactic(auto, using(devices::proofs::Writes::writes), unfolding(crate::specs::Printing::run_text, nc_base::specs::Escapes::escaped_text))]
 fn put_run_text<W: Sink>(
     sink: &mut W,
@@ -123,7 +125,7 @@ fn put_run_text<W: Sink>(
     put_run(sink, Quoting::InString, run)
 }
 
-/// Says whether this is a single NUL.
+/// Returns true if this is a single NUL.
 fn is_one_nul(run: &[u8]) -> bool
     ensures { result ≡ is_one_nul run.now }
 {

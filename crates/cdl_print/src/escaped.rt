@@ -47,14 +47,14 @@ fn put_byte<W: Sink>(sink: &mut W, quoting: Quoting, b: u8) -> Result<(), WriteF
     }
 }
 
-/// The length of the next run: of bytes that need no escape, or of one byte.
+/// Returns the length of the next run: of bytes that need no escape, or of one byte.
 pub fn run_len(quoting: Quoting, bytes: &[u8]) -> usize
     ensures { result ≡ max 1 (prefix_len (stands_for_itself quoting) bytes.now) }
 {
     plain_len(quoting, bytes).max(1)
 }
 
-/// How many of the first bytes stand for themselves.
+/// Returns how many of the first bytes stand for themselves.
 fn plain_len(quoting: Quoting, bytes: &[u8]) -> usize
     ensures { result ≡ prefix_len (stands_for_itself quoting) bytes.now }
 {

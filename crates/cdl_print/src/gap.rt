@@ -16,12 +16,12 @@ pub enum Gap {
     NextRow,
     /// Between two numbers of a row that stand on one line.
     Comma,
-    /// Between two numbers of a row, the second of which begins a line.
+    /// Between two numbers of a row, if the second begins a line.
     NewLine,
 }
 
 impl Gap {
-    /// How many bytes more a line of this width may have after the gap, where it had these columns left before.
+    /// Returns how many bytes more a line of this width may have after the gap, if it had these columns left before.
     #[inline(always)]
     pub fn columns_left_after(self, columns_left: usize, width: usize) -> usize
         ensures { result ≡ columns_left_after self columns_left width }
@@ -35,8 +35,8 @@ impl Gap {
     }
 }
 
-/// What stands before a number of `len` bytes that isn't its row's first: a line begins where `, `, the number and two bytes
-/// after it would pass the width.
+/// Returns what stands before a number of `len` bytes that isn't its row's first: a line begins if `, `, the number and two
+/// bytes after it would pass the width.
 #[inline(always)]
 pub fn gap_in_row(columns_left: usize, len: usize) -> Gap
     requires { len ≤ 40 }
@@ -49,8 +49,8 @@ pub fn gap_in_row(columns_left: usize, len: usize) -> Gap
     }
 }
 
-/// Writes a gap at this place, and returns where it ends. Each is written by itself, since a known number of bytes is copied
-/// without a call.
+/// Writes a gap at this offset, and returns where it ends. Each has a call of its own, since a known number of bytes is copied
+/// without one.
 #[inline(always)]
 pub fn put_gap(text: &mut [u8], at: usize, gap: Gap) -> usize
     requires { at + length (gap_bytes gap) ≤ length text.old }

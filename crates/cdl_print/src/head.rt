@@ -2,8 +2,9 @@
 
 ghost use Rattle.std.specs.Prelude.{◌≡◌, [], ◌∷◌, codes, decimal};
 ghost use Rattle.nc_base.specs.Bytes.{concat_parts};
-ghost use Rattle.nc_base.specs.HeadText.{att_lines, currently_word, dim_extent, dim_line, dim_lines, dimensions_word, dims_text, gatts_text, global_word, head_text, unlimited_word};
+ghost use Rattle.nc_base.specs.HeadText.{dim_extent, dim_line, dim_lines, dims_text, gatts_text, head_text};
 ghost use Rattle.devices.specs.Sinks.{Wrote};
+ghost use Rattle.cdl_print.specs.Pieces.{dims_part, gatts_part};
 
 use crate::attribute::put_att_lines;
 use crate::name::put_name;
@@ -50,7 +51,7 @@ fn put_dims<W: Sink>(sink: &mut W, dims: &[Dim], records: u64) -> Result<(), Wri
 /// Writes the dimensions under their title.
 #[tactic(auto, using(devices::proofs::Writes::writes))]
 fn put_dims_part<W: Sink>(sink: &mut W, dims: &[Dim], records: u64) -> Result<(), WriteFailed>
-    ensures { Wrote W.view sink.old sink.new (concat_parts (dimensions_word ∷ dim_lines records dims.now ∷ [])) result }
+    ensures { Wrote W.view sink.old sink.new (dims_part records dims.now) result }
 {
     put(sink, Word::Dimensions.bytes())?;
     put_dim_lines(sink, dims, records)
@@ -78,7 +79,7 @@ fn put_dim_line<W: Sink>(sink: &mut W, dim: &Dim, records: u64) -> Result<(), Wr
     put_extent(sink, dim.len, records)
 }
 
-/// Writes the length of a dimension; of the record dimension the number of records.
+/// Writes the length of a dimension, which for the record dimension is the number of records.
 #[tactic(auto, unfolding(nc_base::specs::HeadText::dim_extent))]
 fn put_extent<W: Sink>(sink: &mut W, len: u64, records: u64) -> Result<(), WriteFailed>
     ensures { Wrote W.view sink.old sink.new (dim_extent records len) result }
@@ -91,9 +92,9 @@ fn put_extent<W: Sink>(sink: &mut W, len: u64, records: u64) -> Result<(), Write
 }
 
 /// Writes the length of the record dimension.
-#[tactic(auto, using(devices::proofs::Writes::writes))]
+#[tactic(auto, using(devices::proofs::Writes::writes), unfolding(nc_base::specs::HeadText::dim_extent))]
 fn put_records<W: Sink>(sink: &mut W, records: u64) -> Result<(), WriteFailed>
-    ensures { Wrote W.view sink.old sink.new (concat_parts (unlimited_word ∷ decimal records ∷ currently_word ∷ [])) result }
+    ensures { Wrote W.view sink.old sink.new (dim_extent records 0) result }
 {
     put(sink, Word::Unlimited.bytes())?;
     put_decimal(sink, records as u128)?;
@@ -123,7 +124,7 @@ fn put_gatts<W: Sink>(sink: &mut W, gatts: &[Att]) -> Result<(), WriteFailed>
 /// Writes the global attributes under their title.
 #[tactic(auto, using(devices::proofs::Writes::writes, crate::proofs::Runs::nameless))]
 fn put_gatts_part<W: Sink>(sink: &mut W, gatts: &[Att]) -> Result<(), WriteFailed>
-    ensures { Wrote W.view sink.old sink.new (concat_parts (global_word ∷ att_lines [] gatts.now ∷ [])) result }
+    ensures { Wrote W.view sink.old sink.new (gatts_part gatts.now) result }
 {
     put(sink, Word::GlobalAttributes.bytes())?;
     put_att_lines(sink, b"", gatts)

@@ -1,11 +1,11 @@
 //! What the text of a variable's values depends on.
 
-ghost use Rattle.std.specs.Prelude.{ℕ, ◌≡◌, ◌+◌, ◌<◌, ◌≤◌, ◌^◌, ◌&&◌, ◌++◌, IfSome, length, slice_get, take, unsigned_abs};
+ghost use Rattle.std.specs.Prelude.{◌≡◌, ◌+◌, ◌<◌, ◌≤◌, ◌&&◌, length};
 ghost use Rattle.std.specs.Ordering.{int_eq};
-ghost use Rattle.nc_base.specs.Headers.{IsSound, value_count};
+ghost use Rattle.nc_base.specs.Headers.{IsSound};
 ghost use Rattle.nc_base.specs.Sizes.{is_record_var};
-ghost use Rattle.nc_base.specs.ValueText.{closing, is_char, is_trimmed, look_of, number_text, row_len};
-ghost use Rattle.cdl_print.specs.Leads.{look_at, next_char_lead, next_gap, row_gap};
+ghost use Rattle.nc_base.specs.ValueText.{closing, is_char, is_trimmed, row_len};
+ghost use Rattle.cdl_print.specs.Leads.{IfVariable, IsLayoutOf, look_at, next_char_lead, next_gap, row_gap};
 
 use crate::gap::{Gap, gap_in_row};
 use crate::progress::Progress;
@@ -36,20 +36,21 @@ pub struct Layout<'a> {
     pub width: usize,
 }
 
-/// The layout of the variable at index `v` over `records` records, in lines of this width.
+/// Returns the layout of the variable at index `v` over `records` records, in lines of this width.
 pub fn layout_of(header: &Header, v: usize, records: u64, width: usize) -> Layout<'_>
     requires sound { IsSound header.now }
     requires there { v < length header.now.vars }
-    ensures { IfSome (slice_get header.now.vars v) (λ var. look_at result ≡ look_of header.now var records width) }
+    ensures { IfVariable header.now v records width (λ look. look_at result ≡ look) }
 {
     let var = &header.vars.as_slice()[v];
     layout_of_var(header, var, value_count(header, v, records), width)
 }
 
-/// The layout of a variable with `total` values, in lines of this width.
+/// Returns the layout of a variable with `total` values, in lines of this width.
 #[tactic(auto, unfolding(nc_base::specs::ValueText::look_of))]
 fn layout_of_var<'a>(header: &'a Header, var: &'a Var, total: u128, width: usize) -> Layout<'a>
-    ensures { (records : ℕ) → total ≡ value_count header.now.dims var.now records → look_at result ≡ look_of header.now var.now records width }
+    ensures total { result.total ≡ total }
+    ensures layout { IsLayoutOf header.now var.now width result }
 {
     let dims = header.dims.as_slice();
     Layout {
@@ -65,7 +66,7 @@ fn layout_of_var<'a>(header: &'a Header, var: &'a Var, total: u128, width: usize
     }
 }
 
-/// How many values a row has: all of them at rank 0 and 1, and else as many as the last dimension is long.
+/// Returns how many values a row has: all of them at rank 0 and 1, otherwise as many as the last dimension is long.
 fn row_len(dims: &[Dim], dimids: &[u64], total: u128) -> u128
     ensures { result ≡ row_len dims.now dimids.now total }
 {
@@ -75,8 +76,8 @@ fn row_len(dims: &[Dim], dimids: &[u64], total: u128) -> u128
     }
 }
 
-/// Says whether the NULs at the end of a row of characters aren't printed: the fill value is NUL, and the variable isn't
-/// a record variable of rank 1.
+/// Returns true if the NULs at the end of a row of characters aren't printed: the fill value is NUL, and the variable isn't a
+/// record variable of rank 1.
 fn is_trimmed(dims: &[Dim], var: &Var) -> bool
     ensures { result ≡ is_trimmed dims.now var.now }
 {
@@ -84,14 +85,14 @@ fn is_trimmed(dims: &[Dim], var: &Var) -> bool
 }
 
 impl Layout<'_> {
-    /// Says whether the values are characters.
+    /// Returns true if the values are characters.
     pub fn is_char(&self) -> bool
         ensures { result ≡ is_char self.now.ty }
     {
         matches!(self.ty, NcType::Char)
     }
 
-    /// What stands after the values.
+    /// Returns what stands after the values.
     #[tactic(auto, unfolding(nc_base::specs::ValueText::closing))]
     pub fn closing(&self) -> &'static [u8]
         ensures { result.now ≡ closing (look_at self.now) }
@@ -99,7 +100,7 @@ impl Layout<'_> {
         if self.is_char() { b"\" ;\n" } else { b" ;\n" }
     }
 
-    /// Says whether a number prints as `_`.
+    /// Returns true if a number prints as `_`.
     #[inline(always)]
     pub fn is_blank(&self, number: i128) -> bool
         ensures { result ≡ self.now.prints_fill && int_eq number self.now.fill }
@@ -107,7 +108,7 @@ impl Layout<'_> {
         self.prints_fill && number == self.fill
     }
 
-    /// How many values are left in the row after its first `row_index`; none, if the next value is its row's first.
+    /// Returns how many values are left in the row after its first `row_index`, or 0 if the next value is its row's first.
     pub fn left_in_row(&self, row_index: u128) -> u128
         ensures some { 0 < result → 0 < row_index }
         ensures within { 0 < result → row_index + result ≤ self.now.row }
@@ -119,7 +120,7 @@ impl Layout<'_> {
         }
     }
 
-    /// What stands before the next number, whose text has `len` bytes.
+    /// Returns what stands before the next number, whose text has `len` bytes.
     pub fn number_gap(&self, progress: &Progress, len: usize) -> Gap
         requires { len ≤ 40 }
         ensures { result ≡ next_gap (look_at self.now) progress.now len }
@@ -131,7 +132,7 @@ impl Layout<'_> {
         }
     }
 
-    /// What stands before a number that is its row's first, after `position` values.
+    /// Returns what stands before a number that is its row's first, after `position` values.
     fn row_gap(&self, position: u128) -> Gap
         ensures { result ≡ row_gap (look_at self.now) position }
     {
@@ -144,7 +145,7 @@ impl Layout<'_> {
         }
     }
 
-    /// What stands before the next character.
+    /// Returns what stands before the next character.
     pub fn char_lead(&self, progress: &Progress) -> &'static [u8]
         ensures { result.now ≡ next_char_lead (look_at self.now) progress.now }
     {

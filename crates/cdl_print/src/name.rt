@@ -36,7 +36,7 @@ fn put_leading_backslash<W: Sink>(sink: &mut W, name: &[u8]) -> Result<(), Write
     Ok(())
 }
 
-/// Says whether the name could be read as a number or a reserved word, so that a backslash stands before it.
+/// Returns true if the name could be read as a number or a reserved word, so that a backslash stands before it.
 pub fn needs_prefix_escape(name: &[u8]) -> bool
     ensures { result ≡ (begins_with_digit_or_mark name.now || is_reserved name.now) }
 {

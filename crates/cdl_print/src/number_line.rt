@@ -1,12 +1,12 @@
 //! The numbers of a row after its first, put one after the other into a line.
 
-ghost use Rattle.std.specs.Prelude.{ℕ, ◌≡◌, ◌++◌, ◌+◌, ◌-◌, ◌*◌, ◌<◌, ◌≤◌, ◌^◌, codes, length, take, unsigned_abs};
+ghost use Rattle.std.specs.Prelude.{ℕ, ◌≡◌, ◌+◌, ◌*◌, ◌<◌, ◌≤◌, ◌^◌, codes, length, unsigned_abs};
 ghost use Rattle.std.specs.Fmt.{decimal, signed_decimal};
 ghost use Rattle.nc_base.specs.Numbers.{number_of, numbers};
 ghost use Rattle.nc_base.specs.Types.{size_of};
 ghost use Rattle.cdl_print.specs.Fills.{IsFillOf};
-ghost use Rattle.cdl_print.specs.Leads.{gap_bytes, gap_in_row, columns_left_after, look_at};
-ghost use Rattle.cdl_print.specs.Printing.{bytes_in_row, columns_left_in_row, text_in_row, columns_left_after_text, PrintedInRow};
+ghost use Rattle.cdl_print.specs.Leads.{gap_bytes, look_at, values};
+ghost use Rattle.cdl_print.specs.Printing.{columns_left_at_end, gap_at_end, PutAt, PutInRow, PutLine, PutNumber};
 
 use crate::gap::{gap_in_row, put_gap};
 use crate::layout::Layout;
@@ -23,11 +23,11 @@ pub struct Line {
     pub columns_left: usize,
 }
 
-/// Puts numbers of one row at the end of the line, none of which is its row's first. Each type has a loop of its own.
+/// Puts numbers of one row at the end of the line, but not its row's first. Each type has a loop of its own.
 pub fn gather_line(text: &mut [u8], line: Line, layout: &Layout<'_>, bytes: &[u8]) -> Line
-    requires fits { line.end + 47 * length (numbers layout.now.ty bytes.now) ≤ length text.old }
-    ensures more { PrintedInRow (look_at layout.now) (numbers layout.now.ty bytes.now) line.columns_left result.columns_left (take line.end text.old) (take result.end text.new) }
-    ensures short { result.end ≤ line.end + 47 * length (numbers layout.now.ty bytes.now) }
+    requires fits { line.end + 47 * length (values layout.now bytes.now) ≤ length text.old }
+    ensures more { PutLine layout.now (values layout.now bytes.now) line text.old result text.new }
+    ensures short { result.end ≤ line.end + 47 * length (values layout.now bytes.now) }
 {
     match layout.ty {
         NcType::Byte => gather_typed(NcType::Byte, text, line, layout, bytes),
@@ -46,7 +46,7 @@ pub fn gather_line(text: &mut [u8], line: Line, layout: &Layout<'_>, bytes: &[u8
 #[inline(always)]
 fn gather_typed(ty: NcType, text: &mut [u8], line: Line, layout: &Layout<'_>, bytes: &[u8]) -> Line
     requires fits { line.end + 47 * length (numbers ty bytes.now) ≤ length text.old }
-    ensures more { PrintedInRow (look_at layout.now) (numbers ty bytes.now) line.columns_left result.columns_left (take line.end text.old) (take result.end text.new) }
+    ensures more { PutLine layout.now (numbers ty bytes.now) line text.old result text.new }
     ensures short { result.end ≤ line.end + 47 * length (numbers ty bytes.now) }
 {
     let size = ty.size() as usize;
@@ -74,8 +74,7 @@ fn gather_next(
     requires whole { length value.now ≡ size_of ty }
     requires fill { IsFillOf (look_at layout.now) fill }
     requires fits { line.end + 47 ≤ length text.old }
-    ensures text { take result.end text.new ≡ take line.end text.old ++ bytes_in_row (look_at layout.now) line.columns_left (number_of ty value.now) }
-    ensures columns { result.columns_left ≡ columns_left_in_row (look_at layout.now) line.columns_left (number_of ty value.now) }
+    ensures put { PutNumber layout.now (number_of ty value.now) line text.old result text.new }
     ensures short { result.end ≤ line.end + 47 }
 {
     put_next(text, line, layout, fill, number_of(ty, value))
@@ -94,8 +93,7 @@ fn put_next(
     requires magnitude { unsigned_abs number < 2 ^ 64 }
     requires fill { IsFillOf (look_at layout.now) fill }
     requires fits { line.end + 47 ≤ length text.old }
-    ensures text { take result.end text.new ≡ take line.end text.old ++ bytes_in_row (look_at layout.now) line.columns_left number }
-    ensures columns { result.columns_left ≡ columns_left_in_row (look_at layout.now) line.columns_left number }
+    ensures put { PutNumber layout.now number line text.old result text.new }
     ensures short { result.end ≤ line.end + 47 }
 {
     if fill.shows_below_100(number) && line.columns_left >= 6 {
@@ -113,8 +111,7 @@ fn put_below_100(text: &mut [u8], line: Line, n: u64) -> Line
     requires below_100 { n < 100 }
     requires on_line { 6 ≤ line.columns_left }
     requires fits { line.end + 4 ≤ length text.old }
-    ensures text { take result.end text.new ≡ take line.end text.old ++ text_in_row line.columns_left (decimal n) }
-    ensures columns { (width : ℕ) → result.columns_left ≡ columns_left_after_text width line.columns_left (decimal n) }
+    ensures put { (width : ℕ) → PutInRow width (decimal n) line text.old result text.new }
     ensures short { result.end ≤ line.end + 4 }
 {
     let start = put_comma(text, line.end);
@@ -137,8 +134,7 @@ fn put_below_100(text: &mut [u8], line: Line, n: u64) -> Line
 #[inline(always)]
 fn put_fill(text: &mut [u8], line: Line, width: usize) -> Line
     requires fits { line.end + 8 ≤ length text.old }
-    ensures text { take result.end text.new ≡ take line.end text.old ++ text_in_row line.columns_left (codes "_") }
-    ensures columns { result.columns_left ≡ columns_left_after_text width line.columns_left (codes "_") }
+    ensures put { PutInRow width (codes "_") line text.old result text.new }
     ensures short { result.end ≤ line.end + 8 }
 {
     let start = put_gap_in_row(text, line, width, 1);
@@ -153,8 +149,7 @@ fn put_fill(text: &mut [u8], line: Line, width: usize) -> Line
 fn put_number(text: &mut [u8], line: Line, width: usize, number: i128) -> Line
     requires magnitude { unsigned_abs number < 2 ^ 64 }
     requires fits { line.end + 28 ≤ length text.old }
-    ensures text { take result.end text.new ≡ take line.end text.old ++ text_in_row line.columns_left (signed_decimal number) }
-    ensures columns { result.columns_left ≡ columns_left_after_text width line.columns_left (signed_decimal number) }
+    ensures put { PutInRow width (signed_decimal number) line text.old result text.new }
     ensures short { result.end ≤ line.end + 28 }
 {
     let len = decimal_len(number);
@@ -172,9 +167,9 @@ fn put_number(text: &mut [u8], line: Line, width: usize, number: i128) -> Line
 fn put_gap_in_row(text: &mut [u8], line: Line, width: usize, len: usize) -> Line
     requires short { len ≤ 40 }
     requires fits { line.end + 7 ≤ length text.old }
-    ensures text { take result.end text.new ≡ take line.end text.old ++ gap_bytes (gap_in_row line.columns_left len) }
-    ensures columns { result.columns_left ≡ columns_left_after (gap_in_row line.columns_left len) line.columns_left width - len }
-    ensures start { result.end ≡ line.end + length (gap_bytes (gap_in_row line.columns_left len)) }
+    ensures text { PutAt line.end text.old result.end text.new (gap_bytes (gap_at_end line len)) }
+    ensures columns { result.columns_left ≡ columns_left_at_end width line len }
+    ensures start { result.end ≡ line.end + length (gap_bytes (gap_at_end line len)) }
 {
     let gap = gap_in_row(line.columns_left, len);
     let columns_left = gap.columns_left_after(line.columns_left, width);

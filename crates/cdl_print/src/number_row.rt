@@ -1,11 +1,10 @@
 //! The numbers of a variable as CDL writes them.
 
-ghost use Rattle.std.specs.Prelude.{◌≡◌, ◌++◌, [], ◌+◌, ◌*◌, ◌<◌, ◌≤◌, false, length, take};
-ghost use Rattle.nc_base.specs.Numbers.{number_of, numbers};
+ghost use Rattle.std.specs.Prelude.{◌≡◌, ◌+◌, ◌*◌, ◌<◌, ◌≤◌, false, length, take, OnOk};
 ghost use Rattle.nc_base.specs.Types.{size_of};
 ghost use Rattle.nc_base.specs.ValueText.{is_char};
-ghost use Rattle.cdl_print.specs.Leads.{look_at};
-ghost use Rattle.cdl_print.specs.Printing.{gathered, number_bytes, GoesOnInRow, PrintsMore, PrintedMore, IsAfterNumber};
+ghost use Rattle.cdl_print.specs.Leads.{values, AreWhole};
+ghost use Rattle.cdl_print.specs.Printing.{next, next_number, AreLeft, AreInRow, IsAfterNext, IsAfterNextNumber, PutAt, PutNext, WroteNext};
 
 use crate::gap::put_gap;
 use crate::layout::Layout;
@@ -30,8 +29,9 @@ pub fn put_number_values<W: Sink>(
     bytes: &[u8],
 ) -> Result<(), WriteFailed>
     requires number { is_char layout.now.ty ≡ false }
-    requires within { progress.old.position + length (numbers layout.now.ty bytes.now) ≤ layout.now.total }
-    ensures { PrintsMore (look_at layout.now) (numbers layout.now.ty bytes.now) progress.old progress.new (W.view sink.old) (W.view sink.new) result }
+    requires within { AreLeft (next layout.now progress.old bytes.now) }
+    ensures after { OnOk result (IsAfterNext (next layout.now progress.old bytes.now) progress.new) }
+    ensures wrote { WroteNext W.view sink.old sink.new (next layout.now progress.old bytes.now) result }
 {
     let most = AT_ONCE * layout.ty.size() as usize;
     let mut rest = bytes;
@@ -52,9 +52,10 @@ fn put_few_numbers<W: Sink>(
     bytes: &[u8],
 ) -> Result<(), WriteFailed>
     requires number { is_char layout.now.ty ≡ false }
-    requires few { length (numbers layout.now.ty bytes.now) ≤ 80 }
-    requires within { progress.old.position + length (numbers layout.now.ty bytes.now) ≤ layout.now.total }
-    ensures { PrintsMore (look_at layout.now) (numbers layout.now.ty bytes.now) progress.old progress.new (W.view sink.old) (W.view sink.new) result }
+    requires few { length (values layout.now bytes.now) ≤ 80 }
+    requires within { AreLeft (next layout.now progress.old bytes.now) }
+    ensures after { OnOk result (IsAfterNext (next layout.now progress.old bytes.now) progress.new) }
+    ensures wrote { WroteNext W.view sink.old sink.new (next layout.now progress.old bytes.now) result }
 {
     let end = gather_numbers(text, layout, progress, bytes);
     put(sink, &text[..end])
@@ -68,9 +69,10 @@ fn gather_numbers(
     bytes: &[u8],
 ) -> usize
     requires number { is_char layout.now.ty ≡ false }
-    requires fits { 47 * length (numbers layout.now.ty bytes.now) ≤ length text.old }
-    requires within { progress.old.position + length (numbers layout.now.ty bytes.now) ≤ layout.now.total }
-    ensures more { PrintedMore (look_at layout.now) (numbers layout.now.ty bytes.now) progress.old progress.new (gathered []) (gathered (take result text.new)) }
+    requires fits { 47 * length (values layout.now bytes.now) ≤ length text.old }
+    requires within { AreLeft (next layout.now progress.old bytes.now) }
+    ensures after { IsAfterNext (next layout.now progress.old bytes.now) progress.new }
+    ensures text { PutNext 0 text.old result text.new (next layout.now progress.old bytes.now) }
     ensures inside { result ≤ length text.new }
 {
     let size = layout.ty.size() as usize;
@@ -88,11 +90,11 @@ fn gather_numbers(
     end
 }
 
-/// How many of these bytes are the values that go on in the row; none, if a row begins.
+/// Returns how many of these bytes are the values that go on in the row, or 0 if a row begins.
 fn len_in_row(layout: &Layout<'_>, progress: &Progress, bytes: &[u8]) -> usize
-    ensures whole { result ≡ length (numbers layout.now.ty (take result bytes.now)) * size_of layout.now.ty }
+    ensures whole { AreWhole layout.now (take result bytes.now) }
     ensures within { result ≤ length bytes.now }
-    ensures in_row { GoesOnInRow (look_at layout.now) progress.now (length (numbers layout.now.ty (take result bytes.now))) }
+    ensures in_row { AreInRow (next layout.now progress.now (take result bytes.now)) }
 {
     let size = layout.ty.size() as usize;
     let left = layout.left_in_row(progress.row_index);
@@ -100,7 +102,8 @@ fn len_in_row(layout: &Layout<'_>, progress: &Progress, bytes: &[u8]) -> usize
     count * size
 }
 
-/// Puts the next number at this place of the text, with what stands before it, and goes on after it. Returns where it ends.
+/// Puts the next number at this offset of the text, with what stands before it, and moves the progress past it. Returns where
+/// it ends.
 fn gather_number(
     text: &mut [u8],
     at: usize,
@@ -111,9 +114,9 @@ fn gather_number(
     requires whole { length value.now ≡ size_of layout.now.ty }
     requires fits { at + 47 ≤ length text.old }
     requires within { progress.old.position < layout.now.total }
-    ensures text { take result text.new ≡ take at text.old ++ number_bytes (look_at layout.now) progress.old (number_of layout.now.ty value.now) }
+    ensures text { PutAt at text.old result text.new (next_number layout.now progress.old value.now) }
     ensures short { result ≤ at + 47 }
-    ensures following { IsAfterNumber (look_at layout.now) progress.old (number_of layout.now.ty value.now) progress.new }
+    ensures after { IsAfterNextNumber layout.now progress.old value.now progress.new }
 {
     let number = number_of(layout.ty, value);
     let is_blank = layout.is_blank(number);
@@ -131,7 +134,7 @@ fn gather_number(
     start + len
 }
 
-/// Puts numbers of one row at this place of the text, none of which is its row's first, and goes on after them. Returns where
+/// Puts numbers of one row at this offset of the text, but not its row's first, and moves the progress past them. Returns where
 /// they end. Each type has a loop of its own.
 fn gather_in_row(
     text: &mut [u8],
@@ -141,12 +144,13 @@ fn gather_in_row(
     bytes: &[u8],
 ) -> usize
     requires number { is_char layout.now.ty ≡ false }
-    requires fits { at + 47 * length (numbers layout.now.ty bytes.now) ≤ length text.old }
-    requires whole { length bytes.now ≡ length (numbers layout.now.ty bytes.now) * size_of layout.now.ty }
-    requires in_row { GoesOnInRow (look_at layout.now) progress.old (length (numbers layout.now.ty bytes.now)) }
-    requires within { progress.old.position + length (numbers layout.now.ty bytes.now) ≤ layout.now.total }
-    ensures more { PrintedMore (look_at layout.now) (numbers layout.now.ty bytes.now) progress.old progress.new (gathered (take at text.old)) (gathered (take result text.new)) }
-    ensures short { result ≤ at + 47 * length (numbers layout.now.ty bytes.now) }
+    requires fits { at + 47 * length (values layout.now bytes.now) ≤ length text.old }
+    requires whole { AreWhole layout.now bytes.now }
+    requires in_row { AreInRow (next layout.now progress.old bytes.now) }
+    requires within { AreLeft (next layout.now progress.old bytes.now) }
+    ensures after { IsAfterNext (next layout.now progress.old bytes.now) progress.new }
+    ensures text { PutNext at text.old result text.new (next layout.now progress.old bytes.now) }
+    ensures short { result ≤ at + 47 * length (values layout.now bytes.now) }
 {
     if bytes.is_empty() {
         return at;

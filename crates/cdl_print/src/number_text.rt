@@ -1,4 +1,4 @@
-//! Numbers in decimal, written straight to their place.
+//! Numbers in decimal, written straight to a slice.
 
 ghost use Rattle.std.specs.Prelude.{◌≡◌, ◌+◌, ◌<◌, ◌≤◌, ◌^◌, ◌++◌, ◌∷◌, [], codes, unsigned_abs, length, take};
 ghost use Rattle.std.specs.Fmt.{decimal, signed_decimal};
@@ -6,7 +6,7 @@ ghost use Rattle.cdl_print.specs.Fills.{text_of};
 
 use itoa::write_digits;
 
-/// How many bytes a number has in decimal.
+/// Returns how many bytes a number has in decimal.
 #[inline(always)]
 pub fn decimal_len(number: i128) -> usize
     requires { unsigned_abs number < 2 ^ 64 }
@@ -17,7 +17,7 @@ pub fn decimal_len(number: i128) -> usize
     if number < 0 { digits + 1 } else { digits }
 }
 
-/// How many digits a number has.
+/// Returns how many digits a number has.
 #[inline(always)]
 fn digit_count(n: u64) -> usize
     ensures len { result ≡ length (decimal n) }
@@ -36,7 +36,7 @@ fn digit_count(n: u64) -> usize
     }
 }
 
-/// How many digits a number below 10,000 has.
+/// Returns how many digits a number below 10,000 has.
 #[inline(always)]
 fn few_digit_count(n: u64) -> usize
     requires { n < 10000 }
@@ -52,7 +52,7 @@ fn few_digit_count(n: u64) -> usize
     }
 }
 
-/// Writes a number in decimal at this place, where it has `len` bytes.
+/// Writes a number in decimal at this offset. It has `len` bytes.
 #[inline(always)]
 pub fn put_decimal(text: &mut [u8], at: usize, len: usize, number: i128)
     requires short { unsigned_abs number < 2 ^ 64 }
@@ -69,7 +69,7 @@ pub fn put_decimal(text: &mut [u8], at: usize, len: usize, number: i128)
     }
 }
 
-/// How many bytes a number has, which is `_` if it prints as that.
+/// Returns how many bytes the text of a number has, which is `_` if it prints as that.
 #[inline(always)]
 pub fn text_len(is_blank: bool, number: i128) -> usize
     requires { unsigned_abs number < 2 ^ 64 }
@@ -79,7 +79,7 @@ pub fn text_len(is_blank: bool, number: i128) -> usize
     if is_blank { 1 } else { decimal_len(number) }
 }
 
-/// Writes a number at this place, where it has `len` bytes, or `_` if it prints as that.
+/// Writes the text of a number at this offset, which is `_` if it prints as that. It has `len` bytes.
 #[inline(always)]
 pub fn put_text(text: &mut [u8], at: usize, len: usize, is_blank: bool, number: i128)
     requires short { unsigned_abs number < 2 ^ 64 }
@@ -94,7 +94,7 @@ pub fn put_text(text: &mut [u8], at: usize, len: usize, is_blank: bool, number: 
     }
 }
 
-/// Writes a number without a sign at this place, where it has `len` digits.
+/// Writes a number without a sign at this offset. It has `len` digits.
 #[inline(always)]
 pub fn put_digits(text: &mut [u8], at: usize, len: usize, n: u64)
     requires len { len ≡ length (decimal n) }
@@ -104,7 +104,7 @@ pub fn put_digits(text: &mut [u8], at: usize, len: usize, n: u64)
     write_digits(n, text, at + len);
 }
 
-/// Writes bytes at this place, and returns where they end.
+/// Writes bytes at this offset, and returns where they end.
 #[inline(always)]
 pub fn put_at(text: &mut [u8], at: usize, bytes: &[u8]) -> usize
     requires { at + length bytes.now ≤ length text.old }
@@ -116,7 +116,7 @@ pub fn put_at(text: &mut [u8], at: usize, bytes: &[u8]) -> usize
     end
 }
 
-/// Writes `, ` at this place, and returns where it ends.
+/// Writes `, ` at this offset, and returns where it ends.
 #[inline(always)]
 pub fn put_comma(text: &mut [u8], at: usize) -> usize
     requires { at + 2 ≤ length text.old }
@@ -127,7 +127,7 @@ pub fn put_comma(text: &mut [u8], at: usize) -> usize
     put_byte(text, next, b' ')
 }
 
-/// Writes a byte at this place, and returns where it ends.
+/// Writes a byte at this offset, and returns where it ends.
 #[inline(always)]
 pub fn put_byte(text: &mut [u8], at: usize, byte: u8) -> usize
     requires { at + 1 ≤ length text.old }

@@ -1,10 +1,11 @@
 //! What stands before the values of a variable.
 
-ghost use Rattle.std.specs.Prelude.{ℕ, List, ◌≡◌, ◌-◌, ◌++◌, codes, ◌∷◌, []};
-ghost use Rattle.nc_base.specs.Bytes.{concat_parts};
+ghost use Rattle.std.specs.Prelude.{◌≡◌, ◌-◌, ◌++◌, codes};
 ghost use Rattle.nc_base.specs.Escapes.{escaped_in_name, escaped_name};
 ghost use Rattle.nc_base.specs.ValueText.{column};
 ghost use Rattle.devices.specs.Sinks.{Wrote};
+ghost use Rattle.cdl_print.specs.Leads.{LeavesColumns};
+ghost use Rattle.cdl_print.specs.Pieces.{opening_of};
 
 use crate::name::{needs_prefix_escape, put_name};
 use devices::{Sink, WriteFailed, put};
@@ -13,21 +14,21 @@ use nc_base::Quoting;
 /// Writes what stands before the values of the variable with this name.
 #[tactic(auto, using(devices::proofs::Writes::writes))]
 pub fn put_opening<W: Sink>(sink: &mut W, name: &[u8]) -> Result<(), WriteFailed>
-    ensures { Wrote W.view sink.old sink.new (concat_parts (codes "\n " ∷ escaped_name name.now ∷ codes " =" ∷ [])) result }
+    ensures { Wrote W.view sink.old sink.new (opening_of name.now) result }
 {
     put(sink, b"\n ")?;
     put_name(sink, name)?;
     put(sink, b" =")
 }
 
-/// How many bytes more a line of this width may have after the opening.
+/// Returns how many bytes more a line of this width may have after the opening.
 pub fn columns_left_after_opening(width: usize, name: &[u8]) -> usize
-    ensures { result ≡ width - column (concat_parts (codes "\n " ∷ escaped_name name.now ∷ codes " =" ∷ [])) }
+    ensures { result ≡ width - column (opening_of name.now) }
 {
     columns_left_after_name(width, name).saturating_sub(2)
 }
 
-/// How many bytes more a line of this width may have after a name with its escapes, which a space stands before.
+/// Returns how many bytes more a line of this width may have after a space and a name with its escapes.
 fn columns_left_after_name(width: usize, name: &[u8]) -> usize
     ensures { result ≡ width - column (codes "\n " ++ escaped_name name.now) }
 {
@@ -39,10 +40,10 @@ fn columns_left_after_name(width: usize, name: &[u8]) -> usize
     columns_left
 }
 
-/// How many bytes more a line of this width may have after this byte of a name with its escape, where it had these columns left
-/// before.
+/// Returns how many bytes more a line of this width may have after this byte of a name with its escape, if it had these columns
+/// left before.
 fn columns_left_after_byte(width: usize, columns_left: usize, b: u8) -> usize
-    ensures { (before : List ℕ) → columns_left ≡ width - column before → result ≡ width - column (before ++ escaped_in_name b) }
+    ensures { LeavesColumns width columns_left (escaped_in_name b) result }
 {
     if b == b'\n' {
         width

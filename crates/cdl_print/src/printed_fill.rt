@@ -1,8 +1,8 @@
 //! The fill value that prints as `_`, and which numbers equal it.
 
-ghost use Rattle.std.specs.Prelude.{ℕ, ℤ, ◌≡◌, ◌==◌, ◌<◌, ◌↔◌, pos, IfSome, IsSome, IsTrue, FitsSigned};
+ghost use Rattle.std.specs.Prelude.{◌≡◌, ◌↔◌, IfSome, IsSome, FitsSigned};
 ghost use Rattle.std.specs.Int.{w64};
-ghost use Rattle.cdl_print.specs.Fills.{IsFillOf, is_fill, prints_as_fill, shows_below_100};
+ghost use Rattle.cdl_print.specs.Fills.{IsFillBelow100, IsFillOf, IsNarrowFill, is_fill, prints_as_fill, shows_below_100};
 ghost use Rattle.cdl_print.specs.Leads.{look_at};
 
 use crate::layout::Layout;
@@ -10,14 +10,14 @@ use crate::layout::Layout;
 /// The fill value of a variable, in the widths in which its numbers are compared with it.
 #[derive(Clone, Copy)]
 pub struct PrintedFill {
-    /// The fill value if it prints as `_` and is below 100; else 100.
+    /// The fill value if it prints as `_` and is below 100, otherwise 100.
     pub below_100: u64,
     /// The fill value if it prints as `_` and has 64 bits with a sign.
     pub narrow: Option<i64>,
 }
 
 impl PrintedFill {
-    /// The fill value of a layout.
+    /// Returns the fill value of a layout.
     pub fn of(layout: &Layout<'_>) -> PrintedFill
         ensures { IsFillOf (look_at layout.now) result }
     {
@@ -59,9 +59,9 @@ impl PrintedFill {
     }
 }
 
-/// The fill value if it prints as `_` and is below 100; else 100.
+/// Returns the fill value if it prints as `_` and is below 100, otherwise 100.
 fn fill_below_100(layout: &Layout<'_>) -> u64
-    ensures { (n : ℕ) → n < 100 → (n == result) ≡ prints_as_fill (look_at layout.now) (pos n) }
+    ensures { IsFillBelow100 (look_at layout.now) result }
 {
     if layout.prints_fill && layout.fill >= 0 && layout.fill < 100 {
         layout.fill as u64
@@ -70,9 +70,9 @@ fn fill_below_100(layout: &Layout<'_>) -> u64
     }
 }
 
-/// The fill value if it prints as `_` and has 64 bits with a sign.
+/// Returns the fill value if it prints as `_` and has 64 bits with a sign.
 fn narrow_fill(layout: &Layout<'_>) -> Option<i64>
-    ensures { (number : ℤ) → FitsSigned w64 number → is_fill result number ≡ prints_as_fill (look_at layout.now) number }
+    ensures { IsNarrowFill (look_at layout.now) result }
 {
     if layout.prints_fill {
         narrow(layout.fill)
@@ -81,7 +81,7 @@ fn narrow_fill(layout: &Layout<'_>) -> Option<i64>
     }
 }
 
-/// The number in 64 bits, if these have room for it and its sign.
+/// Returns the number in 64 bits, if it fits in them with its sign.
 #[inline(always)]
 fn narrow(number: i128) -> Option<i64>
     ensures fits { IsSome result ↔ FitsSigned w64 number }

@@ -1,13 +1,11 @@
 //! The printer of a variable's values.
 
-ghost use Rattle.std.specs.Prelude.{◌≡◌, ◌↔◌, ◌+◌, ◌<◌, ◌≤◌, [], true, false, length, slice_get, IfSome, IsErr, IsTrue, OnOk, OnErr};
+ghost use Rattle.std.specs.Prelude.{◌≡◌, ◌↔◌, ◌+◌, ◌<◌, ◌≤◌, [], true, false, length, IsErr, IsTrue, OnOk, OnErr};
 ghost use Rattle.nc_base.specs.Headers.{IsSound};
-ghost use Rattle.nc_base.specs.Numbers.{numbers};
-ghost use Rattle.nc_base.specs.ValueText.{look_of, opening, closing};
-ghost use Rattle.devices.specs.Sinks.{Wrote};
-ghost use Rattle.cdl_print.specs.Leads.{look_at};
-ghost use Rattle.cdl_print.specs.Printing.{PrintsMore};
-ghost use Rattle.cdl_print.specs.Printer.{look_in, position_of, has_failed, HasPrinted, Takes, Prints};
+ghost use Rattle.nc_base.specs.ValueText.{opening, closing};
+ghost use Rattle.cdl_print.specs.Leads.{IfVariable};
+ghost use Rattle.cdl_print.specs.Printing.{next, AreLeft, IsAfterNext, WroteNext};
+ghost use Rattle.cdl_print.specs.Printer.{look_in, position_of, has_failed, HasPrinted, Takes, Prints, WrotePart};
 
 use crate::char_row::put_char_values;
 use crate::layout::{Layout, layout_of};
@@ -21,7 +19,7 @@ use nc_base::Header;
 ///
 /// [`start`](ValuePrinter::start) writes what stands before the values, [`values`](ValuePrinter::values) writes them, in
 /// as many calls as they come in, and [`finish`](ValuePrinter::finish) what stands after them. The text is that of
-/// ncdump(1), however the values are cut into calls. The printer keeps none of it, and takes no memory.
+/// ncdump(1), however the values are cut into calls. The printer keeps none of it, and does not allocate.
 ///
 /// After a failed write each later call fails too, and writes nothing.
 #[derive(Drop)]
@@ -32,11 +30,11 @@ pub struct ValuePrinter<'a> {
 }
 
 impl<'a> ValuePrinter<'a> {
-    /// The printer of the variable at index `v` over `records` records, in lines of numbers of this width.
+    /// Returns the printer of the variable at index `v` over `records` records, in lines of numbers of this width.
     pub fn new(header: &'a Header, v: usize, records: u64, width: usize) -> ValuePrinter<'a>
         requires sound { IsSound header.now }
         requires there { v < length header.now.vars }
-        ensures { IfSome (slice_get header.now.vars v) (λ var. HasPrinted (look_of header.now var records width) [] result) }
+        ensures { IfVariable header.now v records width (λ look. HasPrinted look [] result) }
     {
         let layout = layout_of(header, v, records, width);
         let columns_left = columns_left_after_opening(layout.width, layout.name);
@@ -59,7 +57,7 @@ impl<'a> ValuePrinter<'a> {
     /// The sink failed, and took some prefix of the text; or an earlier call failed, and nothing is written.
     #[tactic(auto, unfolding(nc_base::specs::ValueText::opening))]
     pub fn start<W: Sink>(&mut self, sink: &mut W) -> Result<(), WriteFailed>
-        ensures wrote { has_failed self.old ≡ false → Wrote W.view sink.old sink.new (opening (look_in self.old)) result }
+        ensures wrote { WrotePart self.old W.view sink.old sink.new opening result }
         ensures ok { OnOk result (self.new ≡ self.old) }
         ensures failed { OnErr result (has_failed self.new ≡ true) }
         ensures repeats { has_failed self.old ≡ true → IsErr result × (W.view sink.new ≡ W.view sink.old) }
@@ -71,7 +69,7 @@ impl<'a> ValuePrinter<'a> {
         self.remember(written)
     }
 
-    /// Says whether the bytes are whole values, and no more than the variable has beside those printed.
+    /// Returns true if the bytes are whole values, and no more than the variable has beside those printed.
     pub fn takes(&self, bytes: &[u8]) -> bool
         ensures { IsTrue result ↔ Takes self.now bytes.now }
     {
@@ -79,7 +77,7 @@ impl<'a> ValuePrinter<'a> {
         bytes.len() % size == 0 && self.has_values_left((bytes.len() / size) as u128)
     }
 
-    /// Says whether the variable has `count` values beside those printed.
+    /// Returns true if the variable has `count` values beside those printed.
     fn has_values_left(&self, count: u128) -> bool
         ensures { IsTrue result ↔ (position_of self.now + count ≤ (look_in self.now).total) }
     {
@@ -89,7 +87,8 @@ impl<'a> ValuePrinter<'a> {
     }
 
     /// Writes these values, which come after those of the calls before: big-endian and one after the other. They are
-    /// whole, and no more than the variable has. Numbers are gathered in `text`, which may hold anything: one serves all variables.
+    /// whole, and no more than the variable has left. Numbers are gathered in `text`, which may hold anything: one serves all
+    /// variables.
     ///
     /// # Errors
     ///
@@ -101,7 +100,7 @@ impl<'a> ValuePrinter<'a> {
         bytes: &[u8],
     ) -> Result<(), WriteFailed>
         requires { Takes self.old bytes.now }
-        ensures prints { Prints (numbers (look_in self.old).ty bytes.now) self.old self.new (W.view sink.old) (W.view sink.new) result }
+        ensures prints { Prints bytes.now self.old self.new (W.view sink.old) (W.view sink.new) result }
         ensures repeats { has_failed self.old ≡ true → IsErr result × (W.view sink.new ≡ W.view sink.old) }
     {
         if self.has_failed {
@@ -117,7 +116,7 @@ impl<'a> ValuePrinter<'a> {
     ///
     /// The sink failed, and took some prefix of the text; or an earlier call failed, and nothing is written.
     pub fn finish<W: Sink>(&mut self, sink: &mut W) -> Result<(), WriteFailed>
-        ensures wrote { has_failed self.old ≡ false → Wrote W.view sink.old sink.new (closing (look_in self.old)) result }
+        ensures wrote { WrotePart self.old W.view sink.old sink.new closing result }
         ensures ok { OnOk result (self.new ≡ self.old) }
         ensures failed { OnErr result (has_failed self.new ≡ true) }
         ensures repeats { has_failed self.old ≡ true → IsErr result × (W.view sink.new ≡ W.view sink.old) }
@@ -150,8 +149,9 @@ fn put_values<W: Sink>(
     text: &mut Gathered,
     bytes: &[u8],
 ) -> Result<(), WriteFailed>
-    requires { progress.old.position + length (numbers layout.now.ty bytes.now) ≤ layout.now.total }
-    ensures { PrintsMore (look_at layout.now) (numbers layout.now.ty bytes.now) progress.old progress.new (W.view sink.old) (W.view sink.new) result }
+    requires { AreLeft (next layout.now progress.old bytes.now) }
+    ensures after { OnOk result (IsAfterNext (next layout.now progress.old bytes.now) progress.new) }
+    ensures wrote { WroteNext W.view sink.old sink.new (next layout.now progress.old bytes.now) result }
 {
     if layout.is_char() {
         put_char_values(sink, layout, progress, bytes)

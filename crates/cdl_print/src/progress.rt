@@ -7,9 +7,9 @@ ghost use Rattle.std.specs.Prelude.{◌≡◌, ◌+◌, ◌<◌, ◌≤◌, ◌=
 pub struct Progress {
     /// How many values are printed.
     pub position: u128,
-    /// The next value's place in its row.
+    /// The next value's index in its row.
     pub row_index: u128,
-    /// How many bytes more the line may have, where the values are numbers.
+    /// How many bytes more the line may have, if the values are numbers.
     pub columns_left: usize,
     /// How many NULs stand in its row directly before the next value, and aren't printed yet.
     pub held: u128,
@@ -17,7 +17,7 @@ pub struct Progress {
     ghost waiting: { held ≤ position },
 }
 
-/// The place in a row of this length after `count` values from this place on.
+/// Returns the index in a row of this length after `count` values from this index on.
 pub fn row_index_after(row: u128, row_index: u128, count: u128) -> u128
     requires { row_index + count < 2 ^ 128 }
     ensures row_index { result ≡ (if row_index + count == row then 0 else row_index + count) }

@@ -23,7 +23,7 @@ pub fn put_broken_text<W: Sink>(sink: &mut W, bytes: &[u8]) -> Result<(), WriteF
     Ok(())
 }
 
-/// The length of the first line, with its line feed.
+/// Returns the length of the first line, with its line feed.
 #[tactic(auto, using(crate::proofs::Runs::lines))]
 fn line_len(bytes: &[u8]) -> usize
     ensures { result ≡ line_len bytes.now }
@@ -34,7 +34,7 @@ fn line_len(bytes: &[u8]) -> usize
     }
 }
 
-/// The place of the first line feed.
+/// Returns the offset of the first line feed.
 fn line_feed(bytes: &[u8]) -> Option<usize>
     ensures { result ≡ position (λ b. b == 10) bytes.now }
 {

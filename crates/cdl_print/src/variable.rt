@@ -1,12 +1,9 @@
 //! Variables as CDL declares them.
 
-ghost use Rattle.std.specs.Prelude.{◌≡◌, [], ◌∷◌, codes, map};
-ghost use Rattle.nc_base.specs.Bytes.{concat_parts};
-ghost use Rattle.nc_base.specs.Escapes.{escaped_name};
-ghost use Rattle.nc_base.specs.HeadText.{dim_name, joined, shape_text, var_lines, variables_word, vars_text};
-ghost use Rattle.nc_base.specs.Types.{type_word};
+ghost use Rattle.std.specs.Prelude.{map};
+ghost use Rattle.nc_base.specs.HeadText.{dim_name, joined, shape_text, var_lines, vars_text};
 ghost use Rattle.devices.specs.Sinks.{Wrote};
-ghost use Rattle.cdl_print.specs.Pieces.{dim_text, var_rows};
+ghost use Rattle.cdl_print.specs.Pieces.{dim_list, dim_text, type_and_name, var_rows, vars_part};
 
 use crate::attribute::put_att_lines;
 use crate::name::put_name;
@@ -28,7 +25,7 @@ pub fn put_vars<W: Sink>(sink: &mut W, dims: &[Dim], vars: &[Var]) -> Result<(),
 /// Writes the variables under their title.
 #[tactic(auto, using(devices::proofs::Writes::writes))]
 fn put_vars_part<W: Sink>(sink: &mut W, dims: &[Dim], vars: &[Var]) -> Result<(), WriteFailed>
-    ensures { Wrote W.view sink.old sink.new (concat_parts (variables_word ∷ var_rows dims.now vars.now ∷ [])) result }
+    ensures { Wrote W.view sink.old sink.new (vars_part dims.now vars.now) result }
 {
     put(sink, Word::Variables.bytes())?;
     put_var_rows(sink, dims, vars)
@@ -59,7 +56,7 @@ fn put_var_lines<W: Sink>(sink: &mut W, dims: &[Dim], var: &Var) -> Result<(), W
 /// Writes the type and the name of a variable.
 #[tactic(auto, using(devices::proofs::Writes::writes))]
 fn put_declared<W: Sink>(sink: &mut W, ty: NcType, name: &[u8]) -> Result<(), WriteFailed>
-    ensures { Wrote W.view sink.old sink.new (concat_parts (codes "\t" ∷ type_word ty ∷ codes " " ∷ escaped_name name.now ∷ [])) result }
+    ensures { Wrote W.view sink.old sink.new (type_and_name ty name.now) result }
 {
     put(sink, b"\t")?;
     put(sink, ty.word())?;
@@ -81,7 +78,7 @@ fn put_shape<W: Sink>(sink: &mut W, dims: &[Dim], dimids: &[u64]) -> Result<(), 
 /// Writes the dimensions of a shape in parentheses.
 #[tactic(auto, using(devices::proofs::Writes::writes))]
 fn put_dim_list<W: Sink>(sink: &mut W, dims: &[Dim], dimids: &[u64]) -> Result<(), WriteFailed>
-    ensures { Wrote W.view sink.old sink.new (concat_parts (codes "(" ∷ joined (map (dim_name dims.now) dimids.now) ∷ codes ")" ∷ [])) result }
+    ensures { Wrote W.view sink.old sink.new (dim_list dims.now dimids.now) result }
 {
     put(sink, b"(")?;
     put_dim_names(sink, dims, dimids)?;
@@ -117,7 +114,7 @@ fn put_dim_name<W: Sink>(
     put(sink, b", ")
 }
 
-/// Writes the name of the dimension with this place in the header's list; nothing, if there is none.
+/// Writes the name of the dimension at this index of the header's list, or nothing if there is none.
 #[tactic(auto, using(devices::proofs::Writes::writes))]
 fn put_name_of<W: Sink>(sink: &mut W, dims: &[Dim], dimid: u64) -> Result<(), WriteFailed>
     ensures { Wrote W.view sink.old sink.new (dim_name dims.now dimid) result }

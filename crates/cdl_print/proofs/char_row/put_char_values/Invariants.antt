@@ -1,10 +1,11 @@
-use Rattle.std.proofs.Common.{length, map, pos}
+use Rattle.std.proofs.Common.{length}
+use Rattle.nc_base.specs.Numbers.{numbers}
 use Rattle.cdl_print.specs.Leads.{look_at}
 use Rattle.cdl_print.proofs.PrintingLaws.{IsUnderway}
 use Rattle.cdl_print.proofs.char_row.put_char_values.Given as goal
 
 abbrev pub invariant-loop-rest : goal.invariant-loop-rest
-invariant-loop-rest g l = IsUnderway (look_at l.layout) l.fn.progress l.progress (g.W.Sink.view l.fn.sink) (g.W.Sink.view l.sink) (map pos l.rest) (map pos l.bytes)
+invariant-loop-rest g l = IsUnderway (look_at l.layout) l.fn.progress l.progress (g.W.Sink.view l.fn.sink) (g.W.Sink.view l.sink) (numbers l.layout.ty l.rest) (numbers l.layout.ty l.bytes)
 
 abbrev pub decreases-loop-rest : goal.decreases-loop-rest
 decreases-loop-rest g l = length l.rest

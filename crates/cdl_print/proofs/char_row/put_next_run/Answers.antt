@@ -1,5 +1,8 @@
-use Rattle.cdl_print.proofs.CharRows.{goes_run}
+use Rattle.cdl_print.proofs.CharRows.{after_run, run_written}
 use Rattle.cdl_print.proofs.char_row.put_next_run.Goals as goal
 
-pub returns : goal.returns
-returns g c = goes_run _ _ _ _ _ _ _ c.requires.character c.requires.some c.requires.piece c.requires.in_row c.put_led_run.ensures.wrote c.put_led_run.ensures.following
+pub returns-clause-after : goal.returns-clause-after
+returns-clause-after g c = after_run _ _ _ _ _ c.requires.character c.requires.some c.requires.piece c.requires.in_row c.put_led_run.ensures.after
+
+pub returns-clause-wrote : goal.returns-clause-wrote
+returns-clause-wrote g c = run_written _ _ _ _ _ _ c.requires.character c.requires.some c.requires.piece c.requires.in_row c.put_led_run.ensures.wrote

@@ -14,7 +14,7 @@ gather_next-now-requires-clause-fits c =
 pub loop-rest-preserved : goal.loop-rest-preserved
 loop-rest-preserved c =
     let parts = numbers_parts c.args.ty c.size-size.result c.loop-rest.rest.now _ _ c.size-size.ensures c.loop-rest-test.true c.split_at.ensures.front c.split_at.ensures.back in (
-      in_row_goes_on _ _ _ _ _ _ _ _ _ _ _ c.loop-rest.invariant.0 parts c.gather_next-now.ensures.text c.gather_next-now.ensures.columns,
+      in_row_goes_on _ _ _ _ _ _ _ _ _ _ _ c.loop-rest.invariant.0 parts c.gather_next-now.ensures.put.text c.gather_next-now.ensures.put.columns_left,
       omega (arith, ap length parts, c.loop-rest.invariant.1, c.gather_next-now.ensures.short),
       c.gather_next-now.auto.text ∙ c.loop-rest.invariant.2,
     )

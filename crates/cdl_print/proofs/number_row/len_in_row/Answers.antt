@@ -1,12 +1,12 @@
 use Rattle.std.proofs.Common.{◌*◌, ◌<◌, arith, ap, sym, ◌∙◌, length, take}
 use Rattle.nc_base.specs.Numbers.{numbers}
-use Rattle.cdl_print.proofs.Batches.{count_taken}
+use Rattle.cdl_print.proofs.Batches.{count_taken, length_taken}
 use Rattle.cdl_print.proofs.number_row.len_in_row.Goals as goal
 
 pub returns-clause-whole : goal.returns-clause-whole
 returns-clause-whole c =
     let count = count_taken c.args.layout.now.ty c.size-size.result c.min-count.result c.args.bytes.now c.size-size.ensures (omega (arith, c.min-count.ensures)) in
-    ap (λ k. k * c.size-size.result) (sym count) ∙ ap (λ s. length (numbers c.args.layout.now.ty (take (c.min-count.result * c.size-size.result) c.args.bytes.now)) * s) c.size-size.ensures
+    length_taken c.size-size.result c.min-count.result c.args.bytes.now (omega (arith, c.min-count.ensures)) ∙ ap (λ k. k * c.size-size.result) (sym count) ∙ ap (λ s. length (numbers c.args.layout.now.ty (take (c.min-count.result * c.size-size.result) c.args.bytes.now)) * s) c.size-size.ensures
 
 pub returns-clause-in_row : goal.returns-clause-in_row
 returns-clause-in_row c some =

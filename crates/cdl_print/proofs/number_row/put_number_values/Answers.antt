@@ -4,7 +4,7 @@ use Rattle.std.proofs.lemmas.Result.{err_from_is_err_and}
 use Rattle.nc_base.specs.Numbers.{numbers}
 use Rattle.cdl_print.proofs.Batches.{batch_parts, batch_few}
 use Rattle.cdl_print.proofs.Joined.{numbers-none, size_some}
-use Rattle.cdl_print.proofs.PrintingLaws.{underway_at_first, underway_next, underway_failed, underway_all, underway_within}
+use Rattle.cdl_print.proofs.PrintingLaws.{underway_at_first, underway_next, underway_failed, underway_after, underway_appended, underway_within}
 use Rattle.cdl_print.proofs.number_row.put_number_values.Goals as goal
 
 pub loop-rest-init : goal.loop-rest-init
@@ -20,19 +20,25 @@ put_few_numbers-requires-clause-within g c =
     let parts = batch_parts ty c.size.result c.min.result c.loop-rest.rest.now _ _ c.size.ensures c.min.ensures c.split_at.ensures.front c.split_at.ensures.back in
     omega (arith, underway_within _ _ _ _ _ _ _ c.loop-rest.invariant, ap length parts, length-append (numbers ty c.split_at.result.0.now) (numbers ty c.split_at.result.1.now), c.requires.within)
 
-pub returns-in_err-put_few_numbers : goal.returns-in_err-put_few_numbers
-returns-in_err-put_few_numbers g c =
+pub returns-in_err-put_few_numbers-clause-wrote : goal.returns-in_err-put_few_numbers-clause-wrote
+returns-in_err-put_few_numbers-clause-wrote g c =
     let p = err_from_is_err_and c.from_residual.result c.from_residual.ensures.1 in
     let parts = batch_parts c.args.layout.now.ty c.size.result c.min.result c.loop-rest.rest.now _ _ c.size.ensures c.min.ensures c.split_at.ensures.front c.split_at.ensures.back in
-    rw p.1 (underway_failed _ _ _ _ _ _ _ _ _ _ c.loop-rest.invariant parts c.in_err-put_few_numbers.ensures)
+    rw p.1 (underway_failed _ _ _ _ _ _ _ _ _ _ c.loop-rest.invariant parts c.in_err-put_few_numbers.ensures.wrote)
 
 pub loop-rest-preserved : goal.loop-rest-preserved
 loop-rest-preserved g c =
     let parts = batch_parts c.args.layout.now.ty c.size.result c.min.result c.loop-rest.rest.now _ _ c.size.ensures c.min.ensures c.split_at.ensures.front c.split_at.ensures.back in
-    underway_next _ _ _ _ _ _ _ _ _ _ _ c.loop-rest.invariant parts c.in_ok-put_few_numbers.ensures
+    underway_next _ _ _ _ _ _ _ _ _ _ _ c.loop-rest.invariant parts c.in_ok-put_few_numbers.ensures.after c.in_ok-put_few_numbers.ensures.wrote
 
-pub returns : goal.returns
-returns g c =
+pub returns-clause-after : goal.returns-clause-after
+returns-clause-after g c =
     let empty = nil_from_length c.loop-rest.rest.now (search rules) in
     let none = numbers-none c.args.layout.now.ty c.loop-rest.rest.now (omega (arith, ap length empty, size_some c.args.layout.now.ty)) in
-    underway_all _ _ _ _ _ _ (rw none at c.loop-rest.invariant)
+    underway_after _ _ _ _ _ _ (rw none at c.loop-rest.invariant)
+
+pub returns-clause-wrote : goal.returns-clause-wrote
+returns-clause-wrote g c =
+    let empty = nil_from_length c.loop-rest.rest.now (search rules) in
+    let none = numbers-none c.args.layout.now.ty c.loop-rest.rest.now (omega (arith, ap length empty, size_some c.args.layout.now.ty)) in
+    underway_appended _ _ _ _ _ _ (rw none at c.loop-rest.invariant)
