@@ -7,5 +7,4 @@ pub mod CharRows
 pub mod Openings
 pub mod PrinterLaws
 pub mod Takes
-pub mod Digits
 pub mod Batches

@@ -1,6 +1,5 @@
 -- Which numbers print as `_`.
-use Rattle.std.specs.Prelude.{ℕ, ◌≡◌, ◌<◌, ◌==◌, ◌&&◌, ℤ, pos, negsuc, Bool, false, not, nat_lt, Option, Some, None, FitsSigned, List, if◌then◌else◌, codes}
-use Rattle.std.specs.Fmt.{signed_decimal}
+use Rattle.std.specs.Prelude.{ℕ, ◌≡◌, ◌<◌, ◌==◌, ◌&&◌, ℤ, pos, negsuc, Bool, false, not, nat_lt, Option, Some, None, FitsSigned}
 use Rattle.std.specs.Int.{w64}
 use Rattle.std.specs.Ordering.{int_eq}
 use Rattle.nc_base.specs.ValueText.{Look}
@@ -9,10 +8,6 @@ use Rattle.cdl_print.specs.declared.printed_fill.PrintedFill.{PrintedFill}
 -- a number prints as `_`
 abbrev pub prints_as_fill : Look → ℤ → Bool
 prints_as_fill look number = look.prints_fill && int_eq number look.fill
-
--- a number, or `_` if it prints as that
-abbrev pub text_of : Bool → ℤ → List ℕ
-text_of is_blank number = if is_blank then codes "_" else signed_decimal number
 
 -- a number is this fill value, if there is one
 abbrev pub is_fill : Option ℤ → ℤ → Bool

@@ -3,7 +3,7 @@
 ghost use Rattle.std.specs.Prelude.{◌≡◌, ◌+◌, ◌++◌, ◌≤◌, length, take};
 ghost use Rattle.cdl_print.specs.Leads.{gap_bytes, gap_in_row, columns_left_after};
 
-use crate::number_text::{put_at, put_comma};
+use cdl_number_text::{put_at, put_comma};
 
 /// What stands before a number.
 #[derive(Clone, Copy)]

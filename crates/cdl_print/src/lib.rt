@@ -15,7 +15,6 @@ mod name;
 mod number;
 mod number_line;
 mod number_row;
-mod number_text;
 mod opening;
 mod printed_fill;
 mod printer;

@@ -10,8 +10,8 @@ ghost use Rattle.cdl_print.specs.Printing.{columns_left_at_end, gap_at_end, PutA
 
 use crate::gap::{gap_in_row, put_gap};
 use crate::layout::Layout;
-use crate::number_text::{decimal_len, put_byte, put_comma, put_decimal, put_digits};
 use crate::printed_fill::PrintedFill;
+use cdl_number_text::{decimal_len, put_byte, put_comma, put_decimal, put_digits};
 use nc_base::{NcType, number_of};
 
 /// How far a line of numbers is gathered.

@@ -9,8 +9,8 @@ ghost use Rattle.cdl_print.specs.Printing.{next, next_number, AreLeft, AreInRow,
 use crate::gap::put_gap;
 use crate::layout::Layout;
 use crate::number_line::{Line, gather_line};
-use crate::number_text::{put_text, text_len};
 use crate::progress::{Progress, row_index_after};
+use cdl_number_text::{put_text, text_len};
 use devices::{Sink, WriteFailed, put};
 use nc_base::number_of;
 

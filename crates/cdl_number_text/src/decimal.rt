@@ -1,9 +1,10 @@
-//! Numbers in decimal, written straight to a slice.
+//! Numbers in decimal.
 
-ghost use Rattle.std.specs.Prelude.{◌≡◌, ◌+◌, ◌<◌, ◌≤◌, ◌^◌, ◌++◌, ◌∷◌, [], codes, unsigned_abs, length, take};
+ghost use Rattle.std.specs.Prelude.{◌≡◌, ◌+◌, ◌<◌, ◌≤◌, ◌^◌, ◌++◌, unsigned_abs, length, take};
 ghost use Rattle.std.specs.Fmt.{decimal, signed_decimal};
-ghost use Rattle.cdl_print.specs.Fills.{text_of};
+ghost use Rattle.cdl_number_text.specs.NumberTexts.{text_of};
 
+use crate::put::put_at;
 use itoa::write_digits;
 
 /// Returns how many bytes a number has in decimal.
@@ -102,38 +103,4 @@ pub fn put_digits(text: &mut [u8], at: usize, len: usize, n: u64)
     ensures { take (at + len) text.new ≡ take at text.old ++ decimal n }
 {
     write_digits(n, text, at + len);
-}
-
-/// Writes bytes at this offset, and returns where they end.
-#[inline(always)]
-pub fn put_at(text: &mut [u8], at: usize, bytes: &[u8]) -> usize
-    requires { at + length bytes.now ≤ length text.old }
-    ensures end { result ≡ at + length bytes.now }
-    ensures written { take result text.new ≡ take at text.old ++ bytes.now }
-{
-    let end = at + bytes.len();
-    text[at..end].copy_from_slice(bytes);
-    end
-}
-
-/// Writes `, ` at this offset, and returns where it ends.
-#[inline(always)]
-pub fn put_comma(text: &mut [u8], at: usize) -> usize
-    requires { at + 2 ≤ length text.old }
-    ensures end { result ≡ at + 2 }
-    ensures written { take result text.new ≡ take at text.old ++ codes ", " }
-{
-    let next = put_byte(text, at, b',');
-    put_byte(text, next, b' ')
-}
-
-/// Writes a byte at this offset, and returns where it ends.
-#[inline(always)]
-pub fn put_byte(text: &mut [u8], at: usize, byte: u8) -> usize
-    requires { at + 1 ≤ length text.old }
-    ensures end { result ≡ at + 1 }
-    ensures written { take result text.new ≡ take at text.old ++ byte ∷ [] }
-{
-    text[at] = byte;
-    at + 1
 }

@@ -1,7 +1,7 @@
 use Rattle.std.proofs.Common.{sym, arith}
 use Rattle.itoa.proofs.Decimal.{length_one, length_two}
-use Rattle.cdl_print.proofs.Digits.{three_digits, four_digits}
-use Rattle.cdl_print.proofs.number_text.few_digit_count.Goals as goal
+use Rattle.cdl_number_text.proofs.Digits.{three_digits, four_digits}
+use Rattle.cdl_number_text.proofs.decimal.few_digit_count.Goals as goal
 
 pub returns-then-n-lt10-clause-len : goal.returns-then-n-lt10-clause-len
 returns-then-n-lt10-clause-len c = sym (length_one c.args.n (omega arith))

@@ -1,0 +1,10 @@
+//! The text of a number in CDL, put straight into a slice.
+//!
+//! A caller asks how long a text is, sees whether its line has the columns, and puts it where it goes. Nothing is copied twice.
+#![tactic(auto)]
+
+mod decimal;
+mod put;
+
+pub use decimal::{decimal_len, put_decimal, put_digits, put_text, text_len};
+pub use put::{put_at, put_byte, put_comma};
