@@ -15,8 +15,9 @@ use Rattle.nc_walk.specs.declared.slabs.Slabs.{Slabs}
 use Rattle.nc_walk.specs.declared.cursor.Cursor.{Cursor}
 use Rattle.nc_walk.specs.declared.chunk.Chunk.{Chunk}
 use Rattle.nc_walk.specs.Slabs.{total, number_at, offset, offsets_after, offsets_from, IsSized, IsOffset, Ready}
-use Rattle.nc_walk.specs.Chunks.{Collected, ReadToSlabEnd}
-use Rattle.nc_walk.specs.Walks.{WalkView, IsWhole, Exactly, ReturnsValues, Failing, Truncated, ReadValues, standing}
+use Rattle.nc_walk.specs.SourceUses.{SourceUse, between}
+use Rattle.nc_walk.specs.Chunks.{Collected}
+use Rattle.nc_walk.specs.Walks.{WalkView, IsWhole, Exactly, ReturnsValues, Failing, Truncated, ReadValues, Reading, reading, standing}
 use Rattle.nc_walk.proofs.FillSteps.{transparent_both, after_after, prefix_then, prefix_still}
 use Rattle.nc_walk.proofs.Runs.{offset_at, length-offsets, drop-offsets}
 
@@ -77,14 +78,14 @@ module _ (is_transparent : Bool) (l : Slabs) (i n : ℕ) (had part : List ℕ) (
     exactly = transparent_both is_transparent (exactly_then xs ys m) h.exactly k.exactly;
   }
 
-  pub ran_then : (m : ℕ) → ReadValues w before mid n → ReadValues next mid now m → ReadValues w before now (n + m)
+  pub ran_then : (m : ℕ) → ReadValues l i before mid n → ReadValues l (i + n) mid now m → ReadValues l i before now (n + m)
   ran_then m r s =
       let e : n * l.size + m * l.size ≡ (n + m) * l.size = omega arith in record {
         whole = whole_then m (ap (λ (s : SourceView). s.bytes) r.handed) r.whole s.whole;
         handed = handed_then (n * l.size) (m * l.size) r.handed s.handed ∙ ap (after before) e;
       }
 
-  pub failing_then : (m : ℕ) → ReadValues w before mid n → Failing next mid now m → Failing w before now (n + m)
+  pub failing_then : (m : ℕ) → ReadValues l i before mid n → Failing next mid now m → Failing w before now (n + m)
   failing_then m r f =
       let same : mid.bytes ≡ before.bytes = ap (λ (s : SourceView). s.bytes) r.handed in
       let handed : mid.handed ≡ before.handed + n * l.size = ap (λ (s : SourceView). s.handed) r.handed in record {
@@ -156,15 +157,15 @@ next_offset l cursor next n at sized first second some le number is =
 -- ---- a chunk, and a run after it
 
 -- the chunk may go on
-pub record Going (is_transparent : Bool) (l : Slabs) (cursor : Cursor) (had buf : List ℕ) (before now : SourceView) (chunk : Chunk) : Type 0 where
-  pub collected : Collected is_transparent l cursor had buf before now chunk
-  pub slab_read : ReadToSlabEnd l cursor had before now chunk
+pub record Going (is_transparent : Bool) (r : Reading) (s : SourceUse) (chunk : Chunk) : Type 0 where
+  pub collected : Collected is_transparent r s chunk
+  pub slab_read : chunk.next.within ≡ 0 → ReadValues r.slabs (number_at r.slabs r.cursor) s.before s.now chunk.values
 
 -- it ends with its slab, and the part of the buffer after it is asked for
 module _ (is_transparent : Bool) (l : Slabs) (cursor : Cursor) (had buf part following : List ℕ) (before mid now : SourceView) (chunk : Chunk) (k : ℕ)
-    (going : Going is_transparent l cursor had buf before mid chunk) (slab : chunk.next.within ≡ 0)
+    (going : Going is_transparent (reading l cursor had buf) (between before mid) chunk) (slab : chunk.next.within ≡ 0)
     (fits : chunk.values * l.size + length part ≤ length had) where
-  abbrev first : Collected is_transparent l cursor had buf before mid chunk
+  abbrev first : Collected is_transparent (reading l cursor had buf) (between before mid) chunk
   first = going.collected
 
   abbrev buf_then : List ℕ
@@ -173,7 +174,7 @@ module _ (is_transparent : Bool) (l : Slabs) (cursor : Cursor) (had buf part fol
   abbrev then : Chunk → Chunk
   then run = record { values = chunk.values + run.values; next = run.next }
 
-  collected_then : (run : Chunk) → Collected is_transparent l chunk.next part following mid now run → Collected is_transparent l cursor had buf_then before now (then run)
+  collected_then : (run : Chunk) → Collected is_transparent (reading l chunk.next part following) (between mid now) run → Collected is_transparent (reading l cursor had buf_then) (between before now) (then run)
   collected_then run c =
       let n = chunk.values in
       let m = run.values in
@@ -187,12 +188,12 @@ module _ (is_transparent : Bool) (l : Slabs) (cursor : Cursor) (had buf part fol
         number = omega (arith, c.number, first.number);
       }
 
-  pub goes_on : (run : Chunk) → Collected is_transparent l chunk.next part following mid now run → ReadToSlabEnd l chunk.next part mid now run
-      → Going is_transparent l cursor had buf_then before now (then run)
+  pub goes_on : (run : Chunk) → Collected is_transparent (reading l chunk.next part following) (between mid now) run → (run.next.within ≡ 0 → ReadValues l (number_at l chunk.next) mid now run.values)
+      → Going is_transparent (reading l cursor had buf_then) (between before now) (then run)
   goes_on run c values_read = record {
     collected = collected_then run c;
     slab_read = λ end. ran_then is_transparent l (number_at l cursor) chunk.values had part before mid now first.returns_values.within fits run.values (going.slab_read slab)
-        (subst (λ (j : ℕ). ReadValues (standing l j part) mid now run.values) first.number (values_read end));
+        (subst (λ (j : ℕ). ReadValues l j mid now run.values) first.number (values_read end));
   }
 
   pub fails : (m : ℕ) → Failing (standing l (number_at l chunk.next) part) mid now m → (n : ℕ) × Failing (standing l (number_at l cursor) had) before now n
@@ -202,7 +203,7 @@ module _ (is_transparent : Bool) (l : Slabs) (cursor : Cursor) (had buf part fol
         (subst (λ (j : ℕ). Failing (standing l j part) mid now m) first.number f),
   )
 
-  pub stays : (v : ℕ) → Truncated is_transparent (standing l (number_at l chunk.next) part) mid now v → Collected is_transparent l cursor had buf_then before now chunk
+  pub stays : (v : ℕ) → Truncated is_transparent (standing l (number_at l chunk.next) part) mid now v → Collected is_transparent (reading l cursor had buf_then) (between before now) chunk
   stays v t =
       let still = sym (prefix_still buf following (chunk.values * l.size) k first.fits) in
       let returns_values = hands_still is_transparent l (number_at l cursor) chunk.values had part before mid now first.returns_values.within fits (take (chunk.values * l.size) buf) v first.returns_values

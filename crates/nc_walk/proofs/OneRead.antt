@@ -92,14 +92,14 @@ module _ (is_transparent : Bool) (l : Slabs) (done capacity : ℕ) (buf : List �
       (came f (omega (arith, k)))
 
   -- and where all came, these bytes alone were read
-  pub ran_all : Filled is_transparent before now (offset l done) ys got → got ≡ n * l.size → ReadValues (standing l done buf) before now n
+  pub ran_all : Filled is_transparent before now (offset l done) ys got → got ≡ n * l.size → ReadValues l done before now n
   ran_all f all = record { whole = whole; handed = f.same ∙ ap (after before) all }
 
-  pub values_read : Filled is_transparent before now (offset l done) ys got → n ≤ got / l.size → ReadValues (standing l done buf) before now (got / l.size)
+  pub values_read : Filled is_transparent before now (offset l done) ys got → n ≤ got / l.size → ReadValues l done before now (got / l.size)
   values_read f all =
       let e : got / l.size ≡ n = omega (arith, few f.within, all) in
       let up : n * l.size ≤ got / l.size * l.size = mul-le-mul_right l.size all in
-      subst (ReadValues (standing l done buf) before now) (sym e) (ran_all f (omega (arith, up, div-mul-le_self got l.size, f.within, len)))
+      subst (ReadValues l done before now) (sym e) (ran_all f (omega (arith, up, div-mul-le_self got l.size, f.within, len)))
 
   pub came_none : Filled is_transparent before now (offset l done) ys got → got / l.size ≡ 0 → Truncated is_transparent (standing l done buf) before now done
   came_none f none = record {

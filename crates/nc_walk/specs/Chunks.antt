@@ -1,5 +1,5 @@
 -- What collecting the values of one slab after the other has done.
-use Rattle.std.specs.Prelude.{◌≡◌, ℕ, ◌+◌, ◌*◌, ◌<◌, ◌≤◌, Bool, List, length, take, Result, Ok, Err}
+use Rattle.std.specs.Prelude.{◌≡◌, ℕ, ◌+◌, ◌*◌, ◌<◌, ◌≤◌, Bool, length, Result, Ok, Err}
 use Rattle.devices.specs.Sources.{SourceView}
 use Rattle.nc_walk.specs.declared.fault.WalkFault.{WalkFault}
 use Rattle.nc_walk.specs.declared.fault.WalkFault.TheVariants.{ReadFailed, DataTruncated}
@@ -7,7 +7,8 @@ use Rattle.nc_walk.specs.declared.slabs.Slabs.{Slabs}
 use Rattle.nc_walk.specs.declared.cursor.Cursor.{Cursor}
 use Rattle.nc_walk.specs.declared.chunk.Chunk.{Chunk}
 use Rattle.nc_walk.specs.Slabs.{total, number_at, IsCursor}
-use Rattle.nc_walk.specs.Walks.{ReturnsValues, Failing, Truncated, ReadValues, standing}
+use Rattle.nc_walk.specs.SourceUses.{SourceUse}
+use Rattle.nc_walk.specs.Walks.{ReturnsValues, Failing, Truncated, ReadValues, Reading, walk_of, values_in}
 
 -- the values end with their slab, and another slab and capacity for a value are left
 pub record Continues (l : Slabs) (capacity : ℕ) (chunk : Chunk) : Type 0 where
@@ -15,19 +16,19 @@ pub record Continues (l : Slabs) (capacity : ℕ) (chunk : Chunk) : Type 0 where
   pub more : number_at l chunk.next < total l
   pub fits : chunk.values < capacity
 
--- the values of the chunk, from this cursor on, stand at the start of the buffer, and the chunk has the cursor after them
-pub record Collected (is_transparent : Bool) (l : Slabs) (cursor : Cursor) (had buf : List ℕ) (before now : SourceView) (chunk : Chunk) : Type 0 where
-  pub fits : chunk.values * l.size ≤ length buf
-  pub returns_values : ReturnsValues is_transparent (standing l (number_at l cursor) had) before now (take (chunk.values * l.size) buf) chunk.values
-  pub is_cursor : IsCursor l chunk.next
-  pub number : number_at l chunk.next ≡ number_at l cursor + chunk.values
+-- the values of the chunk stand at the start of the slice, and the chunk has the cursor after them
+pub record Collected (is_transparent : Bool) (r : Reading) (s : SourceUse) (chunk : Chunk) : Type 0 where
+  pub fits : chunk.values * r.slabs.size ≤ length r.buf
+  pub returns_values : ReturnsValues is_transparent (walk_of r) s.before s.now (values_in r chunk.values) chunk.values
+  pub is_cursor : IsCursor r.slabs chunk.next
+  pub number : number_at r.slabs chunk.next ≡ number_at r.slabs r.cursor + chunk.values
 
 -- Where the chunk ends with its slab, all bytes came that the source was asked for: also from an opaque source.
-abbrev pub ReadToSlabEnd : Slabs → Cursor → List ℕ → SourceView → SourceView → Chunk → Type 0
-ReadToSlabEnd l cursor had before now chunk = chunk.next.within ≡ 0 → ReadValues (standing l (number_at l cursor) had) before now chunk.values
+abbrev pub ReadToSlabEnd : {S : Type 0} → Slabs → Cursor → (S → SourceView) → S → S → Chunk → Type 0
+ReadToSlabEnd l cursor view old new chunk = chunk.next.within ≡ 0 → ReadValues l (number_at l cursor) (view old) (view new) chunk.values
 
--- the values from this cursor on were collected, or none was
-abbrev pub Collects : Bool → Slabs → Cursor → List ℕ → List ℕ → SourceView → SourceView → Result Chunk WalkFault → Type 0
-Collects is_transparent l cursor had buf before now (Ok chunk) = Collected is_transparent l cursor had buf before now chunk
-Collects is_transparent l cursor had buf before now (Err ReadFailed) = (n : ℕ) × Failing (standing l (number_at l cursor) had) before now n
-Collects is_transparent l cursor had buf before now (Err (DataTruncated k)) = Truncated is_transparent (standing l (number_at l cursor) had) before now k
+-- values were collected, or none was
+abbrev pub Collects : Bool → Reading → SourceUse → Result Chunk WalkFault → Type 0
+Collects is_transparent r s (Ok chunk) = Collected is_transparent r s chunk
+Collects is_transparent r s (Err ReadFailed) = (n : ℕ) × Failing (walk_of r) s.before s.now n
+Collects is_transparent r s (Err (DataTruncated k)) = Truncated is_transparent (walk_of r) s.before s.now k

@@ -1,7 +1,10 @@
 pub mod Slabs
+pub mod SourceUses
 pub mod Fills
 pub mod Walks
+pub mod Lends
 pub mod Chunks
 pub mod Walked
 pub mod Filled
+pub mod DataPart
 pub mod RecordSlabs

@@ -1,11 +1,12 @@
 -- The slabs of a record, and the arrays that they are of.
-use Rattle.std.specs.Prelude.{ℕ, ◌+◌, List, [], ◌∷◌, ◌++◌, get_or, if◌then◌else◌}
+use Rattle.std.specs.Prelude.{ℕ, ◌+◌, List, [], ◌∷◌, ◌++◌, get_or, map, if◌then◌else◌}
+use Rattle.std.specs.List.{flat_map, range_with_len}
 use Rattle.nc_base.specs.declared.header.Dim.{Dim}
 use Rattle.nc_base.specs.declared.header.Var.{Var}
 use Rattle.nc_base.specs.GeneratedFile.{fill_bytes}
 use Rattle.nc_base.specs.Sizes.{is_record_var, slab_size}
 use Rattle.nc_walk.specs.declared.write.record_slab.RecordSlab.{RecordSlab}
-use Rattle.nc_walk.specs.Filled.{ArrayView}
+use Rattle.nc_walk.specs.Filled.{ArrayView, filled_records}
 
 -- the slab of the variable with index v
 abbrev pub record_slab : ℕ → List Dim → Var → RecordSlab
@@ -19,3 +20,11 @@ record_slabs v dims [] = []
 -- the array of a slab's variable, among those of all variables
 abbrev pub array_of : List (List ℕ) → RecordSlab → ArrayView
 array_of arrays slab = record { listed = get_or arrays slab.var_index []; slab = slab.len; unit = slab.unit }
+
+-- record r of these slabs
+abbrev pub record_in : List RecordSlab → List (List ℕ) → ℕ → List ℕ
+record_in slabs arrays r = filled_records r (map (array_of arrays) slabs)
+
+-- n records of them
+abbrev pub records_in : List RecordSlab → List (List ℕ) → ℕ → List ℕ
+records_in slabs arrays n = flat_map (record_in slabs arrays) (range_with_len 0 n)

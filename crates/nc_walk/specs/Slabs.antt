@@ -1,11 +1,12 @@
 -- The values of a variable by their number, counted from 0 in row-major order.
-use Rattle.std.specs.Prelude.{◌≡◌, ℕ, ◌+◌, ◌-◌, ◌*◌, ◌/◌, ◌%◌, ◌^◌, ◌<◌, ◌≤◌, min, if◌then◌else◌, List, map, Some}
+use Rattle.std.specs.Prelude.{◌≡◌, ℕ, ◌+◌, ◌-◌, ◌*◌, ◌/◌, ◌%◌, ◌^◌, ◌<◌, ◌≤◌, min, if◌then◌else◌, List, length, map, Some}
 use Rattle.std.specs.List.{range_with_len, slice_get}
 use Rattle.nc_base.specs.declared.header.Var.{Var}
 use Rattle.nc_base.specs.declared.header.Header.{Header}
 use Rattle.nc_base.specs.Types.{size_of}
 use Rattle.nc_base.specs.Sizes.{is_record_var, slab_count, record_size}
 use Rattle.nc_base.specs.Places.{value_offsets}
+use Rattle.devices.specs.Sources.{SourceView}
 use Rattle.nc_walk.specs.declared.slabs.Slabs.{Slabs}
 use Rattle.nc_walk.specs.declared.cursor.Cursor.{Cursor}
 
@@ -63,6 +64,10 @@ pub record AreSlabsOf (h : Header) (v n : ℕ) (l : Slabs) : Type 0 where
   pub offsets : offsets_after l 0 ≡ value_offsets h var n
   pub sized : IsSized l
 
+-- a slab at this offset has no more values than fit, and ends inside of n bytes
+abbrev pub HasWholeSlab : Slabs → ℕ → ℕ → ℕ → Type 0
+HasWholeSlab l at capacity len = (l.values_per_slab ≤ capacity) × (at + l.values_per_slab * l.size ≤ len)
+
 -- n values from number i on lie side by side, fill no more than the capacity and end inside of n bytes: one at least,
 -- but where value number i ends after them
 pub record Ready (l : Slabs) (i capacity len n : ℕ) : Type 0 where
@@ -70,3 +75,7 @@ pub record Ready (l : Slabs) (i capacity len n : ℕ) : Type 0 where
   pub in_capacity : n * l.size ≤ capacity
   pub whole : 0 < n → offset l i + n * l.size ≤ len
   pub none : n ≡ 0 → len < offset l i + l.size
+
+-- the same from a cursor on, for a read of this source to this slice
+abbrev pub AreReady : Slabs → Cursor → List ℕ → SourceView → ℕ → Type 0
+AreReady l cursor into source n = Ready l (number_at l cursor) (length into) (length source.bytes) n

@@ -14,7 +14,8 @@ use Rattle.nc_walk.specs.declared.fault.WalkFault.{WalkFault}
 use Rattle.nc_walk.specs.declared.fault.WalkFault.TheVariants.{ReadFailed, DataTruncated}
 use Rattle.nc_walk.specs.declared.slabs.Slabs.{Slabs}
 use Rattle.nc_walk.specs.declared.cursor.Cursor.{Cursor}
-use Rattle.nc_walk.specs.Slabs.{offsets_after, IsSized, IsCursor}
+use Rattle.nc_walk.specs.Slabs.{offsets_after, number_at, IsSized, IsCursor}
+use Rattle.nc_walk.specs.SourceUses.{SourceUse}
 use Rattle.nc_walk.specs.Fills.{FailedWhileFilling}
 
 -- the bytes of a value, the offsets of the values that it has still to hand out, how many it has handed out, the fault
@@ -108,9 +109,9 @@ Steps is_transparent w before now (Ok (Some chunk)) = ReturnsValues is_transpare
 Steps is_transparent w before now (Err ReadFailed) = (n : ℕ) × Failing w before now n
 Steps is_transparent w before now (Err (DataTruncated k)) = Truncated is_transparent w before now k
 
--- what it does with one that has: the same fault, and nothing of the source
-abbrev pub Repeats : WalkView → SourceView → SourceView → Answer → Type 0
-Repeats w before now answer = IfSome w.fault (λ fault. (answer ≡ Err fault) × (now ≡ before))
+-- what it does with one that has: the same fault, and nothing of the source, as its view says it
+abbrev pub Repeats : {S : Type 0} → WalkView → (S → SourceView) → S → S → Answer → Type 0
+Repeats w view old new answer = IfSome w.fault (λ fault. (answer ≡ Err fault) × (view new ≡ view old))
 
 -- what the walk is afterwards
 pub record Advanced (old new : WalkView) (answer : Answer) : Type 0 where
@@ -141,16 +142,34 @@ pub record IsInOrder (l : Slabs) (cursor : Cursor) (capacity : ℕ) (buf : List 
   pub some : 0 < capacity
   pub fits : capacity * l.size ≤ length buf
 
--- the next n values are whole in the source, of which as many bytes as they have were read
-pub record ReadValues (w : WalkView) (before now : SourceView) (n : ℕ) : Type 0 where
-  pub whole : All (IsWhole w.size before.bytes) (take n w.left)
-  pub handed : now ≡ after before (n * w.size)
+-- n values from number i on are whole in the source, of which as many bytes as they have were read
+pub record ReadValues (l : Slabs) (i : ℕ) (before now : SourceView) (n : ℕ) : Type 0 where
+  pub whole : All (IsWhole l.size before.bytes) (take n (offsets_after l i))
+  pub handed : now ≡ after before (n * l.size)
 
--- the next n values stand at the start of the buffer
-abbrev pub Reads : Bool → WalkView → List ℕ → SourceView → SourceView → Result ℕ WalkFault → Type 0
-Reads is_transparent w buf before now (Ok n) = (n * w.size ≤ length buf) × ReturnsValues is_transparent w before now (take (n * w.size) buf) n
-Reads is_transparent w buf before now (Err ReadFailed) = (n : ℕ) × Failing w before now n
-Reads is_transparent w buf before now (Err (DataTruncated k)) = Truncated is_transparent w before now k
+-- A call that reads values from a cursor on to the start of a slice: the slabs, the cursor, and the slice before and after.
+pub record Reading : Type 0 where
+  pub slabs : Slabs
+  pub cursor : Cursor
+  pub had : List ℕ
+  pub buf : List ℕ
+
+abbrev pub reading : Slabs → Cursor → List ℕ → List ℕ → Reading
+reading l cursor had buf = record { slabs = l; cursor = cursor; had = had; buf = buf }
+
+-- the walk that such a call goes on with
+abbrev pub walk_of : Reading → WalkView
+walk_of r = standing r.slabs (number_at r.slabs r.cursor) r.had
+
+-- the first n values of the slice, as bytes
+abbrev pub values_in : Reading → ℕ → List ℕ
+values_in r n = take (n * r.slabs.size) r.buf
+
+-- the next n values stand at the start of the slice
+abbrev pub Reads : Bool → Reading → SourceUse → Result ℕ WalkFault → Type 0
+Reads is_transparent r s (Ok n) = (n * r.slabs.size ≤ length r.buf) × ReturnsValues is_transparent (walk_of r) s.before s.now (values_in r n) n
+Reads is_transparent r s (Err ReadFailed) = (n : ℕ) × Failing (walk_of r) s.before s.now n
+Reads is_transparent r s (Err (DataTruncated k)) = Truncated is_transparent (walk_of r) s.before s.now k
 
 -- n bytes at the start of the buffer, as an answer
 abbrev pub as_answer : List ℕ → Result ℕ WalkFault → Answer

@@ -1,7 +1,9 @@
 //! Values of one slab after the other, side by side in a slice.
 
 ghost use Rattle.std.specs.Prelude.{◌≡◌, ◌+◌, ◌*◌, ◌<◌, ◌≤◌, ◌^◌, ◌↔◌, IsTrue, IfOk, length};
-ghost use Rattle.nc_walk.specs.Slabs.{total, number_at, offset, IsSized, IsCursor, Ready};
+ghost use Rattle.nc_walk.specs.Slabs.{total, number_at, offset, IsSized, IsCursor, AreReady};
+ghost use Rattle.nc_walk.specs.SourceUses.{source_of};
+ghost use Rattle.nc_walk.specs.Walks.{reading};
 ghost use Rattle.nc_walk.specs.Chunks.{Collects, Continues, ReadToSlabEnd};
 
 use crate::cursor::Cursor;
@@ -49,11 +51,12 @@ fn read_ready<S: Source>(
     requires more { number_at slabs.now cursor < total slabs.now }
     requires at { at ≡ offset slabs.now (number_at slabs.now cursor) }
     requires some { 0 < ready }
-    requires ready { Ready slabs.now (number_at slabs.now cursor) (length into.old) (length (S.view source.old).bytes) ready }
+    requires ready { AreReady slabs.now cursor into.old (S.view source.old) ready }
     requires len { length (S.view source.old).bytes < 2 ^ 64 }
-    ensures collects { Collects S.is_transparent slabs.now cursor into.old into.new (S.view source.old) (S.view source.new) result }
+    ensures collects { Collects S.is_transparent (reading slabs.now cursor into.old into.new)
+        (source_of S.view source.old source.new) result }
     ensures in_slab { IfOk result (λ chunk. cursor.within + chunk.values ≤ slabs.now.values_per_slab) }
-    ensures slab_read { IfOk result (ReadToSlabEnd slabs.now cursor into.old (S.view source.old) (S.view source.new)) }
+    ensures slab_read { IfOk result (ReadToSlabEnd slabs.now cursor S.view source.old source.new) }
 {
     let values = read_values(slabs, cursor, at, ready, source, into)?;
     let next = cursor.following(*slabs, values);
@@ -78,8 +81,9 @@ fn read_run<S: Source>(
     requires more { number_at slabs.now cursor < total slabs.now }
     requires some { 0 < capacity }
     requires capacity { capacity * slabs.now.size ≤ length into.old }
-    ensures collects { Collects S.is_transparent slabs.now cursor into.old into.new (S.view source.old) (S.view source.new) result }
-    ensures slab_read { IfOk result (ReadToSlabEnd slabs.now cursor into.old (S.view source.old) (S.view source.new)) }
+    ensures collects { Collects S.is_transparent (reading slabs.now cursor into.old into.new)
+        (source_of S.view source.old source.new) result }
+    ensures slab_read { IfOk result (ReadToSlabEnd slabs.now cursor S.view source.old source.new) }
 {
     let ready = slabs.ready(cursor, capacity, source.len());
     if ready == 0 {
@@ -110,7 +114,8 @@ pub(crate) fn read_chunk<S: Source>(
     requires more { number_at slabs.now cursor < total slabs.now }
     requires some { 0 < capacity }
     requires capacity { capacity * slabs.now.size ≤ length into.old }
-    ensures { Collects S.is_transparent slabs.now cursor into.old into.new (S.view source.old) (S.view source.new) result }
+    ensures { Collects S.is_transparent (reading slabs.now cursor into.old into.new)
+        (source_of S.view source.old source.new) result }
 {
     let slabs = *slabs;
     let len = source.len();

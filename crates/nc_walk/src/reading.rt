@@ -1,8 +1,9 @@
 //! One read of a walk.
 
 ghost use Rattle.std.specs.Prelude.{◌≡◌, ◌+◌, ◌*◌, ◌<◌, ◌≤◌, ◌^◌, length, IfOk};
-ghost use Rattle.nc_walk.specs.Slabs.{total, number_at, offset, IsSized, Ready};
-ghost use Rattle.nc_walk.specs.Walks.{standing, ReadValues, Reads};
+ghost use Rattle.nc_walk.specs.Slabs.{total, number_at, offset, IsSized, AreReady};
+ghost use Rattle.nc_walk.specs.SourceUses.{source_of};
+ghost use Rattle.nc_walk.specs.Walks.{reading, ReadValues, Reads};
 
 use crate::cursor::Cursor;
 use crate::fault::WalkFault;
@@ -30,12 +31,13 @@ pub(crate) fn read_values<S: Source>(
     requires more { number_at slabs.now cursor < total slabs.now }
     requires at { at ≡ offset slabs.now (number_at slabs.now cursor) }
     requires some { 0 < ready }
-    requires ready { Ready slabs.now (number_at slabs.now cursor) (length into.old) (length (S.view source.old).bytes) ready }
+    requires ready { AreReady slabs.now cursor into.old (S.view source.old) ready }
     requires len { length (S.view source.old).bytes < 2 ^ 64 }
-    ensures reads { Reads S.is_transparent (standing slabs.now (number_at slabs.now cursor) into.old) into.new (S.view source.old) (S.view source.new) result }
+    ensures reads { Reads S.is_transparent (reading slabs.now cursor into.old into.new)
+        (source_of S.view source.old source.new) result }
     ensures in_slab { IfOk result (λ n. cursor.within + n ≤ slabs.now.values_per_slab) }
     ensures values_read { IfOk result (λ n. cursor.within + n ≡ slabs.now.values_per_slab
-        → ReadValues (standing slabs.now (number_at slabs.now cursor) into.old) (S.view source.old) (S.view source.new) n) }
+        → ReadValues slabs.now (number_at slabs.now cursor) (S.view source.old) (S.view source.new) n) }
 {
     let wanted = (ready * slabs.size) as usize;
     let got = fill(source, at, &mut into[..wanted])?;

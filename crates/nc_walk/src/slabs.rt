@@ -3,7 +3,7 @@
 ghost use Rattle.std.specs.Prelude.{◌≡◌, ◌↔◌, IsTrue, ◌+◌, ◌*◌, ◌<◌, ◌≤◌, ◌^◌, if◌then◌else◌, length};
 ghost use Rattle.nc_base.specs.Headers.{IsSound};
 ghost use Rattle.nc_base.specs.Sizes.{is_record_var, record_size, slab_count, slab_size, slab_limit};
-ghost use Rattle.nc_walk.specs.Slabs.{number_at, offset, offsets_after, IsSized, IsOffset, AreSlabsOf, Ready};
+ghost use Rattle.nc_walk.specs.Slabs.{number_at, offset, offsets_after, IsSized, IsOffset, AreSlabsOf, HasWholeSlab, Ready};
 
 use crate::cursor::Cursor;
 use nc_base::{Dim, Header, RecordLayout, Var, is_record_var, slab_of};
@@ -90,7 +90,7 @@ impl Slabs {
     pub(crate) fn is_whole(self, at: u64, capacity: u64, len: u64) -> bool
         requires sized { IsSized self }
         requires capacity { capacity * self.size < 2 ^ 64 }
-        ensures { IsTrue result ↔ ((self.values_per_slab ≤ capacity) × (at + self.values_per_slab * self.size ≤ len)) }
+        ensures { IsTrue result ↔ HasWholeSlab self at capacity len }
     {
         self.values_per_slab <= capacity
             && self.values_per_slab * self.size <= len.saturating_sub(at)

@@ -2,11 +2,10 @@
 
 ghost use Rattle.std.specs.Prelude.{◌≡◌, ◌+◌, ◌*◌, ◌<◌, ◌≤◌, ◌^◌, [], length, take, None, IfOk};
 ghost use Rattle.std.specs.Borrow.{sem};
-ghost use mir.Syntax.{named};
 ghost use Rattle.nc_base.specs.Headers.{IsSound};
 ghost use Rattle.nc_base.specs.Sizes.{record_size};
-ghost use Rattle.nc_walk.specs.Walks.{Starts, Steps, Repeats, Advanced, Rests, lent, as_answer};
-ghost use Rattle.nc_walk.specs.contracts.walk.Walk.{the_row};
+ghost use Rattle.nc_walk.specs.Walks.{Starts, Steps, Repeats, Advanced, lent, as_answer};
+ghost use Rattle.nc_walk.specs.Lends.{AdvancesAfter};
 
 use crate::chunk::read_chunk;
 use crate::cursor::Cursor;
@@ -97,7 +96,7 @@ impl<'a> Walk<'a> {
         ensures advanced { Advanced self.old self.new (as_answer self.new.buf result) }
         ensures steps { self.old.fault ≡ None
             → Steps S.is_transparent self.old (S.view source.old) (S.view source.new) (as_answer self.new.buf result) }
-        ensures repeats { Repeats self.old (S.view source.old) (S.view source.new) (as_answer self.new.buf result) }
+        ensures repeats { Repeats self.old S.view source.old source.new (as_answer self.new.buf result) }
         ensures fits { IfOk result (λ n. n ≤ length self.new.buf) }
     {
         if let Some(fault) = self.fault {
@@ -131,8 +130,8 @@ impl<'a> Walk<'a> {
     pub fn next<S: Source>(&mut self, source: &mut S) -> Result<Option<&[u8]>, WalkFault>
         ensures steps { self.old.fault ≡ None
             → Steps S.is_transparent self.old (S.view source.old) (S.view source.new) (lent result) }
-        ensures repeats { Repeats self.old (S.view source.old) (S.view source.new) (lent result) }
-        ensures* after { sem 𝓛 (Rests (the_row (record { mir = named 0; lft = [] })) self.entry (λ new. Advanced self.old new (lent result))) }
+        ensures repeats { Repeats self.old S.view source.old source.new (lent result) }
+        ensures* after { sem 𝓛 (AdvancesAfter self.old self.entry (lent result)) }
     {
         match self.step(source) {
             Ok(0) => Ok(None),

@@ -18,6 +18,8 @@ use Rattle.ncdump.specs.Faults.{fault_of_head}
 use Rattle.ncdump.specs.Selections.{Selects}
 use Rattle.ncdump.specs.Shows.{Dumped, dumped, prefix_text, marked_values, values_from, marks_in, text_before, KeepsUpIn, Shows}
 use Rattle.ncdump.specs.Dumps.{Dumps, ReadsForward, IsAfterHeader, in_header, after_header}
+use Rattle.nc_walk.specs.SourceUses.{between}
+use Rattle.ncdump.proofs.Calls.{call}
 use Rattle.ncdump.proofs.Prefixes.{prefix-in-text}
 use Rattle.ncdump.proofs.Marked.{values-at, more-and}
 use Rattle.ncdump.proofs.WholeText.{parts}
@@ -25,20 +27,20 @@ use Rattle.ncdump.proofs.WholeText.{parts}
 -- ---- a header that isn't read
 
 refused : (o : Options) (a b : SourceView) (buffer_len : ℕ) (sink : SinkView) (e : HeadFault) → Answers a.bytes a.handed b.handed buffer_len (Err e)
-    → Dumps {A = Unit {0}} a.bytes o sink sink (Err (fault_of_head e)) × ReadsForward {A = Unit {0}} o buffer_len a b sink sink (Err (fault_of_head e))
+    → Dumps {A = Unit {0}} a.bytes o sink sink (Err (fault_of_head e)) × ReadsForward {A = Unit {0}} o (call buffer_len a b sink sink) (Err (fault_of_head e))
 refused o a b buffer_len sink head.OutOfMemory answer = (refl, record { end = answer.end; ends = answer.ends; handed = answer.handed })
-refused o a b buffer_len sink head.ReadFailed answer = (inl refl, in_header answer.end answer.ends answer.handed refl)
+refused o a b buffer_len sink head.ReadFailed answer = (inl refl, in_header (record { end = answer.end; ends = answer.ends; handed = answer.handed }) refl)
 refused o a b buffer_len sink (head.Format fault) answer =
     (stopped fault answer.end answer.stops, record { end = answer.end; ends = fault_end fault answer.stops; handed = answer.handed })
 
 pub transparent-refused : (is_transparent : Bool) (o : Options) (a b : SourceView) (buffer_len : ℕ) (sink : SinkView) (e : HeadFault) → OnTrue is_transparent (HasAnswered a.bytes a.handed b.handed buffer_len (Err e))
-    → OnTrue is_transparent (Dumps {A = Unit {0}} a.bytes o sink sink (Err (fault_of_head e)) × ReadsForward {A = Unit {0}} o buffer_len a b sink sink (Err (fault_of_head e)))
+    → OnTrue is_transparent (Dumps {A = Unit {0}} a.bytes o sink sink (Err (fault_of_head e)) × ReadsForward {A = Unit {0}} o (call buffer_len a b sink sink) (Err (fault_of_head e)))
 transparent-refused is_transparent o a b buffer_len sink e answered = transparent_map is_transparent (λ x. refused o a b buffer_len sink e x.answer) answered
 
 -- ---- names that aren't known
 
 unselected : (o : Options) (a b : SourceView) (buffer_len : ℕ) (sink : SinkView) (h : Header) (fault : DumpFault) → IsRead a.bytes a.handed b.handed buffer_len h → Selects h o (Err fault)
-    → Dumps {A = Unit {0}} a.bytes o sink sink (Err fault) × ReadsForward {A = Unit {0}} o buffer_len a b sink sink (Err fault)
+    → Dumps {A = Unit {0}} a.bytes o sink sink (Err fault) × ReadsForward {A = Unit {0}} o (call buffer_len a b sink sink) (Err fault)
 unselected o a b buffer_len sink h OutOfMemory read selects = (refl, record { end = read.end; ends = header_end h read.rest read.spelled read.ends; handed = read.handed })
 unselected o a b buffer_len sink h (NoSuchVariable index) read selects =
     (unknown h read.rest index read.spelled selects, record { end = read.end; ends = header_end h read.rest read.spelled read.ends; handed = read.handed })
@@ -49,13 +51,13 @@ unselected o a b buffer_len sink h (DataTruncated v k) read selects = absurd sel
 
 pub transparent-unselected : (is_transparent : Bool) (o : Options) (a b : SourceView) (buffer_len : ℕ) (sink : SinkView) (h : Header) (fault : DumpFault)
     → OnTrue is_transparent (HasAnswered a.bytes a.handed b.handed buffer_len (Ok h)) → Selects h o (Err fault)
-    → OnTrue is_transparent (Dumps {A = Unit {0}} a.bytes o sink sink (Err fault) × ReadsForward {A = Unit {0}} o buffer_len a b sink sink (Err fault))
+    → OnTrue is_transparent (Dumps {A = Unit {0}} a.bytes o sink sink (Err fault) × ReadsForward {A = Unit {0}} o (call buffer_len a b sink sink) (Err fault))
 transparent-unselected is_transparent o a b buffer_len sink h fault answered selects = transparent_map is_transparent (λ x. unselected o a b buffer_len sink h fault x.answer selects) answered
 
 -- ---- variables that are shown
 
 -- what stands up to and with a variable's first values is a prefix of the text of all
-prefix-of-all : (d : Dumped) (marks : List Bool) (buffer_len : ℕ) (a b : SourceView) (Taken : List ℕ → Type 0) (k : KeepsUpIn d marks buffer_len a b Taken)
+prefix-of-all : (d : Dumped) (marks : List Bool) (buffer_len : ℕ) (a b : SourceView) (Taken : List ℕ → Type 0) (k : KeepsUpIn d marks buffer_len (between a b) Taken)
     → (rest : List ℕ) × ((marked_values d marks).text ≡ (k.prefix ++ prefix_text d k.var k.keeps_up.k) ++ rest)
 prefix-of-all d marks buffer_len a b Taken k =
     let yes : true ≡ (true && has_values d.header.dims d.records k.var) = sym k.some in
@@ -78,7 +80,7 @@ module _ (o : Options) (bytes : List ℕ) (h : Header) (rest : List ℕ) (buffer
   is-dump = shown h rest (record_count h (length bytes)) section spelled knows refl
       (ap (λ (bs : List ℕ). marked_values (record { header = h; bytes = bs; records = record_count h (length bytes); width = o.width }) (marks_in o (selection_of h o))) same)
 
-  written : {A : Type 0} (result : Result A DumpFault) → Shows o h (record_count h (length bytes)) (selection_of h o) buffer_len b c old new result → Dumps bytes o old new result
+  written : {A : Type 0} (result : Result A DumpFault) → Shows o h (record_count h (length bytes)) (selection_of h o) (call buffer_len b c old new) result → Dumps bytes o old new result
   written (Ok done) s = record {
     text = dump_text h o (record_count h (length bytes)) section;
     is_dump = subst (IsDump bytes o (dump_text h o (record_count h (length bytes)) section)) s.ends is-dump;
@@ -116,7 +118,7 @@ module _ (o : Options) (bytes : List ℕ) (h : Header) (rest : List ℕ) (buffer
   written (Err (NoSuchVariable i)) s = absurd s
 
 forward : (o : Options) (buffer_len : ℕ) (a c : SourceView) (old new : SinkView) (result : Result (Unit {0}) DumpFault)
-    → IsAfterHeader o buffer_len a c old new result → ReadsForward o buffer_len a c old new result
+    → IsAfterHeader o (call buffer_len a c old new) result → ReadsForward o (call buffer_len a c old new) result
 forward o buffer_len a c old new (Ok done) x = x
 forward o buffer_len a c old new (Err (DataTruncated v k)) x = x
 forward o buffer_len a c old new (Err WriteFailed) x = x
@@ -127,19 +129,19 @@ forward o buffer_len a c old new (Err (NoSuchVariable i)) x = absurd x.shows
 
 pub transparent-shown : (is_transparent : Bool) (o : Options) (a b c : SourceView) (buffer_len buf : ℕ) (old new : SinkView) (h : Header) (marks : List Bool) (result : Result (Unit {0}) DumpFault)
     → OnTrue is_transparent (HasAnswered a.bytes a.handed b.handed buffer_len (Ok h)) → KnowsChosen h o.chosen → marks ≡ selection_of h o → b.bytes ≡ a.bytes → buf ≡ buffer_len
-    → OnTrue is_transparent (Shows o h (record_count h (length b.bytes)) marks buf b c old new result)
-    → OnTrue is_transparent (Dumps a.bytes o old new result × ReadsForward o buffer_len a c old new result)
+    → OnTrue is_transparent (Shows o h (record_count h (length b.bytes)) marks (call buf b c old new) result)
+    → OnTrue is_transparent (Dumps a.bytes o old new result × ReadsForward o (call buffer_len a c old new) result)
 transparent-shown is_transparent o a b c buffer_len buf old new h marks result answered knows is same wide shows = transparent_both is_transparent (λ x s0.
     let read = x.answer in
-    let s1 = subst (λ (ms : List Bool). Shows o h (record_count h (length b.bytes)) ms buf b c old new result) is s0 in
-    let s2 = subst (λ (n : ℕ). Shows o h (record_count h (length b.bytes)) (selection_of h o) n b c old new result) wide s1 in
-    let s = subst (λ (bs : List ℕ). Shows o h (record_count h (length bs)) (selection_of h o) buffer_len b c old new result) same s2 in (
+    let s1 = subst (λ (ms : List Bool). Shows o h (record_count h (length b.bytes)) ms (call buf b c old new) result) is s0 in
+    let s2 = subst (λ (n : ℕ). Shows o h (record_count h (length b.bytes)) (selection_of h o) (call n b c old new) result) wide s1 in
+    let s = subst (λ (bs : List ℕ). Shows o h (record_count h (length bs)) (selection_of h o) (call buffer_len b c old new) result) same s2 in (
       written o a.bytes h read.rest buffer_len b c old new read.spelled knows same result s,
       forward o buffer_len a c old new result (record {
         h = h;
         rest = read.rest;
         end = read.end;
-        between = b;
+        here = b;
         spelled = read.spelled;
         ends = read.ends;
         knows = knows;

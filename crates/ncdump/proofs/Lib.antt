@@ -1,3 +1,4 @@
+pub mod Calls
 pub mod CommandLines
 pub mod NameSets
 pub mod Unknown

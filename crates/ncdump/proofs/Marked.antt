@@ -16,7 +16,9 @@ use Rattle.ncdump.specs.declared.fault.DumpFault.{DumpFault}
 use Rattle.ncdump.specs.declared.fault.DumpFault.TheVariants.{OutOfMemory, ReadFailed, WriteFailed, Format, NoSuchVariable, DataTruncated}
 use Rattle.ncdump.proofs.OneVariable.{some-at}
 use Rattle.nc_base.specs.declared.nc_type.NcType.TheVariants.{Byte}
-use Rattle.ncdump.specs.Shows.{Dumped, dumped, prefix_text, ShowsOne, ShowsMarked, values_and, values_alone, values_from, whole_values, whole_bytes, bytes_of, Holds, KeepsUp, KeepsUpIn, IsBefore, IsShown, IsUnread, IsUnwritten, IsUpToDate, AreShown, AreUnread, AreUnwritten}
+use Rattle.ncdump.specs.Shows.{Dumped, dumped, prefix_text, ShowsOne, ShowsAt, ShowsMarked, values_and, values_alone, values_from, whole_values, whole_bytes, bytes_of, Holds, KeepsUp, KeepsUpIn, IsBefore, IsShown, IsUnread, IsUnwritten, IsUpToDate, AreShown, AreUnread, AreUnwritten}
+use Rattle.nc_walk.specs.SourceUses.{between}
+use Rattle.ncdump.proofs.Calls.{call}
 use Rattle.ncdump.proofs.Prefixes.{prefix-in-text}
 use Rattle.ncdump.proofs.Held.{holds-all, holds-prefix, holds-after, holds-partway}
 
@@ -81,7 +83,7 @@ pub record Marked (d : Dumped) (marks : List Bool) (buffer_len v : ℕ) (a b : S
   pub is_before : IsBefore d marks v prefix spent
   pub appended : Appended old new prefix
   pub handed : b ≡ after a spent
-  pub keeps_up : (b ≡ a) ⊎ KeepsUpIn d marks buffer_len a b (Holds old new)
+  pub keeps_up : (b ≡ a) ⊎ KeepsUpIn d marks buffer_len (between a b) (Holds old new)
 
 pub marked-begins : (d : Dumped) (marks : List Bool) (buffer_len : ℕ) (a : SourceView) (old : SinkView) → Appended old old [] → Marked d marks buffer_len 0 a a old old
 marked-begins d marks buffer_len a old none = record {
@@ -130,7 +132,7 @@ module _ (d : Dumped) (marks : List Bool) (buffer_len v : ℕ) (a b : SourceView
     has-some false y e = absurd cc
 
     -- the text of the variable's first values stands after what was shown before
-    keeps-up-in : (Taken : List ℕ → Type 0) (k : KeepsUp d var buffer_len (after a m.spent) c (λ (values : List ℕ). Taken (m.prefix ++ values))) → KeepsUpIn d marks buffer_len a c Taken
+    keeps-up-in : (Taken : List ℕ → Type 0) (k : KeepsUp d var buffer_len (between (after a m.spent) c) (λ (values : List ℕ). Taken (m.prefix ++ values))) → KeepsUpIn d marks buffer_len (between a c) Taken
     keeps-up-in Taken k = record {
       v = v;
       var = var;
@@ -144,7 +146,7 @@ module _ (d : Dumped) (marks : List Bool) (buffer_len v : ℕ) (a b : SourceView
     }
 
     -- all its values are shown
-    pub marked-on : IsShown d v var whole (after a m.spent) c new newer → Marked d marks buffer_len (v + 1) a c old newer
+    pub marked-on : IsShown d v var whole (call buffer_len (after a m.spent) c new newer) → Marked d marks buffer_len (v + 1) a c old newer
     marked-on s =
         let alone = values_alone d v var in
         let split = whole-and _ _ _ v (values_from d marks (v + 1)) s.ends in
@@ -171,8 +173,8 @@ module _ (d : Dumped) (marks : List Bool) (buffer_len v : ℕ) (a b : SourceView
         }
 
     -- a value is missing
-    pub marked-cut : (w k : ℕ) → IsShown d v var (data_truncated w k) (after a m.spent) c new newer
-        → AreShown d marks (data_truncated w k) a c (λ (section : Section). Appended old newer section.text)
+    pub marked-cut : (w k : ℕ) → IsShown d v var (data_truncated w k) (call buffer_len (after a m.spent) c new newer)
+        → AreShown d marks (data_truncated w k) (between a c) (λ (section : Section). Appended old newer section.text)
     marked-cut w k s =
         let split = cut-and _ _ _ v w k (values_from d marks (v + 1)) s.ends in
         let handed : c ≡ after a (m.spent + whole_bytes d var) = s.handed ∙ after_after a m.spent (whole_bytes d var) in
@@ -185,7 +187,7 @@ module _ (d : Dumped) (marks : List Bool) (buffer_len v : ℕ) (a b : SourceView
         }
 
     -- a read failed
-    pub marked-unread : IsUnread d var buffer_len (after a m.spent) c new newer → AreUnread d marks buffer_len a c (Appended old newer)
+    pub marked-unread : IsUnread d var (call buffer_len (after a m.spent) c new newer) → AreUnread d marks buffer_len (between a c) (Appended old newer)
     marked-unread s = record {
       bytes = s.bytes;
       most = omega (arith, s.most, m.is_before.spent_is, bytes-here);
@@ -198,8 +200,8 @@ module _ (d : Dumped) (marks : List Bool) (buffer_len v : ℕ) (a b : SourceView
     }
 
     -- a write failed
-    pub marked-unwritten : IsUnwritten d v var buffer_len (after a m.spent) c new newer
-        → AreUnwritten d marks buffer_len a c (λ (section : Section). FailedPartway old newer section.text) (Holds old newer)
+    pub marked-unwritten : IsUnwritten d v var (call buffer_len (after a m.spent) c new newer)
+        → AreUnwritten d marks buffer_len (between a c) (λ (section : Section). FailedPartway old newer section.text) (Holds old newer)
     marked-unwritten s =
         let more = more-and _ _ _ v (values_from d marks (v + 1)) in
         let text = m.is_before.text_is ∙ ap (λ (x : Section). m.prefix ++ x.text) values-here ∙ ap (λ (t : List ℕ). m.prefix ++ t) more.1 in
@@ -218,7 +220,7 @@ module _ (d : Dumped) (marks : List Bool) (buffer_len v : ℕ) (a b : SourceView
           ];
         }
       where
-        advanced : SourceView → IsUnwritten d v var buffer_len (after a m.spent) c new newer → c ≡ after a m.spent → KeepsUpIn d marks buffer_len a b (Holds old new) → KeepsUpIn d marks buffer_len a c (Holds old newer)
+        advanced : SourceView → IsUnwritten d v var (call buffer_len (after a m.spent) c new newer) → c ≡ after a m.spent → KeepsUpIn d marks buffer_len (between a b) (Holds old new) → KeepsUpIn d marks buffer_len (between a c) (Holds old newer)
         advanced x s same k = record {
           v = k.v;
           var = k.var;
@@ -236,12 +238,12 @@ module _ (d : Dumped) (marks : List Bool) (buffer_len v : ℕ) (a b : SourceView
           };
         }
 
-        still : IsUnwritten d v var buffer_len (after a m.spent) c new newer → c ≡ after a m.spent → (c ≡ a) ⊎ KeepsUpIn d marks buffer_len a c (Holds old newer)
+        still : IsUnwritten d v var (call buffer_len (after a m.spent) c new newer) → c ≡ after a m.spent → (c ≡ a) ⊎ KeepsUpIn d marks buffer_len (between a c) (Holds old newer)
         still s same = elim m.keeps_up [ inl first ↦ inl (same ∙ sym m.handed ∙ first) | inr k ↦ inr (advanced c s same k) ]
 
 -- all marked variables are shown
 pub marked-all : (d : Dumped) (marks : List Bool) (buffer_len v : ℕ) (a b : SourceView) (old new : SinkView) → length marks ≤ v → Marked d marks buffer_len v a b old new
-    → AreShown d marks whole a b (λ (section : Section). Appended old new section.text) × IsUpToDate d marks buffer_len a b (Holds old new)
+    → AreShown d marks whole (between a b) (λ (section : Section). Appended old new section.text) × IsUpToDate d marks buffer_len (between a b) (Holds old new)
 marked-all d marks buffer_len v a b old new all m =
     let none : drop v marks ≡ [] = drop_all v marks all in
     let nothing : values_from d marks v ≡ no_section =
@@ -283,23 +285,23 @@ module _ (d : Dumped) (marks : List Bool) (v : ℕ) (shown : Bool) (there : v < 
 
     -- what showing the variable has done, as it follows on what was done before
     done : {A : Type 0} (result : Result A DumpFault) → Marked d marks buffer_len v a b old new → d ≡ dumped d.header a d.records d.width
-        → IfSome (slice_get d.header.vars v) (λ var. ShowsOne (dumped d.header b d.records d.width) v var buf b c new newer result)
-        → (k : Marked d marks buffer_len v a b old new) × ShowsOne d v var-here buffer_len (after a k.spent) c new newer result
+        → ShowsAt (dumped d.header b d.records d.width) v (call buf b c new newer) result
+        → (k : Marked d marks buffer_len v a b old new) × ShowsOne d v (call buffer_len (after a k.spent) c new newer) result var-here
     done result k is shows =
-        let here = some-at (λ (var : Var). ShowsOne (dumped d.header b d.records d.width) v var buf b c new newer result) (slice_get d.header.vars v) var-here at-here shows in
-        let wide = subst (λ (n : ℕ). ShowsOne (dumped d.header b d.records d.width) v var-here n b c new newer result) width here in
-        let from = subst (λ (x : SourceView). ShowsOne (dumped d.header x d.records d.width) v var-here buffer_len x c new newer result) k.handed wide in
-        (k, subst (λ (e : Dumped). ShowsOne e v var-here buffer_len (after a k.spent) c new newer result) (sym is) from)
+        let here = some-at (ShowsOne (dumped d.header b d.records d.width) v (call buf b c new newer) result) (slice_get d.header.vars v) var-here at-here shows in
+        let wide = subst (λ (n : ℕ). ShowsOne (dumped d.header b d.records d.width) v (call n b c new newer) result var-here) width here in
+        let from = subst (λ (x : SourceView). ShowsOne (dumped d.header x d.records d.width) v (call buffer_len x c new newer) result var-here) k.handed wide in
+        (k, subst (λ (e : Dumped). ShowsOne e v (call buffer_len (after a k.spent) c new newer) result var-here) (sym is) from)
 
     pub place-shown : d ≡ dumped d.header a d.records d.width
-        → OnTrue is_transparent (IfSome (slice_get d.header.vars v) (λ var. ShowsOne {A = Unit {0}} (dumped d.header b d.records d.width) v var buf b c new newer (Ok tt)))
+        → OnTrue is_transparent (ShowsAt {A = Unit {0}} (dumped d.header b d.records d.width) v (call buf b c new newer) (Ok tt))
         → OnTrue is_transparent (Marked d marks buffer_len (v + 1) a c old newer)
     place-shown is shows = transparent_both is_transparent (λ k s.
         let p = done {A = Unit {0}} (Ok tt) k is s in
         marked-on d marks buffer_len v a b old new p.0 var-here (get_or marks v false) at-here marked-here c newer is-shown p.1) m shows
 
-    failed : (fault : DumpFault) (k : Marked d marks buffer_len v a b old new) → ShowsOne {A = Unit {0}} d v var-here buffer_len (after a k.spent) c new newer (Err fault)
-        → ShowsMarked {A = Unit {0}} d marks buffer_len a c old newer (Err fault)
+    failed : (fault : DumpFault) (k : Marked d marks buffer_len v a b old new) → ShowsOne {A = Unit {0}} d v (call buffer_len (after a k.spent) c new newer) (Err fault) var-here
+        → ShowsMarked {A = Unit {0}} d marks (call buffer_len a c old newer) (Err fault)
     failed (DataTruncated w n) k s = marked-cut d marks buffer_len v a b old new k var-here (get_or marks v false) at-here marked-here c newer is-shown w n s
     failed ReadFailed k s = marked-unread d marks buffer_len v a b old new k var-here (get_or marks v false) at-here marked-here c newer is-shown s
     failed WriteFailed k s = marked-unwritten d marks buffer_len v a b old new k var-here (get_or marks v false) at-here marked-here c newer is-shown s
@@ -308,6 +310,6 @@ module _ (d : Dumped) (marks : List Bool) (v : ℕ) (shown : Bool) (there : v < 
     failed (NoSuchVariable i) k s = absurd s
 
     pub place-failed : (fault : DumpFault) → d ≡ dumped d.header a d.records d.width
-        → OnTrue is_transparent (IfSome (slice_get d.header.vars v) (λ var. ShowsOne {A = Unit {0}} (dumped d.header b d.records d.width) v var buf b c new newer (Err fault)))
-        → OnTrue is_transparent (ShowsMarked {A = Unit {0}} d marks buffer_len a c old newer (Err fault))
+        → OnTrue is_transparent (ShowsAt {A = Unit {0}} (dumped d.header b d.records d.width) v (call buf b c new newer) (Err fault))
+        → OnTrue is_transparent (ShowsMarked {A = Unit {0}} d marks (call buffer_len a c old newer) (Err fault))
     place-failed fault is shows = transparent_both is_transparent (λ k s. let p = done {A = Unit {0}} (Err fault) k is s in failed fault p.0 p.1) m shows

@@ -18,7 +18,8 @@ use Rattle.devices.specs.Sources.{SourceView, after}
 use Rattle.devices.specs.Sinks.{SinkView, Appended, FailedPartway}
 use Rattle.devices.proofs.Writes.{appended_then, appended_partway}
 use Rattle.nc_walk.specs.Walks.{WalkView, Starts, Steps, Advanced, count}
-use Rattle.nc_walk.specs.Walked.{Walked, HasRead, IsChunk, GivesChunk, GivesEnd, GivesCut, GivesFailure}
+use Rattle.nc_walk.specs.SourceUses.{between}
+use Rattle.nc_walk.specs.Walked.{Pass, Walked, HasRead, IsChunk, GivesChunk, GivesEnd, GivesCut, GivesFailure}
 use Rattle.nc_walk.specs.declared.fault.WalkFault.TheVariants as walk
 use Rattle.nc_walk.proofs.FillSteps.{transparent_any, transparent_map, transparent_both}
 use Rattle.nc_walk.proofs.Missing.{whole_count-ge}
@@ -27,6 +28,7 @@ use Rattle.cdl_print.specs.Printer.{look_in, HasPrinted, Printed, Stopped, Takes
 use Rattle.cdl_print.specs.declared.printer.ValuePrinter.{ValuePrinter}
 use Rattle.ncdump.specs.Shows.{Dumped, dumped, whole_values, whole_bytes, Holds, IsShown, IsUnread, IsUnwritten}
 use Rattle.cdl_print.proofs.Takes.{length-numbers}
+use Rattle.ncdump.proofs.Calls.{call, pass}
 use Rattle.ncdump.proofs.Prefixes.{count-stored, prefix-in-text}
 use Rattle.ncdump.proofs.Held.{holds-all, holds-partway, partway-longer}
 
@@ -35,7 +37,7 @@ pub record Showing (is_transparent : Bool) (h : Header) (v n width buffer_len : 
   pub var : Var
   pub at : slice_get h.vars v ≡ Some var
   pub xs : List ℤ
-  pub walked : Walked is_transparent h var n buffer_len w a b (length xs)
+  pub walked : Walked (pass is_transparent h var n buffer_len a b) w (length xs)
   pub has_printed : HasPrinted (look_of h var n width) xs p
   pub values : OnTrue is_transparent (xs ≡ take (length xs) (stored_values h a.bytes var n))
   pub appended : Appended old new (variable_prefix (look_of h var n width) xs)
@@ -63,7 +65,7 @@ showing-begins is_transparent h v n width buffer_len w p a old new s has_printed
   var = s.var;
   at = s.at;
   xs = [];
-  walked = begun is_transparent h v n buffer_len w a s;
+  walked = begun (pass is_transparent h s.var n buffer_len a a) v w s refl refl;
   has_printed = has_printed;
   values = transparent_any is_transparent refl;
   appended = subst (Appended old new) (sym (prefix_nil (look_of h s.var n width))) appended;
@@ -76,6 +78,9 @@ module _ (is_transparent : Bool) (h : Header) (v n width buffer_len : ℕ) (w : 
 
   abbrev pub look : Look
   look = look_of h s.var n width
+
+  abbrev walk_to : SourceView → Pass
+  walk_to x = pass is_transparent h s.var n buffer_len a x
 
   abbrev pub stored : List ℤ
   stored = stored_values h a.bytes s.var n
@@ -90,8 +95,8 @@ module _ (is_transparent : Bool) (h : Header) (v n width buffer_len : ℕ) (w : 
     abbrev pub j : ℕ
     j = count size chunk
 
-    given : GivesChunk is_transparent h s.var n buffer_len a c (length s.xs) chunk j
-    given = gives is_transparent h s.var n buffer_len w a b c (length s.xs) (Ok (Some chunk)) s.walked steps
+    given : GivesChunk (walk_to c) (length s.xs) chunk j
+    given = gives (walk_to b) w c (length s.xs) s.walked (Ok (Some chunk)) steps
 
     abbrev pub ys : List ℤ
     ys = numbers (look_in p).ty chunk
@@ -126,7 +131,7 @@ module _ (is_transparent : Bool) (h : Header) (v n width buffer_len : ℕ) (w : 
       var = s.var;
       at = s.at;
       xs = s.xs ++ ys;
-      walked = subst (Walked is_transparent h s.var n buffer_len u a c) counted (walked_on is_transparent h s.var n buffer_len w u a b c (length s.xs) chunk s.walked steps advanced);
+      walked = subst (Walked (walk_to c) u) counted (walked_on (walk_to b) w c (length s.xs) s.walked u chunk steps advanced);
       has_printed = printed.has_printed look s.xs s.has_printed;
       values = transparent_both is_transparent (λ e g.
           ap (λ (zs : List ℤ). zs ++ ys) e ∙ ap (λ (zs : List ℤ). take (length s.xs) stored ++ zs) (ys-are ∙ g.numbers_are)
@@ -135,8 +140,8 @@ module _ (is_transparent : Bool) (h : Header) (v n width buffer_len : ℕ) (w : 
     }
 
     -- the printer stopped inside of the chunk
-    pub unwritten-chunk : (q : ValuePrinter) (newer : SinkView) → Stopped ys p q new newer → OnTrue is_transparent (IsUnwritten d v s.var buffer_len a c old newer)
-    unwritten-chunk q newer stopped = transparent_both is_transparent (λ e (pg : IsChunk h a.bytes s.var n (length s.xs) chunk j × HasRead h s.var n a c (length s.xs + j)).
+    pub unwritten-chunk : (q : ValuePrinter) (newer : SinkView) → Stopped ys p q new newer → OnTrue is_transparent (IsUnwritten d v s.var (call buffer_len a c old newer))
+    unwritten-chunk q newer stopped = transparent_both is_transparent (λ e (pg : IsChunk (walk_to c) (length s.xs) chunk j × HasRead (walk_to c) (length s.xs + j)).
         let g = pg.1 in
         let k = length s.xs in
         let partway = stopped.partway look s.xs s.has_printed in
@@ -162,8 +167,8 @@ module _ (is_transparent : Bool) (h : Header) (v n width buffer_len : ℕ) (w : 
 
   -- no value is left, and the closing is written, or not
   module _ (c : SourceView) (steps : Steps is_transparent w b c (Ok None)) where
-    ended : GivesEnd is_transparent h s.var n a c (length s.xs)
-    ended = gives is_transparent h s.var n buffer_len w a b c (length s.xs) (Ok None) s.walked steps
+    ended : GivesEnd (walk_to c) (length s.xs)
+    ended = gives (walk_to b) w c (length s.xs) s.walked (Ok None) steps
 
     all-stored : OnTrue is_transparent (s.xs ≡ stored)
     all-stored = transparent_map is_transparent (λ e. e ∙ take_all (length s.xs) stored (omega (arith, ended.all, count-stored d s.var))) s.values
@@ -171,9 +176,9 @@ module _ (is_transparent : Bool) (h : Header) (v n width buffer_len : ℕ) (w : 
     closing-of : closing (look_in p) ≡ closing look
     closing-of = ap closing s.has_printed.same_look
 
-    pub shown-whole : (newer : SinkView) → Appended new newer (closing (look_in p)) → OnTrue is_transparent (IsShown d v s.var whole a c old newer)
+    pub shown-whole : (newer : SinkView) → Appended new newer (closing (look_in p)) → OnTrue is_transparent (IsShown d v s.var whole (call buffer_len a c old newer))
     unfolding variable_text
-    shown-whole newer appended = transparent_both is_transparent (λ e (ng : (first_missing h a.bytes s.var n ≡ None) × HasRead h s.var n a c (length s.xs)).
+    shown-whole newer appended = transparent_both is_transparent (λ e (ng : (first_missing h a.bytes s.var n ≡ None) × HasRead (walk_to c) (length s.xs)).
         let none : first_missing h a.bytes s.var n ≡ None = ng.0 in
         let text : variable_prefix look s.xs ++ closing (look_in p) ≡ (values_before look stored None v no_section).text =
         ap (λ (zs : List ℤ). variable_prefix look zs ++ closing (look_in p)) e ∙ ap (λ (t : List ℕ). variable_prefix look stored ++ t) closing-of ∙ sym (append-nil (variable_text look stored)) in
@@ -184,9 +189,9 @@ module _ (is_transparent : Bool) (h : Header) (v n width buffer_len : ℕ) (w : 
           handed = ng.1.handed ∙ ap (λ (i : ℕ). after a (i * size_of s.var.ty)) (ended.all ∙ sym (ap (λ (m : Option ℕ). unwrap_or m (value_count h.dims s.var n)) none));
         }) all-stored (transparent_both is_transparent (λ none read. (none, read)) ended.none_missing ended.read)
 
-    pub unwritten-closing : (newer : SinkView) → FailedPartway new newer (closing (look_in p)) → OnTrue is_transparent (IsUnwritten d v s.var buffer_len a c old newer)
+    pub unwritten-closing : (newer : SinkView) → FailedPartway new newer (closing (look_in p)) → OnTrue is_transparent (IsUnwritten d v s.var (call buffer_len a c old newer))
     unfolding variable_text
-    unwritten-closing newer partway = transparent_both is_transparent (λ e (ng : (first_missing h a.bytes s.var n ≡ None) × HasRead h s.var n a c (length s.xs)).
+    unwritten-closing newer partway = transparent_both is_transparent (λ e (ng : (first_missing h a.bytes s.var n ≡ None) × HasRead (walk_to c) (length s.xs)).
         let none : first_missing h a.bytes s.var n ≡ None = ng.0 in
         let count-is : whole_values d s.var ≡ length s.xs = ap (λ (m : Option ℕ). unwrap_or m (value_count h.dims s.var n)) none ∙ sym ended.all in
         let text : variable_prefix look s.xs ++ (closing (look_in p) ++ []) ≡ (values_before look stored None v no_section).text =
@@ -209,10 +214,10 @@ module _ (is_transparent : Bool) (h : Header) (v n width buffer_len : ℕ) (w : 
         }) all-stored (transparent_both is_transparent (λ none read. (none, read)) ended.none_missing ended.read)
 
   -- the next value is missing
-  pub shown-prefix : (c : SourceView) (k : ℕ) → Steps is_transparent w b c (Err (walk.DataTruncated k)) → OnTrue is_transparent (IsShown d v s.var (data_truncated v k) a c old new)
+  pub shown-prefix : (c : SourceView) (k : ℕ) → Steps is_transparent w b c (Err (walk.DataTruncated k)) → OnTrue is_transparent (IsShown d v s.var (data_truncated v k) (call buffer_len a c old new))
   shown-prefix c k steps =
-      let cut : GivesCut is_transparent h s.var n a c (length s.xs) k = gives is_transparent h s.var n buffer_len w a b c (length s.xs) (Err (walk.DataTruncated k)) s.walked steps in
-      transparent_both is_transparent (λ e (mr : (first_missing h a.bytes s.var n ≡ Some (length s.xs)) × HasRead h s.var n a c (length s.xs)).
+      let cut : GivesCut (walk_to c) (length s.xs) k = gives (walk_to b) w c (length s.xs) s.walked (Err (walk.DataTruncated k)) steps in
+      transparent_both is_transparent (λ e (mr : (first_missing h a.bytes s.var n ≡ Some (length s.xs)) × HasRead (walk_to c) (length s.xs)).
       let missing : first_missing h a.bytes s.var n ≡ Some k = mr.0 ∙ ap Some (sym cut.value_is) in
       let value : variable_prefix look s.xs ≡ variable_prefix look (take k stored) = ap (variable_prefix look) (e ∙ ap (λ (i : ℕ). take i stored) (sym cut.value_is)) in
       record {
@@ -222,10 +227,10 @@ module _ (is_transparent : Bool) (h : Header) (v n width buffer_len : ℕ) (w : 
       }) s.values (transparent_both is_transparent (λ missing read. (missing, read)) cut.missing cut.read)
 
   -- a read failed
-  pub unread : (c : SourceView) → Steps is_transparent w b c (Err walk.ReadFailed) → OnTrue is_transparent (IsUnread d s.var buffer_len a c old new)
+  pub unread : (c : SourceView) → Steps is_transparent w b c (Err walk.ReadFailed) → OnTrue is_transparent (IsUnread d s.var (call buffer_len a c old new))
   unread c steps =
-      let failure : GivesFailure is_transparent h s.var n buffer_len a c (length s.xs) = gives is_transparent h s.var n buffer_len w a b c (length s.xs) (Err walk.ReadFailed) s.walked steps in
-      transparent_both is_transparent (λ e (r : HasRead h s.var n a b (length s.xs) × ((c.bytes ≡ a.bytes) × ((c.handed ≤ a.handed + whole_bytes d s.var) × (c.handed ≤ a.handed + length s.xs * size_of s.var.ty + buffer_len)))).
+      let failure : GivesFailure (walk_to c) (length s.xs) = gives (walk_to b) w c (length s.xs) s.walked (Err walk.ReadFailed) steps in
+      transparent_both is_transparent (λ e (r : HasRead (walk_to b) (length s.xs) × ((c.bytes ≡ a.bytes) × ((c.handed ≤ a.handed + whole_bytes d s.var) × (c.handed ≤ a.handed + length s.xs * size_of s.var.ty + buffer_len)))).
       let few : length s.xs ≤ whole_values d s.var = whole_count-ge h s.var n a.bytes (length s.xs) s.walked.within r.0.whole in
       record {
         bytes = r.1.0;
@@ -240,7 +245,7 @@ module _ (is_transparent : Bool) (h : Header) (v n width buffer_len : ℕ) (w : 
 
 -- the opening wasn't written
 pub unwritten-opening : (is_transparent : Bool) (h : Header) (v n width buffer_len : ℕ) (w : WalkView) (p : ValuePrinter) (a : SourceView) (old new : SinkView) (s : Starts h v n buffer_len w)
-    → HasPrinted (look_of h s.var n width) [] p → FailedPartway old new (opening (look_of h s.var n width)) → OnTrue is_transparent (IsUnwritten (dumped h a n width) v s.var buffer_len a a old new)
+    → HasPrinted (look_of h s.var n width) [] p → FailedPartway old new (opening (look_of h s.var n width)) → OnTrue is_transparent (IsUnwritten (dumped h a n width) v s.var (call buffer_len a a old new))
 unwritten-opening is_transparent h v n width buffer_len w p a old new s has_printed partway =
     let d = dumped h a n width in
     let text = prefix-in-text d v s.var 0 (omega arith) in

@@ -13,6 +13,8 @@ use Rattle.devices.proofs.Writes.{appended_then, appended_partway}
 use Rattle.ncdump.specs.declared.fault.DumpFault.{DumpFault}
 use Rattle.ncdump.specs.declared.fault.DumpFault.TheVariants.{OutOfMemory, ReadFailed, WriteFailed, Format, NoSuchVariable, DataTruncated}
 use Rattle.ncdump.specs.Shows.{Dumped, dumped, prefix_text, marked_values, text_before, marks_in, KeepsUpIn, IsUpToDate, Holds, ShowsMarked, Shows}
+use Rattle.nc_walk.specs.SourceUses.{between}
+use Rattle.ncdump.proofs.Calls.{call}
 use Rattle.ncdump.proofs.Held.{holds-after, holds-partway, partway-longer}
 
 -- the parts of a dump's text
@@ -22,7 +24,7 @@ parts h o n section =
     ap (λ (t : List ℕ). head_text o.name h n ++ (data_word h o ++ (section.text ++ t))) (append-nil (closing_word section.ending))
     ∙ sym (append_assoc (head_text o.name h n) (data_word h o) (section.text ++ closing_word section.ending))
 
-keeps-map : (d : Dumped) (marks : List Bool) (buffer_len : ℕ) (a b : SourceView) (T U : List ℕ → Type 0) → ((t : List ℕ) → T t → U t) → KeepsUpIn d marks buffer_len a b T → KeepsUpIn d marks buffer_len a b U
+keeps-map : (d : Dumped) (marks : List Bool) (buffer_len : ℕ) (a b : SourceView) (T U : List ℕ → Type 0) → ((t : List ℕ) → T t → U t) → KeepsUpIn d marks buffer_len (between a b) T → KeepsUpIn d marks buffer_len (between a b) U
 keeps-map d marks buffer_len a b T U f k = record {
   v = k.v;
   var = k.var;
@@ -35,7 +37,7 @@ keeps-map d marks buffer_len a b T U f k = record {
   keeps_up = record { k = k.keeps_up.k; few = k.keeps_up.few; taken = f (k.prefix ++ prefix_text d k.var k.keeps_up.k) k.keeps_up.taken; handed = k.keeps_up.handed };
 }
 
-date-map : (d : Dumped) (marks : List Bool) (buffer_len : ℕ) (a b : SourceView) (T U : List ℕ → Type 0) → ((t : List ℕ) → T t → U t) → IsUpToDate d marks buffer_len a b T → IsUpToDate d marks buffer_len a b U
+date-map : (d : Dumped) (marks : List Bool) (buffer_len : ℕ) (a b : SourceView) (T U : List ℕ → Type 0) → ((t : List ℕ) → T t → U t) → IsUpToDate d marks buffer_len (between a b) T → IsUpToDate d marks buffer_len (between a b) U
 date-map d marks buffer_len a b T U f up = elim up [ inl same ↦ inl same | inr k ↦ inr (keeps-map d marks buffer_len a b T U f k) ]
 
 module _ (o : Options) (h : Header) (n : ℕ) (shown : List Bool) (buffer_len : ℕ) (a : SourceView) (old : SinkView) where
@@ -49,7 +51,7 @@ module _ (o : Options) (h : Header) (n : ℕ) (shown : List Bool) (buffer_len : 
   section = marked_values d marks
 
   -- the head isn't written
-  pub no-head : (new : SinkView) → FailedPartway old new (head_text o.name h n) → Shows {A = Unit {0}} o h n shown buffer_len a a old new (Err WriteFailed)
+  pub no-head : (new : SinkView) → FailedPartway old new (head_text o.name h n) → Shows {A = Unit {0}} o h n shown (call buffer_len a a old new) (Err WriteFailed)
   no-head new partway = record {
     bytes = refl;
     most = omega arith;
@@ -58,7 +60,7 @@ module _ (o : Options) (h : Header) (n : ℕ) (shown : List Bool) (buffer_len : 
   }
 
   -- the word after it isn't
-  pub no-word : (mid new : SinkView) → Appended old mid (head_text o.name h n) → FailedPartway mid new (data_word h o) → Shows {A = Unit {0}} o h n shown buffer_len a a old new (Err WriteFailed)
+  pub no-word : (mid new : SinkView) → Appended old mid (head_text o.name h n) → FailedPartway mid new (data_word h o) → Shows {A = Unit {0}} o h n shown (call buffer_len a a old new) (Err WriteFailed)
   no-word mid new head partway = record {
     bytes = refl;
     most = omega arith;
@@ -74,7 +76,7 @@ module _ (o : Options) (h : Header) (n : ℕ) (shown : List Bool) (buffer_len : 
         ap (λ (t : List ℕ). text_before o h n ++ t) (sym (append-nil section.text) ∙ ap (λ (e : Ending). section.text ++ closing_word e) (sym ends)) ∙ sym (parts h o n section)
 
     -- the values aren't all shown
-    pub no-values : (c : SourceView) (new : SinkView) (fault : DumpFault) → ShowsMarked {A = Unit {0}} d marks buffer_len a c mid new (Err fault) → Shows {A = Unit {0}} o h n shown buffer_len a c old new (Err fault)
+    pub no-values : (c : SourceView) (new : SinkView) (fault : DumpFault) → ShowsMarked {A = Unit {0}} d marks (call buffer_len a c mid new) (Err fault) → Shows {A = Unit {0}} o h n shown (call buffer_len a c old new) (Err fault)
     no-values c new (DataTruncated v k) s = record {
       ends = s.ends;
       taken = subst (Appended old new) (cut-text v k s.ends) (appended_then old mid new (text_before o h n) section.text before s.taken);
@@ -96,9 +98,9 @@ module _ (o : Options) (h : Header) (n : ℕ) (shown : List Bool) (buffer_len : 
     no-values c new (Format wrong) s = absurd s
     no-values c new (NoSuchVariable i) s = absurd s
 
-    module _ (c : SourceView) (last : SinkView) (s : ShowsMarked {A = Unit {0}} d marks buffer_len a c mid last (Ok tt)) where
+    module _ (c : SourceView) (last : SinkView) (s : ShowsMarked {A = Unit {0}} d marks (call buffer_len a c mid last) (Ok tt)) where
       -- the closing brace isn't written
-      pub no-brace : (new : SinkView) → FailedPartway last new (closing_word whole) → Shows {A = Unit {0}} o h n shown buffer_len a c old new (Err WriteFailed)
+      pub no-brace : (new : SinkView) → FailedPartway last new (closing_word whole) → Shows {A = Unit {0}} o h n shown (call buffer_len a c old new) (Err WriteFailed)
       no-brace new partway = record {
         bytes = s.0.bytes;
         most = s.0.most;
@@ -112,7 +114,7 @@ module _ (o : Options) (h : Header) (n : ℕ) (shown : List Bool) (buffer_len : 
           whole-text = append_assoc (text_before o h n) section.text (closing_word whole) ∙ ap (λ (e : Ending). text_before o h n ++ (section.text ++ closing_word e)) (sym s.0.ends) ∙ sym (parts h o n section)
 
       -- all is written
-      pub all-written : (new : SinkView) → Appended last new (closing_word whole) → Shows {A = Unit {0}} o h n shown buffer_len a c old new (Ok tt)
+      pub all-written : (new : SinkView) → Appended last new (closing_word whole) → Shows {A = Unit {0}} o h n shown (call buffer_len a c old new) (Ok tt)
       all-written new appended = record {
         ends = s.0.ends;
         taken = subst (Appended old new)

@@ -1,5 +1,6 @@
 -- What the words of the command line ask for.
 use Rattle.std.specs.Prelude.{ℕ, ◌==◌, ◌&&◌, List, [], ◌∷◌, codes, Option, Some, None, option_map, unwrap_or, fold, Result, string_bytes, if◌then◌else◌}
+use Rattle.std.specs.Borrow.{Bor}
 use Rattle.std.specs.Int.{is_in_range}
 use Rattle.std.specs.Char.{is_ascii_digit}
 use Rattle.std.specs.List.{list_all, slice_split}
@@ -31,6 +32,10 @@ ncdump = fold with_rule (quiet (new_app (codes "ncdump"))) (
 abbrev pub width_of : List ℕ → Option ℕ
 width_of word =
     if list_all is_ascii_digit word && is_in_range 20 1000 (digits_value 10 word) then Some (digits_value 10 word) else None
+
+-- the word that an entry has, if any
+abbrev pub word_of : Option (Bor (List ℕ)) → Option (List ℕ)
+word_of word = option_map (λ (value : Bor (List ℕ)). value.now) word
 
 -- the width: that of `-l`, or else 80
 abbrev pub width_in : Option (List ℕ) → Option ℕ

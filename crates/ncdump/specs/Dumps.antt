@@ -8,6 +8,8 @@ use Rattle.devices.specs.Sources.{SourceView}
 use Rattle.nc_file.specs.Answers.{EndsAt, ReadUpTo}
 use Rattle.devices.specs.Sinks.{SinkView, Appended, FailedPartway}
 use Rattle.devices.specs.Sinks as sinks
+use Rattle.nc_walk.specs.SourceUses.{between}
+use Rattle.ncdump.specs.Calls.{Call}
 use Rattle.ncdump.specs.Shows.{Shows}
 use Rattle.ncdump.specs.declared.fault.DumpFault.{DumpFault}
 use Rattle.ncdump.specs.declared.fault.DumpFault.TheVariants.{OutOfMemory, ReadFailed, WriteFailed, Format, NoSuchVariable, DataTruncated}
@@ -62,35 +64,39 @@ Dumps bytes o old new (Err WriteFailed) = IsCutShort bytes o old new
 
 -- ---- one forward pass
 
+-- what is done from here on, with the source as it is here
+abbrev pub going_on_from : SourceView → Call → Call
+going_on_from here call = record call { source = between here call.source.now }
+
 -- The header was read, and no more was read than its bytes and one buffer; and then the selected variables were shown.
-pub record IsAfterHeader {A : Type 0} (o : Options) (buffer_len : ℕ) (before now : SourceView) (old new : SinkView) (result : Result A DumpFault) : Type 0 where
+pub record IsAfterHeader {A : Type 0} (o : Options) (call : Call) (result : Result A DumpFault) : Type 0 where
   pub h : Header
   pub rest : List ℕ
   pub end : ℕ
-  pub between : SourceView
-  pub spelled : SpellsHeader before.bytes h rest
-  pub ends : end + length rest ≡ length before.bytes
+  pub here : SourceView
+  pub spelled : SpellsHeader call.source.before.bytes h rest
+  pub ends : end + length rest ≡ length call.source.before.bytes
   pub knows : KnowsChosen h o.chosen
-  pub bytes : between.bytes ≡ before.bytes
-  pub handed : ReadUpTo before.handed between.handed end buffer_len
-  pub shows : Shows o h (record_count h (length before.bytes)) (selection_of h o) buffer_len between now old new result
-
--- reading broke off in the header, or after it
-pub data IsUnread {A : Type 0} (o : Options) (buffer_len : ℕ) (before now : SourceView) (old new : SinkView) (result : Result A DumpFault) : Type 0 where
-  in_header : (end : ℕ) → EndsAt before.bytes end → ReadUpTo before.handed now.handed end buffer_len → new ≡ old → IsUnread o buffer_len before now old new result
-  after_header : IsAfterHeader o buffer_len before now old new result → IsUnread o buffer_len before now old new result
+  pub bytes : here.bytes ≡ call.source.before.bytes
+  pub handed : ReadUpTo call.source.before.handed here.handed end call.buffer_len
+  pub shows : Shows o h (record_count h (length call.source.before.bytes)) (selection_of h o) (going_on_from here call) result
 
 -- no more was read than the bytes up to the header's end, or to that of the first wrong field, and one buffer
-pub record IsInHeader (buffer_len : ℕ) (before now : SourceView) : Type 0 where
+pub record IsInHeader (call : Call) : Type 0 where
   pub end : ℕ
-  pub ends : EndsAt before.bytes end
-  pub handed : ReadUpTo before.handed now.handed end buffer_len
+  pub ends : EndsAt call.source.before.bytes end
+  pub handed : ReadUpTo call.source.before.handed call.source.now.handed end call.buffer_len
+
+-- reading broke off in the header, with nothing written, or after it
+pub data IsUnread {A : Type 0} (o : Options) (call : Call) (result : Result A DumpFault) : Type 0 where
+  in_header : IsInHeader call → call.sink.new ≡ call.sink.old → IsUnread o call result
+  after_header : IsAfterHeader o call result → IsUnread o call result
 
 -- The bytes that were read: those up to the header's end, or to that of its first wrong field, and one buffer; and after
 -- the header those of the values that are shown.
-abbrev pub ReadsForward : {A : Type 0} → Options → ℕ → SourceView → SourceView → SinkView → SinkView → Result A DumpFault → Type 0
-ReadsForward o buffer_len before now old new (Ok done) = IsAfterHeader o buffer_len before now old new (Ok done)
-ReadsForward o buffer_len before now old new (Err (DataTruncated v k)) = IsAfterHeader {A = Unit {0}} o buffer_len before now old new (Err (DataTruncated v k))
-ReadsForward o buffer_len before now old new (Err WriteFailed) = IsAfterHeader {A = Unit {0}} o buffer_len before now old new (Err WriteFailed)
-ReadsForward o buffer_len before now old new (Err ReadFailed) = IsUnread {A = Unit {0}} o buffer_len before now old new (Err ReadFailed)
-ReadsForward o buffer_len before now old new (Err other) = IsInHeader buffer_len before now
+abbrev pub ReadsForward : {A : Type 0} → Options → Call → Result A DumpFault → Type 0
+ReadsForward o call (Ok done) = IsAfterHeader o call (Ok done)
+ReadsForward o call (Err (DataTruncated v k)) = IsAfterHeader {A = Unit {0}} o call (Err (DataTruncated v k))
+ReadsForward o call (Err WriteFailed) = IsAfterHeader {A = Unit {0}} o call (Err WriteFailed)
+ReadsForward o call (Err ReadFailed) = IsUnread {A = Unit {0}} o call (Err ReadFailed)
+ReadsForward o call (Err other) = IsInHeader call

@@ -47,11 +47,19 @@ fault_words (DataTruncated var value) = codes "variable "
 unfoldable pub truncated_words : List ℕ
 truncated_words = codes ": data truncated at value "
 
+-- the index of a name among the chosen ones
+abbrev pub index_text : ℕ → List ℕ
+index_text index = concat_parts (decimal index ∷ codes " of -v" ∷ [])
+
+-- a variable, and the number of its first missing value
+abbrev pub place_text : ℕ → ℕ → List ℕ
+place_text var value = concat_parts (decimal var ∷ truncated_words ∷ decimal value ∷ [])
+
 -- the numbers of a fault, with the words between them
 unfoldable pub fault_numbers : DumpFault → List ℕ
 fault_numbers (Format (UnknownVersion n)) = decimal n
-fault_numbers (NoSuchVariable index) = concat_parts (decimal index ∷ codes " of -v" ∷ [])
-fault_numbers (DataTruncated var value) = concat_parts (decimal var ∷ truncated_words ∷ decimal value ∷ [])
+fault_numbers (NoSuchVariable index) = index_text index
+fault_numbers (DataTruncated var value) = place_text var value
 fault_numbers other = []
 
 -- what a fault says

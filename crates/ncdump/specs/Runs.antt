@@ -1,13 +1,16 @@
 -- What a run of the program has done.
-use Rattle.std.specs.Prelude.{ℕ, Bool, ◌≡◌, ◌⊎◌, List, [], Option, Some, None, IsSome, option_map, Result, Ok, Err, string_bytes}
+use Rattle.std.specs.Prelude.{ℕ, Bool, ◌≡◌, ◌⊎◌, List, [], map, Option, Some, None, IsSome, option_map, Result, Ok, Err, string_bytes}
 use Rattle.std.specs.Bool.{OnTrue}
+use Rattle.std.specs.Borrow.{Bor}
 use Rattle.nc_base.specs.Dump.{Options}
 use Rattle.devices.specs.Openers.{OpenerView, HasFailed, opens_after}
 use Rattle.devices.specs.Sinks.{SinkView, Appended, FailedPartway}
-use Rattle.ncdump.specs.CommandLine.{Asked}
+use Rattle.ncdump.specs.Calls.{SinkUse}
+use Rattle.ncdump.specs.CommandLine.{Asked, asked_by}
 use Rattle.ncdump.specs.Dumps as dumps
 use Rattle.ncdump.specs.Faults.{line_of_failure}
 use Rattle.cli_base.specs.declared.fault.OptFault.TheVariants.{OutOfMemory, Usage}
+use Rattle.ncdump.specs.declared.options.DumpOptions.{DumpOptions}
 use Rattle.ncdump.specs.declared.fault.Failure.{Failure}
 use Rattle.ncdump.specs.declared.fault.Failure.TheVariants.{CommandLine, File, Flush}
 use Rattle.ncdump.specs.declared.fault.FileFault.{FileFault}
@@ -34,13 +37,13 @@ file_of asked = option_map (λ (a : Asked). a.file) asked
 -- What was written to standard output, where this is asked for: with success it has not failed; with a fault of the
 -- command line, which asks for nothing or is read out of memory, it is as it was; and with a fault of the file it has
 -- failed exactly where the fault says so.
-abbrev pub Ends : {A : Type 0} → Option Asked → SinkView → SinkView → Result A Failure → Type 0
-Ends asked old new (Ok done) = IsSome asked × (new.failures ≡ old.failures)
-Ends asked old new (Err (CommandLine OutOfMemory)) = new ≡ old
-Ends asked old new (Err (CommandLine Usage)) = (asked ≡ None) × (new ≡ old)
-Ends {A} asked old new (Err (File path fault)) =
+abbrev pub WritesAsked : {A : Type 0} → Option Asked → SinkView → SinkView → Result A Failure → Type 0
+WritesAsked asked old new (Ok done) = IsSome asked × (new.failures ≡ old.failures)
+WritesAsked asked old new (Err (CommandLine OutOfMemory)) = new ≡ old
+WritesAsked asked old new (Err (CommandLine Usage)) = (asked ≡ None) × (new ≡ old)
+WritesAsked {A} asked old new (Err (File path fault)) =
     (file_of asked ≡ Some (string_bytes path)) × WriteFailsOnly {A = A} old new (Err fault)
-Ends asked old new (Err Flush) = ⊥
+WritesAsked asked old new (Err Flush) = ⊥
 
 -- The dump of the file, where these are its bytes, if it can be opened: `CannotOpen` exactly where it can't, and then nothing
 -- is written.
@@ -51,6 +54,10 @@ DumpsFile (Some bytes) o old new (Err CannotOpen) = ⊥
 DumpsFile None o old new (Ok done) = ⊥
 DumpsFile None o old new (Err (Dump fault)) = ⊥
 DumpsFile None o old new (Err CannotOpen) = new ≡ old
+
+-- the dump of the file that the options name
+abbrev pub DumpsNamed : {A : Type 0} → (List ℕ → Option (List ℕ)) → DumpOptions → SinkUse → Result A FileFault → Type 0
+DumpsNamed named o sink result = DumpsFile (named (string_bytes o.file)) (dumps.options_of o) sink.old sink.new result
 
 -- the dump of the file that is asked for, if one is, where these are the bytes that paths name
 abbrev pub DumpsAsked : {A : Type 0} → (List ℕ → Option (List ℕ)) → Option Asked → SinkView → SinkView → Result A FileFault → Type 0
@@ -81,45 +88,50 @@ OpensAsked {A} old new (Err (File path fault)) = OpensFile {A = A} old new (Err 
 OpensAsked old new (Err (CommandLine fault)) = new ≡ old
 OpensAsked old new (Err Flush) = ⊥
 
--- What the words ask for, with the opener and standard output before and after. Where the files are transparent, contracts know
--- which bytes paths name.
-pub record Run : Type 0 where
+-- What opens the files, before and after a run. Where the files are transparent, contracts know which bytes paths name.
+pub record FilesUse : Type 0 where
   pub is_transparent : Bool
   pub named : List ℕ → Option (List ℕ)
-  pub asked : Option Asked
-  pub files : OpenerView
-  pub files_after : OpenerView
-  pub out : SinkView
-  pub out_after : SinkView
+  pub old : OpenerView
+  pub new : OpenerView
 
-abbrev pub run_of : Bool → (List ℕ → Option (List ℕ)) → Option Asked → OpenerView → OpenerView → SinkView → SinkView → Run
-run_of is_transparent named asked files files_after out out_after =
-    record { is_transparent = is_transparent; named = named; asked = asked; files = files; files_after = files_after; out = out; out_after = out_after }
+-- the same of an opener, by which bytes paths name to it, and by its view
+abbrev pub files_of : {P : Type 0} → Bool → (P → List ℕ → Option (List ℕ)) → (P → OpenerView) → P → P → FilesUse
+files_of is_transparent named view old new = record { is_transparent = is_transparent; named = named old; old = view old; new = view new }
+
+-- what the words ask for, and what was done with the files and with standard output
+pub record Run : Type 0 where
+  pub asked : Option Asked
+  pub files : FilesUse
+  pub out : SinkUse
+
+abbrev pub run_of : List (Bor (List ℕ)) → FilesUse → SinkUse → Run
+run_of words files out = record { asked = asked_by (map (λ (word : Bor (List ℕ)). word.now) words); files = files; out = out }
 
 -- With this answer, where standard output was this afterwards: the dump that is asked for was written, or the answer is the fault
 -- of the command line, of opening the file, or of its dump.
 pub record HasDumped {A : Type 0} (run : Run) (out : SinkView) (answer : Result A Failure) : Type 0 where
-  pub ends : Ends run.asked run.out out answer
-  pub opens : OpensAsked run.files run.files_after answer
-  pub dump : OnTrue run.is_transparent (DumpsOrNot run.named run.asked run.out out answer)
+  pub ends : WritesAsked run.asked run.out.old out answer
+  pub opens : OpensAsked run.files.old run.files.new answer
+  pub dump : OnTrue run.files.is_transparent (DumpsOrNot run.files.named run.asked run.out.old out answer)
 
 -- and then standard output was flushed
 pub record HasFlushed (run : Run) : Type 0 where
   pub out : SinkView
   pub dumped : HasDumped {A = Unit {0}} run out (Ok tt)
-  pub flushed : Appended out run.out_after []
+  pub flushed : Appended out run.out.new []
 
 -- the same, where the flush failed
 pub record FailsToFlush (run : Run) : Type 0 where
   pub out : SinkView
   pub dumped : HasDumped {A = Unit {0}} run out (Ok tt)
-  pub flushed : FailedPartway out run.out_after []
+  pub flushed : FailedPartway out run.out.new []
 
 -- the dump failed, and standard output was to be flushed too
 pub record FailsToDump (run : Run) (failure : Failure) : Type 0 where
   pub out : SinkView
   pub dumped : HasDumped {A = Unit {0}} run out (Err failure)
-  pub flushed : Appended out run.out_after [] ⊎ FailedPartway out run.out_after []
+  pub flushed : Appended out run.out.new [] ⊎ FailedPartway out run.out.new []
 
 abbrev pub Fails : Run → Failure → Type 0
 Fails run Flush = FailsToFlush run
@@ -131,12 +143,17 @@ Runs run (Ok done) = HasFlushed run
 Runs run (Err failure) = Fails run failure
 
 -- The dump was written and handed on, and nothing was written to standard error.
-pub record Succeeded (run : Run) (err err_after : SinkView) : Type 0 where
+pub record Succeeded (run : Run) (err : SinkUse) : Type 0 where
   pub done : HasFlushed run
-  pub error : err_after ≡ err
+  pub error : err.new ≡ err.old
 
 -- The run has failed, and the line that tells it, or a prefix of it, was written to standard error.
-pub record Failed (run : Run) (err err_after : SinkView) : Type 0 where
+pub record Failed (run : Run) (err : SinkUse) : Type 0 where
   pub failure : Failure
   pub fails : Fails run failure
-  pub error : Appended err err_after (line_of_failure failure) ⊎ FailedPartway err err_after (line_of_failure failure)
+  pub error : Appended err.old err.new (line_of_failure failure) ⊎ FailedPartway err.old err.new (line_of_failure failure)
+
+-- with status 0 the run has succeeded, and with status 1 it has failed
+pub record Ends (run : Run) (err : SinkUse) (status : ℕ) : Type 0 where
+  pub success : status ≡ 0 → Succeeded run err
+  pub failure : status ≡ 1 → Failed run err

@@ -1,8 +1,9 @@
 -- What showing the values of variables has done.
-use Rattle.std.specs.Prelude.{◌≡◌, ℕ, ◌+◌, ◌*◌, ◌≤◌, ◌&&◌, ◌⊎◌, Bool, true, if◌then◌else◌, List, [], ◌∷◌, ◌++◌, take, drop, Some, slice_get, Result, Ok, Err}
+use Rattle.std.specs.Prelude.{◌≡◌, ℕ, ◌+◌, ◌*◌, ◌≤◌, ◌&&◌, ◌||◌, ◌⊎◌, nat_lt, not, Bool, true, if◌then◌else◌, List, [], ◌∷◌, ◌++◌, length, take, drop, Some, slice_get, IfSome, Result, Ok, Err}
 use Rattle.std.specs.Bool.{OnTrue}
 use Rattle.nc_base.specs.declared.header.Header.{Header}
 use Rattle.nc_base.specs.declared.header.Var.{Var}
+use Rattle.nc_base.specs.Sizes.{is_record_var, record_count}
 use Rattle.nc_base.specs.Types.{size_of}
 use Rattle.nc_base.specs.HeadText.{head_text}
 use Rattle.nc_base.specs.Places.{stored_values, first_missing}
@@ -12,7 +13,9 @@ use Rattle.devices.specs.Sources.{SourceView, after}
 use Rattle.devices.specs.Sources as sources
 use Rattle.devices.specs.Sinks as sinks
 use Rattle.devices.specs.Sinks.{SinkView, append, is_transparent, Appended, FailedPartway, IsCut}
+use Rattle.nc_walk.specs.SourceUses.{SourceUse, between}
 use Rattle.nc_walk.specs.Walked.{whole_count}
+use Rattle.ncdump.specs.Calls.{Call}
 use Rattle.ncdump.specs.declared.fault.DumpFault.{DumpFault}
 use Rattle.ncdump.specs.declared.fault.DumpFault.TheVariants.{ReadFailed, WriteFailed, DataTruncated}
 
@@ -46,6 +49,14 @@ ShowsOrFails old new (Err _) = ⊥
 
 -- ---- one variable
 
+-- the answer says whether the variable at index v has a slab over n records
+abbrev pub SaysHasSlabs : Header → ℕ → ℕ → Bool → Type 0
+SaysHasSlabs h v n answer = IfSome (slice_get h.vars v) (λ var. answer ≡ (nat_lt 0 n || not (is_record_var h.dims var)))
+
+-- it says whether the variable, which is marked or not, is shown: it is marked, and has a value over n records
+abbrev pub SaysIsShown : Header → ℕ → ℕ → Bool → Bool → Type 0
+SaysIsShown h v n is_marked answer = IfSome (slice_get h.vars v) (λ var. answer ≡ (is_marked && has_values h.dims n var))
+
 -- the opening of a variable and its first k values
 abbrev pub prefix_text : Dumped → Var → ℕ → List ℕ
 prefix_text d var k = variable_prefix (look_of d.header var d.records d.width) (take k (stored_values d.header d.bytes var d.records))
@@ -69,38 +80,42 @@ whole_bytes d var = whole_values d var * size_of var.ty
 
 -- The text of the variable's first k values was taken, as Taken says it, and no more was read than the bytes of these
 -- values and one buffer: no value waits for more.
-pub record KeepsUp (d : Dumped) (var : Var) (buffer_len : ℕ) (before now : SourceView) (Taken : List ℕ → Type 0) : Type 0 where
+pub record KeepsUp (d : Dumped) (var : Var) (buffer_len : ℕ) (source : SourceUse) (Taken : List ℕ → Type 0) : Type 0 where
   pub k : ℕ
   pub few : k ≤ whole_values d var
   pub taken : Taken (prefix_text d var k)
-  pub handed : now.handed ≤ before.handed + k * size_of var.ty + buffer_len
+  pub handed : source.now.handed ≤ source.before.handed + k * size_of var.ty + buffer_len
 
 -- all values are shown, or those before the first missing one
-pub record IsShown (d : Dumped) (v : ℕ) (var : Var) (ending : Ending) (before now : SourceView) (old new : SinkView) : Type 0 where
+pub record IsShown (d : Dumped) (v : ℕ) (var : Var) (ending : Ending) (call : Call) : Type 0 where
   pub ends : (values_alone d v var).ending ≡ ending
-  pub appended : Appended old new (values_alone d v var).text
-  pub handed : now ≡ after before (whole_bytes d var)
+  pub appended : Appended call.sink.old call.sink.new (values_alone d v var).text
+  pub handed : call.source.now ≡ after call.source.before (whole_bytes d var)
 
 -- a read failed after some values
-pub record IsUnread (d : Dumped) (var : Var) (buffer_len : ℕ) (before now : SourceView) (old new : SinkView) : Type 0 where
-  pub bytes : now.bytes ≡ before.bytes
-  pub most : now.handed ≤ before.handed + whole_bytes d var
-  pub keeps_up : KeepsUp d var buffer_len before now (Appended old new)
+pub record IsUnread (d : Dumped) (var : Var) (call : Call) : Type 0 where
+  pub bytes : call.source.now.bytes ≡ call.source.before.bytes
+  pub most : call.source.now.handed ≤ call.source.before.handed + whole_bytes d var
+  pub keeps_up : KeepsUp d var call.buffer_len call.source (Appended call.sink.old call.sink.new)
 
 -- a write failed, before a value was read or after some values
-pub record IsUnwritten (d : Dumped) (v : ℕ) (var : Var) (buffer_len : ℕ) (before now : SourceView) (old new : SinkView) : Type 0 where
-  pub bytes : now.bytes ≡ before.bytes
-  pub most : now.handed ≤ before.handed + whole_bytes d var
-  pub partway : FailedPartway old new (values_alone d v var).text
-  pub keeps_up : (now ≡ before) ⊎ KeepsUp d var buffer_len before now (Holds old new)
+pub record IsUnwritten (d : Dumped) (v : ℕ) (var : Var) (call : Call) : Type 0 where
+  pub bytes : call.source.now.bytes ≡ call.source.before.bytes
+  pub most : call.source.now.handed ≤ call.source.before.handed + whole_bytes d var
+  pub partway : FailedPartway call.sink.old call.sink.new (values_alone d v var).text
+  pub keeps_up : (call.source.now ≡ call.source.before) ⊎ KeepsUp d var call.buffer_len call.source (Holds call.sink.old call.sink.new)
 
 -- what showing the variable at index v has done
-abbrev pub ShowsOne : {A : Type 0} → Dumped → ℕ → Var → ℕ → SourceView → SourceView → SinkView → SinkView → Result A DumpFault → Type 0
-ShowsOne d v var buffer_len before now old new (Ok done) = IsShown d v var whole before now old new
-ShowsOne d v var buffer_len before now old new (Err (DataTruncated w k)) = IsShown d v var (data_truncated w k) before now old new
-ShowsOne d v var buffer_len before now old new (Err ReadFailed) = IsUnread d var buffer_len before now old new
-ShowsOne d v var buffer_len before now old new (Err WriteFailed) = IsUnwritten d v var buffer_len before now old new
-ShowsOne d v var buffer_len before now old new (Err _) = ⊥
+abbrev pub ShowsOne : {A : Type 0} → Dumped → ℕ → Call → Result A DumpFault → Var → Type 0
+ShowsOne d v call (Ok done) var = IsShown d v var whole call
+ShowsOne d v call (Err (DataTruncated w k)) var = IsShown d v var (data_truncated w k) call
+ShowsOne d v call (Err ReadFailed) var = IsUnread d var call
+ShowsOne d v call (Err WriteFailed) var = IsUnwritten d v var call
+ShowsOne d v call (Err _) var = ⊥
+
+-- the same, where this is the variable's index in the header
+abbrev pub ShowsAt : {A : Type 0} → Dumped → ℕ → Call → Result A DumpFault → Type 0
+ShowsAt d v call result = IfSome (slice_get d.header.vars v) (ShowsOne d v call result)
 
 -- ---- the marked variables
 
@@ -126,7 +141,7 @@ pub record IsBefore (d : Dumped) (marks : List Bool) (v : ℕ) (prefix : List �
 
 -- The text up to and with the first k values of a marked variable was taken, as Taken says it, and no more was read
 -- than the bytes of the values before it, of these k values, and one buffer.
-pub record KeepsUpIn (d : Dumped) (marks : List Bool) (buffer_len : ℕ) (before now : SourceView) (Taken : List ℕ → Type 0) : Type 0 where
+pub record KeepsUpIn (d : Dumped) (marks : List Bool) (buffer_len : ℕ) (source : SourceUse) (Taken : List ℕ → Type 0) : Type 0 where
   pub v : ℕ
   pub var : Var
   pub prefix : List ℕ
@@ -135,40 +150,43 @@ pub record KeepsUpIn (d : Dumped) (marks : List Bool) (buffer_len : ℕ) (before
   pub marked : slice_get marks v ≡ Some true
   pub some : has_values d.header.dims d.records var ≡ true
   pub is_before : IsBefore d marks v prefix spent
-  pub keeps_up : KeepsUp d var buffer_len (after before spent) now (λ (values : List ℕ). Taken (prefix ++ values))
+  pub keeps_up : KeepsUp d var buffer_len (between (after source.before spent) source.now) (λ (values : List ℕ). Taken (prefix ++ values))
 
 -- all marked variables are shown, or all values before the first missing one
-pub record AreShown (d : Dumped) (marks : List Bool) (ending : Ending) (before now : SourceView) (Taken : Section → Type 0) : Type 0 where
+pub record AreShown (d : Dumped) (marks : List Bool) (ending : Ending) (source : SourceUse) (Taken : Section → Type 0) : Type 0 where
   pub ends : (marked_values d marks).ending ≡ ending
   pub taken : Taken (marked_values d marks)
-  pub bytes : now.bytes ≡ before.bytes
-  pub most : now.handed ≤ before.handed + bytes_of d d.header.vars marks
+  pub bytes : source.now.bytes ≡ source.before.bytes
+  pub most : source.now.handed ≤ source.before.handed + bytes_of d d.header.vars marks
 
 -- a read failed after some values
-pub record AreUnread (d : Dumped) (marks : List Bool) (buffer_len : ℕ) (before now : SourceView) (Taken : List ℕ → Type 0) : Type 0 where
-  pub bytes : now.bytes ≡ before.bytes
-  pub most : now.handed ≤ before.handed + bytes_of d d.header.vars marks
-  pub keeps_up : KeepsUpIn d marks buffer_len before now Taken
+pub record AreUnread (d : Dumped) (marks : List Bool) (buffer_len : ℕ) (source : SourceUse) (Taken : List ℕ → Type 0) : Type 0 where
+  pub bytes : source.now.bytes ≡ source.before.bytes
+  pub most : source.now.handed ≤ source.before.handed + bytes_of d d.header.vars marks
+  pub keeps_up : KeepsUpIn d marks buffer_len source Taken
 
 -- no value waits: no value was read, or what was read is written but for a buffer
-abbrev pub IsUpToDate : Dumped → List Bool → ℕ → SourceView → SourceView → (List ℕ → Type 0) → Type 0
-IsUpToDate d marks buffer_len before now Taken = (now ≡ before) ⊎ KeepsUpIn d marks buffer_len before now Taken
+abbrev pub IsUpToDate : Dumped → List Bool → ℕ → SourceUse → (List ℕ → Type 0) → Type 0
+IsUpToDate d marks buffer_len source Taken = (source.now ≡ source.before) ⊎ KeepsUpIn d marks buffer_len source Taken
 
 -- a write failed, before a value was read or after some values
-pub record AreUnwritten (d : Dumped) (marks : List Bool) (buffer_len : ℕ) (before now : SourceView) (Cut : Section → Type 0) (Taken : List ℕ → Type 0) : Type 0 where
-  pub bytes : now.bytes ≡ before.bytes
-  pub most : now.handed ≤ before.handed + bytes_of d d.header.vars marks
+pub record AreUnwritten (d : Dumped) (marks : List Bool) (buffer_len : ℕ) (source : SourceUse) (Cut : Section → Type 0) (Taken : List ℕ → Type 0) : Type 0 where
+  pub bytes : source.now.bytes ≡ source.before.bytes
+  pub most : source.now.handed ≤ source.before.handed + bytes_of d d.header.vars marks
   pub partway : Cut (marked_values d marks)
-  pub keeps_up : IsUpToDate d marks buffer_len before now Taken
+  pub keeps_up : IsUpToDate d marks buffer_len source Taken
 
 -- what showing the marked variables has done
-abbrev pub ShowsMarked : {A : Type 0} → Dumped → List Bool → ℕ → SourceView → SourceView → SinkView → SinkView → Result A DumpFault → Type 0
-ShowsMarked d marks buffer_len before now old new (Ok done) =
-    AreShown d marks whole before now (λ (section : Section). Appended old new section.text) × IsUpToDate d marks buffer_len before now (Holds old new)
-ShowsMarked d marks buffer_len before now old new (Err (DataTruncated v k)) = AreShown d marks (data_truncated v k) before now (λ (section : Section). Appended old new section.text)
-ShowsMarked d marks buffer_len before now old new (Err ReadFailed) = AreUnread d marks buffer_len before now (Appended old new)
-ShowsMarked d marks buffer_len before now old new (Err WriteFailed) = AreUnwritten d marks buffer_len before now (λ (section : Section). FailedPartway old new section.text) (Holds old new)
-ShowsMarked d marks buffer_len before now old new (Err _) = ⊥
+abbrev pub ShowsMarked : {A : Type 0} → Dumped → List Bool → Call → Result A DumpFault → Type 0
+ShowsMarked d marks call (Ok done) =
+    AreShown d marks whole call.source (λ (section : Section). Appended call.sink.old call.sink.new section.text)
+    × IsUpToDate d marks call.buffer_len call.source (Holds call.sink.old call.sink.new)
+ShowsMarked d marks call (Err (DataTruncated v k)) =
+    AreShown d marks (data_truncated v k) call.source (λ (section : Section). Appended call.sink.old call.sink.new section.text)
+ShowsMarked d marks call (Err ReadFailed) = AreUnread d marks call.buffer_len call.source (Appended call.sink.old call.sink.new)
+ShowsMarked d marks call (Err WriteFailed) =
+    AreUnwritten d marks call.buffer_len call.source (λ (section : Section). FailedPartway call.sink.old call.sink.new section.text) (Holds call.sink.old call.sink.new)
+ShowsMarked d marks call (Err _) = ⊥
 
 -- ---- the whole text
 
@@ -180,16 +198,21 @@ text_before o h n = head_text o.name h n ++ data_word h o
 abbrev pub marks_in : Options → List Bool → List Bool
 marks_in o marks = if o.head_only then [] else marks
 
--- What showing a file with this header has done: the head, the values of the marked variables and the closing brace; or what of
--- that was written before the first missing value, or before a device failed.
-abbrev pub Shows : {A : Type 0} → Options → Header → ℕ → List Bool → ℕ → SourceView → SourceView → SinkView → SinkView → Result A DumpFault → Type 0
-Shows o h n shown buffer_len before now old new (Ok done) =
-    AreShown (dumped h before n o.width) (marks_in o shown) whole before now (λ (section : Section). Appended old new (dump_text h o n section))
-Shows o h n shown buffer_len before now old new (Err (DataTruncated v k)) =
-    AreShown (dumped h before n o.width) (marks_in o shown) (data_truncated v k) before now (λ (section : Section). Appended old new (dump_text h o n section))
-Shows o h n shown buffer_len before now old new (Err ReadFailed) =
-    AreUnread (dumped h before n o.width) (marks_in o shown) buffer_len before now (λ (values : List ℕ). Appended old new (text_before o h n ++ values))
-Shows o h n shown buffer_len before now old new (Err WriteFailed) =
-    AreUnwritten (dumped h before n o.width) (marks_in o shown) buffer_len before now (λ (section : Section). FailedPartway old new (dump_text h o n section))
-    (λ (values : List ℕ). Holds old new (text_before o h n ++ values))
-Shows o h n shown buffer_len before now old new (Err _) = ⊥
+-- What showing a file with this header, over n records, has done: the head, the values of the marked variables and the closing
+-- brace; or what of that was written before the first missing value, or before a device failed.
+abbrev pub Shows : {A : Type 0} → Options → Header → ℕ → List Bool → Call → Result A DumpFault → Type 0
+Shows o h n shown call (Ok done) =
+    AreShown (dumped h call.source.before n o.width) (marks_in o shown) whole call.source (λ (section : Section). Appended call.sink.old call.sink.new (dump_text h o n section))
+Shows o h n shown call (Err (DataTruncated v k)) =
+    AreShown (dumped h call.source.before n o.width) (marks_in o shown) (data_truncated v k) call.source (λ (section : Section). Appended call.sink.old call.sink.new (dump_text h o n section))
+Shows o h n shown call (Err ReadFailed) =
+    AreUnread (dumped h call.source.before n o.width) (marks_in o shown) call.buffer_len call.source (λ (values : List ℕ). Appended call.sink.old call.sink.new (text_before o h n ++ values))
+Shows o h n shown call (Err WriteFailed) =
+    AreUnwritten (dumped h call.source.before n o.width) (marks_in o shown) call.buffer_len call.source
+    (λ (section : Section). FailedPartway call.sink.old call.sink.new (dump_text h o n section))
+    (λ (values : List ℕ). Holds call.sink.old call.sink.new (text_before o h n ++ values))
+Shows o h n shown call (Err _) = ⊥
+
+-- the same over the records that the file has by its length
+abbrev pub ShowsFile : {A : Type 0} → Options → Header → List Bool → Call → Result A DumpFault → Type 0
+ShowsFile o h shown call result = Shows o h (record_count h (length call.source.before.bytes)) shown call result

@@ -6,7 +6,7 @@ ghost use Rattle.std.specs.Int.{is_in_range};
 ghost use Rattle.std.specs.List.{list_all};
 ghost use Rattle.clap.specs.Words.{app_of, found_of, rows_of};
 ghost use Rattle.nc_base.specs.Paths.{stem_of};
-ghost use Rattle.ncdump.specs.CommandLine.{ncdump, asked_by, asked_in, names_in, width_in, width_of, Answers};
+ghost use Rattle.ncdump.specs.CommandLine.{ncdump, asked_by, asked_in, names_in, width_in, width_of, word_of, Answers};
 
 use crate::options::DumpOptions;
 use clap::{Arg, ArgMatches, Command};
@@ -89,7 +89,7 @@ const MAX_WIDTH: usize = 1000;
 
 /// The width that `-l` asks for, or else the default.
 fn width_in(word: Option<&str>) -> Option<usize>
-    ensures { result ≡ width_in (option_map (λ value. value.now) word.entry) }
+    ensures { result ≡ width_in (word_of word.entry) }
 {
     match word {
         Some(word) => width_of(word),
@@ -124,7 +124,7 @@ fn is_of_digits(word: &str) -> bool
 
 /// The name that `-n` asks for, or else the stem of the path.
 fn name_of(alloc: Global, word: Option<&str>, path: &str) -> Result<Sequence<u8>, AllocError>
-    ensures { IfOk result (λ name. name ≡ unwrap_or (option_map (λ value. value.now) word.entry) (stem_of path.now)) }
+    ensures { IfOk result (λ name. name ≡ unwrap_or (word_of word.entry) (stem_of path.now)) }
 {
     bytes_of(alloc, word.unwrap_or(stem(path)))
 }
@@ -134,7 +134,7 @@ fn chosen_in(
     alloc: Global,
     word: Option<&str>,
 ) -> Result<Option<Sequence<Sequence<u8>>>, AllocError>
-    ensures { IfOk result (λ chosen. chosen ≡ option_map names_in (option_map (λ value. value.now) word.entry)) }
+    ensures { IfOk result (λ chosen. chosen ≡ option_map names_in (word_of word.entry)) }
 {
     match word {
         Some(word) => Ok(Some(names_in(alloc, word)?)),

@@ -2,6 +2,8 @@
 
 ghost use Rattle.std.specs.Prelude.{◌≡◌, ◌≤◌, length};
 ghost use Rattle.std.specs.Bool.{OnTrue};
+ghost use Rattle.nc_walk.specs.SourceUses.{source_of};
+ghost use Rattle.ncdump.specs.Calls.{call_of, sink_of};
 ghost use Rattle.ncdump.specs.Dumps.{options_of, Dumps, ReadsForward, WriteFailsOnly};
 ghost use Rattle.ncdump.specs.Shows.{ReadFailsOnly};
 
@@ -32,8 +34,11 @@ pub fn dump<S: Source, W: Sink>(
     requires { 16 ≤ length buf.old }
     ensures source { ReadFailsOnly (S.view source.old) (S.view source.new) result }
     ensures sink { WriteFailsOnly (W.view sink.old) (W.view sink.new) result }
-    ensures answer { OnTrue S.is_transparent (Dumps (S.view source.old).bytes (options_of options.now) (W.view sink.old) (W.view sink.new) result) }
-    ensures forward { OnTrue S.is_transparent (ReadsForward (options_of options.now) (length buf.old) (S.view source.old) (S.view source.new) (W.view sink.old) (W.view sink.new) result) }
+    ensures answer { OnTrue S.is_transparent (Dumps (S.view source.old).bytes
+        (options_of options.now) (W.view sink.old) (W.view sink.new) result) }
+    ensures forward { OnTrue S.is_transparent (ReadsForward (options_of options.now)
+        (call_of buf.old (source_of S.view source.old source.new) (sink_of W.view sink.old sink.new))
+        result) }
 {
     let header = read_header(alloc, source, buf)?;
     let shown = select(alloc, &header, options)?;

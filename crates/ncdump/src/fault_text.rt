@@ -1,9 +1,8 @@
 //! The line of each fault.
 
-ghost use Rattle.std.specs.Prelude.{◌≡◌, [], ◌∷◌, codes, decimal};
-ghost use Rattle.nc_base.specs.Bytes.{concat_parts};
+ghost use Rattle.std.specs.Prelude.{◌≡◌};
 ghost use Rattle.devices.specs.Sinks.{Wrote};
-ghost use Rattle.ncdump.specs.Faults.{cannot_open_line, cannot_open_words, fault_numbers, fault_text, fault_words, file_line, flush_fault_line, format_words, line_of, line_of_failure, opt_fault_line, program_words, truncated_words, usage_line};
+ghost use Rattle.ncdump.specs.Faults.{cannot_open_line, cannot_open_words, fault_numbers, fault_text, fault_words, file_line, flush_fault_line, format_words, index_text, line_of, line_of_failure, opt_fault_line, place_text, program_words, truncated_words, usage_line};
 
 use crate::fault::{DumpFault, Failure, FileFault};
 use cli_base::OptFault;
@@ -127,7 +126,7 @@ fn put_numbers<W: Sink>(sink: &mut W, fault: &DumpFault) -> Result<(), WriteFail
 /// Writes the place of a name among the chosen ones.
 #[tactic(auto, using(devices::proofs::Writes::writes))]
 fn put_index<W: Sink>(sink: &mut W, index: usize) -> Result<(), WriteFailed>
-    ensures { Wrote W.view sink.old sink.new (concat_parts (decimal index ∷ codes " of -v" ∷ [])) result }
+    ensures { Wrote W.view sink.old sink.new (index_text index) result }
 {
     put_decimal(sink, index as u128)?;
     put(sink, b" of -v")
@@ -136,7 +135,7 @@ fn put_index<W: Sink>(sink: &mut W, index: usize) -> Result<(), WriteFailed>
 /// Writes the place of a value.
 #[tactic(auto, using(devices::proofs::Writes::writes))]
 fn put_place<W: Sink>(sink: &mut W, var: usize, value: u128) -> Result<(), WriteFailed>
-    ensures { Wrote W.view sink.old sink.new (concat_parts (decimal var ∷ truncated_words ∷ decimal value ∷ [])) result }
+    ensures { Wrote W.view sink.old sink.new (place_text var value) result }
 {
     put_decimal(sink, var as u128)?;
     put(sink, truncated_words())?;

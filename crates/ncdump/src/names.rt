@@ -1,9 +1,7 @@
 //! Sets of names.
 
-ghost use Rattle.std.specs.Prelude.{◌≡◌, ◌||◌, ℕ, List, IfOk, OnOk, false};
-ghost use Rattle.std.specs.List.{list_any};
-ghost use Rattle.std.specs.Str.{bytes_eq};
-ghost use Rattle.ncdump.specs.Names.{holds};
+ghost use Rattle.std.specs.Prelude.{◌≡◌, ℕ, List, IfOk, OnOk, false};
+ghost use Rattle.ncdump.specs.Names.{holds, HasGained, HoldsNames};
 
 use nc_base::{Dim, Sequence, Var};
 use std::alloc::{AllocError, Global};
@@ -52,7 +50,7 @@ pub struct NameSet<'a> {
 impl<'a> NameSet<'a> {
     /// The names of these items.
     pub fn of<T: Named>(alloc: Global, items: &'a [T]) -> Result<NameSet<'a>, AllocError>
-        ensures { IfOk result (λ set. (name : List ℕ) → holds set name ≡ list_any (λ item. bytes_eq (T.name_of item) name) items.now) }
+        ensures { IfOk result (HoldsNames T.name_of items.now) }
     {
         let mut set = NameSet::new(alloc);
         for item in items {
@@ -79,7 +77,7 @@ impl<'a> NameSet<'a> {
 
     /// Adds a name.
     fn insert(&mut self, name: &'a [u8]) -> Result<(), AllocError>
-        ensures { OnOk result ((other : List ℕ) → holds self.new other ≡ (holds self.old other || bytes_eq name.now other)) }
+        ensures { OnOk result (HasGained self.old self.new name.now) }
     {
         self.names.insert(name)?;
         Ok(())

@@ -1,11 +1,11 @@
 //! A run of the program.
 
-ghost use Rattle.std.specs.Prelude.{◌≡◌, ◌⊎◌, IfOk, map, string_bytes, true};
+ghost use Rattle.std.specs.Prelude.{◌≡◌, ◌⊎◌, IfOk, true};
 ghost use Rattle.std.specs.Bool.{OnTrue};
-ghost use Rattle.ncdump.specs.CommandLine.{asked_by};
+ghost use Rattle.ncdump.specs.Calls.{sink_of};
 ghost use Rattle.ncdump.specs.Dumps.{options_of, Dumps};
 ghost use Rattle.ncdump.specs.Dumps as dumps;
-ghost use Rattle.ncdump.specs.Runs.{run_of, OfDump, OpensFile, WriteFailsOnly, DumpsFile, HasDumped, Runs, Succeeded, Failed};
+ghost use Rattle.ncdump.specs.Runs.{files_of, run_of, OfDump, OpensFile, WriteFailsOnly, DumpsNamed, HasDumped, Runs, Ends};
 ghost use Rattle.ncdump.specs.Shows.{ReadFailsOnly};
 
 use crate::command_line::options_by;
@@ -32,8 +32,10 @@ pub fn run_with<P: Opener, O: Flush, E: Sink>(
     err: &mut E,
 ) -> u8
     ensures status { (result ≡ 0) ⊎ (result ≡ 1) }
-    ensures success { result ≡ 0 → Succeeded (run_of P.Source.is_transparent (P.named opener.old) (asked_by (map (λ word. word.now) words.now)) (P.view opener.old) (P.view opener.new) (O.Sink.view out.old) (O.Sink.view out.new)) (E.view err.old) (E.view err.new) }
-    ensures failure { result ≡ 1 → Failed (run_of P.Source.is_transparent (P.named opener.old) (asked_by (map (λ word. word.now) words.now)) (P.view opener.old) (P.view opener.new) (O.Sink.view out.old) (O.Sink.view out.new)) (E.view err.old) (E.view err.new) }
+    ensures ends { Ends (run_of words.now
+        (files_of P.Source.is_transparent P.named P.view opener.old opener.new)
+        (sink_of O.Sink.view out.old out.new))
+        (sink_of E.view err.old err.new) result }
     ensures flushed { result ≡ 0 → O.is_flushed out.new ≡ true }
 {
     match dump_and_flush(opener, alloc, words, out) {
@@ -52,7 +54,9 @@ fn dump_and_flush<P: Opener, O: Flush>(
     words: &[&str],
     out: &mut O,
 ) -> Result<(), Failure>
-    ensures runs { Runs (run_of P.Source.is_transparent (P.named opener.old) (asked_by (map (λ word. word.now) words.now)) (P.view opener.old) (P.view opener.new) (O.Sink.view out.old) (O.Sink.view out.new)) result }
+    ensures runs { Runs (run_of words.now
+        (files_of P.Source.is_transparent P.named P.view opener.old opener.new)
+        (sink_of O.Sink.view out.old out.new)) result }
     ensures flushed { IfOk result (λ _. O.is_flushed out.new ≡ true) }
 {
     let dumped = dump_asked(opener, alloc, words, out);
@@ -69,7 +73,9 @@ fn dump_asked<P: Opener, O: Sink>(
     words: &[&str],
     out: &mut O,
 ) -> Result<(), Failure>
-    ensures { HasDumped (run_of P.Source.is_transparent (P.named opener.old) (asked_by (map (λ word. word.now) words.now)) (P.view opener.old) (P.view opener.new) (O.view out.old) (O.view out.new)) (O.view out.new) result }
+    ensures { HasDumped (run_of words.now
+        (files_of P.Source.is_transparent P.named P.view opener.old opener.new)
+        (sink_of O.view out.old out.new)) (O.view out.new) result }
 {
     let options = options_by(alloc, words)?;
     match dump_path(opener, alloc, &options, out) {
@@ -87,7 +93,8 @@ fn dump_path<P: Opener, O: Sink>(
 ) -> Result<(), FileFault>
     ensures opens { OpensFile (P.view opener.old) (P.view opener.new) result }
     ensures writes { WriteFailsOnly (O.view out.old) (O.view out.new) result }
-    ensures dump { OnTrue P.Source.is_transparent (DumpsFile (P.named opener.old (string_bytes options.now.file)) (options_of options.now) (O.view out.old) (O.view out.new) result) }
+    ensures dump { OnTrue P.Source.is_transparent (DumpsNamed (P.named opener.old) options.now
+        (sink_of O.view out.old out.new) result) }
 {
     let mut source = opener.open(options.file.as_str())?;
     let answer = dump_whole(alloc, &mut source, options, out);
@@ -107,7 +114,8 @@ fn dump_whole<S: Source, W: Sink>(
 ) -> Result<(), FileFault>
     ensures reads { OfDump (ReadFailsOnly (S.view source.old) (S.view source.new)) result }
     ensures writes { OfDump (dumps.WriteFailsOnly (W.view sink.old) (W.view sink.new)) result }
-    ensures shows { OnTrue S.is_transparent (OfDump (Dumps (S.view source.old).bytes (options_of options.now) (W.view sink.old) (W.view sink.new)) result) }
+    ensures shows { OnTrue S.is_transparent (OfDump (Dumps (S.view source.old).bytes
+        (options_of options.now) (W.view sink.old) (W.view sink.new)) result) }
 {
     let mut buf = [0u8; BUFFER_LEN];
     dump(alloc, source, options, &mut buf, sink)?;

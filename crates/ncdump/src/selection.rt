@@ -1,11 +1,9 @@
 //! Which variables a dump shows.
 
-ghost use Rattle.std.specs.Prelude.{◌≡◌, ◌&&◌, ◌||◌, ℕ, List, not, map, position, IfOk};
-ghost use Rattle.nc_base.specs.declared.header.Var.{Var};
-ghost use Rattle.nc_base.specs.Dump.{has_dimension};
+ghost use Rattle.std.specs.Prelude.{◌≡◌, ℕ, List, not, map, position, IfOk};
 ghost use Rattle.ncdump.specs.Dumps.{options_of};
 ghost use Rattle.ncdump.specs.Names.{holds, holds_if};
-ghost use Rattle.ncdump.specs.Selections.{Selects, Chooses, Knows};
+ghost use Rattle.ncdump.specs.Selections.{Selects, Chooses, HoldsDims, Knows, is_in_both};
 
 use crate::fault::DumpFault;
 use crate::names::NameSet;
@@ -54,7 +52,7 @@ fn dim_names<'a>(
     header: &'a Header,
     options: &DumpOptions,
 ) -> Result<Option<NameSet<'a>>, AllocError>
-    ensures { IfOk result (λ set. (name : List ℕ) → holds_if set name ≡ (not options.now.coords || has_dimension header.now.dims name)) }
+    ensures { IfOk result (HoldsDims header.now (options_of options.now)) }
 {
     if !options.coords {
         return Ok(None);
@@ -96,7 +94,7 @@ fn marks(
     chosen: &Option<NameSet<'_>>,
     dims: &Option<NameSet<'_>>,
 ) -> Result<Vec<bool>, AllocError>
-    ensures { IfOk result (λ marks. marks.items ≡ map (λ (var : Var). holds_if chosen.now var.name && holds_if dims.now var.name) vars.now) }
+    ensures { IfOk result (λ marks. marks.items ≡ map (is_in_both chosen.now dims.now) vars.now) }
 {
     let mut marks = Vec::with_capacity(alloc, vars.len())?;
     marks.extend(

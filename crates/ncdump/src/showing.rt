@@ -1,12 +1,14 @@
 //! The text of a dump, written while the values are read.
 
-ghost use Rattle.std.specs.Prelude.{◌≡◌, ◌≤◌, ◌<◌, ◌&&◌, ◌||◌, length, nat_lt, not, slice_get, IfSome};
+ghost use Rattle.std.specs.Prelude.{◌≡◌, ◌≤◌, ◌<◌, length};
 ghost use Rattle.std.specs.Bool.{OnTrue};
 ghost use Rattle.nc_base.specs.Headers.{IsSound};
-ghost use Rattle.nc_base.specs.Sizes.{is_record_var, record_count, record_size};
-ghost use Rattle.nc_base.specs.Dump.{data_word, has_values};
+ghost use Rattle.nc_base.specs.Sizes.{record_size};
+ghost use Rattle.nc_base.specs.Dump.{data_word};
+ghost use Rattle.nc_walk.specs.SourceUses.{source_of};
+ghost use Rattle.ncdump.specs.Calls.{call_of, sink_of};
 ghost use Rattle.ncdump.specs.Dumps.{options_of};
-ghost use Rattle.ncdump.specs.Shows.{dumped, marks_in, ReadFailsOnly, ShowsOrFails, ShowsOne, ShowsMarked, Shows};
+ghost use Rattle.ncdump.specs.Shows.{dumped, marks_in, ReadFailsOnly, SaysHasSlabs, SaysIsShown, ShowsAt, ShowsFile, ShowsMarked, ShowsOrFails};
 
 use crate::fault::DumpFault;
 use crate::options::DumpOptions;
@@ -39,7 +41,9 @@ pub fn show<S: Source, W: Sink>(
     requires buffer_len { 16 ≤ length buf.old }
     ensures source { ReadFailsOnly (S.view source.old) (S.view source.new) result }
     ensures sink { ShowsOrFails (W.view sink.old) (W.view sink.new) result }
-    ensures shows { OnTrue S.is_transparent (Shows (options_of options.now) header.now (record_count header.now (length (S.view source.old).bytes)) shown.now (length buf.old) (S.view source.old) (S.view source.new) (W.view sink.old) (W.view sink.new) result) }
+    ensures shows { OnTrue S.is_transparent (ShowsFile (options_of options.now) header.now shown.now
+        (call_of buf.old (source_of S.view source.old source.new) (sink_of W.view sink.old sink.new))
+        result) }
 {
     let layout = record_layout(header, source.len());
     put_head(sink, options.name.as_slice(), header, layout.records)?;
@@ -85,7 +89,10 @@ fn show_marked<S: Source, W: Sink>(
     requires buffer_len { 16 ≤ length buf.old }
     ensures source { ReadFailsOnly (S.view source.old) (S.view source.new) result }
     ensures sink { ShowsOrFails (W.view sink.old) (W.view sink.new) result }
-    ensures shows { OnTrue S.is_transparent (ShowsMarked (dumped header.now (S.view source.old) layout.records width) marks.now (length buf.old) (S.view source.old) (S.view source.new) (W.view sink.old) (W.view sink.new) result) }
+    ensures shows { OnTrue S.is_transparent (ShowsMarked
+        (dumped header.now (S.view source.old) layout.records width) marks.now
+        (call_of buf.old (source_of S.view source.old source.new) (sink_of W.view sink.old sink.new))
+        result) }
 {
     let mut text = [0; 4096];
     for v in 0..marks.len() {
@@ -102,7 +109,7 @@ fn show_marked<S: Source, W: Sink>(
 fn is_shown(header: &Header, v: usize, count: u64, is_marked: bool) -> bool
     requires sound { IsSound header.now }
     requires there { v < length header.now.vars }
-    ensures { IfSome (slice_get header.now.vars v) (λ var. result ≡ (is_marked && has_values header.now.dims count var)) }
+    ensures { SaysIsShown header.now v count is_marked result }
 {
     is_marked && has_slabs(header, v, count)
 }
@@ -110,7 +117,7 @@ fn is_shown(header: &Header, v: usize, count: u64, is_marked: bool) -> bool
 /// Says whether the variable at index `v` has a slab over `count` records.
 fn has_slabs(header: &Header, v: usize, count: u64) -> bool
     requires { v < length header.now.vars }
-    ensures { IfSome (slice_get header.now.vars v) (λ var. result ≡ (nat_lt 0 count || not (is_record_var header.now.dims var))) }
+    ensures { SaysHasSlabs header.now v count result }
 {
     count > 0 || !is_record_var(header.dims.as_slice(), &header.vars.as_slice()[v])
 }
@@ -132,7 +139,10 @@ fn show_variable<S: Source, W: Sink>(
     requires buffer_len { 16 ≤ length buf.old }
     ensures source { ReadFailsOnly (S.view source.old) (S.view source.new) result }
     ensures sink { ShowsOrFails (W.view sink.old) (W.view sink.new) result }
-    ensures shows { OnTrue S.is_transparent (IfSome (slice_get header.now.vars v) (λ var. ShowsOne (dumped header.now (S.view source.old) layout.records width) v var (length buf.old) (S.view source.old) (S.view source.new) (W.view sink.old) (W.view sink.new) result)) }
+    ensures shows { OnTrue S.is_transparent (ShowsAt
+        (dumped header.now (S.view source.old) layout.records width) v
+        (call_of buf.old (source_of S.view source.old source.new) (sink_of W.view sink.old sink.new))
+        result) }
 {
     let mut walk = Walk::over(header, v, layout, buf);
     let mut printer = ValuePrinter::new(header, v, layout.records, width);

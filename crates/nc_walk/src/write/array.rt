@@ -1,9 +1,9 @@
 //! A variable's array, written slab by slab.
 
-ghost use Rattle.std.specs.Prelude.{◌≡◌, ◌*◌, ◌≤◌, [], drop, take};
+ghost use Rattle.std.specs.Prelude.{◌≡◌, ◌*◌, ◌≤◌, []};
 ghost use Rattle.devices.specs.Sinks.{Wrote};
 ghost use Rattle.nc_base.specs.Sizes.{slab_limit, slab_size};
-ghost use Rattle.nc_walk.specs.Filled.{ArrayView, array_view, filled_record, filled_slab, filled_slabs};
+ghost use Rattle.nc_walk.specs.Filled.{ArrayView, array_view, filled_part, filled_record, filled_slab, filled_slabs};
 
 use super::fills::{fill_unit, put_fills};
 use super::part::put_part;
@@ -70,7 +70,7 @@ impl<'a> Array<'a> {
     /// Writes a slab, of which `len` bytes from a place on are listed or fewer at the end, and its padding.
     #[tactic(auto, using(devices::proofs::Writes::writes))]
     fn put_slab<W: Sink>(&self, sink: &mut W, start: u128, len: u128) -> Result<(), WriteFailed>
-        ensures { Wrote W.view sink.old sink.new (filled_slab self.now (take len (drop start self.now.listed))) result }
+        ensures { Wrote W.view sink.old sink.new (filled_part self.now start len) result }
     {
         put_part(sink, self.listed, start, len)?;
         let listed = self.listed.len().saturating_sub(start).min(len);

@@ -4,7 +4,7 @@ ghost use Rattle.std.specs.Prelude.{◌≡◌, ◌≤◌, All, [], if◌then◌e
 ghost use Rattle.devices.specs.Sinks.{Wrote};
 ghost use Rattle.nc_base.specs.Headers.{IsSound};
 ghost use Rattle.nc_base.specs.Sizes.{is_record_var, slab_limit, slab_size};
-ghost use Rattle.nc_walk.specs.Filled.{array_view, filled_blocks, filled_slab};
+ghost use Rattle.nc_walk.specs.Filled.{block_of, blocks_of};
 
 use super::array::Array;
 use devices::{Sink, WriteFailed};
@@ -18,7 +18,7 @@ pub(super) fn put_blocks<W: Sink>(
 ) -> Result<(), WriteFailed>
     requires sound { IsSound header.now }
     requires one_each { length arrays.now ≡ length header.now.vars }
-    ensures { Wrote W.view sink.old sink.new (filled_blocks header.now.dims header.now.vars arrays.now) result }
+    ensures { Wrote W.view sink.old sink.new (blocks_of header.now arrays.now) result }
 {
     let dims = header.dims.as_slice();
     let vars = header.vars.as_slice();
@@ -36,8 +36,7 @@ fn put_block<W: Sink>(
     listed: &ListedArray,
 ) -> Result<(), WriteFailed>
     requires { slab_size dims.now var.now ≤ slab_limit }
-    ensures { Wrote W.view sink.old sink.new
-        (if is_record_var dims.now var.now then [] else filled_slab (array_view dims.now var.now listed.now) listed.now) result }
+    ensures { Wrote W.view sink.old sink.new (block_of dims.now var.now listed.now) result }
 {
     if is_record_var(dims, var) {
         return Ok(());

@@ -2,9 +2,8 @@
 
 ghost use Rattle.std.specs.Prelude.{◌≡◌};
 ghost use Rattle.devices.specs.Sinks.{Wrote};
-ghost use Rattle.nc_base.specs.GeneratedFile.{data_of, known_records};
 ghost use Rattle.nc_base.specs.Headers.{IsSound};
-ghost use Rattle.nc_base.specs.OwedValues.{AreListed, whole_arrays};
+ghost use Rattle.nc_walk.specs.DataPart.{AreListedOf, whole_data};
 ghost use Rattle.nc_walk.specs.RecordSlabs.{record_slabs};
 
 use super::blocks::put_blocks;
@@ -30,8 +29,8 @@ pub fn write_data<W: Sink>(
 ) -> Result<(), WriteFailed>
     requires sound { IsSound header.now }
     requires slabs { slabs.now ≡ record_slabs 0 header.now.dims header.now.vars }
-    requires listed { AreListed header.now.dims (known_records header.now.numrecs) header.now.vars arrays.now }
-    ensures { Wrote W.view sink.old sink.new (data_of header.now (whole_arrays header.now.dims (known_records header.now.numrecs) header.now.vars arrays.now)) result }
+    requires listed { AreListedOf header.now arrays.now }
+    ensures { Wrote W.view sink.old sink.new (whole_data header.now arrays.now) result }
 {
     put_blocks(sink, header, arrays)?;
     put_records(sink, header, slabs, arrays)

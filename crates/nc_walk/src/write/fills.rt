@@ -1,9 +1,9 @@
 //! Fill values, as many as it takes, out of a small buffer.
 
-ghost use Rattle.std.specs.Prelude.{◌≡◌, ◌≤◌, ◌++◌};
+ghost use Rattle.std.specs.Prelude.{◌≡◌, ◌≤◌};
 ghost use Rattle.devices.specs.Sinks.{Wrote};
 ghost use Rattle.nc_base.specs.GeneratedFile.{fill_bytes};
-ghost use Rattle.nc_walk.specs.Filled.{repeated};
+ghost use Rattle.nc_walk.specs.Filled.{eight_times, four_times, repeated, twice};
 
 use devices::{Sink, WriteFailed, put};
 use nc_base::{NcType, Var, fill_of};
@@ -72,14 +72,14 @@ pub(super) fn fill_unit(var: &Var) -> [u8; 8]
 
 /// A value of one byte, eight times.
 fn eight_times(value: [u8; 1]) -> [u8; 8]
-    ensures { result ≡ value ++ (value ++ (value ++ (value ++ (value ++ (value ++ (value ++ value)))))) }
+    ensures { result ≡ eight_times value }
 {
     [value[0]; 8]
 }
 
 /// A value of two bytes, four times.
 fn four_times(value: [u8; 2]) -> [u8; 8]
-    ensures { result ≡ value ++ (value ++ (value ++ value)) }
+    ensures { result ≡ four_times value }
 {
     let [a, b] = value;
     [a, b, a, b, a, b, a, b]
@@ -87,7 +87,7 @@ fn four_times(value: [u8; 2]) -> [u8; 8]
 
 /// A value of four bytes, twice.
 fn twice(value: [u8; 4]) -> [u8; 8]
-    ensures { result ≡ value ++ value }
+    ensures { result ≡ twice value }
 {
     let [a, b, c, d] = value;
     [a, b, c, d, a, b, c, d]

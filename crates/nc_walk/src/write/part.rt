@@ -1,7 +1,8 @@
 //! The bytes of a listed array, written run by run.
 
-ghost use Rattle.std.specs.Prelude.{◌≡◌, ◌+◌, ◌++◌, IfOk, drop, length, min, replicate, take};
+ghost use Rattle.std.specs.Prelude.{◌≡◌, ◌+◌, IfOk, drop, length, min, take};
 ghost use Rattle.devices.specs.Sinks.{Wrote};
+ghost use Rattle.nc_walk.specs.Filled.{run_bytes};
 
 use super::fills::put_fills;
 use devices::{Sink, WriteFailed, put};
@@ -29,7 +30,7 @@ pub(super) fn put_part<W: Sink>(
 /// Writes the first `n` bytes of a run, or all where it has fewer, and says how many.
 #[tactic(auto, using(devices::proofs::Writes::writes))]
 fn put_run<W: Sink>(sink: &mut W, run: Run<'_>, n: u128) -> Result<u128, WriteFailed>
-    ensures writes { Wrote W.view sink.old sink.new (take n (run.entry.bytes.now ++ replicate run.entry.filling run.entry.fill)) result }
+    ensures writes { Wrote W.view sink.old sink.new (take n (run_bytes run.entry)) result }
     ensures count { IfOk result (λ k. k ≡ min n (length run.entry.bytes.now + run.entry.filling)) }
 {
     let listed = (run.bytes.len() as u128).min(n);

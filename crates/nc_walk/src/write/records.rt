@@ -1,14 +1,10 @@
 //! The records: one after the other a slab of each record variable.
 
-ghost use Rattle.std.specs.Prelude.{◌≡◌, ◌<◌, All, length, map};
-ghost use Rattle.std.specs.List.{flat_map, range_with_len};
+ghost use Rattle.std.specs.Prelude.{◌≡◌, ◌<◌, All, length};
 ghost use Rattle.devices.specs.Sinks.{Wrote};
-ghost use Rattle.nc_base.specs.GeneratedFile.{is_sole_narrow, known_records, record_of};
 ghost use Rattle.nc_base.specs.Headers.{IsSound};
-ghost use Rattle.nc_base.specs.OwedValues.{AreListed, whole_arrays};
-ghost use Rattle.nc_base.specs.Sizes.{record_vars};
-ghost use Rattle.nc_walk.specs.Filled.{filled_records};
-ghost use Rattle.nc_walk.specs.RecordSlabs.{array_of, record_slabs};
+ghost use Rattle.nc_walk.specs.DataPart.{AreListedOf, whole_records};
+ghost use Rattle.nc_walk.specs.RecordSlabs.{record_in, record_slabs, records_in};
 
 use super::record_slab::RecordSlab;
 use devices::{Sink, WriteFailed};
@@ -23,10 +19,8 @@ pub(super) fn put_records<W: Sink>(
 ) -> Result<(), WriteFailed>
     requires sound { IsSound header.now }
     requires slabs { slabs.now ≡ record_slabs 0 header.now.dims header.now.vars }
-    requires listed { AreListed header.now.dims (known_records header.now.numrecs) header.now.vars arrays.now }
-    ensures { Wrote W.view sink.old sink.new
-        (flat_map (λ r. record_of (is_sole_narrow (record_vars header.now.dims header.now.vars)) header.now.dims r header.now.vars
-        (whole_arrays header.now.dims (known_records header.now.numrecs) header.now.vars arrays.now)) (range_with_len 0 (known_records header.now.numrecs))) result }
+    requires listed { AreListedOf header.now arrays.now }
+    ensures { Wrote W.view sink.old sink.new (whole_records header.now arrays.now) result }
 {
     let records = header.numrecs.known();
     match slabs {
@@ -44,8 +38,7 @@ fn put_each_record<W: Sink>(
     records: u64,
 ) -> Result<(), WriteFailed>
     requires { All (λ slab. slab.var_index < length arrays.now) slabs.now }
-    ensures { Wrote W.view sink.old sink.new
-        (flat_map (λ r. filled_records r (map (array_of arrays.now) slabs.now)) (range_with_len 0 records)) result }
+    ensures { Wrote W.view sink.old sink.new (records_in slabs.now arrays.now records) result }
 {
     for r in 0..records {
         put_record(sink, slabs, arrays, r)?;
@@ -61,7 +54,7 @@ fn put_record<W: Sink>(
     r: u64,
 ) -> Result<(), WriteFailed>
     requires { All (λ slab. slab.var_index < length arrays.now) slabs.now }
-    ensures { Wrote W.view sink.old sink.new (filled_records r (map (array_of arrays.now) slabs.now)) result }
+    ensures { Wrote W.view sink.old sink.new (record_in slabs.now arrays.now r) result }
 {
     for slab in slabs {
         slab.array_in(arrays).put_record(sink, r)?;

@@ -8,6 +8,7 @@ use Rattle.nc_walk.proofs.FillSteps.{transparent_any, transparent_map}
 use Rattle.ncdump.specs.declared.fault.DumpFault.TheVariants.{WriteFailed}
 use Rattle.ncdump.specs.Dumps.{options_of}
 use Rattle.ncdump.specs.Shows.{dumped, Shows, ShowsMarked}
+use Rattle.ncdump.proofs.Calls.{call}
 use Rattle.ncdump.proofs.WholeText.{no-head, no-word, no-values, no-brace, all-written, brace}
 use Rattle.ncdump.proofs.showing.show.Goals as goal
 
@@ -46,9 +47,9 @@ returns-in_err-show_marked-clause-shows g c =
     let begun = subst (λ (name : List ℕ). Appended old head (head_text name h c.record_layout-layout.result.records)) c.as_slice.ensures c.in_ok-put_head.ensures in
     let before = appended_then old head word _ _ begun (subst (Appended head word) c.data_word.ensures c.in_ok-put.ensures) in
     rw (p.1, p.2) (transparent_map g.S.Source.is_transparent (λ s.
-    subst (λ (k : ℕ). Shows {A = Unit {0}} o h k c.args.shown.now (length c.args.buf.now) a (g.S.Source.view c.show_marked.new.source) old (g.W.Sink.view c.show_marked.new.sink) (Err fault)) n
+    subst (λ (k : ℕ). Shows {A = Unit {0}} o h k c.args.shown.now (call (length c.args.buf.now) a (g.S.Source.view c.show_marked.new.source) old (g.W.Sink.view c.show_marked.new.sink)) (Err fault)) n
     (no-values o h c.record_layout-layout.result.records c.args.shown.now (length c.args.buf.now) a old word before (g.S.Source.view c.show_marked.new.source) (g.W.Sink.view c.show_marked.new.sink) fault
-    (subst (λ (marks : List Bool). ShowsMarked {A = Unit {0}} (dumped h a c.record_layout-layout.result.records o.width) marks (length c.args.buf.now) a (g.S.Source.view c.show_marked.new.source) word (g.W.Sink.view c.show_marked.new.sink) (Err fault)) c.marks_in-marks.ensures s)))
+    (subst (λ (marks : List Bool). ShowsMarked {A = Unit {0}} (dumped h a c.record_layout-layout.result.records o.width) marks (call (length c.args.buf.now) a (g.S.Source.view c.show_marked.new.source) word (g.W.Sink.view c.show_marked.new.sink)) (Err fault)) c.marks_in-marks.ensures s)))
     c.in_err-show_marked.ensures.shows)
 
 pub returns-in_err-put-2-clause-shows : goal.returns-in_err-put-2-clause-shows
@@ -65,9 +66,9 @@ returns-in_err-put-2-clause-shows g c =
     let begun = subst (λ (name : List ℕ). Appended old head (head_text name h c.record_layout-layout.result.records)) c.as_slice.ensures c.in_ok-put_head.ensures in
     let before = appended_then old head word _ _ begun (subst (Appended head word) c.data_word.ensures c.in_ok-put.ensures) in
     rw (p.1, p.2) (transparent_map g.S.Source.is_transparent (λ s.
-    subst (λ (k : ℕ). Shows {A = Unit {0}} o h k c.args.shown.now (length c.args.buf.now) a (g.S.Source.view c.show_marked.new.source) old (g.W.Sink.view c.put-2.new.sink) (Err WriteFailed)) n
+    subst (λ (k : ℕ). Shows {A = Unit {0}} o h k c.args.shown.now (call (length c.args.buf.now) a (g.S.Source.view c.show_marked.new.source) old (g.W.Sink.view c.put-2.new.sink)) (Err WriteFailed)) n
     (no-brace o h c.record_layout-layout.result.records c.args.shown.now (length c.args.buf.now) a old word before (g.S.Source.view c.show_marked.new.source) last
-    (subst (λ (marks : List Bool). ShowsMarked {A = Unit {0}} (dumped h a c.record_layout-layout.result.records o.width) marks (length c.args.buf.now) a (g.S.Source.view c.show_marked.new.source) word last (Ok tt)) c.marks_in-marks.ensures s)
+    (subst (λ (marks : List Bool). ShowsMarked {A = Unit {0}} (dumped h a c.record_layout-layout.result.records o.width) marks (call (length c.args.buf.now) a (g.S.Source.view c.show_marked.new.source) word last) (Ok tt)) c.marks_in-marks.ensures s)
     (g.W.Sink.view c.put-2.new.sink) (subst (FailedPartway last (g.W.Sink.view c.put-2.new.sink)) (c.bytes.ensures ∙ brace) c.in_err-put-2.ensures)))
     c.in_ok-show_marked.ensures.shows)
 
@@ -84,8 +85,8 @@ returns-clause-shows g c =
     let begun = subst (λ (name : List ℕ). Appended old head (head_text name h c.record_layout-layout.result.records)) c.as_slice.ensures c.in_ok-put_head.ensures in
     let before = appended_then old head word _ _ begun (subst (Appended head word) c.data_word.ensures c.in_ok-put.ensures) in
     transparent_map g.S.Source.is_transparent (λ s.
-    subst (λ (k : ℕ). Shows {A = Unit {0}} o h k c.args.shown.now (length c.args.buf.now) a (g.S.Source.view c.show_marked.new.source) old (g.W.Sink.view c.put-2.new.sink) (Ok tt)) n
+    subst (λ (k : ℕ). Shows {A = Unit {0}} o h k c.args.shown.now (call (length c.args.buf.now) a (g.S.Source.view c.show_marked.new.source) old (g.W.Sink.view c.put-2.new.sink)) (Ok tt)) n
     (all-written o h c.record_layout-layout.result.records c.args.shown.now (length c.args.buf.now) a old word before (g.S.Source.view c.show_marked.new.source) last
-    (subst (λ (marks : List Bool). ShowsMarked {A = Unit {0}} (dumped h a c.record_layout-layout.result.records o.width) marks (length c.args.buf.now) a (g.S.Source.view c.show_marked.new.source) word last (Ok tt)) c.marks_in-marks.ensures s)
+    (subst (λ (marks : List Bool). ShowsMarked {A = Unit {0}} (dumped h a c.record_layout-layout.result.records o.width) marks (call (length c.args.buf.now) a (g.S.Source.view c.show_marked.new.source) word last) (Ok tt)) c.marks_in-marks.ensures s)
     (g.W.Sink.view c.put-2.new.sink) (subst (Appended last (g.W.Sink.view c.put-2.new.sink)) (c.bytes.ensures ∙ brace) c.in_ok-put-2.ensures)))
     c.in_ok-show_marked.ensures.shows
