@@ -109,6 +109,10 @@ Steps is_transparent w before now (Ok (Some chunk)) = ReturnsValues is_transpare
 Steps is_transparent w before now (Err ReadFailed) = (n : ℕ) × Failing w before now n
 Steps is_transparent w before now (Err (DataTruncated k)) = Truncated is_transparent w before now k
 
+-- the same of the source, as its view says it, unless the walk has stopped
+abbrev pub TakesStep : {S : Type 0} → Bool → WalkView → (S → SourceView) → S → S → Answer → Type 0
+TakesStep is_transparent w view old new answer = w.fault ≡ None → Steps is_transparent w (view old) (view new) answer
+
 -- what it does with one that has: the same fault, and nothing of the source, as its view says it
 abbrev pub Repeats : {S : Type 0} → WalkView → (S → SourceView) → S → S → Answer → Type 0
 Repeats w view old new answer = IfSome w.fault (λ fault. (answer ≡ Err fault) × (view new ≡ view old))
@@ -146,6 +150,10 @@ pub record IsInOrder (l : Slabs) (cursor : Cursor) (capacity : ℕ) (buf : List 
 pub record ReadValues (l : Slabs) (i : ℕ) (before now : SourceView) (n : ℕ) : Type 0 where
   pub whole : All (IsWhole l.size before.bytes) (take n (offsets_after l i))
   pub handed : now ≡ after before (n * l.size)
+
+-- where n values from this cursor on end their slab, all bytes came that the source was asked for: also from an opaque source
+abbrev pub ReadsSlabToEnd : {S : Type 0} → Slabs → Cursor → (S → SourceView) → S → S → ℕ → Type 0
+ReadsSlabToEnd l cursor view old new n = cursor.within + n ≡ l.values_per_slab → ReadValues l (number_at l cursor) (view old) (view new) n
 
 -- A call that reads values from a cursor on to the start of a slice: the slabs, the cursor, and the slice before and after.
 pub record Reading : Type 0 where

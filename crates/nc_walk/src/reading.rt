@@ -1,9 +1,9 @@
 //! One read of a walk.
 
-ghost use Rattle.std.specs.Prelude.{◌≡◌, ◌+◌, ◌*◌, ◌<◌, ◌≤◌, ◌^◌, length, IfOk};
+ghost use Rattle.std.specs.Prelude.{◌≡◌, ◌+◌, ◌<◌, ◌≤◌, ◌^◌, length, IfOk};
 ghost use Rattle.nc_walk.specs.Slabs.{total, number_at, offset, IsSized, AreReady};
 ghost use Rattle.nc_walk.specs.SourceUses.{source_of};
-ghost use Rattle.nc_walk.specs.Walks.{reading, ReadValues, Reads};
+ghost use Rattle.nc_walk.specs.Walks.{reading, Reads, ReadsSlabToEnd};
 
 use crate::cursor::Cursor;
 use crate::fault::WalkFault;
@@ -36,8 +36,7 @@ pub(crate) fn read_values<S: Source>(
     ensures reads { Reads S.is_transparent (reading slabs.now cursor into.old into.new)
         (source_of S.view source.old source.new) result }
     ensures in_slab { IfOk result (λ n. cursor.within + n ≤ slabs.now.values_per_slab) }
-    ensures values_read { IfOk result (λ n. cursor.within + n ≡ slabs.now.values_per_slab
-        → ReadValues slabs.now (number_at slabs.now cursor) (S.view source.old) (S.view source.new) n) }
+    ensures values_read { IfOk result (ReadsSlabToEnd slabs.now cursor S.view source.old source.new) }
 {
     let wanted = (ready * slabs.size) as usize;
     let got = fill(source, at, &mut into[..wanted])?;

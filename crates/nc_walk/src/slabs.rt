@@ -1,6 +1,6 @@
 //! Where a variable's values lie, by their cursor.
 
-ghost use Rattle.std.specs.Prelude.{◌≡◌, ◌↔◌, IsTrue, ◌+◌, ◌*◌, ◌<◌, ◌≤◌, ◌^◌, if◌then◌else◌, length};
+ghost use Rattle.std.specs.Prelude.{◌≡◌, ◌↔◌, IsTrue, ◌*◌, ◌<◌, ◌≤◌, ◌^◌, if◌then◌else◌, length};
 ghost use Rattle.nc_base.specs.Headers.{IsSound};
 ghost use Rattle.nc_base.specs.Sizes.{is_record_var, record_size, slab_count, slab_size, slab_limit};
 ghost use Rattle.nc_walk.specs.Slabs.{number_at, offset, offsets_after, IsSized, IsOffset, AreSlabsOf, HasWholeSlab, Ready};

@@ -1,10 +1,10 @@
 //! A walk over the values of a variable.
 
-ghost use Rattle.std.specs.Prelude.{◌≡◌, ◌+◌, ◌*◌, ◌<◌, ◌≤◌, ◌^◌, [], length, take, None, IfOk};
+ghost use Rattle.std.specs.Prelude.{◌≡◌, ◌*◌, ◌<◌, ◌≤◌, length, take, IfOk};
 ghost use Rattle.std.specs.Borrow.{sem};
 ghost use Rattle.nc_base.specs.Headers.{IsSound};
 ghost use Rattle.nc_base.specs.Sizes.{record_size};
-ghost use Rattle.nc_walk.specs.Walks.{Starts, Steps, Repeats, Advanced, lent, as_answer};
+ghost use Rattle.nc_walk.specs.Walks.{Starts, TakesStep, Repeats, Advanced, lent, as_answer};
 ghost use Rattle.nc_walk.specs.Lends.{AdvancesAfter};
 
 use crate::chunk::read_chunk;
@@ -94,8 +94,8 @@ impl<'a> Walk<'a> {
     /// Reads the next values into the start of the buffer, and gives the number of their bytes: 0 after the last value.
     fn step<S: Source>(&mut self, source: &mut S) -> Result<usize, WalkFault>
         ensures advanced { Advanced self.old self.new (as_answer self.new.buf result) }
-        ensures steps { self.old.fault ≡ None
-            → Steps S.is_transparent self.old (S.view source.old) (S.view source.new) (as_answer self.new.buf result) }
+        ensures steps { TakesStep S.is_transparent self.old S.view source.old source.new
+            (as_answer self.new.buf result) }
         ensures repeats { Repeats self.old S.view source.old source.new (as_answer self.new.buf result) }
         ensures fits { IfOk result (λ n. n ≤ length self.new.buf) }
     {
@@ -128,8 +128,7 @@ impl<'a> Walk<'a> {
     /// says so. An end of the source before its length is the file's end. From then on each call answers the same, and
     /// touches nothing.
     pub fn next<S: Source>(&mut self, source: &mut S) -> Result<Option<&[u8]>, WalkFault>
-        ensures steps { self.old.fault ≡ None
-            → Steps S.is_transparent self.old (S.view source.old) (S.view source.new) (lent result) }
+        ensures steps { TakesStep S.is_transparent self.old S.view source.old source.new (lent result) }
         ensures repeats { Repeats self.old S.view source.old source.new (lent result) }
         ensures* after { sem 𝓛 (AdvancesAfter self.old self.entry (lent result)) }
     {

@@ -18,7 +18,6 @@ use Rattle.devices.specs.Sources.{SourceView, after}
 use Rattle.devices.specs.Sinks.{SinkView, Appended, FailedPartway}
 use Rattle.devices.proofs.Writes.{appended_then, appended_partway}
 use Rattle.nc_walk.specs.Walks.{WalkView, Starts, Steps, Advanced, count}
-use Rattle.nc_walk.specs.SourceUses.{between}
 use Rattle.nc_walk.specs.Walked.{Pass, Walked, HasRead, IsChunk, GivesChunk, GivesEnd, GivesCut, GivesFailure}
 use Rattle.nc_walk.specs.declared.fault.WalkFault.TheVariants as walk
 use Rattle.nc_walk.proofs.FillSteps.{transparent_any, transparent_map, transparent_both}

@@ -157,3 +157,17 @@ pub record Failed (run : Run) (err : SinkUse) : Type 0 where
 pub record Ends (run : Run) (err : SinkUse) (status : ℕ) : Type 0 where
   pub success : status ≡ 0 → Succeeded run err
   pub failure : status ≡ 1 → Failed run err
+
+-- ---- on these words
+
+-- the dump that the words ask for was written, or the answer is the fault
+abbrev pub DumpsWords : {A : Type 0} → List (Bor (List ℕ)) → FilesUse → SinkUse → Result A Failure → Type 0
+DumpsWords words files out result = HasDumped (run_of words files out) out.new result
+
+-- and standard output was flushed
+abbrev pub RunsWords : {A : Type 0} → List (Bor (List ℕ)) → FilesUse → SinkUse → Result A Failure → Type 0
+RunsWords words files out result = Runs (run_of words files out) result
+
+-- and standard error tells the fault, as the status does
+abbrev pub EndsWords : List (Bor (List ℕ)) → FilesUse → SinkUse → SinkUse → ℕ → Type 0
+EndsWords words files out err status = Ends (run_of words files out) err status

@@ -1,6 +1,6 @@
 //! The dump of a file.
 
-ghost use Rattle.std.specs.Prelude.{◌≡◌, ◌≤◌, length};
+ghost use Rattle.std.specs.Prelude.{◌≤◌, length};
 ghost use Rattle.std.specs.Bool.{OnTrue};
 ghost use Rattle.nc_walk.specs.SourceUses.{source_of};
 ghost use Rattle.ncdump.specs.Calls.{call_of, sink_of};

@@ -5,7 +5,7 @@ ghost use Rattle.std.specs.Bool.{OnTrue};
 ghost use Rattle.ncdump.specs.Calls.{sink_of};
 ghost use Rattle.ncdump.specs.Dumps.{options_of, Dumps};
 ghost use Rattle.ncdump.specs.Dumps as dumps;
-ghost use Rattle.ncdump.specs.Runs.{files_of, run_of, OfDump, OpensFile, WriteFailsOnly, DumpsNamed, HasDumped, Runs, Ends};
+ghost use Rattle.ncdump.specs.Runs.{files_of, OfDump, OpensFile, WriteFailsOnly, DumpsNamed, DumpsWords, RunsWords, EndsWords};
 ghost use Rattle.ncdump.specs.Shows.{ReadFailsOnly};
 
 use crate::command_line::options_by;
@@ -32,9 +32,9 @@ pub fn run_with<P: Opener, O: Flush, E: Sink>(
     err: &mut E,
 ) -> u8
     ensures status { (result ≡ 0) ⊎ (result ≡ 1) }
-    ensures ends { Ends (run_of words.now
+    ensures ends { EndsWords words.now
         (files_of P.Source.is_transparent P.named P.view opener.old opener.new)
-        (sink_of O.Sink.view out.old out.new))
+        (sink_of O.Sink.view out.old out.new)
         (sink_of E.view err.old err.new) result }
     ensures flushed { result ≡ 0 → O.is_flushed out.new ≡ true }
 {
@@ -54,9 +54,9 @@ fn dump_and_flush<P: Opener, O: Flush>(
     words: &[&str],
     out: &mut O,
 ) -> Result<(), Failure>
-    ensures runs { Runs (run_of words.now
+    ensures runs { RunsWords words.now
         (files_of P.Source.is_transparent P.named P.view opener.old opener.new)
-        (sink_of O.Sink.view out.old out.new)) result }
+        (sink_of O.Sink.view out.old out.new) result }
     ensures flushed { IfOk result (λ _. O.is_flushed out.new ≡ true) }
 {
     let dumped = dump_asked(opener, alloc, words, out);
@@ -73,9 +73,9 @@ fn dump_asked<P: Opener, O: Sink>(
     words: &[&str],
     out: &mut O,
 ) -> Result<(), Failure>
-    ensures { HasDumped (run_of words.now
+    ensures { DumpsWords words.now
         (files_of P.Source.is_transparent P.named P.view opener.old opener.new)
-        (sink_of O.view out.old out.new)) (O.view out.new) result }
+        (sink_of O.view out.old out.new) result }
 {
     let options = options_by(alloc, words)?;
     match dump_path(opener, alloc, &options, out) {

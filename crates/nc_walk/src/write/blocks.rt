@@ -1,9 +1,9 @@
 //! The blocks of the variables that aren't record variables.
 
-ghost use Rattle.std.specs.Prelude.{◌≡◌, ◌≤◌, All, [], if◌then◌else◌, length};
+ghost use Rattle.std.specs.Prelude.{◌≡◌, ◌≤◌, length};
 ghost use Rattle.devices.specs.Sinks.{Wrote};
 ghost use Rattle.nc_base.specs.Headers.{IsSound};
-ghost use Rattle.nc_base.specs.Sizes.{is_record_var, slab_limit, slab_size};
+ghost use Rattle.nc_base.specs.Sizes.{slab_limit, slab_size};
 ghost use Rattle.nc_walk.specs.Filled.{block_of, blocks_of};
 
 use super::array::Array;
