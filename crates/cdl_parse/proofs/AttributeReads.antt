@@ -18,28 +18,25 @@ use Rattle.cdl_text.specs.declared.fault.CdlKind.TheVariants.{BadName, Duplicate
 use Rattle.cdl_text.proofs.Listing.{value_first}
 use Rattle.cdl_meaning.specs.State.{add_att, add_constant, first_type, in_turn, type_said, unless, when, ◌>>=◌}
 use Rattle.cdl_values.specs.Answers.{Fails, Leaves}
-use Rattle.cdl_values.specs.Meant.{name_first}
 use Rattle.cdl_values.specs.declared.read_error.ReadError.{ReadError}
 use Rattle.cdl_values.specs.declared.read_error.ReadError.TheVariants.{OutOfMemory, Fault}
 use Rattle.cdl_parse.specs.AttributeNames.{has_name}
-use Rattle.cdl_parse.specs.AttributeRead.{constants_said, new_attribute}
+use Rattle.cdl_parse.specs.AttributeRead.{att_read, att_said, constants_said}
+use Rattle.cdl_parse.proofs.TakenNames.{named}
 use Rattle.cdl_parse.proofs.StatementWords.{begins, goes_past}
 
 -- the attributes with one more, whose values these are, if they have no fault
 abbrev pub with_values : List Att → List ℕ → NcType → Result (List ℕ) CdlKind → Result (List Att) CdlKind
 with_values atts name ty read = read >>= (λ vals. Ok (atts ++ record { name = name; ty = ty; vals = vals } ∷ []))
 
+-- the same, after the checks of the name
+abbrev checked : List Att → List ℕ → NcType → Result (List ℕ) CdlKind → Result (List Att) CdlKind
+checked atts name ty read = unless (is_format_name name) BadName >>= (λ u. when (has_name name atts) DuplicateName >>= (λ w. with_values atts name ty read))
+
 name_first_checked : (name : List ℕ) (cs : List Value) (atts : List Att) →
-    add_att name cs atts ≡ (new_attribute atts name >>= (λ n. with_values atts n (first_type cs) (in_turn (add_constant (first_type cs)) [] cs)))
+    add_att name cs atts ≡ (unless (is_format_name name) BadName >>= (λ u. when (has_name name atts) DuplicateName >>= (λ w. with_values atts name (first_type cs) (in_turn (add_constant (first_type cs)) [] cs))))
 unfolding add_att
-name_first_checked name cs atts = by (is_format_name name) (has_name name atts)
-  where
-    by : (named taken : Bool) →
-        (unless named BadName >>= (λ u. when taken DuplicateName >>= (λ w. with_values atts name (first_type cs) (in_turn (add_constant (first_type cs)) [] cs)))) ≡
-        ((unless named BadName >>= (λ u. when taken DuplicateName >>= (λ w. Ok name))) >>= (λ n. with_values atts n (first_type cs) (in_turn (add_constant (first_type cs)) [] cs)))
-    by false taken = refl
-    by true true = refl
-    by true false = refl
+name_first_checked name cs atts = refl
 
 -- the first token after `=` is a constant
 pub goes_name : (l : Lexeme) (ends : Bool) (ws all : List Lexeme) → all ≡ l ∷ (if ends then [] else ws) → completes AttributeName all ≡ true → (ends ≡ false) × (is_name l ≡ true) × (completes (Equals false) ws ≡ true)
@@ -56,24 +53,24 @@ value_begins l ws all first on = (goes_past (DueValue false) (Separator false) l
 
 pub said : (v : Version) (ws es cs rest : List Lexeme) (n e l : Lexeme) (a b : Bool) (ty : NcType) (atts : List Att) →
     ws ≡ n ∷ (if a then [] else es) → es ≡ e ∷ (if b then [] else cs) → cs ≡ l ∷ rest → completes AttributeName ws ≡ true → ty ≡ type_said (value_of v l l.kind) →
-    add_att (name_first ws) (constants_said v ws) atts ≡ (new_attribute atts (word_value n.bytes) >>= (λ name. with_values atts name ty (in_turn (add_constant ty) [] (values v cs))))
+    att_said v ws atts ≡ checked atts (word_value n.bytes) ty (in_turn (add_constant ty) [] (values v cs))
 said v ws es cs rest n e l a b ty atts first second third on is =
     let one = goes_name n a es ws first on in
     let two = goes_equals e b cs es second one.2 in
     let here : ws ≡ n ∷ e ∷ cs = first ∙ rw (one.0) (rw (second) (rw (two.0) refl)) in
     let begun : values v cs ≡ value_of v l l.kind ∷ values v rest = ap (values v) third ∙ value_first v false l rest (value_begins l rest cs third two.2) in
     let typed : first_type (values v cs) ≡ ty = ap first_type begun ∙ sym is in
-    ap (λ all. add_att (name_first all) (constants_said v all) atts) here ∙ name_first_checked (word_value n.bytes) (values v cs) atts ∙
-    ap (λ t. new_attribute atts (word_value n.bytes) >>= (λ name. with_values atts name t (in_turn (add_constant t) [] (values v cs)))) typed
+    ap (λ all. att_said v all atts) here ∙ name_first_checked (word_value n.bytes) (values v cs) atts ∙ ap (λ t. checked atts (word_value n.bytes) t (in_turn (add_constant t) [] (values v cs))) typed
 
 pub fails_then : {A B : Type 0} (e : ReadError) (r : Result A CdlKind) (f : A → Result B CdlKind) → Fails e r → Fails e (r >>= f)
 fails_then OutOfMemory r f h = tt
 fails_then (Fault k) r f h = rw (h) refl
 
-pub name_fails : (e : ReadError) (n : Lexeme) (rest ws : List Lexeme) (cs : List Value) (atts : List Att) → ws ≡ n ∷ rest → Fails e (new_attribute atts (word_value n.bytes)) → Fails e (add_att (name_first ws) cs atts)
-name_fails e n rest ws cs atts first h =
-    subst (λ r. Fails e r) (sym (ap (λ all. add_att (name_first all) cs atts) first ∙ name_first_checked (word_value n.bytes) cs atts))
-    (fails_then e (new_attribute atts (word_value n.bytes)) (λ name. with_values atts name (first_type cs) (in_turn (add_constant (first_type cs)) [] cs)) h)
+pub name_fails : (e : ReadError) (n : Lexeme) (rest ws : List Lexeme) (v : Version) (atts : List Att) → ws ≡ n ∷ rest → Fails e (unless (is_format_name (word_value n.bytes)) BadName) → Fails e (att_said v ws atts)
+name_fails e n rest ws v atts first h =
+    let cs = constants_said v (n ∷ rest) in
+    subst (λ (r : Result (List Att) CdlKind). Fails e r) (sym (ap (λ all. att_said v all atts) first ∙ name_first_checked (word_value n.bytes) cs atts))
+    (fails_then e (unless (is_format_name (word_value n.bytes)) BadName) (λ u. when (has_name (word_value n.bytes) atts) DuplicateName >>= (λ w. with_values atts (word_value n.bytes) (first_type cs) (in_turn (add_constant (first_type cs)) [] cs))) h)
 
 pub refused : {A : Type 0} (after : A) (r : Result ⊤ ReadError) (e : ReadError) (read : Result A CdlKind) → r ≡ Err e → Fails e read → Leaves after r read
 refused after (Ok u) e read is h = cc
@@ -85,12 +82,14 @@ refused after (Err (Fault k)) (Fault m) read is h = h ∙ ap Err (let same : m �
 pub read_as : (start equals first : Cutter) (a b : Bool) (n l : Lexeme) (ty : NcType) (v : Version) (atts : List Att) (name : List ℕ) →
     words start ≡ lexeme (text_of start) (next_token start) ∷ (if a then [] else words equals) → words equals ≡ lexeme (text_of equals) (next_token equals) ∷ (if b then [] else words first) →
     is_done first ≡ false → completes AttributeName (words start) ≡ true → n ≡ lexeme (text_of start) (next_token start) → l ≡ lexeme (text_of first) (next_token first) →
-    v ≡ version_of first → version_of first ≡ version_of start → ty ≡ type_said (value_of v l l.kind) → new_attribute atts (word_value n.bytes) ≡ Ok name →
-    add_att (name_first (words start)) (constants_said (version_of start) (words start)) atts ≡ with_values atts name ty (in_turn (add_constant ty) [] (values (version_of first) (words first)))
-read_as start equals first a b n l ty v atts name one two more on n-is l-is v-is same ty-is named =
+    v ≡ version_of first → version_of first ≡ version_of start → ty ≡ type_said (value_of v l l.kind) → name ≡ word_value n.bytes → is_format_name (word_value n.bytes) ≡ true →
+    att_read start atts ≡ (when (has_name name atts) DuplicateName >>= (λ w. with_values atts name ty (in_turn (add_constant ty) [] (values (version_of first) (words first)))))
+read_as start equals first a b n l ty v atts name one two more on n-is l-is v-is same ty-is name-is allowed =
     let begun = begins first more in
     let typed : ty ≡ type_said (value_of (version_of start) (lexeme (text_of first) (next_token first)) (lexeme (text_of first) (next_token first)).kind) =
     ty-is ∙ ap (λ w. type_said (value_of w l l.kind)) (v-is ∙ same) ∙ ap (λ (m : Lexeme). type_said (value_of (version_of start) m m.kind)) l-is in
+    let read = in_turn (add_constant ty) [] (values (version_of start) (words first)) in
     said (version_of start) (words start) (words equals) (words first) begun.0 (lexeme (text_of start) (next_token start)) (lexeme (text_of equals) (next_token equals)) (lexeme (text_of first) (next_token first)) a b ty atts one two begun.1 on typed ∙
-    ap (λ (r : Result (List ℕ) CdlKind). r >>= (λ m. with_values atts m ty (in_turn (add_constant ty) [] (values (version_of start) (words first))))) (ap (λ (m : Lexeme). new_attribute atts (word_value m.bytes)) (sym n-is) ∙ named) ∙
-    ap (λ w. with_values atts name ty (in_turn (add_constant ty) [] (values w (words first)))) (sym same)
+    ap (λ (m : Lexeme). checked atts (word_value m.bytes) ty read) (sym n-is) ∙ named (is_format_name (word_value n.bytes)) _ allowed ∙
+    ap (λ (m : List ℕ). when (has_name m atts) DuplicateName >>= (λ w. with_values atts m ty read)) (sym name-is) ∙
+    ap (λ w. when (has_name name atts) DuplicateName >>= (λ u. with_values atts name ty (in_turn (add_constant ty) [] (values w (words first))))) (sym same)

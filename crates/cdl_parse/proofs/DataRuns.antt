@@ -11,13 +11,13 @@ use Rattle.cdl_values.specs.Listed.{AllList, fresh}
 use Rattle.cdl_values.specs.Meant.{Suit, names_of}
 use Rattle.cdl_values.specs.declared.data.Target.{Target}
 use Rattle.cdl_parse.specs.DataSections.{IsInDataSection}
-use Rattle.cdl_parse.proofs.DataStates.{names_are, none_listed}
+use Rattle.cdl_parse.proofs.DataStates.{none_listed}
 use Rattle.cdl_parse.proofs.RunSteps.{goes_on}
 
 -- the statements up to this cutter make such drafts
 abbrev pub SoFar : List Var → State → Cutter → List Target → List (List ℕ) → Cutter → Type 0
 SoFar vars s start ts arrays c =
-    (ds : List Draft) × IsInDataSection vars ts arrays (record s { drafts = ds }) × (names_of ds ≡ names_of s.drafts) ×
+    (ds : List Draft) × IsInDataSection vars (names_of s.drafts) ts arrays (record s { drafts = ds }) ×
     (run (text_of start) (version_of start) s (pieces_left start) ≡ run (text_of start) (version_of start) (record s { drafts = ds }) (pieces_left c))
 
 pub none_so_far : (vars : List Var) (s : State) (start : Cutter) (ts : List Target) (arrays : List (List ℕ)) → s.section ≡ Values → Suit s.dims ts s.drafts → s.drafts ≡ fresh vars → arrays ≡ replicate (length ts) [] →
@@ -25,14 +25,13 @@ pub none_so_far : (vars : List Var) (s : State) (start : Cutter) (ts : List Targ
 none_so_far vars s start ts arrays section suit is empty =
     let listed = none_listed s.dims vars ts (subst (Suit s.dims ts) is suit) in (
       s.drafts,
-      record { section = section; suit = suit; lists = subst (λ arrays. AllList s.dims vars arrays s.drafts) (sym empty) (subst (AllList s.dims vars (replicate (length ts) [])) (sym is) listed) },
-      refl,
+      record { section = section; named = refl; suit = suit; lists = subst (λ arrays. AllList s.dims vars arrays s.drafts) (sym empty) (subst (AllList s.dims vars (replicate (length ts) [])) (sym is) listed) },
       refl,
     )
 
 module _ (start c : Cutter) (text : text_of c ≡ text_of start) (version : version_of c ≡ version_of start) (more : is_done c ≡ false) where
   -- a statement more
   pub values_on : (vars : List Var) (s : State) (ts us : List Target) (arrays others : List (List ℕ)) (rest : Cutter) → pieces_left rest ≡ after c → (so : SoFar vars s start ts arrays c) →
-      (ds : List Draft) × (piece_read (version_of c) (record s { drafts = so.0 }) (words c) ≡ Ok (record s { drafts = ds })) × IsInDataSection vars us others (record s { drafts = ds }) → SoFar vars s start us others rest
+      (ds : List Draft) × (piece_read (version_of c) (record s { drafts = so.0 }) (words c) ≡ Ok (record s { drafts = ds })) × IsInDataSection vars (names_of so.0) us others (record s { drafts = ds }) → SoFar vars s start us others rest
   values_on vars s ts us arrays others rest on so found =
-      (found.0, found.2, names_are s.dims vars others found.0 found.2.lists ∙ sym (names_are s.dims vars arrays so.0 so.1.lists) ∙ so.2, so.3 ∙ goes_on start c text version more (record s { drafts = so.0 }) (record s { drafts = found.0 }) rest found.1 on)
+      (found.0, subst (λ names. IsInDataSection vars names us others (record s { drafts = found.0 })) (sym so.1.named) found.2, so.2 ∙ goes_on start c text version more (record s { drafts = so.0 }) (record s { drafts = found.0 }) rest found.1 on)

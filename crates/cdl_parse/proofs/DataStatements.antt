@@ -1,5 +1,5 @@
 -- The statements of the data section, one by one.
-use Rattle.std.proofs.Common.{◌≡◌, ℕ, true, List, [], ◌∷◌, Result, slice_set, refl, ap, ◌∙◌, subst}
+use Rattle.std.proofs.Common.{◌≡◌, ℕ, true, List, [], ◌∷◌, Result, slice_set, refl, sym, ap, ◌∙◌, subst}
 use Rattle.std.specs.Prelude.{Some, Ok, Err}
 use Rattle.nc_base.specs.declared.header.Var.{Var}
 use Rattle.nc_base.specs.declared.version.Version.{Version}
@@ -16,7 +16,7 @@ use Rattle.cdl_values.specs.declared.data.Target.{Target}
 use Rattle.cdl_values.specs.declared.read_error.ReadError.{ReadError}
 use Rattle.cdl_parse.specs.DataSections.{Closes, ReadsOne, IsInDataSection, given_at}
 use Rattle.cdl_parse.specs.declared.data_section.Passed.{Passed}
-use Rattle.cdl_parse.proofs.DataStates.{listed_at}
+use Rattle.cdl_parse.proofs.DataStates.{listed_at, names_are}
 
 -- the statement that begins with the closing brace is that brace
 pub closing : (v : Version) (s : State) (ws : List Lexeme) → s.section ≡ Values → begins_brace ws ≡ true → piece_read v s ws ≡ act v s (statement_said v s.section ws) → piece_read v s ws ≡ Ok (record s { section = Closed })
@@ -25,15 +25,17 @@ closing v s [] section brace read = cc
 closing v s (l ∷ ls) section brace read = read ∙ ap (λ at. act v s (statement_said v at (l ∷ ls))) section ∙ rw (brace) refl
 
 -- what the call that reads a brace answers is what the call that reads any statement does
-pub closed : (vars : List Var) (start : Cutter) (s : State) (ts : List Target) (arrays : List (List ℕ)) (result : Result Passed ReadError) → IsInDataSection vars ts arrays s → Closes start s result → ReadsOne vars start s ts arrays result
-closed vars start s ts arrays (Ok passed) stands h = rw (h.0) (h.1, stands.lists)
-closed vars start s ts arrays (Err e) stands h = h
+pub closed : (vars : List Var) (start : Cutter) (s : State) (ts : List Target) (arrays : List (List ℕ)) (names : List (List ℕ)) (result : Result Passed ReadError) → IsInDataSection vars names ts arrays s → Closes start s result → ReadsOne vars start s ts arrays result
+closed vars start s ts arrays names (Ok passed) stands h = rw (h.0) (h.1, stands.lists)
+closed vars start s ts arrays names (Err e) stands h = h
 
 -- a statement that lists these bytes of the variable at this position
-pub takes : (vars : List Var) (v : Version) (s : State) (ws : List Lexeme) (ts : List Target) (arrays : List (List ℕ)) (array : List ℕ) (k : ℕ) → IsInDataSection vars ts arrays s →
-    Means v s ws (Ok array) → position_of (names_of s.drafts) (name_first ws) ≡ Some k →
-    (ds : List Draft) × (piece_read v s ws ≡ Ok (record s { drafts = ds })) × IsInDataSection vars (given_at k ts) (slice_set arrays k array) (record s { drafts = ds })
-takes vars v s ws ts arrays array k stands means is =
+pub takes : (vars : List Var) (v : Version) (s : State) (ws : List Lexeme) (ts : List Target) (arrays : List (List ℕ)) (array : List ℕ) (k : ℕ) (names : List (List ℕ)) → IsInDataSection vars names ts arrays s →
+    Means v s ws (Ok array) → position_of names (name_first ws) ≡ Some k →
+    (ds : List Draft) × (piece_read v s ws ≡ Ok (record s { drafts = ds })) × IsInDataSection vars (names_of s.drafts) (given_at k ts) (slice_set arrays k array) (record s { drafts = ds })
+takes vars v s ws ts arrays array k names stands means is =
     let ds = with_listing (name_first ws) means.0 s.drafts in
-    let after = listed_at s.dims (name_first ws) means.0 vars arrays ts s.drafts k stands.lists stands.suit is in
-    (ds, means.2, record { section = stands.section; suit = after.1; lists = subst (λ bytes. AllList s.dims vars (slice_set arrays k bytes) ds) means.1 after.0 })
+    let after = listed_at s.dims (name_first ws) means.0 vars arrays ts s.drafts k stands.lists stands.suit (ap (λ all. position_of all (name_first ws)) (sym stands.named) ∙ is) in
+    let lists = subst (λ bytes. AllList s.dims vars (slice_set arrays k bytes) ds) means.1 after.0 in
+    let named = names_are s.dims vars arrays s.drafts stands.lists ∙ sym (names_are s.dims vars (slice_set arrays k array) ds lists) in
+    (ds, means.2, record { section = stands.section; named = named; suit = after.1; lists = lists })

@@ -22,10 +22,12 @@ use Rattle.cdl_meaning.specs.State.{Draft, add_dimid, add_var, found, in_turn, t
 use Rattle.cdl_values.specs.Answers.{Continues, Fails, Leaves}
 use Rattle.cdl_values.specs.declared.read_error.ReadError.{ReadError}
 use Rattle.cdl_values.specs.declared.read_error.ReadError.TheVariants.{OutOfMemory, Fault}
-use Rattle.cdl_parse.specs.Declarations.{added, continued, declared, new_variable, next_dimid, read_on, type_first}
-use Rattle.cdl_parse.specs.Drafts.{draft, is_taken}
+use Rattle.cdl_parse.specs.Declarations.{added, continued, declared, is_open_after, next_dimid, read_on, type_first, with_begun, ReadsDimension}
+use Rattle.cdl_parse.specs.Drafts.{draft, is_taken, with_new_draft}
+use Rattle.cdl_parse.specs.TakenNames.{after_name}
 use Rattle.cdl_parse.specs.declared.declaration.Begun.{Begun}
 use Rattle.cdl_parse.proofs.AttributeReads.{fails_then}
+use Rattle.cdl_parse.proofs.TakenNames.{fails_after, named}
 use Rattle.cdl_parse.proofs.StatementWords.{goes_past}
 
 -- ---- one token on
@@ -48,33 +50,34 @@ refused after (Err (Fault k)) (Fault m) read is h = h ∙ ap Err (let same : m �
 
 module _ (dims : List Dim) (ty : NcType) (drafts : List Draft) where
   variable_first : (name : List ℕ) (rest : Declaration) →
-      in_turn (add_var dims ty) drafts (with_name false name rest).variables ≡ (new_variable drafts name >>= (λ n. continued dims ty drafts n [] rest))
+      in_turn (add_var dims ty) drafts (with_name false name rest).variables ≡ (unless (is_name name) BadName >>= (λ u. continued dims ty drafts name [] rest))
   unfolding add_var
   variable_first name rest = by (is_name name) (is_taken name drafts) (in_turn (add_dimid dims) [] rest.dimensions)
     where
       by : (named taken : Bool) (ids : Result (List ℕ) CdlKind) →
           (elim (unless named BadName >>= (λ u. when taken DuplicateName >>= (λ w. ids >>= (λ all. Ok (drafts ++ draft name all ty [] ∷ []))))) as (λ r. Result (List Draft) CdlKind) [ Ok t ↦ in_turn (add_var dims ty) t rest.variables | Err e ↦ Err e ]) ≡
-          ((unless named BadName >>= (λ u. when taken DuplicateName >>= (λ w. Ok name))) >>= (λ n. ids >>= (λ all. in_turn (add_var dims ty) (drafts ++ draft n all ty [] ∷ []) rest.variables)))
+          (unless named BadName >>= (λ u. when taken DuplicateName >>= (λ w. ids >>= (λ all. in_turn (add_var dims ty) (drafts ++ draft name all ty [] ∷ []) rest.variables))))
       by false taken ids = refl
       by true true ids = refl
       by true false (Ok ids) = refl
       by true false (Err e) = refl
 
   added_first : (l : Lexeme) (ls : List Lexeme) → is_mark_kind l.kind ≡ false →
-      added dims ty drafts (l ∷ ls) ≡ (new_variable drafts (word_value l.bytes) >>= (λ n. continued dims ty drafts n [] (declaration_said false ls)))
+      added dims ty drafts (l ∷ ls) ≡ (unless (is_name (word_value l.bytes)) BadName >>= (λ u. continued dims ty drafts (word_value l.bytes) [] (declaration_said false ls)))
   added_first l ls off = ap (λ (d : Declaration). in_turn (add_var dims ty) drafts d.variables) (said_name false l ls off) ∙ variable_first (word_value l.bytes) (declaration_said false ls)
 
-  pub begin_fails : (l : Lexeme) (ls : List Lexeme) (e : ReadError) → is_mark_kind l.kind ≡ false → Fails e (new_variable drafts (word_value l.bytes)) → Fails e (added dims ty drafts (l ∷ ls))
+  pub begin_fails : (l : Lexeme) (ls : List Lexeme) (e : ReadError) → is_mark_kind l.kind ≡ false → Fails e (unless (is_name (word_value l.bytes)) BadName) → Fails e (added dims ty drafts (l ∷ ls))
   begin_fails l ls e off h =
-      subst (Fails e) (sym (added_first l ls off)) (fails_then e (new_variable drafts (word_value l.bytes)) (λ n. continued dims ty drafts n [] (declaration_said false ls)) h)
+      subst (Fails e) (sym (added_first l ls off)) (fails_then e (unless (is_name (word_value l.bytes)) BadName) (λ u. continued dims ty drafts (word_value l.bytes) [] (declaration_said false ls)) h)
 
-  pub begins : (l : Lexeme) (ls : List Lexeme) (name ids : List ℕ) → is_mark_kind l.kind ≡ false → new_variable drafts (word_value l.bytes) ≡ Ok name → ids ≡ [] → added dims ty drafts (l ∷ ls) ≡ continued dims ty drafts name ids (declaration_said false ls)
-  begins l ls name ids off is none =
-      added_first l ls off ∙ ap (λ (r : Result (List ℕ) CdlKind). r >>= (λ n. continued dims ty drafts n [] (declaration_said false ls))) is ∙ ap (λ all. continued dims ty drafts name all (declaration_said false ls)) (sym none)
+  pub begins : (l : Lexeme) (ls : List Lexeme) (name ids : List ℕ) → is_mark_kind l.kind ≡ false → name ≡ word_value l.bytes → is_name (word_value l.bytes) ≡ true → ids ≡ [] →
+      added dims ty drafts (l ∷ ls) ≡ continued dims ty drafts name ids (declaration_said false ls)
+  begins l ls name ids off is allowed none =
+      added_first l ls off ∙ named (is_name (word_value l.bytes)) _ allowed ∙ ap (λ n. continued dims ty drafts n [] (declaration_said false ls)) (sym is) ∙ ap (λ all. continued dims ty drafts name all (declaration_said false ls)) (sym none)
 
   -- ---- a token after a variable's name
 
-  pub over_mark : (name ids : List ℕ) (parens after : Bool) (l : Lexeme) (ls : List Lexeme) → is_mark_kind l.kind ≡ true → after ≡ (is_mark 0x28 l || parens && not (is_mark 0x29 l)) →
+  pub over_mark : (name ids : List ℕ) (parens after : Bool) (l : Lexeme) (ls : List Lexeme) → is_mark_kind l.kind ≡ true → after ≡ is_open_after parens l →
       continued dims ty drafts name ids (declaration_said parens (l ∷ ls)) ≡ continued dims ty drafts name ids (declaration_said after ls)
   over_mark name ids parens after l ls on is = ap (continued dims ty drafts name ids) (said_mark parens l ls on ∙ ap (λ p. declaration_said p ls) (sym is))
 
@@ -98,44 +101,88 @@ module _ (dims : List Dim) (ty : NcType) (drafts : List Draft) where
       by true None = refl
       by true (Some k) = last k (nat_lt 0 (length ids) && is_record_dim dims k)
 
-  dimension_first : (name ids word : List ℕ) (rest : Declaration) → continued dims ty drafts name ids (with_name true word rest) ≡ with_more name rest (next_dimid dims ids word >>= (λ k. Ok (ids ++ k ∷ [])))
-  dimension_first name ids word rest = ap (with_more name rest) (id_first ids word)
+  -- the same, where the name is new
+  abbrev checked : List ℕ → Declaration → Result (List ℕ) CdlKind → Result (List Draft) CdlKind
+  checked name rest r = when (is_taken name drafts) DuplicateName >>= (λ u. with_more name rest r)
+
+  dimension_first : (name ids word : List ℕ) (rest : Declaration) → continued dims ty drafts name ids (with_name true word rest) ≡ checked name rest (next_dimid dims ids word >>= (λ k. Ok (ids ++ k ∷ [])))
+  dimension_first name ids word rest = ap (checked name rest) (id_first ids word)
 
   pub dimension_ok : (name ids more word : List ℕ) (k : ℕ) (rest : Declaration) → next_dimid dims ids word ≡ Ok k → more ≡ ids ++ k ∷ [] → continued dims ty drafts name ids (with_name true word rest) ≡ continued dims ty drafts name more rest
   dimension_ok name ids more word k rest is e =
-      dimension_first name ids word rest ∙ ap (λ (r : Result ℕ CdlKind). with_more name rest (r >>= (λ m. Ok (ids ++ m ∷ [])))) is ∙ ap (λ all. continued dims ty drafts name all rest) (sym e)
+      dimension_first name ids word rest ∙ ap (λ (r : Result ℕ CdlKind). checked name rest (r >>= (λ m. Ok (ids ++ m ∷ [])))) is ∙ ap (λ all. continued dims ty drafts name all rest) (sym e)
 
-  pub dimension_fails : (name ids word : List ℕ) (e : ReadError) (rest : Declaration) → Fails e (next_dimid dims ids word) → Fails e (continued dims ty drafts name ids (with_name true word rest))
-  dimension_fails name ids word OutOfMemory rest h = tt
-  dimension_fails name ids word (Fault k) rest h = dimension_first name ids word rest ∙ ap (λ (r : Result ℕ CdlKind). with_more name rest (r >>= (λ m. Ok (ids ++ m ∷ [])))) h
-
-  pub dimension_on : (begun : Begun) (l : Lexeme) (ls : List Lexeme) (r : Result Begun ReadError) → is_mark_kind l.kind ≡ false → begun.is_open ≡ true → IfOk r (λ b. b.is_open ≡ true) →
-      Continues (λ (b : Begun). continued dims ty drafts b.name.items b.dimids.items (declaration_said true ls)) r (continued dims ty drafts begun.name.items begun.dimids.items (with_name true (word_value l.bytes) (declaration_said true ls))) →
-      Continues (λ (b : Begun). read_on dims ty drafts b ls) r (read_on dims ty drafts begun (l ∷ ls))
-  dimension_on begun l ls (Ok b) off opened is h =
-      ap (λ p. continued dims ty drafts begun.name.items begun.dimids.items (declaration_said p (l ∷ ls))) opened ∙ ap (continued dims ty drafts begun.name.items begun.dimids.items) (said_name true l ls off) ∙ h ∙
-      ap (λ p. continued dims ty drafts b.name.items b.dimids.items (declaration_said p ls)) (sym is)
-  dimension_on begun l ls (Err OutOfMemory) off opened is h = tt
-  dimension_on begun l ls (Err (Fault k)) off opened is h =
-      ap (λ p. continued dims ty drafts begun.name.items begun.dimids.items (declaration_said p (l ∷ ls))) opened ∙ ap (continued dims ty drafts begun.name.items begun.dimids.items) (said_name true l ls off) ∙ h
+  pub dimension_fails : (name ids word : List ℕ) (e : ReadError) (rest : Declaration) → Fails e (next_dimid dims ids word) → Fails (after_name (is_taken name drafts) e) (continued dims ty drafts name ids (with_name true word rest))
+  dimension_fails name ids word e rest h =
+      subst (Fails (after_name (is_taken name drafts) e)) (sym (dimension_first name ids word rest)) (fails_after (is_taken name drafts) e (with_more name rest (next_dimid dims ids word >>= (λ k. Ok (ids ++ k ∷ [])))) (by e h))
+    where
+      by : (e : ReadError) → Fails e (next_dimid dims ids word) → Fails e (with_more name rest (next_dimid dims ids word >>= (λ k. Ok (ids ++ k ∷ []))))
+      by OutOfMemory h = tt
+      by (Fault k) h = ap (λ (r : Result ℕ CdlKind). with_more name rest (r >>= (λ m. Ok (ids ++ m ∷ [])))) h
 
   -- the next variable, or no further one
-  pub next_variable : (begun : Begun) (more : List Draft) (l : Lexeme) (ls : List Lexeme) → is_mark_kind l.kind ≡ false → begun.is_open ≡ false → more ≡ drafts ++ draft begun.name.items begun.dimids.items ty [] ∷ [] →
-      read_on dims ty drafts begun (l ∷ ls) ≡ added dims ty more (l ∷ ls)
-  next_variable begun more l ls off closed e =
-      ap (λ p. continued dims ty drafts begun.name.items begun.dimids.items (declaration_said p (l ∷ ls))) closed ∙ ap (continued dims ty drafts begun.name.items begun.dimids.items) (said_name false l ls off) ∙
-      ap (λ all. in_turn (add_var dims ty) all (with_name false (word_value l.bytes) (declaration_said false ls)).variables) (sym e) ∙
-      sym (ap (λ (d : Declaration). in_turn (add_var dims ty) more d.variables) (said_name false l ls off))
-
-  pub none_left : (name ids : List ℕ) (parens : Bool) → continued dims ty drafts name ids (declaration_said parens []) ≡ Ok (drafts ++ draft name ids ty [] ∷ [])
+  pub none_left : (name ids : List ℕ) (parens : Bool) → continued dims ty drafts name ids (declaration_said parens []) ≡ with_new_draft drafts name ids ty
   unfolding declaration_said
   none_left name ids parens = refl
 
+  one_more : (name ids : List ℕ) (more : List Draft) (rest : Declaration) → rest.dimensions ≡ [] → with_new_draft drafts name ids ty ≡ Ok more → continued dims ty drafts name ids rest ≡ in_turn (add_var dims ty) more rest.variables
+  one_more name ids more rest none h = by (is_taken name drafts) h
+    where
+      by : (taken : Bool) → (when taken DuplicateName >>= (λ u. Ok (drafts ++ draft name ids ty [] ∷ []))) ≡ Ok more →
+          (when taken DuplicateName >>= (λ u. in_turn (add_dimid dims) ids rest.dimensions >>= (λ all. in_turn (add_var dims ty) (drafts ++ draft name all ty [] ∷ []) rest.variables))) ≡ in_turn (add_var dims ty) more rest.variables
+      by true h = cc
+      by false h =
+          ap (λ ns. in_turn (add_dimid dims) ids ns >>= (λ all. in_turn (add_var dims ty) (drafts ++ draft name all ty [] ∷ []) rest.variables)) none ∙
+          ap (λ all. in_turn (add_var dims ty) all rest.variables) (let same : drafts ++ draft name ids ty [] ∷ [] ≡ more = cc in same)
+
+  pub put_fails : (name ids : List ℕ) (rest : Declaration) (e : ReadError) → rest.dimensions ≡ [] → Fails e (with_new_draft drafts name ids ty) → Fails e (continued dims ty drafts name ids rest)
+  put_fails name ids rest OutOfMemory none h = tt
+  put_fails name ids rest (Fault k) none h = by (is_taken name drafts) h
+    where
+      by : (taken : Bool) → (when taken DuplicateName >>= (λ u. Ok (drafts ++ draft name ids ty [] ∷ []))) ≡ Err k →
+          (when taken DuplicateName >>= (λ u. in_turn (add_dimid dims) ids rest.dimensions >>= (λ all. in_turn (add_var dims ty) (drafts ++ draft name all ty [] ∷ []) rest.variables))) ≡ Err k
+      by true h = h
+      by false h = cc
+
+-- ---- a variable that is begun
+
+module _ (dims : List Dim) (drafts : List Draft) where
+  pub dimension_on : (begun : Begun) (l : Lexeme) (ls : List Lexeme) (r : Result Begun ReadError) → is_mark_kind l.kind ≡ false → begun.is_open ≡ true → IfOk r (λ b. b.is_open ≡ true) →
+      ReadsDimension dims drafts begun l.bytes r → Continues (λ (b : Begun). read_on dims drafts b ls) r (read_on dims drafts begun (l ∷ ls))
+  dimension_on begun l ls r off opened is reads = by r is (reads (declaration_said true ls))
+    where
+      here : read_on dims drafts begun (l ∷ ls) ≡ continued dims begun.ty drafts begun.name.items begun.dimids.items (with_name true (word_value l.bytes) (declaration_said true ls))
+      here =
+          ap (λ p. continued dims begun.ty drafts begun.name.items begun.dimids.items (declaration_said p (l ∷ ls))) opened ∙ ap (continued dims begun.ty drafts begun.name.items begun.dimids.items) (said_name true l ls off)
+
+      by : (r : Result Begun ReadError) → IfOk r (λ b. b.is_open ≡ true) →
+          Continues (λ (b : Begun). continued dims b.ty drafts b.name.items b.dimids.items (declaration_said true ls)) r (continued dims begun.ty drafts begun.name.items begun.dimids.items (with_name true (word_value l.bytes) (declaration_said true ls))) →
+          Continues (λ (b : Begun). read_on dims drafts b ls) r (read_on dims drafts begun (l ∷ ls))
+      by (Ok b) is h = here ∙ h ∙ ap (λ p. continued dims b.ty drafts b.name.items b.dimids.items (declaration_said p ls)) (sym is)
+      by (Err OutOfMemory) is h = tt
+      by (Err (Fault k)) is h = here ∙ h
+
+  -- the next variable
+  next_is : (begun : Begun) (l : Lexeme) (ls : List Lexeme) → is_mark_kind l.kind ≡ false → begun.is_open ≡ false →
+      read_on dims drafts begun (l ∷ ls) ≡ continued dims begun.ty drafts begun.name.items begun.dimids.items (with_name false (word_value l.bytes) (declaration_said false ls))
+  next_is begun l ls off closed =
+      ap (λ p. continued dims begun.ty drafts begun.name.items begun.dimids.items (declaration_said p (l ∷ ls))) closed ∙ ap (continued dims begun.ty drafts begun.name.items begun.dimids.items) (said_name false l ls off)
+
+  pub next_variable : (begun : Begun) (more : List Draft) (l : Lexeme) (ls : List Lexeme) → is_mark_kind l.kind ≡ false → begun.is_open ≡ false → with_begun drafts begun ≡ Ok more →
+      read_on dims drafts begun (l ∷ ls) ≡ added dims begun.ty more (l ∷ ls)
+  next_variable begun more l ls off closed is =
+      next_is begun l ls off closed ∙ one_more dims begun.ty drafts begun.name.items begun.dimids.items more (with_name false (word_value l.bytes) (declaration_said false ls)) refl is ∙
+      sym (ap (λ (d : Declaration). in_turn (add_var dims begun.ty) more d.variables) (said_name false l ls off))
+
+  pub next_fails : (begun : Begun) (l : Lexeme) (ls : List Lexeme) (e : ReadError) → is_mark_kind l.kind ≡ false → begun.is_open ≡ false → Fails e (with_begun drafts begun) → Fails e (read_on dims drafts begun (l ∷ ls))
+  next_fails begun l ls e off closed h =
+      subst (Fails e) (sym (next_is begun l ls off closed)) (put_fails dims begun.ty drafts begun.name.items begun.dimids.items (with_name false (word_value l.bytes) (declaration_said false ls)) e refl h)
+
   pub all_read : (ws : List Lexeme) (start after : List Draft) (l : Lexeme) (before begun : Begun) (ends : Bool) (rest : List Lexeme) → ws ≡ l ∷ (if ends then [] else rest) → ends ≡ true →
-      read_on dims ty start before (l ∷ []) ≡ read_on dims ty drafts begun [] → (r : Result ⊤ ReadError) → Leaves after r (Ok (drafts ++ draft begun.name.items begun.dimids.items ty [] ∷ [])) →
-      Leaves after r (read_on dims ty start before ws)
+      read_on dims start before (l ∷ []) ≡ read_on dims drafts begun [] → (r : Result ⊤ ReadError) → Leaves after r (with_begun drafts begun) → Leaves after r (read_on dims start before ws)
   all_read ws start after l before begun ends rest first on reads r put =
-      subst (Leaves after r) (sym (ap (read_on dims ty start before) (first ∙ ap (λ e. l ∷ (if e then [] else rest)) on) ∙ reads ∙ none_left begun.name.items begun.dimids.items begun.is_open)) put
+      subst (Leaves after r)
+      (sym (ap (read_on dims start before) (first ∙ ap (λ e. l ∷ (if e then [] else rest)) on) ∙ reads ∙ none_left dims begun.ty drafts begun.name.items begun.dimids.items begun.is_open)) put
 
 -- ---- the shape
 

@@ -1,20 +1,17 @@
 -- The names of variables, and their index.
-use Rattle.std.proofs.Common.{◌≡◌, ℕ, suc, ◌+◌, ◌-◌, Bool, true, false, List, [], ◌∷◌, ◌++◌, length, map, take, refl, sym, ap, ◌∙◌, subst, arith}
+use Rattle.std.proofs.Common.{◌≡◌, ℕ, suc, ◌+◌, ◌-◌, Bool, true, false, List, [], ◌∷◌, ◌++◌, length, map, take, refl, sym, ap, ◌∙◌, arith}
 use Rattle.std.proofs.lemmas.List.{map-append, length-map}
 use Rattle.std.proofs.Math.Seq.{take-append_seam}
-use Rattle.std.specs.Prelude.{Option, None, Some, Result, Ok, Err, ⊤, OnErr, OnOk, is_err, is_some, if◌then◌else◌, ◌||◌}
-use Rattle.std.specs.declared.alloc.AllocError.{AllocError}
+use Rattle.std.specs.Prelude.{Some, is_some, if◌then◌else◌, ◌||◌, not}
 use Rattle.std.specs.List.{position_from}
 use Rattle.std.specs.Str.{bytes_eq}
 use Rattle.nc_base.specs.declared.header.Var.{Var}
 use Rattle.cdl_meaning.specs.State.{Draft}
 use Rattle.cdl_values.specs.Listed.{fresh}
 use Rattle.cdl_values.specs.Meant.{names_of}
-use Rattle.cdl_values.specs.NameIndices.{IsIndex, position_of}
-use Rattle.cdl_values.specs.declared.name_index.NameIndex.{NameIndex}
+use Rattle.cdl_values.specs.NameIndices.{is_new, position_of}
 use Rattle.cdl_parse.specs.Drafts.{draft_of, drafts_of, is_taken, var_of}
 use Rattle.cdl_parse.specs.declared.variables.Variable.{Variable}
-use Rattle.cdl_parse.proofs.NameSets.{where_ok}
 
 -- a name is among those of the variables where it has a position
 taken_from : (i : ℕ) (drafts : List Draft) (name : List ℕ) → is_taken name drafts ≡ is_some (position_from (λ other. bytes_eq other name) i (names_of drafts))
@@ -28,13 +25,6 @@ taken_from i (d ∷ drafts) name = by (bytes_eq d.var.name name) (taken_from (i 
 
 pub taken_is : (drafts : List Draft) (name : List ℕ) → is_taken name drafts ≡ is_some (position_of (names_of drafts) name)
 taken_is drafts name = taken_from 0 drafts name
-
-pub no_position : (drafts : List Draft) (name : List ℕ) → is_taken name drafts ≡ false → position_of (names_of drafts) name ≡ None
-no_position drafts name new = by (position_of (names_of drafts) name) (sym (taken_is drafts name) ∙ new)
-  where
-    by : (o : Option ℕ) → is_some o ≡ false → o ≡ None
-    by None h = refl
-    by (Some k) h = cc
 
 pub name_count : (items : List Variable) → length (names_of (drafts_of items)) ≡ length items
 name_count items = length-map (drafts_of items) (λ (d : Draft). d.var.name) ∙ length-map items draft_of
@@ -53,17 +43,10 @@ without_last items pushed popped v more is =
     length-more [] v = refl
     length-more (w ∷ items) v = ap suc (length-more items v)
 
-pub where_refused : {A E : Type 0} (r : Result A E) (P : Type 0) → is_err r ≡ true → OnErr r P → P
-where_refused (Ok a) P on h = cc
-where_refused (Err e) P on h = h
-
--- the index with the name of one more
-pub indexed : (items pushed : List Variable) (v : Variable) (key : List ℕ) (index : NameIndex) (position : ℕ) (r : Result ⊤ AllocError) → key ≡ v.name → is_taken key (drafts_of items) ≡ false → pushed ≡ items ++ v ∷ [] → position ≡ length items →
-    (position ≡ length (names_of (drafts_of items)) → position_of (names_of (drafts_of items)) key ≡ None → OnOk r (IsIndex index (names_of (drafts_of items) ++ key ∷ []))) →
-    is_err r ≡ false → IsIndex index (names_of (drafts_of pushed))
-indexed items pushed v key index position r same new more at adds good =
-    subst (IsIndex index) (ap (λ n. names_of (drafts_of items) ++ n ∷ []) same ∙ sym (names_more items v) ∙ ap (λ vs. names_of (drafts_of vs)) (sym more))
-    (where_ok r _ good (adds (at ∙ sym (name_count items)) (no_position (drafts_of items) key new)))
+-- a name is new if no variable has it
+pub new_is : (names : List (List ℕ)) (drafts all : List Draft) (key name : List ℕ) → names ≡ names_of drafts → drafts ≡ all → key ≡ name → is_new names key ≡ not (is_taken name all)
+new_is names drafts all key name are view same =
+    ap (λ ns. is_new ns key) are ∙ ap (is_new (names_of drafts)) same ∙ ap not (sym (taken_is drafts name)) ∙ ap (λ ds. not (is_taken name ds)) view
 
 -- the variables of a header are those that are read
 pub fresh_is : (items : List Variable) (vars : List Var) (drafts : List Draft) → vars ≡ map var_of items → drafts_of items ≡ drafts → fresh vars ≡ drafts

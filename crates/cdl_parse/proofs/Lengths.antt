@@ -1,7 +1,7 @@
 -- The length of a dimension, by a number of any size.
-use Rattle.std.proofs.Common.{◌≡◌, ℕ, zero, suc, ◌≤◌, Bool, ◌+◌, true, false, List, [], ◌∷◌, map, refl, arith, rules}
+use Rattle.std.proofs.Common.{◌≡◌, ℕ, zero, suc, ◌≤◌, Bool, ◌+◌, true, false, List, [], ◌∷◌, refl, arith, rules}
 use Rattle.std.specs.Prelude.{is_some, pos, None, Some, Ok, Err, int_le, nat_lt, nat_le, ◌-◌, if◌then◌else◌, ◌||◌, ◌==◌}
-use Rattle.std.specs.List.{list_any, position_from}
+use Rattle.std.specs.List.{position_from}
 use Rattle.std.specs.Str.{bytes_eq}
 use Rattle.cdl_values.specs.NameIndices.{position_of}
 use Rattle.std.specs.Ordering.{int_eq}
@@ -15,6 +15,7 @@ use Rattle.cdl_text.specs.declared.fault.CdlKind.TheVariants.{NumberRange}
 use Rattle.nc_base.specs.declared.nc_type.NcType.{NcType}
 use Rattle.cdl_meaning.specs.State.{dim_len_of, unless, ◌>>=◌}
 use Rattle.cdl_parse.specs.DimensionLengths.{number_len}
+use Rattle.cdl_parse.specs.DimensionNames.{dim_names, is_taken}
 
 limit_word : (v : Version) → count_limit v ≤ 18446744073709551615
 limit_word Cdf1 = search rules
@@ -54,14 +55,14 @@ pub lens : (v : Version) (dims : List Dim) (p : Parts) → dim_len_of v dims (So
 lens v dims p = by_magnitude v dims p.ty p.minus p.magnitude (nat_lt 18446744073709551615 p.magnitude) refl
 
 -- a name is among those of the dimensions where it has a position
-any_from : (i : ℕ) (dims : List Dim) (name : List ℕ) → list_any (λ (e : Dim). bytes_eq e.name name) dims ≡ is_some (position_from (λ other. bytes_eq other name) i (map (λ (d : Dim). d.name) dims))
+any_from : (i : ℕ) (dims : List Dim) (name : List ℕ) → is_taken name dims ≡ is_some (position_from (λ other. bytes_eq other name) i (dim_names dims))
 any_from i [] name = refl
 any_from i (d ∷ dims) name = by (bytes_eq d.name name) (any_from (i + 1) dims name)
   where
-    by : (b : Bool) → list_any (λ (e : Dim). bytes_eq e.name name) dims ≡ is_some (position_from (λ other. bytes_eq other name) (i + 1) (map (λ (d : Dim). d.name) dims)) →
-        (b || list_any (λ (e : Dim). bytes_eq e.name name) dims) ≡ is_some (if b then Some i else position_from (λ other. bytes_eq other name) (i + 1) (map (λ (d : Dim). d.name) dims))
+    by : (b : Bool) → is_taken name dims ≡ is_some (position_from (λ other. bytes_eq other name) (i + 1) (dim_names dims)) →
+        (b || is_taken name dims) ≡ is_some (if b then Some i else position_from (λ other. bytes_eq other name) (i + 1) (dim_names dims))
     by true more = refl
     by false more = more
 
-pub any_is : (dims : List Dim) (name : List ℕ) → list_any (λ (e : Dim). bytes_eq e.name name) dims ≡ is_some (position_of (map (λ (d : Dim). d.name) dims) name)
+pub any_is : (dims : List Dim) (name : List ℕ) → is_taken name dims ≡ is_some (position_of (dim_names dims) name)
 any_is dims name = any_from 0 dims name

@@ -22,3 +22,4 @@ pub mod Shapes
 pub mod Closings
 pub mod Copies
 pub mod WholeTexts
+pub mod TakenNames

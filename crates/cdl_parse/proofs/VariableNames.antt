@@ -56,5 +56,14 @@ module _ (name : List ℕ) (f : Draft → Result Draft CdlKind) where
       let found = found_at 0 ds k is in
       named_as ds named ∙ found.3 ∙ ap (λ j. at_position j f ds) (let e : found.0 ≡ k = omega (arith, found.1) in e)
 
-pub within : (name : List ℕ) (ds : List Draft) (k : ℕ) → position_of (names_of ds) name ≡ Some k → k < length ds
-within name ds k is = let found = found_at name (λ d. Ok d) 0 ds k is in omega (arith, found.1, found.2)
+pub within : (name : List ℕ) (names : List (List ℕ)) (k : ℕ) → position_of names name ≡ Some k → k < length names
+within name names k is = let h = by 0 names k is in omega (arith, h)
+  where
+    by : (i : ℕ) (names : List (List ℕ)) (k : ℕ) → position_from (λ other. bytes_eq other name) i names ≡ Some k → k < i + length names
+    by i [] k is = cc
+    by i (x ∷ names) k is = step (bytes_eq x name) (by (i + 1) names k) is
+      where
+        step : (same : Bool) → (position_from (λ other. bytes_eq other name) (i + 1) names ≡ Some k → k < i + 1 + length names) →
+            (if same then Some i else position_from (λ other. bytes_eq other name) (i + 1) names) ≡ Some k → k < i + suc (length names)
+        step true more is = let first : i ≡ k = cc in omega (arith, first)
+        step false more is = let later = more is in omega (arith, later)

@@ -1,16 +1,17 @@
 -- The state that the statements before the data section make.
-use Rattle.std.specs.Prelude.{◌≡◌, Bool, true, false, List, None, Some, Option, Result, Ok, Err, ⊤}
-use Rattle.nc_base.specs.declared.version.Version.{Version}
-use Rattle.cdl_text.specs.Lexemes.{Lexeme}
+use Rattle.std.specs.Prelude.{◌≡◌, Bool, true, false, None, Some, Option, Result, Ok, Err, ⊤}
+use Rattle.cdl_text.specs.Cutters.{pieces_left, text_of, version_of, words}
+use Rattle.cdl_text.specs.declared.cutter.Cutter.{Cutter}
 use Rattle.cdl_text.specs.declared.fault.CdlFault.{CdlFault}
 use Rattle.cdl_text.specs.declared.fault.CdlKind.{CdlKind}
 use Rattle.cdl_text.specs.declared.section.Section.{Section}
 use Rattle.cdl_text.specs.declared.section.Section.TheVariants.{Unopened, Globals, Dimensions, Variables, Closed, Ended}
 use Rattle.cdl_text.specs.Contents.{statement_said}
-use Rattle.cdl_meaning.specs.Meaning.{piece_read}
+use Rattle.cdl_meaning.specs.Meaning.{piece_read, run}
 use Rattle.cdl_meaning.specs.State.{State, act}
 use Rattle.cdl_values.specs.Answers.{Fails}
 use Rattle.cdl_values.specs.declared.read_error.ReadError.{ReadError}
+use Rattle.cdl_parse.specs.declared.definition_sections.Defined.{Defined}
 use Rattle.cdl_parse.specs.declared.definitions.Definitions.{Definitions}
 
 abbrev pub state_of : Definitions → State
@@ -39,10 +40,21 @@ is_past Closed = true
 is_past Ended = true
 is_past _ = false
 
+-- the state that the next statement makes of this one, or the statement's fault
+abbrev pub after_statement : Cutter → State → Result State CdlKind
+after_statement start s = piece_read (version_of start) s (words start)
+
+-- the state that what it says makes of this one, in this section
+abbrev pub said_next : Cutter → Section → State → Result State CdlKind
+said_next start section s = act (version_of start) s (statement_said (version_of start) section (words start))
+
+abbrev pub said_by : Cutter → Section → Definitions → Result State CdlKind
+said_by start section d = said_next start section (state_of d)
+
 -- the statement does what it says; or it has the fault, before it does anything
-abbrev pub Passes : {C : Type 0} → Version → State → List Lexeme → Result C CdlKind → Type 0
-Passes v s ws (Ok rest) = piece_read v s ws ≡ act v s (statement_said v s.section ws)
-Passes v s ws (Err kind) = piece_read v s ws ≡ Err kind
+abbrev pub Passes : {C : Type 0} → Cutter → State → Result C CdlKind → Type 0
+Passes start s (Ok rest) = after_statement start s ≡ said_next start s.section s
+Passes start s (Err kind) = after_statement start s ≡ Err kind
 
 -- with an Ok the statement makes this state; a fault is its fault
 abbrev pub Makes : {B : Type 0} → State → Result B ReadError → Result State CdlKind → Type 0
@@ -53,3 +65,7 @@ Makes after (Err e) read = Fails e read
 abbrev pub EndsAs : State → Result ⊤ CdlFault → Result State CdlFault → Type 0
 EndsAs s (Ok u) read = (last : Section) × (read ≡ Ok (record s { section = last }))
 EndsAs s (Err fault) read = read ≡ Err fault
+
+-- the statements after those that define, from the state that they make
+abbrev pub run_past : Cutter → Defined → Result State CdlFault
+run_past start d = run (text_of start) (version_of start) (state_of d.definitions) (pieces_left d.rest)

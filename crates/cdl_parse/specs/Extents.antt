@@ -1,5 +1,5 @@
 -- How far what is listed reaches.
-use Rattle.std.specs.Prelude.{ℕ, ◌+◌, ◌-◌, ◌*◌, ◌/◌, ◌&&◌, nat_le, max, if◌then◌else◌, List, ◌∷◌, length, Option, None, Some}
+use Rattle.std.specs.Prelude.{ℕ, ◌≡◌, ◌<◌, ◌+◌, ◌-◌, ◌*◌, ◌/◌, ◌&&◌, All, nat_le, max, if◌then◌else◌, List, ◌∷◌, length, Option, None, Some}
 use Rattle.std.specs.List.{list_all}
 use Rattle.nc_base.specs.declared.header.Dim.{Dim}
 use Rattle.nc_base.specs.declared.header.Var.{Var}
@@ -7,6 +7,7 @@ use Rattle.nc_base.specs.Sizes.{is_record_var, slab_count, slab_size, slab_limit
 use Rattle.nc_base.specs.Types.{size_of}
 use Rattle.cdl_meaning.specs.Meaning.{is_small, records_in}
 use Rattle.cdl_meaning.specs.State.{Draft}
+use Rattle.cdl_values.specs.Listed.{AllList, AreShaped}
 use Rattle.cdl_parse.specs.declared.records.Extent.{Extent}
 
 -- how many records of `count` values hold n of them
@@ -34,3 +35,15 @@ records_within e = if nat_le e.records array_limit && nat_le (e.records * e.wide
 -- the number of records; None where over that many records a slab or an array passes its limit
 abbrev pub records_kept : List Dim → List Draft → Option ℕ
 records_kept dims drafts = if list_all (is_small dims (records_in dims drafts)) drafts then Some (records_in dims drafts) else None
+
+-- each variable has a value in a slab
+abbrev pub HaveValues : List Dim → List Var → Type 0
+HaveValues dims vars = All (λ (var : Var). 0 < slab_count dims var) vars
+
+-- how far the listed values of these variables reach
+abbrev pub extent_of : List Dim → List Var → List (List ℕ) → Option Extent
+extent_of dims vars listed = with_all dims (Some (record { records = 0; widest = 0 })) vars listed
+
+-- that many records are kept of variables of which this is listed
+abbrev pub CountsRecords : List Dim → List Var → List (List ℕ) → Option ℕ → Type 0
+CountsRecords dims vars listed result = (drafts : List Draft) → AllList dims vars listed drafts → AreShaped dims drafts → result ≡ records_kept dims drafts

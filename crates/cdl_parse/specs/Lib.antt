@@ -1,4 +1,7 @@
 pub mod DimensionLengths
+pub mod DimensionNames
+pub mod DimensionStatements
+pub mod TakenNames
 pub mod AttributeNames
 pub mod AttributeRead
 pub mod VariablePositions
@@ -6,6 +9,7 @@ pub mod Runs
 pub mod Defined
 pub mod DeclaredDatasets
 pub mod Extents
+pub mod OwedCounts
 pub mod DataSections
 pub mod Drafts
 pub mod Declarations

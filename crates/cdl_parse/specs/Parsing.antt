@@ -1,14 +1,17 @@
 -- What the calls that read a whole text answer.
-use Rattle.std.specs.Prelude.{◌≡◌, ◌⊎◌, List, Result, Ok, Err}
+use Rattle.std.specs.Prelude.{ℕ, ◌≡◌, ◌⊎◌, ◌<◌, ◌^◌, length, List, Result, Ok, Err}
 use Rattle.nc_base.specs.declared.dataset.Dataset.{Dataset}
+use Rattle.nc_base.specs.declared.header.Dim.{Dim}
 use Rattle.nc_base.specs.declared.header.Var.{Var}
 use Rattle.cdl_text.specs.declared.fault.CdlFault.{CdlFault}
 use Rattle.cdl_text.specs.declared.fault.CdlKind.TheVariants.{OutOfMemory}
 use Rattle.cdl_text.specs.Cutters.{pieces_left, text_of, version_of}
 use Rattle.cdl_text.specs.declared.cutter.Cutter.{Cutter}
+use Rattle.cdl_text.specs.declared.section.Section.{Section}
 use Rattle.cdl_meaning.specs.Meaning.{run}
 use Rattle.cdl_meaning.specs.State.{State, Draft}
-use Rattle.cdl_values.specs.Listed.{AllList, AreShaped}
+use Rattle.cdl_values.specs.Listed.{AllList, AreShaped, fresh}
+use Rattle.cdl_values.specs.Meant.{names_of}
 use Rattle.cdl_parse.specs.DeclaredDatasets.{dataset_of_declared}
 use Rattle.cdl_parse.specs.Runs.{FailsAt}
 use Rattle.cdl_parse.specs.declared.declared_values.Declared.{Declared}
@@ -40,6 +43,18 @@ ReadsValues vars start s (Ok values) =
     (drafts : List Draft) × AllList s.dims vars values.listed.items drafts ×
     (run (text_of start) (version_of start) s (pieces_left start) ≡ run (text_of start) (version_of start) (record s { section = values.section; drafts = drafts }) (pieces_left values.rest))
 ReadsValues vars start s (Err e) = FailsAt e (run (text_of start) (version_of start) s (pieces_left start))
+
+-- The state before the values of a text: these are its dimensions, its variables and their names.
+pub record IsDefined (start : Cutter) (dims : List Dim) (vars : List Var) (names : List (List ℕ)) (s : State) : Type 0 where
+  pub has_dims : s.dims ≡ dims
+  pub unlisted : s.drafts ≡ fresh vars
+  pub named : names ≡ names_of s.drafts
+  pub shaped : AreShaped s.dims s.drafts
+  pub short : length (text_of start) < 2 ^ 63
+
+-- the values are read on from each such state in this section
+abbrev pub ReadsAsDefined : Cutter → List Dim → List Var → List (List ℕ) → Section → Result Values ParseError → Type 0
+ReadsAsDefined start dims vars names section result = (s : State) → s.section ≡ section → IsDefined start dims vars names s → ReadsValues vars start s result
 
 -- these are the contents of the state
 pub record AreContentsOf (c : Contents) (s : State) : Type 0 where

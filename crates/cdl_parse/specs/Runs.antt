@@ -1,6 +1,8 @@
 -- What the calls that read several statements answer, but for want of memory.
 use Rattle.std.specs.Prelude.{◌≡◌, ℕ, List, Result, Ok, Err}
 use Rattle.nc_base.specs.declared.version.Version.{Version}
+use Rattle.cdl_text.specs.Cutters.{pieces_left, text_of, version_of}
+use Rattle.cdl_text.specs.declared.cutter.Cutter.{Cutter}
 use Rattle.cdl_text.specs.declared.fault.CdlFault.{CdlFault}
 use Rattle.cdl_text.specs.declared.fault.CdlKind.{CdlKind}
 use Rattle.cdl_tokens.specs.declared.token.Token.{Token}
@@ -28,3 +30,7 @@ ReadsOn after (Err e) read = FailsAt e read
 abbrev pub run_after : List ℕ → Version → ℕ → List (List Token) → Result State CdlKind → Result State CdlFault
 run_after text v line others (Ok s) = run text v s others
 run_after text v line others (Err k) = Err (record { line = line; kind = k })
+
+-- the statements of a cutter, from this state on
+abbrev pub run_from : Cutter → State → Result State CdlFault
+run_from start s = run (text_of start) (version_of start) s (pieces_left start)

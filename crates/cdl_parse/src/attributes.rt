@@ -1,9 +1,7 @@
 //! The attributes of a variable or of the dataset.
 
-ghost use Rattle.std.specs.Prelude.{◌≡◌, ◌++◌, ◌∷◌, [], OnErr, OnOk};
-ghost use Rattle.std.specs.List.{list_any};
-ghost use Rattle.std.specs.Str.{bytes_eq};
-ghost use Rattle.nc_base.specs.declared.header.Att as header;
+ghost use Rattle.std.specs.Prelude.{◌≡◌, [], IfOk, OnErr, not};
+ghost use Rattle.cdl_parse.specs.AttributeNames.{has_name, with_att};
 
 use nc_base::{Att, Sequence};
 use std::alloc::{AllocError, Global};
@@ -44,29 +42,31 @@ impl Attributes {
 
     /// Says whether one of the attributes has the name.
     pub fn has_name(&self, name: &[u8]) -> bool
-        ensures { result ≡ list_any (λ (att : header.Att). bytes_eq att.name name.now) self.now }
+        ensures { result ≡ has_name name.now self.now }
     {
         self.names.contains(name)
     }
 
-    /// Adds an attribute at the end.
+    /// Adds an attribute at the end, if no other one has its name, and returns true if so.
     ///
     /// # Errors
     ///
     /// A growth was refused. Then the attributes are what they were.
-    pub fn add(&mut self, alloc: Global, att: Att) -> Result<(), AllocError>
-        ensures ok { OnOk result (self.new ≡ self.old ++ att ∷ []) }
+    pub fn add(&mut self, alloc: Global, att: Att) -> Result<bool, AllocError>
+        ensures new { IfOk result (λ added. added ≡ not (has_name att.name self.old)) }
+        ensures atts { IfOk result (λ added. self.new ≡ with_att added self.old att) }
         ensures err { OnErr result (self.new ≡ self.old) }
     {
         let name = Vec::from_slice(alloc, att.name.as_slice())?;
         self.list.push(att)?;
-        match self.names.insert(name) {
-            Ok(_) => Ok(()),
-            Err(refused) => {
+        let added = self.names.insert(name);
+        match added {
+            Ok(true) => {}
+            _ => {
                 self.list.pop();
-                Err(refused.into())
             }
         }
+        Ok(added?)
     }
 
     /// The attributes as a list, without a copy.

@@ -1,14 +1,11 @@
 //! The data section.
 
-ghost use Rattle.std.specs.Prelude.{◌≡◌, ◌<◌, ◌^◌, length, List, [], IfOk, true, false, replicate, slice_set};
-ghost use Rattle.nc_base.specs.declared.header.Var.{Var};
-ghost use Rattle.cdl_text.specs.Cutters.{Follows, SameText, is_done, text_of, words};
+ghost use Rattle.std.specs.Prelude.{◌≡◌, [], IfOk, true, false, replicate, slice_set};
+ghost use Rattle.cdl_text.specs.Cutters.{Follows, SameText, is_done, words};
 ghost use Rattle.cdl_text.specs.declared.section.Section.TheVariants.{Values};
 ghost use Rattle.cdl_meaning.specs.State.{State};
-ghost use Rattle.cdl_values.specs.Listed.{fresh};
-ghost use Rattle.cdl_values.specs.Meant.{Suit, begins_brace, names_of};
-ghost use Rattle.cdl_values.specs.NameIndices.{IsIndex};
-ghost use Rattle.cdl_parse.specs.DataSections.{Closes, ReadsData, ReadsOne, IsInDataSection, given_at};
+ghost use Rattle.cdl_values.specs.Meant.{begins_brace};
+ghost use Rattle.cdl_parse.specs.DataSections.{Closes, ReadsDataSection, ReadsNext, given_at};
 
 use crate::parse_error::ParseError;
 use crate::statement::pass;
@@ -26,6 +23,14 @@ pub struct DataSection<'a> {
     pub rest: Cutter<'a>,
     /// The closing brace stood at its end; else no statement is left.
     pub is_closed: bool,
+}
+
+/// What the variables take of the data section, and what it has listed of them so far.
+#[derive(Drop)]
+struct Listings {
+    targets: Vec<Target>,
+    /// For each variable the listed values.
+    arrays: Vec<ListedArray>,
 }
 
 /// A statement of the data section that was read.
@@ -52,27 +57,27 @@ pub fn read_data<'a>(
     targets: Vec<Target>,
     start: Cutter<'a>,
 ) -> Result<DataSection<'a>, ParseError>
-    ensures reads { (vars : List Var) (s : State) → s.section ≡ Values → IsIndex names.now (names_of s.drafts) → Suit s.dims targets.items s.drafts → s.drafts ≡ fresh vars → length (text_of start.entry) < 2 ^ 63 → ReadsData vars start.entry s result }
+    ensures reads { ReadsDataSection start.entry names.now targets.items result }
     ensures ends { IfOk result (λ d. d.is_closed ≡ false → is_done d.rest ≡ true) }
     ensures same { IfOk result (λ d. SameText start.entry d.rest) }
 {
-    let mut targets = targets;
-    let mut arrays = without_values(alloc, targets.len())?;
+    let arrays = without_values(alloc, targets.len())?;
+    let mut listings = Listings { targets, arrays };
     let mut cutter = start;
     'statements: loop {
         if cutter.is_done() {
             return Ok(DataSection {
-                arrays,
+                arrays: listings.arrays,
                 rest: cutter,
                 is_closed: false,
             });
         }
-        match read_one(alloc, names, &mut targets, &mut arrays, cutter) {
+        match read_one(alloc, names, &mut listings, cutter) {
             Ok(passed) => {
                 cutter = passed.rest;
                 if passed.is_brace {
                     return Ok(DataSection {
-                        arrays,
+                        arrays: listings.arrays,
                         rest: cutter,
                         is_closed: true,
                     });
@@ -98,20 +103,19 @@ pub fn without_values(alloc: Global, count: usize) -> Result<Vec<ListedArray>, A
 fn read_one<'a>(
     alloc: Global,
     names: &NameIndex,
-    targets: &mut Vec<Target>,
-    arrays: &mut Vec<ListedArray>,
+    listings: &mut Listings,
     start: Cutter<'a>,
 ) -> Result<Passed<'a>, ReadError>
     requires { is_done start ≡ false }
-    ensures reads { (vars : List Var) (s : State) → IsIndex names.now (names_of s.drafts) → IsInDataSection vars targets.old.items arrays.old.items s → length (text_of start.entry) < 2 ^ 63 → ReadsOne vars start.entry s targets.new.items arrays.new.items result }
+    ensures reads { ReadsNext start.entry names.now listings.old listings.new result }
     ensures rest { IfOk result (λ passed. Follows start.entry passed.rest) }
 {
     if start.lexeme().is_mark(b'}') {
         return close(start);
     }
-    let given = read(alloc, names, targets, start)?;
-    store(arrays, given.position, given.array);
-    mark_given(targets, given.position);
+    let given = read(alloc, names, &listings.targets, start)?;
+    store(&mut listings.arrays, given.position, given.array);
+    mark_given(&mut listings.targets, given.position);
     Ok(Passed {
         is_brace: false,
         rest: given.rest,

@@ -1,23 +1,20 @@
 //! The statement that declares variables.
 
-ghost use Rattle.std.specs.Prelude.{◌≡◌, List, ◌++◌, ◌∷◌, [], ◌&&◌, ◌||◌, not, drop, false, true, IfOk, Ok};
+ghost use Rattle.std.specs.Prelude.{◌≡◌, drop, false, true, IfOk};
 ghost use Rattle.std.specs.List.{find};
-ghost use Rattle.nc_base.specs.declared.header.Dim as header;
-ghost use Rattle.nc_base.specs.declared.nc_type.NcType as types;
-ghost use Rattle.cdl_text.specs.Contents.{Declaration, with_name};
-ghost use Rattle.cdl_text.specs.Cutters.{is_done, version_of, words};
+ghost use Rattle.cdl_text.specs.Cutters.{is_done, words};
 ghost use Rattle.cdl_text.specs.DueTokens.{completes};
-ghost use Rattle.cdl_text.specs.Lexemes as lexemes;
 ghost use Rattle.cdl_tokens.specs.Escapes.{word_value};
-ghost use Rattle.cdl_text.specs.Lexemes.{is_mark, is_mark_kind};
+ghost use Rattle.cdl_text.specs.Lexemes.{is_mark_kind};
 ghost use Rattle.cdl_text.specs.Views.{lexeme_of};
 ghost use Rattle.cdl_text.specs.declared.due.Due.TheVariants.{VariableName};
-ghost use Rattle.cdl_meaning.specs.State.{Draft, is_word_of, type_of};
-ghost use Rattle.cdl_values.specs.Answers.{Continues, Gives, Leaves};
-ghost use Rattle.cdl_parse.specs.Declarations.{added, continued, declared, new_variable, next_dimid, read_on};
-ghost use Rattle.cdl_parse.specs.Drafts.{draft, is_taken};
+ghost use Rattle.cdl_meaning.specs.State.{is_word_of, type_of};
+ghost use Rattle.cdl_values.specs.Answers.{Gives, Leaves};
+ghost use Rattle.cdl_parse.specs.Declarations.{added, declared_by, is_open_after, next_dimid, with_begun};
+ghost use Rattle.cdl_parse.specs.Declarations.{Begins, PassesMark, ReadsDimension, ReadsToken};
 
 use crate::dimensions::Dimensions;
+use crate::taken_name::after_name;
 use crate::variables::Variables;
 use cdl_text::{CdlKind, Cutter, Lexeme};
 use cdl_tokens::TokenKind;
@@ -28,6 +25,7 @@ use std::alloc::{AllocError, Global};
 /// A variable as far as its declaration is read.
 #[derive(Drop)]
 struct Begun {
+    ty: NcType,
     name: Vec<u8>,
     /// The positions of its dimensions.
     dimids: Vec<u64>,
@@ -54,7 +52,7 @@ pub fn read_declaration(
 ) -> Result<(), ReadError>
     requires more { is_done start ≡ false }
     requires shaped { completes VariableName (drop 1 (words start)) ≡ true }
-    ensures { Leaves variables.new result (declared (version_of start.entry) dims.now variables.old (words start.entry)) }
+    ensures { Leaves variables.new result (declared_by start.entry dims.now variables.old) }
 {
     let ty = type_of_word(start.version(), start.lexeme())?;
     let (names, _) = start.advanced();
@@ -103,41 +101,30 @@ fn read_variables(
     requires shaped { completes VariableName (words start) ≡ true }
     ensures { Leaves variables.new result (added dims.now ty variables.old (words start.entry)) }
 {
-    let mut begun = begin(alloc, variables, start.lexeme())?;
+    let mut begun = begin(alloc, ty, start.lexeme())?;
     let (mut cutter, _) = start.advanced();
     'tokens: loop {
         let token = cutter.lexeme();
         let ends = cutter.advance();
-        begun = read_on(alloc, dims, variables, ty, begun, token)?;
+        begun = read_on(alloc, dims, variables, begun, token)?;
         if ends {
-            return put(alloc, variables, ty, begun);
+            return put(alloc, variables, begun);
         }
     }
 }
 
-/// Begins the variable whose name a token is.
-fn begin(alloc: Global, variables: &Variables, token: Lexeme<'_>) -> Result<Begun, ReadError>
+/// Begins the variable of this type whose name a token is.
+fn begin(alloc: Global, ty: NcType, token: Lexeme<'_>) -> Result<Begun, ReadError>
     requires { is_mark_kind token.kind ≡ false }
-    ensures reads { (dims : List header.Dim) (ty : types.NcType) (ls : List lexemes.Lexeme) → Continues (λ (b : Begun). read_on dims ty variables.now b ls) result (added dims ty variables.now (lexeme_of token.entry ∷ ls)) }
-    ensures new { IfOk result (λ (b : Begun). is_taken b.name.items variables.now ≡ false) }
+    ensures { Begins ty (lexeme_of token.entry) result }
 {
-    let name = new_variable(alloc, variables, token.bytes)?;
+    let name = read_name(alloc, token.bytes)?;
     Ok(Begun {
+        ty,
         name,
         dimids: Vec::new(alloc),
         is_open: false,
     })
-}
-
-/// The name that a word stands for, where a new variable may have it.
-fn new_variable(alloc: Global, variables: &Variables, word: &[u8]) -> Result<Vec<u8>, ReadError>
-    ensures { Gives (λ name. name.items) result (new_variable variables.now (word_value word.now)) }
-{
-    let name = read_name(alloc, word)?;
-    if variables.has_name(name.as_slice()) {
-        return Err(ReadError::Fault(CdlKind::DuplicateName));
-    }
-    Ok(name)
 }
 
 /// Reads a token after a variable's name: a mark, the name of one of its dimensions, or that of the next variable.
@@ -145,20 +132,18 @@ fn read_on(
     alloc: Global,
     dims: &Dimensions,
     variables: &mut Variables,
-    ty: NcType,
     begun: Begun,
     token: Lexeme<'_>,
 ) -> Result<Begun, ReadError>
-    requires { is_taken begun.name.items variables.old ≡ false }
-    ensures reads { (ls : List lexemes.Lexeme) → Continues (λ (b : Begun). read_on dims.now ty variables.new b ls) result (read_on dims.now ty variables.old begun (lexeme_of token.entry ∷ ls)) }
-    ensures new { IfOk result (λ (b : Begun). is_taken b.name.items variables.new ≡ false) }
+    ensures { ReadsToken dims.now variables.old variables.new begun (lexeme_of token.entry) result }
 {
     match token.kind {
         TokenKind::Mark => Ok(over_mark(begun, token)),
-        _ if begun.is_open => with_dimension(alloc, dims, begun, token.bytes),
+        _ if begun.is_open => with_dimension(alloc, dims, variables, begun, token.bytes),
         _ => {
-            put(alloc, variables, ty, begun)?;
-            begin(alloc, variables, token)
+            let ty = begun.ty;
+            put(alloc, variables, begun)?;
+            begin(alloc, ty, token)
         }
     }
 }
@@ -166,15 +151,16 @@ fn read_on(
 /// The variable after a mark, which may open or close a parenthesis.
 fn over_mark(begun: Begun, mark: Lexeme<'_>) -> Begun
     requires { is_mark_kind mark.kind ≡ true }
-    ensures reads { (dims : List header.Dim) (ty : types.NcType) (drafts : List Draft) (ls : List lexemes.Lexeme) → read_on dims ty drafts begun (lexeme_of mark.entry ∷ ls) ≡ read_on dims ty drafts result ls }
-    ensures name { result.name.items ≡ begun.name.items }
+    ensures { PassesMark begun (lexeme_of mark.entry) result }
 {
     let Begun {
+        ty,
         name,
         dimids,
         is_open,
     } = begun;
     Begun {
+        ty,
         name,
         dimids,
         is_open: is_open_after(is_open, mark),
@@ -183,28 +169,36 @@ fn over_mark(begun: Begun, mark: Lexeme<'_>) -> Begun
 
 /// Says whether a parenthesis is open after a mark, before which one is open or not.
 fn is_open_after(is_open: bool, mark: Lexeme<'_>) -> bool
-    ensures { result ≡ (is_mark 0x28 (lexeme_of mark.entry) || is_open && not (is_mark 0x29 (lexeme_of mark.entry))) }
+    ensures { result ≡ is_open_after is_open (lexeme_of mark.entry) }
 {
     mark.is_mark(b'(') || is_open && !mark.is_mark(b')')
 }
 
 /// The variable with the dimension that a word names, after its others.
+///
+/// # Errors
+///
+/// The name of another variable (`DuplicateName`), or the fault of the dimension. Or a growth was refused.
 fn with_dimension(
     alloc: Global,
     dims: &Dimensions,
+    variables: &Variables,
     mut begun: Begun,
     word: &[u8],
 ) -> Result<Begun, ReadError>
     requires { begun.is_open ≡ true }
-    ensures reads { (ty : types.NcType) (drafts : List Draft) (rest : Declaration) → Continues (λ (b : Begun). continued dims.now ty drafts b.name.items b.dimids.items rest) result (continued dims.now ty drafts begun.name.items begun.dimids.items (with_name true (word_value word.now) rest)) }
-    ensures name { IfOk result (λ (b : Begun). b.name.items ≡ begun.name.items) }
-    ensures is_open { IfOk result (λ (b : Begun). b.is_open ≡ true) }
+    ensures reads { ReadsDimension dims.now variables.now begun word.now result }
+    ensures is_open { IfOk result (λ b. b.is_open ≡ true) }
 {
-    let dimid = dimid_of_word(alloc, dims, begun.dimids.as_slice(), word)?;
-    if let Err(refused) = begun.dimids.push(dimid) {
-        return Err(AllocError::from(refused).into());
+    match dimid_of_word(alloc, dims, begun.dimids.as_slice(), word) {
+        Ok(dimid) => {
+            if let Err(refused) = begun.dimids.push(dimid) {
+                return Err(AllocError::from(refused).into());
+            }
+            Ok(begun)
+        }
+        Err(e) => Err(after_name(variables.has_name(begun.name.as_slice()), e)),
     }
-    Ok(begun)
 }
 
 /// The position of the dimension that a word names, for a shape that has these dimensions before it.
@@ -237,15 +231,21 @@ fn next_dimid(dims: &Dimensions, before: &[u64], name: &[u8]) -> Result<u64, Cdl
 }
 
 /// Adds a variable whose declaration is read.
-fn put(alloc: Global, variables: &mut Variables, ty: NcType, begun: Begun) -> Result<(), ReadError>
-    requires { is_taken begun.name.items variables.old ≡ false }
-    ensures { Leaves variables.new result (Ok (variables.old ++ draft begun.name.items begun.dimids.items ty [] ∷ [])) }
+///
+/// # Errors
+///
+/// The name of another variable (`DuplicateName`). Or a growth was refused.
+fn put(alloc: Global, variables: &mut Variables, begun: Begun) -> Result<(), ReadError>
+    ensures { Leaves variables.new result (with_begun variables.old begun) }
 {
     let Begun {
+        ty,
         name,
         dimids,
         is_open: _,
     } = begun;
-    variables.add(alloc, name, dimids, ty)?;
+    if !variables.add(alloc, name, dimids, ty)? {
+        return Err(ReadError::Fault(CdlKind::DuplicateName));
+    }
     Ok(())
 }

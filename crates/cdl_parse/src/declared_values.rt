@@ -1,12 +1,12 @@
 //! What a text declares.
 
-ghost use Rattle.std.specs.Prelude.{◌≡◌, ◌++◌, ◌<◌, ◌≤◌, ◌^◌, ℕ, List, IfOk, OnOk, SomeIff, length, replicate};
+ghost use Rattle.std.specs.Prelude.{◌≡◌, ◌++◌, IfOk, OnOk, SomeIff, replicate};
 ghost use Rattle.std.specs.List.{concat};
 ghost use Rattle.nc_base.specs.Fill.{fill_value};
 ghost use Rattle.nc_base.specs.Headers.{value_count};
 ghost use Rattle.nc_base.specs.Numbers.{bytes_of_number};
-ghost use Rattle.nc_base.specs.OwedValues.{fills, owed_count, whole_array, whole_arrays};
-ghost use Rattle.nc_base.specs.Sizes.{slab_limit, slab_of};
+ghost use Rattle.nc_base.specs.OwedValues.{fills, whole_array, whole_arrays};
+ghost use Rattle.cdl_parse.specs.OwedCounts.{CountsOwed, HasSmallSlab};
 
 use cdl_values::put_number;
 use nc_base::{Dataset, Dim, Header, ListedArray, Sequence, Var, fill_of, is_record_var, slab_of};
@@ -102,7 +102,7 @@ fn filled(
 /// How many values a variable lacks of which `len` bytes are listed. None, where its slab passes 2^48 bytes, or where 2^64
 /// values or more are lacking.
 fn owed_count(dims: &[Dim], var: &Var, records: u64, len: u128) -> Option<u64>
-    ensures { (listed : List ℕ) → length listed ≡ len → SomeIff result ((slab_of dims.now var.now.dimids var.now.ty ≤ slab_limit) × (owed_count dims.now records var.now listed < 2 ^ 64)) (owed_count dims.now records var.now listed) }
+    ensures { CountsOwed dims.now var.now records len result }
 {
     let count = value_count(dims, var, records)?;
     let owed = count.saturating_sub(len / var.ty.size() as u128);
@@ -111,7 +111,7 @@ fn owed_count(dims: &[Dim], var: &Var, records: u64, len: u128) -> Option<u64>
 
 /// How many values a variable has over `records` records. None, where its slab passes 2^48 bytes.
 fn value_count(dims: &[Dim], var: &Var, records: u64) -> Option<u128>
-    ensures { SomeIff result (slab_of dims.now var.now.dimids var.now.ty ≤ slab_limit) (value_count dims.now var.now records) }
+    ensures { SomeIff result (HasSmallSlab dims.now var.now) (value_count dims.now var.now records) }
 {
     let slab = slab_of(dims, var.dimids.as_slice(), var.ty)?;
     let count = (slab / var.ty.size()) as u128;

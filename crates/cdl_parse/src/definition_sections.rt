@@ -1,11 +1,11 @@
 //! The sections before the data section.
 
 ghost use Rattle.std.specs.Prelude.{◌≡◌, IfOk, false};
-ghost use Rattle.cdl_text.specs.Cutters.{SameText, is_done, pieces_left, text_of, version_of};
-ghost use Rattle.cdl_meaning.specs.Meaning.{empty, run};
+ghost use Rattle.cdl_text.specs.Cutters.{SameText, is_done};
+ghost use Rattle.cdl_meaning.specs.Meaning.{empty};
 ghost use Rattle.cdl_values.specs.Listed.{AreShaped};
-ghost use Rattle.cdl_parse.specs.Defined.{is_early, state_of};
-ghost use Rattle.cdl_parse.specs.Runs.{ReadsOn};
+ghost use Rattle.cdl_parse.specs.Defined.{is_early, run_past};
+ghost use Rattle.cdl_parse.specs.Runs.{ReadsOn, run_from};
 
 use crate::definitions::Definitions;
 use crate::parse_error::ParseError;
@@ -26,7 +26,7 @@ pub struct Defined<'a> {
 ///
 /// The fault of the first bad statement, with its line; or a growth was refused.
 pub fn read_definitions<'a>(alloc: Global, start: Cutter<'a>) -> Result<Defined<'a>, ParseError>
-    ensures reads { ReadsOn (λ d. run (text_of start.entry) (version_of start.entry) (state_of d.definitions) (pieces_left d.rest)) result (run (text_of start.entry) (version_of start.entry) empty (pieces_left start.entry)) }
+    ensures reads { ReadsOn (run_past start.entry) result (run_from start.entry empty) }
     ensures shaped { IfOk result (λ d. AreShaped d.definitions.dims d.definitions.variables) }
     ensures ends { IfOk result (λ d. is_done d.rest ≡ false → is_early d.definitions.section ≡ false) }
     ensures same { IfOk result (λ d. SameText start.entry d.rest) }

@@ -1,8 +1,7 @@
 //! What a text declares before its data section.
 
 ghost use Rattle.std.specs.Prelude.{◌≡◌, IfOk, false, true};
-ghost use Rattle.cdl_text.specs.Contents.{statement_said};
-ghost use Rattle.cdl_text.specs.Cutters.{Follows, is_done, next_token, text_of, version_of, words};
+ghost use Rattle.cdl_text.specs.Cutters.{Follows, is_done, next_token, text_of, words};
 ghost use Rattle.cdl_text.specs.DueTokens.{completes};
 ghost use Rattle.cdl_text.specs.Lexemes.{is_mark, lexeme};
 ghost use Rattle.cdl_text.specs.Shapes.{section_of};
@@ -32,9 +31,8 @@ pub struct Definitions {
 }
 
 impl Definitions {
-    ghost use Rattle.cdl_meaning.specs.Meaning.{empty, piece_read};
-    ghost use Rattle.cdl_meaning.specs.State.{act};
-    ghost use Rattle.cdl_parse.specs.Defined.{Makes, after_mark, is_defining, is_early, state_of};
+    ghost use Rattle.cdl_meaning.specs.Meaning.{empty};
+    ghost use Rattle.cdl_parse.specs.Defined.{Makes, after_mark, after_statement, is_defining, is_early, said_by, state_of};
 
     /// What stands before the first statement: nothing. It takes no memory.
     pub fn new(alloc: Global) -> Definitions
@@ -60,7 +58,7 @@ impl Definitions {
     ) -> Result<Cutter<'a>, ReadError>
         requires more { is_done start ≡ false }
         requires early { is_early self.old.section ≡ true }
-        ensures makes { Makes (state_of self.new) result (piece_read (version_of start.entry) (state_of self.old) (words start.entry)) }
+        ensures makes { Makes (state_of self.new) result (after_statement start.entry (state_of self.old)) }
         ensures rest { IfOk result (λ c. Follows start.entry c) }
     {
         let rest = pass(start, self.section)?;
@@ -73,7 +71,7 @@ impl Definitions {
         requires more { is_done start ≡ false }
         requires early { is_early self.old.section ≡ true }
         requires whole { completes (First self.old.section) (words start) ≡ true }
-        ensures { Makes (state_of self.new) result (act (version_of start.entry) (state_of self.old) (statement_said (version_of start.entry) self.old.section (words start.entry))) }
+        ensures { Makes (state_of self.new) result (said_by start.entry self.old.section self.old) }
     {
         match self.section {
             Section::Unopened => {
@@ -89,7 +87,7 @@ impl Definitions {
         requires more { is_done start ≡ false }
         requires defining { is_defining self.old.section ≡ true }
         requires whole { completes (First self.old.section) (words start) ≡ true }
-        ensures { Makes (state_of self.new) result (act (version_of start.entry) (state_of self.old) (statement_said (version_of start.entry) self.old.section (words start.entry))) }
+        ensures { Makes (state_of self.new) result (said_by start.entry self.old.section self.old) }
     {
         let first = start.lexeme();
         if first.is_mark(b'}') {
@@ -127,7 +125,7 @@ impl Definitions {
         requires brace { is_mark 0x7d (lexeme (text_of start) (next_token start)) ≡ false }
         requires colon { is_mark 0x3a (lexeme (text_of start) (next_token start)) ≡ false }
         requires whole { completes (First Section.Dimensions) (words start) ≡ true }
-        ensures { Makes (state_of self.new) result (act (version_of start.entry) (state_of self.old) (statement_said (version_of start.entry) Section.Dimensions (words start.entry))) }
+        ensures { Makes (state_of self.new) result (said_by start.entry Section.Dimensions self.old) }
     {
         let word = start.lexeme();
         if word.goes_to(Section::Dimensions) {
@@ -145,7 +143,7 @@ impl Definitions {
         requires brace { is_mark 0x7d (lexeme (text_of start) (next_token start)) ≡ false }
         requires colon { is_mark 0x3a (lexeme (text_of start) (next_token start)) ≡ false }
         requires whole { completes (First Section.Variables) (words start) ≡ true }
-        ensures { Makes (state_of self.new) result (act (version_of start.entry) (state_of self.old) (statement_said (version_of start.entry) Section.Variables (words start.entry))) }
+        ensures { Makes (state_of self.new) result (said_by start.entry Section.Variables self.old) }
     {
         let word = start.lexeme();
         let (second, _) = start.advanced();

@@ -1,23 +1,21 @@
 //! The statement of dimensions.
 
-ghost use Rattle.std.specs.Prelude.{◌≡◌, ◌<◌, ◌∷◌, ◌++◌, [], List, map, None, Ok, false, true, if◌then◌else◌};
-ghost use Rattle.nc_base.specs.Headers.{has_record_dim};
-ghost use Rattle.nc_base.specs.declared.header.Dim as header;
-ghost use Rattle.cdl_text.specs.Contents.{dimension_said, dimensions_said, is_unlimited, length_said};
-ghost use Rattle.cdl_text.specs.Cutters.{SameText, is_done, offset_of, version_of, words};
+ghost use Rattle.std.specs.Prelude.{◌≡◌, ◌<◌, false, true};
+ghost use Rattle.cdl_text.specs.Contents.{is_unlimited, length_said};
+ghost use Rattle.cdl_text.specs.Cutters.{SameText, is_done, offset_of, words};
 ghost use Rattle.cdl_text.specs.DueTokens.{completes};
-ghost use Rattle.cdl_tokens.specs.Escapes.{word_value};
 ghost use Rattle.cdl_text.specs.Views.{lexeme_of};
 ghost use Rattle.cdl_text.specs.declared.due.Due.TheVariants.{DimensionName};
-ghost use Rattle.cdl_meaning.specs.State.{add_dim, dim_len_of, in_turn};
-ghost use Rattle.cdl_values.specs.Answers.{Gives, Leaves};
-ghost use Rattle.cdl_values.specs.NameIndices.{position_of};
-ghost use Rattle.cdl_parse.specs.DimensionLengths.{named};
+ghost use Rattle.cdl_values.specs.Answers.{Leaves};
+ghost use Rattle.cdl_parse.specs.DimensionLengths.{IsLength};
+ghost use Rattle.cdl_parse.specs.DimensionNames.{with_new_dim};
+ghost use Rattle.cdl_parse.specs.DimensionStatements.{BeginsWith, dim_read, dims_read};
 
 use crate::dimension::dim_len;
 use crate::dimensions::Dimensions;
+use crate::taken_name::after_name;
 use cdl_text::{CdlKind, Cutter, Lexeme};
-use cdl_values::{ReadError, name_of_word, number_or_zero};
+use cdl_values::{ReadError, number_or_zero, read_name};
 use nc_base::{Dim, Sequence, Version};
 use std::alloc::Global;
 
@@ -48,7 +46,7 @@ pub fn read_dimensions(
 ) -> Result<(), ReadError>
     requires more { is_done start ≡ false }
     requires shaped { completes DimensionName (words start) ≡ true }
-    ensures { Leaves dims.new result (in_turn (add_dim (version_of start.entry)) dims.old (dimensions_said (version_of start.entry) (words start.entry))) }
+    ensures { Leaves dims.new result (dims_read start.entry dims.old) }
 {
     let version = start.version();
     let mut cutter = start;
@@ -67,7 +65,7 @@ fn next_dimension(start: Cutter<'_>) -> NextDimension<'_>
     requires more { is_done start ≡ false }
     requires shaped { completes DimensionName (words start) ≡ true }
     ensures same { SameText start.entry result.rest }
-    ensures said { dimensions_said (version_of start.entry) (words start.entry) ≡ dimension_said (version_of start.entry) (lexeme_of result.name) (lexeme_of result.length) ∷ (if result.ends then [] else dimensions_said (version_of start.entry) (words result.rest)) }
+    ensures said { BeginsWith start.entry result }
     ensures moves { result.ends ≡ false → offset_of start.entry < offset_of result.rest }
     ensures goes { result.ends ≡ false → is_done result.rest ≡ false }
     ensures shaped { result.ends ≡ false → completes DimensionName (words result.rest) ≡ true }
@@ -92,25 +90,21 @@ fn add_dimension(
     name: Lexeme<'_>,
     length: Lexeme<'_>,
 ) -> Result<(), ReadError>
-    ensures { Leaves dims.new result (add_dim version dims.old (dimension_said version (lexeme_of name.entry) (lexeme_of length.entry))) }
+    ensures { Leaves dims.new result (dim_read version name.entry length.entry dims.old) }
 {
-    let name = new_name(alloc, dims, name.bytes)?;
-    let len = len_said(version, dims.has_record(), length)?;
-    push(alloc, dims, name, len)
-}
-
-/// The name that a word stands for, where a new dimension may have it.
-fn new_name(alloc: Global, dims: &Dimensions, word: &[u8]) -> Result<Vec<u8>, ReadError>
-    ensures { Gives (λ name. name.items) result (named dims.now (word_value word.now)) }
-{
-    let name = name_of_word(alloc, word)?;
-    dims.check_new(name.as_slice())?;
-    Ok(name)
+    let name = read_name(alloc, name.bytes)?;
+    match len_said(version, dims.has_record(), length) {
+        Ok(len) => push(alloc, dims, name, len),
+        Err(kind) => {
+            let is_taken = dims.has_name(name.as_slice());
+            Err(after_name(is_taken, ReadError::Fault(kind)))
+        }
+    }
 }
 
 /// The length that a token says, 0 for the record dimension.
 fn len_said(version: Version, has_record: bool, length: Lexeme<'_>) -> Result<u64, CdlKind>
-    ensures { (dims : List header.Dim) → has_record ≡ has_record_dim dims → result ≡ dim_len_of version dims (length_said version (lexeme_of length.entry)) }
+    ensures { IsLength version has_record (length_said version (lexeme_of length.entry)) result }
 {
     if is_unlimited(length) {
         return dim_len(version, has_record, None);
@@ -130,14 +124,19 @@ fn is_unlimited(length: Lexeme<'_>) -> bool
 }
 
 /// Adds the dimension of this name and length.
+///
+/// # Errors
+///
+/// The name of another dimension (`DuplicateName`). Or a growth was refused.
 fn push(alloc: Global, dims: &mut Dimensions, name: Vec<u8>, len: u64) -> Result<(), ReadError>
-    requires { position_of (map (λ (d : header.Dim). d.name) dims.old) name.items ≡ None }
-    ensures { Leaves dims.new result (Ok (dims.old ++ record { name = name.items; len = len } ∷ [])) }
+    ensures { Leaves dims.new result (with_new_dim dims.old name.items len) }
 {
     let dim = Dim {
         name: Sequence::from_vec(name),
         len,
     };
-    dims.add(alloc, dim)?;
+    if !dims.add(alloc, dim)? {
+        return Err(ReadError::Fault(CdlKind::DuplicateName));
+    }
     Ok(())
 }

@@ -1,15 +1,12 @@
 //! The dimensions of a dataset.
 
-ghost use Rattle.std.specs.Prelude.{◌≡◌, ◌++◌, ◌∷◌, [], None, OnErr, OnOk, map};
+ghost use Rattle.std.specs.Prelude.{◌≡◌, [], IfOk, OnErr, not};
 ghost use Rattle.std.specs.List.{position};
 ghost use Rattle.std.specs.Str.{bytes_eq};
 ghost use Rattle.nc_base.specs.Headers.{has_record_dim};
 ghost use Rattle.nc_base.specs.declared.header.Dim as header;
-ghost use Rattle.cdl_values.specs.NameIndices.{position_of};
-ghost use Rattle.cdl_parse.specs.DimensionLengths.{new_name};
+ghost use Rattle.cdl_parse.specs.DimensionNames.{is_taken, with_dim};
 
-use crate::dimension::check_new;
-use cdl_text::CdlKind;
 use cdl_values::NameIndex;
 use nc_base::{Dim, Sequence};
 use std::alloc::{AllocError, Global};
@@ -26,16 +23,16 @@ pub struct Dimensions {
 }
 
 impl Model for Dimensions {
-    ghost use Rattle.std.specs.Prelude.{List, ◌≡◌, map};
+    ghost use Rattle.std.specs.Prelude.{List, ◌≡◌};
     ghost use Rattle.nc_base.specs.Headers.{has_record_dim};
     ghost use Rattle.nc_base.specs.declared.header.Dim.{Dim};
-    ghost use Rattle.cdl_values.specs.NameIndices.{IsIndex};
+    ghost use Rattle.cdl_parse.specs.DimensionNames.{dim_names};
 
     ghost Value = { List Dim };
 
     ghost view = { λ dims. dims.list.items };
 
-    ghost invariant = { λ dims. IsIndex dims.names (map (λ (d : Dim). d.name) dims.list.items) × (dims.has_record ≡ has_record_dim dims.list.items) };
+    ghost invariant = { λ dims. (dims.names ≡ dim_names dims.list.items) × (dims.has_record ≡ has_record_dim dims.list.items) };
 }
 
 impl Dimensions {
@@ -71,41 +68,34 @@ impl Dimensions {
         self.names.find(name)
     }
 
-    /// Checks that a new dimension may have this name.
-    ///
-    /// # Errors
-    ///
-    /// A name that the format doesn't allow (`BadName`); or the name of another dimension (`DuplicateName`).
-    pub fn check_new(&self, name: &[u8]) -> Result<(), CdlKind>
-        ensures { result ≡ new_name self.now name.now }
+    /// Says whether one of the dimensions has the name.
+    pub fn has_name(&self, name: &[u8]) -> bool
+        ensures { result ≡ is_taken name.now self.now }
     {
-        check_new(&self.names, name)
+        self.position(name).is_some()
     }
 
-    /// Adds a dimension at the end, whose name no other one has.
+    /// Adds a dimension at the end, if no other one has its name, and returns true if so.
     ///
     /// # Errors
     ///
     /// A growth was refused. Then the dimensions are what they were.
-    pub fn add(&mut self, alloc: Global, dim: Dim) -> Result<(), AllocError>
-        requires { position_of (map (λ (d : header.Dim). d.name) self.old) dim.name ≡ None }
-        ensures ok { OnOk result (self.new ≡ self.old ++ dim ∷ []) }
+    pub fn add(&mut self, alloc: Global, dim: Dim) -> Result<bool, AllocError>
+        ensures new { IfOk result (λ added. added ≡ not (is_taken dim.name self.old)) }
+        ensures dims { IfOk result (λ added. self.new ≡ with_dim added self.old dim) }
         ensures err { OnErr result (self.new ≡ self.old) }
     {
         let name = Vec::from_slice(alloc, dim.name.as_slice())?;
         let has_record = self.has_record || dim.len == 0;
-        let position = self.list.len() as u64;
         self.list.push(dim)?;
-        match self.names.add(name, position) {
-            Ok(()) => {
-                self.has_record = has_record;
-                Ok(())
-            }
-            Err(refusal) => {
+        let added = self.names.add(name);
+        match added {
+            Ok(true) => self.has_record = has_record,
+            _ => {
                 self.list.pop();
-                Err(refusal)
             }
         }
+        added
     }
 
     /// The dimensions as a list, without a copy.

@@ -1,10 +1,7 @@
 //! The end of a text: the number of records, and the limits on sizes.
 
-ghost use Rattle.std.specs.Prelude.{◌≡◌, ℕ, IfSome, Ok};
-ghost use Rattle.cdl_meaning.specs.Meaning.{finished};
-ghost use Rattle.cdl_meaning.specs.State.{State};
-ghost use Rattle.cdl_values.specs.Listed.{AllList, AreShaped};
-ghost use Rattle.cdl_parse.specs.DeclaredDatasets.{or_too_large};
+ghost use Rattle.std.specs.Prelude.{◌≡◌, IfSome};
+ghost use Rattle.cdl_parse.specs.DeclaredDatasets.{Finishes};
 
 use crate::declared_values::Declared;
 use crate::records::records_of;
@@ -22,7 +19,7 @@ pub fn finish(
     vars: Sequence<Var>,
     listed: Vec<ListedArray>,
 ) -> Option<Declared>
-    ensures declares { (s : State) → s.dims ≡ dims → s.gatts ≡ gatts → AllList dims vars listed.items s.drafts → AreShaped dims s.drafts → (line : ℕ) → finished version line (Ok s) ≡ or_too_large line result }
+    ensures declares { Finishes version dims gatts vars listed.items result }
     ensures keeps { IfSome result (λ d. (d.listed ≡ listed.items) × (d.header.vars ≡ vars)) }
 {
     let records = records_of(dims.as_slice(), vars.as_slice(), listed.as_slice())?;

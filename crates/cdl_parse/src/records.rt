@@ -1,11 +1,8 @@
 //! The number of records that a text declares.
 
-ghost use Rattle.std.specs.Prelude.{◌≡◌, ◌<◌, All, List, Some};
+ghost use Rattle.std.specs.Prelude.{◌≡◌, ◌<◌};
 ghost use Rattle.nc_base.specs.Sizes.{slab_count};
-ghost use Rattle.nc_base.specs.declared.header.Var as header;
-ghost use Rattle.cdl_meaning.specs.State.{Draft};
-ghost use Rattle.cdl_values.specs.Listed.{AllList, AreShaped};
-ghost use Rattle.cdl_parse.specs.Extents.{records_for, records_kept, with_all};
+ghost use Rattle.cdl_parse.specs.Extents.{CountsRecords, HaveValues, extent_of, records_for};
 
 use nc_base::{Dim, ListedArray, Var, is_record_var, slab_of};
 
@@ -15,7 +12,7 @@ const ARRAY_LIMIT: u128 = 1 << 48;
 /// The number of records: as many as the record variable has that lists the most values. None, where a slab, or an array over
 /// that many records, passes 2^48 bytes.
 pub fn records_of(dims: &[Dim], vars: &[Var], listed: &[ListedArray]) -> Option<u64>
-    ensures { (drafts : List Draft) → AllList dims.now vars.now listed.now drafts → AreShaped dims.now drafts → result ≡ records_kept dims.now drafts }
+    ensures { CountsRecords dims.now vars.now listed.now result }
 {
     extent_of(dims, vars, listed)?.records()
 }
@@ -71,7 +68,7 @@ fn records_for(count: u64, n: u128) -> u128
 
 /// How far the values of all variables reach; None where a slab passes 2^48 bytes.
 fn extent_of(dims: &[Dim], vars: &[Var], listed: &[ListedArray]) -> Option<Extent>
-    ensures { All (λ (var : header.Var). 0 < slab_count dims.now var) vars.now → result ≡ with_all dims.now (Some (record { records = 0; widest = 0 })) vars.now listed.now }
+    ensures { HaveValues dims.now vars.now → result ≡ extent_of dims.now vars.now listed.now }
 {
     let mut extent = Extent {
         records: 0,

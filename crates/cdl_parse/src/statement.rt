@@ -1,7 +1,7 @@
 //! The shape of a statement.
 
 ghost use Rattle.std.specs.Prelude.{◌≡◌, IfOk, false, true};
-ghost use Rattle.cdl_text.specs.Cutters.{Follows, is_done, version_of, words};
+ghost use Rattle.cdl_text.specs.Cutters.{Follows, is_done, words};
 ghost use Rattle.cdl_text.specs.DueTokens.{completes};
 ghost use Rattle.cdl_text.specs.declared.due.Due.TheVariants.{First};
 ghost use Rattle.cdl_meaning.specs.State.{State};
@@ -16,7 +16,7 @@ use cdl_text::{CdlKind, Cutter, Section, look_over};
 /// The fault of the statement's first bad token or bad number; or `Syntax`, where it hasn't its shape.
 pub fn pass(start: Cutter<'_>, section: Section) -> Result<Cutter<'_>, CdlKind>
     requires { is_done start ≡ false }
-    ensures passes { (s : State) → s.section ≡ section → Passes (version_of start.entry) s (words start.entry) result }
+    ensures passes { (s : State) → s.section ≡ section → Passes start.entry s result }
     ensures whole { IfOk result (λ c. completes (First section) (words start.entry) ≡ true) }
     ensures rest { IfOk result (λ c. Follows start.entry c) }
 {

@@ -1,17 +1,12 @@
 //! A whole text.
 
-ghost use Rattle.std.specs.Prelude.{if◌then◌else◌, ◌≡◌, ◌<◌, ◌≤◌, ◌^◌, IfOk, Ok, false, length, true};
-ghost use Rattle.nc_base.specs.declared.header.Var as header;
-ghost use Rattle.cdl_text.specs.Cutters.{SameText, is_done, pieces_left, text_of, version_of};
-ghost use Rattle.cdl_meaning.specs.Meaning.{empty, meaning, run};
-ghost use Rattle.cdl_meaning.specs.State.{State};
-ghost use Rattle.cdl_values.specs.Listed.{AreShaped, fresh};
-ghost use Rattle.cdl_values.specs.Meant.{names_of};
-ghost use Rattle.cdl_values.specs.NameIndices.{IsIndex};
+ghost use Rattle.std.specs.Prelude.{if◌then◌else◌, ◌≡◌, ◌<◌, ◌^◌, IfOk, Ok, false, length, true};
+ghost use Rattle.cdl_text.specs.Cutters.{SameText, is_done, text_of};
+ghost use Rattle.cdl_meaning.specs.Meaning.{empty, meaning};
 ghost use Rattle.cdl_parse.specs.Defined.{is_early, is_past};
 ghost use Rattle.cdl_parse.specs.DeclaredDatasets.{dataset_of_declared};
-ghost use Rattle.cdl_parse.specs.Parsing.{Answers, ReadsAll, ReadsValues, as_dataset, fault_of};
-ghost use Rattle.cdl_parse.specs.Runs.{ReadsOn};
+ghost use Rattle.cdl_parse.specs.Parsing.{Answers, ReadsAll, ReadsAsDefined, as_dataset, fault_of};
+ghost use Rattle.cdl_parse.specs.Runs.{ReadsOn, run_from};
 
 use crate::closing::closing_line;
 use crate::data_section::{read_data, without_values};
@@ -108,7 +103,7 @@ struct Contents {
 
 /// Reads all statements of a text.
 fn read_contents(alloc: Global, start: Cutter<'_>) -> Result<Contents, ParseError>
-    ensures { length (text_of start.entry) < 2 ^ 63 → ReadsAll result (run (text_of start.entry) (version_of start.entry) empty (pieces_left start.entry)) }
+    ensures { length (text_of start.entry) < 2 ^ 63 → ReadsAll result (run_from start.entry empty) }
 {
     let Defined { definitions, rest } = read_definitions(alloc, start)?;
     let Definitions {
@@ -156,7 +151,7 @@ fn read_values<'a>(
     section: Section,
 ) -> Result<Values<'a>, ParseError>
     requires { is_done start ≡ false → is_early section ≡ false }
-    ensures reads { (s : State) → s.section ≡ section → s.dims ≡ dims.now → s.drafts ≡ fresh vars.now → IsIndex names.now (names_of s.drafts) → AreShaped s.dims s.drafts → length (text_of start.entry) < 2 ^ 63 → ReadsValues vars.now start.entry s result }
+    ensures reads { ReadsAsDefined start.entry dims.now vars.now names.now section result }
     ensures past { IfOk result (λ values. is_done values.rest ≡ false → is_past values.section ≡ true) }
     ensures same { IfOk result (λ values. SameText start.entry values.rest) }
 {
@@ -178,7 +173,7 @@ fn read_section<'a>(
     names: &NameIndex,
     start: Cutter<'a>,
 ) -> Result<Values<'a>, ParseError>
-    ensures reads { (s : State) → s.section ≡ Section.Values → s.dims ≡ dims.now → s.drafts ≡ fresh vars.now → IsIndex names.now (names_of s.drafts) → AreShaped s.dims s.drafts → length (text_of start.entry) < 2 ^ 63 → ReadsValues vars.now start.entry s result }
+    ensures reads { ReadsAsDefined start.entry dims.now vars.now names.now Section.Values result }
     ensures past { IfOk result (λ values. is_done values.rest ≡ false → is_past values.section ≡ true) }
     ensures same { IfOk result (λ values. SameText start.entry values.rest) }
 {

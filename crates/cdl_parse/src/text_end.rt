@@ -1,10 +1,10 @@
 //! The end of a text.
 
 ghost use Rattle.std.specs.Prelude.{◌≡◌, false, true};
-ghost use Rattle.cdl_text.specs.Cutters.{is_done, pieces_left, text_of, version_of};
-ghost use Rattle.cdl_meaning.specs.Meaning.{run};
+ghost use Rattle.cdl_text.specs.Cutters.{is_done};
 ghost use Rattle.cdl_meaning.specs.State.{State};
 ghost use Rattle.cdl_parse.specs.Defined.{EndsAs, is_past};
+ghost use Rattle.cdl_parse.specs.Runs.{run_from};
 
 use crate::statement::pass;
 use cdl_text::{CdlFault, Cutter, Section};
@@ -16,7 +16,7 @@ use cdl_text::{CdlFault, Cutter, Section};
 /// The fault of the first statement there, with its line.
 pub fn read_end(start: Cutter<'_>, section: Section) -> Result<(), CdlFault>
     requires { is_done start ≡ false → is_past section ≡ true }
-    ensures { (s : State) → s.section ≡ section → EndsAs s result (run (text_of start.entry) (version_of start.entry) s (pieces_left start.entry)) }
+    ensures { (s : State) → s.section ≡ section → EndsAs s result (run_from start.entry s) }
 {
     let mut cutter = start;
     let mut here = section;

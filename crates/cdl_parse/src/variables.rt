@@ -1,16 +1,14 @@
 //! The variables of a text.
 
-ghost use Rattle.std.specs.Prelude.{◌≡◌, ◌++◌, ◌∷◌, [], drop, false, true, IfOk, OnErr, OnOk, map};
-ghost use Rattle.cdl_text.specs.Cutters.{is_done, version_of, words};
+ghost use Rattle.std.specs.Prelude.{◌≡◌, [], drop, false, true, not, IfOk, OnErr, map};
+ghost use Rattle.cdl_text.specs.Cutters.{is_done, words};
 ghost use Rattle.cdl_text.specs.DueTokens.{completes};
 ghost use Rattle.cdl_text.specs.declared.due.Due.TheVariants.{AttributeName};
-ghost use Rattle.cdl_meaning.specs.State.{at_variable, with_att};
 ghost use Rattle.cdl_values.specs.Answers.{Leaves};
 ghost use Rattle.cdl_values.specs.Listed.{fresh};
-ghost use Rattle.cdl_values.specs.Meant.{name_first, names_of};
-ghost use Rattle.cdl_values.specs.NameIndices.{IsIndex};
-ghost use Rattle.cdl_parse.specs.AttributeRead.{constants_said};
-ghost use Rattle.cdl_parse.specs.Drafts.{draft, is_taken, var_of};
+ghost use Rattle.cdl_values.specs.Meant.{names_of};
+ghost use Rattle.cdl_parse.specs.AttributeRead.{variable_att_read};
+ghost use Rattle.cdl_parse.specs.Drafts.{is_taken, var_of, with_draft};
 
 use crate::attribute::read_attribute;
 use crate::attributes::Attributes;
@@ -41,18 +39,17 @@ pub struct Variables {
 }
 
 impl Model for Variables {
-    ghost use Rattle.std.specs.Prelude.{List};
+    ghost use Rattle.std.specs.Prelude.{List, ◌≡◌};
     ghost use Rattle.cdl_meaning.specs.State.{Draft};
 
     ghost Value = { List Draft };
 
     ghost use Rattle.cdl_values.specs.Meant.{names_of};
-    ghost use Rattle.cdl_values.specs.NameIndices.{IsIndex};
     ghost use Rattle.cdl_parse.specs.Drafts.{drafts_of};
 
     ghost view = { λ variables. drafts_of variables.list.items };
 
-    ghost invariant = { λ variables. IsIndex variables.names (names_of (drafts_of variables.list.items)) };
+    ghost invariant = { λ variables. variables.names ≡ names_of (drafts_of variables.list.items) };
 }
 
 impl Variables {
@@ -73,7 +70,7 @@ impl Variables {
         self.names.find(name).is_some()
     }
 
-    /// Adds a variable of a new name at the end, without attributes.
+    /// Adds a variable without attributes at the end, if no other one has its name, and returns true if so.
     ///
     /// # Errors
     ///
@@ -84,26 +81,26 @@ impl Variables {
         name: Vec<u8>,
         dimids: Vec<u64>,
         ty: NcType,
-    ) -> Result<(), AllocError>
-        requires { is_taken name.items self.old ≡ false }
-        ensures ok { OnOk result (self.new ≡ self.old ++ draft name.items dimids.items ty [] ∷ []) }
+    ) -> Result<bool, AllocError>
+        ensures new { IfOk result (λ added. added ≡ not (is_taken name.items self.old)) }
+        ensures drafts { IfOk result (λ a. self.new ≡ with_draft a self.old name.items dimids.items ty) }
         ensures err { OnErr result (self.new ≡ self.old) }
     {
         let key = Vec::from_slice(alloc, name.as_slice())?;
-        let position = self.list.len() as u64;
         self.list.push(Variable {
             name: Sequence::from_vec(name),
             dimids: Sequence::from_vec(dimids),
             ty,
             atts: Attributes::new(alloc),
         })?;
-        match self.names.add(key, position) {
-            Ok(()) => Ok(()),
-            Err(refusal) => {
+        let added = self.names.add(key);
+        match added {
+            Ok(true) => {}
+            _ => {
                 self.list.pop();
-                Err(refusal)
             }
         }
+        added
     }
 
     /// Reads an attribute of a variable, whose name is next, and adds it to the variable's others.
@@ -119,7 +116,7 @@ impl Variables {
     pub fn read_attribute(&mut self, alloc: Global, start: Cutter<'_>) -> Result<(), ReadError>
         requires more { is_done start ≡ false }
         requires shaped { completes AttributeName (drop 2 (words start)) ≡ true }
-        ensures reads { Leaves self.new result (at_variable (name_first (words start.entry)) (with_att (name_first (drop 2 (words start.entry))) (constants_said (version_of start.entry) (drop 2 (words start.entry)))) self.old) }
+        ensures reads { Leaves self.new result (variable_att_read start.entry self.old) }
         ensures unchanged { OnErr result (self.new ≡ self.old) }
     {
         let position = variable_position(alloc, &self.names, start.lexeme().bytes)?;
@@ -136,7 +133,7 @@ impl Variables {
     /// A growth was refused.
     pub fn into_parts(self, alloc: Global) -> Result<(Sequence<Var>, NameIndex), AllocError>
         ensures vars { IfOk result (λ parts. fresh parts.0 ≡ self) }
-        ensures names { IfOk result (λ parts. IsIndex parts.1 (names_of self)) }
+        ensures names { IfOk result (λ parts. parts.1 ≡ names_of self) }
     {
         let Variables { list, names } = self;
         let vars = vars_of(alloc, list)?;

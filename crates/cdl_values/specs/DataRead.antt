@@ -3,6 +3,8 @@ use Rattle.std.specs.Prelude.{ℕ, List, [], ◌∷◌, if◌then◌else◌, dro
 use Rattle.nc_base.specs.declared.version.Version.{Version}
 use Rattle.nc_base.specs.Names.{is_name}
 use Rattle.cdl_tokens.specs.Escapes.{word_value}
+use Rattle.cdl_text.specs.Cutters.{version_of, words}
+use Rattle.cdl_text.specs.declared.cutter.Cutter.{Cutter}
 use Rattle.cdl_text.specs.Lexemes.{Lexeme}
 use Rattle.cdl_text.specs.DueTokens.{completes}
 use Rattle.cdl_text.specs.declared.due.Due.TheVariants.{DataName}
@@ -27,6 +29,10 @@ target_at targets (Some k) = if_new (slice_get targets k)
 abbrev pub target_of : List (List ℕ) → List Target → List ℕ → Result Target CdlKind
 target_of names targets name = if is_name name then target_at targets (position_of names name) else Err BadName
 
+-- the same, of the variable that a word names
+abbrev pub target_said : List (List ℕ) → List Target → List ℕ → Result Target CdlKind
+target_said names targets word = target_of names targets (word_value word)
+
 abbrev pub filled : Version → List Lexeme → Result Target CdlKind → Result (List ℕ) CdlKind
 filled version ws (Err e) = Err e
 filled version ws (Ok t) = packed t.filling t.capacity (values version ws)
@@ -43,3 +49,7 @@ unless_bad None r = r
 -- a bad token or a bad number comes before a fault of syntax, and that before all others
 unfoldable pub data_read : Version → List (List ℕ) → List Target → List Lexeme → Result (List ℕ) CdlKind
 data_read version names targets ws = unless_bad (first_bad version ws) (if completes DataName ws then assigned version names targets ws else Err Syntax)
+
+-- the same of the next statement
+abbrev pub statement_read : Cutter → List (List ℕ) → List Target → Result (List ℕ) CdlKind
+statement_read start names targets = data_read (version_of start) names targets (words start)

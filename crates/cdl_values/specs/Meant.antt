@@ -1,11 +1,14 @@
 -- What a statement of the data section means, in bytes.
-use Rattle.std.specs.Prelude.{ℕ, ◌≡◌, Bool, false, List, [], ◌∷◌, if◌then◌else◌, map, Some, Result, Ok, Err, ⊤}
+use Rattle.std.specs.Prelude.{ℕ, ◌≡◌, ◌<◌, ◌^◌, length, Bool, false, List, [], ◌∷◌, if◌then◌else◌, map, Some, Result, Ok, Err, ⊤}
 use Rattle.std.specs.List.{flat_map}
 use Rattle.std.specs.Str.{bytes_eq}
 use Rattle.nc_base.specs.Numbers.{bytes_of_number}
 use Rattle.nc_base.specs.declared.header.Dim.{Dim}
 use Rattle.nc_base.specs.declared.version.Version.{Version}
 use Rattle.cdl_tokens.specs.Escapes.{word_value}
+use Rattle.cdl_text.specs.Cutters.{text_of, version_of, words}
+use Rattle.cdl_text.specs.declared.cutter.Cutter.{Cutter}
+use Rattle.cdl_text.specs.declared.section.Section.TheVariants.{Values}
 use Rattle.cdl_text.specs.Lexemes.{Lexeme, is_mark}
 use Rattle.cdl_text.specs.declared.fault.CdlKind.{CdlKind}
 use Rattle.cdl_meaning.specs.Meaning.{piece_read}
@@ -13,6 +16,7 @@ use Rattle.cdl_meaning.specs.State.{State, Draft, Listing, capacity_of, is_liste
 use Rattle.cdl_values.specs.declared.read_error.ReadError.{ReadError}
 use Rattle.cdl_values.specs.declared.read_error.ReadError.TheVariants.{OutOfMemory, Fault}
 use Rattle.cdl_values.specs.Capacities.{Fills, Takes}
+use Rattle.cdl_values.specs.declared.data.Given.{Given}
 use Rattle.cdl_values.specs.declared.data.Target.{Target}
 
 -- a target is what a draft takes
@@ -49,6 +53,10 @@ abbrev pub name_first : List Lexeme → List ℕ
 name_first [] = []
 name_first (l ∷ ls) = word_value l.bytes
 
+-- the name that the next statement begins with
+abbrev pub name_said : Cutter → List ℕ
+name_said start = name_first (words start)
+
 -- the piece makes such a state of this one, or has the fault
 abbrev pub Means : Version → State → List Lexeme → Result (List ℕ) CdlKind → Type 0
 Means v s ws (Err e) = piece_read v s ws ≡ Err e
@@ -69,3 +77,15 @@ ReadsStatement v s ws (Err OutOfMemory) = Unit {0}
 abbrev pub array_of : {G : Type 0} → (G → List ℕ) → Result G (ReadError) → Result (List ℕ) (ReadError)
 array_of view (Ok g) = Ok (view g)
 array_of view (Err e) = Err e
+
+-- The next statement stands in the data section, and lists values: the variables have these names, and take this.
+pub record ListsValues (start : Cutter) (names : List (List ℕ)) (targets : List Target) (s : State) : Type 0 where
+  pub section : s.section ≡ Values
+  pub named : names ≡ names_of s.drafts
+  pub suit : Suit s.dims targets s.drafts
+  pub lists : begins_brace (words start) ≡ false
+  pub short : length (text_of start) < 2 ^ 63
+
+-- what is given of the next statement is what it means, in each state that has these names and takes this
+abbrev pub MeansWhatIsGiven : Cutter → List (List ℕ) → List Target → Result Given ReadError → Type 0
+MeansWhatIsGiven start names targets result = (s : State) → ListsValues start names targets s → ReadsStatement (version_of start) s (words start) (array_of (λ (g : Given). g.array) result)

@@ -1,14 +1,12 @@
 //! The statements of the data section.
 
-ghost use Rattle.std.specs.Prelude.{◌≡◌, ◌<◌, ◌^◌, ℕ, List, Ok, Some, IfOk, false, length, option_map};
-ghost use Rattle.cdl_text.specs.Cutters.{Follows, is_done, text_of, version_of, words};
+ghost use Rattle.std.specs.Prelude.{◌≡◌, Ok, IfOk, false, option_map};
+ghost use Rattle.cdl_text.specs.Cutters.{Follows, is_done};
 ghost use Rattle.cdl_tokens.specs.Escapes.{word_value};
-ghost use Rattle.cdl_text.specs.declared.section.Section.TheVariants.{Values};
-ghost use Rattle.cdl_meaning.specs.State.{State};
 ghost use Rattle.cdl_values.specs.Answers.{Gives};
-ghost use Rattle.cdl_values.specs.DataRead.{data_read, if_new, target_of};
-ghost use Rattle.cdl_values.specs.Meant.{Suit, ReadsStatement, array_of, begins_brace, name_first, names_of};
-ghost use Rattle.cdl_values.specs.NameIndices.{IsIndex, position_of};
+ghost use Rattle.cdl_values.specs.DataRead.{if_new, statement_read, target_said};
+ghost use Rattle.cdl_values.specs.Meant.{MeansWhatIsGiven, name_said};
+ghost use Rattle.cdl_values.specs.NameIndices.{IsPosition};
 
 use crate::filling::Filling;
 use crate::name::read_name;
@@ -60,8 +58,8 @@ pub fn read<'a>(
     start: Cutter<'a>,
 ) -> Result<Given<'a>, ReadError>
     requires { is_done start ≡ false }
-    ensures means { (s : State) → s.section ≡ Values → IsIndex names.now (names_of s.drafts) → Suit s.dims targets.now s.drafts → begins_brace (words start.entry) ≡ false → length (text_of start.entry) < 2 ^ 63 → ReadsStatement (version_of start.entry) s (words start.entry) (array_of (λ (g : Given). g.array) result) }
-    ensures position { (all : List (List ℕ)) → IsIndex names.now all → IfOk result (λ g. position_of all (name_first (words start.entry)) ≡ Some g.position) }
+    ensures means { MeansWhatIsGiven start.entry names.now targets.now result }
+    ensures position { IfOk result (λ g. IsPosition names.now (name_said start.entry) g.position) }
     ensures rest { IfOk result (λ g. Follows start.entry g.rest) }
 {
     read_either(alloc, names, targets, start)
@@ -70,32 +68,32 @@ pub fn read<'a>(
 /// Reads a statement in one pass, or in two where something is wrong with it.
 fn read_either<'a>(
     alloc: Global,
-    index: &NameIndex,
+    names: &NameIndex,
     targets: &[Target],
     start: Cutter<'a>,
 ) -> Result<Given<'a>, ReadError>
     requires { is_done start ≡ false }
-    ensures read { (names : List (List ℕ)) → IsIndex index.now names → Gives (λ g. g.array) result (data_read (version_of start.entry) names targets.now (words start.entry)) }
-    ensures position { (names : List (List ℕ)) → IsIndex index.now names → IfOk result (λ g. position_of names (name_first (words start.entry)) ≡ Some g.position) }
+    ensures read { Gives (λ g. g.array) result (statement_read start.entry names.now targets.now) }
+    ensures position { IfOk result (λ g. IsPosition names.now (name_said start.entry) g.position) }
     ensures rest { IfOk result (λ g. Follows start.entry g.rest) }
 {
-    match read_quickly(alloc, index, targets, start) {
+    match read_quickly(alloc, names, targets, start) {
         Ok(given) => Ok(given),
         Err(Stop::OutOfMemory) => Err(ReadError::OutOfMemory),
-        Err(Stop::SomeFault) => read_slowly(alloc, index, targets, start),
+        Err(Stop::SomeFault) => read_slowly(alloc, names, targets, start),
     }
 }
 
 /// Reads a good statement in one pass; where something is wrong with it, it doesn't say what.
 fn read_quickly<'a>(
     alloc: Global,
-    index: &NameIndex,
+    names: &NameIndex,
     targets: &[Target],
     start: Cutter<'a>,
 ) -> Result<Given<'a>, Stop>
     requires { is_done start ≡ false }
-    ensures read { IfOk result (λ g. (names : List (List ℕ)) → IsIndex index.now names → data_read (version_of start.entry) names targets.now (words start.entry) ≡ Ok g.array) }
-    ensures position { (names : List (List ℕ)) → IsIndex index.now names → IfOk result (λ g. position_of names (name_first (words start.entry)) ≡ Some g.position) }
+    ensures read { IfOk result (λ g. statement_read start.entry names.now targets.now ≡ Ok g.array) }
+    ensures position { IfOk result (λ g. IsPosition names.now (name_said start.entry) g.position) }
     ensures rest { IfOk result (λ g. Follows start.entry g.rest) }
 {
     let name = start.lexeme();
@@ -118,7 +116,7 @@ fn read_quickly<'a>(
         }
         _ => return Err(Stop::SomeFault),
     }
-    let Place { position, target } = target_of(alloc, index, targets, name.bytes)?;
+    let Place { position, target } = target_of(alloc, names, targets, name.bytes)?;
     let packed = pack_good(alloc, value, target.filling, target.capacity)?;
     Ok(Given {
         position,
@@ -130,13 +128,13 @@ fn read_quickly<'a>(
 /// Reads a statement in two passes: the first says whether it has a bad token or no shape.
 fn read_slowly<'a>(
     alloc: Global,
-    index: &NameIndex,
+    names: &NameIndex,
     targets: &[Target],
     start: Cutter<'a>,
 ) -> Result<Given<'a>, ReadError>
     requires { is_done start ≡ false }
-    ensures read { (names : List (List ℕ)) → IsIndex index.now names → Gives (λ g. g.array) result (data_read (version_of start.entry) names targets.now (words start.entry)) }
-    ensures position { (names : List (List ℕ)) → IsIndex index.now names → IfOk result (λ g. position_of names (name_first (words start.entry)) ≡ Some g.position) }
+    ensures read { Gives (λ g. g.array) result (statement_read start.entry names.now targets.now) }
+    ensures position { IfOk result (λ g. IsPosition names.now (name_said start.entry) g.position) }
     ensures rest { IfOk result (λ g. Follows start.entry g.rest) }
 {
     let found = first_pass(start, Due::DataName);
@@ -149,7 +147,7 @@ fn read_slowly<'a>(
     let name = start.lexeme();
     let (equals, _) = start.advanced();
     let (value, _) = equals.advanced();
-    let Place { position, target } = target_of(alloc, index, targets, name.bytes)?;
+    let Place { position, target } = target_of(alloc, names, targets, name.bytes)?;
     let array = pack(alloc, value, target.filling, target.capacity)?;
     Ok(Given {
         position,
@@ -161,15 +159,15 @@ fn read_slowly<'a>(
 /// The target of the variable that a word names, and the variable's position.
 fn target_of(
     alloc: Global,
-    index: &NameIndex,
+    names: &NameIndex,
     targets: &[Target],
     word: &[u8],
 ) -> Result<Place, ReadError>
-    ensures target { (names : List (List ℕ)) → IsIndex index.now names → Gives (λ place. place.target) result (target_of names targets.now (word_value word.now)) }
-    ensures position { (names : List (List ℕ)) → IsIndex index.now names → IfOk result (λ place. position_of names (word_value word.now) ≡ Some place.position) }
+    ensures target { Gives (λ p. p.target) result (target_said names.now targets.now word.now) }
+    ensures position { IfOk result (λ p. IsPosition names.now (word_value word.now) p.position) }
 {
     let name = read_name(alloc, word)?;
-    let position = index.find(name.as_slice()).ok_or(CdlKind::UnknownVariable)?;
+    let position = names.find(name.as_slice()).ok_or(CdlKind::UnknownVariable)?;
     let target = if_new(targets.get(position as usize))?;
     Ok(Place { position, target })
 }

@@ -1,21 +1,36 @@
 //! The positions of names in their list.
 
-ghost use Rattle.std.specs.Prelude.{◌≡◌, ◌++◌, ◌∷◌, [], ℕ, List, None, OnErr, OnOk, length};
-ghost use Rattle.cdl_values.specs.NameIndices.{IsIndex, position_of};
+ghost use Rattle.std.specs.Prelude.{◌≡◌, [], IfOk, OnErr};
+ghost use Rattle.cdl_values.specs.NameIndices.{is_new, position_of, with_name};
 
 use std::alloc::{AllocError, Global};
 use std::collections::BTreeMap;
+use std::collections::btree_map::Entry;
+use std::marker::Model;
 
-/// Finds a name's position in its list, in a time that grows with the logarithm of the number of names.
+/// A list of names, no two of which are the same.
+///
+/// A name's position in it is found in a time that grows with the logarithm of the number of names.
 #[derive(Drop)]
 pub struct NameIndex {
     positions: BTreeMap<Vec<u8>, u64>,
 }
 
+impl Model for NameIndex {
+    ghost use Rattle.std.specs.Prelude.{List, ℕ};
+    ghost use Rattle.cdl_values.specs.NameIndices.{IsIndex, names_in};
+
+    ghost Value = { List (List ℕ) };
+
+    ghost view = { λ index. names_in index.positions };
+
+    ghost invariant = { λ index. IsIndex index.positions (names_in index.positions) };
+}
+
 impl NameIndex {
     /// Without names. It takes no memory.
     pub fn new(alloc: Global) -> NameIndex
-        ensures { IsIndex result [] }
+        ensures { result ≡ [] }
     {
         NameIndex {
             positions: BTreeMap::new(alloc),
@@ -24,21 +39,28 @@ impl NameIndex {
 
     /// The position of the name; None, where the list doesn't have it.
     pub fn find(&self, name: &[u8]) -> Option<u64>
-        ensures { (names : List (List ℕ)) → IsIndex self.now names → result ≡ position_of names name.now }
+        ensures { result ≡ position_of self.now name.now }
     {
         self.positions.get(name).copied()
     }
 
-    /// Adds a new name at the end of the list, which has `position` names.
+    /// Adds a name at the end of the list, if the list doesn't have it, and returns true if so.
     ///
     /// # Errors
     ///
-    /// A growth was refused. Then the index has the names that it had.
-    pub fn add(&mut self, name: Vec<u8>, position: u64) -> Result<(), AllocError>
-        ensures ok { (names : List (List ℕ)) → IsIndex self.old names → position ≡ length names → position_of names name.items ≡ None → OnOk result (IsIndex self.new (names ++ name.items ∷ [])) }
-        ensures err { OnErr result ((names : List (List ℕ)) → IsIndex self.old names → IsIndex self.new names) }
+    /// A growth was refused. Then the names are what they were.
+    pub fn add(&mut self, name: Vec<u8>) -> Result<bool, AllocError>
+        ensures new { IfOk result (λ added. added ≡ is_new self.old name.items) }
+        ensures names { IfOk result (λ added. self.new ≡ with_name added self.old name.items) }
+        ensures err { OnErr result (self.new ≡ self.old) }
     {
-        self.positions.insert(name, position)?;
-        Ok(())
+        let position = self.positions.len() as u64;
+        match self.positions.entry(name)? {
+            Entry::Occupied(_) => Ok(false),
+            Entry::Vacant(vacant) => {
+                vacant.insert(position);
+                Ok(true)
+            }
+        }
     }
 }

@@ -6,8 +6,8 @@ use std::alloc::{AllocError, Global};
 /// An index of these names.
 pub fn index_of(alloc: Global, names: &[&[u8]]) -> Result<NameIndex, AllocError> {
     let mut index = NameIndex::new(alloc);
-    for (position, name) in names.iter().enumerate() {
-        index.add(Vec::from_slice(alloc, *name)?, position as u64)?;
+    for name in names {
+        index.add(Vec::from_slice(alloc, *name)?)?;
     }
     Ok(index)
 }

@@ -91,13 +91,14 @@ fn refuses(rt: &impl Abort, alloc: Global, text: &[u8], kind: CdlKind) {
 
 #[test]
 fn first_fault_of_an_attribute_wins(rt: HostRuntime) {
-    const ROWS: [(&[u8], CdlKind); 12] = [
+    const ROWS: [(&[u8], CdlKind); 13] = [
         (b"t = 1, %, 08 ;", CdlKind::BadToken),
         (b"t = 1 08 ;", CdlKind::BadNumber),
         (b"t = 1ub ;", CdlKind::BadNumber),
         (b"t = 1, _ ;", CdlKind::Syntax),
         (b"a\\/b = 1, \"x\" ;", CdlKind::BadName),
         (b"t = 1, \"x\" ;", CdlKind::DuplicateName),
+        (b"\\t = 1, \"x\" ;", CdlKind::DuplicateName),
         (b"a = 1, \"x\", 40000s ;", CdlKind::MixedConstants),
         (b"a = \"x\", 1 ;", CdlKind::MixedConstants),
         (b"a = 1, 99999s ;", CdlKind::MixedConstants),

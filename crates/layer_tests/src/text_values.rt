@@ -1,8 +1,8 @@
 //! The values of statements of the data section, and the lengths and names of dimensions.
 
 use crate::name_indices::index_of;
-use cdl_parse::{check_new, dim_len};
-use cdl_text::{CdlKind, Cutter};
+use cdl_parse::{Dimensions, dim_len, read_dimensions};
+use cdl_text::{CdlKind, Cutter, Due, first_pass};
 use cdl_tokens::Numeral;
 use cdl_values::{Fill, Filling, ReadError, Target, read};
 use nc_base::{NcType, Version};
@@ -148,18 +148,54 @@ fn one_dimension_is_unlimited(rt: HostRuntime) {
     assert!(rt; dim_len(Version::Cdf1, false, None) == Ok(0));
 }
 
+/// Reads the dimensions of a statement `NAME = LENGTH, .. ;`.
+fn add_dimensions(alloc: Global, dims: &mut Dimensions, text: &[u8]) -> Result<(), ReadError> {
+    let start = Cutter::new(text, Version::Cdf1);
+    let found = first_pass(start, Due::DimensionName);
+    match found.bad {
+        Some(kind) => return Err(ReadError::Fault(kind)),
+        None => {}
+    }
+    if !found.shaped {
+        return Err(ReadError::Fault(CdlKind::Syntax));
+    }
+    read_dimensions(alloc, dims, start)
+}
+
+/// Fails unless the statement, after dimensions of these names, has this outcome.
+fn expect_dimension(rt: &impl Abort, alloc: Global, text: &[u8], want: Result<(), ReadError>) {
+    let mut dims = Dimensions::new(alloc);
+    let first = add_dimensions(alloc, &mut dims, b"v = 1, c = 2, r = 3, u = 4, g = 5 ;");
+    assert_eq!(rt; first, Ok(()));
+    let second = add_dimensions(alloc, &mut dims, text);
+    assert!(rt; second == want, "{second:?}: {text:?}");
+}
+
 #[test]
 fn new_dimensions_have_new_names(rt: HostRuntime) -> Result<(), Fail> {
-    const ROWS: [(&[u8], Result<(), CdlKind>); 3] = [
-        (b"w", Ok(())),
-        (b"g", Err(CdlKind::DuplicateName)),
-        (b"a/b", Err(CdlKind::BadName)),
+    const ROWS: [(&[u8], Result<(), ReadError>); 6] = [
+        (b"w = 1 ;", Ok(())),
+        (b"g = 1 ;", Err(ReadError::Fault(CdlKind::DuplicateName))),
+        (b"\\g = 0 ;", Err(ReadError::Fault(CdlKind::DuplicateName))),
+        (b"a\\/b = 1 ;", Err(ReadError::Fault(CdlKind::BadName))),
+        (b"a\\/b = 0 ;", Err(ReadError::Fault(CdlKind::BadName))),
+        (b"w = 0 ;", Err(ReadError::Fault(CdlKind::ZeroDimension))),
     ];
-    let index = index_of(rt.alloc(), &NAMES)?;
-    for (name, want) in ROWS {
-        assert!(rt; check_new(&index, name) == want, "{name:?}");
+    for (text, want) in ROWS {
+        expect_dimension(&rt, rt.alloc(), text, want);
     }
+    let index = index_of(rt.alloc(), &NAMES)?;
     assert!(rt; index.find(b"u") == Some(3));
     assert!(rt; index.find(b"w").is_none());
+    Ok(())
+}
+
+#[test]
+fn names_of_an_index_are_different(rt: HostRuntime) -> Result<(), Fail> {
+    let mut index = index_of(rt.alloc(), &NAMES)?;
+    assert_eq!(rt; index.add(Vec::from_slice(rt.alloc(), b"r")?), Ok(false));
+    assert_eq!(rt; index.add(Vec::from_slice(rt.alloc(), b"x")?), Ok(true));
+    assert!(rt; index.find(b"r") == Some(2));
+    assert!(rt; index.find(b"x") == Some(5));
     Ok(())
 }

@@ -1,17 +1,19 @@
-use Rattle.std.proofs.Common.{rules, ◌≡◌, ◌∷◌, ◌++◌, [], List, ap, sym, subst, ◌∙◌, Ok, false}
+use Rattle.std.proofs.Common.{rules, ◌≡◌, ◌∷◌, ◌++◌, [], List, ℕ, ap, sym, subst, ◌∙◌, Ok, false}
 use Rattle.std.specs.Prelude.{Result}
-use Rattle.nc_base.specs.declared.header.Att.{Att}
 use Rattle.cdl_text.specs.Contents.{values}
 use Rattle.cdl_text.specs.Cutters.{is_done, next_token, text_of, version_of, words}
 use Rattle.cdl_text.specs.Lexemes.{lexeme}
 use Rattle.cdl_text.specs.Views.{lexeme_of}
 use Rattle.cdl_text.specs.declared.fault.CdlKind.{CdlKind}
-use Rattle.cdl_meaning.specs.State.{add_att, add_constant, in_turn}
-use Rattle.cdl_values.specs.Answers.{Fails}
-use Rattle.cdl_values.specs.Meant.{name_first}
-use Rattle.cdl_parse.specs.AttributeRead.{constants_said}
+use Rattle.cdl_text.specs.declared.fault.CdlKind.TheVariants.{DuplicateName}
+use Rattle.cdl_meaning.specs.State.{add_constant, in_turn, when, ◌>>=◌}
+use Rattle.cdl_values.specs.Answers.{Fails, Leaves}
+use Rattle.cdl_parse.specs.AttributeNames.{has_name}
+use Rattle.cdl_parse.specs.AttributeRead.{att_read}
+use Rattle.cdl_parse.specs.TakenNames.{after_name}
 use Rattle.cdl_parse.proofs.AttributeReads.{fails_then, goes_equals, goes_name, name_fails, read_as, refused, with_values}
 use Rattle.cdl_parse.proofs.StatementWords.{begins}
+use Rattle.cdl_parse.proofs.TakenNames.{fails_after}
 use Rattle.cdl_parse.proofs.attribute.read_attribute.Goals as goal
 
 pub returns-in_err-name-clause-reads : goal.returns-in_err-name-clause-reads
@@ -20,7 +22,7 @@ returns-in_err-name-clause-reads c =
     let named : lexeme_of c.lexeme.result ≡ lexeme (text_of start) (next_token start) = search rules in
     let begun = begins start c.requires.more in
     refused c.args.attributes.now c.from_residual.result c.in_err-name.field-0.0 _ (search rules)
-    (name_fails c.in_err-name.field-0.0 (lexeme_of c.lexeme.result) begun.0 (words start) (constants_said (version_of start) (words start)) c.args.attributes.now (begun.1 ∙ ap (λ l. l ∷ begun.0) (sym named)) c.in_err-name.ensures)
+    (name_fails c.in_err-name.field-0.0 (lexeme_of c.lexeme.result) begun.0 (words start) (version_of start) c.args.attributes.now (begun.1 ∙ ap (λ l. l ∷ begun.0) (sym named)) c.in_err-name.ensures.fault)
 
 pub advanced-requires-2 : goal.advanced-requires-2
 advanced-requires-2 c =
@@ -34,8 +36,8 @@ read_constants-requires c =
     let on = (goes_name (lexeme (text_of start) (next_token start)) c.advanced.result.1 (words equals) (words start) c.advanced.ensures.words c.requires.shaped).2 in
     c.advanced-2.ensures.goes (goes_equals (lexeme (text_of equals) (next_token equals)) c.advanced-2.result.1 (words c.advanced-2.result.0) (words equals) c.advanced-2.ensures.words on).0
 
-pub returns-in_err-vals-clause-reads : goal.returns-in_err-vals-clause-reads
-returns-in_err-vals-clause-reads c =
+pub returns-in-Ok-clause-reads : goal.returns-in-Ok-clause-reads
+returns-in-Ok-clause-reads c =
     let start = c.args.start in
     let equals = c.advanced.result.0 in
     let first = c.advanced-2.result.0 in
@@ -45,16 +47,15 @@ returns-in_err-vals-clause-reads c =
     let on = (goes_name (lexeme (text_of start) (next_token start)) c.advanced.result.1 (words equals) (words start) c.advanced.ensures.words c.requires.shaped).2 in
     let more : is_done first ≡ false = c.advanced-2.ensures.goes (goes_equals (lexeme (text_of equals) (next_token equals)) c.advanced-2.result.1 (words first) (words equals) c.advanced-2.ensures.words on).0 in
     let ty = c.type_said-ty.result in
-    let e = c.in_err-vals.field-0.0 in
+    let name = c.in_ok-name.name.items in
     let read =
-    read_as start equals first c.advanced.result.1 c.advanced-2.result.1 (lexeme_of c.lexeme.result) (lexeme_of c.lexeme-2.result) ty c.version.result atts c.in_ok-name.name.items
-    c.advanced.ensures.words c.advanced-2.ensures.words more c.requires.shaped named valued c.version.ensures (c.advanced-2.ensures.same.version ∙ c.advanced.ensures.same.version) c.type_said-ty.ensures c.in_ok-name.ensures in
-    let constants = in_turn (add_constant ty) [] (values (version_of first) (words first)) in
-    refused atts c.from_residual-in_err-vals.result e (add_att (name_first (words start)) (constants_said (version_of start) (words start)) atts) (search rules)
-    (subst (λ (r : Result (List Att) CdlKind). Fails e r) (sym read) (fails_then e constants (λ vals. Ok (atts ++ record { name = c.in_ok-name.name.items; ty = ty; vals = vals } ∷ [])) c.in_err-vals.ensures))
+    read_as start equals first c.advanced.result.1 c.advanced-2.result.1 (lexeme_of c.lexeme.result) (lexeme_of c.lexeme-2.result) ty c.version.result atts name
+    c.advanced.ensures.words c.advanced-2.ensures.words more c.requires.shaped named valued c.version.ensures (c.advanced-2.ensures.same.version ∙ c.advanced.ensures.same.version) c.type_said-ty.ensures c.in_ok-name.ensures.name c.in_ok-name.ensures.allowed in
+    let given = read ∙ ap (λ (r : Result (List ℕ) CdlKind). when (has_name name atts) DuplicateName >>= (λ w. with_values atts name ty r)) c.in-Ok.ensures in
+    subst (Leaves c.add.new.attributes c.add.result) (sym given) c.add.ensures.adds
 
-pub returns-clause-reads : goal.returns-clause-reads
-returns-clause-reads c =
+pub returns-in-Err-clause-reads : goal.returns-in-Err-clause-reads
+returns-in-Err-clause-reads c =
     let start = c.args.start in
     let equals = c.advanced.result.0 in
     let first = c.advanced-2.result.0 in
@@ -63,6 +64,15 @@ returns-clause-reads c =
     let atts = c.args.attributes.now in
     let on = (goes_name (lexeme (text_of start) (next_token start)) c.advanced.result.1 (words equals) (words start) c.advanced.ensures.words c.requires.shaped).2 in
     let more : is_done first ≡ false = c.advanced-2.ensures.goes (goes_equals (lexeme (text_of equals) (next_token equals)) c.advanced-2.result.1 (words first) (words equals) c.advanced-2.ensures.words on).0 in
-    read_as start equals first c.advanced.result.1 c.advanced-2.result.1 (lexeme_of c.lexeme.result) (lexeme_of c.lexeme-2.result) c.type_said-ty.result c.version.result atts c.in_ok-name.name.items
-    c.advanced.ensures.words c.advanced-2.ensures.words more c.requires.shaped named valued c.version.ensures (c.advanced-2.ensures.same.version ∙ c.advanced.ensures.same.version) c.type_said-ty.ensures c.in_ok-name.ensures ∙
-    ap (with_values atts c.in_ok-name.name.items c.type_said-ty.result) c.in_ok-vals.ensures ∙ ap Ok (sym c.in_ok-add.ensures.ok)
+    let ty = c.type_said-ty.result in
+    let name = c.in_ok-name.name.items in
+    let read =
+    read_as start equals first c.advanced.result.1 c.advanced-2.result.1 (lexeme_of c.lexeme.result) (lexeme_of c.lexeme-2.result) ty c.version.result atts name
+    c.advanced.ensures.words c.advanced-2.ensures.words more c.requires.shaped named valued c.version.ensures (c.advanced-2.ensures.same.version ∙ c.advanced.ensures.same.version) c.type_said-ty.ensures c.in_ok-name.ensures.name c.in_ok-name.ensures.allowed in
+    let e = c.in-Err.e in
+    let constants = in_turn (add_constant ty) [] (values (version_of first) (words first)) in
+    let taken : c.has_name.result ≡ has_name name atts = c.has_name.ensures ∙ ap (λ n. has_name n atts) c.as_slice.ensures.value in
+    let error : c.after_name.result ≡ after_name (has_name name atts) e = c.after_name.ensures ∙ ap (λ b. after_name b e) taken in
+    subst (λ x. Fails x (att_read start atts)) (sym error)
+    (subst (Fails (after_name (has_name name atts) e)) (sym read)
+    (fails_after (has_name name atts) e (with_values atts name ty constants) (fails_then e constants (λ vals. Ok (atts ++ record { name = name; ty = ty; vals = vals } ∷ [])) c.in-Err.ensures)))

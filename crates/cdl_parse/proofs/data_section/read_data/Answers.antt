@@ -3,8 +3,7 @@ use Rattle.std.specs.Prelude.{replicate, ◌^◌}
 use Rattle.cdl_text.specs.Cutters.{is_done, pieces_left, text_of, version_of}
 use Rattle.cdl_text.specs.declared.section.Section.{Section}
 use Rattle.cdl_meaning.specs.Meaning.{run}
-use Rattle.cdl_values.specs.NameIndices.{IsIndex}
-use Rattle.cdl_parse.specs.DataSections.{Takes}
+use Rattle.cdl_parse.specs.DataSections.{IsInDataSection, Takes}
 use Rattle.cdl_parse.specs.Runs.{FailsAt, at_line}
 use Rattle.cdl_parse.specs.declared.parse_error.ParseError.{ParseError}
 use Rattle.cdl_parse.proofs.DataRuns.{none_so_far, values_on}
@@ -15,7 +14,7 @@ pub statements-init : goal.statements-init
 statements-init c =
     let count : c.len.result ≡ length c.args.targets.items = search rules in
     let empty = c.in_ok-arrays.ensures ∙ ap (λ (n : ℕ). replicate {A = List ℕ} n []) count in
-    record { text = refl; version = refl; reads = λ vars s section index suit is short. none_so_far vars s c.args.start c.args.targets.items c.in_ok-arrays.arrays.items section suit is empty }
+    record { text = refl; version = refl; reads = λ vars s at. none_so_far vars s c.args.start c.args.targets.items c.in_ok-arrays.arrays.items at.section at.suit at.unlisted empty }
 
 pub statements-smaller : goal.statements-smaller
 statements-smaller c = fewer c.statements.cutter c.in-Ok.passed.rest (sym c.is_done.ensures ∙ c.if-is_done.false) c.in-Ok.ensures.rest.pieces
@@ -29,36 +28,36 @@ statements-preserved c =
     record {
       text = found.rest.same.text ∙ t.invariant.text;
       version = found.rest.same.version ∙ t.invariant.version;
-      reads = λ vars s section index suit is short.
-          let so = t.invariant.reads vars s section index suit is short in
-          let taken = found.reads vars (record s { drafts = so.0 }) (subst (IsIndex c.args.names.now) (sym so.2) index) so.1 (subst (λ text. length text < 2 ^ 63) (sym t.invariant.text) short) in
-          values_on start t.cutter t.invariant.text t.invariant.version more vars s t.targets.items c.read_one.new.targets.items t.arrays.items c.read_one.new.arrays.items c.in-Ok.passed.rest found.rest.pieces so
-          (subst (λ b. Takes b vars t.cutter (record s { drafts = so.0 }) c.read_one.new.targets.items c.read_one.new.arrays.items) c.if-passed.false taken);
+      reads = λ vars s at.
+          let so = t.invariant.reads vars s at in
+          let taken = found.reads vars (record s { drafts = so.0 }) (subst (λ names. IsInDataSection vars names t.listings.targets.items t.listings.arrays.items (record s { drafts = so.0 })) (sym at.named) so.1) (subst (λ text. length text < 2 ^ 63) (sym t.invariant.text) at.short) in
+          values_on start t.cutter t.invariant.text t.invariant.version more vars s t.listings.targets.items c.read_one.new.listings.targets.items t.listings.arrays.items c.read_one.new.listings.arrays.items c.in-Ok.passed.rest found.rest.pieces so
+          (subst (λ b. Takes b vars t.cutter (record s { drafts = so.0 }) c.read_one.new.listings.targets.items c.read_one.new.listings.arrays.items) c.if-passed.false taken);
     }
 
 pub returns-then-is_done-clause-reads : goal.returns-then-is_done-clause-reads
-returns-then-is_done-clause-reads c = λ vars s section index suit is short.
+returns-then-is_done-clause-reads c = λ vars s at.
     let start = c.args.start in
-    let so = c.statements.invariant.reads vars s section index suit is short in
-    (so.0, so.1.lists, so.3 ∙ ap (λ (in_section : Section). run (text_of start) (version_of start) (record s { section = in_section; drafts = so.0 }) (pieces_left c.statements.cutter)) section)
+    let so = c.statements.invariant.reads vars s at in
+    (so.0, so.1.lists, so.2 ∙ ap (λ (in_section : Section). run (text_of start) (version_of start) (record s { section = in_section; drafts = so.0 }) (pieces_left c.statements.cutter)) at.section)
 
 pub returns-then-passed-clause-reads : goal.returns-then-passed-clause-reads
-returns-then-passed-clause-reads c = λ vars s section index suit is short.
+returns-then-passed-clause-reads c = λ vars s at.
     let start = c.args.start in
     let t = c.statements in
     let found = c.in-Ok.ensures in
     let more : is_done t.cutter ≡ false = sym c.is_done.ensures ∙ c.if-is_done.false in
-    let so = t.invariant.reads vars s section index suit is short in
-    let taken = found.reads vars (record s { drafts = so.0 }) (subst (IsIndex c.args.names.now) (sym so.2) index) so.1 (subst (λ text. length text < 2 ^ 63) (sym t.invariant.text) short) in
-    let closed = subst (λ b. Takes b vars t.cutter (record s { drafts = so.0 }) c.read_one.new.targets.items c.read_one.new.arrays.items) c.if-passed.true taken in
-    (so.0, closed.1, so.3 ∙ goes_on start t.cutter t.invariant.text t.invariant.version more (record s { drafts = so.0 }) (record s { section = Section.Closed; drafts = so.0 }) c.in-Ok.passed.rest closed.0 found.rest.pieces)
+    let so = t.invariant.reads vars s at in
+    let taken = found.reads vars (record s { drafts = so.0 }) (subst (λ names. IsInDataSection vars names t.listings.targets.items t.listings.arrays.items (record s { drafts = so.0 })) (sym at.named) so.1) (subst (λ text. length text < 2 ^ 63) (sym t.invariant.text) at.short) in
+    let closed = subst (λ b. Takes b vars t.cutter (record s { drafts = so.0 }) c.read_one.new.listings.targets.items c.read_one.new.listings.arrays.items) c.if-passed.true taken in
+    (so.0, closed.1, so.2 ∙ goes_on start t.cutter t.invariant.text t.invariant.version more (record s { drafts = so.0 }) (record s { section = Section.Closed; drafts = so.0 }) c.in-Ok.passed.rest closed.0 found.rest.pieces)
 
 pub returns-in-Err-clause-reads : goal.returns-in-Err-clause-reads
-returns-in-Err-clause-reads c = λ vars s section index suit is short.
+returns-in-Err-clause-reads c = λ vars s at.
     let start = c.args.start in
     let t = c.statements in
     let more : is_done t.cutter ≡ false = sym c.is_done.ensures ∙ c.if-is_done.false in
-    let so = t.invariant.reads vars s section index suit is short in
-    let fault = c.in-Err.ensures.reads vars (record s { drafts = so.0 }) (subst (IsIndex c.args.names.now) (sym so.2) index) so.1 (subst (λ text. length text < 2 ^ 63) (sym t.invariant.text) short) in
+    let so = t.invariant.reads vars s at in
+    let fault = c.in-Err.ensures.reads vars (record s { drafts = so.0 }) (subst (λ names. IsInDataSection vars names t.listings.targets.items t.listings.arrays.items (record s { drafts = so.0 })) (sym at.named) so.1) (subst (λ text. length text < 2 ^ 63) (sym t.invariant.text) at.short) in
     subst (λ (e : ParseError). FailsAt e (run (text_of start) (version_of start) s (pieces_left start))) (sym c.at_line.ensures)
-    (subst (FailsAt (at_line c.line.result c.in-Err.e)) (sym so.3) (stops start t.cutter t.invariant.text t.invariant.version more (record s { drafts = so.0 }) c.in-Err.e c.line.result (c.line.ensures more) fault))
+    (subst (FailsAt (at_line c.line.result c.in-Err.e)) (sym so.2) (stops start t.cutter t.invariant.text t.invariant.version more (record s { drafts = so.0 }) c.in-Err.e c.line.result (c.line.ensures more) fault))

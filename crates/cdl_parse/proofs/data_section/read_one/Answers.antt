@@ -7,12 +7,17 @@ use Rattle.cdl_parse.proofs.DataStatements.{closed, takes}
 use Rattle.cdl_parse.proofs.data_section.read_one.Goals as goal
 
 pub returns-then-is_mark-clause-reads : goal.returns-then-is_mark-clause-reads
-returns-then-is_mark-clause-reads c = λ vars s index stands short. closed vars c.args.start s c.args.targets.now.items c.args.arrays.now.items c.close.result stands (c.close.ensures.reads s stands.section)
+returns-then-is_mark-clause-reads c = λ vars s stands short.
+    closed vars c.args.start s c.args.listings.now.targets.items c.args.listings.now.arrays.items c.args.names.now c.close.result stands (c.close.ensures.reads s stands.section)
 
 pub returns-clause-reads : goal.returns-clause-reads
-returns-clause-reads c = λ vars s index stands short.
+returns-clause-reads c = λ vars s stands short.
+    let targets = c.args.listings.now.targets.items in
+    let arrays = c.args.listings.now.arrays.items in
+    let given = c.in_ok-given.given in
     let off : begins_brace (words c.args.start) ≡ false = ap begins_brace (c.lexeme.ensures.first c.requires) ∙ sym c.is_mark.ensures ∙ c.if-is_mark.false in
     let suit = subst (λ (ts : List Target). Suit s.dims ts s.drafts) (sym c.deref.ensures.value) stands.suit in
-    let after = takes vars (version_of c.args.start) s (words c.args.start) c.args.targets.now.items c.args.arrays.now.items c.in_ok-given.given.array c.in_ok-given.given.position stands
-    (c.in_ok-given.ensures.means s stands.section index suit off short) (c.in_ok-given.ensures.position (names_of s.drafts) index) in
-    (after.0, after.1, subst (λ (ts : List Target). IsInDataSection vars ts c.store.new.arrays.items (record s { drafts = after.0 })) (sym c.mark_given.ensures) (subst (λ (arrays : List (List ℕ)). IsInDataSection vars (given_at c.in_ok-given.given.position c.args.targets.now.items) arrays (record s { drafts = after.0 })) (sym c.store.ensures) after.2))
+    let means = c.in_ok-given.ensures.means s (record { section = stands.section; named = stands.named; suit = suit; lists = off; short = short }) in
+    let after = takes vars (version_of c.args.start) s (words c.args.start) targets arrays given.array given.position c.args.names.now stands means c.in_ok-given.ensures.position in
+    let others = subst (λ (arrays : List (List ℕ)). IsInDataSection vars (names_of s.drafts) (given_at given.position targets) arrays (record s { drafts = after.0 })) (sym c.store.ensures) after.2 in
+    (after.0, after.1, subst (λ (ts : List Target). IsInDataSection vars (names_of s.drafts) ts c.store.new.arrays.items (record s { drafts = after.0 })) (sym c.mark_given.ensures) others)

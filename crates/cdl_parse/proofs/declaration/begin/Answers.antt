@@ -5,13 +5,11 @@ use Rattle.cdl_parse.specs.declared.declaration.Begun.{Begun}
 use Rattle.cdl_parse.proofs.DeclarationReads.{begin_fails, begins, refused}
 use Rattle.cdl_parse.proofs.declaration.begin.Goals as goal
 
-pub returns-in_err-name-clause-reads : goal.returns-in_err-name-clause-reads
-returns-in_err-name-clause-reads c = λ dims ty ls.
-    let drafts = c.args.variables.now in
-    let l = lexeme_of c.args.token in
+pub returns-in_err-name : goal.returns-in_err-name
+returns-in_err-name c = λ dims drafts ls.
     let e = c.in_err-name.field-0.0 in
-    refused (λ (b : Begun). read_on dims ty drafts b ls) c.from_residual.result e _ (search rules) (begin_fails dims ty drafts l ls e c.requires c.in_err-name.ensures)
+    refused (λ (b : Begun). read_on dims drafts b ls) c.from_residual.result e _ (search rules) (begin_fails dims c.args.ty drafts (lexeme_of c.args.token) ls e c.requires c.in_err-name.ensures.fault)
 
-pub returns-clause-reads : goal.returns-clause-reads
-returns-clause-reads c = λ dims ty ls.
-    begins dims ty c.args.variables.now (lexeme_of c.args.token) ls c.in_ok-name.name.items c.new.result.items c.requires c.in_ok-name.ensures (search rules)
+pub returns : goal.returns
+returns c = λ dims drafts ls.
+    begins dims c.args.ty drafts (lexeme_of c.args.token) ls c.in_ok-name.name.items c.new.result.items c.requires c.in_ok-name.ensures.name c.in_ok-name.ensures.allowed (search rules)

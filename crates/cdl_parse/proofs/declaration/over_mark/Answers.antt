@@ -2,6 +2,6 @@ use Rattle.cdl_text.specs.Views.{lexeme_of}
 use Rattle.cdl_parse.proofs.DeclarationReads.{over_mark}
 use Rattle.cdl_parse.proofs.declaration.over_mark.Goals as goal
 
-pub returns-clause-reads : goal.returns-clause-reads
-returns-clause-reads c = λ dims ty drafts ls.
-    over_mark dims ty drafts c.args.begun.name.items c.args.begun.dimids.items c.args.begun.is_open c.is_open_after.result (lexeme_of c.args.mark) ls c.requires c.is_open_after.ensures
+pub returns : goal.returns
+returns c = λ dims drafts ls.
+    over_mark dims c.args.begun.ty drafts c.args.begun.name.items c.args.begun.dimids.items c.args.begun.is_open c.is_open_after.result (lexeme_of c.args.mark) ls c.requires c.is_open_after.ensures

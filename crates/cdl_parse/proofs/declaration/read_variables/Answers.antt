@@ -21,10 +21,9 @@ tokens-init c =
     record {
       text = c.advanced.ensures.same.text;
       goes = c.advanced.ensures.goes goes;
-      new = c.in_ok-begun.ensures.new;
       rest =
           ap (added a.dims.now a.ty a.variables.now) (going (words a.start) (words next) l (lexeme_of c.lexeme.result) ends c.advanced.ensures.words (sym c.lexeme.ensures.lexeme) goes) ∙
-          c.in_ok-begun.ensures.reads a.dims.now a.ty (words next);
+          c.in_ok-begun.ensures a.dims.now a.variables.now (words next);
     }
 
 pub returns-then-ends : goal.returns-then-ends
@@ -35,5 +34,5 @@ returns-then-ends c =
     let token = lexeme_of c.lexeme-token.result in
     let rest = words c.advance-ends.new.self in
     subst (Leaves c.put.new.variables c.put.result) (sym t.invariant.rest)
-    (all_read a.dims.now a.ty c.read_on.new.variables (words t.cutter) t.variables c.put.new.variables token t.begun c.in_ok-begun-2.begun c.advance-ends.result rest
-    (first_word (words t.cutter) rest l token c.advance-ends.result c.advance-ends.ensures.words (sym c.lexeme-token.ensures.lexeme)) c.if-ends.true (c.in_ok-begun-2.ensures.reads _) c.put.result c.put.ensures)
+    (all_read a.dims.now c.read_on.new.variables (words t.cutter) t.variables c.put.new.variables token t.begun c.in_ok-begun-2.begun c.advance-ends.result rest
+    (first_word (words t.cutter) rest l token c.advance-ends.result c.advance-ends.ensures.words (sym c.lexeme-token.ensures.lexeme)) c.if-ends.true (c.in_ok-begun-2.ensures _) c.put.result c.put.ensures)

@@ -1,15 +1,13 @@
 use Rattle.std.proofs.Common.{◌≡◌, ◌-◌, length, false}
 use Rattle.cdl_text.specs.Cutters.{is_done, offset_of, text_of, words}
 use Rattle.cdl_parse.specs.Declarations.{added, read_on}
-use Rattle.cdl_parse.specs.Drafts.{is_taken}
 use Rattle.cdl_parse.proofs.declaration.read_variables.Given as goal
 
 abbrev pub invariant-tokens : goal.invariant-tokens
 invariant-tokens l = record {
   text : text_of l.cutter ≡ text_of l.fn.start;
   goes : is_done l.cutter ≡ false;
-  new : is_taken l.begun.name.items l.variables ≡ false;
-  rest : added l.dims l.ty l.fn.variables (words l.fn.start) ≡ read_on l.dims l.ty l.variables l.begun (words l.cutter);
+  rest : added l.dims l.fn.ty l.fn.variables (words l.fn.start) ≡ read_on l.dims l.variables l.begun (words l.cutter);
 }
 
 abbrev pub decreases-tokens : goal.decreases-tokens

@@ -23,7 +23,7 @@ returns c = λ small.
     let dims : s.dims ≡ c.as_slice.result.now = search rules in
     let listed_of : c.as_slice-2.result.now ≡ vars = search rules in
     let drafts : s.drafts ≡ fresh c.as_slice-2.result.now = sym c.in_ok-vars.ensures.vars ∙ ap fresh (sym listed_of) in
-    let read = c.in_ok-values.ensures.reads s refl dims drafts c.in_ok-vars.ensures.names c.in_ok-definitions.ensures.shaped short in
+    let read = c.in_ok-values.ensures.reads s refl (record { has_dims = dims; unlisted = drafts; named = c.in_ok-vars.ensures.names; shaped = c.in_ok-definitions.ensures.shaped; short = short }) in
     let at : State = record s { section = values.section; drafts = read.0 } in
     let so_far : run (text_of start) (version_of start) empty (pieces_left start) ≡ run (text_of start) (version_of start) at (pieces_left values.rest) =
     c.in_ok-definitions.ensures.reads ∙ same_run (text_of start) (text_of rest) (version_of start) (version_of rest) s at (pieces_left rest) (pieces_left values.rest) c.in_ok-definitions.ensures.same.text c.in_ok-definitions.ensures.same.version read.2 in
@@ -53,7 +53,7 @@ returns-in_err-read_end c = λ small.
     let dims : s.dims ≡ c.as_slice.result.now = search rules in
     let listed_of : c.as_slice-2.result.now ≡ vars = search rules in
     let drafts : s.drafts ≡ fresh c.as_slice-2.result.now = sym c.in_ok-vars.ensures.vars ∙ ap fresh (sym listed_of) in
-    let read = c.in_ok-values.ensures.reads s refl dims drafts c.in_ok-vars.ensures.names c.in_ok-definitions.ensures.shaped short in
+    let read = c.in_ok-values.ensures.reads s refl (record { has_dims = dims; unlisted = drafts; named = c.in_ok-vars.ensures.names; shaped = c.in_ok-definitions.ensures.shaped; short = short }) in
     let at : State = record s { section = values.section; drafts = read.0 } in
     let so_far : run (text_of start) (version_of start) empty (pieces_left start) ≡ run (text_of start) (version_of start) at (pieces_left values.rest) =
     c.in_ok-definitions.ensures.reads ∙ same_run (text_of start) (text_of rest) (version_of start) (version_of rest) s at (pieces_left rest) (pieces_left values.rest) c.in_ok-definitions.ensures.same.text c.in_ok-definitions.ensures.same.version read.2 in

@@ -12,11 +12,11 @@ returns-in_ok-without_values-in_default c =
     let vars = c.args.vars.now in
     let empty : c.in_ok-without_values-in_default.field-0.items ≡ replicate (length vars) [] = c.in_ok-without_values-in_default.ensures in
     record {
-      reads = λ s section dims drafts index shaped short. (
+      reads = λ s section at. (
         fresh vars,
         subst (λ arrays. AllList s.dims vars arrays (fresh vars)) (sym empty) (none_listed s.dims vars),
         ap (λ here. run (text_of start) (version_of start) (record s { section = here }) (pieces_left start)) section ∙
-            ap (λ ds. run (text_of start) (version_of start) (record s { section = c.args.section; drafts = ds }) (pieces_left start)) drafts,
+            ap (λ ds. run (text_of start) (version_of start) (record s { section = c.args.section; drafts = ds }) (pieces_left start)) at.unlisted,
       );
       past = λ more. past_values c.args.section (c.requires more) c.in_default.not-Values;
       same = record { text = refl; version = refl };

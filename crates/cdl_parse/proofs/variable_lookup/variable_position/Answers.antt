@@ -19,14 +19,13 @@ pub returns-in-Some-clause-finds : goal.returns-in-Some-clause-finds
 returns-in-Some-clause-finds c = λ drafts h change.
     let same = c.as_slice.ensures.value ∙ c.in_ok-name.ensures.name in
     changed (word_value c.args.word.now) change drafts c.in-Some.position c.in_ok-name.ensures.allowed
-    (ap (position_of (names_of drafts)) (sym same) ∙ sym (c.find.ensures (names_of drafts) h) ∙ c.in-Some.is)
+    (ap (position_of (names_of drafts)) (sym same) ∙ ap (λ names. position_of names c.as_slice.result.now) (sym h) ∙ sym c.find.ensures ∙ c.in-Some.is)
 
 pub returns-in-Some-clause-within : goal.returns-in-Some-clause-within
-returns-in-Some-clause-within c = λ drafts h.
-    within c.as_slice.result.now drafts c.in-Some.position (sym (c.find.ensures (names_of drafts) h) ∙ c.in-Some.is)
+returns-in-Some-clause-within c = within c.as_slice.result.now c.args.names.now c.in-Some.position (sym c.find.ensures ∙ c.in-Some.is)
 
 pub returns-clause-finds : goal.returns-clause-finds
 returns-clause-finds c = λ drafts h change.
     let same = c.as_slice.ensures.value ∙ c.in_ok-name.ensures.name in
     unknown (word_value c.args.word.now) change drafts c.in_ok-name.ensures.allowed
-    (ap (position_of (names_of drafts)) (sym same) ∙ sym (c.find.ensures (names_of drafts) h) ∙ c.in-None.is)
+    (ap (position_of (names_of drafts)) (sym same) ∙ ap (λ names. position_of names c.as_slice.result.now) (sym h) ∙ sym c.find.ensures ∙ c.in-None.is)

@@ -1,13 +1,17 @@
-use Rattle.std.proofs.Common.{arith, ◌≤◌, length}
+use Rattle.std.proofs.Common.{arith, ◌≤◌, length, subst, List, ℕ}
 use Rattle.cdl_text.specs.Cutters.{version_of, words}
+use Rattle.cdl_values.specs.Answers.{Gives}
 use Rattle.cdl_values.specs.Capacities.{most}
-use Rattle.cdl_values.specs.Meant.{names_of}
+use Rattle.cdl_values.specs.DataRead.{data_read}
 use Rattle.cdl_values.specs.declared.data.Given.{Given}
 use Rattle.cdl_values.proofs.Counts.{words_len}
 use Rattle.cdl_values.proofs.Joins.{reads_statement}
 use Rattle.cdl_values.proofs.data.read.Goals as goal
 
 pub returns-clause-means : goal.returns-clause-means
-returns-clause-means c = λ s section index suit off small.
-    let few : length (words c.args.start) ≤ most = let h = words_len c.args.start in omega (arith, h, small) in
-    reads_statement (λ (g : Given). g.array) c.read_either.result (version_of c.args.start) s c.args.targets.now (words c.args.start) section suit off few (c.read_either.ensures.read (names_of s.drafts) index)
+returns-clause-means c = λ s at.
+    let v = version_of c.args.start in
+    let ws = words c.args.start in
+    let few : length ws ≤ most = let h = words_len c.args.start in let short = at.short in omega (arith, h, short) in
+    reads_statement (λ (g : Given). g.array) c.read_either.result v s c.args.targets.now ws at.section at.suit at.lists few
+    (subst (λ (names : List (List ℕ)). Gives (λ (g : Given). g.array) c.read_either.result (data_read v names c.args.targets.now ws)) at.named c.read_either.ensures.read)

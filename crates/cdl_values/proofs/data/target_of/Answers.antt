@@ -9,7 +9,8 @@ use Rattle.cdl_values.proofs.AllowedNames.{not_allowed, refused}
 use Rattle.cdl_values.proofs.data.target_of.Goals as goal
 
 pub returns-in_err-name-clause-target : goal.returns-in_err-name-clause-target
-returns-in_err-name-clause-target c = λ names h.
+returns-in_err-name-clause-target c =
+    let names = c.args.names.now in
     let name = word_value c.args.word.now in
     let e = c.in_err-name.field-0.0 in
     refused (λ (place : Place). place.target) c.from_residual.result e (target_of names c.args.targets.now name) (search rules)

@@ -1,12 +1,12 @@
-use Rattle.std.proofs.Common.{◌∙◌, ap, map}
+use Rattle.std.proofs.Common.{◌∙◌, ap}
 use Rattle.std.specs.List.{position}
 use Rattle.std.specs.Str.{bytes_eq}
 use Rattle.nc_base.specs.declared.header.Dim.{Dim}
+use Rattle.cdl_values.specs.NameIndices.{position_of}
 use Rattle.cdl_parse.proofs.DimensionPositions.{position_is}
 use Rattle.cdl_parse.proofs.dimensions.Dimensions.position.Goals as goal
 
 pub returns : goal.returns
 returns c =
     let name = c.args.name.now in
-    let dims = c.self.inside.list.items in
-    c.find.ensures (map (λ (d : Dim). d.name) dims) c.self.invariant.0 ∙ position_is dims name ∙ ap (position (λ (d : Dim). bytes_eq d.name name)) c.self.view_is
+    c.find.ensures ∙ ap (λ names. position_of names name) c.self.invariant.0 ∙ position_is c.self.inside.list.items name ∙ ap (position (λ (d : Dim). bytes_eq d.name name)) c.self.view_is

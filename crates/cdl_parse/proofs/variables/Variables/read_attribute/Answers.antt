@@ -1,5 +1,4 @@
-use Rattle.std.proofs.Common.{◌≡◌, ◌<◌, drop, true, ap, sym, subst, ◌∙◌, length, set, arith}
-use Rattle.std.proofs.lemmas.List.{length-map}
+use Rattle.std.proofs.Common.{◌≡◌, ◌<◌, List, ℕ, drop, true, ap, sym, subst, ◌∙◌, length, set, arith}
 use Rattle.cdl_text.specs.Cutters.{next_token, text_of, version_of, words}
 use Rattle.cdl_text.specs.DueTokens.{completes}
 use Rattle.cdl_tokens.specs.Escapes.{word_value}
@@ -9,10 +8,10 @@ use Rattle.cdl_text.specs.declared.due.Due.TheVariants.{AttributeName}
 use Rattle.cdl_meaning.specs.State.{at_variable, with_att}
 use Rattle.cdl_values.specs.Answers.{Leaves}
 use Rattle.cdl_values.specs.Meant.{name_first}
-use Rattle.cdl_values.specs.NameIndices.{IsIndex}
 use Rattle.cdl_parse.specs.AttributeRead.{constants_said}
-use Rattle.cdl_parse.specs.Drafts.{draft_of, drafts_of}
+use Rattle.cdl_parse.specs.Drafts.{drafts_of}
 use Rattle.cdl_parse.specs.VariablePositions.{at_position}
+use Rattle.cdl_parse.proofs.DraftNames.{name_count}
 use Rattle.cdl_parse.proofs.VariableAttributes.{changed_at, name_is, names_kept, past_colon, past_name, unchanged_at, with_atts}
 use Rattle.cdl_parse.proofs.variables.Variables.read_attribute.Goals as goal
 
@@ -23,8 +22,9 @@ advanced-requires-2 c =
 
 pub index_mut-variable-requires : goal.index_mut-variable-requires
 index_mut-variable-requires c =
-    let h : c.in_ok-position.position < length (drafts_of c.self.inside.list.items) = c.in_ok-position.ensures.within (drafts_of c.self.inside.list.items) c.self.invariant in
-    omega (arith, h, length-map c.self.inside.list.items draft_of, c.self.inside.list.ok.0)
+    let h : c.in_ok-position.position < length c.self.inside.names = c.in_ok-position.ensures.within in
+    let count : length c.self.inside.names ≡ length c.self.inside.list.items = ap (λ (names : List (List ℕ)). length names) c.self.invariant ∙ name_count c.self.inside.list.items in
+    omega (arith, h, count, c.self.inside.list.ok.0)
 
 pub read_attribute-requires-clause-more : goal.read_attribute-requires-clause-more
 read_attribute-requires-clause-more c =
@@ -45,7 +45,7 @@ read_attribute-requires-clause-shaped c =
 pub invariant_of-self : goal.invariant_of-self
 invariant_of-self c =
     let items = c.self.inside.list.items in
-    subst (IsIndex c.self.inside.names) (sym (names_kept items c.in_ok-position.position c.index_mut-variable.result.now c.read_attribute.new.attributes c.index_mut-variable.ensures.value)) c.self.invariant
+    c.self.invariant ∙ sym (names_kept items c.in_ok-position.position c.index_mut-variable.result.now c.read_attribute.new.attributes c.index_mut-variable.ensures.value)
 
 pub returns-clause-reads : goal.returns-clause-reads
 returns-clause-reads c =
@@ -61,7 +61,9 @@ returns-clause-reads c =
     let one = past_name (lexeme (text_of start) (next_token start)) c.advanced.result.1 (words colon) (words start) c.advanced.ensures.words c.requires.shaped in
     let on : completes AttributeName (drop 1 (words colon)) ≡ true = ap (completes AttributeName) (sym one.1) ∙ c.requires.shaped in
     let two = past_colon (lexeme (text_of colon) (next_token colon)) c.advanced-2.result.1 (words name) (words colon) c.advanced-2.ensures.words on in
-    let within : at < length items = omega (arith, c.in_ok-position.ensures.within drafts c.self.invariant, length-map items draft_of) in
+    let count : length c.self.inside.names ≡ length items = ap (λ (names : List (List ℕ)). length names) c.self.invariant ∙ name_count items in
+    let below : at < length c.self.inside.names = c.in_ok-position.ensures.within in
+    let within : at < length items = omega (arith, below, count) in
     let put = changed_at (name_first (words name)) (constants_said (version_of name) (words name)) items at variable atts c.read_attribute.result within c.index_mut-variable.ensures.value c.read_attribute.ensures.reads in
     let word = word_value c.lexeme.result.bytes.now in
     let same : at_variable (name_first (words start)) (with_att (name_first (drop 2 (words start))) (constants_said (version_of start) (drop 2 (words start)))) c.args.self.now ≡ at_position at change drafts =

@@ -1,9 +1,33 @@
-use Rattle.std.proofs.Common.{◌∙◌}
-use Rattle.cdl_values.proofs.NamePositions.{indexed, unchanged, where_err}
+use Rattle.std.proofs.Common.{rules, ◌≡◌, ◌++◌, ◌∷◌, [], List, ℕ, ap, sym, subst, ◌∙◌}
+use Rattle.std.specs.Prelude.{Bool, IfOk, Result, length}
+use Rattle.std.specs.declared.alloc.AllocError.{AllocError}
+use Rattle.cdl_values.specs.NameIndices.{names_in, with_name}
+use Rattle.std.specs.BTreeMap.{insert_entry}
+use Rattle.std.specs.BTreeMap.Entry.{map_with_value}
+use Rattle.cdl_values.proofs.NamePositions.{key_order, index_added, index_same, names_added, names_same}
 use Rattle.cdl_values.proofs.name_index.NameIndex.add.Goals as goal
+use Rattle.cdl_values.proofs.name_index.NameIndex.add.Goals.{in-Occupied, in-Vacant}
 
-pub returns-clause-ok : goal.returns-clause-ok
-returns-clause-ok c = indexed c.args.self.now.positions c.insert.new.self c.args.name c.args.position c.in_ok-insert.ensures.updates
+pub invariant_of-self-2 : goal.invariant_of-self-2
+invariant_of-self-2 c =
+    let m = c.self.inside.positions in
+    let n = c.match-branch-2.self-inside.positions in
+    let entry = c.in_ok-self-inside.field-0 in
+    let put = map_with_value entry (length m.entries) in
+    let update = c.in_ok-self-inside.ensures.update in
+    elim c.match-branch-2.branch [
+      | in-Occupied w ↦ index_same m n (search rules) c.self.invariant
+      | in-Vacant w ↦
+          let listed : n.entries ≡ insert_entry key_order m.entries c.args.name (length m.entries) = search rules in
+          index_same put n (listed ∙ sym (update.1 (length m.entries))) (index_added m put c.args.name c.self.invariant (search rules) (update.1 (length m.entries)) (update.0 (length m.entries)))
+    ]
 
-pub returns-in_err-insert-clause-err : goal.returns-in_err-insert-clause-err
-returns-in_err-insert-clause-err c = where_err c.from_residual.result _ (λ names is name. unchanged c.args.self.now.positions c.insert.new.self c.in_err-insert.ensures.err name ∙ is name)
+pub returns-clause-names : goal.returns-clause-names
+returns-clause-names c =
+    let m = c.self.inside.positions in
+    let n = c.match-branch-2.self-inside.positions in
+    elim c.match-branch-2.branch [
+      | in-Occupied w ↦ subst (λ (r : Result Bool AllocError). IfOk r (λ added. names_in n ≡ with_name added c.args.self.now c.args.name.items)) (sym w.result-is) (names_same m n (search rules) ∙ c.self.view_is)
+      | in-Vacant w ↦ subst (λ (r : Result Bool AllocError). IfOk r (λ added. names_in n ≡ with_name added c.args.self.now c.args.name.items)) (sym w.result-is)
+          (names_added m n c.args.name c.self.invariant (search rules) (search rules) ∙ ap (λ (names : List (List ℕ)). names ++ c.args.name.items ∷ []) c.self.view_is)
+    ]

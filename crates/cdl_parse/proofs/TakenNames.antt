@@ -1,0 +1,30 @@
+-- A taken name comes before the faults after it.
+use Rattle.std.proofs.Common.{◌≡◌, Bool, true, false, refl, ◌∙◌}
+use Rattle.std.specs.Prelude.{Result, Ok, Err, IfOk}
+use Rattle.cdl_text.specs.declared.fault.CdlKind.{CdlKind}
+use Rattle.cdl_text.specs.declared.fault.CdlKind.TheVariants.{BadName, DuplicateName}
+use Rattle.cdl_meaning.specs.State.{unless, when, ◌>>=◌}
+use Rattle.cdl_values.specs.Answers.{Fails}
+use Rattle.cdl_values.specs.declared.read_error.ReadError.{ReadError}
+use Rattle.cdl_values.specs.declared.read_error.ReadError.TheVariants.{OutOfMemory, Fault}
+use Rattle.cdl_parse.specs.TakenNames.{after_name}
+
+pub fails_after : {A : Type 0} (taken : Bool) (e : ReadError) (read : Result A CdlKind) → Fails e read → Fails (after_name taken e) (when taken DuplicateName >>= (λ u. read))
+fails_after taken OutOfMemory read h = tt
+fails_after true (Fault k) read h = refl
+fails_after false (Fault k) read h = h
+
+-- the same of what is read after a name that the format allows
+pub fails_named : {A : Type 0} (named taken : Bool) (e : ReadError) (read : Result A CdlKind) → named ≡ true → Fails e read →
+    Fails (after_name taken e) (unless named BadName >>= (λ u. when taken DuplicateName >>= (λ w. read)))
+fails_named true taken e read is h = fails_after taken e read h
+fails_named false taken e read is h = cc
+
+pub named : {A : Type 0} (named : Bool) (read : Result A CdlKind) → named ≡ true → (unless named BadName >>= (λ u. read)) ≡ read
+named true read is = refl
+named false read is = cc
+
+-- an answer by an equal test
+pub answers_as : {E : Type 0} (r : Result Bool E) (x y : Bool) → x ≡ y → IfOk r (λ b. b ≡ x) → IfOk r (λ b. b ≡ y)
+answers_as (Ok b) x y same h = h ∙ same
+answers_as (Err e) x y same h = tt
