@@ -5,7 +5,7 @@ keep = mkdir -p bin && cp crates/$(1)_cli/out/$(1)_cli bin/$(1)
 # where `make install` puts the programs and their manual pages
 PREFIX = /usr/local
 programs = $(DESTDIR)$(PREFIX)/bin
-pages = $(DESTDIR)$(PREFIX)/share/man/man1
+pages = $(DESTDIR)$(PREFIX)/share/man
 
 # Proves and builds the programs, makes a file of the sample's text, and prints it as CDL again.
 all: bin/ncdump bin/ncgen
@@ -41,14 +41,16 @@ test:
 	tests/squares.py
 	tests/roundtrip.py
 	tests/hostile.py
+	tests/documents.py
 
 # Installs the programs and their manual pages, and proves and builds the programs first where that isn't done.
 install:
 	test -x bin/ncdump || $(MAKE) bin/ncdump
 	test -x bin/ncgen || $(MAKE) bin/ncgen
-	install -d $(programs) $(pages)
+	install -d $(programs) $(pages)/man1 $(pages)/man5
 	install -m 755 bin/ncdump bin/ncgen $(programs)
-	install -m 644 man/ncdump.1 man/ncgen.1 $(pages)
+	install -m 644 man/ncdump.1 man/ncgen.1 $(pages)/man1
+	install -m 644 man/cdl.5 $(pages)/man5
 
 # Proves every crate, over what earlier runs kept.
 check:
