@@ -6,6 +6,9 @@ keep = mkdir -p bin && cp crates/$(1)_cli/out/$(1)_cli bin/$(1)
 PREFIX = /usr/local
 programs = $(DESTDIR)$(PREFIX)/bin
 pages = $(DESTDIR)$(PREFIX)/share/man
+release = juniperbrick-$(shell cat VERSION)-linux-x86_64
+# the day of the newest version
+day = $(shell sed -n 's/^## .*(\(.*\))$$/\1/p' CHANGELOG.md | head -n 1)
 
 # Proves and builds the programs, makes a file of the sample's text, and prints it as CDL again.
 all: bin/ncdump bin/ncgen
@@ -21,10 +24,10 @@ bin/ncgen: FORCE
 	$(call keep,ncgen)
 
 # The merge gate: every proof from nothing, the tests and the programs' stored runs; then wrong bodies, which the prover or a test
-# has to refuse (of those tests a few are run, drawn by the date); places where out of memory is made of anything but a refused growth;
-# wrong definitions, which the laws have to refuse; the tests and the programs that the gate has built with each growth of memory
-# refused in turn, and the programs from end to end, with their calls of the system counted, on texts and files of many parts, whose
-# time may not grow with a square, on random datasets, and on mangled files and texts.
+# has to refuse (of those tests a few are run, drawn by the date); places where out of memory is made of anything but a failed allocation;
+# wrong definitions, which the laws have to refuse; the tests and the programs that the gate has built, with each allocation failing in
+# turn; the programs from end to end, with their calls of the system counted, on texts and files of many parts, whose time may not grow
+# with a square, on random datasets, and on mangled files and texts; the documents; and a release, unpacked and run.
 test:
 	rt ci
 	$(call keep,ncdump)
@@ -42,6 +45,7 @@ test:
 	tests/roundtrip.py
 	tests/hostile.py
 	tests/documents.py
+	tests/release.sh
 
 # Installs the programs and their manual pages, and proves and builds the programs first where that isn't done.
 install:
@@ -52,14 +56,29 @@ install:
 	install -m 644 man/ncdump.1 man/ncgen.1 $(pages)/man1
 	install -m 644 man/cdl.5 $(pages)/man5
 
+# Packs the programs, the manual pages, the documents and the samples into dist/RELEASE.tar.gz, the same bytes each time. In the unpacked
+# folder `make install` installs them without the kit.
+dist:
+	test -x bin/ncdump || $(MAKE) bin/ncdump
+	test -x bin/ncgen || $(MAKE) bin/ncgen
+	rm -rf dist
+	install -d dist/$(release)/bin dist/$(release)/man dist/$(release)/docs dist/$(release)/samples
+	install -s -m 755 bin/ncdump bin/ncgen dist/$(release)/bin
+	install -m 644 man/* dist/$(release)/man
+	install -m 644 docs/* dist/$(release)/docs
+	install -m 644 samples/*.cdl samples/*.nc dist/$(release)/samples
+	install -m 644 Makefile VERSION README.md CHANGELOG.md CONTRIBUTING.md dist/$(release)
+	cd dist/$(release) && find * -type f | LC_ALL=C sort | xargs sha256sum >../SHA256SUMS && mv ../SHA256SUMS .
+	tar --sort=name --owner=0 --group=0 --numeric-owner --mode=u=rwX,go=rX --mtime='$(day) UTC' -C dist -cf - $(release) | gzip -n9 >dist/$(release).tar.gz
+
 # Proves every crate, over what earlier runs kept.
 check:
 	rt all check
 
 # Removes what was built, and what earlier runs kept.
 clean:
-	rm -rf bin crates/*/out
+	rm -rf bin dist crates/*/out
 
 FORCE:
 
-.PHONY: all test install check clean FORCE
+.PHONY: all test install dist check clean FORCE
