@@ -8,6 +8,7 @@ pub mod Names
 pub mod Sizes
 pub mod SizeParts
 pub mod Headers
+pub mod SoundParts
 pub mod Grammar
 pub mod Places
 pub mod FirstFault

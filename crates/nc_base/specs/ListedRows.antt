@@ -1,5 +1,5 @@
 -- Bytes that are listed in rows, and the same with each row filled up.
-use Rattle.std.specs.Prelude.{ℕ, zero, suc, ◌≡◌, ◌≤◌, ◌<◌, ◌+◌, ◌-◌, List, [], ◌∷◌, ◌++◌, drop, length, replicate, take}
+use Rattle.std.specs.Prelude.{ℕ, zero, suc, ◌≡◌, ◌≤◌, ◌<◌, ◌+◌, ◌-◌, List, [], ◌∷◌, ◌++◌, drop, get_or, length, replicate, take}
 
 -- bytes of which the first stands at `start`: rows that end at these offsets, each filled up to `len` bytes, and what comes after them
 unfoldable pub filled_rows : ℕ → ℕ → ℕ → List ℕ → List ℕ → List ℕ
@@ -24,3 +24,7 @@ unfoldable pub row_start : ℕ → List ℕ → ℕ → ℕ
 row_start start ends zero = start
 row_start start [] (suc r) = start
 row_start start (end ∷ ends) (suc r) = row_start end ends r
+
+-- the bytes that are listed of row r, of rows that end at these offsets
+abbrev pub row_of : List ℕ → List ℕ → ℕ → List ℕ
+row_of bytes ends r = take (get_or ends r 0 - row_start 0 ends r) (drop (row_start 0 ends r) bytes)

@@ -1,10 +1,12 @@
 -- What the parts of the functions on sizes give: words of their contracts, and none of the format's.
-use Rattle.std.specs.Prelude.{ℕ, ◌+◌, ◌-◌, ◌*◌, min, Bool, nat_lt, nat_le, ◌==◌, ◌&&◌, not, if◌then◌else◌, List, [], ◌∷◌, length, map, slice_index, Option, Some, None}
+use Rattle.std.specs.Prelude.{◌≡◌, ◌≤◌, ℕ, ◌+◌, ◌-◌, ◌*◌, min, Bool, nat_lt, nat_le, ◌==◌, ◌&&◌, not, if◌then◌else◌, List, [], ◌∷◌, length, map, slice_get, slice_index, IfSome, Option, Some, None, SomeIff}
 use Rattle.std.specs.List.{list_all}
 use Rattle.nc_base.specs.declared.header.Dim.{Dim}
 use Rattle.nc_base.specs.declared.header.Var.{Var}
 use Rattle.nc_base.specs.declared.header.Header.{Header}
-use Rattle.nc_base.specs.Sizes.{is_record_dim, is_record_var, slab_size, record_vars, record_size, slab_limit, record_limit, least_begin}
+use Rattle.nc_base.specs.declared.nc_type.NcType.{NcType}
+use Rattle.nc_base.specs.Headers.{value_count}
+use Rattle.nc_base.specs.Sizes.{is_record_dim, is_record_var, slab_of, slab_size, record_vars, record_size, slab_limit, record_limit, least_begin}
 
 -- the id is that of a dimension other than the record dimension
 abbrev pub is_fixed_dim : List Dim → ℕ → Bool
@@ -40,3 +42,11 @@ end_of h records var =
     if is_record_var h.dims var
     then (if records == 0 then var.begin_at else var.begin_at + (records - 1) * record_size h + slab_size h.dims var)
     else var.begin_at + slab_size h.dims var
+
+-- this is the number of values that the variable at this index has over n records, if there is one
+abbrev pub CountsValues : Header → ℕ → ℕ → ℕ → Type 0
+CountsValues h v records count = IfSome (slice_get h.vars v) (λ (var : Var). count ≡ value_count h.dims var records)
+
+-- the bytes of a slab of this shape, if that keeps the limit
+abbrev pub IsCappedSlab : List Dim → List ℕ → NcType → Option ℕ → Type 0
+IsCappedSlab dims dimids ty slab = SomeIff slab (slab_of dims dimids ty ≤ slab_limit) (slab_of dims dimids ty)

@@ -1,7 +1,7 @@
 //! The bytes that are listed of a variable's array, with each row as long as it is listed.
 
 ghost use Rattle.std.specs.Prelude.{◌≡◌, ◌++◌, ◌∷◌, ◌≤◌, ◌<◌, ◌-◌, [], drop, get_or, length, max, min, replicate, take, IfOk, IfSome, OnOk, OnErr};
-ghost use Rattle.nc_base.specs.ListedRows.{StandAt, row_start};
+ghost use Rattle.nc_base.specs.ListedRows.{StandAt, row_of, row_start};
 
 use std::alloc::{AllocError, Global};
 use std::marker::Model;
@@ -216,7 +216,7 @@ fn row_at<'a>(bytes: &'a [u8], row_ends: &[u32], r: usize) -> &'a [u8]
     requires of { r < length row_ends.now }
     requires after { row_start 0 row_ends.now r ≤ get_or row_ends.now r 0 }
     requires inside { get_or row_ends.now r 0 ≤ length bytes.now }
-    ensures { result.now ≡ take (get_or row_ends.now r 0 - row_start 0 row_ends.now r) (drop (row_start 0 row_ends.now r) bytes.now) }
+    ensures { result.now ≡ row_of bytes.now row_ends.now r }
 {
     let start = start_of(row_ends, r);
     &bytes[start..row_ends[r] as usize]

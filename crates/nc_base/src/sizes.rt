@@ -4,7 +4,7 @@ ghost use Rattle.std.specs.Prelude.{◌≡◌, ◌+◌, ◌*◌, ◌/◌, ◌<�
 ghost use Rattle.nc_base.specs.Types.{size_of};
 ghost use Rattle.nc_base.specs.Bytes.{padding_len};
 ghost use Rattle.nc_base.specs.Sizes.{dim_len, is_record_dim, has_records, is_record_var, is_narrow, product, slab_of, slab_size, padded_size, slab_limit, record_size, record_limit, record_vars, record_count};
-ghost use Rattle.nc_base.specs.SizeParts.{slab_at, checked_record_size, end_of, first_begin, lesser};
+ghost use Rattle.nc_base.specs.SizeParts.{slab_at, checked_record_size, end_of, first_begin, lesser, CountsValues, IsCappedSlab};
 ghost use Rattle.nc_base.specs.GeneratedFile.{known_records};
 ghost use Rattle.nc_base.specs.Places.{extent_end};
 ghost use Rattle.nc_base.specs.Headers.{IsSound, value_count};
@@ -150,7 +150,7 @@ fn end_of(header: &Header, v: usize, records: u64) -> u128
 pub fn value_count(header: &Header, v: usize, records: u64) -> u128
     requires sound { IsSound header.now }
     requires there { v < length header.now.vars }
-    ensures { IfSome (slice_get header.now.vars v) (λ var. result ≡ value_count header.now.dims var records) }
+    ensures { CountsValues header.now v records result }
 {
     let var = &header.vars.as_slice()[v];
     let count = (sound_slab(header, v) / var.ty.size()) as u128;
@@ -246,7 +246,7 @@ pub fn is_record_var(dims: &[Dim], var: &Var) -> bool
 /// The bytes of a slab of this shape and type over these dimensions, without padding. A first dimension of length 0
 /// is the record dimension, over which no slab goes. None above 2^48 bytes.
 pub fn slab_of(dims: &[Dim], dimids: &[u64], ty: NcType) -> Option<u64>
-    ensures { SomeIff result (slab_of dims.now dimids.now ty ≤ slab_limit) (slab_of dims.now dimids.now ty) }
+    ensures { IsCappedSlab dims.now dimids.now ty result }
 {
     let bytes = if has_records(dims, dimids) {
         capped_bytes(dims, &dimids[1..], ty)

@@ -1,10 +1,11 @@
 //! The limits that the counts and sizes of a header keep.
 
-ghost use Rattle.std.specs.Prelude.{◌≡◌, ◌<◌, ◌≤◌, ◌==◌, ◌↔◌, [], length, filter, IsTrue, All};
+ghost use Rattle.std.specs.Prelude.{◌≡◌, ◌<◌, ◌≤◌, ◌==◌, ◌↔◌, [], length, filter, IsTrue};
 ghost use Rattle.nc_base.specs.Versions.{count_limit};
 ghost use Rattle.std.specs.List.{list_all, count_by};
 ghost use Rattle.nc_base.specs.Sizes.{slab_of, slab_limit, record_size, record_limit};
 ghost use Rattle.nc_base.specs.SizeParts.{is_fixed_dim};
+ghost use Rattle.nc_base.specs.SoundParts.{AreSoundAtts, AreSoundDims, AreSoundVars, HasSoundVars, IsSoundShape};
 ghost use Rattle.nc_base.specs.Headers.{IsSoundNumRecs, IsSoundDim, IsSoundAtt, IsSoundVar, AreDimids, HasWholeValues};
 
 use crate::header::{Att, Dim, Header, NumRecs, Var};
@@ -34,7 +35,7 @@ impl Header {
 
 /// Says whether the variables are sound, and so is their record size.
 fn has_sound_vars(header: &Header) -> bool
-    ensures { IsTrue result ↔ (length header.now.vars < count_limit header.now.version) × All (IsSoundVar header.now.version header.now.dims) header.now.vars × (record_size header.now ≤ record_limit) }
+    ensures { IsTrue result ↔ HasSoundVars header.now }
 {
     are_sound_vars(
         header.version,
@@ -62,7 +63,7 @@ fn is_countable(version: Version, count: usize) -> bool
 
 /// Says whether there are no more dimensions than the version can count, and each is sound.
 fn are_sound_dims(version: Version, dims: &[Dim]) -> bool
-    ensures { IsTrue result ↔ (length dims.now < count_limit version) × All (IsSoundDim version) dims.now }
+    ensures { IsTrue result ↔ AreSoundDims version dims.now }
 {
     is_countable(version, dims.len()) && dims.iter().all(|dim| is_sound_dim(version, dim))
 }
@@ -90,7 +91,7 @@ fn record_dim_count(dims: &[Dim]) -> usize
 
 /// Says whether there are no more attributes than the version can count, and each is sound.
 fn are_sound_atts(version: Version, atts: &[Att]) -> bool
-    ensures { IsTrue result ↔ (length atts.now < count_limit version) × All (IsSoundAtt version) atts.now }
+    ensures { IsTrue result ↔ AreSoundAtts version atts.now }
 {
     is_countable(version, atts.len()) && atts.iter().all(|att| is_sound_att(version, att))
 }
@@ -115,7 +116,7 @@ fn has_whole_values(version: Version, att: &Att) -> bool
 
 /// Says whether there are no more variables than the version can count, and each is sound.
 fn are_sound_vars(version: Version, dims: &[Dim], vars: &[Var]) -> bool
-    ensures { IsTrue result ↔ (length vars.now < count_limit version) × All (IsSoundVar version dims.now) vars.now }
+    ensures { IsTrue result ↔ AreSoundVars version dims.now vars.now }
 {
     is_countable(version, vars.len()) && vars.iter().all(|var| is_sound_var(version, dims, var))
 }
@@ -135,7 +136,7 @@ fn is_sound_var(version: Version, dims: &[Dim], var: &Var) -> bool
 
 /// Says whether a shape is sound, and a slab of it and of this type no greater than 2^48 bytes.
 fn has_sound_slab(dims: &[Dim], dimids: &[u64], ty: NcType) -> bool
-    ensures { IsTrue result ↔ AreDimids dims.now [] dimids.now × (slab_of dims.now dimids.now ty ≤ slab_limit) }
+    ensures { IsTrue result ↔ IsSoundShape dims.now dimids.now ty }
 {
     is_sound_shape(dims, dimids) && slab_of(dims, dimids, ty).is_some()
 }
