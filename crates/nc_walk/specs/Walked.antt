@@ -18,8 +18,7 @@ use Rattle.nc_walk.specs.Walks.{WalkView, Answer, IsWhole, count}
 abbrev pub whole_count : Header → List ℕ → Var → ℕ → ℕ
 whole_count h bytes var n = unwrap_or (first_missing h bytes var n) (value_count h.dims var n)
 
--- A walk over the values of a variable: over how many records, with a buffer of which length, and what was done with the
--- source since the walk began.
+-- a walk: the variable that it walks over, the number of records, the length of its buffer, and its source when it began and now
 pub record Pass : Type 0 where
   pub is_transparent : Bool
   pub header : Header
@@ -36,7 +35,7 @@ offsets_in p = value_offsets p.header p.var p.records
 abbrev pub stored_in : Pass → List (List ℕ)
 stored_in p = stored_bytes p.header p.source.before.bytes p.var p.records
 
--- how many they are
+-- how many there are
 abbrev pub total_in : Pass → ℕ
 total_in p = value_count p.header.dims p.var p.records
 

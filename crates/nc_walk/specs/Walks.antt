@@ -151,11 +151,11 @@ pub record ReadValues (l : Slabs) (i : ℕ) (before now : SourceView) (n : ℕ) 
   pub whole : All (IsWhole l.size before.bytes) (take n (offsets_after l i))
   pub handed : now ≡ after before (n * l.size)
 
--- where n values from this cursor on end their slab, all bytes came that the source was asked for: also from an opaque source
+-- if n values from this cursor on end their slab, all bytes came that the source was asked for: also from an opaque source
 abbrev pub ReadsSlabToEnd : {S : Type 0} → Slabs → Cursor → (S → SourceView) → S → S → ℕ → Type 0
 ReadsSlabToEnd l cursor view old new n = cursor.within + n ≡ l.values_per_slab → ReadValues l (number_at l cursor) (view old) (view new) n
 
--- A call that reads values from a cursor on to the start of a slice: the slabs, the cursor, and the slice before and after.
+-- a call that reads values from a cursor on to the start of a slice: the slabs, the cursor, and the slice before and after
 pub record Reading : Type 0 where
   pub slabs : Slabs
   pub cursor : Cursor
@@ -165,7 +165,7 @@ pub record Reading : Type 0 where
 abbrev pub reading : Slabs → Cursor → List ℕ → List ℕ → Reading
 reading l cursor had buf = record { slabs = l; cursor = cursor; had = had; buf = buf }
 
--- the walk that such a call goes on with
+-- the walk as it is before the call
 abbrev pub walk_of : Reading → WalkView
 walk_of r = standing r.slabs (number_at r.slabs r.cursor) r.had
 

@@ -1,4 +1,4 @@
--- What a call that reads values and writes their text was given, and what it did with its devices.
+-- What a call did with its source and its sink, through a lent buffer.
 use Rattle.std.specs.Prelude.{ℕ, List, length}
 use Rattle.devices.specs.Sinks.{SinkView}
 use Rattle.nc_walk.specs.SourceUses.{SourceUse}
@@ -8,7 +8,7 @@ pub record SinkUse : Type 0 where
   pub old : SinkView
   pub new : SinkView
 
--- the same of a sink that contracts see by this view
+-- the same of a sink, old and new, that contracts see by this view
 abbrev pub sink_of : {W : Type 0} → (W → SinkView) → W → W → SinkUse
 sink_of view old new = record { old = view old; new = view new }
 
@@ -18,6 +18,6 @@ pub record Call : Type 0 where
   pub source : SourceUse
   pub sink : SinkUse
 
--- the same of a call that was lent this buffer
+-- the same of a call that was lent this slice as its buffer
 abbrev pub call_of : List ℕ → SourceUse → SinkUse → Call
 call_of buf source sink = record { buffer_len = length buf; source = source; sink = sink }

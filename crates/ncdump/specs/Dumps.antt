@@ -64,9 +64,9 @@ Dumps bytes o old new (Err WriteFailed) = IsCutShort bytes o old new
 
 -- ---- one forward pass
 
--- what is done from here on, with the source as it is here
-abbrev pub going_on_from : SourceView → Call → Call
-going_on_from here call = record call { source = between here call.source.now }
+-- what is left of a call once its source is this
+abbrev pub rest_of : SourceView → Call → Call
+rest_of here call = record call { source = between here call.source.now }
 
 -- The header was read, and no more was read than its bytes and one buffer; and then the selected variables were shown.
 pub record IsAfterHeader {A : Type 0} (o : Options) (call : Call) (result : Result A DumpFault) : Type 0 where
@@ -79,7 +79,7 @@ pub record IsAfterHeader {A : Type 0} (o : Options) (call : Call) (result : Resu
   pub knows : KnowsChosen h o.chosen
   pub bytes : here.bytes ≡ call.source.before.bytes
   pub handed : ReadUpTo call.source.before.handed here.handed end call.buffer_len
-  pub shows : Shows o h (record_count h (length call.source.before.bytes)) (selection_of h o) (going_on_from here call) result
+  pub shows : Shows o h (record_count h (length call.source.before.bytes)) (selection_of h o) (rest_of here call) result
 
 -- no more was read than the bytes up to the header's end, or to that of the first wrong field, and one buffer
 pub record IsInHeader (call : Call) : Type 0 where

@@ -88,14 +88,14 @@ OpensAsked {A} old new (Err (File path fault)) = OpensFile {A = A} old new (Err 
 OpensAsked old new (Err (CommandLine fault)) = new ≡ old
 OpensAsked old new (Err Flush) = ⊥
 
--- What opens the files, before and after a run. Where the files are transparent, contracts know which bytes paths name.
+-- what opens the files, before and after a run; if the files are transparent, contracts know which bytes paths name
 pub record FilesUse : Type 0 where
   pub is_transparent : Bool
   pub named : List ℕ → Option (List ℕ)
   pub old : OpenerView
   pub new : OpenerView
 
--- the same of an opener, by which bytes paths name to it, and by its view
+-- the same of an opener, by the bytes that paths name, and by its view
 abbrev pub files_of : {P : Type 0} → Bool → (P → List ℕ → Option (List ℕ)) → (P → OpenerView) → P → P → FilesUse
 files_of is_transparent named view old new = record { is_transparent = is_transparent; named = named old; old = view old; new = view new }
 
@@ -158,16 +158,16 @@ pub record Ends (run : Run) (err : SinkUse) (status : ℕ) : Type 0 where
   pub success : status ≡ 0 → Succeeded run err
   pub failure : status ≡ 1 → Failed run err
 
--- ---- on these words
+-- ---- of the words
 
--- the dump that the words ask for was written, or the answer is the fault
+-- the dump that the words ask for was written, or the answer is the failure
 abbrev pub DumpsWords : {A : Type 0} → List (Bor (List ℕ)) → FilesUse → SinkUse → Result A Failure → Type 0
 DumpsWords words files out result = HasDumped (run_of words files out) out.new result
 
--- and standard output was flushed
+-- the same, and standard output was flushed
 abbrev pub RunsWords : {A : Type 0} → List (Bor (List ℕ)) → FilesUse → SinkUse → Result A Failure → Type 0
 RunsWords words files out result = Runs (run_of words files out) result
 
--- and standard error tells the fault, as the status does
+-- the same, and the status and standard error tell the failure
 abbrev pub EndsWords : List (Bor (List ℕ)) → FilesUse → SinkUse → SinkUse → ℕ → Type 0
 EndsWords words files out err status = Ends (run_of words files out) err status

@@ -53,7 +53,7 @@ ShowsOrFails old new (Err _) = ⊥
 abbrev pub SaysHasSlabs : Header → ℕ → ℕ → Bool → Type 0
 SaysHasSlabs h v n answer = IfSome (slice_get h.vars v) (λ var. answer ≡ (nat_lt 0 n || not (is_record_var h.dims var)))
 
--- it says whether the variable, which is marked or not, is shown: it is marked, and has a value over n records
+-- it says whether the variable is shown, that is, is marked and has a value over n records
 abbrev pub SaysIsShown : Header → ℕ → ℕ → Bool → Bool → Type 0
 SaysIsShown h v n is_marked answer = IfSome (slice_get h.vars v) (λ var. answer ≡ (is_marked && has_values h.dims n var))
 
