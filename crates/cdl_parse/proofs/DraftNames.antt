@@ -1,7 +1,6 @@
 -- The names of variables, and their index.
-use Rattle.std.proofs.Common.{◌≡◌, ℕ, suc, ◌+◌, ◌-◌, Bool, true, false, List, [], ◌∷◌, ◌++◌, length, map, take, refl, sym, ap, ◌∙◌, arith}
-use Rattle.std.proofs.lemmas.List.{map-append, length-map}
-use Rattle.std.proofs.Math.Seq.{take-append_seam}
+use Rattle.std.proofs.Common.{◌≡◌, ℕ, ◌+◌, Bool, true, false, List, [], ◌∷◌, length, map, refl, sym, ap, ◌∙◌}
+use Rattle.std.proofs.lemmas.List.{length-map}
 use Rattle.std.specs.Prelude.{Some, is_some, if◌then◌else◌, ◌||◌, not}
 use Rattle.std.specs.List.{position_from}
 use Rattle.std.specs.Str.{bytes_eq}
@@ -28,20 +27,6 @@ taken_is drafts name = taken_from 0 drafts name
 
 pub name_count : (items : List Variable) → length (names_of (drafts_of items)) ≡ length items
 name_count items = length-map (drafts_of items) (λ (d : Draft). d.var.name) ∙ length-map items draft_of
-
-pub names_more : (items : List Variable) (v : Variable) → names_of (drafts_of (items ++ v ∷ [])) ≡ names_of (drafts_of items) ++ v.name ∷ []
-names_more items v = ap names_of (map-append draft_of items (v ∷ [])) ∙ map-append (λ (d : Draft). d.var.name) (drafts_of items) (draft_of v ∷ [])
-
--- the variables before the last
-pub without_last : (items pushed popped : List Variable) (v : Variable) → pushed ≡ items ++ v ∷ [] → popped ≡ take (length pushed - 1) pushed → popped ≡ items
-without_last items pushed popped v more is =
-    let a = length-more items v in
-    let len : length pushed - 1 ≡ length items = omega (arith, a, ap (λ (xs : List Variable). length xs) more) in
-    is ∙ ap (λ n. take n pushed) len ∙ ap (take (length items)) more ∙ take-append_seam items (v ∷ [])
-  where
-    length-more : (items : List Variable) (v : Variable) → length (items ++ v ∷ []) ≡ suc (length items)
-    length-more [] v = refl
-    length-more (w ∷ items) v = ap suc (length-more items v)
 
 -- a name is new if no variable has it
 pub new_is : (names : List (List ℕ)) (drafts all : List Draft) (key name : List ℕ) → names ≡ names_of drafts → drafts ≡ all → key ≡ name → is_new names key ≡ not (is_taken name all)

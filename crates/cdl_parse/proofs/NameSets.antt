@@ -1,6 +1,6 @@
 -- A name more in a set of names.
 use Rattle.std.proofs.Common.{◌≡◌, ℕ, Bool, true, false, cond, List, [], ◌∷◌, ◌++◌, refl, sym, ap, ◌∙◌, subst, ⊎_elim, Vec, Global}
-use Rattle.std.specs.Prelude.{◌||◌, Result, Ok, Err, OnOk, is_err}
+use Rattle.std.specs.Prelude.{◌||◌}
 use Rattle.std.specs.BTreeSet as tree
 use Rattle.std.specs.BTreeSet.{BTreeSet}
 use Rattle.std.specs.Set as set
@@ -14,10 +14,6 @@ use Rattle.std.proofs.lemmas.Bool.{cases_Bool, cond-true, cond-false}
 use Rattle.std.proofs.lemmas.Map.Text.{is_eq-slice_cmp}
 use Rattle.nc_base.specs.declared.header.Att.{Att}
 use Rattle.cdl_parse.specs.AttributeNames.{contains_name, has_name, HasNames}
-
-pub where_ok : {A E : Type 0} (r : Result A E) (P : Type 0) → is_err r ≡ false → OnOk r P → P
-where_ok (Ok a) P off h = h
-where_ok (Err e) P off h = cc
 
 -- a key that the new name is not is as before
 apart : (bs cs ks : List ℕ) → bytes_eq bs cs ≡ false → bytes_eq bs ks ≡ true → bytes_eq cs ks ≡ false

@@ -1,11 +1,13 @@
 -- What a variable takes, beside what its values are checked against.
 use Rattle.std.specs.Prelude.{ℕ, ◌≡◌, ◌-◌, ◌^◌, min, true, false, List, [], ◌∷◌, Option, None, Some, Result, Ok, Err}
 use Rattle.std.specs.List.{flat_map}
+use Rattle.nc_base.specs.declared.header.Dim.{Dim}
+use Rattle.nc_base.specs.declared.header.Var.{Var}
 use Rattle.nc_base.specs.declared.nc_type.NcType.TheVariants.{Char}
 use Rattle.nc_base.specs.Numbers.{bytes_of_number}
 use Rattle.nc_base.specs.ValueText.{is_char}
 use Rattle.cdl_text.specs.declared.fault.CdlKind.{CdlKind}
-use Rattle.cdl_meaning.specs.State.{Capacity, Listing, values_in}
+use Rattle.cdl_meaning.specs.State.{Capacity, Listing, capacity_of, values_in}
 use Rattle.cdl_values.specs.declared.filling.Filling.{Filling}
 use Rattle.cdl_values.specs.declared.filling.Filling.TheVariants.{Numbers, Joined, Rows}
 
@@ -35,6 +37,10 @@ positions_in (Rows len fill) r = r.rows
 abbrev pub Takes : Filling → Option ℕ → Capacity → Type 0
 Takes filling None r = r.is_open ≡ true
 Takes filling (Some n) r = (r.is_open ≡ false) × (n ≡ capacity_for filling (positions_in filling r))
+
+-- a variable that is filled so has this capacity
+abbrev pub TakesAsFilled : List Dim → Var → Filling → Option ℕ → Type 0
+TakesAsFilled dims var filling capacity = Fills filling (capacity_of dims var) → Takes filling capacity (capacity_of dims var)
 
 -- the bytes of what is listed
 abbrev pub as_bytes : Capacity → Result Listing CdlKind → Result (List ℕ) CdlKind

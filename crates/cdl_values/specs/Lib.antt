@@ -6,3 +6,4 @@ pub mod Listed
 pub mod DataRead
 pub mod Meant
 pub mod ValueRuns
+pub mod TokenValues

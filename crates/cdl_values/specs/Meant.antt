@@ -4,6 +4,7 @@ use Rattle.std.specs.List.{flat_map}
 use Rattle.std.specs.Str.{bytes_eq}
 use Rattle.nc_base.specs.Numbers.{bytes_of_number}
 use Rattle.nc_base.specs.declared.header.Dim.{Dim}
+use Rattle.nc_base.specs.declared.header.Var.{Var}
 use Rattle.nc_base.specs.declared.version.Version.{Version}
 use Rattle.cdl_tokens.specs.Escapes.{word_value}
 use Rattle.cdl_text.specs.Cutters.{text_of, version_of, words}
@@ -16,6 +17,7 @@ use Rattle.cdl_meaning.specs.State.{State, Draft, Listing, capacity_of, is_liste
 use Rattle.cdl_values.specs.declared.read_error.ReadError.{ReadError}
 use Rattle.cdl_values.specs.declared.read_error.ReadError.TheVariants.{OutOfMemory, Fault}
 use Rattle.cdl_values.specs.Capacities.{Fills, Takes}
+use Rattle.cdl_values.specs.Listed.{AreShaped, fresh}
 use Rattle.cdl_values.specs.declared.data.Given.{Given}
 use Rattle.cdl_values.specs.declared.data.Target.{Target}
 
@@ -30,6 +32,10 @@ abbrev pub Suit : List Dim → List Target → List Draft → Type 0
 Suit dims [] [] = ⊤
 Suit dims (t ∷ ts) (d ∷ ds) = Suits dims t d × Suit dims ts ds
 Suit dims _ _ = ⊥
+
+-- each target is what the variable at its position takes before the data section
+abbrev pub SuitVariables : List Dim → List Var → List Target → Type 0
+SuitVariables dims vars targets = AreShaped dims (fresh vars) → Suit dims targets (fresh vars)
 
 abbrev pub names_of : List Draft → List (List ℕ)
 names_of drafts = map (λ (d : Draft). d.var.name) drafts

@@ -1,16 +1,10 @@
 //! The constants of an attribute.
 
-ghost use Rattle.std.specs.Prelude.{◌≡◌, List, [], ◌∷◌, false};
-ghost use Rattle.cdl_text.specs.Contents.{value_of, values};
-ghost use Rattle.cdl_text.specs.Cutters.{is_done, version_of, words};
-ghost use Rattle.cdl_tokens.specs.Escapes.{inner, stands};
-ghost use Rattle.cdl_text.specs.Lexemes as lexemes;
-ghost use Rattle.cdl_tokens.specs.Magnitudes.{held};
-ghost use Rattle.cdl_tokens.specs.Numerals.{Parts, number};
-ghost use Rattle.cdl_text.specs.Shapes.{Characters, Number};
-ghost use Rattle.cdl_text.specs.Views.{lexeme_of};
-ghost use Rattle.cdl_meaning.specs.State.{add_constant, in_turn, type_said};
-ghost use Rattle.cdl_values.specs.Answers.{Continues, Gives, Leaves};
+ghost use Rattle.std.specs.Prelude.{◌≡◌, false};
+ghost use Rattle.cdl_text.specs.Cutters.{is_done};
+ghost use Rattle.cdl_meaning.specs.State.{add_constant, type_said};
+ghost use Rattle.cdl_values.specs.Answers.{Gives, Leaves};
+ghost use Rattle.cdl_values.specs.TokenValues.{AddsNumber, AddsToken, text_said, constants_read, value_said};
 
 use crate::number::{number_or_zero, put_numeral};
 use crate::read_error::ReadError;
@@ -23,7 +17,7 @@ use std::alloc::Global;
 /// The type that a constant says: that of a number's suffix, int for a number without one, and char for a string (the CDL
 /// chapter of the NetCDF User's Guide, "CDL Notation for Data Constants").
 pub fn type_said(version: Version, token: Lexeme<'_>) -> NcType
-    ensures { result ≡ type_said (value_of version (lexeme_of token.entry) token.entry.kind) }
+    ensures { result ≡ type_said (value_said version token.entry) }
 {
     match token.kind {
         TokenKind::Number => number_or_zero(version, token.bytes).ty,
@@ -43,7 +37,7 @@ pub fn read_constants(
     start: Cutter<'_>,
 ) -> Result<ListedArray, ReadError>
     requires { is_done start ≡ false }
-    ensures { Gives (λ vals. vals) result (in_turn (add_constant ty) [] (values (version_of start.entry) (words start.entry))) }
+    ensures { Gives (λ vals. vals) result (constants_read ty start.entry) }
 {
     let version = start.version();
     let mut cutter = start;
@@ -65,7 +59,7 @@ fn put_token(
     ty: NcType,
     token: Lexeme<'_>,
 ) -> Result<(), ReadError>
-    ensures { (rest : List lexemes.Lexeme) → Continues (λ u. in_turn (add_constant ty) vals.new (values version rest)) result (in_turn (add_constant ty) vals.old (values version (lexeme_of token.entry ∷ rest))) }
+    ensures { AddsToken version ty token.entry vals.old vals.new result }
 {
     match token.kind {
         TokenKind::Mark => Ok(()),
@@ -81,7 +75,7 @@ fn put_constant(
     ty: NcType,
     token: Lexeme<'_>,
 ) -> Result<(), ReadError>
-    ensures { Leaves vals.new result (add_constant ty vals.old (value_of version (lexeme_of token.entry) token.entry.kind)) }
+    ensures { Leaves vals.new result (add_constant ty vals.old (value_said version token.entry)) }
 {
     match token.kind {
         TokenKind::Number => put_number(vals, ty, number_or_zero(version, token.bytes)),
@@ -92,7 +86,7 @@ fn put_constant(
 
 /// Adds the bytes of a number, where it has the type.
 fn put_number(vals: &mut ListedArray, ty: NcType, n: Numeral) -> Result<(), ReadError>
-    ensures { (p : Parts) → n ≡ held p → Leaves vals.new result (add_constant ty vals.old (Number (number p))) }
+    ensures { AddsNumber ty n vals.old vals.new result }
 {
     if n.ty.code() != ty.code() {
         return Err(ReadError::Fault(CdlKind::MixedConstants));
@@ -102,7 +96,7 @@ fn put_number(vals: &mut ListedArray, ty: NcType, n: Numeral) -> Result<(), Read
 
 /// Adds the characters that a string stands for, where the type is char.
 fn put_characters(vals: &mut ListedArray, ty: NcType, bytes: &[u8]) -> Result<(), ReadError>
-    ensures { Leaves vals.new result (add_constant ty vals.old (Characters (stands (inner bytes.now)))) }
+    ensures { Leaves vals.new result (add_constant ty vals.old (text_said bytes.now)) }
 {
     if ty.code() != NcType::Char.code() {
         return Err(ReadError::Fault(CdlKind::MixedConstants));

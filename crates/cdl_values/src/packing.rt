@@ -1,12 +1,11 @@
 //! The values of a statement of the data section, packed.
 
 ghost use Rattle.std.specs.Prelude.{◌≡◌, None, Ok, OnOk, IfOk, false, true};
-ghost use Rattle.cdl_text.specs.Contents.{values};
 ghost use Rattle.cdl_text.specs.Cutters.{Follows, is_done, version_of, words};
 ghost use Rattle.cdl_text.specs.DueTokens.{completes};
 ghost use Rattle.cdl_text.specs.Shapes.{first_bad};
 ghost use Rattle.cdl_values.specs.Answers.{Gives};
-ghost use Rattle.cdl_values.specs.PackedValues.{packed};
+ghost use Rattle.cdl_values.specs.TokenValues.{packed_from};
 
 use crate::filling::Filling;
 use crate::read_error::ReadError;
@@ -36,7 +35,7 @@ pub fn pack(
     capacity: Option<u64>,
 ) -> Result<ListedArray, ReadError>
     requires { is_done start ≡ false }
-    ensures { Gives (λ a. a) result (packed filling capacity (values (version_of start.entry) (words start.entry))) }
+    ensures { Gives (λ a. a) result (packed_from filling capacity start.entry) }
 {
     let version = start.version();
     let mut cutter = start;
@@ -67,7 +66,7 @@ pub fn pack_good<'a>(
     requires { is_done start ≡ false }
     ensures bad { OnOk result (first_bad (version_of start.entry) (words start.entry) ≡ None) }
     ensures shaped { OnOk result (completes (Due.Value true) (words start.entry) ≡ true) }
-    ensures packs { IfOk result (λ p. packed filling capacity (values (version_of start.entry) (words start.entry)) ≡ Ok p.array) }
+    ensures packs { IfOk result (λ p. packed_from filling capacity start.entry ≡ Ok p.array) }
     ensures rest { IfOk result (λ p. Follows start.entry p.rest) }
 {
     let version = start.version();

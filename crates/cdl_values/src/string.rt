@@ -3,10 +3,10 @@
 ghost use Rattle.std.specs.Prelude.{◌≡◌, ◌++◌, ◌≤◌, Err, IfOk, OnOk, length, take, false, true};
 ghost use Rattle.std.specs.List.{prefix_len};
 ghost use Rattle.cdl_tokens.specs.Escapes.{inner, is_unescaped, stands};
-ghost use Rattle.cdl_text.specs.Shapes.{Characters};
 ghost use Rattle.cdl_text.specs.declared.fault.CdlKind.TheVariants.{TooManyValues};
 ghost use Rattle.cdl_values.specs.Answers.{Adds};
 ghost use Rattle.cdl_values.specs.PackedValues.{char_bytes, row_bytes, text_bytes};
+ghost use Rattle.cdl_values.specs.TokenValues.{text_said};
 ghost use Rattle.cdl_values.specs.declared.read_error.ReadError.TheVariants.{Fault};
 
 use crate::filling::is_past;
@@ -23,7 +23,7 @@ pub fn put_text(
     capacity: Option<u64>,
     bytes: &[u8],
 ) -> Result<(), ReadError>
-    ensures { Adds array.old array.new result (text_bytes capacity (Characters (stands (inner bytes.now)))) }
+    ensures { Adds array.old array.new result (text_bytes capacity (text_said bytes.now)) }
 {
     let before = array.len();
     put_string(array, inner(bytes))?;
@@ -42,7 +42,7 @@ pub fn put_row(
     full: bool,
     bytes: &[u8],
 ) -> Result<(), ReadError>
-    ensures adds { Adds array.old array.new result (row_bytes len fill full (Characters (stands (inner bytes.now)))) }
+    ensures adds { Adds array.old array.new result (row_bytes len fill full (text_said bytes.now)) }
     ensures full { full ≡ true → result ≡ Err (Fault TooManyValues) }
 {
     if full {
@@ -66,7 +66,7 @@ pub fn put_plain_row(
     bytes: &[u8],
 ) -> Result<(), ReadError>
     requires { stands (inner bytes.now) ≡ inner bytes.now }
-    ensures { Adds array.old array.new result (row_bytes len fill false (Characters (stands (inner bytes.now)))) }
+    ensures { Adds array.old array.new result (row_bytes len fill false (text_said bytes.now)) }
 {
     let characters = inner(bytes);
     let n = characters.len() as u64;

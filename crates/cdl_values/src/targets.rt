@@ -5,9 +5,9 @@ ghost use Rattle.nc_base.specs.Headers.{AreDimids};
 ghost use Rattle.nc_base.specs.Sizes.{dim_len, product};
 ghost use Rattle.nc_base.specs.declared.nc_type.NcType.TheVariants.{Char};
 ghost use Rattle.cdl_meaning.specs.State.{capacity_of};
-ghost use Rattle.cdl_values.specs.Capacities.{Fills, Takes, most};
-ghost use Rattle.cdl_values.specs.Listed.{AreShaped, fresh, fresh_draft};
-ghost use Rattle.cdl_values.specs.Meant.{Suit, Suits};
+ghost use Rattle.cdl_values.specs.Capacities.{Fills, TakesAsFilled, most};
+ghost use Rattle.cdl_values.specs.Listed.{fresh_draft};
+ghost use Rattle.cdl_values.specs.Meant.{SuitVariables, Suits};
 
 use crate::data::Target;
 use crate::fill::Fill;
@@ -25,7 +25,7 @@ use std::alloc::{AllocError, Global};
 ///
 /// A growth was refused.
 pub fn targets_of(alloc: Global, dims: &[Dim], vars: &[Var]) -> Result<Vec<Target>, AllocError>
-    ensures { IfOk result (λ targets. AreShaped dims.now (fresh vars.now) → Suit dims.now targets.items (fresh vars.now)) }
+    ensures { IfOk result (λ targets. SuitVariables dims.now vars.now targets.items) }
 {
     let mut targets = Vec::new(alloc);
     for var in vars {
@@ -73,7 +73,7 @@ fn characters(dims: &[Dim], var: &Var) -> Filling
 
 /// How many values, bytes or rows fit a variable that is filled so; `None` where there is no limit.
 fn capacity(dims: &[Dim], var: &Var, filling: Filling) -> Option<u64>
-    ensures { Fills filling (capacity_of dims.now var.now) → Takes filling result (capacity_of dims.now var.now) }
+    ensures { TakesAsFilled dims.now var.now filling result }
 {
     let dimids = var.dimids.as_slice();
     if is_record_var(dims, var) {

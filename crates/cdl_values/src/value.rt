@@ -1,14 +1,13 @@
 //! Values of the data section.
 
-ghost use Rattle.std.specs.Prelude.{◌≡◌, ◌∷◌, ℕ, List, None, Ok, OnOk, IfOk};
-ghost use Rattle.cdl_text.specs.Contents.{value_of, values};
+ghost use Rattle.std.specs.Prelude.{◌≡◌, None, OnOk, IfOk};
 ghost use Rattle.cdl_text.specs.DueTokens.{next};
-ghost use Rattle.cdl_text.specs.Lexemes as lexemes;
 ghost use Rattle.cdl_text.specs.Shapes.{token_fault};
-ghost use Rattle.cdl_text.specs.Views.{lexeme_of, lexeme_with};
+ghost use Rattle.cdl_text.specs.Views.{lexeme_of};
 ghost use Rattle.cdl_text.specs.declared.fault.CdlKind.{CdlKind};
-ghost use Rattle.cdl_values.specs.Answers.{Adds, Continues, Refuses};
-ghost use Rattle.cdl_values.specs.PackedValues.{bytes_of, capacity_after, joined, less, packed, value_bytes};
+ghost use Rattle.cdl_values.specs.Answers.{Adds, Refuses};
+ghost use Rattle.cdl_values.specs.TokenValues.{Appends, AppendsNumber, CountsOne, PacksGood, PacksToken, TakesGood};
+ghost use Rattle.cdl_values.specs.TokenValues.{at, number_token_bytes, token_bytes};
 
 use crate::fill::Fill;
 use crate::filling::{Filling, is_full, less};
@@ -49,7 +48,7 @@ pub fn put_token(
     capacity: Option<u64>,
     token: Lexeme<'_>,
 ) -> Result<Option<u64>, ReadError>
-    ensures { (rest : List lexemes.Lexeme) → Continues (λ left. joined (Ok array.new) (packed filling left (values version rest))) result (joined (Ok array.old) (packed filling capacity (values version (lexeme_of token.entry ∷ rest)))) }
+    ensures { PacksToken version filling token.entry (at array.old capacity) array.new result }
 {
     match token.kind {
         TokenKind::Mark => Ok(capacity),
@@ -73,7 +72,7 @@ pub fn take_good(
 ) -> Result<(Option<u64>, Due), Stop>
     ensures good { OnOk result (token_fault version token.entry.kind token.entry.bytes.now ≡ None) }
     ensures shape { IfOk result (λ r. r.1 ≡ next due (lexeme_of token.entry)) }
-    ensures packs { IfOk result (λ r. (rest : List lexemes.Lexeme) → joined (Ok array.old) (packed filling.now capacity (values version (lexeme_of token.entry ∷ rest))) ≡ joined (Ok array.new) (packed filling.now r.0 (values version rest))) }
+    ensures packs { TakesGood version filling.now token.entry (at array.old capacity) array.new result }
 {
     let then = due.after(token);
     match token.kind {
@@ -95,7 +94,7 @@ pub fn put_good_value(
 ) -> Result<Option<u64>, Stop>
     requires { token.kind ≡ TokenKind.Mark → ⊥ }
     ensures good { OnOk result (token_fault version token.entry.kind token.entry.bytes.now ≡ None) }
-    ensures packs { IfOk result (λ left. (rest : List lexemes.Lexeme) → joined (Ok array.old) (packed filling.now capacity (values version (lexeme_of token.entry ∷ rest))) ≡ joined (Ok array.new) (packed filling.now left (values version rest))) }
+    ensures packs { PacksGood version filling.now token.entry (at array.old capacity) array.new result }
 {
     match token.kind {
         // A number is one value, so that its bytes needn't be counted.
@@ -123,7 +122,7 @@ fn put_good(
 ) -> Result<(), Stop>
     requires { token.kind ≡ TokenKind.Number → ⊥ }
     ensures good { OnOk result (token_fault version token.entry.kind token.entry.bytes.now ≡ None) }
-    ensures adds { OnOk result (joined (Ok array.old) (bytes_of filling.now capacity (value_of version (lexeme_of token.entry) token.entry.kind)) ≡ Ok array.new) }
+    ensures adds { Appends version filling.now token.entry (at array.old capacity) array.new result }
 {
     match token.kind {
         TokenKind::Bad => Err(Stop::SomeFault),
@@ -141,8 +140,8 @@ fn put_good_number(
     bytes: &[u8],
 ) -> Result<(), Stop>
     ensures good { OnOk result (token_fault version TokenKind.Number bytes.now ≡ None) }
-    ensures counts { OnOk result ((added : List ℕ) → capacity_after filling added capacity ≡ less 1 capacity) }
-    ensures adds { OnOk result (joined (Ok array.old) (bytes_of filling capacity (value_of version (lexeme_with TokenKind.Number bytes.now) TokenKind.Number)) ≡ Ok array.new) }
+    ensures counts { OnOk result (CountsOne filling capacity) }
+    ensures adds { AppendsNumber version filling bytes.now (at array.old capacity) array.new result }
 {
     let Filling::Numbers(fill) = filling else {
         return Err(Stop::SomeFault);
@@ -163,7 +162,7 @@ fn put(
     capacity: Option<u64>,
     token: Lexeme<'_>,
 ) -> Result<(), ReadError>
-    ensures { Adds array.old array.new result (bytes_of filling capacity (value_of version (lexeme_of token.entry) token.entry.kind)) }
+    ensures { Adds array.old array.new result (token_bytes filling capacity version token.entry) }
 {
     let full = is_full(capacity);
     match filling {
@@ -188,8 +187,8 @@ fn put_value(
     full: bool,
     token: Lexeme<'_>,
 ) -> Result<(), ReadError>
-    ensures adds { Adds array.old array.new result (value_bytes fill.ty fill.value full (value_of version (lexeme_of token.entry) token.entry.kind)) }
-    ensures refuses { Refuses result (value_bytes fill.ty fill.value full (value_of version (lexeme_of token.entry) token.entry.kind)) }
+    ensures adds { Adds array.old array.new result (number_token_bytes fill full version token.entry) }
+    ensures refuses { Refuses result (number_token_bytes fill full version token.entry) }
 {
     match token.kind {
         TokenKind::Text => Err(ReadError::Fault(CdlKind::WrongKind)),
