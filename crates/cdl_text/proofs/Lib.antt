@@ -14,3 +14,4 @@ pub mod VariableSection
 pub mod Sections
 pub mod StatementsSaid
 pub mod ListedTokens
+pub mod NumberLists

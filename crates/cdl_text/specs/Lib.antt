@@ -8,3 +8,4 @@ pub mod Views
 pub mod DueTokens
 pub mod Contents
 pub mod ListedTokens
+pub mod NumberLists

@@ -4,6 +4,7 @@ use Rattle.nc_base.specs.declared.version.Version.{Version}
 use Rattle.cdl_tokens.specs.Escapes.{inner, stands}
 use Rattle.cdl_tokens.specs.Magnitudes.{held}
 use Rattle.cdl_tokens.specs.Numerals.{parts}
+use Rattle.cdl_tokens.specs.Scanners.{comma_before}
 use Rattle.cdl_tokens.specs.declared.numeral.Numeral.{Numeral}
 use Rattle.cdl_tokens.specs.declared.token.TokenKind.TheVariants as kinds
 use Rattle.cdl_text.specs.Cutters.{SameText, after, is_done, next_token, offset_of, text_of, words}
@@ -17,6 +18,10 @@ pub record IsAtComma (c : Cutter) : Type 0 where
   pub goes : is_done c ≡ false
   pub inside : c.state ≡ Inside
   pub comma : is_mark 0x2c (lexeme (text_of c) (next_token c)) ≡ true
+
+-- the next token is a comma that ends where the scanner stands
+abbrev pub EndsAtScanner : Cutter → Type 0
+EndsAtScanner c = next_token c ≡ comma_before c.scanner
 
 -- one has gone past the next token and this one, to a comma of the same statement
 pub record Passes (start rest : Cutter) (l : Lexeme) : Type 0 where

@@ -32,7 +32,7 @@ pub struct Cutter<'a> {
 
 impl<'a> Cutter<'a> {
     ghost use Rattle.cdl_text.specs.Cutters.{HandsOut, SameText, after, first_line, is_done, next_token, offset_of, pieces_left, text_of, version_of, words};
-    ghost use Rattle.cdl_text.specs.ListedTokens.{IsAtComma, Passes, PassesNumber, PassesString};
+    ghost use Rattle.cdl_text.specs.ListedTokens.{EndsAtScanner, IsAtComma, Passes, PassesNumber, PassesString};
     ghost use Rattle.cdl_text.specs.Views.{lexeme_of};
 
     /// The start of a text.
@@ -148,6 +148,7 @@ impl<'a> Cutter<'a> {
     pub fn number_and_comma(&mut self) -> Option<Numeral>
         requires { IsAtComma self.old }
         ensures passes { IfSome result (λ n. PassesNumber self.old self.new n) }
+        ensures ends { IfSome result (λ n. EndsAtScanner self.new) }
         ensures stays { result ≡ None → self.new ≡ self.old }
     {
         let mut scanner = self.scanner;
@@ -187,9 +188,17 @@ impl<'a> Cutter<'a> {
         Some(Lexeme::of(listed.token, text))
     }
 
+    /// The scanner, which stands after the next token.
+    #[inline(always)]
+    pub(crate) fn scanner(&self) -> Scanner<'a>
+        ensures { result ≡ self.now.scanner }
+    {
+        self.scanner
+    }
+
     /// Goes to this comma of the same statement, after which the scanner stands.
     #[inline(always)]
-    fn go_to(&mut self, comma: Token, scanner: Scanner<'a>)
+    pub(crate) fn go_to(&mut self, comma: Token, scanner: Scanner<'a>)
         requires { role_in (scanners.text_of scanner) comma ≡ Role.Other }
         ensures scanner { self.new.scanner ≡ scanner.entry }
         ensures comma { next_token self.new ≡ comma }

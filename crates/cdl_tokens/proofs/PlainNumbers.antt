@@ -2,6 +2,7 @@
 use Rattle.std.proofs.Common.{◌≡◌, ℕ, zero, suc, ◌+◌, ◌<◌, ◌≤◌, Bool, true, false, List, [], ◌∷◌, length, take, drop, refl, sym, ap, ◌∙◌, arith}
 use Rattle.std.specs.Prelude.{Some, ◌==◌, ◌&&◌, ◌||◌, nat_lt, option_map, slice_index, cond, if◌then◌else◌}
 use Rattle.std.specs.List.{prefix_len}
+use Rattle.std.proofs.lemmas.List.{get_or-drop}
 use Rattle.nc_base.specs.declared.nc_type.NcType.TheVariants.{Int}
 use Rattle.nc_base.specs.declared.version.Version.{Version}
 use Rattle.cdl_tokens.specs.Bytes.{goes_on_number, is_digit, is_sign}
@@ -131,21 +132,28 @@ sign_within (b ∷ bs) rest n sign is within =
     let len : length bs ≡ length rest = ap length is in
     let e : 1 + n ≤ suc (length bs) = omega (arith, len, within) in e
 
-pub begins_signed : (bs rest : List ℕ) (n value b : ℕ) (m : Numeral) → b ≡ slice_index bs 0 → is_sign b ≡ true → m ≡ int (b == 0x2d) value → drop 1 bs ≡ rest → AreDigits rest n value → Begins bs (record { numeral = m; len = 1 + n })
-begins_signed bs rest n value b m first sign says is d =
+is_one : (b k : ℕ) → (b == k) ≡ true → b ≡ k
+is_one b k h = grind (arith, h)
+
+pub begins_signed : (bs rest : List ℕ) (n value b : ℕ) (m : Numeral) (at_comma : Bool) → b ≡ slice_index bs 0 → is_sign b ≡ true → m ≡ int (b == 0x2d) value → drop 1 bs ≡ rest → AreDigits rest n value → at_comma ≡ (slice_index rest n == 0x2c) →
+    Begins bs (record { numeral = m; len = 1 + n; at_comma = at_comma })
+begins_signed bs rest n value b m at_comma first sign says is d comma =
     let signed : is_sign (slice_index bs 0) ≡ true = ap is_sign (sym first) ∙ sign in
     record {
       begins = sign_begins bs rest signed is (first_digit rest n value d);
       len = ap (λ k. 1 + k) (len_of_digits rest n value d ∙ ap (prefix_len goes_on_number) (sym is));
       within = sign_within bs rest n signed is d.within;
+      comma = λ here. sym (get_or-drop 1 bs n 0) ∙ ap (λ (xs : List ℕ). slice_index xs n) is ∙ is_one (slice_index rest n) 0x2c (sym comma ∙ here);
       says = λ v. ap Some (says ∙ ap (λ x. int (x == 0x2d) value) first) ∙ sign_said v bs rest n value signed is d;
     }
 
-pub begins_unsigned : (bs : List ℕ) (n value b : ℕ) (m : Numeral) → b ≡ slice_index bs 0 → is_sign b ≡ false → m ≡ int false value → AreDigits bs n value → Begins bs (record { numeral = m; len = n })
-begins_unsigned bs n value b m first sign says d =
+pub begins_unsigned : (bs : List ℕ) (n value b : ℕ) (m : Numeral) (at_comma : Bool) → b ≡ slice_index bs 0 → is_sign b ≡ false → m ≡ int false value → AreDigits bs n value → at_comma ≡ (slice_index bs n == 0x2c) →
+    Begins bs (record { numeral = m; len = n; at_comma = at_comma })
+begins_unsigned bs n value b m at_comma first sign says d comma =
     record {
       begins = digit_number bs (first_digit bs n value d);
       len = len_after_first bs n value d;
       within = d.within;
+      comma = λ here. is_one (slice_index bs n) 0x2c (sym comma ∙ here);
       says = λ v. ap Some says ∙ plain_said v bs n value (ap is_sign (sym first) ∙ sign) d;
     }

@@ -1,5 +1,5 @@
 -- Marks and numbers at the start of bytes: they are no other token, and have no line feed.
-use Rattle.std.proofs.Common.{◌≡◌, ℕ, suc, ◌+◌, ◌<◌, ◌≤◌, Bool, true, false, cond, List, [], ◌∷◌, length, get_or, drop, take, sym, ◌∙◌, ap, refl, arith, subst}
+use Rattle.std.proofs.Common.{◌≡◌, ℕ, zero, suc, ◌+◌, ◌<◌, ◌≤◌, Bool, true, false, cond, List, [], ◌∷◌, length, get_or, drop, take, sym, ◌∙◌, ap, refl, arith, subst}
 use Rattle.std.specs.Prelude.{◌==◌, ◌&&◌, ◌||◌, count_by}
 use Rattle.std.specs.List.{prefix_len}
 use Rattle.cdl_tokens.specs.declared.token.TokenKind.TheVariants.{Number, Mark}
@@ -129,6 +129,12 @@ blank_at text fresh at h =
 
 pub here_dropped : (text : List ℕ) (at : ℕ) → get_or (drop at text) 0 0 ≡ get_or text at 0
 here_dropped text at = get_or-drop at text 0 0 ∙ ap (λ n. get_or text n 0) (let e : at + 0 ≡ at = omega arith in e)
+
+-- a comma stands inside of the text
+pub inside_at : (text : List ℕ) (at : ℕ) → get_or text at 0 ≡ 0x2c → at < length text
+inside_at [] at h = cc
+inside_at (b ∷ bs) zero h = omega arith
+inside_at (b ∷ bs) (suc at) h = let e = inside_at bs at h in omega (arith, e)
 
 pub comma_at : (text : List ℕ) (fresh : Bool) (at : ℕ) → get_or text at 0 ≡ 0x2c → scan fresh (drop at text) ≡ token Mark 1
 comma_at text fresh at h = scan_mark fresh (drop at text) (ap is_mark (here_dropped text at ∙ h))

@@ -28,6 +28,7 @@ pub record Begins (bs : List ℕ) (p : PlainNumber) : Type 0 where
   pub begins : begins_number bs ≡ true
   pub len : p.len ≡ 1 + prefix_len goes_on_number (drop 1 bs)
   pub within : p.len ≤ length bs
+  pub comma : p.at_comma ≡ true → slice_index bs p.len ≡ 0x2c
   pub says : (v : Version) → Some p.numeral ≡ option_map held (parts v (take p.len bs))
 
 -- the bytes begin with a string of this length, without a line feed, whose bytes between the quotes stand for themselves

@@ -1,9 +1,9 @@
 -- What a scanner has before it.
-use Rattle.std.specs.Prelude.{ℕ, Bool, not, ◌&&◌, ◌==◌, true, false, List, ◌∷◌, [], drop, Option, Some}
+use Rattle.std.specs.Prelude.{ℕ, ◌-◌, Bool, not, ◌&&◌, ◌==◌, true, false, List, ◌∷◌, [], drop, Option, Some}
 use Rattle.cdl_tokens.specs.Tokens.{tokens_at}
 use Rattle.cdl_tokens.specs.declared.token.Token.{Token}
 use Rattle.cdl_tokens.specs.declared.token.TokenKind.{TokenKind}
-use Rattle.cdl_tokens.specs.declared.token.TokenKind.TheVariants.{End}
+use Rattle.cdl_tokens.specs.declared.token.TokenKind.TheVariants.{End, Mark}
 use Rattle.cdl_tokens.specs.declared.scanner.Scanner.{Scanner}
 
 abbrev pub text_of : Scanner → List ℕ
@@ -11,6 +11,14 @@ text_of s = s.text.now
 
 abbrev pub offset_of : Scanner → ℕ
 offset_of s = s.at
+
+-- the token of this kind and length that ends where the scanner stands, on the same line
+abbrev pub token_before : TokenKind → ℕ → Scanner → Token
+token_before kind len s = record { kind = kind; line = s.line; first = s.at - len; past = s.at }
+
+-- the comma that ends where the scanner stands, if one does
+abbrev pub comma_before : Scanner → Token
+comma_before = token_before Mark 1
 
 -- a byte that is none of the three
 abbrev pub is_none_of : ℕ → ℕ → ℕ → ℕ → Bool

@@ -1,6 +1,6 @@
 //! Plain numbers, of which long lists consist: decimal digits after a sign or none, without a suffix.
 
-ghost use Rattle.std.specs.Prelude.{◌≡◌, IfSome, false, true};
+ghost use Rattle.std.specs.Prelude.{◌≡◌, ◌==◌, ◌≤◌, IfSome, false, length, slice_index, true};
 ghost use Rattle.cdl_tokens.specs.Bytes.{goes_on_number};
 ghost use Rattle.cdl_tokens.specs.PlainTokens.{AreDigits, Begins};
 
@@ -14,6 +14,8 @@ pub struct PlainNumber {
     pub numeral: Numeral,
     /// The number of its bytes.
     pub len: usize,
+    /// A comma comes right after it.
+    pub at_comma: bool,
 }
 
 /// The plain number that the bytes begin with, if a comma or a blank follows it; None where they begin otherwise. The number
@@ -29,12 +31,14 @@ pub fn plain_number(bytes: &[u8]) -> Option<PlainNumber>
         Some(PlainNumber {
             numeral: int(sign == b'-', value),
             len: 1 + n,
+            at_comma: is_before_comma(rest, n),
         })
     } else {
         let (n, value) = plain_digits(bytes)?;
         Some(PlainNumber {
             numeral: int(false, value),
             len: n,
+            at_comma: is_before_comma(bytes, n),
         })
     }
 }
@@ -65,6 +69,16 @@ fn plain_digits(bytes: &[u8]) -> Option<(usize, u64)>
         return None;
     }
     Some((n, value))
+}
+
+/// Says whether a comma comes after the first `n` bytes.
+#[inline(always)]
+fn is_before_comma(bytes: &[u8], n: usize) -> bool
+    requires { n ≤ length bytes.now }
+    ensures { result ≡ (slice_index bytes.now n == 0x2c) }
+{
+    let (_, rest) = bytes.split_at(n);
+    byte_at(rest, 0) == b','
 }
 
 /// Says whether the byte is a comma or a blank, which no number token has.

@@ -1,6 +1,6 @@
 //! The tokens of a text, one at a time.
 
-ghost use Rattle.std.specs.Prelude.{◌≡◌, ◌+◌, ◌≤◌, ◌<◌, ◌==◌, length, IfSome, count_by, drop, slice_index, take, false, true, Some, None};
+ghost use Rattle.std.specs.Prelude.{◌≡◌, ◌+◌, ◌≤◌, ◌<◌, ◌==◌, length, IfSome, count_by, drop, slice_index, take, nat_lt, false, true, Some, None};
 ghost use Rattle.cdl_tokens.specs.PlainTokens.{IsComma, IsListed, IsPlainString};
 ghost use Rattle.cdl_tokens.specs.Scan.{scan, token};
 ghost use Rattle.cdl_tokens.specs.Tokens.{line_at, raw, tokens};
@@ -42,7 +42,7 @@ pub struct ListedNumber {
 
 impl<'a> Scanner<'a> {
     ghost use Rattle.std.specs.Prelude.{◌∷◌};
-    ghost use Rattle.cdl_tokens.specs.Scanners.{followed, is_end, is_token, left, offset_of, text_of};
+    ghost use Rattle.cdl_tokens.specs.Scanners.{comma_before, followed, is_end, is_token, left, offset_of, text_of, token_before};
 
     /// The start of a text.
     pub fn new(text: &'a [u8]) -> Scanner<'a>
@@ -93,6 +93,7 @@ impl<'a> Scanner<'a> {
     pub fn number_and_comma(&mut self) -> Option<ListedNumber>
         ensures tokens { IfSome result (λ l. left self.old ≡ l.number ∷ l.comma ∷ left self.new) }
         ensures listed { IfSome result (λ l. IsListed (text_of self.old) l) }
+        ensures before { IfSome result (λ l. l.comma ≡ comma_before self.new) }
         ensures text { text_of self.new ≡ text_of self.old }
         ensures moves { IfSome result (λ l. offset_of self.old < offset_of self.new) }
         ensures stays { result ≡ None → self.new ≡ self.old }
@@ -102,7 +103,7 @@ impl<'a> Scanner<'a> {
         let (_, rest) = scanner.text.split_at(scanner.at);
         let plain = plain_number(rest)?;
         let number = scanner.take(TokenKind::Number, plain.len);
-        let comma = scanner.comma()?;
+        let comma = scanner.comma_after(plain.at_comma)?;
         *self = scanner;
         Some(ListedNumber {
             numeral: plain.numeral,
@@ -150,19 +151,63 @@ impl<'a> Scanner<'a> {
         Some(ListedToken { token, comma })
     }
 
+    /// The comma that ends where the scanner stands, if one does: the token that was read last.
+    #[inline(always)]
+    pub fn comma_before(&self) -> Token
+        ensures { result ≡ comma_before self.now }
+    {
+        Token {
+            kind: TokenKind::Mark,
+            line: self.line,
+            first: self.at.saturating_sub(1),
+            past: self.at,
+        }
+    }
+
     /// Reads the comma that comes next, if one does after blanks alone.
     #[inline(always)]
     fn comma(&mut self) -> Option<Token>
         ensures token { IfSome result (λ c. left self.old ≡ c ∷ left self.new) }
         ensures comma { IfSome result (λ c. IsComma (text_of self.old) c) }
+        ensures before { IfSome result (λ c. c ≡ comma_before self.new) }
         ensures text { text_of self.new ≡ text_of self.old }
         ensures on { offset_of self.old ≤ offset_of self.new }
     {
         if self.goes_to_comma() {
-            Some(self.take(TokenKind::Mark, 1))
+            Some(self.take_comma())
         } else {
             None
         }
+    }
+
+    /// The same, where the caller may know that a comma stands here.
+    #[inline(always)]
+    fn comma_after(&mut self, at_comma: bool) -> Option<Token>
+        requires { at_comma ≡ true → slice_index (text_of self.old) (offset_of self.old) ≡ 0x2c }
+        ensures token { IfSome result (λ c. left self.old ≡ c ∷ left self.new) }
+        ensures comma { IfSome result (λ c. IsComma (text_of self.old) c) }
+        ensures before { IfSome result (λ c. c ≡ comma_before self.new) }
+        ensures text { text_of self.new ≡ text_of self.old }
+        ensures on { offset_of self.old ≤ offset_of self.new }
+    {
+        if at_comma {
+            Some(self.take_comma())
+        } else {
+            self.comma()
+        }
+    }
+
+    /// Hands out the comma that stands here.
+    #[inline(always)]
+    fn take_comma(&mut self) -> Token
+        requires { slice_index (text_of self.old) (offset_of self.old) ≡ 0x2c }
+        ensures token { left self.old ≡ result ∷ left self.new }
+        ensures comma { IsComma (text_of self.old) result }
+        ensures before { result ≡ comma_before self.new }
+        ensures text { text_of self.new ≡ text_of self.old }
+        ensures moves { offset_of self.old < offset_of self.new }
+    {
+        self.take(TokenKind::Mark, 1)
     }
 
     /// Goes past the blanks that stand here.
@@ -179,18 +224,28 @@ impl<'a> Scanner<'a> {
         }
     }
 
-    /// Goes past the blanks that stand here; mostly there is one space.
+    /// Goes past the blanks that stand here; mostly there is one space, or none.
     #[inline(always)]
     fn skip_to_number(&mut self)
         ensures left { left self.new ≡ left self.old }
         ensures text { text_of self.new ≡ text_of self.old }
         ensures on { offset_of self.old ≤ offset_of self.new }
     {
-        self.skip_space();
-        if self.at < self.text.len() && self.text[self.at] > b' ' {
+        if self.stands_at_token() {
             return;
         }
-        self.skip_blanks();
+        self.skip_space();
+        if !self.stands_at_token() {
+            self.skip_blanks();
+        }
+    }
+
+    /// Returns true if a byte stands here that is greater than a space, as that of any token is.
+    #[inline(always)]
+    fn stands_at_token(&self) -> bool
+        ensures { result ≡ nat_lt 0x20 (slice_index (text_of self.now) (offset_of self.now)) }
+    {
+        self.at < self.text.len() && self.text[self.at] > b' '
     }
 
     /// Goes past a space, if one stands here.
@@ -244,6 +299,8 @@ impl<'a> Scanner<'a> {
         requires flat { count_by (λ b. b == 0x0a) (take len (drop self.old.at self.old.text.now)) ≡ 0 }
         ensures kind { result.kind ≡ kind }
         ensures token { left self.old ≡ followed result result.kind (left self.new) }
+        ensures before { result ≡ token_before kind len self.new }
+        ensures at { offset_of self.new ≡ offset_of self.old + len }
         ensures bytes { raw self.old.text.now result ≡ take len (drop self.old.at self.old.text.now) }
         ensures text { text_of self.new ≡ text_of self.old }
         ensures moves { offset_of self.old < offset_of self.new }

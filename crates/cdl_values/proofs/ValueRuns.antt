@@ -1,8 +1,9 @@
 -- A run of values, one value on.
-use Rattle.std.proofs.Common.{◌≡◌, ℕ, ◌+◌, Bool, true, false, List, ◌∷◌, length, drop, sym, ap, ◌∙◌, refl, subst, arith}
+use Rattle.std.proofs.Common.{◌≡◌, ◌≤◌, ◌<◌, ℕ, ◌+◌, ◌-◌, Bool, true, false, List, ◌∷◌, length, drop, sym, ap, ◌∙◌, refl, subst, arith}
 use Rattle.std.specs.Prelude.{Option, None, Some, Ok, ◌&&◌, ◌==◌, slice_index}
 use Rattle.nc_base.specs.declared.version.Version.{Version}
 use Rattle.cdl_tokens.specs.Escapes.{inner, stands}
+use Rattle.cdl_tokens.specs.Scanners as scanners
 use Rattle.cdl_tokens.specs.declared.numeral.Numeral.{Numeral as Held}
 use Rattle.cdl_tokens.specs.declared.token.TokenKind.{TokenKind}
 use Rattle.cdl_tokens.specs.declared.token.TokenKind.TheVariants as kinds
@@ -11,11 +12,14 @@ use Rattle.cdl_text.specs.Cutters.{is_done, next_token, text_of, version_of, wor
 use Rattle.cdl_text.specs.DueTokens.{completes, is_value_of, next, only, separator}
 use Rattle.cdl_text.specs.Lexemes.{Lexeme, is_mark, is_mark_kind, lexeme}
 use Rattle.cdl_text.specs.ListedTokens.{IsAtComma, Passes, PassesNumber, PassesString}
+use Rattle.cdl_text.specs.NumberLists.{SamePlace, reached}
 use Rattle.cdl_text.specs.Shapes.{Characters, first_bad, token_fault}
 use Rattle.cdl_text.specs.Views.{lexeme_with}
 use Rattle.cdl_text.specs.declared.cutter.Cutter.{Cutter}
 use Rattle.cdl_text.specs.declared.due.Due.{Due}
 use Rattle.cdl_text.specs.declared.due.Due.TheVariants.{Separator, Value}
+use Rattle.cdl_text.specs.declared.number_list.NumberList.{NumberList}
+use Rattle.cdl_text.proofs.NumberLists.{at_same_comma, same_after, same_words}
 use Rattle.cdl_text.proofs.Surveys.{good_on}
 use Rattle.cdl_values.specs.PackedValues.{bytes_of, capacity_after, held_bytes, is_full, joined, less, packed, row_bytes}
 use Rattle.cdl_values.specs.ValueRuns.{GoesOn, Place, Takes}
@@ -138,9 +142,40 @@ pub counted : (n : ℕ) (capacity : Option ℕ) → less (n + 1) capacity ≡ le
 counted n None = refl
 counted n (Some m) = ap Some (omega arith)
 
+pub all_counted : (n : ℕ) (capacity : Option ℕ) → capacity ≡ less (n - n) capacity
+all_counted n capacity = none_counted capacity ∙ ap (λ m. less m capacity) (let e : 0 ≡ n - n = omega arith in e)
+
+pub counted_down : (n left : ℕ) (capacity : Option ℕ) → left ≤ n → 0 < left → less (n - (left - 1)) capacity ≡ less 1 (less (n - left) capacity)
+counted_down n left capacity within some = ap (λ m. less m capacity) (let e : n - (left - 1) ≡ n - left + 1 = omega (arith, within, some) in e) ∙ counted (n - left) capacity
+
 -- the same place
 pub ended : (takes_fill : Bool) (filling : Filling) (start there : Place) (cutter : Cutter) (left : Option ℕ) → cutter ≡ there.cutter → left ≡ there.left → Takes takes_fill filling start there →
     Takes takes_fill filling start (record { cutter = cutter; bytes = there.bytes; left = left })
 ended takes_fill filling start there cutter left same_place same_left so =
     subst (λ (c : Cutter). Takes takes_fill filling start (record { cutter = c; bytes = there.bytes; left = left })) (sym same_place)
     (subst (λ (n : Option ℕ). Takes takes_fill filling start (record { cutter = there.cutter; bytes = there.bytes; left = n })) (sym same_left) so)
+
+-- a cutter at the same place
+pub ended_at : (takes_fill : Bool) (filling : Filling) (start there : Place) (cutter : Cutter) (left : Option ℕ) → SamePlace cutter there.cutter → left ≡ there.left → Takes takes_fill filling start there →
+    Takes takes_fill filling start (record { cutter = cutter; bytes = there.bytes; left = left })
+ended_at takes_fill filling start there cutter left same same_left so =
+    let v = version_of start.cutter in
+    let same_said = same_words cutter there.cutter same in
+    let on = so.on.on in
+    let offset = ap scanners.offset_of same.scanner in
+    record {
+      at = at_same_comma cutter there.cutter same so.at;
+      on = record {
+        same = record { text = ap scanners.text_of same.scanner ∙ so.on.same.text; version = same.version ∙ so.on.same.version };
+        goes = same.done ∙ so.on.goes;
+        bad = ap (first_bad v) same_said ∙ so.on.bad;
+        shaped = ap (completes (Separator takes_fill)) same_said ∙ so.on.shaped;
+        packs = ap (λ ls. joined (Ok there.bytes) (packed filling left (values v ls))) same_said ∙ ap (λ n. joined (Ok there.bytes) (packed filling n (values v (words there.cutter)))) same_left ∙ so.on.packs;
+        others = same_after cutter there.cutter same ∙ so.on.others;
+        on = omega (arith, on, offset);
+      };
+    }
+
+-- what a list of numbers was left at
+pub left_at : (r c : Cutter) (new old : NumberList) → r ≡ c → SamePlace c (reached new) → new ≡ old → SamePlace r (reached old)
+left_at r c new old same place stays = subst (λ (x : Cutter). SamePlace x (reached old)) (sym same) (subst (λ (l : NumberList). SamePlace c (reached l)) stays place)

@@ -3,15 +3,16 @@
 ghost use Rattle.std.specs.Prelude.{◌≡◌, ◌<◌, ℕ, Bool, IfOk, false};
 ghost use Rattle.cdl_text.specs.Cutters.{is_done};
 ghost use Rattle.cdl_text.specs.ListedTokens.{IsAtComma};
+ghost use Rattle.cdl_text.specs.NumberLists.{reached};
 ghost use Rattle.cdl_values.specs.PackedValues.{is_full, less};
 ghost use Rattle.cdl_values.specs.ValueRuns.{GoesOn, Takes, place};
 
 use crate::fill::Fill;
-use crate::filling::{Filling, less};
-use crate::number::put_numeral_here;
+use crate::filling::{Filling, is_full, less};
+use crate::number::{put_numeral, put_numeral_here};
 use crate::string::put_plain_row;
 use crate::value::{Stop, put_good_value};
-use cdl_text::{Cutter, Due, Lexeme};
+use cdl_text::{Cutter, Due, Lexeme, NumberList};
 use cdl_tokens::TokenKind;
 use nc_base::{ListedArray, NcType};
 
@@ -138,17 +139,42 @@ fn take_numbers<'a>(
     requires { IsAtComma start }
     ensures { (takes_fill : Bool) → IfOk result (λ r. Takes takes_fill (Filling.Numbers fill) (place start.entry array.old capacity) (place r.cutter array.new r.left)) }
 {
+    if is_full(capacity) {
+        return Ok(after_values(start, 0, capacity));
+    }
+    let mut cutter = start;
+    let Some(n) = cutter.number_and_comma() else {
+        return Ok(after_values(start, 0, capacity));
+    };
+    put_numeral(array, fill.ty, n)?;
+    let list = NumberList::new(cutter);
+    let reached = take_more_numbers(array, list, fill, less(1, capacity))?;
+    Ok(reached)
+}
+
+/// Adds the plain numbers of the list that come next, by a loop over a scanner alone.
+#[inline(always)]
+fn take_more_numbers<'a>(
+    array: &mut ListedArray,
+    list: NumberList<'a>,
+    fill: Fill,
+    capacity: Option<u64>,
+) -> Result<Reached<'a>, Stop>
+    requires { IsAtComma (reached list) }
+    ensures { (takes_fill : Bool) → IfOk result (λ r. Takes takes_fill (Filling.Numbers fill)
+        (place (reached list.entry) array.old capacity) (place r.cutter array.new r.left)) }
+{
     // A loop for each type, so that the loop itself doesn't ask for it.
     match fill.ty {
-        NcType::Byte => take_typed(array, start, fill, NcType::Byte, capacity),
-        NcType::Char => take_typed(array, start, fill, NcType::Char, capacity),
-        NcType::Short => take_typed(array, start, fill, NcType::Short, capacity),
-        NcType::Int => take_typed(array, start, fill, NcType::Int, capacity),
-        NcType::Ubyte => take_typed(array, start, fill, NcType::Ubyte, capacity),
-        NcType::Ushort => take_typed(array, start, fill, NcType::Ushort, capacity),
-        NcType::Uint => take_typed(array, start, fill, NcType::Uint, capacity),
-        NcType::Int64 => take_typed(array, start, fill, NcType::Int64, capacity),
-        NcType::Uint64 => take_typed(array, start, fill, NcType::Uint64, capacity),
+        NcType::Byte => take_typed(array, list, fill, NcType::Byte, capacity),
+        NcType::Char => take_typed(array, list, fill, NcType::Char, capacity),
+        NcType::Short => take_typed(array, list, fill, NcType::Short, capacity),
+        NcType::Int => take_typed(array, list, fill, NcType::Int, capacity),
+        NcType::Ubyte => take_typed(array, list, fill, NcType::Ubyte, capacity),
+        NcType::Ushort => take_typed(array, list, fill, NcType::Ushort, capacity),
+        NcType::Uint => take_typed(array, list, fill, NcType::Uint, capacity),
+        NcType::Int64 => take_typed(array, list, fill, NcType::Int64, capacity),
+        NcType::Uint64 => take_typed(array, list, fill, NcType::Uint64, capacity),
     }
 }
 
@@ -156,28 +182,29 @@ fn take_numbers<'a>(
 #[inline(always)]
 fn take_typed<'a>(
     array: &mut ListedArray,
-    start: Cutter<'a>,
+    start: NumberList<'a>,
     fill: Fill,
     ty: NcType,
     capacity: Option<u64>,
 ) -> Result<Reached<'a>, Stop>
-    requires at { IsAtComma start }
+    requires at { IsAtComma (reached start) }
     requires ty { ty ≡ fill.ty }
-    ensures { (takes_fill : Bool) → IfOk result (λ r. Takes takes_fill (Filling.Numbers fill) (place start.entry array.old capacity) (place r.cutter array.new r.left)) }
+    ensures { (takes_fill : Bool) → IfOk result (λ r. Takes takes_fill (Filling.Numbers fill)
+        (place (reached start.entry) array.old capacity) (place r.cutter array.new r.left)) }
 {
     let room = room_of(capacity);
-    let mut cutter = start;
-    let mut count = 0;
-    'numbers: while count < room {
-        match cutter.number_and_comma() {
+    let mut list = start;
+    let mut left = room;
+    'numbers: while left > 0 {
+        match list.number_and_comma() {
             Some(n) => {
                 put_numeral_here(array, ty, n)?;
-                count += 1;
+                left -= 1;
             }
-            None => return Ok(after_values(cutter, count, capacity)),
+            None => return Ok(after_values(list.cutter(), room - left, capacity)),
         }
     }
-    Ok(after_values(cutter, count, capacity))
+    Ok(after_values(list.cutter(), room - left, capacity))
 }
 
 /// Adds the strings without an escape that come next, as rows.

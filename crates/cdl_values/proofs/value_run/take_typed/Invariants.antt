@@ -1,6 +1,6 @@
-use Rattle.std.proofs.Common.{◌-◌, length, Bool}
-use Rattle.cdl_text.specs.Cutters.{offset_of, text_of}
+use Rattle.std.proofs.Common.{◌-◌, ◌≤◌, Bool}
 use Rattle.cdl_text.specs.ListedTokens.{IsAtComma}
+use Rattle.cdl_text.specs.NumberLists.{reached}
 use Rattle.cdl_values.specs.PackedValues.{less}
 use Rattle.cdl_values.specs.ValueRuns.{Takes, place}
 use Rattle.cdl_values.specs.declared.filling.Filling.TheVariants.{Numbers}
@@ -8,9 +8,10 @@ use Rattle.cdl_values.proofs.value_run.take_typed.Given as goal
 
 abbrev pub invariant-numbers : goal.invariant-numbers
 invariant-numbers l = record {
-  at : IsAtComma l.cutter;
-  so : (takes_fill : Bool) → Takes takes_fill (Numbers l.fn.fill) (place l.fn.start l.fn.array l.fn.capacity) (place l.cutter l.array (less l.count l.fn.capacity));
+  within : l.left ≤ l.room;
+  at : IsAtComma (reached l.list);
+  so : (takes_fill : Bool) → Takes takes_fill (Numbers l.fn.fill) (place (reached l.fn.start) l.fn.array l.fn.capacity) (place (reached l.list) l.array (less (l.room - l.left) l.fn.capacity));
 }
 
 abbrev pub decreases-numbers : goal.decreases-numbers
-decreases-numbers l = length (text_of l.cutter) - offset_of l.cutter
+decreases-numbers l = l.left

@@ -1,5 +1,6 @@
 use Rattle.std.proofs.Common.{◌≡◌, ℕ, List, sym, ap, ◌∙◌, count_by, take, subst}
-use Rattle.std.specs.Prelude.{◌==◌, option_map}
+use Rattle.std.specs.Prelude.{◌==◌, option_map, slice_index}
+use Rattle.std.proofs.lemmas.List.{get_or-drop}
 use Rattle.cdl_tokens.specs.PlainTokens.{IsComma}
 use Rattle.cdl_tokens.specs.Scan.{scan, token}
 use Rattle.cdl_tokens.specs.declared.token.TokenKind.TheVariants.{Number}
@@ -20,6 +21,14 @@ take-number-requires-clause-flat c =
     let p = c.in_ok-plain.ensures in
     let rest = c.split_at.result.1.now in
     ap (λ bs. count_by (λ b. b == 0x0a) (take c.in_ok-plain.plain.len bs)) (sym c.split_at.ensures.back) ∙ ap (λ n. count_by (λ b. b == 0x0a) (take n rest)) p.len ∙ number_flat rest p.begins
+
+pub comma_after-requires : goal.comma_after-requires
+comma_after-requires c = λ here.
+    let s = c.skip_to_number.new.self in
+    let t = c.take-number.ensures in
+    let len = c.in_ok-plain.plain.len in
+    ap (λ (text : List ℕ). slice_index text c.take-number.new.self.at) t.text ∙ ap (slice_index s.text.now) t.at ∙ sym (get_or-drop s.at s.text.now len 0) ∙ ap (λ (bs : List ℕ). slice_index bs len) (sym c.split_at.ensures.back) ∙
+    c.in_ok-plain.ensures.comma here
 
 pub returns-clause-listed : goal.returns-clause-listed
 returns-clause-listed c =
