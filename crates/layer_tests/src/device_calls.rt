@@ -3,7 +3,7 @@
 ghost use Rattle.std.specs.Prelude.{None};
 
 use crate::device_rows::{
-    Read, drip_of, expect_bytes, expect_put, expect_read, expect_reads, expect_write, source_of,
+    Read, drip_of, expect_put, expect_read, expect_reads, expect_write, source_of,
 };
 use devices::{
     CountedRead, FailWhen, FileSource, Flush, IoSink, Listed, ListedFile, MemSink, MemSource,
@@ -15,9 +15,10 @@ use std::process::Abort;
 use std::test::*;
 use std::{fs, io};
 
-/// A writer that takes two bytes a call.
+/// A writer that takes two bytes a call while it has room, or refuses each call and each flush. It counts the calls.
 #[derive(Drop)]
 struct TwoByTwo {
+    refuses: bool,
     bytes: [u8; 8],
     len: usize,
     calls: u32,
@@ -25,6 +26,10 @@ struct TwoByTwo {
 
 impl Write for TwoByTwo {
     fn write(&mut self, buf: &[u8]) -> io::Result<usize> {
+        self.calls = self.calls.saturating_add(1);
+        if self.refuses {
+            return Err(ErrorKind::StorageFull.into());
+        }
         let n = buf.len().min(2).min(8 - self.len.min(8));
         for (i, &byte) in buf[..n].iter().enumerate() {
             if let Some(place) = self.bytes.get_mut(self.len.saturating_add(i)) {
@@ -32,29 +37,14 @@ impl Write for TwoByTwo {
             }
         }
         self.len = self.len.saturating_add(n);
-        self.calls = self.calls.saturating_add(1);
         Ok(n)
     }
 
     fn flush(&mut self) -> io::Result<()> {
+        if self.refuses {
+            return Err(ErrorKind::StorageFull.into());
+        }
         Ok(())
-    }
-}
-
-/// A writer that counts the calls and refuses each.
-#[derive(Drop)]
-struct Refusing {
-    calls: u32,
-}
-
-impl Write for Refusing {
-    fn write(&mut self, _buf: &[u8]) -> io::Result<usize> {
-        self.calls = self.calls.saturating_add(1);
-        Err(ErrorKind::StorageFull.into())
-    }
-
-    fn flush(&mut self) -> io::Result<()> {
-        Err(ErrorKind::StorageFull.into())
     }
 }
 
@@ -105,114 +95,33 @@ impl Sink for Failing {
 }
 
 #[test]
-fn memory_hands_over_its_bytes(rt: HostRuntime) {
-    const READS: [Read; 4] = [
+fn reads_are_counted_and_not_tried_again(rt: HostRuntime) {
+    let mut into = [0; 4];
+    let mut late = CountedRead::new(Late { calls: 0 });
+    assert!(rt; late.read_some(&mut into) == Ok(0));
+    assert!(rt; late.read_some(&mut into) == Ok(0));
+    let mut failing = CountedRead::new(Unreadable { calls: 0 });
+    for n in 1..10u64 {
+        assert!(rt; failing.read_some(&mut into) == Err(SourceFailed));
+        assert!(rt; failing.failures() == n as u128);
+    }
+}
+
+#[test]
+fn memory_and_files_hand_over_their_bytes(rt: HostRuntime) -> Result<(), Fail> {
+    const OF_MEMORY: [Read; 4] = [
         (0, Ok(4), b"abcd"),
         (2, Ok(4), b"cdef"),
         (5, Ok(2), b"fg"),
         (6, Ok(1), b"g"),
     ];
-    let mut source = MemSource::new(b"abcdefg");
-    assert!(rt; source.len() == 7);
-    expect_reads(&rt, &mut source, 4, &READS);
-}
-
-#[test]
-fn each_failed_read_is_counted(rt: HostRuntime) {
-    let mut reader = CountedRead::new(Unreadable { calls: 0 });
-    let mut into = [0; 4];
-    for n in 1..10u64 {
-        assert!(rt; reader.read_some(&mut into) == Err(SourceFailed));
-        assert!(rt; reader.failures() == n as u128);
-    }
-}
-
-#[test]
-fn reader_at_its_end_is_not_read_again(rt: HostRuntime) {
-    let mut reader = CountedRead::new(Late { calls: 0 });
-    let mut into = [0; 4];
-    assert!(rt; reader.read_some(&mut into) == Ok(0));
-    assert!(rt; reader.read_some(&mut into) == Ok(0));
-}
-
-#[test]
-fn memory_takes_bytes(rt: HostRuntime) {
-    let mut sink = MemSink::new(rt.alloc());
-    expect_write(&rt, &mut sink, b"ab", Ok(2));
-    expect_write(&rt, &mut sink, b"", Ok(0));
-    expect_put(&rt, &mut sink, b"cdefg", Ok(()));
-    expect_bytes(&rt, sink.as_slice(), b"abcdefg");
-}
-
-/// Fails unless the sink's writer is flushed.
-fn expect_flush<W: Write>(rt: &impl Abort, sink: &mut IoSink<W>) {
-    assert_eq!(rt; sink.flush(), Ok(()));
-}
-
-#[test]
-fn writer_takes_bytes(rt: HostRuntime) {
-    let mut sink = IoSink::new(Vec::new(rt.alloc()));
-    expect_put(&rt, &mut sink, b"abcde", Ok(()));
-    expect_flush(&rt, &mut sink);
-    expect_bytes(&rt, sink.into_inner().as_slice(), b"abcde");
-}
-
-/// Fails unless a writer that takes two bytes a call takes the first of these bytes, in `calls` calls.
-fn expect_two_by_two(
-    rt: &impl Abort,
-    bytes: &[u8],
-    answer: Result<(), WriteFailed>,
-    taken: &[u8],
-    calls: u32,
-) {
-    let mut sink = IoSink::new(TwoByTwo {
-        bytes: [0; 8],
-        len: 0,
-        calls: 0,
-    });
-    expect_put(rt, &mut sink, bytes, answer);
-    let writer = sink.into_inner();
-    expect_bytes(rt, writer.bytes.as_slice(), taken);
-    assert!(rt; writer.calls == calls);
-}
-
-#[test]
-fn slow_writer_takes_all(rt: HostRuntime) {
-    expect_two_by_two(&rt, b"abcde", Ok(()), b"abcde\0\0\0", 3);
-}
-
-#[test]
-fn full_writer_fails(rt: HostRuntime) {
-    expect_two_by_two(&rt, b"abcdefghij", Err(WriteFailed), b"abcdefgh", 5);
-}
-
-#[test]
-fn failed_write_is_not_tried_again(rt: HostRuntime) {
-    let mut sink = IoSink::new(Refusing { calls: 0 });
-    expect_put(&rt, &mut sink, b"abcde", Err(WriteFailed));
-    assert!(rt; sink.into_inner().calls == 1);
-}
-
-#[test]
-fn failed_flush_is_a_failure(rt: HostRuntime) {
-    let mut sink = IoSink::new(Refusing { calls: 0 });
-    assert_eq!(rt; sink.flush(), Err(SinkFailed));
-}
-
-#[test]
-fn failed_write_is_counted(rt: HostRuntime) {
-    let mut sink = Failing { failures: 0 };
-    expect_put(&rt, &mut sink, b"abcde", Err(WriteFailed));
-    assert!(rt; sink.failures == 1);
-    expect_put(&rt, &mut sink, b"", Ok(()));
-}
-
-#[test]
-fn file_hands_over_its_bytes(rt: HostRuntime) -> Result<(), Fail> {
-    const READS: [Read; 3] = [(2, Ok(4), b"cdef"), (5, Ok(2), b"fg"), (0, Ok(4), b"abcd")];
-    let mut source = source_of(&rt, "nc_file_source.bin", b"abcdefg")?;
-    assert!(rt; source.len() == 7);
-    expect_reads(&rt, &mut source, 4, &READS);
+    const OF_A_FILE: [Read; 3] = [(2, Ok(4), b"cdef"), (5, Ok(2), b"fg"), (0, Ok(4), b"abcd")];
+    let mut memory = MemSource::new(b"abcdefg");
+    assert!(rt; memory.len() == 7);
+    expect_reads(&rt, &mut memory, 4, &OF_MEMORY);
+    let mut file = source_of(&rt, "nc_file_source.bin", b"abcdefg")?;
+    assert!(rt; file.len() == 7);
+    expect_reads(&rt, &mut file, 4, &OF_A_FILE);
     Ok(())
 }
 
@@ -232,9 +141,60 @@ fn stretches_are_read_again_after_a_failure(rt: HostRuntime) {
 }
 
 #[test]
-fn only_a_file_opens(rt: HostRuntime) {
-    assert!(rt; matches!(FileSource::open(&rt, "no_such_file.nc"), Err(OpenFailed)));
-    assert!(rt; matches!(FileSource::open(&rt, "."), Err(OpenFailed)));
+fn memory_and_writers_take_bytes(rt: HostRuntime) {
+    let mut memory = MemSink::new(rt.alloc());
+    expect_write(&rt, &mut memory, b"ab", Ok(2));
+    expect_write(&rt, &mut memory, b"", Ok(0));
+    expect_put(&rt, &mut memory, b"cdefg", Ok(()));
+    assert_eq!(rt; memory.as_slice(), b"abcdefg".as_slice());
+    let mut writer = IoSink::new(Vec::new(rt.alloc()));
+    expect_put(&rt, &mut writer, b"abcde", Ok(()));
+    assert_eq!(rt; writer.flush(), Ok(()));
+    assert_eq!(rt; writer.into_inner().as_slice(), b"abcde".as_slice());
+}
+
+/// Fails unless a writer that takes two bytes a call, or refuses each, takes the first of these bytes, in `calls` calls.
+fn expect_two_by_two(
+    rt: &impl Abort,
+    refuses: bool,
+    bytes: &[u8],
+    answer: Result<(), WriteFailed>,
+    taken: &[u8],
+    calls: u32,
+) {
+    let mut sink = IoSink::new(TwoByTwo {
+        refuses,
+        bytes: [0; 8],
+        len: 0,
+        calls: 0,
+    });
+    expect_put(rt, &mut sink, bytes, answer);
+    let writer = sink.into_inner();
+    assert_eq!(rt; writer.bytes.as_slice(), taken);
+    assert_eq!(rt; writer.calls, calls);
+}
+
+#[test]
+fn failed_writes_are_counted_and_not_tried_again(rt: HostRuntime) {
+    const ROWS: [(bool, &[u8], Result<(), WriteFailed>, &[u8], u32); 3] = [
+        (false, b"abcde", Ok(()), b"abcde\0\0\0", 3),
+        (false, b"abcdefghij", Err(WriteFailed), b"abcdefgh", 5),
+        (true, b"abcde", Err(WriteFailed), b"\0\0\0\0\0\0\0\0", 1),
+    ];
+    for (refuses, bytes, answer, taken, calls) in ROWS {
+        expect_two_by_two(&rt, refuses, bytes, answer, taken, calls);
+    }
+    let mut unflushed = IoSink::new(TwoByTwo {
+        refuses: true,
+        bytes: [0; 8],
+        len: 0,
+        calls: 0,
+    });
+    assert_eq!(rt; unflushed.flush(), Err(SinkFailed));
+    let mut sink = Failing { failures: 0 };
+    expect_put(&rt, &mut sink, b"abcde", Err(WriteFailed));
+    assert!(rt; sink.failures == 1);
+    expect_put(&rt, &mut sink, b"", Ok(()));
 }
 
 /// Three files, of which two have the same path.
@@ -263,7 +223,7 @@ fn first_file_of_a_path_opens(rt: HostRuntime) -> Result<(), Fail> {
 }
 
 #[test]
-fn path_of_the_system_opens(rt: HostRuntime) -> Result<(), Fail> {
+fn only_a_file_of_the_system_opens(rt: HostRuntime) -> Result<(), Fail> {
     let path = "devices_system_files.bin";
     fs::write(&rt, path, b"abcdefg".as_slice())?;
     let mut files = SystemFiles::new(&rt);
@@ -271,5 +231,11 @@ fn path_of_the_system_opens(rt: HostRuntime) -> Result<(), Fail> {
     fs::remove_file(&rt, path)?;
     assert!(rt; source.len() == 7);
     assert!(rt; files.open(path).is_err());
+    for path in ["no_such_file.nc", "."] {
+        assert!(rt;
+            matches!(FileSource::open(&rt, path), Err(OpenFailed)),
+            "{path}"
+        );
+    }
     Ok(())
 }

@@ -1,6 +1,6 @@
 //! Devices at every length: reads, writes, paths and outputs, none of which fails.
 
-use crate::device_rows::{distinct_bytes, expect_bytes, expect_write, source_of};
+use crate::device_rows::{distinct_bytes, expect_write, source_of};
 use devices::{
     CountedRead, Creator, FileSource, IoSink, MadeFiles, MemSink, Opener, Source, SystemFiles,
     SystemOutputs, Texts, put,
@@ -25,29 +25,9 @@ fn writes_of_every_length_are_taken(rt: HostRuntime) {
     for len in 1..=MOST {
         expect_write(&rt, &mut kept, &bytes[..len], Ok(len));
         expect_write(&rt, &mut written, &bytes[..len], Ok(len));
+        expect_write(&rt, &mut kept, b"a", Ok(1));
+        expect_write(&rt, &mut written, b"a", Ok(1));
     }
-}
-
-#[test]
-fn reads_of_every_length_hand_over(rt: HostRuntime) {
-    let bytes = [b'a'; MOST];
-    let mut into = [0; MOST];
-    for len in 1..=MOST {
-        let mut reader = CountedRead::new(&bytes[..len]);
-        assert!(rt; reader.read_some(&mut into) == Ok(len));
-        assert!(rt; reader.read_some(&mut into) == Ok(0) && reader.failures() == 0);
-    }
-}
-
-#[test]
-fn each_of_many_reads_hands_over(rt: HostRuntime) {
-    let bytes = [b'a'; MOST];
-    let mut reader = CountedRead::new(bytes.as_slice());
-    let mut into = [0; 1];
-    for _ in 0..MOST {
-        assert!(rt; reader.read_some(&mut into) == Ok(1));
-    }
-    assert!(rt; reader.read_some(&mut into) == Ok(0));
 }
 
 /// Fails unless reads with room for `room` bytes hand over these bytes, each as many as it has room for, and then none.
@@ -63,10 +43,14 @@ fn expect_pieces(rt: &impl Abort, bytes: &[u8], room: usize) {
 }
 
 #[test]
-fn reads_with_room_of_every_length(rt: HostRuntime) -> Result<(), Fail> {
+fn reads_of_every_length_hand_over(rt: HostRuntime) -> Result<(), Fail> {
     let bytes = distinct_bytes(rt.alloc(), MOST)?;
+    assert!(rt; bytes.len() == MOST);
     for room in 1..=64 {
         expect_pieces(&rt, bytes.as_slice(), room);
+    }
+    for len in 1..=MOST {
+        expect_pieces(&rt, &bytes[..len], MOST);
     }
     Ok(())
 }
@@ -106,44 +90,21 @@ fn expect_read_at(
     assert!(rt; bytes[at..].starts_with(into), "{at}");
 }
 
+/// Reads of every length at the start of a file, and of one byte so far apart that each of them asks the system.
 #[test]
 fn reads_of_every_length_of_a_file(rt: HostRuntime) -> Result<(), Fail> {
-    let bytes = distinct_bytes(rt.alloc(), MOST)?;
-    let mut source = source_of(&rt, "devices_lengths.bin", bytes.as_slice())?;
+    let short = distinct_bytes(rt.alloc(), MOST)?;
+    let long = distinct_bytes(rt.alloc(), 4 * BUFFER)?;
+    let mut of_short = source_of(&rt, "devices_lengths.bin", short.as_slice())?;
+    let mut of_long = source_of(&rt, "devices_far_reads.bin", long.as_slice())?;
     let mut into = [0; MOST];
-    for len in 1..=MOST {
-        expect_read_at(&rt, &mut source, bytes.as_slice(), 0, &mut into[..len]);
-    }
-    Ok(())
-}
-
-/// Reads that lie so far apart that each of them asks the system.
-#[test]
-fn each_of_many_reads_of_a_file(rt: HostRuntime) -> Result<(), Fail> {
-    let bytes = distinct_bytes(rt.alloc(), 4 * BUFFER)?;
-    let mut source = source_of(&rt, "devices_far_reads.bin", bytes.as_slice())?;
-    let mut into = [0; 1];
     for at in 0..MOST {
-        expect_read_at(&rt, &mut source, bytes.as_slice(), at, &mut into);
-        expect_read_at(
-            &rt,
-            &mut source,
-            bytes.as_slice(),
-            at + 3 * BUFFER,
-            &mut into,
-        );
+        expect_read_at(&rt, &mut of_short, short.as_slice(), 0, &mut into[..at + 1]);
+        for far in [at, at + 3 * BUFFER] {
+            expect_read_at(&rt, &mut of_long, long.as_slice(), far, &mut into[..1]);
+        }
     }
     Ok(())
-}
-
-#[test]
-fn writes_of_one_byte_are_taken(rt: HostRuntime) {
-    let mut kept = MemSink::new(rt.alloc());
-    let mut written = IoSink::new(Vec::new(rt.alloc()));
-    for _ in 1..=MOST {
-        expect_write(&rt, &mut kept, b"a", Ok(1));
-        expect_write(&rt, &mut written, b"a", Ok(1));
-    }
 }
 
 /// Writes these bytes to an output at the path in pieces of 12,288, and asserts that the file has them then.
@@ -159,7 +120,7 @@ fn holds_what_was_written<R: Files<File = File> + AllocGlobal + Abort>(
     }
     outputs.close(path, output)?;
     let file = fs::read(rt, path)?;
-    expect_bytes(rt, file.as_slice(), bytes);
+    assert_eq!(rt; file.as_slice(), bytes);
     Ok(())
 }
 
@@ -185,14 +146,6 @@ fn outputs_of_one_buffer_and_two(rt: HostRuntime) -> Result<(), Fail> {
         let end = pages * 4096;
         hold_what_was_written(&rt, path, bytes.as_slice(), (end - 3, end + 3))?;
     }
-    fs::remove_file(&rt, path)?;
-    Ok(())
-}
-
-#[test]
-fn outputs_of_many_lengths(rt: HostRuntime) -> Result<(), Fail> {
-    let path = "devices_short_outputs.bin";
-    let bytes = distinct_bytes(rt.alloc(), 2 * BUFFER)?;
     hold_what_was_written(&rt, path, bytes.as_slice(), (0, MOST))?;
     for parts in 2..=131 {
         let len = parts * 997;

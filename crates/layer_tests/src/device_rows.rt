@@ -61,11 +61,6 @@ pub fn expect_write<W: Sink>(
     assert_eq!(rt; sink.write_some(bytes), answer);
 }
 
-/// Fails unless these are the bytes.
-pub fn expect_bytes(rt: &impl Abort, bytes: &[u8], want: &[u8]) {
-    assert_eq!(rt; bytes, want);
-}
-
 /// A source of a file of the system with these bytes, at this path, where the file is removed again.
 pub fn source_of(
     rt: &impl Files<File = File>,

@@ -9,6 +9,8 @@ mod device_lengths;
 #[cfg(test)]
 mod device_rows;
 #[cfg(test)]
+mod header_rows;
+#[cfg(test)]
 mod heads;
 #[cfg(test)]
 mod lines;

@@ -2,7 +2,7 @@
 
 ghost use Rattle.std.specs.Prelude.{◌≤◌, length};
 
-use crate::device_rows::{Read, drip_of, expect_bytes, expect_put, expect_reads, expect_write};
+use crate::device_rows::{Read, drip_of, expect_put, expect_reads, expect_write};
 use devices::{DripSource, FailWhen, SinkFailed, SliceSink, Source, SourceFailed, WriteFailed};
 use nc_base::FormatFault;
 use nc_file::{HeadFault, read_header};
@@ -76,20 +76,14 @@ fn reads_header(
 }
 
 #[test]
-fn header_drips_in(rt: HostRuntime) {
-    for step in [1, 3, 7] {
-        for buffer_len in [16, 17, 31, 4096] {
-            reads_header(&rt, rt.alloc(), &EMPTY, Ok(true), step, buffer_len);
-        }
-    }
-}
-
-#[test]
-fn cut_header_drips_in(rt: HostRuntime) {
-    for step in [1, 3, 7] {
-        for buffer_len in [16, 17, 31, 4096] {
-            let cut = Err(HeadFault::Format(FormatFault::HeaderTruncated));
-            reads_header(&rt, rt.alloc(), &CUT, cut, step, buffer_len);
+fn headers_drip_in(rt: HostRuntime) {
+    const CUT_OFF: HeadFault = HeadFault::Format(FormatFault::HeaderTruncated);
+    const FILES: [(&[u8], Result<bool, HeadFault>); 2] = [(&EMPTY, Ok(true)), (&CUT, Err(CUT_OFF))];
+    for (file, want) in FILES {
+        for step in [1, 3, 7] {
+            for buffer_len in [16, 17, 31, 4096] {
+                reads_header(&rt, rt.alloc(), file, want, step, buffer_len);
+            }
         }
     }
 }
@@ -120,29 +114,24 @@ fn drip_hands_over_its_bytes(rt: HostRuntime) {
 }
 
 #[test]
-fn drip_fails_from_an_offset_on(rt: HostRuntime) {
-    const READS: [Read; 5] = [
+fn drip_fails_from_an_offset_on_or_once(rt: HostRuntime) {
+    const FROM_FOUR: &[Read] = &[
         (3, Ok(3), b"def"),
         (4, Err(SourceFailed), b""),
         (9, Err(SourceFailed), b""),
         (0, Ok(3), b"abc"),
         (5, Err(SourceFailed), b""),
     ];
-    let mut source = drip_of(&rt, &TEXT, 3, FailWhen::From(4));
-    expect_reads(&rt, &mut source, 10, &READS);
-    assert!(rt; source.handed() == 6);
-}
-
-#[test]
-fn drip_fails_once(rt: HostRuntime) {
-    const READS: [Read; 3] = [
+    const ONCE: &[Read] = &[
         (0, Ok(3), b"abc"),
         (3, Err(SourceFailed), b""),
         (3, Ok(3), b"def"),
     ];
-    let mut source = drip_of(&rt, &TEXT, 3, FailWhen::Read(1));
-    expect_reads(&rt, &mut source, 10, &READS);
-    assert!(rt; source.handed() == 6);
+    for (fail, reads) in [(FailWhen::From(4), FROM_FOUR), (FailWhen::Read(1), ONCE)] {
+        let mut source = drip_of(&rt, &TEXT, 3, fail);
+        expect_reads(&rt, &mut source, 10, reads);
+        assert!(rt; source.handed() == 6);
+    }
 }
 
 /// Puts ten bytes into a slice of this length, up to ten.
@@ -152,7 +141,7 @@ fn fills_slice(rt: &impl Abort, step: usize, len: usize) {
     let mut sink = SliceSink::new(&mut space[..len], step);
     let want = if len < 10 { Err(WriteFailed) } else { Ok(()) };
     expect_put(rt, &mut sink, &TEXT, want);
-    expect_bytes(rt, sink.taken(), &TEXT[..len]);
+    assert_eq!(rt; sink.taken(), &TEXT[..len]);
     expect_write(rt, &mut sink, b"", Ok(0));
     expect_write(rt, &mut sink, b"k", Err(SinkFailed));
 }
@@ -163,13 +152,9 @@ fn slice_takes_what_fits(rt: HostRuntime) {
         fills_slice(&rt, 1, len);
         fills_slice(&rt, 7, len);
     }
-}
-
-#[test]
-fn slice_takes_few_bytes_a_call(rt: HostRuntime) {
     let mut space = [0; 10];
     let mut sink = SliceSink::new(&mut space, 7);
     expect_write(&rt, &mut sink, b"abcdefgh", Ok(7));
     expect_write(&rt, &mut sink, b"hijkl", Ok(3));
-    expect_bytes(&rt, sink.taken(), b"abcdefghij");
+    assert_eq!(rt; sink.taken(), b"abcdefghij".as_slice());
 }

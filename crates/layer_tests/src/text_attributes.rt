@@ -3,7 +3,7 @@
 use crate::name_indices::index_of;
 use cdl_parse::{Attributes, read_attribute, variable_position};
 use cdl_text::{CdlKind, Cutter, Due, first_pass};
-use cdl_values::{NameIndex, ReadError};
+use cdl_values::ReadError;
 use nc_base::{Att, NcType, Version};
 use std::alloc::Global;
 use std::process::Abort;
@@ -28,28 +28,24 @@ fn add(
     read_attribute(alloc, attributes, start)
 }
 
-/// Fails unless this is the attribute `a` of this type, with values of these bytes.
-fn expect_attribute(rt: &impl Abort, found: Option<&Att>, ty: NcType, vals: &[u8]) {
-    match found {
-        Some(att) => {
-            assert!(rt; att.name.as_slice() == b"a".as_slice());
-            assert!(rt; att.ty == ty);
-            assert!(rt; att.vals.as_slice() == vals, "{ty:?}");
-        }
-        None => assert!(rt; false, "{ty:?}"),
-    }
-}
-
-/// Fails unless the text declares the attribute `a` of this type, with values of these bytes.
-fn declares(rt: &impl Abort, alloc: Global, text: &[u8], ty: NcType, vals: &[u8]) {
+/// Fails unless the text declares one attribute `a` of this type, with values of these bytes.
+fn declares(
+    rt: &impl Abort,
+    alloc: Global,
+    text: &[u8],
+    ty: NcType,
+    vals: &[u8],
+) -> Result<(), ReadError> {
     let mut attributes = Attributes::new(alloc);
-    match add(alloc, &mut attributes, Version::Cdf5, text) {
-        Ok(()) => {
-            let list = attributes.into_sequence();
-            expect_attribute(rt, list.as_slice().first(), ty, vals);
-        }
-        Err(e) => assert!(rt; false, "{e:?}: {text:?}"),
+    add(alloc, &mut attributes, Version::Cdf5, text)?;
+    let list = attributes.into_sequence();
+    assert!(rt; list.len() == 1, "{text:?}");
+    for att in list.as_slice() {
+        assert!(rt; att.name.as_slice() == b"a".as_slice(), "{text:?}");
+        assert!(rt; att.ty == ty, "{text:?}");
+        assert!(rt; att.vals.as_slice() == vals, "{text:?}");
     }
+    Ok(())
 }
 
 #[test]
@@ -72,7 +68,8 @@ fn constants_are_packed(rt: HostRuntime) {
         ),
     ];
     for (text, ty, vals) in ROWS {
-        declares(&rt, rt.alloc(), text, ty, vals);
+        let declared = declares(&rt, rt.alloc(), text, ty, vals);
+        assert!(rt; declared == Ok(()), "{text:?}");
     }
 }
 
@@ -111,13 +108,6 @@ fn first_fault_of_an_attribute_wins(rt: HostRuntime) {
     }
 }
 
-/// Fails unless these are the names of the attributes.
-fn expect_names(rt: &impl Abort, atts: &[Att], names: &[&[u8]]) {
-    for (att, name) in atts.iter().zip(names.iter()) {
-        assert!(rt; att.name.as_slice() == *name, "{name:?}");
-    }
-}
-
 #[test]
 fn attributes_stand_in_the_order_of_the_text(rt: HostRuntime) {
     const TEXTS: [&[u8]; 3] = [b"z = 1 ;", b"a = \"x\" ;", b"m = 2b ;"];
@@ -130,19 +120,9 @@ fn attributes_stand_in_the_order_of_the_text(rt: HostRuntime) {
     assert!(rt; !attributes.has_name(b"b"));
     let list = attributes.into_sequence();
     assert_eq!(rt; list.len(), 3);
-    expect_names(&rt, list.as_slice(), &NAMES);
-}
-
-/// Fails unless the word names the variable in this place, or has this fault.
-fn expect_position(
-    rt: &impl Abort,
-    alloc: Global,
-    index: &NameIndex,
-    word: &[u8],
-    want: Result<u64, ReadError>,
-) {
-    let found = variable_position(alloc, index, word);
-    assert!(rt; found == want, "{found:?}: {word:?}");
+    for (att, name) in list.as_slice().iter().zip(NAMES) {
+        assert!(rt; att.name.as_slice() == name, "{name:?}");
+    }
 }
 
 #[test]
@@ -156,7 +136,8 @@ fn variables_are_found_by_name(rt: HostRuntime) -> Result<(), Fail> {
     ];
     let index = index_of(rt.alloc(), &NAMES)?;
     for (word, want) in ROWS {
-        expect_position(&rt, rt.alloc(), &index, word, want);
+        let found = variable_position(rt.alloc(), &index, word);
+        assert!(rt; found == want, "{found:?}: {word:?}");
     }
     Ok(())
 }

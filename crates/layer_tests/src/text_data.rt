@@ -5,7 +5,7 @@ use cdl_parse::{DataSection, ParseError, read_data};
 use cdl_text::{CdlFault, CdlKind, Cutter};
 use cdl_tokens::TokenKind;
 use cdl_values::{Fill, Filling, Target};
-use nc_base::{ListedArray, NcType, Version};
+use nc_base::{NcType, Version};
 use std::alloc::{AllocError, Global};
 use std::process::Abort;
 use std::test::*;
@@ -36,46 +36,19 @@ fn section(alloc: Global, start: Cutter<'_>) -> Result<DataSection<'_>, ParseErr
     read_data(alloc, &index, targets, start)
 }
 
-/// Takes the last of these arrays, and fails unless it has these bytes.
-fn expect_last(
-    rt: &impl Abort,
-    alloc: Global,
-    arrays: &mut Vec<ListedArray>,
-    want: &[u8],
-) -> Result<(), Fail> {
-    match arrays.pop() {
-        Some(array) => {
-            let bytes = array.into_bytes(alloc, 0)?;
-            assert_eq!(rt; bytes.as_slice(), want);
-        }
-        None => assert!(rt; false),
-    }
-    Ok(())
-}
-
 /// Fails unless the section is closed, its text ends there, and the variables have these bytes.
 fn expect_arrays(
     rt: &impl Abort,
     alloc: Global,
     found: DataSection<'_>,
-    v: &[u8],
-    c: &[u8],
+    want: [&[u8]; 2],
 ) -> Result<(), Fail> {
     assert!(rt; found.is_closed);
     assert!(rt; !found.rest.is_done());
     assert!(rt; found.rest.lexeme().kind == TokenKind::End);
-    let mut arrays = found.arrays;
-    expect_last(rt, alloc, &mut arrays, c)?;
-    expect_last(rt, alloc, &mut arrays, v)?;
-    assert!(rt; arrays.is_empty());
-    Ok(())
-}
-
-/// Fails unless the text gives these bytes to the variables.
-fn gives(rt: &impl Abort, alloc: Global, text: &[u8], v: &[u8], c: &[u8]) -> Result<(), Fail> {
-    match section(alloc, Cutter::new(text, Version::Cdf1)) {
-        Ok(found) => expect_arrays(rt, alloc, found, v, c)?,
-        Err(e) => assert!(rt; false, "{e:?}: {text:?}"),
+    assert!(rt; found.arrays.len() == 2);
+    for (array, bytes) in found.arrays.into_iter().zip(want) {
+        assert_eq!(rt; array.into_bytes(alloc, 0)?.as_slice(), bytes);
     }
     Ok(())
 }
@@ -90,17 +63,12 @@ fn values_go_to_their_variables(rt: HostRuntime) -> Result<(), Fail> {
         (b"}", b"", b""),
     ];
     for (text, v, c) in ROWS {
-        gives(&rt, rt.alloc(), text, v, c)?;
+        match section(rt.alloc(), Cutter::new(text, Version::Cdf1)) {
+            Ok(found) => expect_arrays(&rt, rt.alloc(), found, [v, c])?,
+            Err(e) => assert!(rt; false, "{e:?}: {text:?}"),
+        }
     }
     Ok(())
-}
-
-/// Fails unless the text has this fault.
-fn refuses(rt: &impl Abort, alloc: Global, text: &[u8], want: CdlFault) {
-    match section(alloc, Cutter::new(text, Version::Cdf1)) {
-        Ok(_) => assert!(rt; false, "{text:?}"),
-        Err(e) => assert!(rt; e == ParseError::Fault(want), "{e:?}: {text:?}"),
-    }
 }
 
 #[test]
@@ -125,7 +93,11 @@ fn first_bad_statement_has_its_line(rt: HostRuntime) {
         (b"", 1, CdlKind::Syntax),
     ];
     for (text, line, kind) in ROWS {
-        refuses(&rt, rt.alloc(), text, CdlFault { line, kind });
+        let want = ParseError::Fault(CdlFault { line, kind });
+        match section(rt.alloc(), Cutter::new(text, Version::Cdf1)) {
+            Ok(_) => assert!(rt; false, "{text:?}"),
+            Err(e) => assert!(rt; e == want, "{e:?}: {text:?}"),
+        }
     }
 }
 

@@ -24,11 +24,6 @@ fn has_pieces(alloc: Global, text: &[u8], lens: &[usize]) -> Result<bool, AllocE
     Ok(cutter.is_done())
 }
 
-/// Fails unless the statements of the text have these numbers of tokens.
-fn expect_pieces(rt: &impl Abort, alloc: Global, text: &[u8], lens: &[usize]) {
-    assert!(rt; has_pieces(alloc, text, lens) == Ok(true), "{text:?}");
-}
-
 #[test]
 fn texts_are_cut_into_statements(rt: HostRuntime) {
     const ROWS: [(&[u8], &[usize]); 6] = [
@@ -40,14 +35,8 @@ fn texts_are_cut_into_statements(rt: HostRuntime) {
         (b"data: x = 1, 2; ; }}", &[2, 6, 1, 1, 1, 1]),
     ];
     for (text, lens) in ROWS {
-        expect_pieces(&rt, rt.alloc(), text, lens);
+        assert!(rt; has_pieces(rt.alloc(), text, lens) == Ok(true), "{text:?}");
     }
-}
-
-/// Fails unless the next token is the last of its statement, or is not, as `is_last` says.
-fn advances(rt: &impl Abort, cutter: &mut Cutter<'_>, is_last: bool) {
-    assert!(rt; !cutter.is_done());
-    assert!(rt; cutter.advance() == is_last);
 }
 
 #[test]
@@ -56,15 +45,11 @@ fn advancing_ends_where_statements_end(rt: HostRuntime) {
     let mut cutter = Cutter::new(TEXT, Version::Cdf1);
     for len in [1, 2, 4, 2, 6, 1, 1] {
         for i in 0..len {
-            advances(&rt, &mut cutter, i + 1 == len);
+            assert!(rt; !cutter.is_done());
+            assert!(rt; cutter.advance() == (i + 1 == len), "of {len}");
         }
     }
     assert!(rt; cutter.is_done());
-}
-
-/// Fails unless this is the next token.
-fn expect_token(rt: &impl Abort, scanner: &mut Scanner<'_>, want: Token) {
-    assert_eq!(rt; scanner.token(), want);
 }
 
 #[test]
@@ -90,7 +75,7 @@ fn tokens_have_kinds_places_and_lines(rt: HostRuntime) {
             first,
             past,
         };
-        expect_token(&rt, &mut scanner, token);
+        assert_eq!(rt; scanner.token(), token);
     }
 }
 
@@ -142,32 +127,25 @@ fn numbers_have_values_and_types(rt: HostRuntime) {
     }
 }
 
-/// Fails unless these bytes are a number of the version, or are none, as `is_number` says.
-fn expect_is_number(rt: &impl Abort, version: Version, bytes: &[u8], is_number: bool) {
-    assert!(rt;
-        number_of_token(version, bytes).is_some() == is_number,
-        "{bytes:?}"
-    );
-}
-
 #[test]
 fn five_suffixes_are_of_cdf5_alone(rt: HostRuntime) {
-    const OF_CDF5: [&[u8]; 5] = [b"3ub", b"3us", b"3u", b"3ll", b"3ull"];
-    const OF_ALL: [&[u8]; 4] = [b"3b", b"3s", b"3l", b"3"];
-    for version in [Version::Cdf1, Version::Cdf2] {
-        for bytes in OF_CDF5 {
-            expect_is_number(&rt, version, bytes, false);
-        }
-        for bytes in OF_ALL {
-            expect_is_number(&rt, version, bytes, true);
+    const ROWS: [(&[u8], bool); 9] = [
+        (b"3ub", false),
+        (b"3us", false),
+        (b"3u", false),
+        (b"3ll", false),
+        (b"3ull", false),
+        (b"3b", true),
+        (b"3s", true),
+        (b"3l", true),
+        (b"3", true),
+    ];
+    for (bytes, is_number) in ROWS {
+        for version in [Version::Cdf1, Version::Cdf2] {
+            let found = number_of_token(version, bytes);
+            assert!(rt; found.is_some() == is_number, "{version:?} {bytes:?}");
         }
     }
-}
-
-/// Fails unless the first `len` of these bytes stand for this character, or for none.
-fn expect_character(rt: &impl Abort, bytes: &[u8], value: Option<u8>, len: usize) {
-    assert!(rt; !bytes.is_empty());
-    assert!(rt; character(bytes) == Character { value, len }, "{bytes:?}");
 }
 
 #[test]
@@ -192,21 +170,9 @@ fn characters_stand_for_bytes(rt: HostRuntime) {
         (b"\\xg", None, 2),
     ];
     for (bytes, value, len) in ROWS {
-        expect_character(&rt, bytes, value, len);
+        assert!(rt; !bytes.is_empty());
+        assert!(rt; character(bytes) == Character { value, len }, "{bytes:?}");
     }
-}
-
-/// Fails unless the first pass over the first statement of these bytes, in this section and read for CDF-1, finds no bad
-/// token, and the shape of a statement or none, as `shaped` says.
-fn expect_shape(rt: &impl Abort, section: Section, bytes: &[u8], shaped: bool) {
-    let found = look_over(Cutter::new(bytes, Version::Cdf1), section);
-    assert!(rt; found.bad.is_none() && found.shaped == shaped, "{bytes:?}");
-}
-
-/// Fails unless this is the kind of the first bad token of the statement of these bytes, in the data section.
-fn expect_bad(rt: &impl Abort, bytes: &[u8], bad: Option<CdlKind>) {
-    let found = look_over(Cutter::new(bytes, Version::Cdf1), Section::Values);
-    assert!(rt; found.bad == bad, "{bytes:?}");
 }
 
 #[test]
@@ -240,7 +206,8 @@ fn statements_have_shapes(rt: HostRuntime) {
         (Section::Closed, b"y ;", false),
     ];
     for (section, bytes, shaped) in ROWS {
-        expect_shape(&rt, section, bytes, shaped);
+        let found = look_over(Cutter::new(bytes, Version::Cdf1), section);
+        assert!(rt; found.bad.is_none() && found.shaped == shaped, "{bytes:?}");
     }
 }
 
@@ -254,6 +221,7 @@ fn first_bad_token_decides(rt: HostRuntime) {
         (b"v = 1 ; %", None),
     ];
     for (bytes, bad) in ROWS {
-        expect_bad(&rt, bytes, bad);
+        let found = look_over(Cutter::new(bytes, Version::Cdf1), Section::Values);
+        assert!(rt; found.bad == bad, "{bytes:?}");
     }
 }

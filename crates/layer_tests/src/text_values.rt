@@ -50,82 +50,51 @@ fn values_of(alloc: Global, text: &[u8]) -> Result<Vec<u8>, ReadError> {
     Ok(given.array.into_bytes(alloc, 0)?)
 }
 
-/// Fails unless the statement gives these bytes to its variable.
-fn packs(rt: &impl Abort, alloc: Global, text: &[u8], want: &[u8]) {
-    match values_of(alloc, text) {
-        Ok(bytes) => assert!(rt; bytes.as_slice() == want, "{text:?}"),
-        Err(e) => assert!(rt; false, "{e:?}: {text:?}"),
-    }
-}
-
-/// Fails unless the statement has this fault.
-fn refuses(rt: &impl Abort, alloc: Global, text: &[u8], kind: CdlKind) {
-    match values_of(alloc, text) {
-        Ok(_) => assert!(rt; false, "{text:?}"),
-        Err(e) => assert!(rt; e == ReadError::Fault(kind), "{e:?}: {text:?}"),
+/// Fails unless the statement gives these bytes to its variable, or has this fault.
+fn expect_values(rt: &impl Abort, alloc: Global, text: &[u8], want: Result<&[u8], CdlKind>) {
+    match (values_of(alloc, text), want) {
+        (Ok(bytes), Ok(want)) => assert!(rt; bytes.as_slice() == want, "{text:?}"),
+        (Err(ReadError::Fault(kind)), Err(want)) => assert!(rt; kind == want, "{kind:?}: {text:?}"),
+        _ => assert!(rt; false, "{text:?}"),
     }
 }
 
 #[test]
-fn values_are_packed(rt: HostRuntime) {
-    const ROWS: [(&[u8], &[u8]); 8] = [
-        (b"v = 1, -2, _ ;", b"\x00\x01\xff\xfe\x80\x01"),
-        (b"v = 0x7fff, -32768 ;", b"\x7f\xff\x80\x00"),
-        (b"v = 1b ;", b"\x00\x01"),
+fn values_are_packed_up_to_their_first_fault(rt: HostRuntime) {
+    const ROWS: [(&[u8], Result<&[u8], CdlKind>); 26] = [
+        (b"v = 1, -2, _ ;", Ok(b"\x00\x01\xff\xfe\x80\x01")),
+        (b"v = 0x7fff, -32768 ;", Ok(b"\x7f\xff\x80\x00")),
+        (b"v = 1b ;", Ok(b"\x00\x01")),
         (
             b"u = 017, 2147483647 ;",
-            b"\x00\x00\x00\x0f\x7f\xff\xff\xff",
+            Ok(b"\x00\x00\x00\x0f\x7f\xff\xff\xff"),
         ),
-        (b"c = \"ab\", \"c\" ;", b"abc"),
-        (b"c = \"\\x41\\0\" ;", b"A\x00"),
-        (b"r = \"ab\", \"c\" ;", b"ab\x00c\x00\x00"),
-        (b"\\v = 5 ;", b"\x00\x05"),
+        (b"c = \"ab\", \"c\" ;", Ok(b"abc")),
+        (b"c = \"\\x41\\0\" ;", Ok(b"A\x00")),
+        (b"r = \"ab\", \"c\" ;", Ok(b"ab\x00c\x00\x00")),
+        (b"\\v = 5 ;", Ok(b"\x00\x05")),
+        (b"v = 1, 40000, % ;", Err(CdlKind::BadToken)),
+        (b"w = 1 08 ;", Err(CdlKind::BadNumber)),
+        (b"v = 1ub ;", Err(CdlKind::BadNumber)),
+        (b"w = 1, ;", Err(CdlKind::Syntax)),
+        (b"v = 1", Err(CdlKind::Syntax)),
+        (b"int = 1 ;", Err(CdlKind::Syntax)),
+        (b"a\\/b = 40000 ;", Err(CdlKind::BadName)),
+        (b"w = \"a\" ;", Err(CdlKind::UnknownVariable)),
+        (b"g = \"a\" ;", Err(CdlKind::DuplicateData)),
+        (b"v = \"a\", 40000 ;", Err(CdlKind::WrongKind)),
+        (b"c = _ ;", Err(CdlKind::WrongKind)),
+        (b"v = 1, 2, 3, 40000 ;", Err(CdlKind::TooManyValues)),
+        (b"r = \"a\", \"b\", \"abcd\" ;", Err(CdlKind::TooManyValues)),
+        (b"c = \"abc\", \"de\", 1 ;", Err(CdlKind::StringTooLong)),
+        (b"r = \"abcd\", 1 ;", Err(CdlKind::StringTooLong)),
+        (b"v = 32768, \"a\" ;", Err(CdlKind::NumberRange)),
+        (b"v = -32769 ;", Err(CdlKind::NumberRange)),
+        (b"u = 100000000000000000000000 ;", Err(CdlKind::NumberRange)),
     ];
     for (text, want) in ROWS {
-        packs(&rt, rt.alloc(), text, want);
+        expect_values(&rt, rt.alloc(), text, want);
     }
-}
-
-#[test]
-fn first_fault_wins(rt: HostRuntime) {
-    const ROWS: [(&[u8], CdlKind); 18] = [
-        (b"v = 1, 40000, % ;", CdlKind::BadToken),
-        (b"w = 1 08 ;", CdlKind::BadNumber),
-        (b"v = 1ub ;", CdlKind::BadNumber),
-        (b"w = 1, ;", CdlKind::Syntax),
-        (b"v = 1", CdlKind::Syntax),
-        (b"int = 1 ;", CdlKind::Syntax),
-        (b"a\\/b = 40000 ;", CdlKind::BadName),
-        (b"w = \"a\" ;", CdlKind::UnknownVariable),
-        (b"g = \"a\" ;", CdlKind::DuplicateData),
-        (b"v = \"a\", 40000 ;", CdlKind::WrongKind),
-        (b"c = _ ;", CdlKind::WrongKind),
-        (b"v = 1, 2, 3, 40000 ;", CdlKind::TooManyValues),
-        (b"r = \"a\", \"b\", \"abcd\" ;", CdlKind::TooManyValues),
-        (b"c = \"abc\", \"de\", 1 ;", CdlKind::StringTooLong),
-        (b"r = \"abcd\", 1 ;", CdlKind::StringTooLong),
-        (b"v = 32768, \"a\" ;", CdlKind::NumberRange),
-        (b"v = -32769 ;", CdlKind::NumberRange),
-        (b"u = 100000000000000000000000 ;", CdlKind::NumberRange),
-    ];
-    for (text, kind) in ROWS {
-        refuses(&rt, rt.alloc(), text, kind);
-    }
-}
-
-/// Fails unless a dimension after the record dimension has this length, or fault, where this number is written.
-fn expect_len(
-    rt: &impl Abort,
-    version: Version,
-    magnitude: Option<u64>,
-    want: Result<u64, CdlKind>,
-) {
-    let number = Numeral {
-        minus: false,
-        magnitude,
-        ty: NcType::Int,
-    };
-    assert_eq!(rt; dim_len(version, true, Some(number)), want);
 }
 
 #[test]
@@ -138,12 +107,14 @@ fn dimensions_have_lengths(rt: HostRuntime) {
         (Version::Cdf5, None, Err(CdlKind::NumberRange)),
     ];
     for (version, magnitude, want) in ROWS {
-        expect_len(&rt, version, magnitude, want);
+        let number = Numeral {
+            minus: false,
+            magnitude,
+            ty: NcType::Int,
+        };
+        assert_eq!(rt; dim_len(version, true, Some(number)), want);
     }
-}
-
-#[test]
-fn one_dimension_is_unlimited(rt: HostRuntime) {
+    // one dimension is unlimited
     assert!(rt; dim_len(Version::Cdf5, true, None) == Err(CdlKind::TwoRecordDims));
     assert!(rt; dim_len(Version::Cdf1, false, None) == Ok(0));
 }

@@ -1,6 +1,7 @@
 //! What the clauses don't say: that the definitions they cite are those of the format.
 
-use nc_base::{Att, NcType, Sequence, Var, Version, check_name, fill_of, stem};
+use crate::header_rows::{NamedValues, var_of};
+use nc_base::{NcType, Sequence, Version, check_name, fill_of, stem};
 use std::alloc::{AllocError, Global};
 use std::process::Abort;
 use std::test::Fail;
@@ -72,43 +73,38 @@ const TYPES: [Wanted; 9] = [
     },
 ];
 
-/// Fails unless the type is the wanted one, with its size, code and fill value.
+/// The fill value of a variable of this type with these attributes.
+fn fill(alloc: Global, ty: NcType, atts: &[NamedValues<'_>]) -> Result<i128, AllocError> {
+    Ok(fill_of(&var_of(alloc, (b"v", &[], ty, 0), atts)?))
+}
+
+/// Fails unless the type has the wanted size, code and fill value, and the versions have it that are to.
 fn expect_type(rt: &impl Abort, ty: NcType, want: &Wanted) {
     assert!(rt; ty == want.ty, "{ty:?}");
     assert!(rt; ty.size() == want.size, "the size of {ty:?}");
     assert!(rt; ty.code() == want.code, "the code of {ty:?}");
+    assert!(rt;
+        NcType::of_code(want.code) == Some(ty),
+        "the type of {ty:?}'s code"
+    );
     assert!(rt; ty.default_fill() == want.fill, "the fill value of {ty:?}");
-}
-
-/// Fails unless this is the type of the code.
-fn expect_code(rt: &impl Abort, code: u32, ty: Option<NcType>) {
-    assert_eq!(rt; NcType::of_code(code), ty, "the code {code}");
+    let is_old = want.code <= 4;
+    assert!(rt; Version::Cdf1.has_type(ty) == is_old, "{ty:?} in CDF-1");
+    assert!(rt; Version::Cdf2.has_type(ty) == is_old, "{ty:?} in CDF-2");
+    assert!(rt; Version::Cdf5.has_type(ty), "{ty:?} in CDF-5");
 }
 
 #[test]
-fn types_have_the_sizes_and_codes_of_the_format(rt: HostRuntime) {
+fn types_are_those_of_the_format(rt: HostRuntime) -> Result<(), Fail> {
+    const UNITS: &[NamedValues<'static>] = &[(b"units", NcType::Char, b"K")];
     for (ty, want) in NcType::ALL.iter().zip(TYPES.iter()) {
         expect_type(&rt, *ty, want);
-        expect_code(&rt, want.code, Some(*ty));
+        assert!(rt; fill(rt.alloc(), *ty, UNITS)? == want.fill, "{ty:?}");
     }
-}
-
-#[test]
-fn other_codes_are_of_no_type(rt: HostRuntime) {
     for code in [0, 5, 6, 12, u32::MAX] {
-        expect_code(&rt, code, None);
+        assert!(rt; NcType::of_code(code).is_none(), "the code {code}");
     }
-}
-
-/// Fails unless this is the version of the byte.
-fn expect_version(rt: &impl Abort, byte: u8, version: Option<Version>) {
-    assert_eq!(rt; Version::of_byte(byte), version, "the byte {byte}");
-}
-
-/// Fails unless the version's counts end before the limit, and this number says that records are streamed.
-fn expect_limits(rt: &impl Abort, version: Version, count_limit: u64, streaming_mark: u64) {
-    assert!(rt; version.count_limit() == count_limit, "{version:?}");
-    assert!(rt; version.streaming_mark() == streaming_mark, "{version:?}");
+    Ok(())
 }
 
 #[test]
@@ -121,55 +117,32 @@ fn versions_have_bytes_and_limits(rt: HostRuntime) {
         (5, Some(Version::Cdf5)),
         (6, None),
     ];
+    const LIMITS: [(Version, u64, u64); 3] = [
+        (Version::Cdf1, 0x8000_0000, 0xffff_ffff),
+        (Version::Cdf2, 0x8000_0000, 0xffff_ffff),
+        (Version::Cdf5, 0x8000_0000_0000_0000, 0xffff_ffff_ffff_ffff),
+    ];
     for (byte, version) in BYTES {
-        expect_version(&rt, byte, version);
+        assert!(rt; Version::of_byte(byte) == version, "the byte {byte}");
     }
-    for version in [Version::Cdf1, Version::Cdf2] {
-        expect_limits(&rt, version, 0x8000_0000, 0xffff_ffff);
+    for (version, count_limit, streaming_mark) in LIMITS {
+        assert!(rt; version.count_limit() == count_limit, "{version:?}");
+        assert!(rt; version.streaming_mark() == streaming_mark, "{version:?}");
     }
-    expect_limits(
-        &rt,
-        Version::Cdf5,
-        0x8000_0000_0000_0000,
-        0xffff_ffff_ffff_ffff,
-    );
-}
-
-/// Fails unless the version has the type, or hasn't, as `has_it` says.
-fn expect_has_type(rt: &impl Abort, version: Version, ty: NcType, has_it: bool) {
-    assert!(rt; version.has_type(ty) == has_it, "{version:?} {ty:?}");
-}
-
-#[test]
-fn versions_differ_in_types(rt: HostRuntime) {
-    for want in TYPES {
-        let is_old = want.code <= 4;
-        expect_has_type(&rt, Version::Cdf1, want.ty, is_old);
-        expect_has_type(&rt, Version::Cdf2, want.ty, is_old);
-        expect_has_type(&rt, Version::Cdf5, want.ty, true);
-    }
-}
-
-/// Fails unless these bytes keep the rule of names, or don't, as `is_name` says.
-fn expect_name(rt: &impl Abort, name: &[u8], is_name: bool) {
-    assert!(rt; check_name(name) == is_name, "{name:?}");
 }
 
 #[test]
 fn names_keep_the_rule(rt: HostRuntime) {
-    for name in ["x", "_a", "2b", "a b", "naïve", "a-b+c@d.e"] {
-        expect_name(&rt, name.as_bytes(), true);
+    const NAMES: [&str; 6] = ["x", "_a", "2b", "a b", "naïve", "a-b+c@d.e"];
+    const OTHERS: [&str; 8] = ["", "a/b", " a", "a ", "a\u{7f}", "a\tb", "-a", ".a"];
+    for name in NAMES {
+        assert!(rt; check_name(name.as_bytes()), "{name:?}");
     }
-    for name in ["", "a/b", " a", "a ", "a\u{7f}", "a\tb", "-a", ".a"] {
-        expect_name(&rt, name.as_bytes(), false);
+    for name in OTHERS {
+        assert!(rt; !check_name(name.as_bytes()), "{name:?}");
     }
     // half of a character
-    expect_name(&rt, b"\xc3", false);
-}
-
-/// Fails unless the path has this stem.
-fn expect_stem(rt: &impl Abort, path: &str, name: &str) {
-    assert_eq!(rt; stem(path), name, "{path:?}");
+    assert!(rt; !check_name(b"\xc3"));
 }
 
 #[test]
@@ -184,102 +157,55 @@ fn stems_lack_folders_and_extensions(rt: HostRuntime) {
         ("", ""),
     ];
     for (path, name) in PATHS {
-        expect_stem(&rt, path, name);
+        assert_eq!(rt; stem(path), name, "{path:?}");
     }
 }
-
-/// These bytes as a sequence.
-fn bytes(alloc: Global, items: &[u8]) -> Result<Sequence<u8>, AllocError> {
-    let mut sequence = Sequence::new(alloc);
-    sequence.extend_from_slice(items)?;
-    Ok(sequence)
-}
-
-/// A variable of this type, with attributes that have these names, types and values.
-fn variable(alloc: Global, ty: NcType, atts: &[(&str, NcType, &[u8])]) -> Result<Var, AllocError> {
-    let mut sequence = Sequence::new(alloc);
-    for (name, ty, vals) in atts {
-        sequence.push(Att {
-            name: bytes(alloc, name.as_bytes())?,
-            ty: *ty,
-            vals: bytes(alloc, vals)?,
-        })?;
-    }
-    Ok(Var {
-        name: bytes(alloc, b"v")?,
-        dimids: Sequence::new(alloc),
-        atts: sequence,
-        ty,
-        begin_at: 0,
-    })
-}
-
-/// Fails unless a variable of this type, with these attributes, has the fill value.
-fn expect_fill(
-    rt: &impl Abort,
-    alloc: Global,
-    ty: NcType,
-    atts: &[(&str, NcType, &[u8])],
-    fill: i128,
-) -> Result<(), Fail> {
-    let var = variable(alloc, ty, atts)?;
-    assert_eq!(rt; fill_of(&var), fill, "{ty:?}");
-    Ok(())
-}
-
-#[test]
-fn variables_without_a_fill_value_have_the_default(rt: HostRuntime) -> Result<(), Fail> {
-    const UNITS: Atts = &[("units", NcType::Char, b"K")];
-    for want in TYPES {
-        expect_fill(&rt, rt.alloc(), want.ty, UNITS, want.fill)?;
-    }
-    Ok(())
-}
-
-/// Some attributes: the name, the type and the bytes of the values of each.
-type Atts = &'static [(&'static str, NcType, &'static [u8])];
 
 /// A type, attributes of a variable of the type, and the variable's fill value.
-const OWN_FILLS: [(NcType, Atts, i128); 7] = [
-    (NcType::Byte, &[("_FillValue", NcType::Byte, b"\x81")], -127),
+const OWN_FILLS: [(NcType, &[NamedValues<'static>], i128); 7] = [
+    (
+        NcType::Byte,
+        &[(b"_FillValue", NcType::Byte, b"\x81")],
+        -127,
+    ),
     (
         NcType::Short,
         &[
-            ("units", NcType::Short, b"\0\x07"),
-            ("_FillValue", NcType::Short, b"\xff\xfe"),
+            (b"units", NcType::Short, b"\0\x07"),
+            (b"_FillValue", NcType::Short, b"\xff\xfe"),
         ],
         -2,
     ),
     (
         NcType::Uint64,
-        &[("_FillValue", NcType::Uint64, b"\x80\0\0\0\0\0\0\x01")],
+        &[(b"_FillValue", NcType::Uint64, b"\x80\0\0\0\0\0\0\x01")],
         9223372036854775809,
     ),
     // of another type, and of two values
     (
         NcType::Short,
-        &[("_FillValue", NcType::Int, b"\0\0\0\x07")],
+        &[(b"_FillValue", NcType::Int, b"\0\0\0\x07")],
         -32767,
     ),
     (
         NcType::Short,
-        &[("_FillValue", NcType::Short, b"\0\x07\0\x07")],
+        &[(b"_FillValue", NcType::Short, b"\0\x07\0\x07")],
         -32767,
     ),
     // two of the name
     (
         NcType::Short,
         &[
-            ("_FillValue", NcType::Short, b"\0\x07"),
-            ("_FillValue", NcType::Short, b"\0\x08"),
+            (b"_FillValue", NcType::Short, b"\0\x07"),
+            (b"_FillValue", NcType::Short, b"\0\x08"),
         ],
         7,
     ),
     (
         NcType::Short,
         &[
-            ("_FillValue", NcType::Int, b"\0\0\0\x07"),
-            ("_FillValue", NcType::Short, b"\0\x08"),
+            (b"_FillValue", NcType::Int, b"\0\0\0\x07"),
+            (b"_FillValue", NcType::Short, b"\0\x08"),
         ],
         -32767,
     ),
@@ -287,31 +213,23 @@ const OWN_FILLS: [(NcType, Atts, i128); 7] = [
 
 #[test]
 fn the_first_fill_value_of_the_right_type_counts(rt: HostRuntime) -> Result<(), Fail> {
-    for (ty, atts, fill) in OWN_FILLS {
-        expect_fill(&rt, rt.alloc(), ty, atts, fill)?;
+    for (ty, atts, want) in OWN_FILLS {
+        assert!(rt; fill(rt.alloc(), ty, atts)? == want, "{want}");
     }
     Ok(())
 }
 
-/// Fails unless these are the items.
-fn expect_items(rt: &impl Abort, items: &[u64], want: &[u64]) {
-    assert_eq!(rt; items, want);
-}
-
 #[test]
 fn sequences_are_made_from_vectors_and_give_them_back(rt: HostRuntime) -> Result<(), Fail> {
+    const ITEMS: &[u64] = &[3, 1, 4, 1, 5];
+    let none: Sequence<u64> = Sequence::new(rt.alloc());
+    assert!(rt; none.is_empty());
     let mut sequence = Sequence::from_vec(vec![in rt.alloc(); 3u64, 1]?);
     assert!(rt; !sequence.is_empty());
     sequence.push(4)?;
     sequence.extend_from_slice(&[1, 5])?;
     assert!(rt; sequence.len() == 5);
-    expect_items(&rt, sequence.as_slice(), &[3, 1, 4, 1, 5]);
-    expect_items(&rt, sequence.into_vec().as_slice(), &[3, 1, 4, 1, 5]);
+    assert_eq!(rt; sequence.as_slice(), ITEMS);
+    assert_eq!(rt; sequence.into_vec().as_slice(), ITEMS);
     Ok(())
-}
-
-#[test]
-fn new_sequences_are_empty(rt: HostRuntime) {
-    let none: Sequence<u64> = Sequence::new(rt.alloc());
-    assert!(rt; none.is_empty());
 }

@@ -4,79 +4,31 @@ ghost use Rattle.std.specs.Prelude.{◌<◌, All};
 ghost use Rattle.nc_base.specs.Headers.{IsSound};
 ghost use Rattle.nc_base.specs.Versions.{offset_limit};
 
+use crate::header_rows::{EMPTY, HeaderRow, NamedShape, header_of};
 use devices::{MemSink, Sink, SliceSink};
-use nc_base::{Att, Dim, Header, NcType, NumRecs, Sequence, Var, Version};
+use nc_base::{Header, NcType, NumRecs, Version};
 use nc_file::{OffsetTooLarge, header_len, with_begins, write_header};
-use std::alloc::{AllocError, Global};
 use std::process::Abort;
 use std::test::Fail;
 
-/// The name and the length of a dimension.
-type NamedLength = (&'static [u8], u64);
-
-/// The name of a variable, the ids of its dimensions and its type.
-type NamedShape = (&'static [u8], &'static [u64], NcType);
-
-/// A dimension of this name and length.
-fn dimension(alloc: Global, name: &[u8], len: u64) -> Result<Dim, AllocError> {
-    let name = Sequence::from_vec(Vec::from_slice(alloc, name)?);
-    Ok(Dim { name, len })
-}
-
-/// A variable of this name, shape and type.
-fn variable(alloc: Global, name: &[u8], dimids: &[u64], ty: NcType) -> Result<Var, AllocError> {
-    Ok(Var {
-        name: Sequence::from_vec(Vec::from_slice(alloc, name)?),
-        dimids: Sequence::from_vec(Vec::from_slice(alloc, dimids)?),
-        atts: Sequence::new(alloc),
-        ty,
-        begin_at: 0,
-    })
-}
-
-/// A header without records, with these dimensions and with variables of these names, shapes and types.
-fn header(
-    alloc: Global,
-    version: Version,
-    dims: &[NamedLength],
-    vars: &[NamedShape],
-) -> Result<Header, AllocError> {
-    let mut header = Header {
-        version,
-        numrecs: NumRecs::Known(0),
-        dims: Sequence::new(alloc),
-        gatts: Sequence::new(alloc),
-        vars: Sequence::new(alloc),
-    };
-    for (name, len) in dims {
-        header.dims.push(dimension(alloc, *name, *len)?)?;
-    }
-    for (name, dimids, ty) in vars {
-        header.vars.push(variable(alloc, *name, *dimids, *ty)?)?;
-    }
-    Ok(header)
-}
+/// A header of the first version.
+const CDF1: HeaderRow<'static> = HeaderRow {
+    version: Version::Cdf1,
+    ..EMPTY
+};
 
 /// `short s(x)`, x = 3.
-fn one_variable(alloc: Global, version: Version) -> Result<Header, AllocError> {
-    header(alloc, version, &[(b"x", 3)], &[(b"s", &[0], NcType::Short)])
-}
+const ONE_VARIABLE: HeaderRow<'static> = HeaderRow {
+    dims: &[(b"x", 3)],
+    vars: &[(b"s", &[0], NcType::Short, 0)],
+    ..CDF1
+};
 
-/// `byte a(x)` and `byte b(x)`, x = `len`.
-fn two_variables_of(alloc: Global, version: Version, len: u64) -> Result<Header, AllocError> {
-    const VARS: &[NamedShape] = &[(b"a", &[0], NcType::Byte), (b"b", &[0], NcType::Byte)];
-    header(alloc, version, &[(b"x", len)], VARS)
-}
-
-/// `int a(x)`, x = 2147483647: a slab of 8589934588 bytes.
-fn long_slab(alloc: Global, version: Version) -> Result<Header, AllocError> {
-    header(
-        alloc,
-        version,
-        &[(b"x", 2147483647)],
-        &[(b"a", &[0], NcType::Int)],
-    )
-}
+/// `byte a(x)` and `byte b(x)`.
+const TWO_VARIABLES: HeaderRow<'static> = HeaderRow {
+    vars: &[(b"a", &[0], NcType::Byte, 0), (b"b", &[0], NcType::Byte, 0)],
+    ..CDF1
+};
 
 /// The header with its begins, which are to fit.
 fn begun(rt: &impl Abort, header: Header) -> Header
@@ -90,41 +42,12 @@ fn begun(rt: &impl Abort, header: Header) -> Header
     }
 }
 
-/// Fails unless the header has this number of bytes.
-fn expect_len(rt: &impl Abort, header: &Header, len: u64) {
-    assert!(rt; header_len(header) == len);
-}
-
-/// Fails unless the variables begin there.
-fn are_at(rt: &impl Abort, vars: &[Var], begins: &[u64]) {
-    assert!(rt; vars.len() == begins.len());
-    for (var, begin) in vars.iter().zip(begins) {
-        assert!(rt; var.begin_at == *begin);
-    }
-}
-
-/// Fails unless the header has this number of bytes, and its variables begin there.
-fn expect_begins(rt: &impl Abort, header: Header, len: u64, begins: &[u64]) {
-    expect_len(rt, &header, len);
-    let header = begun(rt, header);
-    expect_len(rt, &header, len);
-    are_at(rt, header.vars.as_slice(), begins);
-}
-
 /// The header with its begins, which are to fit, is written to the sink. Says whether all of it was.
 fn writes<W: Sink>(rt: &impl Abort, header: Header, sink: &mut W) -> bool {
     write_header(sink, &begun(rt, header)).is_ok()
 }
 
-/// Fails unless the header, with its begins, is written as these bytes.
-fn expect_written(rt: &impl Abort, alloc: Global, header: Header, want: &[u8]) {
-    expect_len(rt, &header, want.len() as u64);
-    let mut sink = MemSink::new(alloc);
-    assert!(rt; writes(rt, header, &mut sink));
-    assert!(rt; sink.as_slice() == want);
-}
-
-/// `one_variable` in the first version.
+/// `ONE_VARIABLE` in the first version.
 const ONE_VARIABLE_CDF1: &[u8] = b"CDF\x01\0\0\0\0\
     \0\0\0\x0a\0\0\0\x01\
     \0\0\0\x01x\0\0\0\0\0\0\x03\
@@ -135,7 +58,7 @@ const ONE_VARIABLE_CDF1: &[u8] = b"CDF\x01\0\0\0\0\
     \0\0\0\0\0\0\0\0\
     \0\0\0\x03\0\0\0\x08\0\0\0\x50";
 
-/// `one_variable` in the second version.
+/// `ONE_VARIABLE` in the second version.
 const ONE_VARIABLE_CDF2: &[u8] = b"CDF\x02\0\0\0\0\
     \0\0\0\x0a\0\0\0\x01\
     \0\0\0\x01x\0\0\0\0\0\0\x03\
@@ -146,7 +69,7 @@ const ONE_VARIABLE_CDF2: &[u8] = b"CDF\x02\0\0\0\0\
     \0\0\0\0\0\0\0\0\
     \0\0\0\x03\0\0\0\x08\0\0\0\0\0\0\0\x54";
 
-/// `one_variable` in the fifth version.
+/// `ONE_VARIABLE` in the fifth version.
 const ONE_VARIABLE_CDF5: &[u8] = b"CDF\x05\0\0\0\0\0\0\0\0\
     \0\0\0\x0a\0\0\0\0\0\0\0\x01\
     \0\0\0\0\0\0\0\x01x\0\0\0\0\0\0\0\0\0\0\x03\
@@ -157,125 +80,145 @@ const ONE_VARIABLE_CDF5: &[u8] = b"CDF\x05\0\0\0\0\0\0\0\0\
     \0\0\0\0\0\0\0\0\0\0\0\0\
     \0\0\0\x03\0\0\0\0\0\0\0\x08\0\0\0\0\0\0\0\x80";
 
+/// A header whose number of records is unknown, and its bytes.
+const STREAMING: HeaderRow<'static> = HeaderRow {
+    numrecs: NumRecs::Streaming,
+    dims: &[(b"t", 0)],
+    ..CDF1
+};
+
+const STREAMING_BYTES: &[u8] = b"CDF\x01\xff\xff\xff\xff\
+    \0\0\0\x0a\0\0\0\x01\
+    \0\0\0\x01t\0\0\0\0\0\0\0\
+    \0\0\0\0\0\0\0\0\
+    \0\0\0\0\0\0\0\0";
+
+/// A header whose attribute is padded, and its bytes.
+const NOTED: HeaderRow<'static> = HeaderRow {
+    gatts: &[(b"note", NcType::Char, b"a\nbc\n")],
+    ..CDF1
+};
+
+const NOTED_BYTES: &[u8] = b"CDF\x01\0\0\0\0\
+    \0\0\0\0\0\0\0\0\
+    \0\0\0\x0c\0\0\0\x01\
+    \0\0\0\x04note\0\0\0\x02\0\0\0\x05a\nbc\n\0\0\0\
+    \0\0\0\0\0\0\0\0";
+
+/// The header of a row in this version.
+fn of_version(version: Version, row: HeaderRow<'static>) -> HeaderRow<'static> {
+    HeaderRow { version, ..row }
+}
+
 #[test]
-fn one_variable_is_spelled_in_each_version(rt: HostRuntime) -> Result<(), Fail> {
-    const ROWS: [(Version, &[u8]); 3] = [
-        (Version::Cdf1, ONE_VARIABLE_CDF1),
-        (Version::Cdf2, ONE_VARIABLE_CDF2),
-        (Version::Cdf5, ONE_VARIABLE_CDF5),
+fn headers_have_their_bytes(rt: HostRuntime) -> Result<(), Fail> {
+    const ROWS: [(Version, HeaderRow<'static>, &[u8]); 5] = [
+        (Version::Cdf1, ONE_VARIABLE, ONE_VARIABLE_CDF1),
+        (Version::Cdf2, ONE_VARIABLE, ONE_VARIABLE_CDF2),
+        (Version::Cdf5, ONE_VARIABLE, ONE_VARIABLE_CDF5),
+        (Version::Cdf1, STREAMING, STREAMING_BYTES),
+        (Version::Cdf1, NOTED, NOTED_BYTES),
     ];
-    for (version, want) in ROWS {
-        let header = one_variable(rt.alloc(), version)?;
-        expect_written(&rt, rt.alloc(), header, want);
+    for (version, row, want) in ROWS {
+        let header = header_of(rt.alloc(), &of_version(version, row))?;
+        assert!(rt; header_len(&header) == want.len() as u64);
+        let mut sink = MemSink::new(rt.alloc());
+        assert!(rt; writes(&rt, header, &mut sink));
+        assert_eq!(rt; sink.as_slice(), want);
     }
     Ok(())
 }
 
-#[test]
-fn unknown_number_of_records_is_a_mark(rt: HostRuntime) -> Result<(), Fail> {
-    const WANT: &[u8] = b"CDF\x01\xff\xff\xff\xff\
-        \0\0\0\x0a\0\0\0\x01\
-        \0\0\0\x01t\0\0\0\0\0\0\0\
-        \0\0\0\0\0\0\0\0\
-        \0\0\0\0\0\0\0\0";
-    let mut streaming = header(rt.alloc(), Version::Cdf1, &[(b"t", 0)], &[])?;
-    streaming.numrecs = NumRecs::Streaming;
-    expect_written(&rt, rt.alloc(), streaming, WANT);
-    Ok(())
-}
-
-/// The attribute `note`, of five characters.
-fn note(alloc: Global) -> Result<Att, AllocError> {
-    Ok(Att {
-        name: Sequence::from_vec(Vec::from_slice(alloc, b"note")?),
-        ty: NcType::Char,
-        vals: Sequence::from_vec(Vec::from_slice(alloc, b"a\nbc\n")?),
-    })
+/// Fails unless the header has this number of bytes, with its begins too, and its variables begin there; or an offset of it is
+/// too large, where no begins are given.
+fn expect_begins(rt: &impl Abort, header: Header, len: u64, begins: Option<&[u64]>) {
+    assert!(rt; header.sound() && header_len(&header) == len);
+    match (with_begins(header), begins) {
+        (Ok(header), Some(begins)) => {
+            assert!(rt; header_len(&header) == len);
+            assert!(rt; header.vars.len() == begins.len());
+            for (var, begin) in header.vars.as_slice().iter().zip(begins) {
+                assert!(rt; var.begin_at == *begin);
+            }
+        }
+        (Err(OffsetTooLarge), None) => {}
+        _ => assert!(rt; false, "of {len} bytes"),
+    }
 }
 
 #[test]
-fn attributes_are_padded_with_zeros(rt: HostRuntime) -> Result<(), Fail> {
-    const WANT: &[u8] = b"CDF\x01\0\0\0\0\
-        \0\0\0\0\0\0\0\0\
-        \0\0\0\x0c\0\0\0\x01\
-        \0\0\0\x04note\0\0\0\x02\0\0\0\x05a\nbc\n\0\0\0\
-        \0\0\0\0\0\0\0\0";
-    let mut noted = header(rt.alloc(), Version::Cdf1, &[], &[])?;
-    noted.gatts.push(note(rt.alloc())?)?;
-    expect_written(&rt, rt.alloc(), noted, WANT);
-    Ok(())
-}
-
-#[test]
-fn records_begin_after_the_other_variables(rt: HostRuntime) -> Result<(), Fail> {
-    const DIMS: &[NamedLength] = &[(b"t", 0), (b"y", 2), (b"x", 2)];
-    const VARS: &[NamedShape] = &[
-        (b"a", &[0], NcType::Int),
-        (b"b", &[0, 1, 2], NcType::Int),
-        (b"c", &[], NcType::Int),
+fn variables_begin_after_each_other(rt: HostRuntime) -> Result<(), Fail> {
+    const BYTE: NamedShape<'static> = (b"b", &[0], NcType::Byte, 0);
+    const SHORT: NamedShape<'static> = (b"s", &[0], NcType::Short, 0);
+    // records begin after the other variables
+    const RECORDS: HeaderRow<'static> = HeaderRow {
+        dims: &[(b"t", 0), (b"y", 2), (b"x", 2)],
+        vars: &[
+            (b"a", &[0], NcType::Int, 0),
+            (b"b", &[0, 1, 2], NcType::Int, 0),
+            (b"c", &[], NcType::Int, 0),
+        ],
+        ..CDF1
+    };
+    // narrow records are padded in company
+    const ALONE: HeaderRow<'static> = HeaderRow {
+        dims: &[(b"t", 0)],
+        vars: &[BYTE],
+        ..CDF1
+    };
+    const BOTH: HeaderRow<'static> = HeaderRow {
+        vars: &[BYTE, SHORT],
+        ..ALONE
+    };
+    // offsets have a limit, but for that of CDF-2
+    const TOO_LONG: HeaderRow<'static> = HeaderRow {
+        dims: &[(b"x", 2147483647)],
+        ..TWO_VARIABLES
+    };
+    const AT_LIMIT: HeaderRow<'static> = HeaderRow {
+        dims: &[(b"x", 2147483532)],
+        ..TWO_VARIABLES
+    };
+    const BELOW: HeaderRow<'static> = HeaderRow {
+        dims: &[(b"x", 2147483528)],
+        ..TWO_VARIABLES
+    };
+    const ROWS: [(Version, HeaderRow<'static>, u64, Option<&[u64]>); 7] = [
+        (Version::Cdf1, RECORDS, 180, Some(&[184, 188, 180])),
+        (Version::Cdf1, ALONE, 80, Some(&[80])),
+        (Version::Cdf1, BOTH, 116, Some(&[116, 120])),
+        (Version::Cdf1, TOO_LONG, 116, None),
+        (Version::Cdf2, TOO_LONG, 124, Some(&[124, 2147483772])),
+        (Version::Cdf1, AT_LIMIT, 116, None),
+        (Version::Cdf1, BELOW, 116, Some(&[116, 2147483644])),
     ];
-    let cdf1 = header(rt.alloc(), Version::Cdf1, DIMS, VARS)?;
-    expect_begins(&rt, cdf1, 180, &[184, 188, 180]);
+    for (version, row, len, begins) in ROWS {
+        let header = header_of(rt.alloc(), &of_version(version, row))?;
+        expect_begins(&rt, header, len, begins);
+    }
     Ok(())
 }
 
-#[test]
-fn narrow_records_are_padded_in_company(rt: HostRuntime) -> Result<(), Fail> {
-    const DIMS: &[NamedLength] = &[(b"t", 0)];
-    const BYTE: NamedShape = (b"b", &[0], NcType::Byte);
-    const SHORT: NamedShape = (b"s", &[0], NcType::Short);
-    let alone = header(rt.alloc(), Version::Cdf1, DIMS, &[BYTE])?;
-    expect_begins(&rt, alone, 80, &[80]);
-    let both = header(rt.alloc(), Version::Cdf1, DIMS, &[BYTE, SHORT])?;
-    expect_begins(&rt, both, 116, &[116, 120]);
-    Ok(())
-}
-
-/// Fails unless a header with a long slab is written with these bytes from an offset on.
-fn expect_vsize(
-    rt: &impl Abort,
-    alloc: Global,
-    version: Version,
-    at: usize,
-    want: &[u8],
-) -> Result<(), Fail> {
-    let mut sink = MemSink::new(alloc);
-    assert!(rt; writes(rt, long_slab(alloc, version)?, &mut sink));
-    let rest = sink.as_slice().get(at..).ok_or("too few bytes")?;
-    assert!(rt; rest.starts_with(want));
-    Ok(())
-}
+/// `int a(x)`, x = 2147483647: a slab of 8589934588 bytes.
+const LONG_SLAB: HeaderRow<'static> = HeaderRow {
+    dims: &[(b"x", 2147483647)],
+    vars: &[(b"a", &[0], NcType::Int, 0)],
+    ..CDF1
+};
 
 #[test]
 fn long_slabs_have_the_greatest_vsize(rt: HostRuntime) -> Result<(), Fail> {
-    let alloc = rt.alloc();
-    expect_vsize(&rt, alloc, Version::Cdf2, 72, b"\xff\xff\xff\xff")?;
-    expect_vsize(
-        &rt,
-        alloc,
-        Version::Cdf5,
-        112,
-        b"\0\0\0\x01\xff\xff\xff\xfc",
-    )
-}
-
-/// Says whether an offset of the header is too large.
-fn is_too_large(rt: &impl Abort, header: Header) -> bool {
-    assert!(rt; header.sound());
-    matches!(with_begins(header), Err(OffsetTooLarge))
-}
-
-#[test]
-fn offsets_have_a_limit(rt: HostRuntime) -> Result<(), Fail> {
-    let cdf1 = two_variables_of(rt.alloc(), Version::Cdf1, 2147483647)?;
-    expect_len(&rt, &cdf1, 116);
-    assert!(rt; is_too_large(&rt, cdf1));
-    let cdf2 = two_variables_of(rt.alloc(), Version::Cdf2, 2147483647)?;
-    expect_begins(&rt, cdf2, 124, &[124, 2147483772]);
-    let at_limit = two_variables_of(rt.alloc(), Version::Cdf1, 2147483532)?;
-    assert!(rt; is_too_large(&rt, at_limit));
-    let below = two_variables_of(rt.alloc(), Version::Cdf1, 2147483528)?;
-    expect_begins(&rt, below, 116, &[116, 2147483644]);
+    const ROWS: [(Version, usize, &[u8]); 2] = [
+        (Version::Cdf2, 72, b"\xff\xff\xff\xff"),
+        (Version::Cdf5, 112, b"\0\0\0\x01\xff\xff\xff\xfc"),
+    ];
+    for (version, at, want) in ROWS {
+        let header = header_of(rt.alloc(), &of_version(version, LONG_SLAB))?;
+        let mut sink = MemSink::new(rt.alloc());
+        assert!(rt; writes(&rt, header, &mut sink));
+        let rest = sink.as_slice().get(at..).ok_or("too few bytes")?;
+        assert!(rt; rest.starts_with(want), "{version:?}");
+    }
     Ok(())
 }
 
@@ -283,7 +226,7 @@ fn offsets_have_a_limit(rt: HostRuntime) -> Result<(), Fail> {
 fn failed_sink_has_the_first_bytes(rt: HostRuntime) -> Result<(), Fail> {
     let mut bytes = [7u8; 10];
     let mut sink = SliceSink::new(&mut bytes, 3);
-    assert!(rt; !writes(&rt, one_variable(rt.alloc(), Version::Cdf1)?, &mut sink));
+    assert!(rt; !writes(&rt, header_of(rt.alloc(), &ONE_VARIABLE)?, &mut sink));
     assert!(rt; sink.taken() == b"CDF\x01\0\0\0\0\0\0".as_slice());
     Ok(())
 }
