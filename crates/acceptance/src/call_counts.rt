@@ -2,7 +2,7 @@
 //! of the text.
 
 use crate::files;
-use crate::runs::options;
+use crate::runs::{WHOLE, options_of};
 use nc_file::{DripSource, FailWhen, IoSink};
 use ncdump::dump;
 use std::alloc::{AllocError, Global};
@@ -54,52 +54,77 @@ fn takes_few_calls(
     reads: u64,
     writes: u64,
 ) -> Result<(), Fail> {
-    let options = options(alloc, false)?;
+    let options = options_of(alloc, &WHOLE)?;
     let mut source = DripSource::new(file, COUNT, FailWhen::Read(reads));
     let mut sink = IoSink::new(Counting { calls: 0 });
     let answer = dump(alloc, &mut source, &options, &mut [0; 4096], &mut sink);
-    assert!(rt; answer.is_ok());
+    assert!(rt; answer.is_ok(), "{reads} reads");
     assert!(rt; source.handed() <= file.len() as u128 + 4096);
     let calls = sink.into_inner().calls;
     assert!(rt; calls <= writes, "{calls}");
     Ok(())
 }
 
-#[test]
-fn dump_of_many_numbers(rt: HostRuntime) -> Result<(), Fail> {
-    let header = files::patched(rt.alloc(), &files::GENERATED[..80], 24, b"\0\0\xc3\x50")?;
-    let file = long_file(rt.alloc(), header.as_slice(), (7, COUNT), b"")?;
-    takes_few_calls(&rt, rt.alloc(), file.as_slice(), 30, 3_000)
-}
+/// The bytes of a file, how many of them stand before the many, four others of them from an offset on, the byte that the many are,
+/// what stands after them, and how many reads and writes a dump takes.
+type Calls = (
+    &'static [u8],
+    usize,
+    (usize, &'static [u8]),
+    u8,
+    &'static [u8],
+    u64,
+    u64,
+);
 
-/// Values of two record variables lie apart, so that each takes a read of its own, and none takes two.
-#[test]
-fn dump_of_many_records(rt: HostRuntime) -> Result<(), Fail> {
-    let header = files::patched(
-        rt.alloc(),
-        &files::PADDED_RECORDS[..116],
-        4,
-        b"\0\0\x30\xd4",
-    )?;
-    let file = long_file(rt.alloc(), header.as_slice(), (7, COUNT), b"")?;
-    takes_few_calls(&rt, rt.alloc(), file.as_slice(), 25_030, 3_000)
-}
+/// Files of many numbers, records and characters, and of a long attribute. Values of two record variables lie apart, so that each
+/// takes a read of its own, and none takes two.
+const FILES: [Calls; 4] = [
+    (
+        files::GENERATED,
+        80,
+        (24, b"\0\0\xc3\x50"),
+        7,
+        b"",
+        30,
+        3_000,
+    ),
+    (
+        files::PADDED_RECORDS,
+        116,
+        (4, b"\0\0\x30\xd4"),
+        7,
+        b"",
+        25_030,
+        3_000,
+    ),
+    (
+        files::HELD_NULS,
+        80,
+        (24, b"\0\x01\x86\xa0"),
+        b'a',
+        b"",
+        30,
+        80,
+    ),
+    (
+        files::TEXT_ATTRIBUTE,
+        40,
+        (36, b"\0\x01\x86\xa0"),
+        b'a',
+        &[0; 8],
+        30,
+        30,
+    ),
+];
 
 #[test]
-fn dump_of_many_characters(rt: HostRuntime) -> Result<(), Fail> {
-    let header = files::patched(rt.alloc(), &files::HELD_NULS[..80], 24, b"\0\x01\x86\xa0")?;
-    let file = long_file(rt.alloc(), header.as_slice(), (b'a', COUNT), b"")?;
-    takes_few_calls(&rt, rt.alloc(), file.as_slice(), 30, 80)
-}
-
-#[test]
-fn dump_of_a_long_attribute(rt: HostRuntime) -> Result<(), Fail> {
-    let header = files::patched(
-        rt.alloc(),
-        &files::TEXT_ATTRIBUTE[..40],
-        36,
-        b"\0\x01\x86\xa0",
-    )?;
-    let file = long_file(rt.alloc(), header.as_slice(), (b'a', COUNT), &[0; 8])?;
-    takes_few_calls(&rt, rt.alloc(), file.as_slice(), 30, 30)
+fn dumps_of_long_files(rt: HostRuntime) -> Result<(), Fail> {
+    for (bytes, len, (at, change), byte, tail, reads, writes) in FILES {
+        assert!(rt; len <= bytes.len());
+        let head = files::patched(rt.alloc(), &bytes[..len], at, change)?;
+        let file = long_file(rt.alloc(), head.as_slice(), (byte, COUNT), tail)?;
+        takes_few_calls(&rt, rt.alloc(), file.as_slice(), reads, writes)?;
+    }
+    Ok(())
 }

@@ -45,85 +45,130 @@ fn law_of_stored_values(_rt: HostRuntime) {
     laws::values_are_read();
 }
 
-#[test]
-fn whole_values_before_a_missing_one(rt: HostRuntime) -> Result<(), Fail> {
+/// A walk over `records` records of the variable in place `v`, in reads of at most `step` bytes that fail so: the bytes of the
+/// first chunk, if there is one, and how the walk ends.
+#[derive(Clone, Copy)]
+struct Chunk<'a> {
+    about: &'static str,
+    step: usize,
+    fail: FailWhen,
+    v: usize,
+    records: u64,
+    chunk: Option<&'a [u8]>,
+    end: Result<(), WalkFault>,
+}
+
+/// Fails unless the walk gives the chunk, and ends so, twice.
+fn expect_chunk(rt: &impl Abort, alloc: Global, file: &[u8], row: &Chunk<'_>) -> Result<(), Fail> {
     let mut buf = [0; 16];
-    let mut source = DripSource::new(&THREE_SHORTS[..85], 3, FailWhen::Never);
-    let header = header_through(&rt, rt.alloc(), &mut source, &mut buf)?;
-    let mut walk = walk_over(&rt, &header, 0, 0, &mut buf);
-    gives(&rt, &mut walk, &mut source, b"\0\x01\0\x02");
-    let missing = Err(WalkFault::DataTruncated(2));
-    ends(&rt, &mut walk, &mut source, missing);
-    ends(&rt, &mut walk, &mut source, missing);
+    let mut sound = DripSource::new(file, row.step.max(1), FailWhen::Never);
+    let header = header_through(rt, alloc, &mut sound, &mut buf)?;
+    let mut source = DripSource::new(file, row.step.max(1), row.fail);
+    let mut walk = walk_over(rt, &header, row.v, row.records, &mut buf);
+    if let Some(bytes) = row.chunk {
+        gives(rt, &mut walk, &mut source, bytes);
+    }
+    ends(rt, &mut walk, &mut source, row.end);
+    ends(rt, &mut walk, &mut source, row.end);
     Ok(())
 }
 
-#[test]
-fn none_after_the_last_value(rt: HostRuntime) -> Result<(), Fail> {
-    let mut buf = [0; 16];
-    let mut source = DripSource::new(THREE_SHORTS, 9, FailWhen::Never);
-    let header = header_through(&rt, rt.alloc(), &mut source, &mut buf)?;
-    let mut walk = walk_over(&rt, &header, 0, 0, &mut buf);
-    gives(&rt, &mut walk, &mut source, b"\0\x01\0\x02\0\x03");
-    ends(&rt, &mut walk, &mut source, Ok(()));
-    ends(&rt, &mut walk, &mut source, Ok(()));
-    Ok(())
-}
+/// All of three shorts.
+const SHORTS: Chunk<'static> = Chunk {
+    about: "none after the last value",
+    step: 9,
+    fail: FailWhen::Never,
+    v: 0,
+    records: 0,
+    chunk: Some(b"\0\x01\0\x02\0\x03"),
+    end: Ok(()),
+};
 
-/// Fails unless three records of the variable in place `v` come in one chunk, with these bytes.
-fn gives_records(rt: &impl Abort, alloc: Global, v: usize, bytes: &[u8]) -> Result<(), Fail> {
-    let mut buf = [0; 16];
-    let mut source = DripSource::new(THREE_RECORDS, 3, FailWhen::Never);
-    let header = header_through(rt, alloc, &mut source, &mut buf)?;
-    let mut walk = walk_over(rt, &header, v, 3, &mut buf);
-    gives(rt, &mut walk, &mut source, bytes);
-    ends(rt, &mut walk, &mut source, Ok(()));
-    Ok(())
-}
+/// All of the first variable of three records.
+const RECORDS: Chunk<'static> = Chunk {
+    about: "records in one chunk",
+    step: 3,
+    fail: FailWhen::Never,
+    v: 0,
+    records: 3,
+    chunk: Some(b"\x01\x02\x03"),
+    end: Ok(()),
+};
+
+/// Files, how many of their bytes there are, and walks over these.
+const CHUNKS: [(&[u8], usize, Chunk<'static>); 6] = [
+    (THREE_SHORTS, 88, SHORTS),
+    (
+        THREE_SHORTS,
+        85,
+        Chunk {
+            about: "whole values before a missing one",
+            step: 3,
+            chunk: Some(b"\0\x01\0\x02"),
+            end: Err(WalkFault::DataTruncated(2)),
+            ..SHORTS
+        },
+    ),
+    (THREE_RECORDS, 140, RECORDS),
+    (
+        THREE_RECORDS,
+        140,
+        Chunk {
+            about: "records of the second variable",
+            v: 1,
+            chunk: Some(b"\0\x04\0\x05\0\x06"),
+            ..RECORDS
+        },
+    ),
+    (
+        THREE_RECORDS,
+        137,
+        Chunk {
+            about: "whole records before a missing one",
+            v: 1,
+            chunk: Some(b"\0\x04\0\x05"),
+            end: Err(WalkFault::DataTruncated(2)),
+            ..RECORDS
+        },
+    ),
+    (
+        THREE_RECORDS,
+        140,
+        Chunk {
+            about: "a failure in the second record",
+            fail: FailWhen::From(128),
+            v: 1,
+            chunk: None,
+            end: Err(WalkFault::ReadFailed),
+            ..RECORDS
+        },
+    ),
+];
 
 #[test]
-fn records_in_one_chunk(rt: HostRuntime) -> Result<(), Fail> {
-    gives_records(&rt, rt.alloc(), 0, b"\x01\x02\x03")?;
-    gives_records(&rt, rt.alloc(), 1, b"\0\x04\0\x05\0\x06")
-}
-
-#[test]
-fn whole_records_before_a_missing_one(rt: HostRuntime) -> Result<(), Fail> {
-    let mut buf = [0; 16];
-    let mut source = DripSource::new(&THREE_RECORDS[..137], 3, FailWhen::Never);
-    let header = header_through(&rt, rt.alloc(), &mut source, &mut buf)?;
-    let mut walk = walk_over(&rt, &header, 1, 3, &mut buf);
-    gives(&rt, &mut walk, &mut source, b"\0\x04\0\x05");
-    let missing = Err(WalkFault::DataTruncated(2));
-    ends(&rt, &mut walk, &mut source, missing);
-    ends(&rt, &mut walk, &mut source, missing);
-    Ok(())
-}
-
-#[test]
-fn failure_in_second_record(rt: HostRuntime) -> Result<(), Fail> {
-    let mut buf = [0; 16];
-    let mut source = DripSource::new(THREE_RECORDS, 3, FailWhen::From(128));
-    let header = header_through(&rt, rt.alloc(), &mut source, &mut buf)?;
-    let mut walk = walk_over(&rt, &header, 1, 3, &mut buf);
-    ends(&rt, &mut walk, &mut source, Err(WalkFault::ReadFailed));
-    ends(&rt, &mut walk, &mut source, Err(WalkFault::ReadFailed));
+fn chunks_have_whole_values_up_to_a_fault(rt: HostRuntime) -> Result<(), Fail> {
+    for (file, len, row) in CHUNKS {
+        let about = row.about;
+        assert!(rt; len <= file.len(), "{about}");
+        expect_chunk(&rt, rt.alloc(), &file[..len], &row)?;
+    }
     Ok(())
 }
 
 /// The first variable of 20 records has a value in each eighth byte from 116 on.
 #[test]
 fn failure_after_a_chunk(rt: HostRuntime) -> Result<(), Fail> {
-    let mut buf = [0; 16];
+    const ROW: Chunk<'static> = Chunk {
+        about: "a failure after a chunk",
+        fail: FailWhen::From(116 + 16 * 8),
+        records: 20,
+        chunk: Some(&[7; 16]),
+        end: Err(WalkFault::ReadFailed),
+        ..RECORDS
+    };
     let mut file = files::patched(rt.alloc(), &THREE_RECORDS[..116], 4, b"\0\0\0\x14")?;
     file.extend_from_slice(&[7; 160])?;
-    let mut source = DripSource::new(file.as_slice(), 3, FailWhen::From(116 + 16 * 8));
-    let header = header_through(&rt, rt.alloc(), &mut source, &mut buf)?;
-    let mut walk = walk_over(&rt, &header, 0, 20, &mut buf);
-    gives(&rt, &mut walk, &mut source, &[7; 16]);
-    ends(&rt, &mut walk, &mut source, Err(WalkFault::ReadFailed));
-    ends(&rt, &mut walk, &mut source, Err(WalkFault::ReadFailed));
-    Ok(())
+    expect_chunk(&rt, rt.alloc(), file.as_slice(), &ROW)
 }
 
 /// A source that fails at one read and at no other has failed once.

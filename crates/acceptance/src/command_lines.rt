@@ -47,58 +47,11 @@ fn runs(rt: &impl Abort, alloc: Global, run: Run<'_>) {
     let mut line_space = [0; 128];
     let mut out = SliceSink::new(&mut text_space, 7);
     let mut err = SliceSink::new(&mut line_space, 5);
-    let status = status_of(alloc, run.bytes, run.words, &mut out, &mut err);
-    assert!(rt; status == run.status);
-    assert!(rt; out.taken() == run.text);
-    assert!(rt; err.taken() == run.line);
-}
-
-/// The words ask for a dump, and this is its text.
-fn writes(rt: &impl Abort, alloc: Global, bytes: &[u8], words: &[&str], text: &[u8]) {
-    let run = Run {
-        bytes,
-        words,
-        status: 0,
-        text,
-        line: b"",
-    };
-    runs(rt, alloc, run);
-}
-
-/// The run ends with this line, and nothing is written before.
-fn refuses(rt: &impl Abort, alloc: Global, bytes: &[u8], words: &[&str], line: &[u8]) {
-    let run = Run {
-        bytes,
-        words,
-        status: 1,
-        text: b"",
-        line,
-    };
-    runs(rt, alloc, run);
-}
-
-#[test]
-fn whole_file(rt: HostRuntime) {
-    let words = ["ncdump", "t.nc"];
-    writes(&rt, rt.alloc(), files::GENERATED, &words, GENERATED_TEXT);
-}
-
-#[test]
-fn chosen_variable(rt: HostRuntime) {
-    let words = ["ncdump", "-v", "b", "t.nc"];
-    let file = files::THREE_VARIABLES;
-    writes(&rt, rt.alloc(), file, &words, SELECTION_TEXT);
-}
-
-#[test]
-fn chosen_variable_that_is_no_coordinate(rt: HostRuntime) {
-    const ROWS: [&[&str]; 2] = [
-        &["ncdump", "-c", "-v", "y", "t.nc"],
-        &["ncdump", "t.nc", "-cv", "y"],
-    ];
-    for words in ROWS {
-        writes(&rt, rt.alloc(), files::COORDINATES, words, COORDINATES_TEXT);
-    }
+    let words = run.words;
+    let status = status_of(alloc, run.bytes, words, &mut out, &mut err);
+    assert!(rt; status == run.status, "{words:?}");
+    assert!(rt; out.taken() == run.text, "the text of {words:?}");
+    assert!(rt; err.taken() == run.line, "the line of {words:?}");
 }
 
 /// The dump of three numbers in lines of 20 bytes, and in longer ones.
@@ -112,113 +65,156 @@ const WIDE_TEXT: &[u8] =
 const NO_VALUES_TEXT: &[u8] =
     b"netcdf other {\ndimensions:\n\tx = 3 ;\nvariables:\n\tint v(x) ;\ndata:\n}\n";
 
-#[test]
-fn names_and_widths(rt: HostRuntime) {
-    const ROWS: [(&[&str], &[u8]); 8] = [
-        (&["ncdump", "-n", "other", "t.nc"], WIDE_TEXT),
-        (
-            &["ncdump", "-v", "v", "-n", "other", "-l", "20", "t.nc"],
-            NARROW_TEXT,
-        ),
-        (&["ncdump", "t.nc", "-vv", "-nother", "-l=20"], NARROW_TEXT),
-        (
-            &[
-                "ncdump", "-c", "-n", "other", "-v", "v", "-l", "20", "--", "t.nc",
-            ],
-            NO_VALUES_TEXT,
-        ),
-        (&["ncdump", "-nother", "-l0021", "t.nc"], WIDE_TEXT),
-        (&["ncdump", "-nother", "-l1000", "t.nc"], WIDE_TEXT),
-        (
-            &[
-                "ncdump",
-                "-nother",
-                "-l",
-                "000000000000000000000000000000000000000020",
-                "t.nc",
-            ],
-            NARROW_TEXT,
-        ),
-        (&["ncdump", "-nother", "-v", "v,v", "--", "t.nc"], WIDE_TEXT),
-    ];
-    for (words, text) in ROWS {
-        writes(&rt, rt.alloc(), files::LONG_LINE, words, text);
+/// The same file's head.
+const HEAD_TEXT: &[u8] = b"netcdf t {\ndimensions:\n\tx = 3 ;\nvariables:\n\tint v(x) ;\n}\n";
+
+/// Words for the file with three numbers, each with the text of the dump that they ask for.
+const WRITTEN: &[(&[&str], &[u8])] = &[
+    (&["ncdump", "-n", "other", "t.nc"], WIDE_TEXT),
+    (
+        &["ncdump", "-v", "v", "-n", "other", "-l", "20", "t.nc"],
+        NARROW_TEXT,
+    ),
+    (&["ncdump", "t.nc", "-vv", "-nother", "-l=20"], NARROW_TEXT),
+    (
+        &[
+            "ncdump", "-c", "-n", "other", "-v", "v", "-l", "20", "--", "t.nc",
+        ],
+        NO_VALUES_TEXT,
+    ),
+    (&["ncdump", "-nother", "-l0021", "t.nc"], WIDE_TEXT),
+    (&["ncdump", "-nother", "-l1000", "t.nc"], WIDE_TEXT),
+    (
+        &[
+            "ncdump",
+            "-nother",
+            "-l",
+            "000000000000000000000000000000000000000020",
+            "t.nc",
+        ],
+        NARROW_TEXT,
+    ),
+    (&["ncdump", "-nother", "-v", "v,v", "--", "t.nc"], WIDE_TEXT),
+    (&["ncdump", "-h", "t.nc"], HEAD_TEXT),
+    (&["ncdump", "t.nc", "-h"], HEAD_TEXT),
+];
+
+/// Words for other files, each with the text of the dump that they ask for.
+const WRITTEN_OF_OTHERS: &[(&[u8], &[&str], &[u8])] = &[
+    (files::GENERATED, &["ncdump", "t.nc"], GENERATED_TEXT),
+    (
+        files::THREE_VARIABLES,
+        &["ncdump", "-v", "b", "t.nc"],
+        SELECTION_TEXT,
+    ),
+    // chosen variables that are no coordinates
+    (
+        files::COORDINATES,
+        &["ncdump", "-c", "-v", "y", "t.nc"],
+        COORDINATES_TEXT,
+    ),
+    (
+        files::COORDINATES,
+        &["ncdump", "t.nc", "-cv", "y"],
+        COORDINATES_TEXT,
+    ),
+    // the head alone, of named variables
+    (
+        files::COORDINATES,
+        &["ncdump", "-v", "x,y", "-n", "t", "-h", "t.nc"],
+        b"netcdf t {\ndimensions:\n\tx = 2 ;\nvariables:\n\tint x(x) ;\n\tint y(x) ;\n}\n",
+    ),
+];
+
+/// A run of these words on a file, which ends with status 0 and this text.
+fn written<'a>(bytes: &'a [u8], words: &'a [&'a str], text: &'a [u8]) -> Run<'a> {
+    Run {
+        bytes,
+        words,
+        status: 0,
+        text,
+        line: b"",
+    }
+}
+
+/// A run of these words on a file, which ends with this line, and writes nothing before.
+fn refused<'a>(bytes: &'a [u8], words: &'a [&'a str], line: &'a [u8]) -> Run<'a> {
+    Run {
+        bytes,
+        words,
+        status: 1,
+        text: b"",
+        line,
     }
 }
 
 #[test]
-fn head_alone(rt: HostRuntime) {
-    const TEXT: &[u8] = b"netcdf t {\ndimensions:\n\tx = 3 ;\nvariables:\n\tint v(x) ;\n}\n";
-    const ROWS: [&[&str]; 2] = [&["ncdump", "-h", "t.nc"], &["ncdump", "t.nc", "-h"]];
-    for words in ROWS {
-        writes(&rt, rt.alloc(), files::LONG_LINE, words, TEXT);
+fn dumps_are_written(rt: HostRuntime) {
+    for (words, text) in WRITTEN {
+        runs(&rt, rt.alloc(), written(files::LONG_LINE, *words, *text));
+    }
+    for (bytes, words, text) in WRITTEN_OF_OTHERS {
+        runs(&rt, rt.alloc(), written(*bytes, *words, *text));
     }
 }
 
+/// Words that are answered with the usage.
+const USAGE_FAULTS: &[&[&str]] = &[
+    &[],
+    &["ncdump"],
+    &["ncdump", "-h"],
+    &["ncdump", "-h", "-h", "t.nc"],
+    &["ncdump", "-hh", "t.nc"],
+    &["ncdump", "-c", "-h", "t.nc"],
+    &["ncdump", "-l", "80", "-l", "80", "t.nc"],
+    &["ncdump", "-n", "a", "-n", "b", "t.nc"],
+    &["ncdump", "t.nc", "-l"],
+    &["ncdump", "t.nc", "u.nc"],
+    &["ncdump", "--help"],
+    &["ncdump", "--version"],
+    &["ncdump", "--help", "t.nc"],
+    &["ncdump", "-V", "t.nc"],
+    &["ncdump", "-k", "t.nc"],
+    &["ncdump", "-v"],
+    &["ncdump", "-l", "19", "t.nc"],
+    &["ncdump", "-l", "1001", "t.nc"],
+    &["ncdump", "-l", "20x", "t.nc"],
+    &["ncdump", "-l", "x20", "t.nc"],
+    &["ncdump", "-l", "+20", "t.nc"],
+    &["ncdump", "-l", "-20", "t.nc"],
+    &["ncdump", "-l", "", "t.nc"],
+    &["ncdump", "-l", " 20", "t.nc"],
+    &["ncdump", "-l", "2_0", "t.nc"],
+    &["ncdump", "-l", "18446744073709551696", "t.nc"],
+];
+
+/// A file, words that don't lead to a dump of it, and the line that says why.
+const REFUSED: &[(&[u8], &[&str], &[u8])] = &[
+    (
+        files::GENERATED,
+        &["ncdump", "-v", "s,nope", "t.nc"],
+        b"ncdump: t.nc: no such variable: item 1 of -v\n",
+    ),
+    (
+        files::UNSIGNED_FILLS,
+        &["ncdump", "-v", "a,,b", "t.nc"],
+        b"ncdump: t.nc: no such variable: item 1 of -v\n",
+    ),
+    (
+        files::GENERATED,
+        &["ncdump", "u.nc"],
+        b"ncdump: u.nc: cannot open\n",
+    ),
+];
+
 #[test]
-fn usage_faults(rt: HostRuntime) {
-    const ROWS: [&[&str]; 16] = [
-        &[],
-        &["ncdump"],
-        &["ncdump", "-h"],
-        &["ncdump", "-h", "-h", "t.nc"],
-        &["ncdump", "-hh", "t.nc"],
-        &["ncdump", "-c", "-h", "t.nc"],
-        &["ncdump", "-l", "80", "-l", "80", "t.nc"],
-        &["ncdump", "-n", "a", "-n", "b", "t.nc"],
-        &["ncdump", "t.nc", "-l"],
-        &["ncdump", "t.nc", "u.nc"],
-        &["ncdump", "--help"],
-        &["ncdump", "--version"],
-        &["ncdump", "--help", "t.nc"],
-        &["ncdump", "-V", "t.nc"],
-        &["ncdump", "-k", "t.nc"],
-        &["ncdump", "-v"],
-    ];
-    for words in ROWS {
-        refuses(&rt, rt.alloc(), files::GENERATED, words, USAGE);
+fn faults_have_their_lines(rt: HostRuntime) {
+    for words in USAGE_FAULTS {
+        runs(&rt, rt.alloc(), refused(files::GENERATED, *words, USAGE));
     }
-}
-
-/// A run with this width is answered with the usage.
-fn refuses_width(rt: &impl Abort, alloc: Global, width: &str) {
-    let words = ["ncdump", "-l", width, "t.nc"];
-    refuses(rt, alloc, files::GENERATED, &words, USAGE);
-}
-
-#[test]
-fn widths_that_are_none(rt: HostRuntime) {
-    const WIDTHS: [&str; 10] = [
-        "19",
-        "1001",
-        "20x",
-        "x20",
-        "+20",
-        "-20",
-        "",
-        " 20",
-        "2_0",
-        "18446744073709551696",
-    ];
-    for width in WIDTHS {
-        refuses_width(&rt, rt.alloc(), width);
+    for (bytes, words, line) in REFUSED {
+        runs(&rt, rt.alloc(), refused(*bytes, *words, *line));
     }
-}
-
-#[test]
-fn names_that_no_variable_has(rt: HostRuntime) {
-    const LINE: &[u8] = b"ncdump: t.nc: no such variable: item 1 of -v\n";
-    let unknown = ["ncdump", "-v", "s,nope", "t.nc"];
-    refuses(&rt, rt.alloc(), files::GENERATED, &unknown, LINE);
-    let empty = ["ncdump", "-v", "a,,b", "t.nc"];
-    refuses(&rt, rt.alloc(), files::UNSIGNED_FILLS, &empty, LINE);
-}
-
-#[test]
-fn path_that_is_not_there(rt: HostRuntime) {
-    const LINE: &[u8] = b"ncdump: u.nc: cannot open\n";
-    let words = ["ncdump", "u.nc"];
-    refuses(&rt, rt.alloc(), files::GENERATED, &words, LINE);
 }
 
 /// Files in memory, with counts of how often one was opened and given back.
@@ -282,18 +278,6 @@ fn errors_of_memory_are_no_usage_faults(rt: HostRuntime) {
     }
 }
 
-/// A run on the first `len` bytes of a file is answered with this text and this line.
-fn truncates(rt: &impl Abort, alloc: Global, len: usize, text: &[u8], line: &[u8]) {
-    let run = Run {
-        bytes: &files::GENERATED[..len.min(files::GENERATED.len())],
-        words: &["ncdump", "t.nc"],
-        status: 1,
-        text,
-        line,
-    };
-    runs(rt, alloc, run);
-}
-
 #[test]
 fn truncated_data(rt: HostRuntime) {
     const ROWS: [(usize, &[u8], &[u8]); 2] = [
@@ -309,7 +293,15 @@ fn truncated_data(rt: HostRuntime) {
         ),
     ];
     for (len, text, line) in ROWS {
-        truncates(&rt, rt.alloc(), len, text, line);
+        assert!(rt; len <= files::GENERATED.len());
+        let run = Run {
+            bytes: &files::GENERATED[..len],
+            words: &["ncdump", "t.nc"],
+            status: 1,
+            text,
+            line,
+        };
+        runs(&rt, rt.alloc(), run);
     }
 }
 
@@ -319,7 +311,8 @@ fn every_number_of_words(rt: HostRuntime) -> Result<(), Fail> {
     let mut words = Vec::from_slice(rt.alloc(), &["ncdump", "t.nc"])?;
     for _ in 0..100 {
         words.push("t.nc")?;
-        refuses(&rt, rt.alloc(), files::GENERATED, words.as_slice(), USAGE);
+        let run = refused(files::GENERATED, words.as_slice(), USAGE);
+        runs(&rt, rt.alloc(), run);
     }
     Ok(())
 }
@@ -332,7 +325,7 @@ fn eleventh_word(rt: HostRuntime) {
         let words = [
             "ncdump", "-c", "-v", "v", "-n", "other", "-l", "20", "--", "t.nc", word,
         ];
-        refuses(&rt, rt.alloc(), files::LONG_LINE, &words, USAGE);
+        runs(&rt, rt.alloc(), refused(files::LONG_LINE, &words, USAGE));
     }
 }
 
@@ -367,19 +360,18 @@ fn widths_and_stems(rt: HostRuntime) -> Result<(), Fail> {
     Ok(())
 }
 
-/// A run with these names chosen, on a file with a long line.
-fn writes_chosen(rt: &impl Abort, alloc: Global, names: &str) {
-    let words = ["ncdump", "-nother", "-v", names, "t.nc"];
-    writes(rt, alloc, files::LONG_LINE, &words, WIDE_TEXT);
-}
-
 /// The same of the names of variables.
 #[test]
 fn every_number_of_names(rt: HostRuntime) -> Result<(), Fail> {
     let mut names = String::from_str(rt.alloc(), "v")?;
     for _ in 0..1100 {
         names.push_str(",v")?;
-        writes_chosen(&rt, rt.alloc(), names.as_str());
+        let words = ["ncdump", "-nother", "-v", names.as_str(), "t.nc"];
+        runs(
+            &rt,
+            rt.alloc(),
+            written(files::LONG_LINE, &words, WIDE_TEXT),
+        );
     }
     Ok(())
 }
@@ -392,14 +384,10 @@ fn runs_into(rt: &impl Abort, alloc: Global, words: &[&str], out: &mut [u8], err
 }
 
 #[test]
-fn failing_standard_error_changes_no_status(rt: HostRuntime) {
-    let mut err = [0; 6];
-    runs_into(&rt, rt.alloc(), &["ncdump"], &mut [0; 16], &mut err);
-    assert!(rt; err == *b"usage:");
-}
-
-#[test]
-fn failing_standard_output(rt: HostRuntime) {
+fn failing_standard_streams(rt: HostRuntime) {
+    let mut line = [0; 6];
+    runs_into(&rt, rt.alloc(), &["ncdump"], &mut [0; 16], &mut line);
+    assert!(rt; line == *b"usage:");
     let mut out = [0; 8];
     let mut err = [0; 27];
     runs_into(&rt, rt.alloc(), &["ncdump", "t.nc"], &mut out, &mut err);
@@ -439,19 +427,4 @@ fn failing_flush_of_standard_output(rt: HostRuntime) {
         assert!(rt; err.taken() == line);
         assert!(rt; out.into_inner().flushes == 1);
     }
-}
-
-#[test]
-fn header_of_named_variables_is_written(rt: HostRuntime) {
-    const WORDS: &[&str] = &["ncdump", "-v", "x,y", "-n", "t", "-h", "t.nc"];
-    const HEAD: &[u8] =
-        b"netcdf t {\ndimensions:\n\tx = 2 ;\nvariables:\n\tint x(x) ;\n\tint y(x) ;\n}\n";
-    let mut text_space = [0; 128];
-    let mut line_space = [0; 64];
-    let mut out = SliceSink::new(&mut text_space, 7);
-    let mut err = SliceSink::new(&mut line_space, 5);
-    let status = status_of(rt.alloc(), files::COORDINATES, WORDS, &mut out, &mut err);
-    assert!(rt; status == 0);
-    assert!(rt; out.taken() == HEAD);
-    assert!(rt; err.taken().is_empty());
 }

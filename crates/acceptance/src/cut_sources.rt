@@ -6,12 +6,12 @@ ghost use Rattle.std.specs.Prelude.{false, replicate};
 use crate::files;
 use crate::reading::{ends, gives, header_through, walk_over};
 use crate::rows::GENERATED_TEXT;
-use crate::runs::{dumps_through, options};
+use crate::runs::{WHOLE, Want, dumps_through, options_of};
 use devices::ReadAhead;
 use nc_base::FormatFault;
 use nc_file::{HeadFault, MemSource, Source, SourceFailed};
 use nc_walk::WalkFault;
-use ncdump::{DumpFault, DumpOptions};
+use ncdump::DumpFault;
 use std::alloc::Global;
 use std::process::Abort;
 use std::test::Fail;
@@ -72,39 +72,36 @@ fn answer_to(len: usize) -> (Result<(), DumpFault>, usize) {
     }
 }
 
-/// Dumps the first `len` bytes of the file with three shorts, through a buffer of `buffer_len` bytes.
-fn dumps_cut(rt: &impl Abort, alloc: Global, options: &DumpOptions, len: usize, buffer_len: usize) {
-    let (answer, written) = answer_to(len);
-    assert!(rt; written <= GENERATED_TEXT.len());
-    let text = &GENERATED_TEXT[..written];
-    let mut source = cut(files::GENERATED, len);
-    dumps_through(rt, alloc, &mut source, options, buffer_len, answer, text);
-}
-
 #[test]
 fn dumps_of_cut_sources(rt: HostRuntime) -> Result<(), Fail> {
-    let all = options(rt.alloc(), false)?;
+    let all = options_of(rt.alloc(), &WHOLE)?;
     for len in 0..files::GENERATED.len() {
-        dumps_cut(&rt, rt.alloc(), &all, len, 16);
-        dumps_cut(&rt, rt.alloc(), &all, len, 4096);
+        let (answer, written) = answer_to(len);
+        assert!(rt; written <= GENERATED_TEXT.len());
+        let want = Want {
+            about: "a cut source",
+            options: &all,
+            answer,
+            text: &GENERATED_TEXT[..written],
+        };
+        for buffer_len in [16, 4096] {
+            let mut source = cut(files::GENERATED, len);
+            dumps_through(&rt, rt.alloc(), &mut source, buffer_len, &want);
+        }
     }
     Ok(())
 }
 
-/// Fails unless the header of the first bytes of the file with three shorts has this fault.
-fn refuses_cut(rt: &impl Abort, alloc: Global, len: usize, fault: FormatFault) {
-    let mut source = cut(files::GENERATED, len);
-    let answer = header_through(rt, alloc, &mut source, &mut [0; 16]);
-    assert!(rt; matches!(answer, Err(found) if found == HeadFault::Format(fault)));
-}
-
 #[test]
 fn headers_of_cut_sources(rt: HostRuntime) {
-    for len in 0..3 {
-        refuses_cut(&rt, rt.alloc(), len, FormatFault::NotNetcdf);
-    }
-    for len in 3..80 {
-        refuses_cut(&rt, rt.alloc(), len, FormatFault::HeaderTruncated);
+    for len in 0..80 {
+        let fault = match len {
+            0..=2 => FormatFault::NotNetcdf,
+            _ => FormatFault::HeaderTruncated,
+        };
+        let mut source = cut(files::GENERATED, len);
+        let answer = header_through(&rt, rt.alloc(), &mut source, &mut [0; 16]);
+        assert!(rt; matches!(answer, Err(found) if found == HeadFault::Format(fault)));
     }
 }
 

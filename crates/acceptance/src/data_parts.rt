@@ -97,103 +97,93 @@ fn fills_sink(
     let mut into = Vec::from_elem(alloc, 0, capacity)?;
     let mut sink = SliceSink::new(into.as_mut_slice(), step);
     let is_whole = is_written(rt, alloc, header, arrays, &mut sink)?;
-    assert!(rt; sink.taken() == &data[..capacity]);
-    assert!(rt; is_whole == (capacity == data.len()));
+    assert!(rt; sink.taken() == &data[..capacity], "{data:?}");
+    assert!(rt; is_whole == (capacity == data.len()), "{data:?}");
     Ok(())
 }
 
-/// The same to sinks that take up to all of the bytes, one and three at a time.
+/// Writes the data part of these arrays under the header of a file, to sinks that take up to all of the bytes, one and three at a
+/// time.
 fn writes(
     rt: &impl Abort,
     alloc: Global,
     file: &[u8],
-    listed: &[&[u8]],
-    data: &[u8],
-) -> Result<(), Fail> {
-    let mut source = MemSource::new(file);
-    let header = header_through(rt, alloc, &mut source, &mut [0; 16])?;
-    let arrays = arrays_of(alloc, listed)?;
-    fills_sinks(rt, alloc, &header, arrays.as_slice(), data)
-}
-
-/// The same of arrays that are there.
-fn fills_sinks(
-    rt: &impl Abort,
-    alloc: Global,
-    header: &Header,
     arrays: &[ListedArray],
     data: &[u8],
 ) -> Result<(), Fail> {
-    for capacity in 0..=data.len() {
-        fills_sink(rt, alloc, header, arrays, data, (capacity, 1))?;
-        fills_sink(rt, alloc, header, arrays, data, (capacity, 3))?;
-    }
-    Ok(())
-}
-
-/// Writes the data part of one array, of which these rows are listed.
-fn writes_rows(
-    rt: &impl Abort,
-    alloc: Global,
-    file: &[u8],
-    rows: &[(&[u8], u64)],
-    data: &[u8],
-) -> Result<(), Fail> {
     let mut source = MemSource::new(file);
     let header = header_through(rt, alloc, &mut source, &mut [0; 16])?;
-    let mut arrays = Vec::new(alloc);
-    arrays.push(rows_of(alloc, rows)?)?;
-    fills_sinks(rt, alloc, &header, arrays.as_slice(), data)
+    for capacity in 0..=data.len() {
+        fills_sink(rt, alloc, &header, arrays, data, (capacity, 1))?;
+        fills_sink(rt, alloc, &header, arrays, data, (capacity, 3))?;
+    }
+    Ok(())
 }
 
 /// A file with the header of a data part, the bytes that are listed for each variable, and the bytes of the part.
 type Part = (&'static [u8], &'static [&'static [u8]], &'static [u8]);
 
-/// Writes each of the data parts.
-fn write_all(rt: &impl Abort, alloc: Global, parts: &[Part]) -> Result<(), Fail> {
-    for (file, listed, data) in parts {
-        writes(rt, alloc, *file, *listed, *data)?;
+/// Three shorts, which are all listed, and what is written of them.
+const SHORTS: &[&[u8]] = &[b"\0\x01\x80\x01\0\x03"];
+
+const WRITTEN_SHORTS: &[u8] = b"\0\x01\x80\x01\0\x03\x80\x01";
+
+/// Values that are all listed.
+const WHOLE: &[Part] = &[
+    (files::GENERATED, SHORTS, WRITTEN_SHORTS),
+    (files::GENERATED_CDF2, SHORTS, WRITTEN_SHORTS),
+    (files::GENERATED_CDF5, SHORTS, WRITTEN_SHORTS),
+    (files::RECORD_BYTES, &[b"\x01\x02\x03"], b"\x01\x02\x03"),
+    (
+        files::RECORDS_OFF_BOUNDARY,
+        &[b"\0\x01\0\x02\0\x03\0\x04\0\x05\0\x06\0\x07\0\x08\0\x09"],
+        b"\0\x01\0\x02\0\x03\0\x04\0\x05\0\x06\0\x07\0\x08\0\x09",
+    ),
+    (files::NO_RECORDS, &[b""], b""),
+    (
+        files::PADDED_RECORDS,
+        &[b"\x01\x02\x03", b"\0\x04\0\x05\0\x06"],
+        b"\x01\x81\x81\x81\0\x04\x80\x01\x02\x81\x81\x81\0\x05\x80\x01\x03\x81\x81\x81\0\x06\x80\x01",
+    ),
+];
+
+/// Values that lack at the end of a variable.
+const LACKING: &[Part] = &[
+    (
+        files::GENERATED,
+        &[b"\0\x01"],
+        b"\0\x01\x80\x01\x80\x01\x80\x01",
+    ),
+    (files::RECORD_BYTES, &[b"\x01"], b"\x01\x81\x81"),
+    (
+        files::PADDED_RECORDS,
+        &[b"\x01", b"\0\x04\0\x05"],
+        b"\x01\x81\x81\x81\0\x04\x80\x01\x81\x81\x81\x81\0\x05\x80\x01\x81\x81\x81\x81\x80\x01\x80\x01",
+    ),
+    (
+        files::RECORDS_OFF_BOUNDARY,
+        &[b"\0\x01\0\x02\0\x03\0\x04"],
+        b"\0\x01\0\x02\0\x03\0\x04\x80\x01\x80\x01\x80\x01\x80\x01\x80\x01",
+    ),
+    (
+        files::MANY_HELD_NULS,
+        &[b"a"],
+        b"a\0\0\0\0\0\0\0\0\0\0\0\0\0\0\0\0\0\0\0",
+    ),
+];
+
+#[test]
+fn lacking_values_are_filled(rt: HostRuntime) -> Result<(), Fail> {
+    for parts in [WHOLE, LACKING] {
+        for (file, listed, data) in parts {
+            let arrays = arrays_of(rt.alloc(), *listed)?;
+            writes(&rt, rt.alloc(), *file, arrays.as_slice(), *data)?;
+        }
     }
     Ok(())
 }
 
-#[test]
-fn values_of_a_file_of_each_version(rt: HostRuntime) -> Result<(), Fail> {
-    const LISTED: &[&[u8]] = &[b"\0\x01\x80\x01\0\x03"];
-    const DATA: &[u8] = b"\0\x01\x80\x01\0\x03\x80\x01";
-    const PARTS: &[Part] = &[
-        (files::GENERATED, LISTED, DATA),
-        (files::GENERATED_CDF2, LISTED, DATA),
-        (files::GENERATED_CDF5, LISTED, DATA),
-    ];
-    write_all(&rt, rt.alloc(), PARTS)
-}
-
-#[test]
-fn unpadded_records(rt: HostRuntime) -> Result<(), Fail> {
-    const DATA: &[u8] = b"\x01\x02\x03";
-    writes(&rt, rt.alloc(), files::RECORD_BYTES, &[DATA], DATA)
-}
-
-#[test]
-fn records_off_boundary(rt: HostRuntime) -> Result<(), Fail> {
-    const DATA: &[u8] = b"\0\x01\0\x02\0\x03\0\x04\0\x05\0\x06\0\x07\0\x08\0\x09";
-    writes(&rt, rt.alloc(), files::RECORDS_OFF_BOUNDARY, &[DATA], DATA)
-}
-
-#[test]
-fn no_records(rt: HostRuntime) -> Result<(), Fail> {
-    writes(&rt, rt.alloc(), files::NO_RECORDS, &[b""], b"")
-}
-
-#[test]
-fn padded_records(rt: HostRuntime) -> Result<(), Fail> {
-    const LISTED: &[&[u8]] = &[b"\x01\x02\x03", b"\0\x04\0\x05\0\x06"];
-    const DATA: &[u8] =
-        b"\x01\x81\x81\x81\0\x04\x80\x01\x02\x81\x81\x81\0\x05\x80\x01\x03\x81\x81\x81\0\x06\x80\x01";
-    writes(&rt, rt.alloc(), files::PADDED_RECORDS, LISTED, DATA)
-}
-
+/// Files whose data part is the rest of the file.
 #[test]
 fn blocks_before_records(rt: HostRuntime) -> Result<(), Fail> {
     const A: &[u8] = b"\0\0\0\x0a\0\0\0\x14";
@@ -201,7 +191,11 @@ fn blocks_before_records(rt: HostRuntime) -> Result<(), Fail> {
         b"\0\0\0\x01\0\0\0\x02\0\0\0\x03\0\0\0\x04\0\0\0\x05\0\0\0\x06\0\0\0\x07\0\0\0\x08";
     const C: &[u8] = b"\0\0\0\x07";
     let file = files::THREE_VARIABLES;
-    writes(&rt, rt.alloc(), file, &[A, B, C], &file[180..])
+    let arrays = arrays_of(rt.alloc(), &[A, B, C])?;
+    writes(&rt, rt.alloc(), file, arrays.as_slice(), &file[180..])?;
+    let file = files::UNSIGNED_FILLS;
+    let arrays = arrays_of(rt.alloc(), &[b"", b""])?;
+    writes(&rt, rt.alloc(), file, arrays.as_slice(), &file[228..])
 }
 
 /// 4,100 values, of which one is listed: a buffer of fill values lacks, and six bytes more.
@@ -227,34 +221,6 @@ fn many_lacking_values_are_filled(rt: HostRuntime) -> Result<(), Fail> {
 }
 
 #[test]
-fn lacking_values_are_filled(rt: HostRuntime) -> Result<(), Fail> {
-    const PARTS: &[Part] = &[
-        (
-            files::GENERATED,
-            &[b"\0\x01"],
-            b"\0\x01\x80\x01\x80\x01\x80\x01",
-        ),
-        (files::RECORD_BYTES, &[b"\x01"], b"\x01\x81\x81"),
-        (
-            files::PADDED_RECORDS,
-            &[b"\x01", b"\0\x04\0\x05"],
-            b"\x01\x81\x81\x81\0\x04\x80\x01\x81\x81\x81\x81\0\x05\x80\x01\x81\x81\x81\x81\x80\x01\x80\x01",
-        ),
-        (
-            files::RECORDS_OFF_BOUNDARY,
-            &[b"\0\x01\0\x02\0\x03\0\x04"],
-            b"\0\x01\0\x02\0\x03\0\x04\x80\x01\x80\x01\x80\x01\x80\x01\x80\x01",
-        ),
-        (
-            files::MANY_HELD_NULS,
-            &[b"a"],
-            b"a\0\0\0\0\0\0\0\0\0\0\0\0\0\0\0\0\0\0\0",
-        ),
-    ];
-    write_all(&rt, rt.alloc(), PARTS)
-}
-
-#[test]
 fn listed_rows_are_filled_up(rt: HostRuntime) -> Result<(), Fail> {
     const CASES: [(&[u8], &[(&[u8], u64)], &[u8]); 3] = [
         (
@@ -270,13 +236,9 @@ fn listed_rows_are_filled_up(rt: HostRuntime) -> Result<(), Fail> {
         (files::RECORD_BYTES, &[(b"", 1), (b"a", 0)], b".a\x81"),
     ];
     for (file, rows, data) in CASES {
-        writes_rows(&rt, rt.alloc(), file, rows, data)?;
+        let mut arrays = Vec::new(rt.alloc());
+        arrays.push(rows_of(rt.alloc(), rows)?)?;
+        writes(&rt, rt.alloc(), file, arrays.as_slice(), data)?;
     }
     Ok(())
-}
-
-#[test]
-fn scalars_without_values_are_filled(rt: HostRuntime) -> Result<(), Fail> {
-    let file = files::UNSIGNED_FILLS;
-    writes(&rt, rt.alloc(), file, &[b"", b""], &file[228..])
 }

@@ -1,8 +1,10 @@
 //! Dumps from sources and into sinks that fail at each place in turn.
 
 use crate::files;
-use crate::rows::{self, Row, is_same};
-use crate::runs::{choosing, dumped, dumps_through, options};
+use crate::rows::{
+    NO_RECORDS, ONE_VARIABLE, ROWS, Row, SELECTION, SELECTION_TEXT, TWO_RECORDS, is_same,
+};
+use crate::runs::{DumpRow, WHOLE, Want, dumped, dumps_through, options_of};
 use nc_file::{DripSource, FailWhen, MemSink, MemSource, SliceSink};
 use ncdump::{DumpFault, DumpOptions};
 use std::alloc::Global;
@@ -18,14 +20,15 @@ fn has_stopped_reading(
     written: usize,
     handed: u128,
 ) -> bool {
+    let about = row.dump.about;
     match answer {
         Ok(()) => {
-            assert!(rt; written == row.text.len());
+            assert!(rt; written == row.dump.text.len(), "{about}");
             false
         }
         Err(fault) => {
-            assert!(rt; fault == DumpFault::ReadFailed);
-            assert!(rt; row.may_stop_reading(written, handed));
+            assert!(rt; fault == DumpFault::ReadFailed, "{about}");
+            assert!(rt; row.may_stop_reading(written, handed), "{about}");
             true
         }
     }
@@ -37,23 +40,30 @@ fn fails_to_read(
     rt: &impl Abort,
     alloc: Global,
     row: &Row<'_>,
+    options: &DumpOptions,
     step: usize,
     fail: FailWhen,
 ) -> bool {
     assert!(rt; 1 <= step);
-    let mut source = DripSource::new(row.bytes, step, fail);
+    let mut source = DripSource::new(row.dump.bytes, step, fail);
     let mut sink = MemSink::new(alloc);
-    let answer = dumped(alloc, &mut source, row.options, &mut sink);
+    let answer = dumped(alloc, &mut source, options, &mut sink);
     let handed = source.handed();
     assert!(rt; handed <= row.most_read());
-    assert!(rt; row.text.starts_with(sink.as_slice()));
+    assert!(rt; row.dump.text.starts_with(sink.as_slice()));
     has_stopped_reading(rt, row, answer, sink.as_slice().len(), handed)
 }
 
 /// Each read fails in turn, until none is left.
-fn each_read_fails(rt: &impl Abort, alloc: Global, row: &Row<'_>, step: usize) {
+fn each_read_fails(
+    rt: &impl Abort,
+    alloc: Global,
+    row: &Row<'_>,
+    options: &DumpOptions,
+    step: usize,
+) {
     for n in 0..1000 {
-        if !fails_to_read(rt, alloc, row, step, FailWhen::Read(n)) {
+        if !fails_to_read(rt, alloc, row, options, step, FailWhen::Read(n)) {
             assert!(rt; n > 0);
             return;
         }
@@ -70,14 +80,15 @@ fn has_filled(
     taken: &[u8],
     handed: u128,
 ) {
-    assert!(rt; handed <= row.most_read());
-    if room < row.text.len() {
-        assert!(rt; answer == Err(DumpFault::WriteFailed));
-        assert!(rt; row.may_stop_writing(room, handed));
-        assert!(rt; is_same(taken, &row.text[..room]));
+    let about = row.dump.about;
+    assert!(rt; handed <= row.most_read(), "{about}");
+    if room < row.dump.text.len() {
+        assert!(rt; answer == Err(DumpFault::WriteFailed), "{about}");
+        assert!(rt; row.may_stop_writing(room, handed), "{about}");
+        assert!(rt; is_same(taken, &row.dump.text[..room]), "{about}");
     } else {
-        assert!(rt; answer == Ok(()));
-        assert!(rt; is_same(taken, row.text));
+        assert!(rt; answer == Ok(()), "{about}");
+        assert!(rt; is_same(taken, row.dump.text), "{about}");
     }
 }
 
@@ -86,85 +97,53 @@ fn fails_to_write(
     rt: &impl Abort,
     alloc: Global,
     row: &Row<'_>,
+    options: &DumpOptions,
     room: usize,
     step: usize,
 ) -> Result<(), Fail> {
     assert!(rt; 1 <= step);
     let mut into = Vec::from_elem(alloc, 0, room)?;
     let mut sink = SliceSink::new(into.as_mut_slice(), step);
-    let mut source = DripSource::new(row.bytes, step, FailWhen::Never);
-    let answer = dumped(alloc, &mut source, row.options, &mut sink);
+    let mut source = DripSource::new(row.dump.bytes, step, FailWhen::Never);
+    let answer = dumped(alloc, &mut source, options, &mut sink);
     has_filled(rt, row, room, answer, sink.taken(), source.handed());
     Ok(())
 }
 
-/// Each read and each write fails in turn, with devices of `step` bytes a call.
-fn each_call_fails_in_steps(
-    rt: &impl Abort,
-    alloc: Global,
-    row: &Row<'_>,
-    step: usize,
-) -> Result<(), Fail> {
-    each_read_fails(rt, alloc, row, step);
-    for room in 0..=row.text.len() {
-        fails_to_write(rt, alloc, row, room, step)?;
+/// Each read and each write fails in turn, with devices of one byte a call and of seven.
+fn each_call_fails(rt: &impl Abort, alloc: Global, row: &Row<'_>) -> Result<(), Fail> {
+    let options = options_of(alloc, &row.dump)?;
+    for step in [1, 7] {
+        each_read_fails(rt, alloc, row, &options, step);
+        for room in 0..=row.dump.text.len() {
+            fails_to_write(rt, alloc, row, &options, room, step)?;
+        }
     }
     Ok(())
 }
 
-/// The same with devices of one byte a call and of seven.
-fn each_call_fails(rt: &impl Abort, alloc: Global, row: &Row<'_>) -> Result<(), Fail> {
-    each_call_fails_in_steps(rt, alloc, row, 1)?;
-    each_call_fails_in_steps(rt, alloc, row, 7)
-}
-
 #[test]
-fn each_call_fails_in_the_dump_of_one_variable(rt: HostRuntime) -> Result<(), Fail> {
-    let all = options(rt.alloc(), false)?;
-    each_call_fails(&rt, rt.alloc(), &rows::one_variable(&all))?;
-    each_call_fails(&rt, rt.alloc(), &rows::one_variable_of_version_5(&all))
-}
-
-#[test]
-fn each_call_fails_in_a_rank_three_selection(rt: HostRuntime) -> Result<(), Fail> {
-    let chosen = choosing(rt.alloc(), &[b"b"])?;
-    each_call_fails(&rt, rt.alloc(), &rows::rank_three(&chosen))
-}
-
-#[test]
-fn each_call_fails_in_the_dump_of_padded_records(rt: HostRuntime) -> Result<(), Fail> {
-    let all = options(rt.alloc(), false)?;
-    each_call_fails(&rt, rt.alloc(), &rows::padded_records(&all))
-}
-
-#[test]
-fn each_call_fails_in_the_dump_of_nuls_in_a_row(rt: HostRuntime) -> Result<(), Fail> {
-    let all = options(rt.alloc(), false)?;
-    each_call_fails(&rt, rt.alloc(), &rows::nuls_in_a_row(&all))?;
-    each_call_fails(&rt, rt.alloc(), &rows::many_nuls_in_a_row(&all))
-}
-
-/// Dumps the selection through a buffer of `buffer_len` bytes, in steps of `step`, and asserts the text and the bytes read.
-fn selection_through(
-    rt: &impl Abort,
-    alloc: Global,
-    chosen: &DumpOptions,
-    buffer_len: usize,
-    step: usize,
-) {
-    assert!(rt; 1 <= step);
-    let mut source = DripSource::new(files::THREE_VARIABLES, step, FailWhen::Never);
-    let text = rows::SELECTION_TEXT;
-    dumps_through(rt, alloc, &mut source, chosen, buffer_len, Ok(()), text);
-    assert!(rt; source.handed() <= 180 + 32 + buffer_len as u128);
+fn each_call_of_a_dump_fails(rt: HostRuntime) -> Result<(), Fail> {
+    for row in ROWS {
+        each_call_fails(&rt, rt.alloc(), &row)?;
+    }
+    Ok(())
 }
 
 #[test]
 fn selections_through_every_buffer(rt: HostRuntime) -> Result<(), Fail> {
-    let chosen = choosing(rt.alloc(), &[b"b"])?;
+    let options = options_of(rt.alloc(), &SELECTION)?;
+    let want = Want {
+        about: "a selection",
+        options: &options,
+        answer: Ok(()),
+        text: SELECTION_TEXT,
+    };
     for buffer_len in 16..41 {
         for step in 1..10 {
-            selection_through(&rt, rt.alloc(), &chosen, buffer_len, step);
+            let mut source = DripSource::new(files::THREE_VARIABLES, step, FailWhen::Never);
+            dumps_through(&rt, rt.alloc(), &mut source, buffer_len, &want);
+            assert!(rt; source.handed() <= 180 + 32 + buffer_len as u128);
         }
     }
     Ok(())
@@ -174,21 +153,48 @@ fn selections_through_every_buffer(rt: HostRuntime) -> Result<(), Fail> {
 fn failing_source(rt: HostRuntime) -> Result<(), Fail> {
     const PREFIX: &[u8] =
         b"netcdf t {\ndimensions:\n\tx = 3 ;\nvariables:\n\tshort s(x) ;\ndata:\n\n s =";
-    let all = options(rt.alloc(), false)?;
+    let options = options_of(rt.alloc(), &WHOLE)?;
+    let want = Want {
+        about: "a prefix",
+        options: &options,
+        answer: Err(DumpFault::ReadFailed),
+        text: PREFIX,
+    };
     let mut source = DripSource::new(files::GENERATED, 4096, FailWhen::From(80));
-    let failed = Err(DumpFault::ReadFailed);
-    dumps_through(&rt, rt.alloc(), &mut source, &all, 16, failed, PREFIX);
+    dumps_through(&rt, rt.alloc(), &mut source, 16, &want);
+    Ok(())
+}
+
+/// Dumps into a slice that has too little room for the text: as much of it as there is room for is written.
+fn cut_off(
+    rt: &impl Abort,
+    alloc: Global,
+    row: &DumpRow<'_>,
+    room: usize,
+    step: usize,
+) -> Result<(), Fail> {
+    assert!(rt; 1 <= step && room < row.text.len());
+    let mut into = Vec::from_elem(alloc, 0, room)?;
+    let mut sink = SliceSink::new(into.as_mut_slice(), step);
+    let mut source = MemSource::new(row.bytes);
+    let options = options_of(alloc, row)?;
+    let answer = dumped(alloc, &mut source, &options, &mut sink);
+    assert!(rt; answer == Err(DumpFault::WriteFailed));
+    assert!(rt; is_same(sink.taken(), &row.text[..room]));
     Ok(())
 }
 
 #[test]
-fn failing_sink(rt: HostRuntime) -> Result<(), Fail> {
-    let all = options(rt.alloc(), false)?;
-    let mut into = [0; 12];
-    let mut sink = SliceSink::new(&mut into, 12);
-    let mut source = MemSource::new(files::GENERATED);
-    let answer = dumped(rt.alloc(), &mut source, &all, &mut sink);
-    assert!(rt; answer == Err(DumpFault::WriteFailed));
-    assert!(rt; sink.taken() == b"netcdf t {\nd".as_slice());
-    Ok(())
+fn failing_sinks(rt: HostRuntime) -> Result<(), Fail> {
+    const STEPS: [(DumpRow<'static>, usize); 3] = [
+        (TWO_RECORDS, 1),
+        (TWO_RECORDS, 3),
+        (NO_RECORDS, 7),
+    ];
+    for (row, step) in STEPS {
+        for room in 0..row.text.len() {
+            cut_off(&rt, rt.alloc(), &row, room, step)?;
+        }
+    }
+    cut_off(&rt, rt.alloc(), &ONE_VARIABLE, 12, 12)
 }

@@ -31,7 +31,10 @@ pub fn walk_over<'a>(
 
 /// Fails unless the next chunk has these bytes.
 pub fn gives<S: Source>(rt: &impl Abort, walk: &mut Walk<'_>, source: &mut S, bytes: &[u8]) {
-    assert!(rt; matches!(walk.next(source), Ok(Some(chunk)) if chunk == bytes));
+    assert!(rt;
+        matches!(walk.next(source), Ok(Some(chunk)) if chunk == bytes),
+        "{bytes:?}"
+    );
 }
 
 /// How many bytes the next chunk has, which have to be the first of these; 0 where none comes.
@@ -58,8 +61,8 @@ pub fn ends<S: Source>(
     end: Result<(), WalkFault>,
 ) {
     match walk.next(source) {
-        Ok(Some(_)) => assert!(rt; false),
-        Ok(None) => assert!(rt; end.is_ok()),
-        Err(fault) => assert!(rt; end == Err(fault)),
+        Ok(Some(_)) => assert!(rt; false, "{end:?}"),
+        Ok(None) => assert!(rt; end.is_ok(), "{end:?}"),
+        Err(fault) => assert!(rt; end == Err(fault), "{end:?}"),
     }
 }

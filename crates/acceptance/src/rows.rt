@@ -1,15 +1,13 @@
 //! Dumps that tests repeat with devices that fail.
 
 use crate::files;
-use ncdump::DumpOptions;
+use crate::runs::{DumpRow, WHOLE};
 
-/// A dump: the file with its header's length, what to show of it, the text, and the stops on the way to its end.
+/// A dump, its header's length, and the stops on the way to its end.
 #[derive(Clone, Copy)]
 pub struct Row<'a> {
-    pub bytes: &'a [u8],
+    pub dump: DumpRow<'a>,
     pub header_len: u64,
-    pub options: &'a DumpOptions,
-    pub text: &'a [u8],
     pub stops: &'a [Stop<'a>],
 }
 
@@ -32,7 +30,7 @@ impl Row<'_> {
             return handed <= header;
         }
         let is_here = |stop: &Stop<'_>| {
-            self.text.len().checked_sub(stop.0.len()) == Some(written)
+            self.dump.text.len().checked_sub(stop.0.len()) == Some(written)
                 && handed <= header + 16 + stop.1 as u128
         };
         self.stops.iter().any(is_here)
@@ -43,7 +41,7 @@ impl Row<'_> {
     pub fn may_stop_writing(&self, written: usize, handed: u128) -> bool {
         let header = self.header_len as u128 + 16;
         let is_passed = |stop: &Stop<'_>| {
-            self.text.len() <= written.saturating_add(stop.0.len())
+            self.dump.text.len() <= written.saturating_add(stop.0.len())
                 && handed <= header + 16 + stop.1 as u128
         };
         handed <= header || self.stops.iter().any(is_passed)
@@ -59,17 +57,80 @@ pub fn is_same(bytes: &[u8], text: &[u8]) -> bool {
 pub const GENERATED_TEXT: &[u8] =
     b"netcdf t {\ndimensions:\n\tx = 3 ;\nvariables:\n\tshort s(x) ;\ndata:\n\n s = 1, _, 3 ;\n}\n";
 
-/// The dump of two record variables with three records.
-pub const PADDED_RECORDS_TEXT: &[u8] =
-    b"netcdf t {\ndimensions:\n\tt = UNLIMITED ; // (3 currently)\nvariables:\n\tbyte b(t) ;\n\tshort s(t) ;\ndata:\n\n b = 1, 2, 3 ;\n\n s = 4, 5, 6 ;\n}\n";
+/// A variable of three shorts, one of them missing.
+pub const ONE_VARIABLE: DumpRow<'static> = DumpRow {
+    about: "one variable",
+    bytes: files::GENERATED,
+    text: GENERATED_TEXT,
+    ..WHOLE
+};
+
+/// Two record variables with three records, whose slabs are padded.
+pub const PADDED_RECORDS: DumpRow<'static> = DumpRow {
+    about: "padded records",
+    bytes: files::PADDED_RECORDS,
+    text: b"netcdf t {\ndimensions:\n\tt = UNLIMITED ; // (3 currently)\nvariables:\n\tbyte b(t) ;\n\tshort s(t) ;\ndata:\n\n b = 1, 2, 3 ;\n\n s = 4, 5, 6 ;\n}\n",
+    ..WHOLE
+};
 
 /// The dump of the chosen one of three variables.
 pub const SELECTION_TEXT: &[u8] =
     b"netcdf t {\ndimensions:\n\tt = UNLIMITED ; // (2 currently)\n\ty = 2 ;\n\tx = 2 ;\nvariables:\n\tint a(t) ;\n\tint b(t, y, x) ;\n\tint c ;\ndata:\n\n b =\n  1, 2,\n  3, 4,\n  5, 6,\n  7, 8 ;\n}\n";
 
+/// One of three variables, with the records of another between its own.
+pub const SELECTION: DumpRow<'static> = DumpRow {
+    about: "a selection of rank three",
+    bytes: files::THREE_VARIABLES,
+    chosen: Some(&[b"b"]),
+    text: SELECTION_TEXT,
+    ..WHOLE
+};
+
 /// The dump of two variables of which no value is shown.
 pub const COORDINATES_TEXT: &[u8] =
     b"netcdf t {\ndimensions:\n\tx = 2 ;\nvariables:\n\tint x(x) ;\n\tint y(x) ;\ndata:\n}\n";
+
+/// Coordinate variables alone, of which none is chosen.
+pub const COORDINATES: DumpRow<'static> = DumpRow {
+    about: "coordinate variables that are not chosen",
+    bytes: files::COORDINATES,
+    coords: true,
+    chosen: Some(&[b"y"]),
+    text: COORDINATES_TEXT,
+    ..WHOLE
+};
+
+/// The record dimension alone, with two records.
+pub const TWO_RECORDS: DumpRow<'static> = DumpRow {
+    about: "two records",
+    bytes: files::TWO_RECORDS,
+    text: b"netcdf t {\ndimensions:\n\tt = UNLIMITED ; // (2 currently)\n}\n",
+    ..WHOLE
+};
+
+/// A record variable without records.
+pub const NO_RECORDS: DumpRow<'static> = DumpRow {
+    about: "no records",
+    bytes: files::NO_RECORDS,
+    text: b"netcdf t {\ndimensions:\n\tt = UNLIMITED ; // (0 currently)\nvariables:\n\tint v(t) ;\ndata:\n}\n",
+    ..WHOLE
+};
+
+/// NULs between two characters.
+pub const HELD_NULS: DumpRow<'static> = DumpRow {
+    about: "held back NULs",
+    bytes: files::HELD_NULS,
+    text: b"netcdf t {\ndimensions:\n\tx = 5 ;\nvariables:\n\tchar c(x) ;\ndata:\n\n c = \"a\\000\\000b\" ;\n}\n",
+    ..WHOLE
+};
+
+/// The same of many NULs.
+pub const MANY_HELD_NULS: DumpRow<'static> = DumpRow {
+    about: "many held back NULs",
+    bytes: files::MANY_HELD_NULS,
+    text: b"netcdf t {\ndimensions:\n\tx = 20 ;\nvariables:\n\tchar c(x) ;\ndata:\n\n c = \"a\\000\\000\\000\\000\\000\\000\\000\\000\\000\\000\\000\\000\\000\\000\\000\\000\\000\\000b\" ;\n}\n",
+    ..WHOLE
+};
 
 /// The stops in the list of three shorts.
 const SHORTS_STOPS: &[Stop<'static>] = &[
@@ -124,68 +185,42 @@ const MANY_NULS_STOPS: &[Stop<'static>] = &[
     (b"\" ;\n}\n", 20),
 ];
 
-/// A variable of three shorts, one of them missing.
-pub fn one_variable<'a>(all: &'a DumpOptions) -> Row<'a> {
+/// Dumps whose every call fails in turn.
+pub const ROWS: [Row<'static>; 6] = [
     Row {
-        bytes: files::GENERATED,
+        dump: ONE_VARIABLE,
         header_len: 80,
-        options: all,
-        text: GENERATED_TEXT,
         stops: SHORTS_STOPS,
-    }
-}
-
-/// The same in version 5.
-pub fn one_variable_of_version_5<'a>(all: &'a DumpOptions) -> Row<'a> {
+    },
     Row {
-        bytes: files::GENERATED_CDF5,
+        dump: DumpRow {
+            about: "one variable of CDF-5",
+            bytes: files::GENERATED_CDF5,
+            ..ONE_VARIABLE
+        },
         header_len: 128,
-        options: all,
-        text: GENERATED_TEXT,
         stops: SHORTS_STOPS,
-    }
-}
-
-/// One of three variables, with the records of another between its own.
-pub fn rank_three<'a>(chosen: &'a DumpOptions) -> Row<'a> {
+    },
     Row {
-        bytes: files::THREE_VARIABLES,
+        dump: SELECTION,
         header_len: 180,
-        options: chosen,
-        text: SELECTION_TEXT,
         stops: INTS_STOPS,
-    }
-}
-
-/// Two record variables, whose slabs are padded.
-pub fn padded_records<'a>(all: &'a DumpOptions) -> Row<'a> {
+    },
     Row {
-        bytes: files::PADDED_RECORDS,
+        dump: PADDED_RECORDS,
         header_len: 116,
-        options: all,
-        text: PADDED_RECORDS_TEXT,
         stops: RECORDS_STOPS,
-    }
-}
-
-/// NULs in the midst of a row, which wait for the byte after them.
-pub fn nuls_in_a_row<'a>(all: &'a DumpOptions) -> Row<'a> {
+    },
+    // NULs in the midst of a row, which wait for the byte after them
     Row {
-        bytes: files::HELD_NULS,
+        dump: HELD_NULS,
         header_len: 80,
-        options: all,
-        text: b"netcdf t {\ndimensions:\n\tx = 5 ;\nvariables:\n\tchar c(x) ;\ndata:\n\n c = \"a\\000\\000b\" ;\n}\n",
         stops: NULS_STOPS,
-    }
-}
-
-/// More NULs in a row than a buffer of 16 bytes has.
-pub fn many_nuls_in_a_row<'a>(all: &'a DumpOptions) -> Row<'a> {
+    },
+    // more NULs in a row than a buffer of 16 bytes has
     Row {
-        bytes: files::MANY_HELD_NULS,
+        dump: MANY_HELD_NULS,
         header_len: 80,
-        options: all,
-        text: b"netcdf t {\ndimensions:\n\tx = 20 ;\nvariables:\n\tchar c(x) ;\ndata:\n\n c = \"a\\000\\000\\000\\000\\000\\000\\000\\000\\000\\000\\000\\000\\000\\000\\000\\000\\000\\000b\" ;\n}\n",
         stops: MANY_NULS_STOPS,
-    }
-}
+    },
+];

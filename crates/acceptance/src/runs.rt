@@ -1,5 +1,7 @@
-//! What the tests of dumps have in common: a dump through buffers of every length, and in reads of several lengths.
+//! What the tests of dumps have in common: rows of dumps, through buffers of every length, and in reads of several lengths.
 
+use crate::files;
+use crate::rows::is_same;
 use nc_base::Sequence;
 use nc_file::{DripSource, FailWhen, MemSink, MemSource, Sink, Source};
 use ncdump::{DumpFault, DumpOptions, dump};
@@ -7,15 +9,69 @@ use std::alloc::{AllocError, Global};
 use std::process::Abort;
 use std::test::Fail;
 
-/// The options of a plain dump with the name `t`.
-pub fn options(alloc: Global, head_only: bool) -> Result<DumpOptions, AllocError> {
+/// A dump of a file, or of its first `len` bytes, with some bytes in place of its own from an offset on; what is shown of it, how
+/// it ends, and the text that it writes, of which `head` are the lines before the values.
+#[derive(Clone, Copy)]
+pub struct DumpRow<'a> {
+    pub about: &'static str,
+    pub bytes: &'a [u8],
+    pub len: usize,
+    pub change: (usize, &'a [u8]),
+    pub head_only: bool,
+    pub coords: bool,
+    pub chosen: Option<&'a [&'a [u8]]>,
+    pub width: usize,
+    pub answer: Result<(), DumpFault>,
+    pub head: &'a [u8],
+    pub text: &'a [u8],
+}
+
+/// What rows have that say no more: all of a file, as it is, with all of its values, in lines of 80 bytes.
+pub const WHOLE: DumpRow<'static> = DumpRow {
+    about: "",
+    bytes: b"",
+    len: usize::MAX,
+    change: (0, b""),
+    head_only: false,
+    coords: false,
+    chosen: None,
+    width: 80,
+    answer: Ok(()),
+    head: b"",
+    text: b"",
+};
+
+/// What a dump with these options answers, and the text that it writes.
+#[derive(Clone, Copy)]
+pub struct Want<'a> {
+    pub about: &'static str,
+    pub options: &'a DumpOptions,
+    pub answer: Result<(), DumpFault>,
+    pub text: &'a [u8],
+}
+
+/// These names.
+fn names_of(alloc: Global, names: &[&[u8]]) -> Result<Sequence<Sequence<u8>>, AllocError> {
+    let mut sequence = Sequence::new(alloc);
+    for name in names {
+        sequence.push(Sequence::from_vec(Vec::from_slice(alloc, *name)?))?;
+    }
+    Ok(sequence)
+}
+
+/// The options of a row, with the name `t`.
+pub fn options_of(alloc: Global, row: &DumpRow<'_>) -> Result<DumpOptions, AllocError> {
+    let chosen = match row.chosen {
+        Some(names) => Some(names_of(alloc, names)?),
+        None => None,
+    };
     Ok(DumpOptions {
         file: String::new(alloc),
         name: Sequence::from_vec(Vec::from_slice(alloc, b"t")?),
-        head_only,
-        coords: false,
-        chosen: None,
-        width: 80,
+        head_only: row.head_only,
+        coords: row.coords,
+        chosen,
+        width: row.width,
     })
 }
 
@@ -24,76 +80,54 @@ pub fn dumps_through<S: Source>(
     rt: &impl Abort,
     alloc: Global,
     source: &mut S,
-    options: &DumpOptions,
     buffer_len: usize,
-    answer: Result<(), DumpFault>,
-    text: &[u8],
+    want: &Want<'_>,
 ) {
+    let about = want.about;
     let mut space = [0; 4096];
     assert!(rt; 16 <= buffer_len && buffer_len <= 4096);
+    let buf = &mut space[..buffer_len];
     let mut sink = MemSink::new(alloc);
-    let found = dump(alloc, source, options, &mut space[..buffer_len], &mut sink);
-    assert!(rt; found == answer);
-    assert!(rt; sink.as_slice() == text);
+    let found = dump(alloc, source, want.options, buf, &mut sink);
+    assert!(rt; found == want.answer, "{about}");
+    assert!(rt; is_same(sink.as_slice(), want.text), "the text of {about}");
 }
 
-/// The same of bytes in memory, of which each read gives as many as there are, at most 1, 3, or 7.
-fn dumps_in_steps(
-    rt: &impl Abort,
-    alloc: Global,
-    bytes: &[u8],
-    options: &DumpOptions,
-    buffer_len: usize,
-    answer: Result<(), DumpFault>,
-    text: &[u8],
-) {
-    let mut all = MemSource::new(bytes);
-    dumps_through(rt, alloc, &mut all, options, buffer_len, answer, text);
-    for step in [1, 3, 7] {
-        let mut few = DripSource::new(bytes, step, FailWhen::Never);
-        dumps_through(rt, alloc, &mut few, options, buffer_len, answer, text);
-    }
-}
-
-/// The same through buffers of several lengths.
-pub fn dumps_as(
-    rt: &impl Abort,
-    alloc: Global,
-    bytes: &[u8],
-    options: &DumpOptions,
-    answer: Result<(), DumpFault>,
-    text: &[u8],
-) {
+/// Dumps bytes in memory so, through buffers of several lengths, where each read gives as many as there are, at most 1, 3, or 7.
+pub fn dumps(rt: &impl Abort, alloc: Global, bytes: &[u8], want: &Want<'_>) {
     for buffer_len in [16, 17, 31, 4096] {
-        dumps_in_steps(rt, alloc, bytes, options, buffer_len, answer, text);
+        let mut all = MemSource::new(bytes);
+        dumps_through(rt, alloc, &mut all, buffer_len, want);
+        for step in [1, 3, 7] {
+            let mut few = DripSource::new(bytes, step, FailWhen::Never);
+            dumps_through(rt, alloc, &mut few, buffer_len, want);
+        }
     }
 }
 
-/// The plain dump of bytes in memory.
-pub fn dumps(
-    rt: &impl Abort,
-    alloc: Global,
-    bytes: &[u8],
-    answer: Result<(), DumpFault>,
-    text: &[u8],
-) -> Result<(), Fail> {
-    let options = options(alloc, false)?;
-    dumps_as(rt, alloc, bytes, &options, answer, text);
+/// Fails unless the dump of the row is as it says.
+pub fn expect_dump(rt: &impl Abort, alloc: Global, row: &DumpRow<'_>) -> Result<(), Fail> {
+    let (at, bytes) = row.change;
+    let file = files::patched(alloc, row.bytes, at, bytes)?;
+    let file = &file.as_slice()[..row.len.min(file.len())];
+    let mut text = Vec::from_slice(alloc, row.head)?;
+    text.extend_from_slice(row.text)?;
+    let options = options_of(alloc, row)?;
+    let want = Want {
+        about: row.about,
+        options: &options,
+        answer: row.answer,
+        text: text.as_slice(),
+    };
+    dumps(rt, alloc, file, &want);
     Ok(())
 }
 
-/// The plain dumps of whole files, each with its text.
-pub fn dump_all(rt: &impl Abort, alloc: Global, rows: &[(&[u8], &[u8])]) -> Result<(), Fail> {
-    for (bytes, text) in rows {
-        dumps(rt, alloc, *bytes, Ok(()), *text)?;
+/// Fails unless each dump is as its row says.
+pub fn expect_dumps(rt: &impl Abort, alloc: Global, rows: &[DumpRow<'_>]) -> Result<(), Fail> {
+    for row in rows {
+        expect_dump(rt, alloc, row)?;
     }
-    Ok(())
-}
-
-/// The head of the file.
-pub fn shows_head(rt: &impl Abort, alloc: Global, bytes: &[u8], text: &[u8]) -> Result<(), Fail> {
-    let options = options(alloc, true)?;
-    dumps_as(rt, alloc, bytes, &options, Ok(()), text);
     Ok(())
 }
 
@@ -105,22 +139,4 @@ pub fn dumped<S: Source, W: Sink>(
     sink: &mut W,
 ) -> Result<(), DumpFault> {
     dump(alloc, source, options, &mut [0; 16], sink)
-}
-
-/// The options that show the values of the variables with these names alone.
-pub fn choosing(alloc: Global, names: &[&[u8]]) -> Result<DumpOptions, AllocError> {
-    let mut chosen = Sequence::new(alloc);
-    for name in names {
-        chosen.push(Sequence::from_vec(Vec::from_slice(alloc, *name)?))?;
-    }
-    let mut options = options(alloc, false)?;
-    options.chosen = Some(chosen);
-    Ok(options)
-}
-
-/// The options of a plain dump in lines of this width.
-pub fn with_width(alloc: Global, width: usize) -> Result<DumpOptions, AllocError> {
-    let mut options = options(alloc, false)?;
-    options.width = width;
-    Ok(options)
 }

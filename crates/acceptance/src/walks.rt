@@ -30,7 +30,7 @@ fn walks_to_the_end(
         assert!(rt; n <= rest.len());
         rest = &rest[n..];
     }
-    assert!(rt; rest.is_empty());
+    assert!(rt; rest.is_empty(), "{values:?}");
     ends(rt, walk, source, end);
     let handed = source.handed();
     assert!(rt; before <= handed && handed - before == values.len() as u128);
@@ -76,27 +76,149 @@ fn walks(
     Ok(())
 }
 
-/// Cuts of a file: the lengths, from the first up to the second, the place of the variable that is walked over, the bytes of its
-/// values that are there then, and how the walk ends.
+/// Lengths of a file, from the first up to the second, the place of the variable that is walked over, the bytes of its values
+/// that are there then, and how the walk ends.
 type Cuts = ((usize, usize), usize, &'static [u8], Result<(), WalkFault>);
 
-/// The same of the file that is cut to a length.
-fn walks_cut(
-    rt: &impl Abort,
-    alloc: Global,
-    file: &[u8],
-    len: usize,
-    (v, values, end): (usize, &[u8], Result<(), WalkFault>),
-) -> Result<(), Fail> {
-    assert!(rt; len <= file.len());
-    walks(rt, alloc, &file[..len], v, values, end)
+/// A file, other bytes for it from an offset on, and what walks over it give where it is cut.
+type Walked = (&'static [u8], (usize, &'static [u8]), &'static [Cuts]);
+
+/// No bytes are changed.
+const UNCHANGED: (usize, &[u8]) = (0, b"");
+
+/// The values of three shorts, and of nine.
+const SHORTS: &[u8] = b"\0\x01\x80\x01\0\x03";
+
+const NINE_SHORTS: &[u8] = b"\0\x01\0\x02\0\x03\0\x04\0\x05\0\x06\0\x07\0\x08\0\x09";
+
+/// Walks over files that are cut at each byte.
+const CUT_FILES: &[Walked] = &[
+    (
+        files::GENERATED,
+        UNCHANGED,
+        &[
+            ((80, 82), 0, b"", Err(WalkFault::DataTruncated(0))),
+            ((82, 84), 0, b"\0\x01", Err(WalkFault::DataTruncated(1))),
+            (
+                (84, 86),
+                0,
+                b"\0\x01\x80\x01",
+                Err(WalkFault::DataTruncated(2)),
+            ),
+            ((86, 89), 0, SHORTS, Ok(())),
+        ],
+    ),
+    (
+        files::RECORD_BYTES,
+        UNCHANGED,
+        &[
+            ((80, 81), 0, b"", Err(WalkFault::DataTruncated(0))),
+            ((81, 82), 0, b"\x01", Err(WalkFault::DataTruncated(1))),
+            ((82, 83), 0, b"\x01\x02", Err(WalkFault::DataTruncated(2))),
+            ((83, 84), 0, b"\x01\x02\x03", Ok(())),
+        ],
+    ),
+    (
+        files::PADDED_RECORDS,
+        UNCHANGED,
+        &[
+            ((116, 117), 0, b"", Err(WalkFault::DataTruncated(0))),
+            ((117, 125), 0, b"\x01", Err(WalkFault::DataTruncated(1))),
+            ((125, 133), 0, b"\x01\x02", Err(WalkFault::DataTruncated(2))),
+            ((133, 141), 0, b"\x01\x02\x03", Ok(())),
+            (
+                (133, 138),
+                1,
+                b"\0\x04\0\x05",
+                Err(WalkFault::DataTruncated(2)),
+            ),
+            ((138, 141), 1, b"\0\x04\0\x05\0\x06", Ok(())),
+        ],
+    ),
+    // streaming records
+    (
+        files::PADDED_RECORDS,
+        (4, b"\xff\xff\xff\xff"),
+        &[
+            ((139, 140), 0, b"\x01\x02", Ok(())),
+            ((139, 140), 1, b"\0\x04\0\x05", Ok(())),
+        ],
+    ),
+];
+
+/// Walks over whole files.
+const WHOLE_FILES: &[Walked] = &[
+    (
+        files::GENERATED_CDF2,
+        UNCHANGED,
+        &[((92, 93), 0, SHORTS, Ok(()))],
+    ),
+    (
+        files::GENERATED_CDF5,
+        UNCHANGED,
+        &[((136, 137), 0, SHORTS, Ok(()))],
+    ),
+    (
+        files::RECORDS_OFF_BOUNDARY,
+        UNCHANGED,
+        &[((114, 115), 0, NINE_SHORTS, Ok(()))],
+    ),
+    // slabs beside others
+    (
+        files::THREE_VARIABLES,
+        UNCHANGED,
+        &[
+            ((224, 225), 0, b"\0\0\0\x0a\0\0\0\x14", Ok(())),
+            (
+                (224, 225),
+                1,
+                b"\0\0\0\x01\0\0\0\x02\0\0\0\x03\0\0\0\x04\0\0\0\x05\0\0\0\x06\0\0\0\x07\0\0\0\x08",
+                Ok(()),
+            ),
+            ((224, 225), 2, b"\0\0\0\x07", Ok(())),
+        ],
+    ),
+    // more records than the file has
+    (
+        files::RECORD_BYTES,
+        (4, b"\x7f\xff\xff\xff"),
+        &[(
+            (83, 84),
+            0,
+            b"\x01\x02\x03",
+            Err(WalkFault::DataTruncated(3)),
+        )],
+    ),
+    // values in the header
+    (
+        files::GENERATED,
+        (76, b"\0\0\0\0"),
+        &[((88, 89), 0, b"CDF\x01\0\0", Ok(()))],
+    ),
+    // the greatest offset
+    (
+        files::GENERATED_CDF2,
+        (76, b"\x7f\xff\xff\xff\xff\xff\xff\xff"),
+        &[((92, 93), 0, b"", Err(WalkFault::DataTruncated(0)))],
+    ),
+];
+
+/// Fails unless walks over the file that is cut so give these bytes.
+fn walk_cuts(rt: &impl Abort, alloc: Global, file: &[u8], cuts: Cuts) -> Result<(), Fail> {
+    let ((from, to), v, values, end) = cuts;
+    for len in from..to {
+        assert!(rt; len <= file.len());
+        walks(rt, alloc, &file[..len], v, values, end)?;
+    }
+    Ok(())
 }
 
-/// The same of each file that is cut so.
-fn walk_cuts(rt: &impl Abort, alloc: Global, file: &[u8], cuts: &[Cuts]) -> Result<(), Fail> {
-    for ((from, to), v, values, end) in cuts {
-        for len in *from..*to {
-            walks_cut(rt, alloc, file, len, (*v, *values, *end))?;
+/// Fails unless walks over the files give these bytes.
+fn walk_all(rt: &impl Abort, alloc: Global, rows: &[Walked]) -> Result<(), Fail> {
+    for (file, (at, bytes), cuts) in rows {
+        let file = patched(alloc, *file, *at, *bytes)?;
+        for cut in *cuts {
+            walk_cuts(rt, alloc, file.as_slice(), *cut)?;
         }
     }
     Ok(())
@@ -104,115 +226,12 @@ fn walk_cuts(rt: &impl Abort, alloc: Global, file: &[u8], cuts: &[Cuts]) -> Resu
 
 #[test]
 fn values_cut_at_each_byte(rt: HostRuntime) -> Result<(), Fail> {
-    const CUTS: &[Cuts] = &[
-        ((80, 82), 0, b"", Err(WalkFault::DataTruncated(0))),
-        ((82, 84), 0, b"\0\x01", Err(WalkFault::DataTruncated(1))),
-        (
-            (84, 86),
-            0,
-            b"\0\x01\x80\x01",
-            Err(WalkFault::DataTruncated(2)),
-        ),
-        ((86, 89), 0, b"\0\x01\x80\x01\0\x03", Ok(())),
-    ];
-    walk_cuts(&rt, rt.alloc(), files::GENERATED, CUTS)
+    walk_all(&rt, rt.alloc(), CUT_FILES)
 }
 
 #[test]
-fn generated_file_of_other_versions(rt: HostRuntime) -> Result<(), Fail> {
-    const VALUES: &[u8] = b"\0\x01\x80\x01\0\x03";
-    walks(&rt, rt.alloc(), files::GENERATED_CDF2, 0, VALUES, Ok(()))?;
-    walks(&rt, rt.alloc(), files::GENERATED_CDF5, 0, VALUES, Ok(()))
-}
-
-#[test]
-fn unpadded_records(rt: HostRuntime) -> Result<(), Fail> {
-    const CUTS: &[Cuts] = &[
-        ((80, 81), 0, b"", Err(WalkFault::DataTruncated(0))),
-        ((81, 82), 0, b"\x01", Err(WalkFault::DataTruncated(1))),
-        ((82, 83), 0, b"\x01\x02", Err(WalkFault::DataTruncated(2))),
-        ((83, 84), 0, b"\x01\x02\x03", Ok(())),
-    ];
-    walk_cuts(&rt, rt.alloc(), files::RECORD_BYTES, CUTS)
-}
-
-#[test]
-fn more_records_than_the_file_has(rt: HostRuntime) -> Result<(), Fail> {
-    let many = patched(rt.alloc(), files::RECORD_BYTES, 4, b"\x7f\xff\xff\xff")?;
-    let missing = Err(WalkFault::DataTruncated(3));
-    walks(
-        &rt,
-        rt.alloc(),
-        many.as_slice(),
-        0,
-        b"\x01\x02\x03",
-        missing,
-    )
-}
-
-#[test]
-fn padded_records(rt: HostRuntime) -> Result<(), Fail> {
-    const CUTS: &[Cuts] = &[
-        ((116, 117), 0, b"", Err(WalkFault::DataTruncated(0))),
-        ((117, 125), 0, b"\x01", Err(WalkFault::DataTruncated(1))),
-        ((125, 133), 0, b"\x01\x02", Err(WalkFault::DataTruncated(2))),
-        ((133, 141), 0, b"\x01\x02\x03", Ok(())),
-        (
-            (133, 138),
-            1,
-            b"\0\x04\0\x05",
-            Err(WalkFault::DataTruncated(2)),
-        ),
-        ((138, 141), 1, b"\0\x04\0\x05\0\x06", Ok(())),
-    ];
-    walk_cuts(&rt, rt.alloc(), files::PADDED_RECORDS, CUTS)
-}
-
-#[test]
-fn streaming_records(rt: HostRuntime) -> Result<(), Fail> {
-    const CUTS: &[Cuts] = &[
-        ((139, 140), 0, b"\x01\x02", Ok(())),
-        ((139, 140), 1, b"\0\x04\0\x05", Ok(())),
-    ];
-    let file = patched(rt.alloc(), files::PADDED_RECORDS, 4, b"\xff\xff\xff\xff")?;
-    walk_cuts(&rt, rt.alloc(), file.as_slice(), CUTS)
-}
-
-#[test]
-fn records_off_boundary(rt: HostRuntime) -> Result<(), Fail> {
-    const VALUES: &[u8] = b"\0\x01\0\x02\0\x03\0\x04\0\x05\0\x06\0\x07\0\x08\0\x09";
-    let file = files::RECORDS_OFF_BOUNDARY;
-    walks(&rt, rt.alloc(), file, 0, VALUES, Ok(()))
-}
-
-#[test]
-fn slabs_beside_others(rt: HostRuntime) -> Result<(), Fail> {
-    const VALUES: [(usize, &[u8]); 3] = [
-        (0, b"\0\0\0\x0a\0\0\0\x14"),
-        (
-            1,
-            b"\0\0\0\x01\0\0\0\x02\0\0\0\x03\0\0\0\x04\0\0\0\x05\0\0\0\x06\0\0\0\x07\0\0\0\x08",
-        ),
-        (2, b"\0\0\0\x07"),
-    ];
-    for (v, values) in VALUES {
-        walks(&rt, rt.alloc(), files::THREE_VARIABLES, v, values, Ok(()))?;
-    }
-    Ok(())
-}
-
-#[test]
-fn values_in_the_header(rt: HostRuntime) -> Result<(), Fail> {
-    let file = patched(rt.alloc(), files::GENERATED, 76, b"\0\0\0\0")?;
-    walks(&rt, rt.alloc(), file.as_slice(), 0, b"CDF\x01\0\0", Ok(()))
-}
-
-#[test]
-fn greatest_offset(rt: HostRuntime) -> Result<(), Fail> {
-    const OFFSET: &[u8] = b"\x7f\xff\xff\xff\xff\xff\xff\xff";
-    let file = patched(rt.alloc(), files::GENERATED_CDF2, 76, OFFSET)?;
-    let missing = Err(WalkFault::DataTruncated(0));
-    walks(&rt, rt.alloc(), file.as_slice(), 0, b"", missing)
+fn values_of_whole_files(rt: HostRuntime) -> Result<(), Fail> {
+    walk_all(&rt, rt.alloc(), WHOLE_FILES)
 }
 
 #[test]
