@@ -73,22 +73,16 @@ fn takes_few_writes(rt: &impl Abort, alloc: Global, text: &str, len: u64, calls:
 const SHORTS: &str = "netcdf t {\ndimensions: x = 50000 ;\nvariables: short s(x) ;\ndata: s = 1";
 
 #[test]
-fn writes_of_long_values(rt: HostRuntime) -> Result<(), Fail> {
-    let listed = long_text(rt.alloc(), SHORTS, (", 1", 49_999), " ;\n}\n")?;
-    takes_few_writes(&rt, rt.alloc(), listed.as_str(), 100_080, 40);
-    let filled = long_text(rt.alloc(), SHORTS, (", 1", 2), " ;\n}\n")?;
-    takes_few_writes(&rt, rt.alloc(), filled.as_str(), 100_080, 60);
-    Ok(())
-}
-
-#[test]
-fn writes_of_a_long_attribute(rt: HostRuntime) -> Result<(), Fail> {
-    let text = long_text(
-        rt.alloc(),
-        "netcdf t {\n:note = \"",
-        ("a", 100_000),
-        "\" ;\n}\n",
-    )?;
-    takes_few_writes(&rt, rt.alloc(), text.as_str(), 100_048, 30);
+fn writes_of_long_files(rt: HostRuntime) -> Result<(), Fail> {
+    const NOTE: &str = "netcdf t {\n:note = \"";
+    const ROWS: [(&str, (&str, usize), &str, u64, u64); 3] = [
+        (SHORTS, (", 1", 49_999), " ;\n}\n", 100_080, 40),
+        (SHORTS, (", 1", 2), " ;\n}\n", 100_080, 60),
+        (NOTE, ("a", 100_000), "\" ;\n}\n", 100_048, 30),
+    ];
+    for (head, piece, tail, len, calls) in ROWS {
+        let text = long_text(rt.alloc(), head, piece, tail)?;
+        takes_few_writes(&rt, rt.alloc(), text.as_str(), len, calls);
+    }
     Ok(())
 }

@@ -3,8 +3,6 @@
 use crate::invocations::{Invocation, makes, refuses};
 use crate::texts::{FIFTH_FILE, FIRST_FILE, SECOND_FILE, TEXT};
 use devices::ListedFile;
-use std::alloc::Global;
-use std::process::Abort;
 use std::test::Fail;
 
 /// How the program is used.
@@ -32,39 +30,40 @@ fn invocation<'a>(words: &'a [&'a str]) -> Invocation<'a> {
 }
 
 #[test]
-fn outputs_have_the_path_of_o_or_of_the_text(rt: HostRuntime) {
-    const ROWS: [(&[&str], &str); 7] = [
-        (&["ncgen", "-b", "d/f.cdl"], "f.nc"),
-        (&["ncgen", "-b", "-o", "x", "d/f.cdl"], "x"),
-        (&["ncgen", "-o", "x", "d/f.cdl"], "x"),
-        (&["ncgen", "d/f.cdl", "-ox"], "x"),
-        (&["ncgen", "-o", "x"], "x"),
-        (&["ncgen", "-bo", "x"], "x"),
-        (&["ncgen", "-b", "--", "-x"], "-x.nc"),
+fn words_choose_the_output_and_its_version(rt: HostRuntime) {
+    const ROWS: [(&[&str], &str, &[u8]); 13] = [
+        (&["ncgen", "-b", "d/f.cdl"], "f.nc", FIRST_FILE),
+        (&["ncgen", "-b", "-o", "x", "d/f.cdl"], "x", FIRST_FILE),
+        (&["ncgen", "-o", "x", "d/f.cdl"], "x", FIRST_FILE),
+        (&["ncgen", "d/f.cdl", "-ox"], "x", FIRST_FILE),
+        (&["ncgen", "-o", "x"], "x", FIRST_FILE),
+        (&["ncgen", "-bo", "x"], "x", FIRST_FILE),
+        (&["ncgen", "-b", "--", "-x"], "-x.nc", FIRST_FILE),
+        (
+            &["ncgen", "-b", "-k", "classic", "d/f.cdl"],
+            "f.nc",
+            FIRST_FILE,
+        ),
+        (&["ncgen", "-b", "-k", "nc3", "d/f.cdl"], "f.nc", FIRST_FILE),
+        (
+            &["ncgen", "-b", "-k", "64-bit offset", "d/f.cdl"],
+            "f.nc",
+            SECOND_FILE,
+        ),
+        (
+            &["ncgen", "-b", "-k", "nc6", "d/f.cdl"],
+            "f.nc",
+            SECOND_FILE,
+        ),
+        (
+            &["ncgen", "-b", "-k", "64-bit data", "d/f.cdl"],
+            "f.nc",
+            FIFTH_FILE,
+        ),
+        (&["ncgen", "-b", "-k", "nc5", "d/f.cdl"], "f.nc", FIFTH_FILE),
     ];
-    for (words, path) in ROWS {
-        makes(&rt, rt.alloc(), invocation(words), path, FIRST_FILE);
-    }
-}
-
-/// A run with this kind makes this file.
-fn makes_kind(rt: &impl Abort, alloc: Global, kind: &str, file: &[u8]) {
-    let words = ["ncgen", "-b", "-k", kind, "d/f.cdl"];
-    makes(rt, alloc, invocation(&words), "f.nc", file);
-}
-
-#[test]
-fn kinds_choose_the_version(rt: HostRuntime) {
-    const ROWS: [(&str, &[u8]); 6] = [
-        ("classic", FIRST_FILE),
-        ("nc3", FIRST_FILE),
-        ("64-bit offset", SECOND_FILE),
-        ("nc6", SECOND_FILE),
-        ("64-bit data", FIFTH_FILE),
-        ("nc5", FIFTH_FILE),
-    ];
-    for (kind, file) in ROWS {
-        makes_kind(&rt, rt.alloc(), kind, file);
+    for (words, path, file) in ROWS {
+        makes(&rt, rt.alloc(), invocation(words), path, file);
     }
 }
 

@@ -16,12 +16,13 @@ fn has_filled(
     answer: Result<(), GenFault>,
     taken: &[u8],
 ) {
-    if room < row.file.len() {
-        assert!(rt; answer == Err(GenFault::WriteFailed));
-        assert!(rt; is_same(taken, &row.file[..room]));
+    let len = row.file.len();
+    if room < len {
+        assert!(rt; answer == Err(GenFault::WriteFailed), "{room} of {len}");
+        assert!(rt; is_same(taken, &row.file[..room]), "{room} of {len}");
     } else {
-        assert!(rt; answer == Ok(()));
-        assert!(rt; is_same(taken, row.file));
+        assert!(rt; answer == Ok(()), "{room} of {len}");
+        assert!(rt; is_same(taken, row.file), "{room} of {len}");
     }
 }
 
@@ -42,30 +43,19 @@ fn fills(
 }
 
 /// Generates into slices of every length up to that of the file, by one byte a call and by seven.
-fn fills_each_room(rt: &impl Abort, alloc: Global, row: &Row<'_>) -> Result<(), Fail> {
-    for room in 0..=row.file.len() {
-        fills(rt, alloc, row, room, 1)?;
-        fills(rt, alloc, row, room, 7)?;
+#[test]
+fn sinks_of_every_length(rt: HostRuntime) -> Result<(), Fail> {
+    const ROWS: [Row<'static>; 4] = [
+        rows::ONE_VARIABLE,
+        rows::ONE_VARIABLE_CDF5,
+        rows::RANK_THREE,
+        rows::PADDED_RECORDS,
+    ];
+    for row in ROWS {
+        for room in 0..=row.file.len() {
+            fills(&rt, rt.alloc(), &row, room, 1)?;
+            fills(&rt, rt.alloc(), &row, room, 7)?;
+        }
     }
     Ok(())
-}
-
-#[test]
-fn one_variable(rt: HostRuntime) -> Result<(), Fail> {
-    fills_each_room(&rt, rt.alloc(), &rows::ONE_VARIABLE)
-}
-
-#[test]
-fn one_variable_of_version_5(rt: HostRuntime) -> Result<(), Fail> {
-    fills_each_room(&rt, rt.alloc(), &rows::ONE_VARIABLE_CDF5)
-}
-
-#[test]
-fn rank_three(rt: HostRuntime) -> Result<(), Fail> {
-    fills_each_room(&rt, rt.alloc(), &rows::RANK_THREE)
-}
-
-#[test]
-fn padded_records(rt: HostRuntime) -> Result<(), Fail> {
-    fills_each_room(&rt, rt.alloc(), &rows::PADDED_RECORDS)
 }

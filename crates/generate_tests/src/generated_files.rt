@@ -1,93 +1,39 @@
 //! The files of texts, byte for byte, and their dumps.
 
-use crate::generating::generates;
-use crate::rows;
+use crate::generating::{dump_of, file_of, is_same};
+use crate::rows::{self, Row};
 use std::test::Fail;
 
+/// Texts with their files and dumps, and what each is.
+const ROWS: [(&str, Row<'static>); 19] = [
+    ("nothing declared", rows::NOTHING),
+    ("nothing declared in CDF-2", rows::NOTHING_CDF2),
+    ("nothing declared in CDF-5", rows::NOTHING_CDF5),
+    ("one variable", rows::ONE_VARIABLE),
+    ("one variable in CDF-2", rows::ONE_VARIABLE_CDF2),
+    ("one variable in CDF-5", rows::ONE_VARIABLE_CDF5),
+    ("no records", rows::NO_RECORDS),
+    ("rank three", rows::RANK_THREE),
+    ("unpadded records", rows::UNPADDED_RECORDS),
+    ("padded records", rows::PADDED_RECORDS),
+    ("records off the boundary", rows::RECORDS_OFF_BOUNDARY),
+    ("records beside longer ones", rows::LONGER_RECORDS),
+    ("a row that is lacking", rows::SECOND_ROW_LACKING),
+    ("all NULs", rows::ALL_NULS),
+    ("rows with their own fill value", rows::FILLED_ROWS),
+    ("numbers with their own fill value", rows::FILLED_SHORTS),
+    ("names attributes and strings", rows::NAMES_AND_STRINGS),
+    ("unsigned records", rows::UNSIGNED_RECORDS),
+    ("unsigned fill values", rows::UNSIGNED_FILLS),
+];
+
 #[test]
-fn nothing_declared(rt: HostRuntime) -> Result<(), Fail> {
-    for row in [rows::NOTHING, rows::NOTHING_CDF2, rows::NOTHING_CDF5] {
-        generates(&rt, rt.alloc(), &row)?;
+fn texts_give_their_files(rt: HostRuntime) -> Result<(), Fail> {
+    for (about, row) in ROWS {
+        let file = file_of(&rt, rt.alloc(), row.cdl, row.version);
+        assert!(rt; is_same(file.as_slice(), row.file), "{about}");
+        let dump = dump_of(&rt, rt.alloc(), file.as_slice(), 80)?;
+        assert!(rt; is_same(dump.as_slice(), row.dump), "the dump of {about}");
     }
     Ok(())
-}
-
-#[test]
-fn one_variable(rt: HostRuntime) -> Result<(), Fail> {
-    generates(&rt, rt.alloc(), &rows::ONE_VARIABLE)
-}
-
-#[test]
-fn one_variable_of_version_2(rt: HostRuntime) -> Result<(), Fail> {
-    generates(&rt, rt.alloc(), &rows::ONE_VARIABLE_CDF2)
-}
-
-#[test]
-fn one_variable_of_version_5(rt: HostRuntime) -> Result<(), Fail> {
-    generates(&rt, rt.alloc(), &rows::ONE_VARIABLE_CDF5)
-}
-
-#[test]
-fn no_records(rt: HostRuntime) -> Result<(), Fail> {
-    generates(&rt, rt.alloc(), &rows::NO_RECORDS)
-}
-
-#[test]
-fn rank_three(rt: HostRuntime) -> Result<(), Fail> {
-    generates(&rt, rt.alloc(), &rows::RANK_THREE)
-}
-
-#[test]
-fn unpadded_records(rt: HostRuntime) -> Result<(), Fail> {
-    generates(&rt, rt.alloc(), &rows::UNPADDED_RECORDS)
-}
-
-#[test]
-fn padded_records(rt: HostRuntime) -> Result<(), Fail> {
-    generates(&rt, rt.alloc(), &rows::PADDED_RECORDS)
-}
-
-#[test]
-fn records_off_the_boundary(rt: HostRuntime) -> Result<(), Fail> {
-    generates(&rt, rt.alloc(), &rows::RECORDS_OFF_BOUNDARY)
-}
-
-#[test]
-fn records_beside_longer_ones(rt: HostRuntime) -> Result<(), Fail> {
-    generates(&rt, rt.alloc(), &rows::LONGER_RECORDS)
-}
-
-#[test]
-fn a_row_that_is_lacking(rt: HostRuntime) -> Result<(), Fail> {
-    generates(&rt, rt.alloc(), &rows::SECOND_ROW_LACKING)
-}
-
-#[test]
-fn all_nuls(rt: HostRuntime) -> Result<(), Fail> {
-    generates(&rt, rt.alloc(), &rows::ALL_NULS)
-}
-
-#[test]
-fn rows_with_their_own_fill_value(rt: HostRuntime) -> Result<(), Fail> {
-    generates(&rt, rt.alloc(), &rows::FILLED_ROWS)
-}
-
-#[test]
-fn numbers_with_their_own_fill_value(rt: HostRuntime) -> Result<(), Fail> {
-    generates(&rt, rt.alloc(), &rows::FILLED_SHORTS)
-}
-
-#[test]
-fn names_attributes_and_strings(rt: HostRuntime) -> Result<(), Fail> {
-    generates(&rt, rt.alloc(), &rows::NAMES_AND_STRINGS)
-}
-
-#[test]
-fn unsigned_records(rt: HostRuntime) -> Result<(), Fail> {
-    generates(&rt, rt.alloc(), &rows::UNSIGNED_RECORDS)
-}
-
-#[test]
-fn unsigned_fill_values(rt: HostRuntime) -> Result<(), Fail> {
-    generates(&rt, rt.alloc(), &rows::UNSIGNED_FILLS)
 }

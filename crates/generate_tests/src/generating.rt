@@ -3,14 +3,12 @@
 ghost use Rattle.std.specs.Prelude.{◌≤◌, length};
 ghost use Rattle.cdl_meaning.specs.Meaning.{text_limit};
 
-use crate::rows::Row;
 use nc_base::{Sequence, Version};
 use nc_file::{MemSink, MemSource, Sink};
-use ncdump::{DumpFault, DumpOptions, dump};
+use ncdump::{DumpOptions, dump};
 use ncgen::{GenFault, generate};
 use std::alloc::{AllocError, Global};
 use std::process::Abort;
-use std::test::Fail;
 
 /// The bytes of the text, which fails if it is too long to be generated.
 pub fn short_text<'a>(rt: &impl Abort, text: &'a [u8]) -> &'a [u8]
@@ -26,7 +24,7 @@ pub fn is_same(bytes: &[u8], others: &[u8]) -> bool {
 }
 
 /// The options of a dump of everything with the name `t`, in lines of this width.
-pub fn whole(alloc: Global, width: usize) -> Result<DumpOptions, AllocError> {
+fn whole(alloc: Global, width: usize) -> Result<DumpOptions, AllocError> {
     Ok(DumpOptions {
         file: String::new(alloc),
         name: Sequence::from_vec(Vec::from_slice(alloc, b"t")?),
@@ -56,16 +54,6 @@ pub fn file_of(rt: &impl Abort, alloc: Global, text: &[u8], version: Version) ->
     sink
 }
 
-/// Dumps the source.
-fn dumps(
-    alloc: Global,
-    source: &mut MemSource<'_>,
-    options: &DumpOptions,
-    sink: &mut MemSink,
-) -> Result<(), DumpFault> {
-    dump(alloc, source, options, &mut [0; 16], sink)
-}
-
 /// The dump of everything in the file, in lines of this width.
 pub fn dump_of(
     rt: &impl Abort,
@@ -76,16 +64,7 @@ pub fn dump_of(
     let options = whole(alloc, width)?;
     let mut source = MemSource::new(file);
     let mut sink = MemSink::new(alloc);
-    let answer = dumps(alloc, &mut source, &options, &mut sink);
+    let answer = dump(alloc, &mut source, &options, &mut [0; 16], &mut sink);
     assert!(rt; answer.is_ok());
     Ok(sink)
-}
-
-/// Fails unless the text gives its file, and the file its dump.
-pub fn generates(rt: &impl Abort, alloc: Global, row: &Row<'_>) -> Result<(), Fail> {
-    let file = file_of(rt, alloc, row.cdl, row.version);
-    assert!(rt; is_same(file.as_slice(), row.file));
-    let dump = dump_of(rt, alloc, file.as_slice(), 80)?;
-    assert!(rt; is_same(dump.as_slice(), row.dump));
-    Ok(())
 }

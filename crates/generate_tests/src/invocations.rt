@@ -50,8 +50,9 @@ pub fn ends(rt: &impl Abort, alloc: Global, run: Invocation<'_>, outcome: Outcom
         &mut input,
         &mut err,
     );
-    assert!(rt; status == outcome.status);
-    assert!(rt; err.taken() == outcome.line);
+    let words = run.words;
+    assert!(rt; status == outcome.status, "{words:?}");
+    assert!(rt; err.taken() == outcome.line, "the line of {words:?}");
     holds(rt, &outputs, outcome.made);
 }
 

@@ -8,19 +8,25 @@ use std::alloc::Global;
 use std::process::Abort;
 use std::test::Fail;
 
-/// Fails unless the file of the text begins with these bytes, and goes on. The sink has room for no more.
-fn begins(
-    rt: &impl Abort,
-    alloc: Global,
+/// A text, and how its file in a version begins: its header, and the first of its values.
+#[derive(Clone, Copy)]
+struct Large {
     version: Version,
-    text: &[u8],
-    bytes: &[u8],
-) -> Result<(), Fail> {
+    text: &'static [u8],
+    header: &'static [u8],
+    values: &'static [u8],
+}
+
+/// Fails unless the file of the text begins so, and goes on. The sink has room for no more.
+fn begins(rt: &impl Abort, alloc: Global, row: &Large) -> Result<(), Fail> {
+    let mut bytes = Vec::from_slice(alloc, row.header)?;
+    bytes.extend_from_slice(row.values)?;
     let mut into = Vec::from_elem(alloc, 0, bytes.len())?;
     let mut sink = SliceSink::new(into.as_mut_slice(), 4096);
-    let answer = writes(rt, alloc, version, text, &mut sink);
-    assert!(rt; answer == Err(GenFault::WriteFailed));
-    assert!(rt; sink.taken() == bytes);
+    let answer = writes(rt, alloc, row.version, row.text, &mut sink);
+    let version = row.version;
+    assert!(rt; answer == Err(GenFault::WriteFailed), "{version:?}");
+    assert!(rt; sink.taken() == bytes.as_slice(), "{version:?}");
     Ok(())
 }
 
@@ -35,66 +41,85 @@ const LARGEST: &[u8] = b"CDF\x01\0\0\0\0\
     \0\0\0\0\0\0\0\0\
     \0\0\0\x04\xff\xff\xff\xfc\0\0\0\x50";
 
-#[test]
-fn the_largest_slab_of_32_bits(rt: HostRuntime) -> Result<(), Fail> {
-    const TEXT: &[u8] = b"netcdf t { dimensions: x = 1073741823 ; variables: int v(x) ; }";
-    begins(&rt, rt.alloc(), Version::Cdf1, TEXT, LARGEST)
-}
-
-#[test]
-fn values_that_are_owed(rt: HostRuntime) -> Result<(), Fail> {
-    const TEXT: &[u8] =
-        b"netcdf t { dimensions: x = 1073741823 ; variables: int v(x) ; data: v = 5 ; }";
-    let mut bytes = Vec::from_slice(rt.alloc(), LARGEST)?;
-    bytes.extend_from_slice(b"\0\0\0\x05\x80\0\0\x01\x80\0\0\x01")?;
-    begins(&rt, rt.alloc(), Version::Cdf1, TEXT, bytes.as_slice())
-}
-
 /// `byte b(x, y)` of 2^32 - 1 bytes, which padded are 2^32.
 const PAST_32_BITS: &[u8] =
     b"netcdf t { dimensions: x = 65535, y = 65537 ; variables: byte b(x, y) ; }";
 
-#[test]
-fn a_slab_past_32_bits(rt: HostRuntime) -> Result<(), Fail> {
-    const HEADER: &[u8] = b"CDF\x01\0\0\0\0\
-        \0\0\0\x0a\0\0\0\x02\
-        \0\0\0\x01x\0\0\0\0\0\xff\xff\
-        \0\0\0\x01y\0\0\0\0\x01\0\x01\
-        \0\0\0\0\0\0\0\0\
-        \0\0\0\x0b\0\0\0\x01\
-        \0\0\0\x01b\0\0\0\
-        \0\0\0\x02\0\0\0\0\0\0\0\x01\
-        \0\0\0\0\0\0\0\0\
-        \0\0\0\x01\xff\xff\xff\xff\0\0\0\x60";
-    begins(&rt, rt.alloc(), Version::Cdf1, PAST_32_BITS, HEADER)
-}
+/// Its header in CDF-1.
+const PAST_32_BITS_CDF1: &[u8] = b"CDF\x01\0\0\0\0\
+    \0\0\0\x0a\0\0\0\x02\
+    \0\0\0\x01x\0\0\0\0\0\xff\xff\
+    \0\0\0\x01y\0\0\0\0\x01\0\x01\
+    \0\0\0\0\0\0\0\0\
+    \0\0\0\x0b\0\0\0\x01\
+    \0\0\0\x01b\0\0\0\
+    \0\0\0\x02\0\0\0\0\0\0\0\x01\
+    \0\0\0\0\0\0\0\0\
+    \0\0\0\x01\xff\xff\xff\xff\0\0\0\x60";
+
+/// Its header in CDF-2.
+const PAST_32_BITS_CDF2: &[u8] = b"CDF\x02\0\0\0\0\
+    \0\0\0\x0a\0\0\0\x02\
+    \0\0\0\x01x\0\0\0\0\0\xff\xff\
+    \0\0\0\x01y\0\0\0\0\x01\0\x01\
+    \0\0\0\0\0\0\0\0\
+    \0\0\0\x0b\0\0\0\x01\
+    \0\0\0\x01b\0\0\0\
+    \0\0\0\x02\0\0\0\0\0\0\0\x01\
+    \0\0\0\0\0\0\0\0\
+    \0\0\0\x01\xff\xff\xff\xff\0\0\0\0\0\0\0\x64";
+
+/// Its header in CDF-5.
+const PAST_32_BITS_CDF5: &[u8] = b"CDF\x05\0\0\0\0\0\0\0\0\
+    \0\0\0\x0a\0\0\0\0\0\0\0\x02\
+    \0\0\0\0\0\0\0\x01x\0\0\0\0\0\0\0\0\0\xff\xff\
+    \0\0\0\0\0\0\0\x01y\0\0\0\0\0\0\0\0\x01\0\x01\
+    \0\0\0\0\0\0\0\0\0\0\0\0\
+    \0\0\0\x0b\0\0\0\0\0\0\0\x01\
+    \0\0\0\0\0\0\0\x01b\0\0\0\
+    \0\0\0\0\0\0\0\x02\0\0\0\0\0\0\0\0\0\0\0\0\0\0\0\x01\
+    \0\0\0\0\0\0\0\0\0\0\0\0\
+    \0\0\0\x01\0\0\0\x01\0\0\0\0\0\0\0\0\0\0\0\x9c";
+
+/// The files of these texts.
+const FILES: [Large; 5] = [
+    Large {
+        version: Version::Cdf1,
+        text: b"netcdf t { dimensions: x = 1073741823 ; variables: int v(x) ; }",
+        header: LARGEST,
+        values: b"",
+    },
+    // one value is listed
+    Large {
+        version: Version::Cdf1,
+        text: b"netcdf t { dimensions: x = 1073741823 ; variables: int v(x) ; data: v = 5 ; }",
+        header: LARGEST,
+        values: b"\0\0\0\x05\x80\0\0\x01\x80\0\0\x01",
+    },
+    Large {
+        version: Version::Cdf1,
+        text: PAST_32_BITS,
+        header: PAST_32_BITS_CDF1,
+        values: b"",
+    },
+    Large {
+        version: Version::Cdf2,
+        text: PAST_32_BITS,
+        header: PAST_32_BITS_CDF2,
+        values: b"",
+    },
+    Large {
+        version: Version::Cdf5,
+        text: PAST_32_BITS,
+        header: PAST_32_BITS_CDF5,
+        values: b"",
+    },
+];
 
 #[test]
-fn a_slab_past_32_bits_of_version_2(rt: HostRuntime) -> Result<(), Fail> {
-    const HEADER: &[u8] = b"CDF\x02\0\0\0\0\
-        \0\0\0\x0a\0\0\0\x02\
-        \0\0\0\x01x\0\0\0\0\0\xff\xff\
-        \0\0\0\x01y\0\0\0\0\x01\0\x01\
-        \0\0\0\0\0\0\0\0\
-        \0\0\0\x0b\0\0\0\x01\
-        \0\0\0\x01b\0\0\0\
-        \0\0\0\x02\0\0\0\0\0\0\0\x01\
-        \0\0\0\0\0\0\0\0\
-        \0\0\0\x01\xff\xff\xff\xff\0\0\0\0\0\0\0\x64";
-    begins(&rt, rt.alloc(), Version::Cdf2, PAST_32_BITS, HEADER)
-}
-
-#[test]
-fn a_slab_past_32_bits_of_version_5(rt: HostRuntime) -> Result<(), Fail> {
-    const HEADER: &[u8] = b"CDF\x05\0\0\0\0\0\0\0\0\
-        \0\0\0\x0a\0\0\0\0\0\0\0\x02\
-        \0\0\0\0\0\0\0\x01x\0\0\0\0\0\0\0\0\0\xff\xff\
-        \0\0\0\0\0\0\0\x01y\0\0\0\0\0\0\0\0\x01\0\x01\
-        \0\0\0\0\0\0\0\0\0\0\0\0\
-        \0\0\0\x0b\0\0\0\0\0\0\0\x01\
-        \0\0\0\0\0\0\0\x01b\0\0\0\
-        \0\0\0\0\0\0\0\x02\0\0\0\0\0\0\0\0\0\0\0\0\0\0\0\x01\
-        \0\0\0\0\0\0\0\0\0\0\0\0\
-        \0\0\0\x01\0\0\0\x01\0\0\0\0\0\0\0\0\0\0\0\x9c";
-    begins(&rt, rt.alloc(), Version::Cdf5, PAST_32_BITS, HEADER)
+fn files_of_four_gigabytes(rt: HostRuntime) -> Result<(), Fail> {
+    for row in FILES {
+        begins(&rt, rt.alloc(), &row)?;
+    }
+    Ok(())
 }

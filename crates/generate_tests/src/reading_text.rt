@@ -28,24 +28,16 @@ fn stops<R: Read + Drop>(rt: &impl Abort, alloc: Global, reader: R, max: u32, fa
 }
 
 #[test]
-fn texts_up_to_the_limit(rt: HostRuntime) {
-    reads(&rt, rt.alloc(), b"0123456789".as_slice(), b"0123456789");
-    reads(&rt, rt.alloc(), b"".as_slice(), b"");
-}
-
-#[test]
-fn bytes_past_the_limit(rt: HostRuntime) {
+fn bytes_up_to_the_limit_and_past_it(rt: HostRuntime) {
+    let alloc = rt.alloc();
+    reads(&rt, alloc, b"0123456789".as_slice(), b"0123456789");
+    reads(&rt, alloc, b"".as_slice(), b"");
     let long = b"0123456789a".as_slice();
-    stops(&rt, rt.alloc(), long, 10, TextFault::TooLong);
-    stops(&rt, rt.alloc(), b"a".as_slice(), 0, TextFault::TooLong);
-}
-
-#[test]
-fn steps_of_every_length(rt: HostRuntime) {
-    for step in 1..20 {
-        let reader = FailingReader::new(TEXT, step, 1000);
-        reads(&rt, rt.alloc(), reader, TEXT);
-    }
+    stops(&rt, alloc, long, 10, TextFault::TooLong);
+    stops(&rt, alloc, b"a".as_slice(), 0, TextFault::TooLong);
+    // one byte too many is the last that is read
+    let reader = FailingReader::new(b"0123456789abc", 1, 11);
+    stops(&rt, alloc, reader, 10, TextFault::TooLong);
 }
 
 #[test]
@@ -56,12 +48,11 @@ fn each_read_fails(rt: HostRuntime) {
     }
     let reader = FailingReader::new(b"0123456789", 1, 11);
     reads(&rt, rt.alloc(), reader, b"0123456789");
-}
-
-#[test]
-fn one_byte_too_many_is_the_last_that_is_read(rt: HostRuntime) {
-    let reader = FailingReader::new(b"0123456789abc", 1, 11);
-    stops(&rt, rt.alloc(), reader, 10, TextFault::TooLong);
+    // and none in steps of every length
+    for step in 1..20 {
+        let reader = FailingReader::new(TEXT, step, 1000);
+        reads(&rt, rt.alloc(), reader, TEXT);
+    }
 }
 
 /// A text of 200,000 bytes.

@@ -1,7 +1,7 @@
 //! Whole runs: what is written where, and what is told.
 
 use crate::full_disks::{FullDisk, leaves};
-use crate::invocations::{Invocation, Outcome, ends, makes, refuses, status_of};
+use crate::invocations::{Invocation, Outcome, ends, refuses, status_of};
 use crate::readers::{FailingReader, FailingTexts, WatchedTexts};
 use crate::texts::{FIRST_FILE, REFUSED_TEXT, TEXT};
 use devices::{CountedRead, Listed, ListedFile, MadeFiles, SliceSink, Texts};
@@ -22,31 +22,13 @@ const TEXTS: &[ListedFile<'static>] = &[
     },
 ];
 
-/// A run on these words, with this standard input.
-fn invocation<'a>(words: &'a [&'a str], input: &'a [u8]) -> Invocation<'a> {
-    Invocation {
-        words,
-        texts: TEXTS,
-        input,
-    }
-}
-
-#[test]
-fn checked_texts(rt: HostRuntime) {
-    const SILENT: Outcome<'static> = Outcome {
-        status: 0,
-        line: b"",
-        made: None,
-    };
-    let input = invocation(&["ncgen"], TEXT);
-    ends(&rt, rt.alloc(), input, SILENT);
-    let path = invocation(&["ncgen", "t.cdl"], b"");
-    ends(&rt, rt.alloc(), path, SILENT);
-}
+/// A text that two variables of nearly 2^31 bytes are declared in.
+const FAR_TEXT: &[u8] =
+    b"netcdf t {\ndimensions:\n x = 2147483647 ;\nvariables:\n byte a(x), b(x) ;\n}\n";
 
 #[test]
 fn refused_texts(rt: HostRuntime) {
-    const ROWS: [(&[&str], &[u8], &[u8]); 4] = [
+    const ROWS: [(&[&str], &[u8], &[u8]); 5] = [
         (
             &["ncgen", "-b", "bad.cdl"],
             b"",
@@ -59,26 +41,46 @@ fn refused_texts(rt: HostRuntime) {
         ),
         (&["ncgen"], b"", b"ncgen: -: line 1: syntax\n"),
         (&["ncgen", "no.cdl"], TEXT, b"ncgen: no.cdl: cannot open\n"),
+        (
+            &["ncgen", "-o", "x"],
+            FAR_TEXT,
+            b"ncgen: -: offset too large\n",
+        ),
     ];
     for (words, input, line) in ROWS {
-        refuses(&rt, rt.alloc(), invocation(words, input), line);
+        let run = Invocation {
+            words,
+            texts: TEXTS,
+            input,
+        };
+        refuses(&rt, rt.alloc(), run, line);
     }
 }
 
-/// A text that two variables of nearly 2^31 bytes are declared in.
-const FAR_TEXT: &[u8] =
-    b"netcdf t {\ndimensions:\n x = 2147483647 ;\nvariables:\n byte a(x), b(x) ;\n}\n";
-
 #[test]
-fn values_too_far_from_the_start(rt: HostRuntime) {
-    let run = invocation(&["ncgen", "-o", "x"], FAR_TEXT);
-    refuses(&rt, rt.alloc(), run, b"ncgen: -: offset too large\n");
-}
-
-#[test]
-fn output_in_place_of_the_text(rt: HostRuntime) {
-    let run = invocation(&["ncgen", "-o", "t.cdl", "t.cdl"], b"");
-    makes(&rt, rt.alloc(), run, "t.cdl", FIRST_FILE);
+fn checked_texts_and_an_output_in_place_of_the_text(rt: HostRuntime) {
+    const IN_PLACE: Option<ListedFile<'static>> = Some(ListedFile {
+        path: "t.cdl",
+        bytes: FIRST_FILE,
+    });
+    const ROWS: [(&[&str], &[u8], Option<ListedFile<'static>>); 3] = [
+        (&["ncgen"], TEXT, None),
+        (&["ncgen", "t.cdl"], b"", None),
+        (&["ncgen", "-o", "t.cdl", "t.cdl"], b"", IN_PLACE),
+    ];
+    for (words, input, made) in ROWS {
+        let run = Invocation {
+            words,
+            texts: TEXTS,
+            input,
+        };
+        let outcome = Outcome {
+            status: 0,
+            line: b"",
+            made,
+        };
+        ends(&rt, rt.alloc(), run, outcome);
+    }
 }
 
 /// A run whose text fails to be read ends with this line, and nothing is created.
@@ -100,20 +102,16 @@ fn fails_to_read<T: Texts, R: Read + Drop>(
 }
 
 #[test]
-fn standard_input_that_fails(rt: HostRuntime) {
-    const LINE: &[u8] = b"ncgen: -: read failed\n";
+fn texts_that_fail(rt: HostRuntime) {
+    const OF_INPUT: &[u8] = b"ncgen: -: read failed\n";
+    const OF_PATH: &[u8] = b"ncgen: t.cdl: read failed\n";
     let mut texts = Listed::new(TEXTS);
     let words = ["ncgen", "-o", "x"];
     let reader = FailingReader::new(TEXT, 7, 3);
-    fails_to_read(&rt, rt.alloc(), &mut texts, &words, reader, LINE);
-}
-
-#[test]
-fn path_that_fails(rt: HostRuntime) {
-    const LINE: &[u8] = b"ncgen: t.cdl: read failed\n";
+    fails_to_read(&rt, rt.alloc(), &mut texts, &words, reader, OF_INPUT);
     let mut texts = FailingTexts::new(TEXT, 7, 3);
     let words = ["ncgen", "-b", "t.cdl"];
-    fails_to_read(&rt, rt.alloc(), &mut texts, &words, TEXT, LINE);
+    fails_to_read(&rt, rt.alloc(), &mut texts, &words, TEXT, OF_PATH);
 }
 
 /// One byte more than a text may have.
@@ -164,12 +162,8 @@ fn disk_of_every_size(rt: HostRuntime) {
     }
     let disk = FullDisk::new(rt.alloc(), 1, FIRST_FILE.len());
     leaves(&rt, rt.alloc(), disk, b"", FIRST_FILE);
-}
-
-#[test]
-fn output_that_is_not_created(rt: HostRuntime) {
-    let disk = FullDisk::new(rt.alloc(), 0, FIRST_FILE.len());
-    leaves(&rt, rt.alloc(), disk, b"ncgen: t.nc: cannot open\n", b"");
+    let none = FullDisk::new(rt.alloc(), 0, FIRST_FILE.len());
+    leaves(&rt, rt.alloc(), none, b"ncgen: t.nc: cannot open\n", b"");
 }
 
 #[test]
