@@ -3,8 +3,6 @@
 use crate::parsing::{NOTHING, PLAIN, Wanted, WantedVar, give, parsed, refuses};
 use cdl_parse::CdlKind;
 use nc_base::{NcType, Version};
-use std::alloc::Global;
-use std::process::Abort;
 use std::test::*;
 
 /// A text of one variable of three shorts, over seven lines.
@@ -32,47 +30,28 @@ fn line_feeds(bytes: &[u8]) -> u64 {
     bytes.iter().filter(|byte| **byte == b'\n').count() as u64
 }
 
-/// The fault of a prefix of this length.
-fn fault_of_prefix(len: usize) -> CdlKind {
-    match len {
-        7..=9 => CdlKind::BadToken,
-        _ => CdlKind::Syntax,
-    }
-}
-
-/// Fails unless the prefix has its fault in its last line.
-fn refuses_prefix(rt: &impl Abort, alloc: Global, prefix: &[u8]) {
-    let line = line_feeds(prefix).saturating_add(1);
-    let kind = fault_of_prefix(prefix.len());
-    refuses(rt, alloc, Version::Cdf1, prefix, line, kind);
-}
-
 #[test]
-fn each_prefix_of_a_text(rt: HostRuntime) {
+fn each_prefix_and_each_suffix_of_a_text(rt: HostRuntime) {
     assert!(rt; THREE_SHORTS.len() == 80);
     for len in 0..79 {
-        refuses_prefix(&rt, rt.alloc(), &THREE_SHORTS[..len]);
+        let prefix = &THREE_SHORTS[..len];
+        let line = line_feeds(prefix).saturating_add(1);
+        let kind = match len {
+            7..=9 => CdlKind::BadToken,
+            _ => CdlKind::Syntax,
+        };
+        refuses(&rt, rt.alloc(), Version::Cdf1, prefix, line, kind);
     }
     // all but the line feed at the end
     assert!(rt; parsed(rt.alloc(), Version::Cdf1, &THREE_SHORTS[..79]).is_ok());
     assert!(rt; line_feeds(THREE_SHORTS) == 8);
-}
-
-/// Fails unless the suffix from this offset on has its fault in its first statement.
-fn refuses_suffix(rt: &impl Abort, alloc: Global, first: usize, suffix: &[u8]) {
-    let kind = if first < 10 {
-        CdlKind::BadToken
-    } else {
-        CdlKind::Syntax
-    };
-    let line = if suffix.starts_with(b"\n") { 2 } else { 1 };
-    refuses(rt, alloc, Version::Cdf1, suffix, line, kind);
-}
-
-#[test]
-fn each_suffix_of_a_text(rt: HostRuntime) {
-    assert!(rt; THREE_SHORTS.len() == 80);
     for first in 1..80 {
-        refuses_suffix(&rt, rt.alloc(), first, &THREE_SHORTS[first..]);
+        let suffix = &THREE_SHORTS[first..];
+        let line = if suffix.starts_with(b"\n") { 2 } else { 1 };
+        let kind = match first {
+            1..=9 => CdlKind::BadToken,
+            _ => CdlKind::Syntax,
+        };
+        refuses(&rt, rt.alloc(), Version::Cdf1, suffix, line, kind);
     }
 }

@@ -310,3 +310,13 @@ pub fn zeros(count: usize) -> &'static [u8] {
 pub fn nines(count: usize) -> &'static [u8] {
     NINES.get(..count).unwrap_or(NINES)
 }
+
+/// The numbers at the ends of the range, with their bytes, and the two past them.
+pub fn ends_of(range: &Range) -> [(Number, Option<&'static [u8]>); 4] {
+    [
+        (range.low, Some(range.low_bytes)),
+        (range.high, Some(range.high_bytes)),
+        (range.below, None),
+        (range.above, None),
+    ]
+}

@@ -7,16 +7,8 @@ use std::alloc::Global;
 use std::process::Abort;
 use std::test::*;
 
-/// Fails unless the text has this fault, or gives a dataset in which nothing is declared.
-fn answers(rt: &impl Abort, alloc: Global, text: &[u8], line: u64, want: Option<CdlKind>) {
-    match want {
-        Some(kind) => refuses(rt, alloc, Version::Cdf1, text, line, kind),
-        None => gives(rt, alloc, Version::Cdf1, text, &NOTHING),
-    }
-}
-
-/// The same of the parts, one after the other.
-fn answers_parts(
+/// Fails unless the text of these parts has this fault, or gives a dataset in which nothing is declared.
+fn answers(
     rt: &impl Abort,
     alloc: Global,
     parts: &[&[u8]],
@@ -24,7 +16,11 @@ fn answers_parts(
     want: Option<CdlKind>,
 ) -> Result<(), Fail> {
     let text = joined(alloc, parts)?;
-    answers(rt, alloc, text.as_slice(), line, want);
+    let text = text.as_slice();
+    match want {
+        Some(kind) => refuses(rt, alloc, Version::Cdf1, text, line, kind),
+        None => gives(rt, alloc, Version::Cdf1, text, &NOTHING),
+    }
     Ok(())
 }
 
@@ -48,23 +44,6 @@ fn fault_alone(byte: u8) -> CdlKind {
     }
 }
 
-#[test]
-fn each_byte_alone(rt: HostRuntime) {
-    for byte in 0..=255u8 {
-        let line = if byte == b'\n' { 2 } else { 1 };
-        answers(&rt, rt.alloc(), &[byte], line, Some(fault_alone(byte)));
-    }
-}
-
-#[test]
-fn each_byte_between_braces(rt: HostRuntime) -> Result<(), Fail> {
-    for byte in 0..=255u8 {
-        let want = fault_within(byte);
-        answers_parts(&rt, rt.alloc(), &[b"netcdf t {", &[byte], b"}"], 1, want)?;
-    }
-    Ok(())
-}
-
 /// The fault of a byte between line feeds between the braces of a text; none for a blank.
 fn fault_on_a_line(byte: u8) -> Option<CdlKind> {
     match byte {
@@ -83,34 +62,6 @@ fn line_of_fault(byte: u8) -> u64 {
     }
 }
 
-#[test]
-fn each_byte_on_a_line(rt: HostRuntime) -> Result<(), Fail> {
-    for byte in 0..=255u8 {
-        let (line, want) = (line_of_fault(byte), fault_on_a_line(byte));
-        answers_parts(
-            &rt,
-            rt.alloc(),
-            &[b"netcdf t {\n", &[byte], b"\n}"],
-            line,
-            want,
-        )?;
-    }
-    Ok(())
-}
-
-#[test]
-fn each_byte_in_the_name_of_a_text(rt: HostRuntime) -> Result<(), Fail> {
-    for byte in 0..=255u8 {
-        let want = if byte == b'{' {
-            Some(CdlKind::BadToken)
-        } else {
-            None
-        };
-        answers_parts(&rt, rt.alloc(), &[b"netcdf ", &[byte], b"t\n{}"], 1, want)?;
-    }
-    Ok(())
-}
-
 /// The fault of a byte between the first word and the braces of a text; none for a blank.
 fn fault_before_braces(byte: u8) -> Option<CdlKind> {
     match byte {
@@ -121,11 +72,27 @@ fn fault_before_braces(byte: u8) -> Option<CdlKind> {
     }
 }
 
+/// Fails unless texts with this byte have their faults.
+fn answers_byte(rt: &impl Abort, alloc: Global, byte: u8) -> Result<(), Fail> {
+    let line = if byte == b'\n' { 2 } else { 1 };
+    answers(rt, alloc, &[&[byte]], line, Some(fault_alone(byte)))?;
+    let within = fault_within(byte);
+    answers(rt, alloc, &[b"netcdf t {", &[byte], b"}"], 1, within)?;
+    let (line, want) = (line_of_fault(byte), fault_on_a_line(byte));
+    answers(rt, alloc, &[b"netcdf t {\n", &[byte], b"\n}"], line, want)?;
+    let in_name = match byte {
+        b'{' => Some(CdlKind::BadToken),
+        _ => None,
+    };
+    answers(rt, alloc, &[b"netcdf ", &[byte], b"t\n{}"], 1, in_name)?;
+    let before = fault_before_braces(byte);
+    answers(rt, alloc, &[b"netcdf", &[byte], b"{}"], 1, before)
+}
+
 #[test]
-fn each_byte_before_the_braces(rt: HostRuntime) -> Result<(), Fail> {
+fn each_byte_in_a_text(rt: HostRuntime) -> Result<(), Fail> {
     for byte in 0..=255u8 {
-        let want = fault_before_braces(byte);
-        answers_parts(&rt, rt.alloc(), &[b"netcdf", &[byte], b"{}"], 1, want)?;
+        answers_byte(&rt, rt.alloc(), byte)?;
     }
     Ok(())
 }

@@ -33,21 +33,8 @@ fn is_length(
     Ok(())
 }
 
-/// Fails unless the number, after these zeros, is a length of a dimension in octal and in hexadecimal, or is out of the range of
+/// Fails unless the number, in each base, after each number of zeros, is a length of a dimension, or is out of the range of
 /// lengths.
-fn is_length_after(
-    rt: &impl Abort,
-    alloc: Global,
-    version: Version,
-    number: &Number,
-    zeros: &[u8],
-    want: Result<u64, CdlKind>,
-) -> Result<(), Fail> {
-    is_length(rt, alloc, version, (b"0", zeros, number.octal), want)?;
-    is_length(rt, alloc, version, (b"0X", zeros, number.hexadecimal), want)
-}
-
-/// The same after each number of zeros, and in decimal.
 fn is_length_after_zeros(
     rt: &impl Abort,
     alloc: Global,
@@ -56,7 +43,9 @@ fn is_length_after_zeros(
     want: Result<u64, CdlKind>,
 ) -> Result<(), Fail> {
     for count in COUNTS {
-        is_length_after(rt, alloc, version, number, zeros(count), want)?;
+        let hexadecimal = (b"0X".as_slice(), zeros(count), number.hexadecimal);
+        is_length(rt, alloc, version, (b"0", zeros(count), number.octal), want)?;
+        is_length(rt, alloc, version, hexadecimal, want)?;
     }
     is_length(rt, alloc, version, (b"", b"", number.decimal), want)
 }
@@ -101,59 +90,24 @@ const FIRST_OF_64_BITS: Number = Number {
     hexadecimal: b"8000000000000000",
 };
 
-/// Fails unless each of the numbers is a length of the version, or has its fault.
-fn are_lengths(
-    rt: &impl Abort,
-    alloc: Global,
-    version: Version,
-    rows: &[(Number, Result<u64, CdlKind>)],
-) -> Result<(), Fail> {
-    for (number, want) in rows {
-        is_length_after_zeros(rt, alloc, version, number, *want)?;
-    }
-    Ok(())
-}
-
-#[test]
-fn length_0_after_zeros(rt: HostRuntime) -> Result<(), Fail> {
-    const ROWS: &[(Number, Result<u64, CdlKind>)] = &[(ZERO, Err(CdlKind::ZeroDimension))];
-    for version in VERSIONS {
-        are_lengths(&rt, rt.alloc(), version, ROWS)?;
-    }
-    Ok(())
-}
+/// Numbers in a version, each with the length that it is, or its fault.
+const LENGTHS: [(Version, Number, Result<u64, CdlKind>); 10] = [
+    (Version::Cdf1, ZERO, Err(CdlKind::ZeroDimension)),
+    (Version::Cdf2, ZERO, Err(CdlKind::ZeroDimension)),
+    (Version::Cdf5, ZERO, Err(CdlKind::ZeroDimension)),
+    (Version::Cdf1, LAST_OF_31_BITS, Ok(2147483647)),
+    (Version::Cdf2, LAST_OF_31_BITS, Ok(2147483647)),
+    (Version::Cdf1, FIRST_OF_32_BITS, Err(CdlKind::NumberRange)),
+    (Version::Cdf2, FIRST_OF_32_BITS, Err(CdlKind::NumberRange)),
+    (Version::Cdf5, FIRST_OF_32_BITS, Ok(2147483648)),
+    (Version::Cdf5, LAST_OF_63_BITS, Ok(9223372036854775807)),
+    (Version::Cdf5, FIRST_OF_64_BITS, Err(CdlKind::NumberRange)),
+];
 
 #[test]
 fn ends_of_lengths(rt: HostRuntime) -> Result<(), Fail> {
-    const ROWS: &[(Number, Result<u64, CdlKind>)] = &[
-        (LAST_OF_31_BITS, Ok(2147483647)),
-        (FIRST_OF_32_BITS, Err(CdlKind::NumberRange)),
-    ];
-    for version in [Version::Cdf1, Version::Cdf2] {
-        are_lengths(&rt, rt.alloc(), version, ROWS)?;
-    }
-    Ok(())
-}
-
-#[test]
-fn ends_of_lengths_of_cdf5(rt: HostRuntime) -> Result<(), Fail> {
-    const ROWS: &[(Number, Result<u64, CdlKind>)] = &[
-        (FIRST_OF_32_BITS, Ok(2147483648)),
-        (LAST_OF_63_BITS, Ok(9223372036854775807)),
-        (FIRST_OF_64_BITS, Err(CdlKind::NumberRange)),
-    ];
-    are_lengths(&rt, rt.alloc(), Version::Cdf5, ROWS)
-}
-
-/// Fails unless each of the numbers is a length of the version, or has its fault.
-fn are_written_lengths(
-    rt: &impl Abort,
-    alloc: Global,
-    version: Version,
-    rows: &[(&[u8], Result<u64, CdlKind>)],
-) -> Result<(), Fail> {
-    for (digits, want) in rows {
-        is_length(rt, alloc, version, (b"", b"", *digits), *want)?;
+    for (version, number, want) in LENGTHS {
+        is_length_after_zeros(&rt, rt.alloc(), version, &number, want)?;
     }
     Ok(())
 }
@@ -176,7 +130,9 @@ fn lengths_have_signs_and_suffixes(rt: HostRuntime) -> Result<(), Fail> {
         (b"08", Err(CdlKind::BadNumber)),
     ];
     for version in VERSIONS {
-        are_written_lengths(&rt, rt.alloc(), version, ROWS)?;
+        for (digits, want) in ROWS {
+            is_length(&rt, rt.alloc(), version, (b"", b"", *digits), *want)?;
+        }
     }
     Ok(())
 }

@@ -3,8 +3,8 @@
 use crate::parsing::{
     VERSIONS, fault_unfilled, gives_dimension, gives_variable, joined, parsed, refuses,
 };
-use cdl_parse::{CdlKind, Declared, declared};
-use nc_base::{ListedArray, NcType, NumRecs, Version};
+use cdl_parse::{CdlKind, declared};
+use nc_base::{NcType, NumRecs, Version};
 use std::alloc::{AllocError, Global};
 use std::process::Abort;
 use std::test::*;
@@ -56,60 +56,45 @@ fn is_of_cdf5(
     Ok(())
 }
 
-/// What the text declares, or none.
-fn declared_in(alloc: Global, text: &[u8]) -> Option<Declared> {
-    declared(alloc, text, Version::Cdf1).ok()
-}
-
-/// Fails unless the array has these bytes.
-fn expect_array(rt: &impl Abort, alloc: Global, array: ListedArray, want: &[u8]) {
-    match array.into_bytes(alloc, 0) {
-        Ok(bytes) => assert!(rt; bytes.as_slice() == want),
-        Err(_) => assert!(rt; false),
-    }
-}
-
-/// Fails unless the last of these arrays has these bytes.
-fn expect_last(rt: &impl Abort, alloc: Global, arrays: &mut Vec<ListedArray>, want: &[u8]) {
-    match arrays.pop() {
-        Some(array) => expect_array(rt, alloc, array, want),
-        None => assert!(rt; false),
-    }
-}
-
 #[test]
-fn missing_values_are_not_declared(rt: HostRuntime) {
+fn missing_values_are_not_declared(rt: HostRuntime) -> Result<(), Fail> {
     const TEXT: &[u8] =
         b"netcdf t { dimensions: t = UNLIMITED, x = 2147483647 ; variables: short a(x), b(t, x), c(t) ; \
         data: b = 1 ; c = 2, 3 ; }";
-    match declared_in(rt.alloc(), TEXT) {
-        Some(declared) => {
-            assert!(rt; declared.header.numrecs == NumRecs::Known(2));
-            let mut arrays = declared.listed.into_vec();
-            expect_last(&rt, rt.alloc(), &mut arrays, b"\0\x02\0\x03");
-            expect_last(&rt, rt.alloc(), &mut arrays, b"\0\x01");
-            expect_last(&rt, rt.alloc(), &mut arrays, b"");
-            assert!(rt; arrays.is_empty());
+    const WANT: [&[u8]; 3] = [b"", b"\0\x01", b"\0\x02\0\x03"];
+    match declared(rt.alloc(), TEXT, Version::Cdf1) {
+        Ok(found) => {
+            assert!(rt; found.header.numrecs == NumRecs::Known(2));
+            assert!(rt; found.listed.len() == 3);
+            for (array, want) in found.listed.into_vec().into_iter().zip(WANT) {
+                assert_eq!(rt; array.into_bytes(rt.alloc(), 0)?.as_slice(), want);
+            }
         }
-        None => assert!(rt; false),
+        Err(fault) => assert!(rt; false, "{fault:?}"),
     }
+    Ok(())
 }
 
-/// Fails unless the text is declared, but its values are more than memory can have.
-fn is_too_long_for_memory(rt: &impl Abort, alloc: Global, text: &[u8]) {
-    assert!(rt; fault_unfilled(alloc, Version::Cdf1, text).is_none());
-    refuses(rt, alloc, Version::Cdf1, text, 0, CdlKind::OutOfMemory);
-}
-
+/// Values that are declared, but are more than memory can have; and none, where there are no records.
 #[test]
 fn arrays_at_their_limit(rt: HostRuntime) {
-    const FIXED: &[u8] = b"netcdf t { dimensions: x = 16777216 ; variables: byte b(x, x) ; }";
-    const RECORDS: &[u8] =
-        b"netcdf t { dimensions: t = UNLIMITED, x = 16777216 ; variables: byte b(t, x, x), c(t) ; data: c = 1 ; }";
+    const TOO_LONG: [&[u8]; 2] = [
+        b"netcdf t { dimensions: x = 16777216 ; variables: byte b(x, x) ; }",
+        b"netcdf t { dimensions: t = UNLIMITED, x = 16777216 ; variables: byte b(t, x, x), c(t) ; data: c = 1 ; }",
+    ];
     const NO_RECORDS: &[u8] =
         b"netcdf t { dimensions: t = UNLIMITED, x = 16777216 ; variables: byte b(t, x, x), c(t) ; }";
-    is_too_long_for_memory(&rt, rt.alloc(), FIXED);
-    is_too_long_for_memory(&rt, rt.alloc(), RECORDS);
+    for text in TOO_LONG {
+        assert!(rt; fault_unfilled(rt.alloc(), Version::Cdf1, text).is_none());
+        refuses(
+            &rt,
+            rt.alloc(),
+            Version::Cdf1,
+            text,
+            0,
+            CdlKind::OutOfMemory,
+        );
+    }
     assert!(rt; parsed(rt.alloc(), Version::Cdf1, NO_RECORDS).is_ok());
 }
 
@@ -139,17 +124,13 @@ fn records_at_their_limit(rt: HostRuntime) -> Result<(), Fail> {
     Ok(())
 }
 
-/// Fails unless a dimension of this name and of length 3 is declared.
-fn declares(rt: &impl Abort, alloc: Global, name: &[u8]) -> Result<(), Fail> {
-    let text = joined(alloc, &[b"netcdf t { dimensions: ", name, b" = 3 ; }"])?;
-    for version in VERSIONS {
-        gives_dimension(rt, alloc, version, text.as_slice(), name, 3);
-    }
-    Ok(())
-}
-
 #[test]
 fn a_long_name(rt: HostRuntime) -> Result<(), Fail> {
     let name = Vec::from_elem(rt.alloc(), b'n', 65536)?;
-    declares(&rt, rt.alloc(), name.as_slice())
+    let name = name.as_slice();
+    let text = joined(rt.alloc(), &[b"netcdf t { dimensions: ", name, b" = 3 ; }"])?;
+    for version in VERSIONS {
+        gives_dimension(&rt, rt.alloc(), version, text.as_slice(), name, 3);
+    }
+    Ok(())
 }

@@ -1,11 +1,10 @@
 //! Lists of numbers and of rows: of each length up to one past a variable's, with blanks, signs, escapes and other values among them,
 //! and with a fault.
 
-use crate::fault_order::{GOOD, Row, Sections, refuse_values};
-use crate::number_ranges::{Number, RANGES, Range};
-use crate::parsing::{VERSIONS, joined, parsed, refuses, refuses_in_all};
+use crate::number_ranges::{Number, RANGES, ends_of};
+use crate::parsing::{Group, VERSIONS, joined, parsed, refuse_groups, refuses, refuses_in_all};
 use cdl_parse::{CdlFault, CdlKind};
-use nc_base::{Dataset, Version};
+use nc_base::Version;
 use std::alloc::{AllocError, Global};
 use std::process::Abort;
 use std::test::*;
@@ -13,16 +12,13 @@ use std::test::*;
 /// Fails unless the text gives one variable with these values.
 fn has_values(rt: &impl Abort, alloc: Global, version: Version, text: &[u8], want: &[u8]) {
     match parsed(alloc, version, text) {
-        Ok(dataset) => are_values(rt, &dataset, want),
+        Ok(dataset) => {
+            assert!(rt; dataset.arrays.len() == 1);
+            for array in dataset.arrays.as_slice() {
+                assert!(rt; array.as_slice() == want, "{want:?}");
+            }
+        }
         Err(fault) => assert!(rt; false, "{fault:?}: {text:?}"),
-    }
-}
-
-/// Fails unless the dataset has one variable with these values.
-fn are_values(rt: &impl Abort, dataset: &Dataset, want: &[u8]) {
-    assert!(rt; dataset.arrays.len() == 1);
-    for array in dataset.arrays.as_slice() {
-        assert!(rt; array.as_slice() == want, "{want:?}");
     }
 }
 
@@ -33,57 +29,93 @@ fn have_values(rt: &impl Abort, alloc: Global, text: &[u8], want: &[u8]) {
     }
 }
 
-/// Fails unless a variable of six bytes has these values.
-fn are_six(rt: &impl Abort, alloc: Global, values: &[u8], want: &[u8]) -> Result<(), Fail> {
-    let parts: [&[u8]; 3] = [
-        b"netcdf t {\ndimensions: x = 6 ;\nvariables: byte b(x) ;\ndata: b = ",
-        values,
-        b" ;\n}\n",
-    ];
-    let text = joined(alloc, &parts)?;
-    have_values(rt, alloc, text.as_slice(), want);
-    Ok(())
-}
+/// A text up to the values of its variable, written values, and the values that the variable has then.
+type List = (&'static [u8], &'static [u8], &'static [u8]);
+
+/// The text of six bytes, and of four rows of three characters.
+const SIX: &[u8] = b"netcdf t {\ndimensions: x = 6 ;\nvariables: byte b(x) ;\ndata: b = ";
+
+const ROWS: &[u8] =
+    b"netcdf t {\ndimensions: r = 4, x = 3 ;\nvariables: char c(r, x) ;\ndata: c = ";
+
+/// Lists with the values that they give.
+const LISTS: &[List] = &[
+    // missing values are -127
+    (SIX, b"1", b"\x01\x81\x81\x81\x81\x81"),
+    (SIX, b"1, 2", b"\x01\x02\x81\x81\x81\x81"),
+    (SIX, b"1, 2, 3", b"\x01\x02\x03\x81\x81\x81"),
+    (SIX, b"1, 2, 3, 4", b"\x01\x02\x03\x04\x81\x81"),
+    (SIX, b"1, 2, 3, 4, 5, 6", b"\x01\x02\x03\x04\x05\x06"),
+    (SIX, b"1,2,3,4,5,6", b"\x01\x02\x03\x04\x05\x06"),
+    (SIX, b"1 ,2  ,3 ,  4  ,  5 ,6", b"\x01\x02\x03\x04\x05\x06"),
+    (
+        SIX,
+        b"1\n,\n2\n\n,3\t,\r\n4\x0b,\x0c5\n ,\n 6",
+        b"\x01\x02\x03\x04\x05\x06",
+    ),
+    (SIX, b"1, -2, +3, -0, +0, 6", b"\x01\xfe\x03\0\0\x06"),
+    (
+        SIX,
+        b"1, 127, -128, 100, -99, 6",
+        b"\x01\x7f\x80\x64\x9d\x06",
+    ),
+    (SIX, b"1, 010, 2, -010, 3, 00", b"\x01\x08\x02\xf8\x03\0"),
+    (SIX, b"1,010,2,3", b"\x01\x08\x02\x03\x81\x81"),
+    (SIX, b"1, 0x10, 2, -0X1f, 3, 0x0", b"\x01\x10\x02\xe1\x03\0"),
+    (SIX, b"1, 2b, 3, 4s, 5, 6L", b"\x01\x02\x03\x04\x05\x06"),
+    (SIX, b"1, 2, _, 4, _, 6", b"\x01\x02\x81\x04\x81\x06"),
+    (
+        SIX,
+        b"1, 2, // 3,\n 4, 5 // 6\n, 7",
+        b"\x01\x02\x04\x05\x07\x81",
+    ),
+    (SIX, b"1//,\n, 2 // 3\n, 4, 5", b"\x01\x02\x04\x05\x81\x81"),
+    (ROWS, b"\"\"", b"\0\0\0\0\0\0\0\0\0\0\0\0"),
+    (ROWS, b"\"a\", \"bc\"", b"a\0\0bc\0\0\0\0\0\0\0"),
+    (ROWS, b"\"abc\",\"def\",\"ghi\",\"jkl\"", b"abcdefghijkl"),
+    (
+        ROWS,
+        b"\"abc\"\n,\t\"de\" ,\n\n  \"\", \"f\"",
+        b"abcde\0\0\0\0f\0\0",
+    ),
+    (
+        ROWS,
+        b"\"a\", \"\\n\\x41\", \"b\", \"\\\"\\\\\"",
+        b"a\0\0\nA\0b\0\0\"\\\0",
+    ),
+    (
+        ROWS,
+        b"\"a\", \"b\nc\", \"d\", \"e\"",
+        b"a\0\0b\ncd\0\0e\0\0",
+    ),
+    (
+        ROWS,
+        b"\"a\", \"\\t\", \"b\", \"c\"",
+        b"a\0\0\t\0\0b\0\0c\0\0",
+    ),
+    (
+        ROWS,
+        b"\"a\", // \"b\", \"long\",\n \"c\" // \"d\"\n, \"e\"",
+        b"a\0\0c\0\0e\0\0\0\0\0",
+    ),
+    (ROWS, b"\"'\", \"//\", \",;}\", \"_\"", b"'\0\0//\0,;}_\0\0"),
+];
 
 #[test]
 fn lists_have_their_values(rt: HostRuntime) -> Result<(), Fail> {
-    const ROWS: &[(&[u8], &[u8])] = &[
-        // missing values are -127
-        (b"1", b"\x01\x81\x81\x81\x81\x81"),
-        (b"1, 2", b"\x01\x02\x81\x81\x81\x81"),
-        (b"1, 2, 3", b"\x01\x02\x03\x81\x81\x81"),
-        (b"1, 2, 3, 4", b"\x01\x02\x03\x04\x81\x81"),
-        (b"1, 2, 3, 4, 5, 6", b"\x01\x02\x03\x04\x05\x06"),
-        (b"1,2,3,4,5,6", b"\x01\x02\x03\x04\x05\x06"),
-        (b"1 ,2  ,3 ,  4  ,  5 ,6", b"\x01\x02\x03\x04\x05\x06"),
-        (
-            b"1\n,\n2\n\n,3\t,\r\n4\x0b,\x0c5\n ,\n 6",
-            b"\x01\x02\x03\x04\x05\x06",
-        ),
-        (b"1, -2, +3, -0, +0, 6", b"\x01\xfe\x03\0\0\x06"),
-        (b"1, 127, -128, 100, -99, 6", b"\x01\x7f\x80\x64\x9d\x06"),
-        (b"1, 010, 2, -010, 3, 00", b"\x01\x08\x02\xf8\x03\0"),
-        (b"1,010,2,3", b"\x01\x08\x02\x03\x81\x81"),
-        (b"1, 0x10, 2, -0X1f, 3, 0x0", b"\x01\x10\x02\xe1\x03\0"),
-        (b"1, 2b, 3, 4s, 5, 6L", b"\x01\x02\x03\x04\x05\x06"),
-        (b"1, 2, _, 4, _, 6", b"\x01\x02\x81\x04\x81\x06"),
-        (b"1, 2, // 3,\n 4, 5 // 6\n, 7", b"\x01\x02\x04\x05\x07\x81"),
-        (b"1//,\n, 2 // 3\n, 4, 5", b"\x01\x02\x04\x05\x81\x81"),
-    ];
-    for (values, want) in ROWS {
-        are_six(&rt, rt.alloc(), *values, *want)?;
+    for (before, values, want) in LISTS {
+        let text = joined(rt.alloc(), &[*before, *values, b" ;\n}\n"])?;
+        have_values(&rt, rt.alloc(), text.as_slice(), *want);
     }
     Ok(())
 }
 
-#[test]
-fn faults_in_lists(rt: HostRuntime) -> Result<(), Fail> {
-    const SIX: Sections = Sections {
-        dims: "x = 6, t = UNLIMITED, r = 4, y = 3 ;",
-        vars: "byte b(x) ; char c(x) ; byte r(t) ; char m(r, y) ;",
-        ..GOOD
-    };
-    const ROWS: &[Row] = &[
+/// Lists with a fault, on line 4 but for the last row.
+const FAULTS: Group = Group {
+    about: "lists",
+    before: "netcdf t {\ndimensions: x = 6, t = UNLIMITED, r = 4, y = 3 ;\nvariables: byte b(x) ; char c(x) ; byte r(t) ; char m(r, y) ;\ndata: ",
+    after: "\n}\n",
+    rows: &[
         ("b = 1, 2, 3, 4, 5, 6, 7 ;", 4, CdlKind::TooManyValues),
         ("b = 1, 2, 3, 4, 5, 6, 7, 8 ;", 4, CdlKind::TooManyValues),
         ("b = 1,\n2,\n3, 4, 5, 6, 7, 8 ;", 4, CdlKind::TooManyValues),
@@ -137,48 +169,12 @@ fn faults_in_lists(rt: HostRuntime) -> Result<(), Fail> {
             8,
             CdlKind::NumberRange,
         ),
-    ];
-    refuse_values(&rt, rt.alloc(), SIX, ROWS)
-}
-
-/// Fails unless a variable of four rows of three characters has these values.
-fn are_rows(rt: &impl Abort, alloc: Global, values: &[u8], want: &[u8]) -> Result<(), Fail> {
-    let parts: [&[u8]; 3] = [
-        b"netcdf t {\ndimensions: r = 4, x = 3 ;\nvariables: char c(r, x) ;\ndata: c = ",
-        values,
-        b" ;\n}\n",
-    ];
-    let text = joined(alloc, &parts)?;
-    have_values(rt, alloc, text.as_slice(), want);
-    Ok(())
-}
+    ],
+};
 
 #[test]
-fn rows_have_their_values(rt: HostRuntime) -> Result<(), Fail> {
-    const ROWS: &[(&[u8], &[u8])] = &[
-        (b"\"\"", b"\0\0\0\0\0\0\0\0\0\0\0\0"),
-        (b"\"a\", \"bc\"", b"a\0\0bc\0\0\0\0\0\0\0"),
-        (b"\"abc\",\"def\",\"ghi\",\"jkl\"", b"abcdefghijkl"),
-        (
-            b"\"abc\"\n,\t\"de\" ,\n\n  \"\", \"f\"",
-            b"abcde\0\0\0\0f\0\0",
-        ),
-        (
-            b"\"a\", \"\\n\\x41\", \"b\", \"\\\"\\\\\"",
-            b"a\0\0\nA\0b\0\0\"\\\0",
-        ),
-        (b"\"a\", \"b\nc\", \"d\", \"e\"", b"a\0\0b\ncd\0\0e\0\0"),
-        (b"\"a\", \"\\t\", \"b\", \"c\"", b"a\0\0\t\0\0b\0\0c\0\0"),
-        (
-            b"\"a\", // \"b\", \"long\",\n \"c\" // \"d\"\n, \"e\"",
-            b"a\0\0c\0\0e\0\0\0\0\0",
-        ),
-        (b"\"'\", \"//\", \",;}\", \"_\"", b"'\0\0//\0,;}_\0\0"),
-    ];
-    for (values, want) in ROWS {
-        are_rows(&rt, rt.alloc(), *values, *want)?;
-    }
-    Ok(())
+fn faults_in_lists(rt: HostRuntime) -> Result<(), Fail> {
+    refuse_groups(&rt, rt.alloc(), &[FAULTS])
 }
 
 /// A text with three rows of these letters, after the second of which these escapes stand.
@@ -205,7 +201,7 @@ fn is_read(rt: &impl Abort, alloc: Global, len: usize) -> Result<(), Fail> {
     let letters = Vec::from_elem(alloc, b'a', len.min(200))?;
     let padding = Vec::from_elem(alloc, 0u8, 202 - letters.len())?;
     let bad = with_escapes(alloc, letters.as_slice(), b"\\n\\x")?;
-    refuses_in_all(rt, alloc, bad.as_slice(), BAD);
+    refuses_in_all(rt, alloc, "a bad escape", bad.as_slice(), BAD);
     let text = with_escapes(alloc, letters.as_slice(), b"\\n\\\"")?;
     let rows: [&[u8]; 7] = [
         letters.as_slice(),
@@ -256,7 +252,8 @@ fn refuses_after_lines(
         b" ;\n}\n",
     ];
     let text = joined(alloc, &parts)?;
-    refuses_in_all(rt, alloc, text.as_slice(), CdlFault { line: 40006, kind });
+    let want = CdlFault { line: 40006, kind };
+    refuses_in_all(rt, alloc, "a fault after lines", text.as_slice(), want);
     Ok(())
 }
 
@@ -309,39 +306,16 @@ fn is_listed(
     Ok(())
 }
 
-/// Fails unless the ends of the range have their bytes between others of a list, and the numbers past them are out of the range.
-fn are_listed(rt: &impl Abort, alloc: Global, version: Version, range: &Range) -> Result<(), Fail> {
-    let rows = [
-        (range.low, Some(range.low_bytes)),
-        (range.high, Some(range.high_bytes)),
-        (range.below, None),
-        (range.above, None),
-    ];
-    for (number, want) in rows {
-        is_listed(rt, alloc, version, range.word, number, want)?;
-    }
-    Ok(())
-}
-
-/// The same of the ranges that the version has.
-fn have_ends_in_lists(
-    rt: &impl Abort,
-    alloc: Global,
-    version: Version,
-    ranges: &[Range],
-) -> Result<(), Fail> {
-    for range in ranges {
-        if version.has_type(range.ty) {
-            are_listed(rt, alloc, version, range)?;
-        }
-    }
-    Ok(())
-}
-
 #[test]
 fn ends_of_ranges_in_lists(rt: HostRuntime) -> Result<(), Fail> {
     for version in VERSIONS {
-        have_ends_in_lists(&rt, rt.alloc(), version, RANGES)?;
+        for range in RANGES {
+            if version.has_type(range.ty) {
+                for (number, want) in ends_of(range) {
+                    is_listed(&rt, rt.alloc(), version, range.word, number, want)?;
+                }
+            }
+        }
     }
     Ok(())
 }

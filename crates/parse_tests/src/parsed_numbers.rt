@@ -1,6 +1,6 @@
 //! Numbers of texts: at the ends of the ranges of their types and one past them, in each base, and of up to 400 digits.
 
-use crate::number_ranges::{COUNTS, Number, RANGES, Range, SHORTS, nines, zeros};
+use crate::number_ranges::{COUNTS, Number, RANGES, Range, SHORTS, ends_of, nines, zeros};
 use crate::parsing::{VERSIONS, gives_attribute, gives_variable, joined, parsed, refuses};
 use cdl_parse::CdlKind;
 use nc_base::Version;
@@ -15,21 +15,6 @@ struct Written {
     base: &'static [u8],
     zeros: &'static [u8],
     digits: &'static [u8],
-}
-
-/// Fails unless the text declares a variable of the range's type with these bytes, or its number is out of the range.
-fn is_variable(
-    rt: &impl Abort,
-    alloc: Global,
-    version: Version,
-    text: &[u8],
-    range: &Range,
-    want: Option<&[u8]>,
-) {
-    match want {
-        Some(bytes) => gives_variable(rt, alloc, version, text, range.ty, bytes),
-        None => refuses(rt, alloc, version, text, 3, CdlKind::NumberRange),
-    }
 }
 
 /// Fails unless the number is a value of a variable of the type with these bytes, or is out of its range.
@@ -53,28 +38,14 @@ fn is_value(
     let text = joined(alloc, &parts)?;
     for version in VERSIONS {
         if version.has_type(range.ty) {
-            is_variable(rt, alloc, version, text.as_slice(), range, want);
+            let text = text.as_slice();
+            match want {
+                Some(bytes) => gives_variable(rt, alloc, version, text, range.ty, bytes),
+                None => refuses(rt, alloc, version, text, 3, CdlKind::NumberRange),
+            }
         }
     }
     Ok(())
-}
-
-/// Fails unless the text declares an attribute of the range's type with these bytes, or its number is out of the range.
-fn is_attribute(
-    rt: &impl Abort,
-    alloc: Global,
-    version: Version,
-    text: &[u8],
-    range: &Range,
-    want: Option<&[u8]>,
-) {
-    match want {
-        Some(vals) => {
-            let att = (b"a".as_slice(), range.ty, vals);
-            gives_attribute(rt, alloc, version, text, &att);
-        }
-        None => refuses(rt, alloc, version, text, 2, CdlKind::NumberRange),
-    }
 }
 
 /// Fails unless the number with the suffix of the type is a constant with these bytes, or is out of its range.
@@ -97,32 +68,52 @@ fn is_constant(
     let text = joined(alloc, &parts)?;
     for version in VERSIONS {
         if version.has_type(range.ty) {
-            is_attribute(rt, alloc, version, text.as_slice(), range, want);
+            let text = text.as_slice();
+            match want {
+                Some(vals) => {
+                    let att = (b"a".as_slice(), range.ty, vals);
+                    gives_attribute(rt, alloc, version, text, &att);
+                }
+                None => refuses(rt, alloc, version, text, 2, CdlKind::NumberRange),
+            }
         }
     }
     Ok(())
 }
 
-/// Fails unless the number in decimal has these bytes or is out of the range.
-fn has_bytes_in_decimal(
+/// Fails unless the number, written so, has these bytes or is out of the range.
+fn has_bytes(
     rt: &impl Abort,
     alloc: Global,
     range: &Range,
-    number: &Number,
+    number: &Written,
     want: Option<&[u8]>,
 ) -> Result<(), Fail> {
-    let decimal = Written {
-        sign: number.sign,
-        base: b"",
-        zeros: b"",
-        digits: number.decimal,
-    };
-    is_value(rt, alloc, range, &decimal, want)?;
-    is_constant(rt, alloc, range, &decimal, want)
+    // in hexadecimal the suffix `b` would be a digit
+    if number.base != b"0x".as_slice() || range.suffix != b"b".as_slice() {
+        is_constant(rt, alloc, range, number, want)?;
+    }
+    is_value(rt, alloc, range, number, want)
 }
 
-/// Fails unless the number in octal, with zeros before its digits, has these bytes or is out of the range.
-fn has_bytes_in_octal(
+#[test]
+fn ends_of_ranges_in_decimal(rt: HostRuntime) -> Result<(), Fail> {
+    for range in RANGES {
+        for (number, want) in ends_of(range) {
+            let decimal = Written {
+                sign: number.sign,
+                base: b"",
+                zeros: b"",
+                digits: number.decimal,
+            };
+            has_bytes(&rt, rt.alloc(), range, &decimal, want)?;
+        }
+    }
+    Ok(())
+}
+
+/// Fails unless the number in octal and in hexadecimal, with zeros before its digits, has these bytes or is out of the range.
+fn has_bytes_after_zeros(
     rt: &impl Abort,
     alloc: Global,
     range: &Range,
@@ -136,94 +127,23 @@ fn has_bytes_in_octal(
         zeros,
         digits: number.octal,
     };
-    is_value(rt, alloc, range, &octal, want)?;
-    is_constant(rt, alloc, range, &octal, want)
-}
-
-/// Fails unless the number in hexadecimal, with zeros before its digits, has these bytes or is out of the range.
-fn has_bytes_in_hexadecimal(
-    rt: &impl Abort,
-    alloc: Global,
-    range: &Range,
-    number: &Number,
-    zeros: &'static [u8],
-    want: Option<&[u8]>,
-) -> Result<(), Fail> {
+    has_bytes(rt, alloc, range, &octal, want)?;
     let hexadecimal = Written {
-        sign: number.sign,
         base: b"0x",
-        zeros,
         digits: number.hexadecimal,
+        ..octal
     };
-    // there the suffix `b` would be a digit
-    if range.suffix != b"b".as_slice() {
-        is_constant(rt, alloc, range, &hexadecimal, want)?;
-    }
-    is_value(rt, alloc, range, &hexadecimal, want)
-}
-
-/// The numbers at the ends of the range, with their bytes, and the two past them.
-fn ends_of(range: &Range) -> [(Number, Option<&'static [u8]>); 4] {
-    [
-        (range.low, Some(range.low_bytes)),
-        (range.high, Some(range.high_bytes)),
-        (range.below, None),
-        (range.above, None),
-    ]
-}
-
-/// Fails unless the ends of the range have their bytes in decimal, and the numbers past them are out of the range.
-fn has_ends_in_decimal(rt: &impl Abort, alloc: Global, range: &Range) -> Result<(), Fail> {
-    for (number, want) in ends_of(range) {
-        has_bytes_in_decimal(rt, alloc, range, &number, want)?;
-    }
-    Ok(())
-}
-
-/// The same of each of the ranges.
-fn have_ends_in_decimal(rt: &impl Abort, alloc: Global, ranges: &[Range]) -> Result<(), Fail> {
-    for range in ranges {
-        has_ends_in_decimal(rt, alloc, range)?;
-    }
-    Ok(())
-}
-
-#[test]
-fn ends_of_ranges_in_decimal(rt: HostRuntime) -> Result<(), Fail> {
-    have_ends_in_decimal(&rt, rt.alloc(), RANGES)
-}
-
-/// The same in octal and hexadecimal, with zeros before the digits.
-fn has_ends_after_zeros(
-    rt: &impl Abort,
-    alloc: Global,
-    range: &Range,
-    zeros: &'static [u8],
-) -> Result<(), Fail> {
-    for (number, want) in ends_of(range) {
-        has_bytes_in_octal(rt, alloc, range, &number, zeros, want)?;
-        has_bytes_in_hexadecimal(rt, alloc, range, &number, zeros, want)?;
-    }
-    Ok(())
-}
-
-/// The same of each of the ranges.
-fn have_ends_after_zeros(
-    rt: &impl Abort,
-    alloc: Global,
-    ranges: &[Range],
-    zeros: &'static [u8],
-) -> Result<(), Fail> {
-    for range in ranges {
-        has_ends_after_zeros(rt, alloc, range, zeros)?;
-    }
-    Ok(())
+    has_bytes(rt, alloc, range, &hexadecimal, want)
 }
 
 #[test]
 fn ends_of_ranges_after_zeros(rt: HostRuntime) -> Result<(), Fail> {
     for count in COUNTS {
-        have_ends_after_zeros(&rt, rt.alloc(), RANGES, zeros(count))?;
+        for range in RANGES {
+            for (number, want) in ends_of(range) {
+                has_bytes_after_zeros(&rt, rt.alloc(), range, &number, zeros(count), want)?;
+            }
+        }
     }
     Ok(())
 }
@@ -276,14 +196,6 @@ fn has_nines(rt: &impl Abort, alloc: Global, range: &Range, count: usize) -> Res
     )
 }
 
-/// The same of each of the ranges.
-fn have_nines(rt: &impl Abort, alloc: Global, ranges: &[Range], count: usize) -> Result<(), Fail> {
-    for range in ranges {
-        has_nines(rt, alloc, range, count)?;
-    }
-    Ok(())
-}
-
 /// The ranges that this many nines are tried with: all of them up to 40 nines, which are more than 2^128 has, and then one, each in its
 /// turn.
 fn ranges_for(count: usize) -> &'static [Range] {
@@ -297,25 +209,11 @@ fn ranges_for(count: usize) -> &'static [Range] {
 #[test]
 fn numbers_of_nines(rt: HostRuntime) -> Result<(), Fail> {
     for count in 1..=400 {
-        have_nines(&rt, rt.alloc(), ranges_for(count), count)?;
+        for range in ranges_for(count) {
+            has_nines(&rt, rt.alloc(), range, count)?;
+        }
     }
     Ok(())
-}
-
-/// Fails unless the number is a short with these bytes, or is out of the range of shorts.
-fn is_short(
-    rt: &impl Abort,
-    alloc: Global,
-    digits: &'static [u8],
-    want: Option<&[u8]>,
-) -> Result<(), Fail> {
-    let number = Written {
-        sign: b"",
-        base: b"",
-        zeros: b"",
-        digits,
-    };
-    is_value(rt, alloc, &SHORTS, &number, want)
 }
 
 #[test]
@@ -330,7 +228,13 @@ fn suffixes_have_no_meaning_in_the_data_section(rt: HostRuntime) -> Result<(), F
         (b"-32769s", None),
     ];
     for (digits, want) in ROWS {
-        is_short(&rt, rt.alloc(), digits, want)?;
+        let number = Written {
+            sign: b"",
+            base: b"",
+            zeros: b"",
+            digits,
+        };
+        is_value(&rt, rt.alloc(), &SHORTS, &number, want)?;
     }
     Ok(())
 }

@@ -29,27 +29,6 @@ fn is_typed(
     Ok(())
 }
 
-/// Fails unless each of the numbers is its constant, or has its fault, in the version.
-fn are_typed(
-    rt: &impl Abort,
-    alloc: Global,
-    version: Version,
-    rows: &[(&[u8], Typed)],
-) -> Result<(), Fail> {
-    for (digits, want) in rows {
-        is_typed(rt, alloc, version, *digits, *want)?;
-    }
-    Ok(())
-}
-
-/// Fails unless none of the numbers has a form that the version knows.
-fn are_bad(rt: &impl Abort, alloc: Global, version: Version, rows: &[&[u8]]) -> Result<(), Fail> {
-    for digits in rows {
-        is_typed(rt, alloc, version, *digits, Err(CdlKind::BadNumber))?;
-    }
-    Ok(())
-}
-
 #[test]
 fn suffixes_of_all_versions(rt: HostRuntime) -> Result<(), Fail> {
     const ROWS: &[(&[u8], Typed)] = &[
@@ -77,7 +56,9 @@ fn suffixes_of_all_versions(rt: HostRuntime) -> Result<(), Fail> {
         (b"0xAbCdEf", Ok((NcType::Int, b"\0\xab\xcd\xef"))),
     ];
     for version in VERSIONS {
-        are_typed(&rt, rt.alloc(), version, ROWS)?;
+        for (digits, want) in ROWS {
+            is_typed(&rt, rt.alloc(), version, *digits, *want)?;
+        }
     }
     Ok(())
 }
@@ -109,21 +90,13 @@ const OF_CDF5: &[(&[u8], Typed)] = &[
     (b"1L, 1LL", Err(CdlKind::MixedConstants)),
 ];
 
-/// Fails unless the number has no form that CDF-1 and CDF-2 know.
-fn is_bad_before_cdf5(rt: &impl Abort, alloc: Global, digits: &[u8]) -> Result<(), Fail> {
-    is_typed(rt, alloc, Version::Cdf1, digits, Err(CdlKind::BadNumber))?;
-    is_typed(rt, alloc, Version::Cdf2, digits, Err(CdlKind::BadNumber))
-}
-
 #[test]
 fn suffixes_of_cdf5_alone(rt: HostRuntime) -> Result<(), Fail> {
-    are_typed(&rt, rt.alloc(), Version::Cdf5, OF_CDF5)
-}
-
-#[test]
-fn suffixes_that_other_versions_lack(rt: HostRuntime) -> Result<(), Fail> {
-    for (digits, _) in OF_CDF5 {
-        is_bad_before_cdf5(&rt, rt.alloc(), *digits)?;
+    const BAD: Typed = Err(CdlKind::BadNumber);
+    for (digits, want) in OF_CDF5 {
+        is_typed(&rt, rt.alloc(), Version::Cdf5, *digits, *want)?;
+        is_typed(&rt, rt.alloc(), Version::Cdf1, *digits, BAD)?;
+        is_typed(&rt, rt.alloc(), Version::Cdf2, *digits, BAD)?;
     }
     Ok(())
 }
@@ -137,7 +110,9 @@ fn numbers_without_a_form_are_refused(rt: HostRuntime) -> Result<(), Fail> {
         b"1.2.3",
     ];
     for version in VERSIONS {
-        are_bad(&rt, rt.alloc(), version, ROWS)?;
+        for digits in ROWS {
+            is_typed(&rt, rt.alloc(), version, *digits, Err(CdlKind::BadNumber))?;
+        }
     }
     Ok(())
 }

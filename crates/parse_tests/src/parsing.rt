@@ -95,16 +95,53 @@ pub fn refuses(
 }
 
 /// Fails unless the text has this fault, whatever the version, and whether missing values are filled in or not.
-pub fn refuses_in_all(rt: &impl Abort, alloc: Global, text: &[u8], want: CdlFault) {
+pub fn refuses_in_all(rt: &impl Abort, alloc: Global, about: &str, text: &[u8], want: CdlFault) {
     for version in VERSIONS {
         let fault = fault_filled(alloc, version, text);
-        assert!(rt; fault == Some(want), "{version:?}, {fault:?}: {text:?}");
+        assert!(rt;
+            fault == Some(want),
+            "{about}, {version:?}, {fault:?}: {text:?}"
+        );
         let unfilled = fault_unfilled(alloc, version, text);
         assert!(rt;
             unfilled == Some(want),
-            "{version:?}, {unfilled:?}: {text:?}"
+            "{about}, {version:?}, {unfilled:?}: {text:?}"
         );
     }
+}
+
+/// Parts of texts, each with the line of its text's fault, and the fault; and what stands before and after each of them.
+#[derive(Clone, Copy)]
+pub struct Group {
+    pub about: &'static str,
+    pub before: &'static str,
+    pub after: &'static str,
+    pub rows: &'static [(&'static str, u64, CdlKind)],
+}
+
+/// Fails unless the text of each row has its fault.
+fn refuse_group(rt: &impl Abort, alloc: Global, group: &Group) -> Result<(), Fail> {
+    let (before, after) = (group.before.as_bytes(), group.after.as_bytes());
+    for (part, line, kind) in group.rows {
+        let text = joined(alloc, &[before, part.as_bytes(), after])?;
+        let (line, kind) = (*line, *kind);
+        refuses_in_all(
+            rt,
+            alloc,
+            group.about,
+            text.as_slice(),
+            CdlFault { line, kind },
+        );
+    }
+    Ok(())
+}
+
+/// The same of each of the groups.
+pub fn refuse_groups(rt: &impl Abort, alloc: Global, groups: &[Group]) -> Result<(), Fail> {
+    for group in groups {
+        refuse_group(rt, alloc, group)?;
+    }
+    Ok(())
 }
 
 /// Fails unless the text gives the dataset, whatever the version.
@@ -243,17 +280,12 @@ fn is_att(rt: &impl Abort, att: &Att, want: &WantedAtt<'_>) {
 fn are_vars(rt: &impl Abort, vars: &[Var], want: &[WantedVar<'_>]) {
     assert!(rt; vars.len() == want.len());
     for (var, wanted) in vars.iter().zip(want.iter()) {
-        is_var(rt, var, wanted);
+        assert!(rt; var.name.as_slice() == wanted.name);
+        assert!(rt; var.ty == wanted.ty);
+        assert!(rt; var.dimids.as_slice() == wanted.dimids);
+        assert!(rt; var.begin_at == 0);
+        are_atts(rt, var.atts.as_slice(), wanted.atts);
     }
-}
-
-/// Fails unless it is the variable.
-fn is_var(rt: &impl Abort, var: &Var, want: &WantedVar<'_>) {
-    assert!(rt; var.name.as_slice() == want.name);
-    assert!(rt; var.ty == want.ty);
-    assert!(rt; var.dimids.as_slice() == want.dimids);
-    assert!(rt; var.begin_at == 0);
-    are_atts(rt, var.atts.as_slice(), want.atts);
 }
 
 /// Fails unless these are the values of the variables.
