@@ -36,7 +36,7 @@ test:
 	tests/wrong_bodies.py --tests 4
 	tests/refusals.py
 	tests/definitions.py
-	tests/growths.sh
+	tests/allocation_failures.sh
 	tests/ncdump.sh
 	tests/ncgen.sh
 	tests/calls.sh

@@ -1,8 +1,8 @@
 #!/usr/bin/env python3
 """Finds each place where an answer of out of memory is made by hand.
 
-No contract sees how much memory there is, so none says that a call gives up only where a growth was refused. But each such answer
-is made of the standard library's `AllocError`, and that is handed on from where a growth was refused. In an expression
+No contract sees how much memory there is, so none says that a call gives up only where an allocation failed. But each such answer
+is made of the standard library's `AllocError`, and that is handed on from where an allocation failed. In an expression
 
 - `AllocError` itself doesn't stand, but in the functions below;
 - a variant `OutOfMemory` stands only where it is made of an `AllocError`, or where it stands for another type's `OutOfMemory`.
@@ -62,8 +62,7 @@ def made_by_hand(file, text):
 
 def main():
     """Looks at all crates."""
-    files = [it for it in sorted(CRATES.glob("*/src/**/*.rt")) if not it.relative_to(CRATES).parts[0].endswith("tests")]
-    files = [it for it in files if it.relative_to(CRATES).parts[0] != "acceptance"]
+    files = [it for it in sorted(CRATES.glob("*/src/**/*.rt")) if not it.relative_to(CRATES).parts[0].startswith("test_")]
     found = [it for file in files for it in made_by_hand(file.relative_to(CRATES), file.read_text())]
     for where in (where for where, by_hand in found if by_hand):
         print(f"{where}: OUT OF MEMORY MADE BY HAND")

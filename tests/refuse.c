@@ -1,9 +1,9 @@
-/* Refuses one growth of memory. Loaded before a program, it counts the calls of malloc, calloc and realloc from 1; that of the
+/* Refuses one allocation. Loaded before a program, it counts the calls of malloc, calloc and realloc from 1; that of the
  * number REFUSED answers NULL, and all others go through to the C library. As the program ends, it writes how many there were, and
- * the sum of the bytes that they asked for, to the file that GROWTHS names.
+ * the sum of the bytes that they asked for, to the file that ALLOCATIONS names.
  *
  *     cc -shared -fPIC -o refuse.so refuse.c
- *     REFUSED=3 GROWTHS=growths LD_PRELOAD=./refuse.so bin/ncdump samples/note.nc
+ *     REFUSED=3 ALLOCATIONS=allocations LD_PRELOAD=./refuse.so bin/ncdump samples/note.nc
  *
  * What is taken before `begin` isn't counted, so the counts are the program's own. It is for programs of one thread. */
 #include <errno.h>
@@ -17,15 +17,15 @@ extern void *__libc_calloc(size_t count, size_t size);
 extern void *__libc_realloc(void *old, size_t size);
 
 static unsigned long refused; /* 0: none */
-static unsigned long growths;
-static unsigned long bytes; /* what the growths asked for, all of them together */
+static unsigned long allocations;
+static unsigned long bytes; /* what the allocations asked for, all of them together */
 
-/* Counts a call for this many bytes, and says whether it is refused. */
+/* Counts a call for this many bytes, and returns true if it is refused. */
 static int refuses(size_t size)
 {
-    growths++;
+    allocations++;
     bytes += size;
-    if (growths != refused)
+    if (allocations != refused)
         return 0;
     errno = ENOMEM;
     return 1;
@@ -52,15 +52,15 @@ __attribute__((constructor)) static void begin(void)
     const char *number = getenv("REFUSED");
 
     refused = number ? strtoul(number, NULL, 10) : 0;
-    growths = 0;
+    allocations = 0;
     bytes = 0;
 }
 
 /* Runs after it. */
 __attribute__((destructor)) static void end(void)
 {
-    const char *path = getenv("GROWTHS");
-    unsigned long all = growths;
+    const char *path = getenv("ALLOCATIONS");
+    unsigned long all = allocations;
     unsigned long sum = bytes;
     FILE *file;
 

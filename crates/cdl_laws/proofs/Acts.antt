@@ -19,9 +19,9 @@ use Rattle.nc_base.specs.Names.{IsName, is_name}
 use Rattle.nc_base.specs.Sizes.{is_record_dim}
 use Rattle.nc_base.specs.Types.{type_word}
 use Rattle.nc_base.specs.Versions.{count_limit, has_type}
-use Rattle.cdl_text.specs.declared.fault.CdlKind.{CdlKind}
-use Rattle.cdl_text.specs.declared.fault.CdlKind.TheVariants.{UnknownDimension, BadShape}
-use Rattle.cdl_text.specs.Shapes.{Value, Number, Characters}
+use Rattle.cdl_statements.specs.declared.fault.CdlKind.{CdlKind}
+use Rattle.cdl_statements.specs.declared.fault.CdlKind.TheVariants.{UnknownDimension, BadShape}
+use Rattle.cdl_statements.specs.Shapes.{Value, Number, Characters}
 use Rattle.cdl_meaning.specs.State.{Draft, add_dim, dim_len_of, add_dimid, add_var, type_of, add_att, add_constant, first_type, same_type, at_named, at_variable, in_turn, when, found, ◌>>=◌, between, fits}
 use Rattle.cdl_laws.proofs.Bools.{and_both, or_left, or_right}
 use Rattle.cdl_laws.proofs.Lists.{Each}

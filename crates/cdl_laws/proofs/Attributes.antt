@@ -19,7 +19,7 @@ use Rattle.nc_base.specs.Names.{IsName}
 use Rattle.nc_base.specs.ValueText.{is_char}
 use Rattle.nc_base.specs.Versions.{has_type}
 use Rattle.nc_base.specs.Sayable.{trimmed_att, HasSomeNumber}
-use Rattle.cdl_text.specs.Shapes.{Characters}
+use Rattle.cdl_statements.specs.Shapes.{Characters}
 use Rattle.cdl_meaning.specs.State.{fits, in_turn, add_constant}
 use Rattle.cdl_laws.proofs.Acts.{numbers_added, chars_added}
 use Rattle.cdl_laws.proofs.Declarations.{IsListOf, chars_list, numbers_list, numbers_said, suffixed, first, others, all_bytes}

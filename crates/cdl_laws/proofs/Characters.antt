@@ -10,7 +10,7 @@ use Rattle.std.proofs.Math.Seq.{drop-append_seam}
 use Rattle.nc_base.specs.Escapes.{escaped_name, escaped_in_string, escaped_text}
 use Rattle.nc_base.specs.Names.{IsName}
 use Rattle.nc_base.specs.ValueText.{Look, is_char, begins_row, char_lead, char_text, char_piece, held, row_so_far, is_nul, piece, pieces, opening, closing, variable_prefix, variable_text}
-use Rattle.cdl_text.specs.Lexemes.{Lexeme}
+use Rattle.cdl_statements.specs.Lexemes.{Lexeme}
 use Rattle.cdl_laws.specs.Reading.{lexemes_at}
 use Rattle.cdl_tokens.specs.Scan.{scan}
 use Rattle.cdl_laws.proofs.Bools.{and_left, and_right}

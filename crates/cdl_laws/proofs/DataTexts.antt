@@ -11,9 +11,9 @@ use Rattle.nc_base.specs.Fill.{fill_value}
 use Rattle.nc_base.specs.Names.{IsName}
 use Rattle.nc_base.specs.Sizes.{is_record_var}
 use Rattle.nc_base.specs.ValueText.{Look, look_of, is_char, variable_text}
-use Rattle.cdl_text.specs.declared.section.Section.TheVariants.{Values}
+use Rattle.cdl_statements.specs.declared.section.Section.TheVariants.{Values}
 use Rattle.nc_base.specs.Sayable.{trimmed_var}
-use Rattle.cdl_text.specs.Shapes.{Value, Characters, Listed}
+use Rattle.cdl_statements.specs.Shapes.{Value, Characters, Listed}
 use Rattle.cdl_meaning.specs.State.{State, Draft, Listing, Numbers, Joined, Rows, Capacity, capacity_of, act, listing_of, values_in, with_values, filled, fits, ◌>>=◌}
 use Rattle.cdl_laws.proofs.Lists.{Each}
 use Rattle.cdl_laws.proofs.ValueTexts.{AreSmall, value_said, numbers_listed}

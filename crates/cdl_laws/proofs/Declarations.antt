@@ -17,14 +17,14 @@ use Rattle.nc_base.specs.Names.{IsName}
 use Rattle.nc_base.specs.Types.{number_suffix}
 use Rattle.nc_base.specs.ValueText.{is_char}
 use Rattle.nc_base.specs.Versions.{has_type}
-use Rattle.cdl_text.specs.declared.section.Section.{Section}
-use Rattle.cdl_text.specs.declared.section.Section.TheVariants.{Globals, Dimensions, Variables}
+use Rattle.cdl_statements.specs.declared.section.Section.{Section}
+use Rattle.cdl_statements.specs.declared.section.Section.TheVariants.{Globals, Dimensions, Variables}
 use Rattle.cdl_tokens.specs.Bytes.{is_digit}
 use Rattle.cdl_tokens.specs.Scan.{scan}
-use Rattle.cdl_text.specs.Lexemes.{Lexeme}
+use Rattle.cdl_statements.specs.Lexemes.{Lexeme}
 use Rattle.cdl_laws.specs.PieceLaws.{extent_said, said_dim, IsBeforeData, globals, dimensions, variables}
 use Rattle.cdl_laws.specs.Reading.{lexemes_at}
-use Rattle.cdl_text.specs.Shapes.{Value, Number, Characters, Statement, Declared, Attribute, dimensions as dimensions_of, each, both, constant, constants, length_of, typed, attribute, global, assigned, body, either}
+use Rattle.cdl_statements.specs.Shapes.{Value, Number, Characters, Statement, Declared, Attribute, dimensions as dimensions_of, each, both, constant, constants, length_of, typed, attribute, global, assigned, body, either}
 use Rattle.cdl_laws.proofs.Bools.{and_left, and_right, and_both}
 use Rattle.cdl_laws.proofs.Lists.{Each}
 use Rattle.cdl_laws.proofs.Texts.{Closed, Reads, closed_both, closed_by, mark, word, number, name_word}

@@ -11,12 +11,12 @@ use Rattle.nc_base.specs.declared.version.Version.{Version}
 use Rattle.nc_base.specs.Dump.{Options, Content, Section, dump_text, shown_values, content_of, values_of, selection_of, is_selected, is_chosen, data_word, closing_word, has_dimension}
 use Rattle.nc_base.specs.Escapes.{escaped_name}
 use Rattle.nc_base.specs.HeadText.{head_text, netcdf_word, dims_text, vars_text, gatts_text}
-use Rattle.cdl_text.specs.declared.section.Section.TheVariants.{Globals, Variables, Values, Ended}
-use Rattle.cdl_text.specs.declared.piece.CutState.TheVariants as places
-use Rattle.cdl_text.specs.Lexemes.{role}
+use Rattle.cdl_statements.specs.declared.section.Section.TheVariants.{Globals, Variables, Values, Ended}
+use Rattle.cdl_statements.specs.declared.piece.CutState.TheVariants as places
+use Rattle.cdl_statements.specs.Lexemes.{role}
 use Rattle.cdl_meaning.specs.Meaning.{meaning, run, piece_read, empty, finished, is_small_enough, dataset_of, closing_line}
-use Rattle.cdl_text.specs.Statements.{statements}
-use Rattle.cdl_text.specs.Pieces.{pieces_at}
+use Rattle.cdl_statements.specs.Statements.{statements}
+use Rattle.cdl_statements.specs.Pieces.{pieces_at}
 use Rattle.cdl_laws.specs.Reading.{lexemes, pieces_of}
 use Rattle.cdl_laws.specs.RoundTrip.{IsFull}
 use Rattle.nc_base.specs.Sayable.{trimmed, trimmed_att}

@@ -11,18 +11,18 @@ use Rattle.nc_base.specs.declared.version.Version.{Version}
 use Rattle.nc_base.specs.Escapes.{escaped_name, is_plain}
 use Rattle.nc_base.specs.HeadText.{dim_line, dim_lines, dims_text, att_line, att_lines, var_lines, vars_text, gatts_text, dimensions_word, variables_word, global_word}
 use Rattle.nc_base.specs.Names.{IsName, may_follow_in_name, may_begin_name}
-use Rattle.cdl_text.specs.declared.section.Section.{Section}
-use Rattle.cdl_text.specs.declared.section.Section.TheVariants.{Globals, Dimensions, Variables, Values, Ended}
-use Rattle.cdl_text.specs.declared.section.Section.TheVariants as sections
+use Rattle.cdl_statements.specs.declared.section.Section.{Section}
+use Rattle.cdl_statements.specs.declared.section.Section.TheVariants.{Globals, Dimensions, Variables, Values, Ended}
+use Rattle.cdl_statements.specs.declared.section.Section.TheVariants as sections
 use Rattle.cdl_tokens.specs.declared.token.TokenKind.TheVariants as kinds
-use Rattle.cdl_text.specs.declared.piece.CutState.TheVariants as places
+use Rattle.cdl_statements.specs.declared.piece.CutState.TheVariants as places
 use Rattle.cdl_tokens.specs.Scan.{scan, word_len, until, scan_opening, token}
-use Rattle.cdl_text.specs.Lexemes.{Lexeme, role}
+use Rattle.cdl_statements.specs.Lexemes.{Lexeme, role}
 use Rattle.cdl_meaning.specs.Meaning.{piece_read, empty}
-use Rattle.cdl_text.specs.Pieces.{pieces_at, is_section}
+use Rattle.cdl_statements.specs.Pieces.{pieces_at, is_section}
 use Rattle.cdl_laws.specs.Reading.{lexemes_at, lexemes, pieces_of}
 use Rattle.nc_base.specs.Sayable.{trimmed_att}
-use Rattle.cdl_text.specs.Shapes.{Mark, shape}
+use Rattle.cdl_statements.specs.Shapes.{Mark, shape}
 use Rattle.cdl_meaning.specs.State.{State, Draft, act, in_turn}
 use Rattle.cdl_laws.proofs.Bools.{and_left}
 use Rattle.cdl_laws.proofs.Lists.{Each}

@@ -9,7 +9,7 @@ use Rattle.nc_base.specs.Escapes.{escaped_in_string}
 use Rattle.nc_base.specs.ValueText.{is_nul, is_char}
 use Rattle.cdl_tokens.specs.Escapes.{stands}
 use Rattle.cdl_tokens.proofs.Strings.{stands_for}
-use Rattle.cdl_text.specs.Shapes.{Characters, each, both, constant, constants}
+use Rattle.cdl_statements.specs.Shapes.{Characters, each, both, constant, constants}
 use Rattle.cdl_meaning.specs.State.{Capacity, Joined, Rows, add_characters, add_row, filled, in_turn, listing_of, values_in, ◌>>=◌}
 use Rattle.cdl_laws.proofs.Lists.{Each}
 use Rattle.cdl_laws.proofs.Characters.{shown, flat}

@@ -23,11 +23,11 @@ use Rattle.nc_base.specs.Types.{size_of}
 use Rattle.nc_base.specs.ValueText.{is_char}
 use Rattle.nc_base.specs.Versions.{count_limit, has_type}
 use Rattle.nc_base.specs.Sayable.{AreDistinct}
-use Rattle.cdl_text.specs.Shapes.{Value, Number, Characters, Underscore, Dimension, Variable}
+use Rattle.cdl_statements.specs.Shapes.{Value, Number, Characters, Underscore, Dimension, Variable}
 use Rattle.cdl_meaning.specs.State.{Draft, in_turn, unless, when, found, ◌>>=◌, between, fits, same_type, dim_len_of, add_dim, add_dimid, add_var, at_named, at_variable, add_constant, first_type, add_att, with_att}
 use Rattle.cdl_meaning.specs.Meaning.{values_of}
-use Rattle.cdl_text.specs.declared.fault.CdlKind.{CdlKind}
-use Rattle.cdl_text.specs.declared.fault.CdlKind.TheVariants.{BadName, DuplicateName, UnknownDimension, ZeroDimension, TwoRecordDims, BadShape, MixedConstants, NumberRange}
+use Rattle.cdl_statements.specs.declared.fault.CdlKind.{CdlKind}
+use Rattle.cdl_statements.specs.declared.fault.CdlKind.TheVariants.{BadName, DuplicateName, UnknownDimension, ZeroDimension, TwoRecordDims, BadShape, MixedConstants, NumberRange}
 use Rattle.cdl_laws.proofs.Bools.{and_left, and_right, or_left, or_right}
 use Rattle.cdl_laws.proofs.Lists.{Each, each_map}
 use Rattle.cdl_laws.proofs.Outcomes.{SomeIs, OkIs, ok_then, ok_unless, ok_when, ok_found, total, each_under, turns, each_more}

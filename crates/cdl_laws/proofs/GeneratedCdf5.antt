@@ -10,10 +10,10 @@ use Rattle.nc_base.specs.GeneratedFile.{word_spelling, magic_spelling, dim_spell
 use Rattle.cdl_tokens.specs.Scan.{word_len, until, scan}
 use Rattle.cdl_tokens.specs.Escapes.{unescape_at, stands_at, character, word_value}
 use Rattle.cdl_tokens.specs.Tokens.{tokens_at}
-use Rattle.cdl_text.specs.Pieces.{pieces_at, is_section}
-use Rattle.cdl_text.specs.Lexemes.{name_of}
+use Rattle.cdl_statements.specs.Pieces.{pieces_at, is_section}
+use Rattle.cdl_statements.specs.Lexemes.{name_of}
 use Rattle.cdl_tokens.specs.Numerals.{suffix, numeral, parts}
-use Rattle.cdl_text.specs.Shapes.{shape}
+use Rattle.cdl_statements.specs.Shapes.{shape}
 use Rattle.cdl_meaning.specs.State.{act, fits, add_dim, type_of, add_dimid, add_var, at_variable, add_att, capacity_of, listing_of}
 use Rattle.cdl_meaning.specs.Meaning.{run, piece_read, meaning, finished, is_small_enough}
 use Rattle.cdl_laws.proofs.Generated.{file_from, generated_text}

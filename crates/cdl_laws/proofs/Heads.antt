@@ -14,13 +14,13 @@ use Rattle.nc_base.specs.HeadText.{joined}
 use Rattle.nc_base.specs.Names.{IsName}
 use Rattle.nc_base.specs.Types.{type_word}
 use Rattle.nc_base.specs.ValueText.{Look, is_char, variable_text}
-use Rattle.cdl_text.specs.declared.section.Section.TheVariants.{Values}
+use Rattle.cdl_statements.specs.declared.section.Section.TheVariants.{Values}
 use Rattle.cdl_tokens.specs.Bytes.{begins_word, goes_on_word}
 use Rattle.cdl_tokens.specs.Scan.{scan, word_len}
-use Rattle.cdl_text.specs.Lexemes.{Lexeme, role}
-use Rattle.cdl_text.specs.Pieces.{is_section}
+use Rattle.cdl_statements.specs.Lexemes.{Lexeme, role}
+use Rattle.cdl_statements.specs.Pieces.{is_section}
 use Rattle.cdl_laws.specs.Reading.{lexemes_at}
-use Rattle.cdl_text.specs.Shapes.{Value, Characters, Listed, both, constants, body}
+use Rattle.cdl_statements.specs.Shapes.{Value, Characters, Listed, both, constants, body}
 use Rattle.cdl_laws.proofs.Bools.{and_left, and_right, and_both}
 use Rattle.cdl_laws.proofs.Lists.{Each}
 use Rattle.cdl_laws.proofs.NameTexts.{no_escape}

@@ -3,19 +3,19 @@ use Rattle.std.proofs.Common.{◌≡◌, ℕ, zero, suc, ◌+◌, ◌-◌, Bool,
 use Rattle.std.specs.Prelude.{◌&&◌, Option, None, Some, is_none, Result, Ok, Err}
 use Rattle.std.proofs.lemmas.List.{drop-drop}
 use Rattle.nc_base.specs.declared.version.Version.{Version}
-use Rattle.cdl_text.specs.declared.fault.CdlFault.{CdlFault}
-use Rattle.cdl_text.specs.declared.fault.CdlKind.{CdlKind}
+use Rattle.cdl_statements.specs.declared.fault.CdlFault.{CdlFault}
+use Rattle.cdl_statements.specs.declared.fault.CdlKind.{CdlKind}
 use Rattle.cdl_tokens.specs.declared.token.TokenKind.{TokenKind}
 use Rattle.cdl_tokens.specs.declared.token.TokenKind.TheVariants as kinds
-use Rattle.cdl_text.specs.declared.piece.Role.{Role}
-use Rattle.cdl_text.specs.declared.piece.CutState.{CutState}
-use Rattle.cdl_text.specs.declared.piece.CutState.TheVariants as places
+use Rattle.cdl_statements.specs.declared.piece.Role.{Role}
+use Rattle.cdl_statements.specs.declared.piece.CutState.{CutState}
+use Rattle.cdl_statements.specs.declared.piece.CutState.TheVariants as places
 use Rattle.cdl_tokens.specs.declared.token.Token.{Token}
 use Rattle.cdl_tokens.specs.Scan.{scan}
-use Rattle.cdl_text.specs.Lexemes.{Lexeme, lexeme, role}
+use Rattle.cdl_statements.specs.Lexemes.{Lexeme, lexeme, role}
 use Rattle.cdl_meaning.specs.Meaning.{run, piece_read, line_of}
-use Rattle.cdl_text.specs.Statements.{statements}
-use Rattle.cdl_text.specs.Pieces.{pieces_at, with_first, first_role, step}
+use Rattle.cdl_statements.specs.Statements.{statements}
+use Rattle.cdl_statements.specs.Pieces.{pieces_at, with_first, first_role, step}
 use Rattle.cdl_laws.specs.Reading.{lexemes_at, lexemes, with_lexeme}
 use Rattle.cdl_meaning.specs.State.{State, in_turn}
 use Rattle.cdl_tokens.specs.Tokens.{tokens_at, tokens, with_token, token_at}

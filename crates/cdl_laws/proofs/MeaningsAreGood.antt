@@ -23,16 +23,16 @@ use Rattle.nc_base.specs.Types.{size_of, all_types, type_word}
 use Rattle.nc_base.specs.Versions.{count_limit, has_type}
 use Rattle.cdl_laws.specs.Goods.{MeaningsAreGood, MeaningsAreNearlySayable, IsNearlySayable, NearlyIsSayable}
 use Rattle.cdl_meaning.specs.Meaning.{text_limit}
-use Rattle.cdl_text.specs.Lexemes.{Lexeme, lexeme, is_word}
-use Rattle.cdl_text.specs.Statements.{statements}
+use Rattle.cdl_statements.specs.Lexemes.{Lexeme, lexeme, is_word}
+use Rattle.cdl_statements.specs.Statements.{statements}
 use Rattle.cdl_meaning.specs.Meaning.{shaped, checked, piece_read, line_of, run, empty, values_of, records_of, records_in, array_of, header_of, dataset_of, is_small, is_small_enough, closing_line, finished, meaning}
 use Rattle.nc_base.specs.Sayable.{AreDistinct, AreSayableAtts, HasSomeNumber}
-use Rattle.cdl_text.specs.Shapes.{Statement, Opening, Mark, Declared, Typed, Attribute, Listed, Brace, End, shape, first_bad}
+use Rattle.cdl_statements.specs.Shapes.{Statement, Opening, Mark, Declared, Typed, Attribute, Listed, Brace, End, shape, first_bad}
 use Rattle.cdl_meaning.specs.State.{State, Draft, act, add_dim, add_var, add_att, at_variable, with_att, with_values, type_of, is_word_of, found, in_turn, ◌>>=◌, filled}
-use Rattle.cdl_text.specs.declared.fault.CdlFault.{CdlFault}
-use Rattle.cdl_text.specs.declared.fault.CdlKind.{CdlKind}
-use Rattle.cdl_text.specs.declared.fault.CdlKind.TheVariants.{FloatingType, UnknownType, TooLarge}
-use Rattle.cdl_text.specs.declared.section.Section.{Section}
+use Rattle.cdl_statements.specs.declared.fault.CdlFault.{CdlFault}
+use Rattle.cdl_statements.specs.declared.fault.CdlKind.{CdlKind}
+use Rattle.cdl_statements.specs.declared.fault.CdlKind.TheVariants.{FloatingType, UnknownType, TooLarge}
+use Rattle.cdl_statements.specs.declared.section.Section.{Section}
 use Rattle.cdl_tokens.specs.declared.token.Token.{Token}
 use Rattle.cdl_laws.proofs.Bools.{and_left, and_right}
 use Rattle.cdl_laws.proofs.Limits.{slab_some}

@@ -3,8 +3,8 @@ use Rattle.std.proofs.Common.{◌≡◌, ℕ, ◌+◌, ◌≤◌, Bool, true, fa
 use Rattle.std.specs.Prelude.{All, if◌then◌else◌, Option, None, Some, Result, Ok, Err, ⊤, take, drop}
 use Rattle.std.specs.Option.{option_map, option_and_then}
 use Rattle.cdl_meaning.specs.State.{in_turn, unless, when, found, ◌>>=◌}
-use Rattle.cdl_text.specs.Shapes.{both, each, either, given}
-use Rattle.cdl_text.specs.declared.fault.CdlKind.{CdlKind}
+use Rattle.cdl_statements.specs.Shapes.{both, each, either, given}
+use Rattle.cdl_statements.specs.declared.fault.CdlKind.{CdlKind}
 use Rattle.cdl_laws.proofs.Lists.{Each}
 
 -- ---- options

@@ -12,14 +12,14 @@ use Rattle.nc_base.specs.HeadText.{netcdf_word, dim_line, global_word, var_lines
 use Rattle.nc_base.specs.Names.{IsName}
 use Rattle.nc_base.specs.Types.{type_word}
 use Rattle.nc_base.specs.Versions.{has_type}
-use Rattle.cdl_text.specs.declared.piece.CutState.TheVariants.{Begins}
-use Rattle.cdl_text.specs.declared.section.Section.{Section}
-use Rattle.cdl_text.specs.declared.section.Section.TheVariants.{Unopened, Globals, Dimensions, Variables, Values, Closed}
+use Rattle.cdl_statements.specs.declared.piece.CutState.TheVariants.{Begins}
+use Rattle.cdl_statements.specs.declared.section.Section.{Section}
+use Rattle.cdl_statements.specs.declared.section.Section.TheVariants.{Unopened, Globals, Dimensions, Variables, Values, Closed}
 use Rattle.cdl_tokens.specs.declared.token.TokenKind.TheVariants as kinds
 use Rattle.cdl_tokens.specs.Scan.{scan}
-use Rattle.cdl_text.specs.Lexemes.{role}
-use Rattle.cdl_text.specs.Pieces.{pieces_at}
-use Rattle.cdl_text.specs.Shapes.{Statement, Opening, Mark, Brace, End, Declared, Typed, Attribute, shape}
+use Rattle.cdl_statements.specs.Lexemes.{role}
+use Rattle.cdl_statements.specs.Pieces.{pieces_at}
+use Rattle.cdl_statements.specs.Shapes.{Statement, Opening, Mark, Brace, End, Declared, Typed, Attribute, shape}
 use Rattle.cdl_laws.specs.PieceLaws.{SaysStatement, IsStatement, PiecesAreStatements, MarksReadBack, opening_line, opening_piece, brace_piece, end_piece, said_dim, DimensionsReadBack, declaration, DeclarationReadsBack, DeclarationsReadBack, IsBeforeData, globals, dimensions, AttributeReadsBack, AttributesReadBack, GlobalAttributesReadBack}
 use Rattle.cdl_laws.specs.Reading.{lexemes, lexemes_at, pieces_of}
 use Rattle.cdl_laws.proofs.Acts.{AreDistinctDims, HaveNames, ids_added, name_at, type_is}

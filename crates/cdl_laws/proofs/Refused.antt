@@ -9,17 +9,17 @@ use Rattle.nc_base.specs.declared.version.Version.{Version}
 use Rattle.nc_base.specs.declared.version.Version.TheVariants.{Cdf1, Cdf2, Cdf5}
 use Rattle.nc_base.specs.Escapes.{is_reserved}
 use Rattle.nc_base.specs.Fill.{fill_value}
-use Rattle.cdl_text.specs.declared.fault.CdlFault.{CdlFault}
-use Rattle.cdl_text.specs.declared.fault.CdlKind.{CdlKind}
-use Rattle.cdl_text.specs.declared.fault.CdlKind.TheVariants.{BadToken, BadNumber, Syntax, BadName, DuplicateName, UnknownDimension, UnknownVariable, FloatingType, UnknownType, ZeroDimension, TwoRecordDims, BadShape, MixedConstants, NumberRange, WrongKind, TooManyValues, StringTooLong, DuplicateData, TooLarge}
+use Rattle.cdl_statements.specs.declared.fault.CdlFault.{CdlFault}
+use Rattle.cdl_statements.specs.declared.fault.CdlKind.{CdlKind}
+use Rattle.cdl_statements.specs.declared.fault.CdlKind.TheVariants.{BadToken, BadNumber, Syntax, BadName, DuplicateName, UnknownDimension, UnknownVariable, FloatingType, UnknownType, ZeroDimension, TwoRecordDims, BadShape, MixedConstants, NumberRange, WrongKind, TooManyValues, StringTooLong, DuplicateData, TooLarge}
 use Rattle.cdl_tokens.specs.Scan.{word_len, until, scan}
 use Rattle.cdl_tokens.specs.Escapes.{unescape_at, stands_at, character, word_value}
 use Rattle.cdl_tokens.specs.Tokens.{tokens_at}
-use Rattle.cdl_text.specs.Pieces.{pieces_at, is_section}
-use Rattle.cdl_text.specs.Statements.{statements}
-use Rattle.cdl_text.specs.Lexemes.{name_of}
+use Rattle.cdl_statements.specs.Pieces.{pieces_at, is_section}
+use Rattle.cdl_statements.specs.Statements.{statements}
+use Rattle.cdl_statements.specs.Lexemes.{name_of}
 use Rattle.cdl_tokens.specs.Numerals.{suffix, numeral, parts}
-use Rattle.cdl_text.specs.Shapes.{shape}
+use Rattle.cdl_statements.specs.Shapes.{shape}
 use Rattle.cdl_meaning.specs.State.{act, fits, add_dim, type_of, add_dimid, add_var, at_variable, add_att, capacity_of, listing_of}
 use Rattle.cdl_meaning.specs.Meaning.{run, piece_read, meaning, finished, is_small_enough}
 

@@ -9,10 +9,10 @@ use Rattle.nc_base.specs.declared.header.Var.{Var}
 use Rattle.nc_base.specs.declared.version.Version.{Version}
 use Rattle.nc_base.specs.Fill.{fill_value}
 use Rattle.nc_base.specs.ValueText.{is_char}
-use Rattle.cdl_text.specs.Shapes.{Value, Number, Characters, Underscore}
+use Rattle.cdl_statements.specs.Shapes.{Value, Number, Characters, Underscore}
 use Rattle.cdl_meaning.specs.State.{Draft, Listing, Numbers, Joined, Rows, Capacity, capacity_of, in_turn, unless, ◌>>=◌, fits, filled, add_number, add_characters, add_row, listed_by, listing_of, values_in, is_listed, with_values}
-use Rattle.cdl_text.specs.declared.fault.CdlKind.{CdlKind}
-use Rattle.cdl_text.specs.declared.fault.CdlKind.TheVariants.{TooManyValues, StringTooLong, DuplicateData, NumberRange}
+use Rattle.cdl_statements.specs.declared.fault.CdlKind.{CdlKind}
+use Rattle.cdl_statements.specs.declared.fault.CdlKind.TheVariants.{TooManyValues, StringTooLong, DuplicateData, NumberRange}
 use Rattle.cdl_laws.proofs.Bools.{off}
 use Rattle.cdl_laws.proofs.Given.{slab_rows}
 use Rattle.cdl_laws.proofs.Limits.{slab_some}

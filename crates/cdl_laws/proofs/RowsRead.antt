@@ -15,8 +15,8 @@ use Rattle.nc_base.specs.Names.{IsName}
 use Rattle.nc_base.specs.Numbers.{bytes_of_number}
 use Rattle.nc_base.specs.Sayable.{IsSayable, IsSayableVar, trimmed_var}
 use Rattle.nc_base.specs.ValueText.{is_char, look_of, variable_text}
-use Rattle.cdl_text.specs.declared.section.Section.TheVariants.{Values}
-use Rattle.cdl_text.specs.Shapes.{Listed}
+use Rattle.cdl_statements.specs.declared.section.Section.TheVariants.{Values}
+use Rattle.cdl_statements.specs.Shapes.{Listed}
 use Rattle.cdl_meaning.specs.Meaning.{array_of}
 use Rattle.cdl_meaning.specs.State.{Capacity, capacity_of, filled, listing_of, values_in}
 use Rattle.cdl_laws.specs.PieceLaws.{DataReadsBack}

@@ -10,9 +10,9 @@ use Rattle.nc_base.specs.declared.version.Version.{Version}
 use Rattle.nc_base.specs.Versions.{has_type}
 use Rattle.cdl_tokens.specs.Bytes.{is_digit, is_octal, is_hex, is_escape, is_sign}
 use Rattle.cdl_tokens.specs.Escapes.{byte, character, digit, escape, hex_escape, inner, octal_escape, octal_number, or_zero, plain_escape, stands_at, word_value}
-use Rattle.cdl_text.specs.Lexemes.{Lexeme, is_word_kind, is_mark, is_word, name_of}
+use Rattle.cdl_statements.specs.Lexemes.{Lexeme, is_word_kind, is_mark, is_word, name_of}
 use Rattle.cdl_tokens.specs.Numerals.{Parts, parts, number, Numeral, numeral, suffix, of_version, type_of_suffix, with_suffix, in_base, unsigned, lower, number_in}
-use Rattle.cdl_text.specs.Shapes.{Value, Number, Characters, Underscore, Dimension, Variable, both, each, given, into_first, members_in, members, length_of, dimension, constant_of, constant, constants, dimensions, name_alone, before_mark, variable}
+use Rattle.cdl_statements.specs.Shapes.{Value, Number, Characters, Underscore, Dimension, Variable, both, each, given, into_first, members_in, members, length_of, dimension, constant_of, constant, constants, dimensions, name_alone, before_mark, variable}
 use Rattle.cdl_tokens.specs.declared.token.TokenKind.{TokenKind}
 use Rattle.cdl_tokens.specs.declared.token.TokenKind.TheVariants as kinds
 use Rattle.cdl_tokens.specs.declared.scan.Character.{Character}

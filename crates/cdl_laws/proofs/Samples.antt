@@ -21,10 +21,10 @@ use lib.Utf8.{encode}
 use Rattle.cdl_tokens.specs.Scan.{word_len, until, scan}
 use Rattle.cdl_tokens.specs.Escapes.{unescape_at, stands_at, character, word_value}
 use Rattle.cdl_tokens.specs.Tokens.{tokens_at}
-use Rattle.cdl_text.specs.Pieces.{pieces_at, is_section}
-use Rattle.cdl_text.specs.Lexemes.{name_of}
+use Rattle.cdl_statements.specs.Pieces.{pieces_at, is_section}
+use Rattle.cdl_statements.specs.Lexemes.{name_of}
 use Rattle.cdl_tokens.specs.Numerals.{suffix, numeral, parts}
-use Rattle.cdl_text.specs.Shapes.{shape}
+use Rattle.cdl_statements.specs.Shapes.{shape}
 use Rattle.cdl_meaning.specs.State.{fits, add_dim, type_of, add_dimid, add_var, at_variable, add_att, capacity_of, listing_of, act}
 use Rattle.cdl_meaning.specs.Meaning.{piece_read, run, is_small_enough, finished, meaning}
 use Rattle.nc_base.specs.Sayable.{trimmed}

@@ -10,7 +10,7 @@ use Rattle.cdl_tokens.specs.declared.token.TokenKind.TheVariants as kinds
 use Rattle.cdl_tokens.specs.Bytes.{is_octal, is_digit}
 use Rattle.cdl_tokens.specs.Scan.{until, scan, scan_text}
 use Rattle.cdl_tokens.specs.Escapes.{character, byte, digit, plain_escape, unescape, unescape_at, prepended}
-use Rattle.cdl_text.specs.Lexemes.{Lexeme}
+use Rattle.cdl_statements.specs.Lexemes.{Lexeme}
 use Rattle.cdl_laws.proofs.Words.{until_prefix}
 use Rattle.cdl_laws.proofs.Texts.{Closed, prefix_again}
 

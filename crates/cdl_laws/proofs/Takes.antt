@@ -4,18 +4,18 @@ use Rattle.std.specs.Prelude.{◌&&◌, if◌then◌else◌, Option, None, Some,
 use Rattle.std.specs.List.{list_all}
 use Rattle.std.specs.Option.{option_map, option_and_then}
 use Rattle.nc_base.specs.declared.version.Version.{Version}
-use Rattle.cdl_text.specs.declared.fault.CdlKind.{CdlKind}
-use Rattle.cdl_text.specs.declared.section.Section.{Section}
-use Rattle.cdl_text.specs.declared.section.Section.TheVariants.{Globals, Dimensions, Variables, Values}
-use Rattle.cdl_text.specs.declared.section.Section.TheVariants as sections
-use Rattle.cdl_text.specs.declared.piece.Role.{Role}
-use Rattle.cdl_text.specs.declared.piece.Role.TheVariants as roles
-use Rattle.cdl_text.specs.declared.piece.CutState.TheVariants.{Begins, Inside}
-use Rattle.cdl_text.specs.Lexemes.{Lexeme, role}
+use Rattle.cdl_statements.specs.declared.fault.CdlKind.{CdlKind}
+use Rattle.cdl_statements.specs.declared.section.Section.{Section}
+use Rattle.cdl_statements.specs.declared.section.Section.TheVariants.{Globals, Dimensions, Variables, Values}
+use Rattle.cdl_statements.specs.declared.section.Section.TheVariants as sections
+use Rattle.cdl_statements.specs.declared.piece.Role.{Role}
+use Rattle.cdl_statements.specs.declared.piece.Role.TheVariants as roles
+use Rattle.cdl_statements.specs.declared.piece.CutState.TheVariants.{Begins, Inside}
+use Rattle.cdl_statements.specs.Lexemes.{Lexeme, role}
 use Rattle.cdl_meaning.specs.Meaning.{piece_read}
-use Rattle.cdl_text.specs.Pieces.{pieces_at, step, going, unless_end, with_first, first_role, is_section}
+use Rattle.cdl_statements.specs.Pieces.{pieces_at, step, going, unless_end, with_first, first_role, is_section}
 use Rattle.cdl_laws.specs.Reading.{lexemes_at, pieces_of}
-use Rattle.cdl_text.specs.Shapes.{Statement, first_bad, token_fault, shape, before_mark, body}
+use Rattle.cdl_statements.specs.Shapes.{Statement, first_bad, token_fault, shape, before_mark, body}
 use Rattle.cdl_meaning.specs.State.{State, act, in_turn}
 use Rattle.cdl_laws.proofs.Bools.{and_left, and_right, and_both}
 use Rattle.cdl_laws.proofs.Texts as texts

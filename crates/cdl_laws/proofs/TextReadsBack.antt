@@ -16,7 +16,7 @@ use Rattle.nc_base.specs.Dump.{Options, Ending, whole, IsText, unknown, shown, S
 use Rattle.nc_base.specs.Headers.{IsGood, IsSoundVar, bare, bare_var}
 use Rattle.nc_base.specs.Names.{IsName}
 use Rattle.nc_base.specs.Sizes.{slab_count, slab_size, slab_limit, record_limit, record_vars, record_size_of}
-use Rattle.cdl_text.specs.declared.section.Section.TheVariants.{Ended}
+use Rattle.cdl_statements.specs.declared.section.Section.TheVariants.{Ended}
 use Rattle.cdl_meaning.specs.Meaning.{meaning, is_small, is_small_enough, dataset_of, array_of, records_in}
 use Rattle.cdl_laws.specs.RoundTrip.{IsFull, TextReadsBack}
 use Rattle.nc_base.specs.Sayable.{trimmed, trimmed_att, trimmed_var, AreDistinct, IsSayable, IsSayableVar}

@@ -12,7 +12,7 @@ use Rattle.std.specs.Str.{is_utf8}
 use Rattle.cdl_tokens.specs.declared.token.TokenKind.TheVariants as kinds
 use Rattle.cdl_tokens.specs.Bytes.{is_digit, is_escape, goes_on_word, goes_on_number, begins_word}
 use Rattle.cdl_tokens.specs.Scan.{word_len, scan, begins_a_word, token}
-use Rattle.cdl_text.specs.Lexemes.{Lexeme, name_of}
+use Rattle.cdl_statements.specs.Lexemes.{Lexeme, name_of}
 use Rattle.cdl_laws.specs.Reading.{lexemes_at, with_lexeme}
 use Rattle.cdl_tokens.specs.declared.token.TokenKind.{TokenKind}
 use Rattle.cdl_laws.proofs.Words.{word_prefix}

@@ -12,9 +12,9 @@ use Rattle.cdl_tokens.specs.declared.token.TokenKind.TheVariants.{Opening, Word,
 use Rattle.cdl_tokens.specs.Escapes.{unescape_at, character, word_value}
 use Rattle.cdl_tokens.specs.Scan.{word_len, until, scan}
 use Rattle.cdl_tokens.specs.Tokens.{tokens, tokens_at}
-use Rattle.cdl_text.specs.Pieces.{pieces_at, is_section}
-use Rattle.cdl_text.specs.Lexemes.{is_word, is_mark, name_of}
-use Rattle.cdl_text.specs.Statements.{statements}
+use Rattle.cdl_statements.specs.Pieces.{pieces_at, is_section}
+use Rattle.cdl_statements.specs.Lexemes.{is_word, is_mark, name_of}
+use Rattle.cdl_statements.specs.Statements.{statements}
 use Rattle.cdl_tokens.specs.Numerals.{Numeral, suffix, numeral, parts}
 
 -- ---- what stands at the start of bytes

@@ -11,9 +11,9 @@ use Rattle.nc_base.specs.Escapes.{escaped_name}
 use Rattle.nc_base.specs.HeadText.{joined}
 use Rattle.nc_base.specs.Names.{IsName}
 use Rattle.nc_base.specs.Types.{type_word}
-use Rattle.cdl_text.specs.declared.section.Section.TheVariants.{Variables}
-use Rattle.cdl_text.specs.Lexemes.{Lexeme}
-use Rattle.cdl_text.specs.Shapes.{Typed, members, members_in, into_first, each, both, variable, name_alone, before_mark, body}
+use Rattle.cdl_statements.specs.declared.section.Section.TheVariants.{Variables}
+use Rattle.cdl_statements.specs.Lexemes.{Lexeme}
+use Rattle.cdl_statements.specs.Shapes.{Typed, members, members_in, into_first, each, both, variable, name_alone, before_mark, body}
 use Rattle.cdl_laws.proofs.Bools.{and_both}
 use Rattle.cdl_laws.proofs.Lists.{Each}
 use Rattle.cdl_laws.proofs.Texts.{Closed, Reads, closed_both, closed_by, mark, word, name_word}

@@ -5,17 +5,17 @@ use Rattle.std.specs.Prelude.{Option, None, Some, drop, ◌&&◌, nat_lt, is_non
 use Rattle.std.specs.Option.{option_map, option_and_then}
 use Rattle.nc_base.specs.declared.version.Version.{Version}
 use Rattle.cdl_tokens.specs.Scan.{scan}
-use Rattle.cdl_text.specs.Lexemes.{Lexeme, lexeme, role, is_mark, is_word_kind, name_of}
-use Rattle.cdl_text.specs.Pieces.{pieces_at, with_first, step, first_role}
-use Rattle.cdl_text.specs.Shapes as shapes
-use Rattle.cdl_text.specs.Shapes.{Value, Dimension, Variable, Statement, Opening, Mark, Declared, Typed, Attribute, Listed, Brace, End, each, either, given, members, dimensions, variable, constants, assigned, global, typed, attribute, body, section_number, section_of, mark_after, section_mark, alone, shape, before_mark, is_kind_opening, is_kind_end}
+use Rattle.cdl_statements.specs.Lexemes.{Lexeme, lexeme, role, is_mark, is_word_kind, name_of}
+use Rattle.cdl_statements.specs.Pieces.{pieces_at, with_first, step, first_role}
+use Rattle.cdl_statements.specs.Shapes as shapes
+use Rattle.cdl_statements.specs.Shapes.{Value, Dimension, Variable, Statement, Opening, Mark, Declared, Typed, Attribute, Listed, Brace, End, each, either, given, members, dimensions, variable, constants, assigned, global, typed, attribute, body, section_number, section_of, mark_after, section_mark, alone, shape, before_mark, is_kind_opening, is_kind_end}
 use Rattle.cdl_tokens.specs.Tokens.{tokens, tokens_at, with_token}
-use Rattle.cdl_text.specs.Statements.{statements}
-use Rattle.cdl_text.specs.declared.section.Section.{Section}
-use Rattle.cdl_text.specs.declared.section.Section.TheVariants.{Unopened, Globals, Dimensions, Variables, Values, Closed, Ended}
-use Rattle.cdl_text.specs.declared.piece.CutState.{CutState}
-use Rattle.cdl_text.specs.declared.piece.CutState.TheVariants as places
-use Rattle.cdl_text.specs.declared.piece.Role.{Role}
+use Rattle.cdl_statements.specs.Statements.{statements}
+use Rattle.cdl_statements.specs.declared.section.Section.{Section}
+use Rattle.cdl_statements.specs.declared.section.Section.TheVariants.{Unopened, Globals, Dimensions, Variables, Values, Closed, Ended}
+use Rattle.cdl_statements.specs.declared.piece.CutState.{CutState}
+use Rattle.cdl_statements.specs.declared.piece.CutState.TheVariants as places
+use Rattle.cdl_statements.specs.declared.piece.Role.{Role}
 use Rattle.cdl_tokens.specs.declared.token.Token.{Token}
 use Rattle.cdl_tokens.specs.declared.token.TokenKind.{TokenKind}
 use Rattle.cdl_laws.proofs.Lists.{Each}

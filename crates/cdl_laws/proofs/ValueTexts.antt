@@ -13,11 +13,11 @@ use Rattle.nc_base.specs.declared.nc_type.NcType.TheVariants.{Int}
 use Rattle.nc_base.specs.declared.version.Version.{Version}
 use Rattle.nc_base.specs.Names.{IsName}
 use Rattle.nc_base.specs.ValueText.{Look, is_char, number_text, number_lead, line_break, begins_row, column, number_piece, piece, pieces, opening, closing, variable_prefix, variable_text}
-use Rattle.cdl_text.specs.declared.fault.CdlKind.{CdlKind}
-use Rattle.cdl_text.specs.Lexemes.{Lexeme, is_mark}
+use Rattle.cdl_statements.specs.declared.fault.CdlKind.{CdlKind}
+use Rattle.cdl_statements.specs.Lexemes.{Lexeme, is_mark}
 use Rattle.cdl_laws.specs.Reading.{lexemes_at}
 use Rattle.cdl_tokens.specs.Scan.{scan}
-use Rattle.cdl_text.specs.Shapes.{Value, Number, Underscore, members_in, members, each, both, constant, constants}
+use Rattle.cdl_statements.specs.Shapes.{Value, Number, Underscore, members_in, members, each, both, constant, constants}
 use Rattle.cdl_meaning.specs.State.{Capacity, Numbers, add_number, fits, in_turn, listing_of, ◌>>=◌}
 use Rattle.cdl_laws.proofs.Bools.{and_left, and_right, and_both, off}
 use Rattle.cdl_laws.proofs.Lists.{Each}

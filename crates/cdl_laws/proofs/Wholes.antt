@@ -15,10 +15,10 @@ use Rattle.nc_base.specs.HeadText.{joined, dim_line, att_line, att_lines, att_va
 use Rattle.nc_base.specs.Names.{IsName}
 use Rattle.nc_base.specs.Types.{type_word}
 use Rattle.nc_base.specs.Versions.{count_limit, has_type}
-use Rattle.cdl_text.specs.declared.section.Section.{Section}
-use Rattle.cdl_text.specs.declared.section.Section.TheVariants.{Dimensions, Variables}
+use Rattle.cdl_statements.specs.declared.section.Section.{Section}
+use Rattle.cdl_statements.specs.declared.section.Section.TheVariants.{Dimensions, Variables}
 use Rattle.nc_base.specs.Sayable.{trimmed_att, trimmed_var}
-use Rattle.cdl_text.specs.Shapes.{Value, Declared, Typed, Attribute}
+use Rattle.cdl_statements.specs.Shapes.{Value, Declared, Typed, Attribute}
 use Rattle.cdl_meaning.specs.State.{State, Draft, act, add_dim, add_att, add_constant, first_type, add_var, with_att, in_turn, ◌>>=◌}
 use Rattle.cdl_laws.specs.PieceLaws.{said_dim, IsBeforeData}
 use Rattle.cdl_laws.proofs.Lists.{Each}

@@ -14,14 +14,14 @@ use Rattle.nc_base.specs.Names.{IsName}
 use Rattle.nc_base.specs.Sayable.{IsSayable, trimmed_att}
 use Rattle.nc_base.specs.Types.{type_word}
 use Rattle.nc_base.specs.ValueText.{look_of, variable_text}
-use Rattle.cdl_text.specs.declared.piece.CutState.TheVariants.{Begins}
-use Rattle.cdl_text.specs.declared.section.Section.{Section}
-use Rattle.cdl_text.specs.declared.section.Section.TheVariants.{Unopened, Globals, Dimensions, Variables, Values, Closed}
+use Rattle.cdl_statements.specs.declared.piece.CutState.TheVariants.{Begins}
+use Rattle.cdl_statements.specs.declared.section.Section.{Section}
+use Rattle.cdl_statements.specs.declared.section.Section.TheVariants.{Unopened, Globals, Dimensions, Variables, Values, Closed}
 use Rattle.cdl_tokens.specs.declared.token.TokenKind.TheVariants as kinds
-use Rattle.cdl_text.specs.Lexemes.{Lexeme, lexeme, role}
-use Rattle.cdl_text.specs.Pieces.{pieces_at}
-use Rattle.cdl_text.specs.Shapes.{Value, Dimension, Statement, Opening, Mark, Declared, Typed, Attribute, Listed, Brace, End, first_bad, shape}
-use Rattle.cdl_text.specs.Statements.{statements}
+use Rattle.cdl_statements.specs.Lexemes.{Lexeme, lexeme, role}
+use Rattle.cdl_statements.specs.Pieces.{pieces_at}
+use Rattle.cdl_statements.specs.Shapes.{Value, Dimension, Statement, Opening, Mark, Declared, Typed, Attribute, Listed, Brace, End, first_bad, shape}
+use Rattle.cdl_statements.specs.Statements.{statements}
 use Rattle.cdl_meaning.specs.State.{in_turn, add_dimid, add_constant, first_type, type_of}
 use Rattle.cdl_laws.specs.Reading.{lexemes, pieces_of}
 

@@ -1,9 +1,9 @@
 -- The tokens without their places, for texts that are put together, and the pieces that they are cut into.
 use Rattle.std.specs.Prelude.{ℕ, zero, suc, Bool, true, false, List, [], ◌∷◌, ◌-◌, ◌&&◌, take, Option, None, Some, is_none}
 use Rattle.cdl_tokens.specs.Scan.{scan}
-use Rattle.cdl_text.specs.Lexemes.{Lexeme, role}
-use Rattle.cdl_text.specs.Pieces.{pieces_at}
-use Rattle.cdl_text.specs.declared.piece.CutState.TheVariants.{Begins}
+use Rattle.cdl_statements.specs.Lexemes.{Lexeme, role}
+use Rattle.cdl_statements.specs.Pieces.{pieces_at}
+use Rattle.cdl_statements.specs.declared.piece.CutState.TheVariants.{Begins}
 use Rattle.cdl_tokens.specs.declared.token.TokenKind.{TokenKind}
 use Rattle.cdl_tokens.specs.declared.token.TokenKind.TheVariants.{End}
 

@@ -8,8 +8,8 @@ use Rattle.nc_base.specs.Headers.{value_count}
 use Rattle.nc_base.specs.Sayable.{IsSayable}
 use Rattle.nc_base.specs.Sizes.{is_record_var}
 use Rattle.nc_base.specs.ValueText.{look_of, variable_text}
-use Rattle.cdl_text.specs.declared.section.Section.TheVariants.{Values}
-use Rattle.cdl_text.specs.Shapes.{Value, Listed}
+use Rattle.cdl_statements.specs.declared.section.Section.TheVariants.{Values}
+use Rattle.cdl_statements.specs.Shapes.{Value, Listed}
 use Rattle.cdl_meaning.specs.Meaning.{array_of}
 use Rattle.cdl_meaning.specs.State.{Listing, capacity_of, listing_of, values_in}
 use Rattle.cdl_laws.specs.PieceLaws.{IsStatement}

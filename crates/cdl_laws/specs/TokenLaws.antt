@@ -13,10 +13,10 @@ use Rattle.nc_base.specs.Versions.{has_type}
 use Rattle.cdl_tokens.specs.Bytes.{is_blank, is_mark, goes_on_word, goes_on_number, is_escape}
 use Rattle.cdl_tokens.specs.Escapes.{inner, stands, unescape, word_value}
 use Rattle.cdl_tokens.specs.Scan.{scan, token}
-use Rattle.cdl_text.specs.Lexemes.{name_of}
+use Rattle.cdl_statements.specs.Lexemes.{name_of}
 use Rattle.cdl_tokens.specs.Numerals.{numeral}
 use Rattle.cdl_tokens.specs.Tokens.{raw, tokens}
-use Rattle.cdl_text.specs.Pieces.{is_section}
+use Rattle.cdl_statements.specs.Pieces.{is_section}
 use Rattle.cdl_tokens.specs.declared.token.Token.{Token}
 use Rattle.cdl_tokens.specs.declared.token.TokenKind.{TokenKind}
 use Rattle.cdl_tokens.specs.declared.token.TokenKind.TheVariants.{Word, Number, Text}

@@ -11,13 +11,13 @@ use Rattle.nc_base.specs.Headers.{value_count}
 use Rattle.nc_base.specs.Numbers.{bytes_of_number}
 use Rattle.nc_base.specs.Sizes.{is_record_var, slab_count, slab_size, record_size, slab_limit, array_limit, record_limit}
 use Rattle.nc_base.specs.Types.{size_of}
-use Rattle.cdl_text.specs.Lexemes.{Lexeme, lexeme}
-use Rattle.cdl_text.specs.Shapes.{Statement, shape, first_bad}
-use Rattle.cdl_text.specs.Statements.{statements}
-use Rattle.cdl_text.specs.declared.fault.CdlFault.{CdlFault}
-use Rattle.cdl_text.specs.declared.fault.CdlKind.{CdlKind}
-use Rattle.cdl_text.specs.declared.fault.CdlKind.TheVariants.{Syntax, TooLarge}
-use Rattle.cdl_text.specs.declared.section.Section.TheVariants.{Unopened}
+use Rattle.cdl_statements.specs.Lexemes.{Lexeme, lexeme}
+use Rattle.cdl_statements.specs.Shapes.{Statement, shape, first_bad}
+use Rattle.cdl_statements.specs.Statements.{statements}
+use Rattle.cdl_statements.specs.declared.fault.CdlFault.{CdlFault}
+use Rattle.cdl_statements.specs.declared.fault.CdlKind.{CdlKind}
+use Rattle.cdl_statements.specs.declared.fault.CdlKind.TheVariants.{Syntax, TooLarge}
+use Rattle.cdl_statements.specs.declared.section.Section.TheVariants.{Unopened}
 use Rattle.cdl_tokens.specs.declared.token.Token.{Token}
 use Rattle.cdl_meaning.specs.State.{State, Draft, act, capacity_of, filled, values_in}
 

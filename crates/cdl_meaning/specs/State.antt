@@ -18,12 +18,12 @@ use Rattle.nc_base.specs.Sizes.{dim_len, is_record_dim, is_record_var, product, 
 use Rattle.nc_base.specs.Types.{all_types, code_of, type_word, width_of, is_signed}
 use Rattle.nc_base.specs.ValueText.{row_len, is_char}
 use Rattle.nc_base.specs.Versions.{count_limit, has_type}
-use Rattle.cdl_text.specs.Lexemes.{Lexeme, is_word}
-use Rattle.cdl_text.specs.Shapes.{Value, Number, Characters, Underscore, Dimension, Variable, Statement, Opening, Mark, Declared, Typed, Attribute, Listed, Brace, End}
-use Rattle.cdl_text.specs.declared.fault.CdlKind.{CdlKind}
-use Rattle.cdl_text.specs.declared.fault.CdlKind.TheVariants.{BadName, DuplicateName, UnknownDimension, UnknownVariable, FloatingType, UnknownType, ZeroDimension, TwoRecordDims, BadShape, MixedConstants, NumberRange, WrongKind, TooManyValues, StringTooLong, DuplicateData}
-use Rattle.cdl_text.specs.declared.section.Section.{Section}
-use Rattle.cdl_text.specs.declared.section.Section.TheVariants.{Globals, Closed, Ended}
+use Rattle.cdl_statements.specs.Lexemes.{Lexeme, is_word}
+use Rattle.cdl_statements.specs.Shapes.{Value, Number, Characters, Underscore, Dimension, Variable, Statement, Opening, Mark, Declared, Typed, Attribute, Listed, Brace, End}
+use Rattle.cdl_statements.specs.declared.fault.CdlKind.{CdlKind}
+use Rattle.cdl_statements.specs.declared.fault.CdlKind.TheVariants.{BadName, DuplicateName, UnknownDimension, UnknownVariable, FloatingType, UnknownType, ZeroDimension, TwoRecordDims, BadShape, MixedConstants, NumberRange, WrongKind, TooManyValues, StringTooLong, DuplicateData}
+use Rattle.cdl_statements.specs.declared.section.Section.{Section}
+use Rattle.cdl_statements.specs.declared.section.Section.TheVariants.{Globals, Closed, Ended}
 
 -- what is listed of a variable
 pub data Listing : Type 0 where

@@ -5,17 +5,17 @@ use Rattle.nc_base.specs.Names.{is_name as is_format_name}
 use Rattle.nc_base.specs.declared.header.Att.{Att}
 use Rattle.nc_base.specs.declared.nc_type.NcType.{NcType}
 use Rattle.nc_base.specs.declared.version.Version.{Version}
-use Rattle.cdl_text.specs.Contents.{value_of, values}
-use Rattle.cdl_text.specs.DueTokens.{completes, is_name, is_value_of, next}
-use Rattle.cdl_text.specs.Cutters.{is_done, next_token, text_of, version_of, words}
-use Rattle.cdl_text.specs.declared.cutter.Cutter.{Cutter}
+use Rattle.cdl_statements.specs.Contents.{value_of, values}
+use Rattle.cdl_statements.specs.DueTokens.{completes, is_name, is_value_of, next}
+use Rattle.cdl_statements.specs.Cutters.{is_done, next_token, text_of, version_of, words}
+use Rattle.cdl_statements.specs.declared.cutter.Cutter.{Cutter}
 use Rattle.cdl_tokens.specs.Escapes.{word_value}
-use Rattle.cdl_text.specs.Lexemes.{Lexeme, is_mark, lexeme}
-use Rattle.cdl_text.specs.Shapes.{Value}
-use Rattle.cdl_text.specs.declared.due.Due.TheVariants.{AttributeName, Equals, Value as DueValue, Separator}
-use Rattle.cdl_text.specs.declared.fault.CdlKind.{CdlKind}
-use Rattle.cdl_text.specs.declared.fault.CdlKind.TheVariants.{BadName, DuplicateName}
-use Rattle.cdl_text.proofs.Listing.{value_first}
+use Rattle.cdl_statements.specs.Lexemes.{Lexeme, is_mark, lexeme}
+use Rattle.cdl_statements.specs.Shapes.{Value}
+use Rattle.cdl_statements.specs.declared.due.Due.TheVariants.{AttributeName, Equals, Value as DueValue, Separator}
+use Rattle.cdl_statements.specs.declared.fault.CdlKind.{CdlKind}
+use Rattle.cdl_statements.specs.declared.fault.CdlKind.TheVariants.{BadName, DuplicateName}
+use Rattle.cdl_statements.proofs.Listing.{value_first}
 use Rattle.cdl_meaning.specs.State.{add_att, add_constant, first_type, in_turn, type_said, unless, when, ◌>>=◌}
 use Rattle.cdl_values.specs.Answers.{Fails, Leaves}
 use Rattle.cdl_values.specs.declared.read_error.ReadError.{ReadError}

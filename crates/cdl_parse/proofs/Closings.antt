@@ -1,9 +1,9 @@
 -- The line of the last statement but one, a statement at a time.
 use Rattle.std.proofs.Common.{◌≡◌, ℕ, ◌<◌, true, false, List, [], ◌∷◌, length, map, refl, sym, ap, arith}
-use Rattle.cdl_text.specs.Cutters.{after, first_line, first_piece, is_done, next_token, other_pieces, pieces_left, text_of, words}
-use Rattle.cdl_text.specs.Lexemes.{Lexeme, lexeme}
-use Rattle.cdl_text.specs.Pieces.{pieces_at}
-use Rattle.cdl_text.specs.declared.cutter.Cutter.{Cutter}
+use Rattle.cdl_statements.specs.Cutters.{after, first_line, first_piece, is_done, next_token, other_pieces, pieces_left, text_of, words}
+use Rattle.cdl_statements.specs.Lexemes.{Lexeme, lexeme}
+use Rattle.cdl_statements.specs.Pieces.{pieces_at}
+use Rattle.cdl_statements.specs.declared.cutter.Cutter.{Cutter}
 use Rattle.cdl_tokens.specs.declared.token.Token.{Token}
 use Rattle.cdl_meaning.specs.Meaning.{closing_line, line_of}
 use Rattle.cdl_parse.proofs.StatementWords.{begins}

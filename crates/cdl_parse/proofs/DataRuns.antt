@@ -2,9 +2,9 @@
 use Rattle.std.proofs.Common.{◌≡◌, ℕ, false, List, [], length, refl, sym, ◌∙◌, subst}
 use Rattle.std.specs.Prelude.{Ok, replicate}
 use Rattle.nc_base.specs.declared.header.Var.{Var}
-use Rattle.cdl_text.specs.Cutters.{after, is_done, pieces_left, text_of, version_of, words}
-use Rattle.cdl_text.specs.declared.cutter.Cutter.{Cutter}
-use Rattle.cdl_text.specs.declared.section.Section.TheVariants.{Values}
+use Rattle.cdl_statements.specs.Cutters.{after, is_done, pieces_left, text_of, version_of, words}
+use Rattle.cdl_statements.specs.declared.cutter.Cutter.{Cutter}
+use Rattle.cdl_statements.specs.declared.section.Section.TheVariants.{Values}
 use Rattle.cdl_meaning.specs.Meaning.{piece_read, run}
 use Rattle.cdl_meaning.specs.State.{State, Draft}
 use Rattle.cdl_values.specs.Listed.{AllList, fresh}

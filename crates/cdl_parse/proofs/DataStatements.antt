@@ -3,10 +3,10 @@ use Rattle.std.proofs.Common.{◌≡◌, ℕ, true, List, [], ◌∷◌, Result,
 use Rattle.std.specs.Prelude.{Some, Ok, Err}
 use Rattle.nc_base.specs.declared.header.Var.{Var}
 use Rattle.nc_base.specs.declared.version.Version.{Version}
-use Rattle.cdl_text.specs.Lexemes.{Lexeme}
-use Rattle.cdl_text.specs.Contents.{statement_said}
-use Rattle.cdl_text.specs.declared.cutter.Cutter.{Cutter}
-use Rattle.cdl_text.specs.declared.section.Section.TheVariants.{Values, Closed}
+use Rattle.cdl_statements.specs.Lexemes.{Lexeme}
+use Rattle.cdl_statements.specs.Contents.{statement_said}
+use Rattle.cdl_statements.specs.declared.cutter.Cutter.{Cutter}
+use Rattle.cdl_statements.specs.declared.section.Section.TheVariants.{Values, Closed}
 use Rattle.cdl_meaning.specs.Meaning.{piece_read}
 use Rattle.cdl_meaning.specs.State.{Draft, State, act}
 use Rattle.cdl_values.specs.Listed.{AllList}

@@ -9,15 +9,15 @@ use Rattle.nc_base.specs.Sizes.{is_record_dim}
 use Rattle.nc_base.specs.declared.header.Dim.{Dim}
 use Rattle.nc_base.specs.declared.nc_type.NcType.{NcType}
 use Rattle.nc_base.specs.declared.version.Version.{Version}
-use Rattle.cdl_text.specs.Contents.{Declaration, declaration_said, with_name}
-use Rattle.cdl_text.specs.DueTokens.{completes, is_name as is_name_token, is_whole, next}
+use Rattle.cdl_statements.specs.Contents.{Declaration, declaration_said, with_name}
+use Rattle.cdl_statements.specs.DueTokens.{completes, is_name as is_name_token, is_whole, next}
 use Rattle.cdl_tokens.specs.Escapes.{word_value}
-use Rattle.cdl_text.specs.Lexemes.{Lexeme, is_mark, is_mark_kind}
-use Rattle.cdl_text.specs.declared.due.Due.{Due}
-use Rattle.cdl_text.specs.declared.due.Due.TheVariants.{AfterVariable, VariableName}
-use Rattle.cdl_text.specs.declared.fault.CdlKind.{CdlKind}
-use Rattle.cdl_text.specs.declared.fault.CdlKind.TheVariants.{BadName, BadShape, DuplicateName, UnknownDimension}
-use Rattle.cdl_text.proofs.VariableNames.{name_kind}
+use Rattle.cdl_statements.specs.Lexemes.{Lexeme, is_mark, is_mark_kind}
+use Rattle.cdl_statements.specs.declared.due.Due.{Due}
+use Rattle.cdl_statements.specs.declared.due.Due.TheVariants.{AfterVariable, VariableName}
+use Rattle.cdl_statements.specs.declared.fault.CdlKind.{CdlKind}
+use Rattle.cdl_statements.specs.declared.fault.CdlKind.TheVariants.{BadName, BadShape, DuplicateName, UnknownDimension}
+use Rattle.cdl_statements.proofs.VariableNames.{name_kind}
 use Rattle.cdl_meaning.specs.State.{Draft, add_dimid, add_var, found, in_turn, type_of, unless, when, ◌>>=◌}
 use Rattle.cdl_values.specs.Answers.{Continues, Fails, Leaves}
 use Rattle.cdl_values.specs.declared.read_error.ReadError.{ReadError}

@@ -5,20 +5,20 @@ use Rattle.std.proofs.lemmas.Bool.{false≢true}
 use Rattle.nc_base.specs.declared.header.Att.{Att}
 use Rattle.nc_base.specs.declared.header.Dim.{Dim}
 use Rattle.nc_base.specs.declared.version.Version.{Version}
-use Rattle.cdl_text.specs.Contents.{attribute_said, declaration_said, dimensions_said, mark_said, other_said, statement_said, variable_said}
-use Rattle.cdl_text.specs.Cutters.{is_done, next_token, text_of, words}
-use Rattle.cdl_text.specs.declared.cutter.Cutter.{Cutter}
-use Rattle.cdl_text.specs.DueTokens.{completes, goes_to, is_name, is_whole, next, only}
+use Rattle.cdl_statements.specs.Contents.{attribute_said, declaration_said, dimensions_said, mark_said, other_said, statement_said, variable_said}
+use Rattle.cdl_statements.specs.Cutters.{is_done, next_token, text_of, words}
+use Rattle.cdl_statements.specs.declared.cutter.Cutter.{Cutter}
+use Rattle.cdl_statements.specs.DueTokens.{completes, goes_to, is_name, is_whole, next, only}
 use Rattle.cdl_tokens.specs.Escapes.{word_value}
-use Rattle.cdl_text.specs.Lexemes.{Lexeme, lexeme, is_mark, is_word_kind}
-use Rattle.cdl_text.specs.Shapes.{Brace, Declared, End, Statement, Typed, first_bad, section_of, shape}
-use Rattle.cdl_text.specs.declared.due.Due.{Due}
-use Rattle.cdl_text.specs.declared.due.Due.TheVariants as dues
-use Rattle.cdl_text.specs.declared.fault.CdlKind.{CdlKind}
-use Rattle.cdl_text.specs.declared.fault.CdlKind.TheVariants.{Syntax}
-use Rattle.cdl_text.specs.declared.section.Section.{Section}
-use Rattle.cdl_text.specs.declared.section.Section.TheVariants.{Unopened, Globals, Dimensions, Variables, Values, Closed, Ended}
-use Rattle.cdl_text.proofs.Options.{none_of}
+use Rattle.cdl_statements.specs.Lexemes.{Lexeme, lexeme, is_mark, is_word_kind}
+use Rattle.cdl_statements.specs.Shapes.{Brace, Declared, End, Statement, Typed, first_bad, section_of, shape}
+use Rattle.cdl_statements.specs.declared.due.Due.{Due}
+use Rattle.cdl_statements.specs.declared.due.Due.TheVariants as dues
+use Rattle.cdl_statements.specs.declared.fault.CdlKind.{CdlKind}
+use Rattle.cdl_statements.specs.declared.fault.CdlKind.TheVariants.{Syntax}
+use Rattle.cdl_statements.specs.declared.section.Section.{Section}
+use Rattle.cdl_statements.specs.declared.section.Section.TheVariants.{Unopened, Globals, Dimensions, Variables, Values, Closed, Ended}
+use Rattle.cdl_statements.proofs.Options.{none_of}
 use Rattle.cdl_meaning.specs.Meaning.{piece_read}
 use Rattle.cdl_meaning.specs.State.{State, Draft, act, add_att, add_dim, add_var, at_variable, in_turn, type_of, with_att, ◌>>=◌}
 use Rattle.cdl_values.specs.Answers.{Fails, Leaves}

@@ -4,13 +4,13 @@ use Rattle.std.specs.Prelude.{Result, Ok, ⊤, if◌then◌else◌}
 use Rattle.nc_base.specs.Names.{is_name as is_format_name}
 use Rattle.nc_base.specs.declared.header.Dim.{Dim}
 use Rattle.nc_base.specs.declared.version.Version.{Version}
-use Rattle.cdl_text.specs.DueTokens.{completes}
-use Rattle.cdl_text.specs.Lexemes.{Lexeme}
-use Rattle.cdl_text.specs.Shapes.{Dimension}
-use Rattle.cdl_text.specs.declared.due.Due.TheVariants.{DimensionName}
-use Rattle.cdl_text.specs.declared.fault.CdlKind.{CdlKind}
-use Rattle.cdl_text.specs.declared.fault.CdlKind.TheVariants.{BadName, DuplicateName}
-use Rattle.cdl_text.proofs.DimensionSteps.{first_goes, second_goes, third_goes, on}
+use Rattle.cdl_statements.specs.DueTokens.{completes}
+use Rattle.cdl_statements.specs.Lexemes.{Lexeme}
+use Rattle.cdl_statements.specs.Shapes.{Dimension}
+use Rattle.cdl_statements.specs.declared.due.Due.TheVariants.{DimensionName}
+use Rattle.cdl_statements.specs.declared.fault.CdlKind.{CdlKind}
+use Rattle.cdl_statements.specs.declared.fault.CdlKind.TheVariants.{BadName, DuplicateName}
+use Rattle.cdl_statements.proofs.DimensionSteps.{first_goes, second_goes, third_goes, on}
 use Rattle.cdl_meaning.specs.State.{add_dim, dim_len_of, unless, when, ◌>>=◌}
 use Rattle.cdl_values.specs.Answers.{Leaves}
 use Rattle.cdl_values.specs.declared.read_error.ReadError.{ReadError}

@@ -11,7 +11,7 @@ use Rattle.nc_base.specs.declared.version.Version.{Version}
 use Rattle.nc_base.specs.declared.version.Version.TheVariants.{Cdf1, Cdf2, Cdf5}
 use Rattle.cdl_tokens.specs.Numerals.{Parts, number, signed}
 use Rattle.cdl_tokens.specs.Magnitudes.{held}
-use Rattle.cdl_text.specs.declared.fault.CdlKind.TheVariants.{NumberRange}
+use Rattle.cdl_statements.specs.declared.fault.CdlKind.TheVariants.{NumberRange}
 use Rattle.nc_base.specs.declared.nc_type.NcType.{NcType}
 use Rattle.cdl_meaning.specs.State.{dim_len_of, unless, ◌>>=◌}
 use Rattle.cdl_parse.specs.DimensionLengths.{number_len}

@@ -1,10 +1,10 @@
 -- A run over the statements that a cutter has left, one statement on.
 use Rattle.std.proofs.Common.{◌≡◌, ℕ, ◌<◌, false, List, [], ◌∷◌, length, sym, ap, ◌∙◌, subst, arith}
 use Rattle.std.specs.Prelude.{Ok, Err, map}
-use Rattle.cdl_text.specs.Cutters.{after, first_line, first_piece, is_done, next_token, other_pieces, pieces_left, text_of, version_of, words}
-use Rattle.cdl_text.specs.Lexemes.{Lexeme, lexeme}
-use Rattle.cdl_text.specs.declared.cutter.Cutter.{Cutter}
-use Rattle.cdl_text.specs.declared.fault.CdlKind.{CdlKind}
+use Rattle.cdl_statements.specs.Cutters.{after, first_line, first_piece, is_done, next_token, other_pieces, pieces_left, text_of, version_of, words}
+use Rattle.cdl_statements.specs.Lexemes.{Lexeme, lexeme}
+use Rattle.cdl_statements.specs.declared.cutter.Cutter.{Cutter}
+use Rattle.cdl_statements.specs.declared.fault.CdlKind.{CdlKind}
 use Rattle.cdl_tokens.specs.declared.token.Token.{Token}
 use Rattle.cdl_meaning.specs.Meaning.{piece_read, run}
 use Rattle.cdl_meaning.specs.State.{State}

@@ -2,11 +2,11 @@
 use Rattle.std.proofs.Common.{◌≡◌, ℕ, true, false, List, [], ◌∷◌, refl, sym, ap}
 use Rattle.std.specs.Prelude.{Result, Ok, Err, map}
 use Rattle.nc_base.specs.declared.version.Version.{Version}
-use Rattle.cdl_text.specs.Cutters.{after, first_line, first_piece, is_done, other_pieces, next_token, pieces_left, text_of, words}
-use Rattle.cdl_text.specs.Lexemes.{Lexeme, lexeme}
-use Rattle.cdl_text.specs.Pieces.{pieces_at}
-use Rattle.cdl_text.specs.declared.cutter.Cutter.{Cutter}
-use Rattle.cdl_text.specs.declared.fault.CdlKind.{CdlKind}
+use Rattle.cdl_statements.specs.Cutters.{after, first_line, first_piece, is_done, other_pieces, next_token, pieces_left, text_of, words}
+use Rattle.cdl_statements.specs.Lexemes.{Lexeme, lexeme}
+use Rattle.cdl_statements.specs.Pieces.{pieces_at}
+use Rattle.cdl_statements.specs.declared.cutter.Cutter.{Cutter}
+use Rattle.cdl_statements.specs.declared.fault.CdlKind.{CdlKind}
 use Rattle.cdl_tokens.specs.declared.token.Token.{Token}
 use Rattle.cdl_meaning.specs.Meaning.{line_of, piece_read, run}
 use Rattle.cdl_meaning.specs.State.{State}

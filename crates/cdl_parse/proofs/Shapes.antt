@@ -11,9 +11,9 @@ use Rattle.nc_base.specs.Sizes.{is_record_dim}
 use Rattle.nc_base.specs.declared.header.Att.{Att}
 use Rattle.nc_base.specs.declared.header.Dim.{Dim}
 use Rattle.nc_base.specs.declared.nc_type.NcType.{NcType}
-use Rattle.cdl_text.specs.Shapes.{Value, Variable}
-use Rattle.cdl_text.specs.declared.fault.CdlKind.{CdlKind}
-use Rattle.cdl_text.specs.declared.fault.CdlKind.TheVariants.{BadName, BadShape, DuplicateName, UnknownDimension}
+use Rattle.cdl_statements.specs.Shapes.{Value, Variable}
+use Rattle.cdl_statements.specs.declared.fault.CdlKind.{CdlKind}
+use Rattle.cdl_statements.specs.declared.fault.CdlKind.TheVariants.{BadName, BadShape, DuplicateName, UnknownDimension}
 use Rattle.cdl_meaning.specs.State.{Draft, add_att, add_dimid, add_var, at_named, at_variable, found, in_turn, unless, when, with_att, ◌>>=◌}
 use Rattle.cdl_values.specs.Listed.{AreShaped}
 use Rattle.cdl_parse.specs.Drafts.{draft, is_taken}

@@ -9,10 +9,10 @@ use Rattle.nc_base.specs.declared.version.Version.{Version}
 use Rattle.nc_base.specs.Headers.{AreDimids}
 use Rattle.nc_base.specs.Names.{is_name}
 use Rattle.nc_base.specs.Sizes.{dim_len, is_record_dim}
-use Rattle.cdl_text.specs.Lexemes.{Lexeme}
-use Rattle.cdl_text.specs.Shapes.{Dimension, Statement, Value, Opening, Mark, Declared, Typed, Attribute, Listed, Brace, End, first_bad, shape}
-use Rattle.cdl_text.specs.declared.fault.CdlKind.{CdlKind}
-use Rattle.cdl_text.specs.declared.fault.CdlKind.TheVariants.{BadName, DuplicateData, DuplicateName}
+use Rattle.cdl_statements.specs.Lexemes.{Lexeme}
+use Rattle.cdl_statements.specs.Shapes.{Dimension, Statement, Value, Opening, Mark, Declared, Typed, Attribute, Listed, Brace, End, first_bad, shape}
+use Rattle.cdl_statements.specs.declared.fault.CdlKind.{CdlKind}
+use Rattle.cdl_statements.specs.declared.fault.CdlKind.TheVariants.{BadName, DuplicateData, DuplicateName}
 use Rattle.cdl_meaning.specs.Meaning.{checked, piece_read, shaped}
 use Rattle.cdl_meaning.specs.State.{State, Draft, act, add_att, add_dim, add_var, at_variable, capacity_of, dim_len_of, in_turn, is_listed, listing_of, type_of, unless, when, with_att, with_values, ◌>>=◌}
 use Rattle.cdl_values.specs.Listed.{AreShaped}

@@ -2,19 +2,19 @@
 use Rattle.std.proofs.Common.{◌≡◌, Bool, true, false, List, [], ◌∷◌, refl, sym, ap, ◌∙◌}
 use Rattle.std.specs.Prelude.{◌&&◌, if◌then◌else◌, map}
 use Rattle.std.proofs.lemmas.Bool.{false≢true}
-use Rattle.cdl_text.specs.Cutters.{first_piece, is_done, next_token, pieces_left, text_of, tokens_left, words}
-use Rattle.cdl_text.specs.DueTokens.{completes, is_whole, next, only}
-use Rattle.cdl_text.specs.Lexemes.{Lexeme, lexeme}
-use Rattle.cdl_text.specs.Pieces.{first_role, pieces_at, step}
-use Rattle.cdl_text.specs.Roles.{role_in}
+use Rattle.cdl_statements.specs.Cutters.{first_piece, is_done, next_token, pieces_left, text_of, tokens_left, words}
+use Rattle.cdl_statements.specs.DueTokens.{completes, is_whole, next, only}
+use Rattle.cdl_statements.specs.Lexemes.{Lexeme, lexeme}
+use Rattle.cdl_statements.specs.Pieces.{first_role, pieces_at, step}
+use Rattle.cdl_statements.specs.Roles.{role_in}
 use Rattle.cdl_tokens.specs.Scanners.{followed, left}
-use Rattle.cdl_text.specs.declared.cutter.Cutter.{Cutter}
-use Rattle.cdl_text.specs.declared.due.Due.{Due}
+use Rattle.cdl_statements.specs.declared.cutter.Cutter.{Cutter}
+use Rattle.cdl_statements.specs.declared.due.Due.{Due}
 use Rattle.cdl_tokens.specs.declared.token.Token.{Token}
 use Rattle.cdl_tokens.specs.declared.token.TokenKind.{TokenKind}
 use Rattle.cdl_tokens.specs.declared.token.TokenKind.TheVariants as kinds
-use Rattle.cdl_text.proofs.Cuts.{words_on}
-use Rattle.cdl_text.proofs.Listing.{only_completes}
+use Rattle.cdl_statements.proofs.Cuts.{words_on}
+use Rattle.cdl_statements.proofs.Listing.{only_completes}
 
 -- the first token is the next one
 followed_is : (t : Token) (kind : TokenKind) (rest : List Token) → (tail : List Token) × (followed t kind rest ≡ t ∷ tail)

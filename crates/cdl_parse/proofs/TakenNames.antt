@@ -1,8 +1,8 @@
 -- A taken name comes before the faults after it.
 use Rattle.std.proofs.Common.{◌≡◌, Bool, true, false, refl, ◌∙◌}
 use Rattle.std.specs.Prelude.{Result, Ok, Err, IfOk}
-use Rattle.cdl_text.specs.declared.fault.CdlKind.{CdlKind}
-use Rattle.cdl_text.specs.declared.fault.CdlKind.TheVariants.{BadName, DuplicateName}
+use Rattle.cdl_statements.specs.declared.fault.CdlKind.{CdlKind}
+use Rattle.cdl_statements.specs.declared.fault.CdlKind.TheVariants.{BadName, DuplicateName}
 use Rattle.cdl_meaning.specs.State.{unless, when, ◌>>=◌}
 use Rattle.cdl_values.specs.Answers.{Fails}
 use Rattle.cdl_values.specs.declared.read_error.ReadError.{ReadError}

@@ -4,12 +4,12 @@ use Rattle.std.proofs.lemmas.Bool.{false≢true}
 use Rattle.std.proofs.lemmas.List.{set-get_or}
 use Rattle.std.specs.Prelude.{Result, Ok, Err, ⊤, OnErr, if◌then◌else◌}
 use Rattle.nc_base.specs.declared.header.Att.{Att}
-use Rattle.cdl_text.specs.DueTokens.{completes}
+use Rattle.cdl_statements.specs.DueTokens.{completes}
 use Rattle.cdl_tokens.specs.Escapes.{word_value}
-use Rattle.cdl_text.specs.Lexemes.{Lexeme}
-use Rattle.cdl_text.specs.Shapes.{Value}
-use Rattle.cdl_text.specs.declared.due.Due.TheVariants.{AttributeName}
-use Rattle.cdl_text.specs.declared.fault.CdlKind.{CdlKind}
+use Rattle.cdl_statements.specs.Lexemes.{Lexeme}
+use Rattle.cdl_statements.specs.Shapes.{Value}
+use Rattle.cdl_statements.specs.declared.due.Due.TheVariants.{AttributeName}
+use Rattle.cdl_statements.specs.declared.fault.CdlKind.{CdlKind}
 use Rattle.cdl_meaning.specs.State.{Draft, add_att, with_att, ◌>>=◌}
 use Rattle.cdl_values.specs.Answers.{Leaves}
 use Rattle.cdl_values.specs.Meant.{name_first, names_of}

@@ -4,8 +4,8 @@ use Rattle.std.specs.Prelude.{Option, None, Some, Result, Ok, Err, if◌then◌e
 use Rattle.std.specs.List.{position_from}
 use Rattle.std.specs.Str.{bytes_eq}
 use Rattle.nc_base.specs.Names.{is_name}
-use Rattle.cdl_text.specs.declared.fault.CdlKind.{CdlKind}
-use Rattle.cdl_text.specs.declared.fault.CdlKind.TheVariants.{BadName, UnknownVariable}
+use Rattle.cdl_statements.specs.declared.fault.CdlKind.{CdlKind}
+use Rattle.cdl_statements.specs.declared.fault.CdlKind.TheVariants.{BadName, UnknownVariable}
 use Rattle.cdl_meaning.specs.State.{Draft, at_named, at_variable, unless, ◌>>=◌}
 use Rattle.cdl_values.specs.Answers.{Fails}
 use Rattle.cdl_values.specs.Meant.{names_of}

@@ -6,9 +6,9 @@ use Rattle.nc_base.specs.Headers.{AreDimids}
 use Rattle.nc_base.specs.declared.header.Dim.{Dim}
 use Rattle.nc_base.specs.declared.header.Var.{Var}
 use Rattle.nc_base.specs.declared.version.Version.{Version}
-use Rattle.cdl_text.specs.declared.fault.CdlFault.{CdlFault}
-use Rattle.cdl_text.specs.declared.section.Section.{Section}
-use Rattle.cdl_text.specs.declared.section.Section.TheVariants.{Unopened, Globals, Dimensions, Variables, Values, Closed, Ended}
+use Rattle.cdl_statements.specs.declared.fault.CdlFault.{CdlFault}
+use Rattle.cdl_statements.specs.declared.section.Section.{Section}
+use Rattle.cdl_statements.specs.declared.section.Section.TheVariants.{Unopened, Globals, Dimensions, Variables, Values, Closed, Ended}
 use Rattle.cdl_tokens.specs.declared.token.Token.{Token}
 use Rattle.cdl_meaning.specs.Meaning.{finished, run}
 use Rattle.cdl_meaning.specs.State.{State, Draft}

@@ -1,9 +1,9 @@
 -- What the calls that read the data section answer, but for want of memory.
 use Rattle.std.specs.Prelude.{ℕ, zero, suc, ◌≡◌, ◌<◌, ◌^◌, length, Bool, true, false, if◌then◌else◌, List, [], ◌∷◌, Result, Ok, Err}
 use Rattle.nc_base.specs.declared.header.Var.{Var}
-use Rattle.cdl_text.specs.Cutters.{pieces_left, text_of, version_of, words}
-use Rattle.cdl_text.specs.declared.cutter.Cutter.{Cutter}
-use Rattle.cdl_text.specs.declared.section.Section.TheVariants.{Values, Closed}
+use Rattle.cdl_statements.specs.Cutters.{pieces_left, text_of, version_of, words}
+use Rattle.cdl_statements.specs.declared.cutter.Cutter.{Cutter}
+use Rattle.cdl_statements.specs.declared.section.Section.TheVariants.{Values, Closed}
 use Rattle.cdl_meaning.specs.Meaning.{piece_read, run}
 use Rattle.cdl_meaning.specs.State.{State, Draft}
 use Rattle.cdl_values.specs.Answers.{Fails}

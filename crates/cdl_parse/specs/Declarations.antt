@@ -7,13 +7,13 @@ use Rattle.nc_base.specs.Sizes.{is_record_dim}
 use Rattle.nc_base.specs.declared.header.Dim.{Dim}
 use Rattle.nc_base.specs.declared.nc_type.NcType.{NcType}
 use Rattle.nc_base.specs.declared.version.Version.{Version}
-use Rattle.cdl_text.specs.Contents.{Declaration, declaration_said, with_name}
-use Rattle.cdl_text.specs.Cutters.{version_of, words}
-use Rattle.cdl_text.specs.declared.cutter.Cutter.{Cutter}
-use Rattle.cdl_text.specs.Lexemes.{Lexeme, is_mark}
+use Rattle.cdl_statements.specs.Contents.{Declaration, declaration_said, with_name}
+use Rattle.cdl_statements.specs.Cutters.{version_of, words}
+use Rattle.cdl_statements.specs.declared.cutter.Cutter.{Cutter}
+use Rattle.cdl_statements.specs.Lexemes.{Lexeme, is_mark}
 use Rattle.cdl_tokens.specs.Escapes.{word_value}
-use Rattle.cdl_text.specs.declared.fault.CdlKind.{CdlKind}
-use Rattle.cdl_text.specs.declared.fault.CdlKind.TheVariants.{BadName, BadShape, DuplicateName, UnknownDimension, UnknownType}
+use Rattle.cdl_statements.specs.declared.fault.CdlKind.{CdlKind}
+use Rattle.cdl_statements.specs.declared.fault.CdlKind.TheVariants.{BadName, BadShape, DuplicateName, UnknownDimension, UnknownType}
 use Rattle.cdl_meaning.specs.State.{Draft, add_dimid, add_var, found, in_turn, type_of, unless, when, ◌>>=◌}
 use Rattle.cdl_values.specs.Answers.{Continues}
 use Rattle.cdl_values.specs.declared.read_error.ReadError.{ReadError}

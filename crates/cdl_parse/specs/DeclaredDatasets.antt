@@ -7,8 +7,8 @@ use Rattle.nc_base.specs.declared.header.Var.{Var}
 use Rattle.nc_base.specs.declared.version.Version.{Version}
 use Rattle.nc_base.specs.GeneratedFile.{known_records}
 use Rattle.nc_base.specs.OwedValues.{whole_arrays}
-use Rattle.cdl_text.specs.declared.fault.CdlFault.{CdlFault}
-use Rattle.cdl_text.specs.declared.fault.CdlKind.TheVariants.{TooLarge}
+use Rattle.cdl_statements.specs.declared.fault.CdlFault.{CdlFault}
+use Rattle.cdl_statements.specs.declared.fault.CdlKind.TheVariants.{TooLarge}
 use Rattle.cdl_meaning.specs.Meaning.{finished}
 use Rattle.cdl_meaning.specs.State.{State}
 use Rattle.cdl_values.specs.Listed.{AllList, AreShaped}

@@ -1,12 +1,12 @@
 -- The state that the statements before the data section make.
 use Rattle.std.specs.Prelude.{◌≡◌, Bool, true, false, None, Some, Option, Result, Ok, Err, ⊤}
-use Rattle.cdl_text.specs.Cutters.{pieces_left, text_of, version_of, words}
-use Rattle.cdl_text.specs.declared.cutter.Cutter.{Cutter}
-use Rattle.cdl_text.specs.declared.fault.CdlFault.{CdlFault}
-use Rattle.cdl_text.specs.declared.fault.CdlKind.{CdlKind}
-use Rattle.cdl_text.specs.declared.section.Section.{Section}
-use Rattle.cdl_text.specs.declared.section.Section.TheVariants.{Unopened, Globals, Dimensions, Variables, Closed, Ended}
-use Rattle.cdl_text.specs.Contents.{statement_said}
+use Rattle.cdl_statements.specs.Cutters.{pieces_left, text_of, version_of, words}
+use Rattle.cdl_statements.specs.declared.cutter.Cutter.{Cutter}
+use Rattle.cdl_statements.specs.declared.fault.CdlFault.{CdlFault}
+use Rattle.cdl_statements.specs.declared.fault.CdlKind.{CdlKind}
+use Rattle.cdl_statements.specs.declared.section.Section.{Section}
+use Rattle.cdl_statements.specs.declared.section.Section.TheVariants.{Unopened, Globals, Dimensions, Variables, Closed, Ended}
+use Rattle.cdl_statements.specs.Contents.{statement_said}
 use Rattle.cdl_meaning.specs.Meaning.{piece_read, run}
 use Rattle.cdl_meaning.specs.State.{State, act}
 use Rattle.cdl_values.specs.Answers.{Fails}

@@ -4,8 +4,8 @@ use Rattle.nc_base.specs.Headers.{has_record_dim}
 use Rattle.nc_base.specs.Versions.{count_limit}
 use Rattle.nc_base.specs.declared.header.Dim.{Dim}
 use Rattle.nc_base.specs.declared.version.Version.{Version}
-use Rattle.cdl_text.specs.declared.fault.CdlKind.{CdlKind}
-use Rattle.cdl_text.specs.declared.fault.CdlKind.TheVariants.{ZeroDimension, NumberRange}
+use Rattle.cdl_statements.specs.declared.fault.CdlKind.{CdlKind}
+use Rattle.cdl_statements.specs.declared.fault.CdlKind.TheVariants.{ZeroDimension, NumberRange}
 use Rattle.cdl_tokens.specs.Numerals.{Parts, number}
 use Rattle.cdl_meaning.specs.State.{dim_len_of}
 use Rattle.cdl_tokens.specs.declared.numeral.Numeral.{Numeral}

@@ -1,6 +1,6 @@
 -- Names that are taken, and the order of faults.
 use Rattle.std.specs.Prelude.{Bool, if◌then◌else◌}
-use Rattle.cdl_text.specs.declared.fault.CdlKind.TheVariants.{DuplicateName}
+use Rattle.cdl_statements.specs.declared.fault.CdlKind.TheVariants.{DuplicateName}
 use Rattle.cdl_values.specs.declared.read_error.ReadError.{ReadError}
 use Rattle.cdl_values.specs.declared.read_error.ReadError.TheVariants.{OutOfMemory, Fault}
 

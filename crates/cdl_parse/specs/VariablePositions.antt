@@ -1,7 +1,7 @@
 -- The variable at a position.
 use Rattle.std.specs.Prelude.{ℕ, zero, suc, ◌≡◌, List, [], ◌∷◌, Result, Ok, Err}
-use Rattle.cdl_text.specs.declared.fault.CdlKind.{CdlKind}
-use Rattle.cdl_text.specs.declared.fault.CdlKind.TheVariants.{UnknownVariable}
+use Rattle.cdl_statements.specs.declared.fault.CdlKind.{CdlKind}
+use Rattle.cdl_statements.specs.declared.fault.CdlKind.TheVariants.{UnknownVariable}
 use Rattle.cdl_meaning.specs.State.{Draft, at_variable, ◌>>=◌}
 use Rattle.cdl_values.specs.Answers.{Continues}
 use Rattle.cdl_values.specs.Meant.{names_of}

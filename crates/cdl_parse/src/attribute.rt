@@ -1,16 +1,16 @@
 //! The statement of an attribute.
 
 ghost use Rattle.std.specs.Prelude.{◌≡◌, OnErr, false, true};
-ghost use Rattle.cdl_text.specs.Cutters.{is_done, words};
-ghost use Rattle.cdl_text.specs.DueTokens.{completes};
-ghost use Rattle.cdl_text.specs.declared.due.Due.TheVariants.{AttributeName};
+ghost use Rattle.cdl_statements.specs.Cutters.{is_done, words};
+ghost use Rattle.cdl_statements.specs.DueTokens.{completes};
+ghost use Rattle.cdl_statements.specs.declared.due.Due.TheVariants.{AttributeName};
 ghost use Rattle.cdl_values.specs.Answers.{Leaves};
 ghost use Rattle.cdl_parse.specs.AttributeNames.{with_new_att};
 ghost use Rattle.cdl_parse.specs.AttributeRead.{att_read};
 
 use crate::attributes::Attributes;
 use crate::taken_name::after_name;
-use cdl_text::{CdlKind, Cutter};
+use cdl_statements::{CdlKind, Cutter};
 use cdl_values::{ReadError, read_constants, read_name, type_said};
 use nc_base::{Att, ListedArray, NcType, Sequence};
 use std::alloc::Global;
@@ -24,7 +24,7 @@ use std::alloc::Global;
 ///
 /// The first of these, in which case the attributes are what they were: a name that the format doesn't allow (`BadName`);
 /// the name of another attribute in the list (`DuplicateName`); the fault of the first constant that has one
-/// (`MixedConstants`, `NumberRange`). Or a growth was refused.
+/// (`MixedConstants`, `NumberRange`). Or an allocation failed.
 pub fn read_attribute(
     alloc: Global,
     attributes: &mut Attributes,
@@ -49,7 +49,7 @@ pub fn read_attribute(
 ///
 /// # Errors
 ///
-/// The name of another attribute (`DuplicateName`). Or a growth was refused. The attributes are what they were.
+/// The name of another attribute (`DuplicateName`). Or an allocation failed. The attributes are what they were.
 fn add(
     alloc: Global,
     attributes: &mut Attributes,

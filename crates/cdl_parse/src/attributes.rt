@@ -30,7 +30,7 @@ impl Model for Attributes {
 }
 
 impl Attributes {
-    /// No attributes. It takes no memory.
+    /// No attributes. It does not allocate.
     pub fn new(alloc: Global) -> Attributes
         ensures { result ≡ [] }
     {
@@ -40,7 +40,7 @@ impl Attributes {
         }
     }
 
-    /// Says whether one of the attributes has the name.
+    /// Returns true if one of the attributes has the name.
     pub fn has_name(&self, name: &[u8]) -> bool
         ensures { result ≡ has_name name.now self.now }
     {
@@ -51,7 +51,7 @@ impl Attributes {
     ///
     /// # Errors
     ///
-    /// A growth was refused. Then the attributes are what they were.
+    /// An allocation failed. Then the attributes are what they were.
     pub fn add(&mut self, alloc: Global, att: Att) -> Result<bool, AllocError>
         ensures new { IfOk result (λ added. added ≡ not (has_name att.name self.old)) }
         ensures atts { IfOk result (λ added. self.new ≡ with_att added self.old att) }

@@ -1,15 +1,15 @@
 //! The data section.
 
 ghost use Rattle.std.specs.Prelude.{◌≡◌, [], IfOk, true, false, replicate, slice_set};
-ghost use Rattle.cdl_text.specs.Cutters.{Follows, SameText, is_done, words};
-ghost use Rattle.cdl_text.specs.declared.section.Section.TheVariants.{Values};
+ghost use Rattle.cdl_statements.specs.Cutters.{Follows, SameText, is_done, words};
+ghost use Rattle.cdl_statements.specs.declared.section.Section.TheVariants.{Values};
 ghost use Rattle.cdl_meaning.specs.State.{State};
 ghost use Rattle.cdl_values.specs.Meant.{begins_brace};
 ghost use Rattle.cdl_parse.specs.DataSections.{Closes, ReadsDataSection, ReadsNext, given_at};
 
 use crate::parse_error::ParseError;
 use crate::statement::pass;
-use cdl_text::{Cutter, Section};
+use cdl_statements::{Cutter, Section};
 use cdl_values::{NameIndex, ReadError, Target, read};
 use nc_base::ListedArray;
 use std::alloc::{AllocError, Global};
@@ -50,7 +50,7 @@ struct Passed<'a> {
 ///
 /// # Errors
 ///
-/// The fault of the first bad statement, with its line; or a growth was refused.
+/// The fault of the first bad statement, with its line; or an allocation failed.
 pub fn read_data<'a>(
     alloc: Global,
     names: &NameIndex,

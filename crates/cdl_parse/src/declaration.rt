@@ -2,12 +2,12 @@
 
 ghost use Rattle.std.specs.Prelude.{◌≡◌, drop, false, true, IfOk};
 ghost use Rattle.std.specs.List.{find};
-ghost use Rattle.cdl_text.specs.Cutters.{is_done, words};
-ghost use Rattle.cdl_text.specs.DueTokens.{completes};
+ghost use Rattle.cdl_statements.specs.Cutters.{is_done, words};
+ghost use Rattle.cdl_statements.specs.DueTokens.{completes};
 ghost use Rattle.cdl_tokens.specs.Escapes.{word_value};
-ghost use Rattle.cdl_text.specs.Lexemes.{is_mark_kind};
-ghost use Rattle.cdl_text.specs.Views.{lexeme_of};
-ghost use Rattle.cdl_text.specs.declared.due.Due.TheVariants.{VariableName};
+ghost use Rattle.cdl_statements.specs.Lexemes.{is_mark_kind};
+ghost use Rattle.cdl_statements.specs.Views.{lexeme_of};
+ghost use Rattle.cdl_statements.specs.declared.due.Due.TheVariants.{VariableName};
 ghost use Rattle.cdl_meaning.specs.State.{is_word_of, type_of};
 ghost use Rattle.cdl_values.specs.Answers.{Gives, Leaves};
 ghost use Rattle.cdl_parse.specs.Declarations.{added, declared_by, is_open_after, next_dimid, with_begun};
@@ -16,7 +16,7 @@ ghost use Rattle.cdl_parse.specs.Declarations.{Begins, PassesMark, ReadsDimensio
 use crate::dimensions::Dimensions;
 use crate::taken_name::after_name;
 use crate::variables::Variables;
-use cdl_text::{CdlKind, Cutter, Lexeme};
+use cdl_statements::{CdlKind, Cutter, Lexeme};
 use cdl_tokens::TokenKind;
 use cdl_values::{ReadError, name_of_word, read_name};
 use nc_base::{NcType, Version, check_name, is_record_dim};
@@ -43,7 +43,7 @@ struct Begun {
 /// The first of these: the type word's fault, as [`type_of_word`] says; then variable by variable a name that the format
 /// doesn't allow (`BadName`) or that another variable has (`DuplicateName`), and dimension by dimension a name that the
 /// format doesn't allow (`BadName`) or that no dimension has (`UnknownDimension`), and the record dimension in another
-/// place than the first (`BadShape`). Or a growth was refused. In each case some of the variables may have been added.
+/// place than the first (`BadShape`). Or an allocation failed. In each case some of the variables may have been added.
 pub fn read_declaration(
     alloc: Global,
     dims: &Dimensions,
@@ -167,7 +167,7 @@ fn over_mark(begun: Begun, mark: Lexeme<'_>) -> Begun
     }
 }
 
-/// Says whether a parenthesis is open after a mark, before which one is open or not.
+/// Returns true if a parenthesis is open after a mark, before which one is open or not.
 fn is_open_after(is_open: bool, mark: Lexeme<'_>) -> bool
     ensures { result ≡ is_open_after is_open (lexeme_of mark.entry) }
 {
@@ -178,7 +178,7 @@ fn is_open_after(is_open: bool, mark: Lexeme<'_>) -> bool
 ///
 /// # Errors
 ///
-/// The name of another variable (`DuplicateName`), or the fault of the dimension. Or a growth was refused.
+/// The name of another variable (`DuplicateName`), or the fault of the dimension. Or an allocation failed.
 fn with_dimension(
     alloc: Global,
     dims: &Dimensions,
@@ -234,7 +234,7 @@ fn next_dimid(dims: &Dimensions, before: &[u64], name: &[u8]) -> Result<u64, Cdl
 ///
 /// # Errors
 ///
-/// The name of another variable (`DuplicateName`). Or a growth was refused.
+/// The name of another variable (`DuplicateName`). Or an allocation failed.
 fn put(alloc: Global, variables: &mut Variables, begun: Begun) -> Result<(), ReadError>
     ensures { Leaves variables.new result (with_begun variables.old begun) }
 {

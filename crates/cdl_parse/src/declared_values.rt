@@ -30,7 +30,7 @@ impl Declared {
     ///
     /// # Errors
     ///
-    /// A growth was refused; or a variable has more values than memory can hold.
+    /// An allocation failed; or a variable has more values than memory can hold.
     pub fn into_dataset(self, alloc: Global) -> Result<Dataset, AllocError>
         ensures { IfOk result (λ dataset. dataset ≡ dataset_of_declared self) }
     {

@@ -1,7 +1,7 @@
 //! The sections before the data section.
 
 ghost use Rattle.std.specs.Prelude.{◌≡◌, IfOk, false};
-ghost use Rattle.cdl_text.specs.Cutters.{SameText, is_done};
+ghost use Rattle.cdl_statements.specs.Cutters.{SameText, is_done};
 ghost use Rattle.cdl_meaning.specs.Meaning.{empty};
 ghost use Rattle.cdl_values.specs.Listed.{AreShaped};
 ghost use Rattle.cdl_parse.specs.Defined.{is_early, run_past};
@@ -9,7 +9,7 @@ ghost use Rattle.cdl_parse.specs.Runs.{ReadsOn, run_from};
 
 use crate::definitions::Definitions;
 use crate::parse_error::ParseError;
-use cdl_text::{Cutter, Section};
+use cdl_statements::{Cutter, Section};
 use std::alloc::Global;
 
 /// What the sections before the data section declare, and what comes after them.
@@ -24,7 +24,7 @@ pub struct Defined<'a> {
 ///
 /// # Errors
 ///
-/// The fault of the first bad statement, with its line; or a growth was refused.
+/// The fault of the first bad statement, with its line; or an allocation failed.
 pub fn read_definitions<'a>(alloc: Global, start: Cutter<'a>) -> Result<Defined<'a>, ParseError>
     ensures reads { ReadsOn (run_past start.entry) result (run_from start.entry empty) }
     ensures shaped { IfOk result (λ d. AreShaped d.definitions.dims d.definitions.variables) }
@@ -47,7 +47,7 @@ pub fn read_definitions<'a>(alloc: Global, start: Cutter<'a>) -> Result<Defined<
     }
 }
 
-/// Says whether the section stands before the data section.
+/// Returns true if the section stands before the data section.
 fn is_early(section: Section) -> bool
     ensures { result ≡ is_early section }
 {

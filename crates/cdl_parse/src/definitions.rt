@@ -1,12 +1,12 @@
 //! What a text declares before its data section.
 
 ghost use Rattle.std.specs.Prelude.{◌≡◌, IfOk, false, true};
-ghost use Rattle.cdl_text.specs.Cutters.{Follows, is_done, next_token, text_of, words};
-ghost use Rattle.cdl_text.specs.DueTokens.{completes};
-ghost use Rattle.cdl_text.specs.Lexemes.{is_mark, lexeme};
-ghost use Rattle.cdl_text.specs.Shapes.{section_of};
-ghost use Rattle.cdl_text.specs.Views.{lexeme_of};
-ghost use Rattle.cdl_text.specs.declared.due.Due.TheVariants.{First};
+ghost use Rattle.cdl_statements.specs.Cutters.{Follows, is_done, next_token, text_of, words};
+ghost use Rattle.cdl_statements.specs.DueTokens.{completes};
+ghost use Rattle.cdl_statements.specs.Lexemes.{is_mark, lexeme};
+ghost use Rattle.cdl_statements.specs.Shapes.{section_of};
+ghost use Rattle.cdl_statements.specs.Views.{lexeme_of};
+ghost use Rattle.cdl_statements.specs.declared.due.Due.TheVariants.{First};
 
 use crate::attribute::read_attribute;
 use crate::attributes::Attributes;
@@ -15,7 +15,7 @@ use crate::dimension_list::read_dimensions;
 use crate::dimensions::Dimensions;
 use crate::statement::pass;
 use crate::variables::Variables;
-use cdl_text::{Cutter, Lexeme, Section};
+use cdl_statements::{Cutter, Lexeme, Section};
 use cdl_values::ReadError;
 use std::alloc::Global;
 
@@ -34,7 +34,7 @@ impl Definitions {
     ghost use Rattle.cdl_meaning.specs.Meaning.{empty};
     ghost use Rattle.cdl_parse.specs.Defined.{Makes, after_mark, after_statement, is_defining, is_early, said_by, state_of};
 
-    /// What stands before the first statement: nothing. It takes no memory.
+    /// What stands before the first statement: nothing. It does not allocate.
     pub fn new(alloc: Global) -> Definitions
         ensures { state_of result ≡ empty }
     {
@@ -50,7 +50,7 @@ impl Definitions {
     ///
     /// # Errors
     ///
-    /// The statement's first fault; or a growth was refused.
+    /// The statement's first fault; or an allocation failed.
     pub fn read_statement<'a>(
         &mut self,
         alloc: Global,

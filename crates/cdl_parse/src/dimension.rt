@@ -5,7 +5,7 @@ ghost use Rattle.cdl_tokens.specs.Magnitudes.{held};
 ghost use Rattle.cdl_tokens.specs.Numerals.{Parts};
 ghost use Rattle.cdl_parse.specs.DimensionLengths.{IsLength, len_by, number_len};
 
-use cdl_text::CdlKind;
+use cdl_statements::CdlKind;
 use cdl_tokens::Numeral;
 use nc_base::Version;
 

@@ -1,11 +1,11 @@
 //! The statement of dimensions.
 
 ghost use Rattle.std.specs.Prelude.{◌≡◌, ◌<◌, false, true};
-ghost use Rattle.cdl_text.specs.Contents.{is_unlimited, length_said};
-ghost use Rattle.cdl_text.specs.Cutters.{SameText, is_done, offset_of, words};
-ghost use Rattle.cdl_text.specs.DueTokens.{completes};
-ghost use Rattle.cdl_text.specs.Views.{lexeme_of};
-ghost use Rattle.cdl_text.specs.declared.due.Due.TheVariants.{DimensionName};
+ghost use Rattle.cdl_statements.specs.Contents.{is_unlimited, length_said};
+ghost use Rattle.cdl_statements.specs.Cutters.{SameText, is_done, offset_of, words};
+ghost use Rattle.cdl_statements.specs.DueTokens.{completes};
+ghost use Rattle.cdl_statements.specs.Views.{lexeme_of};
+ghost use Rattle.cdl_statements.specs.declared.due.Due.TheVariants.{DimensionName};
 ghost use Rattle.cdl_values.specs.Answers.{Leaves};
 ghost use Rattle.cdl_parse.specs.DimensionLengths.{IsLength};
 ghost use Rattle.cdl_parse.specs.DimensionNames.{with_new_dim};
@@ -14,7 +14,7 @@ ghost use Rattle.cdl_parse.specs.DimensionStatements.{BeginsWith, dim_read, dims
 use crate::dimension::dim_len;
 use crate::dimensions::Dimensions;
 use crate::taken_name::after_name;
-use cdl_text::{CdlKind, Cutter, Lexeme};
+use cdl_statements::{CdlKind, Cutter, Lexeme};
 use cdl_values::{ReadError, number_or_zero, read_name};
 use nc_base::{Dim, Sequence, Version};
 use std::alloc::Global;
@@ -38,7 +38,7 @@ struct NextDimension<'a> {
 ///
 /// The first of these: a name that the format doesn't allow (`BadName`); the name of another dimension (`DuplicateName`); a
 /// length of 0 (`ZeroDimension`), or one that the version doesn't have (`NumberRange`); a second record dimension
-/// (`TwoRecordDims`). Or a growth was refused. The dimensions before it have been added.
+/// (`TwoRecordDims`). Or an allocation failed. The dimensions before it have been added.
 pub fn read_dimensions(
     alloc: Global,
     dims: &mut Dimensions,
@@ -116,7 +116,7 @@ fn len_said(version: Version, has_record: bool, length: Lexeme<'_>) -> Result<u6
     )
 }
 
-/// Says whether a length is that of the record dimension.
+/// Returns true if a length is that of the record dimension.
 fn is_unlimited(length: Lexeme<'_>) -> bool
     ensures { result ≡ is_unlimited (lexeme_of length.entry) }
 {
@@ -127,7 +127,7 @@ fn is_unlimited(length: Lexeme<'_>) -> bool
 ///
 /// # Errors
 ///
-/// The name of another dimension (`DuplicateName`). Or a growth was refused.
+/// The name of another dimension (`DuplicateName`). Or an allocation failed.
 fn push(alloc: Global, dims: &mut Dimensions, name: Vec<u8>, len: u64) -> Result<(), ReadError>
     ensures { Leaves dims.new result (with_new_dim dims.old name.items len) }
 {

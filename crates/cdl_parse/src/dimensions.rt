@@ -36,7 +36,7 @@ impl Model for Dimensions {
 }
 
 impl Dimensions {
-    /// No dimensions. It takes no memory.
+    /// No dimensions. It does not allocate.
     pub fn new(alloc: Global) -> Dimensions
         ensures { result ≡ [] }
     {
@@ -54,7 +54,7 @@ impl Dimensions {
         self.list.as_slice()
     }
 
-    /// Says whether one of them is the record dimension, which has length 0.
+    /// Returns true if one of them is the record dimension, which has length 0.
     pub fn has_record(&self) -> bool
         ensures { result ≡ has_record_dim self.now }
     {
@@ -68,7 +68,7 @@ impl Dimensions {
         self.names.find(name)
     }
 
-    /// Says whether one of the dimensions has the name.
+    /// Returns true if one of the dimensions has the name.
     pub fn has_name(&self, name: &[u8]) -> bool
         ensures { result ≡ is_taken name.now self.now }
     {
@@ -79,7 +79,7 @@ impl Dimensions {
     ///
     /// # Errors
     ///
-    /// A growth was refused. Then the dimensions are what they were.
+    /// An allocation failed. Then the dimensions are what they were.
     pub fn add(&mut self, alloc: Global, dim: Dim) -> Result<bool, AllocError>
         ensures new { IfOk result (λ added. added ≡ not (is_taken dim.name self.old)) }
         ensures dims { IfOk result (λ added. self.new ≡ with_dim added self.old dim) }

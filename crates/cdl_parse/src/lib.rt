@@ -27,7 +27,7 @@ mod variables;
 
 pub use attribute::read_attribute;
 pub use attributes::Attributes;
-pub use cdl_text::{CdlFault, CdlKind};
+pub use cdl_statements::{CdlFault, CdlKind};
 pub use data_section::{DataSection, read_data};
 pub use declared_values::Declared;
 pub use dimension::dim_len;

@@ -3,14 +3,14 @@
 ghost use Rattle.std.specs.Prelude.{◌≡◌};
 ghost use Rattle.cdl_parse.specs.declared.parse_error.ParseError.TheVariants.{Fault, OutOfMemory};
 
-use cdl_text::CdlFault;
+use cdl_statements::CdlFault;
 use cdl_values::ReadError;
 use std::alloc::AllocError;
 
 /// Why a call that reads several statements gives up.
 #[derive(Clone, Copy, Debug, PartialEq, Eq)]
 pub enum ParseError {
-    /// A growth of memory was refused; nothing is said of the text.
+    /// An allocation failed; nothing is said of the text.
     OutOfMemory,
     /// The first bad statement has this fault.
     Fault(CdlFault),

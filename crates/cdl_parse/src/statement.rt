@@ -1,15 +1,15 @@
 //! The shape of a statement.
 
 ghost use Rattle.std.specs.Prelude.{◌≡◌, IfOk, false, true};
-ghost use Rattle.cdl_text.specs.Cutters.{Follows, is_done, words};
-ghost use Rattle.cdl_text.specs.DueTokens.{completes};
-ghost use Rattle.cdl_text.specs.declared.due.Due.TheVariants.{First};
+ghost use Rattle.cdl_statements.specs.Cutters.{Follows, is_done, words};
+ghost use Rattle.cdl_statements.specs.DueTokens.{completes};
+ghost use Rattle.cdl_statements.specs.declared.due.Due.TheVariants.{First};
 ghost use Rattle.cdl_meaning.specs.State.{State};
 ghost use Rattle.cdl_parse.specs.Defined.{Passes};
 
-use cdl_text::{CdlKind, Cutter, Section, look_over};
+use cdl_statements::{CdlKind, Cutter, Section, look_over};
 
-/// Passes over the next statement, which stands in this section, and gives the statements after it. It takes no memory.
+/// Passes over the next statement, which stands in this section, and gives the statements after it. It does not allocate.
 ///
 /// # Errors
 ///

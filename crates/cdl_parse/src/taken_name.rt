@@ -3,7 +3,7 @@
 ghost use Rattle.std.specs.Prelude.{◌≡◌};
 ghost use Rattle.cdl_parse.specs.TakenNames.{after_name};
 
-use cdl_text::CdlKind;
+use cdl_statements::CdlKind;
 use cdl_values::ReadError;
 
 /// Why a definition isn't read whose name was taken or not, and which has this fault after its name: a taken name comes first.

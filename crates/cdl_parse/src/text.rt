@@ -1,7 +1,7 @@
 //! A whole text.
 
 ghost use Rattle.std.specs.Prelude.{if◌then◌else◌, ◌≡◌, ◌<◌, ◌^◌, IfOk, Ok, false, length, true};
-ghost use Rattle.cdl_text.specs.Cutters.{SameText, is_done, text_of};
+ghost use Rattle.cdl_statements.specs.Cutters.{SameText, is_done, text_of};
 ghost use Rattle.cdl_meaning.specs.Meaning.{empty, meaning};
 ghost use Rattle.cdl_parse.specs.Defined.{is_early, is_past};
 ghost use Rattle.cdl_parse.specs.DeclaredDatasets.{dataset_of_declared};
@@ -16,7 +16,7 @@ use crate::definitions::Definitions;
 use crate::finishing::finish;
 use crate::parse_error::ParseError;
 use crate::text_end::read_end;
-use cdl_text::{CdlFault, CdlKind, Cutter, Section};
+use cdl_statements::{CdlFault, CdlKind, Cutter, Section};
 use cdl_values::{NameIndex, targets_of};
 use nc_base::{Att, Dataset, Dim, ListedArray, Sequence, Var, Version};
 use std::alloc::Global;
@@ -29,7 +29,7 @@ use std::alloc::Global;
 ///
 /// The first fault of the text, with the line of the first token of the statement that has it; or
 /// [`TooLarge`](CdlKind::TooLarge), with the line of the closing brace. Or [`OutOfMemory`](CdlKind::OutOfMemory), with line 0,
-/// as soon as a growth was refused.
+/// as soon as an allocation failed.
 pub fn parse(alloc: Global, text: &[u8], version: Version) -> Result<Dataset, CdlFault>
     ensures { Answers result (meaning text.now version) }
 {

@@ -1,15 +1,15 @@
 //! The end of a text.
 
 ghost use Rattle.std.specs.Prelude.{◌≡◌, false, true};
-ghost use Rattle.cdl_text.specs.Cutters.{is_done};
+ghost use Rattle.cdl_statements.specs.Cutters.{is_done};
 ghost use Rattle.cdl_meaning.specs.State.{State};
 ghost use Rattle.cdl_parse.specs.Defined.{EndsAs, is_past};
 ghost use Rattle.cdl_parse.specs.Runs.{run_from};
 
 use crate::statement::pass;
-use cdl_text::{CdlFault, Cutter, Section};
+use cdl_statements::{CdlFault, Cutter, Section};
 
-/// Reads what comes after the closing brace: nothing but the end of the text. It takes no memory.
+/// Reads what comes after the closing brace: nothing but the end of the text. It does not allocate.
 ///
 /// # Errors
 ///

@@ -4,7 +4,7 @@ ghost use Rattle.std.specs.Prelude.{◌<◌, IfOk, length};
 ghost use Rattle.cdl_tokens.specs.Escapes.{word_value};
 ghost use Rattle.cdl_parse.specs.VariablePositions.{FindsVariable};
 
-use cdl_text::CdlKind;
+use cdl_statements::CdlKind;
 use cdl_values::{NameIndex, ReadError, read_name};
 use std::alloc::Global;
 
@@ -12,7 +12,7 @@ use std::alloc::Global;
 ///
 /// # Errors
 ///
-/// A name that the format doesn't allow (`BadName`), or that no variable has (`UnknownVariable`). Or a growth was refused.
+/// A name that the format doesn't allow (`BadName`), or that no variable has (`UnknownVariable`). Or an allocation failed.
 pub fn variable_position(alloc: Global, names: &NameIndex, word: &[u8]) -> Result<u64, ReadError>
     ensures finds { FindsVariable (word_value word.now) names.now result }
     ensures within { IfOk result (λ position. position < length names.now) }

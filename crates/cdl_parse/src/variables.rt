@@ -1,9 +1,9 @@
 //! The variables of a text.
 
 ghost use Rattle.std.specs.Prelude.{◌≡◌, [], drop, false, true, not, IfOk, OnErr, map};
-ghost use Rattle.cdl_text.specs.Cutters.{is_done, words};
-ghost use Rattle.cdl_text.specs.DueTokens.{completes};
-ghost use Rattle.cdl_text.specs.declared.due.Due.TheVariants.{AttributeName};
+ghost use Rattle.cdl_statements.specs.Cutters.{is_done, words};
+ghost use Rattle.cdl_statements.specs.DueTokens.{completes};
+ghost use Rattle.cdl_statements.specs.declared.due.Due.TheVariants.{AttributeName};
 ghost use Rattle.cdl_values.specs.Answers.{Leaves};
 ghost use Rattle.cdl_values.specs.Listed.{fresh};
 ghost use Rattle.cdl_values.specs.Meant.{names_of};
@@ -13,7 +13,7 @@ ghost use Rattle.cdl_parse.specs.Drafts.{is_taken, var_of, with_draft};
 use crate::attribute::read_attribute;
 use crate::attributes::Attributes;
 use crate::variable_lookup::variable_position;
-use cdl_text::Cutter;
+use cdl_statements::Cutter;
 use cdl_values::{NameIndex, ReadError};
 use nc_base::{NcType, Sequence, Var};
 use std::alloc::{AllocError, Global};
@@ -53,7 +53,7 @@ impl Model for Variables {
 }
 
 impl Variables {
-    /// No variables. It takes no memory.
+    /// No variables. It does not allocate.
     pub fn new(alloc: Global) -> Variables
         ensures { result ≡ [] }
     {
@@ -63,7 +63,7 @@ impl Variables {
         }
     }
 
-    /// Says whether one of the variables has the name.
+    /// Returns true if one of the variables has the name.
     pub fn has_name(&self, name: &[u8]) -> bool
         ensures { result ≡ is_taken name.now self.now }
     {
@@ -74,7 +74,7 @@ impl Variables {
     ///
     /// # Errors
     ///
-    /// A growth was refused. Then the variables are what they were.
+    /// An allocation failed. Then the variables are what they were.
     pub fn add(
         &mut self,
         alloc: Global,
@@ -111,8 +111,8 @@ impl Variables {
     /// # Errors
     ///
     /// The first of these, in which case the variables are what they were: a variable's name that the format doesn't allow
-    /// (`BadName`), or that no variable has (`UnknownVariable`); a fault of [`read_attribute`](crate::read_attribute). Or a
-    /// growth was refused.
+    /// (`BadName`), or that no variable has (`UnknownVariable`); a fault of [`read_attribute`](crate::read_attribute). Or an
+    /// allocation failed.
     pub fn read_attribute(&mut self, alloc: Global, start: Cutter<'_>) -> Result<(), ReadError>
         requires more { is_done start ≡ false }
         requires shaped { completes AttributeName (drop 2 (words start)) ≡ true }
@@ -130,7 +130,7 @@ impl Variables {
     ///
     /// # Errors
     ///
-    /// A growth was refused.
+    /// An allocation failed.
     pub fn into_parts(self, alloc: Global) -> Result<(Sequence<Var>, NameIndex), AllocError>
         ensures vars { IfOk result (λ parts. fresh parts.0 ≡ self) }
         ensures names { IfOk result (λ parts. parts.1 ≡ names_of self) }
@@ -143,7 +143,7 @@ impl Variables {
 
 /// The variables as those of a header.
 ///
-/// The capacity is reserved first: `collect` would try a refused growth again with less.
+/// The capacity is reserved first: `collect` would try a failed allocation again with less.
 fn vars_of(alloc: Global, list: Vec<Variable>) -> Result<Vec<Var>, AllocError>
     ensures { IfOk result (λ vars. vars.items ≡ map var_of list.items) }
 {

@@ -23,77 +23,77 @@ pub fn first_bytes(bytes: &[u8], n: usize) -> &[u8]
     }
 }
 
-/// Says whether the byte is an ASCII letter.
+/// Returns true if the byte is an ASCII letter.
 pub fn is_letter(b: u8) -> bool
     ensures { result ≡ is_letter b }
 {
     b.is_ascii_alphabetic()
 }
 
-/// Says whether the byte is a decimal digit.
+/// Returns true if the byte is a decimal digit.
 pub fn is_digit(b: u8) -> bool
     ensures { result ≡ is_digit b }
 {
     b.is_ascii_digit()
 }
 
-/// Says whether the byte is an octal digit.
+/// Returns true if the byte is an octal digit.
 pub fn is_octal(b: u8) -> bool
     ensures { result ≡ is_octal b }
 {
     b >= b'0' && b <= b'7'
 }
 
-/// Says whether the byte is a hexadecimal digit, in either case.
+/// Returns true if the byte is a hexadecimal digit, in either case.
 pub fn is_hex(b: u8) -> bool
     ensures { result ≡ is_hex b }
 {
     is_digit(b) || b >= b'A' && b <= b'F' || b >= b'a' && b <= b'f'
 }
 
-/// Says whether the byte is white space: one of 0x09 to 0x0d, or a space.
+/// Returns true if the byte is white space: one of 0x09 to 0x0d, or a space.
 pub fn is_blank(b: u8) -> bool
     ensures { result ≡ is_blank b }
 {
     b >= 0x09 && b <= 0x0d || b == b' '
 }
 
-/// Says whether the byte is a sign of a number.
+/// Returns true if the byte is a sign of a number.
 pub fn is_sign(b: u8) -> bool
     ensures { result ≡ is_sign b }
 {
     b == b'+' || b == b'-'
 }
 
-/// Says whether the byte is a token by itself.
+/// Returns true if the byte is a token by itself.
 pub fn is_mark(b: u8) -> bool
     ensures { result ≡ is_mark b }
 {
     matches!(b, b':' | b';' | b'=' | b',' | b'(' | b')' | b'}')
 }
 
-/// Says whether a word may begin with the byte: a letter, `_` or a byte from 0x80.
+/// Returns true if a word may begin with the byte: a letter, `_` or a byte from 0x80.
 pub fn begins_word(b: u8) -> bool
     ensures { result ≡ begins_word b }
 {
     is_letter(b) || b == b'_' || b >= 0x80
 }
 
-/// Says whether the byte stands for itself in a word that it doesn't begin.
+/// Returns true if the byte stands for itself in a word that it doesn't begin.
 pub fn goes_on_word(b: u8) -> bool
     ensures { result ≡ goes_on_word b }
 {
     b.is_ascii_alphanumeric() || matches!(b, b'_' | b'.' | b'@' | b'+' | b'-') || b >= 0x80
 }
 
-/// Says whether a number token goes on with the byte.
+/// Returns true if a number token goes on with the byte.
 pub fn goes_on_number(b: u8) -> bool
     ensures { result ≡ goes_on_number b }
 {
     is_letter(b) || is_digit(b) || b == b'_' || b == b'.'
 }
 
-/// Says whether the two bytes are an escape of a word: a backslash, and a byte that it may escape.
+/// Returns true if the two bytes are an escape of a word: a backslash, and a byte that it may escape.
 pub fn is_escape(b: u8, c: u8) -> bool
     ensures { result ≡ is_escape b c }
 {

@@ -147,7 +147,7 @@ pub fn unescaped_len(bytes: &[u8]) -> usize
     len_before(bytes, b'\\', b'\\', b'\\')
 }
 
-/// Says whether each character of these bytes, which stand between quotes, stands for a byte.
+/// Returns true if each character of these bytes, which stand between quotes, stands for a byte.
 pub fn is_string(raw: &[u8]) -> bool
     ensures { result ≡ is_some (unescape raw.now) }
 {

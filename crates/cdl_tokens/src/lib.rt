@@ -1,7 +1,7 @@
 //! The tokens of a CDL text (the CDL chapter of the NetCDF User's Guide, "CDL Syntax" and "CDL Notation for Data Constants").
 //!
 //! `specs/` has the definitions: classes of bytes, escapes, what bytes begin with, the tokens of a text, and what number
-//! tokens say. How tokens make statements is defined and read in `cdl_text`.
+//! tokens say. How tokens make statements is defined and read in `cdl_statements`.
 #![tactic(auto)]
 
 mod bytes;

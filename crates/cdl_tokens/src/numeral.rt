@@ -198,7 +198,7 @@ fn first_with_suffix(types: &[NcType], suffix: &[u8]) -> Option<NcType>
     types.iter().copied().find(|ty| has_suffix(suffix, *ty))
 }
 
-/// Says whether a number of the type may have this suffix, each letter in either case.
+/// Returns true if a number of the type may have this suffix, each letter in either case.
 fn has_suffix(suffix: &[u8], ty: NcType) -> bool
     ensures { result ≡ has_suffix (map lower suffix.now) ty }
 {
@@ -208,7 +208,7 @@ fn has_suffix(suffix: &[u8], ty: NcType) -> bool
     }
 }
 
-/// Says whether the bytes are this suffix, each letter in either case.
+/// Returns true if the bytes are this suffix, each letter in either case.
 #[tactic(auto, using(crate::proofs::Suffixes::same_suffix))]
 fn is_suffix(bytes: &[u8], suffix: &[u8]) -> bool
     ensures { result ≡ bytes_eq (map lower bytes.now) (map lower suffix.now) }

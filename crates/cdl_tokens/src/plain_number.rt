@@ -71,7 +71,7 @@ fn plain_digits(bytes: &[u8]) -> Option<(usize, u64)>
     Some((n, value))
 }
 
-/// Says whether a comma comes after the first `n` bytes.
+/// Returns true if a comma comes after the first `n` bytes.
 #[inline(always)]
 fn is_before_comma(bytes: &[u8], n: usize) -> bool
     requires { n ≤ length bytes.now }
@@ -81,7 +81,7 @@ fn is_before_comma(bytes: &[u8], n: usize) -> bool
     byte_at(rest, 0) == b','
 }
 
-/// Says whether the byte is a comma or a blank, which no number token has.
+/// Returns true if the byte is a comma or a blank, which no number token has.
 fn ends_number(b: u8) -> bool
     ensures { result ≡ true → goes_on_number b ≡ false }
 {

@@ -113,7 +113,7 @@ fn scan_text(bytes: &[u8]) -> Scanned
     }
 }
 
-/// Says whether the bytes begin with a byte or an escape with which a word begins.
+/// Returns true if the bytes begin with a byte or an escape with which a word begins.
 fn begins_a_word(bytes: &[u8]) -> bool
     ensures { result ≡ begins_a_word bytes.now }
 {
@@ -121,7 +121,7 @@ fn begins_a_word(bytes: &[u8]) -> bool
     begins_word(b) || is_escape(b, byte_at(bytes, 1))
 }
 
-/// Says whether the bytes begin with a digit, after a sign, a point, both or neither.
+/// Returns true if the bytes begin with a digit, after a sign, a point, both or neither.
 pub fn begins_number(bytes: &[u8]) -> bool
     ensures { result ≡ begins_number bytes.now }
 {
@@ -133,14 +133,14 @@ pub fn begins_number(bytes: &[u8]) -> bool
         || is_sign(a) && b == b'.' && is_digit(byte_at(bytes, 2))
 }
 
-/// Says whether the bytes begin with two slashes.
+/// Returns true if the bytes begin with two slashes.
 fn begins_comment(bytes: &[u8]) -> bool
     ensures { result ≡ begins_comment bytes.now }
 {
     byte_at(bytes, 0) == b'/' && byte_at(bytes, 1) == b'/'
 }
 
-/// Says whether the bytes begin with `netcdf` and then a blank or a `{`.
+/// Returns true if the bytes begin with `netcdf` and then a blank or a `{`.
 fn begins_opening(bytes: &[u8]) -> bool
     ensures begins { result ≡ begins_opening bytes.now }
     ensures len { IsTrue result → 6 ≤ length bytes.now }
@@ -196,7 +196,7 @@ fn word_len(bytes: &[u8]) -> usize
     at
 }
 
-/// Says whether a backslash stands there, with a byte after it.
+/// Returns true if a backslash stands there, with a byte after it.
 fn is_escaping(bytes: &[u8], at: usize) -> bool
     requires { at < length bytes.now }
     ensures { result ≡ (slice_index bytes.now at == 0x5c && nat_lt (at + 1) (length bytes.now)) }

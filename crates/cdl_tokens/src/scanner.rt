@@ -260,7 +260,7 @@ impl<'a> Scanner<'a> {
         }
     }
 
-    /// Goes past the blanks that stand here, mostly none, and says whether a comma comes then.
+    /// Goes past the blanks that stand here, mostly none, and returns true if a comma comes then.
     #[inline(always)]
     fn goes_to_comma(&mut self) -> bool
         ensures left { left self.new ≡ left self.old }
@@ -276,7 +276,7 @@ impl<'a> Scanner<'a> {
         self.is_at_comma()
     }
 
-    /// Says whether a comma stands here.
+    /// Returns true if a comma stands here.
     #[inline(always)]
     fn is_at_comma(&self) -> bool
         ensures inside { result ≡ true → offset_of self.now < length (text_of self.now) }

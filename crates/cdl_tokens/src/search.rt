@@ -54,7 +54,7 @@ fn near_len(bytes: &[u8], a: u8, b: u8, c: u8) -> usize
         .count()
 }
 
-/// Says whether one of the bytes is one of these three. No byte ends the pass.
+/// Returns true if one of the bytes is one of these three. No byte ends the pass.
 fn has_any(bytes: &[u8], a: u8, b: u8, c: u8) -> bool
     ensures { result ≡ list_any (λ x. not (is_none_of a b c x)) bytes.now }
 {

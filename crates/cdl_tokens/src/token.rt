@@ -27,7 +27,7 @@ pub enum TokenKind {
 impl TokenKind {
     ghost use Rattle.cdl_tokens.specs.Scanners.{is_end};
 
-    /// Says whether such a token ends the text.
+    /// Returns true if such a token ends the text.
     pub fn is_end(self) -> bool
         ensures { result ≡ is_end self }
     {

@@ -2,8 +2,8 @@
 use Rattle.std.proofs.Common.{◌≡◌, ℕ, Bool, true, false, List, ap, ◌∙◌}
 use Rattle.std.specs.Prelude.{Result, Ok, Err}
 use Rattle.nc_base.specs.Names.{is_name}
-use Rattle.cdl_text.specs.declared.fault.CdlKind.{CdlKind}
-use Rattle.cdl_text.specs.declared.fault.CdlKind.TheVariants.{BadName}
+use Rattle.cdl_statements.specs.declared.fault.CdlKind.{CdlKind}
+use Rattle.cdl_statements.specs.declared.fault.CdlKind.TheVariants.{BadName}
 use Rattle.cdl_meaning.specs.State.{unless}
 use Rattle.cdl_values.specs.Answers.{Continues, Fails, Gives}
 use Rattle.cdl_values.specs.declared.read_error.ReadError.{ReadError}

@@ -5,8 +5,8 @@ use Rattle.nc_base.specs.Numbers.{bytes_of_number}
 use Rattle.nc_base.specs.declared.nc_type.NcType.{NcType}
 use Rattle.nc_base.specs.declared.nc_type.NcType.TheVariants.{Char}
 use Rattle.nc_base.specs.declared.version.Version.{Version}
-use Rattle.cdl_text.specs.Contents.{value_of, values}
-use Rattle.cdl_text.specs.Lexemes.{Lexeme}
+use Rattle.cdl_statements.specs.Contents.{value_of, values}
+use Rattle.cdl_statements.specs.Lexemes.{Lexeme}
 use Rattle.cdl_tokens.specs.declared.token.TokenKind.{TokenKind}
 use Rattle.cdl_tokens.specs.declared.token.TokenKind.TheVariants as kinds
 use Rattle.std.specs.List.{prefix_len}
@@ -16,9 +16,9 @@ use Rattle.cdl_tokens.specs.declared.scan.Character.{Character}
 use Rattle.cdl_tokens.specs.Magnitudes.{word, held}
 use Rattle.cdl_tokens.specs.declared.numeral.Numeral.{Numeral as Held}
 use Rattle.cdl_tokens.specs.Numerals.{Parts, number}
-use Rattle.cdl_text.specs.Shapes.{Value, Number, Characters}
-use Rattle.cdl_text.specs.declared.fault.CdlKind.{CdlKind}
-use Rattle.cdl_text.specs.declared.fault.CdlKind.TheVariants.{NumberRange}
+use Rattle.cdl_statements.specs.Shapes.{Value, Number, Characters}
+use Rattle.cdl_statements.specs.declared.fault.CdlKind.{CdlKind}
+use Rattle.cdl_statements.specs.declared.fault.CdlKind.TheVariants.{NumberRange}
 use Rattle.cdl_meaning.specs.State.{add_constant, fits, in_turn, same_type, type_said, unless, ◌>>=◌}
 use Rattle.cdl_values.specs.Answers.{Adds, Continues, Leaves}
 use Rattle.cdl_values.specs.PackedValues.{char_bytes, held_bytes, joined, number_bytes, text_bytes}

@@ -2,19 +2,19 @@
 use Rattle.std.proofs.Common.{◌≡◌, ℕ, zero, suc, ◌+◌, ◌-◌, ◌≤◌, Bool, true, false, List, [], ◌∷◌, length, map, drop, refl, sym, ap, ◌∙◌, arith}
 use Rattle.std.specs.Prelude.{Option, None, Some, Result, ◌&&◌, if◌then◌else◌, is_none, min, nat_le}
 use Rattle.nc_base.specs.declared.version.Version.{Version}
-use Rattle.cdl_text.specs.Contents.{values, value_of}
-use Rattle.cdl_text.specs.Cutters.{words, pieces_left, tokens_left, text_of, first_piece}
-use Rattle.cdl_text.specs.Lexemes.{Lexeme, lexeme, is_mark_kind}
-use Rattle.cdl_text.specs.Pieces.{pieces_at, step, with_first, first_role}
-use Rattle.cdl_text.specs.Roles.{role_in}
+use Rattle.cdl_statements.specs.Contents.{values, value_of}
+use Rattle.cdl_statements.specs.Cutters.{words, pieces_left, tokens_left, text_of, first_piece}
+use Rattle.cdl_statements.specs.Lexemes.{Lexeme, lexeme, is_mark_kind}
+use Rattle.cdl_statements.specs.Pieces.{pieces_at, step, with_first, first_role}
+use Rattle.cdl_statements.specs.Roles.{role_in}
 use Rattle.cdl_tokens.specs.Scan.{scan}
 use Rattle.cdl_tokens.specs.Scanners.{followed, left}
-use Rattle.cdl_text.specs.Shapes.{Value}
+use Rattle.cdl_statements.specs.Shapes.{Value}
 use Rattle.cdl_tokens.specs.Tokens.{tokens_at, with_token}
-use Rattle.cdl_text.specs.declared.cutter.Cutter.{Cutter}
-use Rattle.cdl_text.specs.declared.fault.CdlKind.{CdlKind}
-use Rattle.cdl_text.specs.declared.piece.CutState.{CutState}
-use Rattle.cdl_text.specs.declared.piece.Role.{Role}
+use Rattle.cdl_statements.specs.declared.cutter.Cutter.{Cutter}
+use Rattle.cdl_statements.specs.declared.fault.CdlKind.{CdlKind}
+use Rattle.cdl_statements.specs.declared.piece.CutState.{CutState}
+use Rattle.cdl_statements.specs.declared.piece.Role.{Role}
 use Rattle.cdl_tokens.specs.declared.token.Token.{Token}
 use Rattle.cdl_tokens.specs.declared.token.TokenKind.{TokenKind}
 use Rattle.cdl_tokens.specs.declared.token.TokenKind.TheVariants as kinds

@@ -4,17 +4,17 @@ use Rattle.std.specs.Prelude.{Option, None, Some, Result, Ok, Err, ◌&&◌, ◌
 use Rattle.std.proofs.lemmas.Bool.{false≢true}
 use Rattle.nc_base.specs.declared.version.Version.{Version}
 use Rattle.cdl_tokens.specs.Escapes.{word_value}
-use Rattle.cdl_text.specs.Lexemes.{Lexeme, is_mark, is_word_kind, is_mark_kind}
-use Rattle.cdl_text.specs.Shapes.{first_bad, token_fault}
-use Rattle.cdl_text.specs.DueTokens.{completes, next, is_name, only, is_whole}
+use Rattle.cdl_statements.specs.Lexemes.{Lexeme, is_mark, is_word_kind, is_mark_kind}
+use Rattle.cdl_statements.specs.Shapes.{first_bad, token_fault}
+use Rattle.cdl_statements.specs.DueTokens.{completes, next, is_name, only, is_whole}
 use Rattle.nc_base.specs.Escapes.{is_reserved}
-use Rattle.cdl_text.proofs.Listing.{only_completes}
-use Rattle.cdl_text.specs.Contents.{values}
-use Rattle.cdl_text.specs.declared.due.Due.{Due}
-use Rattle.cdl_text.specs.declared.due.Due.TheVariants.{DataName, Equals, Value}
-use Rattle.cdl_text.specs.declared.fault.CdlKind.{CdlKind}
-use Rattle.cdl_text.specs.declared.fault.CdlKind.TheVariants.{Syntax}
-use Rattle.cdl_text.proofs.Surveys.{good_on}
+use Rattle.cdl_statements.proofs.Listing.{only_completes}
+use Rattle.cdl_statements.specs.Contents.{values}
+use Rattle.cdl_statements.specs.declared.due.Due.{Due}
+use Rattle.cdl_statements.specs.declared.due.Due.TheVariants.{DataName, Equals, Value}
+use Rattle.cdl_statements.specs.declared.fault.CdlKind.{CdlKind}
+use Rattle.cdl_statements.specs.declared.fault.CdlKind.TheVariants.{Syntax}
+use Rattle.cdl_statements.proofs.Surveys.{good_on}
 use Rattle.cdl_tokens.specs.declared.token.TokenKind.{TokenKind}
 use Rattle.cdl_tokens.specs.declared.token.TokenKind.TheVariants as kinds
 use Rattle.cdl_values.specs.PackedValues.{packed}

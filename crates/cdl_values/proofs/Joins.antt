@@ -8,17 +8,17 @@ use Rattle.nc_base.specs.Names.{is_name}
 use Rattle.nc_base.specs.Numbers.{bytes_of_number}
 use Rattle.nc_base.specs.declared.header.Dim.{Dim}
 use Rattle.nc_base.specs.declared.version.Version.{Version}
-use Rattle.cdl_text.specs.Contents.{values}
-use Rattle.cdl_text.specs.DueTokens.{completes, next}
+use Rattle.cdl_statements.specs.Contents.{values}
+use Rattle.cdl_statements.specs.DueTokens.{completes, next}
 use Rattle.cdl_tokens.specs.Escapes.{word_value}
-use Rattle.cdl_text.specs.Lexemes.{Lexeme, is_mark}
-use Rattle.cdl_text.specs.Shapes.{Listed, Brace, first_bad, shape}
-use Rattle.cdl_text.specs.declared.due.Due.TheVariants as dues
-use Rattle.cdl_text.specs.declared.fault.CdlKind.{CdlKind}
-use Rattle.cdl_text.specs.declared.fault.CdlKind.TheVariants.{Syntax, BadName, UnknownVariable, DuplicateData}
-use Rattle.cdl_text.specs.declared.section.Section.TheVariants.{Values}
-use Rattle.cdl_text.proofs.Shaping.{data_is}
-use Rattle.cdl_text.proofs.Listing.{fine_on}
+use Rattle.cdl_statements.specs.Lexemes.{Lexeme, is_mark}
+use Rattle.cdl_statements.specs.Shapes.{Listed, Brace, first_bad, shape}
+use Rattle.cdl_statements.specs.declared.due.Due.TheVariants as dues
+use Rattle.cdl_statements.specs.declared.fault.CdlKind.{CdlKind}
+use Rattle.cdl_statements.specs.declared.fault.CdlKind.TheVariants.{Syntax, BadName, UnknownVariable, DuplicateData}
+use Rattle.cdl_statements.specs.declared.section.Section.TheVariants.{Values}
+use Rattle.cdl_statements.proofs.Shaping.{data_is}
+use Rattle.cdl_statements.proofs.Listing.{fine_on}
 use Rattle.cdl_meaning.specs.Meaning.{piece_read, checked, shaped}
 use Rattle.cdl_meaning.specs.State.{State, Draft, Listing, Capacity, capacity_of, at_named, at_variable, listing_of, values_in, with_values, act, unless, when, ◌>>=◌}
 use Rattle.cdl_values.specs.DataRead.{data_read, assigned, target_of, target_at, if_new, filled, unless_bad}

@@ -5,10 +5,10 @@ use Rattle.nc_base.specs.declared.nc_type.NcType.TheVariants.{Char}
 use Rattle.std.specs.Prelude.{pos}
 use Rattle.nc_base.specs.declared.version.Version.{Version}
 use Rattle.nc_base.specs.Numbers.{bytes_of_number}
-use Rattle.cdl_text.specs.Lexemes.{Lexeme, is_mark_kind}
-use Rattle.cdl_text.specs.Contents.{values, value_of}
-use Rattle.cdl_text.specs.Shapes.{Value}
-use Rattle.cdl_text.specs.declared.fault.CdlKind.{CdlKind}
+use Rattle.cdl_statements.specs.Lexemes.{Lexeme, is_mark_kind}
+use Rattle.cdl_statements.specs.Contents.{values, value_of}
+use Rattle.cdl_statements.specs.Shapes.{Value}
+use Rattle.cdl_statements.specs.declared.fault.CdlKind.{CdlKind}
 use Rattle.cdl_values.specs.declared.filling.Filling.{Filling}
 use Rattle.cdl_values.specs.PackedValues.{char_bytes, bytes_of, capacity_after, joined, followed_by, packed}
 use Rattle.cdl_values.specs.declared.read_error.ReadError.{ReadError}

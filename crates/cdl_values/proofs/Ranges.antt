@@ -3,13 +3,13 @@ use Rattle.std.proofs.Common.{◌≡◌, ℕ, zero, suc, ◌≤◌, ℤ, Bool, t
 use Rattle.std.specs.Prelude.{Option, None, Some, Ok, Err, nat_lt, nat_le, if◌then◌else◌, option_map, List, is_none}
 use Rattle.nc_base.specs.declared.nc_type.NcType.{NcType}
 use Rattle.nc_base.specs.declared.nc_type.NcType.TheVariants.{Byte, Char, Short, Int, Ubyte, Ushort, Uint, Int64, Uint64}
-use Rattle.cdl_text.specs.Contents.{parts_or_zero}
+use Rattle.cdl_statements.specs.Contents.{parts_or_zero}
 use Rattle.cdl_tokens.specs.Numerals.{Parts, parts, numeral, signed, number}
 use Rattle.nc_base.specs.declared.version.Version.{Version}
 use Rattle.cdl_tokens.specs.declared.token.TokenKind.TheVariants as kinds
 use Rattle.cdl_tokens.specs.Magnitudes.{word, held}
-use Rattle.cdl_text.specs.Shapes.{Number, token_fault}
-use Rattle.cdl_text.specs.declared.fault.CdlKind.TheVariants.{NumberRange, BadNumber}
+use Rattle.cdl_statements.specs.Shapes.{Number, token_fault}
+use Rattle.cdl_statements.specs.declared.fault.CdlKind.TheVariants.{NumberRange, BadNumber}
 use Rattle.cdl_tokens.specs.declared.numeral.Numeral.{Numeral as Held}
 use Rattle.nc_base.specs.Numbers.{bytes_of_number}
 use Rattle.cdl_meaning.specs.State.{fits}

@@ -8,9 +8,9 @@ use Rattle.nc_base.specs.declared.nc_type.NcType.{NcType}
 use Rattle.nc_base.specs.declared.nc_type.NcType.TheVariants.{Char}
 use Rattle.nc_base.specs.Numbers.{bytes_of_number}
 use Rattle.nc_base.specs.ValueText.{is_char}
-use Rattle.cdl_text.specs.Shapes.{Value, Number, Characters, Underscore}
-use Rattle.cdl_text.specs.declared.fault.CdlKind.{CdlKind}
-use Rattle.cdl_text.specs.declared.fault.CdlKind.TheVariants.{TooManyValues, NumberRange, StringTooLong, WrongKind}
+use Rattle.cdl_statements.specs.Shapes.{Value, Number, Characters, Underscore}
+use Rattle.cdl_statements.specs.declared.fault.CdlKind.{CdlKind}
+use Rattle.cdl_statements.specs.declared.fault.CdlKind.TheVariants.{TooManyValues, NumberRange, StringTooLong, WrongKind}
 use Rattle.cdl_meaning.specs.State.{Capacity, Listing, Numbers, Joined, Rows, add_number, add_characters, add_row, in_turn, listed_by, listing_of, values_in, fits, filled, ◌>>=◌}
 use Rattle.cdl_values.specs.Capacities.{Fills, positions_in, as_bytes}
 use Rattle.cdl_values.specs.PackedValues.{packed, followed_by, joined, bytes_of, capacity_after, is_full, is_past, less, char_bytes}

@@ -7,20 +7,20 @@ use Rattle.cdl_tokens.specs.Scanners as scanners
 use Rattle.cdl_tokens.specs.declared.numeral.Numeral.{Numeral as Held}
 use Rattle.cdl_tokens.specs.declared.token.TokenKind.{TokenKind}
 use Rattle.cdl_tokens.specs.declared.token.TokenKind.TheVariants as kinds
-use Rattle.cdl_text.specs.Contents.{value_of, values}
-use Rattle.cdl_text.specs.Cutters.{is_done, next_token, text_of, version_of, words}
-use Rattle.cdl_text.specs.DueTokens.{completes, is_value_of, next, only, separator}
-use Rattle.cdl_text.specs.Lexemes.{Lexeme, is_mark, is_mark_kind, lexeme}
-use Rattle.cdl_text.specs.ListedTokens.{IsAtComma, Passes, PassesNumber, PassesString}
-use Rattle.cdl_text.specs.NumberLists.{SamePlace, reached}
-use Rattle.cdl_text.specs.Shapes.{Characters, first_bad, token_fault}
-use Rattle.cdl_text.specs.Views.{lexeme_with}
-use Rattle.cdl_text.specs.declared.cutter.Cutter.{Cutter}
-use Rattle.cdl_text.specs.declared.due.Due.{Due}
-use Rattle.cdl_text.specs.declared.due.Due.TheVariants.{Separator, Value}
-use Rattle.cdl_text.specs.declared.number_list.NumberList.{NumberList}
-use Rattle.cdl_text.proofs.NumberLists.{at_same_comma, same_after, same_words}
-use Rattle.cdl_text.proofs.Surveys.{good_on}
+use Rattle.cdl_statements.specs.Contents.{value_of, values}
+use Rattle.cdl_statements.specs.Cutters.{is_done, next_token, text_of, version_of, words}
+use Rattle.cdl_statements.specs.DueTokens.{completes, is_value_of, next, only, separator}
+use Rattle.cdl_statements.specs.Lexemes.{Lexeme, is_mark, is_mark_kind, lexeme}
+use Rattle.cdl_statements.specs.ListedTokens.{IsAtComma, Passes, PassesNumber, PassesString}
+use Rattle.cdl_statements.specs.NumberLists.{SamePlace, reached}
+use Rattle.cdl_statements.specs.Shapes.{Characters, first_bad, token_fault}
+use Rattle.cdl_statements.specs.Views.{lexeme_with}
+use Rattle.cdl_statements.specs.declared.cutter.Cutter.{Cutter}
+use Rattle.cdl_statements.specs.declared.due.Due.{Due}
+use Rattle.cdl_statements.specs.declared.due.Due.TheVariants.{Separator, Value}
+use Rattle.cdl_statements.specs.declared.number_list.NumberList.{NumberList}
+use Rattle.cdl_statements.proofs.NumberLists.{at_same_comma, same_after, same_words}
+use Rattle.cdl_statements.proofs.Surveys.{good_on}
 use Rattle.cdl_values.specs.PackedValues.{bytes_of, capacity_after, held_bytes, is_full, joined, less, packed, row_bytes}
 use Rattle.cdl_values.specs.ValueRuns.{GoesOn, Place, Takes}
 use Rattle.cdl_values.specs.declared.fill.Fill.{Fill}

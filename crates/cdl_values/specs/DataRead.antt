@@ -3,15 +3,15 @@ use Rattle.std.specs.Prelude.{ℕ, List, [], ◌∷◌, if◌then◌else◌, dro
 use Rattle.nc_base.specs.declared.version.Version.{Version}
 use Rattle.nc_base.specs.Names.{is_name}
 use Rattle.cdl_tokens.specs.Escapes.{word_value}
-use Rattle.cdl_text.specs.Cutters.{version_of, words}
-use Rattle.cdl_text.specs.declared.cutter.Cutter.{Cutter}
-use Rattle.cdl_text.specs.Lexemes.{Lexeme}
-use Rattle.cdl_text.specs.DueTokens.{completes}
-use Rattle.cdl_text.specs.declared.due.Due.TheVariants.{DataName}
-use Rattle.cdl_text.specs.Contents.{values}
-use Rattle.cdl_text.specs.Shapes.{first_bad}
-use Rattle.cdl_text.specs.declared.fault.CdlKind.{CdlKind}
-use Rattle.cdl_text.specs.declared.fault.CdlKind.TheVariants.{Syntax, BadName, UnknownVariable, DuplicateData}
+use Rattle.cdl_statements.specs.Cutters.{version_of, words}
+use Rattle.cdl_statements.specs.declared.cutter.Cutter.{Cutter}
+use Rattle.cdl_statements.specs.Lexemes.{Lexeme}
+use Rattle.cdl_statements.specs.DueTokens.{completes}
+use Rattle.cdl_statements.specs.declared.due.Due.TheVariants.{DataName}
+use Rattle.cdl_statements.specs.Contents.{values}
+use Rattle.cdl_statements.specs.Shapes.{first_bad}
+use Rattle.cdl_statements.specs.declared.fault.CdlKind.{CdlKind}
+use Rattle.cdl_statements.specs.declared.fault.CdlKind.TheVariants.{Syntax, BadName, UnknownVariable, DuplicateData}
 use Rattle.cdl_values.specs.NameIndices.{position_of}
 use Rattle.cdl_values.specs.PackedValues.{packed}
 use Rattle.cdl_values.specs.declared.data.Target.{Target}

@@ -7,11 +7,11 @@ use Rattle.nc_base.specs.declared.header.Dim.{Dim}
 use Rattle.nc_base.specs.declared.header.Var.{Var}
 use Rattle.nc_base.specs.declared.version.Version.{Version}
 use Rattle.cdl_tokens.specs.Escapes.{word_value}
-use Rattle.cdl_text.specs.Cutters.{text_of, version_of, words}
-use Rattle.cdl_text.specs.declared.cutter.Cutter.{Cutter}
-use Rattle.cdl_text.specs.declared.section.Section.TheVariants.{Values}
-use Rattle.cdl_text.specs.Lexemes.{Lexeme, is_mark}
-use Rattle.cdl_text.specs.declared.fault.CdlKind.{CdlKind}
+use Rattle.cdl_statements.specs.Cutters.{text_of, version_of, words}
+use Rattle.cdl_statements.specs.declared.cutter.Cutter.{Cutter}
+use Rattle.cdl_statements.specs.declared.section.Section.TheVariants.{Values}
+use Rattle.cdl_statements.specs.Lexemes.{Lexeme, is_mark}
+use Rattle.cdl_statements.specs.declared.fault.CdlKind.{CdlKind}
 use Rattle.cdl_meaning.specs.Meaning.{piece_read}
 use Rattle.cdl_meaning.specs.State.{State, Draft, Listing, capacity_of, is_listed, values_in}
 use Rattle.cdl_values.specs.declared.read_error.ReadError.{ReadError}

@@ -5,9 +5,9 @@ use Rattle.nc_base.specs.declared.nc_type.NcType.TheVariants.{Byte, Char, Short,
 use Rattle.nc_base.specs.Numbers.{bytes_of_number}
 use Rattle.std.specs.List.{flat_map}
 use Rattle.cdl_tokens.specs.Numerals.{signed}
-use Rattle.cdl_text.specs.Shapes.{Value, Number, Characters, Underscore}
-use Rattle.cdl_text.specs.declared.fault.CdlKind.{CdlKind}
-use Rattle.cdl_text.specs.declared.fault.CdlKind.TheVariants.{NumberRange, WrongKind, TooManyValues, StringTooLong}
+use Rattle.cdl_statements.specs.Shapes.{Value, Number, Characters, Underscore}
+use Rattle.cdl_statements.specs.declared.fault.CdlKind.{CdlKind}
+use Rattle.cdl_statements.specs.declared.fault.CdlKind.TheVariants.{NumberRange, WrongKind, TooManyValues, StringTooLong}
 use Rattle.cdl_meaning.specs.State.{fits}
 use Rattle.cdl_values.specs.declared.filling.Filling.{Filling}
 use Rattle.cdl_values.specs.declared.filling.Filling.TheVariants.{Numbers, Joined, Rows}

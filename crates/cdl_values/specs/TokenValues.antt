@@ -7,15 +7,15 @@ use Rattle.cdl_tokens.specs.Magnitudes.{held}
 use Rattle.cdl_tokens.specs.Numerals.{Parts, number}
 use Rattle.cdl_tokens.specs.declared.numeral.Numeral.{Numeral}
 use Rattle.cdl_tokens.specs.declared.token.TokenKind.TheVariants as kinds
-use Rattle.cdl_text.specs.Contents.{value_of, values}
-use Rattle.cdl_text.specs.Cutters.{version_of, words}
-use Rattle.cdl_text.specs.Lexemes as lexemes
-use Rattle.cdl_text.specs.Shapes.{Value, Number, Characters}
-use Rattle.cdl_text.specs.Views.{lexeme_of, lexeme_with}
-use Rattle.cdl_text.specs.declared.cutter.Cutter.{Cutter}
-use Rattle.cdl_text.specs.declared.due.Due.{Due}
-use Rattle.cdl_text.specs.declared.fault.CdlKind.{CdlKind}
-use Rattle.cdl_text.specs.declared.lexeme.Lexeme.{Lexeme}
+use Rattle.cdl_statements.specs.Contents.{value_of, values}
+use Rattle.cdl_statements.specs.Cutters.{version_of, words}
+use Rattle.cdl_statements.specs.Lexemes as lexemes
+use Rattle.cdl_statements.specs.Shapes.{Value, Number, Characters}
+use Rattle.cdl_statements.specs.Views.{lexeme_of, lexeme_with}
+use Rattle.cdl_statements.specs.declared.cutter.Cutter.{Cutter}
+use Rattle.cdl_statements.specs.declared.due.Due.{Due}
+use Rattle.cdl_statements.specs.declared.fault.CdlKind.{CdlKind}
+use Rattle.cdl_statements.specs.declared.lexeme.Lexeme.{Lexeme}
 use Rattle.cdl_meaning.specs.State.{add_constant, in_turn}
 use Rattle.cdl_values.specs.Answers.{Continues, Leaves}
 use Rattle.cdl_values.specs.PackedValues.{bytes_of, capacity_after, joined, less, packed, value_bytes}

@@ -1,13 +1,13 @@
 -- What goes past several values of a statement at once.
 use Rattle.std.specs.Prelude.{ℕ, List, Bool, ◌≡◌, ◌≤◌, false, Option, Ok}
-use Rattle.cdl_text.specs.Contents.{values}
-use Rattle.cdl_text.specs.Cutters.{SameText, after, is_done, offset_of, version_of, words}
-use Rattle.cdl_text.specs.DueTokens.{completes}
-use Rattle.cdl_text.specs.ListedTokens.{IsAtComma}
-use Rattle.cdl_text.specs.Shapes.{first_bad}
-use Rattle.cdl_text.specs.declared.cutter.Cutter.{Cutter}
-use Rattle.cdl_text.specs.declared.due.Due.{Due}
-use Rattle.cdl_text.specs.declared.due.Due.TheVariants.{Separator}
+use Rattle.cdl_statements.specs.Contents.{values}
+use Rattle.cdl_statements.specs.Cutters.{SameText, after, is_done, offset_of, version_of, words}
+use Rattle.cdl_statements.specs.DueTokens.{completes}
+use Rattle.cdl_statements.specs.ListedTokens.{IsAtComma}
+use Rattle.cdl_statements.specs.Shapes.{first_bad}
+use Rattle.cdl_statements.specs.declared.cutter.Cutter.{Cutter}
+use Rattle.cdl_statements.specs.declared.due.Due.{Due}
+use Rattle.cdl_statements.specs.declared.due.Due.TheVariants.{Separator}
 use Rattle.cdl_values.specs.PackedValues.{joined, packed}
 use Rattle.cdl_values.specs.declared.filling.Filling.{Filling}
 

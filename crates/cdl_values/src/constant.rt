@@ -1,7 +1,7 @@
 //! The constants of an attribute.
 
 ghost use Rattle.std.specs.Prelude.{◌≡◌, false};
-ghost use Rattle.cdl_text.specs.Cutters.{is_done};
+ghost use Rattle.cdl_statements.specs.Cutters.{is_done};
 ghost use Rattle.cdl_meaning.specs.State.{add_constant, type_said};
 ghost use Rattle.cdl_values.specs.Answers.{Gives, Leaves};
 ghost use Rattle.cdl_values.specs.TokenValues.{AddsNumber, AddsToken, text_said, constants_read, value_said};
@@ -9,7 +9,7 @@ ghost use Rattle.cdl_values.specs.TokenValues.{AddsNumber, AddsToken, text_said,
 use crate::number::{number_or_zero, put_numeral};
 use crate::read_error::ReadError;
 use crate::string::put_text;
-use cdl_text::{CdlKind, Cutter, Lexeme};
+use cdl_statements::{CdlKind, Cutter, Lexeme};
 use cdl_tokens::{Numeral, TokenKind};
 use nc_base::{ListedArray, NcType, Version};
 use std::alloc::Global;
@@ -30,7 +30,7 @@ pub fn type_said(version: Version, token: Lexeme<'_>) -> NcType
 /// # Errors
 ///
 /// The fault of the first constant that has one: another type than this (`MixedConstants`), or a number that the type
-/// doesn't have (`NumberRange`). Or a growth was refused.
+/// doesn't have (`NumberRange`). Or an allocation failed.
 pub fn read_constants(
     alloc: Global,
     ty: NcType,
@@ -68,7 +68,7 @@ fn put_token(
 }
 
 /// Adds the bytes of a constant.
-#[tactic(auto, unfolding(cdl_text::specs::Contents::value_of))]
+#[tactic(auto, unfolding(cdl_statements::specs::Contents::value_of))]
 fn put_constant(
     vals: &mut ListedArray,
     version: Version,

@@ -1,7 +1,7 @@
 //! The statements of the data section.
 
 ghost use Rattle.std.specs.Prelude.{◌≡◌, Ok, IfOk, false, option_map};
-ghost use Rattle.cdl_text.specs.Cutters.{Follows, is_done};
+ghost use Rattle.cdl_statements.specs.Cutters.{Follows, is_done};
 ghost use Rattle.cdl_tokens.specs.Escapes.{word_value};
 ghost use Rattle.cdl_values.specs.Answers.{Gives};
 ghost use Rattle.cdl_values.specs.DataRead.{if_new, statement_read, target_said};
@@ -14,7 +14,7 @@ use crate::name_index::NameIndex;
 use crate::packing::{pack, pack_good};
 use crate::read_error::ReadError;
 use crate::value::Stop;
-use cdl_text::{CdlKind, Cutter, Due, first_pass};
+use cdl_statements::{CdlKind, Cutter, Due, first_pass};
 use nc_base::ListedArray;
 use std::alloc::Global;
 
@@ -50,7 +50,7 @@ pub struct Given<'a> {
 ///
 /// # Errors
 ///
-/// The statement's first fault; or a growth was refused.
+/// The statement's first fault; or an allocation failed.
 pub fn read<'a>(
     alloc: Global,
     names: &NameIndex,

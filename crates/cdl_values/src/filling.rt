@@ -30,7 +30,7 @@ impl Filling {
     }
 }
 
-/// Says whether nothing more is taken. Without a capacity there is always more.
+/// Returns true if nothing more is taken. Without a capacity there is always more.
 pub fn is_full(capacity: Option<u64>) -> bool
     ensures { result ≡ is_full capacity }
 {
@@ -40,7 +40,7 @@ pub fn is_full(capacity: Option<u64>) -> bool
     }
 }
 
-/// Says whether `n` is more than the capacity.
+/// Returns true if `n` is more than the capacity.
 pub fn is_past(n: u128, capacity: Option<u64>) -> bool
     ensures { result ≡ is_past n capacity }
 {

@@ -3,12 +3,12 @@
 ghost use Rattle.std.specs.Prelude.{◌≡◌, IfErr, IfOk, OnOk, true};
 ghost use Rattle.nc_base.specs.Names.{is_name};
 ghost use Rattle.cdl_tokens.specs.Escapes.{word_value};
-ghost use Rattle.cdl_text.specs.declared.fault.CdlKind.TheVariants.{BadName};
+ghost use Rattle.cdl_statements.specs.declared.fault.CdlKind.TheVariants.{BadName};
 ghost use Rattle.cdl_meaning.specs.State.{unless};
 ghost use Rattle.cdl_values.specs.Answers.{Fails};
 
 use crate::read_error::ReadError;
-use cdl_text::CdlKind;
+use cdl_statements::CdlKind;
 use cdl_tokens::{byte_at, is_escape};
 use nc_base::check_name;
 use std::alloc::{AllocError, Global};
@@ -17,7 +17,7 @@ use std::alloc::{AllocError, Global};
 ///
 /// # Errors
 ///
-/// A name that the format doesn't allow (`BadName`). Or a growth was refused.
+/// A name that the format doesn't allow (`BadName`). Or an allocation failed.
 pub fn read_name(alloc: Global, word: &[u8]) -> Result<Vec<u8>, ReadError>
     ensures name { IfOk result (λ name. name.items ≡ word_value word.now) }
     ensures allowed { OnOk result (is_name (word_value word.now) ≡ true) }
@@ -34,7 +34,7 @@ pub fn read_name(alloc: Global, word: &[u8]) -> Result<Vec<u8>, ReadError>
 ///
 /// # Errors
 ///
-/// A growth was refused.
+/// An allocation failed.
 pub fn name_of_word(alloc: Global, word: &[u8]) -> Result<Vec<u8>, AllocError>
     ensures { IfOk result (λ name. name.items ≡ word_value word.now) }
 {

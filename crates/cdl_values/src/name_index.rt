@@ -28,7 +28,7 @@ impl Model for NameIndex {
 }
 
 impl NameIndex {
-    /// Without names. It takes no memory.
+    /// Without names. It does not allocate.
     pub fn new(alloc: Global) -> NameIndex
         ensures { result ≡ [] }
     {
@@ -48,7 +48,7 @@ impl NameIndex {
     ///
     /// # Errors
     ///
-    /// A growth was refused. Then the names are what they were.
+    /// An allocation failed. Then the names are what they were.
     pub fn add(&mut self, name: Vec<u8>) -> Result<bool, AllocError>
         ensures new { IfOk result (λ added. added ≡ is_new self.old name.items) }
         ensures names { IfOk result (λ added. self.new ≡ with_name added self.old name.items) }

@@ -2,14 +2,14 @@
 
 ghost use Rattle.std.specs.Prelude.{◌≡◌, ◌++◌, OnOk, nat_le};
 ghost use Rattle.nc_base.specs.Numbers.{IsInRange, bytes_of_number};
-ghost use Rattle.cdl_text.specs.Contents.{parts_or_zero};
+ghost use Rattle.cdl_statements.specs.Contents.{parts_or_zero};
 ghost use Rattle.cdl_tokens.specs.Magnitudes.{held};
 ghost use Rattle.cdl_tokens.specs.Numerals.{parts, signed};
 ghost use Rattle.cdl_values.specs.Answers.{Adds, Refuses};
 ghost use Rattle.cdl_values.specs.PackedValues.{greatest, held_bytes};
 
 use crate::read_error::ReadError;
-use cdl_text::CdlKind;
+use cdl_statements::CdlKind;
 use cdl_tokens::{Numeral, number_of_token};
 use nc_base::{ListedArray, NcType, Version};
 use std::alloc::AllocError;
@@ -81,7 +81,7 @@ fn put_number_here(array: &mut ListedArray, ty: NcType, number: i128) -> Result<
     }
 }
 
-/// Says whether the type has the number.
+/// Returns true if the type has the number.
 #[inline(always)]
 fn is_in_range(ty: NcType, minus: bool, magnitude: u64) -> bool
     ensures { result ≡ nat_le magnitude (greatest ty minus) }

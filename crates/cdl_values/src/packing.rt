@@ -1,9 +1,9 @@
 //! The values of a statement of the data section, packed.
 
 ghost use Rattle.std.specs.Prelude.{◌≡◌, None, Ok, OnOk, IfOk, false, true};
-ghost use Rattle.cdl_text.specs.Cutters.{Follows, is_done, version_of, words};
-ghost use Rattle.cdl_text.specs.DueTokens.{completes};
-ghost use Rattle.cdl_text.specs.Shapes.{first_bad};
+ghost use Rattle.cdl_statements.specs.Cutters.{Follows, is_done, version_of, words};
+ghost use Rattle.cdl_statements.specs.DueTokens.{completes};
+ghost use Rattle.cdl_statements.specs.Shapes.{first_bad};
 ghost use Rattle.cdl_values.specs.Answers.{Gives};
 ghost use Rattle.cdl_values.specs.TokenValues.{packed_from};
 
@@ -11,7 +11,7 @@ use crate::filling::Filling;
 use crate::read_error::ReadError;
 use crate::value::{Stop, put_token, take_good};
 use crate::value_run::take_run;
-use cdl_text::{Cutter, Due};
+use cdl_statements::{Cutter, Due};
 use nc_base::ListedArray;
 use std::alloc::Global;
 
@@ -26,7 +26,7 @@ pub struct Packed<'a> {
 ///
 /// # Errors
 ///
-/// The fault of the first value that has one; or a growth was refused.
+/// The fault of the first value that has one; or an allocation failed.
 #[inline(never)]
 pub fn pack(
     alloc: Global,
@@ -55,7 +55,7 @@ pub fn pack(
 ///
 /// # Errors
 ///
-/// The statement has some fault; or a growth was refused.
+/// The statement has some fault; or an allocation failed.
 #[inline(never)]
 pub fn pack_good<'a>(
     alloc: Global,

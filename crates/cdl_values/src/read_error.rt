@@ -3,13 +3,13 @@
 ghost use Rattle.std.specs.Prelude.{◌≡◌};
 ghost use Rattle.cdl_values.specs.declared.read_error.ReadError.TheVariants.{Fault, OutOfMemory};
 
-use cdl_text::CdlKind;
+use cdl_statements::CdlKind;
 use std::alloc::AllocError;
 
 /// Why a call that reads a statement gives up.
 #[derive(Clone, Copy, Debug, PartialEq, Eq)]
 pub enum ReadError {
-    /// A growth of memory was refused; nothing is said of the text.
+    /// An allocation failed; nothing is said of the text.
     OutOfMemory,
     /// The statement has this fault.
     Fault(CdlKind),

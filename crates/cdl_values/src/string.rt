@@ -3,7 +3,7 @@
 ghost use Rattle.std.specs.Prelude.{◌≡◌, ◌++◌, ◌≤◌, Err, IfOk, OnOk, length, take, false, true};
 ghost use Rattle.std.specs.List.{prefix_len};
 ghost use Rattle.cdl_tokens.specs.Escapes.{inner, is_unescaped, stands};
-ghost use Rattle.cdl_text.specs.declared.fault.CdlKind.TheVariants.{TooManyValues};
+ghost use Rattle.cdl_statements.specs.declared.fault.CdlKind.TheVariants.{TooManyValues};
 ghost use Rattle.cdl_values.specs.Answers.{Adds};
 ghost use Rattle.cdl_values.specs.PackedValues.{char_bytes, row_bytes, text_bytes};
 ghost use Rattle.cdl_values.specs.TokenValues.{text_said};
@@ -11,7 +11,7 @@ ghost use Rattle.cdl_values.specs.declared.read_error.ReadError.TheVariants.{Fau
 
 use crate::filling::is_past;
 use crate::read_error::ReadError;
-use cdl_text::CdlKind;
+use cdl_statements::CdlKind;
 use cdl_tokens::{character, first_bytes, unescaped_len};
 use nc_base::ListedArray;
 use std::alloc::AllocError;

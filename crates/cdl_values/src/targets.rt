@@ -23,7 +23,7 @@ use std::alloc::{AllocError, Global};
 ///
 /// # Errors
 ///
-/// A growth was refused.
+/// An allocation failed.
 pub fn targets_of(alloc: Global, dims: &[Dim], vars: &[Var]) -> Result<Vec<Target>, AllocError>
     ensures { IfOk result (λ targets. SuitVariables dims.now vars.now targets.items) }
 {

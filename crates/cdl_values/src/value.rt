@@ -1,10 +1,10 @@
 //! Values of the data section.
 
 ghost use Rattle.std.specs.Prelude.{◌≡◌, None, OnOk, IfOk};
-ghost use Rattle.cdl_text.specs.DueTokens.{next};
-ghost use Rattle.cdl_text.specs.Shapes.{token_fault};
-ghost use Rattle.cdl_text.specs.Views.{lexeme_of};
-ghost use Rattle.cdl_text.specs.declared.fault.CdlKind.{CdlKind};
+ghost use Rattle.cdl_statements.specs.DueTokens.{next};
+ghost use Rattle.cdl_statements.specs.Shapes.{token_fault};
+ghost use Rattle.cdl_statements.specs.Views.{lexeme_of};
+ghost use Rattle.cdl_statements.specs.declared.fault.CdlKind.{CdlKind};
 ghost use Rattle.cdl_values.specs.Answers.{Adds, Refuses};
 ghost use Rattle.cdl_values.specs.TokenValues.{Appends, AppendsNumber, CountsOne, PacksGood, PacksToken, TakesGood};
 ghost use Rattle.cdl_values.specs.TokenValues.{at, number_token_bytes, token_bytes};
@@ -14,7 +14,7 @@ use crate::filling::{Filling, is_full, less};
 use crate::number::{number_or_zero, put_number, put_numeral};
 use crate::read_error::ReadError;
 use crate::string::{put_row, put_text};
-use cdl_text::{CdlKind, Due, Lexeme};
+use cdl_statements::{CdlKind, Due, Lexeme};
 use cdl_tokens::{TokenKind, number_of_token};
 use nc_base::{ListedArray, Version};
 
@@ -131,7 +131,7 @@ fn put_good(
 }
 
 /// Adds the bytes of a number, if its token is good.
-#[tactic(auto, unfolding(cdl_text::specs::Contents::value_of), using(crate::proofs::Ranges::number_added, crate::proofs::Ranges::good_number))]
+#[tactic(auto, unfolding(cdl_statements::specs::Contents::value_of), using(crate::proofs::Ranges::number_added, crate::proofs::Ranges::good_number))]
 fn put_good_number(
     array: &mut ListedArray,
     version: Version,
@@ -154,7 +154,7 @@ fn put_good_number(
 }
 
 /// Adds the bytes of a value.
-#[tactic(auto, unfolding(cdl_text::specs::Contents::value_of))]
+#[tactic(auto, unfolding(cdl_statements::specs::Contents::value_of))]
 fn put(
     array: &mut ListedArray,
     version: Version,
@@ -179,7 +179,7 @@ fn put(
 }
 
 /// Adds the bytes of a value of a variable of numbers.
-#[tactic(auto, unfolding(cdl_text::specs::Contents::value_of), using(crate::proofs::Ranges::held_is, crate::proofs::InRange::has_it))]
+#[tactic(auto, unfolding(cdl_statements::specs::Contents::value_of), using(crate::proofs::Ranges::held_is, crate::proofs::InRange::has_it))]
 fn put_value(
     array: &mut ListedArray,
     version: Version,

@@ -1,9 +1,9 @@
 //! Runs of values of a statement, after each of which a comma stands.
 
 ghost use Rattle.std.specs.Prelude.{◌≡◌, ◌<◌, ℕ, Bool, IfOk, false};
-ghost use Rattle.cdl_text.specs.Cutters.{is_done};
-ghost use Rattle.cdl_text.specs.ListedTokens.{IsAtComma};
-ghost use Rattle.cdl_text.specs.NumberLists.{reached};
+ghost use Rattle.cdl_statements.specs.Cutters.{is_done};
+ghost use Rattle.cdl_statements.specs.ListedTokens.{IsAtComma};
+ghost use Rattle.cdl_statements.specs.NumberLists.{reached};
 ghost use Rattle.cdl_values.specs.PackedValues.{is_full, less};
 ghost use Rattle.cdl_values.specs.ValueRuns.{GoesOn, Takes, place};
 
@@ -12,7 +12,7 @@ use crate::filling::{Filling, is_full, less};
 use crate::number::{put_numeral, put_numeral_here};
 use crate::string::put_plain_row;
 use crate::value::{Stop, put_good_value};
-use cdl_text::{Cutter, Due, Lexeme, NumberList};
+use cdl_statements::{Cutter, Due, Lexeme, NumberList};
 use cdl_tokens::TokenKind;
 use nc_base::{ListedArray, NcType};
 
@@ -29,7 +29,7 @@ struct Reached<'a> {
 ///
 /// # Errors
 ///
-/// The statement has some fault; or a growth was refused.
+/// The statement has some fault; or an allocation failed.
 #[inline(always)]
 pub fn take_run(
     array: &mut ListedArray,
@@ -117,7 +117,7 @@ fn take_alike<'a>(
     }
 }
 
-/// Says whether the value may be one of a run of plain ones: a string, or a number that neither begins with a zero nor ends with a
+/// Returns true if the value may be one of a run of plain ones: a string, or a number that neither begins with a zero nor ends with a
 /// letter.
 fn may_be_plain(token: Lexeme<'_>) -> bool {
     match (token.kind, token.bytes) {

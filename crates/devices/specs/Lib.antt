@@ -5,10 +5,10 @@ pub mod Slice
 pub mod Memory
 pub mod Openers
 pub mod IoSinks
-pub mod Listed
+pub mod MemFiles
 pub mod Ahead
 pub mod System
-pub mod Texts
+pub mod TextOpeners
 pub mod Readers
 pub mod Creators
 pub mod Made

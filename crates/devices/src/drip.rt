@@ -20,7 +20,7 @@ pub enum FailWhen {
 impl FailWhen {
     ghost use Rattle.devices.specs.Drip.{IsDue};
 
-    /// Says whether a read at the offset `at`, with `reads` reads before it, is to fail.
+    /// Returns true if a read at the offset `at`, with `reads` reads before it, is to fail.
     fn is_due(self, at: u64, reads: u128) -> bool
         ensures { IsTrue result ↔ IsDue self at reads }
     {

@@ -5,8 +5,8 @@
 //! goes over any writer of the standard library. [`DripSource`] gives few bytes a read and fails on request, and [`SliceSink`]
 //! fills a slice, a few bytes a call. [`put`] writes all of the bytes that it is given, and [`put_decimal`] a number.
 //!
-//! An [`Opener`] opens paths as sources, and [`Texts`] opens them as readers, of which a [`CountedRead`] counts what they do.
-//! [`SystemFiles`] opens the files of the system in both ways, and [`Listed`] those of a list in memory. A [`Creator`] creates
+//! An [`Opener`] opens paths as sources, and [`TextOpener`] opens them as readers, of which a [`CountedRead`] counts what they do.
+//! [`SystemFiles`] opens the files of the system in both ways, and [`MemFiles`] those of a list in memory. A [`Creator`] creates
 //! outputs at paths: [`SystemOutputs`] in the files of the system, and [`MadeFiles`] in memory.
 #![tactic(auto)]
 
@@ -16,7 +16,7 @@ mod decimal;
 mod drip;
 mod fault;
 mod file;
-mod listed;
+mod mem_files;
 mod made;
 mod memory;
 mod opener;
@@ -26,7 +26,7 @@ mod sink;
 mod slice;
 mod source;
 mod system;
-mod texts;
+mod text_opener;
 
 pub use ahead::ReadAhead;
 pub use creator::Creator;
@@ -34,7 +34,7 @@ pub use decimal::put_decimal;
 pub use drip::{DripSource, FailWhen};
 pub use fault::{CloseFailed, CreateFailed, OpenFailed, SinkFailed, SourceFailed, WriteFailed};
 pub use file::{FileSource, IoSink};
-pub use listed::{Listed, ListedFile};
+pub use mem_files::{MemFiles, MemFile};
 pub use made::{MadeFile, MadeFiles};
 pub use memory::{MemSink, MemSource};
 pub use opener::Opener;
@@ -44,4 +44,4 @@ pub use sink::{Flush, Sink, put};
 pub use slice::SliceSink;
 pub use source::Source;
 pub use system::SystemFiles;
-pub use texts::Texts;
+pub use text_opener::TextOpener;

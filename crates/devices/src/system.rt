@@ -4,7 +4,7 @@ ghost use Rattle.std.specs.Prelude.{◌≡◌, None, false};
 ghost use Rattle.devices.specs.Openers.{HasBack, unopened};
 ghost use Rattle.devices.specs.System.{view_of};
 
-use crate::{CountedRead, FileSource, OpenFailed, Opener, Texts};
+use crate::{CountedRead, FileSource, OpenFailed, Opener, TextOpener};
 use std::fs::File;
 use std::io::Read;
 use std::rt::Files;
@@ -57,7 +57,7 @@ impl<R: Files<File = File>> Opener for SystemFiles<'_, R> {
     }
 }
 
-impl<R: Files<File = File>> Texts for SystemFiles<'_, R> {
+impl<R: Files<File = File>> TextOpener for SystemFiles<'_, R> {
     type Text = File;
 
     ghost is_transparent = { false };

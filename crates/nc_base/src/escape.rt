@@ -53,7 +53,7 @@ pub enum Escape {
 impl Quoting {
     ghost use Rattle.nc_base.specs.Quoted.{escaped_in, stands_for_itself, written};
 
-    /// Says whether the byte stands for itself here.
+    /// Returns true if the byte stands for itself here.
     pub fn is_plain(self, b: u8) -> bool
         ensures { result ≡ stands_for_itself self b }
     {
@@ -102,28 +102,28 @@ fn escape_in_string(b: u8) -> Escape
     }
 }
 
-/// Says whether the byte stands for itself in a name.
+/// Returns true if the byte stands for itself in a name.
 fn is_plain_in_name(b: u8) -> bool
     ensures { result ≡ is_plain b }
 {
     b.is_ascii_alphanumeric() || b == b'_' || is_name_mark(b) || b >= 0x80
 }
 
-/// Says whether the byte stands for itself in a string.
+/// Returns true if the byte stands for itself in a string.
 fn is_plain_in_string(b: u8) -> bool
     ensures { result ≡ is_literal b }
 {
     !(b.is_ascii_control() || matches!(b, b'"' | b'\'' | b'\\'))
 }
 
-/// Says whether the byte is one of the marks that a name has as they are, but not as its first byte.
+/// Returns true if the byte is one of the marks that a name has as they are, but not as its first byte.
 fn is_name_mark(b: u8) -> bool
     ensures { result ≡ is_name_mark b }
 {
     matches!(b, b'.' | b'@' | b'+' | b'-')
 }
 
-/// Says whether the name begins as a number does: with a digit, or with one of the marks `.`, `@`, `+` and `-`.
+/// Returns true if the name begins as a number does: with a digit, or with one of the marks `.`, `@`, `+` and `-`.
 pub fn begins_with_digit_or_mark(name: &[u8]) -> bool
     ensures { result ≡ begins_with_digit_or_mark name.now }
 {
@@ -133,7 +133,7 @@ pub fn begins_with_digit_or_mark(name: &[u8]) -> bool
     }
 }
 
-/// Says whether the bytes are a reserved word of CDL, which names nothing unless it is escaped.
+/// Returns true if the bytes are a reserved word of CDL, which names nothing unless it is escaped.
 #[tactic(auto, unfolding(crate::specs::Escapes::is_reserved))]
 pub fn is_reserved(name: &[u8]) -> bool
     ensures { result ≡ is_reserved name.now }
@@ -141,7 +141,7 @@ pub fn is_reserved(name: &[u8]) -> bool
     is_one_of(name, &RESERVED_WORDS)
 }
 
-/// Says whether the bytes are one of the words.
+/// Returns true if the bytes are one of the words.
 fn is_one_of(bytes: &[u8], words: &[&[u8]]) -> bool
     ensures { result ≡ list_any (λ word. bytes_eq bytes.now word.now) words.now }
 {

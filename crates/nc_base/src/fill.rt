@@ -22,7 +22,7 @@ pub fn fill_of(var: &Var) -> i128
     }
 }
 
-/// Says whether a value of the variable that equals its fill value prints as `_`: a character never does, and a number of
+/// Returns true if a value of the variable that equals its fill value prints as `_`: a character never does, and a number of
 /// one byte only where the variable has a fill value of its own (ncdump(1), on `_FillValue`).
 pub fn prints_fill(var: &Var) -> bool
     ensures { result ≡ prints_fill var.now.ty (is_some (own_fill var.now)) }
@@ -35,7 +35,7 @@ pub fn prints_fill(var: &Var) -> bool
     }
 }
 
-/// Says whether the variable has a fill value of its own.
+/// Returns true if the variable has a fill value of its own.
 fn has_own_fill(var: &Var) -> bool
     ensures { result ≡ is_some (own_fill var.now) }
 {
@@ -52,14 +52,14 @@ fn fill_att(atts: &[Att]) -> Option<&Att>
     atts.iter().find(|att| is_fill_att(att))
 }
 
-/// Says whether the attribute is named `_FillValue`.
+/// Returns true if the attribute is named `_FillValue`.
 fn is_fill_att(att: &Att) -> bool
     ensures { result ≡ is_fill_att att.now }
 {
     att.name.as_slice() == b"_FillValue".as_slice()
 }
 
-/// Says whether the attribute has exactly one value, and of this type.
+/// Returns true if the attribute has exactly one value, and of this type.
 fn is_one_of_type(ty: NcType, att: &Att) -> bool
     ensures { result ≡ is_one_of_type ty att.now }
 {

@@ -42,7 +42,7 @@ impl Model for ListedArray {
 }
 
 impl ListedArray {
-    /// Without bytes. It takes no memory.
+    /// Without bytes. It does not allocate.
     #[tactic(auto, unfolding(crate::specs::ListedRows::filled_rows))]
     pub fn new(alloc: Global) -> ListedArray
         ensures { result ≡ [] }
@@ -60,7 +60,7 @@ impl ListedArray {
     ///
     /// # Errors
     ///
-    /// A growth was refused.
+    /// An allocation failed.
     #[inline(always)]
     #[tactic(auto, using(crate::proofs::FilledRows::filled_append))]
     pub fn add(&mut self, bytes: &[u8]) -> Result<(), AllocError>
@@ -74,7 +74,7 @@ impl ListedArray {
     ///
     /// # Errors
     ///
-    /// A growth was refused.
+    /// An allocation failed.
     #[tactic(auto, using(crate::proofs::FilledRows::filled_append))]
     pub fn add_byte(&mut self, byte: u8) -> Result<(), AllocError>
         ensures { OnOk result (self.new ≡ self.old ++ byte ∷ []) }
@@ -90,7 +90,7 @@ impl ListedArray {
     ///
     /// # Errors
     ///
-    /// A growth was refused.
+    /// An allocation failed.
     #[tactic(auto, using(crate::proofs::FilledRows::filled_append, crate::proofs::FilledRows::filled_end, crate::proofs::FilledRows::ends_end))]
     pub fn end_row(&mut self, lacking: u64, fill: u8) -> Result<(), AllocError>
         ensures { OnOk result (self.new ≡ self.old ++ replicate lacking fill) }
@@ -167,7 +167,7 @@ impl ListedArray {
     ///
     /// # Errors
     ///
-    /// A growth was refused.
+    /// An allocation failed.
     pub fn into_bytes(self, alloc: Global, more: usize) -> Result<Vec<u8>, AllocError>
         ensures { IfOk result (λ bytes. bytes.items ≡ self) }
     {

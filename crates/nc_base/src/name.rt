@@ -5,7 +5,7 @@ ghost use Rattle.std.specs.List.{list_all};
 ghost use Rattle.std.specs.Str.{is_utf8};
 ghost use Rattle.nc_base.specs.Names.{is_name, has_name_bytes, ends_with_space, may_begin_name, may_follow_in_name};
 
-/// Says whether the bytes are a name that a dimension, a variable or an attribute may have: not empty, in UTF-8,
+/// Returns true if the bytes are a name that a dimension, a variable or an attribute may have: not empty, in UTF-8,
 /// beginning with a letter, a digit, `_` or a character beyond ASCII, going on with printing ASCII characters other
 /// than `/` or characters beyond ASCII, and without a space at the end (`name` of the NetCDF Classic Format
 /// Specification).
@@ -15,7 +15,7 @@ pub fn check_name(name: &[u8]) -> bool
     has_name_bytes(name) && !ends_with_space(name) && is_text(name)
 }
 
-/// Says whether a name has bytes, and each is one that its place allows.
+/// Returns true if a name has bytes, and each is one that its place allows.
 fn has_name_bytes(name: &[u8]) -> bool
     ensures { result ≡ has_name_bytes name.now }
 {
@@ -25,14 +25,14 @@ fn has_name_bytes(name: &[u8]) -> bool
     }
 }
 
-/// Says whether each of these bytes may stand after the first one of a name.
+/// Returns true if each of these bytes may stand after the first one of a name.
 fn may_go_on(others: &[u8]) -> bool
     ensures { result ≡ list_all may_follow_in_name others.now }
 {
     others.iter().all(|b| may_follow(*b))
 }
 
-/// Says whether the last byte is a space.
+/// Returns true if the last byte is a space.
 fn ends_with_space(name: &[u8]) -> bool
     requires { 0 < length name.now }
     ensures { result ≡ ends_with_space name.now }
@@ -40,21 +40,21 @@ fn ends_with_space(name: &[u8]) -> bool
     name[name.len() - 1] == b' '
 }
 
-/// Says whether the bytes are UTF-8.
+/// Returns true if the bytes are UTF-8.
 fn is_text(bytes: &[u8]) -> bool
     ensures { result ≡ is_utf8 bytes.now }
 {
     str::from_utf8(bytes).is_ok()
 }
 
-/// Says whether a name may begin with this byte.
+/// Returns true if a name may begin with this byte.
 fn may_begin(b: u8) -> bool
     ensures { result ≡ may_begin_name b }
 {
     b.is_ascii_alphabetic() || b.is_ascii_digit() || b == b'_' || b >= 0x80
 }
 
-/// Says whether this byte may stand after the first one of a name.
+/// Returns true if this byte may stand after the first one of a name.
 fn may_follow(b: u8) -> bool
     ensures { result ≡ may_follow_in_name b }
 {

@@ -22,7 +22,7 @@ impl<T> Model for Sequence<T> {
 }
 
 impl<T> Sequence<T> {
-    /// A sequence without items. It takes no memory.
+    /// A sequence without items. It does not allocate.
     pub fn new(alloc: Global) -> Sequence<T>
         ensures { result ≡ [] }
     {
@@ -60,7 +60,7 @@ impl<T> Sequence<T> {
         self.items.len()
     }
 
-    /// Says whether there are no items.
+    /// Returns true if there are no items.
     pub fn is_empty(&self) -> bool
         ensures { result ≡ (length self.now == 0) }
     {

@@ -229,14 +229,14 @@ pub fn padding_len(n: u128) -> u64
     ((4 - n % 4) % 4) as u64
 }
 
-/// Says whether a value takes less than four bytes.
+/// Returns true if a value takes less than four bytes.
 fn is_narrow(var: &Var) -> bool
     ensures { result ≡ is_narrow var.now }
 {
     var.ty.size() < 4
 }
 
-/// Says whether the variable is a record variable: its first dimension is the record dimension.
+/// Returns true if the variable is a record variable: its first dimension is the record dimension.
 pub fn is_record_var(dims: &[Dim], var: &Var) -> bool
     ensures { result ≡ is_record_var dims.now var.now }
 {
@@ -281,7 +281,7 @@ fn capped_product(bytes: u64, len: u64) -> u64
     }
 }
 
-/// Says whether the first dimension of a shape is the record dimension, which has length 0.
+/// Returns true if the first dimension of a shape is the record dimension, which has length 0.
 pub fn has_records(dims: &[Dim], dimids: &[u64]) -> bool
     ensures { result ≡ has_records dims.now dimids.now }
 {
@@ -291,7 +291,7 @@ pub fn has_records(dims: &[Dim], dimids: &[u64]) -> bool
     }
 }
 
-/// Says whether the id is that of the record dimension.
+/// Returns true if the id is that of the record dimension.
 pub fn is_record_dim(dims: &[Dim], id: u64) -> bool
     ensures { result ≡ is_record_dim dims.now id }
 {

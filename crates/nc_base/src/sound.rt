@@ -16,7 +16,7 @@ use crate::version::Version;
 impl Header {
     ghost use Rattle.nc_base.specs.Headers.{IsSound};
 
-    /// Says whether the header is sound: each count and length is below the version's limit (2^31, and 2^63 in CDF-5),
+    /// Returns true if the header is sound: each count and length is below the version's limit (2^31, and 2^63 in CDF-5),
     /// each type is one of the version's, each attribute has whole values, each dimension id names a dimension, at most
     /// one dimension has length 0 and stands first in each shape, no slab passes 2^48 bytes, and the record size doesn't
     /// pass 2^62 bytes. These are the limits of the NetCDF Classic Format Specification, but for the last two.
@@ -33,7 +33,7 @@ impl Header {
     }
 }
 
-/// Says whether the variables are sound, and so is their record size.
+/// Returns true if the variables are sound, and so is their record size.
 fn has_sound_vars(header: &Header) -> bool
     ensures { IsTrue result ↔ HasSoundVars header.now }
 {
@@ -44,7 +44,7 @@ fn has_sound_vars(header: &Header) -> bool
     ) && rec_size(header).is_some()
 }
 
-/// Says whether the version can count the records.
+/// Returns true if the version can count the records.
 fn is_sound_numrecs(version: Version, numrecs: NumRecs) -> bool
     ensures { IsTrue result ↔ IsSoundNumRecs version numrecs }
 {
@@ -54,28 +54,28 @@ fn is_sound_numrecs(version: Version, numrecs: NumRecs) -> bool
     }
 }
 
-/// Says whether the version can count this number of elements.
+/// Returns true if the version can count this number of elements.
 fn is_countable(version: Version, count: usize) -> bool
     ensures { IsTrue result ↔ (count < count_limit version) }
 {
     (count as u64) < version.count_limit()
 }
 
-/// Says whether there are no more dimensions than the version can count, and each is sound.
+/// Returns true if there are no more dimensions than the version can count, and each is sound.
 fn are_sound_dims(version: Version, dims: &[Dim]) -> bool
     ensures { IsTrue result ↔ AreSoundDims version dims.now }
 {
     is_countable(version, dims.len()) && dims.iter().all(|dim| is_sound_dim(version, dim))
 }
 
-/// Says whether the version can count the name's bytes and the dimension's length.
+/// Returns true if the version can count the name's bytes and the dimension's length.
 fn is_sound_dim(version: Version, dim: &Dim) -> bool
     ensures { IsTrue result ↔ IsSoundDim version dim.now }
 {
     is_countable(version, dim.name.len()) && dim.len < version.count_limit()
 }
 
-/// Says whether at most one dimension is the record dimension.
+/// Returns true if at most one dimension is the record dimension.
 fn has_one_record_dim(dims: &[Dim]) -> bool
     ensures { IsTrue result ↔ (length (filter (λ dim. dim.len == 0) dims.now) ≤ 1) }
 {
@@ -89,14 +89,14 @@ fn record_dim_count(dims: &[Dim]) -> usize
     dims.iter().filter(|dim| dim.len == 0).count()
 }
 
-/// Says whether there are no more attributes than the version can count, and each is sound.
+/// Returns true if there are no more attributes than the version can count, and each is sound.
 fn are_sound_atts(version: Version, atts: &[Att]) -> bool
     ensures { IsTrue result ↔ AreSoundAtts version atts.now }
 {
     is_countable(version, atts.len()) && atts.iter().all(|att| is_sound_att(version, att))
 }
 
-/// Says whether the attribute's type is one of the version's, and it has whole values that the version can count.
+/// Returns true if the attribute's type is one of the version's, and it has whole values that the version can count.
 fn is_sound_att(version: Version, att: &Att) -> bool
     ensures { IsTrue result ↔ IsSoundAtt version att.now }
 {
@@ -105,7 +105,7 @@ fn is_sound_att(version: Version, att: &Att) -> bool
         && has_whole_values(version, att)
 }
 
-/// Says whether the attribute has whole values that the version can count.
+/// Returns true if the attribute has whole values that the version can count.
 fn has_whole_values(version: Version, att: &Att) -> bool
     ensures { IsTrue result ↔ HasWholeValues version att.now }
 {
@@ -114,14 +114,14 @@ fn has_whole_values(version: Version, att: &Att) -> bool
     bytes % size == 0 && bytes / size < version.count_limit()
 }
 
-/// Says whether there are no more variables than the version can count, and each is sound.
+/// Returns true if there are no more variables than the version can count, and each is sound.
 fn are_sound_vars(version: Version, dims: &[Dim], vars: &[Var]) -> bool
     ensures { IsTrue result ↔ AreSoundVars version dims.now vars.now }
 {
     is_countable(version, vars.len()) && vars.iter().all(|var| is_sound_var(version, dims, var))
 }
 
-/// Says whether the variable's type is one of the version's, its shape and its attributes are sound, and its slab is no
+/// Returns true if the variable's type is one of the version's, its shape and its attributes are sound, and its slab is no
 /// greater than 2^48 bytes.
 fn is_sound_var(version: Version, dims: &[Dim], var: &Var) -> bool
     ensures { IsTrue result ↔ IsSoundVar version dims.now var.now }
@@ -134,14 +134,14 @@ fn is_sound_var(version: Version, dims: &[Dim], var: &Var) -> bool
         && has_sound_slab(dims, dimids, var.ty)
 }
 
-/// Says whether a shape is sound, and a slab of it and of this type no greater than 2^48 bytes.
+/// Returns true if a shape is sound, and a slab of it and of this type no greater than 2^48 bytes.
 fn has_sound_slab(dims: &[Dim], dimids: &[u64], ty: NcType) -> bool
     ensures { IsTrue result ↔ IsSoundShape dims.now dimids.now ty }
 {
     is_sound_shape(dims, dimids) && slab_of(dims, dimids, ty).is_some()
 }
 
-/// Says whether each id of a shape names a dimension, and only the first may name the record dimension.
+/// Returns true if each id of a shape names a dimension, and only the first may name the record dimension.
 fn is_sound_shape(dims: &[Dim], dimids: &[u64]) -> bool
     ensures { IsTrue result ↔ AreDimids dims.now [] dimids.now }
 {
@@ -151,14 +151,14 @@ fn is_sound_shape(dims: &[Dim], dimids: &[u64]) -> bool
     }
 }
 
-/// Says whether each id names a dimension other than the record dimension.
+/// Returns true if each id names a dimension other than the record dimension.
 fn are_fixed_dims(dims: &[Dim], dimids: &[u64]) -> bool
     ensures { result ≡ list_all (is_fixed_dim dims.now) dimids.now }
 {
     dimids.iter().all(|id| is_fixed_dim(dims, *id))
 }
 
-/// Says whether the id names a dimension other than the record dimension.
+/// Returns true if the id names a dimension other than the record dimension.
 fn is_fixed_dim(dims: &[Dim], id: u64) -> bool
     ensures { result ≡ is_fixed_dim dims.now id }
 {

@@ -71,7 +71,7 @@ impl Version {
         }
     }
 
-    /// Says whether files of the version may have values of the type.
+    /// Returns true if files of the version may have values of the type.
     pub fn has_type(self, ty: NcType) -> bool
         ensures { result ≡ has_type self ty }
     {

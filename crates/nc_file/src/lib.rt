@@ -4,6 +4,15 @@
 //! is none. A header is written in two steps: [`with_begins`] gives each variable the offset of its values, or answers
 //! [`OffsetTooLarge`], and [`write_header`] writes the one spelling of a header to any sink. [`header_len`] is that spelling's
 //! length. The devices of `devices` are named here too, for the crates above.
+//!
+//! ```
+//! let mut source = FileSource::open(&rt, "a.nc")?;
+//! let mut buf = [0; 4096];
+//! let header = read_header(alloc, &mut source, &mut buf)?;
+//! write_header(&mut sink, &with_begins(header)?)?;
+//! ```
+//!
+//! The crates `example_values` and `example_file` are whole programs.
 #![tactic(auto)]
 
 mod head_fault;
@@ -16,7 +25,7 @@ mod window;
 mod write;
 
 pub use devices::{
-    DripSource, FailWhen, FileSource, IoSink, Listed, ListedFile, MemSink, MemSource, OpenFailed,
+    DripSource, FailWhen, FileSource, IoSink, MemFiles, MemFile, MemSink, MemSource, OpenFailed,
     Opener, Sink, SinkFailed, SliceSink, Source, SourceFailed, SystemFiles, WriteFailed, put,
 };
 pub use head_fault::HeadFault;

@@ -25,7 +25,7 @@ pub(crate) struct Window<'a, S> {
 }
 
 impl<S: Source> Window<'_, S> {
-    /// Fills an empty window, and says whether a byte has come.
+    /// Fills an empty window, and returns true if a byte has come.
     fn refill(&mut self) -> Result<bool, HeadFault>
         requires open { Opened S.is_transparent S.view self.old }
         requires empty { self.old.pos ≡ self.old.filled }

@@ -1,10 +1,20 @@
 //! The values of one variable, out of a file; and those of all, into one.
 //!
 //! A [`Walk`] hands out the values of a variable in row-major order, as the file has them, in chunks that it lends out of a
-//! caller's buffer. It reads no byte that isn't a byte of a value, and none twice for the same value, and it takes no memory.
+//! caller's buffer. It reads no byte that isn't a byte of a value, and none twice for the same value, and it does not allocate.
 //!
-//! [`write_data`] writes the data part of a file straight from the arrays of its variables, whose last values may be lacking. It takes
-//! no memory either: what it has to know of each record variable is collected before, by [`record_slabs`].
+//! [`write_data`] writes the data part of a file straight from the arrays of its variables, whose last values may be lacking. It does not
+//! allocate either: what it has to know of each record variable is collected before, by [`record_slabs`].
+//!
+//! ```
+//! let layout = record_layout(&header, source.len());
+//! let mut walk = Walk::over(&header, var_index, layout, &mut buf);
+//! while let Some(chunk) = walk.next(&mut source)? {
+//!     // whole values, big-endian, one after the other
+//! }
+//! ```
+//!
+//! The crates `example_values` and `example_file` are whole programs.
 #![tactic(auto)]
 
 mod chunk;

@@ -108,14 +108,14 @@ fn width_of(word: &str) -> Option<usize>
     is_width(width).then_some(width)
 }
 
-/// Says whether a line may be `width` bytes wide.
+/// Returns true if a line may be `width` bytes wide.
 fn is_width(width: usize) -> bool
     ensures { result ≡ is_in_range 20 1000 width }
 {
     MIN_WIDTH <= width && width <= MAX_WIDTH
 }
 
-/// Says whether the word is of decimal digits alone.
+/// Returns true if the word is of decimal digits alone.
 fn is_of_digits(word: &str) -> bool
     ensures { result ≡ list_all is_ascii_digit word.now }
 {

@@ -59,7 +59,7 @@ impl<'a> NameSet<'a> {
         Ok(set)
     }
 
-    /// Says whether the name is in the set.
+    /// Returns true if the name is in the set.
     pub fn contains(&self, name: &[u8]) -> bool
         ensures { result ≡ holds self.now name.now }
     {

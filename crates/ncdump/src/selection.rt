@@ -87,7 +87,7 @@ fn first_unknown(known: &NameSet<'_>, names: &[Sequence<u8>]) -> Option<usize>
 
 /// Says for each variable whether both sets have its name.
 ///
-/// The capacity is reserved first: `collect` would try a refused growth again with less.
+/// The capacity is reserved first: `collect` would try a failed allocation again with less.
 fn marks(
     alloc: Global,
     vars: &[Var],
@@ -104,7 +104,7 @@ fn marks(
     Ok(marks)
 }
 
-/// Says whether the set, where there is one, has the variable's name.
+/// Returns true if the set, where there is one, has the variable's name.
 fn has_name_of(set: &Option<NameSet<'_>>, var: &Var) -> bool
     ensures { result ≡ holds_if set.now var.now.name }
 {

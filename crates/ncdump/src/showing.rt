@@ -20,7 +20,7 @@ use nc_walk::{Walk, WalkFault};
 /// Writes the dump of a file with this header, and reads its values through the caller's buffer of at least 16 bytes: the head,
 /// and after `data:` the values of the variables that are marked in `shown`, none where the options ask for the head alone.
 ///
-/// It takes no memory. A variable's opening is written before its first value is read, and no value waits for more than one
+/// It does not allocate. A variable's opening is written before its first value is read, and no value waits for more than one
 /// buffer.
 ///
 /// # Errors
@@ -104,7 +104,7 @@ fn show_marked<S: Source, W: Sink>(
     Ok(())
 }
 
-/// Says whether the variable at index `v` is marked and has a value over `count` records: a slab of a sound header has at
+/// Returns true if the variable at index `v` is marked and has a value over `count` records: a slab of a sound header has at
 /// least one.
 fn is_shown(header: &Header, v: usize, count: u64, is_marked: bool) -> bool
     requires sound { IsSound header.now }
@@ -114,7 +114,7 @@ fn is_shown(header: &Header, v: usize, count: u64, is_marked: bool) -> bool
     is_marked && has_slabs(header, v, count)
 }
 
-/// Says whether the variable at index `v` has a slab over `count` records.
+/// Returns true if the variable at index `v` has a slab over `count` records.
 fn has_slabs(header: &Header, v: usize, count: u64) -> bool
     requires { v < length header.now.vars }
     ensures { SaysHasSlabs header.now v count result }

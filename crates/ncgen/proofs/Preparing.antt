@@ -14,7 +14,7 @@ use Rattle.nc_walk.specs.RecordSlabs.{record_slabs}
 use Rattle.nc_file.specs.declared.write.begins.OffsetTooLarge.{OffsetTooLarge as NoRoom}
 use Rattle.nc_base.proofs.ListedArrays.{are-listed}
 use Rattle.nc_base.proofs.Fitting.{IsSound-with_begins, begins-below}
-use Rattle.cdl_text.specs.declared.fault.CdlFault.{CdlFault}
+use Rattle.cdl_statements.specs.declared.fault.CdlFault.{CdlFault}
 use Rattle.cdl_parse.specs.DeclaredDatasets.{dataset_of_declared}
 use Rattle.cdl_parse.specs.declared.declared_values.Declared.{Declared}
 use Rattle.cdl_meaning.specs.Meaning.{meaning, text_limit}

@@ -8,7 +8,7 @@ use Rattle.nc_base.specs.Dump.{Ending, IsDump, IsText, Options}
 use Rattle.nc_base.specs.GeneratedFile.{file_of, fits}
 use Rattle.nc_base.proofs.Fitting.{Fits-from_fits}
 use Rattle.nc_file.proofs.FileLaws.{generated-dumped}
-use Rattle.cdl_text.specs.declared.fault.CdlFault.{CdlFault}
+use Rattle.cdl_statements.specs.declared.fault.CdlFault.{CdlFault}
 use Rattle.cdl_meaning.specs.Meaning.{meaning, text_limit}
 use Rattle.cdl_laws.proofs.MeaningsAreGood.{meanings_are_good}
 use Rattle.cdl_laws.proofs.TextReadsBack.{text_reads_back}

@@ -2,9 +2,9 @@
 use Rattle.std.specs.Global.{Global}
 use Rattle.std.specs.Prelude.{ℕ, List, [], ◌∷◌, Option, Some, None, String, codes, decimal, string_bytes}
 use Rattle.nc_base.specs.Bytes.{concat_parts}
-use Rattle.cdl_text.specs.declared.fault.CdlFault.{CdlFault}
-use Rattle.cdl_text.specs.declared.fault.CdlKind.{CdlKind}
-use Rattle.cdl_text.specs.declared.fault.CdlKind.TheVariants as cdl
+use Rattle.cdl_fault_text.specs.declared.fault.CdlFault.{CdlFault}
+use Rattle.cdl_fault_text.specs.declared.fault.CdlKind.{CdlKind}
+use Rattle.cdl_fault_text.specs.declared.fault.CdlKind.TheVariants as cdl
 use Rattle.cli_base.specs.declared.fault.OptFault.{OptFault}
 use Rattle.cli_base.specs.declared.fault.OptFault.TheVariants as opt
 use Rattle.ncgen.specs.declared.fault.GenFault.{GenFault}
@@ -51,12 +51,12 @@ place_text cdl.OutOfMemory line = []
 place_text kind line = line_number line
 
 -- what a fault of a text says
-unfoldable pub cdl_text : CdlFault → List ℕ
-cdl_text fault = concat_parts (place_text fault.kind fault.line ∷ kind_words fault.kind ∷ [])
+unfoldable pub cdl_fault_text : CdlFault → List ℕ
+cdl_fault_text fault = concat_parts (place_text fault.kind fault.line ∷ kind_words fault.kind ∷ [])
 
 -- what a fault says
 unfoldable pub fault_text : GenFault → List ℕ
-fault_text (Cdl fault) = cdl_text fault
+fault_text (Cdl fault) = cdl_fault_text fault
 fault_text OffsetTooLarge = codes "offset too large"
 fault_text WriteFailed = codes "write failed"
 

@@ -4,7 +4,7 @@ use Rattle.nc_base.specs.declared.dataset.Dataset.{Dataset}
 use Rattle.nc_base.specs.declared.version.Version.{Version}
 use Rattle.nc_base.specs.GeneratedFile.{file_of, fits}
 use Rattle.devices.specs.Sinks.{SinkView, Appended, FailedPartway}
-use Rattle.cdl_text.specs.declared.fault.CdlFault.{CdlFault}
+use Rattle.cdl_statements.specs.declared.fault.CdlFault.{CdlFault}
 use Rattle.cdl_meaning.specs.Meaning.{meaning}
 use Rattle.cdl_parse.specs.Parsing.{refused}
 use Rattle.ncgen.specs.declared.fault.GenFault.{GenFault}

@@ -69,7 +69,7 @@ pub fn options_of(alloc: Global, matches: &ArgMatches) -> Result<GenOptions, Opt
     })
 }
 
-/// Says whether an output is asked for that has no name.
+/// Returns true if an output is asked for that has no name.
 fn is_unnamed(is_binary: bool, output: Option<&str>, file: Option<&str>) -> bool
     ensures { result ≡ is_unnamed is_binary (text_of output.entry) (text_of file.entry) }
 {

@@ -13,7 +13,7 @@ use std::alloc::AllocError;
 /// Why no file was generated from a text: for a fault of the text, because its dataset doesn't fit, or because the sink failed.
 #[derive(Clone, Copy, Debug, PartialEq, Eq)]
 pub enum GenFault {
-    /// The text's first fault; or a growth of memory was refused.
+    /// The text's first fault; or an allocation failed.
     Cdl(CdlFault),
     /// The values of some variable would begin at an offset that the version has no room for.
     OffsetTooLarge,
@@ -24,7 +24,7 @@ pub enum GenFault {
 /// Why a text could not be read: for want of memory, because the reader failed, or for its length.
 #[derive(Clone, Copy, Debug, PartialEq, Eq)]
 pub enum TextFault {
-    /// A growth of memory was refused.
+    /// An allocation failed.
     OutOfMemory,
     /// The reader failed.
     ReadFailed,

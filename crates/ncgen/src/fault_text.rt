@@ -2,7 +2,7 @@
 
 ghost use Rattle.std.specs.Prelude.{◌≡◌};
 ghost use Rattle.devices.specs.Sinks.{Wrote};
-ghost use Rattle.ncgen.specs.Faults.{cdl_text, fault_text, input_line, input_words, kind_words, line_number, line_of, line_of_failure, line_of_text, opt_fault_line, output_words, place_text, program_words, text_name, usage_line};
+ghost use Rattle.ncgen.specs.Faults.{cdl_fault_text, fault_text, input_line, input_words, kind_words, line_number, line_of, line_of_failure, line_of_text, opt_fault_line, output_words, place_text, program_words, text_name, usage_line};
 
 use crate::failure::{Failure, InputFault, OutputFault};
 use crate::fault::{GenFault, TextFault};
@@ -118,9 +118,9 @@ fn put_fault<W: Sink>(sink: &mut W, fault: &GenFault) -> Result<(), WriteFailed>
 }
 
 /// Writes what a fault of a text says.
-#[tactic(auto, using(devices::proofs::Writes::writes), unfolding(crate::specs::Faults::cdl_text))]
+#[tactic(auto, using(devices::proofs::Writes::writes), unfolding(crate::specs::Faults::cdl_fault_text))]
 fn put_cdl_fault<W: Sink>(sink: &mut W, fault: CdlFault) -> Result<(), WriteFailed>
-    ensures { Wrote W.view sink.old sink.new (cdl_text fault) result }
+    ensures { Wrote W.view sink.old sink.new (cdl_fault_text fault) result }
 {
     put_place(sink, fault.kind, fault.line)?;
     put(sink, kind_words(fault.kind))

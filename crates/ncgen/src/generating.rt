@@ -20,8 +20,8 @@ use std::alloc::Global;
 ///
 /// # Errors
 ///
-/// The first fault of the text, with its line; then [`GenFault::OffsetTooLarge`]. Or out of memory, as soon as a growth was
-/// refused.
+/// The first fault of the text, with its line; then [`GenFault::OffsetTooLarge`]. Or out of memory, as soon as an allocation
+/// failed.
 pub fn prepare(alloc: Global, text: &[u8], version: Version) -> Result<Prepared, GenFault>
     requires { length text.now ≤ text_limit }
     ensures { Prepares (generated text.now version) result }

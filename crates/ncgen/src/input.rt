@@ -5,7 +5,7 @@ ghost use Rattle.ncgen.specs.Inputs.{inputs, opening, reading, OpensText, ReadsA
 
 use crate::failure::InputFault;
 use crate::reading::read_text;
-use devices::{CountedRead, Texts};
+use devices::{CountedRead, TextOpener};
 use std::alloc::Global;
 use std::io::Read;
 
@@ -13,7 +13,7 @@ use std::io::Read;
 const TEXT_LIMIT: usize = 1 << 28;
 
 /// Reads the text at the path, or without one that of standard input.
-pub fn read_input<T: Texts, R: Read>(
+pub fn read_input<T: TextOpener, R: Read>(
     texts: &mut T,
     alloc: Global,
     file: &Option<String>,
@@ -33,7 +33,7 @@ pub fn read_input<T: Texts, R: Read>(
 }
 
 /// Reads the text at the path.
-fn read_path<T: Texts>(texts: &mut T, alloc: Global, path: &str) -> Result<Vec<u8>, InputFault>
+fn read_path<T: TextOpener>(texts: &mut T, alloc: Global, path: &str) -> Result<Vec<u8>, InputFault>
     ensures text { ReadsAt T.is_transparent (T.named texts.old path.now) result }
     ensures opens { OpensText (T.view texts.old) (T.view texts.new) result }
 {

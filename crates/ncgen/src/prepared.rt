@@ -21,7 +21,7 @@ pub struct Prepared {
 }
 
 impl Prepared {
-    /// Writes the file: the header, and after it the values (the NetCDF Classic Format Specification). It takes no memory.
+    /// Writes the file: the header, and after it the values (the NetCDF Classic Format Specification). It does not allocate.
     ///
     /// # Errors
     ///

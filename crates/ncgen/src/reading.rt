@@ -39,7 +39,7 @@ pub fn read_text<R: Read>(
     Err(TextFault::TooLong)
 }
 
-/// Reads more of a text, through the buffer, and says whether there was more. With what it holds the text gets no longer than one
+/// Reads more of a text, through the buffer, and returns true if there was more. With what it holds the text gets no longer than one
 /// byte more than `max`.
 fn read_part<R: Read>(
     input: &mut CountedRead<R>,

@@ -16,7 +16,7 @@ use crate::input::read_input;
 use crate::options::GenOptions;
 use crate::output::write_output;
 use crate::prepared::Prepared;
-use devices::{CountedRead, Creator, Sink, Texts};
+use devices::{CountedRead, Creator, Sink, TextOpener};
 use std::alloc::Global;
 use std::io::Read;
 
@@ -27,7 +27,7 @@ use std::io::Read;
 /// is 1, and a line is written to standard error that tells why: the first fault of the command line, of opening and reading the
 /// text, of the text, and of creating and writing the output, which is created only where the text gives a file. A line that
 /// standard error doesn't take changes no status. Standard error is not flushed.
-pub fn run_with<T: Texts, C: Creator, R: Read, E: Sink>(
+pub fn run_with<T: TextOpener, C: Creator, R: Read, E: Sink>(
     texts: &mut T,
     creator: &mut C,
     alloc: Global,
@@ -57,7 +57,7 @@ pub fn run_with<T: Texts, C: Creator, R: Read, E: Sink>(
 }
 
 /// Makes what the words ask for.
-fn generate_asked<T: Texts, C: Creator, R: Read>(
+fn generate_asked<T: TextOpener, C: Creator, R: Read>(
     texts: &mut T,
     creator: &mut C,
     alloc: Global,
@@ -80,7 +80,7 @@ fn generate_asked<T: Texts, C: Creator, R: Read>(
 }
 
 /// Reads the text that the options name, and makes the file ready that it gives.
-fn prepare_input<T: Texts, R: Read>(
+fn prepare_input<T: TextOpener, R: Read>(
     texts: &mut T,
     alloc: Global,
     options: &GenOptions,

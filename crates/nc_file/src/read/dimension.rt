@@ -12,7 +12,7 @@ use nc_base::{Dim, FormatFault, Sequence, Version};
 use std::alloc::Global;
 
 impl<S: Source> Window<'_, S> {
-    /// A dimension. Only one may have length 0, and `has_record` says whether one had.
+    /// A dimension. Only one may have length 0, and `has_record` is true if one had.
     #[tactic(auto, using(crate::proofs::Parts::parts), unfolding(crate::specs::Reading::dim_at))]
     fn dim(&mut self, alloc: Global, version: Version, has_record: bool) -> Result<Dim, HeadFault>
         requires { Opened S.is_transparent S.view self.old }

@@ -160,7 +160,7 @@ impl<S: Source> Window<'_, S> {
     }
 }
 
-/// Says whether this is a dimension id, and in its place.
+/// Returns true if this is a dimension id, and in its place.
 fn is_dimid(dims: &[Dim], first: bool, id: u64) -> bool
     ensures { result ≡ is_dimid dims.now first id }
 {

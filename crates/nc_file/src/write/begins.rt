@@ -28,7 +28,7 @@ pub(crate) struct Offsets {
 /// in header order, and after them the slabs of the record variables in the first record; each slab before another is padded to
 /// a multiple of four bytes (`begin` of the NetCDF Classic Format Specification). The header's own begins don't matter.
 ///
-/// It takes no memory, and time in proportion to the number of dimension ids, variables and attributes.
+/// It does not allocate, and time in proportion to the number of dimension ids, variables and attributes.
 ///
 /// # Errors
 ///
@@ -82,7 +82,7 @@ fn fixed_total(dims: &[Dim], vars: &[Var]) -> u128
     total
 }
 
-/// Gives each variable its begin, and says whether all of them are below the limit. It stops at the first that isn't.
+/// Gives each variable its begin, and returns true if all of them are below the limit. It stops at the first that isn't.
 fn place_each(dims: &[Dim], vars: &mut [Var], first: Offsets, limit: u64) -> bool
     requires small { All (λ var. slab_size dims.now var ≤ slab_limit) vars.old }
     requires block { first.block < 2 ^ 120 }

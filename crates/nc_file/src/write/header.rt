@@ -13,7 +13,7 @@ use super::variable::put_var_list;
 use devices::{Sink, WriteFailed, put};
 use nc_base::{Header, NumRecs, Version};
 
-/// Writes the header of a file, as the format spells it: its `vsize` fields follow from the shapes. It takes no memory, and
+/// Writes the header of a file, as the format spells it: its `vsize` fields follow from the shapes. It does not allocate, and
 /// hands one field at a time to the sink.
 ///
 /// The begin of each variable is to fit its field, as `with_begins` makes sure.

@@ -14,7 +14,7 @@ use nc_base::{Header, ListedArray};
 
 /// Writes the data part of a file: the blocks of the variables that aren't record variables, in header order, and after them
 /// one record after the other (`data` of the NetCDF Classic Format Specification). The slabs are those that
-/// [`record_slabs`](crate::record_slabs) gives for the header. It takes no memory: what is listed is written straight from where it
+/// [`record_slabs`](crate::record_slabs) gives for the header. It does not allocate: what is listed is written straight from where it
 /// stands, a slab of numbers in one piece and rows of characters one by one, each filled up. An array may lack values at its end; they
 /// are written as the fill value of the variable, as is padding.
 ///

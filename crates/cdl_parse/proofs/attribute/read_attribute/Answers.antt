@@ -1,11 +1,11 @@
 use Rattle.std.proofs.Common.{rules, ◌≡◌, ◌∷◌, ◌++◌, [], List, ℕ, ap, sym, subst, ◌∙◌, Ok, false}
 use Rattle.std.specs.Prelude.{Result}
-use Rattle.cdl_text.specs.Contents.{values}
-use Rattle.cdl_text.specs.Cutters.{is_done, next_token, text_of, version_of, words}
-use Rattle.cdl_text.specs.Lexemes.{lexeme}
-use Rattle.cdl_text.specs.Views.{lexeme_of}
-use Rattle.cdl_text.specs.declared.fault.CdlKind.{CdlKind}
-use Rattle.cdl_text.specs.declared.fault.CdlKind.TheVariants.{DuplicateName}
+use Rattle.cdl_statements.specs.Contents.{values}
+use Rattle.cdl_statements.specs.Cutters.{is_done, next_token, text_of, version_of, words}
+use Rattle.cdl_statements.specs.Lexemes.{lexeme}
+use Rattle.cdl_statements.specs.Views.{lexeme_of}
+use Rattle.cdl_statements.specs.declared.fault.CdlKind.{CdlKind}
+use Rattle.cdl_statements.specs.declared.fault.CdlKind.TheVariants.{DuplicateName}
 use Rattle.cdl_meaning.specs.State.{add_constant, in_turn, when, ◌>>=◌}
 use Rattle.cdl_values.specs.Answers.{Fails, Leaves}
 use Rattle.cdl_parse.specs.AttributeNames.{has_name}

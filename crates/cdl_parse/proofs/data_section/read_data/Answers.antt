@@ -1,7 +1,7 @@
 use Rattle.std.proofs.Common.{rules, ◌≡◌, ◌<◌, ℕ, false, List, [], length, refl, sym, ap, ◌∙◌, subst}
 use Rattle.std.specs.Prelude.{replicate, ◌^◌}
-use Rattle.cdl_text.specs.Cutters.{is_done, pieces_left, text_of, version_of}
-use Rattle.cdl_text.specs.declared.section.Section.{Section}
+use Rattle.cdl_statements.specs.Cutters.{is_done, pieces_left, text_of, version_of}
+use Rattle.cdl_statements.specs.declared.section.Section.{Section}
 use Rattle.cdl_meaning.specs.Meaning.{run}
 use Rattle.cdl_parse.specs.DataSections.{IsInDataSection, Takes}
 use Rattle.cdl_parse.specs.Runs.{FailsAt, at_line}

@@ -1,6 +1,6 @@
 use Rattle.std.proofs.Common.{◌≡◌, List, length}
 use Rattle.nc_base.specs.declared.header.Var.{Var}
-use Rattle.cdl_text.specs.Cutters.{pieces_left, text_of, version_of}
+use Rattle.cdl_statements.specs.Cutters.{pieces_left, text_of, version_of}
 use Rattle.cdl_meaning.specs.State.{State}
 use Rattle.cdl_parse.specs.DataSections.{BeginsData}
 use Rattle.cdl_parse.proofs.DataRuns.{SoFar}

@@ -1,5 +1,5 @@
 use Rattle.std.proofs.Common.{◌≡◌, ℕ, List, false, sym, ap, ◌∙◌, subst}
-use Rattle.cdl_text.specs.Cutters.{version_of, words}
+use Rattle.cdl_statements.specs.Cutters.{version_of, words}
 use Rattle.cdl_values.specs.Meant.{Suit, begins_brace, names_of}
 use Rattle.cdl_values.specs.declared.data.Target.{Target}
 use Rattle.cdl_parse.specs.DataSections.{IsInDataSection, given_at}

@@ -1,5 +1,5 @@
 use Rattle.std.proofs.Common.{rules}
-use Rattle.cdl_text.specs.Views.{lexeme_of}
+use Rattle.cdl_statements.specs.Views.{lexeme_of}
 use Rattle.cdl_parse.specs.Declarations.{read_on}
 use Rattle.cdl_parse.specs.declared.declaration.Begun.{Begun}
 use Rattle.cdl_parse.proofs.DeclarationReads.{begin_fails, begins, refused}

@@ -1,4 +1,4 @@
-use Rattle.cdl_text.specs.Views.{lexeme_of}
+use Rattle.cdl_statements.specs.Views.{lexeme_of}
 use Rattle.cdl_parse.proofs.DeclarationReads.{over_mark}
 use Rattle.cdl_parse.proofs.declaration.over_mark.Goals as goal
 

@@ -1,9 +1,9 @@
 use Rattle.std.proofs.Common.{◌≡◌, refl, ap, sym, subst, ◌∙◌, Ok}
-use Rattle.cdl_text.specs.Cutters.{next_token, text_of, version_of, words}
-use Rattle.cdl_text.specs.DueTokens.{completes}
-use Rattle.cdl_text.specs.Lexemes.{lexeme}
-use Rattle.cdl_text.specs.Views.{lexeme_of}
-use Rattle.cdl_text.specs.declared.due.Due.TheVariants.{VariableName}
+use Rattle.cdl_statements.specs.Cutters.{next_token, text_of, version_of, words}
+use Rattle.cdl_statements.specs.DueTokens.{completes}
+use Rattle.cdl_statements.specs.Lexemes.{lexeme}
+use Rattle.cdl_statements.specs.Views.{lexeme_of}
+use Rattle.cdl_statements.specs.declared.due.Due.TheVariants.{VariableName}
 use Rattle.cdl_meaning.specs.State.{type_of}
 use Rattle.cdl_values.specs.Answers.{Leaves}
 use Rattle.cdl_parse.proofs.DeclarationReads.{goes_on, typed}

@@ -1,5 +1,5 @@
 use Rattle.std.proofs.Common.{rules, sym, subst}
-use Rattle.cdl_text.specs.Views.{lexeme_of}
+use Rattle.cdl_statements.specs.Views.{lexeme_of}
 use Rattle.cdl_values.specs.Answers.{Continues}
 use Rattle.cdl_values.proofs.PackedTokens.{no_mark}
 use Rattle.cdl_parse.specs.Declarations.{read_on}

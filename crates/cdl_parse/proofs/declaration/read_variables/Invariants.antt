@@ -1,5 +1,5 @@
 use Rattle.std.proofs.Common.{◌≡◌, ◌-◌, length, false}
-use Rattle.cdl_text.specs.Cutters.{is_done, offset_of, text_of, words}
+use Rattle.cdl_statements.specs.Cutters.{is_done, offset_of, text_of, words}
 use Rattle.cdl_parse.specs.Declarations.{added, read_on}
 use Rattle.cdl_parse.proofs.declaration.read_variables.Given as goal
 

@@ -1,6 +1,6 @@
 use Rattle.std.proofs.Common.{rules, ◌≡◌, ◌++◌, ◌∷◌, [], true, ap, sym, subst, ◌∙◌}
 use Rattle.cdl_tokens.specs.Escapes.{word_value}
-use Rattle.cdl_text.specs.Contents.{with_name}
+use Rattle.cdl_statements.specs.Contents.{with_name}
 use Rattle.cdl_values.specs.Answers.{Fails}
 use Rattle.cdl_parse.specs.Declarations.{continued, next_dimid}
 use Rattle.cdl_parse.specs.Drafts.{is_taken}

@@ -1,5 +1,5 @@
 use Rattle.std.proofs.Common.{◌≡◌, false, sym, ◌∙◌, subst}
-use Rattle.cdl_text.specs.Cutters.{is_done, pieces_left, text_of, version_of, words}
+use Rattle.cdl_statements.specs.Cutters.{is_done, pieces_left, text_of, version_of, words}
 use Rattle.cdl_meaning.specs.Meaning.{empty, run}
 use Rattle.cdl_parse.specs.Defined.{state_of}
 use Rattle.cdl_parse.specs.Runs.{FailsAt, at_line}

@@ -1,5 +1,5 @@
 use Rattle.std.proofs.Common.{◌≡◌, length}
-use Rattle.cdl_text.specs.Cutters.{pieces_left, text_of, version_of}
+use Rattle.cdl_statements.specs.Cutters.{pieces_left, text_of, version_of}
 use Rattle.cdl_meaning.specs.Meaning.{empty, run}
 use Rattle.cdl_values.specs.Listed.{AreShaped}
 use Rattle.cdl_parse.specs.Defined.{state_of}

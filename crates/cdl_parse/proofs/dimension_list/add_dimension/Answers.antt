@@ -2,10 +2,10 @@ use Rattle.std.proofs.Common.{rules, ◌≡◌, ap, sym, subst, ◌∙◌}
 use Rattle.std.specs.Prelude.{Result, List, ℕ, Ok, Err}
 use Rattle.nc_base.specs.Names.{is_name}
 use Rattle.nc_base.specs.declared.header.Dim.{Dim}
-use Rattle.cdl_text.specs.Contents.{dimension_said}
-use Rattle.cdl_text.specs.Views.{lexeme_of}
-use Rattle.cdl_text.specs.declared.fault.CdlKind.{CdlKind}
-use Rattle.cdl_text.specs.declared.fault.CdlKind.TheVariants.{BadName, DuplicateName}
+use Rattle.cdl_statements.specs.Contents.{dimension_said}
+use Rattle.cdl_statements.specs.Views.{lexeme_of}
+use Rattle.cdl_statements.specs.declared.fault.CdlKind.{CdlKind}
+use Rattle.cdl_statements.specs.declared.fault.CdlKind.TheVariants.{BadName, DuplicateName}
 use Rattle.cdl_meaning.specs.State.{add_dim, dim_len_of, unless, when, ◌>>=◌}
 use Rattle.cdl_values.specs.Answers.{Fails}
 use Rattle.cdl_values.specs.declared.read_error.ReadError.TheVariants.{Fault}

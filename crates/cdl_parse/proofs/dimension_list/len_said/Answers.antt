@@ -1,8 +1,8 @@
 use Rattle.std.proofs.Common.{◌≡◌, ap, sym, ◌∙◌, refl, true, false}
 use Rattle.std.specs.Prelude.{None, Some, if◌then◌else◌}
-use Rattle.cdl_text.specs.Contents.{is_unlimited, parts_or_zero}
+use Rattle.cdl_statements.specs.Contents.{is_unlimited, parts_or_zero}
 use Rattle.cdl_tokens.specs.Numerals.{number, parts}
-use Rattle.cdl_text.specs.Views.{lexeme_of}
+use Rattle.cdl_statements.specs.Views.{lexeme_of}
 use Rattle.cdl_meaning.specs.State.{dim_len_of}
 use Rattle.cdl_parse.proofs.dimension_list.len_said.Goals as goal
 

@@ -1,11 +1,11 @@
 use Rattle.std.proofs.Common.{rules, arith, ◌≡◌, ◌∷◌, [], ap, sym, ◌∙◌}
 use Rattle.std.specs.Prelude.{if◌then◌else◌}
-use Rattle.cdl_text.specs.Contents.{dimension_said, dimensions_said}
-use Rattle.cdl_text.specs.Cutters.{next_token, text_of, version_of, words}
-use Rattle.cdl_text.specs.Lexemes.{Lexeme, lexeme}
-use Rattle.cdl_text.specs.Views.{lexeme_of}
-use Rattle.cdl_text.specs.declared.cutter.Cutter.{Cutter}
-use Rattle.cdl_text.proofs.DimensionSteps.{said_on, shaped_on}
+use Rattle.cdl_statements.specs.Contents.{dimension_said, dimensions_said}
+use Rattle.cdl_statements.specs.Cutters.{next_token, text_of, version_of, words}
+use Rattle.cdl_statements.specs.Lexemes.{Lexeme, lexeme}
+use Rattle.cdl_statements.specs.Views.{lexeme_of}
+use Rattle.cdl_statements.specs.declared.cutter.Cutter.{Cutter}
+use Rattle.cdl_statements.proofs.DimensionSteps.{said_on, shaped_on}
 use Rattle.cdl_parse.proofs.DimensionReads.{name_goes, equals_goes, length_goes, four_on}
 use Rattle.cdl_parse.proofs.StatementWords.{begins}
 use Rattle.cdl_parse.proofs.dimension_list.next_dimension.Goals as goal

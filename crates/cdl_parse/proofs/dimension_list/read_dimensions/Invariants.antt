@@ -1,8 +1,8 @@
 use Rattle.std.proofs.Common.{◌≡◌, ◌-◌, length, true, false}
-use Rattle.cdl_text.specs.Contents.{dimensions_said}
-use Rattle.cdl_text.specs.Cutters.{words, is_done, offset_of, text_of, version_of}
-use Rattle.cdl_text.specs.DueTokens.{completes}
-use Rattle.cdl_text.specs.declared.due.Due.TheVariants.{DimensionName}
+use Rattle.cdl_statements.specs.Contents.{dimensions_said}
+use Rattle.cdl_statements.specs.Cutters.{words, is_done, offset_of, text_of, version_of}
+use Rattle.cdl_statements.specs.DueTokens.{completes}
+use Rattle.cdl_statements.specs.declared.due.Due.TheVariants.{DimensionName}
 use Rattle.cdl_meaning.specs.State.{add_dim, in_turn}
 use Rattle.cdl_parse.proofs.dimension_list.read_dimensions.Given as goal
 

@@ -1,6 +1,6 @@
 use Rattle.std.proofs.Common.{rules, ◌≡◌, ◌<◌, length, refl, ap, sym, ◌∙◌, subst}
 use Rattle.std.specs.Prelude.{◌^◌, Result, Err}
-use Rattle.cdl_text.specs.Cutters.{pieces_left, text_of, version_of}
+use Rattle.cdl_statements.specs.Cutters.{pieces_left, text_of, version_of}
 use Rattle.cdl_meaning.specs.Meaning.{empty, run}
 use Rattle.cdl_meaning.specs.State.{State}
 use Rattle.cdl_values.specs.Listed.{AllList, AreShaped, fresh}

@@ -1,6 +1,6 @@
 use Rattle.std.proofs.Common.{rules, ◌≡◌, ◌∙◌, ◌<◌, ap, length, sym, subst}
-use Rattle.cdl_text.specs.Cutters.{pieces_left, text_of, version_of}
-use Rattle.cdl_text.specs.Statements.{statements}
+use Rattle.cdl_statements.specs.Cutters.{pieces_left, text_of, version_of}
+use Rattle.cdl_statements.specs.Statements.{statements}
 use Rattle.cdl_meaning.specs.Meaning.{closing_line, empty, meaning, run}
 use Rattle.std.specs.Prelude.{◌^◌, Result, Ok, Err}
 use Rattle.cdl_parse.specs.DeclaredDatasets.{dataset_of_declared}

@@ -1,6 +1,6 @@
 use Rattle.std.proofs.Common.{◌≡◌, [], length, refl, ap, sym, ◌∙◌, subst}
 use Rattle.std.specs.Prelude.{replicate}
-use Rattle.cdl_text.specs.Cutters.{pieces_left, text_of, version_of}
+use Rattle.cdl_statements.specs.Cutters.{pieces_left, text_of, version_of}
 use Rattle.cdl_meaning.specs.Meaning.{run}
 use Rattle.cdl_values.specs.Listed.{AllList, fresh}
 use Rattle.cdl_parse.proofs.WholeTexts.{none_listed, past_values}

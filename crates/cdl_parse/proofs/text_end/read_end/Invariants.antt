@@ -1,5 +1,5 @@
 use Rattle.std.proofs.Common.{◌≡◌, length, true, false}
-use Rattle.cdl_text.specs.Cutters.{is_done, pieces_left, text_of, version_of}
+use Rattle.cdl_statements.specs.Cutters.{is_done, pieces_left, text_of, version_of}
 use Rattle.cdl_meaning.specs.Meaning.{run}
 use Rattle.cdl_meaning.specs.State.{State}
 use Rattle.cdl_parse.specs.Defined.{is_past}

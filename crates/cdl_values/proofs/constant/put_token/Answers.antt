@@ -1,9 +1,9 @@
 use Rattle.std.proofs.Common.{ap, sym, subst}
 use Rattle.std.specs.Prelude.{List}
-use Rattle.cdl_text.specs.Contents.{value_of, values}
-use Rattle.cdl_text.specs.Lexemes.{is_mark_kind}
-use Rattle.cdl_text.specs.Shapes.{Value}
-use Rattle.cdl_text.specs.Views.{lexeme_of}
+use Rattle.cdl_statements.specs.Contents.{value_of, values}
+use Rattle.cdl_statements.specs.Lexemes.{is_mark_kind}
+use Rattle.cdl_statements.specs.Shapes.{Value}
+use Rattle.cdl_statements.specs.Views.{lexeme_of}
 use Rattle.cdl_meaning.specs.State.{add_constant, in_turn}
 use Rattle.cdl_values.specs.Answers.{Continues}
 use Rattle.cdl_values.proofs.ConstantBytes.{turn_on}

@@ -1,6 +1,6 @@
 use Rattle.std.proofs.Common.{◌≡◌, ◌-◌, [], length, false}
-use Rattle.cdl_text.specs.Contents.{values}
-use Rattle.cdl_text.specs.Cutters.{words, is_done, offset_of, text_of}
+use Rattle.cdl_statements.specs.Contents.{values}
+use Rattle.cdl_statements.specs.Cutters.{words, is_done, offset_of, text_of}
 use Rattle.cdl_meaning.specs.State.{add_constant, in_turn}
 use Rattle.cdl_values.proofs.constant.read_constants.Given as goal
 

@@ -1,6 +1,6 @@
 use Rattle.std.proofs.Common.{ap, sym, ◌∙◌}
-use Rattle.cdl_text.specs.Contents.{value_of}
-use Rattle.cdl_text.specs.Views.{lexeme_of}
+use Rattle.cdl_statements.specs.Contents.{value_of}
+use Rattle.cdl_statements.specs.Views.{lexeme_of}
 use Rattle.cdl_tokens.specs.declared.numeral.Numeral.{Numeral}
 use Rattle.cdl_meaning.specs.State.{type_said}
 use Rattle.cdl_values.proofs.ConstantBytes.{no_number}

@@ -1,5 +1,5 @@
 use Rattle.std.proofs.Common.{arith, ◌≤◌, length, subst, List, ℕ}
-use Rattle.cdl_text.specs.Cutters.{version_of, words}
+use Rattle.cdl_statements.specs.Cutters.{version_of, words}
 use Rattle.cdl_values.specs.Answers.{Gives}
 use Rattle.cdl_values.specs.Capacities.{most}
 use Rattle.cdl_values.specs.DataRead.{data_read}

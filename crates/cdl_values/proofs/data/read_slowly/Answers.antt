@@ -1,12 +1,12 @@
 use Rattle.std.proofs.Common.{rules, ◌≡◌, sym, ap, ◌∙◌, true, false, subst}
 use Rattle.std.specs.Prelude.{Result, List, ℕ}
-use Rattle.cdl_text.specs.Contents.{values}
+use Rattle.cdl_statements.specs.Contents.{values}
 use Rattle.cdl_tokens.specs.Escapes.{word_value}
-use Rattle.cdl_text.specs.Lexemes.{Lexeme, lexeme}
-use Rattle.cdl_text.specs.DueTokens.{completes}
-use Rattle.cdl_text.specs.declared.due.Due.TheVariants.{DataName}
-use Rattle.cdl_text.specs.Cutters.{next_token, text_of, version_of, words}
-use Rattle.cdl_text.specs.declared.fault.CdlKind.{CdlKind}
+use Rattle.cdl_statements.specs.Lexemes.{Lexeme, lexeme}
+use Rattle.cdl_statements.specs.DueTokens.{completes}
+use Rattle.cdl_statements.specs.declared.due.Due.TheVariants.{DataName}
+use Rattle.cdl_statements.specs.Cutters.{next_token, text_of, version_of, words}
+use Rattle.cdl_statements.specs.declared.fault.CdlKind.{CdlKind}
 use Rattle.cdl_values.specs.Answers.{Fails}
 use Rattle.cdl_values.specs.PackedValues.{packed}
 use Rattle.cdl_values.specs.DataRead.{data_read, filled, target_of}

@@ -1,7 +1,7 @@
 use Rattle.std.proofs.Common.{rules, refl}
 use Rattle.std.specs.Prelude.{if◌then◌else◌, Err}
 use Rattle.cdl_tokens.specs.Escapes.{word_value}
-use Rattle.cdl_text.specs.declared.fault.CdlKind.TheVariants.{BadName}
+use Rattle.cdl_statements.specs.declared.fault.CdlKind.TheVariants.{BadName}
 use Rattle.cdl_values.specs.DataRead.{target_at, target_of}
 use Rattle.cdl_values.specs.NameIndices.{position_of}
 use Rattle.cdl_values.specs.declared.data.Place.{Place}

@@ -1,11 +1,11 @@
 use Rattle.std.proofs.Common.{rules, sym, ap, ◌∙◌, [], List, Ok, subst}
 use Rattle.std.specs.Prelude.{Result, ℕ, if◌then◌else◌}
-use Rattle.cdl_text.specs.declared.fault.CdlKind.{CdlKind}
-use Rattle.cdl_text.specs.Contents.{values}
-use Rattle.cdl_text.specs.Lexemes.{lexeme}
-use Rattle.cdl_text.specs.Cutters.{next_token, text_of, version_of, words}
-use Rattle.cdl_text.specs.Views.{lexeme_of}
-use Rattle.cdl_text.proofs.Surveys.{going, ending, first_word}
+use Rattle.cdl_statements.specs.declared.fault.CdlKind.{CdlKind}
+use Rattle.cdl_statements.specs.Contents.{values}
+use Rattle.cdl_statements.specs.Lexemes.{lexeme}
+use Rattle.cdl_statements.specs.Cutters.{next_token, text_of, version_of, words}
+use Rattle.cdl_statements.specs.Views.{lexeme_of}
+use Rattle.cdl_statements.proofs.Surveys.{going, ending, first_word}
 use Rattle.cdl_values.specs.Answers.{Fails}
 use Rattle.cdl_values.specs.PackedValues.{packed, joined}
 use Rattle.nc_base.specs.declared.listed_array.ListedArray.{ListedArray}

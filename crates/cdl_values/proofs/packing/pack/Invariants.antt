@@ -1,6 +1,6 @@
 use Rattle.std.proofs.Common.{◌≡◌, ◌-◌, length, false, Ok}
-use Rattle.cdl_text.specs.Cutters.{words, is_done, offset_of, text_of, version_of}
-use Rattle.cdl_text.specs.Contents.{values}
+use Rattle.cdl_statements.specs.Cutters.{words, is_done, offset_of, text_of, version_of}
+use Rattle.cdl_statements.specs.Contents.{values}
 use Rattle.cdl_values.specs.PackedValues.{packed, joined}
 use Rattle.cdl_values.proofs.packing.pack.Given as goal
 

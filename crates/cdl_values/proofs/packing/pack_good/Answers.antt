@@ -1,11 +1,11 @@
 use Rattle.std.proofs.Common.{rules, ◌≡◌, sym, ap, ◌∙◌, [], Ok}
-use Rattle.cdl_text.specs.Contents.{values}
-use Rattle.cdl_text.specs.Lexemes.{lexeme}
-use Rattle.cdl_text.specs.Shapes.{first_bad}
-use Rattle.cdl_text.specs.DueTokens.{completes}
-use Rattle.cdl_text.specs.Cutters.{after, next_token, text_of, version_of, words}
-use Rattle.cdl_text.specs.Views.{lexeme_of}
-use Rattle.cdl_text.proofs.Surveys.{going, ending, good_on, good_end}
+use Rattle.cdl_statements.specs.Contents.{values}
+use Rattle.cdl_statements.specs.Lexemes.{lexeme}
+use Rattle.cdl_statements.specs.Shapes.{first_bad}
+use Rattle.cdl_statements.specs.DueTokens.{completes}
+use Rattle.cdl_statements.specs.Cutters.{after, next_token, text_of, version_of, words}
+use Rattle.cdl_statements.specs.Views.{lexeme_of}
+use Rattle.cdl_statements.proofs.Surveys.{going, ending, good_on, good_end}
 use Rattle.cdl_values.specs.PackedValues.{packed, joined}
 use Rattle.cdl_values.proofs.PackedTokens.{none_packed}
 use Rattle.cdl_values.proofs.packing.pack_good.Goals as goal

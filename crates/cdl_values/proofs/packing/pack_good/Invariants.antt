@@ -1,9 +1,9 @@
 use Rattle.std.proofs.Common.{◌≡◌, ◌-◌, length, true, false, Ok}
-use Rattle.cdl_text.specs.Cutters.{words, after, is_done, offset_of, text_of, version_of}
-use Rattle.cdl_text.specs.Shapes.{first_bad}
-use Rattle.cdl_text.specs.DueTokens.{completes}
-use Rattle.cdl_text.specs.Contents.{values}
-use Rattle.cdl_text.specs.declared.due.Due.TheVariants.{Value}
+use Rattle.cdl_statements.specs.Cutters.{words, after, is_done, offset_of, text_of, version_of}
+use Rattle.cdl_statements.specs.Shapes.{first_bad}
+use Rattle.cdl_statements.specs.DueTokens.{completes}
+use Rattle.cdl_statements.specs.Contents.{values}
+use Rattle.cdl_statements.specs.declared.due.Due.TheVariants.{Value}
 use Rattle.cdl_values.specs.PackedValues.{packed, joined}
 use Rattle.cdl_values.proofs.packing.pack_good.Given as goal
 

@@ -1,6 +1,6 @@
 use Rattle.std.proofs.Common.{rules, ◌≡◌, sym, ◌∙◌, Ok, false}
 use Rattle.std.specs.Prelude.{Some, option_map}
-use Rattle.cdl_text.specs.Contents.{value_of}
+use Rattle.cdl_statements.specs.Contents.{value_of}
 use Rattle.cdl_tokens.specs.Numerals.{parts}
 use Rattle.cdl_tokens.specs.Magnitudes.{held}
 use Rattle.cdl_values.specs.PackedValues.{joined, held_bytes, is_full}

@@ -1,8 +1,8 @@
 use Rattle.std.proofs.Common.{◌≡◌, sym, ap, ◌∙◌, Ok, drop, length, length-drop}
 use Rattle.std.specs.Prelude.{◌-◌}
-use Rattle.cdl_text.specs.Contents.{values, value_of}
-use Rattle.cdl_text.specs.Lexemes.{is_mark_kind}
-use Rattle.cdl_text.specs.Views.{lexeme_of, lexeme_with}
+use Rattle.cdl_statements.specs.Contents.{values, value_of}
+use Rattle.cdl_statements.specs.Lexemes.{is_mark_kind}
+use Rattle.cdl_statements.specs.Views.{lexeme_of, lexeme_with}
 use Rattle.cdl_tokens.specs.declared.token.TokenKind.TheVariants.{Number}
 use Rattle.cdl_values.specs.PackedValues.{packed, joined, bytes_of}
 use Rattle.cdl_values.proofs.PackedTokens.{over_value, one_packed, no_mark, added, is_after}

@@ -1,9 +1,9 @@
 use Rattle.std.proofs.Common.{rules, ◌∷◌, sym, ap, ◌∙◌, Ok, subst, drop, length, length-drop}
 use Rattle.std.specs.Prelude.{List, ◌-◌}
-use Rattle.cdl_text.specs.Contents.{values, value_of}
-use Rattle.cdl_text.specs.Shapes.{Value}
-use Rattle.cdl_text.specs.Lexemes.{is_mark_kind}
-use Rattle.cdl_text.specs.Views.{lexeme_of}
+use Rattle.cdl_statements.specs.Contents.{values, value_of}
+use Rattle.cdl_statements.specs.Shapes.{Value}
+use Rattle.cdl_statements.specs.Lexemes.{is_mark_kind}
+use Rattle.cdl_statements.specs.Views.{lexeme_of}
 use Rattle.cdl_values.specs.PackedValues.{packed, joined, bytes_of}
 use Rattle.cdl_values.specs.Answers.{Fails}
 use Rattle.cdl_values.proofs.AllowedNames.{stopped}

@@ -1,6 +1,6 @@
 use Rattle.std.proofs.Common.{ap, Ok}
-use Rattle.cdl_text.specs.Lexemes.{is_mark_kind}
-use Rattle.cdl_text.specs.Views.{lexeme_of}
+use Rattle.cdl_statements.specs.Lexemes.{is_mark_kind}
+use Rattle.cdl_statements.specs.Views.{lexeme_of}
 use Rattle.cdl_values.specs.PackedValues.{packed, joined}
 use Rattle.cdl_values.proofs.PackedTokens.{over_mark}
 use Rattle.cdl_values.proofs.value.take_good.Goals as goal

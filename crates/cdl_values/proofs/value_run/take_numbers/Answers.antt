@@ -1,6 +1,6 @@
 use Rattle.std.proofs.Common.{rules, ◌≡◌, false, refl, sym, ◌∙◌}
 use Rattle.std.specs.Prelude.{Ok}
-use Rattle.cdl_text.specs.NumberLists.{reached}
+use Rattle.cdl_statements.specs.NumberLists.{reached}
 use Rattle.cdl_values.specs.PackedValues.{held_bytes, is_full, joined}
 use Rattle.cdl_values.specs.ValueRuns.{place}
 use Rattle.cdl_values.specs.declared.filling.Filling.TheVariants.{Numbers}

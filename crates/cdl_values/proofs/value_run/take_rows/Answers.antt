@@ -1,7 +1,7 @@
 use Rattle.std.proofs.Common.{rules, ◌≡◌, ◌+◌, false, ◌∙◌, subst}
 use Rattle.std.specs.Prelude.{Ok, Option, ℕ}
 use Rattle.cdl_tokens.specs.Escapes.{inner, stands}
-use Rattle.cdl_text.specs.Shapes.{Characters}
+use Rattle.cdl_statements.specs.Shapes.{Characters}
 use Rattle.cdl_values.specs.PackedValues.{is_full, joined, less, row_bytes}
 use Rattle.cdl_values.specs.ValueRuns.{Takes, place}
 use Rattle.cdl_values.specs.declared.filling.Filling.TheVariants.{Rows}

@@ -1,7 +1,7 @@
 use Rattle.std.proofs.Common.{rules, arith, ◌≡◌, ◌-◌, ap, false, refl, sym, ◌∙◌, subst}
 use Rattle.std.specs.Prelude.{Ok, Option, ℕ}
 use Rattle.nc_base.specs.declared.nc_type.NcType.{NcType}
-use Rattle.cdl_text.specs.NumberLists.{reached}
+use Rattle.cdl_statements.specs.NumberLists.{reached}
 use Rattle.cdl_values.specs.PackedValues.{held_bytes, is_full, joined, less}
 use Rattle.cdl_values.specs.ValueRuns.{Takes, place}
 use Rattle.cdl_values.specs.declared.filling.Filling.TheVariants.{Numbers}

@@ -1,6 +1,6 @@
 use Rattle.std.proofs.Common.{◌-◌, ◌≤◌, Bool}
-use Rattle.cdl_text.specs.ListedTokens.{IsAtComma}
-use Rattle.cdl_text.specs.NumberLists.{reached}
+use Rattle.cdl_statements.specs.ListedTokens.{IsAtComma}
+use Rattle.cdl_statements.specs.NumberLists.{reached}
 use Rattle.cdl_values.specs.PackedValues.{less}
 use Rattle.cdl_values.specs.ValueRuns.{Takes, place}
 use Rattle.cdl_values.specs.declared.filling.Filling.TheVariants.{Numbers}

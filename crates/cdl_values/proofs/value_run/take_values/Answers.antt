@@ -1,11 +1,11 @@
 use Rattle.std.proofs.Common.{◌≡◌, ◌∷◌, List, sym, ◌∙◌, subst}
 use Rattle.std.specs.Prelude.{None, Ok}
 use Rattle.nc_base.specs.declared.version.Version.{Version}
-use Rattle.cdl_text.specs.Contents.{values}
-use Rattle.cdl_text.specs.Cutters.{version_of}
-use Rattle.cdl_text.specs.Lexemes.{Lexeme}
-use Rattle.cdl_text.specs.Shapes.{token_fault}
-use Rattle.cdl_text.specs.Views.{lexeme_of}
+use Rattle.cdl_statements.specs.Contents.{values}
+use Rattle.cdl_statements.specs.Cutters.{version_of}
+use Rattle.cdl_statements.specs.Lexemes.{Lexeme}
+use Rattle.cdl_statements.specs.Shapes.{token_fault}
+use Rattle.cdl_statements.specs.Views.{lexeme_of}
 use Rattle.cdl_values.specs.PackedValues.{joined, packed}
 use Rattle.cdl_values.specs.ValueRuns.{place}
 use Rattle.cdl_values.proofs.ValueRuns.{takes_further, value_on}

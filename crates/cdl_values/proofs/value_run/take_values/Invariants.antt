@@ -1,6 +1,6 @@
 use Rattle.std.proofs.Common.{◌-◌, ◌≡◌, length}
-use Rattle.cdl_text.specs.Cutters.{offset_of, text_of, version_of}
-use Rattle.cdl_text.specs.ListedTokens.{IsAtComma}
+use Rattle.cdl_statements.specs.Cutters.{offset_of, text_of, version_of}
+use Rattle.cdl_statements.specs.ListedTokens.{IsAtComma}
 use Rattle.cdl_values.specs.ValueRuns.{Takes, place}
 use Rattle.cdl_values.proofs.value_run.take_values.Given as goal
 

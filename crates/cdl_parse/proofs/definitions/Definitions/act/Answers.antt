@@ -1,7 +1,7 @@
 use Rattle.std.proofs.Common.{ap, ◌∙◌}
-use Rattle.cdl_text.specs.Contents.{statement_said}
-use Rattle.cdl_text.specs.Cutters.{next_token, text_of, version_of, words}
-use Rattle.cdl_text.specs.Lexemes.{lexeme}
+use Rattle.cdl_statements.specs.Contents.{statement_said}
+use Rattle.cdl_statements.specs.Cutters.{next_token, text_of, version_of, words}
+use Rattle.cdl_statements.specs.Lexemes.{lexeme}
 use Rattle.cdl_meaning.specs.State.{act}
 use Rattle.cdl_parse.specs.Defined.{state_of}
 use Rattle.cdl_parse.proofs.Defining.{opens}

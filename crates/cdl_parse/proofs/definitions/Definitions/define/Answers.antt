@@ -1,7 +1,7 @@
 use Rattle.std.proofs.Common.{◌≡◌, true, false, Ok, ap, sym, ◌∙◌, subst}
-use Rattle.cdl_text.specs.Cutters.{next_token, text_of, version_of, words}
-use Rattle.cdl_text.specs.Lexemes.{is_mark, lexeme}
-use Rattle.cdl_text.specs.Shapes.{section_of}
+use Rattle.cdl_statements.specs.Cutters.{next_token, text_of, version_of, words}
+use Rattle.cdl_statements.specs.Lexemes.{is_mark, lexeme}
+use Rattle.cdl_statements.specs.Shapes.{section_of}
 use Rattle.cdl_meaning.specs.State.{add_att}
 use Rattle.cdl_values.specs.Answers.{Leaves}
 use Rattle.cdl_values.specs.Meant.{name_first}

@@ -1,10 +1,10 @@
 use Rattle.std.proofs.Common.{◌≡◌, ◌<◌, List, ℕ, drop, true, ap, sym, subst, ◌∙◌, length, set, arith}
-use Rattle.cdl_text.specs.Cutters.{next_token, text_of, version_of, words}
-use Rattle.cdl_text.specs.DueTokens.{completes}
+use Rattle.cdl_statements.specs.Cutters.{next_token, text_of, version_of, words}
+use Rattle.cdl_statements.specs.DueTokens.{completes}
 use Rattle.cdl_tokens.specs.Escapes.{word_value}
-use Rattle.cdl_text.specs.Lexemes.{lexeme}
-use Rattle.cdl_text.specs.Views.{lexeme_of}
-use Rattle.cdl_text.specs.declared.due.Due.TheVariants.{AttributeName}
+use Rattle.cdl_statements.specs.Lexemes.{lexeme}
+use Rattle.cdl_statements.specs.Views.{lexeme_of}
+use Rattle.cdl_statements.specs.declared.due.Due.TheVariants.{AttributeName}
 use Rattle.cdl_meaning.specs.State.{at_variable, with_att}
 use Rattle.cdl_values.specs.Answers.{Leaves}
 use Rattle.cdl_values.specs.Meant.{name_first}

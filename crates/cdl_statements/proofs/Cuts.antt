@@ -1,0 +1,144 @@
+-- The pieces, one token on.
+use Rattle.std.proofs.Common.{◌≡◌, drop, ℕ, Bool, true, false, List, [], ◌∷◌, ◌++◌, sym, ◌∙◌, ap, refl, append_assoc}
+use Rattle.std.proofs.lemmas.Bool.{false≢true}
+use Rattle.cdl_statements.specs.declared.piece.Step.{Step}
+use Rattle.std.specs.Prelude.{if◌then◌else◌}
+use Rattle.cdl_tokens.specs.declared.token.Token.{Token}
+use Rattle.cdl_tokens.specs.declared.token.TokenKind.{TokenKind}
+use Rattle.cdl_tokens.specs.declared.token.TokenKind.TheVariants as kinds
+use Rattle.cdl_statements.specs.declared.piece.Role.{Role}
+use Rattle.cdl_statements.specs.declared.piece.Role.TheVariants.{End}
+use Rattle.cdl_statements.specs.declared.piece.CutState.{CutState}
+use Rattle.cdl_statements.specs.declared.piece.CutState.TheVariants.{Begins, Inside, Marked, Closed}
+use Rattle.cdl_tokens.specs.Tokens.{raw}
+use Rattle.cdl_statements.specs.Pieces.{pieces_at, step, ending, with_first, first_role, role_of}
+use Rattle.cdl_statements.specs.Cutters.{first_line, first_piece, other_pieces}
+use Rattle.cdl_statements.specs.Roles.{is_end_role, role_in}
+use Rattle.cdl_tokens.specs.Scanners.{followed, is_end}
+use Rattle.std.specs.Prelude.{map}
+use Rattle.cdl_statements.specs.Lexemes.{lexeme}
+
+step_end : (state : CutState) (next : Role) → step state End next ≡ ending Begins
+step_end Begins next = refl
+step_end Inside next = refl
+step_end Marked next = refl
+step_end Closed next = refl
+
+first_followed : (f : Token → Role) (u : Token) (k : TokenKind) (after : List Token) → first_role f (followed u k after) ≡ f u
+first_followed f u kinds.Opening after = refl
+first_followed f u kinds.Word after = refl
+first_followed f u kinds.Number after = refl
+first_followed f u kinds.Text after = refl
+first_followed f u kinds.Mark after = refl
+first_followed f u kinds.Bad after = refl
+first_followed f u kinds.End after = refl
+
+on_more : (f : Token → Role) (state : CutState) (t u : Token) (before after : List Token) → before ≡ followed u u.kind after →
+    pieces_at f state (t ∷ before) ≡ with_first (step state (f t) (f u)).ends t (pieces_at f (step state (f t) (f u)).state (followed u u.kind after))
+unfolding pieces_at
+on_more f state t u before after e = rw (e) (rw (first_followed f u u.kind after) refl)
+
+on_end : (f : Token → Role) (state : CutState) (t u : Token) → f t ≡ End →
+    pieces_at f state (t ∷ []) ≡ with_first (step state (f t) (f u)).ends t (pieces_at f (step state (f t) (f u)).state [])
+unfolding pieces_at
+on_end f state t u e = rw (e) (rw (step_end state End) (rw (step_end state (f u)) refl))
+
+by_kind : (f : Token → Role) (state : CutState) (t u : Token) (k : TokenKind) (before after : List Token) → before ≡ followed u u.kind after → (is_end k ≡ true → f t ≡ End) →
+    pieces_at f state (followed t k before) ≡ with_first (step state (f t) (f u)).ends t (pieces_at f (step state (f t) (f u)).state (if is_end k then [] else followed u u.kind after))
+by_kind f state t u kinds.Opening before after e h = on_more f state t u before after e
+by_kind f state t u kinds.Word before after e h = on_more f state t u before after e
+by_kind f state t u kinds.Number before after e h = on_more f state t u before after e
+by_kind f state t u kinds.Text before after e h = on_more f state t u before after e
+by_kind f state t u kinds.Mark before after e h = on_more f state t u before after e
+by_kind f state t u kinds.Bad before after e h = on_more f state t u before after e
+by_kind f state t u kinds.End before after e h = on_end f state t u (h refl)
+
+-- an End's role
+pub end_role : (text : List ℕ) (t : Token) → is_end t.kind ≡ true → role_in text t ≡ End
+end_role text t h = by_end t.kind (raw text t) h
+  where
+    by_end : (k : TokenKind) (bytes : List ℕ) → is_end k ≡ true → role_of k bytes ≡ End
+    by_end kinds.Opening bytes h = cc
+    by_end kinds.Word bytes h = cc
+    by_end kinds.Number bytes h = cc
+    by_end kinds.Text bytes h = cc
+    by_end kinds.Mark bytes h = cc
+    by_end kinds.Bad bytes h = cc
+    by_end kinds.End bytes h = refl
+
+pub advance : (text : List ℕ) (state : CutState) (t u : Token) (before after : List Token) → before ≡ followed u u.kind after →
+    pieces_at (role_in text) state (followed t t.kind before) ≡
+    with_first (step state (role_in text t) (role_in text u)).ends t (pieces_at (role_in text) (step state (role_in text t) (role_in text u)).state (if is_end t.kind then [] else followed u u.kind after))
+advance text state t u before after e = by_kind (role_in text) state t u t.kind before after e (end_role text t)
+
+pub advance_to : (text : List ℕ) (state : CutState) (t u : Token) (before after : List Token) → before ≡ followed u u.kind after →
+    (text' : List ℕ) → text' ≡ text → (r q : Role) → r ≡ role_in text t → q ≡ role_in text u → (s : Step) → s ≡ step state r q → (d : Bool) → d ≡ is_end t.kind →
+    pieces_at (role_in text) state (followed t t.kind before) ≡ with_first s.ends t (pieces_at (role_in text') s.state (if d then [] else followed u u.kind after))
+advance_to text state t u before after e text' same r q is_r is_q s is_s d is_d =
+    advance text state t u before after e ∙ rw (is_s) (rw (is_r) (rw (is_q) (rw (is_d) (rw (same) refl))))
+
+pub no_end : (text : List ℕ) (t : Token) (r : Role) (ends : Bool) → r ≡ role_in text t → (is_end_role r ≡ true → ends ≡ true) → ends ≡ false → is_end t.kind ≡ false
+no_end text t r ends is h off = elim (is_end t.kind) as (λ w. is_end t.kind ≡ w → w ≡ false) [ true ↦ (λ e. absurd (false≢true (sym off ∙ h (ap is_end_role (is ∙ end_role text t e))))) | false ↦ (λ e. refl) ] refl
+
+-- a piece that goes on
+pub goes_on : {X : Type 0} (items : List X) (t : X) (p : List X) (ps qs all : List (List X)) → ((p : List X) (ps : List (List X)) → qs ≡ p ∷ ps → all ≡ (items ++ p) ∷ ps) → (rest : List (List X)) → qs ≡ with_first false t rest → rest ≡ p ∷ ps → all ≡ ((items ++ t ∷ []) ++ p) ∷ ps
+goes_on items t p ps qs all h rest e is = h (t ∷ p) ps (e ∙ ap (with_first false t) is) ∙ ap (λ xs. xs ∷ ps) (sym (append_assoc items (t ∷ []) p))
+
+-- a piece that ends
+pub ends_there : {X : Type 0} (items : List X) (t : X) (qs all : List (List X)) → ((p : List X) (ps : List (List X)) → qs ≡ p ∷ ps → all ≡ (items ++ p) ∷ ps) → (rest : List (List X)) → qs ≡ with_first true t rest → all ≡ (items ++ t ∷ []) ∷ rest
+ends_there items t qs all h rest e = h (t ∷ []) rest e
+
+pub none_left : (f : Token → Role) (state : CutState) (ts : List Token) (d : Bool) → d ≡ true → pieces_at f state (if d then [] else ts) ≡ []
+unfolding pieces_at
+none_left f state ts d h = rw (h) refl
+
+-- what the first piece says, one token on
+pub words_on : (text : List ℕ) (t : Token) (ends : Bool) (ps : List (List Token)) →
+    map (lexeme text) (first_piece (with_first ends t ps)) ≡ lexeme text t ∷ (if ends then [] else map (lexeme text) (first_piece ps))
+words_on text t true ps = refl
+words_on text t false [] = refl
+words_on text t false (p ∷ ps) = refl
+
+pub after_on : (t : Token) (ends : Bool) (ps : List (List Token)) → other_pieces (with_first ends t ps) ≡ (if ends then ps else other_pieces ps)
+after_on t true ps = refl
+after_on t false [] = refl
+after_on t false (p ∷ ps) = refl
+
+begun : (b : Bool) (t : Token) (ps : List (List Token)) → first_piece (with_first b t ps) ≡ t ∷ drop 1 (first_piece (with_first b t ps))
+begun true t ps = refl
+begun false t [] = refl
+begun false t (p ∷ ps) = refl
+
+begun_at : (f : Token → Role) (state : CutState) (t : Token) (ts : List Token) → first_piece (pieces_at f state (t ∷ ts)) ≡ t ∷ drop 1 (first_piece (pieces_at f state (t ∷ ts)))
+unfolding pieces_at
+begun_at f state t ts = begun (step state (f t) (first_role f ts)).ends t (pieces_at f (step state (f t) (first_role f ts)).state ts)
+
+-- the first piece begins with the first token
+pub begins : (f : Token → Role) (state : CutState) (t : Token) (k : TokenKind) (rest : List Token) →
+    first_piece (pieces_at f state (followed t k rest)) ≡ t ∷ drop 1 (first_piece (pieces_at f state (followed t k rest)))
+begins f state t kinds.Opening rest = begun_at f state t rest
+begins f state t kinds.Word rest = begun_at f state t rest
+begins f state t kinds.Number rest = begun_at f state t rest
+begins f state t kinds.Text rest = begun_at f state t rest
+begins f state t kinds.Mark rest = begun_at f state t rest
+begins f state t kinds.Bad rest = begun_at f state t rest
+begins f state t kinds.End rest = begun_at f state t []
+
+line_with : (b : Bool) (t : Token) (ps : List (List Token)) → first_line (with_first b t ps) ≡ t.line
+line_with true t ps = refl
+line_with false t [] = refl
+line_with false t (p ∷ ps) = refl
+
+line_at_first : (f : Token → Role) (state : CutState) (t : Token) (ts : List Token) → first_line (pieces_at f state (t ∷ ts)) ≡ t.line
+unfolding pieces_at
+line_at_first f state t ts = line_with (step state (f t) (first_role f ts)).ends t (pieces_at f (step state (f t) (first_role f ts)).state ts)
+
+-- the first piece's line is that of the first token
+pub line_first : (f : Token → Role) (state : CutState) (t : Token) (k : TokenKind) (rest : List Token) → first_line (pieces_at f state (followed t k rest)) ≡ t.line
+line_first f state t kinds.Opening rest = line_at_first f state t rest
+line_first f state t kinds.Word rest = line_at_first f state t rest
+line_first f state t kinds.Number rest = line_at_first f state t rest
+line_first f state t kinds.Text rest = line_at_first f state t rest
+line_first f state t kinds.Mark rest = line_at_first f state t rest
+line_first f state t kinds.Bad rest = line_at_first f state t rest
+line_first f state t kinds.End rest = line_at_first f state t []

@@ -1,0 +1,89 @@
+-- The table of due tokens says whether a piece has its shape, in the section of the dimensions.
+use Rattle.std.proofs.Common.{◌≡◌, Bool, true, false, List, [], ◌∷◌, refl, ap, ◌∙◌}
+use Rattle.std.specs.Prelude.{Option, None, Some, if◌then◌else◌, is_some}
+use Rattle.std.specs.Option.{option_map, option_and_then}
+use Rattle.nc_base.specs.declared.version.Version.{Version}
+use Rattle.cdl_statements.specs.Contents.{dimensions_said}
+use Rattle.cdl_statements.specs.DueTokens.{only, next, completes, is_name, goes_to}
+use Rattle.cdl_statements.specs.Lexemes.{Lexeme, is_mark, name_of}
+use Rattle.cdl_statements.specs.Shapes.{Dimension, Statement, Declared, Brace, Attribute, first_bad, assigned, dimensions, given, before_mark, either, alone, section_mark, body, shape, global}
+use Rattle.cdl_statements.specs.declared.due.Due.TheVariants as dues
+use Rattle.cdl_statements.specs.declared.section.Section.TheVariants.{Dimensions}
+use Rattle.cdl_statements.proofs.Dimensions.{listed_dims, dims_are}
+use Rattle.cdl_statements.proofs.Listing.{never_completes, only_completes, fine_on}
+use Rattle.cdl_statements.proofs.Shaping.{mark_word, mark_name, no_section, no_mark}
+use Rattle.cdl_statements.proofs.Options.{either_none, either_only, given_none, none_of}
+use Rattle.cdl_statements.proofs.SectionParts.{alone_completes, mark_completes, global_to, global_completes, no_brace, no_colon, section_no_name, no_name_of}
+
+abbrev pub body_to : Version → List Lexeme → Option Statement
+body_to v ls = option_and_then (body v Dimensions) (before_mark 0x3b ls)
+
+abbrev pub dims_to : Version → List Lexeme → Option Statement
+dims_to v ls = option_map Declared (listed_dims v ls)
+
+-- with a global attribute, it is that
+dims_no_name : (v : Version) (l : Lexeme) (ys : List Lexeme) → name_of l ≡ None → dimensions v (l ∷ ys) ≡ None
+dims_no_name v l [] h = refl
+dims_no_name v l (e ∷ []) h = refl
+dims_no_name v l (e ∷ k ∷ []) h = rw (h) (rw (given_none {A = _} (is_mark 0x3d e)) refl)
+dims_no_name v l (e ∷ k ∷ c ∷ ys) h = rw (h) (rw (given_none {A = _} (is_mark 0x3d e)) (given_none (is_mark 0x2c c)))
+
+pub body_dims : (v : Version) (l : Lexeme) (ls : List Lexeme) → is_mark 0x3a l ≡ false → body_to v (l ∷ ls) ≡ dims_to v (l ∷ ls)
+body_dims v l [] off = by (is_mark 0x3b l)
+  where
+    by : (s : Bool) → option_and_then (body v Dimensions) (given s (Some [])) ≡ option_map Declared (option_and_then (dimensions v) (given s (Some [])))
+    by true = refl
+    by false = refl
+body_dims v l (m ∷ ls) off = by (before_mark 0x3b (m ∷ ls))
+  where
+    by : (b : Option (List Lexeme)) → option_and_then (body v Dimensions) (option_map (λ xs. l ∷ xs) b) ≡ option_map Declared (option_and_then (dimensions v) (option_map (λ xs. l ∷ xs) b))
+    by None = refl
+    by (Some ys) = ap (λ c. either (given c (assigned v false (Attribute None) ys)) (option_map Declared (dimensions v (l ∷ ys)))) off
+
+pub body_global : (v : Version) (l : Lexeme) (ls : List Lexeme) → name_of l ≡ None → body_to v (l ∷ ls) ≡ global_to v (l ∷ ls)
+body_global v l [] none = by (is_mark 0x3b l)
+  where
+    by : (s : Bool) → option_and_then (body v Dimensions) (given s (Some [])) ≡ option_and_then (global v) (given s (Some []))
+    by true = refl
+    by false = refl
+body_global v l (m ∷ ls) none = by (before_mark 0x3b (m ∷ ls))
+  where
+    by : (b : Option (List Lexeme)) → option_and_then (body v Dimensions) (option_map (λ xs. l ∷ xs) b) ≡ option_and_then (global v) (option_map (λ xs. l ∷ xs) b)
+    by None = refl
+    by (Some ys) = either_only (global v (l ∷ ys)) (option_map Declared (dimensions v (l ∷ ys))) (ap (option_map Declared) (dims_no_name v l ys none))
+
+pub no_dims : (v : Version) (l : Lexeme) (ls : List Lexeme) → first_bad v (l ∷ ls) ≡ None → is_name l ≡ false → dims_to v (l ∷ ls) ≡ None
+unfolding completes next
+no_dims v l ls good h =
+    let off : completes dues.DimensionName (l ∷ ls) ≡ false = only_completes (is_name l) dues.LengthEquals ls ∙ rw (h) refl in
+    ap (option_map Declared) (dims_are v (l ∷ ls) good ∙ ap (λ w. if w then Some (dimensions_said v (l ∷ ls)) else None) off)
+
+mapped : (b : Bool) (a : List Dimension) → is_some (option_map Declared (if b then Some a else None)) ≡ b
+mapped true a = refl
+mapped false a = refl
+
+pub dims_complete : (v : Version) (l : Lexeme) (ls : List Lexeme) → first_bad v (l ∷ ls) ≡ None → is_some (shape v Dimensions (l ∷ ls)) ≡ completes (dues.First Dimensions) (l ∷ ls)
+unfolding shape completes next
+dims_complete v l ls good = by (is_mark 0x7d l) (is_mark 0x3a l) (goes_to Dimensions l) refl refl refl
+  where
+    after : Option Statement
+    after = either (section_mark Dimensions (l ∷ ls)) (body_to v (l ∷ ls))
+
+    by : (b c g : Bool) → is_mark 0x7d l ≡ b → is_mark 0x3a l ≡ c → goes_to Dimensions l ≡ g →
+        is_some (either (alone (is_mark 0x7d) Brace (l ∷ ls)) after) ≡
+        completes (if b then dues.Nothing else (if c then dues.AttributeName else (if g then dues.Colon else only (is_name l) dues.LengthEquals))) ls
+    by true c g on is-c is-g =
+        let none = either_none (section_mark Dimensions (l ∷ ls)) (body_to v (l ∷ ls)) (no_mark Dimensions l ls (no_section l (mark_word 0x7d l on))) ∙ body_dims v l ls (no_colon l on) ∙ no_dims v l ls good (mark_name 0x7d l on) in
+        ap is_some (either_only (alone (is_mark 0x7d) Brace (l ∷ ls)) after none) ∙ alone_completes (is_mark 0x7d) Brace l ls ∙ ap (λ t. completes (only t dues.Nothing) ls) on
+    by false true g off on is-g =
+        ap is_some (either_none (alone (is_mark 0x7d) Brace (l ∷ ls)) after (no_brace l ls off) ∙
+        either_none (section_mark Dimensions (l ∷ ls)) (body_to v (l ∷ ls)) (no_mark Dimensions l ls (no_section l (mark_word 0x3a l on))) ∙ body_global v l ls (no_name_of l (mark_name 0x3a l on))) ∙
+        global_completes v l ls (fine_on v l ls good) on
+    by false false true off other on =
+        ap is_some (either_none (alone (is_mark 0x7d) Brace (l ∷ ls)) after (no_brace l ls off) ∙
+        either_only (section_mark Dimensions (l ∷ ls)) (body_to v (l ∷ ls)) (body_dims v l ls other ∙ no_dims v l ls good (section_no_name Dimensions l on))) ∙
+        mark_completes Dimensions l ls ∙ ap (λ t. completes (only t dues.Colon) ls) on
+    by false false false off other no-mark =
+        let none = none_of (section_mark Dimensions (l ∷ ls)) (mark_completes Dimensions l ls ∙ ap (λ t. completes (only t dues.Colon) ls) no-mark ∙ never_completes ls) in
+        ap is_some (either_none (alone (is_mark 0x7d) Brace (l ∷ ls)) after (no_brace l ls off) ∙ either_none (section_mark Dimensions (l ∷ ls)) (body_to v (l ∷ ls)) none ∙ body_dims v l ls other ∙
+        ap (option_map Declared) (dims_are v (l ∷ ls) good)) ∙ mapped (completes dues.DimensionName (l ∷ ls)) (dimensions_said v (l ∷ ls))

@@ -1,0 +1,205 @@
+-- Lists of dimensions: the table of due tokens says whether one has its shape, and what it says stands in its tokens.
+use Rattle.std.proofs.Common.{◌≡◌, Bool, true, false, List, [], ◌∷◌, refl, sym, ap, ◌∙◌}
+use Rattle.std.specs.Prelude.{Option, None, Some, if◌then◌else◌, ◌&&◌, ◌||◌, is_none}
+use Rattle.std.specs.Option.{option_map, option_and_then}
+use Rattle.nc_base.specs.declared.version.Version.{Version}
+use Rattle.cdl_statements.specs.Contents.{parts_or_zero, is_unlimited, length_said, dimensions_said}
+use Rattle.cdl_statements.specs.DueTokens.{only, next, is_whole, completes, is_name, is_length, is_number}
+use Rattle.cdl_tokens.specs.Escapes.{word_value}
+use Rattle.cdl_statements.specs.Lexemes.{Lexeme, is_mark}
+use Rattle.cdl_tokens.specs.Numerals.{Parts, Numeral, parts, number, numeral}
+use Rattle.cdl_statements.specs.Shapes.{Dimension, dimension, dimensions, length_of, numeral_of, token_fault, first_bad, both, given, before_mark}
+use Rattle.cdl_statements.specs.declared.due.Due.TheVariants as dues
+use Rattle.cdl_statements.specs.declared.fault.CdlKind.TheVariants.{BadNumber}
+use Rattle.cdl_tokens.specs.declared.token.TokenKind.{TokenKind}
+use Rattle.cdl_tokens.specs.declared.token.TokenKind.TheVariants as kinds
+use Rattle.cdl_statements.proofs.Listing.{fine, fine_on, combine, never_completes, nothing_more, no_members, apart}
+use Rattle.cdl_statements.proofs.Shaping.{name_is}
+
+length_by : (v : Version) (l : Lexeme) (k : TokenKind) → token_fault v k l.bytes ≡ None →
+    option_map (λ (n : Numeral). Some n.value) (numeral_of v l k) ≡ (if is_number k then Some (Some (number (parts_or_zero (parts v l.bytes))).value) else None)
+unfolding numeral
+length_by v l kinds.Opening h = refl
+length_by v l kinds.Word h = refl
+length_by v l kinds.Number h = by (parts v l.bytes) h
+  where
+    by : (r : Option Parts) → (if is_none (option_map number r) then Some BadNumber else None) ≡ None → option_map (λ (n : Numeral). Some n.value) (option_map number r) ≡ Some (Some (number (parts_or_zero r)).value)
+    by None h = cc
+    by (Some n) h = refl
+length_by v l kinds.Text h = refl
+length_by v l kinds.Mark h = refl
+length_by v l kinds.Bad h = refl
+length_by v l kinds.End h = refl
+
+length_is : (v : Version) (l : Lexeme) → token_fault v l.kind l.bytes ≡ None → length_of v l ≡ (if is_length l then Some (length_said v l) else None)
+length_is v l h = by (is_unlimited l)
+  where
+    by : (u : Bool) → (if u then Some None else option_map (λ (n : Numeral). Some n.value) (numeral_of v l l.kind)) ≡ (if u || is_number l.kind then Some (if u then None else Some (number (parts_or_zero (parts v l.bytes))).value) else None)
+    by true = refl
+    by false = length_by v l l.kind h
+
+said : Version → Lexeme → Lexeme → Dimension
+said v n l = record { name = word_value n.bytes; len = length_said v l }
+
+three : {A B C : Type 0} (f : A → B → C) (a b e : Bool) (x : A) (y : B) → given e (both f (if a then Some x else None) (if b then Some y else None)) ≡ (if a && e && b then Some (f x y) else None)
+three f true true true x y = refl
+three f true true false x y = refl
+three f true false true x y = refl
+three f true false false x y = refl
+three f false true true x y = refl
+three f false true false x y = refl
+three f false false true x y = refl
+three f false false false x y = refl
+
+dimension_is : (v : Version) (n e l : Lexeme) → token_fault v l.kind l.bytes ≡ None → dimension v n e l ≡ (if is_name n && is_mark 0x3d e && is_length l then Some (said v n l) else None)
+unfolding said
+dimension_is v n e l h =
+    rw (name_is n) (rw (length_is v l h) (three (λ name len. record { name = name; len = len }) (is_name n) (is_length l) (is_mark 0x3d e) (word_value n.bytes) (length_said v l)))
+
+-- up to the semicolon
+abbrev pub listed_dims : Version → List Lexeme → Option (List Dimension)
+listed_dims v ls = option_and_then (dimensions v) (before_mark 0x3b ls)
+
+last : (v : Version) (n e l c : Lexeme) → listed_dims v (n ∷ e ∷ l ∷ c ∷ []) ≡ given (is_mark 0x3b c) (both (λ d ds. d ∷ ds) (dimension v n e l) (Some []))
+last v n e l c = by (is_mark 0x3b c)
+  where
+    by : (s : Bool) → option_and_then (dimensions v) (option_map (λ xs. n ∷ xs) (option_map (λ xs. e ∷ xs) (option_map (λ xs. l ∷ xs) (given s (Some []))))) ≡ given s (both (λ d ds. d ∷ ds) (dimension v n e l) (Some []))
+    by true = refl
+    by false = refl
+
+more : (v : Version) (n e l c r : Lexeme) (rs : List Lexeme) → listed_dims v (n ∷ e ∷ l ∷ c ∷ r ∷ rs) ≡ given (is_mark 0x2c c) (both (λ d ds. d ∷ ds) (dimension v n e l) (listed_dims v (r ∷ rs)))
+more v n e l c r rs = by (before_mark 0x3b (r ∷ rs))
+  where
+    by : (b : Option (List Lexeme)) →
+        option_and_then (dimensions v) (option_map (λ xs. n ∷ xs) (option_map (λ xs. e ∷ xs) (option_map (λ xs. l ∷ xs) (option_map (λ xs. c ∷ xs) b)))) ≡
+        given (is_mark 0x2c c) (both (λ d ds. d ∷ ds) (dimension v n e l) (option_and_then (dimensions v) b))
+    by None = no_members (λ d ds. d ∷ ds) (is_mark 0x2c c) (dimension v n e l)
+    by (Some ys) = refl
+
+and_four : (a b d x : Bool) → (a && (b && (d && x))) ≡ (a && b && d && x)
+and_four true true true x = refl
+and_four true true false x = refl
+and_four true false d x = refl
+and_four false b d x = refl
+
+and_assoc : (a b x : Bool) → (a && (b && x)) ≡ (a && b && x)
+and_assoc true b x = refl
+and_assoc false b x = refl
+
+-- after the four tokens of a dimension
+pub four : (n e l c : Lexeme) (ls : List Lexeme) → completes dues.DimensionName (n ∷ e ∷ l ∷ c ∷ ls) ≡ (is_name n && is_mark 0x3d e && is_length l && completes (next dues.LengthSeparator c) ls)
+unfolding completes next
+four n e l c ls = by_name (is_name n) ∙ and_four (is_name n) (is_mark 0x3d e) (is_length l) (completes (next dues.LengthSeparator c) ls)
+  where
+    by_len : (d : Bool) → completes (next (only d dues.LengthSeparator) c) ls ≡ (d && completes (next dues.LengthSeparator c) ls)
+    by_len true = refl
+    by_len false = never_completes ls
+
+    by_equals : (b : Bool) → completes (next (next (only b dues.Length) l) c) ls ≡ (b && (is_length l && completes (next dues.LengthSeparator c) ls))
+    by_equals true = by_len (is_length l)
+    by_equals false = never_completes ls
+
+    by_name : (a : Bool) → completes (next (next (next (only a dues.LengthEquals) e) l) c) ls ≡ (a && (is_mark 0x3d e && (is_length l && completes (next dues.LengthSeparator c) ls)))
+    by_name true = by_equals (is_mark 0x3d e)
+    by_name false = never_completes ls
+
+pub separator_more : (c r : Lexeme) (rs : List Lexeme) → completes (next dues.LengthSeparator c) (r ∷ rs) ≡ (is_mark 0x2c c && completes dues.DimensionName (r ∷ rs))
+unfolding completes next
+separator_more c r rs = by (is_mark 0x2c c) (is_mark 0x3b c)
+  where
+    by : (a b : Bool) → completes (if a then dues.DimensionName else only b dues.Nothing) (r ∷ rs) ≡ (a && completes dues.DimensionName (r ∷ rs))
+    by true b = refl
+    by false true = nothing_more r rs
+    by false false = never_completes (r ∷ rs)
+
+separator_last : (c : Lexeme) → completes (next dues.LengthSeparator c) [] ≡ (is_mark 0x3b c && true)
+unfolding completes next
+separator_last c = by (is_mark 0x2c c) (is_mark 0x3b c) (apart c)
+  where
+    by : (a b : Bool) → (b ≡ true → a ≡ false) → is_whole (if a then dues.DimensionName else only b dues.Nothing) ≡ (b && true)
+    by true true h = sym (h refl)
+    by true false h = refl
+    by false true h = refl
+    by false false h = refl
+
+abbrev is_shaped : Lexeme → Lexeme → Lexeme → Bool
+is_shaped n e l = is_name n && is_mark 0x3d e && is_length l
+
+none_short : (v : Version) (ls : List Lexeme) → completes dues.DimensionName ls ≡ false → listed_dims v ls ≡ None → listed_dims v ls ≡ (if completes dues.DimensionName ls then Some (dimensions_said v ls) else None)
+none_short v ls off is = is ∙ rw (off) refl
+
+dims_one : (v : Version) (n : Lexeme) → listed_dims v (n ∷ []) ≡ None
+dims_one v n = by (is_mark 0x3b n)
+  where
+    by : (s : Bool) → option_and_then (dimensions v) (given s (Some [])) ≡ None
+    by true = refl
+    by false = refl
+
+dims_two : (v : Version) (n e : Lexeme) → listed_dims v (n ∷ e ∷ []) ≡ None
+dims_two v n e = by (is_mark 0x3b e)
+  where
+    by : (s : Bool) → option_and_then (dimensions v) (option_map (λ xs. n ∷ xs) (given s (Some []))) ≡ None
+    by true = refl
+    by false = refl
+
+dims_three : (v : Version) (n e l : Lexeme) → listed_dims v (n ∷ e ∷ l ∷ []) ≡ None
+dims_three v n e l = by (is_mark 0x3b l)
+  where
+    by : (s : Bool) → option_and_then (dimensions v) (option_map (λ xs. n ∷ xs) (option_map (λ xs. e ∷ xs) (given s (Some [])))) ≡ None
+    by true = refl
+    by false = refl
+
+pub completes_one : (n : Lexeme) → completes dues.DimensionName (n ∷ []) ≡ false
+unfolding completes next
+completes_one n = by (is_name n)
+  where
+    by : (a : Bool) → is_whole (only a dues.LengthEquals) ≡ false
+    by true = refl
+    by false = refl
+
+pub completes_two : (n e : Lexeme) → completes dues.DimensionName (n ∷ e ∷ []) ≡ false
+unfolding completes next
+completes_two n e = by (is_name n) (is_mark 0x3d e)
+  where
+    by_equals : (b : Bool) → is_whole (only b dues.Length) ≡ false
+    by_equals true = refl
+    by_equals false = refl
+
+    by : (a b : Bool) → is_whole (next (only a dues.LengthEquals) e) ≡ false
+    by true b = by_equals (is_mark 0x3d e)
+    by false b = refl
+
+pub completes_three : (n e l : Lexeme) → completes dues.DimensionName (n ∷ e ∷ l ∷ []) ≡ false
+unfolding completes next
+completes_three n e l = by_name (is_name n)
+  where
+    by_len : (d : Bool) → is_whole (only d dues.LengthSeparator) ≡ false
+    by_len true = refl
+    by_len false = refl
+
+    by_equals : (b : Bool) → is_whole (next (only b dues.Length) l) ≡ false
+    by_equals true = by_len (is_length l)
+    by_equals false = refl
+
+    by_name : (a : Bool) → is_whole (next (next (only a dues.LengthEquals) e) l) ≡ false
+    by_name true = by_equals (is_mark 0x3d e)
+    by_name false = refl
+
+-- a list of dimensions has its shape where the table says so
+pub dims_are : (v : Version) (ls : List Lexeme) → first_bad v ls ≡ None → listed_dims v ls ≡ (if completes dues.DimensionName ls then Some (dimensions_said v ls) else None)
+unfolding completes dimensions_said said
+dims_are v [] h = refl
+dims_are v (n ∷ []) h = none_short v (n ∷ []) (completes_one n) (dims_one v n)
+dims_are v (n ∷ e ∷ []) h = none_short v (n ∷ e ∷ []) (completes_two n e) (dims_two v n e)
+dims_are v (n ∷ e ∷ l ∷ []) h = none_short v (n ∷ e ∷ l ∷ []) (completes_three n e l) (dims_three v n e l)
+dims_are v (n ∷ e ∷ l ∷ c ∷ []) h =
+    let good = fine v l (c ∷ []) (fine_on v e (l ∷ c ∷ []) (fine_on v n (e ∷ l ∷ c ∷ []) h)) in
+    last v n e l c ∙
+    combine (is_shaped n e l) (is_mark 0x3b c) true (completes dues.DimensionName (n ∷ e ∷ l ∷ c ∷ [])) (dimension v n e l) (said v n l) (Some []) [] (dimensions_said v (n ∷ e ∷ l ∷ c ∷ []))
+    (dimension_is v n e l good) refl (four n e l c [] ∙ ap (λ x. is_shaped n e l && x) (separator_last c) ∙ and_assoc (is_shaped n e l) (is_mark 0x3b c) true) (λ i s. refl)
+dims_are v (n ∷ e ∷ l ∷ c ∷ r ∷ rs) h =
+    let after = fine_on v l (c ∷ r ∷ rs) (fine_on v e (l ∷ c ∷ r ∷ rs) (fine_on v n (e ∷ l ∷ c ∷ r ∷ rs) h)) in
+    let good = fine v l (c ∷ r ∷ rs) (fine_on v e (l ∷ c ∷ r ∷ rs) (fine_on v n (e ∷ l ∷ c ∷ r ∷ rs) h)) in
+    more v n e l c r rs ∙
+    combine (is_shaped n e l) (is_mark 0x2c c) (completes dues.DimensionName (r ∷ rs)) (completes dues.DimensionName (n ∷ e ∷ l ∷ c ∷ r ∷ rs)) (dimension v n e l) (said v n l) (listed_dims v (r ∷ rs)) (dimensions_said v (r ∷ rs)) (dimensions_said v (n ∷ e ∷ l ∷ c ∷ r ∷ rs))
+    (dimension_is v n e l good) (dims_are v (r ∷ rs) (fine_on v c (r ∷ rs) after)) (four n e l c (r ∷ rs) ∙ ap (λ x. is_shaped n e l && x) (separator_more c r rs) ∙ and_assoc (is_shaped n e l) (is_mark 0x2c c) (completes dues.DimensionName (r ∷ rs))) (λ i s. refl)

@@ -1,0 +1,46 @@
+-- A statement, one token on.
+use Rattle.std.proofs.Common.{◌≡◌, ℕ, true, false, List, [], ◌∷◌, refl, ap, ◌∙◌, Bool}
+use Rattle.std.specs.Prelude.{Option, None, Some, if◌then◌else◌, is_none, option_map}
+use Rattle.cdl_tokens.specs.Magnitudes.{held}
+use Rattle.cdl_tokens.specs.declared.numeral.Numeral.{Numeral as Held}
+use Rattle.nc_base.specs.declared.version.Version.{Version}
+use Rattle.cdl_statements.specs.Lexemes.{Lexeme}
+use Rattle.cdl_tokens.specs.Numerals.{Parts, parts, number, numeral}
+use Rattle.cdl_statements.specs.Shapes.{first_bad, either, token_fault}
+use Rattle.cdl_statements.specs.declared.fault.CdlKind.{CdlKind}
+
+pub bad_on : (version : Version) (bad : Option CdlKind) (l : Lexeme) (ls : List Lexeme) →
+    either bad (first_bad version (l ∷ ls)) ≡ either (either bad (token_fault version l.kind l.bytes)) (first_bad version ls)
+bad_on version None l ls = refl
+bad_on version (Some b) l ls = refl
+
+pub none_bad : (version : Version) (bad : Option CdlKind) → either bad (first_bad version []) ≡ bad
+none_bad version None = refl
+none_bad version (Some b) = refl
+
+-- a token's words, where the piece goes on and where it ends
+pub going : (ws rest : List Lexeme) (l m : Lexeme) (ends : Bool) → ws ≡ l ∷ (if ends then [] else rest) → l ≡ m → ends ≡ false → ws ≡ m ∷ rest
+going ws rest l m ends e same off = e ∙ rw (off) (rw (same) refl)
+
+pub ending : (ws rest : List Lexeme) (l m : Lexeme) (ends : Bool) → ws ≡ l ∷ (if ends then [] else rest) → l ≡ m → ends ≡ true → ws ≡ m ∷ []
+ending ws rest l m ends e same on = e ∙ rw (on) (rw (same) refl)
+
+-- the words from a token on
+pub first_word : (ws rest : List Lexeme) (l m : Lexeme) (ends : Bool) → ws ≡ l ∷ (if ends then [] else rest) → l ≡ m → ws ≡ m ∷ (if ends then [] else rest)
+first_word ws rest l m ends e same = e ∙ rw (same) refl
+
+-- a good token
+pub good_on : (version : Version) (l : Lexeme) (ls : List Lexeme) → token_fault version l.kind l.bytes ≡ None → first_bad version (l ∷ ls) ≡ first_bad version ls
+good_on version l ls good = ap (λ b. either b (first_bad version ls)) good
+
+pub good_end : (version : Version) (l : Lexeme) → token_fault version l.kind l.bytes ≡ None → first_bad version (l ∷ []) ≡ None
+good_end version l good = ap (λ b. either b None) good
+
+-- a number is bad where it has no parts
+pub bad_number : (version : Version) (bytes : List ℕ) (r : Option Held) → r ≡ option_map held (parts version bytes) → is_none r ≡ is_none (numeral version bytes)
+unfolding numeral
+bad_number version bytes r is = ap is_none is ∙ by_parts (parts version bytes)
+  where
+    by_parts : (r : Option Parts) → is_none (option_map held r) ≡ is_none (option_map number r)
+    by_parts None = refl
+    by_parts (Some n) = refl

@@ -1,0 +1,25 @@
+use Rattle.std.proofs.Common.{refl, sym, ap, subst}
+use Rattle.cdl_tokens.specs.Scanners as scanners
+use Rattle.cdl_tokens.specs.Tokens.{raw}
+use Rattle.cdl_tokens.specs.declared.token.TokenKind.{TokenKind}
+use Rattle.cdl_statements.specs.ListedTokens.{Passes}
+use Rattle.cdl_statements.specs.NumberLists.{reached}
+use Rattle.cdl_statements.specs.Pieces.{role_of}
+use Rattle.cdl_statements.specs.Views.{lexeme_with}
+use Rattle.cdl_statements.proofs.ListedTokens.{passes}
+use Rattle.cdl_statements.proofs.number_list.NumberList.number_and_comma.Goals as goal
+
+pub returns-clause-passes : goal.returns-clause-passes
+returns-clause-passes c =
+    let old = c.args.self.now in
+    let s = reached old in
+    let rest = reached (record { start = old.start; scanner = c.number_and_comma.new.self }) in
+    let l = c.in_ok-listed.listed in
+    let e = c.in_ok-listed.ensures in
+    let text = scanners.text_of old.scanner in
+    record {
+      bytes = raw text l.number;
+      says = e.listed.says;
+      passes = subst (λ (k : TokenKind). Passes s rest (lexeme_with k (raw text l.number))) e.listed.number
+          (passes s rest l.number l.comma c.requires e.tokens e.text refl (sym e.before) refl refl (ap (λ k. role_of k (raw text l.number)) e.listed.number) e.listed.comma e.moves);
+    }

@@ -1,0 +1,43 @@
+-- What the tokens of a statement say.
+use Rattle.std.specs.Prelude.{ℕ, Bool, true, false, List, ◌&&◌, ◌==◌, not, if◌then◌else◌, slice_index, Option, None, Some}
+use Rattle.std.specs.Str.{bytes_eq}
+use Rattle.cdl_tokens.specs.Escapes.{word_value}
+use Rattle.cdl_tokens.specs.Tokens.{raw}
+use Rattle.cdl_statements.specs.Pieces.{role_of}
+use Rattle.cdl_statements.specs.declared.piece.Role.{Role}
+use Rattle.cdl_tokens.specs.declared.token.Token.{Token}
+use Rattle.cdl_tokens.specs.declared.token.TokenKind.{TokenKind}
+use Rattle.cdl_tokens.specs.declared.token.TokenKind.TheVariants as kinds
+use Rattle.nc_base.specs.Escapes.{is_reserved}
+
+-- a token without its place: its kind and its bytes
+pub record Lexeme : Type 0 where
+  pub kind : TokenKind
+  pub bytes : List ℕ
+
+abbrev pub lexeme : List ℕ → Token → Lexeme
+lexeme text t = record { kind = t.kind; bytes = raw text t }
+
+-- what it is where the tokens are cut into pieces
+abbrev pub role : Lexeme → Role
+role l = role_of l.kind l.bytes
+
+abbrev pub is_word_kind : TokenKind → Bool
+is_word_kind kinds.Word = true
+is_word_kind _ = false
+
+abbrev pub is_mark_kind : TokenKind → Bool
+is_mark_kind kinds.Mark = true
+is_mark_kind _ = false
+
+-- a mark of this byte
+abbrev pub is_mark : ℕ → Lexeme → Bool
+is_mark b l = is_mark_kind l.kind && slice_index l.bytes 0 == b
+
+-- a word of these bytes, none of them escaped
+abbrev pub is_word : List ℕ → Lexeme → Bool
+is_word word l = is_word_kind l.kind && bytes_eq l.bytes word
+
+-- NAME: a word that isn't an unescaped reserved word
+unfoldable pub name_of : Lexeme → Option (List ℕ)
+name_of l = if is_word_kind l.kind && not (is_reserved l.bytes) then Some (word_value l.bytes) else None

@@ -1,0 +1,200 @@
+-- The shapes of statements.
+use Rattle.std.specs.Prelude.{ℕ, ℤ, Bool, true, false, List, [], ◌∷◌, ◌&&◌, ◌||◌, not, if◌then◌else◌, codes, Option, None, Some, is_none, nat_lt}
+use Rattle.std.specs.Option.{option_map, option_and_then}
+use Rattle.cdl_tokens.specs.Escapes.{inner, stands}
+use Rattle.cdl_statements.specs.Lexemes.{Lexeme, is_mark, is_word, is_word_kind, name_of}
+use Rattle.cdl_tokens.specs.Numerals.{Numeral, numeral}
+use Rattle.cdl_tokens.specs.declared.token.TokenKind.{TokenKind}
+use Rattle.cdl_tokens.specs.declared.token.TokenKind.TheVariants as kinds
+use Rattle.cdl_statements.specs.declared.fault.CdlKind.{CdlKind}
+use Rattle.cdl_statements.specs.declared.fault.CdlKind.TheVariants.{BadToken, BadNumber}
+use Rattle.nc_base.specs.declared.version.Version.{Version}
+use Rattle.cdl_statements.specs.declared.section.Section.{Section}
+use Rattle.cdl_statements.specs.declared.section.Section.TheVariants.{Unopened, Globals, Dimensions, Variables, Values, Closed, Ended}
+
+-- a listed constant or value
+pub data Value : Type 0 where
+  Number : (n : Numeral) → Value
+  Characters : (bytes : List ℕ) → Value
+  Underscore : Value
+
+pub record Dimension : Type 0 where
+  pub name : List ℕ
+  -- None: the record dimension
+  pub len : Option ℤ
+
+pub record Variable : Type 0 where
+  pub name : List ℕ
+  pub dimensions : List (List ℕ)
+
+pub data Statement : Type 0 where
+  Opening : Statement
+  Mark : (section : Section) → Statement
+  Declared : (dimensions : List Dimension) → Statement
+  Typed : (ty : Lexeme) (variables : List Variable) → Statement
+  -- None: a global attribute
+  Attribute : (variable : Option (List ℕ)) (name : List ℕ) (constants : List Value) → Statement
+  Listed : (variable : List ℕ) (values : List Value) → Statement
+  Brace : Statement
+  End : Statement
+
+-- a Bad token, or a number token that is no number
+abbrev pub token_fault : Version → TokenKind → List ℕ → Option CdlKind
+token_fault v kinds.Bad bytes = Some BadToken
+token_fault v kinds.Number bytes = if is_none (numeral v bytes) then Some BadNumber else None
+token_fault v _ bytes = None
+
+-- the first, or else the second
+abbrev pub either : {A : Type 0} → Option A → Option A → Option A
+either None b = b
+either (Some a) b = Some a
+
+-- the first Bad token or bad number from the left
+abbrev pub first_bad : Version → List Lexeme → Option CdlKind
+first_bad v [] = None
+first_bad v (l ∷ ls) = either (token_fault v l.kind l.bytes) (first_bad v ls)
+
+-- each member has its shape
+abbrev pub both : {A B C : Type 0} → (A → B → C) → Option A → Option B → Option C
+both f None b = None
+both f (Some a) None = None
+both f (Some a) (Some b) = Some (f a b)
+
+abbrev pub each : {A B : Type 0} → (A → Option B) → List A → Option (List B)
+each f [] = Some []
+each f (x ∷ xs) = both (λ y ys. y ∷ ys) (f x) (each f xs)
+
+-- what is joined by commas; commas in parentheses join nothing here
+abbrev pub into_first : Lexeme → List (List Lexeme) → List (List Lexeme)
+into_first l [] = (l ∷ []) ∷ []
+into_first l (m ∷ ms) = (l ∷ m) ∷ ms
+
+abbrev pub members_in : Bool → List Lexeme → List (List Lexeme)
+members_in parens [] = [] ∷ []
+members_in parens (l ∷ ls) =
+    elim (is_mark 0x2c l && not parens) [
+      | true ↦ [] ∷ members_in parens ls
+      | false ↦ into_first l (members_in (is_mark 0x28 l || parens && not (is_mark 0x29 l)) ls)
+    ]
+
+abbrev pub members : List Lexeme → List (List Lexeme)
+members ls = members_in false ls
+
+-- where b holds
+abbrev pub given : {A : Type 0} → Bool → Option A → Option A
+given true a = a
+given false a = None
+
+-- NUMBER, or an unescaped `unlimited` or `UNLIMITED`
+abbrev pub numeral_of : Version → Lexeme → TokenKind → Option Numeral
+numeral_of v l kinds.Number = numeral v l.bytes
+numeral_of v l _ = None
+
+abbrev pub length_of : Version → Lexeme → Option (Option ℤ)
+length_of v l = if is_word (codes "unlimited") l || is_word (codes "UNLIMITED") l then Some None else option_map (λ (n : Numeral). Some n.value) (numeral_of v l l.kind)
+
+-- NAME = NUMBER
+abbrev pub dimension : Version → Lexeme → Lexeme → Lexeme → Option Dimension
+dimension v n e l = given (is_mark 0x3d e) (both (λ name len. record { name = name; len = len }) (name_of n) (length_of v l))
+
+-- joined by commas
+abbrev pub dimensions : Version → List Lexeme → Option (List Dimension)
+dimensions v (n ∷ e ∷ l ∷ []) = both (λ d ds. d ∷ ds) (dimension v n e l) (Some [])
+dimensions v (n ∷ e ∷ l ∷ c ∷ ls) = given (is_mark 0x2c c) (both (λ d ds. d ∷ ds) (dimension v n e l) (dimensions v ls))
+dimensions v _ = None
+
+-- CONST, or where `_` is taken VALUE
+abbrev pub constant_of : Version → Bool → Lexeme → TokenKind → Option Value
+constant_of v takes_fill l kinds.Number = option_map Number (numeral v l.bytes)
+constant_of v takes_fill l kinds.Text = Some (Characters (stands (inner l.bytes)))
+constant_of v takes_fill l _ = given (takes_fill && is_word (codes "_") l) (Some Underscore)
+
+abbrev pub constant : Version → Bool → Lexeme → Option Value
+constant v takes_fill l = constant_of v takes_fill l l.kind
+
+-- joined by commas
+abbrev pub constants : Version → Bool → List Lexeme → Option (List Value)
+constants v takes_fill [] = None
+constants v takes_fill (l ∷ []) = both (λ x xs. x ∷ xs) (constant v takes_fill l) (Some [])
+constants v takes_fill (l ∷ c ∷ ls) = given (is_mark 0x2c c) (both (λ x xs. x ∷ xs) (constant v takes_fill l) (constants v takes_fill ls))
+
+abbrev pub name_alone : List Lexeme → Option (List ℕ)
+name_alone (l ∷ []) = name_of l
+name_alone _ = None
+
+-- all but the last, which has to be this mark
+abbrev pub before_mark : ℕ → List Lexeme → Option (List Lexeme)
+before_mark b [] = None
+before_mark b (l ∷ []) = given (is_mark b l) (Some [])
+before_mark b (l ∷ m ∷ ls) = option_map (λ xs. l ∷ xs) (before_mark b (m ∷ ls))
+
+-- NAME, or NAME (NAME, ..)
+abbrev pub variable : List Lexeme → Option Variable
+variable [] = None
+variable (n ∷ []) = option_map (λ name. record { name = name; dimensions = [] }) (name_of n)
+variable (n ∷ p ∷ ls) =
+    given (is_mark 0x28 p) (both (λ name ds. record { name = name; dimensions = ds }) (name_of n) (option_and_then (λ inner. each name_alone (members inner)) (before_mark 0x29 ls)))
+
+-- NAME = CONST, ..
+abbrev pub assigned : {A : Type 0} → Version → Bool → (List ℕ → List Value → A) → List Lexeme → Option A
+assigned v takes_fill f (n ∷ e ∷ ls) = given (is_mark 0x3d e) (both f (name_of n) (constants v takes_fill ls))
+assigned v takes_fill f _ = None
+
+abbrev pub global : Version → List Lexeme → Option Statement
+global v (c ∷ ls) = given (is_mark 0x3a c) (assigned v false (Attribute None) ls)
+global v _ = None
+
+abbrev pub typed : List Lexeme → Option Statement
+typed (ty ∷ ls) = given (is_word_kind ty.kind) (option_map (Typed ty) (each variable (members ls)))
+typed _ = None
+
+abbrev pub attribute : Version → List Lexeme → Option Statement
+attribute v (n ∷ c ∷ ls) = given (is_mark 0x3a c) (option_and_then (λ name. assigned v false (Attribute (Some name)) ls) (name_of n))
+attribute v _ = None
+
+-- a statement without its `;`, by the section
+abbrev pub body : Version → Section → List Lexeme → Option Statement
+body v Globals ls = global v ls
+body v Dimensions ls = either (global v ls) (option_map Declared (dimensions v ls))
+body v Variables ls = either (global v ls) (either (attribute v ls) (typed ls))
+body v Values ls = assigned v true Listed ls
+body v _ ls = None
+
+-- a section mark after the sections before
+abbrev pub section_number : Section → ℕ
+section_number Unopened = 0
+section_number Globals = 1
+section_number Dimensions = 2
+section_number Variables = 3
+section_number Values = 4
+section_number Closed = 5
+section_number Ended = 6
+
+abbrev pub section_of : Lexeme → Option Section
+section_of l = if is_word (codes "dimensions") l then Some Dimensions else (if is_word (codes "variables") l then Some Variables else (if is_word (codes "data") l then Some Values else None))
+
+abbrev pub mark_after : Section → Section → Option Statement
+mark_after before s = given (nat_lt (section_number before) (section_number s)) (Some (Mark s))
+
+abbrev pub section_mark : Section → List Lexeme → Option Statement
+section_mark before (l ∷ c ∷ []) = given (is_mark 0x3a c) (option_and_then (mark_after before) (section_of l))
+section_mark before _ = None
+
+abbrev pub is_kind_opening : TokenKind → Bool
+is_kind_opening kinds.Opening = true
+is_kind_opening _ = false
+
+abbrev pub is_kind_end : TokenKind → Bool
+is_kind_end kinds.End = true
+is_kind_end _ = false
+
+abbrev pub alone : {A : Type 0} → (Lexeme → Bool) → A → List Lexeme → Option A
+alone test a (l ∷ []) = given (test l) (Some a)
+alone test a _ = None
+
+-- a whole piece
+unfoldable pub shape : Version → Section → List Lexeme → Option Statement
+shape v Unopened ls = alone (λ l. is_kind_opening l.kind) Opening ls
+shape v Closed ls = alone (λ l. is_kind_end l.kind) End ls
+shape v Ended ls = None
+shape v section ls = either (alone (is_mark 0x7d) Brace ls) (either (section_mark section ls) (option_and_then (body v section) (before_mark 0x3b ls)))

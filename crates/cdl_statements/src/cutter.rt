@@ -1,0 +1,251 @@
+//! The statements of a text, one at a time.
+
+ghost use Rattle.std.specs.Prelude.{◌≡◌, ◌∷◌, [], None, OnErr, IfOk, IfSome, IsErr, true, false, drop, ◌<◌, if◌then◌else◌};
+ghost use Rattle.cdl_statements.specs.Roles.{role_in};
+ghost use Rattle.cdl_statements.specs.Lexemes.{lexeme};
+ghost use Rattle.cdl_statements.specs.Pieces.{with_first};
+ghost use Rattle.cdl_tokens.specs.Scanners as scanners;
+ghost use Rattle.cdl_statements.specs.Statements.{statements};
+
+use crate::lexeme::Lexeme;
+use crate::piece::{CutState, Role};
+use cdl_tokens::{Numeral, Scanner, Token};
+use nc_base::Version;
+use std::alloc::AllocError;
+
+/// Cuts a text into its statements (the CDL chapter of the NetCDF User's Guide, "CDL Syntax").
+///
+/// [`next`](Cutter::next) hands out a whole statement, [`advance`](Cutter::advance) goes on by one token and takes no
+/// memory.
+#[derive(Clone, Copy)]
+pub struct Cutter<'a> {
+    /// After the next token.
+    scanner: Scanner<'a>,
+    /// The version that the text is read for: it decides which suffixes a number may have.
+    version: Version,
+    next: Token,
+    next_role: Role,
+    state: CutState,
+    done: bool,
+    ghost known: { next_role ≡ role_in (scanners.text_of scanner) next },
+}
+
+impl<'a> Cutter<'a> {
+    ghost use Rattle.cdl_statements.specs.Cutters.{HandsOut, SameText, after, first_line, is_done, next_token, offset_of, pieces_left, text_of, version_of, words};
+    ghost use Rattle.cdl_statements.specs.ListedTokens.{EndsAtScanner, IsAtComma, Passes, PassesNumber, PassesString};
+    ghost use Rattle.cdl_statements.specs.Views.{lexeme_of};
+
+    /// The start of a text.
+    pub fn new(text: &'a [u8], version: Version) -> Cutter<'a>
+        ensures pieces { pieces_left result ≡ statements text.now }
+        ensures text { text_of result ≡ text.now }
+        ensures version { version_of result ≡ version }
+        ensures more { is_done result ≡ false }
+    {
+        let mut scanner = Scanner::new(text);
+        let next = scanner.token();
+        Cutter {
+            scanner,
+            version,
+            next,
+            next_role: Role::of(next, text),
+            state: CutState::Begins,
+            done: false,
+        }
+    }
+
+    /// The version that the text is read for.
+    pub fn version(&self) -> Version
+        ensures { result ≡ version_of self.now }
+    {
+        self.version
+    }
+
+    /// Returns true if no statement is left.
+    pub fn is_done(&self) -> bool
+        ensures { result ≡ is_done self.now }
+    {
+        self.done
+    }
+
+    /// The next token, without its place.
+    #[inline]
+    pub fn lexeme(&self) -> Lexeme<'a>
+        ensures lexeme { lexeme_of result ≡ lexeme (text_of self.now) (next_token self.now) }
+        ensures first { is_done self.now ≡ false → words self.now ≡ lexeme_of result ∷ drop 1 (words self.now) }
+    {
+        Lexeme::of(self.next, self.scanner.text())
+    }
+
+    /// The line of the next statement's first token, from 1 on.
+    pub fn line(&self) -> u64
+        ensures { is_done self.now ≡ false → result ≡ first_line (pieces_left self.now) }
+    {
+        self.next.line
+    }
+
+    /// Fills `into` with the tokens of the next statement, instead of what it had. After the last statement the answer is
+    /// false, and `into` is empty.
+    ///
+    /// # Errors
+    ///
+    /// An allocation failed. Then `into` is empty, and the cutter is where it was.
+    pub fn next(&mut self, into: &mut Vec<Token>) -> Result<bool, AllocError>
+        ensures ok { IfOk result (λ more. HandsOut more (pieces_left self.old) (pieces_left self.new) into.new.items) }
+        ensures err_same { OnErr result (self.new ≡ self.old) }
+        ensures err_empty { OnErr result (into.new.items ≡ []) }
+    {
+        into.clear();
+        if self.done {
+            return Ok(false);
+        }
+        let mut cutter = *self;
+        'piece: loop {
+            let token = cutter.next;
+            let (after, ends) = cutter.advanced();
+            if let Err(refused) = into.push(token) {
+                return emptied(into, refused.into());
+            }
+            cutter = after;
+            if ends {
+                *self = cutter;
+                return Ok(true);
+            }
+        }
+    }
+
+    /// Goes on by one token, and returns true if it was the last of its statement. It does not allocate.
+    #[inline]
+    pub fn advance(&mut self) -> bool
+        requires { is_done self.old ≡ false }
+        ensures same { SameText self.old self.new }
+        ensures pieces { pieces_left self.old ≡ with_first result (next_token self.old) (pieces_left self.new) }
+        ensures words { words self.old ≡ lexeme (text_of self.old) (next_token self.old) ∷ (if result then [] else words self.new) }
+        ensures after { after self.old ≡ (if result then pieces_left self.new else after self.new) }
+        ensures moves { result ≡ false → offset_of self.old < offset_of self.new }
+        ensures goes { result ≡ false → is_done self.new ≡ false }
+    {
+        let following = self.scanner.token();
+        let following_role = Role::of(following, self.scanner.text());
+        let found = self.state.step(self.next_role, following_role);
+        self.done = self.next.kind.is_end();
+        self.state = found.state;
+        self.next = following;
+        self.next_role = following_role;
+        found.ends
+    }
+
+    /// Returns true if a comma comes next, inside of a statement.
+    pub fn is_at_comma(&self) -> bool
+        ensures { result ≡ true → IsAtComma self.now }
+    {
+        !self.done && is_inside(self.state) && self.lexeme().is_mark(b',')
+    }
+
+    /// Goes on past the comma that comes next and a plain number, if another comma follows, and hands out the number. Else the
+    /// cutter stays where it is. It does not allocate.
+    #[inline(always)]
+    pub fn number_and_comma(&mut self) -> Option<Numeral>
+        requires { IsAtComma self.old }
+        ensures passes { IfSome result (λ n. PassesNumber self.old self.new n) }
+        ensures ends { IfSome result (λ n. EndsAtScanner self.new) }
+        ensures stays { result ≡ None → self.new ≡ self.old }
+    {
+        let mut scanner = self.scanner;
+        let listed = scanner.number_and_comma()?;
+        self.go_to(listed.comma, scanner);
+        Some(listed.numeral)
+    }
+
+    /// The same with a string without an escape, of which it hands out the bytes, the quotes among them.
+    #[inline(always)]
+    pub fn string_and_comma(&mut self) -> Option<&'a [u8]>
+        requires { IsAtComma self.old }
+        ensures passes { IfSome result (λ bytes. PassesString self.old self.new bytes.now) }
+        ensures stays { result ≡ None → self.new ≡ self.old }
+    {
+        let mut scanner = self.scanner;
+        let listed = scanner.string_and_comma()?;
+        let bytes = listed.token.bytes(self.scanner.text());
+        self.go_to(listed.comma, scanner);
+        Some(bytes)
+    }
+
+    /// The same with any token that neither begins nor ends a statement.
+    #[inline(always)]
+    pub fn token_and_comma(&mut self) -> Option<Lexeme<'a>>
+        requires { IsAtComma self.old }
+        ensures passes { IfSome result (λ token. Passes self.old self.new (lexeme_of token)) }
+        ensures stays { result ≡ None → self.new ≡ self.old }
+    {
+        let mut scanner = self.scanner;
+        let listed = scanner.token_and_comma()?;
+        let text = self.scanner.text();
+        if !is_other(Role::of(listed.token, text)) {
+            return None;
+        }
+        self.go_to(listed.comma, scanner);
+        Some(Lexeme::of(listed.token, text))
+    }
+
+    /// The scanner, which stands after the next token.
+    #[inline(always)]
+    pub(crate) fn scanner(&self) -> Scanner<'a>
+        ensures { result ≡ self.now.scanner }
+    {
+        self.scanner
+    }
+
+    /// Goes to this comma of the same statement, after which the scanner stands.
+    #[inline(always)]
+    pub(crate) fn go_to(&mut self, comma: Token, scanner: Scanner<'a>)
+        requires { role_in (scanners.text_of scanner) comma ≡ Role.Other }
+        ensures scanner { self.new.scanner ≡ scanner.entry }
+        ensures comma { next_token self.new ≡ comma }
+        ensures state { self.new.state ≡ self.old.state }
+        ensures version { version_of self.new ≡ version_of self.old }
+        ensures done { is_done self.new ≡ is_done self.old }
+    {
+        self.scanner = scanner;
+        self.next = comma;
+        self.next_role = Role::Other;
+    }
+
+    /// The cutter one token on, and whether that token was the last of its statement. It does not allocate.
+    pub fn advanced(self) -> (Cutter<'a>, bool)
+        requires { is_done self ≡ false }
+        ensures same { SameText self.entry result.0 }
+        ensures pieces { pieces_left self.entry ≡ with_first result.1 (next_token self.entry) (pieces_left result.0) }
+        ensures words { words self.entry ≡ lexeme (text_of self.entry) (next_token self.entry) ∷ (if result.1 then [] else words result.0) }
+        ensures after { after self.entry ≡ (if result.1 then pieces_left result.0 else after result.0) }
+        ensures moves { result.1 ≡ false → offset_of self.entry < offset_of result.0 }
+        ensures goes { result.1 ≡ false → is_done result.0 ≡ false }
+    {
+        let mut cutter = self;
+        let ends = cutter.advance();
+        (cutter, ends)
+    }
+}
+
+/// Returns true if the first part of a statement came before.
+fn is_inside(state: CutState) -> bool
+    ensures { result ≡ true → state ≡ CutState.Inside }
+{
+    matches!(state, CutState::Inside)
+}
+
+/// Returns true if such a token neither begins nor ends a statement.
+fn is_other(role: Role) -> bool
+    ensures { result ≡ true → role ≡ Role.Other }
+{
+    matches!(role, Role::Other)
+}
+
+/// Empties the list that could not grow.
+fn emptied(into: &mut Vec<Token>, refusal: AllocError) -> Result<bool, AllocError>
+    ensures empty { into.new.items ≡ [] }
+    ensures err { IsErr result }
+{
+    into.clear();
+    Err(refusal)
+}

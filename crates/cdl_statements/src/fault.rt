@@ -1,0 +1,55 @@
+//! The faults of a CDL text.
+
+/// What is wrong with a CDL text, or with the call that reads it.
+#[derive(Clone, Copy, Debug, PartialEq, Eq)]
+pub enum CdlKind {
+    /// An allocation failed; nothing is said of the text.
+    OutOfMemory,
+    /// Bytes that are no token: an opening without `{`, a string without an end or with a bad escape, or any other byte.
+    BadToken,
+    /// A number token that is no number, or whose suffix the version doesn't have.
+    BadNumber,
+    /// Tokens that are no statement of the section that they stand in.
+    Syntax,
+    /// A name that the format doesn't allow.
+    BadName,
+    /// A name that another dimension, variable or attribute of the same list has.
+    DuplicateName,
+    /// A name that no dimension has.
+    UnknownDimension,
+    /// A name that no variable has.
+    UnknownVariable,
+    /// The type `float`, `real` or `double`.
+    FloatingType,
+    /// A type word that the version doesn't have.
+    UnknownType,
+    /// A dimension of length 0.
+    ZeroDimension,
+    /// A second record dimension.
+    TwoRecordDims,
+    /// The record dimension as a later dimension of a variable than the first.
+    BadShape,
+    /// Constants of different types in one attribute.
+    MixedConstants,
+    /// A number that its type, or a length that its version, doesn't have.
+    NumberRange,
+    /// A string for a variable of numbers, or a number or `_` for one of characters.
+    WrongKind,
+    /// More values, or more rows of characters, than the variable has.
+    TooManyValues,
+    /// A string that is longer than its row, or strings that are longer than their variable.
+    StringTooLong,
+    /// A second list of values of one variable.
+    DuplicateData,
+    /// A slab, a record or an array past its limit.
+    TooLarge,
+}
+
+/// A fault, and where it is.
+#[derive(Clone, Copy, Debug, PartialEq, Eq)]
+pub struct CdlFault {
+    /// The line of the first token of the statement that has it, from 1 on; for `TooLarge` that of the closing brace, and 0
+    /// where memory was refused.
+    pub line: u64,
+    pub kind: CdlKind,
+}

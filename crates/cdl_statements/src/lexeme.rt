@@ -1,0 +1,125 @@
+//! Tokens without their places.
+
+ghost use Rattle.std.specs.Prelude.{◌≡◌};
+ghost use Rattle.cdl_statements.specs.DueTokens.{is_number};
+ghost use Rattle.cdl_statements.specs.Lexemes.{is_mark_kind, is_word_kind};
+
+use crate::section::Section;
+use cdl_tokens::{Token, TokenKind, byte_at};
+use nc_base::is_reserved;
+
+/// A token without its place: its kind and its bytes.
+#[derive(Clone, Copy, Debug)]
+pub struct Lexeme<'a> {
+    pub kind: TokenKind,
+    pub bytes: &'a [u8],
+}
+
+impl<'a> Lexeme<'a> {
+    ghost use Rattle.cdl_statements.specs.DueTokens.{goes_to, is_length, is_name, is_value_of};
+    ghost use Rattle.cdl_statements.specs.Lexemes.{is_mark, is_word, lexeme};
+    ghost use Rattle.cdl_statements.specs.Shapes.{section_of};
+    ghost use Rattle.cdl_statements.specs.Views.{lexeme_of};
+
+    /// A token of this text, without its place.
+    #[inline]
+    pub fn of(token: Token, text: &'a [u8]) -> Lexeme<'a>
+        ensures { lexeme_of result ≡ lexeme text.now token }
+    {
+        Lexeme {
+            kind: token.kind,
+            bytes: token.bytes(text),
+        }
+    }
+
+    /// Returns true if the token is this mark.
+    pub fn is_mark(self, mark: u8) -> bool
+        ensures { result ≡ is_mark mark (lexeme_of self.entry) }
+    {
+        is_mark_kind(self.kind) && byte_at(self.bytes, 0) == mark
+    }
+
+    /// Returns true if the token is this word, none of its bytes escaped.
+    pub fn is_word(self, word: &[u8]) -> bool
+        ensures { result ≡ is_word word.now (lexeme_of self.entry) }
+    {
+        is_word_kind(self.kind) && self.bytes == word
+    }
+
+    /// Returns true if the token is a word.
+    pub fn is_any_word(self) -> bool
+        ensures { result ≡ is_word_kind self.entry.kind }
+    {
+        is_word_kind(self.kind)
+    }
+
+    /// Returns true if the token is a name: a word that isn't an unescaped reserved word.
+    pub fn is_name(self) -> bool
+        ensures { result ≡ is_name (lexeme_of self.entry) }
+    {
+        is_word_kind(self.kind) && !is_reserved(self.bytes)
+    }
+
+    /// Returns true if the token is a number, a string or, where that is taken, an unescaped `_`.
+    pub fn is_value(self, takes_fill: bool) -> bool
+        ensures { result ≡ is_value_of takes_fill (lexeme_of self.entry) self.entry.kind }
+    {
+        match self.kind {
+            TokenKind::Number | TokenKind::Text => true,
+            _ => takes_fill && self.is_word(b"_"),
+        }
+    }
+
+    /// Returns true if the token is the length of a dimension: a number, or an unescaped `unlimited` or `UNLIMITED`.
+    pub fn is_length(self) -> bool
+        ensures { result ≡ is_length (lexeme_of self.entry) }
+    {
+        self.is_word(b"unlimited") || self.is_word(b"UNLIMITED") || is_number(self.kind)
+    }
+
+    /// The section whose mark begins with the token.
+    pub fn section(self) -> Option<Section>
+        ensures { result ≡ section_of (lexeme_of self.entry) }
+    {
+        if self.is_word(b"dimensions") {
+            Some(Section::Dimensions)
+        } else if self.is_word(b"variables") {
+            Some(Section::Variables)
+        } else if self.is_word(b"data") {
+            Some(Section::Values)
+        } else {
+            None
+        }
+    }
+
+    /// Returns true if the token is the word of a section that comes after this one.
+    pub fn goes_to(self, before: Section) -> bool
+        ensures { result ≡ goes_to before (lexeme_of self.entry) }
+    {
+        match self.section() {
+            Some(section) => before.number() < section.number(),
+            None => false,
+        }
+    }
+}
+
+/// Returns true if a token of this kind is a word.
+fn is_word_kind(kind: TokenKind) -> bool
+    ensures { result ≡ is_word_kind kind }
+{
+    matches!(kind, TokenKind::Word)
+}
+
+/// Returns true if a token of this kind is a mark.
+fn is_mark_kind(kind: TokenKind) -> bool
+    ensures { result ≡ is_mark_kind kind }
+{
+    matches!(kind, TokenKind::Mark)
+}
+
+/// Returns true if a token of this kind is a number, good or bad.
+fn is_number(kind: TokenKind) -> bool
+    ensures { result ≡ is_number kind }
+{
+    matches!(kind, TokenKind::Number)
+}

@@ -1,0 +1,93 @@
+//! The first pass over a statement: where it ends, its first bad token, and whether it has its shape.
+
+ghost use Rattle.std.specs.Prelude.{◌≡◌, false, true, is_none, is_some, None, Some};
+ghost use Rattle.cdl_statements.specs.Contents.{statement_said};
+ghost use Rattle.cdl_statements.specs.Cutters.{Follows, is_done, version_of, words};
+ghost use Rattle.cdl_statements.specs.DueTokens.{completes};
+ghost use Rattle.cdl_statements.specs.Shapes.{either, first_bad, shape, token_fault};
+
+use crate::cutter::Cutter;
+use crate::due::Due;
+use crate::fault::CdlKind;
+use crate::lexeme::Lexeme;
+use crate::section::Section;
+use cdl_tokens::{TokenKind, number_of_token};
+use nc_base::Version;
+
+/// What a first pass over a statement finds.
+#[derive(Clone, Copy)]
+pub struct Survey<'a> {
+    /// The fault of its first bad token or bad number.
+    pub bad: Option<CdlKind>,
+    /// It has the shape that was asked for. Where a token is bad, this says nothing.
+    pub shaped: bool,
+    /// The statements after it.
+    pub rest: Cutter<'a>,
+}
+
+/// Passes over the next statement, which stands in this section. It does not allocate.
+pub fn look_over(start: Cutter<'_>, section: Section) -> Survey<'_>
+    requires { is_done start ≡ false }
+    ensures bad { result.bad ≡ first_bad (version_of start.entry) (words start.entry) }
+    ensures shaped { result.bad ≡ None → result.shaped ≡ is_some (shape (version_of start.entry) section (words start.entry)) }
+    ensures says { result.bad ≡ None → result.shaped ≡ true → shape (version_of start.entry) section (words start.entry) ≡ Some (statement_said (version_of start.entry) section (words start.entry)) }
+    ensures table { result.shaped ≡ completes (Due.First section) (words start.entry) }
+    ensures rest { Follows start.entry result.rest }
+{
+    first_pass(start, Due::First(section))
+}
+
+/// Passes over the next statement, of which this token comes first. It does not allocate.
+pub fn first_pass(start: Cutter<'_>, first: Due) -> Survey<'_>
+    requires { is_done start ≡ false }
+    ensures bad { result.bad ≡ first_bad (version_of start.entry) (words start.entry) }
+    ensures shaped { result.shaped ≡ completes first (words start.entry) }
+    ensures rest { Follows start.entry result.rest }
+{
+    let version = start.version();
+    let mut cutter = start;
+    let mut bad = None;
+    let mut due = first;
+    'tokens: loop {
+        let token = cutter.lexeme();
+        bad = either(bad, token_fault(version, token));
+        due = due.after(token);
+        let ends = cutter.advance();
+        if ends {
+            return Survey {
+                bad,
+                shaped: due.is_whole(),
+                rest: cutter,
+            };
+        }
+    }
+}
+
+/// The fault of a token by itself: that of a bad token or a bad number.
+pub fn token_fault(version: Version, token: Lexeme<'_>) -> Option<CdlKind>
+    ensures { result ≡ token_fault version token.entry.kind token.entry.bytes.now }
+{
+    match token.kind {
+        TokenKind::Bad => Some(CdlKind::BadToken),
+        TokenKind::Number => number_fault(version, token.bytes),
+        _ => None,
+    }
+}
+
+/// The fault of a number token.
+fn number_fault(version: Version, bytes: &[u8]) -> Option<CdlKind>
+    ensures { result ≡ token_fault version TokenKind.Number bytes.now }
+{
+    if number_of_token(version, bytes).is_none() {
+        Some(CdlKind::BadNumber)
+    } else {
+        None
+    }
+}
+
+/// The first of two faults.
+fn either(a: Option<CdlKind>, b: Option<CdlKind>) -> Option<CdlKind>
+    ensures { result ≡ either a b }
+{
+    a.or(b)
+}

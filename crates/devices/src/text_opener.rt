@@ -1,0 +1,41 @@
+//! What opens paths as texts.
+
+ghost use Rattle.std.specs.Prelude.{◌≡◌, Bool, List, ℕ, Option, IfOk};
+ghost use Rattle.devices.specs.Openers.{HasBack, OpenerView, OpensOnce};
+ghost use Rattle.devices.specs.Readers.{view_of};
+ghost use Rattle.devices.specs.TextOpeners.{OpensText};
+
+use crate::{CountedRead, OpenFailed};
+use std::io::Read;
+
+/// What opens paths as texts, which are read from their beginning to their end.
+///
+/// Contracts see how often it was to open a path, and how often the texts have failed that it has back. Where it is transparent,
+/// they also know which bytes a path names, and which paths can't be opened.
+pub trait TextOpener {
+    /// What a path is opened as.
+    type Text: Read + Drop;
+
+    // Its texts are transparent.
+    ghost is_transparent: { Bool };
+
+    // The bytes that a path names, if it can be opened, where they are transparent.
+    ghost named: { Self → List ℕ → Option (List ℕ) };
+
+    // The opener as contracts see it.
+    ghost view: { Self → OpenerView };
+
+    /// Opens the path as a text.
+    ///
+    /// # Errors
+    ///
+    /// The path can't be opened.
+    fn open_text(&mut self, path: &str) -> Result<CountedRead<Self::Text>, OpenFailed>
+        ensures once { OpensOnce (view self.old) (view self.new) }
+        ensures failures { IfOk result (λ text. (view_of Self.Text.remaining text).failures ≡ 0) }
+        ensures bytes { OpensText is_transparent Self.Text.remaining (named self.old path.now) result };
+
+    /// Takes back a text that it opened.
+    fn close_text(&mut self, text: CountedRead<Self::Text>)
+        ensures { HasBack (view self.old) (view self.new) (view_of Self.Text.remaining text).failures };
+}

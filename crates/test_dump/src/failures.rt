@@ -1,0 +1,200 @@
+//! Dumps from sources and into sinks that fail at each place in turn.
+
+use crate::files;
+use crate::rows::{
+    NO_RECORDS, ONE_VARIABLE, ROWS, Row, SELECTION, SELECTION_TEXT, TWO_RECORDS, is_same,
+};
+use crate::runs::{DumpRow, WHOLE, Want, dumped, dumps_through, options_of};
+use nc_file::{DripSource, FailWhen, MemSink, MemSource, SliceSink};
+use ncdump::{DumpFault, DumpOptions};
+use std::alloc::Global;
+use std::process::Abort;
+use std::test::Fail;
+
+/// Fails unless all of the text was written, or reading has failed with nothing written, or the head, whole variables and the
+/// values of one up to a value. Returns true if reading has failed.
+fn has_stopped_reading(
+    rt: &impl Abort,
+    row: &Row<'_>,
+    answer: Result<(), DumpFault>,
+    written: usize,
+    handed: u128,
+) -> bool {
+    let about = row.dump.about;
+    match answer {
+        Ok(()) => {
+            assert!(rt; written == row.dump.text.len(), "{about}");
+            false
+        }
+        Err(fault) => {
+            assert!(rt; fault == DumpFault::ReadFailed, "{about}");
+            assert!(rt; row.may_stop_reading(written, handed), "{about}");
+            true
+        }
+    }
+}
+
+/// Dumps through a buffer of 16 bytes, from a source that fails so, and returns true if it did. A prefix of the text is written
+/// then, and little more is read than that.
+fn fails_to_read(
+    rt: &impl Abort,
+    alloc: Global,
+    row: &Row<'_>,
+    options: &DumpOptions,
+    step: usize,
+    fail: FailWhen,
+) -> bool {
+    assert!(rt; 1 <= step);
+    let mut source = DripSource::new(row.dump.bytes, step, fail);
+    let mut sink = MemSink::new(alloc);
+    let answer = dumped(alloc, &mut source, options, &mut sink);
+    let handed = source.handed();
+    assert!(rt; handed <= row.most_read());
+    assert!(rt; row.dump.text.starts_with(sink.as_slice()));
+    has_stopped_reading(rt, row, answer, sink.as_slice().len(), handed)
+}
+
+/// Each read fails in turn, until none is left.
+fn each_read_fails(
+    rt: &impl Abort,
+    alloc: Global,
+    row: &Row<'_>,
+    options: &DumpOptions,
+    step: usize,
+) {
+    for n in 0..1000 {
+        if !fails_to_read(rt, alloc, row, options, step, FailWhen::Read(n)) {
+            assert!(rt; n > 0);
+            return;
+        }
+    }
+    assert!(rt; false);
+}
+
+/// Fails unless as much of the text was written as there was room for, and no more was read than that takes.
+fn has_filled(
+    rt: &impl Abort,
+    row: &Row<'_>,
+    room: usize,
+    answer: Result<(), DumpFault>,
+    taken: &[u8],
+    handed: u128,
+) {
+    let about = row.dump.about;
+    assert!(rt; handed <= row.most_read(), "{about}");
+    if room < row.dump.text.len() {
+        assert!(rt; answer == Err(DumpFault::WriteFailed), "{about}");
+        assert!(rt; row.may_stop_writing(room, handed), "{about}");
+        assert!(rt; is_same(taken, &row.dump.text[..room]), "{about}");
+    } else {
+        assert!(rt; answer == Ok(()), "{about}");
+        assert!(rt; is_same(taken, row.dump.text), "{about}");
+    }
+}
+
+/// Dumps into a slice of this length: as much of the text as it has room for is written.
+fn fails_to_write(
+    rt: &impl Abort,
+    alloc: Global,
+    row: &Row<'_>,
+    options: &DumpOptions,
+    room: usize,
+    step: usize,
+) -> Result<(), Fail> {
+    assert!(rt; 1 <= step);
+    let mut into = Vec::from_elem(alloc, 0, room)?;
+    let mut sink = SliceSink::new(into.as_mut_slice(), step);
+    let mut source = DripSource::new(row.dump.bytes, step, FailWhen::Never);
+    let answer = dumped(alloc, &mut source, options, &mut sink);
+    has_filled(rt, row, room, answer, sink.taken(), source.handed());
+    Ok(())
+}
+
+/// Each read and each write fails in turn, with devices of one byte a call and of seven.
+fn each_call_fails(rt: &impl Abort, alloc: Global, row: &Row<'_>) -> Result<(), Fail> {
+    let options = options_of(alloc, &row.dump)?;
+    for step in [1, 7] {
+        each_read_fails(rt, alloc, row, &options, step);
+        for room in 0..=row.dump.text.len() {
+            fails_to_write(rt, alloc, row, &options, room, step)?;
+        }
+    }
+    Ok(())
+}
+
+#[test]
+fn each_call_of_a_dump_fails(rt: HostRuntime) -> Result<(), Fail> {
+    for row in ROWS {
+        each_call_fails(&rt, rt.alloc(), &row)?;
+    }
+    Ok(())
+}
+
+#[test]
+fn selections_through_every_buffer(rt: HostRuntime) -> Result<(), Fail> {
+    let options = options_of(rt.alloc(), &SELECTION)?;
+    let want = Want {
+        about: "a selection",
+        options: &options,
+        answer: Ok(()),
+        text: SELECTION_TEXT,
+    };
+    for buffer_len in 16..41 {
+        for step in 1..10 {
+            let mut source = DripSource::new(files::THREE_VARIABLES, step, FailWhen::Never);
+            dumps_through(&rt, rt.alloc(), &mut source, buffer_len, &want);
+            assert!(rt; source.handed() <= 180 + 32 + buffer_len as u128);
+        }
+    }
+    Ok(())
+}
+
+#[test]
+fn failing_source(rt: HostRuntime) -> Result<(), Fail> {
+    const PREFIX: &[u8] =
+        b"netcdf t {\ndimensions:\n\tx = 3 ;\nvariables:\n\tshort s(x) ;\ndata:\n\n s =";
+    let options = options_of(rt.alloc(), &WHOLE)?;
+    let want = Want {
+        about: "a prefix",
+        options: &options,
+        answer: Err(DumpFault::ReadFailed),
+        text: PREFIX,
+    };
+    let mut source = DripSource::new(files::GENERATED, 4096, FailWhen::From(80));
+    dumps_through(&rt, rt.alloc(), &mut source, 16, &want);
+    Ok(())
+}
+
+/// Dumps into a slice that has too little room for the text: as much of it as there is room for is written.
+fn cut_off(
+    rt: &impl Abort,
+    alloc: Global,
+    row: &DumpRow<'_>,
+    room: usize,
+    step: usize,
+) -> Result<(), Fail> {
+    assert!(rt; 1 <= step && room < row.text.len());
+    let mut into = Vec::from_elem(alloc, 0, room)?;
+    let mut sink = SliceSink::new(into.as_mut_slice(), step);
+    let mut source = MemSource::new(row.bytes);
+    let options = options_of(alloc, row)?;
+    let answer = dumped(alloc, &mut source, &options, &mut sink);
+    assert!(rt; answer == Err(DumpFault::WriteFailed));
+    assert!(rt; is_same(sink.taken(), &row.text[..room]));
+    Ok(())
+}
+
+#[test]
+fn failing_sinks(rt: HostRuntime) -> Result<(), Fail> {
+    const STEPS: [(DumpRow<'static>, usize); 3] = [
+        (TWO_RECORDS, 1),
+        (TWO_RECORDS, 3),
+        (NO_RECORDS, 7),
+    ];
+    for (row, step) in STEPS {
+        for room in 0..row.text.len() {
+            cut_off(&rt, rt.alloc(), &row, room, step)?;
+        }
+    }
+    cut_off(&rt, rt.alloc(), &ONE_VARIABLE, 12, 12)
+}

@@ -1,0 +1,172 @@
+//! The values of statements of the data section, and the lengths and names of dimensions.
+
+use crate::name_indices::index_of;
+use cdl_parse::{Dimensions, dim_len, read_dimensions};
+use cdl_statements::{CdlKind, Cutter, Due, first_pass};
+use cdl_tokens::Numeral;
+use cdl_values::{Fill, Filling, ReadError, Target, read};
+use nc_base::{NcType, Version};
+use std::alloc::Global;
+use std::process::Abort;
+use std::test::*;
+
+/// The variables of the rows below: their names, and what they take.
+const NAMES: [&[u8]; 5] = [b"v", b"c", b"r", b"u", b"g"];
+
+/// The bytes that a statement of the data section gives to its variable: `v` has three shorts, `c` four characters, `r`
+/// two rows of three, `u` any number of ints, and `g` has its values.
+fn values_of(alloc: Global, text: &[u8]) -> Result<Vec<u8>, ReadError> {
+    let short = Filling::Numbers(Fill::new(NcType::Short, -32767));
+    let int = Filling::Numbers(Fill::new(NcType::Int, -2147483647));
+    let targets = [
+        Target {
+            filling: short,
+            capacity: Some(3),
+            given: false,
+        },
+        Target {
+            filling: Filling::Joined,
+            capacity: Some(4),
+            given: false,
+        },
+        Target {
+            filling: Filling::Rows { len: 3, fill: 0 },
+            capacity: Some(2),
+            given: false,
+        },
+        Target {
+            filling: int,
+            capacity: None,
+            given: false,
+        },
+        Target {
+            filling: short,
+            capacity: Some(3),
+            given: true,
+        },
+    ];
+    let index = index_of(alloc, &NAMES)?;
+    let given = read(alloc, &index, &targets, Cutter::new(text, Version::Cdf1))?;
+    Ok(given.array.into_bytes(alloc, 0)?)
+}
+
+/// Fails unless the statement gives these bytes to its variable, or has this fault.
+fn expect_values(rt: &impl Abort, alloc: Global, text: &[u8], want: Result<&[u8], CdlKind>) {
+    match (values_of(alloc, text), want) {
+        (Ok(bytes), Ok(want)) => assert!(rt; bytes.as_slice() == want, "{text:?}"),
+        (Err(ReadError::Fault(kind)), Err(want)) => assert!(rt; kind == want, "{kind:?}: {text:?}"),
+        _ => assert!(rt; false, "{text:?}"),
+    }
+}
+
+#[test]
+fn values_are_packed_up_to_their_first_fault(rt: HostRuntime) {
+    const ROWS: [(&[u8], Result<&[u8], CdlKind>); 26] = [
+        (b"v = 1, -2, _ ;", Ok(b"\x00\x01\xff\xfe\x80\x01")),
+        (b"v = 0x7fff, -32768 ;", Ok(b"\x7f\xff\x80\x00")),
+        (b"v = 1b ;", Ok(b"\x00\x01")),
+        (
+            b"u = 017, 2147483647 ;",
+            Ok(b"\x00\x00\x00\x0f\x7f\xff\xff\xff"),
+        ),
+        (b"c = \"ab\", \"c\" ;", Ok(b"abc")),
+        (b"c = \"\\x41\\0\" ;", Ok(b"A\x00")),
+        (b"r = \"ab\", \"c\" ;", Ok(b"ab\x00c\x00\x00")),
+        (b"\\v = 5 ;", Ok(b"\x00\x05")),
+        (b"v = 1, 40000, % ;", Err(CdlKind::BadToken)),
+        (b"w = 1 08 ;", Err(CdlKind::BadNumber)),
+        (b"v = 1ub ;", Err(CdlKind::BadNumber)),
+        (b"w = 1, ;", Err(CdlKind::Syntax)),
+        (b"v = 1", Err(CdlKind::Syntax)),
+        (b"int = 1 ;", Err(CdlKind::Syntax)),
+        (b"a\\/b = 40000 ;", Err(CdlKind::BadName)),
+        (b"w = \"a\" ;", Err(CdlKind::UnknownVariable)),
+        (b"g = \"a\" ;", Err(CdlKind::DuplicateData)),
+        (b"v = \"a\", 40000 ;", Err(CdlKind::WrongKind)),
+        (b"c = _ ;", Err(CdlKind::WrongKind)),
+        (b"v = 1, 2, 3, 40000 ;", Err(CdlKind::TooManyValues)),
+        (b"r = \"a\", \"b\", \"abcd\" ;", Err(CdlKind::TooManyValues)),
+        (b"c = \"abc\", \"de\", 1 ;", Err(CdlKind::StringTooLong)),
+        (b"r = \"abcd\", 1 ;", Err(CdlKind::StringTooLong)),
+        (b"v = 32768, \"a\" ;", Err(CdlKind::NumberRange)),
+        (b"v = -32769 ;", Err(CdlKind::NumberRange)),
+        (b"u = 100000000000000000000000 ;", Err(CdlKind::NumberRange)),
+    ];
+    for (text, want) in ROWS {
+        expect_values(&rt, rt.alloc(), text, want);
+    }
+}
+
+#[test]
+fn dimensions_have_lengths(rt: HostRuntime) {
+    const ROWS: [(Version, Option<u64>, Result<u64, CdlKind>); 5] = [
+        (Version::Cdf1, Some(0), Err(CdlKind::ZeroDimension)),
+        (Version::Cdf1, Some(2147483647), Ok(2147483647)),
+        (Version::Cdf1, Some(2147483648), Err(CdlKind::NumberRange)),
+        (Version::Cdf5, Some(2147483648), Ok(2147483648)),
+        (Version::Cdf5, None, Err(CdlKind::NumberRange)),
+    ];
+    for (version, magnitude, want) in ROWS {
+        let number = Numeral {
+            minus: false,
+            magnitude,
+            ty: NcType::Int,
+        };
+        assert_eq!(rt; dim_len(version, true, Some(number)), want);
+    }
+    // one dimension is unlimited
+    assert!(rt; dim_len(Version::Cdf5, true, None) == Err(CdlKind::TwoRecordDims));
+    assert!(rt; dim_len(Version::Cdf1, false, None) == Ok(0));
+}
+
+/// Reads the dimensions of a statement `NAME = LENGTH, .. ;`.
+fn add_dimensions(alloc: Global, dims: &mut Dimensions, text: &[u8]) -> Result<(), ReadError> {
+    let start = Cutter::new(text, Version::Cdf1);
+    let found = first_pass(start, Due::DimensionName);
+    match found.bad {
+        Some(kind) => return Err(ReadError::Fault(kind)),
+        None => {}
+    }
+    if !found.shaped {
+        return Err(ReadError::Fault(CdlKind::Syntax));
+    }
+    read_dimensions(alloc, dims, start)
+}
+
+/// Fails unless the statement, after dimensions of these names, has this outcome.
+fn expect_dimension(rt: &impl Abort, alloc: Global, text: &[u8], want: Result<(), ReadError>) {
+    let mut dims = Dimensions::new(alloc);
+    let first = add_dimensions(alloc, &mut dims, b"v = 1, c = 2, r = 3, u = 4, g = 5 ;");
+    assert_eq!(rt; first, Ok(()));
+    let second = add_dimensions(alloc, &mut dims, text);
+    assert!(rt; second == want, "{second:?}: {text:?}");
+}
+
+#[test]
+fn new_dimensions_have_new_names(rt: HostRuntime) -> Result<(), Fail> {
+    const ROWS: [(&[u8], Result<(), ReadError>); 6] = [
+        (b"w = 1 ;", Ok(())),
+        (b"g = 1 ;", Err(ReadError::Fault(CdlKind::DuplicateName))),
+        (b"\\g = 0 ;", Err(ReadError::Fault(CdlKind::DuplicateName))),
+        (b"a\\/b = 1 ;", Err(ReadError::Fault(CdlKind::BadName))),
+        (b"a\\/b = 0 ;", Err(ReadError::Fault(CdlKind::BadName))),
+        (b"w = 0 ;", Err(ReadError::Fault(CdlKind::ZeroDimension))),
+    ];
+    for (text, want) in ROWS {
+        expect_dimension(&rt, rt.alloc(), text, want);
+    }
+    let index = index_of(rt.alloc(), &NAMES)?;
+    assert!(rt; index.find(b"u") == Some(3));
+    assert!(rt; index.find(b"w").is_none());
+    Ok(())
+}
+
+#[test]
+fn names_of_an_index_are_different(rt: HostRuntime) -> Result<(), Fail> {
+    let mut index = index_of(rt.alloc(), &NAMES)?;
+    assert_eq!(rt; index.add(Vec::from_slice(rt.alloc(), b"r")?), Ok(false));
+    assert_eq!(rt; index.add(Vec::from_slice(rt.alloc(), b"x")?), Ok(true));
+    assert!(rt; index.find(b"r") == Some(2));
+    assert!(rt; index.find(b"x") == Some(5));
+    Ok(())
+}
