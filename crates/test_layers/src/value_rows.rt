@@ -57,6 +57,11 @@ pub fn header_of(alloc: Global, row: &Row<'_>) -> Result<Header, AllocError> {
     Ok(header)
 }
 
+/// Cuts after these two values.
+fn two_cuts(first: u32, second: u32) -> u64 {
+    (1u64 << (first % 64)) | (1u64 << (second % 64))
+}
+
 /// Prints the values, cut where the bits say.
 fn print<W: Sink>(
     rt: &impl Abort,
@@ -124,7 +129,7 @@ pub fn shows(
     }
     for first in 0..20 {
         for second in 0..20 {
-            let cuts = (1u64 << first) | (1u64 << second);
+            let cuts = two_cuts(first, second);
             assert!(rt; is_shown(rt, &header, row, cuts), "{about}, row {number}");
         }
     }
