@@ -25,7 +25,7 @@ mod window;
 mod write;
 
 pub use devices::{
-    DripSource, FailWhen, FileSource, IoSink, MemFiles, MemFile, MemSink, MemSource, OpenFailed,
+    DripSource, FailWhen, FileSource, IoSink, MemFile, MemFiles, MemSink, MemSource, OpenFailed,
     Opener, Sink, SinkFailed, SliceSink, Source, SourceFailed, SystemFiles, WriteFailed, put,
 };
 pub use head_fault::HeadFault;

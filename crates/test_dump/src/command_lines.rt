@@ -4,7 +4,7 @@ use crate::files;
 use crate::rows::{COORDINATES_TEXT, GENERATED_TEXT, SELECTION_TEXT};
 use cli_base::OptFault;
 use devices::{Flush, MemSource, OpenFailed, Opener};
-use nc_file::{IoSink, MemFiles, MemFile, SliceSink};
+use nc_file::{IoSink, MemFile, MemFiles, SliceSink};
 use ncdump::{command, options_of, run_with};
 use std::alloc::Global;
 use std::io;

@@ -5,8 +5,7 @@ ghost use Rattle.std.specs.Prelude.{[], ◌≡◌, None, false};
 use crate::invocations::status_of;
 use crate::texts::TEXT;
 use devices::{
-    CloseFailed, CountedRead, CreateFailed, Creator, MemFiles, MemFile, Sink, SinkFailed,
-    SliceSink,
+    CloseFailed, CountedRead, CreateFailed, Creator, MemFile, MemFiles, Sink, SinkFailed, SliceSink,
 };
 use std::alloc::Global;
 use std::process::Abort;

@@ -1,6 +1,6 @@
 //! What the tests of runs have in common: a run on texts and outputs in memory.
 
-use devices::{CountedRead, Creator, MemFiles, MemFile, MadeFiles, SliceSink, TextOpener};
+use devices::{CountedRead, Creator, MadeFiles, MemFile, MemFiles, SliceSink, TextOpener};
 use ncgen::run_with;
 use std::alloc::Global;
 use std::io::Read;

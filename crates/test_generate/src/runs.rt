@@ -4,7 +4,7 @@ use crate::full_disks::{FullDisk, leaves};
 use crate::invocations::{Invocation, Outcome, ends, refuses, status_of};
 use crate::readers::{FailingReader, FailingTexts, WatchedTexts};
 use crate::texts::{FIRST_FILE, REFUSED_TEXT, TEXT};
-use devices::{CountedRead, MemFiles, MemFile, MadeFiles, SliceSink, TextOpener};
+use devices::{CountedRead, MadeFiles, MemFile, MemFiles, SliceSink, TextOpener};
 use std::alloc::Global;
 use std::io::Read;
 use std::process::Abort;

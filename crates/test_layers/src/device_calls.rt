@@ -6,7 +6,7 @@ use crate::device_rows::{
     Read, drip_of, expect_put, expect_read, expect_reads, expect_write, source_of,
 };
 use devices::{
-    CountedRead, FailWhen, FileSource, Flush, IoSink, MemFiles, MemFile, MemSink, MemSource,
+    CountedRead, FailWhen, FileSource, Flush, IoSink, MemFile, MemFiles, MemSink, MemSource,
     OpenFailed, Opener, ReadAhead, Sink, SinkFailed, Source, SourceFailed, SystemFiles,
     WriteFailed,
 };
