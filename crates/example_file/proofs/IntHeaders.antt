@@ -22,7 +22,7 @@ sound-var = record {
   shape = (record { known = omega arith; record_first = λ _. refl }, tt);
   att_count = omega arith;
   atts = All-nil (IsSoundAtt Cdf1);
-  ty = tt;
+  ty = refl;
   slab = omega arith;
 }
 

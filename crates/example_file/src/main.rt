@@ -20,9 +20,13 @@ const VALUES: [i32; 3] = [100, 200, 300];
 /// Why the file was not made, or not printed.
 #[derive(Debug, Drop)]
 enum Failure {
+    /// No memory is left for the header or the values.
     OutOfMemory(AllocError),
+    /// A begin doesn't fit its field.
     Begin(OffsetTooLarge),
+    /// The sink failed.
     Write(WriteFailed),
+    /// Standard output fails.
     Print(io::Error),
 }
 

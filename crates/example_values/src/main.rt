@@ -37,10 +37,15 @@ const FILE: &[u8] = &[
 /// Why the values were not printed.
 #[derive(Debug, Drop)]
 enum Failure {
+    /// The words of the command line can't be read, standard output fails, or no memory is left for them.
     Io(io::Error),
+    /// The path can't be opened.
     Open(OpenFailed),
+    /// The header can't be read.
     Header(HeadFault),
+    /// No variable of the file has the type int.
     NoIntVariable,
+    /// A value can't be read.
     Values(WalkFault),
 }
 

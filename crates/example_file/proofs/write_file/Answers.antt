@@ -1,4 +1,4 @@
-use Rattle.std.proofs.Common.{rules, ◌≡◌, sym, subst}
+use Rattle.std.proofs.Common.{sym, subst}
 use Rattle.nc_base.specs.Headers.{IsSound}
 use Rattle.example_file.proofs.IntHeaders.{placed, sound}
 use Rattle.example_file.proofs.write_file.Goals as goal
