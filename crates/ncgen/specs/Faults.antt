@@ -2,9 +2,9 @@
 use Rattle.std.specs.Global.{Global}
 use Rattle.std.specs.Prelude.{ℕ, List, [], ◌∷◌, Option, Some, None, String, codes, decimal, string_bytes}
 use Rattle.nc_base.specs.Bytes.{concat_parts}
-use Rattle.cdl_fault_text.specs.declared.fault.CdlFault.{CdlFault}
-use Rattle.cdl_fault_text.specs.declared.fault.CdlKind.{CdlKind}
-use Rattle.cdl_fault_text.specs.declared.fault.CdlKind.TheVariants as cdl
+use Rattle.cdl_statements.specs.declared.fault.CdlFault.{CdlFault}
+use Rattle.cdl_statements.specs.declared.fault.CdlKind.{CdlKind}
+use Rattle.cdl_statements.specs.declared.fault.CdlKind.TheVariants as cdl
 use Rattle.cli_base.specs.declared.fault.OptFault.{OptFault}
 use Rattle.cli_base.specs.declared.fault.OptFault.TheVariants as opt
 use Rattle.ncgen.specs.declared.fault.GenFault.{GenFault}
