@@ -237,12 +237,23 @@ fn expect_cuts(
     Ok(())
 }
 
+/// The same of all cuts of a file.
+fn expect_all_cuts(
+    rt: &impl Abort,
+    alloc: Global,
+    row: &DumpRow<'static>,
+    cuts: &[Cut],
+) -> Result<(), Fail> {
+    for cut in cuts {
+        expect_cuts(rt, alloc, row, *cut)?;
+    }
+    Ok(())
+}
+
 #[test]
 fn truncated_data(rt: HostRuntime) -> Result<(), Fail> {
     for (row, cuts) in CUT_FILES {
-        for cut in cuts {
-            expect_cuts(&rt, rt.alloc(), &row, *cut)?;
-        }
+        expect_all_cuts(&rt, rt.alloc(), &row, cuts)?;
     }
     Ok(())
 }
