@@ -16,6 +16,8 @@ import prover
 from edits import apply
 from prover import CRATES
 
+# a table of many rows may take minutes unproved, on a busy machine
+TRY = ["rt", "try", "--test", "--seconds", "600"]
 RAN = re.compile(r"^test (\S+) \.\.\. .*?(ok|FAILED)$", re.M)
 # a test, from its first line to its closing brace
 TEST = re.compile(r"^(?:///.*\n)*#\[test\]\nfn (\w+)(?:.*\n)*?\}\n", re.M)
@@ -67,7 +69,7 @@ def results_of(crate, tests, edit=None):
         keep_tests(Path(folder), crate, tests)
         if edit:
             apply([edit], Path(folder, "crates", edit.crate))
-        ran = subprocess.run(["rt", "try", "--test"], cwd=Path(folder, "crates", crate), stdin=subprocess.DEVNULL, text=True,
+        ran = subprocess.run(TRY, cwd=Path(folder, "crates", crate), stdin=subprocess.DEVNULL, text=True,
                              stdout=subprocess.PIPE, stderr=subprocess.STDOUT, errors="replace")
     found = dict(RAN.findall(ran.stdout))
     return {it for it in tests if found.get(it) == "ok"}, {it for it in tests if found.get(it) == "FAILED"}, ran.stdout
