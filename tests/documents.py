@@ -4,6 +4,7 @@
     tests/documents.py
 
 - A link to a file leads to one that is there, and a link to a heading to one that stands in its document.
+- A definition that is named by its file, as `File.word`, stands in a file of that name in `specs/`, if there is one.
 - README.md has at most README_LINES lines.
 - Each command of a block of README.md that begins with ```console is run, with bin/ncdump and bin/ncgen, and writes what is printed
   below it, to standard output and standard error together. The commands of a block run one after the other in one empty folder, in which
@@ -11,7 +12,8 @@
 - `man`, `groff` and `mandoc` have no word to say of a manual page; one that isn't installed is skipped.
 - VERSION, the newest version of CHANGELOG.md and the manual pages agree.
 
-The last line is 'N passed, M failed'; a link, a command, a page under a tool, and a file that names the version count as one each.
+The last line is 'N passed, M failed'; a link, a definition, a command, a page under a tool, and a file that names the version count as
+one each.
 """
 
 import os
@@ -33,6 +35,8 @@ TIME = 60
 
 FENCED = re.compile(r"^```(\w*)\n(.*?)^```$", re.M | re.S)
 LINK = re.compile(r"\]\(([^()\s]+)\)")
+# a definition, named by its file
+NAMED = re.compile(r"`([A-Z]\w+)\.(?!antt`)(\w+)`")
 HEADING = re.compile(r"^#+ +(.+?) *$", re.M)
 # each tool that looks at a page, with the words before its path
 TOOLS = [
@@ -63,6 +67,18 @@ def links():
             if not re.match(r"\w+:", link):
                 said = "" if is_there(document, link) else "LEADS NOWHERE"
                 yield f"{document.relative_to(TOP)}: link to {link}", said
+
+
+def definitions():
+    """Each definition that a document names by its file."""
+    files = {}
+    for path in TOP.glob("crates/*/specs/**/*.antt"):
+        files[path.stem] = files.get(path.stem, "") + path.read_text()
+    for document in DOCUMENTS:
+        for file, word in sorted(set(NAMED.findall(document.read_text()))):
+            if file in files:
+                said = "" if re.search(rf"(?<![\w.]){word}\b", files[file]) else "ISN'T THERE"
+                yield f"{document.relative_to(TOP)}: {file}.{word}", said
 
 
 def length():
@@ -137,7 +153,7 @@ def main():
     if missing:
         print(f"{sys.argv[0]}: no {missing[0].relative_to(TOP)}: run make first", file=sys.stderr)
         return 1
-    results = [it for check in (links, length, runs, pages, versions) for it in check()]
+    results = [it for check in (links, definitions, length, runs, pages, versions) for it in check()]
     wrong = [(what, said) for what, said in results if said]
     for what, said in wrong:
         print(f"{what}: {said}")

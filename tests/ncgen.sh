@@ -179,7 +179,7 @@ in_little_time() (
 run in_little_time "$ncgen" -o /dev/null beside.cdl
 verdict records_beside_many_variables 0
 
-# Values that a text doesn't list are written as fill values, and take no memory.
+# Values that a text doesn't list are written as fill values, and do not allocate.
 cdl 'netcdf t {\ndimensions: x = 4294967292 ;\nvariables: byte b(x) ;\n}\n' skeleton.cdl
 run in_little_memory "$ncgen" -k nc5 -o /dev/null skeleton.cdl
 verdict skeleton_of_four_gib 0

@@ -36,7 +36,7 @@ class Trips:
         print(f"dataset {number}: {why}")
 
     def ours(self, number, dataset, options):
-        """Dumps and generates a dataset in the current folder. Says whether the text was read."""
+        """Dumps and generates a dataset in the current folder. Returns true if the text was read."""
         self.made += 1
         Path("first.nc").write_bytes(dataset.file())
         dump = run(BIN / "ncdump", *options, "first.nc")
