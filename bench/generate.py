@@ -3,9 +3,10 @@
 
     bench/generate.py [NAME ...]
 
-It makes the texts, runs both programs in turn, each of which makes the file, and prints for each text its size, the least time of
-each in milliseconds, how many times as fast ours is, how many megabytes of text a second that is, and how many are read where ours
-only checks the text; the most memory that each took, and how much of ours isn't the text and the packed values. Wants GNU time, and bin/ncgen built.
+It makes the texts, and runs both programs in turn on each. For each text it prints its size, the least time of each program in
+milliseconds, how many times as fast ours is, and how many megabytes of text ours reads a second, with an output and without. It
+also prints the most memory that each program took, and how much of ours isn't the text and the packed values. It needs GNU time,
+and bin/ncgen built.
 
 Some texts come in two lengths. The run fails where four times the length takes more than six times as long.
 """

@@ -111,7 +111,7 @@ ROWS = [
     Row("ncgen, ints of 6 and 7 digits", LOOP, 1.3, lambda: read_to_loop(numbers(10**5, 10**7), "int")),
     Row("ncgen, shorts", LOOP, 1.3, lambda: read_to_loop(numbers(-(2**15), 2**15), "short")),
     Row("ncgen, bytes", LOOP, 1.3, lambda: read_to_loop(numbers(-128, 128), "byte")),
-    Row("ncgen, bytes that are 1, without blanks", LOOP, 1.3, lambda: read_to_loop(["1"] * MANY, "byte", ",")),
+    Row("ncgen, bytes that are 1, without white space", LOOP, 1.3, lambda: read_to_loop(["1"] * MANY, "byte", ",")),
     Row("ncgen, int64s of 18 digits", LOOP, 1.3, lambda: read_to_loop(numbers(10**17, 10**18, MANY // 2), "int64", kind="nc5")),
     Row("ncgen, rows of 80 characters", TEXT_BYTE, 8, lambda: a_byte(rows(30_000, 80))),
     Row("ncgen, a string of 10 MB", TEXT_BYTE, 8, lambda: a_byte(string(letters(10 * MB), 10 * MB))),

@@ -139,7 +139,7 @@ FILES = [
     lambda: records("records_100", 100, 10_000),
     lambda: rows("rows", 40_000, 80),
 ]
-# each in two lengths, of which the second has four times the variables
+# each in two lengths; the second has four times the variables
 GROWING = [
     ("variables", lambda n: records(f"variables_{n}", n, 1), (5_000, 20_000)),
     ("more_variables", lambda n: records(f"variables_{n}", n, 1), (10_000, 40_000)),
@@ -148,7 +148,7 @@ GROWING = [
 
 
 def text_of(program, file):
-    """The text without the blanks and line feeds that may stand in lists."""
+    """The text without the spaces and line feeds that lists may have."""
     text = subprocess.run([program, *file.options, file.path], stdout=subprocess.PIPE, check=True).stdout
     return text.translate(None, b" \n")
 

@@ -23,8 +23,8 @@ import prover
 EDITS = prover.TOP / "tests" / "definitions"
 # the crate of the laws that have to refuse an edit which names none
 LAWS = "cdl_laws"
-# the files of worked examples, which no other file cites
-EXAMPLES = ["Examples", "FileExamples", "Samples", "Refused", "Generated", "GeneratedCdf5", "ByteClasses", "TokensOfTexts", "Misplaced", "Meanings"]
+# the folder of a crate's proofs with its worked examples, which no file outside such a folder cites
+EXAMPLES = "examples"
 # what the prover says of a text that it can't read, or that names what isn't there
 UNREAD = re.compile(r"is not in scope|has no field|is no name|operand is missing|expected the end|cannot continue|can be named")
 
@@ -34,11 +34,11 @@ def copy_crate(crate, to):
     for part in ["src", "specs", "proofs"]:
         if (prover.CRATES / crate / part).is_dir():
             shutil.copytree(prover.CRATES / crate / part, to / part)
-    for name in EXAMPLES:
-        (to / "proofs" / f"{name}.antt").unlink(missing_ok=True)
+    shutil.rmtree(to / "proofs" / EXAMPLES, ignore_errors=True)
+    (to / "proofs" / f"{EXAMPLES}.antt").unlink(missing_ok=True)
     lib = to / "proofs" / "Lib.antt"
     if lib.exists():
-        lib.write_text("".join(line for line in lib.read_text().splitlines(True) if line.split()[-1] not in EXAMPLES))
+        lib.write_text("".join(line for line in lib.read_text().splitlines(True) if line.split()[-1] != EXAMPLES))
 
 
 def apply(edit, top):

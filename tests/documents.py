@@ -1,10 +1,16 @@
 #!/usr/bin/env python3
-"""Checks the documents, of which no proof and no test of the programs says that they are right.
+"""Checks the documents, which neither the prover nor the tests of the programs read.
 
-    tests/documents.py
+    tests/documents.py           checks all of the following
+    tests/documents.py --text    the same without the commands of README.md, and so without bin
+    tests/documents.py --lines   writes the numbers of lines, and the words of files for contracts, into docs/PROVED.md
 
 - A link to a file leads to one that is there, and a link to a heading to one that stands in its document.
+- A file of code that is named, with its folders or without, is there.
 - A definition that is named by its file, as `File.word`, stands in a file of that name in `specs/`, if there is one.
+- The first line of each file of `specs/` says its kind, and those for contracts are the ones in `specs/code/`.
+- docs/PROVED.md lists each file of the kind Definition and of the kind Law, under a heading for its kind and with its number of lines;
+  and each word that these files use of a file for contracts.
 - README.md has at most README_LINES lines.
 - Each command of a block of README.md that begins with ```console is run, with bin/ncdump and bin/ncgen, and writes what is printed
   below it, to standard output and standard error together. The commands of a block run one after the other in one empty folder, in which
@@ -12,8 +18,8 @@
 - `man`, `groff` and `mandoc` have no word to say of a manual page; one that isn't installed is skipped.
 - VERSION, the newest version of CHANGELOG.md and the manual pages agree.
 
-The last line is 'N passed, M failed'; a link, a definition, a command, a page under a tool, and a file that names the version count as
-one each.
+The last line is 'N passed, M failed'; a link, a file, a definition, a file of `specs/`, a line of such a list, a command, a page under
+a tool, and a file that names the version count as one each.
 """
 
 import os
@@ -27,6 +33,7 @@ from pathlib import Path
 TOP = Path(__file__).resolve().parent.parent
 README = TOP / "README.md"
 README_LINES = 100
+PROVED = TOP / "docs" / "PROVED.md"
 DOCUMENTS = sorted(TOP.glob("*.md")) + sorted(TOP.glob("docs/*.md"))
 PAGES = sorted(TOP.glob("man/*.[1-8]"))
 PROGRAMS = [TOP / "bin" / "ncdump", TOP / "bin" / "ncgen"]
@@ -35,9 +42,24 @@ TIME = 60
 
 FENCED = re.compile(r"^```(\w*)\n(.*?)^```$", re.M | re.S)
 LINK = re.compile(r"\]\(([^()\s]+)\)")
+# a file of code, but for the name File.antt, which stands for any
+FILE = re.compile(r"`((?!\S*\bFile\.antt)[\w/.]+\.(?:rt|antt|py|sh|c))`")
+# the folders with code
+CODE = ["crates/*/src", "crates/*/specs", "crates/*/proofs", "tests", "bench", "samples"]
 # a definition, named by its file
 NAMED = re.compile(r"`([A-Z]\w+)\.(?!antt`)(\w+)`")
 HEADING = re.compile(r"^#+ +(.+?) *$", re.M)
+# the first line of a file of `specs/`
+KIND = re.compile(r"-- (Definition|Law|For contracts)\. ")
+# what a file of `specs/` uses of a file for contracts
+USED = re.compile(r"^use Rattle\.(\w+)\.specs\.code\.(\w+)(?:\.\{([^}]*)\}| as (\w+))", re.M)
+# a row of PROVED.md for a file of `specs/` that has to be read, and the last row of such a list
+ROW = re.compile(r"(\| \w+ \| \[\w+\]\(\.\./(crates/\w+/specs/\w+\.antt)\) \| )(\d+)( \|.*)")
+SUM = re.compile(r"(\| \| together \| )(\d+)( \|.*)")
+# the head of the list of the words that are used of files for contracts, and its rows
+WORDS = re.compile(r"(?<=^\| Crate \| File \| Words \|\n\|---\|---\|---\|\n)(?:\|.*\n)*", re.M)
+# the heading of the list of laws; the lists above it have definitions
+LAWS = "### The laws"
 # each tool that looks at a page, with the words before its path
 TOOLS = [
     ["man", "--warnings", "-l"],
@@ -47,7 +69,7 @@ TOOLS = [
 
 
 def anchor_of(heading):
-    """What a link calls a heading: in lower case, with hyphens for blanks, and without marks."""
+    """What a link calls a heading: in lower case, with hyphens for spaces, and without marks."""
     return re.sub(r"[^\w\- ]", "", heading.lower()).replace(" ", "-")
 
 
@@ -69,6 +91,15 @@ def links():
                 yield f"{document.relative_to(TOP)}: link to {link}", said
 
 
+def files():
+    """Each file of code that a document names."""
+    paths = [f"/{it.relative_to(TOP).as_posix()}" for folder in CODE for it in TOP.glob(f"{folder}/**/*.*")]
+    for document in DOCUMENTS:
+        for file in sorted(set(FILE.findall(document.read_text()))):
+            said = "" if any(path.endswith(f"/{file}") for path in paths) else "ISN'T THERE"
+            yield f"{document.relative_to(TOP)}: {file}", said
+
+
 def definitions():
     """Each definition that a document names by its file."""
     files = {}
@@ -79,6 +110,70 @@ def definitions():
             if file in files:
                 said = "" if re.search(rf"(?<![\w.]){word}\b", files[file]) else "ISN'T THERE"
                 yield f"{document.relative_to(TOP)}: {file}.{word}", said
+
+
+def specs():
+    """The files of `specs/`, without those that only list modules, and without what is derived from types of the code."""
+    for path in sorted(TOP.glob("crates/*/specs/**/*.antt")):
+        if path.name not in ("Lib.antt", "code.antt") and "declared" not in path.parts:
+            yield path.relative_to(TOP).as_posix(), path.read_text()
+
+
+def kinds():
+    """Each file of `specs/`, with its kind."""
+    for path, text in specs():
+        kind, is_code = KIND.match(text), "/specs/code/" in path
+        if not kind:
+            yield f"{path}: first line", "SAYS NO KIND"
+        else:
+            yield f"{path}: {kind[1]}", "" if is_code == (kind[1] == "For contracts") else "ISN'T OF THE KIND OF ITS FOLDER"
+
+
+def listed_words():
+    """The rows of PROVED.md for the words of files for contracts that definitions and laws use."""
+    words = {}
+    for path, text in specs():
+        if "/specs/code/" not in path:
+            for crate, file, names, alias in USED.findall(text):
+                words.setdefault((crate, file), set()).update(it.strip() for it in (names or alias).split(","))
+    for (crate, file), names in sorted(words.items()):
+        yield f"| {crate} | [{file}](../crates/{crate}/specs/code/{file}.antt) | {', '.join(f'`{it}`' for it in sorted(names))} |"
+
+
+def counted(text):
+    """The text of PROVED.md with the present numbers of lines, their sums, and the words of files for contracts."""
+    lines, total = [], 0
+    for line in WORDS.sub("".join(f"{row}\n" for row in listed_words()), text).splitlines():
+        row, end = ROW.fullmatch(line), SUM.fullmatch(line)
+        if row and (TOP / row[2]).exists():
+            count = len((TOP / row[2]).read_text().splitlines())
+            total += count
+            line = f"{row[1]}{count}{row[4]}"
+        elif end:
+            line = f"{end[1]}{total}{end[3]}"
+        elif not line.startswith("|"):
+            total = 0
+        lines.append(line)
+    return "".join(f"{line}\n" for line in lines)
+
+
+def believed():
+    """Each line of the lists of PROVED.md, and each file that has to be in them."""
+    text = PROVED.read_text()
+    for right in counted(text).splitlines():
+        if ROW.fullmatch(right) or SUM.fullmatch(right):
+            yield f"docs/PROVED.md: {right[:40]}", "" if f"\n{right}\n" in text else f"IS NOW\n{right}"
+    right = "".join(f"{row}\n" for row in listed_words())
+    yield "docs/PROVED.md: words of files for contracts", "" if (WORDS.findall(text) or [""]) == [right] else f"ARE NOW\n{right}"
+    above, _, below = text.partition(f"\n{LAWS}\n")
+    listed = {row[2]: kind for part, kind in ((above, "Definition"), (below, "Law")) for row in ROW.finditer(part)}
+    for path, source in specs():
+        kind = KIND.match(source)
+        if kind and kind[1] != "For contracts":
+            row = f"| {path.split('/')[1]} | [{Path(path).stem}](../{path}) | {len(source.splitlines())} | .. |"
+            yield f"{path}: {kind[1]}", "" if listed.pop(path, None) == kind[1] else f"ISN'T LISTED AS {kind[1]} IN docs/PROVED.md:\n{row}"
+    for path, kind in listed.items():
+        yield f"docs/PROVED.md: {path}", f"IS NO {kind}"
 
 
 def length():
@@ -149,11 +244,17 @@ def versions():
 
 def main():
     """Checks all, and prints what is wrong."""
-    missing = [it for it in PROGRAMS if not os.access(it, os.X_OK)]
-    if missing:
-        print(f"{sys.argv[0]}: no {missing[0].relative_to(TOP)}: run make first", file=sys.stderr)
-        return 1
-    results = [it for check in (links, definitions, length, runs, pages, versions) for it in check()]
+    if sys.argv[1:] == ["--lines"]:
+        PROVED.write_text(counted(PROVED.read_text()))
+        return 0
+    checks = [links, files, definitions, kinds, believed, length, pages, versions]
+    if sys.argv[1:] != ["--text"]:
+        missing = [it for it in PROGRAMS if not os.access(it, os.X_OK)]
+        if missing:
+            print(f"{sys.argv[0]}: no {missing[0].relative_to(TOP)}: run make first", file=sys.stderr)
+            return 1
+        checks.append(runs)
+    results = [it for check in checks for it in check()]
     wrong = [(what, said) for what, said in results if said]
     for what, said in wrong:
         print(f"{what}: {said}")

@@ -18,7 +18,7 @@ class BadEdit(Exception):
 
 
 class Edit:
-    """A wrong body: what it changes, at which places of which files, the functions that stand there, and the test that it names."""
+    """A wrong body: what it changes, where in which files, the functions that it changes, and the test that it names."""
 
     def __init__(self, path):
         self.crate, self.name = path.parent.parent.name, path.stem

@@ -3,8 +3,8 @@
 
     tests/lengths.py [STEP]
 
-The files have one variable of characters, a record each, so nothing is padded. With a STEP, only one of so many lengths is tried, and
-each that is near the end of a buffer.
+The files have one variable of characters, a record each, so nothing is padded. With a STEP, one of STEP lengths is
+tried, and each that is near the end of a buffer.
 The last line is 'N passed, M failed', of stretches of lengths.
 """
 

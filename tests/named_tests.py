@@ -76,7 +76,7 @@ def results_of(crate, tests, edit=None):
 
 
 def told(said):
-    """The line that tells best why a test did not run."""
+    """The line that says best why a test did not run."""
     return next((line for line in said.splitlines() if "error" in line), said[-200:])[:300]
 
 

@@ -254,7 +254,7 @@ far() {
     printf "$(printf '%s' "$1" | sed 's/../\\x&/g')"
 }
 
-# Values past 2 and 4 GiB, in files of which nearly nothing stands on the disk.
+# Values past 2 and 4 GiB, in sparse files.
 for place in 3221225472:00000000c0000000 5368709120:0000000140000000; do
     far "${place#*:}" >far.nc
     truncate -s "${place%:*}" far.nc

@@ -17,16 +17,16 @@ import tempfile
 from pathlib import Path
 
 BIN = Path(__file__).resolve().parent.parent / "bin"
-# seconds of processor time below which no growth is asked for
+# seconds of processor time; a run that took less counts as this
 FLOOR = 0.01
 # how often each time is taken; the least counts
 TIMES = 5
-# letters of which no name is a word of CDL
+# letters whose names are no words of CDL
 LETTERS = "abcdefghjklmnopqrstuvwxyzABCDEFGHIJKLMNOPQRSTUVWXYZ"
 
 
 def name(number):
-    """A name of three letters, of which each number has another."""
+    """A name of three letters, another for each number."""
     more, last = divmod(number, len(LETTERS))
     first, middle = divmod(more, len(LETTERS))
     return LETTERS[first] + LETTERS[middle] + LETTERS[last]

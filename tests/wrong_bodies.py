@@ -19,8 +19,8 @@ goals still fits:
   or one is stored.)
 
 Else only a proof doesn't fit: a stored one names what is gone, or has another type, or the search gave up at one of its limits.
-Then the edit is to name a test, which fails under it. Those that have neither are told, and count as neither passed nor failed: of one
-and the same body the prover may say less where the machine is busy.
+Then the edit is to name a test, which fails under it. An edit with neither is printed, and counts as neither passed nor failed: of
+the same body the prover may say less if the machine is busy.
 
 The second form runs these tests, with the edit and without (`named_tests.py`): those of all edits, or of N edits that the day's
 date draws. The last line of both forms is 'N passed, M failed'.
@@ -87,7 +87,7 @@ class Said:
 
 
 def rounds_of(edits):
-    """The edits in rounds, in each of which no function is changed twice."""
+    """The edits in rounds. No round changes a function twice."""
     rounds = []
     for edit in edits:
         free = next((it for it in rounds if not any(edit.changed & other.changed for other in it)), None)
@@ -106,7 +106,7 @@ def is_of(name, function):
 
 
 def verdict_on(edit, said, found):
-    """Whether an edit was refused, of which these functions are not proved, or None where nothing shows it, and a line on it."""
+    """Whether an edit was refused (None if nothing shows it), and a line on it; `found`: its functions that are not proved."""
     why = next((it for it in map(said.why, found) if it), None)
     if not found:
         return False, f"{edit}: NOT REFUSED: {' '.join(edit.functions)} is still proved"
@@ -118,7 +118,7 @@ def verdict_on(edit, said, found):
 
 
 def judge(crate, edits, text):
-    """Whether each edit of a round was refused, and a line on each; and the edits of which nothing is said yet."""
+    """Whether each edit of a round was refused, and a line on each; and the edits that are still undecided."""
     said = Said(crate, text)
     if not said.verdicts or not text.splitlines()[-1].startswith("only="):
         errors = [line for line in text.splitlines() if "error" in line] or text.splitlines()[-3:]
@@ -183,7 +183,7 @@ def try_crates(crates):
 
 
 def try_tests(count):
-    """Runs the tests that the edits name, or those of so many edits."""
+    """Runs the tests that all edits name, or those of `count` edits."""
     try:
         edits = [it for it in edits_of(crates_with_edits()) if it.test]
     except BadEdit as why:

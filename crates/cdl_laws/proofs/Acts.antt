@@ -1,37 +1,13 @@
 -- What the statements of a dump make of a state.
-use Rattle.std.proofs.Common.{◌≡◌, ℕ, zero, suc, ◌-◌, ◌<◌, ◌≤◌, true, false, List, [], ◌∷◌, ◌++◌, length, map, sym, ◌∙◌, ap, refl, arith, append_assoc, append-nil}
-use Rattle.std.specs.Prelude.{ℤ, pos, unsigned_abs, IsTrue, ◌&&◌, ◌==◌, if◌then◌else◌, nat_lt, nat_le, None, Some, Result, Ok}
-use Rattle.std.specs.List.{flat_map, list_any, position, position_or_len}
-use Rattle.std.specs.Ordering.{int_eq}
-use Rattle.std.specs.Str.{bytes_eq}
-use Rattle.std.proofs.lemmas.Bool.{false≢true, eqb-true}
-use Rattle.std.proofs.lemmas.Bool.Decides.{Decides-int_eq}
-use Rattle.std.proofs.lemmas.Slice.Eq.{bytes_eq-Decides}
-use Rattle.nc_base.specs.declared.header.Att.{Att}
-use Rattle.nc_base.specs.declared.header.Dim.{Dim}
-use Rattle.nc_base.specs.declared.nc_type.NcType.{NcType}
-use Rattle.nc_base.specs.declared.nc_type.NcType.TheVariants.{Byte, Char, Short, Int, Ubyte, Ushort, Uint, Int64, Uint64}
-use Rattle.nc_base.specs.declared.version.Version.{Version}
-use Rattle.nc_base.specs.declared.version.Version.TheVariants.{Cdf1, Cdf2, Cdf5}
-use Rattle.nc_base.specs.Dump.{has_name}
-use Rattle.nc_base.specs.Headers.{has_record_dim, IsDimid, AreDimids}
-use Rattle.nc_base.specs.Names.{IsName, is_name}
-use Rattle.nc_base.specs.Sizes.{is_record_dim}
-use Rattle.nc_base.specs.Types.{type_word}
-use Rattle.nc_base.specs.Versions.{count_limit, has_type}
-use Rattle.cdl_statements.specs.declared.fault.CdlKind.{CdlKind}
-use Rattle.cdl_statements.specs.declared.fault.CdlKind.TheVariants.{UnknownDimension, BadShape}
-use Rattle.cdl_statements.specs.Shapes.{Value, Number, Characters}
-use Rattle.cdl_meaning.specs.State.{Draft, add_dim, dim_len_of, add_dimid, add_var, type_of, add_att, add_constant, first_type, same_type, at_named, at_variable, in_turn, when, found, ◌>>=◌, between, fits}
+use Rattle.std.proofs.Common.{◌≡◌, ℕ, zero, suc, ◌-◌, ◌<◌, ◌≤◌, true, false, List, [], ◌∷◌, ◌++◌, length, map, sym, ◌∙◌, ap, refl, arith, append_assoc, append-nil, ℤ, pos, unsigned_abs, IsTrue, ◌&&◌, ◌==◌, if◌then◌else◌, nat_lt, nat_le, None, Some, Result, Ok}
+use Rattle.cdl_laws.proofs.Prelude.{flat_map, list_any, position, position_or_len, int_eq, bytes_eq, false≢true, eqb-true, Decides-int_eq, bytes_eq-Decides, Att, Dim, NcType, Byte, Char, Short, Int, Ubyte, Ushort, Uint, Int64, Uint64, Version, Cdf1, Cdf2, Cdf5, has_name, has_record_dim, IsDimid, AreDimids, IsName, is_name, is_record_dim, type_word, count_limit, has_type, CdlKind, UnknownDimension, BadShape, Value, Number, Characters, Draft, add_dim, dim_len_of, add_dimid, add_var, type_of, add_att, add_constant, first_type, same_type, at_named, at_variable, in_turn, when, found, between, fits, extent_said, said_dim, AreDistinct, bytes_of_number}
+use Rattle.cdl_meaning.specs.State.{◌>>=◌}
 use Rattle.cdl_laws.proofs.Bools.{and_both, or_left, or_right}
 use Rattle.cdl_laws.proofs.Lists.{Each}
 use Rattle.cdl_laws.proofs.Texts.{word}
 use Rattle.cdl_laws.proofs.Words.{and_false}
 use Rattle.cdl_laws.proofs.ValueTexts.{turn}
 use Rattle.cdl_laws.proofs.Declarations.{numbers_said}
-use Rattle.cdl_laws.specs.PieceLaws.{extent_said, said_dim}
-use Rattle.nc_base.specs.Sayable.{AreDistinct}
-use Rattle.nc_base.specs.Numbers.{bytes_of_number}
 
 -- ---- names that don't stand before
 

@@ -1,22 +1,6 @@
 -- The array of each variable of a dataset is given back.
-use Rattle.std.proofs.Common.{◌≡◌, ℕ, zero, suc, ◌*◌, ◌<◌, Bool, true, false, List, [], ◌∷◌, length, sym, ◌∙◌, ap, refl, subst, arith}
-use Rattle.std.specs.Prelude.{ℤ, pos, ◌&&◌, ◌==◌, not, if◌then◌else◌, nat_lt, Option, None, Some}
-use Rattle.std.specs.Ordering.{int_eq}
-use Rattle.std.proofs.lemmas.Bool.{false≢true}
-use Rattle.nc_base.specs.declared.header.Dim.{Dim}
-use Rattle.nc_base.specs.declared.header.Header.{Header}
-use Rattle.nc_base.specs.declared.header.Var.{Var}
-use Rattle.nc_base.specs.declared.version.Version.{Version}
-use Rattle.nc_base.specs.Dump.{has_values}
-use Rattle.nc_base.specs.Fill.{fill_value}
-use Rattle.nc_base.specs.Headers.{value_count, IsArray}
-use Rattle.nc_base.specs.Names.{IsName}
-use Rattle.nc_base.specs.Numbers.{numbers}
-use Rattle.nc_base.specs.Sizes.{is_record_var, has_records, slab_lens, product}
-use Rattle.nc_base.specs.ValueText.{look_of, is_char, row_len}
-use Rattle.nc_base.specs.Sayable.{trimmed_var}
-use Rattle.cdl_meaning.specs.Meaning.{array_of, values_of}
-use Rattle.cdl_meaning.specs.State.{Listing}
+use Rattle.std.proofs.Common.{◌≡◌, ℕ, zero, suc, ◌*◌, ◌<◌, Bool, true, false, List, [], ◌∷◌, length, sym, ◌∙◌, ap, refl, subst, arith, ℤ, pos, ◌&&◌, ◌==◌, not, if◌then◌else◌, nat_lt, Option, None, Some}
+use Rattle.cdl_laws.proofs.Prelude.{int_eq, false≢true, Dim, Header, Var, Version, has_values, fill_value, value_count, IsArray, IsName, numbers, is_record_var, has_records, slab_lens, product, look_of, is_char, row_len, trimmed_var, array_of, values_of, Listing}
 use Rattle.cdl_laws.proofs.Bools.{off}
 use Rattle.cdl_laws.proofs.DataTexts.{Gives, IsGivenBy, given_draft}
 use Rattle.cdl_laws.proofs.Given.{slab_rows, number_row_reads_back, line_reads_back, table_reads_back, array_none, array_len, not_off}
@@ -24,7 +8,7 @@ use Rattle.cdl_laws.proofs.Words.{and_false}
 
 -- ---- rows
 
--- whole rows, of which there is one at least
+-- one whole row or more
 abbrev WholeRows : ℕ → ℕ → Type 0
 WholeRows total row = (k : ℕ) × (total ≡ suc k * row) × (0 < row)
 

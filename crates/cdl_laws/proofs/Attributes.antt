@@ -1,26 +1,7 @@
 -- The values of an attribute are read back.
-use Rattle.std.proofs.Common.{◌≡◌, ℕ, zero, suc, ◌+◌, ◌*◌, ◌/◌, ◌^◌, ◌<◌, ◌≤◌, true, false, List, [], ◌∷◌, ◌++◌, length, drop, take, map, sym, ◌∙◌, ap, refl, subst, arith, length-take, length-drop}
-use Rattle.std.specs.Prelude.{ℤ, pos, negsuc, unsigned_abs, if◌then◌else◌, nat_le, Ok}
-use Rattle.std.specs.List.{flat_map}
-use Rattle.std.proofs.Math.Nat.{mul-div_cancel}
-use Rattle.std.proofs.lemmas.Int.{ints}
-use Rattle.std.proofs.lemmas.List.{take-append-drop, get_or-drop}
-use Rattle.nc_base.specs.Bytes.{AreBytes}
-use Rattle.nc_base.specs.declared.header.Att.{Att}
-use Rattle.nc_base.specs.declared.nc_type.NcType.{NcType}
-use Rattle.nc_base.specs.declared.nc_type.NcType.TheVariants.{Byte, Char, Short, Int, Ubyte, Ushort, Uint, Int64, Uint64}
-use Rattle.nc_base.specs.declared.version.Version.{Version}
-use Rattle.nc_base.specs.Numbers.{numbers, numbers_from, number_of, bytes_of_number, IsInRange}
-use Rattle.nc_base.specs.Types.{size_of}
+use Rattle.std.proofs.Common.{◌≡◌, ℕ, zero, suc, ◌+◌, ◌*◌, ◌/◌, ◌^◌, ◌<◌, ◌≤◌, true, false, List, [], ◌∷◌, ◌++◌, length, drop, take, map, sym, ◌∙◌, ap, refl, subst, arith, length-take, length-drop, ℤ, pos, negsuc, unsigned_abs, if◌then◌else◌, nat_le, Ok}
+use Rattle.cdl_laws.proofs.Prelude.{flat_map, mul-div_cancel, ints, take-append-drop, get_or-drop, AreBytes, Att, NcType, Byte, Char, Short, Int, Ubyte, Ushort, Uint, Int64, Uint64, Version, numbers, numbers_from, number_of, bytes_of_number, IsInRange, size_of, IsSoundAtt, att_values, number_values, joined, without_trailing_nuls, IsName, is_char, has_type, trimmed_att, HasSomeNumber, Characters, fits, in_turn, add_constant}
 use Rattle.nc_base.proofs.NumberBytes.{bytes_read_back, numbers_in_range}
-use Rattle.nc_base.specs.Headers.{IsSoundAtt}
-use Rattle.nc_base.specs.HeadText.{att_values, number_values, joined, without_trailing_nuls}
-use Rattle.nc_base.specs.Names.{IsName}
-use Rattle.nc_base.specs.ValueText.{is_char}
-use Rattle.nc_base.specs.Versions.{has_type}
-use Rattle.nc_base.specs.Sayable.{trimmed_att, HasSomeNumber}
-use Rattle.cdl_statements.specs.Shapes.{Characters}
-use Rattle.cdl_meaning.specs.State.{fits, in_turn, add_constant}
 use Rattle.cdl_laws.proofs.Acts.{numbers_added, chars_added}
 use Rattle.cdl_laws.proofs.Declarations.{IsListOf, chars_list, numbers_list, numbers_said, suffixed, first, others, all_bytes}
 use Rattle.cdl_laws.proofs.Wholes.{Speaks}

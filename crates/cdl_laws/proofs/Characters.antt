@@ -1,18 +1,7 @@
 -- The strings of a variable of characters are read back.
-use Rattle.std.proofs.Common.{◌≡◌, ℕ, suc, ◌+◌, ◌*◌, ◌-◌, ◌%◌, ◌<◌, ◌≤◌, Bool, true, false, List, [], ◌∷◌, ◌++◌, length, drop, map, sym, ◌∙◌, ap, refl, subst, arith, append_assoc, append-nil, length-append}
-use Rattle.std.specs.Prelude.{ℤ, unsigned_abs, ◌&&◌, ◌==◌, if◌then◌else◌, replicate, codes}
-use Rattle.std.specs.List.{flat_map, suffix_len, prefix_len}
-use Rattle.std.proofs.lemmas.List.{reverse-append, drop_all}
-use Rattle.std.proofs.lemmas.Grind.{flat_map-append}
+use Rattle.std.proofs.Common.{◌≡◌, ℕ, suc, ◌+◌, ◌*◌, ◌-◌, ◌%◌, ◌<◌, ◌≤◌, Bool, true, false, List, [], ◌∷◌, ◌++◌, length, drop, map, sym, ◌∙◌, ap, refl, subst, arith, append_assoc, append-nil, length-append, ℤ, unsigned_abs, ◌&&◌, ◌==◌, if◌then◌else◌, replicate, codes}
+use Rattle.cdl_laws.proofs.Prelude.{flat_map, suffix_len, prefix_len, reverse-append, drop_all, flat_map-append, mul-mod_left, drop-append_seam, escaped_name, escaped_in_string, escaped_text, IsName, Look, is_char, begins_row, char_lead, char_text, char_piece, held, row_so_far, is_nul, piece, pieces, opening, closing, variable_prefix, variable_text, Lexeme, lexemes_at, scan}
 use Rattle.std.proofs.lemmas.Nat.{mod-mul-add}
-use Rattle.std.proofs.Math.Nat.{mul-mod_left}
-use Rattle.std.proofs.Math.Seq.{drop-append_seam}
-use Rattle.nc_base.specs.Escapes.{escaped_name, escaped_in_string, escaped_text}
-use Rattle.nc_base.specs.Names.{IsName}
-use Rattle.nc_base.specs.ValueText.{Look, is_char, begins_row, char_lead, char_text, char_piece, held, row_so_far, is_nul, piece, pieces, opening, closing, variable_prefix, variable_text}
-use Rattle.cdl_statements.specs.Lexemes.{Lexeme}
-use Rattle.cdl_laws.specs.Reading.{lexemes_at}
-use Rattle.cdl_tokens.specs.Scan.{scan}
 use Rattle.cdl_laws.proofs.Bools.{and_left, and_right}
 use Rattle.cdl_laws.proofs.Lists.{Each}
 use Rattle.cdl_laws.proofs.Texts.{Closed, closed_both, mark, word}
@@ -34,12 +23,12 @@ pieces_are look before values (x ∷ xs) h =
 
 -- ---- one row
 
--- the bytes that a row shows, of which n NULs wait
+-- the bytes that are printed of the rest of a row, after n NULs that are held back
 unfoldable pub shown : Bool → ℕ → List ℤ → List ℕ
 shown trimmed n [] = []
 shown trimmed n (x ∷ xs) = if trimmed && is_nul x then shown trimmed (n + 1) xs else (replicate n 0 ++ unsigned_abs x ∷ []) ++ shown trimmed 0 xs
 
--- how many NULs wait after these of a row
+-- how many NULs are held back after these values of a row
 abbrev waits : Look → List ℤ → ℕ
 waits look p = if look.trimmed then suffix_len is_nul p else 0
 

@@ -1,20 +1,8 @@
 -- The data section of a dump, variable after variable.
-use Rattle.std.proofs.Common.{◌≡◌, ℕ, ◌+◌, ◌<◌, ◌≤◌, Bool, true, false, List, [], ◌∷◌, ◌++◌, length, map, sym, ◌∙◌, ap, refl, subst, append_assoc}
-use Rattle.std.specs.Prelude.{ℤ, pos, if◌then◌else◌, Option, None, Some, Ok}
-use Rattle.nc_base.specs.declared.header.Att.{Att}
-use Rattle.nc_base.specs.declared.header.Dim.{Dim}
-use Rattle.nc_base.specs.declared.header.Header.{Header}
-use Rattle.nc_base.specs.declared.header.Var.{Var}
-use Rattle.nc_base.specs.declared.version.Version.{Version}
-use Rattle.nc_base.specs.Dump.{Content, Section, whole, values_of, values_before, has_values}
-use Rattle.nc_base.specs.Fill.{fill_value}
-use Rattle.nc_base.specs.Names.{IsName}
-use Rattle.nc_base.specs.Sizes.{is_record_var}
-use Rattle.nc_base.specs.ValueText.{Look, look_of, is_char, variable_text}
-use Rattle.cdl_statements.specs.declared.section.Section.TheVariants.{Values}
-use Rattle.nc_base.specs.Sayable.{trimmed_var}
-use Rattle.cdl_statements.specs.Shapes.{Value, Characters, Listed}
-use Rattle.cdl_meaning.specs.State.{State, Draft, Listing, Numbers, Joined, Rows, Capacity, capacity_of, act, listing_of, values_in, with_values, filled, fits, ◌>>=◌}
+use Rattle.std.proofs.Common.{◌≡◌, ℕ, ◌+◌, ◌<◌, ◌≤◌, Bool, true, false, List, [], ◌∷◌, ◌++◌, length, map, sym, ◌∙◌, ap, refl, subst, append_assoc, ℤ, pos, if◌then◌else◌, Option, None, Some, Ok}
+use Rattle.cdl_laws.proofs.Prelude.{Att, Dim, Header, Var, Version, Content, whole, contents, values_before, has_values, fill_value, IsName, is_record_var, Look, look_of, is_char, variable_text, Values, trimmed_var, Value, Characters, Listed, State, Draft, Listing, Numbers, Joined, Rows, Capacity, capacity_of, act, listing_of, values_in, with_values, filled, fits}
+use Rattle.nc_base.specs.Dump.{Section, values_of}
+use Rattle.cdl_meaning.specs.State.{◌>>=◌}
 use Rattle.cdl_laws.proofs.Lists.{Each}
 use Rattle.cdl_laws.proofs.ValueTexts.{AreSmall, value_said, numbers_listed}
 use Rattle.cdl_laws.proofs.Characters.{flat, shown}
@@ -26,8 +14,8 @@ use Rattle.cdl_laws.proofs.Wholes.{state, draft_of}
 
 -- ---- one variable
 
--- the text of these values gives them back: with the fill value in the places that nothing was listed for, of which a
--- record variable has none
+-- The text of these values gives them back: a value that the text doesn't list is the fill value. Of a record variable the text
+-- lists every value.
 pub record Gives (v : Version) (dims : List Dim) (look : Look) (var : Var) (values : List ℤ) : Type 0 where
   pub said : List Value
   pub says : Says v Values (variable_text look values) (Listed var.name said)
@@ -140,14 +128,14 @@ one_taken v h gatts before after look var c o place others t false valid new all
     subst (λ p. Takes v others.text (state Values h.dims gatts (before ++ given_draft var p ∷ after)) t) given more
 
 pub data_taken : (v : Version) (h : Header) (content : ℕ → Var → Content) (n width place : ℕ) (gatts : List Att) (before : List Draft) (vars : List Var) (os : List (Option Listing)) → AreGiven v h content n width place before vars os →
-    Takes v (values_of h content n width place vars (all_marked vars)).text (state Values h.dims gatts (before ++ map draft_of vars)) (state Values h.dims gatts (before ++ given_drafts vars os))
+    Takes v (values_of (contents h content n width) place vars (all_marked vars)).text (state Values h.dims gatts (before ++ map draft_of vars)) (state Values h.dims gatts (before ++ given_drafts vars os))
 data_taken v h content n width place gatts before [] [] given = takes_nothing v (state Values h.dims gatts (before ++ []))
 data_taken v h content n width place gatts before [] (o ∷ os) given = absurd given
 data_taken v h content n width place gatts before (var ∷ vars) [] given = absurd given
 data_taken v h content n width place gatts before (var ∷ vars) (o ∷ os) given =
     let g = given.0 in
     let ih = data_taken v h content n width (place + 1) gatts (before ++ given_draft var o ∷ []) vars os given.1 in
-    let others = values_of h content n width (place + 1) vars (all_marked vars) in
+    let others = values_of (contents h content n width) (place + 1) vars (all_marked vars) in
     let goal = state Values h.dims gatts (before ++ given_drafts (var ∷ vars) (o ∷ os)) in
     one_taken v h gatts before (map draft_of vars) (look_of h var n width) var (content place var) o place others goal (has_values h.dims n var) g.name g.new g.all g.given
     (subst (λ ds. Takes v others.text (state Values h.dims gatts ds) goal) (append_assoc before (given_draft var o ∷ []) (map draft_of vars))
@@ -155,10 +143,10 @@ data_taken v h content n width place gatts before (var ∷ vars) (o ∷ os) give
 
 -- and the section is whole
 pub data_whole : (v : Version) (h : Header) (content : ℕ → Var → Content) (n width place : ℕ) (before : List Draft) (vars : List Var) (os : List (Option Listing)) → AreGiven v h content n width place before vars os →
-    (values_of h content n width place vars (all_marked vars)).ending ≡ whole
+    (values_of (contents h content n width) place vars (all_marked vars)).ending ≡ whole
 data_whole v h content n width place before [] os given = refl
 data_whole v h content n width place before (var ∷ vars) [] given = absurd given
 data_whole v h content n width place before (var ∷ vars) (o ∷ os) given =
-    let others = values_of h content n width (place + 1) vars (all_marked vars) in
+    let others = values_of (contents h content n width) (place + 1) vars (all_marked vars) in
     let ih = data_whole v h content n width (place + 1) (before ++ given_draft var o ∷ []) vars os given.1 in
     rw (given.0.all) (elim (has_values h.dims n var) as (λ b. (if b then values_before (look_of h var n width) (content place var).values None place others else others).ending ≡ whole) [ true ↦ ih | false ↦ ih ])

@@ -1,22 +1,6 @@
 -- A dataset that a text can declare is read back from its full dump.
-use Rattle.std.proofs.Common.{◌≡◌, ℕ, ◌+◌, ◌*◌, ◌-◌, ◌/◌, ◌<◌, max, true, false, List, [], ◌∷◌, ◌++◌, length, map, sym, ◌∙◌, ap, refl, subst, arith, append_assoc, length-append}
-use Rattle.std.specs.Prelude.{if◌then◌else◌, Option, slice_index_or}
-use Rattle.std.proofs.Math.Nat.{mul-add-div, div-eq_of_lt}
-use Rattle.nc_base.specs.declared.dataset.Dataset.{Dataset}
-use Rattle.nc_base.specs.declared.header.Dim.{Dim}
-use Rattle.nc_base.specs.declared.header.Header.{Header}
-use Rattle.nc_base.specs.declared.header.Var.{Var}
-use Rattle.nc_base.specs.declared.version.Version.{Version}
-use Rattle.nc_base.specs.Dump.{content_of, has_values}
-use Rattle.nc_base.specs.Fill.{fill_value}
-use Rattle.nc_base.specs.Headers.{value_count, AreArrays}
-use Rattle.nc_base.specs.Names.{IsName}
-use Rattle.nc_base.specs.Numbers.{numbers}
-use Rattle.nc_base.specs.Sizes.{is_record_var, slab_count, record_vars}
-use Rattle.nc_base.specs.ValueText.{is_char, look_of}
-use Rattle.nc_base.specs.Sayable.{trimmed_var}
-use Rattle.cdl_meaning.specs.Meaning.{array_of, values_of, records_of, records_in}
-use Rattle.cdl_meaning.specs.State.{Draft, Listing}
+use Rattle.std.proofs.Common.{◌≡◌, ℕ, ◌+◌, ◌*◌, ◌-◌, ◌/◌, ◌<◌, max, true, false, List, [], ◌∷◌, ◌++◌, length, map, sym, ◌∙◌, ap, refl, subst, arith, append_assoc, length-append, if◌then◌else◌, Option, slice_index_or}
+use Rattle.cdl_laws.proofs.Prelude.{mul-add-div, div-eq_of_lt, Dataset, Dim, Header, Var, Version, content_of, has_values, fill_value, value_count, AreArrays, IsName, numbers, is_record_var, slab_count, record_vars, is_char, look_of, trimmed_var, array_of, values_of, records_of, records_in, Draft, Listing}
 use Rattle.cdl_laws.proofs.Arrays.{IsBack, is_back}
 use Rattle.cdl_laws.proofs.Acts.{no_draft}
 use Rattle.cdl_laws.proofs.DataTexts.{IsGivenBy, AreGiven, given_draft, given_drafts}

@@ -1,30 +1,7 @@
 -- The statements of a head, and what they say.
-use Rattle.std.proofs.Common.{◌≡◌, ℕ, ◌^◌, ◌<◌, true, false, List, [], ◌∷◌, ◌++◌, map, sym, ◌∙◌, ap, refl, subst, arith, append_assoc, append-nil}
-use Rattle.std.specs.Prelude.{ℤ, pos, unsigned_abs, decimal, ◌==◌, not, if◌then◌else◌, None, Some, codes}
-use Rattle.std.specs.Fmt.{signed_decimal}
-use Rattle.std.specs.List.{flat_map, list_all}
-use Rattle.std.specs.Option.{option_map}
-use Rattle.std.proofs.lemmas.Grind.{flat_map-append}
-use Rattle.std.proofs.lemmas.List.Folds.{list_all-append}
-use Rattle.nc_base.specs.Bytes.{concat_parts}
-use Rattle.nc_base.specs.declared.header.Att.{Att}
-use Rattle.nc_base.specs.declared.header.Dim.{Dim}
-use Rattle.nc_base.specs.declared.nc_type.NcType.{NcType}
-use Rattle.nc_base.specs.declared.version.Version.{Version}
-use Rattle.nc_base.specs.Escapes.{escaped_name, escaped_in_string}
-use Rattle.nc_base.specs.HeadText.{joined, dim_extent, dim_line, unlimited_word, currently_word, att_line, att_values, char_values, broken_text, string_break, without_trailing_nuls}
-use Rattle.nc_base.specs.Names.{IsName}
-use Rattle.nc_base.specs.Types.{number_suffix}
-use Rattle.nc_base.specs.ValueText.{is_char}
-use Rattle.nc_base.specs.Versions.{has_type}
-use Rattle.cdl_statements.specs.declared.section.Section.{Section}
-use Rattle.cdl_statements.specs.declared.section.Section.TheVariants.{Globals, Dimensions, Variables}
-use Rattle.cdl_tokens.specs.Bytes.{is_digit}
-use Rattle.cdl_tokens.specs.Scan.{scan}
-use Rattle.cdl_statements.specs.Lexemes.{Lexeme}
-use Rattle.cdl_laws.specs.PieceLaws.{extent_said, said_dim, IsBeforeData, globals, dimensions, variables}
-use Rattle.cdl_laws.specs.Reading.{lexemes_at}
-use Rattle.cdl_statements.specs.Shapes.{Value, Number, Characters, Statement, Declared, Attribute, dimensions as dimensions_of, each, both, constant, constants, length_of, typed, attribute, global, assigned, body, either}
+use Rattle.std.proofs.Common.{◌≡◌, ℕ, ◌^◌, ◌<◌, true, false, List, [], ◌∷◌, ◌++◌, map, sym, ◌∙◌, ap, refl, subst, arith, append_assoc, append-nil, ℤ, pos, unsigned_abs, decimal, ◌==◌, not, if◌then◌else◌, None, Some, codes}
+use Rattle.cdl_laws.proofs.Prelude.{signed_decimal, flat_map, list_all, option_map, flat_map-append, list_all-append, concat_parts, Att, Dim, NcType, Version, escaped_name, escaped_in_string, joined, dim_extent, dim_line, unlimited_word, currently_word, att_line, att_values, char_values, broken_text, string_break, without_trailing_nuls, IsName, number_suffix, is_char, has_type, Section, Globals, Dimensions, Variables, is_digit, scan, Lexeme, extent_said, said_dim, IsBeforeData, globals, dimensions, variables, lexemes_at, Value, Number, Characters, Statement, Declared, Attribute, each, both, constant, constants, length_of, typed, attribute, global, assigned, body, either}
+use Rattle.cdl_statements.specs.Shapes.{dimensions as dimensions_of}
 use Rattle.cdl_laws.proofs.Bools.{and_left, and_right, and_both}
 use Rattle.cdl_laws.proofs.Lists.{Each}
 use Rattle.cdl_laws.proofs.Texts.{Closed, Reads, closed_both, closed_by, mark, word, number, name_word}

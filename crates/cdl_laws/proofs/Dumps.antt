@@ -1,26 +1,7 @@
 -- A full dump is read back.
-use Rattle.std.proofs.Common.{◌≡◌, ℕ, true, false, List, [], ◌∷◌, ◌++◌, length, map, sym, ◌∙◌, ap, refl, append_assoc, append-nil}
-use Rattle.std.specs.Prelude.{◌&&◌, ◌||◌, ◌==◌, not, if◌then◌else◌, Option, None, Ok, codes}
-use Rattle.nc_base.specs.Bytes.{concat_parts}
-use Rattle.nc_base.specs.declared.dataset.Dataset.{Dataset}
-use Rattle.nc_base.specs.declared.header.Att.{Att}
-use Rattle.nc_base.specs.declared.header.Dim.{Dim}
-use Rattle.nc_base.specs.declared.header.Header.{Header}
-use Rattle.nc_base.specs.declared.header.Var.{Var}
-use Rattle.nc_base.specs.declared.version.Version.{Version}
-use Rattle.nc_base.specs.Dump.{Options, Content, Section, dump_text, shown_values, content_of, values_of, selection_of, is_selected, is_chosen, data_word, closing_word, has_dimension}
-use Rattle.nc_base.specs.Escapes.{escaped_name}
-use Rattle.nc_base.specs.HeadText.{head_text, netcdf_word, dims_text, vars_text, gatts_text}
-use Rattle.cdl_statements.specs.declared.section.Section.TheVariants.{Globals, Variables, Values, Ended}
-use Rattle.cdl_statements.specs.declared.piece.CutState.TheVariants as places
-use Rattle.cdl_statements.specs.Lexemes.{role}
-use Rattle.cdl_meaning.specs.Meaning.{meaning, run, piece_read, empty, finished, is_small_enough, dataset_of, closing_line}
-use Rattle.cdl_statements.specs.Statements.{statements}
-use Rattle.cdl_statements.specs.Pieces.{pieces_at}
-use Rattle.cdl_laws.specs.Reading.{lexemes, pieces_of}
-use Rattle.cdl_laws.specs.RoundTrip.{IsFull}
-use Rattle.nc_base.specs.Sayable.{trimmed, trimmed_att}
-use Rattle.cdl_meaning.specs.State.{Listing, in_turn}
+use Rattle.std.proofs.Common.{◌≡◌, ℕ, true, false, List, [], ◌∷◌, ◌++◌, length, map, sym, ◌∙◌, ap, refl, append_assoc, append-nil, ◌&&◌, ◌||◌, ◌==◌, not, if◌then◌else◌, Option, None, Ok, codes}
+use Rattle.cdl_laws.proofs.Prelude.{concat_parts, Dataset, Att, Dim, Header, Var, Version, Options, Content, dump_text, shown_values, content_of, contents, selection_of, is_selected, is_chosen, data_word, closing_word, has_dimension, escaped_name, head_text, netcdf_word, dims_text, vars_text, gatts_text, Globals, Variables, Values, Ended, meaning, run, piece_read, empty, finished, is_small_enough, dataset_of, closing_line, statements, cut_lexemes, lexemes, pieces_of, IsFull, trimmed, trimmed_att, Listing, in_turn}
+use Rattle.nc_base.specs.Dump.{Section, values_of}
 use Rattle.cdl_laws.proofs.Lists.{Each}
 use Rattle.cdl_laws.proofs.Takes.{is_open}
 use Rattle.cdl_laws.proofs.Acts.{AreDistinctDims, HaveNames}
@@ -51,14 +32,14 @@ selected h o (var ∷ vars) c d =
     ap (λ b. b ∷ map (is_selected h o) vars) (ap (λ ch. is_chosen ch var.name && (not o.coords || has_dimension h.dims var.name)) c ∙ ap (λ co. not co || has_dimension h.dims var.name) d) ∙
     ap (λ bs. true ∷ bs) (selected h o vars c d)
 
-shown_is : (h : Header) (o : Options) (content : ℕ → Var → Content) (n : ℕ) → IsFull o → shown_values h o content n (selection_of h o) ≡ values_of h content n o.width 0 h.vars (all_marked h.vars)
+shown_is : (h : Header) (o : Options) (content : ℕ → Var → Content) (n : ℕ) → IsFull o → shown_values h o content n (selection_of h o) ≡ values_of (contents h content n o.width) 0 h.vars (all_marked h.vars)
 shown_is h o content n full =
-    ap (λ b. values_of h content n o.width 0 h.vars (if b then [] else selection_of h o)) full.values ∙
-    ap (values_of h content n o.width 0 h.vars) (selected h o h.vars full.chosen full.coords)
+    ap (λ b. values_of (contents h content n o.width) 0 h.vars (if b then [] else selection_of h o)) full.values ∙
+    ap (values_of (contents h content n o.width) 0 h.vars) (selected h o h.vars full.chosen full.coords)
 
 -- after the head
 data_read : (v : Version) (h : Header) (o : Options) (content : ℕ → Var → Content) (n : ℕ) (gatts : List Att) (os : List (Option Listing)) → IsFull o → (vars : List Var) → h.vars ≡ vars → AreGiven v h content n o.width 0 [] vars os →
-    in_turn (piece_read v) (state (after_vars (after_dims h.dims) vars) h.dims gatts (map draft_of vars)) (pieces_of (data_word h o ++ ((values_of h content n o.width 0 vars (all_marked vars)).text ++ codes "}\n"))) ≡ Ok (state Ended h.dims gatts (given_drafts vars os))
+    in_turn (piece_read v) (state (after_vars (after_dims h.dims) vars) h.dims gatts (map draft_of vars)) (pieces_of (data_word h o ++ ((values_of (contents h content n o.width) 0 vars (all_marked vars)).text ++ codes "}\n"))) ≡ Ok (state Ended h.dims gatts (given_drafts vars os))
 unfolding data_word
 data_read v h o content n gatts os full [] none given =
     rw (none) (ap (λ b. in_turn (piece_read v) (state (after_dims h.dims) h.dims gatts []) (pieces_of ((if b || true then [] else codes "data:\n") ++ codes "}\n"))) full.values ∙
@@ -68,7 +49,7 @@ data_read v h o content n gatts os full [] none given =
     opens [] = refl
     opens (d ∷ dims) = refl
 data_read v h o content n gatts os full (var ∷ vars) some given =
-    let values = (values_of h content n o.width 0 (var ∷ vars) (all_marked (var ∷ vars))).text in
+    let values = (values_of (contents h content n o.width) 0 (var ∷ vars) (all_marked (var ∷ vars))).text in
     let word : data_word h o ≡ codes "data:\n" = ap (λ b. if b || (length h.vars == 0) then [] else codes "data:\n") full.values ∙ ap (λ (ws : List Var). if length ws == 0 then [] else codes "data:\n") some ∙ ap (λ b. if b then [] else codes "data:\n") (not_none (length vars)) in
     ap (λ w. in_turn (piece_read v) (state Variables h.dims gatts (map draft_of (var ∷ vars))) (pieces_of (w ++ (values ++ codes "}\n")))) word ∙
     data_mark v h.dims gatts (map draft_of (var ∷ vars)) (values ++ codes "}\n") ∙
@@ -91,19 +72,19 @@ pub record IsReadable (d : Dataset) (n width : ℕ) (os : List (Option Listing))
 
 -- the state at the end
 pub state_read : (d : Dataset) (o : Options) (n : ℕ) (os : List (Option Listing)) → IsFull o → IsReadable d n o.width os → (section : Section) → section ≡ shown_values d.header o (content_of d) n (selection_of d.header o) →
-    in_turn (piece_read d.header.version) empty (pieces_at role places.Begins (lexemes (dump_text d.header o n section))) ≡ Ok (state Ended d.header.dims (map trimmed_att d.header.gatts) (given_drafts d.header.vars os))
+    in_turn (piece_read d.header.version) empty (cut_lexemes (lexemes (dump_text d.header o n section))) ≡ Ok (state Ended d.header.dims (map trimmed_att d.header.gatts) (given_drafts d.header.vars os))
 unfolding closing_word
 state_read d o n os full ready section is =
     let h = d.header in
     let v = h.version in
-    let section_is : section ≡ values_of h (content_of d) n o.width 0 h.vars (all_marked h.vars) = is ∙ shown_is h o (content_of d) n full in
-    let values = (values_of h (content_of d) n o.width 0 h.vars (all_marked h.vars)).text in
+    let section_is : section ≡ values_of (contents h (content_of d) n o.width) 0 h.vars (all_marked h.vars) = is ∙ shown_is h o (content_of d) n full in
+    let values = (values_of (contents h (content_of d) n o.width) 0 h.vars (all_marked h.vars)).text in
     let tail = data_word h o ++ (values ++ codes "}\n") in
     let closes : closing_word section.ending ≡ codes "}\n" = ap (λ (s : Section). closing_word s.ending) section_is ∙ ap closing_word (data_whole v h (content_of d) n o.width 0 [] h.vars os ready.given) in
     let dims = dims_text n h.dims in
     let vars = vars_text h.dims h.vars in
     let gatts = gatts_text h.gatts in
-    ap (λ bs. in_turn (piece_read v) empty (pieces_at role places.Begins (lexemes bs))) (dump_is h o n section) ∙
+    ap (λ bs. in_turn (piece_read v) empty (cut_lexemes (lexemes bs))) (dump_is h o n section) ∙
     opened v o.name (dims ++ (vars ++ (gatts ++ (data_word h o ++ (section.text ++ closing_word section.ending))))) full.name ∙
     ap (λ (s : Section). in_turn (piece_read v) (state Globals [] [] []) (pieces_of (dims ++ (vars ++ (gatts ++ (data_word h o ++ (s.text ++ closing_word section.ending))))))) section_is ∙
     ap (λ c. in_turn (piece_read v) (state Globals [] [] []) (pieces_of (dims ++ (vars ++ (gatts ++ (data_word h o ++ (values ++ c))))))) closes ∙

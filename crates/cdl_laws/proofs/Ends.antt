@@ -1,29 +1,8 @@
 -- The opening, the section marks and the closing brace of a dump.
-use Rattle.std.proofs.Common.{◌≡◌, ℕ, ◌+◌, ◌<◌, true, false, List, [], ◌∷◌, ◌++◌, length, map, sym, ◌∙◌, ap, refl, subst, arith, append_assoc, append-nil, length-append}
-use Rattle.std.specs.Prelude.{◌==◌, if◌then◌else◌, nat_lt, Some, Ok, codes}
-use Rattle.std.specs.List.{list_all}
-use Rattle.std.proofs.lemmas.Bool.{false≢true, eqb-true}
-use Rattle.nc_base.specs.Bytes.{concat_parts}
-use Rattle.nc_base.specs.declared.header.Att.{Att}
-use Rattle.nc_base.specs.declared.header.Dim.{Dim}
-use Rattle.nc_base.specs.declared.header.Var.{Var}
-use Rattle.nc_base.specs.declared.version.Version.{Version}
-use Rattle.nc_base.specs.Escapes.{escaped_name, is_plain}
-use Rattle.nc_base.specs.HeadText.{dim_line, dim_lines, dims_text, att_line, att_lines, var_lines, vars_text, gatts_text, dimensions_word, variables_word, global_word}
-use Rattle.nc_base.specs.Names.{IsName, may_follow_in_name, may_begin_name}
-use Rattle.cdl_statements.specs.declared.section.Section.{Section}
-use Rattle.cdl_statements.specs.declared.section.Section.TheVariants.{Globals, Dimensions, Variables, Values, Ended}
+use Rattle.std.proofs.Common.{◌≡◌, ℕ, ◌+◌, ◌<◌, true, false, List, [], ◌∷◌, ◌++◌, length, map, sym, ◌∙◌, ap, refl, subst, arith, append_assoc, append-nil, length-append, ◌==◌, if◌then◌else◌, nat_lt, Some, Ok, codes}
+use Rattle.cdl_laws.proofs.Prelude.{list_all, false≢true, eqb-true, concat_parts, Att, Dim, Var, Version, escaped_name, is_plain, dim_line, dim_lines, dims_text, att_line, att_lines, var_lines, vars_text, gatts_text, dimensions_word, variables_word, global_word, IsName, may_follow_in_name, may_begin_name, Section, Globals, Dimensions, Variables, Values, Ended, scan, word_len, until, scan_opening, token, Lexeme, piece_read, empty, pieces_at, is_section, cut_lexemes, lexemes_at, lexemes, pieces_of, trimmed_att, Mark, shape, State, Draft, act, in_turn, IsBeforeData, globals, dimensions, variables}
 use Rattle.cdl_statements.specs.declared.section.Section.TheVariants as sections
 use Rattle.cdl_tokens.specs.declared.token.TokenKind.TheVariants as kinds
-use Rattle.cdl_statements.specs.declared.piece.CutState.TheVariants as places
-use Rattle.cdl_tokens.specs.Scan.{scan, word_len, until, scan_opening, token}
-use Rattle.cdl_statements.specs.Lexemes.{Lexeme, role}
-use Rattle.cdl_meaning.specs.Meaning.{piece_read, empty}
-use Rattle.cdl_statements.specs.Pieces.{pieces_at, is_section}
-use Rattle.cdl_laws.specs.Reading.{lexemes_at, lexemes, pieces_of}
-use Rattle.nc_base.specs.Sayable.{trimmed_att}
-use Rattle.cdl_statements.specs.Shapes.{Mark, shape}
-use Rattle.cdl_meaning.specs.State.{State, Draft, act, in_turn}
 use Rattle.cdl_laws.proofs.Bools.{and_left}
 use Rattle.cdl_laws.proofs.Lists.{Each}
 use Rattle.cdl_laws.proofs.NameTexts.{rest_of, begins_goes_on, Begins, marked, bare, begins}
@@ -33,7 +12,6 @@ use Rattle.cdl_laws.proofs.ValueTexts.{turn}
 use Rattle.cdl_laws.proofs.Heads.{feed_closed}
 use Rattle.cdl_laws.proofs.Strings.{until_plain}
 use Rattle.cdl_laws.proofs.Takes.{Takes, Says, says_takes, takes_both, takes_nothing, is_open}
-use Rattle.cdl_laws.specs.PieceLaws.{IsBeforeData, globals, dimensions, variables}
 use Rattle.cdl_laws.proofs.Acts as acts
 use Rattle.cdl_laws.proofs.Wholes.{state, dims_taken, AreNewDims, Speaks, AreNewAtts, globals_taken, AreFit, vars_taken, draft_of, not_none}
 
@@ -195,7 +173,7 @@ opening_lexemes name rest h =
     prefix_again true (Some kinds.Opening) 110 (codes "etcdf " ++ (escaped_name name ++ codes " {")) (10 ∷ rest) (opening_prefix_is name rest h) ∙
     ap (λ ls. record { kind = kinds.Opening; bytes = opening_bytes name } ∷ ls) (feed_closed rest)
 
-pub opening_piece : (l : List ℕ) (ls : List Lexeme) → pieces_at role places.Begins (record { kind = kinds.Opening; bytes = l } ∷ ls) ≡ (record { kind = kinds.Opening; bytes = l } ∷ []) ∷ pieces_at role places.Begins ls
+pub opening_piece : (l : List ℕ) (ls : List Lexeme) → cut_lexemes (record { kind = kinds.Opening; bytes = l } ∷ ls) ≡ (record { kind = kinds.Opening; bytes = l } ∷ []) ∷ cut_lexemes ls
 unfolding pieces_at
 opening_piece l ls = refl
 
@@ -205,9 +183,9 @@ opening_read v l = refl
 
 -- all that stands after the opening decides
 pub opened : (v : Version) (name rest : List ℕ) → IsName name →
-    in_turn (piece_read v) empty (pieces_at role places.Begins (lexemes (opening_bytes name ++ 10 ∷ rest))) ≡ in_turn (piece_read v) (state Globals [] [] []) (pieces_of rest)
+    in_turn (piece_read v) empty (cut_lexemes (lexemes (opening_bytes name ++ 10 ∷ rest))) ≡ in_turn (piece_read v) (state Globals [] [] []) (pieces_of rest)
 unfolding pieces_of
 opened v name rest h =
-    ap (λ ls. in_turn (piece_read v) empty (pieces_at role places.Begins ls)) (opening_lexemes name rest h) ∙
+    ap (λ ls. in_turn (piece_read v) empty (cut_lexemes ls)) (opening_lexemes name rest h) ∙
     ap (in_turn (piece_read v) empty) (opening_piece (opening_bytes name) (lexemes_at false 0 rest)) ∙
-    turn (piece_read v) empty (state Globals [] [] []) (record { kind = kinds.Opening; bytes = opening_bytes name } ∷ []) (pieces_at role places.Begins (lexemes_at false 0 rest)) (opening_read v (opening_bytes name))
+    turn (piece_read v) empty (state Globals [] [] []) (record { kind = kinds.Opening; bytes = opening_bytes name } ∷ []) (cut_lexemes (lexemes_at false 0 rest)) (opening_read v (opening_bytes name))

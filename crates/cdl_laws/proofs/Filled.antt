@@ -1,16 +1,7 @@
 -- What a row shows, filled up, is the row.
-use Rattle.std.proofs.Common.{◌≡◌, ℕ, zero, suc, ◌+◌, ◌-◌, ◌<◌, ◌≤◌, Bool, true, false, List, [], ◌∷◌, ◌++◌, length, map, sym, ◌∙◌, ap, refl, arith, append_assoc, append-nil, length-append}
-use Rattle.std.specs.Prelude.{ℤ, pos, unsigned_abs, ◌&&◌, ◌||◌, if◌then◌else◌, nat_le, replicate, Some, Ok}
-use Rattle.std.specs.List.{flat_map}
-use Rattle.std.proofs.lemmas.Bool.{eqb-true}
-use Rattle.std.proofs.lemmas.List.{map-append, length-replicate, replicate_more}
-use Rattle.nc_base.specs.declared.version.Version.{Version}
-use Rattle.nc_base.specs.Escapes.{escaped_in_string}
-use Rattle.nc_base.specs.ValueText.{is_nul, is_char}
-use Rattle.cdl_tokens.specs.Escapes.{stands}
-use Rattle.cdl_tokens.proofs.Strings.{stands_for}
-use Rattle.cdl_statements.specs.Shapes.{Characters, each, both, constant, constants}
-use Rattle.cdl_meaning.specs.State.{Capacity, Joined, Rows, add_characters, add_row, filled, in_turn, listing_of, values_in, ◌>>=◌}
+use Rattle.std.proofs.Common.{◌≡◌, ℕ, zero, suc, ◌+◌, ◌-◌, ◌<◌, ◌≤◌, Bool, true, false, List, [], ◌∷◌, ◌++◌, length, map, sym, ◌∙◌, ap, refl, arith, append_assoc, append-nil, length-append, ℤ, pos, unsigned_abs, ◌&&◌, ◌||◌, if◌then◌else◌, nat_le, replicate, Some, Ok}
+use Rattle.cdl_laws.proofs.Prelude.{flat_map, eqb-true, map-append, length-replicate, replicate_more, Version, escaped_in_string, is_nul, is_char, stands, stands_for, Characters, each, both, constant, constants, Capacity, Joined, Rows, add_characters, add_row, filled, in_turn, listing_of, values_in}
+use Rattle.cdl_meaning.specs.State.{◌>>=◌}
 use Rattle.cdl_laws.proofs.Lists.{Each}
 use Rattle.cdl_laws.proofs.Characters.{shown, flat}
 use Rattle.cdl_laws.proofs.Strings.{string, unescape_all, between_quotes}
@@ -94,7 +85,7 @@ row_back false n fill xs h len all = ap (filled n fill) (back_whole xs all) ∙ 
 -- ---- what the strings say
 
 pub string_said : (v : Version) (takes_fill : Bool) (bytes : List ℕ) → constant v takes_fill (string bytes) ≡ Some (Characters bytes)
-string_said v takes_fill bytes = ap (λ (bs : List ℕ). Some (Characters (stands bs))) (between_quotes (flat_map escaped_in_string bytes)) ∙ ap (λ (bs : List ℕ). Some (Characters bs)) (stands_for 0 (flat_map escaped_in_string bytes) bytes (unescape_all bytes))
+string_said v takes_fill bytes = ap (λ (bs : List ℕ). Some (Characters (stands bs))) (between_quotes (flat_map escaped_in_string bytes)) ∙ ap (λ (bs : List ℕ). Some (Characters bs)) (stands_for (flat_map escaped_in_string bytes) bytes (unescape_all bytes))
 
 strings_each : (v : Version) (takes_fill : Bool) (all : List (List ℕ)) → each (constant v takes_fill) (map string all) ≡ Some (map Characters all)
 strings_each v takes_fill [] = refl

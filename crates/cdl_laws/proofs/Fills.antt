@@ -1,20 +1,6 @@
 -- The fill values of characters, with and without the NULs at the end of attributes.
-use Rattle.std.proofs.Common.{◌≡◌, ℕ, ◌-◌, ◌<◌, Bool, true, false, List, [], ◌∷◌, length, map, sym, ◌∙◌, ap, refl, subst, arith, take, get_or}
-use Rattle.std.proofs.lemmas.Bool.{false≢true, eqb-true}
-use Rattle.std.specs.Prelude.{◌↔◌, ℤ, pos, unsigned_abs, if◌then◌else◌, ◌==◌, ◌&&◌, nat_lt, find, Option, None, Some, Ok}
-use Rattle.std.specs.List.{suffix_len}
-use Rattle.std.specs.Option.{option_map}
-use Rattle.nc_base.specs.declared.header.Att.{Att}
-use Rattle.nc_base.specs.declared.nc_type.NcType.{NcType}
-use Rattle.nc_base.specs.declared.nc_type.NcType.TheVariants.{Byte, Char, Short, Int, Ubyte, Ushort, Uint, Int64, Uint64}
-use Rattle.nc_base.specs.Fill.{fill_value, is_fill_att, fill_of_att, fill_or_default}
-use Rattle.nc_base.specs.HeadText.{without_trailing_nuls}
-use Rattle.nc_base.specs.Numbers.{number_of}
-use Rattle.nc_base.specs.Types.{code_of, size_of}
-use Rattle.nc_base.specs.ValueText.{is_char}
-use Rattle.cdl_laws.specs.Trims.{is_cut, FillsAreKept, MeaningsAreSayable, MeaningsComeBack}
-use Rattle.cdl_meaning.specs.Meaning.{meaning}
-use Rattle.nc_base.specs.Sayable.{trimmed, trimmed_att}
+use Rattle.std.proofs.Common.{◌≡◌, ℕ, ◌-◌, ◌<◌, Bool, true, false, List, [], ◌∷◌, length, map, sym, ◌∙◌, ap, refl, subst, arith, take, get_or, ◌↔◌, ℤ, pos, unsigned_abs, if◌then◌else◌, ◌==◌, ◌&&◌, nat_lt, find, Option, None, Some, Ok}
+use Rattle.cdl_laws.proofs.Prelude.{false≢true, eqb-true, suffix_len, option_map, Att, NcType, Byte, Char, Short, Int, Ubyte, Ushort, Uint, Int64, Uint64, fill_value, is_fill_att, fill_of_att, fill_or_default, without_trailing_nuls, number_of, code_of, size_of, is_char, is_cut, FillValueSurvivesTrim, MeaningsAreSayable, MeaningsComeBack, meaning, trimmed, trimmed_att}
 use Rattle.cdl_laws.proofs.MeaningsAreGood.{meanings_are_good, meanings_are_nearly_sayable, nearly_is_sayable}
 use Rattle.cdl_laws.proofs.Bools.{and_left, and_right}
 use Rattle.cdl_laws.proofs.Trimmed.{none_left, second_trip_is_same}
@@ -117,9 +103,9 @@ char_is Uint h = cc
 char_is Int64 h = cc
 char_is Uint64 h = cc
 
-pub fills_are_kept : FillsAreKept
+pub fill_value_survives_trim : FillValueSurvivesTrim
 unfolding fill_value
-fills_are_kept var char =
+fill_value_survives_trim var char =
     let o = find is_fill_att var.atts in
     let both : (fill_in var.ty (option_map trimmed_att o) ≡ fill_in var.ty o) ↔ (cut_in o ≡ false) =
     subst (λ ty. (fill_in ty (option_map trimmed_att o) ≡ fill_in ty o) ↔ (cut_in o ≡ false)) (char_is var.ty char) (by_option o) in
@@ -128,8 +114,8 @@ fills_are_kept var char =
 
 pub meanings_are_sayable : MeaningsAreSayable
 meanings_are_sayable text v d bytes short e = (
-  (λ s k x h c. (fills_are_kept (get_or d.header.vars k x) c).0 ((s.vars k x h).fill c)),
-  (λ plain. nearly_is_sayable d (meanings_are_nearly_sayable text v d bytes short e) (λ k x h c. (fills_are_kept (get_or d.header.vars k x) c).1 (plain k x h c))),
+  (λ s k x h c. (fill_value_survives_trim (get_or d.header.vars k x) c).0 ((s.vars k x h).fill c)),
+  (λ plain. nearly_is_sayable d (meanings_are_nearly_sayable text v d bytes short e) (λ k x h c. (fill_value_survives_trim (get_or d.header.vars k x) c).1 (plain k x h c))),
 )
 
 pub meanings_come_back : MeaningsComeBack

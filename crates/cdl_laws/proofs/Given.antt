@@ -1,29 +1,6 @@
 -- The array of a variable is given back by the text of its values.
-use Rattle.std.proofs.Common.{◌≡◌, ℕ, zero, suc, ◌+◌, ◌*◌, ◌-◌, ◌<◌, ◌≤◌, Bool, true, false, List, [], ◌∷◌, ◌++◌, length, drop, take, map, sym, ◌∙◌, ap, refl, subst, arith, length-take, length-drop}
-use Rattle.std.specs.Prelude.{ℤ, pos, negsuc, ◌&&◌, ◌==◌, not, if◌then◌else◌, nat_lt, slice_index, find, None, Some}
-use Rattle.std.specs.List.{flat_map}
-use Rattle.std.specs.Ordering.{int_eq}
-use Rattle.std.proofs.Math.Nat.{lt_of_mul-lt-mul_right}
-use Rattle.std.proofs.lemmas.Bool.{false≢true}
-use Rattle.std.proofs.lemmas.Bool.Decides.{Decides-int_eq}
-use Rattle.std.proofs.lemmas.Int.{ints}
-use Rattle.std.proofs.lemmas.List.{take-append-drop}
-use Rattle.nc_base.specs.declared.header.Att.{Att}
-use Rattle.nc_base.specs.declared.header.Dim.{Dim}
-use Rattle.nc_base.specs.declared.header.Header.{Header}
-use Rattle.nc_base.specs.declared.header.Var.{Var}
-use Rattle.nc_base.specs.declared.nc_type.NcType.{NcType}
-use Rattle.nc_base.specs.declared.nc_type.NcType.TheVariants.{Byte, Char, Short, Int, Ubyte, Ushort, Uint, Int64, Uint64}
-use Rattle.nc_base.specs.declared.version.Version.{Version}
-use Rattle.nc_base.specs.Fill.{fill_value, fill_of_att, fill_or_default, is_fill_att}
-use Rattle.nc_base.specs.Headers.{value_count, IsArray}
-use Rattle.nc_base.specs.Names.{IsName}
-use Rattle.nc_base.specs.Numbers.{numbers, bytes_of_number, IsInRange}
-use Rattle.nc_base.specs.Sizes.{dim_len, has_records, is_record_var, product, slab_count, slab_lens}
-use Rattle.nc_base.specs.ValueText.{Look, look_of, is_char, row_len}
-use Rattle.nc_base.specs.Sayable.{trimmed_att, trimmed_var}
-use Rattle.cdl_meaning.specs.State.{capacity_of, filled, fits, values_in}
-use Rattle.cdl_meaning.specs.Meaning.{array_of}
+use Rattle.std.proofs.Common.{◌≡◌, ℕ, zero, suc, ◌+◌, ◌*◌, ◌-◌, ◌<◌, ◌≤◌, Bool, true, false, List, [], ◌∷◌, ◌++◌, length, drop, take, map, sym, ◌∙◌, ap, refl, subst, arith, length-take, length-drop, ℤ, pos, negsuc, ◌&&◌, ◌==◌, not, if◌then◌else◌, nat_lt, slice_index, find, None, Some}
+use Rattle.cdl_laws.proofs.Prelude.{flat_map, int_eq, lt_of_mul-lt-mul_right, false≢true, Decides-int_eq, ints, take-append-drop, Att, Dim, Header, Var, NcType, Byte, Char, Short, Int, Ubyte, Ushort, Uint, Int64, Uint64, Version, fill_value, fill_of_att, fill_or_default, is_fill_att, value_count, IsArray, IsName, numbers, bytes_of_number, IsInRange, dim_len, has_records, is_record_var, product, slab_count, slab_lens, Look, look_of, is_char, row_len, trimmed_att, trimmed_var, capacity_of, filled, fits, values_in, array_of}
 use Rattle.cdl_laws.proofs.Attributes.{numbers_back, numbers_range, all_fit, all_small, count_is, numbers_len}
 use Rattle.cdl_laws.proofs.Bools.{and_left, off}
 use Rattle.cdl_laws.proofs.Characters.{flat}

@@ -1,26 +1,6 @@
 -- The statements of a dump, and what they say.
-use Rattle.std.proofs.Common.{◌≡◌, ℕ, suc, ◌+◌, ◌^◌, ◌<◌, ◌≤◌, Bool, true, false, List, [], ◌∷◌, ◌++◌, length, get_or, map, sym, ◌∙◌, ap, refl, subst, arith, append_assoc}
-use Rattle.std.specs.Prelude.{ℤ, unsigned_abs, ◌==◌, not, if◌then◌else◌, None, Some, codes}
-use Rattle.std.specs.Fmt.{signed_decimal}
-use Rattle.std.specs.List.{list_all, list_any, prefix_len}
-use Rattle.std.specs.Str.{bytes_eq}
-use Rattle.std.proofs.lemmas.Bool.{false≢true}
-use Rattle.std.proofs.lemmas.Slice.Eq.{bytes_eq-Decides}
-use Rattle.nc_base.specs.declared.nc_type.NcType.{NcType}
-use Rattle.nc_base.specs.declared.nc_type.NcType.TheVariants.{Byte, Char, Short, Int, Ubyte, Ushort, Uint, Int64, Uint64}
-use Rattle.nc_base.specs.declared.version.Version.{Version}
-use Rattle.nc_base.specs.Escapes.{escaped_name, is_plain, is_reserved, reserved_words}
-use Rattle.nc_base.specs.HeadText.{joined}
-use Rattle.nc_base.specs.Names.{IsName}
-use Rattle.nc_base.specs.Types.{type_word}
-use Rattle.nc_base.specs.ValueText.{Look, is_char, variable_text}
-use Rattle.cdl_statements.specs.declared.section.Section.TheVariants.{Values}
-use Rattle.cdl_tokens.specs.Bytes.{begins_word, goes_on_word}
-use Rattle.cdl_tokens.specs.Scan.{scan, word_len}
-use Rattle.cdl_statements.specs.Lexemes.{Lexeme, role}
-use Rattle.cdl_statements.specs.Pieces.{is_section}
-use Rattle.cdl_laws.specs.Reading.{lexemes_at}
-use Rattle.cdl_statements.specs.Shapes.{Value, Characters, Listed, both, constants, body}
+use Rattle.std.proofs.Common.{◌≡◌, ℕ, suc, ◌+◌, ◌^◌, ◌<◌, ◌≤◌, Bool, true, false, List, [], ◌∷◌, ◌++◌, length, get_or, map, sym, ◌∙◌, ap, refl, subst, arith, append_assoc, ℤ, unsigned_abs, ◌==◌, not, if◌then◌else◌, None, Some, codes}
+use Rattle.cdl_laws.proofs.Prelude.{signed_decimal, list_all, list_any, prefix_len, bytes_eq, false≢true, bytes_eq-Decides, NcType, Byte, Char, Short, Int, Ubyte, Ushort, Uint, Int64, Uint64, Version, escaped_name, is_plain, is_reserved, reserved_words, joined, IsName, type_word, Look, is_char, variable_text, Values, begins_word, goes_on_word, scan, word_len, Lexeme, role, is_section, lexemes_at, Value, Characters, Listed, both, constants, body}
 use Rattle.cdl_laws.proofs.Bools.{and_left, and_right, and_both}
 use Rattle.cdl_laws.proofs.Lists.{Each}
 use Rattle.cdl_laws.proofs.NameTexts.{no_escape}

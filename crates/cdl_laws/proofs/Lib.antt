@@ -38,13 +38,5 @@ pub mod TokensRead
 pub mod TextTokens
 pub mod PiecesRead
 pub mod RowsRead
-mod Samples
-mod Refused
-pub mod Generated
-mod GeneratedCdf5
-mod Witness
-mod Edges
-mod ByteClasses
-mod TokensOfTexts
-mod Misplaced
-mod Meanings
+mod examples
+pub mod Prelude

@@ -1,16 +1,6 @@
 -- What is read back keeps its limits.
-use Rattle.std.proofs.Common.{◌≡◌, ℕ, zero, suc, ◌+◌, ◌*◌, ◌<◌, ◌≤◌, Bool, true, false, List, [], ◌∷◌, ◌++◌, length, map, ◌∙◌, ap, refl, subst, arith}
-use Rattle.std.specs.Prelude.{◌&&◌, ◌==◌, if◌then◌else◌, nat_lt, nat_le, sum}
-use Rattle.std.specs.List.{list_all}
-use Rattle.nc_base.specs.declared.header.Dim.{Dim}
-use Rattle.nc_base.specs.declared.header.Header.{Header}
-use Rattle.nc_base.specs.declared.header.Var.{Var}
-use Rattle.nc_base.specs.declared.version.Version.{Version}
-use Rattle.nc_base.specs.Headers.{value_count, AreArrays, AreDimids, IsDimid}
-use Rattle.nc_base.specs.Sizes.{is_record_var, is_record_dim, slab_count, slab_lens, slab_size, product, dim_len, record_vars, record_size_of, padded_size, padded_total, slab_limit, array_limit}
-use Rattle.nc_base.specs.Types.{size_of}
-use Rattle.nc_base.specs.Sayable.{trimmed_var}
-use Rattle.cdl_meaning.specs.Meaning.{is_small}
+use Rattle.std.proofs.Common.{◌≡◌, ℕ, zero, suc, ◌+◌, ◌*◌, ◌<◌, ◌≤◌, Bool, true, false, List, [], ◌∷◌, ◌++◌, length, map, ◌∙◌, ap, refl, subst, arith, ◌&&◌, ◌==◌, if◌then◌else◌, nat_lt, nat_le, sum}
+use Rattle.cdl_laws.proofs.Prelude.{list_all, Dim, Header, Var, Version, value_count, AreArrays, AreDimids, IsDimid, is_record_var, is_record_dim, slab_count, slab_lens, slab_size, product, dim_len, record_vars, record_size_of, padded_size, padded_total, slab_limit, array_limit, size_of, trimmed_var, is_small}
 use Rattle.cdl_laws.proofs.Bools.{and_both}
 use Rattle.cdl_laws.proofs.DataTexts.{given_draft, given_drafts}
 use Rattle.cdl_laws.proofs.Datasets.{AreBack, listings}

@@ -1,24 +1,8 @@
 -- Tokens have places and lines, and lexemes have none: what all pieces make of a state is the same.
-use Rattle.std.proofs.Common.{◌≡◌, ℕ, zero, suc, ◌+◌, ◌-◌, Bool, true, false, List, [], ◌∷◌, drop, take, map, sym, ◌∙◌, ap, refl, arith}
-use Rattle.std.specs.Prelude.{◌&&◌, Option, None, Some, is_none, Result, Ok, Err}
-use Rattle.std.proofs.lemmas.List.{drop-drop}
-use Rattle.nc_base.specs.declared.version.Version.{Version}
-use Rattle.cdl_statements.specs.declared.fault.CdlFault.{CdlFault}
-use Rattle.cdl_statements.specs.declared.fault.CdlKind.{CdlKind}
-use Rattle.cdl_tokens.specs.declared.token.TokenKind.{TokenKind}
+use Rattle.std.proofs.Common.{◌≡◌, ℕ, zero, suc, ◌+◌, ◌-◌, Bool, true, false, List, [], ◌∷◌, drop, take, map, sym, ◌∙◌, ap, refl, arith, ◌&&◌, Option, None, Some, is_none, Result, Ok, Err}
+use Rattle.cdl_laws.proofs.Prelude.{drop-drop, Version, CdlFault, CdlKind, TokenKind, Role, CutState, Token, scan, Lexeme, lexeme, first_role, role, run, piece_read, line_of, statements, pieces_after, with_first, step, pieces_by_steps, cut_lexemes, lexemes_at, lexemes, with_lexeme, State, in_turn, tokens_at, tokens, with_token, token_at}
 use Rattle.cdl_tokens.specs.declared.token.TokenKind.TheVariants as kinds
-use Rattle.cdl_statements.specs.declared.piece.Role.{Role}
-use Rattle.cdl_statements.specs.declared.piece.CutState.{CutState}
 use Rattle.cdl_statements.specs.declared.piece.CutState.TheVariants as places
-use Rattle.cdl_tokens.specs.declared.token.Token.{Token}
-use Rattle.cdl_tokens.specs.Scan.{scan}
-use Rattle.cdl_statements.specs.Lexemes.{Lexeme, lexeme, role}
-use Rattle.cdl_meaning.specs.Meaning.{run, piece_read, line_of}
-use Rattle.cdl_statements.specs.Statements.{statements}
-use Rattle.cdl_statements.specs.Pieces.{pieces_at, with_first, first_role, step}
-use Rattle.cdl_laws.specs.Reading.{lexemes_at, lexemes, with_lexeme}
-use Rattle.cdl_meaning.specs.State.{State, in_turn}
-use Rattle.cdl_tokens.specs.Tokens.{tokens_at, tokens, with_token, token_at}
 
 -- ---- tokens
 
@@ -57,18 +41,22 @@ first_map : {X Y : Type 0} (f : X → Y) (role : Y → Role) (ts : List X) → f
 first_map f role [] = refl
 first_map f role (t ∷ ts) = refl
 
-pieces_map : {X Y : Type 0} (f : X → Y) (role : Y → Role) (place : CutState) (ts : List X) → map (map f) (pieces_at (λ t. role (f t)) place ts) ≡ pieces_at role place (map f ts)
-unfolding pieces_at
+pieces_map : {X Y : Type 0} (f : X → Y) (role : Y → Role) (place : CutState) (ts : List X) → map (map f) (pieces_after (λ t. role (f t)) place ts) ≡ pieces_after role place (map f ts)
+unfolding pieces_after
 pieces_map f role place [] = refl
 pieces_map f role place (t ∷ ts) =
-    let rest : Role → List (List _) = λ n. with_first (step place (role (f t)) n).ends (f t) (pieces_at role (step place (role (f t)) n).state (map f ts)) in
+    let rest : Role → List (List _) = λ n. with_first (step place (role (f t)) n).ends (f t) (pieces_after role (step place (role (f t)) n).state (map f ts)) in
     let n = first_role (λ u. role (f u)) ts in
-    with_first_map f (step place (role (f t)) n).ends t (pieces_at (λ u. role (f u)) (step place (role (f t)) n).state ts) ∙
+    with_first_map f (step place (role (f t)) n).ends t (pieces_after (λ u. role (f u)) (step place (role (f t)) n).state ts) ∙
     ap (with_first (step place (role (f t)) n).ends (f t)) (pieces_map f role (step place (role (f t)) n).state ts) ∙
     ap rest (first_map f role ts)
 
-pub pieces_are : (text : List ℕ) → map (map (lexeme text)) (statements text) ≡ pieces_at role places.Begins (lexemes text)
-pieces_are text = pieces_map (lexeme text) role places.Begins (tokens text) ∙ ap (pieces_at role places.Begins) (lexemes_are text true 0 0 text refl)
+pub pieces_are : (text : List ℕ) → map (map (lexeme text)) (statements text) ≡ cut_lexemes (lexemes text)
+pieces_are text =
+    ap (map (map (lexeme text))) (pieces_by_steps (lexeme text) (tokens text)) ∙
+    pieces_map (lexeme text) role places.Begins (tokens text) ∙
+    sym (pieces_by_steps (λ l. l) (map (lexeme text) (tokens text))) ∙
+    ap cut_lexemes (lexemes_are text true 0 0 text refl)
 
 -- ---- what they make of a state
 

@@ -1,6 +1,5 @@
 -- Lists, one element at a time.
-use Rattle.std.proofs.Common.{zero, suc, List, [], ◌∷◌, arith}
-use Rattle.std.specs.Prelude.{All}
+use Rattle.std.proofs.Common.{zero, suc, List, [], ◌∷◌, arith, All}
 
 -- P holds of each element
 abbrev pub Each : {X : Type 0} → (X → Type 0) → List X → Type 0

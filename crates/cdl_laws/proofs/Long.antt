@@ -1,29 +1,8 @@
 -- The limit is needed: a text with an attribute of 2^31 characters has a meaning in the first version, which no file can hold.
-use Rattle.std.proofs.Common.{◌≡◌, ℕ, ◌-◌, ◌*◌, ◌^◌, ◌≤◌, ◌<◌, false, List, [], ◌∷◌, ◌++◌, length, sym, ◌∙◌, ap, refl, subst, arith, zero, suc, take, get_or, replicate}
-use Rattle.std.proofs.Math.Seq.{take-length}
-use Rattle.std.proofs.lemmas.List.{length-replicate, get_or-replicate}
-use Rattle.std.proofs.lemmas.List.Sums.{suffix_len-take_no}
-use Rattle.std.specs.Prelude.{codes, None, Ok, ◌==◌, nat_lt, true}
-use Rattle.std.specs.List.{list_all, suffix_len}
-use Rattle.std.specs.Str.{is_utf8, chars}
+use Rattle.std.proofs.Common.{◌≡◌, ℕ, ◌-◌, ◌*◌, ◌^◌, ◌≤◌, ◌<◌, false, List, [], ◌∷◌, ◌++◌, length, sym, ◌∙◌, ap, refl, subst, arith, zero, suc, take, get_or, replicate, codes, None, Ok, ◌==◌, nat_lt, true}
+use Rattle.cdl_laws.proofs.Prelude.{take-length, length-replicate, get_or-replicate, suffix_len-take_no, list_all, suffix_len, is_utf8, chars, Dataset, Att, Known, Char, Cdf1, Options, shown_values, content_of, selection_of, dump_text, IsGood, without_trailing_nuls, IsName, meaning, is_small_enough, IsFull, trimmed, concat_parts, is_reserved, escaped_name, netcdf_word, global_word, number_values, char_values, att_line, att_lines, dim_lines, dims_text, vars_text, gatts_text, head_text, broken_text, data_word, closing_word, LimitIsNeeded}
 use lib.Utf8.{encode}
-use Rattle.nc_base.specs.declared.dataset.Dataset.{Dataset}
-use Rattle.nc_base.specs.declared.header.Att.{Att}
-use Rattle.nc_base.specs.declared.header.NumRecs.TheVariants.{Known}
-use Rattle.nc_base.specs.declared.nc_type.NcType.TheVariants.{Char}
-use Rattle.nc_base.specs.declared.version.Version.TheVariants.{Cdf1}
-use Rattle.nc_base.specs.Dump.{Options, Section, shown_values, content_of, selection_of, dump_text}
-use Rattle.nc_base.specs.Headers.{IsGood}
-use Rattle.nc_base.specs.HeadText.{without_trailing_nuls}
-use Rattle.nc_base.specs.Names.{IsName}
-use Rattle.cdl_meaning.specs.Meaning.{meaning, is_small_enough}
-use Rattle.cdl_laws.specs.RoundTrip.{IsFull}
-use Rattle.nc_base.specs.Sayable.{trimmed}
-use Rattle.nc_base.specs.Bytes.{concat_parts}
-use Rattle.nc_base.specs.Escapes.{is_reserved, escaped_name}
-use Rattle.nc_base.specs.HeadText.{netcdf_word, global_word, number_values, char_values, att_line, att_lines, dim_lines, dims_text, vars_text, gatts_text, head_text, broken_text}
-use Rattle.nc_base.specs.Dump.{data_word, closing_word}
-use Rattle.cdl_laws.specs.Goods.{LimitIsNeeded}
+use Rattle.nc_base.specs.Dump.{Section}
 use Rattle.cdl_laws.proofs.MeaningsAreGood.{are_bytes}
 use Rattle.cdl_laws.proofs.Bools.{and_left, and_right}
 use Rattle.cdl_laws.proofs.Lists.{Each}

@@ -1,39 +1,7 @@
 -- What a text means is good.
-use Rattle.std.proofs.Common.{◌≡◌, ℕ, ◌+◌, ◌-◌, ◌*◌, ◌/◌, ◌≤◌, ◌<◌, Bool, true, false, List, [], ◌∷◌, length, map, max, sym, ◌∙◌, ap, refl, subst, arith, zero, suc}
-use Rattle.std.proofs.lemmas.List.{length-append, length-map}
-use Rattle.std.proofs.Math.Nat.{div-lt_iff_lt-mul, lt-div-mul-add, mul_comm, mul-le-mul_left}
-use Rattle.std.specs.Prelude.{ℤ, if◌then◌else◌, Option, None, Some, Result, Ok, Err, ◌||◌, find, nat_le, codes, All}
-use Rattle.std.specs.List.{flat_map, list_all}
-use Rattle.nc_base.specs.Bytes.{AreBytes}
-use Rattle.nc_base.specs.declared.dataset.Dataset.{Dataset}
-use Rattle.nc_base.specs.declared.header.Att.{Att}
-use Rattle.nc_base.specs.declared.header.Dim.{Dim}
-use Rattle.nc_base.specs.declared.header.NumRecs.TheVariants.{Known}
-use Rattle.nc_base.specs.declared.header.Var.{Var}
-use Rattle.nc_base.specs.declared.nc_type.NcType.{NcType}
-use Rattle.nc_base.specs.declared.nc_type.NcType.TheVariants.{Int}
-use Rattle.nc_base.specs.declared.version.Version.{Version}
-use Rattle.nc_base.specs.declared.version.Version.TheVariants.{Cdf1, Cdf2, Cdf5}
-use Rattle.nc_base.specs.Fill.{fill_value}
-use Rattle.nc_base.specs.Headers.{IsGood, IsSound, IsSoundAtt, IsSoundVar, IsSoundDim, IsArray, AreArrays, bare_var, value_count}
-use Rattle.nc_base.specs.Names.{IsName}
-use Rattle.nc_base.specs.Numbers.{bytes_of_number}
-use Rattle.nc_base.specs.Sizes.{is_record_var, record_vars, slab_count, slab_size, record_size, slab_limit, array_limit, record_limit}
-use Rattle.nc_base.specs.Types.{size_of, all_types, type_word}
-use Rattle.nc_base.specs.Versions.{count_limit, has_type}
-use Rattle.cdl_laws.specs.Goods.{MeaningsAreGood, MeaningsAreNearlySayable, IsNearlySayable, NearlyIsSayable}
-use Rattle.cdl_meaning.specs.Meaning.{text_limit}
-use Rattle.cdl_statements.specs.Lexemes.{Lexeme, lexeme, is_word}
-use Rattle.cdl_statements.specs.Statements.{statements}
-use Rattle.cdl_meaning.specs.Meaning.{shaped, checked, piece_read, line_of, run, empty, values_of, records_of, records_in, array_of, header_of, dataset_of, is_small, is_small_enough, closing_line, finished, meaning}
-use Rattle.nc_base.specs.Sayable.{AreDistinct, AreSayableAtts, HasSomeNumber}
-use Rattle.cdl_statements.specs.Shapes.{Statement, Opening, Mark, Declared, Typed, Attribute, Listed, Brace, End, shape, first_bad}
-use Rattle.cdl_meaning.specs.State.{State, Draft, act, add_dim, add_var, add_att, at_variable, with_att, with_values, type_of, is_word_of, found, in_turn, ◌>>=◌, filled}
-use Rattle.cdl_statements.specs.declared.fault.CdlFault.{CdlFault}
-use Rattle.cdl_statements.specs.declared.fault.CdlKind.{CdlKind}
-use Rattle.cdl_statements.specs.declared.fault.CdlKind.TheVariants.{FloatingType, UnknownType, TooLarge}
-use Rattle.cdl_statements.specs.declared.section.Section.{Section}
-use Rattle.cdl_tokens.specs.declared.token.Token.{Token}
+use Rattle.std.proofs.Common.{◌≡◌, ℕ, ◌+◌, ◌-◌, ◌*◌, ◌/◌, ◌≤◌, ◌<◌, Bool, true, false, List, [], ◌∷◌, length, map, max, sym, ◌∙◌, ap, refl, subst, arith, zero, suc, ℤ, if◌then◌else◌, Option, None, Some, Result, Ok, Err, ◌||◌, find, nat_le, codes, All}
+use Rattle.cdl_laws.proofs.Prelude.{length-append, length-map, div-lt_iff_lt-mul, lt-div-mul-add, mul_comm, mul-le-mul_left, flat_map, list_all, AreBytes, Dataset, Att, Dim, Known, Var, NcType, Int, Version, Cdf1, Cdf2, Cdf5, fill_value, IsGood, IsSound, IsSoundAtt, IsSoundVar, IsSoundDim, IsArray, AreArrays, bare_var, value_count, IsName, bytes_of_number, is_record_var, record_vars, slab_count, slab_size, record_size, slab_limit, array_limit, record_limit, size_of, all_types, type_word, count_limit, has_type, MeaningsAreGood, MeaningsAreNearlySayable, IsNearlySayable, NearlyIsSayable, text_limit, Lexeme, lexeme, is_word, statements, shaped, checked, piece_read, line_of, run, empty, values_of, records_of, records_in, array_of, header_of, dataset_of, is_small, is_small_enough, closing_line, finished, meaning, AreDistinct, AreSayableAtts, HasSomeNumber, Statement, Opening, Mark, Declared, Typed, Attribute, Listed, Brace, End, shape, first_bad, State, Draft, act, add_dim, add_var, add_att, at_variable, with_att, with_values, type_of, is_word_of, found, in_turn, filled, CdlFault, CdlKind, FloatingType, UnknownType, TooLarge, Section, Token}
+use Rattle.cdl_meaning.specs.State.{◌>>=◌}
 use Rattle.cdl_laws.proofs.Bools.{and_left, and_right}
 use Rattle.cdl_laws.proofs.Limits.{slab_some}
 use Rattle.cdl_laws.proofs.Lists.{Each, each_map}

@@ -1,17 +1,6 @@
 -- A valid name, escaped, is one word that stands for it.
-use Rattle.std.proofs.Common.{◌≡◌, ℕ, Bool, true, false, List, [], ◌∷◌, ◌++◌, length, get_or, drop, sym, ◌∙◌, ap, refl, subst, arith}
-use Rattle.std.specs.Prelude.{nat_le, ◌&&◌, ◌||◌, ◌==◌, if◌then◌else◌, not}
-use Rattle.std.specs.Char.{is_ascii_digit}
-use Rattle.std.specs.Int.{is_in_range}
-use Rattle.std.specs.List.{flat_map, list_all}
-use Rattle.std.specs.Str.{bytes_eq}
-use Rattle.std.proofs.lemmas.Bool.{false≢true, eqb-true}
-use Rattle.std.proofs.lemmas.Slice.Eq.{bytes_eq-Decides}
-use Rattle.nc_base.specs.Escapes.{is_plain, is_name_mark, escaped_in_name, escaped_name, is_reserved, reserved_words, begins_with_digit_or_mark}
-use Rattle.nc_base.specs.Names.{may_begin_name, may_follow_in_name, is_beyond_ascii}
-use Rattle.cdl_tokens.specs.Bytes.{is_escape, is_escapable, goes_on_word, begins_word}
-use Rattle.cdl_tokens.specs.Scan.{word_len, begins_a_word}
-use Rattle.cdl_tokens.specs.Escapes.{word_value}
+use Rattle.std.proofs.Common.{◌≡◌, ℕ, Bool, true, false, List, [], ◌∷◌, ◌++◌, length, get_or, drop, sym, ◌∙◌, ap, refl, subst, arith, nat_le, ◌&&◌, ◌||◌, ◌==◌, if◌then◌else◌, not}
+use Rattle.cdl_laws.proofs.Prelude.{is_ascii_digit, is_in_range, flat_map, list_all, bytes_eq, false≢true, eqb-true, bytes_eq-Decides, is_plain, is_name_mark, escaped_in_name, escaped_name, is_reserved, reserved_words, begins_with_digit_or_mark, may_begin_name, may_follow_in_name, is_beyond_ascii, is_escape, is_escapable, goes_on_word, begins_word, word_len, begins_a_word, word_value}
 use Rattle.cdl_laws.proofs.Words.{word_prefix, and_false}
 use Rattle.cdl_laws.proofs.Bools.{and_left, and_right, or_left, or_right, of_any}
 

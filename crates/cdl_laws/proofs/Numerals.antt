@@ -1,26 +1,10 @@
 -- A decimal number is read again.
-use Rattle.std.proofs.Common.{◌≡◌, ℕ, zero, suc, ◌+◌, ◌*◌, ◌/◌, ◌%◌, ◌^◌, ◌<◌, ◌≤◌, Bool, true, false, List, [], ◌∷◌, ◌++◌, length, get_or, drop, sym, ◌∙◌, ap, refl, arith, append-nil}
-use Rattle.std.specs.Prelude.{ℤ, pos, negsuc, unsigned_abs, decimal, ◌==◌, not, if◌then◌else◌, Some, nat_lt, Option}
-use Rattle.std.specs.Fmt.{signed_decimal, digits_onto, digits, digit_glyph}
-use Rattle.std.specs.List.{prefix_len, list_all}
+use Rattle.std.proofs.Common.{◌≡◌, ℕ, zero, suc, ◌+◌, ◌*◌, ◌/◌, ◌%◌, ◌^◌, ◌<◌, ◌≤◌, Bool, true, false, List, [], ◌∷◌, ◌++◌, length, get_or, drop, sym, ◌∙◌, ap, refl, arith, append-nil, ℤ, pos, negsuc, unsigned_abs, decimal, ◌==◌, not, if◌then◌else◌, Some, nat_lt, Option}
+use Rattle.cdl_laws.proofs.Prelude.{signed_decimal, digits_onto, digits, digit_glyph, prefix_len, list_all, eqb-true, first_decimal, decimal_nonempty, drop-append_seam, take-append_seam, NcType, Byte, Char, Short, Int, Ubyte, Ushort, Uint, Int64, Uint64, Version, Cdf1, Cdf2, Cdf5, number_suffix, is_char, has_type, digit, is_digit, is_sign, goes_on_number, number_in, suffix, in_base, unsigned, numeral, parts, Parts, option_map, list_all-append}
 use native.Mathlib.Numerals.{unary_clauses}
-use Rattle.std.proofs.lemmas.Bool.{eqb-true}
-use Rattle.std.proofs.lemmas.Fmt.{first_decimal, decimal_nonempty}
-use Rattle.std.proofs.Math.Seq.{drop-append_seam, take-append_seam}
-use Rattle.nc_base.specs.declared.nc_type.NcType.{NcType}
-use Rattle.nc_base.specs.declared.nc_type.NcType.TheVariants.{Byte, Char, Short, Int, Ubyte, Ushort, Uint, Int64, Uint64}
-use Rattle.nc_base.specs.declared.version.Version.{Version}
-use Rattle.nc_base.specs.declared.version.Version.TheVariants.{Cdf1, Cdf2, Cdf5}
-use Rattle.nc_base.specs.Types.{number_suffix}
-use Rattle.nc_base.specs.ValueText.{is_char}
-use Rattle.nc_base.specs.Versions.{has_type}
-use Rattle.cdl_tokens.specs.Bytes.{is_digit, is_sign, goes_on_number}
-use Rattle.cdl_tokens.specs.Escapes.{digit}
-use Rattle.cdl_tokens.specs.Numerals.{number as number_of, number_in, suffix, with_suffix, in_base, unsigned, numeral, parts, Parts}
-use Rattle.std.specs.Option.{option_map}
+use Rattle.cdl_tokens.specs.Numerals.{number as number_of}
 use Rattle.cdl_laws.proofs.Bools.{and_left, and_right, and_both, off}
 use Rattle.cdl_laws.proofs.Texts.{Reads, number, digits_read, minus_reads}
-use Rattle.std.proofs.lemmas.List.Folds.{list_all-append}
 
 -- ---- the digits of a number
 
@@ -81,6 +65,10 @@ no_sign d h = grind (arith, h)
 
 some_one : (n : ℕ) → (suc n == 0) ≡ false
 some_one n = grind arith
+
+-- the number with the type of its suffix
+abbrev with_suffix : Bool → ℕ → Option NcType → Option Parts
+with_suffix minus n suf = option_map (λ ty. record { minus = minus; magnitude = n; ty = ty }) suf
 
 based : (v : Version) (minus : Bool) (d : ℕ) (ds suf : List ℕ) (n : ℕ) → n ≡ length (d ∷ ds) →
     in_base v minus 10 n ((d ∷ ds) ++ suf) ≡ with_suffix minus (number_in 10 0 (d ∷ ds)) (suffix v suf)

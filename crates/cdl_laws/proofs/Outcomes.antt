@@ -1,10 +1,8 @@
 -- What holds of what an option or a result has, and of lists by totals.
-use Rattle.std.proofs.Common.{◌≡◌, ℕ, ◌+◌, ◌≤◌, Bool, true, false, List, [], ◌∷◌, ◌++◌, refl, subst, arith, zero, suc}
-use Rattle.std.specs.Prelude.{All, if◌then◌else◌, Option, None, Some, Result, Ok, Err, ⊤, take, drop}
-use Rattle.std.specs.Option.{option_map, option_and_then}
-use Rattle.cdl_meaning.specs.State.{in_turn, unless, when, found, ◌>>=◌}
-use Rattle.cdl_statements.specs.Shapes.{both, each, either, given}
-use Rattle.cdl_statements.specs.declared.fault.CdlKind.{CdlKind}
+use Rattle.std.proofs.Common.{◌≡◌, ℕ, ◌+◌, ◌≤◌, Bool, true, false, List, [], ◌∷◌, ◌++◌, refl, subst, arith, zero, suc, All, if◌then◌else◌, Option, None, Some, Result, Ok, Err, take, drop}
+use Rattle.std.specs.Prelude.{⊤}
+use Rattle.cdl_laws.proofs.Prelude.{option_map, option_and_then, in_turn, unless, when, found, both, each, either, given, CdlKind}
+use Rattle.cdl_meaning.specs.State.{◌>>=◌}
 use Rattle.cdl_laws.proofs.Lists.{Each}
 
 -- ---- options

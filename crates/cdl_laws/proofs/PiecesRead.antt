@@ -1,27 +1,7 @@
 -- A dump is cut into the statements that it was put together from.
-use Rattle.std.proofs.Common.{◌≡◌, ℕ, true, false, List, [], ◌∷◌, ◌++◌, map, sym, ◌∙◌, ap, refl, subst, arith, append-nil}
-use Rattle.std.specs.Prelude.{slice_index_or, None, Some, codes}
-use Rattle.nc_base.specs.Bytes.{concat_parts}
-use Rattle.nc_base.specs.declared.header.Att.{Att}
-use Rattle.nc_base.specs.declared.header.Dim.{Dim}
-use Rattle.nc_base.specs.declared.header.Var.{Var}
-use Rattle.nc_base.specs.declared.version.Version.{Version}
-use Rattle.nc_base.specs.Escapes.{escaped_name}
-use Rattle.nc_base.specs.Headers.{AreDimids}
-use Rattle.nc_base.specs.HeadText.{netcdf_word, dim_line, global_word, var_lines, att_line, att_lines, shape_text}
-use Rattle.nc_base.specs.Names.{IsName}
-use Rattle.nc_base.specs.Types.{type_word}
-use Rattle.nc_base.specs.Versions.{has_type}
-use Rattle.cdl_statements.specs.declared.piece.CutState.TheVariants.{Begins}
-use Rattle.cdl_statements.specs.declared.section.Section.{Section}
-use Rattle.cdl_statements.specs.declared.section.Section.TheVariants.{Unopened, Globals, Dimensions, Variables, Values, Closed}
+use Rattle.std.proofs.Common.{◌≡◌, ℕ, true, false, List, [], ◌∷◌, ◌++◌, map, sym, ◌∙◌, ap, refl, subst, arith, append-nil, slice_index_or, None, Some, codes}
+use Rattle.cdl_laws.proofs.Prelude.{concat_parts, Att, Dim, Var, Version, escaped_name, AreDimids, netcdf_word, dim_line, global_word, var_lines, att_line, att_lines, shape_text, IsName, type_word, has_type, Section, Unopened, Globals, Dimensions, Variables, Values, Closed, scan, pieces_at, Statement, Opening, Mark, Brace, End, Declared, Typed, Attribute, shape, SaysStatement, IsStatement, PiecesAreStatements, MarksReadBack, opening_line, opening_piece, brace_piece, end_piece, said_dim, DimensionsReadBack, declaration, DeclarationReadsBack, DeclarationsReadBack, IsBeforeData, globals, dimensions, AttributeReadsBack, AttributesReadBack, GlobalAttributesReadBack, cut_lexemes, lexemes, lexemes_at, pieces_of}
 use Rattle.cdl_tokens.specs.declared.token.TokenKind.TheVariants as kinds
-use Rattle.cdl_tokens.specs.Scan.{scan}
-use Rattle.cdl_statements.specs.Lexemes.{role}
-use Rattle.cdl_statements.specs.Pieces.{pieces_at}
-use Rattle.cdl_statements.specs.Shapes.{Statement, Opening, Mark, Brace, End, Declared, Typed, Attribute, shape}
-use Rattle.cdl_laws.specs.PieceLaws.{SaysStatement, IsStatement, PiecesAreStatements, MarksReadBack, opening_line, opening_piece, brace_piece, end_piece, said_dim, DimensionsReadBack, declaration, DeclarationReadsBack, DeclarationsReadBack, IsBeforeData, globals, dimensions, AttributeReadsBack, AttributesReadBack, GlobalAttributesReadBack}
-use Rattle.cdl_laws.specs.Reading.{lexemes, lexemes_at, pieces_of}
 use Rattle.cdl_laws.proofs.Acts.{AreDistinctDims, HaveNames, ids_added, name_at, type_is}
 use Rattle.cdl_laws.proofs.Declarations.{dim_says, global_says, owned_says}
 use Rattle.cdl_laws.proofs.Ends.{dimensions_says, variables_says, data_says, opening_lexemes, opening_piece as opening_cut}
@@ -38,7 +18,7 @@ pub is_statement : (v : Version) (section : Section) (bytes : List ℕ) (stateme
 unfolding pieces_of
 is_statement v section bytes statement says = record {
   piece = says.piece;
-  cut = λ rest. ap (pieces_at role Begins) (says.reads rest) ∙ says.cut (lexemes_at false 0 rest);
+  cut = λ rest. ap cut_lexemes (says.reads rest) ∙ says.cut (lexemes_at false 0 rest);
   says = record { sound = says.sound; shaped = says.shaped };
 }
 
@@ -52,11 +32,11 @@ unfolding concat_parts netcdf_word
 line_is name = ap (λ bs. codes "netcdf " ++ (escaped_name name ++ bs)) (append-nil (codes " {"))
 
 opening_back : (name rest : List ℕ) → IsName name →
-    pieces_at role Begins (lexemes (opening_line name ++ 10 ∷ rest)) ≡ opening_piece name ∷ pieces_of rest
+    cut_lexemes (lexemes (opening_line name ++ 10 ∷ rest)) ≡ opening_piece name ∷ pieces_of rest
 unfolding pieces_of
 opening_back name rest h =
-    subst (λ l. pieces_at role Begins (lexemes (l ++ 10 ∷ rest)) ≡ (record { kind = kinds.Opening; bytes = l } ∷ []) ∷ pieces_of rest) (sym (line_is name))
-    (ap (pieces_at role Begins) (opening_lexemes name rest h) ∙ opening_cut (codes "netcdf " ++ (escaped_name name ++ codes " {")) (lexemes_at false 0 rest))
+    subst (λ l. cut_lexemes (lexemes (l ++ 10 ∷ rest)) ≡ (record { kind = kinds.Opening; bytes = l } ∷ []) ∷ pieces_of rest) (sym (line_is name))
+    (ap cut_lexemes (opening_lexemes name rest h) ∙ opening_cut (codes "netcdf " ++ (escaped_name name ++ codes " {")) (lexemes_at false 0 rest))
 
 after_globals : (v : Version) → shape v Globals (record { kind = kinds.Word; bytes = codes "variables" } ∷ record { kind = kinds.Mark; bytes = codes ":" } ∷ []) ≡ Some (Mark Variables)
 unfolding shape

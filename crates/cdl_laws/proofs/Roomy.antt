@@ -1,18 +1,7 @@
 -- No more is listed of a variable than it has values, over as many records as the text has bytes.
-use Rattle.std.proofs.Common.{◌≡◌, ℕ, ◌+◌, ◌-◌, ◌*◌, ◌≤◌, ◌<◌, Bool, true, false, List, [], ◌∷◌, ◌++◌, length, map, replicate, sym, ◌∙◌, ap, refl, arith, zero, suc}
-use Rattle.std.proofs.lemmas.List.{length-append, length-replicate, length-map}
-use Rattle.std.proofs.lemmas.Grind.{flat_map-append}
-use Rattle.std.proofs.Math.Nat.{mul-le-mul_right, mul_comm, mul-le-mul}
-use Rattle.std.specs.Prelude.{ℤ, pos, if◌then◌else◌, Some, Result, Ok, ◌||◌, not, nat_lt, nat_le}
-use Rattle.nc_base.specs.declared.header.Dim.{Dim}
-use Rattle.nc_base.specs.declared.header.Var.{Var}
-use Rattle.nc_base.specs.declared.version.Version.{Version}
-use Rattle.nc_base.specs.Fill.{fill_value}
-use Rattle.nc_base.specs.ValueText.{is_char}
-use Rattle.cdl_statements.specs.Shapes.{Value, Number, Characters, Underscore}
-use Rattle.cdl_meaning.specs.State.{Draft, Listing, Numbers, Joined, Rows, Capacity, capacity_of, in_turn, unless, ◌>>=◌, fits, filled, add_number, add_characters, add_row, listed_by, listing_of, values_in, is_listed, with_values}
-use Rattle.cdl_statements.specs.declared.fault.CdlKind.{CdlKind}
-use Rattle.cdl_statements.specs.declared.fault.CdlKind.TheVariants.{TooManyValues, StringTooLong, DuplicateData, NumberRange}
+use Rattle.std.proofs.Common.{◌≡◌, ℕ, ◌+◌, ◌-◌, ◌*◌, ◌≤◌, ◌<◌, Bool, true, false, List, [], ◌∷◌, ◌++◌, length, map, replicate, sym, ◌∙◌, ap, refl, arith, zero, suc, ℤ, pos, if◌then◌else◌, Some, Result, Ok, ◌||◌, not, nat_lt, nat_le}
+use Rattle.cdl_laws.proofs.Prelude.{length-append, length-replicate, length-map, flat_map-append, mul-le-mul_right, mul_comm, mul-le-mul, Dim, Var, Version, fill_value, is_char, Value, Number, Characters, Underscore, Draft, Listing, Numbers, Joined, Rows, Capacity, capacity_of, in_turn, unless, fits, filled, add_number, add_characters, add_row, listed_by, listing_of, values_in, is_listed, with_values, CdlKind, TooManyValues, StringTooLong, DuplicateData, NumberRange}
+use Rattle.cdl_meaning.specs.State.{◌>>=◌}
 use Rattle.cdl_laws.proofs.Bools.{off}
 use Rattle.cdl_laws.proofs.Given.{slab_rows}
 use Rattle.cdl_laws.proofs.Limits.{slab_some}

@@ -1,25 +1,6 @@
 -- The values that the text of a variable lists give its array.
-use Rattle.std.proofs.Common.{◌≡◌, ℕ, zero, suc, true, false, List, [], ◌∷◌, length, sym, ◌∙◌, ap, refl, subst, arith}
-use Rattle.std.specs.Prelude.{ℤ, All, Some, slice_get, slice_index_or}
-use Rattle.std.specs.List.{flat_map}
-use Rattle.nc_base.specs.declared.dataset.Dataset.{Dataset}
-use Rattle.nc_base.specs.declared.header.Att.{Att}
-use Rattle.nc_base.specs.declared.header.Dim.{Dim}
-use Rattle.nc_base.specs.declared.header.Header.{Header}
-use Rattle.nc_base.specs.declared.header.NumRecs.TheVariants.{Known}
-use Rattle.nc_base.specs.declared.header.Var.{Var}
-use Rattle.nc_base.specs.Dump.{content_of}
-use Rattle.nc_base.specs.Fill.{fill_value}
-use Rattle.nc_base.specs.Headers.{IsArray, AreArrays, value_count}
-use Rattle.nc_base.specs.Names.{IsName}
-use Rattle.nc_base.specs.Numbers.{bytes_of_number}
-use Rattle.nc_base.specs.Sayable.{IsSayable, IsSayableVar, trimmed_var}
-use Rattle.nc_base.specs.ValueText.{is_char, look_of, variable_text}
-use Rattle.cdl_statements.specs.declared.section.Section.TheVariants.{Values}
-use Rattle.cdl_statements.specs.Shapes.{Listed}
-use Rattle.cdl_meaning.specs.Meaning.{array_of}
-use Rattle.cdl_meaning.specs.State.{Capacity, capacity_of, filled, listing_of, values_in}
-use Rattle.cdl_laws.specs.PieceLaws.{DataReadsBack}
+use Rattle.std.proofs.Common.{◌≡◌, ℕ, zero, suc, true, false, List, [], ◌∷◌, length, sym, ◌∙◌, ap, refl, subst, arith, ℤ, All, Some, slice_get, slice_index_or}
+use Rattle.cdl_laws.proofs.Prelude.{flat_map, Dataset, Att, Dim, Header, Known, Var, content_of, fill_value, IsArray, AreArrays, value_count, IsName, bytes_of_number, IsSayable, IsSayableVar, trimmed_var, is_char, look_of, variable_text, Values, Listed, array_of, Capacity, capacity_of, filled, listing_of, values_in, DataReadsBack}
 use Rattle.cdl_laws.specs.RowLaws.{RowReadsBack, RowsReadBack, EmptyRowsReadBack}
 use Rattle.cdl_laws.proofs.Arrays.{row_back, no_bytes}
 use Rattle.cdl_laws.proofs.DataTexts.{Gives, given_draft}

@@ -1,21 +1,10 @@
 -- What the shapes give: names, counts and types of what a statement says, against the bytes of its tokens.
-use Rattle.std.proofs.Common.{◌≡◌, ℕ, ◌+◌, ◌-◌, ◌*◌, ◌≤◌, ◌<◌, Bool, true, false, List, [], ◌∷◌, length, refl, arith, zero, suc}
-use Rattle.std.proofs.lemmas.List.{length-take, length-drop}
-use Rattle.std.specs.Prelude.{if◌then◌else◌, Option, None, Some, take, drop, ◌&&◌, ◌||◌, not, ◌==◌, slice_index, codes, ℤ, map, nat_lt}
-use Rattle.std.specs.Option.{option_map, option_and_then}
-use Rattle.std.specs.List.{prefix_len}
-use Rattle.nc_base.specs.Escapes.{is_reserved}
-use Rattle.nc_base.specs.declared.nc_type.NcType.{NcType}
-use Rattle.nc_base.specs.declared.version.Version.{Version}
-use Rattle.nc_base.specs.Versions.{has_type}
-use Rattle.cdl_tokens.specs.Bytes.{is_digit, is_octal, is_hex, is_escape, is_sign}
-use Rattle.cdl_tokens.specs.Escapes.{byte, character, digit, escape, hex_escape, inner, octal_escape, octal_number, or_zero, plain_escape, stands_at, word_value}
-use Rattle.cdl_statements.specs.Lexemes.{Lexeme, is_word_kind, is_mark, is_word, name_of}
-use Rattle.cdl_tokens.specs.Numerals.{Parts, parts, number, Numeral, numeral, suffix, of_version, type_of_suffix, with_suffix, in_base, unsigned, lower, number_in}
-use Rattle.cdl_statements.specs.Shapes.{Value, Number, Characters, Underscore, Dimension, Variable, both, each, given, into_first, members_in, members, length_of, dimension, constant_of, constant, constants, dimensions, name_alone, before_mark, variable}
-use Rattle.cdl_tokens.specs.declared.token.TokenKind.{TokenKind}
+use Rattle.std.proofs.Common.{◌≡◌, ℕ, ◌+◌, ◌-◌, ◌*◌, ◌≤◌, ◌<◌, Bool, true, false, List, [], ◌∷◌, length, refl, arith, zero, suc, find, if◌then◌else◌, Option, None, Some, take, drop, ◌&&◌, ◌||◌, not, ◌==◌, slice_index, codes, ℤ, map, nat_lt}
+use Rattle.cdl_laws.proofs.Prelude.{length-take, length-drop, option_map, option_and_then, prefix_len, take_while, is_reserved, NcType, Version, all_types, has_type, to_ascii_lowercase, is_digit, is_octal, is_hex, is_escape, is_sign, number_in, byte, character, escape, inner, number_escape, plain_escape, unescape_at, word_value, or_zero, Lexeme, is_word_kind, is_mark, is_word, name_of, Parts, parts, number, Numeral, numeral, suffix, has_suffix, in_base, unsigned, Value, Number, Characters, Underscore, Dimension, Variable, both, each, given, into_first, members_in, members, length_of, dimension, constant_of, constant, constants, name_alone, before_mark, variable, TokenKind}
+use Rattle.cdl_statements.specs.Shapes.{dimensions}
 use Rattle.cdl_tokens.specs.declared.token.TokenKind.TheVariants as kinds
 use Rattle.cdl_tokens.specs.declared.scan.Character.{Character}
+use Rattle.cdl_laws.proofs.Bools.{and_right}
 use Rattle.cdl_laws.proofs.Lists.{Each}
 use Rattle.cdl_laws.proofs.Outcomes.{SomeIs, some_map, some_then, some_weaker, some_both, some_given, in_if, total, each_total, each_take, each_drop}
 
@@ -81,28 +70,28 @@ name_short l = in_if (SomeIs (λ name. length name ≤ length l.bytes)) (is_word
 abbrev pub HasTypeOf : Version → Numeral → Type 0
 HasTypeOf v n = has_type v n.ty ≡ true
 
-version_has : (v : Version) (o : Option NcType) → SomeIs (λ ty. has_type v ty ≡ true) (of_version v o)
-version_has v None = tt
-version_has v (Some ty) =
-    elim (has_type v ty) as (λ b. has_type v ty ≡ b → SomeIs (λ t. has_type v t ≡ true) (if b then Some ty else None)) [ true ↦ (λ e. e) | false ↦ (λ e. tt) ] refl
+suffix_has : (v : Version) (bs : List ℕ) (tys : List NcType) → SomeIs (λ ty. has_type v ty ≡ true) (find (λ ty. has_suffix bs ty && has_type v ty) tys)
+suffix_has v bs [] = tt
+suffix_has v bs (ty ∷ tys) =
+    elim (has_suffix bs ty && has_type v ty) as (λ b. (has_suffix bs ty && has_type v ty) ≡ b → SomeIs (λ t. has_type v t ≡ true) (if b then Some ty else find (λ t. has_suffix bs t && has_type v t) tys)) [
+      | true ↦ (λ e. and_right (has_suffix bs ty) (has_type v ty) e)
+      | false ↦ (λ e. suffix_has v bs tys)
+    ] refl
 
 -- the same of its parts
 abbrev HasType : Version → Parts → Type 0
 HasType v p = has_type v p.ty ≡ true
 
-suffix_has : (v : Version) (minus : Bool) (n : ℕ) (o : Option NcType) → SomeIs (λ ty. has_type v ty ≡ true) o → SomeIs (HasType v) (with_suffix minus n o)
-suffix_has v minus n None h = tt
-suffix_has v minus n (Some ty) h = h
-
 based : (v : Version) (minus : Bool) (base n : ℕ) (bs : List ℕ) → SomeIs (HasType v) (in_base v minus base n bs)
 unfolding suffix
 based v minus base n bs =
-    in_if (SomeIs (HasType v)) (n == 0) None (with_suffix minus (number_in base 0 (take n bs)) (suffix v (drop n bs))) tt
-    (suffix_has v minus (number_in base 0 (take n bs)) (suffix v (drop n bs)) (version_has v (type_of_suffix (map lower (drop n bs)))))
+    let with = λ (ty : NcType). let p : Parts = record { minus = minus; magnitude = number_in base 0 (take n bs); ty = ty } in p in
+    in_if (SomeIs (HasType v)) (n == 0) None (option_map with (suffix v (drop n bs))) tt
+    (some_map (HasType v) with (suffix v (drop n bs)) (suffix_has v (map to_ascii_lowercase (drop n bs)) all_types))
 
 unsigned_has : (v : Version) (minus : Bool) (bs : List ℕ) → SomeIs (HasType v) (unsigned v minus bs)
 unsigned_has v minus bs =
-    in_if (SomeIs (HasType v)) (slice_index bs 0 == 0x30 && (slice_index bs 1 == 0x78 || slice_index bs 1 == 0x58)) (in_base v minus 16 (prefix_len is_hex (drop 2 bs)) (drop 2 bs)) (if slice_index bs 0 == 0x30 then in_base v minus 8 (prefix_len is_octal bs) bs else in_base v minus 10 (prefix_len is_digit bs) bs)
+    in_if (SomeIs (HasType v)) (slice_index bs 0 == 0x30 && to_ascii_lowercase (slice_index bs 1) == 0x78) (in_base v minus 16 (prefix_len is_hex (drop 2 bs)) (drop 2 bs)) (if slice_index bs 0 == 0x30 then in_base v minus 8 (prefix_len is_octal bs) bs else in_base v minus 10 (prefix_len is_digit bs) bs)
     (based v minus 16 (prefix_len is_hex (drop 2 bs)) (drop 2 bs))
     (in_if (SomeIs (HasType v)) (slice_index bs 0 == 0x30) (in_base v minus 8 (prefix_len is_octal bs) bs) (in_base v minus 10 (prefix_len is_digit bs) bs)
     (based v minus 8 (prefix_len is_octal bs) bs) (based v minus 10 (prefix_len is_digit bs) bs))
@@ -143,18 +132,16 @@ plain_byte b h =
 abbrev IsFine : Character → Type 0
 IsFine c = ByteOrNone c.value
 
-hex_fine : (bs : List ℕ) (n : ℕ) → IsFine (hex_escape bs n)
-hex_fine bs n =
-    in_if IsFine (n == 0) (record { value = None; len = 2 }) (if n == 1 then record { value = byte (digit (slice_index bs 0)); len = 3 } else record { value = byte (16 * digit (slice_index bs 0) + digit (slice_index bs 1)); len = 4 }) tt
-    (in_if IsFine (n == 1) (record { value = byte (digit (slice_index bs 0)); len = 3 }) (record { value = byte (16 * digit (slice_index bs 0) + digit (slice_index bs 1)); len = 4 })
-    (byte_is (digit (slice_index bs 0))) (byte_is (16 * digit (slice_index bs 0) + digit (slice_index bs 1))))
+number_fine : (mark base : ℕ) (digits : List ℕ) → IsFine (number_escape mark base digits)
+number_fine mark base digits = in_if ByteOrNone (length digits == 0) None (byte (number_in base 0 digits)) tt (byte_is (number_in base 0 digits))
 
 escape_fine : (bs : List ℕ) → Each IsByte bs → IsFine (escape bs)
 escape_fine bs h =
-    in_if IsFine (is_octal (slice_index bs 0)) (octal_escape bs (prefix_len is_octal (take 3 bs))) (if slice_index bs 0 == 0x78 then hex_escape (drop 1 bs) (prefix_len is_hex (take 2 (drop 1 bs))) else record { value = Some (plain_escape (slice_index bs 0)); len = 2 })
-    (byte_is (octal_number bs (prefix_len is_octal (take 3 bs))))
-    (in_if IsFine (slice_index bs 0 == 0x78) (hex_escape (drop 1 bs) (prefix_len is_hex (take 2 (drop 1 bs)))) (record { value = Some (plain_escape (slice_index bs 0)); len = 2 })
-    (hex_fine (drop 1 bs) (prefix_len is_hex (take 2 (drop 1 bs)))) (plain_byte (slice_index bs 0) (prefix_byte bs h)))
+    let octal = number_escape 1 8 (take_while is_octal (take 3 bs)) in
+    let hex = number_escape 2 16 (take_while is_hex (take 2 (drop 1 bs))) in
+    let plain : Character = record { value = Some (plain_escape (slice_index bs 0)); len = 2 } in
+    in_if IsFine (is_octal (slice_index bs 0)) octal (if slice_index bs 0 == 0x78 then hex else plain) (number_fine 1 8 (take_while is_octal (take 3 bs)))
+    (in_if IsFine (slice_index bs 0 == 0x78) hex plain (number_fine 2 16 (take_while is_hex (take 2 (drop 1 bs)))) (plain_byte (slice_index bs 0) (prefix_byte bs h)))
 
 character_fine : (bs : List ℕ) → Each IsByte bs → IsFine (character bs)
 unfolding character
@@ -165,14 +152,14 @@ zero_fine : (o : Option ℕ) → ByteOrNone o → or_zero o < 256
 zero_fine None h = omega arith
 zero_fine (Some b) h = h
 
-stands_fine : (more : ℕ) (bs : List ℕ) → Each IsByte bs → Each IsByte (stands_at more bs)
-unfolding stands_at
+stands_fine : (more : ℕ) (bs : List ℕ) → Each IsByte bs → Each IsByte (map or_zero (unescape_at more bs))
+unfolding unescape_at
 stands_fine more [] h = tt
 stands_fine (suc more) (b ∷ bs) h = stands_fine more bs h.1
 stands_fine zero (b ∷ bs) h = (zero_fine (character (b ∷ bs)).value (character_fine (b ∷ bs) h), stands_fine ((character (b ∷ bs)).len - 1) bs h.1)
 
-stands_short : (more : ℕ) (bs : List ℕ) → length (stands_at more bs) ≤ length bs
-unfolding stands_at
+stands_short : (more : ℕ) (bs : List ℕ) → length (map or_zero (unescape_at more bs)) ≤ length bs
+unfolding unescape_at
 stands_short more [] = omega arith
 stands_short (suc more) (b ∷ bs) = let ih = stands_short more bs in omega (arith, ih)
 stands_short zero (b ∷ bs) = let ih = stands_short ((character (b ∷ bs)).len - 1) bs in omega (arith, ih)

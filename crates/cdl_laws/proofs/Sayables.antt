@@ -1,24 +1,6 @@
 -- What a dataset that a text can declare gives for each of its parts.
-use Rattle.std.proofs.Common.{◌≡◌, ℕ, suc, ◌+◌, ◌^◌, ◌<◌, ◌≤◌, Bool, true, false, List, [], ◌∷◌, ◌++◌, length, map, sym, ◌∙◌, ap, refl, subst, arith, append_assoc}
-use Rattle.std.specs.Prelude.{◌||◌, ◌==◌, if◌then◌else◌, All, filter}
-use Rattle.std.specs.List.{list_any}
-use Rattle.std.specs.Str.{bytes_eq}
-use Rattle.std.proofs.lemmas.Bool.{false≢true}
-use Rattle.std.proofs.lemmas.List.{map-append}
-use Rattle.std.proofs.lemmas.List.Folds.{list_any-append}
-use Rattle.std.proofs.lemmas.Slice.Eq.{bytes_eq-Decides}
-use Rattle.nc_base.specs.Bytes.{AreBytes}
-use Rattle.nc_base.specs.declared.header.Att.{Att}
-use Rattle.nc_base.specs.declared.header.Dim.{Dim}
-use Rattle.nc_base.specs.declared.header.Var.{Var}
-use Rattle.nc_base.specs.declared.version.Version.{Version}
-use Rattle.nc_base.specs.declared.version.Version.TheVariants.{Cdf1, Cdf2, Cdf5}
-use Rattle.nc_base.specs.Dump.{has_name}
-use Rattle.nc_base.specs.Headers.{has_record_dim, IsSoundAtt, IsSoundVar, IsSoundDim}
-use Rattle.nc_base.specs.Names.{IsName}
-use Rattle.nc_base.specs.Versions.{count_limit}
-use Rattle.nc_base.specs.Sayable.{AreDistinct, IsSayableVar, HasSomeNumber, trimmed_att}
-use Rattle.cdl_meaning.specs.State.{Draft}
+use Rattle.std.proofs.Common.{◌≡◌, ℕ, suc, ◌+◌, ◌^◌, ◌<◌, ◌≤◌, Bool, true, false, List, [], ◌∷◌, ◌++◌, length, map, sym, ◌∙◌, ap, refl, subst, arith, append_assoc, ◌||◌, ◌==◌, if◌then◌else◌, All, filter}
+use Rattle.cdl_laws.proofs.Prelude.{list_any, bytes_eq, false≢true, map-append, list_any-append, bytes_eq-Decides, AreBytes, Att, Dim, Var, Version, Cdf1, Cdf2, Cdf5, has_name, has_record_dim, IsSoundAtt, IsSoundVar, IsSoundDim, IsName, count_limit, AreDistinct, IsSayableVar, HasSomeNumber, trimmed_att, Draft}
 use Rattle.cdl_laws.proofs.Acts.{record_once, no_draft}
 use Rattle.cdl_laws.proofs.Attributes.{speaks}
 use Rattle.cdl_laws.proofs.Bools.{or_left, or_right}

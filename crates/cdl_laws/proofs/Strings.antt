@@ -1,16 +1,7 @@
 -- An escaped string between quotes is one token that stands for it.
-use Rattle.std.proofs.Common.{◌≡◌, ℕ, suc, ◌+◌, ◌*◌, ◌-◌, ◌/◌, ◌%◌, ◌<◌, true, false, List, [], ◌∷◌, ◌++◌, length, drop, take, sym, ◌∙◌, ap, refl, subst, arith, append_assoc, length-append}
-use Rattle.std.specs.Prelude.{◌==◌, nat_lt, Some, is_some}
-use Rattle.std.specs.Char.{is_ascii_control}
-use Rattle.std.specs.List.{flat_map}
-use Rattle.std.proofs.lemmas.Bool.{false≢true, eqb-true}
-use Rattle.std.proofs.Math.Seq.{take-append_seam}
-use Rattle.nc_base.specs.Escapes.{escaped_in_string, octal_escape}
+use Rattle.std.proofs.Common.{◌≡◌, ℕ, suc, ◌+◌, ◌*◌, ◌-◌, ◌/◌, ◌%◌, ◌<◌, true, false, List, [], ◌∷◌, ◌++◌, length, drop, take, sym, ◌∙◌, ap, refl, subst, arith, append_assoc, length-append, ◌==◌, nat_lt, map, Some, is_some}
+use Rattle.cdl_laws.proofs.Prelude.{is_ascii_control, flat_map, list_all, false≢true, eqb-true, take-append_seam, escaped_in_string, octal_escape, digit, is_octal, is_digit, number_in, until, scan, scan_text, character, byte, plain_escape, unescape, unescape_at, Lexeme}
 use Rattle.cdl_tokens.specs.declared.token.TokenKind.TheVariants as kinds
-use Rattle.cdl_tokens.specs.Bytes.{is_octal, is_digit}
-use Rattle.cdl_tokens.specs.Scan.{until, scan, scan_text}
-use Rattle.cdl_tokens.specs.Escapes.{character, byte, digit, plain_escape, unescape, unescape_at, prepended}
-use Rattle.cdl_statements.specs.Lexemes.{Lexeme}
 use Rattle.cdl_laws.proofs.Words.{until_prefix}
 use Rattle.cdl_laws.proofs.Texts.{Closed, prefix_again}
 
@@ -28,12 +19,12 @@ until_octal d e f rest h k =
     ap (λ n. 2 + n) (until_plain 0x22 e (f ∷ rest) (not_octal e 0x5c refl h) (not_octal e 0x22 refl h) ∙ ap (λ n. 1 + n) (until_plain 0x22 f rest (not_octal f 0x5c refl k) (not_octal f 0x22 refl k))) ∙ (omega arith)
 
 character_octal : (d e f : ℕ) (rest : List ℕ) → is_octal d ≡ true → is_octal e ≡ true → is_octal f ≡ true →
-    character (0x5c ∷ d ∷ e ∷ f ∷ rest) ≡ record { value = byte (64 * digit d + 8 * digit e + digit f); len = 4 }
+    character (0x5c ∷ d ∷ e ∷ f ∷ rest) ≡ record { value = byte (number_in 8 0 (d ∷ e ∷ f ∷ [])); len = 4 }
 unfolding character
 character_octal d e f rest h k l = rw (h) (rw (k) (rw (l) refl))
 
-unescape_octal : (d e f n : ℕ) (rest : List ℕ) → is_octal d ≡ true → is_octal e ≡ true → is_octal f ≡ true → byte (64 * digit d + 8 * digit e + digit f) ≡ Some n →
-    unescape (0x5c ∷ d ∷ e ∷ f ∷ rest) ≡ prepended (Some n) (unescape rest)
+unescape_octal : (d e f n : ℕ) (rest : List ℕ) → is_octal d ≡ true → is_octal e ≡ true → is_octal f ≡ true → byte (number_in 8 0 (d ∷ e ∷ f ∷ [])) ≡ Some n →
+    unescape (0x5c ∷ d ∷ e ∷ f ∷ rest) ≡ Some n ∷ unescape rest
 unfolding unescape_at
 unescape_octal d e f n rest h k l is = rw (character_octal d e f rest h k l) (rw (is) refl)
 
@@ -81,10 +72,10 @@ low_octal b = grind arith
 digit_octal : (n : ℕ) → n < 8 → digit (48 + n) ≡ n
 digit_octal n h = let e : is_digit (48 + n) ≡ true = grind arith in rw (e) (omega arith)
 
-octal_value : (b : ℕ) → b < 256 → byte (64 * digit (48 + b / 64) + 8 * digit (48 + b / 8 % 8) + digit (48 + b % 8)) ≡ Some b
+octal_value : (b : ℕ) → b < 256 → byte (number_in 8 0 ((48 + b / 64) ∷ (48 + b / 8 % 8) ∷ (48 + b % 8) ∷ [])) ≡ Some b
 octal_value b h =
     rw (digit_octal (b / 64) (omega arith)) (rw (digit_octal (b / 8 % 8) (omega arith)) (rw (digit_octal (b % 8) (omega arith))
-    (let e : 64 * (b / 64) + 8 * (b / 8 % 8) + b % 8 ≡ b = omega arith in rw (e) (let f : nat_lt 255 b ≡ false = grind arith in rw (f) refl))))
+    (let e : 8 * (8 * (8 * 0 + b / 64) + b / 8 % 8) + b % 8 ≡ b = omega arith in rw (e) (let f : nat_lt 255 b ≡ false = grind arith in rw (f) refl))))
 
 -- one byte
 until_one : (b : ℕ) (rest : List ℕ) → IsEscapedAs b → until 0x22 (escaped_in_string b ++ rest) ≡ length (escaped_in_string b) + until 0x22 rest
@@ -93,13 +84,13 @@ until_one b rest (letter c o x is same) = rw (same) refl
 until_one b rest (octal small same) = rw (same) (until_octal (48 + b / 64) (48 + b / 8 % 8) (48 + b % 8) rest (middle_octal b) (low_octal b))
 until_one b rest (bare h k same) = rw (same) (until_plain 0x22 b rest h k)
 
-letter_again : (c : ℕ) (rest : List ℕ) → is_octal c ≡ false → (c == 0x78) ≡ false → unescape (0x5c ∷ c ∷ rest) ≡ prepended (Some (plain_escape c)) (unescape rest)
+letter_again : (c : ℕ) (rest : List ℕ) → is_octal c ≡ false → (c == 0x78) ≡ false → unescape (0x5c ∷ c ∷ rest) ≡ Some (plain_escape c) ∷ unescape rest
 unfolding unescape_at character
 letter_again c rest o x = rw (o) (rw (x) refl)
 
-unescape_one : (b : ℕ) (rest : List ℕ) → IsEscapedAs b → unescape (escaped_in_string b ++ rest) ≡ prepended (Some b) (unescape rest)
+unescape_one : (b : ℕ) (rest : List ℕ) → IsEscapedAs b → unescape (escaped_in_string b ++ rest) ≡ Some b ∷ unescape rest
 unfolding unescape_at character
-unescape_one b rest (letter c o x is same) = rw (same) (letter_again c rest o x ∙ ap (λ n. prepended (Some n) (unescape rest)) is)
+unescape_one b rest (letter c o x is same) = rw (same) (letter_again c rest o x ∙ ap (λ n. Some n ∷ unescape rest) is)
 unescape_one b rest (octal small same) =
     rw (same) (unescape_octal (48 + b / 64) (48 + b / 8 % 8) (48 + b % 8) b rest (high_octal b small) (middle_octal b) (low_octal b) (octal_value b small))
 unescape_one b rest (bare h k same) = rw (same) (rw (h) refl)
@@ -115,10 +106,17 @@ until_all (b ∷ bytes) rest =
     until_one b (flat_map escaped_in_string bytes ++ 0x22 ∷ rest) (stands b) ∙
     ap (λ n. length (escaped_in_string b) + n) (until_all bytes rest) ∙ sym (length-append (escaped_in_string b) (flat_map escaped_in_string bytes))
 
-pub unescape_all : (bytes : List ℕ) → unescape (flat_map escaped_in_string bytes) ≡ Some bytes
+pub unescape_all : (bytes : List ℕ) → unescape (flat_map escaped_in_string bytes) ≡ map Some bytes
 unfolding unescape_at
 unescape_all [] = refl
-unescape_all (b ∷ bytes) = unescape_one b (flat_map escaped_in_string bytes) (stands b) ∙ ap (prepended (Some b)) (unescape_all bytes)
+unescape_all (b ∷ bytes) = unescape_one b (flat_map escaped_in_string bytes) (stands b) ∙ ap (λ xs. Some b ∷ xs) (unescape_all bytes)
+
+all_bytes : (bytes : List ℕ) → list_all is_some (map Some bytes) ≡ true
+all_bytes [] = refl
+all_bytes (b ∷ bytes) = all_bytes bytes
+
+pub is_string : (bytes : List ℕ) → list_all is_some (unescape (flat_map escaped_in_string bytes)) ≡ true
+is_string bytes = ap (list_all is_some) (unescape_all bytes) ∙ all_bytes bytes
 
 -- between quotes
 abbrev pub quoted : List ℕ → List ℕ
@@ -127,10 +125,10 @@ quoted bytes = 0x22 ∷ (flat_map escaped_in_string bytes ++ 0x22 ∷ [])
 abbrev pub string : List ℕ → Lexeme
 string bytes = record { kind = kinds.Text; bytes = quoted bytes }
 
-pub text_len : (w rest : List ℕ) (n : ℕ) → n ≡ length w → is_some (unescape w) ≡ true → scan_text (w ++ 0x22 ∷ rest) n ≡ record { kind = Some kinds.Text; len = length w + 2 }
+pub text_len : (w rest : List ℕ) (n : ℕ) → n ≡ length w → list_all is_some (unescape w) ≡ true → scan_text (w ++ 0x22 ∷ rest) n ≡ record { kind = Some kinds.Text; len = length w + 2 }
 text_len w rest n e h = rw (e) (let f : nat_lt (length w) (length (w ++ 0x22 ∷ rest)) ≡ true = (let g = length-append w (0x22 ∷ rest) in grind (arith, g)) in rw (f) (rw (take-append_seam w (0x22 ∷ rest)) (rw (h) refl)))
 
-quoted_prefix : (w rest : List ℕ) → until 0x22 (w ++ 0x22 ∷ rest) ≡ length w → is_some (unescape w) ≡ true → scan false (0x22 ∷ (w ++ 0x22 ∷ rest)) ≡ record { kind = Some kinds.Text; len = length w + 2 }
+quoted_prefix : (w rest : List ℕ) → until 0x22 (w ++ 0x22 ∷ rest) ≡ length w → list_all is_some (unescape w) ≡ true → scan false (0x22 ∷ (w ++ 0x22 ∷ rest)) ≡ record { kind = Some kinds.Text; len = length w + 2 }
 unfolding scan
 quoted_prefix w rest h k = text_len w rest (until 0x22 (w ++ 0x22 ∷ rest)) h k
 
@@ -138,7 +136,7 @@ pub string_closed : (bytes : List ℕ) → Closed (quoted bytes) (string bytes �
 string_closed bytes rest =
     let w = flat_map escaped_in_string bytes in
     prefix_again false (Some kinds.Text) 0x22 (w ++ 0x22 ∷ []) rest
-    (ap (λ xs. scan false (0x22 ∷ xs)) (append_assoc w (0x22 ∷ []) rest) ∙ quoted_prefix w rest (until_all bytes rest) (ap is_some (unescape_all bytes)) ∙
+    (ap (λ xs. scan false (0x22 ∷ xs)) (append_assoc w (0x22 ∷ []) rest) ∙ quoted_prefix w rest (until_all bytes rest) (is_string bytes) ∙
     ap (λ n. record { kind = Some kinds.Text; len = n }) (let g = length-append w (0x22 ∷ []) in let e : length w + 2 ≡ suc (length (w ++ 0x22 ∷ [])) = omega (arith, g) in e))
 
 -- what is between its quotes

@@ -1,22 +1,9 @@
 -- What a text makes of a state, statement by statement.
-use Rattle.std.proofs.Common.{◌≡◌, ℕ, Bool, true, false, List, [], ◌∷◌, ◌++◌, ◌∙◌, ap, refl, append_assoc}
-use Rattle.std.specs.Prelude.{◌&&◌, if◌then◌else◌, Option, None, Some, is_none, Ok}
-use Rattle.std.specs.List.{list_all}
-use Rattle.std.specs.Option.{option_map, option_and_then}
-use Rattle.nc_base.specs.declared.version.Version.{Version}
-use Rattle.cdl_statements.specs.declared.fault.CdlKind.{CdlKind}
-use Rattle.cdl_statements.specs.declared.section.Section.{Section}
-use Rattle.cdl_statements.specs.declared.section.Section.TheVariants.{Globals, Dimensions, Variables, Values}
+use Rattle.std.proofs.Common.{◌≡◌, ℕ, Bool, true, false, List, [], ◌∷◌, ◌++◌, ◌∙◌, ap, sym, refl, append_assoc, ◌&&◌, if◌then◌else◌, Option, None, Some, is_none, Ok}
+use Rattle.cdl_laws.proofs.Prelude.{list_all, option_map, option_and_then, Version, CdlKind, Section, Globals, Dimensions, Variables, Values, Role, Lexeme, first_role, role, piece_read, pieces_after, step, going, unless_end, with_first, is_section, pieces_by_steps, cut_lexemes, lexemes_at, pieces_of, Statement, first_bad, token_fault, shape, before_mark, body, State, act, in_turn}
 use Rattle.cdl_statements.specs.declared.section.Section.TheVariants as sections
-use Rattle.cdl_statements.specs.declared.piece.Role.{Role}
 use Rattle.cdl_statements.specs.declared.piece.Role.TheVariants as roles
 use Rattle.cdl_statements.specs.declared.piece.CutState.TheVariants.{Begins, Inside}
-use Rattle.cdl_statements.specs.Lexemes.{Lexeme, role}
-use Rattle.cdl_meaning.specs.Meaning.{piece_read}
-use Rattle.cdl_statements.specs.Pieces.{pieces_at, step, going, unless_end, with_first, first_role, is_section}
-use Rattle.cdl_laws.specs.Reading.{lexemes_at, pieces_of}
-use Rattle.cdl_statements.specs.Shapes.{Statement, first_bad, token_fault, shape, before_mark, body}
-use Rattle.cdl_meaning.specs.State.{State, act, in_turn}
 use Rattle.cdl_laws.proofs.Bools.{and_left, and_right, and_both}
 use Rattle.cdl_laws.proofs.Texts as texts
 use Rattle.cdl_laws.proofs.Texts.{mark, word, number}
@@ -86,20 +73,24 @@ next_no_end : (p rest : List Lexeme) → all_plain p ≡ true → is_end_role (f
 next_no_end [] rest h = refl
 next_no_end (t ∷ p) rest h = plain_no_end (role t) (and_left (is_plain (role t)) (all_plain p) h)
 
-inside_one : (p rest : List Lexeme) → all_plain p ≡ true → pieces_at role Inside (p ++ semicolon ∷ rest) ≡ (p ++ semicolon ∷ []) ∷ pieces_at role Begins rest
-unfolding pieces_at
+inside_one : (p rest : List Lexeme) → all_plain p ≡ true → pieces_after role Inside (p ++ semicolon ∷ rest) ≡ (p ++ semicolon ∷ []) ∷ pieces_after role Begins rest
+unfolding pieces_after
 inside_one [] rest h = refl
 inside_one (t ∷ p) rest h =
     let one : is_plain (role t) ≡ true = and_left (is_plain (role t)) (all_plain p) h in
     let more : all_plain p ≡ true = and_right (is_plain (role t)) (all_plain p) h in
     rw (inside_going (role t) (first_role role (p ++ semicolon ∷ rest)) one (next_no_end p rest more)) (ap (with_first false t) (inside_one p rest more))
 
-pub one_piece : (t : Lexeme) (p rest : List Lexeme) → is_starter (role t) ≡ true → all_plain p ≡ true →
-    pieces_at role Begins ((t ∷ p ++ semicolon ∷ []) ++ rest) ≡ (t ∷ p ++ semicolon ∷ []) ∷ pieces_at role Begins rest
-unfolding pieces_at
-one_piece t p rest start h =
-    ap (λ ls. pieces_at role Begins (t ∷ ls)) (append_assoc p (semicolon ∷ []) rest) ∙
+one_by_steps : (t : Lexeme) (p rest : List Lexeme) → is_starter (role t) ≡ true → all_plain p ≡ true →
+    pieces_after role Begins ((t ∷ p ++ semicolon ∷ []) ++ rest) ≡ (t ∷ p ++ semicolon ∷ []) ∷ pieces_after role Begins rest
+unfolding pieces_after
+one_by_steps t p rest start h =
+    ap (λ ls. pieces_after role Begins (t ∷ ls)) (append_assoc p (semicolon ∷ []) rest) ∙
     rw (begins_going (role t) (first_role role (p ++ semicolon ∷ rest)) start (next_no_end p rest h)) (ap (with_first false t) (inside_one p rest h))
+
+pub one_piece : (t : Lexeme) (p rest : List Lexeme) → is_starter (role t) ≡ true → all_plain p ≡ true → cut_lexemes ((t ∷ p ++ semicolon ∷ []) ++ rest) ≡ (t ∷ p ++ semicolon ∷ []) ∷ cut_lexemes rest
+one_piece t p rest start h =
+    pieces_by_steps (λ l. l) ((t ∷ p ++ semicolon ∷ []) ++ rest) ∙ one_by_steps t p rest start h ∙ ap (λ ps. (t ∷ p ++ semicolon ∷ []) ∷ ps) (sym (pieces_by_steps (λ l. l) rest))
 
 -- ---- what a text makes of a state
 
@@ -117,7 +108,7 @@ takes_both v a b s t u p q rest = ap (λ bs. in_turn (piece_read v) s (pieces_of
 pub record Says (v : Version) (section : Section) (bytes : List ℕ) (statement : Statement) : Type 0 where
   pub piece : List Lexeme
   pub reads : texts.Closed bytes piece
-  pub cut : (rest : List Lexeme) → pieces_at role Begins (piece ++ rest) ≡ piece ∷ pieces_at role Begins rest
+  pub cut : (rest : List Lexeme) → cut_lexemes (piece ++ rest) ≡ piece ∷ cut_lexemes rest
   pub sound : first_bad v piece ≡ None
   pub shaped : shape v section piece ≡ Some statement
 
@@ -128,9 +119,9 @@ piece_is v s t piece statement h k a = rw (h) (rw (k) a)
 pub says_takes : (v : Version) (bytes : List ℕ) (statement : Statement) (s t : State) → Says v s.section bytes statement → act v s statement ≡ Ok t → Takes v bytes s t
 unfolding pieces_of
 says_takes v bytes statement s t says a rest =
-    ap (λ ls. in_turn (piece_read v) s (pieces_at role Begins ls)) (says.reads rest) ∙
+    ap (λ ls. in_turn (piece_read v) s (cut_lexemes ls)) (says.reads rest) ∙
     ap (in_turn (piece_read v) s) (says.cut (lexemes_at false 0 rest)) ∙
-    turn (piece_read v) s t says.piece (pieces_at role Begins (lexemes_at false 0 rest)) (piece_is v s t says.piece statement says.sound says.shaped a)
+    turn (piece_read v) s t says.piece (cut_lexemes (lexemes_at false 0 rest)) (piece_is v s t says.piece statement says.sound says.shaped a)
 
 -- ---- lexemes that are no fault and end no statement
 

@@ -1,26 +1,8 @@
 -- The full dump of a dataset that a text can declare means that dataset, trimmed.
-use Rattle.std.proofs.Common.{◌≡◌, ℕ, ◌<◌, ◌≤◌, true, List, [], ◌∷◌, ◌++◌, map, sym, ◌∙◌, ap, refl, subst, arith}
-use Rattle.std.specs.Prelude.{nat_le, All, Option, Ok}
-use Rattle.std.specs.List.{list_all}
-use Rattle.std.proofs.lemmas.List.{map-append}
-use Rattle.nc_base.specs.Bytes.{AreBytes}
-use Rattle.nc_base.specs.declared.dataset.Dataset.{Dataset}
-use Rattle.nc_base.specs.declared.header.Att.{Att}
-use Rattle.nc_base.specs.declared.header.Dim.{Dim}
-use Rattle.nc_base.specs.declared.header.Header.{Header}
+use Rattle.std.proofs.Common.{◌≡◌, ℕ, ◌<◌, ◌≤◌, true, List, [], ◌∷◌, ◌++◌, map, sym, ◌∙◌, ap, refl, subst, arith, nat_le, All, Option, Ok}
+use Rattle.cdl_laws.proofs.Prelude.{list_all, map-append, AreBytes, Dataset, Att, Dim, Header, Known, Streaming, Var, Version, Options, Ending, whole, IsText, unknown, shown, dump_text, shown_values, content_of, selection_of, IsGood, IsSoundVar, bare, bare_var, IsName, slab_count, slab_size, slab_limit, record_limit, record_vars, record_size_of, Ended, meaning, is_small, is_small_enough, dataset_of, array_of, records_in, IsFull, TextReadsBack, trimmed, trimmed_att, trimmed_var, AreDistinct, IsSayable, IsSayableVar, Draft, Listing}
 use Rattle.nc_base.specs.declared.header.NumRecs.{NumRecs}
-use Rattle.nc_base.specs.declared.header.NumRecs.TheVariants.{Known, Streaming}
-use Rattle.nc_base.specs.declared.header.Var.{Var}
-use Rattle.nc_base.specs.declared.version.Version.{Version}
-use Rattle.nc_base.specs.Dump.{Options, Ending, whole, IsText, unknown, shown, Section, dump_text, shown_values, content_of, selection_of}
-use Rattle.nc_base.specs.Headers.{IsGood, IsSoundVar, bare, bare_var}
-use Rattle.nc_base.specs.Names.{IsName}
-use Rattle.nc_base.specs.Sizes.{slab_count, slab_size, slab_limit, record_limit, record_vars, record_size_of}
-use Rattle.cdl_statements.specs.declared.section.Section.TheVariants.{Ended}
-use Rattle.cdl_meaning.specs.Meaning.{meaning, is_small, is_small_enough, dataset_of, array_of, records_in}
-use Rattle.cdl_laws.specs.RoundTrip.{IsFull, TextReadsBack}
-use Rattle.nc_base.specs.Sayable.{trimmed, trimmed_att, trimmed_var, AreDistinct, IsSayable, IsSayableVar}
-use Rattle.cdl_meaning.specs.State.{Draft, Listing}
+use Rattle.nc_base.specs.Dump.{Section}
 use Rattle.cdl_laws.proofs.Bools.{and_both}
 use Rattle.cdl_laws.proofs.DataTexts.{given_draft, given_drafts}
 use Rattle.cdl_laws.proofs.Datasets.{keeps_fill, are_back, listings, stand_after, AreNewVars, all_given, arrays_back, vars_back, records_back}

@@ -1,17 +1,8 @@
 -- The strings of a text stand for bytes.
-use Rattle.std.proofs.Common.{◌≡◌, ℕ, zero, suc, ◌+◌, ◌-◌, ◌<◌, Bool, true, false, List, [], ◌∷◌, length, get_or, take, drop, sym, ◌∙◌, ap, refl, subst, arith, length-take}
-use Rattle.std.specs.Prelude.{◌&&◌, ◌==◌, nat_lt, not, if◌then◌else◌, Option, None, Some, is_none, is_some}
-use Rattle.std.specs.List.{prefix_len}
-use Rattle.cdl_tokens.specs.Bytes.{is_blank, goes_on_number, is_mark}
-use Rattle.cdl_tokens.specs.Escapes.{inner, stands, unescape}
-use Rattle.cdl_tokens.specs.Scan.{scan, gap, token, scan_text, scan_opening, until, word_len, begins_opening, begins_a_word, begins_number, begins_comment}
-use Rattle.cdl_tokens.specs.Tokens.{raw, tokens_at, tokens, with_token, token_at}
-use Rattle.cdl_tokens.specs.declared.scan.Scanned.{Scanned}
-use Rattle.cdl_tokens.specs.declared.token.Token.{Token}
-use Rattle.cdl_tokens.specs.declared.token.TokenKind.{TokenKind}
+use Rattle.std.proofs.Common.{◌≡◌, ℕ, zero, suc, ◌+◌, ◌-◌, ◌<◌, Bool, true, false, List, [], ◌∷◌, length, get_or, take, drop, sym, ◌∙◌, ap, refl, subst, arith, length-take, ◌&&◌, ◌==◌, nat_lt, not, if◌then◌else◌, map, Option, None, Some, is_none, is_some}
+use Rattle.cdl_laws.proofs.Prelude.{list_all, prefix_len, is_blank, goes_on_number, inner, stands, unescape, or_zero, scan, gap, token, scan_text, scan_opening, until, word_len, begins_opening, begins_a_word, begins_number, begins_comment, raw, tokens_at, tokens, with_token, token_at, Scanned, Token, TokenKind, StandsForBytes, StringsStandForBytes}
+use Rattle.cdl_tokens.specs.Bytes.{is_mark}
 use Rattle.cdl_tokens.specs.declared.token.TokenKind.TheVariants as kinds
-use Rattle.cdl_tokens.proofs.Strings.{stands_for}
-use Rattle.cdl_laws.specs.TokenLaws.{StandsForBytes, StringsStandForBytes}
 use Rattle.cdl_laws.proofs.Lines.{tail_at}
 use Rattle.cdl_laws.proofs.Lists.{Each, all_of}
 
@@ -21,7 +12,7 @@ use Rattle.cdl_laws.proofs.Lists.{Each, all_of}
 record IsString (bytes : List ℕ) (len : ℕ) : Type 0 where
   pub body : ℕ
   pub inside : body < length bytes
-  pub sound : is_some (unescape (take body bytes)) ≡ true
+  pub sound : list_all is_some (unescape (take body bytes)) ≡ true
   pub past : len ≡ body + 2
 
 -- what a prefix says of these bytes if it is a string
@@ -37,8 +28,8 @@ inside m n h = grind (arith, h)
 
 text_says : (bytes : List ℕ) (n : ℕ) → SaysString bytes (scan_text bytes n)
 text_says bytes n =
-    elim (nat_lt n (length bytes)) as (λ b. nat_lt n (length bytes) ≡ b → SaysString bytes (if b then token (if is_some (unescape (take n bytes)) then kinds.Text else kinds.Bad) (n + 2) else token kinds.Bad (1 + length bytes))) [
-      | true ↦ (λ h. elim (is_some (unescape (take n bytes))) as (λ b. is_some (unescape (take n bytes)) ≡ b → SaysString bytes (token (if b then kinds.Text else kinds.Bad) (n + 2))) [
+    elim (nat_lt n (length bytes)) as (λ b. nat_lt n (length bytes) ≡ b → SaysString bytes (if b then token (if list_all is_some (unescape (take n bytes)) then kinds.Text else kinds.Bad) (n + 2) else token kinds.Bad (1 + length bytes))) [
+      | true ↦ (λ h. elim (list_all is_some (unescape (take n bytes))) as (λ b. list_all is_some (unescape (take n bytes)) ≡ b → SaysString bytes (token (if b then kinds.Text else kinds.Bad) (n + 2))) [
         | true ↦ (λ k e. record { body = n; inside = inside n (length bytes) h; sound = k; past = refl })
         | false ↦ (λ k e. cc)
       ] refl)
@@ -81,22 +72,20 @@ string_inner b n bytes h =
     ap (λ m. inner (take m (b ∷ bytes))) (let e : n + 2 ≡ suc (suc n) = omega arith in e) ∙
     ap (λ m. take m (take (suc n) bytes)) (let e : suc (length (take (suc n) bytes)) - 2 ≡ n = omega (arith, len) in e) ∙ take_less n bytes
 
-some_stands : (xs : List ℕ) → is_some (unescape xs) ≡ true → unescape xs ≡ Some (stands xs)
-some_stands xs h =
-    elim (unescape xs) as (λ o. unescape xs ≡ o → is_some o ≡ true → unescape xs ≡ Some (stands xs)) [
-      | None ↦ (λ e k. cc)
-      | Some ys ↦ (λ e k. e ∙ ap (λ (bs : List ℕ). Some bs) (sym (stands_for 0 xs ys e)))
-    ] refl h
+all_some : (os : List (Option ℕ)) → list_all is_some os ≡ true → os ≡ map Some (map or_zero os)
+all_some [] h = refl
+all_some (None ∷ os) h = cc
+all_some (Some b ∷ os) h = ap (λ xs. Some b ∷ xs) (all_some os h)
 
-string_stands : (b len : ℕ) (bytes : List ℕ) → IsString bytes len → unescape (inner (take len (b ∷ bytes))) ≡ Some (stands (inner (take len (b ∷ bytes))))
+string_stands : (b len : ℕ) (bytes : List ℕ) → IsString bytes len → unescape (inner (take len (b ∷ bytes))) ≡ map Some (stands (inner (take len (b ∷ bytes))))
 string_stands b len bytes s =
     let same : inner (take len (b ∷ bytes)) ≡ take s.body bytes = ap (λ n. inner (take n (b ∷ bytes))) s.past ∙ string_inner b s.body bytes s.inside in
-    subst (λ xs. unescape xs ≡ Some (stands xs)) (sym same) (some_stands (take s.body bytes) s.sound)
+    subst (λ xs. unescape xs ≡ map Some (stands xs)) (sym same) (all_some (unescape (take s.body bytes)) s.sound)
 
 -- ---- the tokens of a text
 
 -- a token of a kind and a length, before others
-with_one : (text : List ℕ) (at : ℕ) (k : Option TokenKind) (n : ℕ) (rest : List Token) → (k ≡ Some kinds.Text → unescape (inner (raw text (token_at text at kinds.Text n))) ≡ Some (stands (inner (raw text (token_at text at kinds.Text n))))) →
+with_one : (text : List ℕ) (at : ℕ) (k : Option TokenKind) (n : ℕ) (rest : List Token) → (k ≡ Some kinds.Text → unescape (inner (raw text (token_at text at kinds.Text n))) ≡ map Some (stands (inner (raw text (token_at text at kinds.Text n))))) →
     Each (StandsForBytes text) rest → Each (StandsForBytes text) (with_token text at k n rest)
 with_one text at None n rest h all = all
 with_one text at (Some kind) n rest h all = ((λ e. h (ap (λ (x : TokenKind). Some x) e)), all)
@@ -111,7 +100,7 @@ strings_stand text fresh at (suc more) (b ∷ bytes) e = strings_stand text fres
 strings_stand text fresh at zero (b ∷ bytes) e =
     let f = scan fresh (b ∷ bytes) in
     with_one text at f.kind f.len (tokens_at text (fresh && is_none f.kind) (at + 1) (f.len - 1) bytes)
-    (λ is. subst (λ xs. unescape (inner xs) ≡ Some (stands (inner xs))) (sym (raw_is text at f.len (b ∷ bytes) e)) (string_stands b f.len bytes (prefix_says fresh (b ∷ bytes) is)))
+    (λ is. subst (λ xs. unescape (inner xs) ≡ map Some (stands (inner xs))) (sym (raw_is text at f.len (b ∷ bytes) e)) (string_stands b f.len bytes (prefix_says fresh (b ∷ bytes) is)))
     (strings_stand text (fresh && is_none f.kind) (at + 1) (f.len - 1) bytes (tail_at text at b bytes e))
 
 pub strings_stand_for_bytes : StringsStandForBytes

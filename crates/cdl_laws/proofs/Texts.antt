@@ -1,20 +1,7 @@
 -- Texts that are put together are read apart again, token by token.
-use Rattle.std.proofs.Common.{◌≡◌, ℕ, zero, suc, ◌+◌, ◌-◌, Bool, true, false, List, [], ◌∷◌, ◌++◌, length, get_or, drop, sym, ◌∙◌, ap, refl, arith, append_assoc}
-use Rattle.std.specs.Prelude.{◌&&◌, ◌||◌, ◌==◌, not, Option, Some, is_none}
-use Rattle.std.specs.List.{prefix_len, list_all}
-use Rattle.std.proofs.lemmas.Bool.{false≢true}
-use Rattle.std.proofs.Math.Seq.{drop-append_seam, take-append_seam}
-use Rattle.std.specs.Char.{is_ascii_digit}
-use Rattle.std.specs.Int.{is_in_range}
-use Rattle.nc_base.specs.Escapes.{escaped_name, is_reserved}
-use Rattle.nc_base.specs.Names.{IsName, has_name_bytes, may_begin_name, may_follow_in_name, ends_with_space, is_beyond_ascii}
-use Rattle.std.specs.Str.{is_utf8}
+use Rattle.std.proofs.Common.{◌≡◌, ℕ, zero, suc, ◌+◌, ◌-◌, Bool, true, false, List, [], ◌∷◌, ◌++◌, length, get_or, drop, sym, ◌∙◌, ap, refl, arith, append_assoc, ◌&&◌, ◌||◌, ◌==◌, not, Option, Some, is_none}
+use Rattle.cdl_laws.proofs.Prelude.{prefix_len, list_all, false≢true, drop-append_seam, take-append_seam, is_ascii_digit, is_in_range, escaped_name, is_reserved, IsName, has_name_bytes, may_begin_name, may_follow_in_name, ends_with_space, is_beyond_ascii, is_utf8, is_digit, is_escape, goes_on_word, goes_on_number, begins_word, word_len, scan, begins_a_word, token, Lexeme, name_of, lexemes_at, with_lexeme, TokenKind}
 use Rattle.cdl_tokens.specs.declared.token.TokenKind.TheVariants as kinds
-use Rattle.cdl_tokens.specs.Bytes.{is_digit, is_escape, goes_on_word, goes_on_number, begins_word}
-use Rattle.cdl_tokens.specs.Scan.{word_len, scan, begins_a_word, token}
-use Rattle.cdl_statements.specs.Lexemes.{Lexeme, name_of}
-use Rattle.cdl_laws.specs.Reading.{lexemes_at, with_lexeme}
-use Rattle.cdl_tokens.specs.declared.token.TokenKind.{TokenKind}
 use Rattle.cdl_laws.proofs.Words.{word_prefix}
 use Rattle.cdl_laws.proofs.Bools.{and_left, and_right, off}
 use Rattle.cdl_laws.proofs.NameTexts.{rest_of, marked_plain, no_escape, Begins, marked, bare, begins, name_len, name_begins, name_value, name_free}

@@ -1,31 +1,14 @@
 -- Names, strings and numbers are read back, each as one token.
-use Rattle.std.proofs.Common.{◌≡◌, ℕ, suc, ◌+◌, ◌^◌, ◌<◌, Bool, true, false, List, [], ◌∷◌, ◌++◌, length, get_or, take, drop, sym, ◌∙◌, ap, refl, subst, arith, append_assoc, length-append, append-nil}
-use Rattle.std.specs.Prelude.{ℤ, pos, negsuc, unsigned_abs, decimal, ◌||◌, ◌==◌, nat_eq, codes, is_some}
-use Rattle.std.specs.Fmt.{signed_decimal}
-use Rattle.std.specs.List.{prefix_len, list_all, starts_with, flat_map}
-use Rattle.std.proofs.lemmas.Bool.{false≢true, eqb-true}
-use Rattle.std.proofs.lemmas.Fmt.{decimal_nonempty}
-use Rattle.std.proofs.lemmas.List.{take-append-drop, get_or-drop}
-use Rattle.std.proofs.lemmas.List.Folds.{list_all-append}
-use Rattle.std.proofs.lemmas.Slice.Eq.{bytes_eq-Decides}
-use Rattle.std.proofs.Math.Seq.{take-append_seam}
-use Rattle.nc_base.specs.declared.nc_type.NcType.{NcType}
-use Rattle.nc_base.specs.Escapes.{escaped_name, escaped_text, escaped_in_string, is_reserved}
-use Rattle.nc_base.specs.Names.{IsName, may_begin_name, may_follow_in_name}
-use Rattle.nc_base.specs.Numbers.{IsInRange}
-use Rattle.nc_base.specs.Types.{number_suffix}
-use Rattle.cdl_tokens.specs.Bytes.{within, is_digit, is_blank, is_mark, goes_on_word, goes_on_number}
-use Rattle.cdl_tokens.specs.Escapes.{inner, unescape}
-use Rattle.cdl_tokens.specs.Scan.{word_len, until, scan, token, begins_opening, begins_a_word, begins_number}
-use Rattle.cdl_tokens.specs.declared.token.TokenKind.TheVariants.{Word, Number, Text}
-use Rattle.cdl_tokens.proofs.Strings.{stands_for}
-use Rattle.cdl_laws.specs.TokenLaws.{AreToken, BlanksAndMarksStop, StopsWord, NameReadsBack, NamesReadBack, quoted, StringsReadBack, StopsNumber, ConstantsReadBack, ValuesReadBack}
+use Rattle.std.proofs.Common.{◌≡◌, ℕ, suc, ◌+◌, ◌^◌, ◌<◌, Bool, true, false, List, [], ◌∷◌, ◌++◌, length, get_or, take, drop, sym, ◌∙◌, ap, refl, subst, arith, append_assoc, length-append, append-nil, ℤ, pos, negsuc, unsigned_abs, decimal, ◌||◌, ◌==◌, nat_eq, codes, is_some}
+use Rattle.cdl_laws.proofs.Prelude.{signed_decimal, prefix_len, list_all, starts_with, flat_map, false≢true, eqb-true, decimal_nonempty, take-append-drop, get_or-drop, list_all-append, bytes_eq-Decides, take-append_seam, NcType, escaped_name, escaped_text, escaped_in_string, is_reserved, IsName, may_begin_name, may_follow_in_name, IsInRange, number_suffix, within, is_digit, is_blank, goes_on_word, goes_on_number, inner, unescape, word_len, until, scan, token, begins_opening, begins_a_word, begins_number, Word, Text, stands_for, AreToken, BlanksAndMarksStop, StopsWord, NameReadsBack, NamesReadBack, quoted, StringsReadBack, StopsNumber, ConstantsReadBack, ValuesReadBack}
+use Rattle.cdl_tokens.specs.Bytes.{is_mark}
+use Rattle.cdl_tokens.specs.declared.token.TokenKind.TheVariants.{Number}
 use Rattle.cdl_laws.proofs.Attributes.{all_small}
 use Rattle.cdl_laws.proofs.Bools.{and_left, and_right, and_both}
 use Rattle.cdl_laws.proofs.Heads.{no_section}
 use Rattle.cdl_laws.proofs.NameTexts.{begins, name_len, name_begins, name_value, name_free}
 use Rattle.cdl_laws.proofs.Numerals.{decimal_digits, goes_on, on_suffix, numeral_again, value_again}
-use Rattle.cdl_laws.proofs.Strings.{until_all, unescape_all, text_len, between_quotes}
+use Rattle.cdl_laws.proofs.Strings.{is_string, until_all, unescape_all, text_len, between_quotes}
 use Rattle.cdl_laws.proofs.Texts.{all_on, digit_no_word, digit_no_escape, name_word, some_name}
 use Rattle.cdl_laws.proofs.Words.{word_prefix, and_false}
 
@@ -49,7 +32,7 @@ first_taken : (bs : List ℕ) → get_or (take 6 bs) 0 0 ≡ get_or bs 0 0
 first_taken [] = refl
 first_taken (b ∷ bs) = refl
 
--- of which the first is an `n`
+-- bytes that don't begin with an `n` don't begin an opening
 other_begins : (bs : List ℕ) → (get_or bs 0 0 == 110) ≡ false → begins_opening bs ≡ false
 other_begins bs h =
     elim (begins_opening bs) as (λ w. begins_opening bs ≡ w → w ≡ false) [
@@ -165,7 +148,7 @@ names_read_back (b ∷ bs) h = name_back b bs h
 
 -- ---- strings
 
-quote_prefix : (fresh : Bool) (w rest : List ℕ) → until 0x22 (w ++ 0x22 ∷ rest) ≡ length w → is_some (unescape w) ≡ true → scan fresh (0x22 ∷ (w ++ 0x22 ∷ rest)) ≡ token Text (length w + 2)
+quote_prefix : (fresh : Bool) (w rest : List ℕ) → until 0x22 (w ++ 0x22 ∷ rest) ≡ length w → list_all is_some (unescape w) ≡ true → scan fresh (0x22 ∷ (w ++ 0x22 ∷ rest)) ≡ token Text (length w + 2)
 unfolding scan
 quote_prefix fresh w rest h k = rw (and_false fresh) (text_len w rest (until 0x22 (w ++ 0x22 ∷ rest)) h k)
 
@@ -173,7 +156,7 @@ string_token : (bytes rest : List ℕ) → AreToken Text (quoted bytes) rest
 unfolding escaped_text
 string_token bytes rest fresh =
     let w = flat_map escaped_in_string bytes in
-    ap (λ xs. scan fresh (0x22 ∷ xs)) (append_assoc w (0x22 ∷ []) rest) ∙ quote_prefix fresh w rest (until_all bytes rest) (ap is_some (unescape_all bytes)) ∙
+    ap (λ xs. scan fresh (0x22 ∷ xs)) (append_assoc w (0x22 ∷ []) rest) ∙ quote_prefix fresh w rest (until_all bytes rest) (is_string bytes) ∙
     ap (token Text) (let g = length-append w (0x22 ∷ []) in let e : length w + 2 ≡ suc (length (w ++ 0x22 ∷ [])) = omega (arith, g) in e)
 
 inner_is : (bytes : List ℕ) → inner (quoted bytes) ≡ flat_map escaped_in_string bytes
@@ -186,7 +169,7 @@ strings_read_back bytes = record {
   token = string_token bytes;
   between = inner_is bytes;
   value = ap unescape (inner_is bytes) ∙ unescape_all bytes;
-  stand = stands_for 0 (inner (quoted bytes)) bytes (ap unescape (inner_is bytes) ∙ unescape_all bytes);
+  stand = stands_for (inner (quoted bytes)) bytes (ap unescape (inner_is bytes) ∙ unescape_all bytes);
 }
 
 -- ---- numbers

@@ -1,19 +1,6 @@
 -- The declaration of a variable, and what it says.
-use Rattle.std.proofs.Common.{◌≡◌, ℕ, true, List, [], ◌∷◌, ◌++◌, map, ◌∙◌, ap, refl}
-use Rattle.std.specs.Prelude.{Some, codes}
-use Rattle.std.specs.List.{list_all}
-use Rattle.std.specs.Option.{option_map, option_and_then}
-use Rattle.std.proofs.lemmas.List.Folds.{list_all-append}
-use Rattle.nc_base.specs.Bytes.{concat_parts}
-use Rattle.nc_base.specs.declared.nc_type.NcType.{NcType}
-use Rattle.nc_base.specs.declared.version.Version.{Version}
-use Rattle.nc_base.specs.Escapes.{escaped_name}
-use Rattle.nc_base.specs.HeadText.{joined}
-use Rattle.nc_base.specs.Names.{IsName}
-use Rattle.nc_base.specs.Types.{type_word}
-use Rattle.cdl_statements.specs.declared.section.Section.TheVariants.{Variables}
-use Rattle.cdl_statements.specs.Lexemes.{Lexeme}
-use Rattle.cdl_statements.specs.Shapes.{Typed, members, members_in, into_first, each, both, variable, name_alone, before_mark, body}
+use Rattle.std.proofs.Common.{◌≡◌, ℕ, true, List, [], ◌∷◌, ◌++◌, map, ◌∙◌, ap, refl, Some, codes}
+use Rattle.cdl_laws.proofs.Prelude.{list_all, option_map, option_and_then, list_all-append, concat_parts, NcType, Version, escaped_name, joined, IsName, type_word, Variables, Lexeme, Typed, members, members_in, into_first, each, both, variable, name_alone, before_mark, body}
 use Rattle.cdl_laws.proofs.Bools.{and_both}
 use Rattle.cdl_laws.proofs.Lists.{Each}
 use Rattle.cdl_laws.proofs.Texts.{Closed, Reads, closed_both, closed_by, mark, word, name_word}

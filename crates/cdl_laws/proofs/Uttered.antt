@@ -1,23 +1,9 @@
 -- What each statement of a text says, and how many bytes and tokens all of them have.
-use Rattle.std.proofs.Common.{◌≡◌, ℕ, ◌+◌, ◌-◌, ◌*◌, ◌≤◌, ◌<◌, Bool, true, false, List, [], ◌∷◌, length, map, ◌∙◌, ap, refl, arith, zero, suc}
-use Rattle.std.proofs.lemmas.List.{length-take, length-drop}
-use Rattle.std.specs.Prelude.{Option, None, Some, drop, ◌&&◌, nat_lt, is_none}
-use Rattle.std.specs.Option.{option_map, option_and_then}
-use Rattle.nc_base.specs.declared.version.Version.{Version}
-use Rattle.cdl_tokens.specs.Scan.{scan}
-use Rattle.cdl_statements.specs.Lexemes.{Lexeme, lexeme, role, is_mark, is_word_kind, name_of}
-use Rattle.cdl_statements.specs.Pieces.{pieces_at, with_first, step, first_role}
+use Rattle.std.proofs.Common.{◌≡◌, ℕ, ◌+◌, ◌-◌, ◌*◌, ◌≤◌, ◌<◌, Bool, true, false, List, [], ◌∷◌, length, map, ◌∙◌, ap, refl, arith, zero, suc, Option, None, Some, drop, ◌&&◌, nat_lt, is_none}
+use Rattle.cdl_laws.proofs.Prelude.{length-take, length-drop, option_map, option_and_then, Version, scan, Lexeme, lexeme, is_mark, is_word_kind, is_opening_kind, is_end_kind, name_of, first_role, role, pieces_after, with_first, step, pieces_by_steps, Value, Dimension, Variable, Statement, Opening, Mark, Declared, Typed, Attribute, Listed, Brace, End, each, either, given, members, variable, constants, assigned, global, typed, attribute, body, section_number, section_of, mark_after, section_mark, alone, shape, before_mark, tokens, tokens_at, with_token, statements, Section, Unopened, Globals, Dimensions, Variables, Values, Closed, Ended, CutState, Role, Token, TokenKind}
 use Rattle.cdl_statements.specs.Shapes as shapes
-use Rattle.cdl_statements.specs.Shapes.{Value, Dimension, Variable, Statement, Opening, Mark, Declared, Typed, Attribute, Listed, Brace, End, each, either, given, members, dimensions, variable, constants, assigned, global, typed, attribute, body, section_number, section_of, mark_after, section_mark, alone, shape, before_mark, is_kind_opening, is_kind_end}
-use Rattle.cdl_tokens.specs.Tokens.{tokens, tokens_at, with_token}
-use Rattle.cdl_statements.specs.Statements.{statements}
-use Rattle.cdl_statements.specs.declared.section.Section.{Section}
-use Rattle.cdl_statements.specs.declared.section.Section.TheVariants.{Unopened, Globals, Dimensions, Variables, Values, Closed, Ended}
-use Rattle.cdl_statements.specs.declared.piece.CutState.{CutState}
+use Rattle.cdl_statements.specs.Shapes.{dimensions}
 use Rattle.cdl_statements.specs.declared.piece.CutState.TheVariants as places
-use Rattle.cdl_statements.specs.declared.piece.Role.{Role}
-use Rattle.cdl_tokens.specs.declared.token.Token.{Token}
-use Rattle.cdl_tokens.specs.declared.token.TokenKind.{TokenKind}
 use Rattle.cdl_laws.proofs.Lists.{Each}
 use Rattle.cdl_laws.proofs.Outcomes.{SomeIs, some_map, some_then, some_weaker, some_both, some_first, some_given, some_and, total, each_take, each_drop}
 use Rattle.cdl_laws.proofs.Said.{weight, mass, IsByte, HasBytes, before_mass, before_each, name_short, cost, IsFineValue, constants_fine, constants_short, dim_cost, dimensions_short, var_cost, variables_short}
@@ -132,8 +118,8 @@ inside v section ls h =
 
 pub shape_says : (v : Version) (section : Section) (ls : List Lexeme) → Each HasBytes ls → SomeIs (IsSaid v section (mass ls)) (shape v section ls)
 unfolding shape
-shape_says v Unopened ls h = alone_says (IsSaid v Unopened (mass ls)) (λ l. is_kind_opening l.kind) Opening ls refl
-shape_says v Closed ls h = alone_says (IsSaid v Closed (mass ls)) (λ l. is_kind_end l.kind) End ls tt
+shape_says v Unopened ls h = alone_says (IsSaid v Unopened (mass ls)) (λ l. is_opening_kind l.kind) Opening ls refl
+shape_says v Closed ls h = alone_says (IsSaid v Closed (mass ls)) (λ l. is_end_kind l.kind) End ls tt
 shape_says v Ended ls h = tt
 shape_says v Globals ls h = inside v Globals ls h
 shape_says v Dimensions ls h = inside v Dimensions ls h
@@ -165,16 +151,17 @@ pieces_total w true t ps = omega arith
 pieces_total w false t [] = omega arith
 pieces_total w false t (p ∷ ps) = omega arith
 
-all_pieces : {X : Type 0} (w : X → ℕ) (role : X → Role) (place : CutState) (ts : List X) → total (total w) (pieces_at role place ts) ≡ total w ts
-unfolding pieces_at
+all_pieces : {X : Type 0} (w : X → ℕ) (role : X → Role) (place : CutState) (ts : List X) → total (total w) (pieces_after role place ts) ≡ total w ts
+unfolding pieces_after
 all_pieces w role place [] = refl
 all_pieces w role place (t ∷ ts) =
     let s = step place (role t) (first_role role ts) in
-    pieces_total w s.ends t (pieces_at role s.state ts) ∙ ap (λ n. w t + n) (all_pieces w role s.state ts)
+    pieces_total w s.ends t (pieces_after role s.state ts) ∙ ap (λ n. w t + n) (all_pieces w role s.state ts)
 
 pub all_mass : (text : List ℕ) → total (token_mass text) (statements text) ≤ 1 + 2 * length text
 all_mass text =
-    let a = all_pieces (λ t. weight (lexeme text t)) (λ t. role (lexeme text t)) places.Begins (tokens text) in
+    let a =
+    ap (total (token_mass text)) (pieces_by_steps (lexeme text) (tokens text)) ∙ all_pieces (λ t. weight (lexeme text t)) (λ t. role (lexeme text t)) places.Begins (tokens text) in
     let b = mass_at text true 0 0 text (omega arith) in
     omega (arith, a, b)
 

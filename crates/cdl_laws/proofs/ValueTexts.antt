@@ -1,24 +1,7 @@
 -- The listed numbers of a variable are read back, wherever the breaks are.
-use Rattle.std.proofs.Common.{◌≡◌, ℕ, ◌+◌, ◌^◌, ◌<◌, ◌≤◌, Bool, true, false, List, [], ◌∷◌, ◌++◌, length, map, sym, ◌∙◌, ap, refl, subst, arith, append_assoc, append-nil, length-append}
-use Rattle.std.specs.Prelude.{ℤ, unsigned_abs, ◌&&◌, ◌||◌, ◌==◌, not, if◌then◌else◌, nat_lt, Some, Result, Ok, codes}
-use Rattle.std.specs.Fmt.{signed_decimal}
-use Rattle.std.specs.List.{flat_map, list_all}
-use Rattle.std.specs.Ordering.{int_eq}
-use Rattle.std.proofs.Math.Nat.{mod-eq_of_lt, zero-mod}
-use Rattle.std.proofs.lemmas.Bool.{false≢true}
-use Rattle.std.proofs.lemmas.Bool.Decides.{Decides-int_eq}
-use Rattle.nc_base.specs.Bytes.{concat_parts}
-use Rattle.nc_base.specs.Escapes.{escaped_name}
-use Rattle.nc_base.specs.declared.nc_type.NcType.TheVariants.{Int}
-use Rattle.nc_base.specs.declared.version.Version.{Version}
-use Rattle.nc_base.specs.Names.{IsName}
-use Rattle.nc_base.specs.ValueText.{Look, is_char, number_text, number_lead, line_break, begins_row, column, number_piece, piece, pieces, opening, closing, variable_prefix, variable_text}
-use Rattle.cdl_statements.specs.declared.fault.CdlKind.{CdlKind}
-use Rattle.cdl_statements.specs.Lexemes.{Lexeme, is_mark}
-use Rattle.cdl_laws.specs.Reading.{lexemes_at}
-use Rattle.cdl_tokens.specs.Scan.{scan}
-use Rattle.cdl_statements.specs.Shapes.{Value, Number, Underscore, members_in, members, each, both, constant, constants}
-use Rattle.cdl_meaning.specs.State.{Capacity, Numbers, add_number, fits, in_turn, listing_of, ◌>>=◌}
+use Rattle.std.proofs.Common.{◌≡◌, ℕ, ◌+◌, ◌^◌, ◌<◌, ◌≤◌, Bool, true, false, List, [], ◌∷◌, ◌++◌, length, map, sym, ◌∙◌, ap, refl, subst, arith, append_assoc, append-nil, length-append, ℤ, unsigned_abs, ◌&&◌, ◌||◌, ◌==◌, not, if◌then◌else◌, nat_lt, Some, Result, Ok, codes}
+use Rattle.cdl_laws.proofs.Prelude.{signed_decimal, flat_map, list_all, int_eq, mod-eq_of_lt, zero-mod, false≢true, Decides-int_eq, concat_parts, escaped_name, Int, Version, IsName, Look, is_char, number_text, number_lead, line_break, begins_row, column, number_piece, piece, pieces, opening, closing, variable_prefix, variable_text, CdlKind, Lexeme, is_mark, lexemes_at, scan, Value, Number, Underscore, members_in, members, each, both, constant, constants, Capacity, Numbers, add_number, fits, in_turn, listing_of}
+use Rattle.cdl_meaning.specs.State.{◌>>=◌}
 use Rattle.cdl_laws.proofs.Bools.{and_left, and_right, and_both, off}
 use Rattle.cdl_laws.proofs.Lists.{Each}
 use Rattle.cdl_laws.proofs.Words.{word_prefix}
@@ -99,7 +82,7 @@ either_closed false = closed_nothing
 break_closed : (look : Look) (before : List ℕ) (i len : ℕ) → Closed (line_break look before i len) []
 break_closed look before i len = either_closed (not (begins_row look i) && nat_lt look.width (column before + len + 2))
 
--- what stands before a number that isn't the first: a comma and a blank, or a comma and the beginning of a row
+-- what comes before a number that isn't the first: a comma and a space, or a comma and the beginning of a row
 data Gap (lead : List ℕ) : Type 0 where
   next : lead ≡ codes ", " → Gap lead
   row : lead ≡ codes ",\n  " → Gap lead

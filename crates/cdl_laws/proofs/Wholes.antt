@@ -1,26 +1,7 @@
 -- The head of a dump, statement after statement.
-use Rattle.std.proofs.Common.{◌≡◌, ℕ, zero, suc, ◌^◌, ◌<◌, true, false, List, [], ◌∷◌, ◌++◌, length, map, sym, ◌∙◌, ap, refl, subst, arith, append_assoc, append-nil}
-use Rattle.std.specs.Prelude.{◌==◌, None, Some, Ok, codes}
-use Rattle.std.specs.List.{list_any}
-use Rattle.std.specs.Str.{bytes_eq}
-use Rattle.nc_base.specs.Bytes.{concat_parts}
-use Rattle.nc_base.specs.declared.header.Att.{Att}
-use Rattle.nc_base.specs.declared.header.Dim.{Dim}
-use Rattle.nc_base.specs.declared.header.Var.{Var}
-use Rattle.nc_base.specs.declared.nc_type.NcType.{NcType}
-use Rattle.nc_base.specs.declared.version.Version.{Version}
-use Rattle.nc_base.specs.Escapes.{escaped_name}
-use Rattle.nc_base.specs.Headers.{AreDimids}
-use Rattle.nc_base.specs.HeadText.{joined, dim_line, att_line, att_lines, att_values, var_lines, shape_text, dim_name}
-use Rattle.nc_base.specs.Names.{IsName}
-use Rattle.nc_base.specs.Types.{type_word}
-use Rattle.nc_base.specs.Versions.{count_limit, has_type}
-use Rattle.cdl_statements.specs.declared.section.Section.{Section}
-use Rattle.cdl_statements.specs.declared.section.Section.TheVariants.{Dimensions, Variables}
-use Rattle.nc_base.specs.Sayable.{trimmed_att, trimmed_var}
-use Rattle.cdl_statements.specs.Shapes.{Value, Declared, Typed, Attribute}
-use Rattle.cdl_meaning.specs.State.{State, Draft, act, add_dim, add_att, add_constant, first_type, add_var, with_att, in_turn, ◌>>=◌}
-use Rattle.cdl_laws.specs.PieceLaws.{said_dim, IsBeforeData}
+use Rattle.std.proofs.Common.{◌≡◌, ℕ, zero, suc, ◌^◌, ◌<◌, true, false, List, [], ◌∷◌, ◌++◌, length, map, sym, ◌∙◌, ap, refl, subst, arith, append_assoc, append-nil, ◌==◌, None, Some, Ok, codes}
+use Rattle.cdl_laws.proofs.Prelude.{list_any, bytes_eq, concat_parts, Att, Dim, Var, NcType, Version, escaped_name, AreDimids, joined, dim_line, att_line, att_lines, att_values, var_lines, shape_text, dim_name, IsName, type_word, count_limit, has_type, Section, Dimensions, Variables, trimmed_att, trimmed_var, Value, Declared, Typed, Attribute, State, Draft, act, add_dim, add_att, add_constant, first_type, add_var, with_att, in_turn, said_dim, IsBeforeData}
+use Rattle.cdl_meaning.specs.State.{◌>>=◌}
 use Rattle.cdl_laws.proofs.Lists.{Each}
 use Rattle.cdl_laws.proofs.Texts.{word}
 use Rattle.cdl_laws.proofs.ValueTexts.{turn}

@@ -1,4 +1,4 @@
--- What a text means is a good dataset, and a text can declare it but for the fill values of characters.
+-- Law. What a text means is a good dataset, and a text can declare it but for the fill values of characters.
 use Rattle.std.specs.Prelude.{◌≡◌, ℕ, ◌^◌, ◌≤◌, true, List, [], length, map, All, Ok}
 use Rattle.nc_base.specs.Bytes.{AreBytes}
 use Rattle.nc_base.specs.declared.dataset.Dataset.{Dataset}
@@ -42,6 +42,6 @@ MeaningsAreNearlySayable = (text : List ℕ) (v : Version) (d : Dataset) → Are
 abbrev pub KeepsFill : Var → Type 0
 KeepsFill var = is_char var.ty ≡ true → fill_value (trimmed_var var) ≡ fill_value var
 
--- where each variable keeps its fill value, nothing is missing
+-- if each variable keeps its fill value, such a dataset is sayable
 abbrev pub NearlyIsSayable : Type 0
 NearlyIsSayable = (d : Dataset) → IsNearlySayable d → All KeepsFill d.header.vars → IsSayable d

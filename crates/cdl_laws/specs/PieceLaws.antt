@@ -1,4 +1,4 @@
--- A dump is cut into the statements that it was put together from.
+-- Law. A dump is cut into the statements that it was put together from.
 use Rattle.std.specs.Prelude.{◌≡◌, ℕ, ℤ, pos, ◌==◌, if◌then◌else◌, true, List, [], ◌∷◌, ◌++◌, All, map, codes, slice_get, Option, None, Some, Ok}
 use Rattle.nc_base.specs.Bytes.{concat_parts}
 use Rattle.nc_base.specs.declared.dataset.Dataset.{Dataset}
@@ -14,23 +14,21 @@ use Rattle.nc_base.specs.Names.{IsName}
 use Rattle.nc_base.specs.Sayable.{IsSayable, trimmed_att}
 use Rattle.nc_base.specs.Types.{type_word}
 use Rattle.nc_base.specs.ValueText.{look_of, variable_text}
-use Rattle.cdl_statements.specs.declared.piece.CutState.TheVariants.{Begins}
 use Rattle.cdl_statements.specs.declared.section.Section.{Section}
 use Rattle.cdl_statements.specs.declared.section.Section.TheVariants.{Unopened, Globals, Dimensions, Variables, Values, Closed}
 use Rattle.cdl_tokens.specs.declared.token.TokenKind.TheVariants as kinds
-use Rattle.cdl_statements.specs.Lexemes.{Lexeme, lexeme, role}
-use Rattle.cdl_statements.specs.Pieces.{pieces_at}
+use Rattle.cdl_statements.specs.Lexemes.{Lexeme, lexeme}
 use Rattle.cdl_statements.specs.Shapes.{Value, Dimension, Statement, Opening, Mark, Declared, Typed, Attribute, Listed, Brace, End, first_bad, shape}
 use Rattle.cdl_statements.specs.Statements.{statements}
 use Rattle.cdl_meaning.specs.State.{in_turn, add_dimid, add_constant, first_type, type_of}
-use Rattle.cdl_laws.specs.Reading.{lexemes, pieces_of}
+use Rattle.cdl_laws.specs.Reading.{cut_lexemes, lexemes, pieces_of}
 
 -- the piece has no bad token, and it is this statement of the section
 pub record SaysStatement (version : Version) (section : Section) (piece : List Lexeme) (statement : Statement) : Type 0 where
   pub sound : first_bad version piece ≡ None
   pub shaped : shape version section piece ≡ Some statement
 
--- whatever follows, the bytes are one piece, which says this statement, and what follows is cut as if it stood alone
+-- whatever follows, the bytes are one piece that says this statement, and what follows is cut as if nothing came before it
 pub record IsStatement (version : Version) (section : Section) (bytes : List ℕ) (statement : Statement) : Type 0 where
   pub piece : List Lexeme
   pub cut : (rest : List ℕ) → pieces_of (bytes ++ rest) ≡ piece ∷ pieces_of rest
@@ -38,7 +36,7 @@ pub record IsStatement (version : Version) (section : Section) (bytes : List ℕ
 
 -- the pieces of a text, without the places of their tokens, are its statements
 abbrev pub PiecesAreStatements : Type 0
-PiecesAreStatements = (text : List ℕ) → map (map (lexeme text)) (statements text) ≡ pieces_at role Begins (lexemes text)
+PiecesAreStatements = (text : List ℕ) → map (map (lexeme text)) (statements text) ≡ cut_lexemes (lexemes text)
 
 -- ---- marks
 
@@ -56,10 +54,10 @@ brace_piece = record { kind = kinds.Mark; bytes = codes "}" } ∷ []
 abbrev pub end_piece : List Lexeme
 end_piece = record { kind = kinds.End; bytes = [] } ∷ []
 
--- What stands between the statements of a dump: its first line, the marks of its sections, the line before the global
--- attributes, which is a comment, and its last line.
+-- What comes between the statements of a dump: its first line, the marks of its sections, the line before the global attributes,
+-- which is a comment, and its last line.
 pub record MarksReadBack (version : Version) : Type 0 where
-  pub opening : (name rest : List ℕ) → IsName name → pieces_at role Begins (lexemes (opening_line name ++ 10 ∷ rest)) ≡ opening_piece name ∷ pieces_of rest
+  pub opening : (name rest : List ℕ) → IsName name → cut_lexemes (lexemes (opening_line name ++ 10 ∷ rest)) ≡ opening_piece name ∷ pieces_of rest
   pub opens : (name : List ℕ) → SaysStatement version Unopened (opening_piece name) Opening
   pub dimensions : IsStatement version Globals dimensions_word (Mark Dimensions)
   pub variables : IsStatement version Dimensions variables_word (Mark Variables)

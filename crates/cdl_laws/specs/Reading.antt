@@ -1,9 +1,8 @@
--- The tokens without their places, for texts that are put together, and the pieces that they are cut into.
+-- Definition. The tokens without their places, for texts that are put together, and the pieces that they are cut into.
 use Rattle.std.specs.Prelude.{ℕ, zero, suc, Bool, true, false, List, [], ◌∷◌, ◌-◌, ◌&&◌, take, Option, None, Some, is_none}
 use Rattle.cdl_tokens.specs.Scan.{scan}
-use Rattle.cdl_statements.specs.Lexemes.{Lexeme, role}
+use Rattle.cdl_statements.specs.Lexemes.{Lexeme}
 use Rattle.cdl_statements.specs.Pieces.{pieces_at}
-use Rattle.cdl_statements.specs.declared.piece.CutState.TheVariants.{Begins}
 use Rattle.cdl_tokens.specs.declared.token.TokenKind.{TokenKind}
 use Rattle.cdl_tokens.specs.declared.token.TokenKind.TheVariants.{End}
 
@@ -21,6 +20,9 @@ lexemes_at fresh zero (b ∷ bytes) =
 abbrev pub lexemes : List ℕ → List Lexeme
 lexemes text = lexemes_at true 0 text
 
+abbrev pub cut_lexemes : List Lexeme → List (List Lexeme)
+cut_lexemes ls = pieces_at (λ l. l) false 0 ls
+
 -- the pieces of the bytes after a whole piece
 unfoldable pub pieces_of : List ℕ → List (List Lexeme)
-pieces_of bytes = pieces_at role Begins (lexemes_at false 0 bytes)
+pieces_of bytes = cut_lexemes (lexemes_at false 0 bytes)

@@ -1,4 +1,4 @@
--- The values that the text of a variable lists give its array.
+-- Law. The values that the text of a variable lists give its array.
 use Rattle.std.specs.Prelude.{◌≡◌, ℕ, true, false, List, [], length, slice_get, slice_index_or, Some, Ok}
 use Rattle.nc_base.specs.declared.dataset.Dataset.{Dataset}
 use Rattle.nc_base.specs.declared.header.NumRecs.TheVariants.{Known}
@@ -15,8 +15,8 @@ use Rattle.cdl_meaning.specs.State.{Listing, capacity_of, listing_of, values_in}
 use Rattle.cdl_laws.specs.PieceLaws.{IsStatement}
 
 -- The text of the values of the variable in this place is one statement, which lists values for it. Added in turn, they give
--- a listing; and its numbers, with the fill value after them where the variable has more, are the numbers of its array. Those
--- of a record variable are all that its records have, so that they tell how many records there are.
+-- a listing; and its numbers, filled up with the fill value, are the numbers of its array. A record variable lists all numbers of
+-- its records, so that their number gives the number of records.
 pub record RowReadsBack (d : Dataset) (records width place : ℕ) (var : Var) : Type 0 where
   pub values : List Value
   pub statement : IsStatement d.header.version Values (variable_text (look_of d.header var records width) (content_of d place var).values) (Listed var.name values)

@@ -1,5 +1,5 @@
--- Names, strings and numbers are read back, each as one token; and the strings of a text stand for bytes.
-use Rattle.std.specs.Prelude.{◌≡◌, ◌||◌, true, ◌∷◌, ℕ, ℤ, Bool, true, false, List, ◌++◌, length, All, slice_index, codes, Some}
+-- Law. Names, strings and numbers are read back, each as one token; and the strings of a text stand for bytes.
+use Rattle.std.specs.Prelude.{◌≡◌, ◌||◌, true, ◌∷◌, ℕ, ℤ, Bool, true, false, List, ◌++◌, length, All, slice_index, codes, map, Some}
 use Rattle.std.specs.Fmt.{signed_decimal}
 use Rattle.nc_base.specs.declared.nc_type.NcType.{NcType}
 use Rattle.nc_base.specs.declared.nc_type.NcType.TheVariants.{Int}
@@ -21,14 +21,14 @@ use Rattle.cdl_tokens.specs.declared.token.Token.{Token}
 use Rattle.cdl_tokens.specs.declared.token.TokenKind.{TokenKind}
 use Rattle.cdl_tokens.specs.declared.token.TokenKind.TheVariants.{Word, Number, Text}
 
--- where the rest follows, exactly these bytes are one token of this kind, whether or not a token stands before
+-- if this rest follows, exactly these bytes are one token of this kind, whether or not a token comes before
 abbrev pub AreToken : TokenKind → List ℕ → List ℕ → Type 0
 AreToken kind bytes rest = (fresh : Bool) → scan fresh (bytes ++ rest) ≡ token kind (length bytes)
 
 -- ---- names
 
--- The bytes begin with nothing that goes on a word: neither with such a byte nor with an escape. Past the end of a text stands a
--- 0 byte, which goes on nothing.
+-- The bytes begin with nothing that continues a word: neither with such a byte nor with an escape. The byte past the end of a text
+-- counts as 0, which continues nothing.
 pub record StopsWord (rest : List ℕ) : Type 0 where
   pub byte : goes_on_word (slice_index rest 0) ≡ false
   pub escape : is_escape (slice_index rest 0) (slice_index rest 1) ≡ false
@@ -54,7 +54,7 @@ quoted bytes = codes "\"" ++ (escaped_text bytes ++ codes "\"")
 pub record StringReadsBack (bytes : List ℕ) : Type 0 where
   pub token : (rest : List ℕ) → AreToken Text (quoted bytes) rest
   pub between : inner (quoted bytes) ≡ escaped_text bytes
-  pub value : unescape (inner (quoted bytes)) ≡ Some bytes
+  pub value : unescape (inner (quoted bytes)) ≡ map Some bytes
   pub stand : stands (inner (quoted bytes)) ≡ bytes
 
 abbrev pub StringsReadBack : Type 0
@@ -62,11 +62,11 @@ StringsReadBack = (bytes : List ℕ) → StringReadsBack bytes
 
 -- ---- numbers
 
--- the bytes begin with no byte that goes on a number
+-- the first byte doesn't continue a number
 abbrev pub StopsNumber : List ℕ → Type 0
 StopsNumber rest = goes_on_number (slice_index rest 0) ≡ false
 
--- a blank and a mark stop both, and one of them stands after each name and each number of a dump
+-- White space and a mark end a word and a number. After each name and each number of a dump comes one of the two.
 abbrev pub BlanksAndMarksStop : Type 0
 BlanksAndMarksStop = (b : ℕ) (rest : List ℕ) → (is_blank b || is_mark b) ≡ true → StopsWord (b ∷ rest) × StopsNumber (b ∷ rest)
 
@@ -89,9 +89,9 @@ ValuesReadBack = (version : Version) (ty : NcType) (number : ℤ)
 
 -- ---- the strings of a text
 
--- where the token is a string, each character between its quotes stands for a byte, and these are the bytes
+-- if the token is a string, each character between its quotes stands for a byte, and these are the bytes
 abbrev pub StandsForBytes : List ℕ → Token → Type 0
-StandsForBytes text t = t.kind ≡ Text → unescape (inner (raw text t)) ≡ Some (stands (inner (raw text t)))
+StandsForBytes text t = t.kind ≡ Text → unescape (inner (raw text t)) ≡ map Some (stands (inner (raw text t)))
 
 abbrev pub StringsStandForBytes : Type 0
 StringsStandForBytes = (text : List ℕ) → All (StandsForBytes text) (tokens text)

@@ -1,4 +1,4 @@
--- Datasets without the NULs at the end of their attributes: what of them a second text keeps, and when their fill values change.
+-- Law. Datasets without the NULs at the end of their attributes: what of them a second text keeps, and when their fill values change.
 use Rattle.std.specs.Prelude.{◌≡◌, ◌↔◌, ℕ, ◌≤◌, Bool, true, false, ◌&&◌, ◌==◌, nat_lt, List, length, find, All, None, Some, Ok}
 use Rattle.nc_base.specs.Bytes.{AreBytes}
 use Rattle.nc_base.specs.declared.dataset.Dataset.{Dataset}
@@ -40,13 +40,13 @@ abbrev pub has_cut_fill : Var → Bool
 has_cut_fill var = elim (find is_fill_att var.atts) [ None ↦ false | Some att ↦ is_cut att ]
 
 -- that is all that can change the fill value of a variable of characters
-abbrev pub FillsAreKept : Type 0
-FillsAreKept = (var : Var) → is_char var.ty ≡ true → (fill_value (trimmed_var var) ≡ fill_value var) ↔ (has_cut_fill var ≡ false)
+abbrev pub FillValueSurvivesTrim : Type 0
+FillValueSurvivesTrim = (var : Var) → is_char var.ty ≡ true → (fill_value (trimmed_var var) ≡ fill_value var) ↔ (has_cut_fill var ≡ false)
 
 abbrev pub HasPlainFill : Var → Type 0
 HasPlainFill var = is_char var.ty ≡ true → has_cut_fill var ≡ false
 
--- so what a text means can be declared just where no variable of characters has such a fill value
+-- so what a text means is sayable if and only if no variable of characters has such a fill value
 abbrev pub MeaningsAreSayable : Type 0
 MeaningsAreSayable = (text : List ℕ) (v : Version) (d : Dataset) → AreBytes text → length text ≤ text_limit → meaning text v ≡ Ok d
     → IsSayable d ↔ All HasPlainFill d.header.vars

@@ -6,13 +6,13 @@ ghost use Rattle.cdl_laws.specs.PieceLaws.{PiecesAreStatements, MarksReadBack, D
 ghost use Rattle.cdl_laws.specs.RoundTrip.{DumpsTellDatasetsApart, TextReadsBack};
 ghost use Rattle.cdl_laws.specs.RowLaws.{RowsReadBack, EmptyRowsReadBack};
 ghost use Rattle.cdl_laws.specs.TokenLaws.{BlanksAndMarksStop, NamesReadBack, StringsReadBack, ConstantsReadBack, ValuesReadBack, StringsStandForBytes};
-ghost use Rattle.cdl_laws.specs.Trims.{FillsAreKept, MeaningsAreSayable, MeaningsComeBack, SecondTripIsSame, TrimmedIsSayable, TrimsOnce};
+ghost use Rattle.cdl_laws.specs.Trims.{FillValueSurvivesTrim, MeaningsAreSayable, MeaningsComeBack, SecondTripIsSame, TrimmedIsSayable, TrimsOnce};
 
 /// What is printed of names, strings and numbers is read as one token each, of exactly the bytes that were printed, and that
 /// token says what was printed: an escaped name is one word that is not reserved and stands for the name; an escaped string
 /// between quotes is one string that stands for its bytes, whatever follows; and a number of a type that the version has is
-/// one number token of that value, and with the type's suffix of that type. A word and a number have to be followed by what
-/// can't go on them, as a blank or a mark, one of which stands after each in a dump.
+/// one number token of that value, and with the type's suffix of that type. What follows a word or a number must not continue
+/// it. In a dump white space or a mark follows each of them, and neither continues a word or a number.
 pub fn token_reads_back()
     ensures names { NamesReadBack }
     ensures strings { StringsReadBack }
@@ -83,13 +83,13 @@ pub fn nearly_is_sayable()
     ensures { NearlyIsSayable }
 {}
 
-/// Without the NULs at the end of attributes a variable of characters has the same fill value just where its first attribute
+/// Without the NULs at the end of attributes a variable of characters has the same fill value if and only if its first attribute
 /// named `_FillValue`, if it has one, isn't one character and then NULs.
-pub fn fills_are_kept()
-    ensures { FillsAreKept }
+pub fn fill_value_survives_trim()
+    ensures { FillValueSurvivesTrim }
 {}
 
-/// So a text can declare what a text of bytes within the limit means just where no variable of characters has such an
+/// So a text can declare what a text of bytes within the limit means if and only if no variable of characters has such an
 /// attribute.
 pub fn meanings_are_sayable()
     ensures { MeaningsAreSayable }

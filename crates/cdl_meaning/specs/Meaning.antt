@@ -1,4 +1,4 @@
--- What a text means: a dataset, or its first fault with its line.
+-- Definition. What a text means: a dataset, or its first fault with its line.
 use Rattle.std.specs.Prelude.{ℕ, ◌+◌, ◌-◌, ◌*◌, ◌/◌, nat_le, max, Bool, ◌&&◌, if◌then◌else◌, ℤ, List, [], ◌∷◌, length, map, Option, None, Some, Result, Ok, Err}
 use Rattle.std.specs.List.{flat_map, list_all}
 use Rattle.nc_base.specs.declared.dataset.Dataset.{Dataset}
@@ -74,7 +74,7 @@ abbrev pub records_in : List Dim → List Draft → ℕ
 records_in dims [] = 0
 records_in dims (d ∷ ds) = max (records_of dims d) (records_in dims ds)
 
--- the array of a variable over n records: its values, and the fill value where there is none
+-- the array of a variable over n records: its values, filled up with the fill value
 abbrev pub array_of : List Dim → ℕ → Draft → List ℕ
 array_of dims n d = flat_map (bytes_of_number d.var.ty) (filled (value_count dims d.var n) (fill_value d.var) (values_of dims d))
 

@@ -1,4 +1,4 @@
--- The dataset so far, and what each statement makes of it. A fault is the first from the left.
+-- Definition. The dataset so far, and what each statement makes of it. A fault is the first from the left.
 use Rattle.std.specs.Prelude.{ℕ, ℤ, pos, neg_ℤ, Bool, true, false, List, [], ◌∷◌, ◌++◌, ◌+◌, ◌-◌, ◌^◌, ◌&&◌, ◌||◌, ◌==◌, not, nat_lt, nat_le, if◌then◌else◌, length, take, codes, map, replicate, find, Option, None, Some, Result, Ok, Err, ⊤, int_le, unsigned_abs}
 use Rattle.std.specs.List.{flat_map, list_any, position}
 use Rattle.std.specs.Ordering.{int_eq}
@@ -132,7 +132,7 @@ at_named name f (d ∷ ds) =
       es ← at_named name f ds
       Ok (d ∷ es))
 
--- the same, where the name is one
+-- the same, if the name is valid
 unfoldable pub at_variable : List ℕ → (Draft → Result Draft CdlKind) → List Draft → Result (List Draft) CdlKind
 at_variable name f ds = do
   _ ← unless (is_name name) BadName

@@ -1,1 +1,1 @@
-pub mod NumberTexts
+pub mod code

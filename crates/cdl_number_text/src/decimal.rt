@@ -2,7 +2,7 @@
 
 ghost use Rattle.std.specs.Prelude.{◌≡◌, ◌+◌, ◌<◌, ◌≤◌, ◌^◌, ◌++◌, unsigned_abs, length, take};
 ghost use Rattle.std.specs.Fmt.{decimal, signed_decimal};
-ghost use Rattle.cdl_number_text.specs.NumberTexts.{text_of};
+ghost use Rattle.cdl_number_text.specs.code.NumberTexts.{text_of};
 
 use crate::put::put_at;
 use itoa::write_digits;

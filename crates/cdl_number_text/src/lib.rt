@@ -1,6 +1,8 @@
 //! The text of a number in CDL, put straight into a slice.
 //!
 //! A caller asks how long a text is, sees whether its line has the columns, and puts it where it goes. Nothing is copied twice.
+//!
+//! This crate is internal: `cdl_print` alone calls it.
 #![tactic(auto)]
 
 mod decimal;

@@ -1,27 +1,11 @@
 -- What the tokens of an attribute's statement make of the attributes.
-use Rattle.std.proofs.Common.{◌≡◌, ℕ, Bool, true, false, List, [], ◌∷◌, ◌++◌, refl, sym, ap, ◌∙◌, subst}
-use Rattle.std.specs.Prelude.{Result, Ok, Err, ⊤, if◌then◌else◌}
+use Rattle.std.proofs.Common.{◌≡◌, ℕ, Bool, true, false, List, [], ◌∷◌, ◌++◌, refl, sym, ap, ◌∙◌, subst, Result, Ok, Err, if◌then◌else◌}
+use Rattle.std.specs.Prelude.{⊤}
 use Rattle.nc_base.specs.Names.{is_name as is_format_name}
-use Rattle.nc_base.specs.declared.header.Att.{Att}
-use Rattle.nc_base.specs.declared.nc_type.NcType.{NcType}
-use Rattle.nc_base.specs.declared.version.Version.{Version}
-use Rattle.cdl_statements.specs.Contents.{value_of, values}
-use Rattle.cdl_statements.specs.DueTokens.{completes, is_name, is_value_of, next}
-use Rattle.cdl_statements.specs.Cutters.{is_done, next_token, text_of, version_of, words}
-use Rattle.cdl_statements.specs.declared.cutter.Cutter.{Cutter}
-use Rattle.cdl_tokens.specs.Escapes.{word_value}
-use Rattle.cdl_statements.specs.Lexemes.{Lexeme, is_mark, lexeme}
-use Rattle.cdl_statements.specs.Shapes.{Value}
-use Rattle.cdl_statements.specs.declared.due.Due.TheVariants.{AttributeName, Equals, Value as DueValue, Separator}
-use Rattle.cdl_statements.specs.declared.fault.CdlKind.{CdlKind}
-use Rattle.cdl_statements.specs.declared.fault.CdlKind.TheVariants.{BadName, DuplicateName}
-use Rattle.cdl_statements.proofs.Listing.{value_first}
-use Rattle.cdl_meaning.specs.State.{add_att, add_constant, first_type, in_turn, type_said, unless, when, ◌>>=◌}
-use Rattle.cdl_values.specs.Answers.{Fails, Leaves}
-use Rattle.cdl_values.specs.declared.read_error.ReadError.{ReadError}
-use Rattle.cdl_values.specs.declared.read_error.ReadError.TheVariants.{OutOfMemory, Fault}
-use Rattle.cdl_parse.specs.AttributeNames.{has_name}
-use Rattle.cdl_parse.specs.AttributeRead.{att_read, att_said, constants_said}
+use Rattle.cdl_parse.proofs.Prelude.{Att, NcType, Version, value_of, values, completes, is_value_of, next, is_done, next_token, text_of, version_of, words, Cutter, word_value, Lexeme, is_mark, lexeme, Value, AttributeName, Equals, Separator, CdlKind, BadName, DuplicateName, value_first, add_att, add_constant, first_type, in_turn, type_said, unless, when, FailsRead, Leaves, ReadError, OutOfMemory, Fault, has_attribute, att_read, att_said, constants_said}
+use Rattle.cdl_statements.specs.code.DueTokens.{is_name}
+use Rattle.cdl_statements.specs.declared.due.Due.TheVariants.{Value as DueValue}
+use Rattle.cdl_meaning.specs.State.{◌>>=◌}
 use Rattle.cdl_parse.proofs.TakenNames.{named}
 use Rattle.cdl_parse.proofs.StatementWords.{begins, goes_past}
 
@@ -31,10 +15,10 @@ with_values atts name ty read = read >>= (λ vals. Ok (atts ++ record { name = n
 
 -- the same, after the checks of the name
 abbrev checked : List Att → List ℕ → NcType → Result (List ℕ) CdlKind → Result (List Att) CdlKind
-checked atts name ty read = unless (is_format_name name) BadName >>= (λ u. when (has_name name atts) DuplicateName >>= (λ w. with_values atts name ty read))
+checked atts name ty read = unless (is_format_name name) BadName >>= (λ u. when (has_attribute name atts) DuplicateName >>= (λ w. with_values atts name ty read))
 
 name_first_checked : (name : List ℕ) (cs : List Value) (atts : List Att) →
-    add_att name cs atts ≡ (unless (is_format_name name) BadName >>= (λ u. when (has_name name atts) DuplicateName >>= (λ w. with_values atts name (first_type cs) (in_turn (add_constant (first_type cs)) [] cs))))
+    add_att name cs atts ≡ (unless (is_format_name name) BadName >>= (λ u. when (has_attribute name atts) DuplicateName >>= (λ w. with_values atts name (first_type cs) (in_turn (add_constant (first_type cs)) [] cs))))
 unfolding add_att
 name_first_checked name cs atts = refl
 
@@ -62,17 +46,17 @@ said v ws es cs rest n e l a b ty atts first second third on is =
     let typed : first_type (values v cs) ≡ ty = ap first_type begun ∙ sym is in
     ap (λ all. att_said v all atts) here ∙ name_first_checked (word_value n.bytes) (values v cs) atts ∙ ap (λ t. checked atts (word_value n.bytes) t (in_turn (add_constant t) [] (values v cs))) typed
 
-pub fails_then : {A B : Type 0} (e : ReadError) (r : Result A CdlKind) (f : A → Result B CdlKind) → Fails e r → Fails e (r >>= f)
+pub fails_then : {A B : Type 0} (e : ReadError) (r : Result A CdlKind) (f : A → Result B CdlKind) → FailsRead e r → FailsRead e (r >>= f)
 fails_then OutOfMemory r f h = tt
 fails_then (Fault k) r f h = rw (h) refl
 
-pub name_fails : (e : ReadError) (n : Lexeme) (rest ws : List Lexeme) (v : Version) (atts : List Att) → ws ≡ n ∷ rest → Fails e (unless (is_format_name (word_value n.bytes)) BadName) → Fails e (att_said v ws atts)
+pub name_fails : (e : ReadError) (n : Lexeme) (rest ws : List Lexeme) (v : Version) (atts : List Att) → ws ≡ n ∷ rest → FailsRead e (unless (is_format_name (word_value n.bytes)) BadName) → FailsRead e (att_said v ws atts)
 name_fails e n rest ws v atts first h =
     let cs = constants_said v (n ∷ rest) in
-    subst (λ (r : Result (List Att) CdlKind). Fails e r) (sym (ap (λ all. att_said v all atts) first ∙ name_first_checked (word_value n.bytes) cs atts))
-    (fails_then e (unless (is_format_name (word_value n.bytes)) BadName) (λ u. when (has_name (word_value n.bytes) atts) DuplicateName >>= (λ w. with_values atts (word_value n.bytes) (first_type cs) (in_turn (add_constant (first_type cs)) [] cs))) h)
+    subst (λ (r : Result (List Att) CdlKind). FailsRead e r) (sym (ap (λ all. att_said v all atts) first ∙ name_first_checked (word_value n.bytes) cs atts))
+    (fails_then e (unless (is_format_name (word_value n.bytes)) BadName) (λ u. when (has_attribute (word_value n.bytes) atts) DuplicateName >>= (λ w. with_values atts (word_value n.bytes) (first_type cs) (in_turn (add_constant (first_type cs)) [] cs))) h)
 
-pub refused : {A : Type 0} (after : A) (r : Result ⊤ ReadError) (e : ReadError) (read : Result A CdlKind) → r ≡ Err e → Fails e read → Leaves after r read
+pub refused : {A : Type 0} (after : A) (r : Result ⊤ ReadError) (e : ReadError) (read : Result A CdlKind) → r ≡ Err e → FailsRead e read → Leaves after r read
 refused after (Ok u) e read is h = cc
 refused after (Err OutOfMemory) e read is h = tt
 refused after (Err (Fault k)) OutOfMemory read is h = cc
@@ -83,7 +67,7 @@ pub read_as : (start equals first : Cutter) (a b : Bool) (n l : Lexeme) (ty : Nc
     words start ≡ lexeme (text_of start) (next_token start) ∷ (if a then [] else words equals) → words equals ≡ lexeme (text_of equals) (next_token equals) ∷ (if b then [] else words first) →
     is_done first ≡ false → completes AttributeName (words start) ≡ true → n ≡ lexeme (text_of start) (next_token start) → l ≡ lexeme (text_of first) (next_token first) →
     v ≡ version_of first → version_of first ≡ version_of start → ty ≡ type_said (value_of v l l.kind) → name ≡ word_value n.bytes → is_format_name (word_value n.bytes) ≡ true →
-    att_read start atts ≡ (when (has_name name atts) DuplicateName >>= (λ w. with_values atts name ty (in_turn (add_constant ty) [] (values (version_of first) (words first)))))
+    att_read start atts ≡ (when (has_attribute name atts) DuplicateName >>= (λ w. with_values atts name ty (in_turn (add_constant ty) [] (values (version_of first) (words first)))))
 read_as start equals first a b n l ty v atts name one two more on n-is l-is v-is same ty-is name-is allowed =
     let begun = begins first more in
     let typed : ty ≡ type_said (value_of (version_of start) (lexeme (text_of first) (next_token first)) (lexeme (text_of first) (next_token first)).kind) =
@@ -91,5 +75,5 @@ read_as start equals first a b n l ty v atts name one two more on n-is l-is v-is
     let read = in_turn (add_constant ty) [] (values (version_of start) (words first)) in
     said (version_of start) (words start) (words equals) (words first) begun.0 (lexeme (text_of start) (next_token start)) (lexeme (text_of equals) (next_token equals)) (lexeme (text_of first) (next_token first)) a b ty atts one two begun.1 on typed ∙
     ap (λ (m : Lexeme). checked atts (word_value m.bytes) ty read) (sym n-is) ∙ named (is_format_name (word_value n.bytes)) _ allowed ∙
-    ap (λ (m : List ℕ). when (has_name m atts) DuplicateName >>= (λ w. with_values atts m ty read)) (sym name-is) ∙
-    ap (λ w. when (has_name name atts) DuplicateName >>= (λ u. with_values atts name ty (in_turn (add_constant ty) [] (values w (words first))))) (sym same)
+    ap (λ (m : List ℕ). when (has_attribute m atts) DuplicateName >>= (λ w. with_values atts m ty read)) (sym name-is) ∙
+    ap (λ w. when (has_attribute name atts) DuplicateName >>= (λ u. with_values atts name ty (in_turn (add_constant ty) [] (values w (words first))))) (sym same)

@@ -1,11 +1,6 @@
 -- The line of the last statement but one, a statement at a time.
 use Rattle.std.proofs.Common.{◌≡◌, ℕ, ◌<◌, true, false, List, [], ◌∷◌, length, map, refl, sym, ap, arith}
-use Rattle.cdl_statements.specs.Cutters.{after, first_line, first_piece, is_done, next_token, other_pieces, pieces_left, text_of, words}
-use Rattle.cdl_statements.specs.Lexemes.{Lexeme, lexeme}
-use Rattle.cdl_statements.specs.Pieces.{pieces_at}
-use Rattle.cdl_statements.specs.declared.cutter.Cutter.{Cutter}
-use Rattle.cdl_tokens.specs.declared.token.Token.{Token}
-use Rattle.cdl_meaning.specs.Meaning.{closing_line, line_of}
+use Rattle.cdl_parse.proofs.Prelude.{after, first_line, first_piece, is_done, next_token, other_pieces, pieces_left, text_of, words, Lexeme, lexeme, pieces_after, Cutter, Token, closing_line, line_of}
 use Rattle.cdl_parse.proofs.StatementWords.{begins}
 
 -- after two pieces with these lines
@@ -39,5 +34,5 @@ fewer c more = let begun = begins c more in (of_pieces (text_of c) 0 0 (pieces_l
 
 -- no piece is left
 pub closing_end : (before last : ℕ) (c : Cutter) → is_done c ≡ true → closing_from before last (pieces_left c) ≡ before
-unfolding pieces_left pieces_at
+unfolding pieces_left pieces_after
 closing_end before last c done = rw (done) refl

@@ -1,16 +1,6 @@
 -- A run over the data section, statement by statement.
-use Rattle.std.proofs.Common.{◌≡◌, ℕ, false, List, [], length, refl, sym, ◌∙◌, subst}
-use Rattle.std.specs.Prelude.{Ok, replicate}
-use Rattle.nc_base.specs.declared.header.Var.{Var}
-use Rattle.cdl_statements.specs.Cutters.{after, is_done, pieces_left, text_of, version_of, words}
-use Rattle.cdl_statements.specs.declared.cutter.Cutter.{Cutter}
-use Rattle.cdl_statements.specs.declared.section.Section.TheVariants.{Values}
-use Rattle.cdl_meaning.specs.Meaning.{piece_read, run}
-use Rattle.cdl_meaning.specs.State.{State, Draft}
-use Rattle.cdl_values.specs.Listed.{AllList, fresh}
-use Rattle.cdl_values.specs.Meant.{Suit, names_of}
-use Rattle.cdl_values.specs.declared.data.Target.{Target}
-use Rattle.cdl_parse.specs.DataSections.{IsInDataSection}
+use Rattle.std.proofs.Common.{◌≡◌, ℕ, false, List, [], length, refl, sym, ◌∙◌, subst, Ok, replicate}
+use Rattle.cdl_parse.proofs.Prelude.{Var, after, is_done, pieces_left, text_of, version_of, words, Cutter, Values, piece_read, run, State, Draft, AllList, unlisted_drafts, AllSuit, names_of, Target, IsInDataSection}
 use Rattle.cdl_parse.proofs.DataStates.{none_listed}
 use Rattle.cdl_parse.proofs.RunSteps.{goes_on}
 
@@ -20,10 +10,10 @@ SoFar vars s start ts arrays c =
     (ds : List Draft) × IsInDataSection vars (names_of s.drafts) ts arrays (record s { drafts = ds }) ×
     (run (text_of start) (version_of start) s (pieces_left start) ≡ run (text_of start) (version_of start) (record s { drafts = ds }) (pieces_left c))
 
-pub none_so_far : (vars : List Var) (s : State) (start : Cutter) (ts : List Target) (arrays : List (List ℕ)) → s.section ≡ Values → Suit s.dims ts s.drafts → s.drafts ≡ fresh vars → arrays ≡ replicate (length ts) [] →
+pub none_so_far : (vars : List Var) (s : State) (start : Cutter) (ts : List Target) (arrays : List (List ℕ)) → s.section ≡ Values → AllSuit s.dims ts s.drafts → s.drafts ≡ unlisted_drafts vars → arrays ≡ replicate (length ts) [] →
     SoFar vars s start ts arrays start
 none_so_far vars s start ts arrays section suit is empty =
-    let listed = none_listed s.dims vars ts (subst (Suit s.dims ts) is suit) in (
+    let listed = none_listed s.dims vars ts (subst (AllSuit s.dims ts) is suit) in (
       s.drafts,
       record { section = section; named = refl; suit = suit; lists = subst (λ arrays. AllList s.dims vars arrays s.drafts) (sym empty) (subst (AllList s.dims vars (replicate (length ts) [])) (sym is) listed) },
       refl,

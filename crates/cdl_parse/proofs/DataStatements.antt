@@ -1,21 +1,7 @@
 -- The statements of the data section, one by one.
-use Rattle.std.proofs.Common.{◌≡◌, ℕ, true, List, [], ◌∷◌, Result, slice_set, refl, sym, ap, ◌∙◌, subst}
-use Rattle.std.specs.Prelude.{Some, Ok, Err}
-use Rattle.nc_base.specs.declared.header.Var.{Var}
-use Rattle.nc_base.specs.declared.version.Version.{Version}
-use Rattle.cdl_statements.specs.Lexemes.{Lexeme}
-use Rattle.cdl_statements.specs.Contents.{statement_said}
-use Rattle.cdl_statements.specs.declared.cutter.Cutter.{Cutter}
-use Rattle.cdl_statements.specs.declared.section.Section.TheVariants.{Values, Closed}
-use Rattle.cdl_meaning.specs.Meaning.{piece_read}
-use Rattle.cdl_meaning.specs.State.{Draft, State, act}
-use Rattle.cdl_values.specs.Listed.{AllList}
-use Rattle.cdl_values.specs.Meant.{Means, begins_brace, name_first, names_of, with_listing}
-use Rattle.cdl_values.specs.NameIndices.{position_of}
-use Rattle.cdl_values.specs.declared.data.Target.{Target}
-use Rattle.cdl_values.specs.declared.read_error.ReadError.{ReadError}
-use Rattle.cdl_parse.specs.DataSections.{Closes, ReadsOne, IsInDataSection, given_at}
-use Rattle.cdl_parse.specs.declared.data_section.Passed.{Passed}
+use Rattle.std.proofs.Common.{◌≡◌, ℕ, true, List, [], ◌∷◌, Result, slice_set, refl, sym, ap, ◌∙◌, subst, Some, Ok, Err}
+use Rattle.cdl_parse.proofs.Prelude.{Var, Version, Lexeme, statement_said, Cutter, Values, Closed, piece_read, Draft, State, act, AllList, Means, begins_brace, name_first, names_of, with_listing, position_of, Target, ReadError, Closes, ReadsOne, IsInDataSection, given_at}
+use Rattle.cdl_parse.specs.declared.data_section.DataStatement.{DataStatement}
 use Rattle.cdl_parse.proofs.DataStates.{listed_at, names_are}
 
 -- the statement that begins with the closing brace is that brace
@@ -25,7 +11,7 @@ closing v s [] section brace read = cc
 closing v s (l ∷ ls) section brace read = read ∙ ap (λ at. act v s (statement_said v at (l ∷ ls))) section ∙ rw (brace) refl
 
 -- what the call that reads a brace answers is what the call that reads any statement does
-pub closed : (vars : List Var) (start : Cutter) (s : State) (ts : List Target) (arrays : List (List ℕ)) (names : List (List ℕ)) (result : Result Passed ReadError) → IsInDataSection vars names ts arrays s → Closes start s result → ReadsOne vars start s ts arrays result
+pub closed : (vars : List Var) (start : Cutter) (s : State) (ts : List Target) (arrays : List (List ℕ)) (names : List (List ℕ)) (result : Result DataStatement ReadError) → IsInDataSection vars names ts arrays s → Closes start s result → ReadsOne vars start s ts arrays result
 closed vars start s ts arrays names (Ok passed) stands h = rw (h.0) (h.1, stands.lists)
 closed vars start s ts arrays names (Err e) stands h = h
 

@@ -1,17 +1,6 @@
 -- What the statements of the data section make of what is listed.
-use Rattle.std.proofs.Common.{◌≡◌, ℕ, zero, suc, ◌+◌, ◌<◌, ◌≤◌, Bool, true, false, List, [], ◌∷◌, length, refl, ap, ◌∙◌, subst, arith}
-use Rattle.std.specs.Prelude.{Option, Some, if◌then◌else◌, map, replicate, slice_index_or, slice_set}
-use Rattle.std.specs.List.{flat_map, position_from}
-use Rattle.std.specs.Str.{bytes_eq}
-use Rattle.nc_base.specs.Numbers.{bytes_of_number}
-use Rattle.nc_base.specs.declared.header.Dim.{Dim}
-use Rattle.nc_base.specs.declared.header.Var.{Var}
-use Rattle.cdl_meaning.specs.State.{Draft, Listing, capacity_of, values_in}
-use Rattle.cdl_values.specs.Listed.{AllList, Lists, fresh}
-use Rattle.cdl_values.specs.Meant.{Suit, Suits, bytes_at, names_of, with_listing}
-use Rattle.cdl_values.specs.NameIndices.{position_of}
-use Rattle.cdl_values.specs.declared.data.Target.{Target}
-use Rattle.cdl_parse.specs.DataSections.{given_at}
+use Rattle.std.proofs.Common.{◌≡◌, ℕ, zero, suc, ◌+◌, ◌<◌, ◌≤◌, Bool, true, false, List, [], ◌∷◌, length, refl, ap, ◌∙◌, subst, arith, Option, Some, if◌then◌else◌, map, replicate, slice_index_or, slice_set}
+use Rattle.cdl_parse.proofs.Prelude.{flat_map, position_from, bytes_eq, bytes_of_number, Dim, Var, Draft, Listing, capacity_of, values_in, AllList, Lists, unlisted_drafts, AllSuit, Suits, listing_bytes, names_of, with_listing, position_of, Target, given_at}
 
 -- the drafts have the names of their variables
 pub names_are : (dims : List Dim) (vars : List Var) (arrays : List (List ℕ)) (ds : List Draft) → AllList dims vars arrays ds → names_of ds ≡ map (λ (var : Var). var.name) vars
@@ -23,7 +12,7 @@ names_are dims (var ∷ vars) (a ∷ arrays) [] h = absurd h
 names_are dims (var ∷ vars) (a ∷ arrays) (d ∷ ds) h = ap (λ n. n ∷ names_of ds) (ap (λ (v : Var). v.name) h.0.is) ∙ ap (λ ns. var.name ∷ ns) (names_are dims vars arrays ds h.1)
 
 -- before the section nothing is listed
-pub none_listed : (dims : List Dim) (vars : List Var) (ts : List Target) → Suit dims ts (fresh vars) → AllList dims vars (replicate (length ts) []) (fresh vars)
+pub none_listed : (dims : List Dim) (vars : List Var) (ts : List Target) → AllSuit dims ts (unlisted_drafts vars) → AllList dims vars (replicate (length ts) []) (unlisted_drafts vars)
 none_listed dims [] [] h = tt
 none_listed dims [] (t ∷ ts) h = absurd h
 none_listed dims (var ∷ vars) [] h = absurd h
@@ -39,9 +28,9 @@ module _ (dims : List Dim) (name : List ℕ) (listing : Listing) where
   -- what is listed afterwards, at a position after the first i
   abbrev Found : ℕ → List Var → List (List ℕ) → List Target → List Draft → ℕ → Type 0
   Found i vars arrays ts ds k =
-      (j : ℕ) × (k ≡ i + j) × AllList dims vars (slice_set arrays j (bytes_at dims name listing ds)) (with_listing name listing ds) × Suit dims (given_at j ts) (with_listing name listing ds)
+      (j : ℕ) × (k ≡ i + j) × AllList dims vars (slice_set arrays j (listing_bytes dims name listing ds)) (with_listing name listing ds) × AllSuit dims (given_at j ts) (with_listing name listing ds)
 
-  found_at : (i : ℕ) (vars : List Var) (arrays : List (List ℕ)) (ts : List Target) (ds : List Draft) (k : ℕ) → AllList dims vars arrays ds → Suit dims ts ds →
+  found_at : (i : ℕ) (vars : List Var) (arrays : List (List ℕ)) (ts : List Target) (ds : List Draft) (k : ℕ) → AllList dims vars arrays ds → AllSuit dims ts ds →
       position_from (λ other. bytes_eq other name) i (names_of ds) ≡ Some k → Found i vars arrays ts ds k
   found_at i vars arrays ts [] k h suit is = cc
   found_at i [] [] ts (d ∷ ds) k h suit is = absurd h
@@ -55,17 +44,17 @@ module _ (dims : List Dim) (name : List ℕ) (listing : Listing) where
 
       by : (same : Bool) → (rest ≡ Some k → Found (i + 1) vars arrays ts ds k) → (if same then Some i else rest) ≡ Some k →
           (j : ℕ) × (k ≡ i + j) ×
-          AllList dims (var ∷ vars) (slice_set (a ∷ arrays) j (if same then flat_map (bytes_of_number d.var.ty) (values_in (capacity_of dims d.var) listing) else bytes_at dims name listing ds)) (if same then record d { listed = Some listing } ∷ ds else d ∷ with_listing name listing ds) ×
-          Suit dims (given_at j (t ∷ ts)) (if same then record d { listed = Some listing } ∷ ds else d ∷ with_listing name listing ds)
+          AllList dims (var ∷ vars) (slice_set (a ∷ arrays) j (if same then flat_map (bytes_of_number d.var.ty) (values_in (capacity_of dims d.var) listing) else listing_bytes dims name listing ds)) (if same then record d { listed = Some listing } ∷ ds else d ∷ with_listing name listing ds) ×
+          AllSuit dims (given_at j (t ∷ ts)) (if same then record d { listed = Some listing } ∷ ds else d ∷ with_listing name listing ds)
       by true more is = (0, (let first : i ≡ k = cc in omega (arith, first)), (first_lists var a d h.0, h.1), (first_suits t d suit.0, suit.1))
       by false more is = let found = more is in (suc found.0, omega (arith, found.1), (h.0, found.2), (suit.0, found.3))
 
-  pub listed_at : (vars : List Var) (arrays : List (List ℕ)) (ts : List Target) (ds : List Draft) (k : ℕ) → AllList dims vars arrays ds → Suit dims ts ds → position_of (names_of ds) name ≡ Some k →
-      AllList dims vars (slice_set arrays k (bytes_at dims name listing ds)) (with_listing name listing ds) × Suit dims (given_at k ts) (with_listing name listing ds)
+  pub listed_at : (vars : List Var) (arrays : List (List ℕ)) (ts : List Target) (ds : List Draft) (k : ℕ) → AllList dims vars arrays ds → AllSuit dims ts ds → position_of (names_of ds) name ≡ Some k →
+      AllList dims vars (slice_set arrays k (listing_bytes dims name listing ds)) (with_listing name listing ds) × AllSuit dims (given_at k ts) (with_listing name listing ds)
   listed_at vars arrays ts ds k h suit is =
       let found = found_at 0 vars arrays ts ds k h suit is in
       let same : found.0 ≡ k = omega (arith, found.1) in
-      subst (λ j. AllList dims vars (slice_set arrays j (bytes_at dims name listing ds)) (with_listing name listing ds) × Suit dims (given_at j ts) (with_listing name listing ds)) same (found.2, found.3)
+      subst (λ j. AllList dims vars (slice_set arrays j (listing_bytes dims name listing ds)) (with_listing name listing ds) × AllSuit dims (given_at j ts) (with_listing name listing ds)) same (found.2, found.3)
 
 -- the target at a position, written
 pub given_is : (ts : List Target) (i : ℕ) (t d : Target) → i < length ts → t ≡ slice_index_or ts i d → slice_set ts i (record t { given = true }) ≡ given_at i ts

@@ -1,31 +1,10 @@
 -- A declaration, token by token.
-use Rattle.std.proofs.Common.{◌≡◌, ℕ, Bool, true, false, List, [], ◌∷◌, ◌++◌, length, drop, refl, sym, ap, ◌∙◌, subst}
-use Rattle.std.proofs.lemmas.Bool.{false≢true}
-use Rattle.std.specs.Prelude.{Option, None, Some, Result, Ok, Err, ⊤, IfOk, ◌&&◌, ◌||◌, not, nat_lt, if◌then◌else◌}
-use Rattle.std.specs.List.{position}
-use Rattle.std.specs.Str.{bytes_eq}
-use Rattle.nc_base.specs.Names.{is_name}
-use Rattle.nc_base.specs.Sizes.{is_record_dim}
-use Rattle.nc_base.specs.declared.header.Dim.{Dim}
-use Rattle.nc_base.specs.declared.nc_type.NcType.{NcType}
-use Rattle.nc_base.specs.declared.version.Version.{Version}
-use Rattle.cdl_statements.specs.Contents.{Declaration, declaration_said, with_name}
-use Rattle.cdl_statements.specs.DueTokens.{completes, is_name as is_name_token, is_whole, next}
-use Rattle.cdl_tokens.specs.Escapes.{word_value}
-use Rattle.cdl_statements.specs.Lexemes.{Lexeme, is_mark, is_mark_kind}
-use Rattle.cdl_statements.specs.declared.due.Due.{Due}
-use Rattle.cdl_statements.specs.declared.due.Due.TheVariants.{AfterVariable, VariableName}
-use Rattle.cdl_statements.specs.declared.fault.CdlKind.{CdlKind}
-use Rattle.cdl_statements.specs.declared.fault.CdlKind.TheVariants.{BadName, BadShape, DuplicateName, UnknownDimension}
+use Rattle.std.proofs.Common.{◌≡◌, ℕ, Bool, true, false, List, [], ◌∷◌, ◌++◌, length, drop, refl, sym, ap, ◌∙◌, subst, Option, None, Some, Result, Ok, Err, IfOk, ◌&&◌, ◌||◌, not, nat_lt, if◌then◌else◌}
+use Rattle.cdl_parse.proofs.Prelude.{false≢true, position, bytes_eq, is_name, is_record_dim, Dim, NcType, Version, Declaration, declaration_said, with_name, completes, is_whole, next, word_value, Lexeme, is_mark, is_mark_kind, Due, AfterVariable, VariableName, CdlKind, BadName, BadShape, DuplicateName, UnknownDimension, Draft, add_dimid, add_var, found, in_turn, type_of, unless, when, ContinuesRead, FailsRead, Leaves, ReadError, OutOfMemory, Fault, added, continued, declared, is_open_after, next_dimid, read_on, type_first, with_begun, ReadsDimension, draft, is_variable_name, with_new_draft, after_name, PartialVariable}
+use Rattle.std.specs.Prelude.{⊤}
+use Rattle.cdl_statements.specs.code.DueTokens.{is_name as is_name_token}
 use Rattle.cdl_statements.proofs.VariableNames.{name_kind}
-use Rattle.cdl_meaning.specs.State.{Draft, add_dimid, add_var, found, in_turn, type_of, unless, when, ◌>>=◌}
-use Rattle.cdl_values.specs.Answers.{Continues, Fails, Leaves}
-use Rattle.cdl_values.specs.declared.read_error.ReadError.{ReadError}
-use Rattle.cdl_values.specs.declared.read_error.ReadError.TheVariants.{OutOfMemory, Fault}
-use Rattle.cdl_parse.specs.Declarations.{added, continued, declared, is_open_after, next_dimid, read_on, type_first, with_begun, ReadsDimension}
-use Rattle.cdl_parse.specs.Drafts.{draft, is_taken, with_new_draft}
-use Rattle.cdl_parse.specs.TakenNames.{after_name}
-use Rattle.cdl_parse.specs.declared.declaration.Begun.{Begun}
+use Rattle.cdl_meaning.specs.State.{◌>>=◌}
 use Rattle.cdl_parse.proofs.AttributeReads.{fails_then}
 use Rattle.cdl_parse.proofs.TakenNames.{fails_after, named}
 use Rattle.cdl_parse.proofs.StatementWords.{goes_past}
@@ -40,7 +19,7 @@ said_mark : (parens : Bool) (l : Lexeme) (ls : List Lexeme) → is_mark_kind l.k
 unfolding declaration_said
 said_mark parens l ls on = ap (λ b. if b then declaration_said (is_mark 0x28 l || parens && not (is_mark 0x29 l)) ls else with_name parens (word_value l.bytes) (declaration_said parens ls)) on
 
-pub refused : {A B : Type 0} (after : B → Result A CdlKind) (r : Result B ReadError) (e : ReadError) (read : Result A CdlKind) → r ≡ Err e → Fails e read → Continues after r read
+pub refused : {A B : Type 0} (after : B → Result A CdlKind) (r : Result B ReadError) (e : ReadError) (read : Result A CdlKind) → r ≡ Err e → FailsRead e read → ContinuesRead after r read
 refused after (Ok b) e read is h = cc
 refused after (Err OutOfMemory) e read is h = tt
 refused after (Err (Fault k)) OutOfMemory read is h = cc
@@ -52,7 +31,7 @@ module _ (dims : List Dim) (ty : NcType) (drafts : List Draft) where
   variable_first : (name : List ℕ) (rest : Declaration) →
       in_turn (add_var dims ty) drafts (with_name false name rest).variables ≡ (unless (is_name name) BadName >>= (λ u. continued dims ty drafts name [] rest))
   unfolding add_var
-  variable_first name rest = by (is_name name) (is_taken name drafts) (in_turn (add_dimid dims) [] rest.dimensions)
+  variable_first name rest = by (is_name name) (is_variable_name name drafts) (in_turn (add_dimid dims) [] rest.dimensions)
     where
       by : (named taken : Bool) (ids : Result (List ℕ) CdlKind) →
           (elim (unless named BadName >>= (λ u. when taken DuplicateName >>= (λ w. ids >>= (λ all. Ok (drafts ++ draft name all ty [] ∷ []))))) as (λ r. Result (List Draft) CdlKind) [ Ok t ↦ in_turn (add_var dims ty) t rest.variables | Err e ↦ Err e ]) ≡
@@ -66,9 +45,9 @@ module _ (dims : List Dim) (ty : NcType) (drafts : List Draft) where
       added dims ty drafts (l ∷ ls) ≡ (unless (is_name (word_value l.bytes)) BadName >>= (λ u. continued dims ty drafts (word_value l.bytes) [] (declaration_said false ls)))
   added_first l ls off = ap (λ (d : Declaration). in_turn (add_var dims ty) drafts d.variables) (said_name false l ls off) ∙ variable_first (word_value l.bytes) (declaration_said false ls)
 
-  pub begin_fails : (l : Lexeme) (ls : List Lexeme) (e : ReadError) → is_mark_kind l.kind ≡ false → Fails e (unless (is_name (word_value l.bytes)) BadName) → Fails e (added dims ty drafts (l ∷ ls))
+  pub begin_fails : (l : Lexeme) (ls : List Lexeme) (e : ReadError) → is_mark_kind l.kind ≡ false → FailsRead e (unless (is_name (word_value l.bytes)) BadName) → FailsRead e (added dims ty drafts (l ∷ ls))
   begin_fails l ls e off h =
-      subst (Fails e) (sym (added_first l ls off)) (fails_then e (unless (is_name (word_value l.bytes)) BadName) (λ u. continued dims ty drafts (word_value l.bytes) [] (declaration_said false ls)) h)
+      subst (FailsRead e) (sym (added_first l ls off)) (fails_then e (unless (is_name (word_value l.bytes)) BadName) (λ u. continued dims ty drafts (word_value l.bytes) [] (declaration_said false ls)) h)
 
   pub begins : (l : Lexeme) (ls : List Lexeme) (name ids : List ℕ) → is_mark_kind l.kind ≡ false → name ≡ word_value l.bytes → is_name (word_value l.bytes) ≡ true → ids ≡ [] →
       added dims ty drafts (l ∷ ls) ≡ continued dims ty drafts name ids (declaration_said false ls)
@@ -77,9 +56,9 @@ module _ (dims : List Dim) (ty : NcType) (drafts : List Draft) where
 
   -- ---- a token after a variable's name
 
-  pub over_mark : (name ids : List ℕ) (parens after : Bool) (l : Lexeme) (ls : List Lexeme) → is_mark_kind l.kind ≡ true → after ≡ is_open_after parens l →
+  pub after_mark : (name ids : List ℕ) (parens after : Bool) (l : Lexeme) (ls : List Lexeme) → is_mark_kind l.kind ≡ true → after ≡ is_open_after parens l →
       continued dims ty drafts name ids (declaration_said parens (l ∷ ls)) ≡ continued dims ty drafts name ids (declaration_said after ls)
-  over_mark name ids parens after l ls on is = ap (continued dims ty drafts name ids) (said_mark parens l ls on ∙ ap (λ p. declaration_said p ls) (sym is))
+  after_mark name ids parens after l ls on is = ap (continued dims ty drafts name ids) (said_mark parens l ls on ∙ ap (λ p. declaration_said p ls) (sym is))
 
   -- the dimensions that a name more leads to
   abbrev with_more : List ℕ → Declaration → Result (List ℕ) CdlKind → Result (List Draft) CdlKind
@@ -103,7 +82,7 @@ module _ (dims : List Dim) (ty : NcType) (drafts : List Draft) where
 
   -- the same, where the name is new
   abbrev checked : List ℕ → Declaration → Result (List ℕ) CdlKind → Result (List Draft) CdlKind
-  checked name rest r = when (is_taken name drafts) DuplicateName >>= (λ u. with_more name rest r)
+  checked name rest r = when (is_variable_name name drafts) DuplicateName >>= (λ u. with_more name rest r)
 
   dimension_first : (name ids word : List ℕ) (rest : Declaration) → continued dims ty drafts name ids (with_name true word rest) ≡ checked name rest (next_dimid dims ids word >>= (λ k. Ok (ids ++ k ∷ [])))
   dimension_first name ids word rest = ap (checked name rest) (id_first ids word)
@@ -112,11 +91,11 @@ module _ (dims : List Dim) (ty : NcType) (drafts : List Draft) where
   dimension_ok name ids more word k rest is e =
       dimension_first name ids word rest ∙ ap (λ (r : Result ℕ CdlKind). checked name rest (r >>= (λ m. Ok (ids ++ m ∷ [])))) is ∙ ap (λ all. continued dims ty drafts name all rest) (sym e)
 
-  pub dimension_fails : (name ids word : List ℕ) (e : ReadError) (rest : Declaration) → Fails e (next_dimid dims ids word) → Fails (after_name (is_taken name drafts) e) (continued dims ty drafts name ids (with_name true word rest))
+  pub dimension_fails : (name ids word : List ℕ) (e : ReadError) (rest : Declaration) → FailsRead e (next_dimid dims ids word) → FailsRead (after_name (is_variable_name name drafts) e) (continued dims ty drafts name ids (with_name true word rest))
   dimension_fails name ids word e rest h =
-      subst (Fails (after_name (is_taken name drafts) e)) (sym (dimension_first name ids word rest)) (fails_after (is_taken name drafts) e (with_more name rest (next_dimid dims ids word >>= (λ k. Ok (ids ++ k ∷ [])))) (by e h))
+      subst (FailsRead (after_name (is_variable_name name drafts) e)) (sym (dimension_first name ids word rest)) (fails_after (is_variable_name name drafts) e (with_more name rest (next_dimid dims ids word >>= (λ k. Ok (ids ++ k ∷ [])))) (by e h))
     where
-      by : (e : ReadError) → Fails e (next_dimid dims ids word) → Fails e (with_more name rest (next_dimid dims ids word >>= (λ k. Ok (ids ++ k ∷ []))))
+      by : (e : ReadError) → FailsRead e (next_dimid dims ids word) → FailsRead e (with_more name rest (next_dimid dims ids word >>= (λ k. Ok (ids ++ k ∷ []))))
       by OutOfMemory h = tt
       by (Fault k) h = ap (λ (r : Result ℕ CdlKind). with_more name rest (r >>= (λ m. Ok (ids ++ m ∷ [])))) h
 
@@ -126,7 +105,7 @@ module _ (dims : List Dim) (ty : NcType) (drafts : List Draft) where
   none_left name ids parens = refl
 
   one_more : (name ids : List ℕ) (more : List Draft) (rest : Declaration) → rest.dimensions ≡ [] → with_new_draft drafts name ids ty ≡ Ok more → continued dims ty drafts name ids rest ≡ in_turn (add_var dims ty) more rest.variables
-  one_more name ids more rest none h = by (is_taken name drafts) h
+  one_more name ids more rest none h = by (is_variable_name name drafts) h
     where
       by : (taken : Bool) → (when taken DuplicateName >>= (λ u. Ok (drafts ++ draft name ids ty [] ∷ []))) ≡ Ok more →
           (when taken DuplicateName >>= (λ u. in_turn (add_dimid dims) ids rest.dimensions >>= (λ all. in_turn (add_var dims ty) (drafts ++ draft name all ty [] ∷ []) rest.variables))) ≡ in_turn (add_var dims ty) more rest.variables
@@ -135,9 +114,9 @@ module _ (dims : List Dim) (ty : NcType) (drafts : List Draft) where
           ap (λ ns. in_turn (add_dimid dims) ids ns >>= (λ all. in_turn (add_var dims ty) (drafts ++ draft name all ty [] ∷ []) rest.variables)) none ∙
           ap (λ all. in_turn (add_var dims ty) all rest.variables) (let same : drafts ++ draft name ids ty [] ∷ [] ≡ more = cc in same)
 
-  pub put_fails : (name ids : List ℕ) (rest : Declaration) (e : ReadError) → rest.dimensions ≡ [] → Fails e (with_new_draft drafts name ids ty) → Fails e (continued dims ty drafts name ids rest)
+  pub put_fails : (name ids : List ℕ) (rest : Declaration) (e : ReadError) → rest.dimensions ≡ [] → FailsRead e (with_new_draft drafts name ids ty) → FailsRead e (continued dims ty drafts name ids rest)
   put_fails name ids rest OutOfMemory none h = tt
-  put_fails name ids rest (Fault k) none h = by (is_taken name drafts) h
+  put_fails name ids rest (Fault k) none h = by (is_variable_name name drafts) h
     where
       by : (taken : Bool) → (when taken DuplicateName >>= (λ u. Ok (drafts ++ draft name ids ty [] ∷ []))) ≡ Err k →
           (when taken DuplicateName >>= (λ u. in_turn (add_dimid dims) ids rest.dimensions >>= (λ all. in_turn (add_var dims ty) (drafts ++ draft name all ty [] ∷ []) rest.variables))) ≡ Err k
@@ -147,38 +126,38 @@ module _ (dims : List Dim) (ty : NcType) (drafts : List Draft) where
 -- ---- a variable that is begun
 
 module _ (dims : List Dim) (drafts : List Draft) where
-  pub dimension_on : (begun : Begun) (l : Lexeme) (ls : List Lexeme) (r : Result Begun ReadError) → is_mark_kind l.kind ≡ false → begun.is_open ≡ true → IfOk r (λ b. b.is_open ≡ true) →
-      ReadsDimension dims drafts begun l.bytes r → Continues (λ (b : Begun). read_on dims drafts b ls) r (read_on dims drafts begun (l ∷ ls))
+  pub dimension_on : (begun : PartialVariable) (l : Lexeme) (ls : List Lexeme) (r : Result PartialVariable ReadError) → is_mark_kind l.kind ≡ false → begun.is_open ≡ true → IfOk r (λ b. b.is_open ≡ true) →
+      ReadsDimension dims drafts begun l.bytes r → ContinuesRead (λ (b : PartialVariable). read_on dims drafts b ls) r (read_on dims drafts begun (l ∷ ls))
   dimension_on begun l ls r off opened is reads = by r is (reads (declaration_said true ls))
     where
       here : read_on dims drafts begun (l ∷ ls) ≡ continued dims begun.ty drafts begun.name.items begun.dimids.items (with_name true (word_value l.bytes) (declaration_said true ls))
       here =
           ap (λ p. continued dims begun.ty drafts begun.name.items begun.dimids.items (declaration_said p (l ∷ ls))) opened ∙ ap (continued dims begun.ty drafts begun.name.items begun.dimids.items) (said_name true l ls off)
 
-      by : (r : Result Begun ReadError) → IfOk r (λ b. b.is_open ≡ true) →
-          Continues (λ (b : Begun). continued dims b.ty drafts b.name.items b.dimids.items (declaration_said true ls)) r (continued dims begun.ty drafts begun.name.items begun.dimids.items (with_name true (word_value l.bytes) (declaration_said true ls))) →
-          Continues (λ (b : Begun). read_on dims drafts b ls) r (read_on dims drafts begun (l ∷ ls))
+      by : (r : Result PartialVariable ReadError) → IfOk r (λ b. b.is_open ≡ true) →
+          ContinuesRead (λ (b : PartialVariable). continued dims b.ty drafts b.name.items b.dimids.items (declaration_said true ls)) r (continued dims begun.ty drafts begun.name.items begun.dimids.items (with_name true (word_value l.bytes) (declaration_said true ls))) →
+          ContinuesRead (λ (b : PartialVariable). read_on dims drafts b ls) r (read_on dims drafts begun (l ∷ ls))
       by (Ok b) is h = here ∙ h ∙ ap (λ p. continued dims b.ty drafts b.name.items b.dimids.items (declaration_said p ls)) (sym is)
       by (Err OutOfMemory) is h = tt
       by (Err (Fault k)) is h = here ∙ h
 
   -- the next variable
-  next_is : (begun : Begun) (l : Lexeme) (ls : List Lexeme) → is_mark_kind l.kind ≡ false → begun.is_open ≡ false →
+  next_is : (begun : PartialVariable) (l : Lexeme) (ls : List Lexeme) → is_mark_kind l.kind ≡ false → begun.is_open ≡ false →
       read_on dims drafts begun (l ∷ ls) ≡ continued dims begun.ty drafts begun.name.items begun.dimids.items (with_name false (word_value l.bytes) (declaration_said false ls))
   next_is begun l ls off closed =
       ap (λ p. continued dims begun.ty drafts begun.name.items begun.dimids.items (declaration_said p (l ∷ ls))) closed ∙ ap (continued dims begun.ty drafts begun.name.items begun.dimids.items) (said_name false l ls off)
 
-  pub next_variable : (begun : Begun) (more : List Draft) (l : Lexeme) (ls : List Lexeme) → is_mark_kind l.kind ≡ false → begun.is_open ≡ false → with_begun drafts begun ≡ Ok more →
+  pub next_variable : (begun : PartialVariable) (more : List Draft) (l : Lexeme) (ls : List Lexeme) → is_mark_kind l.kind ≡ false → begun.is_open ≡ false → with_begun drafts begun ≡ Ok more →
       read_on dims drafts begun (l ∷ ls) ≡ added dims begun.ty more (l ∷ ls)
   next_variable begun more l ls off closed is =
       next_is begun l ls off closed ∙ one_more dims begun.ty drafts begun.name.items begun.dimids.items more (with_name false (word_value l.bytes) (declaration_said false ls)) refl is ∙
       sym (ap (λ (d : Declaration). in_turn (add_var dims begun.ty) more d.variables) (said_name false l ls off))
 
-  pub next_fails : (begun : Begun) (l : Lexeme) (ls : List Lexeme) (e : ReadError) → is_mark_kind l.kind ≡ false → begun.is_open ≡ false → Fails e (with_begun drafts begun) → Fails e (read_on dims drafts begun (l ∷ ls))
+  pub next_fails : (begun : PartialVariable) (l : Lexeme) (ls : List Lexeme) (e : ReadError) → is_mark_kind l.kind ≡ false → begun.is_open ≡ false → FailsRead e (with_begun drafts begun) → FailsRead e (read_on dims drafts begun (l ∷ ls))
   next_fails begun l ls e off closed h =
-      subst (Fails e) (sym (next_is begun l ls off closed)) (put_fails dims begun.ty drafts begun.name.items begun.dimids.items (with_name false (word_value l.bytes) (declaration_said false ls)) e refl h)
+      subst (FailsRead e) (sym (next_is begun l ls off closed)) (put_fails dims begun.ty drafts begun.name.items begun.dimids.items (with_name false (word_value l.bytes) (declaration_said false ls)) e refl h)
 
-  pub all_read : (ws : List Lexeme) (start after : List Draft) (l : Lexeme) (before begun : Begun) (ends : Bool) (rest : List Lexeme) → ws ≡ l ∷ (if ends then [] else rest) → ends ≡ true →
+  pub all_read : (ws : List Lexeme) (start after : List Draft) (l : Lexeme) (before begun : PartialVariable) (ends : Bool) (rest : List Lexeme) → ws ≡ l ∷ (if ends then [] else rest) → ends ≡ true →
       read_on dims start before (l ∷ []) ≡ read_on dims drafts begun [] → (r : Result ⊤ ReadError) → Leaves after r (with_begun drafts begun) → Leaves after r (read_on dims start before ws)
   all_read ws start after l before begun ends rest first on reads r put =
       subst (Leaves after r)

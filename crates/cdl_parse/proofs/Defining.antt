@@ -1,34 +1,13 @@
 -- What the statements before the data section make of the state.
-use Rattle.std.proofs.Common.{◌≡◌, Bool, true, false, List, [], ◌∷◌, drop, refl, sym, ap, ◌∙◌, subst}
-use Rattle.std.specs.Prelude.{Option, None, Some, is_some, Result, Ok, Err, ⊤, if◌then◌else◌}
-use Rattle.std.proofs.lemmas.Bool.{false≢true}
-use Rattle.nc_base.specs.declared.header.Att.{Att}
-use Rattle.nc_base.specs.declared.header.Dim.{Dim}
-use Rattle.nc_base.specs.declared.version.Version.{Version}
-use Rattle.cdl_statements.specs.Contents.{attribute_said, declaration_said, dimensions_said, mark_said, other_said, statement_said, variable_said}
-use Rattle.cdl_statements.specs.Cutters.{is_done, next_token, text_of, words}
-use Rattle.cdl_statements.specs.declared.cutter.Cutter.{Cutter}
-use Rattle.cdl_statements.specs.DueTokens.{completes, goes_to, is_name, is_whole, next, only}
-use Rattle.cdl_tokens.specs.Escapes.{word_value}
-use Rattle.cdl_statements.specs.Lexemes.{Lexeme, lexeme, is_mark, is_word_kind}
-use Rattle.cdl_statements.specs.Shapes.{Brace, Declared, End, Statement, Typed, first_bad, section_of, shape}
-use Rattle.cdl_statements.specs.declared.due.Due.{Due}
+use Rattle.std.proofs.Common.{◌≡◌, Bool, true, false, List, [], ◌∷◌, drop, refl, sym, ap, ◌∙◌, subst, Option, None, Some, is_some, Result, Ok, Err, if◌then◌else◌}
+use Rattle.std.specs.Prelude.{⊤}
+use Rattle.cdl_parse.proofs.Prelude.{false≢true, Att, Dim, Version, attribute_said, declaration_said, dimensions_said, mark_said, other_said, statement_said, variable_said, is_done, next_token, text_of, words, Cutter, completes, goes_to, is_whole, next, only, word_value, Lexeme, lexeme, is_mark, is_word_kind, Brace, End, Statement, Typed, first_bad, section_of, shape, Due, CdlKind, Syntax, Section, Unopened, Globals, Dimensions, Variables, Values, Closed, Ended, piece_read, State, Draft, act, add_att, add_dim, add_var, at_variable, in_turn, type_of, with_att, FailsRead, Leaves, name_first, ReadError, OutOfMemory, Fault, constants_said, declared, Makes, after_mark, is_defining, is_over, state_of}
+use Rattle.cdl_statements.specs.code.DueTokens.{is_name}
+use Rattle.cdl_statements.specs.Shapes.{Declared}
 use Rattle.cdl_statements.specs.declared.due.Due.TheVariants as dues
-use Rattle.cdl_statements.specs.declared.fault.CdlKind.{CdlKind}
-use Rattle.cdl_statements.specs.declared.fault.CdlKind.TheVariants.{Syntax}
-use Rattle.cdl_statements.specs.declared.section.Section.{Section}
-use Rattle.cdl_statements.specs.declared.section.Section.TheVariants.{Unopened, Globals, Dimensions, Variables, Values, Closed, Ended}
 use Rattle.cdl_statements.proofs.Options.{none_of}
-use Rattle.cdl_meaning.specs.Meaning.{piece_read}
-use Rattle.cdl_meaning.specs.State.{State, Draft, act, add_att, add_dim, add_var, at_variable, in_turn, type_of, with_att, ◌>>=◌}
-use Rattle.cdl_values.specs.Answers.{Fails, Leaves}
-use Rattle.cdl_values.specs.Meant.{name_first}
-use Rattle.cdl_values.specs.declared.read_error.ReadError.{ReadError}
-use Rattle.cdl_values.specs.declared.read_error.ReadError.TheVariants.{OutOfMemory, Fault}
+use Rattle.cdl_meaning.specs.State.{◌>>=◌}
 use Rattle.cdl_parse.proofs.StatementWords.{begins, goes_past}
-use Rattle.cdl_parse.specs.AttributeRead.{constants_said}
-use Rattle.cdl_parse.specs.Declarations.{declared}
-use Rattle.cdl_parse.specs.Defined.{Makes, after_mark, is_defining, is_past, state_of}
 use Rattle.cdl_parse.specs.declared.definitions.Definitions.{Definitions}
 
 pub opens : (v : Version) (s : State) (l : Lexeme) (ls ws : List Lexeme) → ws ≡ l ∷ ls → act v s (statement_said v Unopened ws) ≡ Ok (record s { section = Globals })
@@ -266,12 +245,12 @@ pub reads_statement : (v : Version) (s : State) (ws : List Lexeme) (statement : 
 unfolding piece_read
 reads_statement v s ws statement good is = rw (good) (rw (is) refl)
 
-pub makes_err : {B : Type 0} (after : State) (q : Result B ReadError) (e : ReadError) (read : Result State CdlKind) → q ≡ Err e → Fails e read → Makes after q read
+pub makes_err : {B : Type 0} (after : State) (q : Result B ReadError) (e : ReadError) (read : Result State CdlKind) → q ≡ Err e → FailsRead e read → Makes after q read
 makes_err after (Ok b) e read is h = cc
-makes_err after (Err k) e read is h = subst (λ (x : ReadError). Fails x read) (let same : e ≡ k = cc in same) h
+makes_err after (Err k) e read is h = subst (λ (x : ReadError). FailsRead x read) (let same : e ≡ k = cc in same) h
 
 -- after the closing brace
-said_past : (v : Version) (section : Section) (l : Lexeme) (ls : List Lexeme) → is_past section ≡ true → statement_said v section (l ∷ ls) ≡ End
+said_past : (v : Version) (section : Section) (l : Lexeme) (ls : List Lexeme) → is_over section ≡ true → statement_said v section (l ∷ ls) ≡ End
 unfolding statement_said
 said_past v Closed l ls past = refl
 said_past v Ended l ls past = refl
@@ -281,6 +260,6 @@ said_past v Dimensions l ls past = cc
 said_past v Variables l ls past = cc
 said_past v Values l ls past = cc
 
-pub ends : (v : Version) (s : State) (l : Lexeme) (ls ws : List Lexeme) → is_past s.section ≡ true → ws ≡ l ∷ ls → act v s (statement_said v s.section ws) ≡ Ok (record s { section = Ended })
+pub ends : (v : Version) (s : State) (l : Lexeme) (ls ws : List Lexeme) → is_over s.section ≡ true → ws ≡ l ∷ ls → act v s (statement_said v s.section ws) ≡ Ok (record s { section = Ended })
 unfolding act
 ends v s l ls ws past is = ap (λ all. act v s (statement_said v s.section all)) is ∙ ap (act v s) (said_past v s.section l ls past)

@@ -1,20 +1,9 @@
 -- What the tokens of a statement of dimensions make of the dimensions.
-use Rattle.std.proofs.Common.{◌≡◌, ℕ, Bool, true, false, List, [], ◌∷◌, ◌++◌, refl, sym, ap, ◌∙◌, subst}
-use Rattle.std.specs.Prelude.{Result, Ok, ⊤, if◌then◌else◌}
+use Rattle.std.proofs.Common.{◌≡◌, ℕ, Bool, true, false, List, [], ◌∷◌, ◌++◌, refl, sym, ap, ◌∙◌, subst, Result, Ok, if◌then◌else◌}
+use Rattle.std.specs.Prelude.{⊤}
 use Rattle.nc_base.specs.Names.{is_name as is_format_name}
-use Rattle.nc_base.specs.declared.header.Dim.{Dim}
-use Rattle.nc_base.specs.declared.version.Version.{Version}
-use Rattle.cdl_statements.specs.DueTokens.{completes}
-use Rattle.cdl_statements.specs.Lexemes.{Lexeme}
-use Rattle.cdl_statements.specs.Shapes.{Dimension}
-use Rattle.cdl_statements.specs.declared.due.Due.TheVariants.{DimensionName}
-use Rattle.cdl_statements.specs.declared.fault.CdlKind.{CdlKind}
-use Rattle.cdl_statements.specs.declared.fault.CdlKind.TheVariants.{BadName, DuplicateName}
-use Rattle.cdl_statements.proofs.DimensionSteps.{first_goes, second_goes, third_goes, on}
-use Rattle.cdl_meaning.specs.State.{add_dim, dim_len_of, unless, when, ◌>>=◌}
-use Rattle.cdl_values.specs.Answers.{Leaves}
-use Rattle.cdl_values.specs.declared.read_error.ReadError.{ReadError}
-use Rattle.cdl_parse.specs.DimensionNames.{is_taken}
+use Rattle.cdl_parse.proofs.Prelude.{Dim, Version, completes, Lexeme, Dimension, DimensionName, CdlKind, BadName, DuplicateName, first_goes, second_goes, third_goes, on, add_dim, dim_len_of, unless, when, Leaves, ReadError, is_dimension_name}
+use Rattle.cdl_meaning.specs.State.{◌>>=◌}
 
 -- ---- a dimension
 
@@ -22,7 +11,7 @@ use Rattle.cdl_parse.specs.DimensionNames.{is_taken}
 abbrev pub with_len : List Dim → List ℕ → Result ℕ CdlKind → Result (List Dim) CdlKind
 with_len dims name read = read >>= (λ len. Ok (dims ++ record { name = name; len = len } ∷ []))
 
-pub name_first : (v : Version) (dims : List Dim) (d : Dimension) → add_dim v dims d ≡ (unless (is_format_name d.name) BadName >>= (λ u. when (is_taken d.name dims) DuplicateName >>= (λ w. with_len dims d.name (dim_len_of v dims d.len))))
+pub name_first : (v : Version) (dims : List Dim) (d : Dimension) → add_dim v dims d ≡ (unless (is_format_name d.name) BadName >>= (λ u. when (is_dimension_name d.name dims) DuplicateName >>= (λ w. with_len dims d.name (dim_len_of v dims d.len))))
 unfolding add_dim
 name_first v dims d = refl
 

@@ -1,10 +1,6 @@
 -- How far what is listed reaches: over all variables, and in records.
-use Rattle.std.proofs.Common.{◌≡◌, ℕ, zero, suc, ◌≤◌, List, [], ◌∷◌, length, drop, refl, arith}
-use Rattle.std.specs.Prelude.{min, Some}
-use Rattle.nc_base.specs.declared.header.Dim.{Dim}
-use Rattle.nc_base.specs.declared.header.Var.{Var}
-use Rattle.cdl_parse.specs.Extents.{with_all}
-use Rattle.cdl_parse.specs.declared.records.Extent.{Extent}
+use Rattle.std.proofs.Common.{◌≡◌, ℕ, zero, suc, ◌≤◌, List, [], ◌∷◌, length, drop, refl, arith, min, Some}
+use Rattle.cdl_parse.proofs.Prelude.{Dim, Var, with_all, Extent}
 
 -- ---- no variable is left
 

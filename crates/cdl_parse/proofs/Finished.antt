@@ -1,26 +1,7 @@
 -- What a text declares is the dataset that it means.
-use Rattle.std.proofs.Common.{◌≡◌, ℕ, ◌-◌, ◌*◌, subst, Bool, true, false, List, [], ◌∷◌, ◌++◌, length, map, refl, sym, ap, ◌∙◌, replicate}
-use Rattle.std.specs.Prelude.{◌&&◌, if◌then◌else◌, nat_le, Option, None, Some, Ok, is_some}
-use Rattle.std.specs.List.{filter, list_all}
+use Rattle.std.proofs.Common.{◌≡◌, ℕ, ◌-◌, ◌*◌, subst, Bool, true, false, List, [], ◌∷◌, ◌++◌, length, map, refl, sym, ap, ◌∙◌, replicate, ◌&&◌, if◌then◌else◌, nat_le, Option, None, Some, Ok, is_some}
+use Rattle.cdl_parse.proofs.Prelude.{filter, list_all, Att, Dim, Header, Known, Var, Version, fill_value, value_count, bytes_of_number, checked_record_size, has_small_slab, record_limit, record_size, array_limit, is_record_var, array_of, dataset_of, finished, header_of, is_small, is_small_enough, records_in, values_of, AllList, AreShaped, records_kept, fills, whole_array, whole_arrays, Draft, State, dataset_of_declared, or_too_large, Declared}
 use Rattle.std.proofs.lemmas.Grind.{flat_map-append}
-use Rattle.nc_base.specs.declared.header.Att.{Att}
-use Rattle.nc_base.specs.declared.header.Dim.{Dim}
-use Rattle.nc_base.specs.declared.header.Header.{Header}
-use Rattle.nc_base.specs.declared.header.NumRecs.TheVariants.{Known}
-use Rattle.nc_base.specs.declared.header.Var.{Var}
-use Rattle.nc_base.specs.declared.version.Version.{Version}
-use Rattle.nc_base.specs.Fill.{fill_value}
-use Rattle.nc_base.specs.Headers.{value_count}
-use Rattle.nc_base.specs.Numbers.{bytes_of_number}
-use Rattle.nc_base.specs.SizeParts.{checked_record_size, has_small_slab}
-use Rattle.nc_base.specs.Sizes.{record_limit, record_size, array_limit, is_record_var}
-use Rattle.cdl_meaning.specs.Meaning.{array_of, dataset_of, finished, header_of, is_small, is_small_enough, records_in, values_of}
-use Rattle.cdl_values.specs.Listed.{AllList, AreShaped}
-use Rattle.cdl_parse.specs.Extents.{records_kept}
-use Rattle.nc_base.specs.OwedValues.{fills, whole_array, whole_arrays}
-use Rattle.cdl_meaning.specs.State.{Draft, State}
-use Rattle.cdl_parse.specs.DeclaredDatasets.{dataset_of_declared, or_too_large}
-use Rattle.cdl_parse.specs.declared.declared_values.Declared.{Declared}
 use Rattle.cdl_parse.proofs.SizeLimits.{all_are, all_small, has_small, listed_count, listed_of, var_of, widest_in}
 
 -- ---- the slabs of the record variables

@@ -23,3 +23,4 @@ pub mod Closings
 pub mod Copies
 pub mod WholeTexts
 pub mod TakenNames
+pub mod Prelude

@@ -1,19 +1,13 @@
 -- A name more in a set of names.
-use Rattle.std.proofs.Common.{◌≡◌, ℕ, Bool, true, false, cond, List, [], ◌∷◌, ◌++◌, refl, sym, ap, ◌∙◌, subst, ⊎_elim, Vec, Global}
-use Rattle.std.specs.Prelude.{◌||◌}
+use Rattle.std.proofs.Common.{◌≡◌, ℕ, Bool, true, false, cond, List, [], ◌∷◌, ◌++◌, refl, sym, ap, ◌∙◌, subst, ⊎_elim, Vec, Global, ◌||◌}
 use Rattle.std.specs.BTreeSet as tree
 use Rattle.std.specs.BTreeSet.{BTreeSet}
 use Rattle.std.specs.Set as set
 use Rattle.std.specs.Map.{IsKeyTest, AreApart}
-use Rattle.std.specs.List.{list_any}
+use Rattle.cdl_parse.proofs.Prelude.{list_any, is_eq, nat_cmp, bytes_eq, cases_Bool, cond-true, cond-false, Att, contains_name, has_attribute, HasNames}
 use Rattle.std.specs.Cmp.{eq_by_cmp_equiv}
 use Rattle.std.specs.Cmp.Lexicographic.{slice_cmp, bytes_decides, nat_list_cmp_total, nat_list_eq_equiv}
-use Rattle.std.specs.Ordering.{is_eq, nat_cmp}
-use Rattle.std.specs.Str.{bytes_eq}
-use Rattle.std.proofs.lemmas.Bool.{cases_Bool, cond-true, cond-false}
 use Rattle.std.proofs.lemmas.Map.Text.{is_eq-slice_cmp}
-use Rattle.nc_base.specs.declared.header.Att.{Att}
-use Rattle.cdl_parse.specs.AttributeNames.{contains_name, has_name, HasNames}
 
 -- a key that the new name is not is as before
 apart : (bs cs ks : List ℕ) → bytes_eq bs cs ≡ false → bytes_eq bs ks ≡ true → bytes_eq cs ks ≡ false
@@ -40,13 +34,13 @@ updated old new key h =
     by_bytes (contains_name old) (contains_name new) key.items h.1
     (λ cs e. other_keys _ _ _ _ h.3 _ (λ x y. (eq_by_cmp_equiv nat_list_cmp_total).congr cs x.items y.items) (λ q. apart_in_order key.items cs q.items e))
 
-has_more : (name : List ℕ) (atts : List Att) (att : Att) → has_name name (atts ++ att ∷ []) ≡ cond (bytes_eq att.name name) true (has_name name atts)
+has_more : (name : List ℕ) (atts : List Att) (att : Att) → has_attribute name (atts ++ att ∷ []) ≡ cond (bytes_eq att.name name) true (has_attribute name atts)
 has_more name [] att = by (bytes_eq att.name name)
   where
     by : (b : Bool) → (b || false) ≡ cond b true false
     by true = refl
     by false = refl
-has_more name (a ∷ atts) att = ap (λ more. bytes_eq a.name name || more) (has_more name atts att) ∙ by (bytes_eq a.name name) (bytes_eq att.name name) (has_name name atts)
+has_more name (a ∷ atts) att = ap (λ more. bytes_eq a.name name || more) (has_more name atts att) ∙ by (bytes_eq a.name name) (bytes_eq att.name name) (has_attribute name atts)
   where
     by : (a b more : Bool) → (a || cond b true more) ≡ cond b true (a || more)
     by true true more = refl
@@ -57,4 +51,4 @@ has_more name (a ∷ atts) att = ap (λ more. bytes_eq a.name name || more) (has
 pub one_more : (old new : BTreeSet (Vec ℕ Global)) (key : Vec ℕ Global) (atts all : List Att) (att : Att) → tree.Updates (λ x y. slice_cmp nat_cmp x.items y.items) old new key true →
     HasNames old atts → key.items ≡ att.name → all ≡ atts ++ att ∷ [] → HasNames new all
 one_more old new key atts all att h was same is = λ name.
-    updated old new key h name ∙ ap (cond (bytes_eq key.items name) true) (was name) ∙ ap (λ n. cond (bytes_eq n name) true (has_name name atts)) same ∙ sym (has_more name atts att) ∙ ap (has_name name) (sym is)
+    updated old new key h name ∙ ap (cond (bytes_eq key.items name) true) (was name) ∙ ap (λ n. cond (bytes_eq n name) true (has_attribute name atts)) same ∙ sym (has_more name atts att) ∙ ap (has_attribute name) (sym is)

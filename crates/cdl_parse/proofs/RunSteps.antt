@@ -1,16 +1,6 @@
 -- A run over the statements that a cutter has left, one statement on.
-use Rattle.std.proofs.Common.{◌≡◌, ℕ, ◌<◌, false, List, [], ◌∷◌, length, sym, ap, ◌∙◌, subst, arith}
-use Rattle.std.specs.Prelude.{Ok, Err, map}
-use Rattle.cdl_statements.specs.Cutters.{after, first_line, first_piece, is_done, next_token, other_pieces, pieces_left, text_of, version_of, words}
-use Rattle.cdl_statements.specs.Lexemes.{Lexeme, lexeme}
-use Rattle.cdl_statements.specs.declared.cutter.Cutter.{Cutter}
-use Rattle.cdl_statements.specs.declared.fault.CdlKind.{CdlKind}
-use Rattle.cdl_tokens.specs.declared.token.Token.{Token}
-use Rattle.cdl_meaning.specs.Meaning.{piece_read, run}
-use Rattle.cdl_meaning.specs.State.{State}
-use Rattle.cdl_values.specs.Answers.{Fails}
-use Rattle.cdl_values.specs.declared.read_error.ReadError.{ReadError}
-use Rattle.cdl_parse.specs.Runs.{FailsAt, at_line, run_after}
+use Rattle.std.proofs.Common.{◌≡◌, ℕ, ◌<◌, false, List, [], ◌∷◌, length, sym, ap, ◌∙◌, subst, arith, Ok, Err, map}
+use Rattle.cdl_parse.proofs.Prelude.{after, first_line, first_piece, is_done, next_token, other_pieces, pieces_left, text_of, version_of, words, Lexeme, lexeme, Cutter, CdlKind, Token, piece_read, run, State, FailsRead, ReadError, FailsAt, at_line, run_after}
 use Rattle.cdl_parse.proofs.Runs.{fails_at, run_first}
 use Rattle.cdl_parse.proofs.StatementWords.{begins}
 
@@ -37,7 +27,7 @@ module _ (start c : Cutter) (text : text_of c ≡ text_of start) (version : vers
   goes_on s t rest is on = run_on s ∙ ap (run_after (text_of start) (version_of start) (first_line (pieces_left c)) (after c)) is ∙ ap (run (text_of start) (version_of start) t) (sym on)
 
   -- the statement's fault is that of the run
-  pub stops : (s : State) (e : ReadError) (line : ℕ) → line ≡ first_line (pieces_left c) → Fails e (piece_read (version_of c) s (words c)) → FailsAt (at_line line e) (run (text_of start) (version_of start) s (pieces_left c))
+  pub stops : (s : State) (e : ReadError) (line : ℕ) → line ≡ first_line (pieces_left c) → FailsRead e (piece_read (version_of c) s (words c)) → FailsAt (at_line line e) (run (text_of start) (version_of start) s (pieces_left c))
   stops s e line is h =
       subst (λ n. FailsAt (at_line n e) (run (text_of start) (version_of start) s (pieces_left c))) (sym is)
       (subst (FailsAt (at_line (first_line (pieces_left c)) e)) (sym (run_on s)) (fails_at (text_of start) (version_of start) (first_line (pieces_left c)) (after c) e (piece_read (version_of c) s (words c)) h))

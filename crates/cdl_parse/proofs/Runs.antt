@@ -1,19 +1,6 @@
 -- A run over statements, one statement on.
-use Rattle.std.proofs.Common.{◌≡◌, ℕ, true, false, List, [], ◌∷◌, refl, sym, ap}
-use Rattle.std.specs.Prelude.{Result, Ok, Err, map}
-use Rattle.nc_base.specs.declared.version.Version.{Version}
-use Rattle.cdl_statements.specs.Cutters.{after, first_line, first_piece, is_done, other_pieces, next_token, pieces_left, text_of, words}
-use Rattle.cdl_statements.specs.Lexemes.{Lexeme, lexeme}
-use Rattle.cdl_statements.specs.Pieces.{pieces_at}
-use Rattle.cdl_statements.specs.declared.cutter.Cutter.{Cutter}
-use Rattle.cdl_statements.specs.declared.fault.CdlKind.{CdlKind}
-use Rattle.cdl_tokens.specs.declared.token.Token.{Token}
-use Rattle.cdl_meaning.specs.Meaning.{line_of, piece_read, run}
-use Rattle.cdl_meaning.specs.State.{State}
-use Rattle.cdl_values.specs.Answers.{Fails}
-use Rattle.cdl_values.specs.declared.read_error.ReadError.{ReadError}
-use Rattle.cdl_values.specs.declared.read_error.ReadError.TheVariants.{OutOfMemory, Fault}
-use Rattle.cdl_parse.specs.Runs.{FailsAt, at_line, run_after}
+use Rattle.std.proofs.Common.{◌≡◌, ℕ, true, false, List, [], ◌∷◌, refl, sym, ap, Result, Ok, Err, map}
+use Rattle.cdl_parse.proofs.Prelude.{Version, after, first_line, first_piece, is_done, other_pieces, next_token, pieces_left, text_of, words, Lexeme, lexeme, pieces_after, Cutter, CdlKind, Token, line_of, piece_read, run, State, FailsRead, ReadError, OutOfMemory, Fault, FailsAt, at_line, run_after}
 use Rattle.cdl_parse.proofs.StatementWords.{begins}
 
 line_is : (p : List Token) (ps : List (List Token)) → first_line (p ∷ ps) ≡ line_of p
@@ -38,10 +25,10 @@ run_first v s c more = let begun = begins c more in run_pieces (text_of c) v s (
 
 -- no statement is left
 pub run_none : (text : List ℕ) (v : Version) (s : State) (c : Cutter) → is_done c ≡ true → run text v s (pieces_left c) ≡ Ok s
-unfolding run pieces_left pieces_at
+unfolding run pieces_left pieces_after
 run_none text v s c done = rw (done) refl
 
 -- a statement's fault is that of the run
-pub fails_at : (text : List ℕ) (v : Version) (line : ℕ) (others : List (List Token)) (e : ReadError) (read : Result State CdlKind) → Fails e read → FailsAt (at_line line e) (run_after text v line others read)
+pub fails_at : (text : List ℕ) (v : Version) (line : ℕ) (others : List (List Token)) (e : ReadError) (read : Result State CdlKind) → FailsRead e read → FailsAt (at_line line e) (run_after text v line others read)
 fails_at text v line others OutOfMemory read h = tt
 fails_at text v line others (Fault k) read h = rw (h) refl

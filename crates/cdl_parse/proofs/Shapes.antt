@@ -1,22 +1,9 @@
 -- The statements of the section of the variables keep the variables' shapes.
-use Rattle.std.proofs.Common.{◌≡◌, ℕ, suc, ◌<◌, Bool, true, false, List, [], ◌∷◌, ◌++◌, length, refl, sym, ap, ◌∙◌, subst, append_assoc, append-nil, arith}
-use Rattle.std.proofs.lemmas.Bool.{false≢true}
-use Rattle.std.proofs.lemmas.List.Elements.{All-cons, All-nil, All-push}
-use Rattle.std.specs.Prelude.{IsTrue, Option, None, Some, Result, Ok, Err, ⊤, IfOk, IfSome, ◌&&◌, nat_lt, if◌then◌else◌}
-use Rattle.std.specs.List.{position, position_or_len}
-use Rattle.std.specs.Str.{bytes_eq}
-use Rattle.nc_base.specs.Headers.{AreDimids, IsDimid}
-use Rattle.nc_base.specs.Names.{is_name}
-use Rattle.nc_base.specs.Sizes.{is_record_dim}
-use Rattle.nc_base.specs.declared.header.Att.{Att}
-use Rattle.nc_base.specs.declared.header.Dim.{Dim}
-use Rattle.nc_base.specs.declared.nc_type.NcType.{NcType}
-use Rattle.cdl_statements.specs.Shapes.{Value, Variable}
-use Rattle.cdl_statements.specs.declared.fault.CdlKind.{CdlKind}
-use Rattle.cdl_statements.specs.declared.fault.CdlKind.TheVariants.{BadName, BadShape, DuplicateName, UnknownDimension}
-use Rattle.cdl_meaning.specs.State.{Draft, add_att, add_dimid, add_var, at_named, at_variable, found, in_turn, unless, when, with_att, ◌>>=◌}
-use Rattle.cdl_values.specs.Listed.{AreShaped}
-use Rattle.cdl_parse.specs.Drafts.{draft, is_taken}
+use Rattle.std.proofs.Common.{◌≡◌, ℕ, suc, ◌<◌, Bool, true, false, List, [], ◌∷◌, ◌++◌, length, refl, sym, ap, ◌∙◌, subst, append_assoc, append-nil, arith, IsTrue, Option, None, Some, Result, Ok, Err, IfOk, IfSome, ◌&&◌, nat_lt, if◌then◌else◌}
+use Rattle.cdl_parse.proofs.Prelude.{false≢true, All-cons, All-nil, All-push, position, position_or_len, bytes_eq, AreDimids, IsDimid, is_name, is_record_dim, Att, Dim, NcType, Value, CdlKind, BadName, BadShape, DuplicateName, UnknownDimension, Draft, add_att, add_dimid, add_var, at_named, at_variable, found, in_turn, unless, when, with_att, AreShaped, draft, is_variable_name}
+use Rattle.std.specs.Prelude.{⊤}
+use Rattle.cdl_statements.specs.Shapes.{Variable}
+use Rattle.cdl_meaning.specs.State.{◌>>=◌}
 
 -- ---- what an Ok has
 
@@ -80,8 +67,8 @@ var_step : (dims : List Dim) (ty : NcType) (drafts : List Draft) (x : Variable) 
 unfolding add_var
 var_step dims ty drafts x are =
     let last : List ℕ → Result (List Draft) CdlKind = λ ids. Ok (drafts ++ draft x.name ids ty [] ∷ []) in
-    ok_unless (AreShaped dims) (is_name x.name) BadName (λ u. when (is_taken x.name drafts) DuplicateName >>= (λ w. in_turn (add_dimid dims) [] x.dimensions >>= last))
-    (ok_when (AreShaped dims) (is_taken x.name drafts) DuplicateName (λ w. in_turn (add_dimid dims) [] x.dimensions >>= last) (λ new.
+    ok_unless (AreShaped dims) (is_name x.name) BadName (λ u. when (is_variable_name x.name drafts) DuplicateName >>= (λ w. in_turn (add_dimid dims) [] x.dimensions >>= last))
+    (ok_when (AreShaped dims) (is_variable_name x.name drafts) DuplicateName (λ w. in_turn (add_dimid dims) [] x.dimensions >>= last) (λ new.
     ok_then (AreDimids dims []) (AreShaped dims) (in_turn (add_dimid dims) [] x.dimensions) last (turns (add_dimid dims) (AreDimids dims []) (id_step dims) [] x.dimensions tt) (λ ids is.
     All-push (IsShaped dims) drafts (draft x.name ids ty []) are is)))
 

@@ -1,21 +1,9 @@
 -- Every statement keeps the shapes: each variable's dimensions are known ones, and the record dimension stands first.
-use Rattle.std.proofs.Common.{◌≡◌, ℕ, ◌+◌, ◌<◌, Bool, true, false, IsTrue, List, [], ◌∷◌, ◌++◌, length, map, refl, sym, ap, ◌∙◌, subst, arith, append_assoc}
-use Rattle.std.specs.Prelude.{Option, None, Some, Result, Ok, Err, IfOk, ⊤, ◌&&◌, ◌==◌, nat_lt, slice_index, slice_index_or}
-use Rattle.std.specs.List.{list_any}
-use Rattle.std.specs.Str.{bytes_eq}
-use Rattle.std.proofs.lemmas.List.{append-nil, get_or_append_left, length-append, length-map, map-append}
-use Rattle.nc_base.specs.declared.header.Dim.{Dim}
-use Rattle.nc_base.specs.declared.version.Version.{Version}
-use Rattle.nc_base.specs.Headers.{AreDimids}
-use Rattle.nc_base.specs.Names.{is_name}
-use Rattle.nc_base.specs.Sizes.{dim_len, is_record_dim}
-use Rattle.cdl_statements.specs.Lexemes.{Lexeme}
-use Rattle.cdl_statements.specs.Shapes.{Dimension, Statement, Value, Opening, Mark, Declared, Typed, Attribute, Listed, Brace, End, first_bad, shape}
-use Rattle.cdl_statements.specs.declared.fault.CdlKind.{CdlKind}
-use Rattle.cdl_statements.specs.declared.fault.CdlKind.TheVariants.{BadName, DuplicateData, DuplicateName}
-use Rattle.cdl_meaning.specs.Meaning.{checked, piece_read, shaped}
-use Rattle.cdl_meaning.specs.State.{State, Draft, act, add_att, add_dim, add_var, at_variable, capacity_of, dim_len_of, in_turn, is_listed, listing_of, type_of, unless, when, with_att, with_values, ◌>>=◌}
-use Rattle.cdl_values.specs.Listed.{AreShaped}
+use Rattle.std.proofs.Common.{◌≡◌, ℕ, ◌+◌, ◌<◌, Bool, true, false, IsTrue, List, [], ◌∷◌, ◌++◌, length, map, refl, sym, ap, ◌∙◌, subst, arith, append_assoc, Option, None, Some, Result, Ok, Err, IfOk, ◌&&◌, ◌==◌, nat_lt, slice_index, slice_index_or}
+use Rattle.std.specs.Prelude.{⊤}
+use Rattle.cdl_parse.proofs.Prelude.{list_any, bytes_eq, append-nil, get_or_append_left, length-append, length-map, map-append, Dim, Version, AreDimids, is_name, dim_len, is_record_dim, Lexeme, Dimension, Statement, Value, Opening, Mark, Typed, Attribute, Listed, Brace, End, first_bad, shape, CdlKind, BadName, DuplicateData, DuplicateName, checked, piece_read, shaped, State, Draft, act, add_att, add_dim, add_var, at_variable, capacity_of, dim_len_of, in_turn, is_listed, listing_of, type_of, unless, when, with_att, with_values, AreShaped}
+use Rattle.cdl_statements.specs.Shapes.{Declared}
+use Rattle.cdl_meaning.specs.State.{◌>>=◌}
 use Rattle.cdl_parse.proofs.Shapes.{Keeps, added_shaped, att_keeps, ok_then, variable_shaped}
 
 any : {A : Type 0} (r : Result A CdlKind) → IfOk r (λ a. ⊤)

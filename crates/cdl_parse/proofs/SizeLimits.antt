@@ -1,23 +1,10 @@
 -- What is listed keeps its limits where its slabs, its records and the header do.
-use Rattle.std.proofs.Common.{◌≡◌, ℕ, zero, suc, ◌+◌, ◌*◌, ◌/◌, ◌<◌, ◌≤◌, ℤ, Bool, true, false, List, [], ◌∷◌, ◌++◌, length, length-append, map, refl, sym, ap, ◌∙◌, arith, subst}
-use Rattle.std.specs.Prelude.{All, ◌&&◌, ◌==◌, if◌then◌else◌, max, nat_le, nat_lt, Option, None, Some}
-use Rattle.std.specs.List.{flat_map, list_all}
+use Rattle.std.proofs.Common.{◌≡◌, ℕ, zero, suc, ◌+◌, ◌*◌, ◌/◌, ◌<◌, ◌≤◌, ℤ, Bool, true, false, List, [], ◌∷◌, ◌++◌, length, length-append, map, refl, sym, ap, ◌∙◌, arith, subst, All, ◌&&◌, ◌==◌, if◌then◌else◌, max, nat_le, nat_lt, Option, None, Some}
+use Rattle.cdl_parse.proofs.Prelude.{flat_map, list_all, All-cons, All-head, All-nil, All-tail, Dim, Var, NcType, AreDimids, IsDimid, bytes_of_number, is_record_var, is_record_dim, slab_count, slab_lens, slab_size, slab_limit, array_limit, product, dim_len, is_small, records_in, values_of, Draft, AllList, AreShaped, records_for, records_kept, records_within, with_all, Extent}
 use Rattle.std.proofs.Math.Nat.{mul-div_cancel, mul-le-mul_left, mul_comm, mul_right_comm}
-use Rattle.std.proofs.lemmas.List.Elements.{All-cons, All-head, All-nil, All-tail}
-use Rattle.nc_base.specs.declared.header.Dim.{Dim}
-use Rattle.nc_base.specs.declared.header.Var.{Var}
-use Rattle.nc_base.specs.declared.nc_type.NcType.{NcType}
-use Rattle.nc_base.specs.Headers.{AreDimids, IsDimid}
-use Rattle.nc_base.specs.Numbers.{bytes_of_number}
-use Rattle.nc_base.specs.Sizes.{is_record_var, is_record_dim, slab_count, slab_lens, slab_size, slab_limit, array_limit, product, dim_len}
 use Rattle.nc_base.specs.Types.{size_of}
 use Rattle.nc_base.proofs.FilePlaces.{length-number}
 use Rattle.nc_base.proofs.SoundLaws.{some_size}
-use Rattle.cdl_meaning.specs.Meaning.{is_small, records_in, values_of}
-use Rattle.cdl_meaning.specs.State.{Draft}
-use Rattle.cdl_values.specs.Listed.{AllList, AreShaped}
-use Rattle.cdl_parse.specs.Extents.{records_for, records_kept, records_within, with_all}
-use Rattle.cdl_parse.specs.declared.records.Extent.{Extent}
 
 -- ---- a slab has a value
 

@@ -1,20 +1,11 @@
 -- The tokens of a statement, one at a time.
-use Rattle.std.proofs.Common.{◌≡◌, Bool, true, false, List, [], ◌∷◌, refl, sym, ap, ◌∙◌}
-use Rattle.std.specs.Prelude.{◌&&◌, if◌then◌else◌, map}
-use Rattle.std.proofs.lemmas.Bool.{false≢true}
-use Rattle.cdl_statements.specs.Cutters.{first_piece, is_done, next_token, pieces_left, text_of, tokens_left, words}
-use Rattle.cdl_statements.specs.DueTokens.{completes, is_whole, next, only}
-use Rattle.cdl_statements.specs.Lexemes.{Lexeme, lexeme}
-use Rattle.cdl_statements.specs.Pieces.{first_role, pieces_at, step}
-use Rattle.cdl_statements.specs.Roles.{role_in}
-use Rattle.cdl_tokens.specs.Scanners.{followed, left}
-use Rattle.cdl_statements.specs.declared.cutter.Cutter.{Cutter}
-use Rattle.cdl_statements.specs.declared.due.Due.{Due}
-use Rattle.cdl_tokens.specs.declared.token.Token.{Token}
+use Rattle.std.proofs.Common.{◌≡◌, Bool, true, false, List, [], ◌∷◌, refl, sym, ap, ◌∙◌, ◌&&◌, if◌then◌else◌, map}
+use Rattle.cdl_parse.proofs.Prelude.{false≢true, first_piece, is_done, next_token, pieces_left, text_of, tokens_left, words, completes, is_whole, next, only, Lexeme, lexeme, pieces_after, step, Cutter, Due, Token, only_completes}
+use Rattle.cdl_statements.specs.code.Roles.{first_role, role_in}
+use Rattle.cdl_tokens.specs.code.Scanners.{followed, left}
 use Rattle.cdl_tokens.specs.declared.token.TokenKind.{TokenKind}
 use Rattle.cdl_tokens.specs.declared.token.TokenKind.TheVariants as kinds
 use Rattle.cdl_statements.proofs.Cuts.{words_on}
-use Rattle.cdl_statements.proofs.Listing.{only_completes}
 
 -- the first token is the next one
 followed_is : (t : Token) (kind : TokenKind) (rest : List Token) → (tail : List Token) × (followed t kind rest ≡ t ∷ tail)
@@ -27,15 +18,15 @@ followed_is t kinds.Mark rest = (rest, refl)
 followed_is t kinds.Bad rest = (rest, refl)
 
 pub begins : (c : Cutter) → is_done c ≡ false → (rest : List Lexeme) × (words c ≡ lexeme (text_of c) (next_token c) ∷ rest)
-unfolding words pieces_left pieces_at
+unfolding words pieces_left pieces_after
 begins c more =
     let text = text_of c in
     let tail = followed_is c.next c.next.kind (left c.scanner) in
     let all : tokens_left c ≡ c.next ∷ tail.0 = rw (more) tail.1 in
     let here = step c.state (role_in text c.next) (first_role (role_in text) tail.0) in
-    let after = pieces_at (role_in text) here.state tail.0 in (
+    let after = pieces_after (role_in text) here.state tail.0 in (
       (if here.ends then [] else map (lexeme text) (first_piece after)),
-      ap (λ ts. map (lexeme text) (first_piece (pieces_at (role_in text) c.state ts))) all ∙ words_on text c.next here.ends after,
+      ap (λ ts. map (lexeme text) (first_piece (pieces_after (role_in text) c.state ts))) all ∙ words_on text c.next here.ends after,
     )
 
 -- a statement that has its shape goes on after a token that is not its last

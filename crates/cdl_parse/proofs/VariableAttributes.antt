@@ -1,23 +1,8 @@
 -- A statement that gives a variable an attribute.
-use Rattle.std.proofs.Common.{◌≡◌, ℕ, zero, suc, ◌<◌, Bool, true, false, List, [], ◌∷◌, length, get_or, set, drop, refl, sym, ap, ◌∙◌, arith}
-use Rattle.std.proofs.lemmas.Bool.{false≢true}
-use Rattle.std.proofs.lemmas.List.{set-get_or}
-use Rattle.std.specs.Prelude.{Result, Ok, Err, ⊤, OnErr, if◌then◌else◌}
-use Rattle.nc_base.specs.declared.header.Att.{Att}
-use Rattle.cdl_statements.specs.DueTokens.{completes}
-use Rattle.cdl_tokens.specs.Escapes.{word_value}
-use Rattle.cdl_statements.specs.Lexemes.{Lexeme}
-use Rattle.cdl_statements.specs.Shapes.{Value}
-use Rattle.cdl_statements.specs.declared.due.Due.TheVariants.{AttributeName}
-use Rattle.cdl_statements.specs.declared.fault.CdlKind.{CdlKind}
-use Rattle.cdl_meaning.specs.State.{Draft, add_att, with_att, ◌>>=◌}
-use Rattle.cdl_values.specs.Answers.{Leaves}
-use Rattle.cdl_values.specs.Meant.{name_first, names_of}
-use Rattle.cdl_values.specs.declared.read_error.ReadError.{ReadError}
-use Rattle.cdl_values.specs.declared.read_error.ReadError.TheVariants.{OutOfMemory, Fault}
-use Rattle.cdl_parse.specs.Drafts.{draft_of, drafts_of}
-use Rattle.cdl_parse.specs.VariablePositions.{at_position}
-use Rattle.cdl_parse.specs.declared.variables.Variable.{Variable}
+use Rattle.std.proofs.Common.{◌≡◌, ℕ, zero, suc, ◌<◌, Bool, true, false, List, [], ◌∷◌, length, get_or, set, drop, refl, sym, ap, ◌∙◌, arith, Result, Ok, Err, OnErr, if◌then◌else◌}
+use Rattle.cdl_parse.proofs.Prelude.{false≢true, set-get_or, Att, completes, word_value, Lexeme, Value, AttributeName, CdlKind, Draft, add_att, with_att, Leaves, name_first, names_of, ReadError, OutOfMemory, Fault, draft_of, drafts_of, at_position, Variable}
+use Rattle.std.specs.Prelude.{⊤}
+use Rattle.cdl_meaning.specs.State.{◌>>=◌}
 
 -- ---- the tokens before the attribute's name
 

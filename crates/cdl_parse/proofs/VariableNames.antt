@@ -1,18 +1,8 @@
 -- The variable of a name is the one at the name's position.
-use Rattle.std.proofs.Common.{◌≡◌, ℕ, suc, ◌+◌, ◌<◌, Bool, true, false, List, [], ◌∷◌, length, refl, ap, ◌∙◌, arith}
-use Rattle.std.specs.Prelude.{Option, None, Some, Result, Ok, Err, if◌then◌else◌}
-use Rattle.std.specs.List.{position_from}
-use Rattle.std.specs.Str.{bytes_eq}
-use Rattle.nc_base.specs.Names.{is_name}
-use Rattle.cdl_statements.specs.declared.fault.CdlKind.{CdlKind}
-use Rattle.cdl_statements.specs.declared.fault.CdlKind.TheVariants.{BadName, UnknownVariable}
-use Rattle.cdl_meaning.specs.State.{Draft, at_named, at_variable, unless, ◌>>=◌}
-use Rattle.cdl_values.specs.Answers.{Fails}
-use Rattle.cdl_values.specs.Meant.{names_of}
-use Rattle.cdl_values.specs.NameIndices.{position_of}
-use Rattle.cdl_values.specs.declared.read_error.ReadError.{ReadError}
+use Rattle.std.proofs.Common.{◌≡◌, ℕ, suc, ◌+◌, ◌<◌, Bool, true, false, List, [], ◌∷◌, length, refl, ap, ◌∙◌, arith, Option, None, Some, Result, Ok, Err, if◌then◌else◌}
+use Rattle.cdl_parse.proofs.Prelude.{position_from, bytes_eq, is_name, CdlKind, BadName, UnknownVariable, Draft, at_named, at_variable, unless, FailsRead, names_of, position_of, ReadError, at_position}
+use Rattle.cdl_meaning.specs.State.{◌>>=◌}
 use Rattle.cdl_values.proofs.AllowedNames.{not_allowed}
-use Rattle.cdl_parse.specs.VariablePositions.{at_position}
 
 module _ (name : List ℕ) (f : Draft → Result Draft CdlKind) where
   abbrev place : ℕ → List Draft → Option ℕ
@@ -44,7 +34,7 @@ module _ (name : List ℕ) (f : Draft → Result Draft CdlKind) where
   unfolding at_variable
   named_as ds named = rw (named) refl
 
-  pub no_name : (ds : List Draft) (e : ReadError) → Fails e (unless (is_name name) BadName) → Fails e (at_variable name f ds)
+  pub no_name : (ds : List Draft) (e : ReadError) → FailsRead e (unless (is_name name) BadName) → FailsRead e (at_variable name f ds)
   unfolding at_variable
   no_name ds e h = not_allowed e name (λ named. unless named BadName >>= (λ u. at_named name f ds)) refl h
 

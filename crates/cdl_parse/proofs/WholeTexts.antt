@@ -1,30 +1,16 @@
 -- A whole text: its sections one after the other.
-use Rattle.std.proofs.Common.{◌≡◌, ℕ, suc, true, false, List, [], ◌∷◌, length, refl, sym, subst, arith}
-use Rattle.std.specs.Prelude.{Result, replicate}
-use Rattle.std.proofs.lemmas.List.Elements.{All-cons}
-use Rattle.nc_base.specs.Headers.{AreDimids}
-use Rattle.nc_base.specs.declared.header.Dim.{Dim}
-use Rattle.nc_base.specs.declared.header.Var.{Var}
-use Rattle.nc_base.specs.declared.version.Version.{Version}
+use Rattle.std.proofs.Common.{◌≡◌, ℕ, suc, true, false, List, [], ◌∷◌, length, refl, sym, subst, arith, Result, replicate}
+use Rattle.cdl_parse.proofs.Prelude.{All-cons, AreDimids, Dim, Var, Version, Section, Unopened, Globals, Dimensions, Variables, Values, Closed, Ended, Token, finished, run, State, Draft, AllList, AreShaped, unlisted_drafts, is_early, is_over, FailsAt, ParseError}
 use Rattle.cdl_statements.specs.declared.fault.CdlFault.{CdlFault}
-use Rattle.cdl_statements.specs.declared.section.Section.{Section}
-use Rattle.cdl_statements.specs.declared.section.Section.TheVariants.{Unopened, Globals, Dimensions, Variables, Values, Closed, Ended}
-use Rattle.cdl_tokens.specs.declared.token.Token.{Token}
-use Rattle.cdl_meaning.specs.Meaning.{finished, run}
-use Rattle.cdl_meaning.specs.State.{State, Draft}
-use Rattle.cdl_values.specs.Listed.{AllList, AreShaped, fresh}
-use Rattle.cdl_parse.specs.Defined.{is_early, is_past}
-use Rattle.cdl_parse.specs.Runs.{FailsAt}
-use Rattle.cdl_parse.specs.declared.parse_error.ParseError.{ParseError}
 use Rattle.cdl_parse.specs.declared.parse_error.ParseError.TheVariants as stops
 
 -- of no variable anything is listed
-pub none_listed : (dims : List Dim) (vars : List Var) → AllList dims vars (replicate (length vars) []) (fresh vars)
+pub none_listed : (dims : List Dim) (vars : List Var) → AllList dims vars (replicate (length vars) []) (unlisted_drafts vars)
 none_listed dims [] = tt
 none_listed dims (var ∷ vars) = (record { is = refl; bytes = refl }, none_listed dims vars)
 
 -- neither before the data section nor in it
-pub past_values : (section : Section) → is_early section ≡ false → (section ≡ Values → ⊥) → is_past section ≡ true
+pub past_values : (section : Section) → is_early section ≡ false → (section ≡ Values → ⊥) → is_over section ≡ true
 past_values Unopened early other = cc
 past_values Globals early other = cc
 past_values Dimensions early other = cc
@@ -34,7 +20,7 @@ past_values Closed early other = refl
 past_values Ended early other = refl
 
 -- what is listed changes no shape
-pub listed_shapes : (dims : List Dim) (vars : List Var) (arrays : List (List ℕ)) (drafts : List Draft) → AllList dims vars arrays drafts → AreShaped dims (fresh vars) → AreShaped dims drafts
+pub listed_shapes : (dims : List Dim) (vars : List Var) (arrays : List (List ℕ)) (drafts : List Draft) → AllList dims vars arrays drafts → AreShaped dims (unlisted_drafts vars) → AreShaped dims drafts
 listed_shapes dims [] [] [] h are = λ k d inside. are k d inside
 listed_shapes dims [] [] (d ∷ drafts) h are = absurd h
 listed_shapes dims [] (a ∷ arrays) drafts h are = absurd h

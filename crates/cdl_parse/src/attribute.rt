@@ -1,12 +1,12 @@
 //! The statement of an attribute.
 
 ghost use Rattle.std.specs.Prelude.{◌≡◌, OnErr, false, true};
-ghost use Rattle.cdl_statements.specs.Cutters.{is_done, words};
-ghost use Rattle.cdl_statements.specs.DueTokens.{completes};
+ghost use Rattle.cdl_statements.specs.code.Cutters.{is_done, words};
+ghost use Rattle.cdl_statements.specs.code.DueTokens.{completes};
 ghost use Rattle.cdl_statements.specs.declared.due.Due.TheVariants.{AttributeName};
-ghost use Rattle.cdl_values.specs.Answers.{Leaves};
-ghost use Rattle.cdl_parse.specs.AttributeNames.{with_new_att};
-ghost use Rattle.cdl_parse.specs.AttributeRead.{att_read};
+ghost use Rattle.cdl_values.specs.code.Answers.{Leaves};
+ghost use Rattle.cdl_parse.specs.code.AttributeNames.{with_new_att};
+ghost use Rattle.cdl_parse.specs.code.AttributeRead.{att_read};
 
 use crate::attributes::Attributes;
 use crate::taken_name::after_name;

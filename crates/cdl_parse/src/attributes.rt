@@ -1,7 +1,7 @@
 //! The attributes of a variable or of the dataset.
 
 ghost use Rattle.std.specs.Prelude.{◌≡◌, [], IfOk, OnErr, not};
-ghost use Rattle.cdl_parse.specs.AttributeNames.{has_name, with_att};
+ghost use Rattle.cdl_parse.specs.code.AttributeNames.{has_attribute, with_added_att};
 
 use nc_base::{Att, Sequence};
 use std::alloc::{AllocError, Global};
@@ -20,7 +20,7 @@ pub struct Attributes {
 impl Model for Attributes {
     ghost use Rattle.std.specs.Prelude.{List};
     ghost use Rattle.nc_base.specs.declared.header.Att.{Att};
-    ghost use Rattle.cdl_parse.specs.AttributeNames.{HasNames};
+    ghost use Rattle.cdl_parse.specs.code.AttributeNames.{HasNames};
 
     ghost Value = { List Att };
 
@@ -42,7 +42,7 @@ impl Attributes {
 
     /// Returns true if one of the attributes has the name.
     pub fn has_name(&self, name: &[u8]) -> bool
-        ensures { result ≡ has_name name.now self.now }
+        ensures { result ≡ has_attribute name.now self.now }
     {
         self.names.contains(name)
     }
@@ -53,8 +53,8 @@ impl Attributes {
     ///
     /// An allocation failed. Then the attributes are what they were.
     pub fn add(&mut self, alloc: Global, att: Att) -> Result<bool, AllocError>
-        ensures new { IfOk result (λ added. added ≡ not (has_name att.name self.old)) }
-        ensures atts { IfOk result (λ added. self.new ≡ with_att added self.old att) }
+        ensures new { IfOk result (λ added. added ≡ not (has_attribute att.name self.old)) }
+        ensures atts { IfOk result (λ added. self.new ≡ with_added_att added self.old att) }
         ensures err { OnErr result (self.new ≡ self.old) }
     {
         let name = Vec::from_slice(alloc, att.name.as_slice())?;

@@ -1,17 +1,17 @@
 //! The line of the closing brace.
 
 ghost use Rattle.std.specs.Prelude.{◌≡◌, false};
-ghost use Rattle.cdl_statements.specs.Cutters.{Follows, is_done};
+ghost use Rattle.cdl_statements.specs.code.Cutters.{Follows, is_done};
 ghost use Rattle.cdl_statements.specs.Statements.{statements};
 ghost use Rattle.cdl_meaning.specs.Meaning.{closing_line};
 
 use cdl_statements::Cutter;
 use nc_base::Version;
 
-/// The line of a text's last statement but one: that of the closing brace, where each statement has its shape. 0, where the text
-/// has no two statements.
+/// The line of a text's last statement but one, which is the closing brace if each statement has its shape. Returns 0 if the text
+/// has fewer than two statements.
 ///
-/// It goes over the whole text, and does not allocate.
+/// It reads the whole text, and does not allocate.
 pub fn closing_line(text: &[u8], version: Version) -> u64
     ensures { result ≡ closing_line (statements text.now) }
 {

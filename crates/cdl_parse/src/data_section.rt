@@ -1,11 +1,11 @@
 //! The data section.
 
 ghost use Rattle.std.specs.Prelude.{◌≡◌, [], IfOk, true, false, replicate, slice_set};
-ghost use Rattle.cdl_statements.specs.Cutters.{Follows, SameText, is_done, words};
+ghost use Rattle.cdl_statements.specs.code.Cutters.{Follows, SameText, is_done, words};
 ghost use Rattle.cdl_statements.specs.declared.section.Section.TheVariants.{Values};
 ghost use Rattle.cdl_meaning.specs.State.{State};
-ghost use Rattle.cdl_values.specs.Meant.{begins_brace};
-ghost use Rattle.cdl_parse.specs.DataSections.{Closes, ReadsDataSection, ReadsNext, given_at};
+ghost use Rattle.cdl_values.specs.code.Meant.{begins_brace};
+ghost use Rattle.cdl_parse.specs.code.DataSections.{Closes, ReadsDataSection, ReadsNextStatement, given_at};
 
 use crate::parse_error::ParseError;
 use crate::statement::pass;
@@ -21,7 +21,7 @@ pub struct DataSection<'a> {
     pub arrays: Vec<ListedArray>,
     /// The statements after the section.
     pub rest: Cutter<'a>,
-    /// The closing brace stood at its end; else no statement is left.
+    /// True if the section ended with the closing brace. If false, no statement is left.
     pub is_closed: bool,
 }
 
@@ -35,8 +35,8 @@ struct Listings {
 
 /// A statement of the data section that was read.
 #[derive(Clone, Copy)]
-struct Passed<'a> {
-    /// It was the closing brace; else it listed the values of a variable.
+struct DataStatement<'a> {
+    /// It was the closing brace; otherwise it listed the values of a variable.
     is_brace: bool,
     /// The statements after it.
     rest: Cutter<'a>,
@@ -61,7 +61,7 @@ pub fn read_data<'a>(
     ensures ends { IfOk result (λ d. d.is_closed ≡ false → is_done d.rest ≡ true) }
     ensures same { IfOk result (λ d. SameText start.entry d.rest) }
 {
-    let arrays = without_values(alloc, targets.len())?;
+    let arrays = empty_arrays(alloc, targets.len())?;
     let mut listings = Listings { targets, arrays };
     let mut cutter = start;
     'statements: loop {
@@ -89,7 +89,7 @@ pub fn read_data<'a>(
 }
 
 /// `count` arrays without values.
-pub fn without_values(alloc: Global, count: usize) -> Result<Vec<ListedArray>, AllocError>
+pub fn empty_arrays(alloc: Global, count: usize) -> Result<Vec<ListedArray>, AllocError>
     ensures { IfOk result (λ arrays. arrays.items ≡ replicate count []) }
 {
     let mut arrays = Vec::new(alloc);
@@ -105,9 +105,9 @@ fn read_one<'a>(
     names: &NameIndex,
     listings: &mut Listings,
     start: Cutter<'a>,
-) -> Result<Passed<'a>, ReadError>
+) -> Result<DataStatement<'a>, ReadError>
     requires { is_done start ≡ false }
-    ensures reads { ReadsNext start.entry names.now listings.old listings.new result }
+    ensures reads { ReadsNextStatement start.entry names.now listings.old listings.new result }
     ensures rest { IfOk result (λ passed. Follows start.entry passed.rest) }
 {
     if start.lexeme().is_mark(b'}') {
@@ -116,21 +116,21 @@ fn read_one<'a>(
     let given = read(alloc, names, &listings.targets, start)?;
     store(&mut listings.arrays, given.position, given.array);
     mark_given(&mut listings.targets, given.position);
-    Ok(Passed {
+    Ok(DataStatement {
         is_brace: false,
         rest: given.rest,
     })
 }
 
 /// Reads the closing brace.
-fn close(start: Cutter<'_>) -> Result<Passed<'_>, ReadError>
+fn close(start: Cutter<'_>) -> Result<DataStatement<'_>, ReadError>
     requires more { is_done start ≡ false }
     requires brace { begins_brace (words start) ≡ true }
     ensures reads { (s : State) → s.section ≡ Values → Closes start.entry s result }
     ensures rest { IfOk result (λ passed. Follows start.entry passed.rest) }
 {
     let rest = pass(start, Section::Values)?;
-    Ok(Passed {
+    Ok(DataStatement {
         is_brace: true,
         rest,
     })

@@ -2,16 +2,16 @@
 
 ghost use Rattle.std.specs.Prelude.{◌≡◌, drop, false, true, IfOk};
 ghost use Rattle.std.specs.List.{find};
-ghost use Rattle.cdl_statements.specs.Cutters.{is_done, words};
-ghost use Rattle.cdl_statements.specs.DueTokens.{completes};
+ghost use Rattle.cdl_statements.specs.code.Cutters.{is_done, words};
+ghost use Rattle.cdl_statements.specs.code.DueTokens.{completes};
 ghost use Rattle.cdl_tokens.specs.Escapes.{word_value};
 ghost use Rattle.cdl_statements.specs.Lexemes.{is_mark_kind};
-ghost use Rattle.cdl_statements.specs.Views.{lexeme_of};
+ghost use Rattle.cdl_statements.specs.code.Views.{lexeme_of};
 ghost use Rattle.cdl_statements.specs.declared.due.Due.TheVariants.{VariableName};
 ghost use Rattle.cdl_meaning.specs.State.{is_word_of, type_of};
-ghost use Rattle.cdl_values.specs.Answers.{Gives, Leaves};
-ghost use Rattle.cdl_parse.specs.Declarations.{added, declared_by, is_open_after, next_dimid, with_begun};
-ghost use Rattle.cdl_parse.specs.Declarations.{Begins, PassesMark, ReadsDimension, ReadsToken};
+ghost use Rattle.cdl_values.specs.code.Answers.{GivesRead, Leaves};
+ghost use Rattle.cdl_parse.specs.code.Declarations.{added, declared_by, is_open_after, next_dimid, with_begun};
+ghost use Rattle.cdl_parse.specs.code.Declarations.{BeginsVariable, PassesMark, ReadsDimension, ReadsToken};
 
 use crate::dimensions::Dimensions;
 use crate::taken_name::after_name;
@@ -24,7 +24,7 @@ use std::alloc::{AllocError, Global};
 
 /// A variable as far as its declaration is read.
 #[derive(Drop)]
-struct Begun {
+struct PartialVariable {
     ty: NcType,
     name: Vec<u8>,
     /// The positions of its dimensions.
@@ -114,12 +114,12 @@ fn read_variables(
 }
 
 /// Begins the variable of this type whose name a token is.
-fn begin(alloc: Global, ty: NcType, token: Lexeme<'_>) -> Result<Begun, ReadError>
+fn begin(alloc: Global, ty: NcType, token: Lexeme<'_>) -> Result<PartialVariable, ReadError>
     requires { is_mark_kind token.kind ≡ false }
-    ensures { Begins ty (lexeme_of token.entry) result }
+    ensures { BeginsVariable ty (lexeme_of token.entry) result }
 {
     let name = read_name(alloc, token.bytes)?;
-    Ok(Begun {
+    Ok(PartialVariable {
         ty,
         name,
         dimids: Vec::new(alloc),
@@ -132,13 +132,13 @@ fn read_on(
     alloc: Global,
     dims: &Dimensions,
     variables: &mut Variables,
-    begun: Begun,
+    begun: PartialVariable,
     token: Lexeme<'_>,
-) -> Result<Begun, ReadError>
+) -> Result<PartialVariable, ReadError>
     ensures { ReadsToken dims.now variables.old variables.new begun (lexeme_of token.entry) result }
 {
     match token.kind {
-        TokenKind::Mark => Ok(over_mark(begun, token)),
+        TokenKind::Mark => Ok(after_mark(begun, token)),
         _ if begun.is_open => with_dimension(alloc, dims, variables, begun, token.bytes),
         _ => {
             let ty = begun.ty;
@@ -149,17 +149,17 @@ fn read_on(
 }
 
 /// The variable after a mark, which may open or close a parenthesis.
-fn over_mark(begun: Begun, mark: Lexeme<'_>) -> Begun
+fn after_mark(begun: PartialVariable, mark: Lexeme<'_>) -> PartialVariable
     requires { is_mark_kind mark.kind ≡ true }
     ensures { PassesMark begun (lexeme_of mark.entry) result }
 {
-    let Begun {
+    let PartialVariable {
         ty,
         name,
         dimids,
         is_open,
     } = begun;
-    Begun {
+    PartialVariable {
         ty,
         name,
         dimids,
@@ -183,9 +183,9 @@ fn with_dimension(
     alloc: Global,
     dims: &Dimensions,
     variables: &Variables,
-    mut begun: Begun,
+    mut begun: PartialVariable,
     word: &[u8],
-) -> Result<Begun, ReadError>
+) -> Result<PartialVariable, ReadError>
     requires { begun.is_open ≡ true }
     ensures reads { ReadsDimension dims.now variables.now begun word.now result }
     ensures is_open { IfOk result (λ b. b.is_open ≡ true) }
@@ -208,7 +208,7 @@ fn dimid_of_word(
     before: &[u64],
     word: &[u8],
 ) -> Result<u64, ReadError>
-    ensures { Gives (λ dimid. dimid) result (next_dimid dims.now before.now (word_value word.now)) }
+    ensures { GivesRead (λ dimid. dimid) result (next_dimid dims.now before.now (word_value word.now)) }
 {
     let name = name_of_word(alloc, word)?;
     Ok(next_dimid(dims, before, name.as_slice())?)
@@ -235,10 +235,10 @@ fn next_dimid(dims: &Dimensions, before: &[u64], name: &[u8]) -> Result<u64, Cdl
 /// # Errors
 ///
 /// The name of another variable (`DuplicateName`). Or an allocation failed.
-fn put(alloc: Global, variables: &mut Variables, begun: Begun) -> Result<(), ReadError>
+fn put(alloc: Global, variables: &mut Variables, begun: PartialVariable) -> Result<(), ReadError>
     ensures { Leaves variables.new result (with_begun variables.old begun) }
 {
-    let Begun {
+    let PartialVariable {
         ty,
         name,
         dimids,

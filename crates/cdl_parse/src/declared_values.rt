@@ -5,8 +5,8 @@ ghost use Rattle.std.specs.List.{concat};
 ghost use Rattle.nc_base.specs.Fill.{fill_value};
 ghost use Rattle.nc_base.specs.Headers.{value_count};
 ghost use Rattle.nc_base.specs.Numbers.{bytes_of_number};
-ghost use Rattle.nc_base.specs.OwedValues.{fills, whole_array, whole_arrays};
-ghost use Rattle.cdl_parse.specs.OwedCounts.{CountsOwed, HasSmallSlab};
+ghost use Rattle.nc_base.specs.code.OwedValues.{fills, whole_array, whole_arrays};
+ghost use Rattle.cdl_parse.specs.code.OwedCounts.{CountsOwed, HasSmallSlab};
 
 use cdl_values::put_number;
 use nc_base::{Dataset, Dim, Header, ListedArray, Sequence, Var, fill_of, is_record_var, slab_of};
@@ -23,7 +23,7 @@ pub struct Declared {
 }
 
 impl Declared {
-    ghost use Rattle.cdl_parse.specs.DeclaredDatasets.{dataset_of_declared};
+    ghost use Rattle.cdl_parse.specs.code.DeclaredDatasets.{dataset_of_declared};
 
     /// The dataset: the header, and each variable's values, with its fill value as often as it lacks values (ncgen(1), and
     /// `_FillValue` in the attribute conventions of the NetCDF User's Guide).
@@ -47,7 +47,7 @@ impl Declared {
     }
 }
 
-/// The arrays of the variables, of which these values are listed.
+/// The whole arrays of the variables: the listed values of each, filled up.
 fn whole_arrays(
     alloc: Global,
     dims: &[Dim],
@@ -68,7 +68,7 @@ fn whole_arrays(
     Ok(arrays)
 }
 
-/// The array of a variable, of which these values are listed.
+/// The whole array of a variable: its listed values, filled up.
 fn whole_array(
     alloc: Global,
     dims: &[Dim],
@@ -99,7 +99,7 @@ fn filled(
     Ok(Sequence::from_vec(bytes))
 }
 
-/// How many values a variable lacks of which `len` bytes are listed. None, where its slab passes 2^48 bytes, or where 2^64
+/// How many values a variable lacks if `len` bytes of it are listed. None if its slab has more than 2^48 bytes, or if 2^64
 /// values or more are lacking.
 fn owed_count(dims: &[Dim], var: &Var, records: u64, len: u128) -> Option<u64>
     ensures { CountsOwed dims.now var.now records len result }
@@ -109,7 +109,7 @@ fn owed_count(dims: &[Dim], var: &Var, records: u64, len: u128) -> Option<u64>
     u64::try_from(owed).ok()
 }
 
-/// How many values a variable has over `records` records. None, where its slab passes 2^48 bytes.
+/// How many values a variable has over `records` records. `None` if its slab passes 2^48 bytes.
 fn value_count(dims: &[Dim], var: &Var, records: u64) -> Option<u128>
     ensures { SomeIff result (HasSmallSlab dims.now var.now) (value_count dims.now var.now records) }
 {

@@ -1,11 +1,11 @@
 //! The sections before the data section.
 
 ghost use Rattle.std.specs.Prelude.{◌≡◌, IfOk, false};
-ghost use Rattle.cdl_statements.specs.Cutters.{SameText, is_done};
+ghost use Rattle.cdl_statements.specs.code.Cutters.{SameText, is_done};
 ghost use Rattle.cdl_meaning.specs.Meaning.{empty};
-ghost use Rattle.cdl_values.specs.Listed.{AreShaped};
-ghost use Rattle.cdl_parse.specs.Defined.{is_early, run_past};
-ghost use Rattle.cdl_parse.specs.Runs.{ReadsOn, run_from};
+ghost use Rattle.cdl_values.specs.code.Listed.{AreShaped};
+ghost use Rattle.cdl_parse.specs.code.Defined.{is_early, run_past};
+ghost use Rattle.cdl_parse.specs.code.Runs.{ReadsOn, run_from};
 
 use crate::definitions::Definitions;
 use crate::parse_error::ParseError;

@@ -1,11 +1,11 @@
 //! What a text declares before its data section.
 
 ghost use Rattle.std.specs.Prelude.{◌≡◌, IfOk, false, true};
-ghost use Rattle.cdl_statements.specs.Cutters.{Follows, is_done, next_token, text_of, words};
-ghost use Rattle.cdl_statements.specs.DueTokens.{completes};
+ghost use Rattle.cdl_statements.specs.code.Cutters.{Follows, is_done, next_token, text_of, words};
+ghost use Rattle.cdl_statements.specs.code.DueTokens.{completes};
 ghost use Rattle.cdl_statements.specs.Lexemes.{is_mark, lexeme};
 ghost use Rattle.cdl_statements.specs.Shapes.{section_of};
-ghost use Rattle.cdl_statements.specs.Views.{lexeme_of};
+ghost use Rattle.cdl_statements.specs.code.Views.{lexeme_of};
 ghost use Rattle.cdl_statements.specs.declared.due.Due.TheVariants.{First};
 
 use crate::attribute::read_attribute;
@@ -32,7 +32,7 @@ pub struct Definitions {
 
 impl Definitions {
     ghost use Rattle.cdl_meaning.specs.Meaning.{empty};
-    ghost use Rattle.cdl_parse.specs.Defined.{Makes, after_mark, after_statement, is_defining, is_early, said_by, state_of};
+    ghost use Rattle.cdl_parse.specs.code.Defined.{Makes, after_mark, after_statement, is_defining, is_early, said_by, state_of};
 
     /// What stands before the first statement: nothing. It does not allocate.
     pub fn new(alloc: Global) -> Definitions
@@ -62,12 +62,12 @@ impl Definitions {
         ensures rest { IfOk result (λ c. Follows start.entry c) }
     {
         let rest = pass(start, self.section)?;
-        self.act(alloc, start)?;
+        self.apply(alloc, start)?;
         Ok(rest)
     }
 
     /// Does what a statement says that has its shape.
-    fn act(&mut self, alloc: Global, start: Cutter<'_>) -> Result<(), ReadError>
+    fn apply(&mut self, alloc: Global, start: Cutter<'_>) -> Result<(), ReadError>
         requires more { is_done start ≡ false }
         requires early { is_early self.old.section ≡ true }
         requires whole { completes (First self.old.section) (words start) ≡ true }

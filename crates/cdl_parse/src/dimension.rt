@@ -1,9 +1,9 @@
 //! The length of a dimension.
 
 ghost use Rattle.std.specs.Prelude.{◌≡◌, Some, None};
-ghost use Rattle.cdl_tokens.specs.Magnitudes.{held};
+ghost use Rattle.cdl_tokens.specs.code.Magnitudes.{held};
 ghost use Rattle.cdl_tokens.specs.Numerals.{Parts};
-ghost use Rattle.cdl_parse.specs.DimensionLengths.{IsLength, len_by, number_len};
+ghost use Rattle.cdl_parse.specs.code.DimensionLengths.{IsLength, len_by, number_len};
 
 use cdl_statements::CdlKind;
 use cdl_tokens::Numeral;

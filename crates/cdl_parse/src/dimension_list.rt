@@ -1,15 +1,15 @@
 //! The statement of dimensions.
 
 ghost use Rattle.std.specs.Prelude.{◌≡◌, ◌<◌, false, true};
-ghost use Rattle.cdl_statements.specs.Contents.{is_unlimited, length_said};
-ghost use Rattle.cdl_statements.specs.Cutters.{SameText, is_done, offset_of, words};
-ghost use Rattle.cdl_statements.specs.DueTokens.{completes};
-ghost use Rattle.cdl_statements.specs.Views.{lexeme_of};
+ghost use Rattle.cdl_statements.specs.code.Contents.{is_unlimited, length_said};
+ghost use Rattle.cdl_statements.specs.code.Cutters.{SameText, is_done, offset_of, words};
+ghost use Rattle.cdl_statements.specs.code.DueTokens.{completes};
+ghost use Rattle.cdl_statements.specs.code.Views.{lexeme_of};
 ghost use Rattle.cdl_statements.specs.declared.due.Due.TheVariants.{DimensionName};
-ghost use Rattle.cdl_values.specs.Answers.{Leaves};
-ghost use Rattle.cdl_parse.specs.DimensionLengths.{IsLength};
-ghost use Rattle.cdl_parse.specs.DimensionNames.{with_new_dim};
-ghost use Rattle.cdl_parse.specs.DimensionStatements.{BeginsWith, dim_read, dims_read};
+ghost use Rattle.cdl_values.specs.code.Answers.{Leaves};
+ghost use Rattle.cdl_parse.specs.code.DimensionLengths.{IsLength};
+ghost use Rattle.cdl_parse.specs.code.DimensionNames.{with_new_dim};
+ghost use Rattle.cdl_parse.specs.code.DimensionStatements.{BeginsWith, dim_read, dims_read};
 
 use crate::dimension::dim_len;
 use crate::dimensions::Dimensions;
@@ -29,7 +29,7 @@ struct NextDimension<'a> {
     ends: bool,
 }
 
-/// Reads dimensions joined by commas, of which the first one's name is next, and adds them to the others.
+/// Reads dimensions joined by commas, from the name of the first one on, and adds them to the others.
 ///
 /// A dimension is a name, `=` and a length, which is `unlimited` for the record dimension (the CDL chapter of the NetCDF
 /// User's Guide, "CDL Syntax", and ncgen(1)).

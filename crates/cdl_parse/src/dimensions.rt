@@ -5,7 +5,7 @@ ghost use Rattle.std.specs.List.{position};
 ghost use Rattle.std.specs.Str.{bytes_eq};
 ghost use Rattle.nc_base.specs.Headers.{has_record_dim};
 ghost use Rattle.nc_base.specs.declared.header.Dim as header;
-ghost use Rattle.cdl_parse.specs.DimensionNames.{is_taken, with_dim};
+ghost use Rattle.cdl_parse.specs.code.DimensionNames.{is_dimension_name, with_dim};
 
 use cdl_values::NameIndex;
 use nc_base::{Dim, Sequence};
@@ -26,7 +26,7 @@ impl Model for Dimensions {
     ghost use Rattle.std.specs.Prelude.{List, ◌≡◌};
     ghost use Rattle.nc_base.specs.Headers.{has_record_dim};
     ghost use Rattle.nc_base.specs.declared.header.Dim.{Dim};
-    ghost use Rattle.cdl_parse.specs.DimensionNames.{dim_names};
+    ghost use Rattle.cdl_parse.specs.code.DimensionNames.{dim_names};
 
     ghost Value = { List Dim };
 
@@ -61,7 +61,7 @@ impl Dimensions {
         self.has_record
     }
 
-    /// The position of the first dimension that has the name; None, where none has.
+    /// The position of the first dimension that has the name; `None` if none has.
     pub fn position(&self, name: &[u8]) -> Option<u64>
         ensures { result ≡ position (λ (d : header.Dim). bytes_eq d.name name.now) self.now }
     {
@@ -70,7 +70,7 @@ impl Dimensions {
 
     /// Returns true if one of the dimensions has the name.
     pub fn has_name(&self, name: &[u8]) -> bool
-        ensures { result ≡ is_taken name.now self.now }
+        ensures { result ≡ is_dimension_name name.now self.now }
     {
         self.position(name).is_some()
     }
@@ -81,7 +81,7 @@ impl Dimensions {
     ///
     /// An allocation failed. Then the dimensions are what they were.
     pub fn add(&mut self, alloc: Global, dim: Dim) -> Result<bool, AllocError>
-        ensures new { IfOk result (λ added. added ≡ not (is_taken dim.name self.old)) }
+        ensures new { IfOk result (λ added. added ≡ not (is_dimension_name dim.name self.old)) }
         ensures dims { IfOk result (λ added. self.new ≡ with_dim added self.old dim) }
         ensures err { OnErr result (self.new ≡ self.old) }
     {

@@ -1,17 +1,17 @@
 //! The end of a text: the number of records, and the limits on sizes.
 
 ghost use Rattle.std.specs.Prelude.{◌≡◌, IfSome};
-ghost use Rattle.cdl_parse.specs.DeclaredDatasets.{Finishes};
+ghost use Rattle.cdl_parse.specs.code.DeclaredDatasets.{Finishes};
 
 use crate::declared_values::Declared;
 use crate::records::records_of;
 use nc_base::{Att, Dim, Header, ListedArray, NumRecs, Sequence, Var, Version, rec_size};
 
-/// What a text with these dimensions, attributes, variables and listed values declares. There are as many records as the
-/// record variable has that lists the most.
+/// What a text with these dimensions, attributes, variables and listed values declares. The number of records is that of the
+/// record variable that lists the most.
 ///
-/// None, where it is too large: a slab or an array of more than 2^48 bytes, or a record of more than 2^62 bytes. It takes no
-/// memory.
+/// Returns `None` if it is too large: a slab or an array of more than 2^48 bytes, or a record of more than 2^62 bytes. Does not
+/// allocate.
 pub fn finish(
     version: Version,
     dims: Sequence<Dim>,

@@ -2,6 +2,19 @@
 //! User's Guide, and ncgen(1)).
 //!
 //! What a text means is defined in `cdl_meaning`; the values of a statement are read by `cdl_values`.
+//!
+//! ```
+//! const TEXT: &[u8] = b"netcdf a { dimensions: x = 3 ; variables: byte v(x) ; data: v = 1, 2 ; }";
+//! match parse(alloc, TEXT, Version::Cdf1) {
+//!     Ok(dataset) => {
+//!         for array in dataset.arrays.as_slice() {
+//!             // the values of a variable, big-endian: 01 02 81, the last of them the fill value
+//!             println!(rt; "{} bytes", array.len())?;
+//!         }
+//!     }
+//!     Err(fault) => println!(rt; "line {}: {:?}", fault.line, fault.kind)?,
+//! }
+//! ```
 #![tactic(auto)]
 
 mod attribute;

@@ -17,7 +17,7 @@ pub enum ParseError {
 }
 
 impl ParseError {
-    ghost use Rattle.cdl_parse.specs.Runs.{at_line};
+    ghost use Rattle.cdl_parse.specs.code.Runs.{at_line};
 
     /// That of a statement that begins on this line.
     pub fn at_line(line: u64, error: ReadError) -> ParseError

@@ -2,14 +2,14 @@
 
 ghost use Rattle.std.specs.Prelude.{◌≡◌, ◌<◌};
 ghost use Rattle.nc_base.specs.Sizes.{slab_count};
-ghost use Rattle.cdl_parse.specs.Extents.{CountsRecords, HaveValues, extent_of, records_for};
+ghost use Rattle.cdl_parse.specs.code.Extents.{CountsRecords, HaveValues, extent_of, records_for};
 
 use nc_base::{Dim, ListedArray, Var, is_record_var, slab_of};
 
 /// The greatest array, in bytes.
 const ARRAY_LIMIT: u128 = 1 << 48;
 
-/// The number of records: as many as the record variable has that lists the most values. None, where a slab, or an array over
+/// The number of records: as many as the record variable has that lists the most values. `None` if a slab, or an array over
 /// that many records, passes 2^48 bytes.
 pub fn records_of(dims: &[Dim], vars: &[Var], listed: &[ListedArray]) -> Option<u64>
     ensures { CountsRecords dims.now vars.now listed.now result }
@@ -27,9 +27,9 @@ struct Extent {
 }
 
 impl Extent {
-    ghost use Rattle.cdl_parse.specs.Extents.{records_within, with_listed};
+    ghost use Rattle.cdl_parse.specs.code.Extents.{records_within, with_listed};
 
-    /// The same, with a variable of which these values are listed; None where its slab passes 2^48 bytes.
+    /// The same with a variable and its listed values. None if its slab has more than 2^48 bytes.
     fn with(self, dims: &[Dim], var: &Var, listed: &ListedArray) -> Option<Extent>
         ensures { 0 < slab_count dims.now var.now → result ≡ with_listed dims.now self var.now listed.now }
     {
@@ -45,7 +45,7 @@ impl Extent {
         })
     }
 
-    /// The number of records; None where over that many a record variable's array passes 2^48 bytes.
+    /// The number of records; `None` if a record variable's array over that many has more than 2^48 bytes.
     fn records(self) -> Option<u64>
         ensures { result ≡ records_within self }
     {
@@ -66,7 +66,7 @@ fn records_for(count: u64, n: u128) -> u128
     n.div_ceil(count as u128)
 }
 
-/// How far the values of all variables reach; None where a slab passes 2^48 bytes.
+/// How far the values of all variables reach; `None` if a slab passes 2^48 bytes.
 fn extent_of(dims: &[Dim], vars: &[Var], listed: &[ListedArray]) -> Option<Extent>
     ensures { HaveValues dims.now vars.now → result ≡ extent_of dims.now vars.now listed.now }
 {

@@ -1,11 +1,11 @@
 //! The shape of a statement.
 
 ghost use Rattle.std.specs.Prelude.{◌≡◌, IfOk, false, true};
-ghost use Rattle.cdl_statements.specs.Cutters.{Follows, is_done, words};
-ghost use Rattle.cdl_statements.specs.DueTokens.{completes};
+ghost use Rattle.cdl_statements.specs.code.Cutters.{Follows, is_done, words};
+ghost use Rattle.cdl_statements.specs.code.DueTokens.{completes};
 ghost use Rattle.cdl_statements.specs.declared.due.Due.TheVariants.{First};
 ghost use Rattle.cdl_meaning.specs.State.{State};
-ghost use Rattle.cdl_parse.specs.Defined.{Passes};
+ghost use Rattle.cdl_parse.specs.code.Defined.{ActsAsSaid};
 
 use cdl_statements::{CdlKind, Cutter, Section, look_over};
 
@@ -13,10 +13,10 @@ use cdl_statements::{CdlKind, Cutter, Section, look_over};
 ///
 /// # Errors
 ///
-/// The fault of the statement's first bad token or bad number; or `Syntax`, where it hasn't its shape.
+/// The fault of the statement's first bad token or bad number; or `Syntax` if it doesn't have its shape.
 pub fn pass(start: Cutter<'_>, section: Section) -> Result<Cutter<'_>, CdlKind>
     requires { is_done start ≡ false }
-    ensures passes { (s : State) → s.section ≡ section → Passes start.entry s result }
+    ensures passes { (s : State) → s.section ≡ section → ActsAsSaid start.entry s result }
     ensures whole { IfOk result (λ c. completes (First section) (words start.entry) ≡ true) }
     ensures rest { IfOk result (λ c. Follows start.entry c) }
 {

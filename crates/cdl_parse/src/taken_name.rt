@@ -1,7 +1,7 @@
 //! Names that are taken, and the order of faults.
 
 ghost use Rattle.std.specs.Prelude.{◌≡◌};
-ghost use Rattle.cdl_parse.specs.TakenNames.{after_name};
+ghost use Rattle.cdl_parse.specs.code.TakenNames.{after_name};
 
 use cdl_statements::CdlKind;
 use cdl_values::ReadError;

@@ -1,15 +1,15 @@
 //! A whole text.
 
 ghost use Rattle.std.specs.Prelude.{if◌then◌else◌, ◌≡◌, ◌<◌, ◌^◌, IfOk, Ok, false, length, true};
-ghost use Rattle.cdl_statements.specs.Cutters.{SameText, is_done, text_of};
+ghost use Rattle.cdl_statements.specs.code.Cutters.{SameText, is_done, text_of};
 ghost use Rattle.cdl_meaning.specs.Meaning.{empty, meaning};
-ghost use Rattle.cdl_parse.specs.Defined.{is_early, is_past};
-ghost use Rattle.cdl_parse.specs.DeclaredDatasets.{dataset_of_declared};
-ghost use Rattle.cdl_parse.specs.Parsing.{Answers, ReadsAll, ReadsAsDefined, as_dataset, fault_of};
-ghost use Rattle.cdl_parse.specs.Runs.{ReadsOn, run_from};
+ghost use Rattle.cdl_parse.specs.code.Defined.{is_early, is_over};
+ghost use Rattle.cdl_parse.specs.code.DeclaredDatasets.{dataset_of_declared};
+ghost use Rattle.cdl_parse.specs.code.Parsing.{MeansOrOutOfMemory, ReadsAll, ReadsAsDefined, as_dataset, fault_of};
+ghost use Rattle.cdl_parse.specs.code.Runs.{ReadsOn, run_from};
 
 use crate::closing::closing_line;
-use crate::data_section::{read_data, without_values};
+use crate::data_section::{empty_arrays, read_data};
 use crate::declared_values::Declared;
 use crate::definition_sections::{Defined, read_definitions};
 use crate::definitions::Definitions;
@@ -31,7 +31,7 @@ use std::alloc::Global;
 /// [`TooLarge`](CdlKind::TooLarge), with the line of the closing brace. Or [`OutOfMemory`](CdlKind::OutOfMemory), with line 0,
 /// as soon as an allocation failed.
 pub fn parse(alloc: Global, text: &[u8], version: Version) -> Result<Dataset, CdlFault>
-    ensures { Answers result (meaning text.now version) }
+    ensures { MeansOrOutOfMemory result (meaning text.now version) }
 {
     let declared = declared(alloc, text, version)?;
     match declared.into_dataset(alloc) {
@@ -46,7 +46,7 @@ pub fn parse(alloc: Global, text: &[u8], version: Version) -> Result<Dataset, Cd
 ///
 /// Those of [`parse`].
 pub fn declared(alloc: Global, text: &[u8], version: Version) -> Result<Declared, CdlFault>
-    ensures declares { Answers (as_dataset result) (meaning text.now version) }
+    ensures declares { MeansOrOutOfMemory (as_dataset result) (meaning text.now version) }
     ensures one_each { IfOk result (λ d. length d.listed ≡ length d.header.vars) }
 {
     match read_text(alloc, text, version) {
@@ -152,13 +152,13 @@ fn read_values<'a>(
 ) -> Result<Values<'a>, ParseError>
     requires { is_done start ≡ false → is_early section ≡ false }
     ensures reads { ReadsAsDefined start.entry dims.now vars.now names.now section result }
-    ensures past { IfOk result (λ values. is_done values.rest ≡ false → is_past values.section ≡ true) }
+    ensures past { IfOk result (λ values. is_done values.rest ≡ false → is_over values.section ≡ true) }
     ensures same { IfOk result (λ values. SameText start.entry values.rest) }
 {
     match section {
         Section::Values => read_section(alloc, dims, vars, names, start),
         _ => Ok(Values {
-            listed: without_values(alloc, vars.len())?,
+            listed: empty_arrays(alloc, vars.len())?,
             section,
             rest: start,
         }),
@@ -174,7 +174,7 @@ fn read_section<'a>(
     start: Cutter<'a>,
 ) -> Result<Values<'a>, ParseError>
     ensures reads { ReadsAsDefined start.entry dims.now vars.now names.now Section.Values result }
-    ensures past { IfOk result (λ values. is_done values.rest ≡ false → is_past values.section ≡ true) }
+    ensures past { IfOk result (λ values. is_done values.rest ≡ false → is_over values.section ≡ true) }
     ensures same { IfOk result (λ values. SameText start.entry values.rest) }
 {
     let targets = targets_of(alloc, dims, vars)?;

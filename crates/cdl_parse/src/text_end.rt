@@ -1,10 +1,10 @@
 //! The end of a text.
 
 ghost use Rattle.std.specs.Prelude.{◌≡◌, false, true};
-ghost use Rattle.cdl_statements.specs.Cutters.{is_done};
+ghost use Rattle.cdl_statements.specs.code.Cutters.{is_done};
 ghost use Rattle.cdl_meaning.specs.State.{State};
-ghost use Rattle.cdl_parse.specs.Defined.{EndsAs, is_past};
-ghost use Rattle.cdl_parse.specs.Runs.{run_from};
+ghost use Rattle.cdl_parse.specs.code.Defined.{EndsAs, is_over};
+ghost use Rattle.cdl_parse.specs.code.Runs.{run_from};
 
 use crate::statement::pass;
 use cdl_statements::{CdlFault, Cutter, Section};
@@ -15,7 +15,7 @@ use cdl_statements::{CdlFault, Cutter, Section};
 ///
 /// The fault of the first statement there, with its line.
 pub fn read_end(start: Cutter<'_>, section: Section) -> Result<(), CdlFault>
-    requires { is_done start ≡ false → is_past section ≡ true }
+    requires { is_done start ≡ false → is_over section ≡ true }
     ensures { (s : State) → s.section ≡ section → EndsAs s result (run_from start.entry s) }
 {
     let mut cutter = start;

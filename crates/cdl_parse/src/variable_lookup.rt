@@ -2,7 +2,7 @@
 
 ghost use Rattle.std.specs.Prelude.{◌<◌, IfOk, length};
 ghost use Rattle.cdl_tokens.specs.Escapes.{word_value};
-ghost use Rattle.cdl_parse.specs.VariablePositions.{FindsVariable};
+ghost use Rattle.cdl_parse.specs.code.VariablePositions.{FindsVariable};
 
 use cdl_statements::CdlKind;
 use cdl_values::{NameIndex, ReadError, read_name};

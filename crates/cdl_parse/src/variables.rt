@@ -1,14 +1,14 @@
 //! The variables of a text.
 
 ghost use Rattle.std.specs.Prelude.{◌≡◌, [], drop, false, true, not, IfOk, OnErr, map};
-ghost use Rattle.cdl_statements.specs.Cutters.{is_done, words};
-ghost use Rattle.cdl_statements.specs.DueTokens.{completes};
+ghost use Rattle.cdl_statements.specs.code.Cutters.{is_done, words};
+ghost use Rattle.cdl_statements.specs.code.DueTokens.{completes};
 ghost use Rattle.cdl_statements.specs.declared.due.Due.TheVariants.{AttributeName};
-ghost use Rattle.cdl_values.specs.Answers.{Leaves};
-ghost use Rattle.cdl_values.specs.Listed.{fresh};
-ghost use Rattle.cdl_values.specs.Meant.{names_of};
-ghost use Rattle.cdl_parse.specs.AttributeRead.{variable_att_read};
-ghost use Rattle.cdl_parse.specs.Drafts.{is_taken, var_of, with_draft};
+ghost use Rattle.cdl_values.specs.code.Answers.{Leaves};
+ghost use Rattle.cdl_values.specs.code.Listed.{unlisted_drafts};
+ghost use Rattle.cdl_values.specs.code.Meant.{names_of};
+ghost use Rattle.cdl_parse.specs.code.AttributeRead.{variable_att_read};
+ghost use Rattle.cdl_parse.specs.code.Drafts.{is_variable_name, var_of, with_draft};
 
 use crate::attribute::read_attribute;
 use crate::attributes::Attributes;
@@ -44,8 +44,8 @@ impl Model for Variables {
 
     ghost Value = { List Draft };
 
-    ghost use Rattle.cdl_values.specs.Meant.{names_of};
-    ghost use Rattle.cdl_parse.specs.Drafts.{drafts_of};
+    ghost use Rattle.cdl_values.specs.code.Meant.{names_of};
+    ghost use Rattle.cdl_parse.specs.code.Drafts.{drafts_of};
 
     ghost view = { λ variables. drafts_of variables.list.items };
 
@@ -65,7 +65,7 @@ impl Variables {
 
     /// Returns true if one of the variables has the name.
     pub fn has_name(&self, name: &[u8]) -> bool
-        ensures { result ≡ is_taken name.now self.now }
+        ensures { result ≡ is_variable_name name.now self.now }
     {
         self.names.find(name).is_some()
     }
@@ -82,7 +82,7 @@ impl Variables {
         dimids: Vec<u64>,
         ty: NcType,
     ) -> Result<bool, AllocError>
-        ensures new { IfOk result (λ added. added ≡ not (is_taken name.items self.old)) }
+        ensures new { IfOk result (λ added. added ≡ not (is_variable_name name.items self.old)) }
         ensures drafts { IfOk result (λ a. self.new ≡ with_draft a self.old name.items dimids.items ty) }
         ensures err { OnErr result (self.new ≡ self.old) }
     {
@@ -132,7 +132,7 @@ impl Variables {
     ///
     /// An allocation failed.
     pub fn into_parts(self, alloc: Global) -> Result<(Sequence<Var>, NameIndex), AllocError>
-        ensures vars { IfOk result (λ parts. fresh parts.0 ≡ self) }
+        ensures vars { IfOk result (λ parts. unlisted_drafts parts.0 ≡ self) }
         ensures names { IfOk result (λ parts. parts.1 ≡ names_of self) }
     {
         let Variables { list, names } = self;

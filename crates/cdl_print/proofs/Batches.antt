@@ -1,11 +1,6 @@
 -- Numbers that are printed a few at a time.
 use Rattle.std.proofs.Common.{◌≡◌, ℕ, ℤ, zero, suc, ◌+◌, ◌*◌, ◌/◌, ◌<◌, ◌≤◌, min, ⊎_elim, List, [], ◌∷◌, ◌++◌, length, take, drop, sym, ◌∙◌, ap, arith, length-take, append-nil}
-use Rattle.std.proofs.lemmas.List.{take-take, drop-take, drop-drop, take_all, length-drop}
-use Rattle.std.proofs.Math.Nat.{div-mul-le_self, le_of_mul-le-mul_right, mul-le-mul_right, mul-div_cancel}
-use Rattle.std.proofs.lemmas.Bool.{cases_lt}
-use Rattle.nc_base.specs.Numbers.{number_of, numbers}
-use Rattle.nc_base.specs.Types.{size_of}
-use Rattle.nc_base.specs.declared.nc_type.NcType.{NcType}
+use Rattle.cdl_print.proofs.Prelude.{take-take, drop-take, drop-drop, take_all, length-drop, div-mul-le_self, le_of_mul-le-mul_right, mul-le-mul_right, mul-div_cancel, cases_lt, number_of, numbers, size_of, NcType}
 use Rattle.cdl_print.proofs.Joined.{numbers-cons, numbers-none, size_some}
 use Rattle.cdl_print.proofs.Takes.{length-numbers}
 
@@ -53,7 +48,7 @@ batch_few ty size n rest prefix is least f =
     let few : length prefix / size_of ty * size_of ty ≤ 80 * size_of ty = omega (arith, short, whole) in
     omega (arith, length-numbers ty prefix, le_of_mul-le-mul_right {k = size_of ty} few (size_some ty))
 
--- so many whole values have so many bytes
+-- k whole values of this size have k * size bytes
 pub length_taken : (size k : ℕ) (bytes : List ℕ) → k ≤ length bytes / size → length (take (k * size) bytes) ≡ k * size
 length_taken size k bytes few =
     let whole : k * size ≤ length bytes / size * size = mul-le-mul_right size few in
@@ -65,7 +60,7 @@ count_taken ty size k bytes is few =
     let some : 0 < size = omega (arith, is, size_some ty) in
     length-numbers ty (take (k * size) bytes) ∙ ap (λ s. length (take (k * size) bytes) / s) (sym is) ∙ ap (λ n. n / size) (length_taken size k bytes few) ∙ mul-div_cancel k some
 
--- whole values of which there are bytes
+-- whole values with at least one byte are at least one value
 pub some_numbers : (ty : NcType) (bytes : List ℕ) → length bytes ≡ length (numbers ty bytes) * size_of ty → 0 < length bytes → 0 < length (numbers ty bytes)
 some_numbers ty bytes whole some = by (length (numbers ty bytes)) whole
   where

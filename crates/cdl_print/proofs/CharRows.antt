@@ -1,23 +1,6 @@
 -- The characters of a variable, some after others.
-use Rattle.std.proofs.Common.{◌≡◌, ℕ, zero, suc, ℤ, pos, ◌+◌, ◌-◌, ◌%◌, ◌<◌, ◌≤◌, Bool, true, false, cond, not, ◌&&◌, ◌||◌, List, [], ◌∷◌, ◌++◌, length, map, max, take, drop, replicate, sym, ◌/◌, ◌∙◌, ap, refl, subst, arith, append_assoc, append-nil, length-append, Result, Ok, Err}
-use Rattle.std.specs.Prelude.{◌==◌, OnOk}
-use Rattle.std.specs.List.{list_all, prefix_len}
-use Rattle.std.proofs.lemmas.Bool.{false≢true, cond-false, cond-true}
-use Rattle.std.proofs.lemmas.Bool.Decides.{nat_tests}
-use Rattle.std.proofs.lemmas.Grind.{flat_map-append}
-use Rattle.std.proofs.lemmas.List.{nil_from_length, length-map, length-take-le, map-append, take-append-drop}
-use Rattle.std.proofs.lemmas.List.Sums.{prefix_len-le-length}
-use Rattle.nc_base.specs.Escapes.{escaped_in_string, escaped_text, is_literal}
-use Rattle.nc_base.specs.Numbers.{numbers, numbers_from}
-use Rattle.nc_base.specs.ValueText.{Look, is_char, begins_row, char_lead, char_text, char_piece, held, piece, pieces, variable_prefix, later_pieces}
-use Rattle.nc_base.specs.declared.nc_type.NcType.{NcType}
-use Rattle.nc_base.specs.declared.nc_type.NcType.TheVariants.{Byte, Char, Short, Int, Ubyte, Ushort, Uint, Int64, Uint64}
-use Rattle.nc_base.proofs.ValueLaws.{place-add, held_other, held_nul, held_first, held_untrimmed}
-use Rattle.devices.specs.Sinks.{SinkView, Appended, FailedPartway, Written}
-use Rattle.cdl_print.specs.Pieces.{IsRun}
-use Rattle.cdl_print.specs.Leads.{next_char_lead}
-use Rattle.cdl_print.specs.Printing.{run_text, run_bytes, row_index_after_run, IsAfterRun, IsAfter, values_after, IsAfterNext, WrittenNext}
-use Rattle.cdl_print.specs.declared.progress.Progress.{Progress}
+use Rattle.std.proofs.Common.{◌≡◌, ℕ, zero, suc, ℤ, pos, ◌+◌, ◌-◌, ◌%◌, ◌<◌, ◌≤◌, Bool, true, false, cond, not, ◌&&◌, ◌||◌, List, [], ◌∷◌, ◌++◌, length, map, max, take, drop, replicate, sym, ◌/◌, ◌∙◌, ap, refl, subst, arith, append_assoc, append-nil, length-append, Result, Ok, Err, ◌==◌, OnOk}
+use Rattle.cdl_print.proofs.Prelude.{list_all, prefix_len, false≢true, cond-false, cond-true, nat_tests, flat_map-append, nil_from_length, length-map, length-take-le, map-append, take-append-drop, prefix_len-le-length, escaped_in_string, escaped_text, is_literal, numbers, numbers_from, Look, is_char, begins_row, char_lead, char_text, char_piece, held, piece, pieces, variable_prefix, later_pieces, NcType, Byte, Char, Short, Int, Ubyte, Ushort, Uint, Int64, Uint64, place-add, held_other, held_nul, held_first, held_untrimmed, SinkView, Appended, FailedPartway, Written, IsRun, next_char_lead, run_text, run_bytes, row_index_after_run, IsAfterRun, IsAfter, values_after, IsAfterNext, WrittenNext, Progress}
 use Rattle.cdl_print.proofs.Begun.{IsBegun, begun_at_first}
 use Rattle.cdl_print.proofs.Runs.{flat_map_itself, literal_itself, prefix_is_run}
 

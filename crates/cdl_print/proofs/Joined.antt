@@ -1,18 +1,8 @@
 -- Lists with a comma between each two: the numbers of an attribute, and the dimensions of a shape.
 use Rattle.std.proofs.Common.{◌≡◌, ℕ, ℤ, ◌-◌, ◌/◌, ◌<◌, ◌≤◌, ◌==◌, Bool, true, false, List, [], ◌∷◌, ◌++◌, length, take, drop, map, refl, sym, ap, ◌∙◌, arith, suc, if◌then◌else◌, codes, append_assoc, add-one, nat_lt}
-use Rattle.std.proofs.lemmas.List.{append-nil, length-drop, length-map}
-use Rattle.std.proofs.lemmas.Bool.Decides.{nat_tests}
-use Rattle.std.specs.Fmt.{signed_decimal}
+use Rattle.cdl_print.proofs.Prelude.{append-nil, length-drop, length-map, nat_tests, signed_decimal, NcType, Byte, Char, Short, Int, Ubyte, Ushort, Uint, Int64, Uint64, concat_parts, dim_name, joined, number_values, number_suffix, number_of, numbers, numbers_from, size_of, dim_text, div-eq-sub-div, div-eq_of_lt}
 use Rattle.nc_base.specs.declared.header.Dim.{Dim}
-use Rattle.nc_base.specs.declared.nc_type.NcType.{NcType}
-use Rattle.nc_base.specs.declared.nc_type.NcType.TheVariants.{Byte, Char, Short, Int, Ubyte, Ushort, Uint, Int64, Uint64}
-use Rattle.nc_base.specs.Bytes.{concat_parts}
-use Rattle.nc_base.specs.HeadText.{dim_name, joined, number_values}
-use Rattle.nc_base.specs.Types.{number_suffix}
-use Rattle.nc_base.specs.Numbers.{number_of, numbers, numbers_from}
-use Rattle.nc_base.specs.Types.{size_of}
-use Rattle.cdl_print.specs.Pieces.{dim_text, number_text}
-use Rattle.std.proofs.Math.Nat.{div-eq-sub-div, div-eq_of_lt}
+use Rattle.cdl_print.specs.code.Pieces.{number_text}
 
 -- what stands after a piece
 abbrev pub following : Bool → List ℕ

@@ -8,3 +8,4 @@ pub mod Openings
 pub mod PrinterLaws
 pub mod Takes
 pub mod Batches
+pub mod Prelude

@@ -1,21 +1,11 @@
 -- The numbers of a variable, one after another.
-use Rattle.std.proofs.Common.{◌≡◌, ℕ, ℤ, pos, negsuc, unsigned_abs, ◌+◌, ◌-◌, ◌%◌, ◌<◌, ◌≤◌, Bool, true, false, cond, not, List, [], ◌∷◌, ◌++◌, length, take, sym, ◌∙◌, ap, refl, subst, arith, append_assoc, append-nil, length-append, ⊎_elim, nat_lt, Result, Ok, Err}
-use Rattle.std.specs.Prelude.{codes, ◌==◌, ◌&&◌, unwrap_or}
-use Rattle.std.specs.Fmt.{decimal}
-use Rattle.std.proofs.lemmas.Bool.{OnTrue_at, OnTrue_from, false≢true, cases_lt, cond-false, lt-ltb}
-use Rattle.std.proofs.lemmas.Bool.Decides.{nat_tests}
-use Rattle.nc_base.specs.ValueText.{Look, is_char, begins_row, column, number_text, number_lead, line_break, number_piece, piece, variable_prefix, later_pieces}
-use Rattle.nc_base.proofs.ValueLaws.{prefix-append, later_one, column-flat, column-broken, number_flat, place-add}
-use Rattle.devices.specs.Sinks.{SinkView, append, is_transparent, Appended, FailedPartway, Written}
-use Rattle.cdl_print.specs.Fills.{IsFillOf, shows_below_100}
-use Rattle.cdl_print.specs.Leads.{gap_bytes, row_gap, gap_in_row, next_gap, columns_left_after}
-use Rattle.cdl_print.specs.Printing.{gathered, number_bytes, bytes_in_row, columns_left_in_row, text_in_row, columns_left_after_text, IsAfterNumber, IsAfter, values_after, NextValues, IsAfterNext, AppendedNext, WrittenNext, PrintedInRow, PutAt, PutInRow}
+use Rattle.std.proofs.Common.{◌≡◌, ℕ, ℤ, pos, negsuc, unsigned_abs, ◌+◌, ◌-◌, ◌%◌, ◌<◌, ◌≤◌, Bool, true, false, cond, not, List, [], ◌∷◌, ◌++◌, length, take, sym, ◌∙◌, ap, refl, subst, arith, append_assoc, append-nil, length-append, ⊎_elim, nat_lt, Result, Ok, Err, codes, ◌==◌, ◌&&◌, unwrap_or}
+use Rattle.cdl_print.proofs.Prelude.{decimal, OnTrue_at, OnTrue_from, false≢true, cases_lt, cond-false, lt-ltb, nat_tests, Look, is_char, begins_row, column, number_text, number_lead, line_break, number_piece, piece, variable_prefix, later_pieces, prefix-append, later_one, column-flat, column-broken, number_flat, place-add, SinkView, append, is_transparent, Appended, FailedPartway, Written, IsFillOf, shows_below_100, gap_bytes, row_gap, gap_in_row, next_gap, columns_left_after, gathered, number_bytes, bytes_in_row, columns_left_in_row, text_in_row, columns_left_after_text, IsAfterNumber, IsAfter, values_after, NextValues, IsAfterNext, AppendedNext, WrittenNext, PrintedInRow, PutAt, PutInRow, Progress}
 use Rattle.cdl_print.proofs.PrintingLaws.{after_then, next_appended, none_appended}
 use Rattle.cdl_print.specs.declared.gap.Gap.{Gap}
 use Rattle.cdl_print.specs.declared.gap.Gap.TheVariants.{Space, FirstRow, NextRow, Comma, NewLine}
 use Rattle.cdl_print.specs.declared.number_line.Line.{Line}
 use Rattle.cdl_print.specs.declared.printed_fill.PrintedFill.{PrintedFill}
-use Rattle.cdl_print.specs.declared.progress.Progress.{Progress}
 
 -- a gap is short
 pub gap_short : (gap : Gap) → length (gap_bytes gap) ≤ 7
@@ -200,7 +190,7 @@ in_row_none look columns_left text p is before some within fits = (none_appended
           });
         }
 
--- how far the values are printed after n more, none of which is its row's last
+-- how far the values are printed after n more, before the last value of their row
 abbrev within_row : Progress → ℕ → ℕ → Progress
 within_row p n columns_left = record {
   position = p.position + n;

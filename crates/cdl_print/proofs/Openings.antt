@@ -1,14 +1,6 @@
 -- How long the line is after a name.
-use Rattle.std.proofs.Common.{◌≡◌, ℕ, ◌+◌, ◌-◌, ◌<◌, Bool, true, false, cond, List, [], ◌∷◌, ◌++◌, length, take, get_or, sym, ◌∙◌, ap, refl, arith, append_assoc, append-nil}
-use Rattle.std.specs.Prelude.{codes, ◌||◌}
-use Rattle.std.specs.List.{flat_map}
-use Rattle.std.proofs.lemmas.Grind.{flat_map-append}
-use Rattle.std.proofs.lemmas.List.{take_all, take_more}
-use Rattle.nc_base.specs.Bytes.{concat_parts}
-use Rattle.nc_base.specs.Escapes.{begins_with_digit_or_mark, escaped_in_name, escaped_name, is_reserved}
-use Rattle.nc_base.specs.ValueText.{column}
-use Rattle.nc_base.proofs.ValueLaws.{column-flat}
-use Rattle.cdl_print.specs.Pieces.{prefix_escape}
+use Rattle.std.proofs.Common.{◌≡◌, ℕ, ◌+◌, ◌-◌, ◌<◌, Bool, true, false, cond, List, [], ◌∷◌, ◌++◌, length, take, get_or, sym, ◌∙◌, ap, refl, arith, append_assoc, append-nil, codes, ◌||◌}
+use Rattle.cdl_print.proofs.Prelude.{flat_map, flat_map-append, take_all, take_more, concat_parts, begins_with_digit_or_mark, escaped_in_name, escaped_name, is_reserved, column, column-flat, prefix_escape}
 
 -- the opening up to n bytes of the name
 abbrev pub name_prefix : List ℕ → ℕ → List ℕ

@@ -1,14 +1,6 @@
 -- What the printer of a variable's values has done, by how far they are printed.
-use Rattle.std.proofs.Common.{◌≡◌, ℕ, ◌-◌, false, List, [], sym, ◌∙◌, ap, subst, Option, Some, None}
-use Rattle.std.specs.Prelude.{IfSome}
-use Rattle.std.proofs.Math.Nat.{zero-mod}
-use Rattle.nc_base.specs.ValueText.{Look, column, opening}
-use Rattle.nc_base.proofs.ValueLaws.{prefix_nil, held_first}
-use Rattle.cdl_print.specs.Pieces.{opening_of}
-use Rattle.cdl_print.specs.Printing.{IsAfter}
-use Rattle.cdl_print.specs.Printer.{look_in, HasPrinted}
-use Rattle.cdl_print.specs.declared.progress.Progress.{Progress}
-use Rattle.cdl_print.specs.declared.printer.ValuePrinter.{ValuePrinter}
+use Rattle.std.proofs.Common.{◌≡◌, ℕ, ◌-◌, false, List, [], sym, ◌∙◌, ap, subst, Option, Some, None, IfSome}
+use Rattle.cdl_print.proofs.Prelude.{zero-mod, Look, column, opening, prefix_nil, held_first, opening_of, IsAfter, look_in, HasPrinted, Progress, ValuePrinter}
 
 -- before the first value
 after_none : (look : Look) (p : Progress) → p.position ≡ 0 → p.row_index ≡ 0 → p.held ≡ 0 → p.columns_left ≡ look.width - column (opening look) → IsAfter look [] p

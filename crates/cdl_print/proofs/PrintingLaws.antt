@@ -1,11 +1,7 @@
 -- Values that are printed after others.
 use Rattle.std.proofs.Common.{◌≡◌, ℕ, ℤ, ◌+◌, List, [], ◌++◌, length, sym, ◌∙◌, ap, refl, subst, arith, append_assoc, length-append, append-nil}
-use Rattle.nc_base.specs.ValueText.{Look, later_pieces}
-use Rattle.nc_base.proofs.ValueLaws.{later-append, later_none}
-use Rattle.devices.specs.Sinks.{SinkView, Appended, FailedPartway, HasFailed}
-use Rattle.devices.proofs.Writes.{appended_then, appended_partway}
-use Rattle.cdl_print.specs.Printing.{IsAfter, values_after, IsAfterNext, AppendedNext, FailedInNext}
-use Rattle.cdl_print.specs.declared.progress.Progress.{Progress}
+use Rattle.cdl_print.proofs.Prelude.{Look, later_pieces, later-append, later_none, SinkView, Appended, FailedPartway, appended_then, appended_partway, IsAfter, values_after, IsAfterNext, AppendedNext, FailedInNext, Progress}
+use Rattle.devices.specs.Failures.{HasFailed}
 use Rattle.cdl_print.proofs.Begun.{appended_none}
 
 -- ---- no value
@@ -41,7 +37,7 @@ next_appended look ys zs p q s t u after first second = record {
 next_failed : (look : Look) (ys zs ws : List ℤ) (p q : Progress) (s t u : SinkView)
     → IsAfterNext (values_after look p ys) q → AppendedNext (values_after look p ys) s t → FailedInNext (values_after look q zs) t u → FailedInNext (values_after look p (ys ++ (zs ++ ws))) s u
 next_failed look ys zs ws p q s t u after first failed = record {
-  failures = subst (λ n. HasFailed n u) first.failures failed.failures;
+  failures = subst (λ n. HasFailed n u.failures) first.failures failed.failures;
   partway = λ xs following.
       let whole : later_pieces look xs (ys ++ (zs ++ ws)) ≡ later_pieces look xs ys ++ (later_pieces look (xs ++ ys) zs ++ later_pieces look ((xs ++ ys) ++ zs) ws)
       = later-append look xs ys (zs ++ ws) ∙ ap (λ (x : List ℕ). later_pieces look xs ys ++ x) (later-append look (xs ++ ys) zs ws) in

@@ -1,17 +1,8 @@
 -- The runs that names and strings are written by, and the lines of a string.
 use Rattle.std.proofs.Common.{◌≡◌, ℕ, ◌+◌, ◌<◌, ◌≤◌, ◌==◌, Bool, true, false, cond, List, [], ◌∷◌, ◌++◌, length, take, drop, max, refl, sym, ap, ◌∙◌, arith, rules, zero, suc, min, append_assoc, if◌then◌else◌, not, nat_lt, position, Some, None}
-use Rattle.std.proofs.lemmas.Grind.{common_steps, flat_map-append}
-use Rattle.std.proofs.lemmas.List.Sums.{prefix_len-le-length}
-use Rattle.std.proofs.lemmas.List.{append-nil, take-append-drop}
-use Rattle.nc_base.specs.Bytes.{concat_parts}
-use Rattle.nc_base.specs.HeadText.{broken_text, string_break}
-use Rattle.std.proofs.lemmas.Bool.Decides.{nat_tests}
-use Rattle.std.specs.List.{flat_map, list_all, prefix_len, position_or_len}
-use Rattle.nc_base.specs.Escapes.{escaped_name, is_reserved, escaped_text, escaped_in_string, is_literal}
-use Rattle.nc_base.specs.Quoted.{escaped_in, stands_for_itself}
+use Rattle.cdl_print.proofs.Prelude.{common_steps, flat_map-append, prefix_len-le-length, append-nil, take-append-drop, concat_parts, broken_text, string_break, nat_tests, flat_map, list_all, prefix_len, position_or_len, escaped_name, is_reserved, escaped_text, escaped_in_string, is_literal, escaped_in, stands_for_itself, IsRun, line_len, line_text}
 use Rattle.nc_base.specs.declared.escape.Quoting.{Quoting}
 use Rattle.nc_base.specs.declared.escape.Quoting.TheVariants.{InName, InString}
-use Rattle.cdl_print.specs.Pieces.{IsRun, line_len, line_text}
 
 -- the length of a run, or of one byte
 abbrev pub run_len_of : (ℕ → Bool) → List ℕ → ℕ

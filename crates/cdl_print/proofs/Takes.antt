@@ -1,11 +1,7 @@
 -- How many values n bytes are, and when a printer takes them.
 use Rattle.std.proofs.Common.{◌≡◌, ℕ, ◌+◌, ◌*◌, ◌/◌, ◌%◌, ◌≤◌, List, length, zero, suc, sym, ◌∙◌, ap, refl, subst}
-use Rattle.nc_base.specs.Numbers.{numbers, numbers_from}
-use Rattle.nc_base.specs.Types.{size_of}
-use Rattle.nc_base.specs.declared.nc_type.NcType.{NcType}
+use Rattle.cdl_print.proofs.Prelude.{numbers, numbers_from, size_of, NcType, look_in, position_of, Takes, ValuePrinter}
 use Rattle.nc_base.proofs.SoundLaws.{whole_part}
-use Rattle.cdl_print.specs.Printer.{look_in, position_of, Takes}
-use Rattle.cdl_print.specs.declared.printer.ValuePrinter.{ValuePrinter}
 
 length-from : (ty : NcType) (n : ℕ) (bytes : List ℕ) → length (numbers_from ty n bytes) ≡ n
 length-from ty zero bytes = refl

@@ -4,9 +4,9 @@ ghost use Rattle.std.specs.Prelude.{◌≡◌, ◌+◌, ◌<◌, ◌≤◌, ◌=
 ghost use Rattle.nc_base.specs.Escapes.{escaped_text, is_literal};
 ghost use Rattle.nc_base.specs.ValueText.{is_char};
 ghost use Rattle.devices.specs.Sinks.{Wrote};
-ghost use Rattle.cdl_print.specs.Leads.{look_at};
-ghost use Rattle.cdl_print.specs.Pieces.{IsRun};
-ghost use Rattle.cdl_print.specs.Printing.{is_one_nul, next, next_run, run_text, IsAfterNext, IsAfterRun, WroteNext};
+ghost use Rattle.cdl_print.specs.code.Leads.{look_at};
+ghost use Rattle.cdl_print.specs.code.Pieces.{IsRun};
+ghost use Rattle.cdl_print.specs.code.Printing.{is_one_nul, next, next_run, run_text, IsAfterNext, IsAfterRun, WroteNext};
 
 use crate::escaped::{put_run, run_len};
 use crate::layout::Layout;
@@ -108,7 +108,7 @@ fn held_after(held: u128, row_index: u128, waits: bool) -> u128
 }
 
 /// Writes characters after the NULs that were held back, or nothing if they wait too.
-#[tactic(auto, using(devices::proofs::Writes::writes), unfolding(crate::specs::Printing::run_text, nc_base::specs::Escapes::escaped_text))]
+#[tactic(auto, using(devices::proofs::Writes::writes), unfolding(crate::specs::code::Printing::run_text, nc_base::specs::Escapes::escaped_text))]
 fn put_run_text<W: Sink>(
     sink: &mut W,
     waits: bool,

@@ -1,7 +1,7 @@
 //! What stands before a number.
 
 ghost use Rattle.std.specs.Prelude.{◌≡◌, ◌+◌, ◌++◌, ◌≤◌, length, take};
-ghost use Rattle.cdl_print.specs.Leads.{gap_bytes, gap_in_row, columns_left_after};
+ghost use Rattle.cdl_print.specs.code.Leads.{gap_bytes, gap_in_row, columns_left_after};
 
 use cdl_number_text::{put_at, put_comma};
 

@@ -4,7 +4,7 @@ ghost use Rattle.std.specs.Prelude.{◌≡◌, [], ◌∷◌, codes, decimal};
 ghost use Rattle.nc_base.specs.Bytes.{concat_parts};
 ghost use Rattle.nc_base.specs.HeadText.{dim_extent, dim_line, dim_lines, dims_text, gatts_text, head_text};
 ghost use Rattle.devices.specs.Sinks.{Wrote};
-ghost use Rattle.cdl_print.specs.Pieces.{dims_part, gatts_part};
+ghost use Rattle.cdl_print.specs.code.Pieces.{dims_part, gatts_part};
 
 use crate::attribute::put_att_lines;
 use crate::name::put_name;

@@ -5,7 +5,7 @@ ghost use Rattle.std.specs.Ordering.{int_eq};
 ghost use Rattle.nc_base.specs.Headers.{IsSound};
 ghost use Rattle.nc_base.specs.Sizes.{is_record_var};
 ghost use Rattle.nc_base.specs.ValueText.{closing, is_char, is_trimmed, row_len};
-ghost use Rattle.cdl_print.specs.Leads.{IfVariable, IsLayoutOf, look_at, next_char_lead, next_gap, row_gap};
+ghost use Rattle.cdl_print.specs.code.Leads.{IfVariable, IsLayoutOf, look_at, next_char_lead, next_gap, row_gap};
 
 use crate::gap::{Gap, gap_in_row};
 use crate::progress::Progress;

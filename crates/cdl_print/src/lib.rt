@@ -2,6 +2,19 @@
 //!
 //! Each function writes its text to a [`Sink`](devices::Sink) from beginning to end, does not allocate, and stops at the
 //! sink's first failure.
+//!
+//! ```
+//! put_head(&mut sink, b"a", &header, records)?;
+//! let mut printer = ValuePrinter::new(&header, var_index, records, 80);
+//! let mut text = [0; 4096];
+//! printer.start(&mut sink)?;
+//! while let Some(chunk) = walk.next(&mut source)? {
+//!     printer.values(&mut sink, &mut text, chunk)?;
+//! }
+//! printer.finish(&mut sink)?;
+//! ```
+//!
+//! Here `walk` is a `Walk` of `nc_walk` over the values of that variable.
 #![tactic(auto)]
 
 mod attribute;

@@ -3,7 +3,7 @@
 ghost use Rattle.std.specs.Prelude.{◌≡◌, ◌||◌};
 ghost use Rattle.nc_base.specs.Escapes.{begins_with_digit_or_mark, escaped_name, is_reserved};
 ghost use Rattle.devices.specs.Sinks.{Wrote};
-ghost use Rattle.cdl_print.specs.Pieces.{prefix_escape};
+ghost use Rattle.cdl_print.specs.code.Pieces.{prefix_escape};
 
 use crate::escaped::put_escaped;
 use devices::{Sink, WriteFailed, put};
@@ -17,7 +17,7 @@ use nc_base::{Quoting, begins_with_digit_or_mark, is_reserved};
 /// # Errors
 ///
 /// The sink failed. It took some prefix of the text.
-#[tactic(auto, using(devices::proofs::Writes::writes), unfolding(nc_base::specs::Escapes::escaped_name, crate::specs::Pieces::prefix_escape))]
+#[tactic(auto, using(devices::proofs::Writes::writes), unfolding(nc_base::specs::Escapes::escaped_name, crate::specs::code::Pieces::prefix_escape))]
 pub fn put_name<W: Sink>(sink: &mut W, name: &[u8]) -> Result<(), WriteFailed>
     ensures { Wrote W.view sink.old sink.new (escaped_name name.now) result }
 {
@@ -26,7 +26,7 @@ pub fn put_name<W: Sink>(sink: &mut W, name: &[u8]) -> Result<(), WriteFailed>
 }
 
 /// Writes the backslash before a name that could be read as something else.
-#[tactic(auto, using(devices::proofs::Writes::writes), unfolding(crate::specs::Pieces::prefix_escape))]
+#[tactic(auto, using(devices::proofs::Writes::writes), unfolding(crate::specs::code::Pieces::prefix_escape))]
 fn put_leading_backslash<W: Sink>(sink: &mut W, name: &[u8]) -> Result<(), WriteFailed>
     ensures { Wrote W.view sink.old sink.new (prefix_escape name.now) result }
 {

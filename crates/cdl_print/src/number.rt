@@ -6,7 +6,7 @@ ghost use Rattle.nc_base.specs.HeadText.{number_values};
 ghost use Rattle.nc_base.specs.Numbers.{number_of};
 ghost use Rattle.nc_base.specs.Types.{size_of};
 ghost use Rattle.devices.specs.Sinks.{Wrote};
-ghost use Rattle.cdl_print.specs.Pieces.{number_text};
+ghost use Rattle.cdl_print.specs.code.Pieces.{number_text};
 
 use crate::decimal::put_integer;
 use devices::{Sink, WriteFailed, put};
@@ -27,7 +27,7 @@ pub fn put_numbers<W: Sink>(sink: &mut W, ty: NcType, vals: &[u8]) -> Result<(),
 }
 
 /// Writes a number, and what stands between it and the next.
-#[tactic(auto, using(devices::proofs::Writes::writes), unfolding(crate::specs::Pieces::number_text))]
+#[tactic(auto, using(devices::proofs::Writes::writes), unfolding(crate::specs::code::Pieces::number_text))]
 fn put_number<W: Sink>(
     sink: &mut W,
     ty: NcType,

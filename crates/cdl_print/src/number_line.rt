@@ -4,9 +4,9 @@ ghost use Rattle.std.specs.Prelude.{ℕ, ◌≡◌, ◌+◌, ◌*◌, ◌<◌, �
 ghost use Rattle.std.specs.Fmt.{decimal, signed_decimal};
 ghost use Rattle.nc_base.specs.Numbers.{number_of, numbers};
 ghost use Rattle.nc_base.specs.Types.{size_of};
-ghost use Rattle.cdl_print.specs.Fills.{IsFillOf};
-ghost use Rattle.cdl_print.specs.Leads.{gap_bytes, look_at, values};
-ghost use Rattle.cdl_print.specs.Printing.{columns_left_at_end, gap_at_end, PutAt, PutInRow, PutLine, PutNumber};
+ghost use Rattle.cdl_print.specs.code.Fills.{IsFillOf};
+ghost use Rattle.cdl_print.specs.code.Leads.{gap_bytes, look_at, values};
+ghost use Rattle.cdl_print.specs.code.Printing.{columns_left_at_end, gap_at_end, PutAt, PutInRow, PutLine, PutNumber};
 
 use crate::gap::{gap_in_row, put_gap};
 use crate::layout::Layout;

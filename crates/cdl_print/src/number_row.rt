@@ -3,8 +3,8 @@
 ghost use Rattle.std.specs.Prelude.{◌≡◌, ◌+◌, ◌*◌, ◌<◌, ◌≤◌, false, length, take, OnOk};
 ghost use Rattle.nc_base.specs.Types.{size_of};
 ghost use Rattle.nc_base.specs.ValueText.{is_char};
-ghost use Rattle.cdl_print.specs.Leads.{values, AreWhole};
-ghost use Rattle.cdl_print.specs.Printing.{next, next_number, AreLeft, AreInRow, IsAfterNext, IsAfterNextNumber, PutAt, PutNext, WroteNext};
+ghost use Rattle.cdl_print.specs.code.Leads.{values, AreWhole};
+ghost use Rattle.cdl_print.specs.code.Printing.{next, next_number, AreLeft, AreInRow, IsAfterNext, IsAfterNextNumber, PutAt, PutNext, WroteNext};
 
 use crate::gap::put_gap;
 use crate::layout::Layout;

@@ -4,8 +4,8 @@ ghost use Rattle.std.specs.Prelude.{◌≡◌, ◌-◌, ◌++◌, codes};
 ghost use Rattle.nc_base.specs.Escapes.{escaped_in_name, escaped_name};
 ghost use Rattle.nc_base.specs.ValueText.{column};
 ghost use Rattle.devices.specs.Sinks.{Wrote};
-ghost use Rattle.cdl_print.specs.Leads.{LeavesColumns};
-ghost use Rattle.cdl_print.specs.Pieces.{opening_of};
+ghost use Rattle.cdl_print.specs.code.Leads.{LeavesColumns};
+ghost use Rattle.cdl_print.specs.code.Pieces.{opening_of};
 
 use crate::name::{needs_prefix_escape, put_name};
 use devices::{Sink, WriteFailed, put};

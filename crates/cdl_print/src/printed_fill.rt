@@ -2,8 +2,8 @@
 
 ghost use Rattle.std.specs.Prelude.{◌≡◌, ◌↔◌, IfSome, IsSome, FitsSigned};
 ghost use Rattle.std.specs.Int.{w64};
-ghost use Rattle.cdl_print.specs.Fills.{IsFillBelow100, IsFillOf, IsNarrowFill, is_fill, prints_as_fill, shows_below_100};
-ghost use Rattle.cdl_print.specs.Leads.{look_at};
+ghost use Rattle.cdl_print.specs.code.Fills.{IsFillBelow100, IsFillOf, IsNarrowFill, is_fill, prints_as_fill, shows_below_100};
+ghost use Rattle.cdl_print.specs.code.Leads.{look_at};
 
 use crate::layout::Layout;
 

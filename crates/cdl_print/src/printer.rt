@@ -3,9 +3,9 @@
 ghost use Rattle.std.specs.Prelude.{◌≡◌, ◌↔◌, ◌+◌, ◌<◌, ◌≤◌, [], true, false, length, IsErr, IsTrue, OnOk, OnErr};
 ghost use Rattle.nc_base.specs.Headers.{IsSound};
 ghost use Rattle.nc_base.specs.ValueText.{opening, closing};
-ghost use Rattle.cdl_print.specs.Leads.{IfVariable};
-ghost use Rattle.cdl_print.specs.Printing.{next, AreLeft, IsAfterNext, WroteNext};
-ghost use Rattle.cdl_print.specs.Printer.{look_in, position_of, has_failed, HasPrinted, Takes, Prints, WrotePart};
+ghost use Rattle.cdl_print.specs.code.Leads.{IfVariable};
+ghost use Rattle.cdl_print.specs.code.Printing.{next, AreLeft, IsAfterNext, WroteNext};
+ghost use Rattle.cdl_print.specs.code.Printer.{look_in, position_of, has_failed, HasPrinted, Takes, Prints, WrotePart};
 
 use crate::char_row::put_char_values;
 use crate::layout::{Layout, layout_of};

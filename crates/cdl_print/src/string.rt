@@ -3,7 +3,7 @@
 ghost use Rattle.std.specs.Prelude.{◌≡◌, ◌==◌, position};
 ghost use Rattle.nc_base.specs.HeadText.{broken_text};
 ghost use Rattle.devices.specs.Sinks.{Wrote};
-ghost use Rattle.cdl_print.specs.Pieces.{line_len, line_text};
+ghost use Rattle.cdl_print.specs.code.Pieces.{line_len, line_text};
 
 use crate::escaped::put_escaped;
 use crate::word::Word;
@@ -42,7 +42,7 @@ fn line_feed(bytes: &[u8]) -> Option<usize>
 }
 
 /// Writes a line of a string, and the break after it.
-#[tactic(auto, using(devices::proofs::Writes::writes), unfolding(crate::specs::Pieces::line_text, nc_base::specs::Escapes::escaped_text))]
+#[tactic(auto, using(devices::proofs::Writes::writes), unfolding(crate::specs::code::Pieces::line_text, nc_base::specs::Escapes::escaped_text))]
 fn put_line<W: Sink>(sink: &mut W, line: &[u8], is_last: bool) -> Result<(), WriteFailed>
     ensures { Wrote W.view sink.old sink.new (line_text line.now is_last) result }
 {

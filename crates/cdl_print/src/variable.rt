@@ -3,7 +3,7 @@
 ghost use Rattle.std.specs.Prelude.{map};
 ghost use Rattle.nc_base.specs.HeadText.{dim_name, joined, shape_text, var_lines, vars_text};
 ghost use Rattle.devices.specs.Sinks.{Wrote};
-ghost use Rattle.cdl_print.specs.Pieces.{dim_list, dim_text, type_and_name, var_rows, vars_part};
+ghost use Rattle.cdl_print.specs.code.Pieces.{dim_list, dim_text, type_and_name, var_rows, vars_part};
 
 use crate::attribute::put_att_lines;
 use crate::name::put_name;
@@ -12,7 +12,7 @@ use devices::{Sink, WriteFailed, put};
 use nc_base::{Dim, NcType, Var};
 
 /// Writes the variables, if there are any.
-#[tactic(auto, using(devices::proofs::Writes::writes), unfolding(nc_base::specs::HeadText::vars_text, crate::specs::Pieces::var_rows))]
+#[tactic(auto, using(devices::proofs::Writes::writes), unfolding(nc_base::specs::HeadText::vars_text, crate::specs::code::Pieces::var_rows))]
 pub fn put_vars<W: Sink>(sink: &mut W, dims: &[Dim], vars: &[Var]) -> Result<(), WriteFailed>
     ensures { Wrote W.view sink.old sink.new (vars_text dims.now vars.now) result }
 {
@@ -32,7 +32,7 @@ fn put_vars_part<W: Sink>(sink: &mut W, dims: &[Dim], vars: &[Var]) -> Result<()
 }
 
 /// Writes the lines of each variable.
-#[tactic(auto, using(devices::proofs::Writes::writes), unfolding(crate::specs::Pieces::var_rows))]
+#[tactic(auto, using(devices::proofs::Writes::writes), unfolding(crate::specs::code::Pieces::var_rows))]
 fn put_var_rows<W: Sink>(sink: &mut W, dims: &[Dim], vars: &[Var]) -> Result<(), WriteFailed>
     ensures { Wrote W.view sink.old sink.new (var_rows dims.now vars.now) result }
 {
@@ -98,7 +98,7 @@ fn put_dim_names<W: Sink>(sink: &mut W, dims: &[Dim], dimids: &[u64]) -> Result<
 }
 
 /// Writes the name of a dimension, and what stands between it and the next.
-#[tactic(auto, using(devices::proofs::Writes::writes), unfolding(crate::specs::Pieces::dim_text))]
+#[tactic(auto, using(devices::proofs::Writes::writes), unfolding(crate::specs::code::Pieces::dim_text))]
 fn put_dim_name<W: Sink>(
     sink: &mut W,
     dims: &[Dim],

@@ -1,9 +1,9 @@
 //! The fixed words of a dump.
 
 ghost use Rattle.std.specs.Prelude.{◌≡◌};
-ghost use Rattle.cdl_print.specs.Words.{word_text};
+ghost use Rattle.cdl_print.specs.code.Words.{word_text};
 
-/// A fixed word of a dump, with the blanks and line feeds that go with it.
+/// A fixed word of a dump, with its spaces and line feeds.
 #[derive(Clone, Copy)]
 pub enum Word {
     /// What a dump begins with.

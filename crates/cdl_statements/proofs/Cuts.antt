@@ -1,22 +1,8 @@
 -- The pieces, one token on.
-use Rattle.std.proofs.Common.{◌≡◌, drop, ℕ, Bool, true, false, List, [], ◌∷◌, ◌++◌, sym, ◌∙◌, ap, refl, append_assoc}
-use Rattle.std.proofs.lemmas.Bool.{false≢true}
-use Rattle.cdl_statements.specs.declared.piece.Step.{Step}
-use Rattle.std.specs.Prelude.{if◌then◌else◌}
-use Rattle.cdl_tokens.specs.declared.token.Token.{Token}
-use Rattle.cdl_tokens.specs.declared.token.TokenKind.{TokenKind}
+use Rattle.std.proofs.Common.{◌≡◌, drop, ℕ, Bool, true, false, List, [], ◌∷◌, ◌++◌, sym, ◌∙◌, ap, refl, append_assoc, if◌then◌else◌, map}
+use Rattle.cdl_statements.proofs.Prelude.{false≢true, Step, Token, TokenKind, Role, CutState, Begins, Inside, Marked, Closed, raw, first_role, is_end_role, role_in, role_of, ending, pieces_after, step, with_first, first_line, first_piece, other_pieces, followed, is_end, lexeme}
 use Rattle.cdl_tokens.specs.declared.token.TokenKind.TheVariants as kinds
-use Rattle.cdl_statements.specs.declared.piece.Role.{Role}
 use Rattle.cdl_statements.specs.declared.piece.Role.TheVariants.{End}
-use Rattle.cdl_statements.specs.declared.piece.CutState.{CutState}
-use Rattle.cdl_statements.specs.declared.piece.CutState.TheVariants.{Begins, Inside, Marked, Closed}
-use Rattle.cdl_tokens.specs.Tokens.{raw}
-use Rattle.cdl_statements.specs.Pieces.{pieces_at, step, ending, with_first, first_role, role_of}
-use Rattle.cdl_statements.specs.Cutters.{first_line, first_piece, other_pieces}
-use Rattle.cdl_statements.specs.Roles.{is_end_role, role_in}
-use Rattle.cdl_tokens.specs.Scanners.{followed, is_end}
-use Rattle.std.specs.Prelude.{map}
-use Rattle.cdl_statements.specs.Lexemes.{lexeme}
 
 step_end : (state : CutState) (next : Role) → step state End next ≡ ending Begins
 step_end Begins next = refl
@@ -34,17 +20,17 @@ first_followed f u kinds.Bad after = refl
 first_followed f u kinds.End after = refl
 
 on_more : (f : Token → Role) (state : CutState) (t u : Token) (before after : List Token) → before ≡ followed u u.kind after →
-    pieces_at f state (t ∷ before) ≡ with_first (step state (f t) (f u)).ends t (pieces_at f (step state (f t) (f u)).state (followed u u.kind after))
-unfolding pieces_at
+    pieces_after f state (t ∷ before) ≡ with_first (step state (f t) (f u)).ends t (pieces_after f (step state (f t) (f u)).state (followed u u.kind after))
+unfolding pieces_after
 on_more f state t u before after e = rw (e) (rw (first_followed f u u.kind after) refl)
 
 on_end : (f : Token → Role) (state : CutState) (t u : Token) → f t ≡ End →
-    pieces_at f state (t ∷ []) ≡ with_first (step state (f t) (f u)).ends t (pieces_at f (step state (f t) (f u)).state [])
-unfolding pieces_at
+    pieces_after f state (t ∷ []) ≡ with_first (step state (f t) (f u)).ends t (pieces_after f (step state (f t) (f u)).state [])
+unfolding pieces_after
 on_end f state t u e = rw (e) (rw (step_end state End) (rw (step_end state (f u)) refl))
 
 by_kind : (f : Token → Role) (state : CutState) (t u : Token) (k : TokenKind) (before after : List Token) → before ≡ followed u u.kind after → (is_end k ≡ true → f t ≡ End) →
-    pieces_at f state (followed t k before) ≡ with_first (step state (f t) (f u)).ends t (pieces_at f (step state (f t) (f u)).state (if is_end k then [] else followed u u.kind after))
+    pieces_after f state (followed t k before) ≡ with_first (step state (f t) (f u)).ends t (pieces_after f (step state (f t) (f u)).state (if is_end k then [] else followed u u.kind after))
 by_kind f state t u kinds.Opening before after e h = on_more f state t u before after e
 by_kind f state t u kinds.Word before after e h = on_more f state t u before after e
 by_kind f state t u kinds.Number before after e h = on_more f state t u before after e
@@ -67,13 +53,13 @@ end_role text t h = by_end t.kind (raw text t) h
     by_end kinds.End bytes h = refl
 
 pub advance : (text : List ℕ) (state : CutState) (t u : Token) (before after : List Token) → before ≡ followed u u.kind after →
-    pieces_at (role_in text) state (followed t t.kind before) ≡
-    with_first (step state (role_in text t) (role_in text u)).ends t (pieces_at (role_in text) (step state (role_in text t) (role_in text u)).state (if is_end t.kind then [] else followed u u.kind after))
+    pieces_after (role_in text) state (followed t t.kind before) ≡
+    with_first (step state (role_in text t) (role_in text u)).ends t (pieces_after (role_in text) (step state (role_in text t) (role_in text u)).state (if is_end t.kind then [] else followed u u.kind after))
 advance text state t u before after e = by_kind (role_in text) state t u t.kind before after e (end_role text t)
 
 pub advance_to : (text : List ℕ) (state : CutState) (t u : Token) (before after : List Token) → before ≡ followed u u.kind after →
     (text' : List ℕ) → text' ≡ text → (r q : Role) → r ≡ role_in text t → q ≡ role_in text u → (s : Step) → s ≡ step state r q → (d : Bool) → d ≡ is_end t.kind →
-    pieces_at (role_in text) state (followed t t.kind before) ≡ with_first s.ends t (pieces_at (role_in text') s.state (if d then [] else followed u u.kind after))
+    pieces_after (role_in text) state (followed t t.kind before) ≡ with_first s.ends t (pieces_after (role_in text') s.state (if d then [] else followed u u.kind after))
 advance_to text state t u before after e text' same r q is_r is_q s is_s d is_d =
     advance text state t u before after e ∙ rw (is_s) (rw (is_r) (rw (is_q) (rw (is_d) (rw (same) refl))))
 
@@ -88,8 +74,8 @@ goes_on items t p ps qs all h rest e is = h (t ∷ p) ps (e ∙ ap (with_first f
 pub ends_there : {X : Type 0} (items : List X) (t : X) (qs all : List (List X)) → ((p : List X) (ps : List (List X)) → qs ≡ p ∷ ps → all ≡ (items ++ p) ∷ ps) → (rest : List (List X)) → qs ≡ with_first true t rest → all ≡ (items ++ t ∷ []) ∷ rest
 ends_there items t qs all h rest e = h (t ∷ []) rest e
 
-pub none_left : (f : Token → Role) (state : CutState) (ts : List Token) (d : Bool) → d ≡ true → pieces_at f state (if d then [] else ts) ≡ []
-unfolding pieces_at
+pub none_left : (f : Token → Role) (state : CutState) (ts : List Token) (d : Bool) → d ≡ true → pieces_after f state (if d then [] else ts) ≡ []
+unfolding pieces_after
 none_left f state ts d h = rw (h) refl
 
 -- what the first piece says, one token on
@@ -109,13 +95,13 @@ begun true t ps = refl
 begun false t [] = refl
 begun false t (p ∷ ps) = refl
 
-begun_at : (f : Token → Role) (state : CutState) (t : Token) (ts : List Token) → first_piece (pieces_at f state (t ∷ ts)) ≡ t ∷ drop 1 (first_piece (pieces_at f state (t ∷ ts)))
-unfolding pieces_at
-begun_at f state t ts = begun (step state (f t) (first_role f ts)).ends t (pieces_at f (step state (f t) (first_role f ts)).state ts)
+begun_at : (f : Token → Role) (state : CutState) (t : Token) (ts : List Token) → first_piece (pieces_after f state (t ∷ ts)) ≡ t ∷ drop 1 (first_piece (pieces_after f state (t ∷ ts)))
+unfolding pieces_after
+begun_at f state t ts = begun (step state (f t) (first_role f ts)).ends t (pieces_after f (step state (f t) (first_role f ts)).state ts)
 
 -- the first piece begins with the first token
 pub begins : (f : Token → Role) (state : CutState) (t : Token) (k : TokenKind) (rest : List Token) →
-    first_piece (pieces_at f state (followed t k rest)) ≡ t ∷ drop 1 (first_piece (pieces_at f state (followed t k rest)))
+    first_piece (pieces_after f state (followed t k rest)) ≡ t ∷ drop 1 (first_piece (pieces_after f state (followed t k rest)))
 begins f state t kinds.Opening rest = begun_at f state t rest
 begins f state t kinds.Word rest = begun_at f state t rest
 begins f state t kinds.Number rest = begun_at f state t rest
@@ -129,12 +115,12 @@ line_with true t ps = refl
 line_with false t [] = refl
 line_with false t (p ∷ ps) = refl
 
-line_at_first : (f : Token → Role) (state : CutState) (t : Token) (ts : List Token) → first_line (pieces_at f state (t ∷ ts)) ≡ t.line
-unfolding pieces_at
-line_at_first f state t ts = line_with (step state (f t) (first_role f ts)).ends t (pieces_at f (step state (f t) (first_role f ts)).state ts)
+line_at_first : (f : Token → Role) (state : CutState) (t : Token) (ts : List Token) → first_line (pieces_after f state (t ∷ ts)) ≡ t.line
+unfolding pieces_after
+line_at_first f state t ts = line_with (step state (f t) (first_role f ts)).ends t (pieces_after f (step state (f t) (first_role f ts)).state ts)
 
 -- the first piece's line is that of the first token
-pub line_first : (f : Token → Role) (state : CutState) (t : Token) (k : TokenKind) (rest : List Token) → first_line (pieces_at f state (followed t k rest)) ≡ t.line
+pub line_first : (f : Token → Role) (state : CutState) (t : Token) (k : TokenKind) (rest : List Token) → first_line (pieces_after f state (followed t k rest)) ≡ t.line
 line_first f state t kinds.Opening rest = line_at_first f state t rest
 line_first f state t kinds.Word rest = line_at_first f state t rest
 line_first f state t kinds.Number rest = line_at_first f state t rest

@@ -1,11 +1,6 @@
 -- Declarations: the table of due tokens says whether one has its shape, and what it says stands in its tokens.
-use Rattle.std.proofs.Common.{◌≡◌, false, List, [], ◌∷◌, ◌++◌, refl, sym, ap, subst, ◌∙◌}
-use Rattle.std.specs.Prelude.{Option, None, Some, if◌then◌else◌}
-use Rattle.std.specs.Option.{option_map, option_and_then}
-use Rattle.cdl_statements.specs.Contents.{declaration_said}
-use Rattle.cdl_statements.specs.DueTokens.{completes}
-use Rattle.cdl_statements.specs.Lexemes.{Lexeme, is_mark}
-use Rattle.cdl_statements.specs.Shapes.{Variable, variable, each, given, before_mark, members}
+use Rattle.std.proofs.Common.{◌≡◌, false, List, [], ◌∷◌, ◌++◌, refl, sym, ap, subst, ◌∙◌, Option, None, Some, if◌then◌else◌}
+use Rattle.cdl_statements.proofs.Prelude.{option_map, option_and_then, declaration_said, completes, Lexeme, is_mark, Variable, variable, each, given, before_mark, members}
 use Rattle.cdl_statements.specs.declared.due.Due.TheVariants as dues
 use Rattle.cdl_statements.proofs.Options.{given_map, given_then}
 use Rattle.cdl_statements.proofs.VariableNames.{Claims, name_end, name_more, variable_end, variable_more}

@@ -1,14 +1,7 @@
 -- The table of due tokens says whether a piece has its shape, in the section of the dimensions.
-use Rattle.std.proofs.Common.{◌≡◌, Bool, true, false, List, [], ◌∷◌, refl, ap, ◌∙◌}
-use Rattle.std.specs.Prelude.{Option, None, Some, if◌then◌else◌, is_some}
-use Rattle.std.specs.Option.{option_map, option_and_then}
-use Rattle.nc_base.specs.declared.version.Version.{Version}
-use Rattle.cdl_statements.specs.Contents.{dimensions_said}
-use Rattle.cdl_statements.specs.DueTokens.{only, next, completes, is_name, goes_to}
-use Rattle.cdl_statements.specs.Lexemes.{Lexeme, is_mark, name_of}
-use Rattle.cdl_statements.specs.Shapes.{Dimension, Statement, Declared, Brace, Attribute, first_bad, assigned, dimensions, given, before_mark, either, alone, section_mark, body, shape, global}
+use Rattle.std.proofs.Common.{◌≡◌, Bool, true, false, List, [], ◌∷◌, refl, ap, ◌∙◌, Option, None, Some, if◌then◌else◌, is_some}
+use Rattle.cdl_statements.proofs.Prelude.{option_map, option_and_then, Version, dimensions_said, only, next, completes, is_name, goes_to, Lexeme, is_mark, name_of, Dimension, Statement, Declared, Brace, Attribute, first_bad, assigned, dimensions, given, before_mark, either, alone, section_mark, body, shape, global, Dimensions}
 use Rattle.cdl_statements.specs.declared.due.Due.TheVariants as dues
-use Rattle.cdl_statements.specs.declared.section.Section.TheVariants.{Dimensions}
 use Rattle.cdl_statements.proofs.Dimensions.{listed_dims, dims_are}
 use Rattle.cdl_statements.proofs.Listing.{never_completes, only_completes, fine_on}
 use Rattle.cdl_statements.proofs.Shaping.{mark_word, mark_name, no_section, no_mark}

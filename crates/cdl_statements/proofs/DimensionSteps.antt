@@ -1,11 +1,6 @@
 -- A list of dimensions, one dimension on.
-use Rattle.std.proofs.Common.{◌≡◌, Bool, true, false, List, [], ◌∷◌, refl, sym, ap, ◌∙◌}
-use Rattle.std.specs.Prelude.{if◌then◌else◌, ◌&&◌}
-use Rattle.std.proofs.lemmas.Bool.{false≢true}
-use Rattle.nc_base.specs.declared.version.Version.{Version}
-use Rattle.cdl_statements.specs.Contents.{dimensions_said, dimension_said}
-use Rattle.cdl_statements.specs.DueTokens.{completes, is_length, is_name, next}
-use Rattle.cdl_statements.specs.Lexemes.{Lexeme, is_mark}
+use Rattle.std.proofs.Common.{◌≡◌, Bool, true, false, List, [], ◌∷◌, refl, sym, ap, ◌∙◌, if◌then◌else◌, ◌&&◌}
+use Rattle.cdl_statements.proofs.Prelude.{false≢true, Version, dimensions_said, dimension_said, completes, is_length, is_name, next, Lexeme, is_mark}
 use Rattle.cdl_statements.specs.declared.due.Due.TheVariants.{DimensionName, LengthSeparator}
 use Rattle.cdl_statements.proofs.Dimensions.{completes_one, completes_two, completes_three, four, separator_more}
 

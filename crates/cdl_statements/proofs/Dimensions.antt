@@ -1,17 +1,7 @@
 -- Lists of dimensions: the table of due tokens says whether one has its shape, and what it says stands in its tokens.
-use Rattle.std.proofs.Common.{◌≡◌, Bool, true, false, List, [], ◌∷◌, refl, sym, ap, ◌∙◌}
-use Rattle.std.specs.Prelude.{Option, None, Some, if◌then◌else◌, ◌&&◌, ◌||◌, is_none}
-use Rattle.std.specs.Option.{option_map, option_and_then}
-use Rattle.nc_base.specs.declared.version.Version.{Version}
-use Rattle.cdl_statements.specs.Contents.{parts_or_zero, is_unlimited, length_said, dimensions_said}
-use Rattle.cdl_statements.specs.DueTokens.{only, next, is_whole, completes, is_name, is_length, is_number}
-use Rattle.cdl_tokens.specs.Escapes.{word_value}
-use Rattle.cdl_statements.specs.Lexemes.{Lexeme, is_mark}
-use Rattle.cdl_tokens.specs.Numerals.{Parts, Numeral, parts, number, numeral}
-use Rattle.cdl_statements.specs.Shapes.{Dimension, dimension, dimensions, length_of, numeral_of, token_fault, first_bad, both, given, before_mark}
+use Rattle.std.proofs.Common.{◌≡◌, Bool, true, false, List, [], ◌∷◌, refl, sym, ap, ◌∙◌, Option, None, Some, if◌then◌else◌, ◌&&◌, ◌||◌, is_none}
+use Rattle.cdl_statements.proofs.Prelude.{option_map, option_and_then, Version, parts_or_zero, is_unlimited, length_said, dimensions_said, only, next, is_whole, completes, is_name, is_length, is_number, word_value, Lexeme, is_mark, Parts, Numeral, parts, number, numeral, Dimension, dimension, dimensions, length_of, numeral_of, token_fault, first_bad, both, given, before_mark, BadNumber, TokenKind}
 use Rattle.cdl_statements.specs.declared.due.Due.TheVariants as dues
-use Rattle.cdl_statements.specs.declared.fault.CdlKind.TheVariants.{BadNumber}
-use Rattle.cdl_tokens.specs.declared.token.TokenKind.{TokenKind}
 use Rattle.cdl_tokens.specs.declared.token.TokenKind.TheVariants as kinds
 use Rattle.cdl_statements.proofs.Listing.{fine, fine_on, combine, never_completes, nothing_more, no_members, apart}
 use Rattle.cdl_statements.proofs.Shaping.{name_is}

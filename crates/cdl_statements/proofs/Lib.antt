@@ -1,4 +1,5 @@
 pub mod Cuts
+pub mod PieceLengths
 pub mod Surveys
 pub mod Options
 pub mod Listing
@@ -15,3 +16,4 @@ pub mod Sections
 pub mod StatementsSaid
 pub mod ListedTokens
 pub mod NumberLists
+pub mod Prelude

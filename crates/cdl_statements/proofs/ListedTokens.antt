@@ -1,22 +1,8 @@
 -- A cutter inside of a list, one token and a comma on.
-use Rattle.std.proofs.Common.{◌≡◌, ◌<◌, ℕ, Bool, true, false, List, [], ◌∷◌, sym, ◌∙◌, ap, refl, arith}
-use Rattle.std.specs.Prelude.{◌==◌, ◌&&◌, map, slice_index, if◌then◌else◌}
-use Rattle.cdl_tokens.specs.PlainTokens.{IsComma}
-use Rattle.cdl_tokens.specs.Scanners.{followed, left}
-use Rattle.cdl_tokens.specs.Tokens.{raw}
-use Rattle.cdl_tokens.specs.declared.token.Token.{Token}
-use Rattle.cdl_tokens.specs.declared.token.TokenKind.{TokenKind}
+use Rattle.std.proofs.Common.{◌≡◌, ◌<◌, ℕ, Bool, true, false, List, [], ◌∷◌, sym, ◌∙◌, ap, refl, arith, ◌==◌, ◌&&◌, map, slice_index, if◌then◌else◌}
+use Rattle.cdl_tokens.specs.code.PlainTokens.{IsComma}
+use Rattle.cdl_statements.proofs.Prelude.{followed, left, raw, Token, TokenKind, after, first_piece, offset_of, other_pieces, pieces_left, text_of, words, is_mark, is_mark_kind, lexeme, mark_role, role_in, role_of, pieces_after, with_first, IsAtComma, Passes, Cutter, CutState, Inside, Role, Other}
 use Rattle.cdl_tokens.specs.declared.token.TokenKind.TheVariants as kinds
-use Rattle.cdl_statements.specs.Cutters.{after, first_piece, offset_of, other_pieces, pieces_left, text_of, words}
-use Rattle.cdl_statements.specs.Lexemes.{is_mark, is_mark_kind, lexeme}
-use Rattle.cdl_statements.specs.Pieces.{pieces_at, mark_role, role_of, with_first}
-use Rattle.cdl_statements.specs.Roles.{role_in}
-use Rattle.cdl_statements.specs.ListedTokens.{IsAtComma, Passes}
-use Rattle.cdl_statements.specs.declared.cutter.Cutter.{Cutter}
-use Rattle.cdl_statements.specs.declared.piece.CutState.{CutState}
-use Rattle.cdl_statements.specs.declared.piece.CutState.TheVariants.{Inside}
-use Rattle.cdl_statements.specs.declared.piece.Role.{Role}
-use Rattle.cdl_statements.specs.declared.piece.Role.TheVariants.{Other}
 use Rattle.cdl_statements.proofs.Cuts.{after_on, words_on}
 
 -- a comma
@@ -41,14 +27,14 @@ comma_role text text' c same comma = ap (λ (t : List ℕ). role_in t c) same �
 
 -- none of the three ends the piece
 three_on : (f : Token → Role) (c t d : Token) (rest : List Token) → f c ≡ Other → f t ≡ Other → f d ≡ Other →
-    pieces_at f Inside (c ∷ t ∷ d ∷ rest) ≡ with_first false c (with_first false t (pieces_at f Inside (d ∷ rest)))
-unfolding pieces_at
+    pieces_after f Inside (c ∷ t ∷ d ∷ rest) ≡ with_first false c (with_first false t (pieces_after f Inside (d ∷ rest)))
+unfolding pieces_after
 three_on f c t d rest first second third = rw (first) (rw (second) (rw (third) refl))
 
 -- the pieces, a token and a comma on
 pieces_past : (text text' : List ℕ) (state : CutState) (done : Bool) (c t d : Token) (before after : List Token) → text' ≡ text → state ≡ Inside → done ≡ false → before ≡ t ∷ d ∷ after →
     is_mark 0x2c (lexeme text c) ≡ true → role_in text t ≡ Other → is_mark 0x2c (lexeme text d) ≡ true →
-    pieces_at (role_in text) state (if done then [] else followed c c.kind before) ≡ with_first false c (with_first false t (pieces_at (role_in text') state (if done then [] else followed d d.kind after)))
+    pieces_after (role_in text) state (if done then [] else followed c c.kind before) ≡ with_first false c (with_first false t (pieces_after (role_in text') state (if done then [] else followed d d.kind after)))
 pieces_past text text' state done c t d before after same inside goes left comma other next =
     let a = comma_on text c comma in
     let b = comma_on text d next in
@@ -56,9 +42,9 @@ pieces_past text text' state done c t d before after same inside goes left comma
     let new : List Token = if done then [] else followed d d.kind after in
     let off : old ≡ c ∷ t ∷ d ∷ after = ap (λ x. if x then [] else followed c c.kind before) goes ∙ ap (λ k. followed c k before) a.0 ∙ ap (λ (ts : List Token). c ∷ ts) left in
     let on : new ≡ d ∷ after = ap (λ x. if x then [] else followed d d.kind after) goes ∙ ap (λ k. followed d k after) b.0 in
-    let rest : pieces_at (role_in text') state new ≡ pieces_at (role_in text) Inside (d ∷ after) =
-    ap (λ (x : List ℕ). pieces_at (role_in x) state new) same ∙ ap (λ s. pieces_at (role_in text) s new) inside ∙ ap (pieces_at (role_in text) Inside) on in
-    ap (λ s. pieces_at (role_in text) s old) inside ∙ ap (pieces_at (role_in text) Inside) off ∙ three_on (role_in text) c t d after a.1 other b.1 ∙
+    let rest : pieces_after (role_in text') state new ≡ pieces_after (role_in text) Inside (d ∷ after) =
+    ap (λ (x : List ℕ). pieces_after (role_in x) state new) same ∙ ap (λ s. pieces_after (role_in text) s new) inside ∙ ap (pieces_after (role_in text) Inside) on in
+    ap (λ s. pieces_after (role_in text) s old) inside ∙ ap (pieces_after (role_in text) Inside) off ∙ three_on (role_in text) c t d after a.1 other b.1 ∙
     ap (λ (ps : List (List Token)). with_first false c (with_first false t ps)) (sym rest)
 
 -- what they say, and those after the first
@@ -78,9 +64,9 @@ unfolding words after pieces_left
 passes start rest t d at tokens text version next state done other comma on =
     let c = start.next in
     let tail : Bool → Token → List Token = λ b n. if b then [] else followed n n.kind (left rest.scanner) in
-    let there : List (List Token) = pieces_at (role_in (text_of rest)) start.state (tail start.done d) in
+    let there : List (List Token) = pieces_after (role_in (text_of rest)) start.state (tail start.done d) in
     let same : pieces_left rest ≡ there =
-    ap (λ s. pieces_at (role_in (text_of rest)) s (tail rest.done rest.next)) state ∙ ap (λ b. pieces_at (role_in (text_of rest)) start.state (tail b rest.next)) done ∙ ap (λ n. pieces_at (role_in (text_of rest)) start.state (tail start.done n)) next in
+    ap (λ s. pieces_after (role_in (text_of rest)) s (tail rest.done rest.next)) state ∙ ap (λ b. pieces_after (role_in (text_of rest)) start.state (tail b rest.next)) done ∙ ap (λ n. pieces_after (role_in (text_of rest)) start.state (tail start.done n)) next in
     let second : is_mark 0x2c (lexeme (text_of start) d) ≡ true = is_comma (text_of start) d comma.mark comma.comma in
     let cut : pieces_left start ≡ with_first false c (with_first false t there) =
     pieces_past (text_of start) (text_of rest) start.state start.done c t d (left start.scanner) (left rest.scanner) text at.inside at.goes tokens at.comma other second in

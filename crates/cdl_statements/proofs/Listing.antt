@@ -1,20 +1,8 @@
 -- Lists of constants: the table of due tokens says whether one has its shape, and its values are those of its tokens.
-use Rattle.std.proofs.Common.{◌≡◌, ℕ, Bool, true, false, List, [], ◌∷◌, refl, sym, ap, ◌∙◌, arith}
-use Rattle.std.specs.Prelude.{Option, None, Some, if◌then◌else◌, ◌&&◌, ◌==◌, is_none, slice_index}
-use Rattle.std.specs.Option.{option_map, option_and_then}
-use Rattle.nc_base.specs.declared.version.Version.{Version}
-use Rattle.cdl_statements.specs.Contents.{parts_or_zero, value_of, values}
-use Rattle.cdl_statements.specs.DueTokens.{is_value_of, only, next, is_whole, completes}
-use Rattle.cdl_statements.specs.Lexemes.{Lexeme, is_mark, is_mark_kind}
-use Rattle.cdl_tokens.specs.Numerals.{Parts, parts, number, numeral}
-use Rattle.cdl_statements.specs.Shapes.{Value, Number, token_fault, either, first_bad, constant_of, constant, constants, both, given, before_mark}
-use Rattle.cdl_statements.specs.declared.due.Due.{Due}
+use Rattle.std.proofs.Common.{◌≡◌, ℕ, Bool, true, false, List, [], ◌∷◌, refl, sym, ap, ◌∙◌, arith, Option, None, Some, if◌then◌else◌, ◌&&◌, ◌==◌, is_none, slice_index}
+use Rattle.cdl_statements.proofs.Prelude.{option_map, option_and_then, Version, parts_or_zero, value_of, values, is_value_of, only, next, is_whole, completes, Lexeme, is_mark, is_mark_kind, Parts, parts, number, numeral, Value, Number, token_fault, either, first_bad, constant_of, constant, constants, both, given, before_mark, Due, CdlKind, BadNumber, TokenKind, and_false}
 use Rattle.cdl_statements.specs.declared.due.Due.TheVariants as dues
-use Rattle.cdl_statements.specs.declared.fault.CdlKind.{CdlKind}
-use Rattle.cdl_statements.specs.declared.fault.CdlKind.TheVariants.{BadNumber}
-use Rattle.cdl_tokens.specs.declared.token.TokenKind.{TokenKind}
 use Rattle.cdl_tokens.specs.declared.token.TokenKind.TheVariants as kinds
-use Rattle.cdl_tokens.proofs.Words.{and_false}
 
 -- ---- no bad token
 

@@ -1,23 +1,13 @@
 -- What two cutters have before them that stand at the same place.
-use Rattle.std.proofs.Common.{◌≡◌, Bool, List, [], ap, ◌∙◌}
-use Rattle.std.specs.Prelude.{if◌then◌else◌, map}
-use Rattle.cdl_tokens.specs.Scanners.{followed, left}
-use Rattle.cdl_tokens.specs.Scanners as scanners
+use Rattle.std.proofs.Common.{◌≡◌, Bool, List, [], ap, ◌∙◌, if◌then◌else◌, map}
+use Rattle.cdl_statements.proofs.Prelude.{followed, left, Token, after, first_piece, next_token, other_pieces, pieces_left, text_of, words, is_mark, lexeme, IsAtComma, SamePlace, role_in, pieces_after, Cutter, CutState}
+use Rattle.cdl_tokens.specs.code.Scanners as scanners
 use Rattle.cdl_tokens.specs.declared.scanner.Scanner.{Scanner}
-use Rattle.cdl_tokens.specs.declared.token.Token.{Token}
-use Rattle.cdl_statements.specs.Cutters.{after, first_piece, next_token, other_pieces, pieces_left, text_of, words}
-use Rattle.cdl_statements.specs.Lexemes.{is_mark, lexeme}
-use Rattle.cdl_statements.specs.ListedTokens.{IsAtComma}
-use Rattle.cdl_statements.specs.NumberLists.{SamePlace}
-use Rattle.cdl_statements.specs.Pieces.{pieces_at}
-use Rattle.cdl_statements.specs.Roles.{role_in}
-use Rattle.cdl_statements.specs.declared.cutter.Cutter.{Cutter}
-use Rattle.cdl_statements.specs.declared.piece.CutState.{CutState}
 
 same_pieces : (c d : Cutter) → SamePlace c d → pieces_left c ≡ pieces_left d
 unfolding pieces_left
 same_pieces c d same =
-    let pieces : Scanner → Token → CutState → Bool → List (List Token) = λ s t state done. pieces_at (role_in (scanners.text_of s)) state (if done then [] else followed t t.kind (left s)) in
+    let pieces : Scanner → Token → CutState → Bool → List (List Token) = λ s t state done. pieces_after (role_in (scanners.text_of s)) state (if done then [] else followed t t.kind (left s)) in
     ap (λ s. pieces s c.next c.state c.done) same.scanner ∙ ap (λ t. pieces d.scanner t c.state c.done) same.next ∙ ap (λ state. pieces d.scanner d.next state c.done) same.state ∙ ap (pieces d.scanner d.next d.state) same.done
 
 pub same_words : (c d : Cutter) → SamePlace c d → words c ≡ words d

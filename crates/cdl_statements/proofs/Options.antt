@@ -1,8 +1,6 @@
 -- Options: joined, kept where something holds, and mapped.
-use Rattle.std.proofs.Common.{◌≡◌, Bool, true, false, refl, sym, ap, ◌∙◌}
-use Rattle.std.specs.Prelude.{Option, None, Some, if◌then◌else◌, is_some}
-use Rattle.std.specs.Option.{option_map, option_and_then}
-use Rattle.cdl_statements.specs.Shapes.{both, either, given}
+use Rattle.std.proofs.Common.{◌≡◌, Bool, true, false, refl, sym, ap, ◌∙◌, Option, None, Some, if◌then◌else◌, is_some}
+use Rattle.cdl_statements.proofs.Prelude.{option_map, option_and_then, both, either, given}
 
 pub some_if : {A : Type 0} (b : Bool) (a : A) → is_some (if b then Some a else None) ≡ b
 some_if true a = refl

@@ -1,12 +1,6 @@
 -- Declarations, token by token: the names of a variable's dimensions, in parentheses.
-use Rattle.std.proofs.Common.{◌≡◌, ℕ, Bool, true, false, List, [], ◌∷◌, ◌++◌, refl, sym, ap, ◌∙◌}
-use Rattle.std.specs.Prelude.{Option, None, Some, if◌then◌else◌, ◌||◌, not}
-use Rattle.std.specs.Option.{option_map, option_and_then}
-use Rattle.cdl_statements.specs.Contents.{Declaration, declaration_said}
-use Rattle.cdl_statements.specs.DueTokens.{only, separator, next, is_whole, completes, is_name}
-use Rattle.cdl_tokens.specs.Escapes.{word_value}
-use Rattle.cdl_statements.specs.Lexemes.{Lexeme, is_mark, name_of}
-use Rattle.cdl_statements.specs.Shapes.{Variable, variable, each, both, given, before_mark, members, members_in, into_first, name_alone}
+use Rattle.std.proofs.Common.{◌≡◌, ℕ, Bool, true, false, List, [], ◌∷◌, ◌++◌, refl, sym, ap, ◌∙◌, Option, None, Some, if◌then◌else◌, ◌||◌, not}
+use Rattle.cdl_statements.proofs.Prelude.{option_map, option_and_then, Declaration, declaration_said, only, separator, next, is_whole, completes, is_name, word_value, Lexeme, is_mark, name_of, Variable, variable, each, both, given, before_mark, members, members_in, into_first, name_alone}
 use Rattle.cdl_statements.specs.declared.due.Due.TheVariants as dues
 use Rattle.cdl_statements.proofs.Listing.{never_completes, kind_of_mark}
 use Rattle.cdl_statements.proofs.Options.{both_some, given_map, given_none, map_if, none_if, same_if}

@@ -1,19 +1,9 @@
 -- What statements of several sections share: a lone mark, a section mark, an attribute of the dataset.
-use Rattle.std.proofs.Common.{◌≡◌, ℕ, Bool, true, false, List, [], ◌∷◌, drop, refl, sym, ap, ◌∙◌, subst, arith}
-use Rattle.std.specs.Prelude.{Option, None, Some, if◌then◌else◌, ◌&&◌, ◌==◌, not, is_some, slice_index, codes, nat_lt}
-use Rattle.std.specs.Option.{option_map, option_and_then}
+use Rattle.std.proofs.Common.{◌≡◌, ℕ, Bool, true, false, List, [], ◌∷◌, drop, refl, sym, ap, ◌∙◌, subst, arith, Option, None, Some, if◌then◌else◌, ◌&&◌, ◌==◌, not, is_some, slice_index, codes, nat_lt}
+use Rattle.cdl_statements.proofs.Prelude.{option_map, option_and_then, is_reserved, Version, values, only, next, is_whole, completes, is_name, goes_to, is_after, word_value, Lexeme, is_mark, is_mark_kind, is_word_kind, name_of, Statement, Mark, Brace, Attribute, first_bad, assigned, given, before_mark, alone, section_mark, section_of, section_number, mark_after, global, Section, Dimensions, Variables, Values}
 use Rattle.std.specs.Str.{bytes_eq}
 use Rattle.std.specs.Cmp.Lexicographic.{bytes_decides}
-use Rattle.nc_base.specs.Escapes.{is_reserved}
-use Rattle.nc_base.specs.declared.version.Version.{Version}
-use Rattle.cdl_statements.specs.Contents.{values}
-use Rattle.cdl_statements.specs.DueTokens.{only, next, is_whole, completes, is_name, goes_to, is_after}
-use Rattle.cdl_tokens.specs.Escapes.{word_value}
-use Rattle.cdl_statements.specs.Lexemes.{Lexeme, is_mark, is_mark_kind, is_word_kind, name_of}
-use Rattle.cdl_statements.specs.Shapes.{Statement, Mark, Brace, Attribute, first_bad, assigned, given, before_mark, alone, section_mark, section_of, section_number, mark_after, global}
 use Rattle.cdl_statements.specs.declared.due.Due.TheVariants as dues
-use Rattle.cdl_statements.specs.declared.section.Section.{Section}
-use Rattle.cdl_statements.specs.declared.section.Section.TheVariants.{Dimensions, Variables, Values}
 use Rattle.cdl_statements.proofs.Listing.{never_completes, nothing_more, only_completes, fine_on}
 use Rattle.cdl_statements.proofs.Shaping.{name_is, assigned_to, assigned_is}
 use Rattle.cdl_statements.proofs.Options.{given_none, some_if}

@@ -1,13 +1,8 @@
 -- The table of due tokens says whether a piece has its shape, section by section.
-use Rattle.std.proofs.Common.{◌≡◌, Bool, true, false, List, [], ◌∷◌, refl, sym, ap, ◌∙◌}
-use Rattle.std.specs.Prelude.{None, if◌then◌else◌, is_some}
-use Rattle.nc_base.specs.declared.version.Version.{Version}
-use Rattle.cdl_statements.specs.DueTokens.{only, next, completes, goes_to}
-use Rattle.cdl_statements.specs.Lexemes.{Lexeme, is_mark}
-use Rattle.cdl_statements.specs.Shapes.{Brace, Opening, End, first_bad, either, alone, section_mark, shape, is_kind_opening, is_kind_end}
+use Rattle.std.proofs.Common.{◌≡◌, Bool, true, false, List, [], ◌∷◌, refl, sym, ap, ◌∙◌, None, if◌then◌else◌, is_some}
+use Rattle.cdl_statements.proofs.Prelude.{Version, only, next, completes, goes_to, Lexeme, is_mark, is_opening_kind, is_end_kind, Brace, Opening, End, first_bad, either, alone, section_mark, shape, Section, Unopened, Globals, Dimensions, Variables, Values, Ended}
 use Rattle.cdl_statements.specs.declared.due.Due.TheVariants as dues
-use Rattle.cdl_statements.specs.declared.section.Section.{Section}
-use Rattle.cdl_statements.specs.declared.section.Section.TheVariants.{Unopened, Globals, Dimensions, Variables, Values, Closed, Ended}
+use Rattle.cdl_statements.specs.declared.section.Section.TheVariants.{Closed}
 use Rattle.cdl_statements.proofs.Listing.{never_completes, fine_on}
 use Rattle.cdl_statements.proofs.Shaping.{data_is, data_said, mark_word, no_section, no_mark}
 use Rattle.cdl_statements.proofs.Options.{either_none, either_only, some_if}
@@ -37,11 +32,11 @@ data_complete v l ls good = ap is_some (data_is v l ls good) ∙ some_if (comple
 
 pub opening_completes : (v : Version) (l : Lexeme) (ls : List Lexeme) → is_some (shape v Unopened (l ∷ ls)) ≡ completes (dues.First Unopened) (l ∷ ls)
 unfolding shape completes next
-opening_completes v l ls = alone_completes (λ (l : Lexeme). is_kind_opening l.kind) Opening l ls
+opening_completes v l ls = alone_completes (λ (l : Lexeme). is_opening_kind l.kind) Opening l ls
 
 pub end_completes : (v : Version) (l : Lexeme) (ls : List Lexeme) → is_some (shape v Closed (l ∷ ls)) ≡ completes (dues.First Closed) (l ∷ ls)
 unfolding shape completes next
-end_completes v l ls = alone_completes (λ (l : Lexeme). is_kind_end l.kind) End l ls
+end_completes v l ls = alone_completes (λ (l : Lexeme). is_end_kind l.kind) End l ls
 
 pub ended_completes : (v : Version) (l : Lexeme) (ls : List Lexeme) → is_some (shape v Ended (l ∷ ls)) ≡ completes (dues.First Ended) (l ∷ ls)
 unfolding shape completes next

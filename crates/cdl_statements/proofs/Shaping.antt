@@ -1,20 +1,9 @@
 -- Statements: the table of due tokens says whether one has its shape, and what it says stands in its tokens.
-use Rattle.std.proofs.Common.{◌≡◌, ℕ, Bool, true, false, List, [], ◌∷◌, drop, refl, sym, ap, ◌∙◌}
-use Rattle.std.specs.Prelude.{Option, None, Some, if◌then◌else◌, ◌&&◌, codes}
-use Rattle.std.specs.Option.{option_map, option_and_then}
-use Rattle.nc_base.specs.declared.version.Version.{Version}
-use Rattle.cdl_statements.specs.Contents.{values}
-use Rattle.cdl_statements.specs.DueTokens.{only, next, completes, is_name}
-use Rattle.cdl_tokens.specs.Escapes.{word_value}
-use Rattle.cdl_statements.specs.Lexemes.{Lexeme, is_mark, is_mark_kind, is_word, is_word_kind, name_of}
-use Rattle.cdl_statements.specs.Shapes.{Value, Statement, Listed, Brace, first_bad, assigned, constants, both, given, before_mark, either, alone, section_mark, section_of, mark_after, shape}
+use Rattle.std.proofs.Common.{◌≡◌, ℕ, Bool, true, false, List, [], ◌∷◌, drop, refl, sym, ap, ◌∙◌, Option, None, Some, if◌then◌else◌, ◌&&◌, codes}
+use Rattle.cdl_statements.proofs.Prelude.{option_map, option_and_then, Version, values, only, next, completes, is_name, word_value, Lexeme, is_mark, is_mark_kind, is_word, is_word_kind, name_of, Value, Statement, Listed, Brace, first_bad, assigned, constants, both, given, before_mark, either, alone, section_mark, section_of, mark_after, shape, Section, Dimensions, Variables, Values, TokenKind, and_false}
 use Rattle.cdl_statements.specs.declared.due.Due.TheVariants as dues
-use Rattle.cdl_statements.specs.declared.section.Section.{Section}
-use Rattle.cdl_statements.specs.declared.section.Section.TheVariants.{Dimensions, Variables, Values}
-use Rattle.cdl_tokens.specs.declared.token.TokenKind.{TokenKind}
 use Rattle.cdl_tokens.specs.declared.token.TokenKind.TheVariants as kinds
 use Rattle.cdl_statements.proofs.Options.{either_none, given_none}
-use Rattle.cdl_tokens.proofs.Words.{and_false}
 use Rattle.cdl_statements.proofs.Listing.{fine_on, nothing_more, only_completes, listed, listed_is, kind_of_mark}
 
 pub name_is : (n : Lexeme) → name_of n ≡ (if is_name n then Some (word_value n.bytes) else None)

@@ -1,18 +1,9 @@
 -- What a whole statement says stands in its tokens, section by section.
-use Rattle.std.proofs.Common.{◌≡◌, Bool, true, false, List, [], ◌∷◌, drop, refl, sym, ap, ◌∙◌}
-use Rattle.std.specs.Prelude.{Option, None, Some, if◌then◌else◌, ◌&&◌, is_some, nat_lt}
-use Rattle.std.specs.Option.{option_map, option_and_then}
-use Rattle.std.proofs.lemmas.Bool.{false≢true}
-use Rattle.nc_base.specs.declared.version.Version.{Version}
-use Rattle.cdl_statements.specs.Contents.{attribute_said, declaration_said, dimensions_said, mark_said, statement_said, values, variable_said}
-use Rattle.cdl_statements.specs.DueTokens.{completes, goes_to, is_name, next, only}
-use Rattle.cdl_tokens.specs.Escapes.{word_value}
-use Rattle.cdl_statements.specs.Lexemes.{Lexeme, is_mark, is_word_kind}
+use Rattle.std.proofs.Common.{◌≡◌, Bool, true, false, List, [], ◌∷◌, drop, refl, sym, ap, ◌∙◌, Option, None, Some, if◌then◌else◌, ◌&&◌, is_some, nat_lt}
+use Rattle.cdl_statements.proofs.Prelude.{option_map, option_and_then, false≢true, Version, attribute_said, declaration_said, dimensions_said, mark_said, statement_said, values, variable_said, completes, goes_to, is_name, next, only, word_value, Lexeme, is_mark, is_word_kind, is_opening_kind, is_end_kind, Statement, Listed, Attribute, Brace, Declared, Mark, Typed, Opening, End, alone, body, either, first_bad, given, mark_after, section_mark, section_number, section_of, shape, Section, Unopened, Globals, Dimensions, Variables, Values, Ended}
 use Rattle.cdl_statements.specs.Shapes as Shapes
-use Rattle.cdl_statements.specs.Shapes.{Statement, Listed, Attribute, Brace, Declared, Mark, Typed, Opening, End, alone, body, either, first_bad, given, mark_after, section_mark, section_number, section_of, shape, is_kind_opening, is_kind_end}
 use Rattle.cdl_statements.specs.declared.due.Due.TheVariants as dues
-use Rattle.cdl_statements.specs.declared.section.Section.{Section}
-use Rattle.cdl_statements.specs.declared.section.Section.TheVariants.{Unopened, Globals, Dimensions, Variables, Values, Closed, Ended}
+use Rattle.cdl_statements.specs.declared.section.Section.TheVariants.{Closed}
 use Rattle.cdl_statements.proofs.Declarations.{listed_variables, variables_are}
 use Rattle.cdl_statements.proofs.DimensionSection as dimension
 use Rattle.cdl_statements.proofs.Dimensions.{dims_are, listed_dims}
@@ -228,10 +219,10 @@ said_is v Variables [] good h = cc
 said_is v Values [] good h = cc
 said_is v Closed [] good h = cc
 said_is v Ended [] good h = cc
-said_is v Unopened (l ∷ ls) good h = alone_is (λ (l : Lexeme). is_kind_opening l.kind) Opening (l ∷ ls) h
+said_is v Unopened (l ∷ ls) good h = alone_is (λ (l : Lexeme). is_opening_kind l.kind) Opening (l ∷ ls) h
 said_is v Globals (l ∷ ls) good h = globals_said v l ls (fine_on v l ls good) h
 said_is v Dimensions (l ∷ ls) good h = dimensions_are v l ls good h
 said_is v Variables (l ∷ ls) good h = variables_said v l ls (fine_on v l ls good) h
 said_is v Values (l ∷ ls) good h = data_statement v l ls (fine_on v l ls good) h
-said_is v Closed (l ∷ ls) good h = alone_is (λ (l : Lexeme). is_kind_end l.kind) End (l ∷ ls) h
+said_is v Closed (l ∷ ls) good h = alone_is (λ (l : Lexeme). is_end_kind l.kind) End (l ∷ ls) h
 said_is v Ended (l ∷ ls) good h = cc

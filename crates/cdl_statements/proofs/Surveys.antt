@@ -1,13 +1,8 @@
 -- A statement, one token on.
-use Rattle.std.proofs.Common.{◌≡◌, ℕ, true, false, List, [], ◌∷◌, refl, ap, ◌∙◌, Bool}
-use Rattle.std.specs.Prelude.{Option, None, Some, if◌then◌else◌, is_none, option_map}
-use Rattle.cdl_tokens.specs.Magnitudes.{held}
+use Rattle.std.proofs.Common.{◌≡◌, ℕ, true, false, List, [], ◌∷◌, refl, ap, ◌∙◌, Bool, Option, None, Some, if◌then◌else◌, is_none, option_map}
+use Rattle.cdl_tokens.specs.code.Magnitudes.{held}
 use Rattle.cdl_tokens.specs.declared.numeral.Numeral.{Numeral as Held}
-use Rattle.nc_base.specs.declared.version.Version.{Version}
-use Rattle.cdl_statements.specs.Lexemes.{Lexeme}
-use Rattle.cdl_tokens.specs.Numerals.{Parts, parts, number, numeral}
-use Rattle.cdl_statements.specs.Shapes.{first_bad, either, token_fault}
-use Rattle.cdl_statements.specs.declared.fault.CdlKind.{CdlKind}
+use Rattle.cdl_statements.proofs.Prelude.{Version, Lexeme, Parts, parts, number, numeral, first_bad, either, token_fault, CdlKind}
 
 pub bad_on : (version : Version) (bad : Option CdlKind) (l : Lexeme) (ls : List Lexeme) →
     either bad (first_bad version (l ∷ ls)) ≡ either (either bad (token_fault version l.kind l.bytes)) (first_bad version ls)

@@ -1,16 +1,7 @@
 -- Declarations, token by token: a variable's name and what comes after it.
-use Rattle.std.proofs.Common.{◌≡◌, ℕ, Bool, true, false, List, [], ◌∷◌, ◌++◌, refl, sym, ap, ◌∙◌, arith}
-use Rattle.std.specs.Prelude.{Option, None, Some, if◌then◌else◌, ◌&&◌, ◌||◌, ◌==◌, not, slice_index}
-use Rattle.std.specs.Option.{option_map, option_and_then}
-use Rattle.nc_base.specs.Escapes.{is_reserved}
-use Rattle.cdl_statements.specs.Contents.{Declaration, with_name, declaration_said}
-use Rattle.cdl_statements.specs.DueTokens.{only, separator, next, is_whole, completes, is_name}
-use Rattle.cdl_tokens.specs.Escapes.{word_value}
-use Rattle.cdl_statements.specs.Lexemes.{Lexeme, is_mark, is_mark_kind, is_word_kind, name_of}
-use Rattle.cdl_statements.specs.Shapes.{Variable, variable, each, both, given, before_mark, members, members_in, into_first, name_alone}
-use Rattle.cdl_statements.specs.declared.due.Due.{Due}
+use Rattle.std.proofs.Common.{◌≡◌, ℕ, Bool, true, false, List, [], ◌∷◌, ◌++◌, refl, sym, ap, ◌∙◌, arith, Option, None, Some, if◌then◌else◌, ◌&&◌, ◌||◌, ◌==◌, not, slice_index}
+use Rattle.cdl_statements.proofs.Prelude.{option_map, option_and_then, is_reserved, Declaration, with_name, declaration_said, only, separator, next, is_whole, completes, is_name, word_value, Lexeme, is_mark, is_mark_kind, is_word_kind, name_of, Variable, variable, each, both, given, before_mark, members, members_in, into_first, name_alone, Due, TokenKind}
 use Rattle.cdl_statements.specs.declared.due.Due.TheVariants as dues
-use Rattle.cdl_tokens.specs.declared.token.TokenKind.{TokenKind}
 use Rattle.cdl_tokens.specs.declared.token.TokenKind.TheVariants as kinds
 use Rattle.cdl_statements.proofs.Listing.{never_completes, nothing_more, kind_of_mark}
 use Rattle.cdl_statements.proofs.Options.{both_some, given_map, given_none, map_if, none_if, same_if}

@@ -1,16 +1,7 @@
 -- The table of due tokens says whether a piece has its shape, in the section of the variables.
-use Rattle.std.proofs.Common.{◌≡◌, ℕ, Bool, true, false, List, [], ◌∷◌, drop, refl, sym, ap, ◌∙◌}
-use Rattle.std.specs.Prelude.{Option, None, Some, if◌then◌else◌, ◌&&◌, ◌==◌, is_some, slice_index}
-use Rattle.std.specs.Option.{option_map, option_and_then}
-use Rattle.nc_base.specs.declared.version.Version.{Version}
-use Rattle.cdl_statements.specs.Contents.{declaration_said, values}
-use Rattle.cdl_statements.specs.DueTokens.{only, next, is_whole, completes, is_name, goes_to}
-use Rattle.cdl_tokens.specs.Escapes.{word_value}
-use Rattle.cdl_statements.specs.Lexemes.{Lexeme, is_mark, is_mark_kind, is_word_kind, name_of}
-use Rattle.cdl_statements.specs.Shapes.{Statement, Attribute, Brace, Typed, Variable, first_bad, alone, assigned, attribute, before_mark, body, each, either, given, global, members, section_mark, shape, typed, variable}
+use Rattle.std.proofs.Common.{◌≡◌, ℕ, Bool, true, false, List, [], ◌∷◌, drop, refl, sym, ap, ◌∙◌, Option, None, Some, if◌then◌else◌, ◌&&◌, ◌==◌, is_some, slice_index}
+use Rattle.cdl_statements.proofs.Prelude.{option_map, option_and_then, Version, declaration_said, values, only, next, is_whole, completes, is_name, goes_to, word_value, Lexeme, is_mark, is_mark_kind, is_word_kind, name_of, Statement, Attribute, Brace, Typed, Variable, first_bad, alone, assigned, attribute, before_mark, body, each, either, given, global, members, section_mark, shape, typed, variable, Variables, TokenKind}
 use Rattle.cdl_statements.specs.declared.due.Due.TheVariants as dues
-use Rattle.cdl_statements.specs.declared.section.Section.TheVariants.{Variables}
-use Rattle.cdl_tokens.specs.declared.token.TokenKind.{TokenKind}
 use Rattle.cdl_tokens.specs.declared.token.TokenKind.TheVariants as kinds
 use Rattle.cdl_statements.proofs.Declarations.{listed_variables, variables_are}
 use Rattle.cdl_statements.proofs.VariableNames.{nameless, named, not_variable, one_mark}

@@ -1,10 +1,8 @@
--- What the tokens of a statement say.
+-- Definition. What the tokens of a statement say.
 use Rattle.std.specs.Prelude.{ℕ, Bool, true, false, List, ◌&&◌, ◌==◌, not, if◌then◌else◌, slice_index, Option, None, Some}
 use Rattle.std.specs.Str.{bytes_eq}
 use Rattle.cdl_tokens.specs.Escapes.{word_value}
 use Rattle.cdl_tokens.specs.Tokens.{raw}
-use Rattle.cdl_statements.specs.Pieces.{role_of}
-use Rattle.cdl_statements.specs.declared.piece.Role.{Role}
 use Rattle.cdl_tokens.specs.declared.token.Token.{Token}
 use Rattle.cdl_tokens.specs.declared.token.TokenKind.{TokenKind}
 use Rattle.cdl_tokens.specs.declared.token.TokenKind.TheVariants as kinds
@@ -18,9 +16,13 @@ pub record Lexeme : Type 0 where
 abbrev pub lexeme : List ℕ → Token → Lexeme
 lexeme text t = record { kind = t.kind; bytes = raw text t }
 
--- what it is where the tokens are cut into pieces
-abbrev pub role : Lexeme → Role
-role l = role_of l.kind l.bytes
+abbrev pub is_opening_kind : TokenKind → Bool
+is_opening_kind kinds.Opening = true
+is_opening_kind _ = false
+
+abbrev pub is_end_kind : TokenKind → Bool
+is_end_kind kinds.End = true
+is_end_kind _ = false
 
 abbrev pub is_word_kind : TokenKind → Bool
 is_word_kind kinds.Word = true

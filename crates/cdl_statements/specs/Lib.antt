@@ -1,11 +1,5 @@
-pub mod Pieces
 pub mod Lexemes
+pub mod Pieces
 pub mod Shapes
 pub mod Statements
-pub mod Roles
-pub mod Cutters
-pub mod Views
-pub mod DueTokens
-pub mod Contents
-pub mod ListedTokens
-pub mod NumberLists
+pub mod code

@@ -1,8 +1,8 @@
--- The shapes of statements.
+-- Definition. The shapes of statements.
 use Rattle.std.specs.Prelude.{ℕ, ℤ, Bool, true, false, List, [], ◌∷◌, ◌&&◌, ◌||◌, not, if◌then◌else◌, codes, Option, None, Some, is_none, nat_lt}
 use Rattle.std.specs.Option.{option_map, option_and_then}
 use Rattle.cdl_tokens.specs.Escapes.{inner, stands}
-use Rattle.cdl_statements.specs.Lexemes.{Lexeme, is_mark, is_word, is_word_kind, name_of}
+use Rattle.cdl_statements.specs.Lexemes.{Lexeme, is_mark, is_word, is_word_kind, is_opening_kind, is_end_kind, name_of}
 use Rattle.cdl_tokens.specs.Numerals.{Numeral, numeral}
 use Rattle.cdl_tokens.specs.declared.token.TokenKind.{TokenKind}
 use Rattle.cdl_tokens.specs.declared.token.TokenKind.TheVariants as kinds
@@ -180,21 +180,13 @@ abbrev pub section_mark : Section → List Lexeme → Option Statement
 section_mark before (l ∷ c ∷ []) = given (is_mark 0x3a c) (option_and_then (mark_after before) (section_of l))
 section_mark before _ = None
 
-abbrev pub is_kind_opening : TokenKind → Bool
-is_kind_opening kinds.Opening = true
-is_kind_opening _ = false
-
-abbrev pub is_kind_end : TokenKind → Bool
-is_kind_end kinds.End = true
-is_kind_end _ = false
-
 abbrev pub alone : {A : Type 0} → (Lexeme → Bool) → A → List Lexeme → Option A
 alone test a (l ∷ []) = given (test l) (Some a)
 alone test a _ = None
 
 -- a whole piece
 unfoldable pub shape : Version → Section → List Lexeme → Option Statement
-shape v Unopened ls = alone (λ l. is_kind_opening l.kind) Opening ls
-shape v Closed ls = alone (λ l. is_kind_end l.kind) End ls
+shape v Unopened ls = alone (λ l. is_opening_kind l.kind) Opening ls
+shape v Closed ls = alone (λ l. is_end_kind l.kind) End ls
 shape v Ended ls = None
 shape v section ls = either (alone (is_mark 0x7d) Brace ls) (either (section_mark section ls) (option_and_then (body v section) (before_mark 0x3b ls)))

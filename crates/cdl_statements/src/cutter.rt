@@ -1,10 +1,9 @@
 //! The statements of a text, one at a time.
 
-ghost use Rattle.std.specs.Prelude.{◌≡◌, ◌∷◌, [], None, OnErr, IfOk, IfSome, IsErr, true, false, drop, ◌<◌, if◌then◌else◌};
-ghost use Rattle.cdl_statements.specs.Roles.{role_in};
+ghost use Rattle.std.specs.Prelude.{◌≡◌, [], None, OnErr, IfOk, IfSome, IsErr, true, false, ◌<◌, if◌then◌else◌};
+ghost use Rattle.cdl_statements.specs.code.Roles.{role_in};
 ghost use Rattle.cdl_statements.specs.Lexemes.{lexeme};
-ghost use Rattle.cdl_statements.specs.Pieces.{with_first};
-ghost use Rattle.cdl_tokens.specs.Scanners as scanners;
+ghost use Rattle.cdl_tokens.specs.code.Scanners as scanners;
 ghost use Rattle.cdl_statements.specs.Statements.{statements};
 
 use crate::lexeme::Lexeme;
@@ -15,8 +14,7 @@ use std::alloc::AllocError;
 
 /// Cuts a text into its statements (the CDL chapter of the NetCDF User's Guide, "CDL Syntax").
 ///
-/// [`next`](Cutter::next) hands out a whole statement, [`advance`](Cutter::advance) goes on by one token and takes no
-/// memory.
+/// [`next`](Cutter::next) returns a whole statement. [`advance`](Cutter::advance) passes one token and does not allocate.
 #[derive(Clone, Copy)]
 pub struct Cutter<'a> {
     /// After the next token.
@@ -31,9 +29,9 @@ pub struct Cutter<'a> {
 }
 
 impl<'a> Cutter<'a> {
-    ghost use Rattle.cdl_statements.specs.Cutters.{HandsOut, SameText, after, first_line, is_done, next_token, offset_of, pieces_left, text_of, version_of, words};
-    ghost use Rattle.cdl_statements.specs.ListedTokens.{EndsAtScanner, IsAtComma, Passes, PassesNumber, PassesString};
-    ghost use Rattle.cdl_statements.specs.Views.{lexeme_of};
+    ghost use Rattle.cdl_statements.specs.code.Cutters.{BeginsWith, HandsOut, PassesToken, PassesWord, SameText, after, first_line, is_done, next_token, offset_of, pieces_left, text_of, version_of};
+    ghost use Rattle.cdl_statements.specs.code.ListedTokens.{EndsAtScanner, IsAtComma, Passes, PassesNumber, PassesString};
+    ghost use Rattle.cdl_statements.specs.code.Views.{lexeme_of};
 
     /// The start of a text.
     pub fn new(text: &'a [u8], version: Version) -> Cutter<'a>
@@ -72,7 +70,7 @@ impl<'a> Cutter<'a> {
     #[inline]
     pub fn lexeme(&self) -> Lexeme<'a>
         ensures lexeme { lexeme_of result ≡ lexeme (text_of self.now) (next_token self.now) }
-        ensures first { is_done self.now ≡ false → words self.now ≡ lexeme_of result ∷ drop 1 (words self.now) }
+        ensures first { is_done self.now ≡ false → BeginsWith (lexeme_of result) self.now }
     {
         Lexeme::of(self.next, self.scanner.text())
     }
@@ -91,7 +89,7 @@ impl<'a> Cutter<'a> {
     ///
     /// An allocation failed. Then `into` is empty, and the cutter is where it was.
     pub fn next(&mut self, into: &mut Vec<Token>) -> Result<bool, AllocError>
-        ensures ok { IfOk result (λ more. HandsOut more (pieces_left self.old) (pieces_left self.new) into.new.items) }
+        ensures ok { IfOk result (λ more. HandsOut more self.old self.new into.new.items) }
         ensures err_same { OnErr result (self.new ≡ self.old) }
         ensures err_empty { OnErr result (into.new.items ≡ []) }
     {
@@ -114,13 +112,13 @@ impl<'a> Cutter<'a> {
         }
     }
 
-    /// Goes on by one token, and returns true if it was the last of its statement. It does not allocate.
+    /// Passes one token, and returns true if it was the last of its statement. Does not allocate.
     #[inline]
     pub fn advance(&mut self) -> bool
         requires { is_done self.old ≡ false }
         ensures same { SameText self.old self.new }
-        ensures pieces { pieces_left self.old ≡ with_first result (next_token self.old) (pieces_left self.new) }
-        ensures words { words self.old ≡ lexeme (text_of self.old) (next_token self.old) ∷ (if result then [] else words self.new) }
+        ensures pieces { PassesToken result self.old self.new }
+        ensures words { PassesWord result self.old self.new }
         ensures after { after self.old ≡ (if result then pieces_left self.new else after self.new) }
         ensures moves { result ≡ false → offset_of self.old < offset_of self.new }
         ensures goes { result ≡ false → is_done self.new ≡ false }
@@ -142,8 +140,8 @@ impl<'a> Cutter<'a> {
         !self.done && is_inside(self.state) && self.lexeme().is_mark(b',')
     }
 
-    /// Goes on past the comma that comes next and a plain number, if another comma follows, and hands out the number. Else the
-    /// cutter stays where it is. It does not allocate.
+    /// Passes the next comma and a plain number, if another comma follows, and returns the number. Otherwise the cutter stays
+    /// where it is. Does not allocate.
     #[inline(always)]
     pub fn number_and_comma(&mut self) -> Option<Numeral>
         requires { IsAtComma self.old }
@@ -157,7 +155,7 @@ impl<'a> Cutter<'a> {
         Some(listed.numeral)
     }
 
-    /// The same with a string without an escape, of which it hands out the bytes, the quotes among them.
+    /// The same with a string without an escape. Returns its bytes with the quotes.
     #[inline(always)]
     pub fn string_and_comma(&mut self) -> Option<&'a [u8]>
         requires { IsAtComma self.old }
@@ -196,7 +194,7 @@ impl<'a> Cutter<'a> {
         self.scanner
     }
 
-    /// Goes to this comma of the same statement, after which the scanner stands.
+    /// Makes this comma of the same statement the next token. The scanner is just after it.
     #[inline(always)]
     pub(crate) fn go_to(&mut self, comma: Token, scanner: Scanner<'a>)
         requires { role_in (scanners.text_of scanner) comma ≡ Role.Other }
@@ -215,8 +213,8 @@ impl<'a> Cutter<'a> {
     pub fn advanced(self) -> (Cutter<'a>, bool)
         requires { is_done self ≡ false }
         ensures same { SameText self.entry result.0 }
-        ensures pieces { pieces_left self.entry ≡ with_first result.1 (next_token self.entry) (pieces_left result.0) }
-        ensures words { words self.entry ≡ lexeme (text_of self.entry) (next_token self.entry) ∷ (if result.1 then [] else words result.0) }
+        ensures pieces { PassesToken result.1 self.entry result.0 }
+        ensures words { PassesWord result.1 self.entry result.0 }
         ensures after { after self.entry ≡ (if result.1 then pieces_left result.0 else after result.0) }
         ensures moves { result.1 ≡ false → offset_of self.entry < offset_of result.0 }
         ensures goes { result.1 ≡ false → is_done result.0 ≡ false }

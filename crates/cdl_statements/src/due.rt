@@ -1,7 +1,7 @@
 //! The shapes of statements, token by token.
 
 ghost use Rattle.std.specs.Prelude.{◌≡◌};
-ghost use Rattle.cdl_statements.specs.Shapes.{is_kind_end, is_kind_opening};
+ghost use Rattle.cdl_statements.specs.Lexemes.{is_end_kind, is_opening_kind};
 
 use crate::lexeme::Lexeme;
 use crate::section::Section;
@@ -18,7 +18,7 @@ pub enum Due {
     Colon,
     /// An attribute's name.
     AttributeName,
-    /// The `=` before constants, of which `_` may be one or not.
+    /// The `=` before constants; `takes_fill`: one of them may be `_`.
     Equals { takes_fill: bool },
     /// A constant.
     Value { takes_fill: bool },
@@ -50,12 +50,12 @@ pub enum Due {
 }
 
 impl Due {
-    ghost use Rattle.cdl_statements.specs.DueTokens.{is_whole, next, next_first, only, separator};
-    ghost use Rattle.cdl_statements.specs.Views.{lexeme_of};
+    ghost use Rattle.cdl_statements.specs.code.DueTokens.{is_whole, next, next_first, only, separator};
+    ghost use Rattle.cdl_statements.specs.code.Views.{lexeme_of};
 
     /// Which token comes after this one (the CDL chapter of the NetCDF User's Guide, "CDL Syntax").
     #[inline]
-    #[tactic(auto, unfolding(crate::specs::DueTokens::next))]
+    #[tactic(auto, unfolding(crate::specs::code::DueTokens::next))]
     pub fn after(self, token: Lexeme<'_>) -> Due
         ensures { result ≡ next self (lexeme_of token.entry) }
     {
@@ -71,7 +71,7 @@ impl Due {
 
     /// Which token comes after this one, whichever was due.
     #[inline(never)]
-    #[tactic(auto, unfolding(crate::specs::DueTokens::next))]
+    #[tactic(auto, unfolding(crate::specs::code::DueTokens::next))]
     fn after_in_table(self, token: Lexeme<'_>) -> Due
         ensures { result ≡ next self (lexeme_of token.entry) }
     {
@@ -127,7 +127,7 @@ impl Due {
     }
 
     /// Which token comes after the second one of a statement in the section of the variables that begins with a word.
-    #[tactic(auto, unfolding(crate::specs::DueTokens::next))]
+    #[tactic(auto, unfolding(crate::specs::code::DueTokens::next))]
     fn after_second(is_name: bool, is_section: bool, token: Lexeme<'_>) -> Due
         ensures { result ≡ next (Due.AfterWord is_name is_section) (lexeme_of token.entry) }
     {
@@ -141,7 +141,7 @@ impl Due {
     }
 
     /// Which token comes after the one that follows a variable's name.
-    #[tactic(auto, unfolding(crate::specs::DueTokens::next))]
+    #[tactic(auto, unfolding(crate::specs::code::DueTokens::next))]
     fn after_variable(token: Lexeme<'_>) -> Due
         ensures { result ≡ next Due.AfterVariable (lexeme_of token.entry) }
     {
@@ -153,7 +153,7 @@ impl Due {
     }
 
     /// Which token comes after the one that follows the name of one of a variable's dimensions.
-    #[tactic(auto, unfolding(crate::specs::DueTokens::next))]
+    #[tactic(auto, unfolding(crate::specs::code::DueTokens::next))]
     fn after_reference(token: Lexeme<'_>) -> Due
         ensures { result ≡ next Due.AfterReference (lexeme_of token.entry) }
     {
@@ -192,14 +192,14 @@ impl Due {
 
 /// Returns true if a token of this kind is an opening.
 fn is_opening(kind: TokenKind) -> bool
-    ensures { result ≡ is_kind_opening kind }
+    ensures { result ≡ is_opening_kind kind }
 {
     matches!(kind, TokenKind::Opening)
 }
 
 /// Returns true if a token of this kind is the end of the text.
 fn is_end(kind: TokenKind) -> bool
-    ensures { result ≡ is_kind_end kind }
+    ensures { result ≡ is_end_kind kind }
 {
     matches!(kind, TokenKind::End)
 }

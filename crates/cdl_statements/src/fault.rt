@@ -49,7 +49,7 @@ pub enum CdlKind {
 #[derive(Clone, Copy, Debug, PartialEq, Eq)]
 pub struct CdlFault {
     /// The line of the first token of the statement that has it, from 1 on; for `TooLarge` that of the closing brace, and 0
-    /// where memory was refused.
+    /// if an allocation failed.
     pub line: u64,
     pub kind: CdlKind,
 }

@@ -1,7 +1,7 @@
 //! Tokens without their places.
 
 ghost use Rattle.std.specs.Prelude.{◌≡◌};
-ghost use Rattle.cdl_statements.specs.DueTokens.{is_number};
+ghost use Rattle.cdl_statements.specs.code.DueTokens.{is_number};
 ghost use Rattle.cdl_statements.specs.Lexemes.{is_mark_kind, is_word_kind};
 
 use crate::section::Section;
@@ -16,10 +16,10 @@ pub struct Lexeme<'a> {
 }
 
 impl<'a> Lexeme<'a> {
-    ghost use Rattle.cdl_statements.specs.DueTokens.{goes_to, is_length, is_name, is_value_of};
+    ghost use Rattle.cdl_statements.specs.code.DueTokens.{goes_to, is_length, is_name, is_value_of};
     ghost use Rattle.cdl_statements.specs.Lexemes.{is_mark, is_word, lexeme};
     ghost use Rattle.cdl_statements.specs.Shapes.{section_of};
-    ghost use Rattle.cdl_statements.specs.Views.{lexeme_of};
+    ghost use Rattle.cdl_statements.specs.code.Views.{lexeme_of};
 
     /// A token of this text, without its place.
     #[inline]
@@ -60,7 +60,7 @@ impl<'a> Lexeme<'a> {
         is_word_kind(self.kind) && !is_reserved(self.bytes)
     }
 
-    /// Returns true if the token is a number, a string or, where that is taken, an unescaped `_`.
+    /// Returns true if the token is a number, a string or, if that is allowed, an unescaped `_`.
     pub fn is_value(self, takes_fill: bool) -> bool
         ensures { result ≡ is_value_of takes_fill (lexeme_of self.entry) self.entry.kind }
     {

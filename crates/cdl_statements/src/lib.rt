@@ -1,8 +1,18 @@
 //! The statements of a CDL text (the CDL chapter of the NetCDF User's Guide, and ncgen(1)).
 //!
 //! `specs/` has the definitions, from tokens to statements: the cut of the tokens into statements, and the shapes of these.
-//! The types that the definitions and their readers share stand here. What statements mean together is defined in
+//! The code has the types that the definitions and their readers share. What statements mean together is defined in
 //! `cdl_meaning` and read by `cdl_parse`.
+//!
+//! ```
+//! let mut cutter = Cutter::new(text, Version::Cdf1);
+//! let mut tokens = Vec::new(alloc);
+//! let mut line = cutter.line();
+//! while cutter.next(&mut tokens)? {
+//!     println!(rt; "line {line}: {} tokens", tokens.len())?;
+//!     line = cutter.line();
+//! }
+//! ```
 #![tactic(auto)]
 
 mod cutter;

@@ -1,8 +1,8 @@
 //! The plain numbers of a list, one after the other.
 
 ghost use Rattle.std.specs.Prelude.{◌≡◌, IfSome, None};
-ghost use Rattle.cdl_statements.specs.ListedTokens.{EndsAtScanner, IsAtComma, PassesNumber};
-ghost use Rattle.cdl_statements.specs.NumberLists.{SamePlace, reached};
+ghost use Rattle.cdl_statements.specs.code.ListedTokens.{EndsAtScanner, IsAtComma, PassesNumber};
+ghost use Rattle.cdl_statements.specs.code.NumberLists.{SamePlace, reached};
 
 use crate::cutter::Cutter;
 use cdl_tokens::{Numeral, Scanner};
@@ -32,8 +32,8 @@ impl<'a> NumberList<'a> {
         }
     }
 
-    /// Goes on past a plain number, if another comma follows, and hands out the number. Else the list stays where it is. It takes
-    /// no memory.
+    /// Passes a plain number, if another comma follows, and returns the number. Otherwise the list stays where it is. Does not
+    /// allocate.
     #[inline(always)]
     pub fn number_and_comma(&mut self) -> Option<Numeral>
         requires { IsAtComma (reached self.old) }

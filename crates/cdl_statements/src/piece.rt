@@ -1,7 +1,9 @@
 //! How a list of tokens is cut into statements.
 
 ghost use Rattle.std.specs.Prelude.{◌≡◌, true, if◌then◌else◌};
-ghost use Rattle.cdl_statements.specs.Pieces.{ending, going, is_section, mark_role, section_step, unless_end};
+ghost use Rattle.cdl_statements.specs.code.CutSteps.{ending, going, section_step, unless_end};
+ghost use Rattle.cdl_statements.specs.code.Roles.{mark_role};
+ghost use Rattle.cdl_statements.specs.Pieces.{is_section};
 
 use cdl_tokens::{Token, TokenKind, byte_at};
 
@@ -19,7 +21,7 @@ pub enum Role {
 }
 
 impl Role {
-    ghost use Rattle.cdl_statements.specs.Roles.{role_in};
+    ghost use Rattle.cdl_statements.specs.code.Roles.{role_in};
 
     /// What a token of this text does where the tokens are cut into statements.
     #[inline]
@@ -87,8 +89,8 @@ pub struct Step {
 }
 
 impl CutState {
-    ghost use Rattle.cdl_statements.specs.Roles.{is_end_role};
-    ghost use Rattle.cdl_statements.specs.Pieces.{step};
+    ghost use Rattle.cdl_statements.specs.code.Roles.{is_end_role};
+    ghost use Rattle.cdl_statements.specs.code.CutSteps.{step};
 
     /// What a token does to the statement that it stands in, by its role and that of the token after it.
     pub fn step(self, role: Role, next: Role) -> Step

@@ -1,10 +1,10 @@
 //! The first pass over a statement: where it ends, its first bad token, and whether it has its shape.
 
-ghost use Rattle.std.specs.Prelude.{◌≡◌, false, true, is_none, is_some, None, Some};
-ghost use Rattle.cdl_statements.specs.Contents.{statement_said};
-ghost use Rattle.cdl_statements.specs.Cutters.{Follows, is_done, version_of, words};
-ghost use Rattle.cdl_statements.specs.DueTokens.{completes};
-ghost use Rattle.cdl_statements.specs.Shapes.{either, first_bad, shape, token_fault};
+ghost use Rattle.std.specs.Prelude.{◌≡◌, false, true, is_none, None, Some};
+ghost use Rattle.cdl_statements.specs.code.Cutters.{Follows, is_done, version_of, words};
+ghost use Rattle.cdl_statements.specs.code.DueTokens.{completes};
+ghost use Rattle.cdl_statements.specs.code.ShapesFound.{HasShape, SaysStatement};
+ghost use Rattle.cdl_statements.specs.Shapes.{either, first_bad, token_fault};
 
 use crate::cutter::Cutter;
 use crate::due::Due;
@@ -29,15 +29,15 @@ pub struct Survey<'a> {
 pub fn look_over(start: Cutter<'_>, section: Section) -> Survey<'_>
     requires { is_done start ≡ false }
     ensures bad { result.bad ≡ first_bad (version_of start.entry) (words start.entry) }
-    ensures shaped { result.bad ≡ None → result.shaped ≡ is_some (shape (version_of start.entry) section (words start.entry)) }
-    ensures says { result.bad ≡ None → result.shaped ≡ true → shape (version_of start.entry) section (words start.entry) ≡ Some (statement_said (version_of start.entry) section (words start.entry)) }
+    ensures shaped { result.bad ≡ None → HasShape start.entry section result.shaped }
+    ensures says { result.bad ≡ None → result.shaped ≡ true → SaysStatement start.entry section }
     ensures table { result.shaped ≡ completes (Due.First section) (words start.entry) }
     ensures rest { Follows start.entry result.rest }
 {
     first_pass(start, Due::First(section))
 }
 
-/// Passes over the next statement, of which this token comes first. It does not allocate.
+/// Passes over the next statement, in which this token is due first. Does not allocate.
 pub fn first_pass(start: Cutter<'_>, first: Due) -> Survey<'_>
     requires { is_done start ≡ false }
     ensures bad { result.bad ≡ first_bad (version_of start.entry) (words start.entry) }

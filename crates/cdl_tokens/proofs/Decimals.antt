@@ -1,39 +1,34 @@
 -- Decimal numbers, digit by digit.
-use Rattle.std.proofs.Common.{◌≡◌, ℕ, suc, true, false, ◌+◌, ◌*◌, ◌-◌, ◌<◌, List, [], ◌∷◌, get_or, length, take, drop, refl, sym, ap, ◌∙◌, arith}
-use Rattle.std.proofs.lemmas.Grind.{common_steps}
-use Rattle.std.specs.Prelude.{Bool, Some, ◌==◌, nat_lt, option_map, slice_index}
-use Rattle.std.specs.List.{prefix_len}
+use Rattle.std.proofs.Common.{◌≡◌, ℕ, true, false, ◌+◌, ◌*◌, ◌-◌, ◌<◌, List, [], ◌∷◌, get_or, length, take, drop, refl, sym, ap, ◌∙◌, arith, Bool, Some, ◌==◌, nat_lt, option_map, slice_index}
+use Rattle.cdl_tokens.proofs.Prelude.{common_steps, prefix_len, take_while, Version, digit, is_digit, number_in, ReadsDigits, held, in_decimal, suffix}
 use Rattle.nc_base.specs.declared.nc_type.NcType.{NcType}
-use Rattle.nc_base.specs.declared.version.Version.{Version}
-use Rattle.cdl_tokens.specs.Bytes.{is_digit}
-use Rattle.cdl_tokens.specs.Escapes.{digit}
-use Rattle.cdl_tokens.specs.Magnitudes.{decimals, held}
-use Rattle.cdl_tokens.specs.Numerals.{in_base, number_in, suffix}
+use Rattle.cdl_tokens.proofs.Steps.{take_one_more}
 
-one_taken : (n b : ℕ) (bs : List ℕ) → take (1 + n) (b ∷ bs) ≡ b ∷ take n bs
-one_taken n b bs = ap (λ k. take k (b ∷ bs)) (let e : 1 + n ≡ suc n = omega arith in e)
+-- the first bytes that are decimal digits
+abbrev decimals : List ℕ → List ℕ
+decimals bs = take_while is_digit bs
 
 one_more : (b : ℕ) (bs : List ℕ) → is_digit b ≡ true → (prefix_len is_digit (b ∷ bs) ≡ 1 + prefix_len is_digit bs) × (decimals (b ∷ bs) ≡ b ∷ decimals bs)
-one_more b bs is = let n : prefix_len is_digit (b ∷ bs) ≡ 1 + prefix_len is_digit bs = rw (is) refl in (n, ap (λ k. take k (b ∷ bs)) n ∙ one_taken (prefix_len is_digit bs) b bs)
+one_more b bs is = let n : prefix_len is_digit (b ∷ bs) ≡ 1 + prefix_len is_digit bs = rw (is) refl in (n, ap (λ k. take k (b ∷ bs)) n ∙ take_one_more b (prefix_len is_digit bs) bs)
 
 there : (bs : List ℕ) (i : ℕ) → i < length bs → drop i bs ≡ get_or bs i 0 ∷ drop (i + 1) bs
 there bs i h = grind (arith, common_steps)
 
-pub one_digit : (bs : List ℕ) (i value : ℕ) → i < length bs → is_digit (get_or bs i 0) ≡ true →
-    (i + 1 + prefix_len is_digit (drop (i + 1) bs) ≡ i + prefix_len is_digit (drop i bs)) ×
-    (number_in 10 (10 * value + (get_or bs i 0 - 0x30)) (decimals (drop (i + 1) bs)) ≡ number_in 10 value (decimals (drop i bs)))
-one_digit bs i value h is =
+pub one_digit : (bs : List ℕ) (i value : ℕ) → i < length bs → is_digit (get_or bs i 0) ≡ true → ReadsDigits bs i value → ReadsDigits bs (i + 1) (10 * value + (get_or bs i 0 - 0x30))
+one_digit bs i value h is read =
     let cons = there bs i h in
     let more = one_more (get_or bs i 0) (drop (i + 1) bs) is in
-    let worth : digit (get_or bs i 0) ≡ get_or bs i 0 - 0x30 = rw (is) refl in (
-      (let n : prefix_len is_digit (drop i bs) ≡ 1 + prefix_len is_digit (drop (i + 1) bs) = ap (prefix_len is_digit) cons ∙ more.0 in omega (arith, n)),
-      ap (λ w. number_in 10 (10 * value + w) (decimals (drop (i + 1) bs))) (sym worth) ∙ sym (ap (λ xs. number_in 10 value (decimals xs)) cons ∙ ap (number_in 10 value) more.1),
-    )
+    let n : prefix_len is_digit (drop i bs) ≡ 1 + prefix_len is_digit (drop (i + 1) bs) = ap (prefix_len is_digit) cons ∙ more.0 in
+    let worth : digit (get_or bs i 0) ≡ get_or bs i 0 - 0x30 = rw (is) refl in
+    record {
+      within = omega (arith, h);
+      count = omega (arith, n, read.count);
+      said = ap (λ w. number_in 10 (10 * value + w) (decimals (drop (i + 1) bs))) (sym worth) ∙ sym (ap (λ xs. number_in 10 value (decimals xs)) cons ∙ ap (number_in 10 value) more.1) ∙ read.said;
+    }
 
 -- no digit follows those that were read: they are all
-pub all_read : (bs : List ℕ) (n value : ℕ) → n + prefix_len is_digit (drop n bs) ≡ prefix_len is_digit bs → number_in 10 value (decimals (drop n bs)) ≡ number_in 10 0 (decimals bs) →
-    is_digit (slice_index (drop n bs) 0) ≡ false → (prefix_len is_digit bs ≡ n) × (number_in 10 0 (take n bs) ≡ value)
-all_read bs n value count is off = by (drop n bs) count is off
+pub all_read : (bs : List ℕ) (n value : ℕ) → ReadsDigits bs n value → is_digit (slice_index (drop n bs) 0) ≡ false → (prefix_len is_digit bs ≡ n) × (number_in 10 0 (take n bs) ≡ value)
+all_read bs n value read off = by (drop n bs) read.count read.said off
   where
     by : (rest : List ℕ) → n + prefix_len is_digit rest ≡ prefix_len is_digit bs → number_in 10 value (decimals rest) ≡ number_in 10 0 (decimals bs) → is_digit (slice_index rest 0) ≡ false →
         (prefix_len is_digit bs ≡ n) × (number_in 10 0 (take n bs) ≡ value)
@@ -45,5 +40,5 @@ all_read bs n value count is off = by (drop n bs) count is off
 
 -- what the digits and the suffix after them say
 pub said : (v : Version) (minus : Bool) (bs : List ℕ) (n value : ℕ) (ty : NcType) → prefix_len is_digit bs ≡ n → number_in 10 0 (take n bs) ≡ value → suffix v (drop n bs) ≡ Some ty → (n == 0) ≡ false → nat_lt 18446744073709551615 value ≡ false →
-    Some (record { minus = minus; magnitude = Some value; ty = ty }) ≡ option_map held (in_base v minus 10 (prefix_len is_digit bs) bs)
+    Some (record { minus = minus; magnitude = Some value; ty = ty }) ≡ option_map held (in_decimal v minus bs)
 said v minus bs n value ty all is suffixed some small = rw (all) (rw (some) (rw (is) (rw (suffixed) (rw (small) refl))))

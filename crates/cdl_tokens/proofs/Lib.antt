@@ -9,3 +9,4 @@ pub mod Decimals
 pub mod PlainNumbers
 pub mod PlainStrings
 pub mod Searches
+pub mod Prelude

@@ -1,15 +1,6 @@
 -- What plain numbers say.
-use Rattle.std.proofs.Common.{◌≡◌, ℕ, zero, suc, ◌+◌, ◌<◌, ◌≤◌, Bool, true, false, List, [], ◌∷◌, length, take, drop, refl, sym, ap, ◌∙◌, arith}
-use Rattle.std.specs.Prelude.{Some, ◌==◌, ◌&&◌, ◌||◌, nat_lt, option_map, slice_index, cond, if◌then◌else◌}
-use Rattle.std.specs.List.{prefix_len}
-use Rattle.std.proofs.lemmas.List.{get_or-drop}
-use Rattle.nc_base.specs.declared.nc_type.NcType.TheVariants.{Int}
-use Rattle.nc_base.specs.declared.version.Version.{Version}
-use Rattle.cdl_tokens.specs.Bytes.{goes_on_number, is_digit, is_sign}
-use Rattle.cdl_tokens.specs.Magnitudes.{held}
-use Rattle.cdl_tokens.specs.Numerals.{number_in, parts, suffix, unsigned}
-use Rattle.cdl_tokens.specs.PlainTokens.{AreDigits, Begins}
-use Rattle.cdl_tokens.specs.Scan.{begins_number}
+use Rattle.std.proofs.Common.{◌≡◌, ℕ, zero, suc, ◌+◌, ◌<◌, ◌≤◌, Bool, true, false, List, [], ◌∷◌, length, take, drop, refl, sym, ap, ◌∙◌, arith, Some, ◌==◌, ◌&&◌, ◌||◌, nat_lt, option_map, slice_index, cond, if◌then◌else◌}
+use Rattle.cdl_tokens.proofs.Prelude.{prefix_len, get_or-drop, Int, Version, goes_on_number, is_digit, is_sign, number_in, held, parts, suffix, unsigned, AreDigits, Begins, begins_number}
 use Rattle.cdl_tokens.specs.declared.numeral.Numeral.{Numeral}
 use Rattle.cdl_tokens.proofs.Decimals.{said}
 use Rattle.cdl_tokens.proofs.PlainTokens.{digit_number}
@@ -31,7 +22,7 @@ same_prefix (b ∷ bs) h = by (same_prefix bs) (is_digit b) refl h
         rw (on) (ap (λ m. 1 + m) (again (ap (λ xs. goes_on_number (slice_index xs 0)) (sym step) ∙ h)))
     by again false is h = rw (let off : goes_on_number b ≡ false = h in off) refl
 
--- so many of them are digits
+-- the first n of these bytes are digits, if at least n digits come first
 taken_digits : (bs : List ℕ) (n : ℕ) → n ≤ prefix_len is_digit bs → prefix_len is_digit (take n bs) ≡ n
 taken_digits bs zero h = refl
 taken_digits [] (suc n) h = absurd (let e : suc n ≤ 0 = h in omega (arith, e))

@@ -1,16 +1,9 @@
 -- What plain strings are.
-use Rattle.std.proofs.Common.{◌≡◌, ℕ, zero, suc, ◌+◌, ◌-◌, ◌<◌, Bool, true, false, cond, List, [], ◌∷◌, length, take, drop, refl, sym, ap, ◌∙◌, arith, count_by, ⊎_elim}
-use Rattle.std.specs.Prelude.{◌==◌, nat_lt, slice_index, is_some, if◌then◌else◌}
-use Rattle.std.specs.List.{prefix_len}
-use Rattle.std.proofs.lemmas.Bool.{cases_lt}
-use Rattle.std.proofs.lemmas.List.{get_or_past, length-take-le}
-use Rattle.cdl_tokens.specs.Escapes.{inner, is_unescaped, stands, unescape}
-use Rattle.cdl_tokens.specs.PlainTokens.{BeginsString}
-use Rattle.cdl_tokens.specs.Scan.{scan, scan_text, token, until}
-use Rattle.cdl_tokens.specs.Scanners.{is_none_of}
-use Rattle.cdl_tokens.specs.declared.token.TokenKind.TheVariants.{Text, Bad}
+use Rattle.std.proofs.Common.{◌≡◌, ℕ, zero, suc, ◌+◌, ◌-◌, ◌<◌, Bool, true, false, cond, List, [], ◌∷◌, length, take, drop, refl, sym, ap, ◌∙◌, arith, count_by, ⊎_elim, ◌==◌, nat_lt, slice_index, is_some, if◌then◌else◌}
+use Rattle.cdl_tokens.proofs.Prelude.{list_all, prefix_len, cases_lt, get_or_past, length-take-le, inner, stands, unescape, BeginsString, scan, scan_text, token, until, is_none_of, is_unescaped, Text, Bad}
 use Rattle.cdl_tokens.proofs.PlainTokens.{feeds_on, no_opening}
-use Rattle.cdl_tokens.proofs.Strings.{plain_stands, plain_string}
+use Rattle.cdl_tokens.proofs.Steps.{take_one_more}
+use Rattle.cdl_tokens.proofs.Strings.{plain_string, plain_unescaped, stands_for}
 use Rattle.cdl_tokens.proofs.Words.{and_false, until_at_start}
 
 -- neither a backslash nor a quote nor a line feed
@@ -20,9 +13,6 @@ is_plain = is_none_of 0x5c 0x22 0x0a
 -- how many of the first bytes are plain
 abbrev plain_len : List ℕ → ℕ
 plain_len bytes = prefix_len is_plain bytes
-
-one_on : (n b : ℕ) (bytes : List ℕ) → take (1 + n) (b ∷ bytes) ≡ b ∷ take n bytes
-one_on n b bytes = ap (λ m. take m (b ∷ bytes)) (let e : 1 + n ≡ suc n = omega arith in e)
 
 at_one_on : (n b : ℕ) (bytes : List ℕ) → slice_index (b ∷ bytes) (1 + n) ≡ slice_index bytes n
 at_one_on n b bytes = ap (λ m. slice_index (b ∷ bytes) m) (let e : 1 + n ≡ suc n = omega arith in e)
@@ -40,10 +30,10 @@ plain_flat (b ∷ bytes) quote = by (is_plain b) refl quote (plain_flat bytes)
         (slice_index bytes (plain_len bytes) ≡ 0x22 → count_by (λ b. b == 0x0a) (take (1 + plain_len bytes) bytes) ≡ 0) → count_by (λ b. b == 0x0a) (take (1 + cond c (1 + plain_len bytes) 0) (b ∷ bytes)) ≡ 0
     by true is quote rest =
         let other : (b == 0x0a) ≡ false = grind (arith, is) in
-        ap (count_by (λ b. b == 0x0a)) (one_on (1 + plain_len bytes) b bytes) ∙ feeds_on b (take (1 + plain_len bytes) bytes) other ∙ rest (sym (at_one_on (plain_len bytes) b bytes) ∙ quote)
+        ap (count_by (λ b. b == 0x0a)) (take_one_more b (1 + plain_len bytes) bytes) ∙ feeds_on b (take (1 + plain_len bytes) bytes) other ∙ rest (sym (at_one_on (plain_len bytes) b bytes) ∙ quote)
     by false is quote rest =
         let other : (b == 0x0a) ≡ false = grind (arith, quote) in
-        ap (count_by (λ b. b == 0x0a)) (one_on 0 b bytes) ∙ feeds_on b [] other
+        ap (count_by (λ b. b == 0x0a)) (take_one_more b 0 bytes) ∙ feeds_on b [] other
 
 -- the string ends at the quote
 plain_until : (bytes : List ℕ) → slice_index bytes (plain_len bytes) ≡ 0x22 → until 0x22 bytes ≡ plain_len bytes
@@ -61,20 +51,20 @@ plain_until (b ∷ bytes) quote = by (is_plain b) refl quote (plain_until bytes)
         until_at_start 0x22 b bytes ∙ rw (here) refl
 
 -- none of them is a backslash
-plain_unescaped : (bytes : List ℕ) → prefix_len is_unescaped (take (plain_len bytes) bytes) ≡ plain_len bytes
-plain_unescaped [] = refl
-plain_unescaped (b ∷ bytes) = by (is_plain b) refl (plain_unescaped bytes)
+no_backslash : (bytes : List ℕ) → prefix_len is_unescaped (take (plain_len bytes) bytes) ≡ plain_len bytes
+no_backslash [] = refl
+no_backslash (b ∷ bytes) = by (is_plain b) refl (no_backslash bytes)
   where
     by : (c : Bool) → is_plain b ≡ c → prefix_len is_unescaped (take (plain_len bytes) bytes) ≡ plain_len bytes → prefix_len is_unescaped (take (cond c (1 + plain_len bytes) 0) (b ∷ bytes)) ≡ cond c (1 + plain_len bytes) 0
     by true is rest =
         let other : (b == 0x5c) ≡ false = grind (arith, is) in
-        ap (prefix_len is_unescaped) (one_on (plain_len bytes) b bytes) ∙ rw (other) (ap (λ n. 1 + n) rest)
+        ap (prefix_len is_unescaped) (take_one_more b (plain_len bytes) bytes) ∙ rw (other) (ap (λ n. 1 + n) rest)
     by false is rest = refl
 
 taken_within : (n : ℕ) (bytes : List ℕ) → take n (take (1 + n) bytes) ≡ take n bytes
 taken_within zero bytes = refl
 taken_within (suc n) [] = ap (take (suc n)) (let e : take {A = ℕ} (1 + suc n) [] ≡ [] = ap (λ m. take {A = ℕ} m []) (let e : 1 + suc n ≡ suc (suc n) = omega arith in e) in e)
-taken_within (suc n) (b ∷ bytes) = ap (take (suc n)) (one_on (suc n) b bytes) ∙ ap (λ xs. b ∷ xs) (ap (λ m. take n (take m bytes)) (let e : suc n ≡ 1 + n = omega arith in e) ∙ taken_within n bytes)
+taken_within (suc n) (b ∷ bytes) = ap (take (suc n)) (take_one_more b (suc n) bytes) ∙ ap (λ xs. b ∷ xs) (ap (λ m. take n (take m bytes)) (let e : suc n ≡ 1 + n = omega arith in e) ∙ taken_within n bytes)
 
 -- what stands between the quotes
 inner_of : (b n : ℕ) (bytes : List ℕ) → n < length bytes → inner (take (n + 2) (b ∷ bytes)) ≡ take n bytes
@@ -84,11 +74,11 @@ inner_of b n bytes within =
     ap inner cut ∙ ap (λ m. take m (take (1 + n) bytes)) long ∙ taken_within n bytes
 
 -- a quote begins a string
-scan_quote : (fresh : Bool) (bytes : List ℕ) → scan fresh (0x22 ∷ bytes) ≡ scan_text bytes (until 0x22 bytes)
+scan_quote : (at_start : Bool) (bytes : List ℕ) → scan at_start (0x22 ∷ bytes) ≡ scan_text bytes (until 0x22 bytes)
 unfolding scan
-scan_quote fresh bytes = rw (no_opening (0x22 ∷ bytes) refl) (rw (and_false fresh) refl)
+scan_quote at_start bytes = rw (no_opening (0x22 ∷ bytes) refl) (rw (and_false at_start) refl)
 
-plain_scanned : (bytes : List ℕ) (n : ℕ) → n < length bytes → is_some (unescape (take n bytes)) ≡ true → scan_text bytes n ≡ token Text (n + 2)
+plain_scanned : (bytes : List ℕ) (n : ℕ) → n < length bytes → list_all is_some (unescape (take n bytes)) ≡ true → scan_text bytes n ≡ token Text (n + 2)
 plain_scanned bytes n within string =
     let on : nat_lt n (length bytes) ≡ true = grind (arith, within) in
     rw (on) (ap (λ s. token (if s then Text else Bad) (n + 2)) string)
@@ -98,13 +88,13 @@ plain_begins bytes quote =
     let n = plain_len bytes in
     let within = quote_within bytes n quote in
     let long : length (take n bytes) ≡ n = length-take-le n bytes (omega (arith, within)) in
-    let all : prefix_len is_unescaped (take n bytes) ≡ length (take n bytes) = plain_unescaped bytes ∙ sym long in
+    let all : prefix_len is_unescaped (take n bytes) ≡ length (take n bytes) = no_backslash bytes ∙ sym long in
     record {
-      begins = λ fresh. scan_quote fresh bytes ∙ ap (scan_text bytes) (plain_until bytes quote) ∙ plain_scanned bytes n within (plain_string (take n bytes) all);
+      begins = λ at_start. scan_quote at_start bytes ∙ ap (scan_text bytes) (plain_until bytes quote) ∙ plain_scanned bytes n within (plain_string (take n bytes) all);
       some = omega arith;
       within = omega (arith, within);
       flat = ap (λ m. count_by (λ b. b == 0x0a) (take m (0x22 ∷ bytes))) (let e : n + 2 ≡ suc (1 + n) = omega arith in e) ∙ feeds_on 0x22 (take (1 + n) bytes) refl ∙ plain_flat bytes quote;
-      plain = ap stands (inner_of 0x22 n bytes within) ∙ plain_stands (take n bytes) all ∙ sym (inner_of 0x22 n bytes within);
+      plain = ap stands (inner_of 0x22 n bytes within) ∙ stands_for (take n bytes) (take n bytes) (plain_unescaped (take n bytes) all) ∙ sym (inner_of 0x22 n bytes within);
     }
 
 pub begins_string : (bs rest : List ℕ) (n : ℕ) → slice_index bs 0 ≡ 0x22 → drop 1 bs ≡ rest → n ≡ plain_len rest → slice_index rest n ≡ 0x22 → BeginsString bs (n + 2)

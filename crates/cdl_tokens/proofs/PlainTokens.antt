@@ -1,18 +1,6 @@
 -- Marks and numbers at the start of bytes: they are no other token, and have no line feed.
-use Rattle.std.proofs.Common.{◌≡◌, ℕ, zero, suc, ◌+◌, ◌<◌, ◌≤◌, Bool, true, false, cond, List, [], ◌∷◌, length, get_or, drop, take, sym, ◌∙◌, ap, refl, arith, subst}
-use Rattle.std.specs.Prelude.{◌==◌, ◌&&◌, ◌||◌, count_by}
-use Rattle.std.specs.List.{prefix_len}
-use Rattle.cdl_tokens.specs.declared.token.TokenKind.TheVariants.{Number, Mark}
-use Rattle.cdl_tokens.specs.Bytes.{begins_word, goes_on_number, is_mark, is_blank, is_digit, is_sign}
-use Rattle.cdl_tokens.specs.Scan.{scan, token, gap, begins_number, begins_opening}
-use Rattle.std.specs.Prelude.{Some}
-use Rattle.std.proofs.lemmas.List.{get_or-drop}
-use Rattle.std.proofs.lemmas.List.Sums.{sum_by-append}
-use Rattle.std.proofs.lemmas.Bool.{false≢true}
-use Rattle.std.proofs.Common.{length-drop}
-use Rattle.cdl_tokens.specs.declared.token.TokenKind.{TokenKind}
-use Rattle.cdl_tokens.specs.Scanners.{is_token, followed}
-use Rattle.cdl_tokens.specs.Tokens.{tokens_at, line_at}
+use Rattle.std.proofs.Common.{◌≡◌, ℕ, zero, suc, ◌+◌, ◌<◌, ◌≤◌, Bool, true, false, cond, List, [], ◌∷◌, length, get_or, drop, take, sym, ◌∙◌, ap, refl, arith, subst, ◌==◌, ◌&&◌, ◌||◌, count_by, Some, length-drop}
+use Rattle.cdl_tokens.proofs.Prelude.{prefix_len, Number, Mark, begins_word, goes_on_number, is_mark, is_blank, is_digit, is_sign, scan, token, gap, begins_number, begins_opening, get_or-drop, sum_by-append, false≢true, TokenKind, is_token, followed, tokens_at, line_at}
 use Rattle.cdl_tokens.proofs.Scans.{step_gap, step_token, line_more}
 use Rattle.cdl_tokens.proofs.Words.{and_false}
 
@@ -37,7 +25,7 @@ each_mark P b colon semicolon equals comma left right brace h =
     or_split (b == 0x3a || b == 0x3b) (b == 0x3d) h (λ h.
     or_split (b == 0x3a) (b == 0x3b) h (at_byte P 0x3a b colon) (at_byte P 0x3b b semicolon)) (at_byte P 0x3d b equals)) (at_byte P 0x2c b comma)) (at_byte P 0x28 b left)) (at_byte P 0x29 b right)) (at_byte P 0x7d b brace)
 
--- the classes of which no mark is one
+-- the classes of bytes that no mark belongs to
 abbrev MarkClasses : ℕ → Type 0
 MarkClasses b = ((b == 0x6e) ≡ false) × (begins_word b ≡ false) × ((b == 0x5c) ≡ false) × (is_digit b ≡ false) × ((b == 0x2e) ≡ false) × (is_sign b ≡ false) × (is_blank b ≡ false) × ((b == 0x2f) ≡ false) × ((b == 0x22) ≡ false) × ((b == 0x0a) ≡ false)
 
@@ -53,11 +41,11 @@ mark_classes b h = each_mark MarkClasses b
     h
 
 -- a mark
-pub scan_mark : (fresh : Bool) (bs : List ℕ) → is_mark (get_or bs 0 0) ≡ true → scan fresh bs ≡ token Mark 1
+pub scan_mark : (at_start : Bool) (bs : List ℕ) → is_mark (get_or bs 0 0) ≡ true → scan at_start bs ≡ token Mark 1
 unfolding scan
-scan_mark fresh bs h =
+scan_mark at_start bs h =
     let (netcdf, word, escape, digit, point, sign, blank, slash, quote, feed) = mark_classes (get_or bs 0 0) h in
-    rw (no_opening bs netcdf) (rw (and_false fresh) (rw (word) (rw (escape) (rw (digit) (rw (point) (rw (sign) (rw (blank) (rw (slash) (rw (quote) (rw (h) refl))))))))))
+    rw (no_opening bs netcdf) (rw (and_false at_start) (rw (word) (rw (escape) (rw (digit) (rw (point) (rw (sign) (rw (blank) (rw (slash) (rw (quote) (rw (h) refl))))))))))
 
 -- the first byte of a number
 number_low : (bs : List ℕ) → begins_number bs ≡ true → (get_or bs 0 0 ≤ 0x39) × (0x2b ≤ get_or bs 0 0)
@@ -71,19 +59,19 @@ pub digit_number : (bs : List ℕ) → is_digit (get_or bs 0 0) ≡ true → beg
 digit_number bs h = rw (h) refl
 
 -- a number
-pub scan_number : (fresh : Bool) (bs : List ℕ) → begins_number bs ≡ true → scan fresh bs ≡ token Number (1 + prefix_len goes_on_number (drop 1 bs))
+pub scan_number : (at_start : Bool) (bs : List ℕ) → begins_number bs ≡ true → scan at_start bs ≡ token Number (1 + prefix_len goes_on_number (drop 1 bs))
 unfolding scan
-scan_number fresh bs h =
+scan_number at_start bs h =
     let low = number_low bs h in
     let netcdf : (get_or bs 0 0 == 0x6e) ≡ false = grind (arith, low) in
     let word : begins_word (get_or bs 0 0) ≡ false = grind (arith, low) in
     let escape : (get_or bs 0 0 == 0x5c) ≡ false = grind (arith, low) in
-    rw (no_opening bs netcdf) (rw (and_false fresh) (rw (word) (rw (escape) (rw (h) refl))))
+    rw (no_opening bs netcdf) (rw (and_false at_start) (rw (word) (rw (escape) (rw (h) refl))))
 
--- a blank
-pub scan_blank : (fresh : Bool) (bs : List ℕ) → is_blank (get_or bs 0 0) ≡ true → scan fresh bs ≡ gap 1
+-- a byte of white space
+pub scan_blank : (at_start : Bool) (bs : List ℕ) → is_blank (get_or bs 0 0) ≡ true → scan at_start bs ≡ gap 1
 unfolding scan
-scan_blank fresh bs h =
+scan_blank at_start bs h =
     let low : get_or bs 0 0 ≤ 0x20 = grind (arith, h) in
     let netcdf : (get_or bs 0 0 == 0x6e) ≡ false = grind (arith, low) in
     let word : begins_word (get_or bs 0 0) ≡ false = grind (arith, low) in
@@ -91,7 +79,7 @@ scan_blank fresh bs h =
     let digit : is_digit (get_or bs 0 0) ≡ false = grind (arith, low) in
     let point : (get_or bs 0 0 == 0x2e) ≡ false = grind (arith, low) in
     let sign : is_sign (get_or bs 0 0) ≡ false = grind (arith, low) in
-    rw (no_opening bs netcdf) (rw (and_false fresh) (rw (word) (rw (escape) (rw (digit) (rw (point) (rw (sign) (rw (h) refl)))))))
+    rw (no_opening bs netcdf) (rw (and_false at_start) (rw (word) (rw (escape) (rw (digit) (rw (point) (rw (sign) (rw (h) refl)))))))
 
 -- no byte of a number is a line feed
 pub feeds_on : (b : ℕ) (xs : List ℕ) → (b == 0x0a) ≡ false → count_by (λ b. b == 0x0a) (b ∷ xs) ≡ count_by (λ b. b == 0x0a) xs
@@ -122,10 +110,10 @@ mark_flat (b ∷ bs) h =
     feeds_on b [] feed
 
 -- at a place of a text
-pub blank_at : (text : List ℕ) (fresh : Bool) (at : ℕ) → is_blank (get_or text at 0) ≡ true → scan fresh (drop at text) ≡ gap 1
-blank_at text fresh at h =
+pub blank_at : (text : List ℕ) (at_start : Bool) (at : ℕ) → is_blank (get_or text at 0) ≡ true → scan at_start (drop at text) ≡ gap 1
+blank_at text at_start at h =
     let here : get_or (drop at text) 0 0 ≡ get_or text at 0 = get_or-drop at text 0 0 ∙ ap (λ n. get_or text n 0) (let e : at + 0 ≡ at = omega arith in e) in
-    scan_blank fresh (drop at text) (ap is_blank here ∙ h)
+    scan_blank at_start (drop at text) (ap is_blank here ∙ h)
 
 pub here_dropped : (text : List ℕ) (at : ℕ) → get_or (drop at text) 0 0 ≡ get_or text at 0
 here_dropped text at = get_or-drop at text 0 0 ∙ ap (λ n. get_or text n 0) (let e : at + 0 ≡ at = omega arith in e)
@@ -136,20 +124,20 @@ inside_at [] at h = cc
 inside_at (b ∷ bs) zero h = omega arith
 inside_at (b ∷ bs) (suc at) h = let e = inside_at bs at h in omega (arith, e)
 
-pub comma_at : (text : List ℕ) (fresh : Bool) (at : ℕ) → get_or text at 0 ≡ 0x2c → scan fresh (drop at text) ≡ token Mark 1
-comma_at text fresh at h = scan_mark fresh (drop at text) (ap is_mark (here_dropped text at ∙ h))
+pub comma_at : (text : List ℕ) (at_start : Bool) (at : ℕ) → get_or text at 0 ≡ 0x2c → scan at_start (drop at text) ≡ token Mark 1
+comma_at text at_start at h = scan_mark at_start (drop at text) (ap is_mark (here_dropped text at ∙ h))
 
 pub comma_flat : (text : List ℕ) (at : ℕ) → get_or text at 0 ≡ 0x2c → count_by (λ b. b == 0x0a) (take 1 (drop at text)) ≡ 0
 comma_flat text at h = mark_flat (drop at text) (ap is_mark (here_dropped text at ∙ h))
 
-pub past_blank : (text : List ℕ) (fresh : Bool) (at : ℕ) → at < length text → is_blank (get_or text at 0) ≡ true → tokens_at text fresh at 0 (drop at text) ≡ tokens_at text fresh (at + 1) 0 (drop (at + 1) text)
-past_blank text fresh at inside h =
-    step_gap text fresh at (gap 1) inside (sym (blank_at text fresh at h)) (omega arith) (rw (length-drop at text) (omega (arith, inside))) refl
+pub past_blank : (text : List ℕ) (at_start : Bool) (at : ℕ) → at < length text → is_blank (get_or text at 0) ≡ true → tokens_at text at_start at 0 (drop at text) ≡ tokens_at text at_start (at + 1) 0 (drop (at + 1) text)
+past_blank text at_start at inside h =
+    step_gap text at_start at (gap 1) inside (sym (blank_at text at_start at h)) (omega arith) (rw (length-drop at text) (omega (arith, inside))) refl
 
-pub past_token : (text : List ℕ) (fresh : Bool) (at line len : ℕ) (kind : TokenKind) → scan fresh (drop at text) ≡ token kind len → 0 < len → at + len ≤ length text → is_token (Some kind) ≡ true → line ≡ line_at text at →
-    tokens_at text fresh at 0 (drop at text) ≡ followed (record { kind = kind; line = line; first = at; past = at + len }) kind (tokens_at text false (at + len) 0 (drop (at + len) text))
-past_token text fresh at line len kind here some within is on =
-    step_token text fresh at line (token kind len) kind (omega (arith, some, within)) (sym here) some (rw (length-drop at text) (omega (arith, some, within))) is refl on
+pub past_token : (text : List ℕ) (at_start : Bool) (at line len : ℕ) (kind : TokenKind) → scan at_start (drop at text) ≡ token kind len → 0 < len → at + len ≤ length text → is_token (Some kind) ≡ true → line ≡ line_at text at →
+    tokens_at text at_start at 0 (drop at text) ≡ followed (record { kind = kind; line = line; first = at; past = at + len }) kind (tokens_at text false (at + len) 0 (drop (at + len) text))
+past_token text at_start at line len kind here some within is on =
+    step_token text at_start at line (token kind len) kind (omega (arith, some, within)) (sym here) some (rw (length-drop at text) (omega (arith, some, within))) is refl on
 
 -- no line feed stands before the place after a token without one
 pub same_line : (text : List ℕ) (at line len : ℕ) → line ≡ line_at text at → count_by (λ b. b == 0x0a) (take len (drop at text)) ≡ 0 → line ≡ line_at text (at + len)

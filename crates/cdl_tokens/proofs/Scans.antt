@@ -1,15 +1,7 @@
 -- A scanner, one gap or token on.
-use Rattle.std.proofs.Common.{◌≡◌, ℕ, zero, suc, ◌+◌, ◌<◌, ◌≤◌, Bool, true, false, cond, List, [], ◌∷◌, ◌++◌, length, drop, take, sym, ◌∙◌, ap, refl, arith}
-use Rattle.std.specs.Prelude.{◌==◌, None, Some, count_by}
-use Rattle.std.proofs.lemmas.List.Sums.{sum_by-append}
-use Rattle.cdl_tokens.specs.declared.scan.Scanned.{Scanned}
-use Rattle.cdl_tokens.specs.declared.token.Token.{Token}
-use Rattle.cdl_tokens.specs.declared.token.TokenKind.{TokenKind}
-use Rattle.cdl_tokens.specs.declared.token.TokenKind.TheVariants.{Opening, Word, Number, Text, Mark, Bad, End}
+use Rattle.std.proofs.Common.{◌≡◌, ℕ, zero, suc, ◌+◌, ◌<◌, ◌≤◌, Bool, true, false, cond, List, [], ◌∷◌, ◌++◌, length, drop, take, sym, ◌∙◌, ap, refl, arith, ◌==◌, None, Some, count_by}
+use Rattle.cdl_tokens.proofs.Prelude.{sum_by-append, Scanned, Token, TokenKind, Opening, Word, Number, Text, Mark, Bad, End, scan, is_end, is_token, left, followed, tokens_at, line_at}
 use Rattle.cdl_tokens.specs.declared.scanner.Scanner.{Scanner}
-use Rattle.cdl_tokens.specs.Scan.{scan}
-use Rattle.cdl_tokens.specs.Scanners.{is_end, is_token, left, followed}
-use Rattle.cdl_tokens.specs.Tokens.{tokens_at, line_at}
 use Rattle.cdl_tokens.proofs.Steps.{tokens_more, tokens_past}
 use Rattle.cdl_tokens.proofs.Words.{and_false, and_yes}
 
@@ -31,28 +23,28 @@ no_end Mark h = refl
 no_end Bad h = refl
 no_end End h = cc
 
-pub step_token : (text : List ℕ) (fresh : Bool) (at line : ℕ) (f : Scanned) (kind : TokenKind) → at < length text → f ≡ scan fresh (drop at text) → 0 < f.len → f.len ≤ length (drop at text) → is_token f.kind ≡ true → f.kind ≡ Some kind → line ≡ line_at text at →
-    tokens_at text fresh at 0 (drop at text) ≡ followed (record { kind = kind; line = line; first = at; past = at + f.len }) kind (tokens_at text false (at + f.len) 0 (drop (at + f.len) text))
-step_token text fresh at line f kind h is some within token one on =
+pub step_token : (text : List ℕ) (at_start : Bool) (at line : ℕ) (f : Scanned) (kind : TokenKind) → at < length text → f ≡ scan at_start (drop at text) → 0 < f.len → f.len ≤ length (drop at text) → is_token f.kind ≡ true → f.kind ≡ Some kind → line ≡ line_at text at →
+    tokens_at text at_start at 0 (drop at text) ≡ followed (record { kind = kind; line = line; first = at; past = at + f.len }) kind (tokens_at text false (at + f.len) 0 (drop (at + f.len) text))
+step_token text at_start at line f kind h is some within token one on =
     let t : Token = record { kind = kind; line = line; first = at; past = at + f.len } in
     let rest = tokens_at text false (at + f.len) 0 (drop (at + f.len) text) in
     let same : is_token (Some kind) ≡ true = ap is_token (sym one) ∙ token in
-    tokens_more text fresh at f h is some within ∙
-    rw (one) (rw (and_false fresh) (rw (followed_token t kind rest same) (rw (on) refl)))
+    tokens_more text at_start at f h is some within ∙
+    rw (one) (rw (and_false at_start) (rw (followed_token t kind rest same) (rw (on) refl)))
 
-pub step_gap : (text : List ℕ) (fresh : Bool) (at : ℕ) (f : Scanned) → at < length text → f ≡ scan fresh (drop at text) → 0 < f.len → f.len ≤ length (drop at text) → f.kind ≡ None →
-    tokens_at text fresh at 0 (drop at text) ≡ tokens_at text fresh (at + f.len) 0 (drop (at + f.len) text)
-step_gap text fresh at f h is some within gap =
-    tokens_more text fresh at f h is some within ∙ rw (gap) (rw (and_yes fresh true refl) refl)
+pub step_gap : (text : List ℕ) (at_start : Bool) (at : ℕ) (f : Scanned) → at < length text → f ≡ scan at_start (drop at text) → 0 < f.len → f.len ≤ length (drop at text) → f.kind ≡ None →
+    tokens_at text at_start at 0 (drop at text) ≡ tokens_at text at_start (at + f.len) 0 (drop (at + f.len) text)
+step_gap text at_start at f h is some within gap =
+    tokens_more text at_start at f h is some within ∙ rw (gap) (rw (and_yes at_start true refl) refl)
 
-pub left_of : (s : Scanner) (text : List ℕ) (fresh : Bool) (at : ℕ) → s.text.now ≡ text → s.fresh ≡ fresh → s.at ≡ at → left s ≡ tokens_at text fresh at 0 (drop at text)
-left_of s text fresh at t f a =
-    ap (λ x. tokens_at x s.fresh s.at 0 (drop s.at x)) t ∙ ap (λ x. tokens_at text x s.at 0 (drop s.at text)) f ∙ ap (λ x. tokens_at text fresh x 0 (drop x text)) a
+pub left_of : (s : Scanner) (text : List ℕ) (at_start : Bool) (at : ℕ) → s.text.now ≡ text → s.at_start ≡ at_start → s.at ≡ at → left s ≡ tokens_at text at_start at 0 (drop at text)
+left_of s text at_start at t f a =
+    ap (λ x. tokens_at x s.at_start s.at 0 (drop s.at x)) t ∙ ap (λ x. tokens_at text x s.at 0 (drop s.at text)) f ∙ ap (λ x. tokens_at text at_start x 0 (drop x text)) a
 
-pub step_end : (text : List ℕ) (fresh : Bool) (at line : ℕ) → length text ≤ at → line ≡ line_at text at → tokens_at text fresh at 0 (drop at text) ≡ record { kind = End; line = line; first = at; past = at } ∷ []
-step_end text fresh at line h on =
+pub step_end : (text : List ℕ) (at_start : Bool) (at line : ℕ) → length text ≤ at → line ≡ line_at text at → tokens_at text at_start at 0 (drop at text) ≡ record { kind = End; line = line; first = at; past = at } ∷ []
+step_end text at_start at line h on =
     let t : ℕ → ℕ → Token = λ l p. record { kind = End; line = l; first = at; past = p } in
-    tokens_past text fresh at h ∙ ap (λ l. t l (at + 0) ∷ []) (sym on) ∙ ap (λ p. t line p ∷ []) (let e : at + 0 ≡ at = omega arith in e)
+    tokens_past text at_start at h ∙ ap (λ l. t l (at + 0) ∷ []) (sym on) ∙ ap (λ p. t line p ∷ []) (let e : at + 0 ≡ at = omega arith in e)
 
 take_none : (n : ℕ) → take {A = ℕ} n [] ≡ []
 take_none zero = refl

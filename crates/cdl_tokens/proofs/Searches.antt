@@ -1,11 +1,7 @@
 -- What a stretch of bytes says of a search that goes on after it, and of a count.
-use Rattle.std.proofs.Common.{◌≡◌, ℕ, zero, suc, ◌+◌, ◌<◌, ◌≤◌, Bool, true, false, cond, eqb, List, [], ◌∷◌, ◌++◌, length, drop, take, count_by, sym, ap, ◌∙◌, refl, arith}
-use Rattle.std.specs.Prelude.{◌&&◌, ◌||◌, ◌==◌, not}
-use Rattle.std.specs.List.{list_any, prefix_len}
-use Rattle.std.proofs.lemmas.List.{drop-drop}
+use Rattle.std.proofs.Common.{◌≡◌, ℕ, zero, suc, ◌+◌, ◌<◌, ◌≤◌, Bool, true, false, cond, eqb, List, [], ◌∷◌, ◌++◌, length, drop, take, count_by, sym, ap, ◌∙◌, refl, arith, ◌&&◌, ◌||◌, ◌==◌, not}
+use Rattle.cdl_tokens.proofs.Prelude.{list_any, prefix_len, drop-drop, prefix_len-le-length, sum_by-append, is_none_of, is_ordinary}
 use Rattle.std.proofs.lemmas.List.Folds.{prefix_len-append}
-use Rattle.std.proofs.lemmas.List.Sums.{prefix_len-le-length, sum_by-append}
-use Rattle.cdl_tokens.specs.Scanners.{is_none_of, is_ordinary}
 use Rattle.cdl_tokens.proofs.Scans.{take_more}
 
 -- the search ends in the first stretch, or goes on after it

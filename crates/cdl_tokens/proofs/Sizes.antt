@@ -1,14 +1,8 @@
 -- Numbers of any length.
-use Rattle.std.proofs.Common.{◌≡◌, ℕ, ◌+◌, ◌-◌, ◌*◌, ◌^◌, ◌<◌, ◌≤◌, true, List, [], ◌∷◌, length, get_or, drop, ◌∙◌, ap, arith, rules}
-use Rattle.std.specs.Prelude.{None}
+use Rattle.std.proofs.Common.{◌≡◌, ℕ, ◌+◌, ◌-◌, ◌*◌, ◌^◌, ◌<◌, ◌≤◌, true, List, [], ◌∷◌, length, get_or, drop, ◌∙◌, ap, arith, rules, None}
 use Rattle.std.proofs.Math.Nat.{mul-le-mul_right}
-use Rattle.std.proofs.lemmas.Grind.{pow_more}
-use Rattle.std.proofs.lemmas.List.{at_drop_more}
+use Rattle.cdl_tokens.proofs.Prelude.{pow_more, at_drop_more, digit, is_digit, number_in, word}
 use Rattle.std.proofs.Math.Nat.{pow-le-pow_right}
-use Rattle.cdl_tokens.specs.Bytes.{is_digit}
-use Rattle.cdl_tokens.specs.Escapes.{digit}
-use Rattle.cdl_tokens.specs.Numerals.{number_in}
-use Rattle.cdl_tokens.specs.Magnitudes.{word}
 
 grows : (base s : ℕ) → 1 ≤ base → s ≤ base * s
 grows base s h = grind arith

@@ -1,22 +1,10 @@
 -- Suffixes, each letter in either case.
-use Rattle.std.proofs.Common.{◌≡◌, ℕ, Bool, true, false, List, [], ◌∷◌, refl, sym, arith}
-use Rattle.std.specs.Prelude.{◌↔◌, map, IsTrue}
+use Rattle.std.proofs.Common.{◌≡◌, ℕ, Bool, true, false, List, [], ◌∷◌, refl, sym, arith, ◌↔◌, map, IsTrue, Some, length, suc}
 use Rattle.std.specs.Char.{to_ascii_lowercase}
 use Rattle.std.specs.Str.{bytes_eq}
 use Rattle.std.specs.Cmp.Lexicographic.{bytes_decides}
-use Rattle.cdl_tokens.specs.Numerals.{lower, suffix}
-use Rattle.std.proofs.Common.{length, suc}
-use Rattle.std.specs.Prelude.{Some}
-use Rattle.nc_base.specs.declared.version.Version.{Version}
+use Rattle.cdl_tokens.proofs.Prelude.{suffix, Version, Int}
 use Rattle.nc_base.specs.declared.version.Version.TheVariants.{Cdf1, Cdf2, Cdf5}
-use Rattle.nc_base.specs.declared.nc_type.NcType.TheVariants.{Int}
-
-lower_is : (b : ℕ) → lower b ≡ to_ascii_lowercase b
-lower_is b = grind arith
-
-lowered : (bs : List ℕ) → map lower bs ≡ map to_ascii_lowercase bs
-lowered [] = refl
-lowered (b ∷ bs) = rw (lower_is b) (rw (lowered bs) refl)
 
 same_truth : {P : Type 0} (r w : Bool) → (IsTrue r ↔ P) → (w ≡ true → P) → (P → w ≡ true) → r ≡ w
 same_truth true true h to from = refl
@@ -24,10 +12,10 @@ same_truth true false h to from = sym (from (h.0 refl))
 same_truth false true h to from = h.1 (to refl)
 same_truth false false h to from = refl
 
-pub same_suffix : (a b : List ℕ) (r : Bool) → (IsTrue r ↔ (map to_ascii_lowercase a ≡ map to_ascii_lowercase b)) → r ≡ bytes_eq (map lower a) (map lower b)
+pub same_suffix : (a b : List ℕ) (r : Bool) → (IsTrue r ↔ (map to_ascii_lowercase a ≡ map to_ascii_lowercase b)) → r ≡ bytes_eq (map to_ascii_lowercase a) (map to_ascii_lowercase b)
 same_suffix a b r h =
     let d = bytes_decides (map to_ascii_lowercase a) (map to_ascii_lowercase b) in
-    rw (lowered a) (rw (lowered b) (same_truth r (bytes_eq (map to_ascii_lowercase a) (map to_ascii_lowercase b)) h d.0 d.1))
+    same_truth r (bytes_eq (map to_ascii_lowercase a) (map to_ascii_lowercase b)) h d.0 d.1
 
 -- no suffix: int, which every version has
 none : (v : Version) → suffix v [] ≡ Some Int

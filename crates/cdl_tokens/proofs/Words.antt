@@ -1,15 +1,7 @@
 -- A word and a quoted text, one byte or escape on.
-use Rattle.std.proofs.Common.{◌≡◌, ℕ, ◌+◌, ◌<◌, ◌≤◌, Bool, true, false, cond, List, [], ◌∷◌, length, get_or, drop, sym, ◌∙◌, ap, refl, arith, length-drop}
-use Rattle.std.specs.Prelude.{◌&&◌, ◌||◌, ◌==◌, not, if◌then◌else◌, nat_lt}
-use Rattle.std.specs.List.{prefix_len}
-use Rattle.cdl_tokens.specs.Scanners.{is_ordinary}
+use Rattle.std.proofs.Common.{◌≡◌, ℕ, ◌+◌, ◌<◌, ◌≤◌, Bool, true, false, cond, List, [], ◌∷◌, length, get_or, drop, sym, ◌∙◌, ap, refl, arith, length-drop, ◌&&◌, ◌||◌, ◌==◌, not, if◌then◌else◌, nat_lt, ⊎_elim, append_assoc, ◌++◌}
+use Rattle.cdl_tokens.proofs.Prelude.{prefix_len, is_ordinary, false≢true, cases_lt, at_drop_more, at_drop_all, drop-drop, get_or-drop, get_or_past, is_escape, goes_on_word, begins_word, word_len, until, word_value}
 use Rattle.cdl_tokens.proofs.Steps.{drop_one_more}
-use Rattle.std.proofs.Common.{⊎_elim, append_assoc, ◌++◌}
-use Rattle.std.proofs.lemmas.Bool.{false≢true, cases_lt}
-use Rattle.std.proofs.lemmas.List.{at_drop_more, at_drop_all, drop-drop, get_or-drop, get_or_past}
-use Rattle.cdl_tokens.specs.Bytes.{is_escape, goes_on_word, begins_word}
-use Rattle.cdl_tokens.specs.Scan.{word_len, until}
-use Rattle.cdl_tokens.specs.Escapes.{word_value}
 
 pub and_false : (a : Bool) → (a && false) ≡ false
 and_false a = elim a as (λ v. (v && false) ≡ false) [ true ↦ refl | false ↦ refl ]

@@ -3,6 +3,4 @@ pub mod Escapes
 pub mod Scan
 pub mod Tokens
 pub mod Numerals
-pub mod Scanners
-pub mod Magnitudes
-pub mod PlainTokens
+pub mod code

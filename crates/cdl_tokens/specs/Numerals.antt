@@ -1,15 +1,14 @@
--- What number tokens say.
-use Rattle.std.specs.Prelude.{find, not, ℕ, ℤ, pos, neg_ℤ, Bool, false, List, [], ◌∷◌, ◌+◌, ◌*◌, ◌&&◌, ◌||◌, ◌==◌, if◌then◌else◌, slice_index, take, drop, map, codes, Option, None, Some}
+-- Definition. What number tokens say.
+use Rattle.std.specs.Prelude.{find, ℕ, ℤ, pos, neg_ℤ, Bool, false, List, [], ◌&&◌, ◌||◌, ◌==◌, if◌then◌else◌, slice_index, take, drop, map, codes, Option, None}
+use Rattle.std.specs.Char.{to_ascii_lowercase}
 use Rattle.std.specs.List.{prefix_len}
 use Rattle.std.specs.Option.{option_map}
 use Rattle.std.specs.Str.{bytes_eq}
-use Rattle.cdl_tokens.specs.Bytes.{within, is_digit, is_octal, is_hex, is_sign}
-use Rattle.cdl_tokens.specs.Escapes.{digit}
+use Rattle.cdl_tokens.specs.Bytes.{is_digit, is_octal, is_hex, is_sign, number_in}
 use Rattle.nc_base.specs.declared.nc_type.NcType.{NcType}
-use Rattle.nc_base.specs.declared.nc_type.NcType.TheVariants.{Int}
+use Rattle.nc_base.specs.declared.nc_type.NcType.TheVariants.{Char, Int}
 use Rattle.nc_base.specs.declared.version.Version.{Version}
 use Rattle.nc_base.specs.Types.{all_types, number_suffix}
-use Rattle.nc_base.specs.ValueText.{is_char}
 use Rattle.nc_base.specs.Versions.{has_type}
 
 -- a number and the type that its suffix says
@@ -17,29 +16,15 @@ pub record Numeral : Type 0 where
   pub value : ℤ
   pub ty : NcType
 
-abbrev pub number_in : ℕ → ℕ → List ℕ → ℕ
-number_in base sofar [] = sofar
-number_in base sofar (b ∷ bs) = number_in base (base * sofar + digit b) bs
-
-abbrev pub lower : ℕ → ℕ
-lower b = if within 0x41 0x5a b then b + 32 else b
-
--- a number of this type may have the suffix, in lower case
+-- a number of this type may have the suffix, in lower case: the one that a dump prints, or `l` for int
 abbrev pub has_suffix : List ℕ → NcType → Bool
-has_suffix bs ty = not (is_char ty) && bytes_eq bs (map lower (number_suffix ty))
+has_suffix bs Char = false
+has_suffix bs Int = bytes_eq bs [] || bytes_eq bs (codes "l")
+has_suffix bs ty = bytes_eq bs (map to_ascii_lowercase (number_suffix ty))
 
--- the type of a suffix in lower case: one of those that a dump prints, or `l` for int
-abbrev pub type_of_suffix : List ℕ → Option NcType
-type_of_suffix bs = if bytes_eq bs (codes "l") then Some Int else find (has_suffix bs) all_types
-
--- the type, where the version has it
-abbrev pub of_version : Version → Option NcType → Option NcType
-of_version v None = None
-of_version v (Some ty) = if has_type v ty then Some ty else None
-
--- each letter in either case
+-- the type of a suffix, each letter in either case, if the version has the type
 unfoldable pub suffix : Version → List ℕ → Option NcType
-suffix v bs = of_version v (type_of_suffix (map lower bs))
+suffix v bs = find (λ ty. has_suffix (map to_ascii_lowercase bs) ty && has_type v ty) all_types
 
 -- a number's sign, its digits' number, which has no limit, and the type that its suffix says
 pub record Parts : Type 0 where
@@ -47,18 +32,15 @@ pub record Parts : Type 0 where
   pub magnitude : ℕ
   pub ty : NcType
 
-abbrev pub with_suffix : Bool → ℕ → Option NcType → Option Parts
-with_suffix minus n None = None
-with_suffix minus n (Some ty) = Some (record { minus = minus; magnitude = n; ty = ty })
-
--- digits of a base, of which there are n, and a suffix
+-- n digits of a base, one at least, and a suffix
 abbrev pub in_base : Version → Bool → ℕ → ℕ → List ℕ → Option Parts
-in_base v minus base n bs = if n == 0 then None else with_suffix minus (number_in base 0 (take n bs)) (suffix v (drop n bs))
+in_base v minus base n bs =
+    if n == 0 then None else option_map (λ ty. record { minus = minus; magnitude = number_in base 0 (take n bs); ty = ty }) (suffix v (drop n bs))
 
--- `0x` or `0X` and hexadecimal digits; `0` and octal digits, or decimal digits
+-- hexadecimal digits after `0x` or `0X`; or octal digits, if `0` is the first of them or alone; or decimal digits
 abbrev pub unsigned : Version → Bool → List ℕ → Option Parts
 unsigned v minus bs =
-    if slice_index bs 0 == 0x30 && (slice_index bs 1 == 0x78 || slice_index bs 1 == 0x58) then in_base v minus 16 (prefix_len is_hex (drop 2 bs)) (drop 2 bs)
+    if slice_index bs 0 == 0x30 && to_ascii_lowercase (slice_index bs 1) == 0x78 then in_base v minus 16 (prefix_len is_hex (drop 2 bs)) (drop 2 bs)
     else (if slice_index bs 0 == 0x30 then in_base v minus 8 (prefix_len is_octal bs) bs
     else in_base v minus 10 (prefix_len is_digit bs) bs)
 

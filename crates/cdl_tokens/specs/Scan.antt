@@ -1,6 +1,6 @@
--- What stands at the start of bytes: a gap or a token, and how many bytes it has. A place past the end counts as a 0 byte.
+-- Definition. What stands at the start of bytes: a gap or a token, and how many bytes it has. A place past the end counts as a 0 byte.
 use Rattle.std.specs.Prelude.{ℕ, Bool, List, [], ◌∷◌, ◌+◌, ◌&&◌, ◌||◌, ◌==◌, nat_lt, nat_eq, not, if◌then◌else◌, slice_index, take, drop, length, codes, None, Some, is_some}
-use Rattle.std.specs.List.{prefix_len, starts_with}
+use Rattle.std.specs.List.{list_all, prefix_len, starts_with}
 use Rattle.cdl_tokens.specs.Bytes.{is_blank, is_digit, begins_word, goes_on_word, goes_on_number, is_sign, is_mark, is_escape}
 use Rattle.cdl_tokens.specs.Escapes.{unescape}
 use Rattle.cdl_tokens.specs.declared.scan.Scanned.{Scanned}
@@ -34,7 +34,7 @@ begins_number bs =
     || is_sign (slice_index bs 0) && is_digit (slice_index bs 1)
     || is_sign (slice_index bs 0) && slice_index bs 1 == 0x2e && is_digit (slice_index bs 2)
 
--- `netcdf`, then a blank or `{`
+-- `netcdf`, then white space or `{`
 abbrev pub begins_opening : List ℕ → Bool
 begins_opening bs = starts_with nat_eq bs (codes "netcdf") && (is_blank (slice_index bs 6) || slice_index bs 6 == 0x7b)
 
@@ -48,18 +48,18 @@ gap n = record { kind = None; len = n }
 abbrev pub token : TokenKind → ℕ → Scanned
 token kind n = record { kind = Some kind; len = n }
 
--- `netcdf` and then these bytes, of which n stand before the first `{`
+-- `netcdf` and then these bytes; n of them come before the first `{`
 abbrev pub scan_opening : List ℕ → ℕ → Scanned
 scan_opening bs n = if nat_lt n (length bs) then token Opening (6 + n + 1) else token Bad (6 + length bs)
 
--- a quote and then these bytes, of which n stand before the closing quote
+-- a quote and then these bytes; n of them come before the closing quote
 abbrev pub scan_text : List ℕ → ℕ → Scanned
-scan_text bs n = if nat_lt n (length bs) then token (if is_some (unescape (take n bs)) then Text else Bad) (n + 2) else token Bad (1 + length bs)
+scan_text bs n = if nat_lt n (length bs) then token (if list_all is_some (unescape (take n bs)) then Text else Bad) (n + 2) else token Bad (1 + length bs)
 
--- what stands at the start of these bytes, of which there is one at least; fresh: no token stands before
+-- the token or gap at the start of these bytes, one byte at least; at_start: no token comes before them
 unfoldable pub scan : Bool → List ℕ → Scanned
-scan fresh bs =
-    if fresh && begins_opening bs then scan_opening (drop 6 bs) (until 0x7b (drop 6 bs))
+scan at_start bs =
+    if at_start && begins_opening bs then scan_opening (drop 6 bs) (until 0x7b (drop 6 bs))
     else (if begins_a_word bs then token Word (word_len bs)
     else (if begins_number bs then token Number (1 + prefix_len goes_on_number (drop 1 bs))
     else (if is_blank (slice_index bs 0) then gap 1

@@ -1,4 +1,4 @@
--- The tokens of a text.
+-- Definition. The tokens of a text.
 use Rattle.std.specs.Prelude.{ℕ, zero, suc, Bool, true, List, [], ◌∷◌, ◌+◌, ◌-◌, ◌&&◌, ◌==◌, take, drop, count_by, Option, None, Some, is_none}
 use Rattle.cdl_tokens.specs.Scan.{scan}
 use Rattle.cdl_tokens.specs.declared.token.Token.{Token}
@@ -21,13 +21,13 @@ abbrev pub with_token : List ℕ → ℕ → Option TokenKind → ℕ → List T
 with_token text at None n rest = rest
 with_token text at (Some kind) n rest = token_at text at kind n ∷ rest
 
--- The tokens from a place of the text on, where `bytes` stand. fresh: no token stands before. Of the gap or token before, `more` bytes are still to come.
+-- The tokens from a place of the text on, where `bytes` stand. at_start: no token stands before. Of the gap or token before, `more` bytes are still to come.
 unfoldable pub tokens_at : List ℕ → Bool → ℕ → ℕ → List ℕ → List Token
-tokens_at text fresh at more [] = token_at text at End 0 ∷ []
-tokens_at text fresh at (suc more) (b ∷ bytes) = tokens_at text fresh (at + 1) more bytes
-tokens_at text fresh at zero (b ∷ bytes) =
-    with_token text at (scan fresh (b ∷ bytes)).kind (scan fresh (b ∷ bytes)).len
-    (tokens_at text (fresh && is_none (scan fresh (b ∷ bytes)).kind) (at + 1) ((scan fresh (b ∷ bytes)).len - 1) bytes)
+tokens_at text at_start at more [] = token_at text at End 0 ∷ []
+tokens_at text at_start at (suc more) (b ∷ bytes) = tokens_at text at_start (at + 1) more bytes
+tokens_at text at_start at zero (b ∷ bytes) =
+    with_token text at (scan at_start (b ∷ bytes)).kind (scan at_start (b ∷ bytes)).len
+    (tokens_at text (at_start && is_none (scan at_start (b ∷ bytes)).kind) (at + 1) ((scan at_start (b ∷ bytes)).len - 1) bytes)
 
 abbrev pub tokens : List ℕ → List Token
 tokens text = tokens_at text true 0 0 text

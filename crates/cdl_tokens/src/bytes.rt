@@ -10,7 +10,7 @@ pub fn byte_at(bytes: &[u8], at: usize) -> u8
     if at < bytes.len() { bytes[at] } else { 0 }
 }
 
-/// The first `n` bytes, or all where there are fewer.
+/// The first `n` bytes, or all if there are fewer.
 pub fn first_bytes(bytes: &[u8], n: usize) -> &[u8]
     ensures first { result.now ≡ take n bytes.now }
     ensures len { length result.now ≤ n }

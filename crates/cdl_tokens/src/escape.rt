@@ -1,88 +1,52 @@
 //! The escapes of strings.
 
 ghost use Rattle.std.specs.Prelude.{◌≡◌, ◌≤◌, ◌<◌, is_some, length};
-ghost use Rattle.std.specs.List.{prefix_len};
-ghost use Rattle.cdl_tokens.specs.Bytes.{is_hex, is_octal};
-ghost use Rattle.cdl_tokens.specs.Escapes.{byte, character, digit, escape, hex_escape, is_unescaped, octal_number, plain_escape, unescape};
+ghost use Rattle.std.specs.List.{list_all, prefix_len};
+ghost use Rattle.cdl_tokens.specs.Bytes.{number_in};
+ghost use Rattle.cdl_tokens.specs.Escapes.{byte, character, escape, number_escape, plain_escape, unescape};
+ghost use Rattle.cdl_tokens.specs.code.Scanners.{is_unescaped};
 
-use crate::bytes::{byte_at, first_bytes, is_digit, is_hex, is_octal};
+use crate::bytes::{byte_at, first_bytes, is_octal};
+use crate::digits::{hex_len, number_in, octal_len};
 use crate::scan::Character;
 use crate::search::len_before;
 
-/// The number of an octal, decimal or hexadecimal digit, in either case.
-pub fn digit(b: u8) -> u8
-    ensures { result ≡ digit b }
-{
-    if is_digit(b) {
-        b - b'0'
-    } else if b >= b'A' && b <= b'F' {
-        b - b'A' + 10
-    } else {
-        b.saturating_sub(b'a' - 10)
-    }
-}
-
-/// How many of the first bytes are octal digits.
-pub fn octal_len(bytes: &[u8]) -> usize
-    ensures len { result ≡ prefix_len is_octal bytes.now }
-    ensures within { result ≤ length bytes.now }
-{
-    bytes.iter().take_while(|b| is_octal(**b)).count()
-}
-
-/// How many of the first bytes are hexadecimal digits.
-pub fn hex_len(bytes: &[u8]) -> usize
-    ensures len { result ≡ prefix_len is_hex bytes.now }
-    ensures within { result ≤ length bytes.now }
-{
-    bytes.iter().take_while(|b| is_hex(**b)).count()
-}
-
-/// The number as a byte, where it is one.
-fn byte(n: u32) -> Option<u8>
+/// The number as a byte, if it is one.
+fn byte(n: u64) -> Option<u8>
     ensures { result ≡ byte n }
 {
     if n > 255 { None } else { Some(n as u8) }
 }
 
-/// The number of the first `n` octal digits, of which there are one to three.
-fn octal_number(bytes: &[u8], n: usize) -> u32
-    ensures { result ≡ octal_number bytes.now n }
-{
-    let a = digit(byte_at(bytes, 0)) as u32;
-    let b = digit(byte_at(bytes, 1)) as u32;
-    let c = digit(byte_at(bytes, 2)) as u32;
-    match n {
-        1 => a,
-        2 => 8 * a + b,
-        _ => 64 * a + 8 * b + c,
-    }
-}
-
-/// The escape of a backslash, an `x` and then these bytes, of which the first `n` are its digits, at most two.
-fn hex_escape(bytes: &[u8], n: usize) -> Character
-    ensures escape { result ≡ hex_escape bytes.now n }
+/// The escape of `mark` bytes and then these digits of a base: a byte, if there are any and their number is one.
+fn number_escape(mark: usize, base: u64, digits: &[u8]) -> Character
+    requires some { 0 < mark }
+    requires short { mark ≤ 2 }
+    requires base { 1 ≤ base }
+    requires small { base ≤ 16 }
+    ensures escape { result ≡ number_escape mark base digits.now }
     ensures some { 0 < result.len }
 {
-    let a = digit(byte_at(bytes, 0)) as u32;
-    let b = digit(byte_at(bytes, 1)) as u32;
-    match n {
-        0 => Character {
-            value: None,
-            len: 2,
+    Character {
+        value: if digits.is_empty() {
+            None
+        } else {
+            byte_in(base, digits)
         },
-        1 => Character {
-            value: byte(a),
-            len: 3,
-        },
-        _ => Character {
-            value: byte(16 * a + b),
-            len: 4,
-        },
+        len: mark + digits.len(),
     }
 }
 
-/// What the byte after a backslash stands for, where it is neither an octal digit nor `x`.
+/// The number of these digits as a byte, if it is one.
+fn byte_in(base: u64, digits: &[u8]) -> Option<u8>
+    requires some { 1 ≤ base }
+    requires small { base ≤ 16 }
+    ensures { result ≡ byte (number_in base 0 digits.now) }
+{
+    byte(number_in(base, digits)?)
+}
+
+/// What the byte after a backslash stands for, if it is neither an octal digit nor `x`.
 fn plain_escape(b: u8) -> u8
     ensures { result ≡ plain_escape b }
 {
@@ -105,14 +69,13 @@ fn escape(bytes: &[u8]) -> Character
 {
     let b = byte_at(bytes, 0);
     if is_octal(b) {
-        let n = octal_len(first_bytes(bytes, 3));
-        Character {
-            value: byte(octal_number(bytes, n)),
-            len: 1 + n,
-        }
+        let first = first_bytes(bytes, 3);
+        let (digits, _) = first.split_at(octal_len(first));
+        number_escape(1, 8, digits)
     } else if b == b'x' && !bytes.is_empty() {
-        let digits = &bytes[1..];
-        hex_escape(digits, hex_len(first_bytes(digits, 2)))
+        let first = first_bytes(&bytes[1..], 2);
+        let (digits, _) = first.split_at(hex_len(first));
+        number_escape(2, 16, digits)
     } else {
         Character {
             value: Some(plain_escape(b)),
@@ -149,7 +112,7 @@ pub fn unescaped_len(bytes: &[u8]) -> usize
 
 /// Returns true if each character of these bytes, which stand between quotes, stands for a byte.
 pub fn is_string(raw: &[u8]) -> bool
-    ensures { result ≡ is_some (unescape raw.now) }
+    ensures { result ≡ list_all is_some (unescape raw.now) }
 {
     let mut at = unescaped_len(raw);
     while at < raw.len() {

@@ -2,9 +2,19 @@
 //!
 //! `specs/` has the definitions: classes of bytes, escapes, what bytes begin with, the tokens of a text, and what number
 //! tokens say. How tokens make statements is defined and read in `cdl_statements`.
+//!
+//! ```
+//! let mut scanner = Scanner::new(text);
+//! let mut token = scanner.token();
+//! while !token.kind.is_end() {
+//!     println!(rt; "line {}: {:?}, {} bytes", token.line, token.kind, token.bytes(text).len())?;
+//!     token = scanner.token();
+//! }
+//! ```
 #![tactic(auto)]
 
 mod bytes;
+mod digits;
 mod escape;
 mod numeral;
 mod plain_number;

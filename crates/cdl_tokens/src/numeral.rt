@@ -1,15 +1,14 @@
 //! Numbers, of any length.
 
-ghost use Rattle.std.specs.Str.{bytes_eq};
+ghost use Rattle.std.specs.Char.{to_ascii_lowercase};
 ghost use Rattle.std.specs.List.{prefix_len};
-ghost use Rattle.std.specs.Prelude.{find, ◌≡◌, ◌≤◌, ◌+◌, ◌*◌, drop, length, map, option_map, slice_index};
-ghost use Rattle.cdl_tokens.specs.Bytes.{is_digit};
-ghost use Rattle.cdl_tokens.specs.Escapes.{digit};
-ghost use Rattle.cdl_tokens.specs.Magnitudes.{decimals, held, word};
-ghost use Rattle.cdl_tokens.specs.Numerals.{has_suffix, in_base, lower, number_in, parts, suffix, type_of_suffix, unsigned};
+ghost use Rattle.std.specs.Prelude.{◌≡◌, ◌≤◌, ◌+◌, drop, length, map, option_map, slice_index};
+ghost use Rattle.cdl_tokens.specs.Bytes.{is_digit, number_in};
+ghost use Rattle.cdl_tokens.specs.code.Magnitudes.{ReadsDigits, held, in_decimal};
+ghost use Rattle.cdl_tokens.specs.Numerals.{has_suffix, in_base, parts, suffix, unsigned};
 
 use crate::bytes::{byte_at, is_digit, is_sign};
-use crate::escape::{digit, hex_len, octal_len};
+use crate::digits::{digit_len, hex_len, number_in, octal_len};
 use nc_base::{NcType, Version};
 
 /// A number of a text.
@@ -17,13 +16,13 @@ use nc_base::{NcType, Version};
 pub struct Numeral {
     /// A minus stands before it.
     pub minus: bool,
-    /// Its digits' number, where that has 64 bits at most.
+    /// Its digits' number, if that has 64 bits at most.
     pub magnitude: Option<u64>,
-    /// The type that its suffix says; int, where it has none.
+    /// The type that its suffix says; int, if it has none.
     pub ty: NcType,
 }
 
-/// What a number token says; None, where it is no number or the version lacks its suffix.
+/// What a number token says; `None` if it is no number or the version lacks its suffix.
 ///
 /// After a sign, or none, come `0x` or `0X` and hexadecimal digits, or `0` and octal digits, or decimal digits; then a suffix,
 /// or none (the CDL chapter of the NetCDF User's Guide, "CDL Notation for Data Constants").
@@ -53,16 +52,13 @@ fn unsigned(version: Version, minus: bool, bytes: &[u8]) -> Option<Numeral>
     }
 }
 
-/// A number below it has 64 bits at most with one digit more, in every base.
-const SMALL: u64 = 1 << 59;
-
-/// So many decimal digits have 64 bits at most.
+/// A number of this many decimal digits has 64 bits at most.
 const SHORT: usize = 19;
 
 /// The number of decimal digits and a suffix.
 #[inline(always)]
 fn decimal(version: Version, minus: bool, bytes: &[u8]) -> Option<Numeral>
-    ensures { result ≡ option_map held (in_base version minus 10 (prefix_len is_digit bytes.now) bytes.now) }
+    ensures { result ≡ option_map held (in_decimal version minus bytes.now) }
 {
     let (n, value) = first_digits(bytes);
     let (_, rest) = bytes.split_at(n);
@@ -79,12 +75,10 @@ fn decimal(version: Version, minus: bool, bytes: &[u8]) -> Option<Numeral>
     })
 }
 
-/// How many of the first bytes are decimal digits, and their number: all of them, or so many that one more could pass 64 bits.
+/// How many of the first bytes are decimal digits, and their number. It stops at 19 digits, since one more could pass 64 bits.
 #[inline(always)]
 pub fn first_digits(bytes: &[u8]) -> (usize, u64)
-    ensures within { result.0 ≤ length bytes.now }
-    ensures count { result.0 + prefix_len is_digit (drop result.0 bytes.now) ≡ prefix_len is_digit bytes.now }
-    ensures value { number_in 10 result.1 (decimals (drop result.0 bytes.now)) ≡ number_in 10 0 (decimals bytes.now) }
+    ensures { ReadsDigits bytes.now result.0 result.1 }
 {
     let mut value = 0;
     let mut at = 0;
@@ -106,8 +100,7 @@ fn after_zero(version: Version, minus: bool, bytes: &[u8]) -> Option<Numeral>
     requires { slice_index bytes.now 0 ≡ 0x30 }
     ensures { result ≡ option_map held (unsigned version minus bytes.now) }
 {
-    let b = byte_at(bytes, 1);
-    if b == b'x' || b == b'X' {
+    if byte_at(bytes, 1).to_ascii_lowercase() == b'x' {
         let (_, rest) = bytes.split_at(2);
         in_base(version, minus, 16, hex_len(rest), rest)
     } else {
@@ -134,42 +127,8 @@ fn in_base(version: Version, minus: bool, base: u64, n: usize, bytes: &[u8]) -> 
     })
 }
 
-/// The number of these digits, where it has 64 bits at most.
-fn number_in(base: u64, digits: &[u8]) -> Option<u64>
-    requires some { 1 ≤ base }
-    requires small { base ≤ 16 }
-    ensures { result ≡ word (number_in base 0 digits.now) }
-{
-    let mut value = 0;
-    for b in digits {
-        value = one_more(base, value, *b)?;
-    }
-    Some(value)
-}
-
-/// The number with one digit more, where it has 64 bits at most.
-#[tactic(auto, using(crate::proofs::Sizes::small_product))]
-fn one_more(base: u64, value: u64, b: u8) -> Option<u64>
-    requires { base ≤ 16 }
-    ensures { result ≡ word (base * value + digit b) }
-{
-    // Of most numbers neither the product nor the sum can be too large.
-    if value < SMALL {
-        return Some(base * value + digit(b) as u64);
-    }
-    base.checked_mul(value)?.checked_add(digit(b) as u64)
-}
-
-/// How many of the first bytes are decimal digits.
-fn digit_len(bytes: &[u8]) -> usize
-    ensures len { result ≡ prefix_len is_digit bytes.now }
-    ensures within { result ≤ length bytes.now }
-{
-    bytes.iter().take_while(|b| is_digit(**b)).count()
-}
-
-/// The type that a suffix says, each of its letters in either case; None, where it is no suffix of the version.
-#[tactic(auto, unfolding(crate::specs::Numerals::suffix), using(crate::proofs::Suffixes::no_suffix))]
+/// The type that a suffix says, each of its letters in either case; `None` if it is no suffix of the version.
+#[tactic(auto, using(crate::proofs::Suffixes::no_suffix))]
 fn suffix(version: Version, bytes: &[u8]) -> Option<NcType>
     ensures { result ≡ suffix version bytes.now }
 {
@@ -177,41 +136,29 @@ fn suffix(version: Version, bytes: &[u8]) -> Option<NcType>
     if bytes.is_empty() {
         return Some(NcType::Int);
     }
-    type_of_suffix(bytes).filter(|ty| version.has_type(*ty))
+    find_suffix(version, bytes)
 }
 
-/// The type that a suffix says in CDF-5.
+/// The same, looked for among all types.
+#[tactic(auto, unfolding(crate::specs::Numerals::suffix))]
 #[inline(never)]
-fn type_of_suffix(bytes: &[u8]) -> Option<NcType>
-    ensures { result ≡ type_of_suffix (map lower bytes.now) }
+fn find_suffix(version: Version, bytes: &[u8]) -> Option<NcType>
+    ensures { result ≡ suffix version bytes.now }
 {
-    if is_suffix(bytes, b"l") {
-        return Some(NcType::Int);
-    }
-    first_with_suffix(&NcType::ALL, bytes)
-}
-
-/// The first of the types whose suffix this is.
-fn first_with_suffix(types: &[NcType], suffix: &[u8]) -> Option<NcType>
-    ensures { result ≡ find (has_suffix (map lower suffix.now)) types.now }
-{
-    types.iter().copied().find(|ty| has_suffix(suffix, *ty))
+    NcType::ALL
+        .iter()
+        .copied()
+        .find(|ty| has_suffix(bytes, *ty) && version.has_type(*ty))
 }
 
 /// Returns true if a number of the type may have this suffix, each letter in either case.
+#[tactic(auto, using(crate::proofs::Suffixes::same_suffix))]
 fn has_suffix(suffix: &[u8], ty: NcType) -> bool
-    ensures { result ≡ has_suffix (map lower suffix.now) ty }
+    ensures { result ≡ has_suffix (map to_ascii_lowercase suffix.now) ty }
 {
     match ty {
         NcType::Char => false,
-        _ => is_suffix(suffix, ty.suffix()),
+        NcType::Int => suffix.eq_ignore_ascii_case(b"") || suffix.eq_ignore_ascii_case(b"l"),
+        _ => suffix.eq_ignore_ascii_case(ty.suffix()),
     }
-}
-
-/// Returns true if the bytes are this suffix, each letter in either case.
-#[tactic(auto, using(crate::proofs::Suffixes::same_suffix))]
-fn is_suffix(bytes: &[u8], suffix: &[u8]) -> bool
-    ensures { result ≡ bytes_eq (map lower bytes.now) (map lower suffix.now) }
-{
-    bytes.eq_ignore_ascii_case(suffix)
 }

@@ -1,8 +1,8 @@
-//! Plain numbers, of which long lists consist: decimal digits after a sign or none, without a suffix.
+//! Plain numbers, the tokens of long lists: an optional sign and decimal digits, without a suffix.
 
 ghost use Rattle.std.specs.Prelude.{◌≡◌, ◌==◌, ◌≤◌, IfSome, false, length, slice_index, true};
 ghost use Rattle.cdl_tokens.specs.Bytes.{goes_on_number};
-ghost use Rattle.cdl_tokens.specs.PlainTokens.{AreDigits, Begins};
+ghost use Rattle.cdl_tokens.specs.code.PlainTokens.{AreDigits, Begins};
 
 use crate::bytes::{byte_at, is_blank, is_sign};
 use crate::numeral::{Numeral, first_digits};
@@ -18,7 +18,7 @@ pub struct PlainNumber {
     pub at_comma: bool,
 }
 
-/// The plain number that the bytes begin with, if a comma or a blank follows it; None where they begin otherwise. The number
+/// The plain number that the bytes begin with, if a comma or white space follows it; `None` if they begin otherwise. The number
 /// is the same in every version.
 #[inline(always)]
 pub fn plain_number(bytes: &[u8]) -> Option<PlainNumber>
@@ -54,7 +54,7 @@ fn int(minus: bool, value: u64) -> Numeral
     }
 }
 
-/// How many digits the bytes begin with, and their number, if it is decimal and a comma or a blank follows.
+/// How many digits the bytes begin with, and their number, if it is decimal and a comma or white space follows.
 #[inline(always)]
 fn plain_digits(bytes: &[u8]) -> Option<(usize, u64)>
     ensures { IfSome result (λ r. AreDigits bytes.now r.0 r.1) }
@@ -81,7 +81,7 @@ fn is_before_comma(bytes: &[u8], n: usize) -> bool
     byte_at(rest, 0) == b','
 }
 
-/// Returns true if the byte is a comma or a blank, which no number token has.
+/// Returns true if the byte is a comma or white space. No number token has such a byte.
 fn ends_number(b: u8) -> bool
     ensures { result ≡ true → goes_on_number b ≡ false }
 {

@@ -4,7 +4,7 @@ ghost use Rattle.std.specs.Prelude.{◌≡◌, ◌+◌, ◌≤◌, ◌<◌, ◌=
 ghost use Rattle.std.specs.List.{prefix_len};
 ghost use Rattle.cdl_tokens.specs.Bytes.{goes_on_number};
 ghost use Rattle.cdl_tokens.specs.Scan.{begins_a_word, begins_comment, begins_number, begins_opening, gap, scan, scan_opening, scan_text, token, until, word_len};
-ghost use Rattle.cdl_tokens.specs.Scanners.{is_ordinary, is_token};
+ghost use Rattle.cdl_tokens.specs.code.Scanners.{is_ordinary, is_token};
 
 use crate::bytes::{
     begins_word, byte_at, goes_on_number, goes_on_word, is_blank, is_digit, is_escape, is_mark,
@@ -29,24 +29,24 @@ pub struct Scanned {
 /// A character of a string, or an escape in it.
 #[derive(Clone, Copy, Debug, PartialEq, Eq)]
 pub struct Character {
-    /// The byte that it stands for, where it stands for one.
+    /// The byte that it stands for, if any.
     pub value: Option<u8>,
     /// The number of its bytes.
     pub len: usize,
 }
 
-/// What the bytes begin with: the longest token, or a gap. Only a text's first token is an opening: `fresh` says that none
+/// What the bytes begin with: the longest token, or a gap. Only a text's first token is an opening: `at_start` says that none
 /// came before.
 #[tactic(auto, unfolding(crate::specs::Scan::scan))]
-pub fn scan(fresh: bool, bytes: &[u8]) -> Scanned
+pub fn scan(at_start: bool, bytes: &[u8]) -> Scanned
     requires { 0 < length bytes.now }
-    ensures scan { result ≡ scan fresh bytes.now }
+    ensures scan { result ≡ scan at_start bytes.now }
     ensures some { 0 < result.len }
     ensures kind { is_token result.kind ≡ true }
     ensures within { result.len ≤ length bytes.now }
 {
     let b = bytes[0];
-    if fresh && begins_opening(bytes) {
+    if at_start && begins_opening(bytes) {
         let (_, rest) = bytes.split_at(OPENING_LEN);
         scan_opening(rest)
     } else if begins_a_word(bytes) {
@@ -140,7 +140,7 @@ fn begins_comment(bytes: &[u8]) -> bool
     byte_at(bytes, 0) == b'/' && byte_at(bytes, 1) == b'/'
 }
 
-/// Returns true if the bytes begin with `netcdf` and then a blank or a `{`.
+/// Returns true if the bytes begin with `netcdf` and then white space or a `{`.
 fn begins_opening(bytes: &[u8]) -> bool
     ensures begins { result ≡ begins_opening bytes.now }
     ensures len { IsTrue result → 6 ≤ length bytes.now }
@@ -213,7 +213,7 @@ fn ordinary_len(bytes: &[u8], close: u8) -> usize
     len_before(bytes, b'\\', close, close)
 }
 
-/// How many bytes stand before the first `close` that isn't escaped; all, where there is none.
+/// How many bytes come before the first `close` that isn't escaped; all if there is none.
 #[tactic(auto, using(crate::proofs::Words::until_at, crate::proofs::Words::until_past, crate::proofs::Words::until_run))]
 fn until(bytes: &[u8], close: u8) -> usize
     ensures len { result ≡ until close bytes.now }

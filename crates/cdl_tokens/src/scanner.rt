@@ -1,7 +1,7 @@
 //! The tokens of a text, one at a time.
 
 ghost use Rattle.std.specs.Prelude.{◌≡◌, ◌+◌, ◌≤◌, ◌<◌, ◌==◌, length, IfSome, count_by, drop, slice_index, take, nat_lt, false, true, Some, None};
-ghost use Rattle.cdl_tokens.specs.PlainTokens.{IsComma, IsListed, IsPlainString};
+ghost use Rattle.cdl_tokens.specs.code.PlainTokens.{IsComma, IsListed, IsPlainString};
 ghost use Rattle.cdl_tokens.specs.Scan.{scan, token};
 ghost use Rattle.cdl_tokens.specs.Tokens.{line_at, raw, tokens};
 
@@ -20,7 +20,7 @@ pub struct Scanner<'a> {
     at: usize,
     line: u64,
     /// No token came before.
-    fresh: bool,
+    at_start: bool,
     ghost inside: { at ≤ length text.now },
     ghost on_line: { line ≡ line_at text.now at },
 }
@@ -42,7 +42,7 @@ pub struct ListedNumber {
 
 impl<'a> Scanner<'a> {
     ghost use Rattle.std.specs.Prelude.{◌∷◌};
-    ghost use Rattle.cdl_tokens.specs.Scanners.{comma_before, followed, is_end, is_token, left, offset_of, text_of, token_before};
+    ghost use Rattle.cdl_tokens.specs.code.Scanners.{comma_before, followed, is_end, is_token, left, offset_of, text_of, token_before};
 
     /// The start of a text.
     pub fn new(text: &'a [u8]) -> Scanner<'a>
@@ -53,7 +53,7 @@ impl<'a> Scanner<'a> {
             text,
             at: 0,
             line: 1,
-            fresh: true,
+            at_start: true,
         }
     }
 
@@ -66,7 +66,7 @@ impl<'a> Scanner<'a> {
 
     /// Reads the next token; at the end of the text `End`, each time.
     ///
-    /// Blanks, marks and numbers, of which long data consists, go a short way; the rest is left to [`scan`].
+    /// White space, marks and numbers, which long lists consist of, are read here; [`scan`] reads every other token.
     #[inline(always)]
     pub fn token(&mut self) -> Token
         ensures token { left self.old ≡ followed result result.kind (left self.new) }
@@ -88,7 +88,7 @@ impl<'a> Scanner<'a> {
         }
     }
 
-    /// Reads a plain number and the comma after it, if they come next; else the scanner stays where it is.
+    /// Reads a plain number and the comma after it, if they come next; otherwise the scanner stays where it is.
     #[inline(always)]
     pub fn number_and_comma(&mut self) -> Option<ListedNumber>
         ensures tokens { IfSome result (λ l. left self.old ≡ l.number ∷ l.comma ∷ left self.new) }
@@ -112,7 +112,8 @@ impl<'a> Scanner<'a> {
         })
     }
 
-    /// Reads a string without an escape or a line feed and the comma after it, if they come next; else the scanner stays where it is.
+    /// Reads a string without an escape or a line feed and the comma after it, if they come next; otherwise the scanner stays
+    /// where it is.
     #[inline(always)]
     pub fn string_and_comma(&mut self) -> Option<ListedToken>
         ensures tokens { IfSome result (λ l. left self.old ≡ l.token ∷ l.comma ∷ left self.new) }
@@ -132,7 +133,7 @@ impl<'a> Scanner<'a> {
         Some(ListedToken { token, comma })
     }
 
-    /// Reads a token and the comma after it, if they come next; else the scanner stays where it is.
+    /// Reads a token and the comma after it, if they come next; otherwise the scanner stays where it is.
     #[inline(always)]
     pub fn token_and_comma(&mut self) -> Option<ListedToken>
         ensures tokens { IfSome result (λ l. left self.old ≡ l.token ∷ l.comma ∷ left self.new) }
@@ -164,7 +165,7 @@ impl<'a> Scanner<'a> {
         }
     }
 
-    /// Reads the comma that comes next, if one does after blanks alone.
+    /// Reads a comma, if it comes next or after white space alone.
     #[inline(always)]
     fn comma(&mut self) -> Option<Token>
         ensures token { IfSome result (λ c. left self.old ≡ c ∷ left self.new) }
@@ -180,7 +181,7 @@ impl<'a> Scanner<'a> {
         }
     }
 
-    /// The same, where the caller may know that a comma stands here.
+    /// The same, for a caller that may know that a comma is here.
     #[inline(always)]
     fn comma_after(&mut self, at_comma: bool) -> Option<Token>
         requires { at_comma ≡ true → slice_index (text_of self.old) (offset_of self.old) ≡ 0x2c }
@@ -197,7 +198,7 @@ impl<'a> Scanner<'a> {
         }
     }
 
-    /// Hands out the comma that stands here.
+    /// Returns the comma that is here, and passes it.
     #[inline(always)]
     fn take_comma(&mut self) -> Token
         requires { slice_index (text_of self.old) (offset_of self.old) ≡ 0x2c }
@@ -210,7 +211,7 @@ impl<'a> Scanner<'a> {
         self.take(TokenKind::Mark, 1)
     }
 
-    /// Goes past the blanks that stand here.
+    /// Skips white space.
     fn skip_blanks(&mut self)
         ensures left { left self.new ≡ left self.old }
         ensures text { text_of self.new ≡ text_of self.old }
@@ -224,7 +225,7 @@ impl<'a> Scanner<'a> {
         }
     }
 
-    /// Goes past the blanks that stand here; mostly there is one space, or none.
+    /// Skips white space, which before a number is mostly one space or nothing.
     #[inline(always)]
     fn skip_to_number(&mut self)
         ensures left { left self.new ≡ left self.old }
@@ -240,7 +241,7 @@ impl<'a> Scanner<'a> {
         }
     }
 
-    /// Returns true if a byte stands here that is greater than a space, as that of any token is.
+    /// Returns true if the byte here is greater than a space, as the first byte of every token is.
     #[inline(always)]
     fn stands_at_token(&self) -> bool
         ensures { result ≡ nat_lt 0x20 (slice_index (text_of self.now) (offset_of self.now)) }
@@ -248,7 +249,7 @@ impl<'a> Scanner<'a> {
         self.at < self.text.len() && self.text[self.at] > b' '
     }
 
-    /// Goes past a space, if one stands here.
+    /// Skips one space, if it is here.
     #[inline(always)]
     fn skip_space(&mut self)
         ensures left { left self.new ≡ left self.old }
@@ -260,7 +261,7 @@ impl<'a> Scanner<'a> {
         }
     }
 
-    /// Goes past the blanks that stand here, mostly none, and returns true if a comma comes then.
+    /// Skips white space, mostly nothing, and returns true if a comma follows.
     #[inline(always)]
     fn goes_to_comma(&mut self) -> bool
         ensures left { left self.new ≡ left self.old }
@@ -276,7 +277,7 @@ impl<'a> Scanner<'a> {
         self.is_at_comma()
     }
 
-    /// Returns true if a comma stands here.
+    /// Returns true if a comma is here.
     #[inline(always)]
     fn is_at_comma(&self) -> bool
         ensures inside { result ≡ true → offset_of self.now < length (text_of self.now) }
@@ -289,10 +290,10 @@ impl<'a> Scanner<'a> {
         }
     }
 
-    /// Hands out the token that stands here, which has no line feed.
+    /// Returns the token that is here, and passes it. It has no line feed.
     #[inline]
     fn take(&mut self, kind: TokenKind, len: usize) -> Token
-        requires here { scan self.old.fresh (drop self.old.at self.old.text.now) ≡ token kind len }
+        requires here { scan self.old.at_start (drop self.old.at self.old.text.now) ≡ token kind len }
         requires some { 0 < len }
         requires within { self.old.at + len ≤ length self.old.text.now }
         requires kind { is_token (Some kind) ≡ true }
@@ -311,7 +312,7 @@ impl<'a> Scanner<'a> {
             text: self.text,
             at: past,
             line,
-            fresh: false,
+            at_start: false,
         };
         Token {
             kind,
@@ -331,7 +332,7 @@ impl<'a> Scanner<'a> {
     {
         while self.at < self.text.len() {
             let (_, rest) = self.text.split_at(self.at);
-            let found = scan(self.fresh, rest);
+            let found = scan(self.at_start, rest);
             let (first, line) = (self.at, self.line);
             match found.kind {
                 Some(kind) => {
@@ -343,7 +344,7 @@ impl<'a> Scanner<'a> {
                         past: self.at,
                     };
                 }
-                None => *self = self.after(found.len, self.fresh),
+                None => *self = self.after(found.len, self.at_start),
             }
         }
         Token {
@@ -359,23 +360,23 @@ impl<'a> Scanner<'a> {
         requires { self.at < length self.text.now }
         ensures text { result.text.now ≡ self.entry.text.now }
         ensures at { result.at ≡ self.entry.at + 1 }
-        ensures fresh { result.fresh ≡ self.entry.fresh }
+        ensures at_start { result.at_start ≡ self.entry.at_start }
     {
         let is_feed = self.text[self.at] == b'\n';
         Scanner {
             text: self.text,
             at: self.at + 1,
             line: self.line + is_feed as u64,
-            fresh: self.fresh,
+            at_start: self.at_start,
         }
     }
 
     /// The scanner `len` bytes further on.
-    fn after(self, len: usize, fresh: bool) -> Scanner<'a>
+    fn after(self, len: usize, at_start: bool) -> Scanner<'a>
         requires { self.at + len ≤ length self.text.now }
         ensures text { result.text.now ≡ self.entry.text.now }
         ensures at { result.at ≡ self.entry.at + len }
-        ensures fresh { result.fresh ≡ fresh }
+        ensures at_start { result.at_start ≡ at_start }
     {
         let (_, rest) = self.text.split_at(self.at);
         let (passed, _) = rest.split_at(len);
@@ -383,7 +384,7 @@ impl<'a> Scanner<'a> {
             text: self.text,
             at: self.at + len,
             line: self.line + count_of(passed, b'\n') as u64,
-            fresh,
+            at_start,
         }
     }
 }

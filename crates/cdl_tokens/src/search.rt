@@ -2,7 +2,7 @@
 
 ghost use Rattle.std.specs.Prelude.{◌≡◌, ◌≤◌, ◌==◌, count_by, length, not};
 ghost use Rattle.std.specs.List.{list_any, prefix_len};
-ghost use Rattle.cdl_tokens.specs.Scanners.{is_none_of};
+ghost use Rattle.cdl_tokens.specs.code.Scanners.{is_none_of};
 
 /// How many bytes are looked at at once.
 const BLOCK: usize = 64;
@@ -10,7 +10,7 @@ const BLOCK: usize = 64;
 /// How many bytes are looked at one by one before: escapes often follow one another.
 const NEAR: usize = 8;
 
-/// How many bytes stand before the first that is one of these three; all, where there is none.
+/// How many bytes come before the first that is one of these three; all if there is none.
 pub fn len_before(bytes: &[u8], a: u8, b: u8, c: u8) -> usize
     ensures len { result ≡ prefix_len (is_none_of a b c) bytes.now }
     ensures within { result ≤ length bytes.now }

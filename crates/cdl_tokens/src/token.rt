@@ -25,7 +25,7 @@ pub enum TokenKind {
 }
 
 impl TokenKind {
-    ghost use Rattle.cdl_tokens.specs.Scanners.{is_end};
+    ghost use Rattle.cdl_tokens.specs.code.Scanners.{is_end};
 
     /// Returns true if such a token ends the text.
     pub fn is_end(self) -> bool

@@ -1,16 +1,9 @@
 -- Names that the format doesn't allow.
-use Rattle.std.proofs.Common.{◌≡◌, ℕ, Bool, true, false, List, ap, ◌∙◌}
-use Rattle.std.specs.Prelude.{Result, Ok, Err}
-use Rattle.nc_base.specs.Names.{is_name}
-use Rattle.cdl_statements.specs.declared.fault.CdlKind.{CdlKind}
-use Rattle.cdl_statements.specs.declared.fault.CdlKind.TheVariants.{BadName}
-use Rattle.cdl_meaning.specs.State.{unless}
-use Rattle.cdl_values.specs.Answers.{Continues, Fails, Gives}
-use Rattle.cdl_values.specs.declared.read_error.ReadError.{ReadError}
-use Rattle.cdl_values.specs.declared.read_error.ReadError.TheVariants.{OutOfMemory, Fault}
+use Rattle.std.proofs.Common.{◌≡◌, ℕ, Bool, true, false, List, ap, ◌∙◌, Result, Ok, Err}
+use Rattle.cdl_values.proofs.Prelude.{is_name, CdlKind, BadName, unless, ContinuesRead, FailsRead, GivesRead, ReadError, OutOfMemory, Fault}
 
 -- what asks first whether the format allows the name has that fault
-pub not_allowed : {A : Type 0} (e : ReadError) (name : List ℕ) (read : Bool → Result A CdlKind) → read false ≡ Err BadName → Fails e (unless (is_name name) BadName) → Fails e (read (is_name name))
+pub not_allowed : {A : Type 0} (e : ReadError) (name : List ℕ) (read : Bool → Result A CdlKind) → read false ≡ Err BadName → FailsRead e (unless (is_name name) BadName) → FailsRead e (read (is_name name))
 not_allowed OutOfMemory name read bad h = tt
 not_allowed {A} (Fault k) name read bad h = by (is_name name) h
   where
@@ -18,13 +11,13 @@ not_allowed {A} (Fault k) name read bad h = by (is_name name) h
     by true is = cc
     by false is = cc
 
-pub refused : {A B : Type 0} (view : B → A) (r : Result B ReadError) (e : ReadError) (read : Result A CdlKind) → r ≡ Err e → Fails e read → Gives view r read
+pub refused : {A B : Type 0} (view : B → A) (r : Result B ReadError) (e : ReadError) (read : Result A CdlKind) → r ≡ Err e → FailsRead e read → GivesRead view r read
 refused view (Ok b) e read is h = cc
 refused view (Err OutOfMemory) e read is h = tt
 refused view (Err (Fault k)) OutOfMemory read is h = cc
 refused view (Err (Fault k)) (Fault m) read is h = h ∙ ap Err (let same : m ≡ k = cc in same)
 
-pub stopped : {A B : Type 0} (after : B → Result A CdlKind) (r : Result B ReadError) (e : ReadError) (read : Result A CdlKind) → r ≡ Err e → Fails e read → Continues after r read
+pub stopped : {A B : Type 0} (after : B → Result A CdlKind) (r : Result B ReadError) (e : ReadError) (read : Result A CdlKind) → r ≡ Err e → FailsRead e read → ContinuesRead after r read
 stopped after (Ok b) e read is h = cc
 stopped after (Err OutOfMemory) e read is h = tt
 stopped after (Err (Fault k)) OutOfMemory read is h = cc

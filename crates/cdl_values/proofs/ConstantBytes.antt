@@ -1,35 +1,17 @@
 -- The bytes of an attribute's constants.
-use Rattle.std.proofs.Common.{◌≡◌, ℕ, zero, suc, ◌+◌, ◌*◌, ◌-◌, ◌<◌, Bool, true, false, List, [], ◌∷◌, ◌++◌, length, take, drop, refl, sym, ap, ◌∙◌, append_assoc, arith}
-use Rattle.std.specs.Prelude.{pos, Option, None, Some, Result, Ok, Err, ⊤, nat_lt, ◌==◌, slice_index, if◌then◌else◌}
-use Rattle.nc_base.specs.Numbers.{bytes_of_number}
-use Rattle.nc_base.specs.declared.nc_type.NcType.{NcType}
-use Rattle.nc_base.specs.declared.nc_type.NcType.TheVariants.{Char}
-use Rattle.nc_base.specs.declared.version.Version.{Version}
-use Rattle.cdl_statements.specs.Contents.{value_of, values}
-use Rattle.cdl_statements.specs.Lexemes.{Lexeme}
-use Rattle.cdl_tokens.specs.declared.token.TokenKind.{TokenKind}
+use Rattle.std.proofs.Common.{◌≡◌, ℕ, zero, suc, ◌+◌, ◌*◌, ◌-◌, ◌<◌, Bool, true, false, List, [], ◌∷◌, ◌++◌, length, take, drop, refl, sym, ap, ◌∙◌, append_assoc, arith, pos, Option, None, Some, Result, Ok, Err, nat_lt, ◌==◌, slice_index, map, if◌then◌else◌}
+use Rattle.std.specs.Prelude.{⊤}
+use Rattle.cdl_values.proofs.Prelude.{bytes_of_number, NcType, Char, Version, value_of, values, Lexeme, TokenKind, take_while, is_octal, is_hex, number_in, byte, character, escape, inner, number_escape, plain_escape, stands, unescape_at, or_zero, word, held, Parts, number, Value, Number, Characters, CdlKind, NumberRange, add_constant, fits, in_turn, same_type, type_said, unless, Adds, ContinuesRead, Leaves, char_bytes, held_bytes, joined, number_bytes, text_bytes, ReadError, OutOfMemory, Fault}
 use Rattle.cdl_tokens.specs.declared.token.TokenKind.TheVariants as kinds
-use Rattle.std.specs.List.{prefix_len}
-use Rattle.cdl_tokens.specs.Bytes.{is_octal, is_hex}
-use Rattle.cdl_tokens.specs.Escapes.{byte, character, digit, escape, hex_escape, inner, octal_escape, octal_number, or_zero, plain_escape, stands, stands_at}
 use Rattle.cdl_tokens.specs.declared.scan.Character.{Character}
-use Rattle.cdl_tokens.specs.Magnitudes.{word, held}
 use Rattle.cdl_tokens.specs.declared.numeral.Numeral.{Numeral as Held}
-use Rattle.cdl_tokens.specs.Numerals.{Parts, number}
-use Rattle.cdl_statements.specs.Shapes.{Value, Number, Characters}
-use Rattle.cdl_statements.specs.declared.fault.CdlKind.{CdlKind}
-use Rattle.cdl_statements.specs.declared.fault.CdlKind.TheVariants.{NumberRange}
-use Rattle.cdl_meaning.specs.State.{add_constant, fits, in_turn, same_type, type_said, unless, ◌>>=◌}
-use Rattle.cdl_values.specs.Answers.{Adds, Continues, Leaves}
-use Rattle.cdl_values.specs.PackedValues.{char_bytes, held_bytes, joined, number_bytes, text_bytes}
-use Rattle.cdl_values.specs.declared.read_error.ReadError.{ReadError}
-use Rattle.cdl_values.specs.declared.read_error.ReadError.TheVariants.{OutOfMemory, Fault}
+use Rattle.cdl_meaning.specs.State.{◌>>=◌}
 use Rattle.cdl_values.proofs.PackedTokens.{one_char}
 use Rattle.cdl_values.proofs.Ranges.{held_is}
 
 -- ---- one constant, and those after it
 
-pub turn_on : {S A : Type 0} (f : S → A → Result S CdlKind) (s t : S) (x : A) (xs : List A) (r : Result ⊤ ReadError) → Leaves t r (f s x) → Continues (λ u. in_turn f t xs) r (in_turn f s (x ∷ xs))
+pub turn_on : {S A : Type 0} (f : S → A → Result S CdlKind) (s t : S) (x : A) (xs : List A) (r : Result ⊤ ReadError) → Leaves t r (f s x) → ContinuesRead (λ u. in_turn f t xs) r (in_turn f s (x ∷ xs))
 turn_on {S = S} f s t x xs (Ok u) h = ap (λ (r : Result S CdlKind). elim r as (λ _. Result S CdlKind) [ Ok w ↦ in_turn f w xs | Err e ↦ Err e ]) h
 turn_on f s t x xs (Err OutOfMemory) h = tt
 turn_on {S = S} f s t x xs (Err (Fault k)) h = ap (λ (r : Result S CdlKind). elim r as (λ _. Result S CdlKind) [ Ok w ↦ in_turn f w xs | Err e ↦ Err e ]) h
@@ -125,20 +107,25 @@ put_on before after first rest whole is cut =
     ap (λ xs. xs ++ char_bytes rest) is ∙ append_assoc before (char_bytes first) (char_bytes rest) ∙
     ap (λ xs. before ++ xs) (sym (chars_joined first rest) ∙ ap char_bytes (sym cut))
 
-hex_small : (bs : List ℕ) (n : ℕ) → or_zero (hex_escape bs n).value < 256
-hex_small bs n = by (n == 0) (n == 1)
+number_small : (mark base : ℕ) (digits : List ℕ) → or_zero (number_escape mark base digits).value < 256
+number_small mark base digits = by (length digits == 0)
   where
-    by : (none one : Bool) → or_zero (value_in (if none then record { value = None; len = 2 } else (if one then record { value = byte (digit (slice_index bs 0)); len = 3 } else record { value = byte (16 * digit (slice_index bs 0) + digit (slice_index bs 1)); len = 4 }))) < 256
-    by true one = omega arith
-    by false true = small_byte (digit (slice_index bs 0))
-    by false false = small_byte (16 * digit (slice_index bs 0) + digit (slice_index bs 1))
+    by : (none : Bool) → or_zero (if none then None else byte (number_in base 0 digits)) < 256
+    by true = omega arith
+    by false = small_byte (number_in base 0 digits)
 
 escape_small : (bs : List ℕ) → AreBytes bs → or_zero (escape bs).value < 256
 escape_small bs h = by (is_octal (slice_index bs 0)) (slice_index bs 0 == 0x78)
   where
-    by : (octal hex : Bool) → or_zero (value_in (if octal then octal_escape bs (prefix_len is_octal (take 3 bs)) else (if hex then hex_escape (drop 1 bs) (prefix_len is_hex (take 2 (drop 1 bs))) else record { value = Some (plain_escape (slice_index bs 0)); len = 2 }))) < 256
-    by true hex = small_byte (octal_number bs (prefix_len is_octal (take 3 bs)))
-    by false true = hex_small (drop 1 bs) (prefix_len is_hex (take 2 (drop 1 bs)))
+    octal : List ℕ
+    octal = take_while is_octal (take 3 bs)
+
+    hex : List ℕ
+    hex = take_while is_hex (take 2 (drop 1 bs))
+
+    by : (is_octal is_hex : Bool) → or_zero (value_in (if is_octal then number_escape 1 8 octal else (if is_hex then number_escape 2 16 hex else record { value = Some (plain_escape (slice_index bs 0)); len = 2 }))) < 256
+    by true _ = number_small 1 8 octal
+    by false true = number_small 2 16 hex
     by false false = plain_small (slice_index bs 0) (h 0)
 
 character_small : (bs : List ℕ) → AreBytes bs → or_zero (character bs).value < 256
@@ -149,13 +136,13 @@ character_small bs h = by (slice_index bs 0 == 0x5c)
     by true = escape_small (drop 1 bs) (without_first bs h)
     by false = h 0
 
-stand_at : (more : ℕ) (bs : List ℕ) → AreBytes bs → char_bytes (stands_at more bs) ≡ stands_at more bs
-unfolding stands_at
+stand_at : (more : ℕ) (bs : List ℕ) → AreBytes bs → char_bytes (map or_zero (unescape_at more bs)) ≡ map or_zero (unescape_at more bs)
+unfolding unescape_at
 stand_at more [] h = refl
 stand_at (suc more) (b ∷ bs) h = stand_at more bs (after_first b bs h)
 stand_at zero (b ∷ bs) h =
     let v = or_zero (character (b ∷ bs)).value in
-    let rest = stands_at ((character (b ∷ bs)).len - 1) bs in
+    let rest = map or_zero (unescape_at ((character (b ∷ bs)).len - 1) bs) in
     one_char v rest (character_small (b ∷ bs) h) ∙ ap (λ xs. v ∷ xs) (stand_at ((character (b ∷ bs)).len - 1) bs (after_first b bs h))
 
 pub stand : (bytes : List ℕ) → AreBytes bytes → char_bytes (stands (inner bytes)) ≡ stands (inner bytes)

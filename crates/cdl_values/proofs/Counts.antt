@@ -1,29 +1,14 @@
 -- A statement has fewer values than the greatest capacity, so that stands for all from there on.
-use Rattle.std.proofs.Common.{◌≡◌, ℕ, zero, suc, ◌+◌, ◌-◌, ◌≤◌, Bool, true, false, List, [], ◌∷◌, length, map, drop, refl, sym, ap, ◌∙◌, arith}
-use Rattle.std.specs.Prelude.{Option, None, Some, Result, ◌&&◌, if◌then◌else◌, is_none, min, nat_le}
-use Rattle.nc_base.specs.declared.version.Version.{Version}
-use Rattle.cdl_statements.specs.Contents.{values, value_of}
-use Rattle.cdl_statements.specs.Cutters.{words, pieces_left, tokens_left, text_of, first_piece}
-use Rattle.cdl_statements.specs.Lexemes.{Lexeme, lexeme, is_mark_kind}
-use Rattle.cdl_statements.specs.Pieces.{pieces_at, step, with_first, first_role}
-use Rattle.cdl_statements.specs.Roles.{role_in}
+use Rattle.std.proofs.Common.{◌≡◌, ℕ, zero, suc, ◌+◌, ◌-◌, ◌≤◌, Bool, true, false, List, [], ◌∷◌, length, map, drop, refl, sym, ap, ◌∙◌, arith, Option, None, Some, Result, ◌&&◌, if◌then◌else◌, is_none, min, nat_le}
+use Rattle.cdl_values.proofs.Prelude.{Version, values, value_of, words, pieces_left, tokens_left, text_of, first_piece, Lexeme, lexeme, is_mark_kind, followed, left, Value, Cutter, CdlKind, TokenKind, Capacity, listing_of, Fills, HasCapacity, as_bytes, capacity_for, most, positions_in, packed, followed_by, value_bytes, row_bytes, is_full, Fill, Filling, Numbers, Joined, Rows}
+use Rattle.cdl_statements.specs.code.Roles.{first_role, role_in}
+use Rattle.cdl_statements.specs.code.CutSteps.{pieces_after, step, with_first}
 use Rattle.cdl_tokens.specs.Scan.{scan}
-use Rattle.cdl_tokens.specs.Scanners.{followed, left}
-use Rattle.cdl_statements.specs.Shapes.{Value}
 use Rattle.cdl_tokens.specs.Tokens.{tokens_at, with_token}
-use Rattle.cdl_statements.specs.declared.cutter.Cutter.{Cutter}
-use Rattle.cdl_statements.specs.declared.fault.CdlKind.{CdlKind}
 use Rattle.cdl_statements.specs.declared.piece.CutState.{CutState}
 use Rattle.cdl_statements.specs.declared.piece.Role.{Role}
 use Rattle.cdl_tokens.specs.declared.token.Token.{Token}
-use Rattle.cdl_tokens.specs.declared.token.TokenKind.{TokenKind}
 use Rattle.cdl_tokens.specs.declared.token.TokenKind.TheVariants as kinds
-use Rattle.cdl_meaning.specs.State.{Capacity, listing_of}
-use Rattle.cdl_values.specs.Capacities.{Fills, Takes, as_bytes, capacity_for, most, positions_in}
-use Rattle.cdl_values.specs.PackedValues.{packed, followed_by, value_bytes, row_bytes, is_full}
-use Rattle.cdl_values.specs.declared.fill.Fill.{Fill}
-use Rattle.cdl_values.specs.declared.filling.Filling.{Filling}
-use Rattle.cdl_values.specs.declared.filling.Filling.TheVariants.{Numbers, Joined, Rows}
 use Rattle.cdl_values.proofs.Turns.{all_turns}
 
 -- ---- how many values a statement has
@@ -42,24 +27,24 @@ first_len true t ps n h = omega arith
 first_len false t [] n h = omega arith
 first_len false t (p ∷ ps) n h = let k : length p ≤ n = h in omega (arith, k)
 
-piece_len : (role : Token → Role) (state : CutState) (ts : List Token) → length (first_piece (pieces_at role state ts)) ≤ length ts
-unfolding pieces_at
+piece_len : (role : Token → Role) (state : CutState) (ts : List Token) → length (first_piece (pieces_after role state ts)) ≤ length ts
+unfolding pieces_after
 piece_len role state [] = omega arith
 piece_len role state (t ∷ ts) =
     let s = step state (role t) (first_role role ts) in
-    first_len s.ends t (pieces_at role s.state ts) (length ts) (piece_len role s.state ts)
+    first_len s.ends t (pieces_after role s.state ts) (length ts) (piece_len role s.state ts)
 
 token_len : (text : List ℕ) (at : ℕ) (kind : Option TokenKind) (n m : ℕ) (rest : List Token) → length rest ≤ m → length (with_token text at kind n rest) ≤ suc m
 token_len text at None n m rest h = omega (arith, h)
 token_len text at (Some kind) n m rest h = omega (arith, h)
 
-tokens_len : (text : List ℕ) (fresh : Bool) (at more : ℕ) (bytes : List ℕ) → length (tokens_at text fresh at more bytes) ≤ suc (length bytes)
+tokens_len : (text : List ℕ) (at_start : Bool) (at more : ℕ) (bytes : List ℕ) → length (tokens_at text at_start at more bytes) ≤ suc (length bytes)
 unfolding tokens_at
-tokens_len text fresh at more [] = omega arith
-tokens_len text fresh at (suc more) (b ∷ bytes) = let h = tokens_len text fresh (at + 1) more bytes in omega (arith, h)
-tokens_len text fresh at zero (b ∷ bytes) =
-    let s = scan fresh (b ∷ bytes) in
-    token_len text at s.kind s.len (suc (length bytes)) (tokens_at text (fresh && is_none s.kind) (at + 1) (s.len - 1) bytes) (tokens_len text (fresh && is_none s.kind) (at + 1) (s.len - 1) bytes)
+tokens_len text at_start at more [] = omega arith
+tokens_len text at_start at (suc more) (b ∷ bytes) = let h = tokens_len text at_start (at + 1) more bytes in omega (arith, h)
+tokens_len text at_start at zero (b ∷ bytes) =
+    let s = scan at_start (b ∷ bytes) in
+    token_len text at s.kind s.len (suc (length bytes)) (tokens_at text (at_start && is_none s.kind) (at + 1) (s.len - 1) bytes) (tokens_len text (at_start && is_none s.kind) (at + 1) (s.len - 1) bytes)
 
 followed_len : (t : Token) (kind : TokenKind) (rest : List Token) → length (followed t kind rest) ≤ suc (length rest)
 followed_len t kinds.Opening rest = omega arith
@@ -87,7 +72,7 @@ left_len c = by c.done
 
     few : length all ≤ suc (length (text_of c))
     few =
-        let a = tokens_len c.scanner.text.now c.scanner.fresh c.scanner.at 0 (drop c.scanner.at c.scanner.text.now) in
+        let a = tokens_len c.scanner.text.now c.scanner.at_start c.scanner.at 0 (drop c.scanner.at c.scanner.text.now) in
         let b = drop_len c.scanner.at c.scanner.text.now in
         omega (arith, a, b)
 
@@ -138,7 +123,7 @@ same Joined m xs few = refl
 same (Rows len fill) m xs few = capped (length xs) (λ k. packed (Rows len fill) (Some k) xs) m (λ k a b. rows_same len fill m k xs a b) few
 
 -- the values of a variable with this capacity
-pub all_taken : (f : Filling) (capacity : Option ℕ) (r : Capacity) (xs : List Value) → Fills f r → Takes f capacity r → length xs ≤ most → as_bytes r (listing_of r xs) ≡ packed f capacity xs
+pub all_taken : (f : Filling) (capacity : Option ℕ) (r : Capacity) (xs : List Value) → Fills f r → HasCapacity f capacity r → length xs ≤ most → as_bytes r (listing_of r xs) ≡ packed f capacity xs
 all_taken f None r xs h takes few = all_turns f None r xs h takes
 all_taken f (Some n) r xs h takes few =
     let m = positions_in f r in

@@ -1,28 +1,10 @@
 -- What a statement of the data section means, case by case.
-use Rattle.std.proofs.Common.{◌≡◌, ℕ, true, false, List, [], ◌∷◌, refl, sym, ap, ◌∙◌, Bool}
-use Rattle.std.specs.Prelude.{Option, None, Some, Result, Ok, Err, ◌&&◌, ◌==◌, not, slice_index, if◌then◌else◌}
-use Rattle.std.proofs.lemmas.Bool.{false≢true}
-use Rattle.nc_base.specs.declared.version.Version.{Version}
-use Rattle.cdl_tokens.specs.Escapes.{word_value}
-use Rattle.cdl_statements.specs.Lexemes.{Lexeme, is_mark, is_word_kind, is_mark_kind}
-use Rattle.cdl_statements.specs.Shapes.{first_bad, token_fault}
-use Rattle.cdl_statements.specs.DueTokens.{completes, next, is_name, only, is_whole}
+use Rattle.std.proofs.Common.{◌≡◌, ℕ, true, false, List, [], ◌∷◌, refl, sym, ap, ◌∙◌, Bool, Option, None, Some, Result, Ok, Err, ◌&&◌, ◌==◌, not, slice_index, if◌then◌else◌}
+use Rattle.cdl_values.proofs.Prelude.{false≢true, Version, word_value, Lexeme, is_mark, is_word_kind, is_mark_kind, first_bad, token_fault, completes, next, only, is_whole, only_completes, values, Due, DataName, Equals, CdlKind, Syntax, good_on, TokenKind, packed, FailsRead, data_read, bytes_assigned, packed_for, target_of, Target, ReadError, OutOfMemory, Fault}
+use Rattle.cdl_statements.specs.code.DueTokens.{is_name}
 use Rattle.nc_base.specs.Escapes.{is_reserved}
-use Rattle.cdl_statements.proofs.Listing.{only_completes}
-use Rattle.cdl_statements.specs.Contents.{values}
-use Rattle.cdl_statements.specs.declared.due.Due.{Due}
-use Rattle.cdl_statements.specs.declared.due.Due.TheVariants.{DataName, Equals, Value}
-use Rattle.cdl_statements.specs.declared.fault.CdlKind.{CdlKind}
-use Rattle.cdl_statements.specs.declared.fault.CdlKind.TheVariants.{Syntax}
-use Rattle.cdl_statements.proofs.Surveys.{good_on}
-use Rattle.cdl_tokens.specs.declared.token.TokenKind.{TokenKind}
+use Rattle.cdl_statements.specs.declared.due.Due.TheVariants.{Value}
 use Rattle.cdl_tokens.specs.declared.token.TokenKind.TheVariants as kinds
-use Rattle.cdl_values.specs.PackedValues.{packed}
-use Rattle.cdl_values.specs.Answers.{Fails}
-use Rattle.cdl_values.specs.DataRead.{data_read, assigned, filled, target_of}
-use Rattle.cdl_values.specs.declared.data.Target.{Target}
-use Rattle.cdl_values.specs.declared.read_error.ReadError.{ReadError}
-use Rattle.cdl_values.specs.declared.read_error.ReadError.TheVariants.{OutOfMemory, Fault}
 
 pub bad_read : (version : Version) (names : List (List ℕ)) (targets : List Target) (ws : List Lexeme) (k : CdlKind) → first_bad version ws ≡ Some k → data_read version names targets ws ≡ Err k
 unfolding data_read
@@ -36,7 +18,7 @@ pub unshaped_read : (version : Version) (names : List (List ℕ)) (targets : Lis
 unfolding data_read
 unshaped_read version names targets ws bad off = rw (bad) (rw (off) refl)
 
-good_read : (version : Version) (names : List (List ℕ)) (targets : List Target) (ws : List Lexeme) → first_bad version ws ≡ None → completes DataName ws ≡ true → data_read version names targets ws ≡ assigned version names targets ws
+good_read : (version : Version) (names : List (List ℕ)) (targets : List Target) (ws : List Lexeme) → first_bad version ws ≡ None → completes DataName ws ≡ true → data_read version names targets ws ≡ bytes_assigned version names targets ws
 unfolding data_read
 good_read version names targets ws bad on = rw (bad) (rw (on) refl)
 
@@ -68,17 +50,17 @@ equals_goes l ws all false is h = refl
 -- a good statement
 pub read_on : (version : Version) (names : List (List ℕ)) (targets : List Target) (ws es vs : List Lexeme) (n e : Lexeme) (a b : Bool) →
     ws ≡ n ∷ (if a then [] else es) → es ≡ e ∷ (if b then [] else vs) → first_bad version ws ≡ None → completes DataName ws ≡ true →
-    data_read version names targets ws ≡ filled version vs (target_of names targets (word_value n.bytes))
+    data_read version names targets ws ≡ packed_for version vs (target_of names targets (word_value n.bytes))
 read_on version names targets ws es vs n e a b first second bad on =
     let off : a ≡ false = name_goes n es ws a first on in
     let last : b ≡ false = equals_goes e vs es b second (name_on n es ws a first on) in
     let here : ws ≡ n ∷ e ∷ vs = first ∙ rw (off) (rw (second) (rw (last) refl)) in
-    good_read version names targets ws bad on ∙ ap (assigned version names targets) here
+    good_read version names targets ws bad on ∙ ap (bytes_assigned version names targets) here
 
-pub filled_ok : (version : Version) (vs : List Lexeme) (r : Result Target CdlKind) (t : Target) → r ≡ Ok t → filled version vs r ≡ packed t.filling t.capacity (values version vs)
+pub filled_ok : (version : Version) (vs : List Lexeme) (r : Result Target CdlKind) (t : Target) → r ≡ Ok t → packed_for version vs r ≡ packed t.filling t.capacity (values version vs)
 filled_ok version vs r t is = rw (is) refl
 
-pub filled_err : (version : Version) (vs : List Lexeme) (r : Result Target CdlKind) (e : ReadError) → Fails e r → Fails e (filled version vs r)
+pub filled_err : (version : Version) (vs : List Lexeme) (r : Result Target CdlKind) (e : ReadError) → FailsRead e r → FailsRead e (packed_for version vs r)
 filled_err version vs r OutOfMemory h = tt
 filled_err version vs r (Fault k) h = rw (h) refl
 

@@ -11,3 +11,4 @@ pub mod Joins
 pub mod Places
 pub mod Suited
 pub mod ValueRuns
+pub mod Prelude

@@ -1,19 +1,14 @@
 -- A name more in an index.
-use Rattle.std.proofs.Common.{◌≡◌, ◌<◌, ◌≤◌, ℕ, zero, suc, ◌+◌, Bool, true, false, cond, List, [], ◌∷◌, ◌++◌, length, refl, sym, ap, ◌∙◌, subst, ⊎_elim, arith, Vec, Global, length-append}
-use Rattle.std.specs.Prelude.{Option, None, Some, ◌==◌, if◌then◌else◌}
+use Rattle.std.proofs.Common.{◌≡◌, ◌<◌, ◌≤◌, ℕ, zero, suc, ◌+◌, Bool, true, false, cond, List, [], ◌∷◌, ◌++◌, length, refl, sym, ap, ◌∙◌, subst, ⊎_elim, arith, Vec, Global, length-append, Option, None, Some, ◌==◌, if◌then◌else◌}
 use Rattle.std.specs.declared.cmp.Ordering.{Ordering}
 use Rattle.std.specs.declared.cmp.Ordering.TheVariants.{Less, Equal, Greater}
-use Rattle.std.specs.List.{position_from}
+use Rattle.cdl_values.proofs.Prelude.{position_from, BTreeMap, bytes_eq, cases_Bool, cond-true, cond-false, false≢true, AreBelow, IsIndex, name_of_entry, names_below, names_of_map, position_of}
 use Rattle.std.specs.BTreeMap as tree
-use Rattle.std.specs.BTreeMap.{BTreeMap}
 use Rattle.std.specs.Map.{lookup, IsKeyTest, AreApart, KeepsOthers}
 use Rattle.std.specs.Cmp.{eq_by_cmp_equiv}
 use Rattle.std.specs.Cmp.Lexicographic.{slice_cmp, bytes_decides, nat_list_cmp_total, nat_list_eq_equiv}
 use Rattle.std.specs.Ordering.{is_eq, match_ordering, nat_cmp}
-use Rattle.std.specs.Str.{bytes_eq}
-use Rattle.std.proofs.lemmas.Bool.{cases_Bool, cond-true, cond-false, false≢true}
 use Rattle.std.proofs.lemmas.Map.Text.{is_eq-slice_cmp}
-use Rattle.cdl_values.specs.NameIndices.{AreBelow, IsIndex, name_at, names_below, names_in, position_of}
 
 Key : Type 0
 Key = Vec ℕ Global
@@ -128,29 +123,29 @@ module _ (k : Vec ℕ Global) (n : ℕ) where
       by Greater step = (first, step)
 
   -- the new position has the new name
-  name_there : (es : List Entry) → IsNew es → AreBelow n es → name_at (more es) n ≡ k.items
+  name_there : (es : List Entry) → IsNew es → AreBelow n es → name_of_entry (more es) n ≡ k.items
   name_there [] new h = itself n k.items []
   name_there (e ∷ es) new h = by (key_order k e.0) new (name_there es)
     where
-      by : (o : Ordering) → NewBy o e es → (IsNew es → AreBelow n es → name_at (more es) n ≡ k.items) → name_at (placed_by o e es) n ≡ k.items
-      by Less new step = itself n k.items (name_at (e ∷ es) n)
+      by : (o : Ordering) → NewBy o e es → (IsNew es → AreBelow n es → name_of_entry (more es) n ≡ k.items) → name_of_entry (placed_by o e es) n ≡ k.items
+      by Less new step = itself n k.items (name_of_entry (e ∷ es) n)
       by Equal new step = cc
-      by Greater new step = other_name e.1 n e.0.items (name_at (more es) n) (let b = h.0 in λ same. omega (arith, b, same)) ∙ step new h.1
+      by Greater new step = other_name e.1 n e.0.items (name_of_entry (more es) n) (let b = h.0 in λ same. omega (arith, b, same)) ∙ step new h.1
 
   -- each position before it has the name that it had
-  name_kept : (i : ℕ) (es : List Entry) → i < n → IsNew es → name_at (more es) i ≡ name_at es i
+  name_kept : (i : ℕ) (es : List Entry) → i < n → IsNew es → name_of_entry (more es) i ≡ name_of_entry es i
   name_kept i [] less new = other_name n i k.items [] (λ same. omega (arith, less, same))
   name_kept i (e ∷ es) less new = by (key_order k e.0) new (name_kept i es less)
     where
-      by : (o : Ordering) → NewBy o e es → (IsNew es → name_at (more es) i ≡ name_at es i) → name_at (placed_by o e es) i ≡ name_at (e ∷ es) i
-      by Less new step = other_name n i k.items (name_at (e ∷ es) i) (λ same. omega (arith, less, same))
+      by : (o : Ordering) → NewBy o e es → (IsNew es → name_of_entry (more es) i ≡ name_of_entry es i) → name_of_entry (placed_by o e es) i ≡ name_of_entry (e ∷ es) i
+      by Less new step = other_name n i k.items (name_of_entry (e ∷ es) i) (λ same. omega (arith, less, same))
       by Equal new step = cc
       by Greater new step = ap (λ (rest : List ℕ). if e.1 == i then e.0.items else rest) (step new)
 
   names_kept : (m : ℕ) (es : List Entry) → m ≤ n → IsNew es → names_below m (more es) ≡ names_below m es
   names_kept zero es less new = refl
   names_kept (suc m) es less new =
-      ap (λ (names : List (List ℕ)). names ++ name_at (more es) m ∷ []) (names_kept m es (omega (arith, less)) new) ∙ ap (λ (name : List ℕ). names_below m es ++ name ∷ []) (name_kept m es (omega (arith, less)) new)
+      ap (λ (names : List (List ℕ)). names ++ name_of_entry (more es) m ∷ []) (names_kept m es (omega (arith, less)) new) ∙ ap (λ (name : List ℕ). names_below m es ++ name ∷ []) (name_kept m es (omega (arith, less)) new)
 
   pub names_more : (es : List Entry) → IsNew es → AreBelow n es → n ≡ length es → names_below (length (more es)) (more es) ≡ names_below (length es) es ++ k.items ∷ []
   names_more es new h is =
@@ -160,7 +155,7 @@ module _ (k : Vec ℕ Global) (n : ℕ) where
 -- as many as the entries
 pub names_count : (n : ℕ) (es : List Entry) → length (names_below n es) ≡ n
 names_count zero es = refl
-names_count (suc n) es = length-append (names_below n es) (name_at es n ∷ []) ∙ ap (λ m. m + 1) (names_count n es) ∙ (let e : n + 1 ≡ suc n = omega arith in e)
+names_count (suc n) es = length-append (names_below n es) (name_of_entry es n ∷ []) ∙ ap (λ m. m + 1) (names_count n es) ∙ (let e : n + 1 ≡ suc n = omega arith in e)
 
 pub indexed : (m n : BTreeMap (Vec ℕ Global) ℕ) (k : Vec ℕ Global) (position : ℕ) → tree.Updates (λ x y. slice_cmp nat_cmp x.items y.items) m n k (Some position) →
     (names : List (List ℕ)) → ((name : List ℕ) → at m name ≡ position_of names name) → position ≡ length names → position_of names k.items ≡ None →
@@ -174,11 +169,11 @@ abbrev Map : Type 0
 Map = BTreeMap (Vec ℕ Global) ℕ
 
 -- with one more entry it has one more name
-pub names_added : (m n : Map) (k : Vec ℕ Global) → IsIndex m (names_in m) → lookup (tree.is_at (key_order k)) m.entries ≡ None → n.entries ≡ tree.insert_entry key_order m.entries k (length m.entries) → names_in n ≡ names_in m ++ k.items ∷ []
+pub names_added : (m n : Map) (k : Vec ℕ Global) → IsIndex m (names_of_map m) → lookup (tree.is_at (key_order k)) m.entries ≡ None → n.entries ≡ tree.insert_entry key_order m.entries k (length m.entries) → names_of_map n ≡ names_of_map m ++ k.items ∷ []
 names_added m n k index new is = ap (λ (es : List Entry). names_below (length es) es) is ∙ names_more k (length m.entries) m.entries new index.below refl
 
-pub index_added : (m n : Map) (k : Vec ℕ Global) → IsIndex m (names_in m) → lookup (tree.is_at (key_order k)) m.entries ≡ None → n.entries ≡ tree.insert_entry key_order m.entries k (length m.entries) →
-    tree.Updates key_order m n k (Some (length m.entries)) → IsIndex n (names_in n)
+pub index_added : (m n : Map) (k : Vec ℕ Global) → IsIndex m (names_of_map m) → lookup (tree.is_at (key_order k)) m.entries ≡ None → n.entries ≡ tree.insert_entry key_order m.entries k (length m.entries) →
+    tree.Updates key_order m n k (Some (length m.entries)) → IsIndex n (names_of_map n)
 index_added m n k index new is h =
     let es = m.entries in
     let wider = below_more k (length es) (length es) es (omega arith) index.below in
@@ -186,15 +181,15 @@ index_added m n k index new is h =
     record {
       below = subst (λ (all : List Entry). AreBelow (length all) all) (sym is) counted;
       finds = λ name.
-          indexed m n k (length es) h (names_in m) index.finds (sym (names_count (length es) es)) (sym (index.finds k.items) ∙ new) name ∙
+          indexed m n k (length es) h (names_of_map m) index.finds (sym (names_count (length es) es)) (sym (index.finds k.items) ∙ new) name ∙
           ap (λ names. position_of names name) (sym (names_added m n k index new is));
     }
 
 -- with the same entries it has the same names
-pub names_same : (m n : Map) → n.entries ≡ m.entries → names_in n ≡ names_in m
+pub names_same : (m n : Map) → n.entries ≡ m.entries → names_of_map n ≡ names_of_map m
 names_same m n same = ap (λ (es : List Entry). names_below (length es) es) same
 
-pub index_same : (m n : Map) → n.entries ≡ m.entries → IsIndex m (names_in m) → IsIndex n (names_in n)
+pub index_same : (m n : Map) → n.entries ≡ m.entries → IsIndex m (names_of_map m) → IsIndex n (names_of_map n)
 index_same m n same index = record {
   below = subst (λ (all : List Entry). AreBelow (length all) all) (sym same) index.below;
   finds = λ name. ap (lookup (tree.is_at (λ (k : Vec ℕ Global). slice_cmp nat_cmp name k.items))) same ∙ index.finds name ∙ ap (λ names. position_of names name) (sym (names_same m n same));

@@ -1,21 +1,6 @@
 -- The values of a statement, one token on.
-use Rattle.std.proofs.Common.{◌≡◌, ℕ, suc, ◌<◌, true, false, List, [], ◌∷◌, ◌++◌, refl, sym, ap, ◌∙◌, append_assoc, rules, append-nil, drop, length}
-use Rattle.std.specs.Prelude.{Option, Result, Ok, Err}
-use Rattle.nc_base.specs.declared.nc_type.NcType.TheVariants.{Char}
-use Rattle.std.specs.Prelude.{pos}
-use Rattle.nc_base.specs.declared.version.Version.{Version}
-use Rattle.nc_base.specs.Numbers.{bytes_of_number}
-use Rattle.cdl_statements.specs.Lexemes.{Lexeme, is_mark_kind}
-use Rattle.cdl_statements.specs.Contents.{values, value_of}
-use Rattle.cdl_statements.specs.Shapes.{Value}
-use Rattle.cdl_statements.specs.declared.fault.CdlKind.{CdlKind}
-use Rattle.cdl_values.specs.declared.filling.Filling.{Filling}
-use Rattle.cdl_values.specs.PackedValues.{char_bytes, bytes_of, capacity_after, joined, followed_by, packed}
-use Rattle.cdl_values.specs.declared.read_error.ReadError.{ReadError}
-use Rattle.cdl_values.specs.declared.read_error.ReadError.TheVariants.{OutOfMemory, Fault}
-use Rattle.cdl_values.specs.Answers.{Fails}
-use Rattle.std.proofs.Math.Seq.{drop-append_seam}
-use Rattle.cdl_tokens.specs.declared.token.TokenKind.{TokenKind}
+use Rattle.std.proofs.Common.{◌≡◌, ℕ, suc, ◌<◌, true, false, List, [], ◌∷◌, ◌++◌, refl, sym, ap, ◌∙◌, append_assoc, rules, append-nil, drop, length, Option, Result, Ok, Err, pos}
+use Rattle.cdl_values.proofs.Prelude.{Char, Version, bytes_of_number, Lexeme, is_mark_kind, values, value_of, Value, CdlKind, Filling, char_bytes, bytes_of, capacity_after, joined, followed_by, packed, ReadError, OutOfMemory, Fault, FailsRead, drop-append_seam, TokenKind}
 use Rattle.cdl_tokens.specs.declared.token.TokenKind.TheVariants as kinds
 
 -- what stands before a fault is given up
@@ -66,7 +51,7 @@ no_mark kinds.End h = refl
 
 -- a refused value is a refused list
 pub refused : (filling : Filling) (capacity : Option ℕ) (v : Value) (vs : List Value) (e : ReadError) (bs : List ℕ) →
-    Fails e (bytes_of filling capacity v) → Fails e (joined (Ok bs) (packed filling capacity (v ∷ vs)))
+    FailsRead e (bytes_of filling capacity v) → FailsRead e (joined (Ok bs) (packed filling capacity (v ∷ vs)))
 refused filling capacity v vs OutOfMemory bs h = h
 refused filling capacity v vs (Fault k) bs h = one_wrong filling capacity v vs k bs h
 

@@ -1,27 +1,9 @@
 -- What the variables take of the data section.
-use Rattle.std.proofs.Common.{◌≡◌, ℕ, suc, ◌+◌, ◌<◌, false, List, [], ◌∷◌, ◌++◌, length, map, take, get_or, refl, sym, ap, ◌∙◌, subst, arith, rules, ℤ}
-use Rattle.std.specs.Prelude.{nat_lt, not, min, Some}
-use Rattle.std.proofs.lemmas.List.{get_or-map, length-map}
+use Rattle.std.proofs.Common.{◌≡◌, ℕ, suc, ◌+◌, ◌<◌, false, List, [], ◌∷◌, ◌++◌, length, map, take, get_or, refl, sym, ap, ◌∙◌, subst, arith, rules, ℤ, nat_lt, not, min, Some, unsigned_abs}
+use Rattle.cdl_values.proofs.Prelude.{get_or-map, length-map, take-suc, map-append, IsInRange, bytes_of_number, dim_len, is_record_var, product, slab_count, is_char, Dim, Draft, capacity_of, row_count, AreShaped, unlisted_drafts, unlisted_draft, AllSuit, Suits, Fills, HasCapacity, most, Fill, Filling, Numbers, Joined, Rows, Target, NcType, Byte, Char, Short, Int, Ubyte, Ushort, Uint, Int64, Uint64}
 use Rattle.std.proofs.lemmas.List.Elements.{All-get_or}
-use Rattle.std.proofs.Math.Seq.{take-suc}
-use Rattle.std.proofs.lemmas.List.{map-append}
-use Rattle.std.specs.Prelude.{unsigned_abs}
-use Rattle.nc_base.specs.Numbers.{IsInRange, bytes_of_number}
 use Rattle.nc_base.specs.Headers.{AreDimids}
-use Rattle.nc_base.specs.Sizes.{dim_len, is_record_var, product, slab_count}
-use Rattle.nc_base.specs.ValueText.{is_char}
-use Rattle.nc_base.specs.declared.header.Dim.{Dim}
 use Rattle.nc_base.specs.declared.header.Var.{Var}
-use Rattle.cdl_meaning.specs.State.{Draft, capacity_of, row_count}
-use Rattle.cdl_values.specs.Listed.{AreShaped, fresh, fresh_draft}
-use Rattle.cdl_values.specs.Meant.{Suit, Suits}
-use Rattle.cdl_values.specs.Capacities.{Fills, Takes, most}
-use Rattle.cdl_values.specs.declared.fill.Fill.{Fill}
-use Rattle.cdl_values.specs.declared.filling.Filling.{Filling}
-use Rattle.cdl_values.specs.declared.filling.Filling.TheVariants.{Numbers, Joined, Rows}
-use Rattle.cdl_values.specs.declared.data.Target.{Target}
-use Rattle.nc_base.specs.declared.nc_type.NcType.{NcType}
-use Rattle.nc_base.specs.declared.nc_type.NcType.TheVariants.{Byte, Char, Short, Int, Ubyte, Ushort, Uint, Int64, Uint64}
 
 pub no_char : (ty : NcType) → (ty ≡ Char → ⊥) → is_char ty ≡ false
 no_char Byte h = refl
@@ -44,39 +26,39 @@ slab_is : (dims : List Dim) (var : Var) → is_record_var dims var ≡ false →
 slab_is dims var closed = rw (closed) refl
 
 pub takes_numbers : (dims : List Dim) (var : Var) (filling : Filling) (fill : Fill) (n : ℕ) → filling ≡ Numbers fill → is_record_var dims var ≡ false →
-    n ≡ min (product (map (dim_len dims) var.dimids)) most → Takes filling (Some n) (capacity_of dims var)
+    n ≡ min (product (map (dim_len dims) var.dimids)) most → HasCapacity filling (Some n) (capacity_of dims var)
 unfolding capacity_of
 takes_numbers dims var filling fill n is closed count =
-    subst (λ (f : Filling). Takes f (Some n) (capacity_of dims var)) (sym is) (closed, count ∙ ap (λ m. min m most) (sym (slab_is dims var closed)))
+    subst (λ (f : Filling). HasCapacity f (Some n) (capacity_of dims var)) (sym is) (closed, count ∙ ap (λ m. min m most) (sym (slab_is dims var closed)))
 
 pub takes_joined : (dims : List Dim) (var : Var) (filling : Filling) (n : ℕ) → filling ≡ Joined → Fills filling (capacity_of dims var) → is_record_var dims var ≡ false →
-    (length var.dimids < 2 → n ≡ product (map (dim_len dims) var.dimids)) → Takes filling (Some n) (capacity_of dims var)
+    (length var.dimids < 2 → n ≡ product (map (dim_len dims) var.dimids)) → HasCapacity filling (Some n) (capacity_of dims var)
 unfolding capacity_of
 takes_joined dims var filling n is fills closed count =
     let h : Fills Joined (capacity_of dims var) = subst (λ (f : Filling). Fills f (capacity_of dims var)) is fills in
     let flat : not (nat_lt (length var.dimids) 2) ≡ false = h.1 in
-    subst (λ (f : Filling). Takes f (Some n) (capacity_of dims var)) (sym is) (closed, count (grind (arith, flat)) ∙ sym (slab_is dims var closed))
+    subst (λ (f : Filling). HasCapacity f (Some n) (capacity_of dims var)) (sym is) (closed, count (grind (arith, flat)) ∙ sym (slab_is dims var closed))
 
 pub takes_rows : (dims : List Dim) (var : Var) (filling : Filling) (len fill n : ℕ) → filling ≡ Rows len fill → is_record_var dims var ≡ false →
-    n ≡ min (row_count dims var) most → Takes filling (Some n) (capacity_of dims var)
+    n ≡ min (row_count dims var) most → HasCapacity filling (Some n) (capacity_of dims var)
 unfolding capacity_of
-takes_rows dims var filling len fill n is closed count = subst (λ (f : Filling). Takes f (Some n) (capacity_of dims var)) (sym is) (closed, count)
+takes_rows dims var filling len fill n is closed count = subst (λ (f : Filling). HasCapacity f (Some n) (capacity_of dims var)) (sym is) (closed, count)
 
 -- ---- a target more
 
-pub suit_more : (dims : List Dim) (ts : List Target) (ds : List Draft) (t : Target) (d : Draft) → Suit dims ts ds → Suits dims t d → Suit dims (ts ++ t ∷ []) (ds ++ d ∷ [])
+pub suit_more : (dims : List Dim) (ts : List Target) (ds : List Draft) (t : Target) (d : Draft) → AllSuit dims ts ds → Suits dims t d → AllSuit dims (ts ++ t ∷ []) (ds ++ d ∷ [])
 suit_more dims [] [] t d h more = (more, tt)
 suit_more dims [] (e ∷ ds) t d h more = absurd h
 suit_more dims (s ∷ ts) [] t d h more = absurd h
 suit_more dims (s ∷ ts) (e ∷ ds) t d h more = (h.0, suit_more dims ts ds t d h.1 more)
 
-pub fresh_more : (vars : List Var) (i : ℕ) (x : Var) → i < length vars → x ≡ get_or vars i x → fresh (take (i + 1) vars) ≡ fresh (take i vars) ++ fresh_draft x ∷ []
+pub fresh_more : (vars : List Var) (i : ℕ) (x : Var) → i < length vars → x ≡ get_or vars i x → unlisted_drafts (take (i + 1) vars) ≡ unlisted_drafts (take i vars) ++ unlisted_draft x ∷ []
 fresh_more vars i x within is =
     let next : i + 1 ≡ suc i = omega arith in
-    ap (λ n. fresh (take n vars)) next ∙ ap fresh (take-suc vars i x within) ∙ map-append fresh_draft (take i vars) (get_or vars i x ∷ []) ∙ ap (λ y. fresh (take i vars) ++ fresh_draft y ∷ []) (sym is)
+    ap (λ n. unlisted_drafts (take n vars)) next ∙ ap unlisted_drafts (take-suc vars i x within) ∙ map-append unlisted_draft (take i vars) (get_or vars i x ∷ []) ∙ ap (λ y. unlisted_drafts (take i vars) ++ unlisted_draft y ∷ []) (sym is)
 
-pub shape_at : (dims : List Dim) (vars : List Var) (i : ℕ) (x : Var) → i < length vars → x ≡ get_or vars i x → AreShaped dims (fresh vars) → AreDimids dims [] x.dimids
+pub shape_at : (dims : List Dim) (vars : List Var) (i : ℕ) (x : Var) → i < length vars → x ≡ get_or vars i x → AreShaped dims (unlisted_drafts vars) → AreDimids dims [] x.dimids
 shape_at dims vars i x within is all =
-    let len = length-map vars fresh_draft in
-    let here = All-get_or (λ (d : Draft). AreDimids dims [] d.var.dimids) (fresh vars) i (fresh_draft x) (omega (arith, len, within)) all in
-    subst (λ (d : Draft). AreDimids dims [] d.var.dimids) (get_or-map fresh_draft vars i x (fresh_draft x) within ∙ ap fresh_draft (sym is)) here
+    let len = length-map vars unlisted_draft in
+    let here = All-get_or (λ (d : Draft). AreDimids dims [] d.var.dimids) (unlisted_drafts vars) i (unlisted_draft x) (omega (arith, len, within)) all in
+    subst (λ (d : Draft). AreDimids dims [] d.var.dimids) (get_or-map unlisted_draft vars i x (unlisted_draft x) within ∙ ap unlisted_draft (sym is)) here

@@ -1,19 +1,8 @@
 -- A number as it is held is in a type's range where the number is.
-use Rattle.std.proofs.Common.{◌≡◌, ℕ, zero, suc, ◌≤◌, ℤ, Bool, true, false, refl, sym, ap, ◌∙◌, arith, rules}
-use Rattle.std.specs.Prelude.{Option, None, Some, Ok, Err, nat_lt, nat_le, if◌then◌else◌, option_map, List, is_none}
-use Rattle.nc_base.specs.declared.nc_type.NcType.{NcType}
-use Rattle.nc_base.specs.declared.nc_type.NcType.TheVariants.{Byte, Char, Short, Int, Ubyte, Ushort, Uint, Int64, Uint64}
-use Rattle.cdl_statements.specs.Contents.{parts_or_zero}
-use Rattle.cdl_tokens.specs.Numerals.{Parts, parts, numeral, signed, number}
-use Rattle.nc_base.specs.declared.version.Version.{Version}
+use Rattle.std.proofs.Common.{◌≡◌, ℕ, zero, suc, ◌≤◌, ℤ, Bool, true, false, refl, sym, ap, ◌∙◌, arith, rules, Option, None, Some, Ok, Err, nat_lt, nat_le, if◌then◌else◌, option_map, List, is_none}
+use Rattle.cdl_values.proofs.Prelude.{NcType, Byte, Char, Short, Int, Ubyte, Ushort, Uint, Int64, Uint64, parts_or_zero, Parts, parts, numeral, signed, number, Version, word, held, Number, token_fault, NumberRange, BadNumber, bytes_of_number, fits, greatest, number_bytes, held_bytes, joined, value_bytes}
 use Rattle.cdl_tokens.specs.declared.token.TokenKind.TheVariants as kinds
-use Rattle.cdl_tokens.specs.Magnitudes.{word, held}
-use Rattle.cdl_statements.specs.Shapes.{Number, token_fault}
-use Rattle.cdl_statements.specs.declared.fault.CdlKind.TheVariants.{NumberRange, BadNumber}
 use Rattle.cdl_tokens.specs.declared.numeral.Numeral.{Numeral as Held}
-use Rattle.nc_base.specs.Numbers.{bytes_of_number}
-use Rattle.cdl_meaning.specs.State.{fits}
-use Rattle.cdl_values.specs.PackedValues.{greatest, number_bytes, held_bytes, joined, value_bytes}
 
 greatest_word : (ty : NcType) (minus : Bool) → greatest ty minus ≤ 18446744073709551615
 greatest_word Byte true = search rules

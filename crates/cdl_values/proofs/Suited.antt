@@ -1,14 +1,7 @@
 -- Targets that suit a state's drafts: the premises of the data section's reader can be met.
-use Rattle.std.proofs.Common.{List, [], ◌∷◌, refl, false, rules, ◌^◌, ◌-◌}
-use Rattle.std.specs.Prelude.{codes, Some, None, pos, neg_ℤ}
+use Rattle.std.proofs.Common.{List, [], ◌∷◌, refl, false, rules, ◌^◌, ◌-◌, codes, Some, None, pos, neg_ℤ}
 use Rattle.nc_base.specs.Fill.{fill_value}
-use Rattle.nc_base.specs.declared.header.Dim.{Dim}
-use Rattle.nc_base.specs.declared.nc_type.NcType.TheVariants.{Int, Char}
-use Rattle.cdl_meaning.specs.State.{Draft, capacity_of, fits}
-use Rattle.cdl_values.specs.Meant.{Suit}
-use Rattle.cdl_values.specs.declared.data.Target.{Target}
-use Rattle.cdl_values.specs.declared.fill.Fill.{Fill}
-use Rattle.cdl_values.specs.declared.filling.Filling.TheVariants.{Numbers, Joined, Rows}
+use Rattle.cdl_values.proofs.Prelude.{Dim, Int, Char, Draft, capacity_of, fits, AllSuit, Target, Fill, Numbers, Joined, Rows}
 
 dims : List Dim
 dims = record { name = codes "n"; len = 2 } ∷ record { name = codes "k"; len = 3 } ∷ record { name = codes "w"; len = 2 ^ 40 } ∷ []
@@ -31,7 +24,7 @@ targets =
     record { filling = Rows 3 0; capacity = Some 2; given = false } ∷ record { filling = Joined; capacity = Some 3; given = false } ∷
     record { filling = Numbers int_fill; capacity = Some (2 ^ 64 - 1); given = false } ∷ []
 
-suited : Suit dims targets drafts
+suited : AllSuit dims targets drafts
 unfolding dims drafts int_fill targets capacity_of fill_value
 suited = (
   record { given = refl; fills = (refl, refl, refl); takes = (refl, refl) },

@@ -1,21 +1,7 @@
 -- The values of a statement one by one: their bytes are the bytes of what the state lists.
-use Rattle.std.proofs.Common.{◌≡◌, ℕ, zero, suc, ◌+◌, ◌-◌, ℤ, Bool, true, false, List, [], ◌∷◌, ◌++◌, length, map, refl, sym, ap, ◌∙◌, arith, append-nil, length-append, rules, subst}
-use Rattle.std.specs.Prelude.{pos, Option, None, Some, Result, Ok, Err, ◌||◌, not, nat_lt, nat_le, replicate}
-use Rattle.std.specs.List.{flat_map}
-use Rattle.std.proofs.lemmas.Grind.{flat_map-append}
-use Rattle.std.proofs.lemmas.List.{map-append}
-use Rattle.nc_base.specs.declared.nc_type.NcType.{NcType}
-use Rattle.nc_base.specs.declared.nc_type.NcType.TheVariants.{Char}
-use Rattle.nc_base.specs.Numbers.{bytes_of_number}
-use Rattle.nc_base.specs.ValueText.{is_char}
-use Rattle.cdl_statements.specs.Shapes.{Value, Number, Characters, Underscore}
-use Rattle.cdl_statements.specs.declared.fault.CdlKind.{CdlKind}
-use Rattle.cdl_statements.specs.declared.fault.CdlKind.TheVariants.{TooManyValues, NumberRange, StringTooLong, WrongKind}
-use Rattle.cdl_meaning.specs.State.{Capacity, Listing, Numbers, Joined, Rows, add_number, add_characters, add_row, in_turn, listed_by, listing_of, values_in, fits, filled, ◌>>=◌}
-use Rattle.cdl_values.specs.Capacities.{Fills, positions_in, as_bytes}
-use Rattle.cdl_values.specs.PackedValues.{packed, followed_by, joined, bytes_of, capacity_after, is_full, is_past, less, char_bytes}
-use Rattle.cdl_values.specs.declared.fill.Fill.{Fill}
-use Rattle.cdl_values.specs.declared.filling.Filling.{Filling}
+use Rattle.std.proofs.Common.{◌≡◌, ℕ, zero, suc, ◌+◌, ◌-◌, ℤ, Bool, true, false, List, [], ◌∷◌, ◌++◌, length, map, refl, sym, ap, ◌∙◌, arith, append-nil, length-append, rules, subst, pos, Option, None, Some, Result, Ok, Err, ◌||◌, not, nat_lt, nat_le, replicate}
+use Rattle.cdl_values.proofs.Prelude.{flat_map, flat_map-append, map-append, NcType, Char, bytes_of_number, is_char, Value, Number, Characters, Underscore, CdlKind, TooManyValues, NumberRange, StringTooLong, WrongKind, Capacity, Listing, add_number, add_characters, add_row, in_turn, listed_by, listing_of, values_in, fits, filled, Fills, positions_in, as_bytes, packed, followed_by, joined, bytes_of, capacity_after, is_full, is_past, less, char_bytes, Fill, Filling}
+use Rattle.cdl_meaning.specs.State.{Numbers, Joined, Rows, ◌>>=◌}
 use Rattle.cdl_values.specs.declared.filling.Filling.TheVariants as fillings
 use Rattle.cdl_values.proofs.PackedTokens.{joined_assoc, joined_none, chars_len}
 

@@ -1,31 +1,12 @@
 -- A run of values, one value on.
-use Rattle.std.proofs.Common.{◌≡◌, ◌≤◌, ◌<◌, ℕ, ◌+◌, ◌-◌, Bool, true, false, List, ◌∷◌, length, drop, sym, ap, ◌∙◌, refl, subst, arith}
-use Rattle.std.specs.Prelude.{Option, None, Some, Ok, ◌&&◌, ◌==◌, slice_index}
-use Rattle.nc_base.specs.declared.version.Version.{Version}
-use Rattle.cdl_tokens.specs.Escapes.{inner, stands}
-use Rattle.cdl_tokens.specs.Scanners as scanners
+use Rattle.std.proofs.Common.{◌≡◌, ◌≤◌, ◌<◌, ℕ, ◌+◌, ◌-◌, Bool, true, false, List, ◌∷◌, length, drop, sym, ap, ◌∙◌, refl, subst, arith, Option, None, Some, Ok, ◌&&◌, ◌==◌, slice_index}
+use Rattle.cdl_values.proofs.Prelude.{Version, inner, stands, TokenKind, value_of, values, is_done, next_token, text_of, version_of, words, completes, is_value_of, next, only, separator, Lexeme, is_mark, is_mark_kind, lexeme, IsAtComma, Passes, PassesNumber, PassesString, Characters, first_bad, token_fault, lexeme_with, Cutter, Due, Separator, at_same_comma, same_after, same_words, good_on, bytes_of, capacity_after, held_bytes, is_full, joined, less, packed, row_bytes, GoesOn, Place, TakesValues, Fill, Filling, Numbers, Rows}
+use Rattle.cdl_tokens.specs.code.Scanners as scanners
 use Rattle.cdl_tokens.specs.declared.numeral.Numeral.{Numeral as Held}
-use Rattle.cdl_tokens.specs.declared.token.TokenKind.{TokenKind}
 use Rattle.cdl_tokens.specs.declared.token.TokenKind.TheVariants as kinds
-use Rattle.cdl_statements.specs.Contents.{value_of, values}
-use Rattle.cdl_statements.specs.Cutters.{is_done, next_token, text_of, version_of, words}
-use Rattle.cdl_statements.specs.DueTokens.{completes, is_value_of, next, only, separator}
-use Rattle.cdl_statements.specs.Lexemes.{Lexeme, is_mark, is_mark_kind, lexeme}
-use Rattle.cdl_statements.specs.ListedTokens.{IsAtComma, Passes, PassesNumber, PassesString}
-use Rattle.cdl_statements.specs.NumberLists.{SamePlace, reached}
-use Rattle.cdl_statements.specs.Shapes.{Characters, first_bad, token_fault}
-use Rattle.cdl_statements.specs.Views.{lexeme_with}
-use Rattle.cdl_statements.specs.declared.cutter.Cutter.{Cutter}
-use Rattle.cdl_statements.specs.declared.due.Due.{Due}
-use Rattle.cdl_statements.specs.declared.due.Due.TheVariants.{Separator, Value}
+use Rattle.cdl_statements.specs.code.NumberLists as lists
+use Rattle.cdl_statements.specs.declared.due.Due.TheVariants.{Value}
 use Rattle.cdl_statements.specs.declared.number_list.NumberList.{NumberList}
-use Rattle.cdl_statements.proofs.NumberLists.{at_same_comma, same_after, same_words}
-use Rattle.cdl_statements.proofs.Surveys.{good_on}
-use Rattle.cdl_values.specs.PackedValues.{bytes_of, capacity_after, held_bytes, is_full, joined, less, packed, row_bytes}
-use Rattle.cdl_values.specs.ValueRuns.{GoesOn, Place, Takes}
-use Rattle.cdl_values.specs.declared.fill.Fill.{Fill}
-use Rattle.cdl_values.specs.declared.filling.Filling.{Filling}
-use Rattle.cdl_values.specs.declared.filling.Filling.TheVariants.{Numbers, Rows}
 use Rattle.cdl_values.proofs.PackedTokens.{added, is_after, one_packed, over_mark, over_value}
 use Rattle.cdl_values.proofs.Ranges.{good_number, number_added}
 
@@ -41,6 +22,10 @@ comma_good v l h = by l.kind l.bytes h
     by kinds.Bad bytes h = cc
     by kinds.End bytes h = cc
 
+-- the place where a cutter has come to
+abbrev pub reached : Cutter → List ℕ → Option ℕ → Place
+reached cutter bytes left = record { cutter = cutter; bytes = bytes; left = left }
+
 -- nothing is passed
 pub unmoved : (due : Due) (filling : Filling) (start : Place) → is_done start.cutter ≡ false → GoesOn due filling start start
 unmoved due filling start goes = record {
@@ -53,7 +38,7 @@ unmoved due filling start goes = record {
   on = omega arith;
 }
 
-pub stays : (takes_fill : Bool) (filling : Filling) (start : Place) → IsAtComma start.cutter → Takes takes_fill filling start start
+pub stays : (takes_fill : Bool) (filling : Filling) (start : Place) → IsAtComma start.cutter → TakesValues takes_fill filling start start
 stays takes_fill filling start at = record { at = at; on = unmoved (Separator takes_fill) filling start at.goes }
 
 -- one run after the other
@@ -70,14 +55,14 @@ further due filling start between rest so next =
       on = let first = so.on in let then = next.on in omega (arith, first, then);
     }
 
-pub takes_further : (takes_fill : Bool) (filling : Filling) (start between rest : Place) → Takes takes_fill filling start between → Takes takes_fill filling between rest → Takes takes_fill filling start rest
+pub takes_further : (takes_fill : Bool) (filling : Filling) (start between rest : Place) → TakesValues takes_fill filling start between → TakesValues takes_fill filling between rest → TakesValues takes_fill filling start rest
 takes_further takes_fill filling start between rest so next = record { at = next.at; on = further (Separator takes_fill) filling start between rest so.on next.on }
 
 -- a comma and a good value more, whose bytes are added
 pub value_on : (takes_fill : Bool) (filling : Filling) (start rest : Place) (l : Lexeme) → IsAtComma start.cutter → Passes start.cutter rest.cutter l →
     token_fault (version_of start.cutter) l.kind l.bytes ≡ None → is_value_of takes_fill l l.kind ≡ true →
     ((ls : List Lexeme) → joined (Ok start.bytes) (packed filling start.left (values (version_of start.cutter) (l ∷ ls))) ≡ joined (Ok rest.bytes) (packed filling rest.left (values (version_of start.cutter) ls))) →
-    Takes takes_fill filling start rest
+    TakesValues takes_fill filling start rest
 unfolding completes next
 value_on takes_fill filling start rest l at passes good value packs =
     let v = version_of start.cutter in
@@ -100,7 +85,7 @@ value_on takes_fill filling start rest l at passes good value packs =
       };
     }
 
--- a value is packed, of which one is counted
+-- one value is packed, and the capacity counts one less
 packs_one : (v : Version) (filling : Filling) (start rest : Place) (l : Lexeme) → is_mark_kind l.kind ≡ false → joined (Ok start.bytes) (bytes_of filling start.left (value_of v l l.kind)) ≡ Ok rest.bytes →
     ((bytes : List ℕ) → capacity_after filling bytes start.left ≡ rest.left) → (ls : List Lexeme) →
     joined (Ok start.bytes) (packed filling start.left (values v (l ∷ ls))) ≡ joined (Ok rest.bytes) (packed filling rest.left (values v ls))
@@ -114,7 +99,7 @@ packs_one v filling start rest l other adds counts ls =
 
 -- a number more
 pub number_on : (takes_fill : Bool) (fill : Fill) (start rest : Place) (n : Held) → IsAtComma start.cutter → PassesNumber start.cutter rest.cutter n → is_full start.left ≡ false →
-    joined (Ok start.bytes) (held_bytes fill.ty n.minus n.magnitude) ≡ Ok rest.bytes → rest.left ≡ less 1 start.left → Takes takes_fill (Numbers fill) start rest
+    joined (Ok start.bytes) (held_bytes fill.ty n.minus n.magnitude) ≡ Ok rest.bytes → rest.left ≡ less 1 start.left → TakesValues takes_fill (Numbers fill) start rest
 unfolding value_of
 number_on takes_fill fill start rest n at passes full adds left =
     let v = version_of start.cutter in
@@ -124,7 +109,7 @@ number_on takes_fill fill start rest n at passes full adds left =
 
 -- a row more
 pub row_on : (takes_fill : Bool) (len fill : ℕ) (start rest : Place) (bytes : List ℕ) → IsAtComma start.cutter → PassesString start.cutter rest.cutter bytes → is_full start.left ≡ false →
-    joined (Ok start.bytes) (row_bytes len fill false (Characters (stands (inner bytes)))) ≡ Ok rest.bytes → rest.left ≡ less 1 start.left → Takes takes_fill (Rows len fill) start rest
+    joined (Ok start.bytes) (row_bytes len fill false (Characters (stands (inner bytes)))) ≡ Ok rest.bytes → rest.left ≡ less 1 start.left → TakesValues takes_fill (Rows len fill) start rest
 unfolding value_of
 row_on takes_fill len fill start rest bytes at passes full adds left =
     let v = version_of start.cutter in
@@ -149,15 +134,15 @@ pub counted_down : (n left : ℕ) (capacity : Option ℕ) → left ≤ n → 0 <
 counted_down n left capacity within some = ap (λ m. less m capacity) (let e : n - (left - 1) ≡ n - left + 1 = omega (arith, within, some) in e) ∙ counted (n - left) capacity
 
 -- the same place
-pub ended : (takes_fill : Bool) (filling : Filling) (start there : Place) (cutter : Cutter) (left : Option ℕ) → cutter ≡ there.cutter → left ≡ there.left → Takes takes_fill filling start there →
-    Takes takes_fill filling start (record { cutter = cutter; bytes = there.bytes; left = left })
+pub ended : (takes_fill : Bool) (filling : Filling) (start there : Place) (cutter : Cutter) (left : Option ℕ) → cutter ≡ there.cutter → left ≡ there.left → TakesValues takes_fill filling start there →
+    TakesValues takes_fill filling start (reached cutter there.bytes left)
 ended takes_fill filling start there cutter left same_place same_left so =
-    subst (λ (c : Cutter). Takes takes_fill filling start (record { cutter = c; bytes = there.bytes; left = left })) (sym same_place)
-    (subst (λ (n : Option ℕ). Takes takes_fill filling start (record { cutter = there.cutter; bytes = there.bytes; left = n })) (sym same_left) so)
+    subst (λ (c : Cutter). TakesValues takes_fill filling start (reached c there.bytes left)) (sym same_place)
+    (subst (λ (n : Option ℕ). TakesValues takes_fill filling start (reached there.cutter there.bytes n)) (sym same_left) so)
 
 -- a cutter at the same place
-pub ended_at : (takes_fill : Bool) (filling : Filling) (start there : Place) (cutter : Cutter) (left : Option ℕ) → SamePlace cutter there.cutter → left ≡ there.left → Takes takes_fill filling start there →
-    Takes takes_fill filling start (record { cutter = cutter; bytes = there.bytes; left = left })
+pub ended_at : (takes_fill : Bool) (filling : Filling) (start there : Place) (cutter : Cutter) (left : Option ℕ) → lists.SamePlace cutter there.cutter → left ≡ there.left → TakesValues takes_fill filling start there →
+    TakesValues takes_fill filling start (reached cutter there.bytes left)
 ended_at takes_fill filling start there cutter left same same_left so =
     let v = version_of start.cutter in
     let same_said = same_words cutter there.cutter same in
@@ -177,5 +162,5 @@ ended_at takes_fill filling start there cutter left same same_left so =
     }
 
 -- what a list of numbers was left at
-pub left_at : (r c : Cutter) (new old : NumberList) → r ≡ c → SamePlace c (reached new) → new ≡ old → SamePlace r (reached old)
-left_at r c new old same place stays = subst (λ (x : Cutter). SamePlace x (reached old)) (sym same) (subst (λ (l : NumberList). SamePlace c (reached l)) stays place)
+pub left_at : (r c : Cutter) (new old : NumberList) → r ≡ c → lists.SamePlace c (lists.reached new) → new ≡ old → lists.SamePlace r (lists.reached old)
+left_at r c new old same place stays = subst (λ (x : Cutter). lists.SamePlace x (lists.reached old)) (sym same) (subst (λ (l : NumberList). lists.SamePlace c (lists.reached l)) stays place)

@@ -1,10 +1,10 @@
 //! The constants of an attribute.
 
 ghost use Rattle.std.specs.Prelude.{◌≡◌, false};
-ghost use Rattle.cdl_statements.specs.Cutters.{is_done};
+ghost use Rattle.cdl_statements.specs.code.Cutters.{is_done};
 ghost use Rattle.cdl_meaning.specs.State.{add_constant, type_said};
-ghost use Rattle.cdl_values.specs.Answers.{Gives, Leaves};
-ghost use Rattle.cdl_values.specs.TokenValues.{AddsNumber, AddsToken, text_said, constants_read, value_said};
+ghost use Rattle.cdl_values.specs.code.Answers.{GivesRead, Leaves};
+ghost use Rattle.cdl_values.specs.code.TokenValues.{AddsNumber, AddsToken, text_said, constants_read, value_said};
 
 use crate::number::{number_or_zero, put_numeral};
 use crate::read_error::ReadError;
@@ -37,7 +37,7 @@ pub fn read_constants(
     start: Cutter<'_>,
 ) -> Result<ListedArray, ReadError>
     requires { is_done start ≡ false }
-    ensures { Gives (λ vals. vals) result (constants_read ty start.entry) }
+    ensures { GivesRead (λ vals. vals) result (constants_read ty start.entry) }
 {
     let version = start.version();
     let mut cutter = start;
@@ -68,7 +68,7 @@ fn put_token(
 }
 
 /// Adds the bytes of a constant.
-#[tactic(auto, unfolding(cdl_statements::specs::Contents::value_of))]
+#[tactic(auto, unfolding(cdl_statements::specs::code::Contents::value_of))]
 fn put_constant(
     vals: &mut ListedArray,
     version: Version,
@@ -84,7 +84,7 @@ fn put_constant(
     }
 }
 
-/// Adds the bytes of a number, where it has the type.
+/// Adds the bytes of a number, if it has the type.
 fn put_number(vals: &mut ListedArray, ty: NcType, n: Numeral) -> Result<(), ReadError>
     ensures { AddsNumber ty n vals.old vals.new result }
 {
@@ -94,7 +94,7 @@ fn put_number(vals: &mut ListedArray, ty: NcType, n: Numeral) -> Result<(), Read
     put_numeral(vals, ty, n)
 }
 
-/// Adds the characters that a string stands for, where the type is char.
+/// Adds the characters that a string stands for, if the type is char.
 fn put_characters(vals: &mut ListedArray, ty: NcType, bytes: &[u8]) -> Result<(), ReadError>
     ensures { Leaves vals.new result (add_constant ty vals.old (text_said bytes.now)) }
 {

@@ -1,19 +1,19 @@
 //! The statements of the data section.
 
 ghost use Rattle.std.specs.Prelude.{◌≡◌, Ok, IfOk, false, option_map};
-ghost use Rattle.cdl_statements.specs.Cutters.{Follows, is_done};
+ghost use Rattle.cdl_statements.specs.code.Cutters.{Follows, is_done};
 ghost use Rattle.cdl_tokens.specs.Escapes.{word_value};
-ghost use Rattle.cdl_values.specs.Answers.{Gives};
-ghost use Rattle.cdl_values.specs.DataRead.{if_new, statement_read, target_said};
-ghost use Rattle.cdl_values.specs.Meant.{MeansWhatIsGiven, name_said};
-ghost use Rattle.cdl_values.specs.NameIndices.{IsPosition};
+ghost use Rattle.cdl_values.specs.code.Answers.{GivesRead};
+ghost use Rattle.cdl_values.specs.code.DataRead.{if_new, statement_read, target_said};
+ghost use Rattle.cdl_values.specs.code.Meant.{MeansWhatIsGiven, name_said};
+ghost use Rattle.cdl_values.specs.code.NameIndices.{IsPosition};
 
 use crate::filling::Filling;
 use crate::name::read_name;
 use crate::name_index::NameIndex;
 use crate::packing::{pack, pack_good};
 use crate::read_error::ReadError;
-use crate::value::Stop;
+use crate::value::FastPathFault;
 use cdl_statements::{CdlKind, Cutter, Due, first_pass};
 use nc_base::ListedArray;
 use std::alloc::Global;
@@ -30,7 +30,7 @@ pub struct Target {
 
 /// The target of a variable, and the variable's position.
 #[derive(Clone, Copy)]
-struct Place {
+struct FoundTarget {
     position: u64,
     target: Target,
 }
@@ -65,7 +65,7 @@ pub fn read<'a>(
     read_either(alloc, names, targets, start)
 }
 
-/// Reads a statement in one pass, or in two where something is wrong with it.
+/// Reads a statement in one pass, or in two if something is wrong with it.
 fn read_either<'a>(
     alloc: Global,
     names: &NameIndex,
@@ -73,24 +73,24 @@ fn read_either<'a>(
     start: Cutter<'a>,
 ) -> Result<Given<'a>, ReadError>
     requires { is_done start ≡ false }
-    ensures read { Gives (λ g. g.array) result (statement_read start.entry names.now targets.now) }
+    ensures read { GivesRead (λ g. g.array) result (statement_read start.entry names.now targets.now) }
     ensures position { IfOk result (λ g. IsPosition names.now (name_said start.entry) g.position) }
     ensures rest { IfOk result (λ g. Follows start.entry g.rest) }
 {
     match read_quickly(alloc, names, targets, start) {
         Ok(given) => Ok(given),
-        Err(Stop::OutOfMemory) => Err(ReadError::OutOfMemory),
-        Err(Stop::SomeFault) => read_slowly(alloc, names, targets, start),
+        Err(FastPathFault::OutOfMemory) => Err(ReadError::OutOfMemory),
+        Err(FastPathFault::Unnamed) => read_slowly(alloc, names, targets, start),
     }
 }
 
-/// Reads a good statement in one pass; where something is wrong with it, it doesn't say what.
+/// Reads a good statement in one pass; if something is wrong with it, it doesn't say what.
 fn read_quickly<'a>(
     alloc: Global,
     names: &NameIndex,
     targets: &[Target],
     start: Cutter<'a>,
-) -> Result<Given<'a>, Stop>
+) -> Result<Given<'a>, FastPathFault>
     requires { is_done start ≡ false }
     ensures read { IfOk result (λ g. statement_read start.entry names.now targets.now ≡ Ok g.array) }
     ensures position { IfOk result (λ g. IsPosition names.now (name_said start.entry) g.position) }
@@ -100,23 +100,23 @@ fn read_quickly<'a>(
     let equals_due = Due::DataName.after(name);
     let (equals, name_ends) = start.advanced();
     if name_ends {
-        return Err(Stop::SomeFault);
+        return Err(FastPathFault::Unnamed);
     }
     let sign = equals.lexeme();
     let value_due = equals_due.after(sign);
     let (value, sign_ends) = equals.advanced();
     if sign_ends {
-        return Err(Stop::SomeFault);
+        return Err(FastPathFault::Unnamed);
     }
     match value_due {
         Due::Value { takes_fill } => {
             if !takes_fill {
-                return Err(Stop::SomeFault);
+                return Err(FastPathFault::Unnamed);
             }
         }
-        _ => return Err(Stop::SomeFault),
+        _ => return Err(FastPathFault::Unnamed),
     }
-    let Place { position, target } = target_of(alloc, names, targets, name.bytes)?;
+    let FoundTarget { position, target } = target_of(alloc, names, targets, name.bytes)?;
     let packed = pack_good(alloc, value, target.filling, target.capacity)?;
     Ok(Given {
         position,
@@ -133,7 +133,7 @@ fn read_slowly<'a>(
     start: Cutter<'a>,
 ) -> Result<Given<'a>, ReadError>
     requires { is_done start ≡ false }
-    ensures read { Gives (λ g. g.array) result (statement_read start.entry names.now targets.now) }
+    ensures read { GivesRead (λ g. g.array) result (statement_read start.entry names.now targets.now) }
     ensures position { IfOk result (λ g. IsPosition names.now (name_said start.entry) g.position) }
     ensures rest { IfOk result (λ g. Follows start.entry g.rest) }
 {
@@ -147,7 +147,7 @@ fn read_slowly<'a>(
     let name = start.lexeme();
     let (equals, _) = start.advanced();
     let (value, _) = equals.advanced();
-    let Place { position, target } = target_of(alloc, names, targets, name.bytes)?;
+    let FoundTarget { position, target } = target_of(alloc, names, targets, name.bytes)?;
     let array = pack(alloc, value, target.filling, target.capacity)?;
     Ok(Given {
         position,
@@ -162,14 +162,14 @@ fn target_of(
     names: &NameIndex,
     targets: &[Target],
     word: &[u8],
-) -> Result<Place, ReadError>
-    ensures target { Gives (λ p. p.target) result (target_said names.now targets.now word.now) }
+) -> Result<FoundTarget, ReadError>
+    ensures target { GivesRead (λ p. p.target) result (target_said names.now targets.now word.now) }
     ensures position { IfOk result (λ p. IsPosition names.now (word_value word.now) p.position) }
 {
     let name = read_name(alloc, word)?;
     let position = names.find(name.as_slice()).ok_or(CdlKind::UnknownVariable)?;
     let target = if_new(targets.get(position as usize))?;
-    Ok(Place { position, target })
+    Ok(FoundTarget { position, target })
 }
 
 /// The target, if no statement gave its values.

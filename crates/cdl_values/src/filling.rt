@@ -1,7 +1,7 @@
 //! How a variable is filled with values, and how many it still takes.
 
 ghost use Rattle.std.specs.Prelude.{◌≡◌, ℕ, List, length};
-ghost use Rattle.cdl_values.specs.PackedValues.{is_full, is_past, less};
+ghost use Rattle.cdl_values.specs.code.PackedValues.{is_full, is_past, less};
 
 use crate::fill::Fill;
 
@@ -17,7 +17,7 @@ pub enum Filling {
 }
 
 impl Filling {
-    ghost use Rattle.cdl_values.specs.PackedValues.{capacity_after};
+    ghost use Rattle.cdl_values.specs.code.PackedValues.{capacity_after};
 
     /// The capacity that is left after a value of `n` bytes.
     pub fn capacity_after(self, n: u128, capacity: Option<u64>) -> Option<u64>

@@ -5,7 +5,7 @@ ghost use Rattle.nc_base.specs.Names.{is_name};
 ghost use Rattle.cdl_tokens.specs.Escapes.{word_value};
 ghost use Rattle.cdl_statements.specs.declared.fault.CdlKind.TheVariants.{BadName};
 ghost use Rattle.cdl_meaning.specs.State.{unless};
-ghost use Rattle.cdl_values.specs.Answers.{Fails};
+ghost use Rattle.cdl_values.specs.code.Answers.{FailsRead};
 
 use crate::read_error::ReadError;
 use cdl_statements::CdlKind;
@@ -13,7 +13,7 @@ use cdl_tokens::{byte_at, is_escape};
 use nc_base::check_name;
 use std::alloc::{AllocError, Global};
 
-/// The name that a word stands for, where the format allows it.
+/// The name that a word stands for, if the format allows it.
 ///
 /// # Errors
 ///
@@ -21,7 +21,7 @@ use std::alloc::{AllocError, Global};
 pub fn read_name(alloc: Global, word: &[u8]) -> Result<Vec<u8>, ReadError>
     ensures name { IfOk result (λ name. name.items ≡ word_value word.now) }
     ensures allowed { OnOk result (is_name (word_value word.now) ≡ true) }
-    ensures fault { IfErr result (λ e. Fails e (unless (is_name (word_value word.now)) BadName)) }
+    ensures fault { IfErr result (λ e. FailsRead e (unless (is_name (word_value word.now)) BadName)) }
 {
     let name = name_of_word(alloc, word)?;
     if !check_name(name.as_slice()) {

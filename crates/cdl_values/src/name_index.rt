@@ -1,14 +1,14 @@
 //! The positions of names in their list.
 
 ghost use Rattle.std.specs.Prelude.{◌≡◌, [], IfOk, OnErr};
-ghost use Rattle.cdl_values.specs.NameIndices.{is_new, position_of, with_name};
+ghost use Rattle.cdl_values.specs.code.NameIndices.{is_new, position_of, with_added_name};
 
 use std::alloc::{AllocError, Global};
 use std::collections::BTreeMap;
 use std::collections::btree_map::Entry;
 use std::marker::Model;
 
-/// A list of names, no two of which are the same.
+/// A list of different names.
 ///
 /// A name's position in it is found in a time that grows with the logarithm of the number of names.
 #[derive(Drop)]
@@ -18,13 +18,13 @@ pub struct NameIndex {
 
 impl Model for NameIndex {
     ghost use Rattle.std.specs.Prelude.{List, ℕ};
-    ghost use Rattle.cdl_values.specs.NameIndices.{IsIndex, names_in};
+    ghost use Rattle.cdl_values.specs.code.NameIndices.{IsIndex, names_of_map};
 
     ghost Value = { List (List ℕ) };
 
-    ghost view = { λ index. names_in index.positions };
+    ghost view = { λ index. names_of_map index.positions };
 
-    ghost invariant = { λ index. IsIndex index.positions (names_in index.positions) };
+    ghost invariant = { λ index. IsIndex index.positions (names_of_map index.positions) };
 }
 
 impl NameIndex {
@@ -37,7 +37,7 @@ impl NameIndex {
         }
     }
 
-    /// The position of the name; None, where the list doesn't have it.
+    /// The position of the name; `None` if the list doesn't have it.
     pub fn find(&self, name: &[u8]) -> Option<u64>
         ensures { result ≡ position_of self.now name.now }
     {
@@ -51,7 +51,7 @@ impl NameIndex {
     /// An allocation failed. Then the names are what they were.
     pub fn add(&mut self, name: Vec<u8>) -> Result<bool, AllocError>
         ensures new { IfOk result (λ added. added ≡ is_new self.old name.items) }
-        ensures names { IfOk result (λ added. self.new ≡ with_name added self.old name.items) }
+        ensures names { IfOk result (λ added. self.new ≡ with_added_name added self.old name.items) }
         ensures err { OnErr result (self.new ≡ self.old) }
     {
         let position = self.positions.len() as u64;

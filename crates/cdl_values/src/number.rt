@@ -2,11 +2,11 @@
 
 ghost use Rattle.std.specs.Prelude.{◌≡◌, ◌++◌, OnOk, nat_le};
 ghost use Rattle.nc_base.specs.Numbers.{IsInRange, bytes_of_number};
-ghost use Rattle.cdl_statements.specs.Contents.{parts_or_zero};
-ghost use Rattle.cdl_tokens.specs.Magnitudes.{held};
+ghost use Rattle.cdl_statements.specs.code.Contents.{parts_or_zero};
+ghost use Rattle.cdl_tokens.specs.code.Magnitudes.{held};
 ghost use Rattle.cdl_tokens.specs.Numerals.{parts, signed};
-ghost use Rattle.cdl_values.specs.Answers.{Adds, Refuses};
-ghost use Rattle.cdl_values.specs.PackedValues.{greatest, held_bytes};
+ghost use Rattle.cdl_values.specs.code.Answers.{Adds, RefusesValue};
+ghost use Rattle.cdl_values.specs.code.PackedValues.{greatest, held_bytes};
 
 use crate::read_error::ReadError;
 use cdl_statements::CdlKind;
@@ -29,7 +29,7 @@ pub fn number_or_zero(version: Version, bytes: &[u8]) -> Numeral
 #[inline(always)]
 pub fn put_numeral(array: &mut ListedArray, ty: NcType, n: Numeral) -> Result<(), ReadError>
     ensures adds { Adds array.old array.new result (held_bytes ty n.minus n.magnitude) }
-    ensures refuses { Refuses result (held_bytes ty n.minus n.magnitude) }
+    ensures refuses { RefusesValue result (held_bytes ty n.minus n.magnitude) }
 {
     match n.magnitude {
         Some(magnitude) if is_in_range(ty, n.minus, magnitude) => {
@@ -43,7 +43,7 @@ pub fn put_numeral(array: &mut ListedArray, ty: NcType, n: Numeral) -> Result<()
 #[inline(always)]
 pub fn put_numeral_here(array: &mut ListedArray, ty: NcType, n: Numeral) -> Result<(), ReadError>
     ensures adds { Adds array.old array.new result (held_bytes ty n.minus n.magnitude) }
-    ensures refuses { Refuses result (held_bytes ty n.minus n.magnitude) }
+    ensures refuses { RefusesValue result (held_bytes ty n.minus n.magnitude) }
 {
     match n.magnitude {
         Some(magnitude) if is_in_range(ty, n.minus, magnitude) => {

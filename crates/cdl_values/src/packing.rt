@@ -1,16 +1,16 @@
 //! The values of a statement of the data section, packed.
 
 ghost use Rattle.std.specs.Prelude.{◌≡◌, None, Ok, OnOk, IfOk, false, true};
-ghost use Rattle.cdl_statements.specs.Cutters.{Follows, is_done, version_of, words};
-ghost use Rattle.cdl_statements.specs.DueTokens.{completes};
+ghost use Rattle.cdl_statements.specs.code.Cutters.{Follows, is_done, version_of, words};
+ghost use Rattle.cdl_statements.specs.code.DueTokens.{completes};
 ghost use Rattle.cdl_statements.specs.Shapes.{first_bad};
-ghost use Rattle.cdl_values.specs.Answers.{Gives};
-ghost use Rattle.cdl_values.specs.TokenValues.{packed_from};
+ghost use Rattle.cdl_values.specs.code.Answers.{GivesRead};
+ghost use Rattle.cdl_values.specs.code.TokenValues.{packed_from};
 
 use crate::filling::Filling;
 use crate::read_error::ReadError;
-use crate::value::{Stop, put_token, take_good};
-use crate::value_run::take_run;
+use crate::value::{FastPathFault, put_token, take_good};
+use crate::value_run::{UnreadValues, take_run};
 use cdl_statements::{Cutter, Due};
 use nc_base::ListedArray;
 use std::alloc::Global;
@@ -35,7 +35,7 @@ pub fn pack(
     capacity: Option<u64>,
 ) -> Result<ListedArray, ReadError>
     requires { is_done start ≡ false }
-    ensures { Gives (λ a. a) result (packed_from filling capacity start.entry) }
+    ensures { GivesRead (λ a. a) result (packed_from filling capacity start.entry) }
 {
     let version = start.version();
     let mut cutter = start;
@@ -62,7 +62,7 @@ pub fn pack_good<'a>(
     start: Cutter<'a>,
     filling: Filling,
     capacity: Option<u64>,
-) -> Result<Packed<'a>, Stop>
+) -> Result<Packed<'a>, FastPathFault>
     requires { is_done start ≡ false }
     ensures bad { OnOk result (first_bad (version_of start.entry) (words start.entry) ≡ None) }
     ensures shaped { OnOk result (completes (Due.Value true) (words start.entry) ≡ true) }
@@ -70,23 +70,26 @@ pub fn pack_good<'a>(
     ensures rest { IfOk result (λ p. Follows start.entry p.rest) }
 {
     let version = start.version();
-    let mut cutter = start;
-    let mut left = capacity;
+    let mut unread = UnreadValues {
+        cutter: start,
+        capacity,
+    };
     let mut due = Due::Value { takes_fill: true };
     let mut array = ListedArray::new(alloc);
     'tokens: loop {
-        let token = cutter.lexeme();
-        let ends = cutter.advance();
-        (left, due) = take_good(&mut array, version, &filling, left, due, token)?;
+        let token = unread.cutter.lexeme();
+        let ends = unread.cutter.advance();
+        let capacity = unread.capacity;
+        (unread.capacity, due) = take_good(&mut array, version, &filling, capacity, due, token)?;
         if ends {
             if due.is_whole() {
                 return Ok(Packed {
                     array,
-                    rest: cutter,
+                    rest: unread.cutter,
                 });
             }
-            return Err(Stop::SomeFault);
+            return Err(FastPathFault::Unnamed);
         }
-        left = take_run(&mut array, &mut cutter, &filling, left, due)?;
+        unread = take_run(&mut array, unread, &filling, due)?;
     }
 }

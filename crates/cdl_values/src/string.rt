@@ -2,11 +2,12 @@
 
 ghost use Rattle.std.specs.Prelude.{◌≡◌, ◌++◌, ◌≤◌, Err, IfOk, OnOk, length, take, false, true};
 ghost use Rattle.std.specs.List.{prefix_len};
-ghost use Rattle.cdl_tokens.specs.Escapes.{inner, is_unescaped, stands};
+ghost use Rattle.cdl_tokens.specs.Escapes.{inner, stands};
+ghost use Rattle.cdl_tokens.specs.code.Scanners.{is_unescaped};
 ghost use Rattle.cdl_statements.specs.declared.fault.CdlKind.TheVariants.{TooManyValues};
-ghost use Rattle.cdl_values.specs.Answers.{Adds};
-ghost use Rattle.cdl_values.specs.PackedValues.{char_bytes, row_bytes, text_bytes};
-ghost use Rattle.cdl_values.specs.TokenValues.{text_said};
+ghost use Rattle.cdl_values.specs.code.Answers.{Adds};
+ghost use Rattle.cdl_values.specs.code.PackedValues.{char_bytes, row_bytes, text_bytes};
+ghost use Rattle.cdl_values.specs.code.TokenValues.{text_said};
 ghost use Rattle.cdl_values.specs.declared.read_error.ReadError.TheVariants.{Fault};
 
 use crate::filling::is_past;
@@ -16,7 +17,7 @@ use cdl_tokens::{character, first_bytes, unescaped_len};
 use nc_base::ListedArray;
 use std::alloc::AllocError;
 
-/// Adds a string of which the capacity is in bytes.
+/// Adds a string, where the capacity counts bytes.
 #[tactic(auto, using(crate::proofs::PackedTokens::chars_len))]
 pub fn put_text(
     array: &mut ListedArray,

@@ -5,9 +5,9 @@ ghost use Rattle.nc_base.specs.Headers.{AreDimids};
 ghost use Rattle.nc_base.specs.Sizes.{dim_len, product};
 ghost use Rattle.nc_base.specs.declared.nc_type.NcType.TheVariants.{Char};
 ghost use Rattle.cdl_meaning.specs.State.{capacity_of};
-ghost use Rattle.cdl_values.specs.Capacities.{Fills, TakesAsFilled, most};
-ghost use Rattle.cdl_values.specs.Listed.{fresh_draft};
-ghost use Rattle.cdl_values.specs.Meant.{SuitVariables, Suits};
+ghost use Rattle.cdl_values.specs.code.Capacities.{Fills, HasCapacityAsFilled, most};
+ghost use Rattle.cdl_values.specs.code.Listed.{unlisted_draft};
+ghost use Rattle.cdl_values.specs.code.Meant.{SuitVariables, Suits};
 
 use crate::data::Target;
 use crate::fill::Fill;
@@ -36,7 +36,7 @@ pub fn targets_of(alloc: Global, dims: &[Dim], vars: &[Var]) -> Result<Vec<Targe
 
 /// What a variable takes.
 fn target(dims: &[Dim], var: &Var) -> Target
-    ensures { AreDimids dims.now [] var.now.dimids → Suits dims.now result (fresh_draft var.now) }
+    ensures { AreDimids dims.now [] var.now.dimids → Suits dims.now result (unlisted_draft var.now) }
 {
     let filling = filling(dims, var);
     Target {
@@ -71,9 +71,9 @@ fn characters(dims: &[Dim], var: &Var) -> Filling
     }
 }
 
-/// How many values, bytes or rows fit a variable that is filled so; `None` where there is no limit.
+/// How many values, bytes or rows fit a variable that is filled so; `None` if there is no limit.
 fn capacity(dims: &[Dim], var: &Var, filling: Filling) -> Option<u64>
-    ensures { TakesAsFilled dims.now var.now filling result }
+    ensures { HasCapacityAsFilled dims.now var.now filling result }
 {
     let dimids = var.dimids.as_slice();
     if is_record_var(dims, var) {
@@ -86,7 +86,7 @@ fn capacity(dims: &[Dim], var: &Var, filling: Filling) -> Option<u64>
     }
 }
 
-/// How many places these dimensions have, or the greatest number where there are more.
+/// How many places these dimensions have, or the greatest number if there are more.
 fn place_count(dims: &[Dim], dimids: &[u64]) -> u64
     ensures { result ≡ min (product (map (dim_len dims.now) dimids.now)) most }
 {
@@ -104,7 +104,7 @@ fn capped_product(count: u64, len: u64) -> u64
     count.saturating_mul(len)
 }
 
-/// The length of the first of these dimensions, of which there is one at most; 1 where there is none.
+/// The length of the only dimension, or 1 if there is none.
 fn first_len(dims: &[Dim], dimids: &[u64]) -> u64
     ensures { length dimids.now < 2 → result ≡ product (map (dim_len dims.now) dimids.now) }
 {

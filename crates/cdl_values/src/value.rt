@@ -1,13 +1,13 @@
 //! Values of the data section.
 
 ghost use Rattle.std.specs.Prelude.{◌≡◌, None, OnOk, IfOk};
-ghost use Rattle.cdl_statements.specs.DueTokens.{next};
+ghost use Rattle.cdl_statements.specs.code.DueTokens.{next};
 ghost use Rattle.cdl_statements.specs.Shapes.{token_fault};
-ghost use Rattle.cdl_statements.specs.Views.{lexeme_of};
+ghost use Rattle.cdl_statements.specs.code.Views.{lexeme_of};
 ghost use Rattle.cdl_statements.specs.declared.fault.CdlKind.{CdlKind};
-ghost use Rattle.cdl_values.specs.Answers.{Adds, Refuses};
-ghost use Rattle.cdl_values.specs.TokenValues.{Appends, AppendsNumber, CountsOne, PacksGood, PacksToken, TakesGood};
-ghost use Rattle.cdl_values.specs.TokenValues.{at, number_token_bytes, token_bytes};
+ghost use Rattle.cdl_values.specs.code.Answers.{Adds, RefusesValue};
+ghost use Rattle.cdl_values.specs.code.TokenValues.{Appends, AppendsNumber, CountsOne, PacksGood, PacksToken, TakesGood};
+ghost use Rattle.cdl_values.specs.code.TokenValues.{at, number_token_bytes, token_bytes};
 
 use crate::fill::Fill;
 use crate::filling::{Filling, is_full, less};
@@ -20,22 +20,22 @@ use nc_base::{ListedArray, Version};
 
 /// Why a pass that knows no faults stops.
 #[derive(Clone, Copy, Debug)]
-pub enum Stop {
+pub enum FastPathFault {
     OutOfMemory,
     /// The statement has some fault.
-    SomeFault,
+    Unnamed,
 }
 
-impl From<ReadError> for Stop {
+impl From<ReadError> for FastPathFault {
     ghost use Rattle.cdl_values.specs.declared.read_error.ReadError.{ReadError};
-    ghost use Rattle.cdl_values.specs.declared.value.Stop.{Stop};
+    ghost use Rattle.cdl_values.specs.declared.value.FastPathFault.{FastPathFault};
 
-    ghost from_gives = { λ error stop. (error ≡ ReadError.OutOfMemory → stop ≡ Stop.OutOfMemory) × ((kind : CdlKind) → error ≡ ReadError.Fault kind → stop ≡ Stop.SomeFault) };
+    ghost from_gives = { λ error stop. (error ≡ ReadError.OutOfMemory → stop ≡ FastPathFault.OutOfMemory) × ((kind : CdlKind) → error ≡ ReadError.Fault kind → stop ≡ FastPathFault.Unnamed) };
 
-    fn from(error: ReadError) -> Stop {
+    fn from(error: ReadError) -> FastPathFault {
         match error {
-            ReadError::OutOfMemory => Stop::OutOfMemory,
-            ReadError::Fault(_) => Stop::SomeFault,
+            ReadError::OutOfMemory => FastPathFault::OutOfMemory,
+            ReadError::Fault(_) => FastPathFault::Unnamed,
         }
     }
 }
@@ -69,7 +69,7 @@ pub fn take_good(
     capacity: Option<u64>,
     due: Due,
     token: Lexeme<'_>,
-) -> Result<(Option<u64>, Due), Stop>
+) -> Result<(Option<u64>, Due), FastPathFault>
     ensures good { OnOk result (token_fault version token.entry.kind token.entry.bytes.now ≡ None) }
     ensures shape { IfOk result (λ r. r.1 ≡ next due (lexeme_of token.entry)) }
     ensures packs { TakesGood version filling.now token.entry (at array.old capacity) array.new result }
@@ -91,7 +91,7 @@ pub fn put_good_value(
     filling: &Filling,
     capacity: Option<u64>,
     token: Lexeme<'_>,
-) -> Result<Option<u64>, Stop>
+) -> Result<Option<u64>, FastPathFault>
     requires { token.kind ≡ TokenKind.Mark → ⊥ }
     ensures good { OnOk result (token_fault version token.entry.kind token.entry.bytes.now ≡ None) }
     ensures packs { PacksGood version filling.now token.entry (at array.old capacity) array.new result }
@@ -119,42 +119,42 @@ fn put_good(
     filling: &Filling,
     capacity: Option<u64>,
     token: Lexeme<'_>,
-) -> Result<(), Stop>
+) -> Result<(), FastPathFault>
     requires { token.kind ≡ TokenKind.Number → ⊥ }
     ensures good { OnOk result (token_fault version token.entry.kind token.entry.bytes.now ≡ None) }
     ensures adds { Appends version filling.now token.entry (at array.old capacity) array.new result }
 {
     match token.kind {
-        TokenKind::Bad => Err(Stop::SomeFault),
+        TokenKind::Bad => Err(FastPathFault::Unnamed),
         _ => Ok(put(array, version, *filling, capacity, token)?),
     }
 }
 
 /// Adds the bytes of a number, if its token is good.
-#[tactic(auto, unfolding(cdl_statements::specs::Contents::value_of), using(crate::proofs::Ranges::number_added, crate::proofs::Ranges::good_number))]
+#[tactic(auto, unfolding(cdl_statements::specs::code::Contents::value_of), using(crate::proofs::Ranges::number_added, crate::proofs::Ranges::good_number))]
 fn put_good_number(
     array: &mut ListedArray,
     version: Version,
     filling: Filling,
     capacity: Option<u64>,
     bytes: &[u8],
-) -> Result<(), Stop>
+) -> Result<(), FastPathFault>
     ensures good { OnOk result (token_fault version TokenKind.Number bytes.now ≡ None) }
     ensures counts { OnOk result (CountsOne filling capacity) }
     ensures adds { AppendsNumber version filling bytes.now (at array.old capacity) array.new result }
 {
     let Filling::Numbers(fill) = filling else {
-        return Err(Stop::SomeFault);
+        return Err(FastPathFault::Unnamed);
     };
     if is_full(capacity) {
-        return Err(Stop::SomeFault);
+        return Err(FastPathFault::Unnamed);
     }
-    let n = number_of_token(version, bytes).ok_or(Stop::SomeFault)?;
+    let n = number_of_token(version, bytes).ok_or(FastPathFault::Unnamed)?;
     Ok(put_numeral(array, fill.ty, n)?)
 }
 
 /// Adds the bytes of a value.
-#[tactic(auto, unfolding(cdl_statements::specs::Contents::value_of))]
+#[tactic(auto, unfolding(cdl_statements::specs::code::Contents::value_of))]
 fn put(
     array: &mut ListedArray,
     version: Version,
@@ -179,7 +179,7 @@ fn put(
 }
 
 /// Adds the bytes of a value of a variable of numbers.
-#[tactic(auto, unfolding(cdl_statements::specs::Contents::value_of), using(crate::proofs::Ranges::held_is, crate::proofs::InRange::has_it))]
+#[tactic(auto, unfolding(cdl_statements::specs::code::Contents::value_of), using(crate::proofs::Ranges::held_is, crate::proofs::InRange::has_it))]
 fn put_value(
     array: &mut ListedArray,
     version: Version,
@@ -188,7 +188,7 @@ fn put_value(
     token: Lexeme<'_>,
 ) -> Result<(), ReadError>
     ensures adds { Adds array.old array.new result (number_token_bytes fill full version token.entry) }
-    ensures refuses { Refuses result (number_token_bytes fill full version token.entry) }
+    ensures refuses { RefusesValue result (number_token_bytes fill full version token.entry) }
 {
     match token.kind {
         TokenKind::Text => Err(ReadError::Fault(CdlKind::WrongKind)),

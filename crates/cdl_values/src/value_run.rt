@@ -1,119 +1,93 @@
-//! Runs of values of a statement, after each of which a comma stands.
+//! Runs of values of a statement. A comma follows each value.
 
-ghost use Rattle.std.specs.Prelude.{◌≡◌, ◌<◌, ℕ, Bool, IfOk, false};
-ghost use Rattle.cdl_statements.specs.Cutters.{is_done};
-ghost use Rattle.cdl_statements.specs.ListedTokens.{IsAtComma};
-ghost use Rattle.cdl_statements.specs.NumberLists.{reached};
-ghost use Rattle.cdl_values.specs.PackedValues.{is_full, less};
-ghost use Rattle.cdl_values.specs.ValueRuns.{GoesOn, Takes, place};
+ghost use Rattle.std.specs.Prelude.{◌≡◌, ◌<◌, ℕ, false};
+ghost use Rattle.cdl_statements.specs.code.Cutters.{is_done};
+ghost use Rattle.cdl_statements.specs.code.ListedTokens.{EndsAtScanner, IsAtComma};
+ghost use Rattle.cdl_values.specs.code.PackedValues.{is_full, less};
+ghost use Rattle.cdl_values.specs.code.ValueRuns.{GoesTo, TakesPlain, TakesTo, place};
 
 use crate::fill::Fill;
 use crate::filling::{Filling, is_full, less};
 use crate::number::{put_numeral, put_numeral_here};
 use crate::string::put_plain_row;
-use crate::value::{Stop, put_good_value};
+use crate::value::{FastPathFault, put_good_value};
 use cdl_statements::{Cutter, Due, Lexeme, NumberList};
 use cdl_tokens::TokenKind;
 use nc_base::{ListedArray, NcType};
 
-/// A place in a statement, where a comma comes next, after a run.
+/// The values of a statement that are still to be read, and what capacity is left for them.
 #[derive(Clone, Copy)]
-struct Reached<'a> {
-    cutter: Cutter<'a>,
-    /// What capacity is left there.
-    left: Option<u64>,
+pub struct UnreadValues<'a> {
+    pub cutter: Cutter<'a>,
+    pub capacity: Option<u64>,
 }
 
-/// Adds the values that come next, and goes past them, where a comma stands before and after each, and says what capacity is
-/// left. Anything else is left to the caller.
+/// Adds the values that come next, where a comma stands before and after each, and returns those after them. Anything else is left
+/// to the caller.
 ///
 /// # Errors
 ///
 /// The statement has some fault; or an allocation failed.
 #[inline(always)]
-pub fn take_run(
+pub fn take_run<'a>(
     array: &mut ListedArray,
-    cutter: &mut Cutter<'_>,
+    start: UnreadValues<'a>,
     filling: &Filling,
-    capacity: Option<u64>,
     due: Due,
-) -> Result<Option<u64>, Stop>
-    requires { is_done cutter.old ≡ false }
-    ensures { IfOk result (λ left. GoesOn due filling.now (place cutter.old array.old capacity) (place cutter.new array.new left)) }
+) -> Result<UnreadValues<'a>, FastPathFault>
+    requires { is_done start.cutter ≡ false }
+    ensures { GoesTo due filling.now (place start.entry array.old) array.new result }
 {
     match due {
-        Due::Separator { takes_fill } if cutter.is_at_comma() => {
-            take_values(array, cutter, filling, takes_fill, capacity)
+        Due::Separator { takes_fill } if start.cutter.is_at_comma() => {
+            take_values(array, start, filling, takes_fill)
         }
-        _ => Ok(capacity),
+        _ => Ok(start),
     }
 }
 
 /// Adds the values that come next after commas, each with another comma after it.
 #[inline(never)]
-fn take_values(
+fn take_values<'a>(
     array: &mut ListedArray,
-    cutter: &mut Cutter<'_>,
+    start: UnreadValues<'a>,
     filling: &Filling,
     takes_fill: bool,
-    capacity: Option<u64>,
-) -> Result<Option<u64>, Stop>
-    requires { IsAtComma cutter.old }
-    ensures { IfOk result (λ left. Takes takes_fill filling.now (place cutter.old array.old capacity) (place cutter.new array.new left)) }
+) -> Result<UnreadValues<'a>, FastPathFault>
+    requires { IsAtComma start.cutter }
+    ensures { TakesTo takes_fill filling.now (place start.entry array.old) array.new result }
 {
-    let version = cutter.version();
-    let mut left = capacity;
+    let version = start.cutter.version();
+    let mut unread = start;
     let mut looks = true;
     'values: loop {
-        left = take_plain(array, cutter, filling, left, looks)?;
-        let Some(token) = cutter.token_and_comma() else {
-            return Ok(left);
+        if looks {
+            unread = take_plain(array, unread, filling)?;
+        }
+        let Some(token) = unread.cutter.token_and_comma() else {
+            return Ok(unread);
         };
         if !token.is_value(takes_fill) {
-            return Err(Stop::SomeFault);
+            return Err(FastPathFault::Unnamed);
         }
-        left = put_good_value(array, version, filling, left, token)?;
+        unread.capacity = put_good_value(array, version, filling, unread.capacity, token)?;
         looks = may_be_plain(token);
     }
 }
 
-/// Adds the plain numbers or strings that come next, if one looks for them.
-#[inline(always)]
-fn take_plain(
-    array: &mut ListedArray,
-    cutter: &mut Cutter<'_>,
-    filling: &Filling,
-    capacity: Option<u64>,
-    looks: bool,
-) -> Result<Option<u64>, Stop>
-    requires { IsAtComma cutter.old }
-    ensures { (takes_fill : Bool) → IfOk result (λ left. Takes takes_fill filling.now (place cutter.old array.old capacity) (place cutter.new array.new left)) }
-{
-    if !looks {
-        return Ok(capacity);
-    }
-    let reached = take_alike(array, *cutter, filling, capacity)?;
-    *cutter = reached.cutter;
-    Ok(reached.left)
-}
-
 /// Adds the plain numbers or strings that come next.
-fn take_alike<'a>(
+fn take_plain<'a>(
     array: &mut ListedArray,
-    start: Cutter<'a>,
+    start: UnreadValues<'a>,
     filling: &Filling,
-    capacity: Option<u64>,
-) -> Result<Reached<'a>, Stop>
-    requires { IsAtComma start }
-    ensures { (takes_fill : Bool) → IfOk result (λ r. Takes takes_fill filling.now (place start.entry array.old capacity) (place r.cutter array.new r.left)) }
+) -> Result<UnreadValues<'a>, FastPathFault>
+    requires { IsAtComma start.cutter }
+    ensures { TakesPlain filling.now (place start.entry array.old) array.new result }
 {
     match filling {
-        Filling::Numbers(fill) => take_numbers(array, start, *fill, capacity),
-        Filling::Rows { len, fill } => take_rows(array, start, *len, *fill, capacity),
-        Filling::Joined => Ok(Reached {
-            cutter: start,
-            left: capacity,
-        }),
+        Filling::Numbers(fill) => take_numbers(array, start, *fill),
+        Filling::Rows { len, fill } => take_rows(array, start, *len, *fill),
+        Filling::Joined => Ok(start),
     }
 }
 
@@ -132,49 +106,46 @@ fn may_be_plain(token: Lexeme<'_>) -> bool {
 #[inline(never)]
 fn take_numbers<'a>(
     array: &mut ListedArray,
-    start: Cutter<'a>,
+    start: UnreadValues<'a>,
     fill: Fill,
-    capacity: Option<u64>,
-) -> Result<Reached<'a>, Stop>
-    requires { IsAtComma start }
-    ensures { (takes_fill : Bool) → IfOk result (λ r. Takes takes_fill (Filling.Numbers fill) (place start.entry array.old capacity) (place r.cutter array.new r.left)) }
+) -> Result<UnreadValues<'a>, FastPathFault>
+    requires { IsAtComma start.cutter }
+    ensures { TakesPlain (Filling.Numbers fill) (place start.entry array.old) array.new result }
 {
-    if is_full(capacity) {
-        return Ok(after_values(start, 0, capacity));
+    if is_full(start.capacity) {
+        return Ok(start);
     }
-    let mut cutter = start;
+    let mut cutter = start.cutter;
     let Some(n) = cutter.number_and_comma() else {
-        return Ok(after_values(start, 0, capacity));
+        return Ok(start);
     };
     put_numeral(array, fill.ty, n)?;
-    let list = NumberList::new(cutter);
-    let reached = take_more_numbers(array, list, fill, less(1, capacity))?;
-    Ok(reached)
+    let rest = take_more_numbers(array, after_values(cutter, 1, start.capacity), fill)?;
+    Ok(rest)
 }
 
 /// Adds the plain numbers of the list that come next, by a loop over a scanner alone.
 #[inline(always)]
 fn take_more_numbers<'a>(
     array: &mut ListedArray,
-    list: NumberList<'a>,
+    start: UnreadValues<'a>,
     fill: Fill,
-    capacity: Option<u64>,
-) -> Result<Reached<'a>, Stop>
-    requires { IsAtComma (reached list) }
-    ensures { (takes_fill : Bool) → IfOk result (λ r. Takes takes_fill (Filling.Numbers fill)
-        (place (reached list.entry) array.old capacity) (place r.cutter array.new r.left)) }
+) -> Result<UnreadValues<'a>, FastPathFault>
+    requires at { IsAtComma start.cutter }
+    requires ends { EndsAtScanner start.cutter }
+    ensures { TakesPlain (Filling.Numbers fill) (place start.entry array.old) array.new result }
 {
     // A loop for each type, so that the loop itself doesn't ask for it.
     match fill.ty {
-        NcType::Byte => take_typed(array, list, fill, NcType::Byte, capacity),
-        NcType::Char => take_typed(array, list, fill, NcType::Char, capacity),
-        NcType::Short => take_typed(array, list, fill, NcType::Short, capacity),
-        NcType::Int => take_typed(array, list, fill, NcType::Int, capacity),
-        NcType::Ubyte => take_typed(array, list, fill, NcType::Ubyte, capacity),
-        NcType::Ushort => take_typed(array, list, fill, NcType::Ushort, capacity),
-        NcType::Uint => take_typed(array, list, fill, NcType::Uint, capacity),
-        NcType::Int64 => take_typed(array, list, fill, NcType::Int64, capacity),
-        NcType::Uint64 => take_typed(array, list, fill, NcType::Uint64, capacity),
+        NcType::Byte => take_typed(array, start, fill, NcType::Byte),
+        NcType::Char => take_typed(array, start, fill, NcType::Char),
+        NcType::Short => take_typed(array, start, fill, NcType::Short),
+        NcType::Int => take_typed(array, start, fill, NcType::Int),
+        NcType::Ubyte => take_typed(array, start, fill, NcType::Ubyte),
+        NcType::Ushort => take_typed(array, start, fill, NcType::Ushort),
+        NcType::Uint => take_typed(array, start, fill, NcType::Uint),
+        NcType::Int64 => take_typed(array, start, fill, NcType::Int64),
+        NcType::Uint64 => take_typed(array, start, fill, NcType::Uint64),
     }
 }
 
@@ -182,18 +153,17 @@ fn take_more_numbers<'a>(
 #[inline(always)]
 fn take_typed<'a>(
     array: &mut ListedArray,
-    start: NumberList<'a>,
+    start: UnreadValues<'a>,
     fill: Fill,
     ty: NcType,
-    capacity: Option<u64>,
-) -> Result<Reached<'a>, Stop>
-    requires at { IsAtComma (reached start) }
+) -> Result<UnreadValues<'a>, FastPathFault>
+    requires at { IsAtComma start.cutter }
+    requires ends { EndsAtScanner start.cutter }
     requires ty { ty ≡ fill.ty }
-    ensures { (takes_fill : Bool) → IfOk result (λ r. Takes takes_fill (Filling.Numbers fill)
-        (place (reached start.entry) array.old capacity) (place r.cutter array.new r.left)) }
+    ensures { TakesPlain (Filling.Numbers fill) (place start.entry array.old) array.new result }
 {
-    let room = room_of(capacity);
-    let mut list = start;
+    let room = room_of(start.capacity);
+    let mut list = NumberList::new(start.cutter);
     let mut left = room;
     'numbers: while left > 0 {
         match list.number_and_comma() {
@@ -201,26 +171,25 @@ fn take_typed<'a>(
                 put_numeral_here(array, ty, n)?;
                 left -= 1;
             }
-            None => return Ok(after_values(list.cutter(), room - left, capacity)),
+            None => return Ok(after_values(list.cutter(), room - left, start.capacity)),
         }
     }
-    Ok(after_values(list.cutter(), room - left, capacity))
+    Ok(after_values(list.cutter(), room - left, start.capacity))
 }
 
 /// Adds the strings without an escape that come next, as rows.
 #[inline(never)]
 fn take_rows<'a>(
     array: &mut ListedArray,
-    start: Cutter<'a>,
+    start: UnreadValues<'a>,
     len: u64,
     fill: u8,
-    capacity: Option<u64>,
-) -> Result<Reached<'a>, Stop>
-    requires { IsAtComma start }
-    ensures { (takes_fill : Bool) → IfOk result (λ r. Takes takes_fill (Filling.Rows len fill) (place start.entry array.old capacity) (place r.cutter array.new r.left)) }
+) -> Result<UnreadValues<'a>, FastPathFault>
+    requires { IsAtComma start.cutter }
+    ensures { TakesPlain (Filling.Rows len fill) (place start.entry array.old) array.new result }
 {
-    let room = room_of(capacity);
-    let mut cutter = start;
+    let room = room_of(start.capacity);
+    let mut cutter = start.cutter;
     let mut count = 0;
     'rows: while count < room {
         match cutter.string_and_comma() {
@@ -228,21 +197,21 @@ fn take_rows<'a>(
                 put_plain_row(array, len, fill, bytes)?;
                 count += 1;
             }
-            None => return Ok(after_values(cutter, count, capacity)),
+            None => return Ok(after_values(cutter, count, start.capacity)),
         }
     }
-    Ok(after_values(cutter, count, capacity))
+    Ok(after_values(cutter, count, start.capacity))
 }
 
-/// The place after `count` values.
+/// What is unread after `count` values.
 #[inline(always)]
-fn after_values<'a>(cutter: Cutter<'a>, count: u64, capacity: Option<u64>) -> Reached<'a>
+fn after_values<'a>(cutter: Cutter<'a>, count: u64, capacity: Option<u64>) -> UnreadValues<'a>
     ensures cutter { result.cutter ≡ cutter.entry }
-    ensures left { result.left ≡ less count capacity }
+    ensures capacity { result.capacity ≡ less count capacity }
 {
-    Reached {
+    UnreadValues {
         cutter,
-        left: less(count as u128, capacity),
+        capacity: less(count as u128, capacity),
     }
 }
 

@@ -1,4 +1,4 @@
--- The arguments of a command, as a parse reads them, and what its entries say of them.
+-- Definition. The arguments of a command, as a parse reads them, and what its entries say of them.
 use Rattle.std.specs.Borrow.{Bor}
 use Rattle.std.specs.Prelude.{ℕ, Bool, true, false, List, codes, map, Option, Some, option_map, slice_get}
 use Rattle.std.specs.Option.{option_map_or}

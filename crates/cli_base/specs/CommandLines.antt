@@ -1,4 +1,4 @@
--- What words ask for, and what is answered.
+-- Definition. What words ask for, and which options or fault they give.
 use Rattle.std.specs.Prelude.{◌≡◌, [], ◌∷◌, Option, Some, None, Result, Ok, Err}
 use Rattle.clap.specs.Words.{Kinds}
 use Rattle.cli_base.specs.declared.fault.OptFault.{OptFault}
@@ -9,7 +9,8 @@ abbrev pub unless : {A : Type 0} → Kinds → Option A → Option A
 unless [] asked = asked
 unless (kind ∷ kinds) asked = None
 
--- The answer to what is asked for, if anything, given what each of a program's options ask for. Memory may be refused.
+-- The options are those that the words ask for, or the fault is usage because they ask for nothing. Out of memory says nothing.
+-- `asked_for`: what a program's options ask for.
 abbrev pub AnswersBy : {Asked Options : Type 0} → (Options → Asked) → Option Asked → Result Options OptFault → Type 0
 AnswersBy asked_for asked (Ok options) = asked ≡ Some (asked_for options)
 AnswersBy asked_for asked (Err OutOfMemory) = Unit {0}

@@ -1,4 +1,6 @@
 //! What the programs' command lines have in common: the parts of a command, what its matches say, and its faults.
+//!
+//! This crate is internal: `ncdump`, `ncgen` and their programs alone call it.
 #![tactic(auto)]
 
 mod arguments;

@@ -1,10 +1,10 @@
 -- Writing one text after another.
-use Rattle.std.proofs.Common.{◌≡◌, ℕ, ◌+◌, ◌-◌, ◌<◌, ◌≤◌, List, [], ◌∷◌, ◌++◌, length, take, drop, refl, sym, ap, ◌∙◌, append_assoc, arith, subst, Option, Some, None, Result, Ok, Err, take-add, map, get_or, suc, take-suc}
+use Rattle.std.proofs.Common.{◌≡◌, ℕ, ◌+◌, ◌-◌, ◌<◌, ◌≤◌, List, [], ◌∷◌, ◌++◌, length, take, drop, refl, sym, ap, ◌∙◌, append_assoc, arith, subst, Option, Some, None, Result, Ok, Err, take-add, map, get_or, suc, take-suc, is_some, option_map, unwrap_or}
 use Rattle.std.proofs.lemmas.List.{append-nil, take-append-drop, length-take, length-drop, length-append, map-append, take_more, take_all}
 use Rattle.std.proofs.lemmas.Bool.{OnTrue_at, OnTrue_from}
-use Rattle.std.specs.Prelude.{is_some, option_map, unwrap_or}
 use Rattle.nc_base.specs.Bytes.{concat_parts}
-use Rattle.devices.specs.Sinks.{SinkView, append, count, IsPrefix, IsPrefixIf, IsCut, StoppedShort, AcceptedSome, is_transparent, Appended, FailedPartway, HasFailed}
+use Rattle.devices.specs.Failures.{HasFailed}
+use Rattle.devices.specs.Sinks.{SinkView, append, count, IsPrefix, IsPrefixIf, IsCut, StoppedShort, AcceptedSome, is_transparent, Appended, FailedPartway}
 
 pub append-++ : (s : SinkView) (a b : List ℕ) → append s (a ++ b) ≡ append (append s a) b
 unfolding append
@@ -56,7 +56,7 @@ appended_then s t u a b first second = record {
 -- the second broke off, and more was to come
 pub appended_partway : (s t u : SinkView) (a b c : List ℕ) → Appended s t a → FailedPartway t u b → FailedPartway s u (a ++ (b ++ c))
 appended_partway s t u a b c first partway = record {
-  failures = subst (λ n. HasFailed n u) first.failures partway.failures;
+  failures = subst (λ n. HasFailed n u.failures) first.failures partway.failures;
   taken = OnTrue_from _ _ (λ transparent.
       let e = OnTrue_at {P = t ≡ append s a} transparent first.taken in
       let f = OnTrue_at {P = StoppedShort t u (append t b)} (ap is_transparent e ∙ transparent-append s a ∙ transparent) partway.taken in

@@ -1,7 +1,8 @@
--- What creating and closing an output has done.
+-- Definition. What creating and closing an output has done.
 use Rattle.std.specs.Prelude.{ℕ, ◌≡◌, ◌+◌, ◌-◌, ◌^◌, min, Bool, List, [], ◌∷◌, ◌++◌, Option, Some, Result, Ok, Err}
 use Rattle.std.specs.Bool.{OnTrue}
 use Rattle.devices.specs.Sinks.{SinkView}
+use Rattle.devices.specs.Failures.{HasFailed}
 
 -- a path and the bytes that it was given
 pub record Output : Type 0 where
@@ -23,10 +24,6 @@ uncreated = record { given = []; creations = 0; failures = 0 }
 abbrev pub give : List Output → List ℕ → Option (List ℕ) → List Output
 give given path bytes = given ++ (record { path = path; bytes = bytes } ∷ [])
 
--- it has failed once since it had failed so often, as far as a count goes
-unfoldable pub HasFailed : ℕ → CreatorView → Type 0
-HasFailed before now = now.failures ≡ min (before + 1) (2 ^ 128 - 1)
-
 -- an empty output was created at the path
 pub record CreatedAt (is_transparent : Bool) (old new : CreatorView) (path : List ℕ) (sink : SinkView) : Type 0 where
   pub creations : new.creations ≡ old.creations + 1
@@ -39,7 +36,7 @@ pub record CreatedAt (is_transparent : Bool) (old new : CreatorView) (path : Lis
 pub record Unmade (old new : CreatorView) : Type 0 where
   pub creations : new.creations ≡ old.creations
   pub given : new.given ≡ old.given
-  pub failures : HasFailed old.failures new
+  pub failures : HasFailed old.failures new.failures
 
 -- what creating an output at the path has done
 abbrev pub Created : {S E : Type 0} → Bool → (S → SinkView) → CreatorView → CreatorView → List ℕ → Result S E → Type 0

@@ -1,14 +1,8 @@
+pub mod Failures
 pub mod Sources
 pub mod Sinks
-pub mod Drip
-pub mod Slice
-pub mod Memory
 pub mod Openers
-pub mod IoSinks
-pub mod MemFiles
-pub mod Ahead
-pub mod System
 pub mod TextOpeners
 pub mod Readers
 pub mod Creators
-pub mod Made
+pub mod code

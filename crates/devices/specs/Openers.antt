@@ -1,4 +1,4 @@
--- What opens paths as its contracts see it, and what opening and closing has done.
+-- Definition. What opens paths as its contracts see it, and what opening and closing has done.
 use Rattle.std.specs.Bool.{OnTrue}
 use Rattle.std.specs.Prelude.{Bool, ℕ, ◌≡◌, ◌+◌, ◌-◌, ◌^◌, min, List, Option, Some, None, Result, Ok, Err}
 use Rattle.devices.specs.Sources.{SourceView}
@@ -26,10 +26,6 @@ pub record HasBack (old new : OpenerView) (failures : ℕ) : Type 0 where
   pub opens : new.opens ≡ old.opens
   pub unfailed : failures ≡ 0 → new.failures ≡ old.failures
   pub failed : new.failures ≡ min (old.failures + failures) (2 ^ 128 - 1)
-
--- what it opened has failed once since that had failed so often, as far as a count goes
-unfoldable pub HasFailed : ℕ → OpenerView → Type 0
-HasFailed before now = now.failures ≡ min (before + 1) (2 ^ 128 - 1)
 
 -- a source of the bytes that the path names, if it names any, and else a failure
 abbrev pub Opened : {S E : Type 0} → (S → SourceView) → Option (List ℕ) → Result S E → Type 0

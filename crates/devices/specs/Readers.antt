@@ -1,7 +1,8 @@
--- A reader as its contracts see it, and what a read has done.
+-- Definition. A reader as its contracts see it, and what a read has done.
 use Rattle.std.specs.Prelude.{◌≡◌, ℕ, ◌+◌, ◌-◌, ◌^◌, ◌<◌, ◌≤◌, min, Bool, true, false, List, [], length, take, Option, Some, Result, Ok, Err}
 use Rattle.std.specs.Io.KnownBytes.{Consumes, IsAtEnd, Keeps}
 use Rattle.devices.specs.declared.reader.CountedRead.{CountedRead}
+use Rattle.devices.specs.Failures.{HasFailed}
 
 -- The bytes that are still to come, where the reader is transparent, how often it has failed and has been read, how many
 -- bytes it has handed over, and if a read with room gave none, so that it is at its end.
@@ -37,13 +38,9 @@ pub record HandedOver (old new : ReaderView) (before following : List ℕ) (n : 
   pub some : n ≡ 0 → 0 < length before → IsAtEnd new.remaining
   pub ended : n ≡ 0 → 0 < length before → new.is_ended ≡ true
 
--- it has failed once since it had failed so often, as far as a count goes
-unfoldable pub HasFailed : ℕ → ReaderView → Type 0
-HasFailed before now = now.failures ≡ min (before + 1) (2 ^ 128 - 1)
-
 -- it has failed, and handed over nothing
 pub record Failed (old new : ReaderView) : Type 0 where
-  pub failures : HasFailed old.failures new
+  pub failures : HasFailed old.failures new.failures
   pub no_fewer_reads : old.reads ≤ new.reads
   pub reads : new.reads ≤ old.reads + 1
   pub handed : new.handed ≡ old.handed

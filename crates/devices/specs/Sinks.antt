@@ -1,6 +1,7 @@
--- What a sink has taken, and what a call has written to it.
+-- Definition. What a sink has taken, and what a call has written to it.
 use Rattle.std.specs.Bool.{OnTrue}
 use Rattle.std.specs.Prelude.{Bool, is_some, ◌≡◌, ℕ, ◌+◌, ◌-◌, ◌^◌, ◌<◌, ◌≤◌, min, List, [], ◌++◌, length, take, Option, Some, None, option_map, unwrap_or, Result, Ok, Err}
+use Rattle.devices.specs.Failures.{HasFailed}
 
 -- a sink as its contracts see it: the bytes that it took, where it is transparent, and how often it has failed
 pub record SinkView : Type 0 where
@@ -30,10 +31,6 @@ IsPrefixIf None None = Unit {0}
 IsPrefixIf (Some prefix) None = ⊥
 IsPrefixIf None (Some whole) = ⊥
 
--- it has failed once since it had failed so often, as far as a count goes
-unfoldable pub HasFailed : ℕ → SinkView → Type 0
-HasFailed before now = now.failures ≡ min (before + 1) (2 ^ 128 - 1)
-
 -- now it is what it was to be, cut short
 unfoldable pub IsCut : SinkView → SinkView → Type 0
 IsCut now wanted = IsPrefixIf now.taken wanted.taken
@@ -54,7 +51,7 @@ pub record Appended (old new : SinkView) (text : List ℕ) : Type 0 where
 
 -- it has failed, and taken a prefix of the text
 pub record FailedPartway (old new : SinkView) (text : List ℕ) : Type 0 where
-  pub failures : HasFailed old.failures new
+  pub failures : HasFailed old.failures new.failures
   pub taken : OnTrue (is_transparent old) (StoppedShort old new (append old text))
 
 -- what has been done between two views: the text is written, or the sink has failed
@@ -72,7 +69,7 @@ pub record AcceptedSome (old new : SinkView) (bytes : List ℕ) (n : ℕ) : Type
   pub some : 0 < length bytes → 0 < n
   pub appended : Appended old new (take n bytes)
 
--- it has failed, and taken none of the bytes, of which there is one
+-- it has failed, and taken none of the bytes, at least one
 pub record AcceptedNone (old new : SinkView) (bytes : List ℕ) : Type 0 where
   pub some : 0 < length bytes
   pub partway : FailedPartway old new []

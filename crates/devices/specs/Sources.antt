@@ -1,6 +1,7 @@
--- A source as its contracts see it, and what a read has done.
+-- Definition. A source as its contracts see it, and what a read has done.
 use Rattle.std.specs.Prelude.{◌≡◌, ℕ, ◌+◌, ◌-◌, ◌^◌, ◌<◌, ◌≤◌, Bool, List, length, take, drop, min, Result, Ok, Err}
 use Rattle.std.specs.Bool.{OnTrue}
+use Rattle.devices.specs.Failures.{HasFailed}
 
 -- its bytes (where it is opaque, any list of its length), how often it has failed, and how many bytes it
 -- has read
@@ -9,7 +10,7 @@ pub record SourceView : Type 0 where
   pub failures : ℕ
   pub handed : ℕ
 
--- a source of these bytes, none of which was read
+-- a source of these bytes, before its first read
 abbrev pub unread : List ℕ → SourceView
 unread bytes = record { bytes = bytes; failures = 0; handed = 0 }
 
@@ -30,23 +31,19 @@ abbrev pub after : SourceView → ℕ → SourceView
 after s n = record s { handed = s.handed + n }
 
 -- it has read n bytes from this offset on, which stand at the start now, and at least one where it is transparent
-pub record BytesRead (is_transparent : Bool) (old new : SourceView) (at : ℕ) (before following : List ℕ) (n : ℕ) : Type 0 where
-  pub within : n ≤ length before
+pub record BytesRead (is_transparent : Bool) (old new : SourceView) (at : ℕ) (into : List ℕ) (n : ℕ) : Type 0 where
+  pub within : n ≤ length into
   pub same : new ≡ after old n
-  pub bytes : OnTrue is_transparent (take n following ≡ take n (drop at old.bytes))
+  pub bytes : OnTrue is_transparent (take n into ≡ take n (drop at old.bytes))
   pub some : OnTrue is_transparent (0 < n)
-
--- it has failed once since it had failed so often, as far as a count goes
-unfoldable pub HasFailed : ℕ → SourceView → Type 0
-HasFailed before now = now.failures ≡ min (before + 1) (2 ^ 128 - 1)
 
 -- it has failed, and nothing was read
 pub record Failed (old new : SourceView) : Type 0 where
   pub bytes : new.bytes ≡ old.bytes
   pub handed : new.handed ≡ old.handed
-  pub failures : HasFailed old.failures new
+  pub failures : HasFailed old.failures new.failures
 
 -- what a read has done
-abbrev pub ReadSome : {E : Type 0} → Bool → SourceView → SourceView → ℕ → List ℕ → List ℕ → Result ℕ E → Type 0
-ReadSome is_transparent old new at before following (Ok n) = BytesRead is_transparent old new at before following n
-ReadSome is_transparent old new at before following (Err failure) = Failed old new
+abbrev pub ReadSome : {E : Type 0} → Bool → SourceView → SourceView → ℕ → List ℕ → Result ℕ E → Type 0
+ReadSome is_transparent old new at into (Ok n) = BytesRead is_transparent old new at into n
+ReadSome is_transparent old new at into (Err failure) = Failed old new

@@ -1,4 +1,4 @@
--- What opening a path as a text has given.
+-- Definition. What opening a path as a text has given.
 use Rattle.std.specs.Bool.{OnTrue}
 use Rattle.std.specs.Prelude.{Bool, ℕ, ◌≡◌, List, Option, Some, None, Result, Ok, Err}
 use Rattle.devices.specs.Readers.{ReaderView, view_of}

@@ -30,9 +30,9 @@ pub struct ReadAhead<S: Source> {
 }
 
 impl<S: Source> ReadAhead<S> {
-    ghost use Rattle.devices.specs.Ahead.{Answers, ReadsAhead, SameCounts, SourceFails, bytes_of, taken, view_of};
+    ghost use Rattle.devices.specs.code.Ahead.{Answers, ReadsAhead, SameCounts, SourceFails, bytes_of, taken, view_of};
 
-    /// A source of the bytes of this one, of which it has read none.
+    /// A source of the bytes of this one. It has read none of them yet.
     pub fn new(source: S) -> ReadAhead<S>
         ensures { view_of result ≡ unread (S.view source).bytes }
     {
@@ -113,12 +113,12 @@ impl<S: Source> ReadAhead<S> {
 
     /// Reads bytes that weren't read ahead, and counts.
     #[inline(never)]
-    #[tactic(auto, unfolding(crate::specs::Sources::HasFailed))]
+    #[tactic(auto, unfolding(crate::specs::Failures::HasFailed))]
     fn read_on(&mut self, at: u64, into: &mut [u8]) -> Result<usize, SourceFailed>
         requires room { 0 < length into.old }
         requires inside { at < length (bytes_of self.old) }
         requires counted { CanCount self.old.handed into.old }
-        ensures read { ReadsAhead self.old self.new at into.old into.new result }
+        ensures read { ReadsAhead self.old self.new at into.new result }
         ensures given { IfOk result (λ n. taken self.old + n ≤ taken self.new) }
         ensures blame { OnErr result (SourceFails self.old self.new) }
     {
@@ -191,13 +191,13 @@ fn read_first<S: Source>(
     requires some { 0 < wanted }
     requires within { wanted ≤ length to.old }
     requires inside { at < length (S.view from.old).bytes }
-    ensures { ReadSome S.is_transparent (S.view from.old) (S.view from.new) at to.old to.new result }
+    ensures { ReadSome S.is_transparent (S.view from.old) (S.view from.new) at to.new result }
 {
     from.read_at(at, &mut to[..wanted])
 }
 
 impl<S: Source> Source for ReadAhead<S> {
-    ghost use Rattle.devices.specs.Ahead.{ReadsAhead, SourceFails, bytes_of, taken, view_of};
+    ghost use Rattle.devices.specs.code.Ahead.{ReadsAhead, SourceFails, bytes_of, taken, view_of};
 
     ghost is_transparent = { S.is_transparent };
 
@@ -207,11 +207,11 @@ impl<S: Source> Source for ReadAhead<S> {
         self.source.len()
     }
 
-    #[tactic(auto, unfolding(crate::specs::Sources::HasFailed))]
+    #[tactic(auto, unfolding(crate::specs::Failures::HasFailed))]
     fn read_at(&mut self, at: u64, into: &mut [u8]) -> Result<usize, SourceFailed>
         requires room { 0 < length into.old }
         requires inside { at < length (bytes_of self.old) }
-        ensures read { ReadsAhead self.old self.new at into.old into.new result }
+        ensures read { ReadsAhead self.old self.new at into.new result }
 
         // It hands over no more bytes than its source has, and fails where its source has failed, or where it can't count.
         ensures given { IfOk result (λ n. taken self.old + n ≤ taken self.new + self.old.len) }

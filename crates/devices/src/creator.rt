@@ -33,5 +33,6 @@ pub trait Creator {
     ///
     /// What was written to it can't all be handed on.
     fn close(&mut self, path: &str, output: Self::Output) -> Result<(), CloseFailed>
-        ensures { Closed is_transparent (view self.old) (view self.new) path.now (Self.Output.view output) result };
+        ensures { let sink = Self.Output.view output in
+            Closed is_transparent (view self.old) (view self.new) path.now sink result };
 }

@@ -62,7 +62,7 @@ impl Source for OpenFile {
         self.len
     }
 
-    #[tactic(auto, unfolding(crate::specs::Sources::HasFailed))]
+    #[tactic(auto, unfolding(crate::specs::Failures::HasFailed))]
     fn read_at(&mut self, at: u64, into: &mut [u8]) -> Result<usize, SourceFailed> {
         if u128::MAX - self.handed < into.len() as u128 {
             self.failures = self.failures.saturating_add(1);
@@ -92,7 +92,7 @@ pub struct IoSink<W: Write> {
 }
 
 impl<W: Write> IoSink<W> {
-    ghost use Rattle.devices.specs.IoSinks.{view_of};
+    ghost use Rattle.devices.specs.code.IoSinks.{view_of};
 
     /// A sink over the writer, which counts what the writer holds already as taken.
     pub fn new(writer: W) -> IoSink<W>
@@ -121,11 +121,11 @@ impl<W: Write> IoSink<W> {
 }
 
 impl<W: Write> Sink for IoSink<W> {
-    ghost use Rattle.devices.specs.IoSinks.{view_of};
+    ghost use Rattle.devices.specs.code.IoSinks.{view_of};
 
     ghost view = { view_of W.contents };
 
-    #[tactic(auto, using(crate::proofs::Writes::devices), unfolding(crate::specs::Sinks::append, crate::specs::Sinks::count, crate::specs::Sinks::IsCut, crate::specs::Sinks::is_transparent, crate::specs::Sinks::HasFailed))]
+    #[tactic(auto, using(crate::proofs::Writes::devices), unfolding(crate::specs::Sinks::append, crate::specs::Sinks::count, crate::specs::Sinks::IsCut, crate::specs::Sinks::is_transparent, crate::specs::Failures::HasFailed))]
     fn write_some(&mut self, bytes: &[u8]) -> Result<usize, SinkFailed> {
         if bytes.is_empty() {
             return Ok(0);
@@ -142,7 +142,7 @@ impl<W: Write> Sink for IoSink<W> {
 impl<W: Write> Flush for IoSink<W> {
     ghost is_flushed = { λ s. s.is_flushed };
 
-    #[tactic(auto, using(crate::proofs::Writes::devices), unfolding(crate::specs::Sinks::append, crate::specs::Sinks::count, crate::specs::Sinks::IsCut, crate::specs::Sinks::is_transparent, crate::specs::Sinks::HasFailed))]
+    #[tactic(auto, using(crate::proofs::Writes::devices), unfolding(crate::specs::Sinks::append, crate::specs::Sinks::count, crate::specs::Sinks::IsCut, crate::specs::Sinks::is_transparent, crate::specs::Failures::HasFailed))]
     fn flush(&mut self) -> Result<(), SinkFailed> {
         let answer = self.writer.flush();
         self.is_flushed = answer.is_ok();

@@ -19,7 +19,7 @@ pub struct MemSource<'a> {
 }
 
 impl<'a> MemSource<'a> {
-    ghost use Rattle.devices.specs.Memory.{view_of};
+    ghost use Rattle.devices.specs.code.Memory.{view_of};
 
     /// A source of these bytes, which has read none of them.
     pub fn new(bytes: &'a [u8]) -> MemSource<'a>
@@ -41,7 +41,7 @@ impl<'a> MemSource<'a> {
 }
 
 impl Source for MemSource<'_> {
-    ghost use Rattle.devices.specs.Memory.{view_of};
+    ghost use Rattle.devices.specs.code.Memory.{view_of};
 
     ghost is_transparent = { true };
 
@@ -51,11 +51,11 @@ impl Source for MemSource<'_> {
         length_of(self.bytes)
     }
 
-    #[tactic(auto, unfolding(crate::specs::Sources::HasFailed))]
+    #[tactic(auto, unfolding(crate::specs::Failures::HasFailed))]
     fn read_at(&mut self, at: u64, into: &mut [u8]) -> Result<usize, SourceFailed>
         requires room { 0 < length into.old }
         requires inside { at < length (view_of self.old).bytes }
-        ensures read { ReadSome true (view_of self.old) (view_of self.new) at into.old into.new result }
+        ensures read { ReadSome true (view_of self.old) (view_of self.new) at into.new result }
         ensures only_full { IsErr result → CantCount self.old.handed into.old }
     {
         let from = at as usize;
@@ -70,7 +70,7 @@ impl Source for MemSource<'_> {
     }
 }
 
-/// The number of the bytes, each of which is below 256.
+/// The number of the bytes. The contract also says that each is below 256.
 pub(crate) fn length_of(bytes: &[u8]) -> u64
     ensures length { result ≡ length bytes.now }
     ensures bytes { AreBytes bytes.now }
@@ -88,7 +88,7 @@ pub struct MemSink {
 }
 
 impl MemSink {
-    ghost use Rattle.devices.specs.Memory.{sink_view_of};
+    ghost use Rattle.devices.specs.code.Memory.{sink_view_of};
 
     /// An empty sink, which takes its memory from `alloc` as it grows.
     pub fn new(alloc: Global) -> MemSink
@@ -116,11 +116,11 @@ impl MemSink {
 }
 
 impl Sink for MemSink {
-    ghost use Rattle.devices.specs.Memory.{sink_view_of};
+    ghost use Rattle.devices.specs.code.Memory.{sink_view_of};
 
     ghost view = { sink_view_of };
 
-    #[tactic(auto, using(crate::proofs::Writes::devices), unfolding(crate::specs::Sinks::append, crate::specs::Sinks::count, crate::specs::Sinks::IsCut, crate::specs::Sinks::is_transparent, crate::specs::Sinks::HasFailed))]
+    #[tactic(auto, using(crate::proofs::Writes::devices), unfolding(crate::specs::Sinks::append, crate::specs::Sinks::count, crate::specs::Sinks::IsCut, crate::specs::Sinks::is_transparent, crate::specs::Failures::HasFailed))]
     fn write_some(&mut self, bytes: &[u8]) -> Result<usize, SinkFailed> {
         if bytes.is_empty() {
             return Ok(0);

@@ -54,7 +54,7 @@ impl<R: Files<File = File>> Creator for SystemOutputs<'_, R> {
 
     ghost view = { λ s. record { given = []; creations = s.creations; failures = s.failures } };
 
-    #[tactic(auto, unfolding(crate::specs::Creators::HasFailed))]
+    #[tactic(auto, unfolding(crate::specs::Failures::HasFailed))]
     fn create(&mut self, path: &str) -> Result<IoSink<BufWriter<OutputFile<File>>>, CreateFailed> {
         if self.creations < u128::MAX {
             if let Ok(sink) = self.create_file(path) {
@@ -66,7 +66,7 @@ impl<R: Files<File = File>> Creator for SystemOutputs<'_, R> {
         Err(CreateFailed)
     }
 
-    #[tactic(auto, unfolding(crate::specs::Creators::HasFailed))]
+    #[tactic(auto, unfolding(crate::specs::Failures::HasFailed))]
     fn close(
         &mut self,
         _path: &str,

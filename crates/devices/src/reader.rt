@@ -40,7 +40,7 @@ impl<R: Read> CountedRead<R> {
     /// # Errors
     ///
     /// The reader failed, or a count would reach 2^128. No byte is handed over, and `into` may hold anything.
-    #[tactic(auto, unfolding(crate::specs::Readers::HasFailed))]
+    #[tactic(auto, unfolding(crate::specs::Failures::HasFailed))]
     pub fn read_some(&mut self, into: &mut [u8]) -> Result<usize, SourceFailed>
         ensures read { ReadsNext R.remaining self.old self.new into.old into.new result }
         ensures ended { StaysEnded R.remaining self.old self.new }

@@ -26,10 +26,10 @@ pub trait Sink {
 
 /// A sink that may hold bytes back until it is flushed.
 pub trait Flush: Sink {
-    // All that it took was handed on.
+    // All that it took was passed on.
     ghost is_flushed: { Self → Bool };
 
-    /// Hands on what it holds back.
+    /// Passes on what it holds back.
     ///
     /// # Errors
     ///

@@ -36,5 +36,5 @@ pub trait Source {
     fn read_at(&mut self, at: u64, into: &mut [u8]) -> Result<usize, SourceFailed>
         requires room { 0 < length into.old }
         requires inside { at < length (view self.old).bytes }
-        ensures { ReadSome is_transparent (view self.old) (view self.new) at into.old into.new result };
+        ensures { ReadSome is_transparent (view self.old) (view self.new) at into.new result };
 }

@@ -2,7 +2,7 @@
 
 ghost use Rattle.std.specs.Prelude.{◌≡◌, None, false};
 ghost use Rattle.devices.specs.Openers.{HasBack, unopened};
-ghost use Rattle.devices.specs.System.{view_of};
+ghost use Rattle.devices.specs.code.System.{view_of};
 
 use crate::{CountedRead, FileSource, OpenFailed, Opener, TextOpener};
 use std::fs::File;
@@ -18,7 +18,7 @@ pub struct SystemFiles<'a, R: Files<File = File>> {
 }
 
 impl<'a, R: Files<File = File>> SystemFiles<'a, R> {
-    /// The files of the system that the runtime stands for, none of which was opened.
+    /// The files of the system that the runtime stands for. None of them has been opened.
     pub fn new(rt: &'a R) -> SystemFiles<'a, R>
         ensures { view_of result ≡ unopened }
     {

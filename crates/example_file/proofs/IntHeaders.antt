@@ -1,6 +1,5 @@
 -- The header of the file keeps the format's limits, and three values are listed of its variable.
-use Rattle.std.proofs.Common.{◌≡◌, ◌∙◌, ℕ, ◌<◌, [], ◌∷◌, List, length, refl, sym, ap, subst, arith, Ok, Err}
-use Rattle.std.specs.Prelude.{All, if◌then◌else◌}
+use Rattle.std.proofs.Common.{◌≡◌, ◌∙◌, ℕ, ◌<◌, [], ◌∷◌, List, length, refl, sym, ap, subst, arith, Ok, Err, All, if◌then◌else◌}
 use Rattle.std.proofs.lemmas.List.Elements.{All-cons, All-nil}
 use Rattle.nc_base.specs.GeneratedFile.{fits, with_begins}
 use Rattle.nc_base.specs.Headers.{IsSound, IsSoundAtt, IsSoundDim, IsSoundVar}
@@ -9,7 +8,7 @@ use Rattle.nc_base.specs.declared.header.Header.{Header}
 use Rattle.nc_base.specs.declared.header.Var.{Var}
 use Rattle.nc_base.specs.declared.version.Version.TheVariants.{Cdf1}
 use Rattle.nc_base.proofs.Fitting.{has-begins}
-use Rattle.nc_walk.specs.DataPart.{AreListedOf}
+use Rattle.nc_walk.specs.code.DataPart.{AreListedOf}
 use Rattle.example_file.specs.Headers.{int_header, v_var, x_dim}
 
 sound-dim : IsSoundDim Cdf1 x_dim

@@ -1,4 +1,4 @@
--- The header of the file.
+-- Definition. The header of the file.
 use Rattle.std.specs.Prelude.{[], ◌∷◌}
 use Rattle.nc_base.specs.declared.header.Dim.{Dim}
 use Rattle.nc_base.specs.declared.header.Header.{Header}

@@ -79,7 +79,7 @@ fn print_values<S: Source, W: Write>(
     let header = read_header(alloc, source, &mut buf).map_err(Failure::Header)?;
     let var_index = first_int_variable(&header).ok_or(Failure::NoIntVariable)?;
     let layout = record_layout(&header, source.len());
-    let mut walk = Walk::over(&header, var_index, layout, &mut buf);
+    let mut walk = Walk::with_layout(&header, var_index, layout, &mut buf);
     while let Some(chunk) = walk.next(source).map_err(Failure::Values)? {
         print_chunk(chunk, out)?;
     }

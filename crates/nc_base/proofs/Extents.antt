@@ -1,16 +1,7 @@
 -- Where a variable ends: its last value is the one whose index is the greatest in each dimension.
-use Rattle.std.proofs.Common.{◌≡◌, ℕ, zero, suc, ◌+◌, ◌-◌, ◌*◌, ◌<◌, ◌==◌, Bool, true, false, List, [], ◌∷◌, ◌++◌, map, refl, sym, ◌∙◌, ap, arith, Option, Some, None}
-use Rattle.std.specs.Prelude.{if◌then◌else◌, slice_get, IfSome}
+use Rattle.std.proofs.Common.{◌≡◌, ℕ, zero, suc, ◌+◌, ◌-◌, ◌*◌, ◌<◌, ◌==◌, Bool, true, false, List, [], ◌∷◌, ◌++◌, map, refl, sym, ◌∙◌, ap, arith, Option, Some, None, if◌then◌else◌, slice_get, IfSome}
 use Rattle.std.specs.Option.{option_map}
-use Rattle.std.proofs.lemmas.Bool.Decides.{nat_tests}
-use Rattle.std.specs.List.{flat_map, range_with_len, last_or}
-use Rattle.nc_base.specs.declared.header.Header.{Header}
-use Rattle.nc_base.specs.declared.header.Var.{Var}
-use Rattle.nc_base.specs.Types.{size_of}
-use Rattle.nc_base.specs.Sizes.{product, is_record_var, slab_lens, slab_size, record_size}
-use Rattle.nc_base.specs.SizeParts.{end_of}
-use Rattle.nc_base.specs.Headers.{AreDimids, IsSound, IsSoundVar}
-use Rattle.nc_base.specs.Places.{vectors_below, slab_strides, distance, value_offsets, end_after, extent_end}
+use Rattle.nc_base.proofs.Prelude.{nat_tests, flat_map, range_with_len, last_or, Header, Var, size_of, product, is_record_var, slab_lens, slab_size, record_size, end_of, AreDimids, IsSound, IsSoundVar, vectors_below, slab_strides, distance, value_offsets, end_after, extent_end}
 use Rattle.nc_base.proofs.Found.{if-some, all-at}
 use Rattle.nc_base.proofs.SoundLaws.{some_count}
 
@@ -28,7 +19,7 @@ last_or-any : {A : Type 0} (o : Option A) (xs : List A) (x : A) → last_or None
 last_or-any o [] x e = absurd cc
 last_or-any o (y ∷ xs) x e = e
 
--- the last of some rows, the last of which is not empty
+-- the last element of several rows, if the last row is not empty
 last-rows : {A : Type 0} (f : ℕ → List A) (k m : ℕ) (o : Option A) (x : A) → last_or None (f (k + m)) ≡ Some x
     → last_or o (flat_map f (range_with_len k (suc m))) ≡ Some x
 last-rows f k zero o x e =

@@ -1,27 +1,6 @@
 -- A generated file holds its dataset.
-use Rattle.std.proofs.Common.{◌≡◌, ℕ, suc, ◌+◌, ◌*◌, ◌<◌, Bool, true, false, cond, List, [], ◌∷◌, ◌++◌, length, map, refl, sym, ◌∙◌, ap, subst, arith, length-append}
-use Rattle.std.specs.Prelude.{All, sum}
-use Rattle.std.specs.Int.{to_be_bytes}
-use Rattle.std.specs.List.{flat_map, range_with_len}
-use Rattle.std.proofs.lemmas.List.{append-nil, length-map}
-use Rattle.std.proofs.lemmas.List.Elements.{All-nil, All-cons, All-head, All-tail}
-use Rattle.nc_base.specs.declared.header.Att.{Att}
-use Rattle.nc_base.specs.declared.header.Dim.{Dim}
-use Rattle.nc_base.specs.declared.header.Var.{Var}
-use Rattle.nc_base.specs.declared.header.Header.{Header}
-use Rattle.nc_base.specs.declared.header.NumRecs.{NumRecs}
-use Rattle.nc_base.specs.declared.header.NumRecs.TheVariants.{Known}
-use Rattle.nc_base.specs.declared.dataset.Dataset.{Dataset}
-use Rattle.nc_base.specs.declared.version.Version.{Version}
-use Rattle.nc_base.specs.declared.version.Version.TheVariants.{Cdf1, Cdf2, Cdf5}
-use Rattle.nc_base.specs.Types.{code_of}
-use Rattle.nc_base.specs.Versions.{offset_width, count_limit}
-use Rattle.nc_base.specs.Names.{IsName}
-use Rattle.nc_base.specs.Sizes.{is_record_var, padded_size, record_size_of, record_vars, record_size, record_count}
-use Rattle.nc_base.specs.Headers.{IsSoundVar, IsSound, HasValidNames, bare_var, AreArrays, IsGood}
-use Rattle.nc_base.specs.Grammar.{dimension_tag, variable_tag}
-use Rattle.nc_base.specs.Places.{HoldsDataset}
-use Rattle.nc_base.specs.GeneratedFile.{word_spelling, magic_spelling, count_spelling, name_spelling, list_head, list_spelling, dim_spelling, atts_spelling, vsize_of, var_spelling, numrecs_spelling, header_spelling, blocks, is_sole_narrow, record_of, known_records, data_of, begin_after, vars_after, with_begins, Fits, file_of}
+use Rattle.std.proofs.Common.{◌≡◌, ℕ, suc, ◌+◌, ◌*◌, ◌<◌, Bool, true, false, cond, List, [], ◌∷◌, ◌++◌, length, map, refl, sym, ◌∙◌, ap, subst, arith, length-append, All, sum}
+use Rattle.nc_base.proofs.Prelude.{to_be_bytes, flat_map, range_with_len, append-nil, length-map, All-nil, All-cons, All-head, All-tail, Att, Dim, Var, Header, NumRecs, Known, Dataset, Version, Cdf1, Cdf2, Cdf5, code_of, offset_width, count_limit, IsName, is_record_var, padded_size, record_size_of, record_vars, record_size, record_count, IsSoundVar, IsSound, HasValidNames, bare_var, AreArrays, IsGood, dimension_tag, variable_tag, HoldsDataset, word_spelling, magic_spelling, count_spelling, name_spelling, list_head, list_spelling, dim_spelling, atts_spelling, vsize_of, var_spelling, numrecs_spelling, header_spelling, blocks, is_sole_narrow, record_of, known_records, data_of, begin_after, vars_after, with_begins, Fits, file_of}
 use Rattle.nc_base.proofs.IsAt.{IsAt, stands-here, stands-after, stands-in, stands-at, stands-first, stands-second, stands-row}
 use Rattle.nc_base.proofs.FilePlaces.{slots, fixed_total, record_size_of-slots, length-blocks, length-record, IsPlaced, agree-all, agree-arrays, agree-whole}
 use Rattle.nc_base.proofs.HeaderSpelled.{header-spelled}

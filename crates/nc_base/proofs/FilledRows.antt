@@ -1,12 +1,8 @@
 -- Listed rows and the same with each row filled up: what is added at their end, where each row stands, and how long all are.
-use Rattle.std.proofs.Common.{◌≡◌, ℕ, zero, suc, ◌+◌, ◌-◌, ◌*◌, ◌/◌, ◌%◌, ◌<◌, ◌≤◌, min, max, List, [], ◌∷◌, ◌++◌, length, get_or, take, drop, refl, sym, ◌∙◌, ap, subst, arith, append_assoc, append-nil, length-append, inl, inr}
-use Rattle.std.specs.Prelude.{replicate}
-use Rattle.std.proofs.Math.Nat.{div-lt_iff_lt-mul, mod-lt}
-use Rattle.std.proofs.lemmas.Bool.{cases_lt}
-use Rattle.std.proofs.lemmas.List.{take-append-drop, take-append-le, drop-append-le, length-take-le, length-drop, length-replicate, take_all, drop_all, drop-drop, drop-replicate, drop_at, drop_more}
-use Rattle.nc_base.specs.ListedRows.{filled_rows, AreRowEnds, StandAt, row_start}
+use Rattle.std.proofs.Common.{◌≡◌, ℕ, zero, suc, ◌+◌, ◌-◌, ◌*◌, ◌/◌, ◌%◌, ◌<◌, ◌≤◌, min, max, List, [], ◌∷◌, ◌++◌, length, get_or, take, drop, refl, sym, ◌∙◌, ap, subst, arith, append_assoc, append-nil, length-append, inl, inr, replicate}
+use Rattle.nc_base.proofs.Prelude.{div-lt_iff_lt-mul, mod-lt, cases_lt, take-append-drop, take-append-le, drop-append-le, length-take-le, length-drop, length-replicate, take_all, drop_all, drop-drop, drop-replicate, drop_at, drop_more, filled_rows, AreRowEnds, StandAt, row_start}
 
--- a row of so many listed bytes, filled up
+-- a row with n listed bytes, filled up
 abbrev row : ℕ → ℕ → ℕ → List ℕ → List ℕ
 row len fill n bytes = take n bytes ++ replicate (len - n) fill
 
@@ -63,7 +59,7 @@ pub ends_end : (len last start : ℕ) (ends : List ℕ) (end : ℕ) → AreRowEn
 ends_end len last start [] end are after within = (omega (arith, are, after), omega (arith, are, within), refl)
 ends_end len last start (next ∷ ends) end are after within = (are.0, are.1, ends_end len last next ends end are.2 after within)
 
--- the same rows, told to have another length and another fill byte
+-- rows of this length and fill byte are also rows of another length and fill byte: they end and are filled up alike
 pub record AreToldAs (len fill len' fill' last : ℕ) (ends : List ℕ) : Type 0 where
   pub told : AreRowEnds len' 0 ends last
   pub same : (bytes : List ℕ) → filled_rows len fill 0 ends bytes ≡ filled_rows len' fill' 0 ends bytes
@@ -293,7 +289,7 @@ row-of len last at n ends are all inside =
     let of : at / len < n = (div-lt_iff_lt-mul some).1 inside in
     record { column = mod-lt at some; of = omega (arith, of, all); is = row_is len last 0 ends (at / len) 0 are (omega (arith, of, all)) }
 
--- the same, with each part told otherwise
+-- the same, with each part replaced by an equal one
 pub stands-told : (filled filled' : List ℕ) (at at' : ℕ) (bytes bytes' : List ℕ) (count count' fill fill' : ℕ)
     → filled ≡ filled' → at ≡ at' → bytes ≡ bytes' → count ≡ count' → fill ≡ fill' → StandAt filled at bytes count fill → StandAt filled' at' bytes' count' fill'
 stands-told filled filled' at at' bytes bytes' count count' fill fill' same place run padding with is =

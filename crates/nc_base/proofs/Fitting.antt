@@ -1,14 +1,6 @@
 -- Headers whose begins fit their fields.
-use Rattle.std.proofs.Common.{◌≡◌, ℕ, ◌<◌, Bool, true, false, ◌&&◌, List, [], ◌∷◌, length, refl, sym, subst, Ok, Err}
-use Rattle.std.specs.Prelude.{All, nat_lt, if◌then◌else◌}
-use Rattle.std.specs.List.{list_all}
-use Rattle.std.proofs.lemmas.Bool.{lt-ltb, ltb-true}
-use Rattle.std.proofs.lemmas.List.Elements.{All-nil, All-cons, All-head, All-tail}
-use Rattle.nc_base.specs.declared.header.Var.{Var}
-use Rattle.nc_base.specs.declared.header.Header.{Header}
-use Rattle.nc_base.specs.Versions.{offset_limit}
-use Rattle.nc_base.specs.Headers.{IsSound}
-use Rattle.nc_base.specs.GeneratedFile.{header_spelling, with_begins, Fits, fits}
+use Rattle.std.proofs.Common.{◌≡◌, ℕ, ◌<◌, Bool, true, false, ◌&&◌, List, [], ◌∷◌, length, refl, sym, subst, Ok, Err, All, nat_lt, if◌then◌else◌}
+use Rattle.nc_base.proofs.Prelude.{list_all, lt-ltb, ltb-true, All-nil, All-cons, All-head, All-tail, Var, Header, offset_limit, IsSound, header_spelling, with_begins, Fits, fits}
 use Rattle.nc_base.proofs.FileHolds.{len-after, sound-after}
 
 and-left : (a b : Bool) → (a && b) ≡ true → a ≡ true

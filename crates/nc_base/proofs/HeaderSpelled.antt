@@ -1,31 +1,6 @@
 -- The spelling of a sound header with valid names is one by the grammar.
-use Rattle.std.proofs.Common.{◌≡◌, ℕ, suc, ◌+◌, ◌-◌, ◌*◌, ◌/◌, ◌^◌, ◌<◌, ◌≤◌, Bool, true, false, cond, List, [], ◌∷◌, ◌++◌, length, replicate, refl, sym, ◌∙◌, ap, subst, arith, append_assoc, length-append, filter}
-use Rattle.std.specs.Prelude.{All, nat_lt, ◌==◌, ◌||◌, IsTrue, if◌then◌else◌}
-use Rattle.std.specs.Int.{Width, w32, to_be_bytes, byte_len}
-use Rattle.std.specs.List.{flat_map, sum_by}
-use Rattle.std.proofs.Math.Nat.{mul-div_cancel}
-use Rattle.std.proofs.lemmas.Bool.{ltb-true, eq-eqb}
-use Rattle.std.proofs.lemmas.List.{append-nil, length-replicate}
-use Rattle.std.proofs.lemmas.List.Elements.{filter-append, All-head, All-tail, All-filter, All-weaker}
-use Rattle.std.proofs.lemmas.List.Sums.{sum-map, sum_by-append}
-use Rattle.nc_base.specs.declared.header.Att.{Att}
-use Rattle.nc_base.specs.declared.header.Dim.{Dim}
-use Rattle.nc_base.specs.declared.header.Var.{Var}
-use Rattle.nc_base.specs.declared.header.Header.{Header}
-use Rattle.nc_base.specs.declared.header.NumRecs.{NumRecs}
-use Rattle.nc_base.specs.declared.header.NumRecs.TheVariants.{Known, Streaming}
-use Rattle.nc_base.specs.declared.nc_type.NcType.{NcType}
-use Rattle.nc_base.specs.declared.nc_type.NcType.TheVariants.{Byte, Char, Short, Int, Ubyte, Ushort, Uint, Int64, Uint64}
-use Rattle.nc_base.specs.declared.version.Version.{Version}
-use Rattle.nc_base.specs.declared.version.Version.TheVariants.{Cdf1, Cdf2, Cdf5}
-use Rattle.nc_base.specs.Bytes.{padding_len}
-use Rattle.nc_base.specs.Types.{code_of, size_of}
-use Rattle.nc_base.specs.Versions.{version_byte, count_width, offset_width, count_limit, offset_limit, streaming_mark, has_type}
-use Rattle.nc_base.specs.Names.{IsName}
-use Rattle.nc_base.specs.Sizes.{is_record_var, slab_size, padded_size, padded_total, record_size_of, record_vars, slab_limit, record_limit}
-use Rattle.nc_base.specs.Headers.{has_record_dim, IsDimid, AreDimids, IsSoundAtt, IsSoundVar, IsSoundDim, IsSoundNumRecs, IsSound, HasValidNames}
-use Rattle.nc_base.specs.Grammar.{dimension_tag, variable_tag, attribute_tag, SpellsNumber, SpellsCount, SpellsPadded, SpellsName, SpellsType, ElementSpelling, SpellsEach, SpellsCounted, SpellsList, absent, present, SpellsDim, SpellsAtt, SpellsAtts, SpellsDimid, IsWithinLimits, SpellsVar, SpellsNumRecs, SpellsHeader}
-use Rattle.nc_base.specs.GeneratedFile.{word_spelling, magic_spelling, count_spelling, zero_padded, name_spelling, list_spelling, dim_spelling, att_spelling, atts_spelling, vsize_of, var_spelling, numrecs_spelling, header_spelling}
+use Rattle.std.proofs.Common.{◌≡◌, ℕ, suc, ◌+◌, ◌-◌, ◌*◌, ◌/◌, ◌^◌, ◌<◌, ◌≤◌, Bool, true, false, cond, List, [], ◌∷◌, ◌++◌, length, replicate, refl, sym, ◌∙◌, ap, subst, arith, append_assoc, length-append, filter, All, nat_lt, ◌==◌, ◌||◌, IsTrue, if◌then◌else◌}
+use Rattle.nc_base.proofs.Prelude.{Width, w32, to_be_bytes, byte_len, flat_map, sum_by, mul-div_cancel, ltb-true, eq-eqb, append-nil, length-replicate, filter-append, All-head, All-tail, All-filter, All-weaker, sum-map, sum_by-append, Att, Dim, Var, Header, NumRecs, Known, Streaming, NcType, Byte, Char, Short, Int, Ubyte, Ushort, Uint, Int64, Uint64, Version, Cdf1, Cdf2, Cdf5, padding_len, code_of, size_of, version_byte, count_width, offset_width, count_limit, offset_limit, streaming_mark, has_type, IsName, is_record_var, slab_size, padded_size, padded_total, record_size_of, record_vars, slab_limit, record_limit, has_record_dim, IsDimid, AreDimids, IsSoundAtt, IsSoundVar, IsSoundDim, IsSoundNumRecs, IsSound, HasValidNames, dimension_tag, variable_tag, attribute_tag, SpellsNumber, SpellsCount, SpellsPadded, SpellsName, SpellsType, ElementSpelling, SpellsEach, SpellsCounted, SpellsList, absent, present, SpellsDim, SpellsAtt, SpellsAtts, SpellsDimid, IsWithinLimits, SpellsVar, SpellsNumRecs, SpellsHeader, word_spelling, magic_spelling, count_spelling, zero_padded, name_spelling, list_spelling, dim_spelling, att_spelling, atts_spelling, vsize_of, var_spelling, numrecs_spelling, header_spelling}
 use Rattle.nc_base.proofs.SoundLaws.{some_size}
 
 -- ---- numbers

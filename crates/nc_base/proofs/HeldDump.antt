@@ -1,33 +1,10 @@
 -- The dump of a file that holds a dataset is the text of that dataset.
-use Rattle.std.proofs.Common.{◌≡◌, ℕ, ℤ, suc, ◌+◌, ◌≤◌, Bool, ◌&&◌, ◌||◌, cond, List, [], ◌∷◌, length, get_or, map, refl, sym, ◌∙◌, ap, subst, arith, Option, Some, None, inl, inr}
+use Rattle.std.proofs.Common.{◌≡◌, ℕ, ℤ, suc, ◌+◌, ◌≤◌, Bool, ◌&&◌, ◌||◌, cond, List, [], ◌∷◌, length, get_or, map, refl, sym, ◌∙◌, ap, subst, arith, Option, Some, None, inl, inr, ◌==◌, codes, All, IsTrue, if◌then◌else◌, slice_index_or}
 use Rattle.std.proofs.Math.Path.{fun_ext}
-use Rattle.nc_base.specs.Sizes.{record_count}
-use Rattle.std.specs.Prelude.{◌==◌, codes, All, IsTrue, if◌then◌else◌, slice_index_or}
-use Rattle.std.specs.List.{concat, list_all, position, position_or_len}
-use Rattle.std.specs.Str.{bytes_eq}
-use Rattle.std.proofs.lemmas.Bool.{cases_lt, lt-ltb, ltb-false}
-use Rattle.std.proofs.lemmas.List.{length-map}
-use Rattle.std.proofs.lemmas.List.Elements.{All-head, All-tail, All-map, All-weaker, All-from_get_or}
-use Rattle.std.proofs.lemmas.List.Sums.{fails_before_first}
-use Rattle.nc_base.specs.declared.header.Dim.{Dim}
-use Rattle.nc_base.specs.declared.header.Header.{Header}
-use Rattle.nc_base.specs.declared.header.NumRecs.TheVariants.{Known}
-use Rattle.nc_base.specs.declared.header.Var.{Var}
-use Rattle.nc_base.specs.declared.dataset.Dataset.{Dataset}
-use Rattle.nc_base.specs.Types.{size_of}
-use Rattle.nc_base.specs.Numbers.{numbers}
-use Rattle.nc_base.specs.Headers.{bare_var, bare}
-use Rattle.nc_base.specs.Escapes.{escaped_name}
+use Rattle.nc_base.proofs.Prelude.{record_count, concat, list_all, position, position_or_len, bytes_eq, cases_lt, lt-ltb, ltb-false, length-map, All-head, All-tail, All-map, All-weaker, All-from_get_or, fails_before_first, Dim, Header, Known, Var, Dataset, size_of, numbers, bare_var, bare, escaped_name, fill_value, Look, look_of, concat_parts, SpellsHeader, bytes_at, value_offsets, stored_bytes, stored_values, ends_after, first_missing, HoldsDataset, Options, Ending, Section, Content, has_variable, has_values, IsFirstUnknown, KnowsChosen, IsFirstUnknownOf, is_selected, selection_of, content_in, content_of, values_before, values_of, shown_values, data_word, closing_word, dump_text, IsDump, IsText, contents, stopped, unknown, shown}
 use Rattle.nc_base.specs.HeadText.{vars_text, var_lines, head_text, netcdf_word, variables_word, dims_text, gatts_text}
-use Rattle.nc_base.specs.Fill.{fill_value}
-use Rattle.nc_base.specs.ValueText.{Look, look_of}
-use Rattle.nc_base.specs.Bytes.{concat_parts}
-use Rattle.nc_base.specs.Grammar.{SpellsHeader}
 use Rattle.nc_base.specs.FirstFault.{StopsAt}
 use Rattle.nc_base.specs.declared.fault.FormatFault.{FormatFault}
-use Rattle.nc_base.specs.Places.{bytes_at, value_offsets, stored_bytes, stored_values, ends_after, first_missing, HoldsDataset}
-use Rattle.nc_base.specs.Dump.{Options, Ending, Section, Content, has_variable, has_values, IsFirstUnknown, KnowsChosen, IsFirstUnknownOf, is_selected, selection_of, content_in, content_of, values_before, values_of, shown_values, data_word, closing_word, dump_text, IsDump, IsText}
-use Rattle.nc_base.specs.Dump.{stopped, unknown, shown}
 use Rattle.nc_base.proofs.WholeValues.{map-map, numbers-concat, length-whole}
 
 -- ---- whole values
@@ -46,7 +23,7 @@ all-whole size b xs none =
     All-from_get_or (λ (offset : ℕ). offset + size ≤ length b) xs 0
     (λ i lt. ltb-false (length b) (get_or xs i 0 + size) (fails_before_first (ends_after size (length b)) xs i 0 (omega arith)))
 
--- the numbers of a variable of which no value is missing
+-- the numbers of a variable without a missing value
 pub whole-numbers : (h : Header) (b : List ℕ) (var : Var) (n : ℕ) → first_missing h b var n ≡ None → numbers var.ty (concat (stored_bytes h b var n)) ≡ stored_values h b var n
 whole-numbers h b var n none =
     let size = size_of var.ty in
@@ -99,7 +76,7 @@ row shows v look content others = if shows then values_before look content.value
 values-held : (h : Header) (bytes : List ℕ) (n width : ℕ) (d : Dataset) (vars : List Var) (v : ℕ) (marks : List Bool)
     → ((k : ℕ) → slice_index_or d.arrays (v + k) [] ≡ slice_index_or (map (λ (var : Var). concat (stored_bytes h bytes var n)) vars) k [])
     → All (λ (var : Var). first_missing h bytes var n ≡ None) vars
-    → values_of (bare h n) (content_of d) n width v (map bare_var vars) marks ≡ values_of h (content_in h bytes n) n width v vars marks
+    → values_of (contents (bare h n) (content_of d) n width) v (map bare_var vars) marks ≡ values_of (contents h (content_in h bytes n) n width) v vars marks
 values-held h bytes n width d [] v marks arrays whole = refl
 values-held h bytes n width d (var ∷ vars) v [] arrays whole = refl
 values-held h bytes n width d (var ∷ vars) v (mark ∷ marks) arrays whole =
@@ -115,8 +92,8 @@ values-held h bytes n width d (var ∷ vars) v (mark ∷ marks) arrays whole =
     (λ k. ap (λ (i : ℕ). slice_index_or d.arrays i []) (let e : v + 1 + k ≡ v + suc k = omega arith in e) ∙ arrays (suc k)) (All-tail Whole var vars whole) in
     let shows : Bool = mark && has_values h.dims n var in
     ap (λ (s : Section). row shows v (look_of (bare h n) (bare_var var) n width) (content_of d v (bare_var var)) s) rest
-    ∙ ap (λ (c : Content). row shows v (look_of (bare h n) (bare_var var) n width) c (values_of h (content_in h bytes n) n width (v + 1) vars marks)) content
-    ∙ ap (λ (l : Look). row shows v l (content_in h bytes n v var) (values_of h (content_in h bytes n) n width (v + 1) vars marks)) (look-bare h var n width)
+    ∙ ap (λ (c : Content). row shows v (look_of (bare h n) (bare_var var) n width) c (values_of (contents h (content_in h bytes n) n width) (v + 1) vars marks)) content
+    ∙ ap (λ (l : Look). row shows v l (content_in h bytes n v var) (values_of (contents h (content_in h bytes n) n width) (v + 1) vars marks)) (look-bare h var n width)
 
 -- ---- the dump
 

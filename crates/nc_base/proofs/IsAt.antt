@@ -1,8 +1,6 @@
 -- A piece of a list of bytes that stands at an offset.
 use Rattle.std.proofs.Common.{◌≡◌, ℕ, zero, suc, ◌+◌, ◌*◌, ◌<◌, ◌≤◌, List, [], ◌++◌, length, take, drop, refl, sym, ◌∙◌, ap, subst, arith, append_assoc, length-append, append-nil}
-use Rattle.std.specs.List.{flat_map, range_with_len}
-use Rattle.std.proofs.Math.Seq.{take-add, take-append_seam}
-use Rattle.std.proofs.lemmas.List.{drop_at, drop-drop, take_all}
+use Rattle.nc_base.proofs.Prelude.{flat_map, range_with_len, take-add, take-append_seam, drop_at, drop-drop, take_all}
 
 pub record IsAt (piece : List ℕ) (at : ℕ) (bytes : List ℕ) : Type 0 where
   pub prefix : List ℕ

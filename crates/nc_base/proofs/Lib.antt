@@ -8,7 +8,6 @@ pub mod Found
 pub mod Extents
 pub mod SoundSpelling
 pub mod ValueLaws
-pub mod Examples
 pub mod WholeValues
 pub mod SlabBytes
 pub mod IsAt
@@ -18,4 +17,5 @@ pub mod FileHolds
 pub mod HeldDump
 pub mod Fitting
 pub mod ListedArrays
-mod FileExamples
+pub mod examples
+pub mod Prelude

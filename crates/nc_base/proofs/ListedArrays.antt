@@ -1,13 +1,7 @@
 -- Where filled arrays are whole, what is listed of them is whole values, and no more than the variables have.
 use Rattle.std.proofs.Common.{◌≡◌, ℕ, zero, suc, ◌+◌, ◌-◌, ◌*◌, ◌/◌, inl, inr, List, [], ◌∷◌, length, sym, ◌∙◌, ap, arith, length-append}
-use Rattle.std.proofs.lemmas.Bool.{cases_lt}
-use Rattle.nc_base.specs.declared.header.Dim.{Dim}
-use Rattle.nc_base.specs.declared.header.Var.{Var}
-use Rattle.nc_base.specs.Fill.{fill_value}
-use Rattle.nc_base.specs.Headers.{IsArray, AreArrays, value_count}
-use Rattle.nc_base.specs.Numbers.{bytes_of_number}
-use Rattle.nc_base.specs.OwedValues.{fills, whole_array, whole_arrays, IsListed, AreListed}
-use Rattle.nc_base.specs.Types.{size_of}
+use Rattle.nc_base.proofs.Prelude.{cases_lt, Dim, Var, fill_value, IsArray, AreArrays, value_count, bytes_of_number, size_of}
+use Rattle.nc_base.specs.code.OwedValues.{fills, whole_array, whole_arrays, IsListed, AreListed}
 use Rattle.nc_base.proofs.FilePlaces.{length-number}
 
 pub length-fills : (var : Var) (count : ℕ) → length (fills var count) ≡ count * size_of var.ty

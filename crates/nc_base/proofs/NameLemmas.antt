@@ -1,9 +1,7 @@
 -- The test for UTF-8 by a conversion that may fail.
-use Rattle.std.proofs.Common.{◌≡◌, ℕ, List, Result, Ok, Err, sym}
-use Rattle.std.proofs.lemmas.Bool.{false_from_ne_true}
+use Rattle.std.proofs.Common.{◌≡◌, ℕ, List, Result, Ok, Err, sym, MatchResult, is_ok}
+use Rattle.nc_base.proofs.Prelude.{false_from_ne_true, IsUtf8, is_utf8}
 use Rattle.std.proofs.lemmas.Str.{IsUtf8-from_is_utf8, is_utf8-from_IsUtf8}
-use Rattle.std.specs.Prelude.{MatchResult, is_ok}
-use Rattle.std.specs.Str.{IsUtf8, is_utf8}
 
 -- a conversion that succeeds exactly at UTF-8 is a test for it
 pub is_ok-is_utf8 : {S E : Type 0} (P : S → Type 0) (Q : E → Type 0) (r : Result S E) (bytes : List ℕ)

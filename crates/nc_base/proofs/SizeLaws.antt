@@ -1,21 +1,7 @@
 -- The sizes of slabs and of records.
-use Rattle.std.proofs.Common.{◌≡◌, ℕ, zero, suc, ◌+◌, ◌*◌, ◌<◌, ◌≤◌, inl, inr, min, Bool, true, false, ◌&&◌, cond, List, [], ◌∷◌, ◌++◌, length, get_or, drop, take, map, refl, sym, ◌∙◌, ap, subst, arith, drop-cons, Some, None, filter}
-use Rattle.std.specs.Prelude.{nat_le, if◌then◌else◌}
-use Rattle.std.specs.List.{list_all}
+use Rattle.std.proofs.Common.{◌≡◌, ℕ, zero, suc, ◌+◌, ◌*◌, ◌<◌, ◌≤◌, inl, inr, min, Bool, true, false, ◌&&◌, cond, List, [], ◌∷◌, ◌++◌, length, get_or, drop, take, map, refl, sym, ◌∙◌, ap, subst, arith, drop-cons, Some, None, filter, nat_le, if◌then◌else◌}
+use Rattle.nc_base.proofs.Prelude.{list_all, mul-le-mul_left, cases_lt, le-leb, leb_tells, append-nil, filter_more, filter-append, list_all-append, sum-map, sum_by_push, padding_len, product, is_record_var, is_narrow, slab_size, padded_size, padded_total, record_size_of, record_vars, record_size, slab_limit, record_limit, least_begin, has_small_slab, checked_record_size, first_begin, lesser, Dim, Var, Header}
 use Rattle.std.proofs.Math.ListN.{drop_of_length-le, take-append-drop}
-use Rattle.std.proofs.Math.Nat.{mul-le-mul_left}
-use Rattle.std.proofs.lemmas.Bool.{cases_lt, le-leb}
-use Rattle.std.proofs.lemmas.Bool.Decides.{leb_tells}
-use Rattle.std.proofs.lemmas.List.{append-nil}
-use Rattle.std.proofs.lemmas.List.Elements.{filter_more, filter-append}
-use Rattle.std.proofs.lemmas.List.Folds.{list_all-append}
-use Rattle.std.proofs.lemmas.List.Sums.{sum-map, sum_by_push}
-use Rattle.nc_base.specs.Bytes.{padding_len}
-use Rattle.nc_base.specs.Sizes.{product, is_record_var, is_narrow, slab_size, padded_size, padded_total, record_size_of, record_vars, record_size, slab_limit, record_limit, least_begin}
-use Rattle.nc_base.specs.SizeParts.{has_small_slab, checked_record_size, first_begin, lesser}
-use Rattle.nc_base.specs.declared.header.Dim.{Dim}
-use Rattle.nc_base.specs.declared.header.Var.{Var}
-use Rattle.nc_base.specs.declared.header.Header.{Header}
 
 -- a number that is cut off at c may be cut off before it is multiplied
 pub min-mul : (a b c : ℕ) → min (min a c * b) c ≡ min (a * b) c

@@ -1,21 +1,8 @@
 -- Where the values of a variable lie, slab by slab: the bytes of all values, one after the other, are the slabs as the
 -- file has them, and no value is missing where each slab lies inside of the file.
-use Rattle.std.proofs.Common.{◌≡◌, ℕ, zero, suc, ◌+◌, ◌*◌, ◌<◌, ◌≤◌, Bool, true, false, List, [], ◌∷◌, ◌++◌, length, get_or, take, drop, map, refl, sym, ◌∙◌, ap, subst, arith, append-nil, None}
-use Rattle.std.specs.Prelude.{All, if◌then◌else◌}
-use Rattle.std.specs.List.{concat, flat_map, range_with_len, position}
-use Rattle.std.proofs.Math.Seq.{take-add}
-use Rattle.std.proofs.Math.Nat.{mul-le-mul_right}
-use Rattle.std.proofs.lemmas.Bool.{le-ltb}
-use Rattle.std.proofs.lemmas.List.{drop-drop, map-append}
-use Rattle.std.proofs.lemmas.List.Folds.{concat-append}
-use Rattle.std.proofs.lemmas.List.Sums.{position_or_len_is}
-use Rattle.std.proofs.lemmas.List.Elements.{All-nil, All-cons, All-append, All-get_or}
-use Rattle.nc_base.specs.declared.header.Header.{Header}
-use Rattle.nc_base.specs.declared.header.Var.{Var}
-use Rattle.nc_base.specs.Types.{size_of}
-use Rattle.nc_base.specs.Sizes.{product, is_record_var, slab_lens, slab_size, record_size}
+use Rattle.std.proofs.Common.{◌≡◌, ℕ, zero, suc, ◌+◌, ◌*◌, ◌<◌, ◌≤◌, Bool, true, false, List, [], ◌∷◌, ◌++◌, length, get_or, take, drop, map, refl, sym, ◌∙◌, ap, subst, arith, append-nil, None, All, if◌then◌else◌}
+use Rattle.nc_base.proofs.Prelude.{concat, flat_map, range_with_len, position, take-add, mul-le-mul_right, le-ltb, drop-drop, map-append, concat-append, position_or_len_is, All-nil, All-cons, All-append, All-get_or, Header, Var, size_of, product, is_record_var, slab_lens, slab_size, record_size, vectors_below, slab_strides, distance, value_offsets, bytes_at, stored_bytes, ends_after, first_missing}
 use Rattle.nc_base.proofs.WholeValues.{none-found}
-use Rattle.nc_base.specs.Places.{vectors_below, slab_strides, distance, value_offsets, bytes_at, stored_bytes, ends_after, first_missing}
 
 -- ---- index vectors whose first index goes over some rows
 

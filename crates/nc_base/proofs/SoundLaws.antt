@@ -1,31 +1,6 @@
 -- What a sound header keeps.
-use Rattle.std.proofs.Common.{◌≡◌, ℕ, zero, suc, ◌+◌, ◌*◌, ◌/◌, ◌%◌, ◌<◌, ◌≤◌, Bool, true, false, ◌&&◌, ◌||◌, List, [], ◌∷◌, ◌++◌, length, get_or, drop, map, refl, sym, ◌∙◌, ap, subst, arith, Option, Some, None, filter}
-use Rattle.std.specs.Prelude.{nat_le, nat_lt, ◌==◌, not, if◌then◌else◌, IsTrue, All, IsSome, SomeIff, is_some}
-use Rattle.std.specs.List.{list_all, count_by}
-use Rattle.std.proofs.Math.Nat.{mul-le-mul_left, mod-eq-sub-div-mul, div-mul-le_self}
-use Rattle.std.proofs.lemmas.Bool.{le-leb, leb-true, ltb-true, lt-ltb}
-use Rattle.std.proofs.lemmas.List.{length-map}
-use Rattle.std.proofs.lemmas.Nat.{div-mul-add}
-use Rattle.std.proofs.lemmas.Bool.Decides.{nat_tests}
-use Rattle.std.proofs.lemmas.List.Elements.{All-filter, All-head, All-tail, All-weaker, All-get_or, All-map}
-use Rattle.std.proofs.lemmas.List.Sums.{sum-map, sum_by-cons, length-filter}
-use Rattle.nc_base.specs.Types.{size_of}
-use Rattle.nc_base.specs.Sizes.{dim_len, product, is_record_dim, is_record_var, is_narrow, slab_lens, slab_size, padded_size, record_size_of, record_vars, record_size, slab_limit, record_limit}
-use Rattle.nc_base.specs.SizeParts.{has_small_slab, checked_record_size, first_begin, slab_at, is_fixed_dim}
-use Rattle.nc_base.specs.Dump.{has_values}
-use Rattle.nc_base.specs.Headers.{IsSound, IsSoundVar, HasWholeValues, AreDimids}
-use Rattle.nc_base.specs.declared.nc_type.NcType.{NcType}
-use Rattle.nc_base.specs.declared.nc_type.NcType.TheVariants.{Byte, Char, Short, Int, Ubyte, Ushort, Uint, Int64, Uint64}
-use Rattle.nc_base.specs.declared.version.Version.{Version}
-use Rattle.nc_base.specs.Versions.{count_limit}
-use Rattle.nc_base.specs.declared.header.Att.{Att}
-use Rattle.nc_base.specs.declared.header.Dim.{Dim}
-use Rattle.nc_base.specs.declared.header.Var.{Var}
-use Rattle.nc_base.specs.declared.header.Header.{Header}
-use Rattle.nc_base.specs.declared.header.NumRecs.{NumRecs}
-use Rattle.nc_base.specs.declared.header.NumRecs.TheVariants.{Streaming}
-use Rattle.nc_base.specs.Sizes.{records_between, least_begin, record_count}
-use Rattle.std.specs.Prelude.{IfSome, ◌-◌, ◌/◌}
+use Rattle.std.proofs.Common.{◌≡◌, ℕ, zero, suc, ◌+◌, ◌*◌, ◌/◌, ◌%◌, ◌<◌, ◌≤◌, Bool, true, false, ◌&&◌, ◌||◌, List, [], ◌∷◌, ◌++◌, length, get_or, drop, map, refl, sym, ◌∙◌, ap, subst, arith, Option, Some, None, filter, nat_le, nat_lt, ◌==◌, not, if◌then◌else◌, IsTrue, All, IsSome, SomeIff, is_some, IfSome, ◌-◌}
+use Rattle.nc_base.proofs.Prelude.{list_all, count_by, mul-le-mul_left, mod-eq-sub-div-mul, div-mul-le_self, le-leb, leb-true, ltb-true, lt-ltb, length-map, div-mul-add, nat_tests, All-filter, All-head, All-tail, All-weaker, All-get_or, All-map, sum-map, sum_by-cons, length-filter, size_of, dim_len, product, is_record_dim, is_record_var, is_narrow, slab_lens, slab_size, padded_size, record_size_of, record_vars, record_size, slab_limit, record_limit, has_small_slab, checked_record_size, first_begin, slab_at, is_fixed_dim, has_values, IsSound, IsSoundVar, HasWholeValues, AreDimids, NcType, Byte, Char, Short, Int, Ubyte, Ushort, Uint, Int64, Uint64, Version, count_limit, Att, Dim, Var, Header, NumRecs, Streaming, records_between, least_begin, record_count}
 
 and_first : (a b : Bool) → (a && b) ≡ true → a ≡ true
 and_first true b h = refl

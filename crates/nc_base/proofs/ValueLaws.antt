@@ -1,16 +1,7 @@
 -- The text of a variable's values, cut in pieces.
-use Rattle.std.proofs.Common.{◌≡◌, ℕ, zero, suc, ℤ, pos, negsuc, ◌+◌, ◌-◌, ◌*◌, ◌/◌, ◌%◌, ◌<◌, ◌≤◌, Bool, true, false, cond, eqb, not, nat_lt, List, [], ◌∷◌, ◌++◌, length, drop, reverse, sym, ◌∙◌, ap, refl, arith, append_assoc, length-append, length-drop, append-nil, ⊎_elim}
-use Rattle.std.specs.Prelude.{codes, ◌==◌, ◌&&◌}
-use Rattle.std.specs.Fmt.{decimal, signed_decimal, digit_glyph, digits_onto, digits}
+use Rattle.std.proofs.Common.{◌≡◌, ℕ, zero, suc, ℤ, pos, negsuc, ◌+◌, ◌-◌, ◌*◌, ◌/◌, ◌%◌, ◌<◌, ◌≤◌, Bool, true, false, cond, eqb, not, nat_lt, List, [], ◌∷◌, ◌++◌, length, drop, reverse, sym, ◌∙◌, ap, refl, arith, append_assoc, length-append, length-drop, append-nil, ⊎_elim, codes, ◌==◌, ◌&&◌}
+use Rattle.nc_base.proofs.Prelude.{decimal, signed_decimal, digit_glyph, digits_onto, digits, suffix_len, prefix_len, mod-add-mod, mod_self, mod-lt, mod-zero, cases_lt, eq-eqb, eqb-true, eqb-false, cond-true, cond-false, reverse-append, length-reverse, drop-append-le, drop_all, prefix_len-append, prefix_len-le-length, mod-mul-add, Look, column, number_text, is_nul, row_so_far, held, piece, pieces, opening, variable_prefix, later_pieces}
 use Rattle.std.specs.Ordering.{int_eq}
-use Rattle.std.specs.List.{suffix_len, prefix_len}
-use Rattle.std.proofs.Math.Nat.{mod-add-mod, mod_self, mod-lt, mod-zero}
-use Rattle.std.proofs.lemmas.Bool.{cases_lt, eq-eqb, eqb-true, eqb-false, cond-true, cond-false}
-use Rattle.std.proofs.lemmas.List.{reverse-append, length-reverse, drop-append-le, drop_all}
-use Rattle.std.proofs.lemmas.List.Folds.{prefix_len-append}
-use Rattle.std.proofs.lemmas.List.Sums.{prefix_len-le-length}
-use Rattle.std.proofs.lemmas.Nat.{mod-mul-add}
-use Rattle.nc_base.specs.ValueText.{Look, column, number_text, is_nul, row_so_far, held, piece, pieces, opening, variable_prefix, later_pieces}
 
 -- ---- cutting the values
 

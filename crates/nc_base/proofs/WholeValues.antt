@@ -1,15 +1,6 @@
 -- Values that stand one after the other, and the first of them that is missing.
-use Rattle.std.proofs.Common.{◌≡◌, ℕ, ◌+◌, ◌*◌, ◌/◌, ◌≤◌, Bool, cond, List, [], ◌∷◌, ◌++◌, length, drop, map, refl, ◌∙◌, ap, arith, length-append, length-take, length-drop, None, Some}
-use Rattle.std.specs.Prelude.{All}
-use Rattle.std.specs.List.{concat, position, position_or_len}
-use Rattle.std.proofs.Math.Nat.{mul-div_cancel}
-use Rattle.std.proofs.lemmas.Bool.{le-ltb}
-use Rattle.std.proofs.lemmas.List.{take_at, drop_at}
-use Rattle.std.proofs.lemmas.List.Elements.{All-head, All-tail}
-use Rattle.nc_base.specs.declared.nc_type.NcType.{NcType}
-use Rattle.nc_base.specs.Types.{size_of}
-use Rattle.nc_base.specs.Numbers.{number_of, numbers_from, numbers}
-use Rattle.nc_base.specs.Places.{bytes_at}
+use Rattle.std.proofs.Common.{◌≡◌, ℕ, ◌+◌, ◌*◌, ◌/◌, ◌≤◌, Bool, cond, List, [], ◌∷◌, ◌++◌, length, drop, map, refl, ◌∙◌, ap, arith, length-append, length-take, length-drop, None, Some, All}
+use Rattle.nc_base.proofs.Prelude.{concat, position, position_or_len, mul-div_cancel, le-ltb, take_at, drop_at, All-head, All-tail, NcType, size_of, number_of, numbers_from, numbers, bytes_at}
 use Rattle.nc_base.proofs.SoundLaws.{some_size}
 
 pub map-map : {A B C : Type 0} (g : B → C) (f : A → B) (xs : List A) → map g (map f xs) ≡ map (λ x. g (f x)) xs

@@ -1,4 +1,4 @@
--- Lists of bytes.
+-- Definition. Lists of bytes.
 use Rattle.std.specs.Prelude.{ℕ, ◌<◌, ◌-◌, ◌%◌, List, [], ◌∷◌, ◌++◌, slice_index}
 
 -- each number of the list is a byte (after the list's end `slice_index` is 0)

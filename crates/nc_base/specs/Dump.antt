@@ -1,4 +1,4 @@
--- The dump of a file: its text, and how it ends.
+-- Definition. The dump of a file: its text, and how it ends.
 use Rattle.std.specs.Prelude.{ℕ, ◌≡◌, ◌+◌, ◌<◌, ℤ, Bool, true, false, IsTrue, ◌==◌, ◌&&◌, ◌||◌, not, nat_lt, if◌then◌else◌, List, [], ◌∷◌, ◌++◌, length, map, take, codes, Option, Some, None, slice_get, slice_index_or}
 use Rattle.std.specs.List.{list_any, list_all}
 use Rattle.std.specs.Str.{bytes_eq}
@@ -62,17 +62,17 @@ abbrev pub IsFirstUnknownOf : Header → Option (List (List ℕ)) → ℕ → Ty
 IsFirstUnknownOf h None index = ⊥
 IsFirstUnknownOf h (Some names) index = IsFirstUnknown h.vars names index
 
--- the name is one of the chosen ones, where names are chosen
+-- the name is one of the chosen ones, if names are chosen
 abbrev pub is_chosen : Option (List (List ℕ)) → List ℕ → Bool
 is_chosen None name = true
 is_chosen (Some names) name = has_name names name
 
--- The values of the variable are asked for: it has a chosen name, and where the values of coordinate variables alone are
--- to be shown, a dimension has its name too. (Whether the header alone is asked for is no matter here.)
+-- The variable is selected: it has a chosen name, and if only coordinate variables are to be shown, a dimension has its name too.
+-- The option for the header alone makes no difference here.
 abbrev pub is_selected : Header → Options → Var → Bool
 is_selected h o var = is_chosen o.chosen var.name && (not o.coords || has_dimension h.dims var.name)
 
--- which of the header's variables values are asked for
+-- for each variable of the header, whether it is selected
 abbrev pub selection_of : Header → Options → List Bool
 selection_of h o = map (is_selected h o) h.vars
 
@@ -110,24 +110,33 @@ abbrev pub values_before : Look → List ℤ → Option ℕ → ℕ → Section 
 values_before look values None v others = record { text = variable_text look values ++ others.text; ending = others.ending }
 values_before look values (Some k) v others = record { text = variable_prefix look (take k values); ending = data_truncated v k }
 
--- The values of the marked ones of these variables, the first of which has place v, over n records and in lines of this width.
--- A variable that has no values has no text.
-abbrev pub values_of : Header → (ℕ → Var → Content) → ℕ → ℕ → ℕ → List Var → List Bool → Section
-values_of h content n width v (var ∷ vars) (mark ∷ marks) =
-    if mark && has_values h.dims n var
-    then values_before (look_of h var n width) (content v var).values (content v var).missing v (values_of h content n width (v + 1) vars marks)
-    else values_of h content n width (v + 1) vars marks
-values_of h content n width v vars marks = no_section
+-- what the variables of a header have, over n records, and the width of the lines that show it
+pub record Contents : Type 0 where
+  pub header : Header
+  pub content : ℕ → Var → Content
+  pub records : ℕ
+  pub width : ℕ
 
--- the same of all variables, but of none where the header alone is asked for
+abbrev pub contents : Header → (ℕ → Var → Content) → ℕ → ℕ → Contents
+contents h content n width = record { header = h; content = content; records = n; width = width }
+
+-- The values of the marked ones of these variables. The first variable has index v. A variable that has no values has no text.
+abbrev pub values_of : Contents → ℕ → List Var → List Bool → Section
+values_of c v (var ∷ vars) (mark ∷ marks) =
+    if mark && has_values c.header.dims c.records var
+    then values_before (look_of c.header var c.records c.width) (c.content v var).values (c.content v var).missing v (values_of c (v + 1) vars marks)
+    else values_of c (v + 1) vars marks
+values_of c v vars marks = no_section
+
+-- the same of all variables, or of none if the header alone is shown
 abbrev pub shown_values : Header → Options → (ℕ → Var → Content) → ℕ → List Bool → Section
-shown_values h o content n marks = values_of h content n o.width 0 h.vars (if o.head_only then [] else marks)
+shown_values h o content n marks = values_of (contents h content n o.width) 0 h.vars (if o.head_only then [] else marks)
 
--- what stands before the values: nothing where there are no variables, or the header alone is asked for
+-- what comes before the values: nothing if there are no variables, or if the header alone is shown
 unfoldable pub data_word : Header → Options → List ℕ
 data_word h o = if o.head_only || (length h.vars == 0) then [] else codes "data:\n"
 
--- what stands after them: nothing where a value is missing
+-- what comes after them: nothing if a value is missing
 unfoldable pub closing_word : Ending → List ℕ
 closing_word whole = codes "}\n"
 closing_word other = []

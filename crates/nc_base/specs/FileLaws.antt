@@ -1,4 +1,4 @@
--- What holds of the file of a dataset.
+-- Law. What holds of the file of a dataset.
 use Rattle.std.specs.Prelude.{ℕ, ◌≡◌, ◌↔◌, List}
 use Rattle.nc_base.specs.declared.dataset.Dataset.{Dataset}
 use Rattle.nc_base.specs.Headers.{IsGood}

@@ -1,4 +1,4 @@
--- Fill values, and which types print them as `_`.
+-- Definition. Fill values, and which types print them as `_`.
 use Rattle.std.specs.Prelude.{ℤ, Bool, true, false, ◌==◌, ◌&&◌, length, find, Option, Some, None, if◌then◌else◌, codes}
 use Rattle.std.specs.Str.{bytes_eq}
 use Rattle.nc_base.specs.declared.header.Att.{Att}
@@ -15,7 +15,7 @@ is_fill_att att = bytes_eq att.name (codes "_FillValue")
 abbrev pub is_one_of_type : NcType → Att → Bool
 is_one_of_type ty att = (code_of att.ty == code_of ty) && (length att.vals == size_of ty)
 
--- what an attribute gives a variable of this type
+-- the fill value that an attribute gives to a variable of this type
 abbrev pub fill_of_att : NcType → Option Att → Option ℤ
 fill_of_att ty None = None
 fill_of_att ty (Some att) = if is_one_of_type ty att then Some (number_of ty att.vals) else None
@@ -28,11 +28,11 @@ abbrev pub fill_or_default : NcType → Option ℤ → ℤ
 fill_or_default ty None = default_fill_of ty
 fill_or_default ty (Some fill) = fill
 
--- a variable's fill value: its own, or else the default of its type
+-- a variable's fill value: its own, otherwise the default of its type
 unfoldable pub fill_value : Var → ℤ
 fill_value var = fill_or_default var.ty (own_fill var)
 
--- characters never print as `_`, and numbers of one byte only where the variable has a fill value of its own
+-- characters never print as `_`, and numbers of one byte only if the variable has a fill value of its own
 abbrev pub prints_fill : NcType → Bool → Bool
 prints_fill Char has_own = false
 prints_fill Byte has_own = has_own

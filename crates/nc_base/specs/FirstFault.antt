@@ -1,4 +1,4 @@
--- The first wrong field of a header, from the left: what is wrong with it, and the rest after it. After a field that
+-- Definition. The first wrong field of a header, from the left: what is wrong with it, and the rest after it. After a field that
 -- the file's end cuts short there is no rest.
 use Rattle.std.specs.Prelude.{ℕ, zero, suc, ◌≡◌, ◌≢◌, ◌+◌, ◌*◌, ◌<◌, ◌≤◌, true, false, ◌⊎◌, List, [], ◌∷◌, ◌++◌, length, None}
 use Rattle.std.specs.Int.{Width, w32, byte_len}
@@ -62,7 +62,7 @@ abbrev pub ElementStop : Type 0 → Type 1
 ElementStop A = List A → List ℕ → FormatFault → List ℕ → Type 0
 
 -- one of n elements
-abbrev pub StopsInEach : {A : Type 0} → ElementSpelling A → ElementStop A → ℕ → List A → List ℕ → FormatFault → List ℕ → Type 0
+abbrev pub StopsInEach : {A : Type 0} → ElementSpelling A → ElementStop A → ℕ → ElementStop A
 StopsInEach Element Stops zero before bytes fault rest = ⊥
 StopsInEach {A = A} Element Stops (suc n) before bytes fault rest =
     Stops before bytes fault rest
@@ -104,7 +104,7 @@ pub data StopsInDim (v : Version) (before : List Dim) (bytes : List ℕ) : Forma
       → SpellsName v bytes name after_name → SpellsCount v after_name 0 rest → has_record_dim before ≡ true
       → StopsInDim v before bytes TwoRecordDims rest
 
--- an attribute, whatever stands before it: its values and their padding are two fields
+-- an attribute, whatever comes before it: its values and their padding are two fields
 pub data StopsInAtt (v : Version) (before : List Att) (bytes : List ℕ) : FormatFault → List ℕ → Type 0 where
   in_att_name : (fault : FormatFault) (rest : List ℕ) → StopsInName v bytes fault rest → StopsInAtt v before bytes fault rest
   in_att_type : (name after_name : List ℕ) (fault : FormatFault) (rest : List ℕ)

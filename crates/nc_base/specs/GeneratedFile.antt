@@ -1,4 +1,4 @@
--- The file of a dataset: the one spelling of its header, and its values as one concatenation.
+-- Definition. The file of a dataset: the one spelling of its header, and its values as one concatenation.
 use Rattle.std.specs.Prelude.{ℕ, ◌+◌, ◌-◌, ◌*◌, ◌/◌, ◌^◌, ◌<◌, ◌==◌, Bool, false, nat_lt, not, if◌then◌else◌, List, [], ◌∷◌, ◌++◌, length, filter, take, drop, replicate, All}
 use Rattle.std.specs.Int.{w32, to_be_bytes}
 use Rattle.std.specs.List.{concat, flat_map, list_all, range_with_len}
@@ -39,7 +39,7 @@ zero_padded bytes = bytes ++ replicate (padding_len (length bytes)) 0
 abbrev pub name_spelling : Version → List ℕ → List ℕ
 name_spelling v name = count_spelling v (length name) ++ zero_padded name
 
--- what stands before n elements: their tag, and their number; of none ABSENT, whose tag is 0 too
+-- what comes before n elements: their tag and their number; if there are none, ABSENT, whose tag is 0 too
 abbrev pub list_head : Version → ℕ → ℕ → List ℕ
 list_head v tag n = word_spelling (if n == 0 then 0 else tag) ++ count_spelling v n
 
@@ -57,7 +57,7 @@ att_spelling v att =
 abbrev pub atts_spelling : Version → List Att → List ℕ
 atts_spelling v atts = list_spelling v attribute_tag (att_spelling v) atts
 
--- vsize: the padded slab, or the greatest number of 32 bits where it doesn't fit them
+-- vsize: the padded slab, or the greatest number of 32 bits if it doesn't fit into them
 abbrev pub vsize_of : Version → ℕ → ℕ
 vsize_of Cdf5 padded = padded
 vsize_of v padded = if nat_lt padded (2 ^ 32) then padded else (2 ^ 32 - 1)
@@ -93,7 +93,7 @@ abbrev pub blocks : List Dim → List Var → List (List ℕ) → List ℕ
 blocks dims (var ∷ vars) (array ∷ arrays) = (if is_record_var dims var then [] else padded_slab var array) ++ blocks dims vars arrays
 blocks dims vars arrays = []
 
--- there is one record variable alone, and its values take less than four bytes: its slabs stand without padding
+-- there is only one record variable, and its values take less than four bytes: its slabs have no padding
 abbrev pub is_sole_narrow : List Var → Bool
 is_sole_narrow (var ∷ []) = is_narrow var
 is_sole_narrow vars = false
@@ -125,7 +125,7 @@ data_of h arrays =
 abbrev pub fixed_vars : List Dim → List Var → List Var
 fixed_vars dims vars = filter (λ (var : Var). not (is_record_var dims var)) vars
 
--- How many bytes stand before the first value of a variable: the header, and the padded slabs that stand before it. Those
+-- How many bytes come before the first value of a variable: the header, and the padded slabs before it. Those
 -- are the slabs of the other variables before it, and for a record variable those of all the others and, in the first
 -- record, of the record variables before it.
 abbrev pub begin_after : Header → List Var → Var → ℕ

@@ -1,5 +1,5 @@
--- The grammar of a header, as the NetCDF Classic Format Specification has it: for each of its lines a relation between
--- bytes, the value that stands at their start, and the rest after it. Padding and vsize may be any.
+-- Definition. The grammar of a header, as the NetCDF Classic Format Specification has it: for each of its lines a relation between
+-- bytes, the value at their start, and the rest after it. Padding and vsize may be any.
 use Rattle.std.specs.Prelude.{ℕ, ◌≡◌, ◌*◌, ◌^◌, ◌<◌, ◌≤◌, true, false, List, [], ◌∷◌, ◌++◌, length}
 use Rattle.std.specs.Int.{Width, w32, to_be_bytes, byte_len}
 use Rattle.nc_base.specs.declared.header.Att.{Att}
@@ -66,7 +66,7 @@ pub record SpellsType (v : Version) (bytes : List ℕ) (ty : NcType) (rest : Lis
 
 -- ---- lists
 
--- How an element stands at the start of bytes. Which elements may stand there can depend on those before it.
+-- How an element is spelled at the start of bytes. Which elements may come there can depend on those before it.
 abbrev pub ElementSpelling : Type 0 → Type 1
 ElementSpelling A = List A → List ℕ → A → List ℕ → Type 0
 
@@ -108,7 +108,7 @@ pub record SpellsAttPrefix (v : Version) (bytes name : List ℕ) (ty : NcType) (
   pub typed : SpellsType v after_name ty after_type
   pub counted : SpellsCount v after_type count rest
 
--- attr = name nc_type nelems [values ...], whatever stands before it
+-- attr = name nc_type nelems [values ...], whatever comes before it
 pub record SpellsAtt (v : Version) (before : List Att) (bytes : List ℕ) (att : Att) (rest : List ℕ) : Type 0 where
   pub count : ℕ
   pub after_count : List ℕ

@@ -1,5 +1,5 @@
--- The text of a header in CDL, up to `data:`. Each line ends with a line feed; a tab stands before a dimension and a
--- declaration, and two before an attribute.
+-- Definition. The text of a header in CDL, up to `data:`. Each line ends with a line feed. The line of a dimension or a
+-- declaration begins with a tab, and that of an attribute with two.
 use Rattle.std.specs.Prelude.{ℕ, ◌-◌, ◌==◌, ℤ, if◌then◌else◌, List, [], ◌∷◌, ◌++◌, length, map, take, codes, decimal, slice_get, Option, Some, None}
 use Rattle.std.specs.Fmt.{signed_decimal}
 use Rattle.std.specs.List.{suffix_len}
@@ -70,7 +70,7 @@ att_values ty vals = number_values ty vals
 
 -- ---- lines
 
--- an attribute of the variable with this name, which is escaped already; of the whole dataset where there is none
+-- an attribute of the variable with this name, which is escaped already; an empty name means the whole dataset
 unfoldable pub att_line : List ℕ → Att → List ℕ
 att_line escaped_owner att = concat_parts (codes "\t\t" ∷ escaped_owner ∷ codes ":" ∷ escaped_name att.name ∷ codes " = " ∷ att_values att.ty att.vals ∷ codes " ;\n" ∷ [])
 

@@ -1,4 +1,4 @@
--- Sound headers, bare headers and good datasets.
+-- Definition. Sound headers, bare headers and good datasets.
 use Rattle.std.specs.Prelude.{ℕ, ◌≡◌, ◌*◌, ◌<◌, ◌≤◌, Bool, IsTrue, ◌==◌, if◌then◌else◌, List, [], ◌∷◌, ◌++◌, length, map, filter, All}
 use Rattle.std.specs.List.{list_any}
 use Rattle.nc_base.specs.declared.header.Att.{Att}
@@ -19,7 +19,7 @@ use Rattle.nc_base.specs.Sizes.{is_record_dim, is_record_var, slab_size, slab_co
 abbrev pub has_record_dim : List Dim → Bool
 has_record_dim dims = list_any (λ (dim : Dim). dim.len == 0) dims
 
--- a dimension id in a shape, after those before it: it is that of a dimension, and that of the record dimension stands first
+-- a dimension id in a shape, after those before it: a dimension has this id, and the id of the record dimension comes first
 pub record IsDimid (dims : List Dim) (before : List ℕ) (id : ℕ) : Type 0 where
   pub known : id < length dims
   pub record_first : IsTrue (is_record_dim dims id) → before ≡ []

@@ -1,4 +1,4 @@
--- Valid names.
+-- Definition. Valid names.
 use Rattle.std.specs.Prelude.{ℕ, Bool, false, IsTrue, nat_le, ◌==◌, ◌&&◌, ◌||◌, not, List, [], ◌∷◌, slice_index, length, ◌-◌}
 use Rattle.std.specs.Char.{is_ascii_alphabetic, is_ascii_digit}
 use Rattle.std.specs.List.{list_all}

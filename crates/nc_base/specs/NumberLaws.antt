@@ -1,4 +1,4 @@
--- What holds of numbers and their bytes.
+-- Law. What holds of numbers and their bytes.
 use Rattle.std.specs.Prelude.{ℕ, ◌≡◌, ℤ, List, length}
 use Rattle.nc_base.specs.declared.nc_type.NcType.{NcType}
 use Rattle.nc_base.specs.Bytes.{AreBytes}

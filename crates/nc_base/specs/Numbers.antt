@@ -1,4 +1,4 @@
--- Values as big-endian numbers, the signed ones in two's complement.
+-- Definition. Values as big-endian numbers, the signed ones in two's complement.
 use Rattle.std.specs.Prelude.{ℕ, zero, suc, ◌/◌, ℤ, pos, List, [], ◌∷◌, length, take, drop, if◌then◌else◌, MatchBool, FitsSigned}
 use Rattle.std.specs.Int.{FitsUnsigned, to_be_bytes, from_be_bytes, cast_signed, cast_unsigned}
 use Rattle.nc_base.specs.declared.nc_type.NcType.{NcType}
@@ -18,7 +18,7 @@ bytes_of_number ty number = to_be_bytes (width_of ty) (cast_unsigned (width_of t
 abbrev pub IsInRange : NcType → ℤ → Type 0
 IsInRange ty number = MatchBool (is_signed ty) (FitsSigned (width_of ty) number) (FitsUnsigned (width_of ty) number)
 
--- the first n numbers that stand in these bytes, one after the other
+-- the first n numbers in these bytes, one after the other
 abbrev pub numbers_from : NcType → ℕ → List ℕ → List ℤ
 numbers_from ty zero bytes = []
 numbers_from ty (suc n) bytes = number_of ty (take (size_of ty) bytes) ∷ numbers_from ty n (drop (size_of ty) bytes)

@@ -1,4 +1,4 @@
--- The stem of a path: the name of its file without the extension.
+-- Definition. The stem of a path: the name of its file without the extension.
 use Rattle.std.specs.Prelude.{ℕ, Bool, ◌==◌, List, drop, if◌then◌else◌}
 use Rattle.std.specs.List.{list_any, before_last, after_last}
 
@@ -8,15 +8,15 @@ is_slash b = b == 47
 abbrev pub is_dot : ℕ → Bool
 is_dot b = b == 46
 
--- what stands after the last slash of a path, or all of it where it has none
+-- what comes after the last slash of a path, or all of it if it has none
 abbrev pub file_name_of : List ℕ → List ℕ
 file_name_of path = after_last is_slash path
 
--- a dot stands after the first byte
+-- there is a dot after the first byte
 abbrev pub has_extension : List ℕ → Bool
 has_extension name = list_any is_dot (drop 1 name)
 
--- what stands before the last dot of a name, where a dot stands after its first byte
+-- what comes before the last dot of a name, if there is a dot after its first byte
 abbrev pub without_extension : List ℕ → List ℕ
 without_extension name = if has_extension name then before_last is_dot name else name
 

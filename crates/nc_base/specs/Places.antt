@@ -1,4 +1,4 @@
--- Where the values of a variable lie in a file, which of them the file has, and the dataset that it holds.
+-- Definition. Where the values of a variable lie in a file, which of them the file has, and the dataset that it holds.
 use Rattle.std.specs.Prelude.{ℕ, ◌≡◌, ◌+◌, ◌*◌, nat_lt, Bool, ℤ, if◌then◌else◌, List, [], ◌∷◌, length, map, take, drop, All, Option, Some, None}
 use Rattle.std.specs.List.{concat, flat_map, last_or, position, range_with_len}
 use Rattle.nc_base.specs.declared.header.Dim.{Dim}
@@ -13,7 +13,7 @@ use Rattle.nc_base.specs.Grammar.{SpellsHeader}
 
 -- ---- index vectors
 
--- the lengths of a variable's dimensions, of which the record dimension, before, goes over n records
+-- the lengths of a variable's dimensions; that of the record dimension, which comes first, is n
 abbrev pub lens_over : List Dim → Var → ℕ → List ℕ
 lens_over dims var n = if is_record_var dims var then n ∷ slab_lens dims var.dimids else slab_lens dims var.dimids
 
@@ -55,18 +55,18 @@ value_offset h var index = var.begin_at + distance index (strides h var)
 unfoldable pub value_offsets : Header → Var → ℕ → List ℕ
 value_offsets h var n = map (value_offset h var) (index_vectors h.dims var n)
 
--- the first offset after the last value of this size, where there is one, and else this begin
+-- the first offset after the last value of this size, or this begin if there is no value
 abbrev pub end_after : ℕ → ℕ → Option ℕ → ℕ
 end_after begin size None = begin
 end_after begin size (Some offset) = offset + size
 
--- the first offset after a variable's last value over n records: its begin, where it has none
+-- the first offset after a variable's last value over n records, or its begin if it has no value
 abbrev pub extent_end : Header → Var → ℕ → ℕ
 extent_end h var n = end_after var.begin_at (size_of var.ty) (last_or None (value_offsets h var n))
 
 -- ---- values
 
--- the bytes of the value of this size at an offset: all of them, where they lie inside of the file
+-- the bytes of the value of this size at an offset: all of them, if they are inside the file
 abbrev pub bytes_at : ℕ → List ℕ → ℕ → List ℕ
 bytes_at size bytes offset = take size (drop offset bytes)
 
@@ -82,7 +82,7 @@ stored_values h bytes var n = map (number_of var.ty) (stored_bytes h bytes var n
 abbrev pub ends_after : ℕ → ℕ → ℕ → Bool
 ends_after size file_len offset = nat_lt file_len (offset + size)
 
--- the number of the first missing value, where one is missing: a value of which not all bytes lie inside of the file
+-- the number of the first missing value, if any: a value is missing if not all of its bytes are inside the file
 abbrev pub first_missing : Header → List ℕ → Var → ℕ → Option ℕ
 first_missing h bytes var n = position (ends_after (size_of var.ty) (length bytes)) (value_offsets h var n)
 

@@ -1,4 +1,4 @@
--- The dataset whose text is read back, and the one that it is read back as.
+-- Definition. The dataset whose text is read back, and the one that it is read back as.
 use Rattle.std.specs.Prelude.{◌≡◌, ℕ, ◌<◌, true, false, List, [], ◌∷◌, length, map, All, if◌then◌else◌}
 use Rattle.nc_base.specs.declared.dataset.Dataset.{Dataset}
 use Rattle.nc_base.specs.declared.header.Att.{Att}

@@ -1,4 +1,4 @@
--- The sizes of a variable's slab and of a record, and the number of records.
+-- Definition. The sizes of a variable's slab and of a record, and the number of records.
 use Rattle.std.specs.Prelude.{ℕ, ◌+◌, ◌-◌, ◌*◌, ◌/◌, ◌^◌, min, Bool, false, nat_lt, ◌==◌, ◌&&◌, if◌then◌else◌, List, [], ◌∷◌, length, map, filter, drop, slice_index, sum}
 use Rattle.nc_base.specs.declared.header.Dim.{Dim}
 use Rattle.nc_base.specs.declared.header.Var.{Var}
@@ -25,7 +25,7 @@ has_records dims (id ∷ ids) = is_record_dim dims id
 abbrev pub is_record_var : List Dim → Var → Bool
 is_record_var dims var = has_records dims var.dimids
 
--- the lengths of the dimensions that a slab goes over: all but the record dimension
+-- the lengths of the dimensions of a slab: all but the record dimension
 abbrev pub slab_lens : List Dim → List ℕ → List ℕ
 slab_lens dims ids = map (dim_len dims) (if has_records dims ids then drop 1 ids else ids)
 
@@ -80,8 +80,8 @@ abbrev pub least_begin : Var → List Var → ℕ
 least_begin var [] = var.begin_at
 least_begin var (next ∷ others) = min var.begin_at (least_begin next others)
 
--- How many whole records of this size stand between the least begin of these variables and the end of a file of this number of
--- bytes: none where there are no such variables, or where the file ends before.
+-- How many whole records of this size are between the least begin of these variables and the end of a file of this number of
+-- bytes: none if there are no such variables, or if the file ends before.
 abbrev pub records_between : ℕ → List Var → ℕ → ℕ
 records_between size [] file_len = 0
 records_between size (var ∷ vars) file_len = (file_len - least_begin var vars) / size

@@ -1,4 +1,4 @@
--- The type table.
+-- Definition. The type table.
 use Rattle.std.specs.Prelude.{ℕ, ◌==◌, Bool, true, false, ℤ, pos, neg_ℤ, List, [], ◌∷◌, Option, find, codes}
 use Rattle.std.specs.Int.{Width, w8, w16, w32, w64, byte_len}
 use Rattle.nc_base.specs.declared.nc_type.NcType.{NcType}
@@ -76,7 +76,7 @@ type_word Uint = codes "uint"
 type_word Int64 = codes "int64"
 type_word Uint64 = codes "uint64"
 
--- the suffix of a number of this type in an attribute (characters stand in strings, and have none)
+-- the suffix of a number of this type in an attribute (characters are written in strings, and have none)
 abbrev pub number_suffix : NcType → List ℕ
 number_suffix Byte = codes "b"
 number_suffix Char = []

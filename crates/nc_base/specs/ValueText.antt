@@ -1,4 +1,4 @@
--- The text of a variable's values, as the data section of a dump shows them.
+-- Definition. The text of a variable's values, as the data section of a dump shows them.
 use Rattle.std.specs.Prelude.{ℕ, ◌+◌, ◌-◌, ◌%◌, ◌==◌, ◌&&◌, ℤ, pos, unsigned_abs, Bool, true, false, not, nat_lt, if◌then◌else◌, List, [], ◌∷◌, ◌++◌, length, drop, replicate, slice_index, is_some, codes}
 use Rattle.std.specs.Fmt.{signed_decimal}
 use Rattle.std.specs.List.{suffix_len}
@@ -67,27 +67,27 @@ begins_row look i = i % look.row == 0
 
 -- ---- numbers
 
--- how many bytes stand after the last line feed
+-- how many bytes come after the last line feed
 abbrev pub column : List ℕ → ℕ
 column before = suffix_len (λ b. not (b == 10)) before
 
--- a number in decimal, or `_` for a blank
+-- a number in decimal, or `_` for a fill value that prints so
 abbrev pub number_text : Look → ℤ → List ℕ
 number_text look value = if look.prints_fill && int_eq value look.fill then codes "_" else signed_decimal value
 
--- what stands before value i, a number, on its line
+-- what comes before value i, a number, on its line
 abbrev pub number_lead : Look → ℕ → List ℕ
 number_lead look i =
     if begins_row look i then (if look.in_rows then (if i == 0 then codes "\n  " else codes ",\n  ") else codes " ")
     else codes ", "
 
--- What stands between a lead and value i, a number of this length, by the text up to there: a new line begins where the number
--- and two bytes after it would pass the width. No line is broken before a row's first number.
+-- What comes between a lead and value i, a number of this length, by the text up to there: a new line begins if the number and
+-- two bytes after it would pass the width. No line is broken before a row's first number.
 abbrev pub line_break : Look → List ℕ → ℕ → ℕ → List ℕ
 line_break look before i len =
     if not (begins_row look i) && nat_lt look.width (column before + len + 2) then codes "\n    " else []
 
--- value i, a number, with what stands before it, by the text before
+-- value i, a number, with what comes before it, by the text before
 unfoldable pub number_piece : Look → List ℕ → ℕ → ℤ → List ℕ
 number_piece look before i value =
     (number_lead look i ++ line_break look (before ++ number_lead look i) i (length (number_text look value)))
@@ -95,27 +95,27 @@ number_piece look before i value =
 
 -- ---- characters
 
--- what stands before value i, the first character of its row
+-- what comes before value i, the first character of its row
 abbrev pub char_lead : Look → ℕ → List ℕ
 char_lead look i = if look.in_rows then (if i == 0 then codes "\n  \"" else codes "\",\n  \"") else codes " \""
 
 abbrev pub is_nul : ℤ → Bool
 is_nul value = unsigned_abs value == 0
 
--- the values that stand in its row before the value after these
+-- the last of these values: those in the row of the value that comes next
 abbrev pub row_so_far : Look → List ℤ → List ℤ
 row_so_far look values = drop (length values - length values % look.row) values
 
--- how many NULs stand in its row directly before the value after these, and aren't printed yet
+-- how many NULs in that row come directly before the next value, and aren't printed yet
 abbrev pub held : Look → List ℤ → ℕ
 held look values = if look.trimmed then suffix_len is_nul (row_so_far look values) else 0
 
--- a character after n NULs that aren't printed yet: a NUL waits for what follows where the row is trimmed
+-- a character after n NULs that aren't printed yet: if the row is trimmed, a NUL waits for what follows
 abbrev pub char_text : Look → ℕ → ℤ → List ℕ
 char_text look nuls value =
     if look.trimmed && is_nul value then [] else escaped_text (replicate nuls 0 ++ unsigned_abs value ∷ [])
 
--- a character after these values, with what stands before it
+-- a character after these values, with what comes before it
 unfoldable pub char_piece : Look → List ℤ → ℤ → List ℕ
 char_piece look values value =
     (if begins_row look (length values) then char_lead look (length values) else [])
@@ -123,23 +123,23 @@ char_piece look values value =
 
 -- ---- values
 
--- a value with what stands before it, by the text and all values before
+-- a value with what comes before it, by the text and all values before
 unfoldable pub piece : Look → List ℕ → List ℤ → ℤ → List ℕ
 piece look before values value =
     if is_char look.ty then char_piece look values value else number_piece look before (length values) value
 
--- values, each with what stands before it, by the text and all values before the first of them
+-- values, each with what comes before it, by the text and all values before the first of them
 unfoldable pub pieces : Look → List ℕ → List ℤ → List ℤ → List ℕ
 pieces look before values [] = []
 pieces look before values (value ∷ others) =
     piece look before values value
     ++ pieces look (before ++ piece look before values value) (values ++ value ∷ []) others
 
--- what stands before a variable's values
+-- what comes before a variable's values
 unfoldable pub opening : Look → List ℕ
 opening look = concat_parts (codes "\n " ∷ escaped_name look.name ∷ codes " =" ∷ [])
 
--- what stands after them
+-- what comes after them
 unfoldable pub closing : Look → List ℕ
 closing look = if is_char look.ty then codes "\" ;\n" else codes " ;\n"
 

@@ -1,4 +1,4 @@
--- What differs between the versions of the format, each thing once.
+-- Definition. What differs between the versions of the format, each thing once.
 use Rattle.std.specs.Prelude.{ℕ, ◌-◌, ◌^◌, ◌==◌, Bool, true, false, [], ◌∷◌, Option, find}
 use Rattle.std.specs.Int.{Width, w32, w64}
 use mir.Val.{bits, hbits}

@@ -4,7 +4,7 @@ ghost use Rattle.std.specs.Prelude.{◌≡◌};
 ghost use Rattle.std.specs.List.{list_any};
 ghost use Rattle.std.specs.Str.{bytes_eq};
 ghost use Rattle.nc_base.specs.Escapes.{begins_with_digit_or_mark, escaped_in_name, escaped_in_string, is_literal, is_name_mark, is_plain, is_reserved};
-ghost use Rattle.nc_base.specs.Quoted.{written};
+ghost use Rattle.nc_base.specs.code.Quoted.{written};
 
 /// The words of CDL that name nothing.
 const RESERVED_WORDS: [&[u8]; 20] = [
@@ -51,7 +51,7 @@ pub enum Escape {
 }
 
 impl Quoting {
-    ghost use Rattle.nc_base.specs.Quoted.{escaped_in, stands_for_itself, written};
+    ghost use Rattle.nc_base.specs.code.Quoted.{escaped_in, stands_for_itself, written};
 
     /// Returns true if the byte stands for itself here.
     pub fn is_plain(self, b: u8) -> bool

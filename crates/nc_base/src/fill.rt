@@ -8,8 +8,8 @@ use crate::header::{Att, Var};
 use crate::nc_type::NcType;
 use crate::number::number_of;
 
-/// The fill value of a variable: the value of its first attribute named `_FillValue`, where that has the variable's type
-/// and one element, and else the default fill value of the type (`_FillValue` in the attribute conventions of the NetCDF
+/// The fill value of a variable: the value of its first attribute named `_FillValue` if that has the variable's type
+/// and one element, otherwise the default fill value of the type (`_FillValue` in the attribute conventions of the NetCDF
 /// User's Guide, and `NC_FILL_BYTE` and its like in `netcdf.h`).
 #[tactic(auto, unfolding(crate::specs::Fill::fill_value))]
 pub fn fill_of(var: &Var) -> i128
@@ -23,7 +23,7 @@ pub fn fill_of(var: &Var) -> i128
 }
 
 /// Returns true if a value of the variable that equals its fill value prints as `_`: a character never does, and a number of
-/// one byte only where the variable has a fill value of its own (ncdump(1), on `_FillValue`).
+/// one byte only if the variable has a fill value of its own (ncdump(1), on `_FillValue`).
 pub fn prints_fill(var: &Var) -> bool
     ensures { result ≡ prints_fill var.now.ty (is_some (own_fill var.now)) }
 {

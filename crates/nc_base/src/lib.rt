@@ -1,9 +1,24 @@
 //! What a netCDF classic file, a dataset and its CDL text are.
 //!
-//! The types of headers and datasets stand here, with what follows from them alone: the type table, what differs between
+//! This crate has the types of headers and datasets, and what follows from them alone: the type table, what differs between
 //! the versions of the format, the rule on names, the fill value of a variable and the stem of a path. `specs/` has the
 //! definitions that the contracts of all crates cite: the grammar of a header, its first wrong field, sizes, fill values,
-//! escapes and the text of a dump. No crate stands below this one, and nothing in it reads or writes a device.
+//! escapes and the text of a dump. This is the lowest crate, and nothing in it reads or writes a device.
+//!
+//! ```
+//! let mut name = Sequence::new(alloc);
+//! name.push(b'x')?;
+//! let mut dims = Sequence::new(alloc);
+//! dims.push(Dim { name, len: 3 })?;
+//! let header = Header {
+//!     version: Version::Cdf1,
+//!     numrecs: NumRecs::Known(0),
+//!     dims,
+//!     gatts: Sequence::new(alloc),
+//!     vars: Sequence::new(alloc),
+//! };
+//! assert!(rt; header.sound());
+//! ```
 #![tactic(auto)]
 
 mod dataset;

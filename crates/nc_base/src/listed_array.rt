@@ -1,7 +1,7 @@
 //! The bytes that are listed of a variable's array, with each row as long as it is listed.
 
 ghost use Rattle.std.specs.Prelude.{◌≡◌, ◌++◌, ◌∷◌, ◌≤◌, ◌<◌, ◌-◌, [], drop, get_or, length, max, min, replicate, take, IfOk, IfSome, OnOk, OnErr};
-ghost use Rattle.nc_base.specs.ListedRows.{StandAt, row_of, row_start};
+ghost use Rattle.nc_base.specs.code.ListedRows.{StandAt, row_of, row_start};
 
 use std::alloc::{AllocError, Global};
 use std::marker::Model;
@@ -32,7 +32,7 @@ pub struct Run<'a> {
 
 impl Model for ListedArray {
     ghost use Rattle.std.specs.Prelude.{List, ℕ, ◌≤◌, length};
-    ghost use Rattle.nc_base.specs.ListedRows.{AreRowEnds, filled_rows};
+    ghost use Rattle.nc_base.specs.code.ListedRows.{AreRowEnds, filled_rows};
 
     ghost Value = { List ℕ };
 
@@ -43,7 +43,7 @@ impl Model for ListedArray {
 
 impl ListedArray {
     /// Without bytes. It does not allocate.
-    #[tactic(auto, unfolding(crate::specs::ListedRows::filled_rows))]
+    #[tactic(auto, unfolding(crate::specs::code::ListedRows::filled_rows))]
     pub fn new(alloc: Global) -> ListedArray
         ensures { result ≡ [] }
     {
@@ -85,7 +85,7 @@ impl ListedArray {
 
     /// Ends a row that lacks `lacking` bytes, which are `fill`.
     ///
-    /// They stand in memory only where the rows before have another length or another fill byte, or where an offset takes more than
+    /// They are in memory only if the rows before have another length or another fill byte, or if an offset takes more than
     /// four bytes.
     ///
     /// # Errors
@@ -128,7 +128,7 @@ impl ListedArray {
         }
     }
 
-    /// The bytes as they stand in memory, where no row lacks any.
+    /// The bytes as they are in memory, if no row lacks any.
     #[tactic(auto, using(crate::proofs::FilledRows::filled_full))]
     fn full_bytes(&self) -> Option<&[u8]>
         ensures { IfSome result (λ bytes. bytes.now ≡ self.now) }
@@ -239,7 +239,7 @@ fn run_in_row(row: &[u8], column: u64, row_len: u64, fill: u8) -> Run<'_>
 }
 
 /// Where row `r` starts, of rows that end at these offsets.
-#[tactic(auto, using(crate::proofs::FilledRows::row_start_after), unfolding(crate::specs::ListedRows::row_start))]
+#[tactic(auto, using(crate::proofs::FilledRows::row_start_after), unfolding(crate::specs::code::ListedRows::row_start))]
 fn start_of(row_ends: &[u32], r: usize) -> usize
     requires { r ≤ length row_ends.now }
     ensures { result ≡ row_start 0 row_ends.now r }

@@ -12,7 +12,7 @@ ghost use Rattle.nc_base.specs.Names.{is_name, has_name_bytes, ends_with_space, 
 pub fn check_name(name: &[u8]) -> bool
     ensures { result ≡ is_name name.now }
 {
-    has_name_bytes(name) && !ends_with_space(name) && is_text(name)
+    has_name_bytes(name) && !ends_with_space(name) && is_utf8(name)
 }
 
 /// Returns true if a name has bytes, and each is one that its place allows.
@@ -41,7 +41,7 @@ fn ends_with_space(name: &[u8]) -> bool
 }
 
 /// Returns true if the bytes are UTF-8.
-fn is_text(bytes: &[u8]) -> bool
+fn is_utf8(bytes: &[u8]) -> bool
     ensures { result ≡ is_utf8 bytes.now }
 {
     str::from_utf8(bytes).is_ok()

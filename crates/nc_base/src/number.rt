@@ -6,7 +6,7 @@ ghost use Rattle.nc_base.specs.Types.{size_of};
 
 use crate::nc_type::NcType;
 
-/// The number that these bytes are as a value of the type: big-endian, and in two's complement where the type has a sign
+/// The number that these bytes are as a value of the type: big-endian, and in two's complement if the type has a sign
 /// (NetCDF Classic Format Specification).
 pub fn number_of(ty: NcType, bytes: &[u8]) -> i128
     requires { length bytes.now ≡ size_of ty }

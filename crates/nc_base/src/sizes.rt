@@ -4,7 +4,7 @@ ghost use Rattle.std.specs.Prelude.{◌≡◌, ◌+◌, ◌*◌, ◌/◌, ◌<�
 ghost use Rattle.nc_base.specs.Types.{size_of};
 ghost use Rattle.nc_base.specs.Bytes.{padding_len};
 ghost use Rattle.nc_base.specs.Sizes.{dim_len, is_record_dim, has_records, is_record_var, is_narrow, product, slab_of, slab_size, padded_size, slab_limit, record_size, record_limit, record_vars, record_count};
-ghost use Rattle.nc_base.specs.SizeParts.{slab_at, checked_record_size, end_of, first_begin, lesser, CountsValues, IsCappedSlab};
+ghost use Rattle.nc_base.specs.code.SizeParts.{slab_at, checked_record_size, end_of, first_begin, lesser, CountsValues, IsCappedSlab};
 ghost use Rattle.nc_base.specs.GeneratedFile.{known_records};
 ghost use Rattle.nc_base.specs.Places.{extent_end};
 ghost use Rattle.nc_base.specs.Headers.{IsSound, value_count};
@@ -32,7 +32,7 @@ pub fn slab_bytes(header: &Header, v: usize) -> Option<u64>
 /// The record size: the bytes from a record variable's values in one record to those in the next. It is the sum of
 /// the slabs of all record variables, each padded to a multiple of four bytes; but a sole record variable of one-byte
 /// or two-byte values isn't padded (`recsize` of the NetCDF Classic Format Specification, with its special case).
-/// None where a record variable's slab passes 2^48 bytes, or the record size 2^62 bytes.
+/// `None` if a record variable's slab passes 2^48 bytes, or the record size 2^62 bytes.
 pub fn rec_size(header: &Header) -> Option<u64>
     ensures { result ≡ checked_record_size header.now }
 {
@@ -57,7 +57,7 @@ pub fn rec_size(header: &Header) -> Option<u64>
 }
 
 impl NumRecs {
-    /// The number of records, where it is known, and else 0.
+    /// The number of records if it is known, otherwise 0.
     pub fn known(self) -> u64
         ensures { result ≡ known_records self }
     {
@@ -68,9 +68,9 @@ impl NumRecs {
     }
 }
 
-/// The number of records of a file of `len` bytes with this header: the one in the header, or else (`STREAMING`)
-/// how many whole records stand between the least offset of its record variables and the file's end. It is 0 where there
-/// are no record variables, or where the file ends before (`numrecs` of the NetCDF Classic Format Specification). The
+/// The number of records of a file of `len` bytes with this header: the one in the header, otherwise (`STREAMING`)
+/// how many whole records are between the least offset of its record variables and the file's end. It is 0 if there
+/// are no record variables, or if the file ends before (`numrecs` of the NetCDF Classic Format Specification). The
 /// header is to be sound; of another the number says nothing.
 pub fn records(header: &Header, len: u64) -> u64
     ensures { IsSound header.now → result ≡ record_count header.now len }
@@ -106,7 +106,7 @@ pub fn record_layout(header: &Header, len: u64) -> RecordLayout
     }
 }
 
-/// How many whole records of this size `bytes` bytes have; none where the size isn't known.
+/// How many whole records of this size `bytes` bytes have; none if the size isn't known.
 fn whole_records(bytes: u64, size: Option<u64>) -> u64
     ensures { IfSome size (λ size. result ≡ bytes / size) }
 {
@@ -117,7 +117,7 @@ fn whole_records(bytes: u64, size: Option<u64>) -> u64
 }
 
 /// The first offset after the last value that the variable at index `v` has over `records` records, in bytes from the
-/// file's start; its begin where it has no value, as a record variable over no records.
+/// file's start; its begin if it has no value, as a record variable over no records.
 pub fn extent_end(header: &Header, v: usize, records: u64) -> u128
     requires sound { IsSound header.now }
     requires there { v < length header.now.vars }
@@ -180,7 +180,7 @@ fn sound_slab(header: &Header, v: usize) -> u64
     slab_bytes(header, v).unwrap()
 }
 
-/// The least begin of the record variables, where there are any.
+/// The least begin of the record variables, if there are any.
 fn first_begin(dims: &[Dim], vars: &[Var]) -> Option<u64>
     ensures { result ≡ first_begin (record_vars dims.now vars.now) }
 {
@@ -193,7 +193,7 @@ fn first_begin(dims: &[Dim], vars: &[Var]) -> Option<u64>
     least
 }
 
-/// The lesser of two offsets, of which the first may be missing.
+/// The lesser of two offsets, or the second one if the first is `None`.
 fn lesser(least: Option<u64>, begin: u64) -> u64
     ensures { result ≡ lesser least begin }
 {
@@ -203,8 +203,8 @@ fn lesser(least: Option<u64>, begin: u64) -> u64
     }
 }
 
-/// The size of a record that ends with this variable's slab: the slab alone where the variable is the first and
-/// narrow, and else all slabs with their padding.
+/// The size of a record that ends with this variable's slab: the slab alone if the variable is the first and
+/// narrow, otherwise all slabs with their padding.
 fn record_size_of_bytes(is_first: bool, var: &Var, slab: u64, with_padding: u128) -> u128
     ensures { result ≡ (if is_first && is_narrow var.now then slab else with_padding) }
 {
@@ -260,7 +260,7 @@ pub fn slab_of(dims: &[Dim], dimids: &[u64], ty: NcType) -> Option<u64>
     }
 }
 
-/// The size of a value times the lengths of these dimensions, or the limit and one more where that is greater.
+/// The size of a value times the lengths of these dimensions, or the limit and one more if that is greater.
 fn capped_bytes(dims: &[Dim], dimids: &[u64], ty: NcType) -> u64
     ensures { result ≡ min (product (map (dim_len dims.now) dimids.now) * size_of ty) (slab_limit + 1) }
 {
@@ -271,7 +271,7 @@ fn capped_bytes(dims: &[Dim], dimids: &[u64], ty: NcType) -> u64
     bytes
 }
 
-/// The product, or the limit and one more where that is greater.
+/// The product, or the limit and one more if that is greater.
 fn capped_product(bytes: u64, len: u64) -> u64
     ensures { result ≡ min (bytes * len) (slab_limit + 1) }
 {
@@ -298,7 +298,7 @@ pub fn is_record_dim(dims: &[Dim], id: u64) -> bool
     id < dims.len() as u64 && dim_len(dims, id) == 0
 }
 
-/// The length of the dimension with this id, and 0 where there is none.
+/// The length of the dimension with this id, and 0 if there is none.
 pub fn dim_len(dims: &[Dim], id: u64) -> u64
     ensures { result ≡ dim_len dims.now id }
 {

@@ -2,12 +2,12 @@
 
 ghost use Rattle.std.specs.Prelude.{◌≡◌, ◌+◌, min};
 ghost use Rattle.std.specs.List.{sum_by};
-ghost use Rattle.nc_base.specs.Weight.{dim_weight, att_weight, var_weight, weight_of};
+ghost use Rattle.nc_base.specs.code.Weight.{dim_weight, att_weight, var_weight, weight_of};
 
 use crate::header::{Att, Dim, Header, Var};
 
 /// The weight of a header: the bytes of all names and attribute values, plus one for each dimension id, each dimension,
-/// each attribute (of the file and of its variables) and each variable; or the greatest `u128` where that is greater.
+/// each attribute (of the file and of its variables) and each variable; or the greatest `u128` if that is greater.
 /// Reading, keeping and writing a header takes time and memory in proportion to it.
 pub fn weight(header: &Header) -> u128
     ensures { result ≡ min (weight_of header.now) u128.MAX }

@@ -1,24 +1,8 @@
 -- The other direction: bytes, numbers, names and types that are spelled are read, and reading stops with the first wrong field.
-use Rattle.std.proofs.Common.{◌≡◌, ◌≢◌, ℕ, zero, suc, ◌<◌, ◌≤◌, Bool, true, false, cond, leb, List, [], ◌∷◌, ◌++◌, length, inl, inr, Option, Some, None, Ok, Err, refl, sym, ap, ◌∙◌, append_assoc, arith}
-use Rattle.std.proofs.lemmas.List.{append-nil}
-use Rattle.std.proofs.lemmas.Nat.{from_be_bytes-to_be_bytes_4, from_be_bytes-to_be_bytes_8}
-use Rattle.std.specs.Int.{w32, w64}
-use Rattle.std.specs.Prelude.{◌==◌, ◌||◌, ◌⊎◌}
-use Rattle.nc_base.specs.declared.fault.FormatFault.{FormatFault}
-use Rattle.nc_base.specs.declared.fault.FormatFault.TheVariants.{HeaderTruncated}
-use Rattle.nc_base.specs.declared.nc_type.NcType.{NcType}
-use Rattle.nc_base.specs.declared.nc_type.NcType.TheVariants.{Byte, Char, Short, Int, Ubyte, Ushort, Uint, Int64, Uint64}
-use Rattle.nc_base.specs.declared.version.Version.{Version}
-use Rattle.nc_base.specs.declared.version.Version.TheVariants.{Cdf1, Cdf2, Cdf5}
-use Rattle.nc_base.specs.Bytes.{padding_len}
-use Rattle.nc_base.specs.Types.{code_of, type_of_code}
-use Rattle.nc_base.specs.Versions.{count_width, has_type}
-use Rattle.nc_base.specs.Grammar.{SpellsNumber, SpellsCount, SpellsName, SpellsType}
-use Rattle.nc_base.specs.FirstFault.{IsCutNumber, StopsInCount, cut_count, negative_count, StopsInName, in_name_len, cut_name, bad_name, cut_name_padding, StopsInType, cut_type, floating, bad_type}
-use Rattle.nc_file.specs.declared.head_fault.HeadFault.{HeadFault}
-use Rattle.nc_file.specs.declared.head_fault.HeadFault.TheVariants.{Format}
-use Rattle.nc_file.specs.Reading.{Outcome, Part, next, ◌>>=◌, done, stop, byte_or, u32_at, u64_at, number_at, count_at, bytes_at, skip_at, name_at, type_at, known_type, type_in, type_or_wrong}
-use Rattle.nc_file.proofs.FieldLaws.{code-known, type_of_code-code_of}
+use Rattle.std.proofs.Common.{◌≡◌, ◌≢◌, ℕ, zero, suc, ◌<◌, ◌≤◌, Bool, true, false, cond, leb, List, [], ◌∷◌, ◌++◌, length, inl, inr, Option, Some, None, Ok, Err, refl, sym, ap, ◌∙◌, append_assoc, arith, ◌==◌, ◌||◌, ◌⊎◌}
+use Rattle.nc_file.proofs.Prelude.{append-nil, Width, w32, byte_len, to_be_bytes, FormatFault, HeaderTruncated, NcType, Byte, Char, Short, Int, Ubyte, Ushort, Uint, Int64, Uint64, Version, padding_len, code_of, type_of_code, count_width, has_type, SpellsNumber, SpellsCount, SpellsName, SpellsType, IsCutNumber, StopsInCount, cut_count, negative_count, StopsInName, in_name_len, cut_name, bad_name, cut_name_padding, StopsInType, cut_type, floating, bad_type, HeadFault, Format, Outcome, Part, next, done, stop, byte_or, number_at, count_at, bytes_at, skip_at, name_at, type_at, known_type, type_in, type_or_wrong}
+use Rattle.nc_file.specs.code.Reading.{◌>>=◌}
+use Rattle.nc_file.proofs.FieldLaws.{IsWide, wide-32, count-wide, code-known, type_of_code-code_of}
 
 -- ---- steps
 
@@ -55,65 +39,6 @@ pub not-so : (b : Bool) → ¬ (b ≡ true) → b ≡ false
 not-so true h = absurd (h refl)
 not-so false h = refl
 
--- ---- numbers
-
--- a spelled number of four bytes is read
-pub u32-again : (bytes : List ℕ) (n : ℕ) (rest : List ℕ) → SpellsNumber w32 bytes n rest → u32_at.run bytes ≡ Ok (n, rest)
-unfolding u32_at ◌>>=◌ byte_or done
-u32-again bytes n rest s = ap u32_at.run s.spelled ∙ ap (λ (m : ℕ). Ok (m, rest)) (from_be_bytes-to_be_bytes_4 n s.fits)
-
--- a spelled number of eight bytes is read
-pub u64-again : (bytes : List ℕ) (n : ℕ) (rest : List ℕ) → SpellsNumber w64 bytes n rest → u64_at.run bytes ≡ Ok (n, rest)
-unfolding u64_at ◌>>=◌ byte_or done
-u64-again bytes n rest s = ap u64_at.run s.spelled ∙ ap (λ (m : ℕ). Ok (m, rest)) (from_be_bytes-to_be_bytes_8 n s.fits)
-
--- where the file ends in a number of four bytes, reading stops
-pub u32-stops-again : (bytes : List ℕ) → IsCutNumber w32 bytes → u32_at.run bytes ≡ Err (Format HeaderTruncated, [])
-unfolding u32_at ◌>>=◌ byte_or
-u32-stops-again [] cut = refl
-u32-stops-again (a ∷ []) cut = refl
-u32-stops-again (a ∷ b ∷ []) cut = refl
-u32-stops-again (a ∷ b ∷ c ∷ []) cut = refl
-u32-stops-again (a ∷ b ∷ c ∷ d ∷ rest) cut = absurd (omega (arith, cut))
-
--- where the file ends in a number of eight bytes, reading stops
-pub u64-stops-again : (bytes : List ℕ) → IsCutNumber w64 bytes → u64_at.run bytes ≡ Err (Format HeaderTruncated, [])
-unfolding u64_at ◌>>=◌ byte_or
-u64-stops-again [] cut = refl
-u64-stops-again (a ∷ []) cut = refl
-u64-stops-again (a ∷ b ∷ []) cut = refl
-u64-stops-again (a ∷ b ∷ c ∷ []) cut = refl
-u64-stops-again (a ∷ b ∷ c ∷ d ∷ []) cut = refl
-u64-stops-again (a ∷ b ∷ c ∷ d ∷ e ∷ []) cut = refl
-u64-stops-again (a ∷ b ∷ c ∷ d ∷ e ∷ f ∷ []) cut = refl
-u64-stops-again (a ∷ b ∷ c ∷ d ∷ e ∷ f ∷ g ∷ []) cut = refl
-u64-stops-again (a ∷ b ∷ c ∷ d ∷ e ∷ f ∷ g ∷ h ∷ rest) cut = absurd (omega (arith, cut))
-
--- a spelled number of the version's width is read
-pub number-again : (v : Version) (bytes : List ℕ) (n : ℕ) (rest : List ℕ) → SpellsNumber (count_width v) bytes n rest → (number_at v).run bytes ≡ Ok (n, rest)
-number-again Cdf1 bytes n rest s = u32-again bytes n rest s
-number-again Cdf2 bytes n rest s = u32-again bytes n rest s
-number-again Cdf5 bytes n rest s = u64-again bytes n rest s
-
--- where the file ends in one, reading stops
-pub number-stops-again : (v : Version) (bytes : List ℕ) → IsCutNumber (count_width v) bytes → (number_at v).run bytes ≡ Err (Format HeaderTruncated, [])
-number-stops-again Cdf1 bytes cut = u32-stops-again bytes cut
-number-stops-again Cdf2 bytes cut = u32-stops-again bytes cut
-number-stops-again Cdf5 bytes cut = u64-stops-again bytes cut
-
--- a spelled count is read
-pub count-again : (v : Version) (bytes : List ℕ) (n : ℕ) (rest : List ℕ) → SpellsCount v bytes n rest → (count_at v).run bytes ≡ Ok (n, rest)
-unfolding count_at ◌>>=◌ done
-count-again v bytes n rest s =
-    then-ok _ (number-again v bytes n rest s.number) (if-not _ _ (below-test _ _ s.non_negative) refl)
-
--- reading a count stops where it is wrong
-pub count-stops-again : (v : Version) (bytes : List ℕ) (fault : FormatFault) (rest : List ℕ) → StopsInCount v bytes fault rest → (count_at v).run bytes ≡ Err (Format fault, rest)
-unfolding count_at ◌>>=◌ stop
-count-stops-again v bytes fault rest (cut_count cut) = then-err _ (number-stops-again v bytes cut)
-count-stops-again v bytes fault rest (negative_count n r number high) =
-    then-ok _ (number-again v bytes n r number) (if-so _ _ (above-test _ _ high) refl)
-
 -- ---- bytes
 
 -- bytes after others are read
@@ -148,6 +73,32 @@ unfolding skip_at ◌>>=◌ byte_or
 skip-stops-again zero bytes cut = absurd (omega (arith, cut))
 skip-stops-again (suc n) [] cut = refl
 skip-stops-again (suc n) (b ∷ bytes) cut = skip-stops-again n bytes (omega (arith, cut))
+
+-- ---- numbers
+
+-- a spelled number is read
+pub number-again : (w : Width) → IsWide w → (bytes : List ℕ) (n : ℕ) (rest : List ℕ) → SpellsNumber w bytes n rest → (number_at w).run bytes ≡ Ok (n, rest)
+unfolding number_at ◌>>=◌ done
+number-again w wide bytes n rest s =
+    then-ok _ (bytes-again (byte_len w) bytes (to_be_bytes w n) rest (wide.len n) s.spelled) (ap (λ (m : ℕ). Ok (m, rest)) (wide.again n s.fits))
+
+-- where the file ends in one, reading stops
+pub number-stops-again : (w : Width) (bytes : List ℕ) → IsCutNumber w bytes → (number_at w).run bytes ≡ Err (Format HeaderTruncated, [])
+unfolding number_at ◌>>=◌
+number-stops-again w bytes cut = then-err _ (bytes-stops-again (byte_len w) [] bytes cut)
+
+-- a spelled count is read
+pub count-again : (v : Version) (bytes : List ℕ) (n : ℕ) (rest : List ℕ) → SpellsCount v bytes n rest → (count_at v).run bytes ≡ Ok (n, rest)
+unfolding count_at ◌>>=◌ done
+count-again v bytes n rest s =
+    then-ok _ (number-again (count_width v) (count-wide v) bytes n rest s.number) (if-not _ _ (below-test _ _ s.non_negative) refl)
+
+-- reading a count stops where it is wrong
+pub count-stops-again : (v : Version) (bytes : List ℕ) (fault : FormatFault) (rest : List ℕ) → StopsInCount v bytes fault rest → (count_at v).run bytes ≡ Err (Format fault, rest)
+unfolding count_at ◌>>=◌ stop
+count-stops-again v bytes fault rest (cut_count cut) = then-err _ (number-stops-again (count_width v) bytes cut)
+count-stops-again v bytes fault rest (negative_count n r number high) =
+    then-ok _ (number-again (count_width v) (count-wide v) bytes n r number) (if-so _ _ (above-test _ _ high) refl)
 
 -- ---- names
 
@@ -219,15 +170,15 @@ type_in-none v code none = no-type v code (type_of_code code) refl none
 pub type-again : (v : Version) (bytes : List ℕ) (ty : NcType) (rest : List ℕ) → SpellsType v bytes ty rest → (type_at v).run bytes ≡ Ok (ty, rest)
 unfolding type_at ◌>>=◌ done
 type-again v bytes ty rest s =
-    then-ok _ (u32-again bytes (code_of ty) rest s.number)
+    then-ok _ (number-again w32 wide-32 bytes (code_of ty) rest s.number)
     (if-not _ _ (is-whole ty) (ap (λ (known : Option NcType). (type_or_wrong known).run rest) (type_in-again v ty s.has)))
 
 -- reading a type stops where it is wrong
 pub type-stops-again : (v : Version) (bytes : List ℕ) (fault : FormatFault) (rest : List ℕ) → StopsInType v bytes fault rest → (type_at v).run bytes ≡ Err (Format fault, rest)
 unfolding type_at ◌>>=◌ stop
-type-stops-again v bytes fault rest (cut_type cut) = then-err _ (u32-stops-again bytes cut)
+type-stops-again v bytes fault rest (cut_type cut) = then-err _ (number-stops-again w32 bytes cut)
 type-stops-again v bytes fault rest (floating code r number is) =
-    then-ok _ (u32-again bytes code r number) (if-so _ _ (is-floating code is) refl)
+    then-ok _ (number-again w32 wide-32 bytes code r number) (if-so _ _ (is-floating code is) refl)
 type-stops-again v bytes fault rest (bad_type code r number not5 not6 none) =
-    then-ok _ (u32-again bytes code r number)
+    then-ok _ (number-again w32 wide-32 bytes code r number)
     (if-not _ _ (is-other code not5 not6) (ap (λ (known : Option NcType). (type_or_wrong known).run r) (type_in-none v code none)))

@@ -1,19 +1,8 @@
 -- What a reader of the code answers is what the grammar says.
-use Rattle.std.proofs.Common.{◌≡◌, ℕ, ◌+◌, ◌-◌, ◌≤◌, Bool, true, false, List, length, drop, Result, Ok, Err, refl, sym, ap, ◌∙◌, subst, arith, length-drop}
-use Rattle.std.specs.Bool.{OnTrue}
-use Rattle.nc_base.specs.declared.fault.FormatFault.{FormatFault}
-use Rattle.nc_base.specs.declared.header.Header.{Header}
-use Rattle.nc_base.specs.Bytes.{AreBytes}
-use Rattle.nc_base.specs.FirstFault.{StopsWith}
-use Rattle.nc_base.specs.Grammar.{SpellsHeader}
+use Rattle.std.proofs.Common.{◌≡◌, ℕ, ◌+◌, ◌-◌, ◌≤◌, Bool, true, List, length, drop, Result, Ok, Err, sym, ap, ◌∙◌, subst, arith, length-drop}
+use Rattle.nc_file.proofs.Prelude.{OnTrue, OnTrue_at, OnTrue_from, FormatFault, Header, AreBytes, StopsWith, SpellsHeader, HeadFault, OutOfMemory, ReadFailed, Format, Window, Ghosts, Outcome, Reads, left_over, header_at, Kept, Read, left, source_of}
 use Rattle.nc_base.proofs.SoundSpelling.{spelled-sound, spelled-names}
-use Rattle.nc_file.specs.declared.head_fault.HeadFault.{HeadFault}
-use Rattle.nc_file.specs.declared.head_fault.HeadFault.TheVariants.{OutOfMemory, ReadFailed, Format}
-use Rattle.nc_file.specs.declared.window.Window.{Window}
-use Rattle.devices.specs.Sources.{SourceView}
-use Rattle.nc_file.specs.Reading.{Outcome, Reads, left_over, header_at}
-use Rattle.nc_file.specs.Window.{State, state, left, Kept, Read}
-use Rattle.nc_file.specs.Answers.{EndsAt, header_end, fault_end, ReadUpTo, IsInterrupted, Answers, HasAnswered}
+use Rattle.nc_file.specs.code.Answers.{EndsAt, header_end, fault_end, ReadUpTo, IsInterrupted, Answers, HasAnswered}
 use Rattle.nc_file.proofs.Means.{Means, spells, stops}
 use Rattle.nc_file.proofs.HeaderLaws.{means-header}
 
@@ -23,72 +12,72 @@ value-of (spells x rest p fits) = p
 fault-of : {A : Type 0} {P : A → List ℕ → Type 0} {Q : FormatFault → List ℕ → Type 0} {fault : FormatFault} {rest : List ℕ} → Means P Q (Err (Format fault, rest)) → Q fault rest
 fault-of (stops fault rest q) = q
 
-left-length : (now : State) (bytes : List ℕ) → now.source.bytes ≡ bytes → length (left now) ≡ length bytes - (now.base + now.pos)
-left-length now bytes same = ap (λ (bs : List ℕ). length (drop (now.base + now.pos) bs)) same ∙ length-drop (now.base + now.pos) bytes
-
--- what is left begins where reading has ended
-ends-at : (is_transparent : Bool) (start now : State) → Kept is_transparent start now → (length start.source.bytes - length (left now)) + length (left now) ≡ length start.source.bytes
-ends-at is_transparent start now kept = omega (arith, left-length now start.source.bytes kept.bytes)
-
-handed-up-to : (is_transparent : Bool) (start now : State) → start.base ≡ 0 → start.filled ≡ 0 → Kept is_transparent start now
-    → ReadUpTo start.source.handed now.source.handed (length start.source.bytes - length (left now)) (length start.buf)
-handed-up-to is_transparent start now base filled kept =
-    let within : now.base + now.filled ≤ length start.source.bytes = omega (arith, kept.is_open.within, ap (λ (bs : List ℕ). length bs) kept.bytes) in
-    omega (arith, left-length now start.source.bytes kept.bytes, within, kept.handed, kept.is_open.used, kept.is_open.fits, kept.same_buffer_len, base, filled)
-
--- what is read from the start, as the grammar says
-read-from-start : (start now : State) (o : Outcome Header) → start.base ≡ 0 → start.pos ≡ 0 → AreBytes start.source.bytes → header_at.run (left start) ≡ o
-    → Means (SpellsHeader start.source.bytes) (StopsWith start.source.bytes) o
-read-from-start start now o base pos fits e =
-    let at_start : left start ≡ start.source.bytes = rw (base, pos) refl in
-    subst (Means (SpellsHeader start.source.bytes) (StopsWith start.source.bytes))
-    (sym (ap header_at.run at_start) ∙ e) (means-header start.source.bytes fits)
-
 -- where the header ends, or its first wrong field, from how much is left over after it
 ends-of : (bytes : List ℕ) {o : Outcome Header} → Means (SpellsHeader bytes) (StopsWith bytes) o → left_over o ≤ length bytes → EndsAt bytes (length bytes - left_over o)
 unfolding left_over
 ends-of bytes (spells h rest p fits) le = header_end h rest p (omega (arith, le))
 ends-of bytes (stops fault rest q) le = fault_end fault (record { rest = rest; stops = q; ends = omega (arith, le) })
 
-broken-off : (start now : State) → start.base ≡ 0 → start.filled ≡ 0 → start.pos ≡ 0 → Kept true start now → AreBytes start.source.bytes
-    → left_over (header_at.run (left start)) ≤ length (left now) → IsInterrupted start.source.bytes start.source.handed now.source.handed (length start.buf)
-broken-off start now base filled pos kept fits reads =
-    let bytes = start.source.bytes in
-    let at_start : left start ≡ bytes = rw (base, pos) refl in
-    let few : left_over (header_at.run bytes) ≤ length (left now) = subst (λ (bs : List ℕ). left_over (header_at.run bs) ≤ length (left now)) at_start reads in
-    let shorter : left_over (header_at.run bytes) ≤ length bytes = header_at.shorter bytes in
-    let within : now.base + now.filled ≤ length bytes = omega (arith, kept.is_open.within, ap (λ (bs : List ℕ). length bs) kept.bytes) in
-    record {
-      end = length bytes - left_over (header_at.run bytes);
-      ends = ends-of bytes (means-header bytes fits) shorter;
-      handed = omega (arith, left-length now bytes kept.bytes, few, shorter, within, kept.handed, kept.is_open.used, kept.is_open.fits, kept.same_buffer_len, base, filled);
-    }
+module _ {S : Type 0} {g : Ghosts S} (start now : Window S g) (base : start.base ≡ 0) (filled : start.filled ≡ 0) (pos : start.pos ≡ 0)
+    (kept : Kept start now) (fits : AreBytes (source_of start).bytes) where
+  abbrev bytes : List ℕ
+  bytes = (source_of start).bytes
 
-answer : (start now : State) (result : Result Header HeadFault) → start.base ≡ 0 → start.filled ≡ 0 → start.pos ≡ 0 → Kept true start now → AreBytes start.source.bytes
-    → Reads true (left start) (left now) header_at result → Answers start.source.bytes start.source.handed now.source.handed (length start.buf) result
-answer start now (Ok h) base filled pos kept fits reads =
-    let found = value-of (read-from-start start now (Ok (h, left now)) base pos fits reads) in
-    record {
-      rest = left now;
-      end = length start.source.bytes - length (left now);
-      spelled = found;
-      ends = ends-at true start now kept;
-      handed = handed-up-to true start now base filled kept;
-      sound = spelled-sound start.source.bytes h (left now) found;
-      names = spelled-names start.source.bytes h (left now) found;
-    }
-answer start now (Err (Format fault)) base filled pos kept fits reads =
-    let stopped = fault-of (read-from-start start now (Err (Format fault, left now)) base pos fits reads) in
-    record {
-      end = length start.source.bytes - length (left now);
-      stops = record { rest = left now; stops = stopped; ends = ends-at true start now kept };
-      handed = handed-up-to true start now base filled kept;
-    }
-answer start now (Err OutOfMemory) base filled pos kept fits reads = broken-off start now base filled pos kept fits reads
-answer start now (Err ReadFailed) base filled pos kept fits reads = broken-off start now base filled pos kept fits reads
+  len : length (left now) ≡ length bytes - (now.base + now.pos)
+  len = ap (λ (bs : List ℕ). length (drop (now.base + now.pos) bs)) kept.bytes ∙ length-drop (now.base + now.pos) bytes
 
-pub answered : {S : Type 0} (is_transparent : Bool) (view : S → SourceView) (old new : Window S) (result : Result Header HeadFault) → old.base ≡ 0 → old.filled ≡ 0 → old.pos ≡ 0
-    → OnTrue is_transparent (AreBytes (view old.source.now).bytes) → Read is_transparent view old new header_at result
-    → OnTrue is_transparent (HasAnswered (view old.source.now).bytes (view old.source.now).handed (view new.source.now).handed (length old.buf.now) result)
-answered false view old new result base filled pos fits d = tt
-answered true view old new result base filled pos fits d = record { answer = answer (state view old) (state view new) result base filled pos d.kept fits d.reads }
+  at_start : left start ≡ bytes
+  at_start = let none : start.base + start.pos ≡ 0 = omega (arith, base, pos) in ap (λ (n : ℕ). drop n bytes) none
+
+  -- what is left begins where reading has ended
+  ends-at : (length bytes - length (left now)) + length (left now) ≡ length bytes
+  ends-at = omega (arith, len)
+
+  handed-up-to : (end : ℕ) → length bytes ≤ end + length (left now) → ReadUpTo (source_of start).handed (source_of now).handed end (length start.buf.now)
+  handed-up-to end le =
+      let within : now.base + now.filled ≤ length bytes = omega (arith, now.within, ap (λ (bs : List ℕ). length bs) kept.bytes) in
+      omega (arith, len, le, within, kept.handed, now.used, now.fits, kept.same_buffer_len, base, filled)
+
+  -- what is read from the start, as the grammar says
+  read-from-start : (o : Outcome Header) → header_at.run (left start) ≡ o → Means (SpellsHeader bytes) (StopsWith bytes) o
+  read-from-start o e = subst (Means (SpellsHeader bytes) (StopsWith bytes)) (sym (ap header_at.run at_start) ∙ e) (means-header bytes fits)
+
+  broken-off : left_over (header_at.run (left start)) ≤ length (left now) → IsInterrupted bytes (source_of start).handed (source_of now).handed (length start.buf.now)
+  broken-off reads =
+      let few : left_over (header_at.run bytes) ≤ length (left now) = subst (λ (bs : List ℕ). left_over (header_at.run bs) ≤ length (left now)) at_start reads in
+      let shorter : left_over (header_at.run bytes) ≤ length bytes = header_at.shorter bytes in
+      record {
+        end = length bytes - left_over (header_at.run bytes);
+        ends = ends-of bytes (means-header bytes fits) shorter;
+        handed = handed-up-to (length bytes - left_over (header_at.run bytes)) (omega (arith, few, shorter));
+      }
+
+  answer : (result : Result Header HeadFault) → Reads true (left start) (left now) header_at result
+      → Answers bytes (source_of start).handed (source_of now).handed (length start.buf.now) result
+  answer (Ok h) reads =
+      let found = value-of (read-from-start (Ok (h, left now)) reads) in
+      record {
+        rest = left now;
+        end = length bytes - length (left now);
+        spelled = found;
+        ends = ends-at;
+        handed = handed-up-to (length bytes - length (left now)) (omega (arith, ends-at));
+        sound = spelled-sound bytes h (left now) found;
+        names = spelled-names bytes h (left now) found;
+      }
+  answer (Err (Format fault)) reads = record {
+    end = length bytes - length (left now);
+    stops = record { rest = left now; stops = fault-of (read-from-start (Err (Format fault, left now)) reads); ends = ends-at };
+    handed = handed-up-to (length bytes - length (left now)) (omega (arith, ends-at));
+  }
+  answer (Err OutOfMemory) reads = broken-off reads
+  answer (Err ReadFailed) reads = broken-off reads
+
+pub answered : {S : Type 0} {g : Ghosts S} (old new : Window S g) (result : Result Header HeadFault) → old.base ≡ 0 → old.filled ≡ 0 → old.pos ≡ 0
+    → OnTrue g.is_transparent (AreBytes (source_of old).bytes) → Read old new header_at result
+    → OnTrue g.is_transparent (HasAnswered (source_of old).bytes (source_of old).handed (source_of new).handed (length old.buf.now) result)
+answered {g = g} old new result base filled pos fits d =
+    let right : g.is_transparent ≡ true → HasAnswered (source_of old).bytes (source_of old).handed (source_of new).handed (length old.buf.now) result = λ known.
+    let reads : Reads true (left old) (left new) header_at result = subst (λ (t : Bool). Reads t (left old) (left new) header_at result) known d.reads in
+    record { answer = answer old new base filled pos d.kept (OnTrue_at {P = AreBytes (source_of old).bytes} known fits) result reads } in
+    OnTrue_from _ _ right

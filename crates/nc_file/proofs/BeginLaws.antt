@@ -1,28 +1,9 @@
 -- Begins that are summed up as they go are those of the padded slabs before.
-use Rattle.std.proofs.Common.{◌≡◌, ℕ, ◌+◌, ◌-◌, ◌^◌, ◌≤◌, inl, inr, min, Ok, Err, Bool, true, false, ◌&&◌, List, [], ◌∷◌, ◌++◌, length, refl, sym, ◌∙◌, ap, subst, arith}
-use Rattle.std.specs.Prelude.{if◌then◌else◌}
-use Rattle.std.specs.List.{list_all}
-use Rattle.std.proofs.lemmas.Bool.{cases_lt, le-ltb}
-use Rattle.nc_base.specs.declared.header.Dim.{Dim}
-use Rattle.nc_base.specs.declared.header.Var.{Var}
-use Rattle.nc_base.specs.declared.header.Header.{Header}
-use Rattle.nc_base.specs.declared.version.Version.{Version}
-use Rattle.nc_base.specs.declared.version.Version.TheVariants.{Cdf1, Cdf2, Cdf5}
-use Rattle.nc_base.specs.Sizes.{is_record_var, padded_size, padded_total, record_vars}
-use Rattle.nc_base.specs.Versions.{offset_limit}
-use Rattle.nc_base.specs.GeneratedFile.{header_spelling, fixed_vars, begin_after, vars_after, with_begins, fits}
+use Rattle.std.proofs.Common.{◌≡◌, ℕ, ◌+◌, ◌-◌, ◌^◌, ◌≤◌, inl, inr, min, Ok, Err, Bool, true, false, ◌&&◌, List, [], ◌∷◌, ◌++◌, length, refl, sym, ◌∙◌, ap, subst, arith, if◌then◌else◌}
+use Rattle.nc_file.proofs.Prelude.{list_all, cases_lt, le-ltb, Dim, Var, Header, Version, Cdf1, Cdf2, Cdf5, is_record_var, padded_size, padded_total, record_vars, offset_limit, header_spelling, fixed_vars, begin_after, vars_after, with_begins, fits, after, is_below, offset_of, placed}
 use Rattle.nc_base.proofs.FilePlaces.{fixed_total, fixed-push}
-use Rattle.nc_base.proofs.HeaderSpelled.{total-append}
-use Rattle.nc_file.specs.Begins.{after, is_below, offset_of, placed}
+use Rattle.nc_file.proofs.Totals.{total_of-append}
 use Rattle.nc_file.specs.declared.write.begins.Offsets.{Offsets}
-
-record-push : (dims : List Dim) (before : List Var) (var : Var)
-    → padded_total dims (record_vars dims (before ++ var ∷ [])) ≡ padded_total dims (record_vars dims before) + (if is_record_var dims var then padded_size dims var else 0)
-record-push dims before var = total-append dims before (var ∷ []) ∙ ap (λ (n : ℕ). padded_total dims (record_vars dims before) + n) (one (is_record_var dims var))
-  where
-    one : (b : Bool) → padded_total dims (if b then (var ∷ []) else []) ≡ (if b then padded_size dims var else 0)
-    one true = omega arith
-    one false = refl
 
 -- ---- the offsets after these variables, where the header has this number of bytes
 
@@ -38,7 +19,7 @@ same-offsets a b c d e f =
 
 -- one variable more
 after-push : (h : Header) (head : ℕ) (before : List Var) (var : Var) → after h.dims (offsets_after h head before) var ≡ offsets_after h head (before ++ var ∷ [])
-after-push h head before var = choose (is_record_var h.dims var) _ _ (fixed-push h.dims before var) (record-push h.dims before var)
+after-push h head before var = choose (is_record_var h.dims var) _ _ (fixed-push h.dims before var) (total_of-append h.dims before var)
   where
     choose : (b : Bool) (f g : ℕ) → f ≡ fixed_total h.dims before + (if b then 0 else padded_size h.dims var)
         → g ≡ padded_total h.dims (record_vars h.dims before) + (if b then padded_size h.dims var else 0)

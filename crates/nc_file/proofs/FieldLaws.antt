@@ -1,85 +1,11 @@
 -- Bytes, numbers, names and types are read as the grammar says.
-use Rattle.std.proofs.Common.{◌≡◌, ◌≢◌, ℕ, zero, suc, ◌<◌, Bool, true, false, cond, leb, List, [], ◌∷◌, ◌++◌, length, inl, inr, Option, Some, None, refl, sym, ap, subst, ◌∙◌, append_assoc, arith, take}
-use Rattle.std.proofs.lemmas.Bool.{cases_lt, leb-false, leb-true, eqb-true, eqb-false}
-use Rattle.std.proofs.lemmas.List.{append-nil, get_or-take, get_or_past, length-take}
-use Rattle.std.proofs.lemmas.Nat.{be_bytes_4, be_bytes_8}
-use Rattle.std.specs.Int.{Width, w32, w64, to_be_bytes, from_be_bytes}
-use Rattle.std.specs.List.{AllByRecursion}
-use Rattle.std.specs.Prelude.{◌==◌, ◌||◌, ◌⊎◌, find, if◌then◌else◌}
-use Rattle.nc_base.specs.declared.fault.FormatFault.{FormatFault}
-use Rattle.nc_base.specs.declared.fault.FormatFault.TheVariants.{HeaderTruncated}
-use Rattle.nc_base.specs.declared.nc_type.NcType.{NcType}
-use Rattle.nc_base.specs.declared.nc_type.NcType.TheVariants.{Byte, Char, Short, Int, Ubyte, Ushort, Uint, Int64, Uint64}
-use Rattle.nc_base.specs.declared.version.Version.{Version}
-use Rattle.nc_base.specs.declared.version.Version.TheVariants.{Cdf1, Cdf2, Cdf5}
-use Rattle.nc_base.specs.Bytes.{AreBytes, padding_len}
-use Rattle.nc_base.specs.Types.{code_of, type_of_code, all_types}
-use Rattle.nc_base.specs.Versions.{count_width, count_limit, has_type}
+use Rattle.std.proofs.Common.{◌≡◌, ◌≢◌, ℕ, zero, suc, ◌<◌, Bool, true, false, cond, leb, List, [], ◌∷◌, ◌++◌, length, inl, inr, Option, Some, None, refl, sym, ap, subst, ◌∙◌, append_assoc, arith, take, ◌^◌, ◌==◌, ◌||◌, ◌⊎◌, find, if◌then◌else◌}
+use Rattle.nc_file.proofs.Prelude.{cases_lt, leb-false, leb-true, eqb-true, eqb-false, append-nil, get_or-take, get_or_past, length-take, Width, w32, w64, byte_len, to_be_bytes, from_be_bytes, AllByRecursion, FormatFault, HeaderTruncated, NcType, Byte, Char, Short, Int, Ubyte, Ushort, Uint, Int64, Uint64, Version, Cdf1, Cdf2, Cdf5, AreBytes, padding_len, code_of, type_of_code, all_types, count_width, count_limit, offset_width, has_type, SpellsNumber, SpellsCount, SpellsPadded, SpellsName, SpellsType, StopsInCount, cut_count, negative_count, StopsInName, in_name_len, cut_name, bad_name, cut_name_padding, StopsInType, cut_type, floating, bad_type, done, stop, byte_or, number_at, count_at, bytes_at, skip_at, name_at, type_at, known_type, type_in, type_or_wrong}
+use Rattle.std.proofs.Math.Seq.{take-append_seam}
+use Rattle.std.proofs.lemmas.Nat.{be_bytes_4, be_bytes_8, from_be_bytes-to_be_bytes_4, from_be_bytes-to_be_bytes_8}
 use Rattle.nc_base.specs.Names.{is_name, IsName}
-use Rattle.nc_base.specs.Grammar.{SpellsNumber, SpellsCount, SpellsPadded, SpellsName, SpellsType}
-use Rattle.nc_base.specs.FirstFault.{IsCutNumber, StopsInCount, cut_count, negative_count, StopsInName, in_name_len, cut_name, bad_name, cut_name_padding, StopsInType, cut_type, floating, bad_type}
-use Rattle.nc_file.specs.Reading.{◌>>=◌, done, stop, byte_or, u32_at, u64_at, number_at, count_at, bytes_at, skip_at, name_at, type_at, known_type, type_in, type_or_wrong}
+use Rattle.nc_file.specs.code.Reading.{◌>>=◌}
 use Rattle.nc_file.proofs.Means.{Means, spells, stops, means-next, means-map, means-cond, AreBytes-tail}
-
--- ---- numbers
-
--- the file ends before a number of this width
-pub data CutNumber (width : Width) (bytes : List ℕ) : FormatFault → List ℕ → Type 0 where
-  cut_number : IsCutNumber width bytes → CutNumber width bytes HeaderTruncated []
-
-AreBytes-take : (n : ℕ) (bytes : List ℕ) → AreBytes bytes → AreBytes (take n bytes)
-AreBytes-take n bytes h i =
-    elim (cases_lt i n) [
-      | inl lt ↦ rw (get_or-take n bytes i 0 lt) (h i)
-      | inr le ↦ rw (get_or_past (take n bytes) i 0 (omega (arith, length-take n bytes))) (omega arith)
-    ]
-
-pub means-u32 : (bytes : List ℕ) → AreBytes bytes → Means (SpellsNumber w32 bytes) (CutNumber w32 bytes) (u32_at.run bytes)
-unfolding u32_at ◌>>=◌ byte_or done
-means-u32 [] fits = stops _ _ (cut_number (omega arith))
-means-u32 (a ∷ []) fits = stops _ _ (cut_number (omega arith))
-means-u32 (a ∷ b ∷ []) fits = stops _ _ (cut_number (omega arith))
-means-u32 (a ∷ b ∷ c ∷ []) fits = stops _ _ (cut_number (omega arith))
-means-u32 (a ∷ b ∷ c ∷ d ∷ rest) fits =
-    let n : ℕ = from_be_bytes w32 (a ∷ b ∷ c ∷ d ∷ []) in
-    let spelled : to_be_bytes w32 n ≡ a ∷ b ∷ c ∷ d ∷ [] = be_bytes_4 (a ∷ b ∷ c ∷ d ∷ []) n refl (AreBytes-take 4 (a ∷ b ∷ c ∷ d ∷ rest) fits) refl in
-    spells n rest
-    (record { fits = omega (arith, fits 0, fits 1, fits 2, fits 3); spelled = ap (λ (x : List ℕ). x ++ rest) (sym spelled) })
-    (λ i. fits (suc (suc (suc (suc i)))))
-
-pub means-u64 : (bytes : List ℕ) → AreBytes bytes → Means (SpellsNumber w64 bytes) (CutNumber w64 bytes) (u64_at.run bytes)
-unfolding u64_at ◌>>=◌ byte_or done
-means-u64 [] fits = stops _ _ (cut_number (omega arith))
-means-u64 (a ∷ []) fits = stops _ _ (cut_number (omega arith))
-means-u64 (a ∷ b ∷ []) fits = stops _ _ (cut_number (omega arith))
-means-u64 (a ∷ b ∷ c ∷ []) fits = stops _ _ (cut_number (omega arith))
-means-u64 (a ∷ b ∷ c ∷ d ∷ []) fits = stops _ _ (cut_number (omega arith))
-means-u64 (a ∷ b ∷ c ∷ d ∷ e ∷ []) fits = stops _ _ (cut_number (omega arith))
-means-u64 (a ∷ b ∷ c ∷ d ∷ e ∷ f ∷ []) fits = stops _ _ (cut_number (omega arith))
-means-u64 (a ∷ b ∷ c ∷ d ∷ e ∷ f ∷ g ∷ []) fits = stops _ _ (cut_number (omega arith))
-means-u64 (a ∷ b ∷ c ∷ d ∷ e ∷ f ∷ g ∷ h ∷ rest) fits =
-    let n : ℕ = from_be_bytes w64 (a ∷ b ∷ c ∷ d ∷ e ∷ f ∷ g ∷ h ∷ []) in
-    let spelled : to_be_bytes w64 n ≡ a ∷ b ∷ c ∷ d ∷ e ∷ f ∷ g ∷ h ∷ [] = be_bytes_8 (a ∷ b ∷ c ∷ d ∷ e ∷ f ∷ g ∷ h ∷ []) n refl (AreBytes-take 8 (a ∷ b ∷ c ∷ d ∷ e ∷ f ∷ g ∷ h ∷ rest) fits) refl in
-    spells n rest
-    (record { fits = omega (arith, fits 0, fits 1, fits 2, fits 3, fits 4, fits 5, fits 6, fits 7); spelled = ap (λ (x : List ℕ). x ++ rest) (sym spelled) })
-    (λ i. fits (suc (suc (suc (suc (suc (suc (suc (suc i)))))))))
-
-pub means-number : (v : Version) (bytes : List ℕ) → AreBytes bytes → Means (SpellsNumber (count_width v) bytes) (CutNumber (count_width v) bytes) ((number_at v).run bytes)
-means-number Cdf1 bytes fits = means-u32 bytes fits
-means-number Cdf2 bytes fits = means-u32 bytes fits
-means-number Cdf5 bytes fits = means-u64 bytes fits
-
-cut-count : (v : Version) (bytes : List ℕ) (fault : FormatFault) (rest : List ℕ) → CutNumber (count_width v) bytes fault rest → StopsInCount v bytes fault rest
-cut-count v bytes fault rest (cut_number cut) = cut_count cut
-
-pub means-count : (v : Version) (bytes : List ℕ) → AreBytes bytes → Means (SpellsCount v bytes) (StopsInCount v bytes) ((count_at v).run bytes)
-unfolding count_at ◌>>=◌ done stop
-means-count v bytes fits =
-    means-next _ (means-number v bytes fits)
-    (λ n rest number more. means-cond (leb (count_limit v) n) _ _ rest
-    (λ high. stops _ _ (negative_count n rest number (leb-true _ _ high)))
-    (λ low. spells n rest (record { number = number; non_negative = leb-false _ _ low }) more))
-    (cut-count v bytes)
 
 -- ---- bytes
 
@@ -132,6 +58,73 @@ unfolding skip_at ◌>>=◌ byte_or done
 means-skip zero bytes fits = spells tt bytes (record { content = []; taken = record { count = refl; spelled = refl } }) fits
 means-skip (suc n) [] fits = stops _ _ (cut_bytes (omega arith))
 means-skip (suc n) (b ∷ bytes) fits = means-map (means-skip n bytes (AreBytes-tail b bytes fits)) (λ u rest. skipped-cons n b bytes rest) (cut-cons n b bytes)
+
+-- ---- numbers
+
+-- numbers of this width and their bytes give each other
+pub record IsWide (w : Width) : Type 0 where
+  pub len : (n : ℕ) → length (to_be_bytes w n) ≡ byte_len w
+  pub again : (n : ℕ) → n < 256 ^ byte_len w → from_be_bytes w (to_be_bytes w n) ≡ n
+  pub below : (bytes : List ℕ) → AreBytes bytes → from_be_bytes w bytes < 256 ^ byte_len w
+  pub back : (bytes : List ℕ) → length bytes ≡ byte_len w → AreBytes bytes → to_be_bytes w (from_be_bytes w bytes) ≡ bytes
+
+pub wide-32 : IsWide w32
+wide-32 = record {
+  len = λ n. refl;
+  again = λ n fits. from_be_bytes-to_be_bytes_4 n fits;
+  below = λ bytes fits. omega (arith, fits 0, fits 1, fits 2, fits 3);
+  back = λ bytes len fits. be_bytes_4 bytes _ len fits refl;
+}
+
+wide-64 : IsWide w64
+wide-64 = record {
+  len = λ n. refl;
+  again = λ n fits. from_be_bytes-to_be_bytes_8 n fits;
+  below = λ bytes fits. omega (arith, fits 0, fits 1, fits 2, fits 3, fits 4, fits 5, fits 6, fits 7);
+  back = λ bytes len fits. be_bytes_8 bytes _ len fits refl;
+}
+
+pub count-wide : (v : Version) → IsWide (count_width v)
+count-wide Cdf1 = wide-32
+count-wide Cdf2 = wide-32
+count-wide Cdf5 = wide-64
+
+pub offset-wide : (v : Version) → IsWide (offset_width v)
+offset-wide Cdf1 = wide-32
+offset-wide Cdf2 = wide-64
+offset-wide Cdf5 = wide-64
+
+AreBytes-take : (n : ℕ) (bytes : List ℕ) → AreBytes bytes → AreBytes (take n bytes)
+AreBytes-take n bytes h i =
+    elim (cases_lt i n) [
+      | inl lt ↦ rw (get_or-take n bytes i 0 lt) (h i)
+      | inr le ↦ rw (get_or_past (take n bytes) i 0 (omega (arith, length-take n bytes))) (omega arith)
+    ]
+
+content-bytes : (content rest : List ℕ) → AreBytes (content ++ rest) → AreBytes content
+content-bytes content rest fits = subst AreBytes (take-append_seam content rest) (AreBytes-take (length content) (content ++ rest) fits)
+
+pub means-number : (w : Width) → IsWide w → (bytes : List ℕ) → AreBytes bytes → Means (SpellsNumber w bytes) (CutBytes (byte_len w) bytes) ((number_at w).run bytes)
+unfolding number_at ◌>>=◌ done
+means-number w wide bytes fits =
+    means-next _ (means-bytes (byte_len w) bytes fits)
+    (λ content rest taken more.
+    let small : AreBytes content = content-bytes content rest (subst AreBytes taken.spelled fits) in
+    spells (from_be_bytes w content) rest
+    (record { fits = wide.below content small; spelled = taken.spelled ∙ ap (λ (x : List ℕ). x ++ rest) (sym (wide.back content taken.count small)) }) more)
+    (λ fault rest c. c)
+
+cut-count : (v : Version) (bytes : List ℕ) (fault : FormatFault) (rest : List ℕ) → CutBytes (byte_len (count_width v)) bytes fault rest → StopsInCount v bytes fault rest
+cut-count v bytes fault rest (cut_bytes cut) = cut_count cut
+
+pub means-count : (v : Version) (bytes : List ℕ) → AreBytes bytes → Means (SpellsCount v bytes) (StopsInCount v bytes) ((count_at v).run bytes)
+unfolding count_at ◌>>=◌ done stop
+means-count v bytes fits =
+    means-next _ (means-number (count_width v) (count-wide v) bytes fits)
+    (λ n rest number more. means-cond (leb (count_limit v) n) _ _ rest
+    (λ high. stops _ _ (negative_count n rest number (leb-true _ _ high)))
+    (λ low. spells n rest (record { number = number; non_negative = leb-false _ _ low }) more))
+    (cut-count v bytes)
 
 -- ---- bytes with padding, and names
 
@@ -250,8 +243,8 @@ type-means v code bytes rest (Some ty) is number not5 not6 fits = at (has_type v
     at true has = spells ty rest (record { number = subst (λ (c : ℕ). SpellsNumber w32 bytes c rest) same number; has = has }) fits
     at false lacks = stops _ _ (bad_type code rest number not5 not6 (λ other. no-other v code ty other is lacks))
 
-cut-type : (v : Version) (bytes : List ℕ) (fault : FormatFault) (rest : List ℕ) → CutNumber w32 bytes fault rest → StopsInType v bytes fault rest
-cut-type v bytes fault rest (cut_number cut) = cut_type cut
+cut-type : (v : Version) (bytes : List ℕ) (fault : FormatFault) (rest : List ℕ) → CutBytes 4 bytes fault rest → StopsInType v bytes fault rest
+cut-type v bytes fault rest (cut_bytes cut) = cut_type cut
 
 or-false : (a b : Bool) → (a || b) ≡ false → (a ≡ false) × (b ≡ false)
 or-false true b e = absurd cc
@@ -267,7 +260,7 @@ floating-code code e = elim (or-true (code == 5) (code == 6) e) [ inl five ↦ i
 pub means-type : (v : Version) (bytes : List ℕ) → AreBytes bytes → Means (SpellsType v bytes) (StopsInType v bytes) ((type_at v).run bytes)
 unfolding type_at type_in ◌>>=◌ stop
 means-type v bytes fits =
-    means-next _ (means-u32 bytes fits)
+    means-next _ (means-number w32 wide-32 bytes fits)
     (λ code rest number more. means-cond ((code == 5) || (code == 6)) _ _ rest
     (λ is_floating. stops _ _ (floating code rest number (floating-code code is_floating)))
     (λ is_other. let h = or-false (code == 5) (code == 6) is_other in

@@ -1,9 +1,7 @@
 -- A generated file is read back and dumped.
 use Rattle.std.proofs.Common.{◌≡◌, ℕ, List}
-use Rattle.nc_base.specs.declared.header.Header.{Header}
-use Rattle.nc_base.specs.Grammar.{SpellsHeader}
+use Rattle.nc_file.proofs.Prelude.{Header, SpellsHeader, file_of}
 use Rattle.nc_base.specs.FileLaws.{FilesHoldTheirDatasets, FilesHoldOneDataset, FilesAreDumpedAsTheirText, GeneratedFilesAreDumped}
-use Rattle.nc_base.specs.GeneratedFile.{file_of}
 use Rattle.nc_base.proofs.FileHolds.{file-holds}
 use Rattle.nc_base.proofs.HeldDump.{held-dump, dump-held, one-held}
 use Rattle.nc_file.proofs.Outcomes.{one-header, header-fine}

@@ -1,18 +1,9 @@
 -- A header is read as the grammar says.
-use Rattle.std.proofs.Common.{◌≡◌, ℕ, suc, true, false, leb, List, [], ◌∷◌, Option, Some, None, refl, sym, ap, subst, ◌∙◌, arith}
-use Rattle.std.proofs.lemmas.Bool.{eqb-true, eqb-false, leb-true, leb-false}
-use Rattle.std.specs.Prelude.{◌==◌, ◌&&◌}
-use Rattle.nc_base.specs.declared.fault.FormatFault.{FormatFault}
-use Rattle.nc_base.specs.declared.header.NumRecs.TheVariants.{Known, Streaming}
-use Rattle.nc_base.specs.declared.version.Version.{Version}
-use Rattle.nc_base.specs.declared.version.Version.TheVariants.{Cdf1, Cdf2, Cdf5}
-use Rattle.nc_base.specs.Bytes.{AreBytes}
-use Rattle.nc_base.specs.Versions.{version_byte, version_of_byte, count_width, count_limit, streaming_mark}
-use Rattle.nc_base.specs.Grammar.{SpellsNumber, SpellsMagic, SpellsNumRecs, SpellsStart, SpellsUpToDims, SpellsUpToGatts, SpellsHeader}
-use Rattle.nc_base.specs.FirstFault.{StopsInMagic, cut_magic, other_magic, cut_version, bad_version, StopsInNumRecs, cut_numrecs, negative_numrecs, StopsWith, in_magic, in_numrecs, in_dims, in_gatts, in_vars}
-use Rattle.nc_file.specs.Reading.{◌>>=◌, done, stop, byte_or, version_or, version_at, magic_at, numrecs_at, header_at}
+use Rattle.std.proofs.Common.{◌≡◌, ℕ, suc, true, false, leb, List, [], ◌∷◌, Option, Some, None, refl, sym, ap, subst, ◌∙◌, arith, ◌==◌, ◌&&◌}
+use Rattle.nc_file.proofs.Prelude.{eqb-true, eqb-false, leb-true, leb-false, byte_len, FormatFault, Known, Streaming, Version, Cdf1, Cdf2, Cdf5, AreBytes, version_byte, version_of_byte, count_width, count_limit, streaming_mark, SpellsNumber, SpellsMagic, SpellsNumRecs, SpellsStart, SpellsUpToDims, SpellsUpToGatts, SpellsHeader, StopsInMagic, cut_magic, other_magic, cut_version, bad_version, StopsInNumRecs, cut_numrecs, negative_numrecs, StopsWith, in_magic, in_numrecs, in_dims, in_gatts, in_vars, done, stop, byte_or, version_or, version_at, magic_at, numrecs_at, header_at}
+use Rattle.nc_file.specs.code.Reading.{◌>>=◌}
 use Rattle.nc_file.proofs.Means.{Means, spells, stops, means-next, means-cond, AreBytes-tail}
-use Rattle.nc_file.proofs.FieldLaws.{CutNumber, cut_number, means-number, found}
+use Rattle.nc_file.proofs.FieldLaws.{CutBytes, cut_bytes, count-wide, means-number, found}
 use Rattle.nc_file.proofs.ListLaws.{means-dims, means-atts, and-true}
 use Rattle.nc_file.proofs.VariableLaws.{means-vars}
 
@@ -57,13 +48,13 @@ means-magic (a ∷ b ∷ c ∷ rest) fits =
 
 -- ---- the number of records
 
-cut-numrecs : (v : Version) (bytes : List ℕ) (fault : FormatFault) (rest : List ℕ) → CutNumber (count_width v) bytes fault rest → StopsInNumRecs v bytes fault rest
-cut-numrecs v bytes fault rest (cut_number cut) = cut_numrecs cut
+cut-numrecs : (v : Version) (bytes : List ℕ) (fault : FormatFault) (rest : List ℕ) → CutBytes (byte_len (count_width v)) bytes fault rest → StopsInNumRecs v bytes fault rest
+cut-numrecs v bytes fault rest (cut_bytes cut) = cut_numrecs cut
 
 pub means-numrecs : (v : Version) (bytes : List ℕ) → AreBytes bytes → Means (SpellsNumRecs v bytes) (StopsInNumRecs v bytes) ((numrecs_at v).run bytes)
 unfolding numrecs_at ◌>>=◌ done stop
 means-numrecs v bytes fits =
-    means-next _ (means-number v bytes fits)
+    means-next _ (means-number (count_width v) (count-wide v) bytes fits)
     (λ n rest number more. means-cond (n == streaming_mark v) _ _ rest
     (λ is_mark. spells Streaming rest (subst (λ (k : ℕ). SpellsNumber (count_width v) bytes k rest) (eqb-true _ _ is_mark) number) more)
     (λ no_mark. means-cond (leb (count_limit v) n) _ _ rest

@@ -1,24 +1,7 @@
 -- The bytes of a header's spelling are those of its parts.
 use Rattle.std.proofs.Common.{◌≡◌, ℕ, ◌+◌, ◌*◌, ◌/◌, List, [], ◌∷◌, ◌++◌, length, refl, ◌∙◌, arith, length-append}
-use Rattle.std.specs.Int.{to_be_bytes, byte_len}
-use Rattle.std.specs.List.{flat_map, sum_by}
-use Rattle.std.proofs.lemmas.List.{length-replicate}
-use Rattle.std.proofs.lemmas.List.Sums.{sum_by-cons}
-use Rattle.nc_base.specs.declared.header.Att.{Att}
-use Rattle.nc_base.specs.declared.header.Dim.{Dim}
-use Rattle.nc_base.specs.declared.header.Header.{Header}
-use Rattle.nc_base.specs.declared.header.NumRecs.{NumRecs}
-use Rattle.nc_base.specs.declared.header.NumRecs.TheVariants.{Known, Streaming}
-use Rattle.nc_base.specs.declared.header.Var.{Var}
-use Rattle.nc_base.specs.declared.version.Version.{Version}
-use Rattle.nc_base.specs.declared.version.Version.TheVariants.{Cdf1, Cdf2, Cdf5}
-use Rattle.nc_base.specs.Bytes.{padding_len}
-use Rattle.nc_base.specs.Grammar.{dimension_tag}
-use Rattle.nc_base.specs.Sizes.{padded_size}
-use Rattle.nc_base.specs.Types.{code_of, size_of}
-use Rattle.nc_base.specs.Versions.{offset_width, streaming_mark}
-use Rattle.nc_base.specs.GeneratedFile.{count_spelling, word_spelling, magic_spelling, zero_padded, name_spelling, list_head, list_spelling, dim_spelling, att_spelling, atts_spelling, vsize_of, var_spelling, numrecs_spelling, header_spelling}
-use Rattle.nc_file.specs.Lengths as len
+use Rattle.nc_file.proofs.Prelude.{to_be_bytes, byte_len, flat_map, sum_by, length-replicate, sum_by-cons, Att, Dim, Header, NumRecs, Known, Streaming, Var, Version, Cdf1, Cdf2, Cdf5, padding_len, dimension_tag, padded_size, code_of, size_of, offset_width, streaming_mark, count_spelling, word_spelling, magic_spelling, zero_padded, name_spelling, list_head, list_spelling, dim_spelling, att_spelling, atts_spelling, vsize_of, var_spelling, numrecs_spelling, header_spelling}
+use Rattle.nc_file.specs.code.Lengths as len
 
 -- ---- numbers
 

@@ -1,20 +1,9 @@
 -- The other direction: a header that is spelled is read, and reading stops with the first wrong field. So each list of bytes
 -- has one header or one first wrong field.
-use Rattle.std.proofs.Common.{◌≡◌, ◌≢◌, ℕ, ◌<◌, List, [], ◌∷◌, length, Option, Ok, Err, refl, ap, ◌∙◌, arith}
-use Rattle.std.proofs.lemmas.Bool.{eq-eqb}
-use Rattle.std.specs.Prelude.{◌==◌, ◌&&◌}
-use Rattle.nc_base.specs.declared.fault.FormatFault.{FormatFault}
-use Rattle.nc_base.specs.declared.fault.FormatFault.TheVariants.{NotNetcdf}
-use Rattle.nc_base.specs.declared.header.Header.{Header}
-use Rattle.nc_base.specs.declared.header.NumRecs.{NumRecs}
-use Rattle.nc_base.specs.declared.header.NumRecs.TheVariants.{Known, Streaming}
-use Rattle.nc_base.specs.declared.version.Version.{Version}
-use Rattle.nc_base.specs.declared.version.Version.TheVariants.{Cdf1, Cdf2, Cdf5}
-use Rattle.nc_base.specs.Versions.{version_byte, count_limit, streaming_mark}
-use Rattle.nc_base.specs.Grammar.{SpellsMagic, SpellsNumRecs, SpellsHeader}
-use Rattle.nc_base.specs.FirstFault.{StopsInMagic, cut_magic, other_magic, cut_version, bad_version, StopsInNumRecs, cut_numrecs, negative_numrecs, StopsWith, in_magic, in_numrecs, in_dims, in_gatts, in_vars}
-use Rattle.nc_file.specs.declared.head_fault.HeadFault.TheVariants.{Format}
-use Rattle.nc_file.specs.Reading.{◌>>=◌, done, stop, byte_or, version_or, version_at, magic_at, numrecs_at, header_at}
+use Rattle.std.proofs.Common.{◌≡◌, ◌≢◌, ℕ, ◌<◌, List, [], ◌∷◌, length, Option, Ok, Err, refl, ap, ◌∙◌, arith, ◌==◌, ◌&&◌}
+use Rattle.nc_file.proofs.Prelude.{eq-eqb, FormatFault, NotNetcdf, Header, NumRecs, Known, Streaming, Version, Cdf1, Cdf2, Cdf5, version_byte, count_width, count_limit, streaming_mark, SpellsMagic, SpellsNumRecs, SpellsHeader, StopsInMagic, cut_magic, other_magic, cut_version, bad_version, StopsInNumRecs, cut_numrecs, negative_numrecs, StopsWith, in_magic, in_numrecs, in_dims, in_gatts, in_vars, Format, done, stop, byte_or, version_or, version_at, magic_at, numrecs_at, header_at}
+use Rattle.nc_file.specs.code.Reading.{◌>>=◌}
+use Rattle.nc_file.proofs.FieldLaws.{count-wide}
 use Rattle.nc_file.proofs.HeaderLaws.{three-bytes}
 use Rattle.nc_file.proofs.Again.{then-ok, then-err, if-so, if-not, below-test, above-test, other-test, not-so, number-again, number-stops-again}
 use Rattle.nc_file.proofs.ListsAgain.{dims-again, dims-stop-again, atts-again, atts-stop-again}
@@ -63,17 +52,17 @@ no-mark Cdf5 n lt e = omega (arith, lt, e)
 pub numrecs-again : (v : Version) (bytes : List ℕ) (numrecs : NumRecs) (rest : List ℕ) → SpellsNumRecs v bytes numrecs rest → (numrecs_at v).run bytes ≡ Ok (numrecs, rest)
 unfolding numrecs_at ◌>>=◌ done
 numrecs-again v bytes (Known n) rest s =
-    then-ok _ (number-again v bytes n rest s.number)
+    then-ok _ (number-again (count_width v) (count-wide v) bytes n rest s.number)
     (if-not _ _ (other-test n (streaming_mark v) (no-mark v n s.non_negative)) (if-not _ _ (below-test _ _ s.non_negative) refl))
 numrecs-again v bytes Streaming rest s =
-    then-ok _ (number-again v bytes (streaming_mark v) rest s) (if-so _ _ (eq-eqb (streaming_mark v) (streaming_mark v) refl) refl)
+    then-ok _ (number-again (count_width v) (count-wide v) bytes (streaming_mark v) rest s) (if-so _ _ (eq-eqb (streaming_mark v) (streaming_mark v) refl) refl)
 
 -- reading the number of records stops where it is wrong
 pub numrecs-stops-again : (v : Version) (bytes : List ℕ) (fault : FormatFault) (rest : List ℕ) → StopsInNumRecs v bytes fault rest → (numrecs_at v).run bytes ≡ Err (Format fault, rest)
 unfolding numrecs_at ◌>>=◌ stop
-numrecs-stops-again v bytes fault rest (cut_numrecs cut) = then-err _ (number-stops-again v bytes cut)
+numrecs-stops-again v bytes fault rest (cut_numrecs cut) = then-err _ (number-stops-again (count_width v) bytes cut)
 numrecs-stops-again v bytes fault rest (negative_numrecs n r number high not_mark) =
-    then-ok _ (number-again v bytes n r number)
+    then-ok _ (number-again (count_width v) (count-wide v) bytes n r number)
     (if-not _ _ (other-test n (streaming_mark v) not_mark) (if-so _ _ (above-test _ _ high) refl))
 
 -- ---- the whole

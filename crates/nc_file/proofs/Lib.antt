@@ -14,6 +14,8 @@ pub mod Outcomes
 pub mod Answered
 pub mod FileLaws
 pub mod Shapes
+pub mod Totals
 pub mod HeaderLen
 pub mod Weights
 pub mod BeginLaws
+pub mod Prelude

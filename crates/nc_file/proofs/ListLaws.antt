@@ -1,24 +1,9 @@
 -- Lists, dimensions and attributes are read as the grammar says.
-use Rattle.std.proofs.Common.{◌≡◌, ◌≢◌, ℕ, zero, suc, ◌*◌, ◌<◌, Bool, true, false, cond, List, [], ◌∷◌, ◌++◌, length, inl, inr, Ok, Err, refl, sym, ap, subst, ◌∙◌, append_assoc, arith}
-use Rattle.std.proofs.lemmas.Bool.{eqb-true, eqb-false, eq-eqb}
-use Rattle.std.proofs.lemmas.List.{append-nil}
-use Rattle.std.proofs.lemmas.List.Folds.{list_any-append}
-use Rattle.std.specs.Int.{w32}
-use Rattle.std.specs.Prelude.{◌==◌, ◌||◌, ◌&&◌, not}
-use Rattle.nc_base.specs.declared.fault.FormatFault.{FormatFault}
-use Rattle.nc_base.specs.declared.fault.FormatFault.TheVariants.{HeaderTruncated, BadCount}
-use Rattle.nc_base.specs.declared.header.Att.{Att}
-use Rattle.nc_base.specs.declared.header.Dim.{Dim}
-use Rattle.nc_base.specs.declared.nc_type.NcType.{NcType}
-use Rattle.nc_base.specs.declared.version.Version.{Version}
-use Rattle.nc_base.specs.Bytes.{AreBytes, padding_len}
-use Rattle.nc_base.specs.Types.{size_of}
-use Rattle.nc_base.specs.Headers.{has_record_dim}
-use Rattle.nc_base.specs.Grammar.{ElementSpelling, dimension_tag, attribute_tag, SpellsNumber, SpellsCount, SpellsPadded, SpellsEach, SpellsCounted, SpellsList, absent, present, SpellsDim, SpellsAttPrefix, SpellsAtt, SpellsAtts}
-use Rattle.nc_base.specs.FirstFault.{ElementStop, StopsInCount, StopsInEach, in_count, in_element, StopsInList, cut_tag, bad_tag, in_absent_count, absent_elements, in_present, StopsInDim, in_dim_name, in_dim_len, second_record_dim, StopsInAtt, in_att_name, in_att_type, in_att_count, cut_values, cut_value_padding, StopsInAtts}
-use Rattle.nc_file.specs.Reading.{Outcome, Part, next, ◌>>=◌, done, stop, list_len_at, padded_at, each_at, dim_at, dims_at, dim_list_at, att_at, atts_at, att_list_at}
+use Rattle.std.proofs.Common.{◌≡◌, ◌≢◌, ℕ, zero, suc, ◌*◌, ◌<◌, Bool, true, false, cond, List, [], ◌∷◌, ◌++◌, length, inl, inr, refl, sym, ap, subst, ◌∙◌, append_assoc, arith, ◌==◌, ◌&&◌, not}
+use Rattle.nc_file.proofs.Prelude.{eqb-true, eqb-false, eq-eqb, append-nil, w32, FormatFault, HeaderTruncated, BadCount, Att, NcType, Version, AreBytes, padding_len, size_of, has_record_dim, ElementSpelling, dimension_tag, attribute_tag, SpellsNumber, SpellsCount, SpellsPadded, SpellsEach, SpellsCounted, SpellsList, absent, present, SpellsDim, SpellsAttPrefix, SpellsAtt, SpellsAtts, ElementStop, StopsInCount, StopsInEach, in_count, in_element, StopsInList, cut_tag, bad_tag, in_absent_count, absent_elements, in_present, StopsInDim, in_dim_name, in_dim_len, second_record_dim, StopsInAtt, in_att_name, in_att_type, in_att_count, cut_values, cut_value_padding, StopsInAtts, Part, next, done, stop, list_len_at, list_at, padded_at, each_at, dim_at, dim_after, dim_list_at, att_at, att_after, att_list_at}
+use Rattle.nc_file.specs.code.Reading.{◌>>=◌}
 use Rattle.nc_file.proofs.Means.{Means, spells, stops, means-next, means-map, means-cond}
-use Rattle.nc_file.proofs.FieldLaws.{CutNumber, cut_number, CutBytes, cut_bytes, Taken, padded-at, means-u32, means-count, means-bytes, means-skip, means-name, means-type}
+use Rattle.nc_file.proofs.FieldLaws.{CutBytes, cut_bytes, Taken, wide-32, padded-at, means-number, means-count, means-bytes, means-skip, means-name, means-type}
 
 -- ---- the tag and the count of a list
 
@@ -27,8 +12,8 @@ pub data SpellsListLen (v : Version) (tag : ℕ) (bytes : List ℕ) (n : ℕ) (r
   absent_len : (after_tag : List ℕ) → SpellsNumber w32 bytes 0 after_tag → SpellsCount v after_tag n rest → n ≡ 0 → SpellsListLen v tag bytes n rest
   present_len : (after_tag : List ℕ) → SpellsNumber w32 bytes tag after_tag → SpellsCount v after_tag n rest → SpellsListLen v tag bytes n rest
 
-cut-tag : {A : Type 0} (v : Version) (tag : ℕ) (Element : ElementSpelling A) (Stops : ElementStop A) (bytes : List ℕ) (fault : FormatFault) (rest : List ℕ) → CutNumber w32 bytes fault rest → StopsInList v tag Element Stops bytes fault rest
-cut-tag v tag Element Stops bytes fault rest (cut_number cut) = cut_tag cut
+cut-tag : {A : Type 0} (v : Version) (tag : ℕ) (Element : ElementSpelling A) (Stops : ElementStop A) (bytes : List ℕ) (fault : FormatFault) (rest : List ℕ) → CutBytes 4 bytes fault rest → StopsInList v tag Element Stops bytes fault rest
+cut-tag v tag Element Stops bytes fault rest (cut_bytes cut) = cut_tag cut
 
 -- a tag that is zero or the list's own
 data IsTag (tag found : ℕ) : Type 0 where
@@ -66,7 +51,7 @@ pub means-list_len : {A : Type 0} (v : Version) (tag : ℕ) (Element : ElementSp
     → Means (SpellsListLen v tag bytes) (StopsInList v tag Element Stops bytes) ((list_len_at v tag).run bytes)
 unfolding list_len_at ◌>>=◌ stop
 means-list_len v tag Element Stops bytes fits =
-    means-next _ (means-u32 bytes fits)
+    means-next _ (means-number w32 wide-32 bytes fits)
     (λ found after_tag number more. means-cond (not (found == 0) && not (found == tag)) _ _ after_tag
     (λ other. let h = other-tag tag found _ _ refl refl other in stops _ _ (bad_tag found after_tag number h.0 h.1))
     (λ own. let h = is-tag tag found _ _ refl refl own in
@@ -145,13 +130,6 @@ abbrev pub ReadsElements : {A : Type 0} → ElementSpelling A → ElementStop A 
 ReadsElements Element Stops elements =
     (n : ℕ) (bytes : List ℕ) → AreBytes bytes → Means (SpellsMore Element n [] bytes) (StopsInEach Element Stops n [] bytes) ((elements n).run bytes)
 
--- elements that are read as one after the other
-pub reads-each : {A : Type 0} (Element : ElementSpelling A) (Stops : ElementStop A) (element : List A → Part A) (elements : ℕ → Part (List A))
-    → ReadsElement Element Stops element → ((n : ℕ) (bytes : List ℕ) → (elements n).run bytes ≡ (each_at element n []).run bytes)
-    → ReadsElements Element Stops elements
-reads-each Element Stops element elements reads same n bytes fits =
-    subst (Means (SpellsMore Element n [] bytes) (StopsInEach Element Stops n [] bytes)) (sym (same n bytes)) (means-each Element Stops element reads n [] bytes fits)
-
 -- a list
 pub means-list : {A : Type 0} (v : Version) (tag : ℕ) (Element : ElementSpelling A) (Stops : ElementStop A) (elements : ℕ → Part (List A))
     → ReadsElements Element Stops elements → (bytes : List ℕ) → AreBytes bytes
@@ -163,11 +141,6 @@ means-list v tag Element Stops elements reads bytes fits =
     (λ fault rest. stops-list v tag Element Stops n bytes body fault rest len))
     (λ fault rest s. s)
 
--- two continuations that read the same
-pub next-cong : {A B : Type 0} (o : Outcome A) (f g : A → Part B) → ((x : A) (rest : List ℕ) → (f x).run rest ≡ (g x).run rest) → next o f ≡ next o g
-next-cong (Ok x) f g same = same x.0 x.1
-next-cong (Err e) f g same = refl
-
 -- ---- dimensions
 
 and-false : (a b : Bool) → (a && b) ≡ false → b ≡ true → a ≡ false
@@ -178,7 +151,7 @@ pub and-true : (a b : Bool) → (a && b) ≡ true → (a ≡ true) × (b ≡ tru
 and-true true b e = (refl, e)
 and-true false b e = absurd cc
 
-dim-read : (v : Version) → ReadsElement (SpellsDim v) (StopsInDim v) (λ before. dim_at v (has_record_dim before))
+dim-read : (v : Version) → ReadsElement (SpellsDim v) (StopsInDim v) (dim_after v)
 unfolding dim_at ◌>>=◌ done stop
 dim-read v before bytes fits =
     means-next _ (means-name v bytes fits)
@@ -191,24 +164,12 @@ dim-read v before bytes fits =
     (λ fault rest. in_dim_len name after_name fault rest named))
     (in_dim_name)
 
-has_record_dim-append : (dims : List Dim) (d : Dim) → has_record_dim (dims ++ d ∷ []) ≡ (has_record_dim dims || (d.len == 0))
-has_record_dim-append dims d =
-    list_any-append (λ (dim : Dim). dim.len == 0) dims (d ∷ []) ∙ ap (λ (b : Bool). has_record_dim dims || b) (elim (d.len == 0) as (λ b. (b || false) ≡ b) [ true ↦ refl | false ↦ refl ])
-
-pub dims_at-each : (v : Version) (n : ℕ) (before : List Dim) (bytes : List ℕ)
-    → (dims_at v n (has_record_dim before) before).run bytes ≡ (each_at (λ b. dim_at v (has_record_dim b)) n before).run bytes
-unfolding dims_at each_at ◌>>=◌
-dims_at-each v zero before bytes = refl
-dims_at-each v (suc n) before bytes =
-    next-cong ((dim_at v (has_record_dim before)).run bytes) _ _
-    (λ d rest. ap (λ (view : Bool). (dims_at v n view (before ++ d ∷ [])).run rest) (sym (has_record_dim-append before d)) ∙ dims_at-each v n (before ++ d ∷ []) rest)
-
 pub means-dims : (v : Version) (bytes : List ℕ) → AreBytes bytes
     → Means (SpellsList v dimension_tag (SpellsDim v) bytes) (StopsInList v dimension_tag (SpellsDim v) (StopsInDim v) bytes) ((dim_list_at v).run bytes)
-unfolding dim_list_at ◌>>=◌
+unfolding list_at ◌>>=◌
 means-dims v bytes fits =
-    means-list v dimension_tag (SpellsDim v) (StopsInDim v) (λ n. dims_at v n false [])
-    (reads-each (SpellsDim v) (StopsInDim v) (λ b. dim_at v (has_record_dim b)) (λ n. dims_at v n false []) (dim-read v) (λ n. dims_at-each v n [])) bytes fits
+    means-list v dimension_tag (SpellsDim v) (StopsInDim v) (λ n. each_at (dim_after v) n [])
+    (λ n. means-each (SpellsDim v) (StopsInDim v) (dim_after v) (dim-read v) n []) bytes fits
 
 -- ---- attributes
 
@@ -244,7 +205,7 @@ cut-values v before bytes name body ty n fault rest prefix (cut_padding content 
     cut_value_padding name content following ty n (subst (λ (x : List ℕ). SpellsAttPrefix v bytes name ty n x) taken.spelled prefix) taken.count
     (subst (λ (k : ℕ). length following < padding_len k) (sym taken.count) cut)
 
-att-read : (v : Version) → ReadsElement (SpellsAtt v) (StopsInAtt v) (λ before. att_at v)
+att-read : (v : Version) → ReadsElement (SpellsAtt v) (StopsInAtt v) (att_after v)
 unfolding att_at ◌>>=◌ done
 att-read v before bytes fits =
     means-next _ (means-name v bytes fits)
@@ -262,7 +223,7 @@ att-read v before bytes fits =
 
 pub means-atts : (v : Version) (bytes : List ℕ) → AreBytes bytes
     → Means (SpellsAtts v bytes) (StopsInAtts v bytes) ((att_list_at v).run bytes)
-unfolding att_list_at atts_at ◌>>=◌
+unfolding list_at ◌>>=◌
 means-atts v bytes fits =
-    means-list v attribute_tag (SpellsAtt v) (StopsInAtt v) (λ n. atts_at v n [])
-    (reads-each (SpellsAtt v) (StopsInAtt v) (λ before. att_at v) (λ n. atts_at v n []) (att-read v) (λ n rest. refl)) bytes fits
+    means-list v attribute_tag (SpellsAtt v) (StopsInAtt v) (λ n. each_at (att_after v) n [])
+    (λ n. means-each (SpellsAtt v) (StopsInAtt v) (att_after v) (att-read v) n []) bytes fits

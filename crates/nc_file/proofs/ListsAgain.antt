@@ -1,23 +1,10 @@
 -- The other direction: lists, dimensions and attributes that are spelled are read, and reading stops with their first wrong field.
-use Rattle.std.proofs.Common.{◌≡◌, ◌≢◌, ℕ, zero, suc, ◌*◌, ◌<◌, Bool, true, false, List, [], ◌∷◌, ◌++◌, length, inl, inr, Ok, Err, refl, sym, ap, subst, ◌∙◌, append_assoc}
-use Rattle.std.proofs.lemmas.Bool.{eqb-true, eq-eqb}
-use Rattle.std.proofs.lemmas.List.{append-nil}
-use Rattle.std.specs.Int.{w32}
-use Rattle.std.specs.Prelude.{◌==◌, ◌&&◌, not}
-use Rattle.nc_base.specs.declared.fault.FormatFault.{FormatFault}
-use Rattle.nc_base.specs.declared.fault.FormatFault.TheVariants.{HeaderTruncated, BadTag, BadCount}
-use Rattle.nc_base.specs.declared.header.Att.{Att}
-use Rattle.nc_base.specs.declared.header.Dim.{Dim}
-use Rattle.nc_base.specs.declared.version.Version.{Version}
-use Rattle.nc_base.specs.Bytes.{padding_len}
-use Rattle.nc_base.specs.Types.{size_of}
-use Rattle.nc_base.specs.Headers.{has_record_dim}
-use Rattle.nc_base.specs.Grammar.{ElementSpelling, dimension_tag, attribute_tag, SpellsNumber, SpellsCount, SpellsPadded, SpellsEach, SpellsList, absent, present, SpellsDim, SpellsAtt, SpellsAtts}
-use Rattle.nc_base.specs.FirstFault.{ElementStop, StopsInCount, StopsInEach, StopsInCounted, in_count, in_element, StopsInList, cut_tag, bad_tag, in_absent_count, absent_elements, in_present, StopsInDim, in_dim_name, in_dim_len, second_record_dim, StopsInAtt, in_att_name, in_att_type, in_att_count, cut_values, cut_value_padding, StopsInAtts}
-use Rattle.nc_file.specs.declared.head_fault.HeadFault.TheVariants.{Format}
-use Rattle.nc_file.specs.Reading.{Part, next, ◌>>=◌, done, stop, list_len_at, padded_at, each_at, dim_at, dims_at, dim_list_at, att_at, atts_at, att_list_at}
-use Rattle.nc_file.proofs.ListLaws.{SpellsListLen, absent_len, present_len, dims_at-each}
-use Rattle.nc_file.proofs.Again.{then-ok, then-err, if-so, if-not, other-test, u32-again, u32-stops-again, count-again, count-stops-again, bytes-again, bytes-stops-again, skip-again, skip-stops-again, name-again, name-stops-again, type-again, type-stops-again}
+use Rattle.std.proofs.Common.{◌≡◌, ◌≢◌, ℕ, zero, suc, ◌*◌, ◌<◌, Bool, true, false, List, [], ◌∷◌, ◌++◌, length, inl, inr, Ok, Err, refl, sym, ap, subst, ◌∙◌, append_assoc, ◌==◌, ◌&&◌, not}
+use Rattle.nc_file.proofs.Prelude.{eqb-true, eq-eqb, append-nil, w32, FormatFault, HeaderTruncated, BadTag, BadCount, Att, Dim, Version, padding_len, size_of, has_record_dim, ElementSpelling, dimension_tag, attribute_tag, SpellsNumber, SpellsCount, SpellsPadded, SpellsEach, SpellsList, absent, present, SpellsDim, SpellsAtt, SpellsAtts, ElementStop, StopsInCount, StopsInEach, StopsInCounted, in_count, in_element, StopsInList, cut_tag, bad_tag, in_absent_count, absent_elements, in_present, StopsInDim, in_dim_name, in_dim_len, second_record_dim, StopsInAtt, in_att_name, in_att_type, in_att_count, cut_values, cut_value_padding, StopsInAtts, Format, Part, next, done, stop, list_len_at, list_at, padded_at, each_at, dim_at, dim_after, dim_list_at, att_at, att_after, att_list_at}
+use Rattle.nc_file.specs.code.Reading.{◌>>=◌}
+use Rattle.nc_file.proofs.FieldLaws.{wide-32}
+use Rattle.nc_file.proofs.ListLaws.{SpellsListLen, absent_len, present_len}
+use Rattle.nc_file.proofs.Again.{then-ok, then-err, if-so, if-not, other-test, number-again, number-stops-again, count-again, count-stops-again, bytes-again, bytes-stops-again, skip-again, skip-stops-again, name-again, name-stops-again, type-again, type-stops-again}
 
 -- ---- the tag and the count of a list
 
@@ -42,10 +29,10 @@ any-count tag b is = rw is refl
 pub list_len-again : (v : Version) (tag : ℕ) (bytes : List ℕ) (n : ℕ) (rest : List ℕ) → IsListTag tag → SpellsListLen v tag bytes n rest → (list_len_at v tag).run bytes ≡ Ok (n, rest)
 unfolding list_len_at ◌>>=◌ done
 list_len-again v tag bytes n rest is (absent_len after_tag number count none) =
-    then-ok _ (u32-again bytes 0 after_tag number)
+    then-ok _ (number-again w32 wide-32 bytes 0 after_tag number)
     (then-ok _ (count-again v after_tag n rest count) (if-not _ _ (ap not (eq-eqb n 0 none)) refl))
 list_len-again v tag bytes n rest is (present_len after_tag number count) =
-    then-ok _ (u32-again bytes tag after_tag number)
+    then-ok _ (number-again w32 wide-32 bytes tag after_tag number)
     (if-not _ _ (own-tag tag (tag == 0))
     (then-ok _ (count-again v after_tag n rest count) (if-not _ _ (any-count tag (not (n == 0)) is) refl)))
 
@@ -54,7 +41,7 @@ present-count-stops : (v : Version) (tag : ℕ) (bytes after_tag : List ℕ) (fa
     → SpellsNumber w32 bytes tag after_tag → StopsInCount v after_tag fault rest → (list_len_at v tag).run bytes ≡ Err (Format fault, rest)
 unfolding list_len_at ◌>>=◌
 present-count-stops v tag bytes after_tag fault rest number s =
-    then-ok _ (u32-again bytes tag after_tag number)
+    then-ok _ (number-again w32 wide-32 bytes tag after_tag number)
     (if-not _ _ (own-tag tag (tag == 0)) (then-err _ (count-stops-again v after_tag fault rest s)))
 
 -- ---- elements
@@ -130,26 +117,26 @@ len-stops : (v : Version) (tag : ℕ) (bytes after_tag : List ℕ) (fault : Form
     → SpellsNumber w32 bytes 0 after_tag → StopsInCount v after_tag fault rest → (list_len_at v tag).run bytes ≡ Err (Format fault, rest)
 unfolding list_len_at ◌>>=◌
 len-stops v tag bytes after_tag fault rest number s =
-    then-ok _ (u32-again bytes 0 after_tag number) (then-err _ (count-stops-again v after_tag fault rest s))
+    then-ok _ (number-again w32 wide-32 bytes 0 after_tag number) (then-err _ (count-stops-again v after_tag fault rest s))
 
 -- where the file ends in the tag, reading stops
 cut-tag-stops : (v : Version) (tag : ℕ) (bytes : List ℕ) → length bytes < 4 → (list_len_at v tag).run bytes ≡ Err (Format HeaderTruncated, [])
 unfolding list_len_at ◌>>=◌
-cut-tag-stops v tag bytes cut = then-err _ (u32-stops-again bytes cut)
+cut-tag-stops v tag bytes cut = then-err _ (number-stops-again w32 bytes cut)
 
 -- reading stops at a wrong tag
 bad-tag-stops : (v : Version) (tag found : ℕ) (bytes rest : List ℕ) → SpellsNumber w32 bytes found rest → found ≢ 0 → found ≢ tag
     → (list_len_at v tag).run bytes ≡ Err (Format BadTag, rest)
 unfolding list_len_at ◌>>=◌ stop
 bad-tag-stops v tag found bytes rest number not_zero not_own =
-    then-ok _ (u32-again bytes found rest number) (if-so _ _ (wrong-tag tag found not_zero not_own) refl)
+    then-ok _ (number-again w32 wide-32 bytes found rest number) (if-so _ _ (wrong-tag tag found not_zero not_own) refl)
 
 -- reading stops at a count after a zero tag
 absent-elements-stop : (v : Version) (tag n : ℕ) (bytes after_tag rest : List ℕ) → SpellsNumber w32 bytes 0 after_tag → SpellsCount v after_tag n rest → n ≢ 0
     → (list_len_at v tag).run bytes ≡ Err (Format BadCount, rest)
 unfolding list_len_at ◌>>=◌ stop
 absent-elements-stop v tag n bytes after_tag rest number count some =
-    then-ok _ (u32-again bytes 0 after_tag number)
+    then-ok _ (number-again w32 wide-32 bytes 0 after_tag number)
     (then-ok _ (count-again v after_tag n rest count) (if-so _ _ (ap not (other-test n 0 some)) refl))
 
 -- reading a list stops with its first wrong field
@@ -176,7 +163,7 @@ single-test true false h = refl
 single-test false b h = refl
 
 -- a spelled dimension is read
-pub dim-again : (v : Version) → ElementAgain (SpellsDim v) (λ before. dim_at v (has_record_dim before))
+pub dim-again : (v : Version) → ElementAgain (SpellsDim v) (dim_after v)
 unfolding dim_at ◌>>=◌ done
 dim-again v before bytes dim rest s =
     then-ok _ (name-again v bytes dim.name s.after_name s.name)
@@ -184,7 +171,7 @@ dim-again v before bytes dim rest s =
     (if-not _ _ (single-test (has_record_dim before) (dim.len == 0) (λ none. s.one_record_dim (eqb-true _ _ none))) refl))
 
 -- reading a dimension stops with its first wrong field
-pub dim-stops-again : (v : Version) → ElementStopsAgain (StopsInDim v) (λ before. dim_at v (has_record_dim before))
+pub dim-stops-again : (v : Version) → ElementStopsAgain (StopsInDim v) (dim_after v)
 unfolding dim_at ◌>>=◌ stop
 dim-stops-again v before bytes fault rest (in_dim_name f r s) = then-err _ (name-stops-again v bytes f r s)
 dim-stops-again v before bytes fault rest (in_dim_len name after_name f r named s) =
@@ -195,18 +182,18 @@ dim-stops-again v before bytes fault rest (second_record_dim name after_name r n
 
 -- a spelled list of dimensions is read
 pub dims-again : (v : Version) (bytes : List ℕ) (dims : List Dim) (rest : List ℕ) → SpellsList v dimension_tag (SpellsDim v) bytes dims rest → (dim_list_at v).run bytes ≡ Ok (dims, rest)
-unfolding dim_list_at ◌>>=◌
+unfolding list_at ◌>>=◌
 dims-again v bytes dims rest s =
-    list-again v dimension_tag (SpellsDim v) (λ n. dims_at v n false []) refl
-    (λ xs body more each. dims_at-each v (length xs) [] body ∙ each-again (SpellsDim v) (λ b. dim_at v (has_record_dim b)) (dim-again v) xs [] body more each)
+    list-again v dimension_tag (SpellsDim v) (λ n. each_at (dim_after v) n []) refl
+    (λ xs body more each. each-again (SpellsDim v) (dim_after v) (dim-again v) xs [] body more each)
     bytes dims rest s
 
 -- reading a list of dimensions stops with its first wrong field
 pub dims-stop-again : (v : Version) (bytes : List ℕ) (fault : FormatFault) (rest : List ℕ) → StopsInList v dimension_tag (SpellsDim v) (StopsInDim v) bytes fault rest → (dim_list_at v).run bytes ≡ Err (Format fault, rest)
-unfolding dim_list_at ◌>>=◌
+unfolding list_at ◌>>=◌
 dims-stop-again v bytes fault rest s =
-    list-stops-again v dimension_tag (SpellsDim v) (StopsInDim v) (λ n. dims_at v n false []) refl
-    (λ n body f r each. dims_at-each v n [] body ∙ each-stops-again (SpellsDim v) (StopsInDim v) (λ b. dim_at v (has_record_dim b)) (dim-again v) (dim-stops-again v) n [] body f r each)
+    list-stops-again v dimension_tag (SpellsDim v) (StopsInDim v) (λ n. each_at (dim_after v) n []) refl
+    (λ n body f r each. each-stops-again (SpellsDim v) (StopsInDim v) (dim_after v) (dim-again v) (dim-stops-again v) n [] body f r each)
     bytes fault rest s
 
 -- ---- attributes
@@ -231,7 +218,7 @@ padding-stops-again n content rest count cut =
     (then-err _ (skip-stops-again (padding_len n) rest (subst (λ (k : ℕ). length rest < padding_len k) count cut)))
 
 -- a spelled attribute is read
-pub att-again : (v : Version) → ElementAgain (SpellsAtt v) (λ before. att_at v)
+pub att-again : (v : Version) → ElementAgain (SpellsAtt v) (att_after v)
 unfolding att_at ◌>>=◌ done
 att-again v before bytes att rest s =
     then-ok _ (name-again v bytes att.name s.prefix.after_name s.prefix.named)
@@ -240,7 +227,7 @@ att-again v before bytes att rest s =
     (then-ok _ (padded-again (s.count * size_of att.ty) s.after_count att.vals rest s.whole s.values) refl)))
 
 -- reading an attribute stops with its first wrong field
-pub att-stops-again : (v : Version) → ElementStopsAgain (StopsInAtt v) (λ before. att_at v)
+pub att-stops-again : (v : Version) → ElementStopsAgain (StopsInAtt v) (att_after v)
 unfolding att_at ◌>>=◌
 att-stops-again v before bytes fault rest (in_att_name f r s) = then-err _ (name-stops-again v bytes f r s)
 att-stops-again v before bytes fault rest (in_att_type name after_name f r named s) =
@@ -259,16 +246,16 @@ att-stops-again v before bytes fault rest (cut_value_padding name vals r ty coun
 
 -- a spelled list of attributes is read
 pub atts-again : (v : Version) (bytes : List ℕ) (atts : List Att) (rest : List ℕ) → SpellsAtts v bytes atts rest → (att_list_at v).run bytes ≡ Ok (atts, rest)
-unfolding att_list_at atts_at ◌>>=◌
+unfolding list_at ◌>>=◌
 atts-again v bytes atts rest s =
-    list-again v attribute_tag (SpellsAtt v) (λ n. atts_at v n []) refl
-    (λ xs body more each. each-again (SpellsAtt v) (λ before. att_at v) (att-again v) xs [] body more each)
+    list-again v attribute_tag (SpellsAtt v) (λ n. each_at (att_after v) n []) refl
+    (λ xs body more each. each-again (SpellsAtt v) (att_after v) (att-again v) xs [] body more each)
     bytes atts rest s
 
 -- reading a list of attributes stops with its first wrong field
 pub atts-stop-again : (v : Version) (bytes : List ℕ) (fault : FormatFault) (rest : List ℕ) → StopsInAtts v bytes fault rest → (att_list_at v).run bytes ≡ Err (Format fault, rest)
-unfolding att_list_at atts_at ◌>>=◌
+unfolding list_at ◌>>=◌
 atts-stop-again v bytes fault rest s =
-    list-stops-again v attribute_tag (SpellsAtt v) (StopsInAtt v) (λ n. atts_at v n []) refl
-    (λ n body f r each. each-stops-again (SpellsAtt v) (StopsInAtt v) (λ before. att_at v) (att-again v) (att-stops-again v) n [] body f r each)
+    list-stops-again v attribute_tag (SpellsAtt v) (StopsInAtt v) (λ n. each_at (att_after v) n []) refl
+    (λ n body f r each. each-stops-again (SpellsAtt v) (StopsInAtt v) (att_after v) (att-again v) (att-stops-again v) n [] body f r each)
     bytes fault rest s

@@ -1,23 +1,17 @@
 -- A loop that reads element after element.
-use Rattle.std.proofs.Common.{◌≡◌, ℕ, suc, ◌+◌, ◌-◌, ◌<◌, ◌≤◌, Bool, false, ◌||◌, List, [], ◌∷◌, ◌++◌, refl, arith}
-use Rattle.std.specs.Prelude.{◌==◌}
-use Rattle.std.specs.Bool.{OnTrue}
-use Rattle.nc_base.specs.declared.header.Att.{Att}
-use Rattle.nc_base.specs.declared.header.Dim.{Dim}
-use Rattle.nc_base.specs.declared.header.Var.{Var}
-use Rattle.nc_base.specs.declared.version.Version.{Version}
-use Rattle.devices.specs.Sources.{SourceView}
-use Rattle.nc_file.specs.declared.window.Window.{Window}
-use Rattle.nc_file.specs.Reading.{Part, ◌>>=◌, done, left_over, next-shorter, byte_at, skip_at, stop, each_at, dim_at, dims_at, att_at, atts_at, dimid_at, dimids_at, var_at, vars_at}
-use Rattle.nc_file.specs.Window.{state, left, Kept}
+use Rattle.std.proofs.Common.{◌≡◌, ℕ, suc, ◌+◌, ◌-◌, ◌<◌, ◌≤◌, Bool, true, false, ◌||◌, List, [], ◌∷◌, ◌++◌, length, take, set, Ok, refl, sym, ap, ◌∙◌, arith, ◌==◌}
+use Rattle.nc_file.proofs.Prelude.{sub-zero, take_all, OnTrue, OnTrue_at, OnTrue_from, Dim, has_record_dim, Ghosts, Window, Outcome, Part, next, done, next-shorter, byte_at, bytes_at, skip_at, each_at, Kept, Read, left, source_of}
+use Rattle.std.proofs.lemmas.Grind.{take-set_at}
+use Rattle.std.proofs.lemmas.List.Folds.{list_any-append}
+use Rattle.nc_file.specs.code.Reading.{◌>>=◌}
+use Rattle.nc_file.proofs.Totals.{total_of-append}
 use Rattle.nc_file.proofs.Parts.{run-bind, run-done, left_over-ok, left_over-err}
 
 -- What is still to be read from here gives what all of it gives from the start.
-pub record ReadsOn {S A : Type 0} (is_transparent : Bool) (view : S → SourceView) (start now : Window S) (ahead whole : Part A) : Type 0 where
-  pub same_source : now.source.ghost_name ≡ start.source.ghost_name
-  pub kept : Kept is_transparent (state view start) (state view now)
-  pub failures : (view now.source.now).failures ≡ (view start.source.now).failures
-  pub same : OnTrue is_transparent (ahead.run (left (state view now)) ≡ whole.run (left (state view start)))
+pub record ReadsOn {S A : Type 0} {g : Ghosts S} (start now : Window S g) (ahead whole : Part A) : Type 0 where
+  pub kept : Kept start now
+  pub failures : (source_of now).failures ≡ (source_of start).failures
+  pub same : OnTrue g.is_transparent (ahead.run (left now) ≡ whole.run (left start))
 
 pub skip-step : (n i : ℕ) → i < n → skip_at (n - i) ≡ (byte_at >>= λ b. skip_at (n - (i + 1)))
 unfolding skip_at
@@ -29,57 +23,59 @@ skip-end n i le = let k : n - i ≡ 0 = omega arith in rw k refl
 
 pub ruleset skip = (skip-step, skip-end, run-bind, run-done, left_over-ok, left_over-err, next-shorter)
 
+pub bytes-step : (n i : ℕ) (prefix : List ℕ) → i < n → bytes_at (n - i) prefix ≡ (byte_at >>= λ b. bytes_at (n - (i + 1)) (prefix ++ b ∷ []))
+unfolding bytes_at
+bytes-step n i prefix lt = let k : n - i ≡ suc (n - (i + 1)) = omega arith in rw k refl
+
+pub bytes-end : (n i : ℕ) (prefix : List ℕ) → n ≤ i → bytes_at (n - i) prefix ≡ done prefix
+unfolding bytes_at
+bytes-end n i prefix le = let k : n - i ≡ 0 = omega arith in rw k refl
+
+pub ruleset array = (bytes-end, take_all, sub-zero, run-done, left_over-ok, left_over-err, next-shorter, bytes-step, run-bind)
+
+kept-then : {S : Type 0} {g : Ghosts S} {start mid now : Window S g} → Kept start mid → Kept mid now → Kept start now
+kept-then p q = record {
+  same_source = q.same_source ∙ p.same_source;
+  bytes = q.bytes ∙ p.bytes;
+  same_buffer_len = q.same_buffer_len ∙ p.same_buffer_len;
+  handed = omega (arith, p.handed, q.handed);
+}
+
+-- one more byte of an array
+pub array-next : {S : Type 0} {g : Ghosts S} (start mid now : Window S g) (n i b : ℕ) (xs : List ℕ) → i < n → length xs ≡ n
+    → ReadsOn start mid (bytes_at (n - i) (take i xs)) (bytes_at n []) → Read mid now byte_at (Ok b)
+    → ReadsOn start now (bytes_at (n - (i + 1)) (take (i + 1) (set xs i b))) (bytes_at n [])
+array-next {g = g} start mid now n i b xs lt len so_far read = record {
+  kept = kept-then so_far.kept read.kept;
+  failures = read.cause ∙ so_far.failures;
+  same = OnTrue_from _ _ (λ known.
+      let more : ℕ → Part (List ℕ) = λ c. bytes_at (n - (i + 1)) (take i xs ++ c ∷ []) in
+      let at : byte_at.run (left mid) ≡ Ok (b, left now) = OnTrue_at {P = byte_at.run (left mid) ≡ Ok (b, left now)} known read.reads in
+      let step : (bytes_at (n - i) (take i xs)).run (left mid) ≡ (more b).run (left now) =
+      ap (λ (p : Part (List ℕ)). p.run (left mid)) (bytes-step n i (take i xs) lt) ∙ run-bind byte_at more (left mid) ∙ ap (λ (o : Outcome ℕ). next o more) at in
+      ap (λ (ys : List ℕ). (bytes_at (n - (i + 1)) ys).run (left now)) (take-set_at xs i (i + 1) b refl (omega (arith, len)))
+      ∙ sym step ∙ OnTrue_at {P = (bytes_at (n - i) (take i xs)).run (left mid) ≡ (bytes_at n []).run (left start)} known so_far.same);
+}
+
 -- ---- elements
 
-each-step : {A : Type 0} (element : List A → Part A) (n i : ℕ) (prefix : List A) → i < n
+pub each-step : {A : Type 0} (element : List A → Part A) (n i : ℕ) (prefix : List A) → i < n
     → each_at element (n - i) prefix ≡ (element prefix >>= λ x. each_at element (n - (i + 1)) (prefix ++ x ∷ []))
 unfolding each_at
 each-step element n i prefix lt = let k : n - i ≡ suc (n - (i + 1)) = omega arith in rw k refl
 
-each-end : {A : Type 0} (element : List A → Part A) (n i : ℕ) (prefix : List A) → n ≤ i → each_at element (n - i) prefix ≡ done prefix
+pub each-end : {A : Type 0} (element : List A → Part A) (n i : ℕ) (prefix : List A) → n ≤ i → each_at element (n - i) prefix ≡ done prefix
 unfolding each_at
 each-end element n i prefix le = let k : n - i ≡ 0 = omega arith in rw k refl
 
-pub dims-step : (v : Version) (n i : ℕ) (record_dim_before : Bool) (prefix : List Dim) → i < n
-    → dims_at v (n - i) record_dim_before prefix ≡ (dim_at v record_dim_before >>= λ d. dims_at v (n - (i + 1)) (record_dim_before || (d.len == 0)) (prefix ++ d ∷ []))
-unfolding dims_at
-dims-step v n i record_dim_before prefix lt = let k : n - i ≡ suc (n - (i + 1)) = omega arith in rw k refl
+-- the record dimension stands before the next dimension, or in one before
+pub has_record-next : (dims : List Dim) (d : Dim) → has_record_dim (dims ++ d ∷ []) ≡ (has_record_dim dims || (d.len == 0))
+has_record-next dims d =
+    list_any-append (λ (dim : Dim). dim.len == 0) dims (d ∷ []) ∙ ap (λ (b : Bool). has_record_dim dims || b) (elim (d.len == 0) as (λ b. (b || false) ≡ b) [ true ↦ refl | false ↦ refl ])
 
-pub dims-end : (v : Version) (n i : ℕ) (record_dim_before : Bool) (prefix : List Dim) → n ≤ i → dims_at v (n - i) record_dim_before prefix ≡ done prefix
-unfolding dims_at
-dims-end v n i record_dim_before prefix le = let k : n - i ≡ 0 = omega arith in rw k refl
+-- the next dimension id isn't the first
+pub first-next : (ids : List ℕ) (id : ℕ) → (length (ids ++ id ∷ []) == 0) ≡ false
+first-next [] id = refl
+first-next (x ∷ ids) id = grind arith
 
-pub ruleset dims = (dims-step, dims-end, run-bind, run-done, left_over-ok, left_over-err, next-shorter)
-
-pub atts-step : (v : Version) (n i : ℕ) (prefix : List Att) → i < n
-    → atts_at v (n - i) prefix ≡ (att_at v >>= λ a. atts_at v (n - (i + 1)) (prefix ++ a ∷ []))
-unfolding atts_at
-atts-step v n i prefix lt = each-step (λ before. att_at v) n i prefix lt
-
-pub atts-end : (v : Version) (n i : ℕ) (prefix : List Att) → n ≤ i → atts_at v (n - i) prefix ≡ done prefix
-unfolding atts_at
-atts-end v n i prefix le = each-end (λ before. att_at v) n i prefix le
-
-pub ruleset atts = (atts-step, atts-end, run-bind, run-done, left_over-ok, left_over-err, next-shorter)
-
-pub dimids-step : (v : Version) (dims : List Dim) (n i : ℕ) (first : Bool) (prefix : List ℕ) → i < n
-    → dimids_at v dims (n - i) first prefix ≡ (dimid_at v dims first >>= λ id. dimids_at v dims (n - (i + 1)) false (prefix ++ id ∷ []))
-unfolding dimids_at
-dimids-step v dims n i first prefix lt = let k : n - i ≡ suc (n - (i + 1)) = omega arith in rw k refl
-
-pub dimids-end : (v : Version) (dims : List Dim) (n i : ℕ) (first : Bool) (prefix : List ℕ) → n ≤ i → dimids_at v dims (n - i) first prefix ≡ done prefix
-unfolding dimids_at
-dimids-end v dims n i first prefix le = let k : n - i ≡ 0 = omega arith in rw k refl
-
-pub ruleset dimids = (dimids-step, dimids-end, run-bind, run-done, left_over-ok, left_over-err, next-shorter)
-
-pub vars-step : (v : Version) (dims : List Dim) (n i total : ℕ) (prefix : List Var) → i < n
-    → vars_at v dims (n - i) total prefix ≡ (var_at v dims total >>= λ sized. vars_at v dims (n - (i + 1)) sized.total (prefix ++ sized.var ∷ []))
-unfolding vars_at
-vars-step v dims n i total prefix lt = let k : n - i ≡ suc (n - (i + 1)) = omega arith in rw k refl
-
-pub vars-end : (v : Version) (dims : List Dim) (n i total : ℕ) (prefix : List Var) → n ≤ i → vars_at v dims (n - i) total prefix ≡ done prefix
-unfolding vars_at
-vars-end v dims n i total prefix le = let k : n - i ≡ 0 = omega arith in rw k refl
-
-pub ruleset vars = (vars-step, vars-end, run-bind, run-done, left_over-ok, left_over-err, next-shorter)
+pub ruleset each = (each-step, each-end, has_record-next, first-next, total_of-append, run-bind, run-done, left_over-ok, left_over-err, next-shorter)

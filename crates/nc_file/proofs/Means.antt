@@ -1,9 +1,6 @@
 -- That a part of a header reads what the grammar says: how such facts are put together.
 use Rattle.std.proofs.Common.{◌≡◌, ℕ, suc, Bool, true, false, cond, List, ◌∷◌, Ok, Err, refl}
-use Rattle.nc_base.specs.declared.fault.FormatFault.{FormatFault}
-use Rattle.nc_base.specs.Bytes.{AreBytes}
-use Rattle.nc_file.specs.declared.head_fault.HeadFault.TheVariants.{Format}
-use Rattle.nc_file.specs.Reading.{Outcome, Part, next}
+use Rattle.nc_file.proofs.Prelude.{FormatFault, AreBytes, Format, Outcome, Part, next}
 
 -- What reading gives is what the grammar says: a value that is spelled and the rest, or what is wrong with the first wrong
 -- field and the rest after it.

@@ -1,15 +1,7 @@
 -- Bytes begin with one header or have one first wrong field.
-use Rattle.std.proofs.Common.{◌≡◌, ℕ, ◌-◌, ◌≤◌, List, length, inl, inr, Ok, Err, sym, ap, ◌∙◌, arith}
-use Rattle.std.specs.Prelude.{◌⊎◌}
-use Rattle.nc_base.specs.declared.fault.FormatFault.{FormatFault}
-use Rattle.nc_base.specs.declared.header.Header.{Header}
-use Rattle.nc_base.specs.Bytes.{AreBytes}
-use Rattle.nc_base.specs.Grammar.{SpellsHeader}
-use Rattle.nc_base.specs.FirstFault.{StopsWith, StopsAt}
-use Rattle.nc_file.specs.declared.head_fault.HeadFault.{HeadFault}
-use Rattle.nc_file.specs.declared.head_fault.HeadFault.TheVariants.{Format}
+use Rattle.std.proofs.Common.{◌≡◌, ℕ, ◌-◌, ◌≤◌, List, length, inl, inr, Ok, Err, sym, ap, ◌∙◌, arith, ◌⊎◌}
+use Rattle.nc_file.proofs.Prelude.{FormatFault, Header, AreBytes, SpellsHeader, StopsWith, StopsAt, HeadFault, Format, Outcome, left_over, header_at}
 use Rattle.nc_file.specs.OneOutcome.{BeginsWithHeader, HasFirstFault, HasOneOutcome}
-use Rattle.nc_file.specs.Reading.{Outcome, left_over, header_at}
 use Rattle.nc_file.proofs.Means.{Means, spells, stops}
 use Rattle.nc_file.proofs.HeaderLaws.{means-header}
 use Rattle.nc_file.proofs.HeadersAgain.{header-again, header-stops-again}

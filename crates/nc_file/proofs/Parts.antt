@@ -1,9 +1,8 @@
 -- What the parts of a header read.
 use Rattle.std.proofs.Common.{◌≡◌, ℕ, ◌≤◌, List, length, Ok, Err, refl}
-use Rattle.nc_base.specs.declared.fault.FormatFault.{FormatFault}
-use Rattle.nc_file.specs.declared.head_fault.HeadFault.{HeadFault}
-use Rattle.nc_file.specs.Reading.{Part, left_over, next, next-shorter, ◌>>=◌, done, stop, byte_run}
-use Rattle.nc_file.specs.Reading as specs
+use Rattle.nc_file.proofs.Prelude.{FormatFault, HeadFault, Part, left_over, next, next-shorter, done, stop, byte_run}
+use Rattle.nc_file.specs.code.Reading.{◌>>=◌}
+use Rattle.nc_file.specs.code.Reading as specs
 
 pub run-bind : {A B : Type 0} (p : Part A) (f : A → Part B) (bytes : List ℕ) → (p >>= f).run bytes ≡ next (p.run bytes) f
 unfolding ◌>>=◌

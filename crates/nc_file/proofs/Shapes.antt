@@ -1,9 +1,7 @@
 -- The ids of a shape are those of dimensions.
-use Rattle.std.proofs.Common.{ℕ, ◌<◌, List, [], ◌∷◌, ◌++◌, length}
-use Rattle.std.specs.Prelude.{All}
+use Rattle.std.proofs.Common.{ℕ, ◌<◌, List, [], ◌∷◌, ◌++◌, length, All}
 use Rattle.std.proofs.lemmas.List.Elements.{All-nil, All-cons}
-use Rattle.nc_base.specs.declared.header.Dim.{Dim}
-use Rattle.nc_base.specs.Headers.{AreDimids}
+use Rattle.nc_file.proofs.Prelude.{Dim, AreDimids}
 
 pub known-from_AreDimids : (dims : List Dim) (before ids : List ℕ) → AreDimids dims before ids → All (λ id. id < length dims) ids
 known-from_AreDimids dims before [] are = All-nil (λ id. id < length dims)

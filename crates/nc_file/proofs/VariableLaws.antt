@@ -1,30 +1,11 @@
 -- Variables are read as the grammar says.
-use Rattle.std.proofs.Common.{◌≡◌, ℕ, zero, suc, ◌+◌, ◌≤◌, Bool, true, false, cond, leb, ltb, List, [], ◌∷◌, ◌++◌, length, inl, inr, Some, None, refl, sym, ap, subst, ◌∙◌, arith}
-use Rattle.std.proofs.lemmas.Bool.{eqb-true, leb-true, leb-false, ltb-true}
-use Rattle.std.proofs.lemmas.List.{append-nil, map-append}
-use Rattle.std.proofs.lemmas.List.Elements.{filter-append}
-use Rattle.std.proofs.lemmas.List.Sums.{sum_by-append}
-use Rattle.std.specs.Prelude.{◌==◌, ◌||◌, ◌&&◌, not, map, sum}
-use Rattle.nc_base.specs.declared.fault.FormatFault.{FormatFault}
-use Rattle.nc_base.specs.declared.fault.FormatFault.TheVariants.{HeaderTruncated, BadOffset, TooLarge}
-use Rattle.nc_base.specs.declared.header.Att.{Att}
-use Rattle.nc_base.specs.declared.header.Dim.{Dim}
-use Rattle.nc_base.specs.declared.header.Var.{Var}
-use Rattle.nc_base.specs.declared.nc_type.NcType.{NcType}
-use Rattle.nc_base.specs.declared.nc_type.NcType.TheVariants.{Byte}
-use Rattle.nc_base.specs.declared.version.Version.{Version}
-use Rattle.nc_base.specs.declared.version.Version.TheVariants.{Cdf1, Cdf2, Cdf5}
-use Rattle.nc_base.specs.Bytes.{AreBytes}
-use Rattle.nc_base.specs.Versions.{count_width, offset_width, offset_limit}
-use Rattle.nc_base.specs.Sizes.{is_record_dim, is_record_var, padded_size, padded_total, record_vars, slab_of, slab_limit, record_limit}
-use Rattle.nc_base.specs.Headers.{IsDimid}
-use Rattle.nc_base.specs.Grammar.{variable_tag, SpellsNumber, SpellsOffset, SpellsType, SpellsCounted, SpellsList, SpellsDimid, SpellsVar, SpellsVarPrefix, SpellsTypedVar, IsWithinLimits}
-use Rattle.nc_base.specs.FirstFault.{IsCutNumber, StopsInCounted, in_count, in_element, StopsInEach, StopsInList, StopsInDimid, cut_dimid, bad_dimid, StopsInVar, in_var_name, in_shape, in_var_atts, in_var_type, too_large, cut_vsize, cut_begin, negative_begin}
-use Rattle.nc_file.specs.declared.sized_var.SizedVar.{SizedVar}
-use Rattle.nc_file.specs.Reading.{next, ◌>>=◌, done, stop, number_at, each_at, is_dimid, dimid_at, dimids_at, shape_at, wide_at, offset_at, record_part, total_with, total_or_wrong, var_at, vars_at, var_list_at}
+use Rattle.std.proofs.Common.{◌≡◌, ℕ, ◌+◌, ◌≤◌, Bool, true, false, cond, leb, ltb, List, [], ◌∷◌, length, Some, None, refl, sym, ap, subst, arith, ◌==◌, ◌||◌, ◌&&◌, not, sum}
+use Rattle.nc_file.proofs.Prelude.{eqb-true, leb-true, leb-false, ltb-true, byte_len, FormatFault, HeaderTruncated, BadOffset, TooLarge, Att, Dim, Var, NcType, Byte, Version, AreBytes, count_width, offset_width, offset_limit, is_record_dim, slab_of, slab_limit, record_limit, IsDimid, variable_tag, SpellsNumber, SpellsOffset, SpellsType, SpellsCounted, SpellsList, SpellsDimid, SpellsVar, SpellsVarPrefix, SpellsTypedVar, IsWithinLimits, IsCutNumber, StopsInCounted, in_count, in_element, StopsInList, StopsInDimid, cut_dimid, bad_dimid, StopsInVar, in_var_name, in_shape, in_var_atts, in_var_type, too_large, cut_vsize, cut_begin, negative_begin, SizedVar, next, done, stop, number_at, is_dimid, dimid_at, dimid_after, shape_at, offset_at, record_part, total_with, total_or_wrong, var_at, var_after, var_list_at, each_at, list_at}
+use Rattle.nc_file.specs.code.Reading.{◌>>=◌}
+use Rattle.nc_file.proofs.Totals.{total_of, total_of-append}
 use Rattle.nc_file.proofs.Means.{Means, spells, stops, means-next, means-map, means-cond}
-use Rattle.nc_file.proofs.FieldLaws.{CutNumber, cut_number, means-u32, means-u64, means-number, means-count, means-name, means-type}
-use Rattle.nc_file.proofs.ListLaws.{ReadsElement, SpellsMore, more-cons, reads-each, counted, means-list, next-cong, means-atts, and-true}
+use Rattle.nc_file.proofs.FieldLaws.{CutBytes, cut_bytes, count-wide, offset-wide, means-number, means-count, means-name, means-type}
+use Rattle.nc_file.proofs.ListLaws.{ReadsElement, means-each, counted, means-list, means-atts, and-true}
 
 -- ---- dimension ids
 
@@ -62,81 +43,48 @@ no-dimid dims before id e h =
     let all = known-and-first (ltb id (length dims)) (is_first before) (is_record_dim dims id) known (λ r. ap (λ (xs : List ℕ). length xs == 0) (h.record_first r)) in
     cc
 
-cut-dimid : (v : Version) (dims : List Dim) (before : List ℕ) (bytes : List ℕ) (fault : FormatFault) (rest : List ℕ) → CutNumber (count_width v) bytes fault rest → StopsInDimid v dims before bytes fault rest
-cut-dimid v dims before bytes fault rest (cut_number cut) = cut_dimid cut
+cut-dimid : (v : Version) (dims : List Dim) (before : List ℕ) (bytes : List ℕ) (fault : FormatFault) (rest : List ℕ) → CutBytes (byte_len (count_width v)) bytes fault rest → StopsInDimid v dims before bytes fault rest
+cut-dimid v dims before bytes fault rest (cut_bytes cut) = cut_dimid cut
 
-dimid-read : (v : Version) (dims : List Dim) → ReadsElement (SpellsDimid v dims) (StopsInDimid v dims) (λ before. dimid_at v dims (is_first before))
+dimid-read : (v : Version) (dims : List Dim) → ReadsElement (SpellsDimid v dims) (StopsInDimid v dims) (dimid_after v dims)
 unfolding dimid_at ◌>>=◌ done stop
 dimid-read v dims before bytes fits =
-    means-next _ (means-number v bytes fits)
+    means-next _ (means-number (count_width v) (count-wide v) bytes fits)
     (λ id rest number more. means-cond (is_dimid dims (is_first before) id) _ _ rest
     (λ known. spells id rest (record { number = number; known = is-dimid dims before id known }) more)
     (λ unknown. stops _ _ (bad_dimid id rest number (no-dimid dims before id unknown))))
     (cut-dimid v dims before bytes)
 
-is_first-append : (before : List ℕ) (id : ℕ) → is_first (before ++ id ∷ []) ≡ false
-is_first-append [] id = refl
-is_first-append (x ∷ before) id = grind arith
-
-pub dimids_at-each : (v : Version) (dims : List Dim) (n : ℕ) (before bytes : List ℕ)
-    → (dimids_at v dims n (is_first before) before).run bytes ≡ (each_at (λ b. dimid_at v dims (is_first b)) n before).run bytes
-unfolding dimids_at each_at ◌>>=◌
-dimids_at-each v dims zero before bytes = refl
-dimids_at-each v dims (suc n) before bytes =
-    next-cong ((dimid_at v dims (is_first before)).run bytes) _ _
-    (λ id rest. ap (λ (first : Bool). (dimids_at v dims n first (before ++ id ∷ [])).run rest) (sym (is_first-append before id)) ∙ dimids_at-each v dims n (before ++ id ∷ []) rest)
-
 means-shape : (v : Version) (dims : List Dim) (bytes : List ℕ) → AreBytes bytes
     → Means (SpellsCounted v (SpellsDimid v dims) bytes) (StopsInCounted v (SpellsDimid v dims) (StopsInDimid v dims) bytes) ((shape_at v dims).run bytes)
 unfolding shape_at ◌>>=◌
 means-shape v dims bytes fits =
-    let reads = reads-each (SpellsDimid v dims) (StopsInDimid v dims) (λ b. dimid_at v dims (is_first b)) (λ n. dimids_at v dims n true []) (dimid-read v dims) (λ n. dimids_at-each v dims n []) in
     means-next _ (means-count v bytes fits)
-    (λ n body count more. means-map (reads n body more)
+    (λ n body count more. means-map (means-each (SpellsDimid v dims) (StopsInDimid v dims) (dimid_after v dims) (dimid-read v dims) n [] body more)
     (λ all rest. counted v (SpellsDimid v dims) n bytes body all rest count)
     (λ fault rest s. in_element n body fault rest count s))
     (in_count)
 
 -- ---- offsets
 
-means-wide : (v : Version) (bytes : List ℕ) → AreBytes bytes → Means (SpellsNumber (offset_width v) bytes) (CutNumber (offset_width v) bytes) ((wide_at v).run bytes)
-means-wide Cdf1 bytes fits = means-u32 bytes fits
-means-wide Cdf2 bytes fits = means-u64 bytes fits
-means-wide Cdf5 bytes fits = means-u64 bytes fits
-
 -- the file ends in an offset, or its top bit is 1
 pub data StopsInOffset (v : Version) (bytes : List ℕ) : FormatFault → List ℕ → Type 0 where
   cut_offset : IsCutNumber (offset_width v) bytes → StopsInOffset v bytes HeaderTruncated []
   negative_offset : (n : ℕ) (rest : List ℕ) → SpellsNumber (offset_width v) bytes n rest → offset_limit v ≤ n → StopsInOffset v bytes BadOffset rest
 
-cut-offset : (v : Version) (bytes : List ℕ) (fault : FormatFault) (rest : List ℕ) → CutNumber (offset_width v) bytes fault rest → StopsInOffset v bytes fault rest
-cut-offset v bytes fault rest (cut_number cut) = cut_offset cut
+cut-offset : (v : Version) (bytes : List ℕ) (fault : FormatFault) (rest : List ℕ) → CutBytes (byte_len (offset_width v)) bytes fault rest → StopsInOffset v bytes fault rest
+cut-offset v bytes fault rest (cut_bytes cut) = cut_offset cut
 
 means-offset : (v : Version) (bytes : List ℕ) → AreBytes bytes → Means (SpellsOffset v bytes) (StopsInOffset v bytes) ((offset_at v).run bytes)
 unfolding offset_at ◌>>=◌ done stop
 means-offset v bytes fits =
-    means-next _ (means-wide v bytes fits)
+    means-next _ (means-number (offset_width v) (offset-wide v) bytes fits)
     (λ n rest number more. means-cond (leb (offset_limit v) n) _ _ rest
     (λ high. stops _ _ (negative_offset n rest number (leb-true _ _ high)))
     (λ low. spells n rest (record { number = number; non_negative = leb-false _ _ low }) more))
     (cut-offset v bytes)
 
 -- ---- limits
-
--- the padded slabs of the record variables among these
-abbrev pub total_of : List Dim → List Var → ℕ
-total_of dims vars = padded_total dims (record_vars dims vars)
-
-record_vars-one : (dims : List Dim) (var : Var) → total_of dims (var ∷ []) ≡ record_part dims var.dimids var.ty
-record_vars-one dims var =
-    elim (is_record_var dims var) as (λ b. padded_total dims (cond b (var ∷ []) []) ≡ cond b (padded_size dims var) 0) [ true ↦ omega arith | false ↦ refl ]
-
-pub total_of-append : (dims : List Dim) (before : List Var) (var : Var) → total_of dims (before ++ var ∷ []) ≡ total_of dims before + record_part dims var.dimids var.ty
-total_of-append dims before var =
-    ap (padded_total dims) (filter-append (is_record_var dims) before (var ∷ []))
-    ∙ ap (λ (ns : List ℕ). sum ns) (map-append (padded_size dims) (record_vars dims before) (record_vars dims (var ∷ [])))
-    ∙ sum_by-append (λ (n : ℕ). n) (map (padded_size dims) (record_vars dims before)) (map (padded_size dims) (record_vars dims (var ∷ [])))
-    ∙ ap (λ (n : ℕ). total_of dims before + n) (record_vars-one dims var)
 
 -- a shape and a type that keep the limits after such padded slabs
 pub record Fits (dims : List Dim) (ids : List ℕ) (ty : NcType) (total : ℕ) : Type 0 where
@@ -154,7 +102,6 @@ fits-within dims before var total same w =
 -- the limits are passed, or the padded slabs with this variable's
 pub record NewTotal (dims : List Dim) (ids : List ℕ) (ty : NcType) (total : ℕ) (here : List ℕ) (sum : ℕ) (rest : List ℕ) : Type 0 where
   pub fits : Fits dims ids ty total
-  pub value : sum ≡ total + record_part dims ids ty
   pub stays : rest ≡ here
 
 pub data NoTotal (dims : List Dim) (ids : List ℕ) (ty : NcType) (total : ℕ) (here : List ℕ) : FormatFault → List ℕ → Type 0 where
@@ -165,7 +112,7 @@ total-tests : (dims : List Dim) (ids : List ℕ) (ty : NcType) (total : ℕ) (he
     → Means (NewTotal dims ids ty total here) (NoTotal dims ids ty total here) ((total_or_wrong (cond (slab_test && record_test) (Some (total + record_part dims ids ty)) None)).run here)
 unfolding done stop
 total-tests dims ids ty total here true true fits a b =
-    spells _ here (record { fits = record { slab = leb-true _ _ a; records = leb-true _ _ b }; value = refl; stays = refl }) fits
+    spells _ here (record { fits = record { slab = leb-true _ _ a; records = leb-true _ _ b }; stays = refl }) fits
 total-tests dims ids ty total here true false fits a b = stops _ _ (no_total (λ f. let high = leb-false _ _ b in let low = f.records in absurd (omega arith)))
 total-tests dims ids ty total here false r fits a b = stops _ _ (no_total (λ f. let high = leb-false _ _ a in let low = f.slab in absurd (omega arith)))
 
@@ -176,14 +123,13 @@ means-total dims ids ty total here fits = total-tests dims ids ty total here _ _
 
 -- ---- variables
 
--- a variable stands at the start, and its padded slabs are counted
-pub record SpellsSized (v : Version) (dims : List Dim) (before : List Var) (bytes : List ℕ) (sized : SizedVar) (rest : List ℕ) : Type 0 where
-  pub spelled : SpellsVar v dims before bytes sized.var rest
-  pub total : sized.total ≡ total_of dims (before ++ sized.var ∷ [])
+-- a variable stands at the start
+abbrev pub SpellsSized : Version → List Dim → List Var → List ℕ → SizedVar → List ℕ → Type 0
+SpellsSized v dims before bytes sized rest = SpellsVar v dims before bytes sized.var rest
 
 cut-vsize : (v : Version) (dims : List Dim) (before : List Var) (bytes : List ℕ) (var : Var) (following : List ℕ) (fault : FormatFault) (rest : List ℕ)
-    → SpellsTypedVar v dims before bytes var following → CutNumber (count_width v) following fault rest → StopsInVar v dims before bytes fault rest
-cut-vsize v dims before bytes var following fault rest typed (cut_number cut) = cut_vsize var following typed cut
+    → SpellsTypedVar v dims before bytes var following → CutBytes (byte_len (count_width v)) following fault rest → StopsInVar v dims before bytes fault rest
+cut-vsize v dims before bytes var following fault rest typed (cut_bytes cut) = cut_vsize var following typed cut
 
 stops-offset : (v : Version) (dims : List Dim) (before : List Var) (bytes : List ℕ) (var : Var) (after_type after_vsize : List ℕ) (vsize : ℕ) (fault : FormatFault) (rest : List ℕ)
     → SpellsTypedVar v dims before bytes var after_type → SpellsNumber (count_width v) after_type vsize after_vsize → StopsInOffset v after_vsize fault rest → StopsInVar v dims before bytes fault rest
@@ -197,21 +143,18 @@ too-large v dims before bytes var after_atts after_type total fault rest same pr
     too_large var after_atts after_type prefix typed (λ w. none (fits-within dims before var total same w))
 
 -- a variable after its type
-var-tail : (v : Version) (dims : List Dim) (before : List Var) (bytes : List ℕ) (name : List ℕ) (ids : List ℕ) (atts : List Att) (ty : NcType) (after_type : List ℕ) (total sum : ℕ)
+var-tail : (v : Version) (dims : List Dim) (before : List Var) (bytes : List ℕ) (name : List ℕ) (ids : List ℕ) (atts : List Att) (ty : NcType) (after_type : List ℕ) (sum : ℕ)
     → ((begin : ℕ) → SpellsTypedVar v dims before bytes (record { name = name; dimids = ids; atts = atts; ty = ty; begin_at = begin }) after_type)
-    → total ≡ total_of dims before → sum ≡ total + record_part dims ids ty → AreBytes after_type
+    → AreBytes after_type
     → Means (SpellsSized v dims before bytes) (StopsInVar v dims before bytes)
-    (next ((number_at v).run after_type) (λ vsize. offset_at v >>= λ begin. done (record { var = record { name = name; dimids = ids; atts = atts; ty = ty; begin_at = begin }; total = sum })))
+    (next ((number_at (count_width v)).run after_type) (λ vsize. offset_at v >>= λ begin. done (record { var = record { name = name; dimids = ids; atts = atts; ty = ty; begin_at = begin }; total = sum })))
 unfolding ◌>>=◌ done
-var-tail v dims before bytes name ids atts ty after_type total sum typed same is_sum fits =
-    means-next _ (means-number v after_type fits)
+var-tail v dims before bytes name ids atts ty after_type sum typed fits =
+    means-next _ (means-number (count_width v) (count-wide v) after_type fits)
     (λ vsize after_vsize number more. means-next _ (means-offset v after_vsize more)
     (λ begin rest offset more2.
-    let var : Var = record { name = name; dimids = ids; atts = atts; ty = ty; begin_at = begin } in
-    spells (record { var = var; total = sum }) rest (record {
-      spelled = record { after_type = after_type; after_vsize = after_vsize; vsize = vsize; typed = typed begin; any_vsize = number; begin = offset };
-      total = is_sum ∙ ap (λ (n : ℕ). n + record_part dims ids ty) same ∙ sym (total_of-append dims before var);
-    }) more2)
+    spells (record { var = record { name = name; dimids = ids; atts = atts; ty = ty; begin_at = begin }; total = sum }) rest
+    (record { after_type = after_type; after_vsize = after_vsize; vsize = vsize; typed = typed begin; any_vsize = number; begin = offset }) more2)
     (λ fault rest. stops-offset v dims before bytes _ after_type after_vsize vsize fault rest (typed 0) number))
     (λ fault rest. cut-vsize v dims before bytes _ after_type fault rest (typed 0))
 
@@ -228,30 +171,25 @@ var-read v dims before total bytes same fits =
     means-next _ (means-type v after_atts more3)
     (λ ty after_type typed more4. means-next _ (means-total dims ids ty total after_type more4)
     (λ sum here t more5. subst (λ (r : List ℕ). Means (SpellsSized v dims before bytes) (StopsInVar v dims before bytes)
-    (next ((number_at v).run r) (λ vsize. offset_at v >>= λ begin. done (record { var = record { name = name; dimids = ids; atts = atts; ty = ty; begin_at = begin }; total = sum })))) (sym t.stays)
-    (var-tail v dims before bytes name ids atts ty after_type total sum
+    (next ((number_at (count_width v)).run r) (λ vsize. offset_at v >>= λ begin. done (record { var = record { name = name; dimids = ids; atts = atts; ty = ty; begin_at = begin }; total = sum })))) (sym t.stays)
+    (var-tail v dims before bytes name ids atts ty after_type sum
     (λ begin. record { after_atts = after_atts; prefix = prefix ty begin; ty = typed; small = within dims before (record { name = name; dimids = ids; atts = atts; ty = ty; begin_at = begin }) total same t.fits })
-    same t.value more4))
+    more4))
     (λ fault rest. too-large v dims before bytes _ after_atts after_type total fault rest same (prefix ty 0) typed))
     (λ fault rest. in_var_type (record { name = name; dimids = ids; atts = atts; ty = Byte; begin_at = 0 }) after_atts fault rest (prefix Byte 0)))
     (λ fault rest. in_var_atts name after_name after_shape ids fault rest named shape))
     (λ fault rest. in_shape name after_name fault rest named))
     (in_var_name)
 
-vars-read : (v : Version) (dims : List Dim) (n : ℕ) (before : List Var) (total : ℕ) (bytes : List ℕ) → total ≡ total_of dims before → AreBytes bytes
-    → Means (SpellsMore (SpellsVar v dims) n before bytes) (StopsInEach (SpellsVar v dims) (StopsInVar v dims) n before bytes) ((vars_at v dims n total before).run bytes)
-unfolding vars_at ◌>>=◌ done
-vars-read v dims zero before total bytes same fits =
-    spells before bytes (record { more = []; joined = sym (append-nil before); count = refl; each = refl }) fits
-vars-read v dims (suc n) before total bytes same fits =
-    means-next _ (var-read v dims before total bytes same fits)
-    (λ sized middle s more. means-map (vars-read v dims n (before ++ sized.var ∷ []) sized.total middle s.total more)
-    (λ all rest. more-cons (SpellsVar v dims) n before bytes middle sized.var all rest s.spelled)
-    (λ fault rest f. inr (sized.var, middle, s.spelled, f)))
-    (λ fault rest s. inl s)
+-- the same without its padded slabs
+var-element : (v : Version) (dims : List Dim) → ReadsElement (SpellsVar v dims) (StopsInVar v dims) (var_after v dims)
+unfolding ◌>>=◌ done
+var-element v dims before bytes fits =
+    means-next _ (var-read v dims before (total_of dims before) bytes refl fits) (λ sized rest s more. spells sized.var rest s more) (λ fault rest s. s)
 
 pub means-vars : (v : Version) (dims : List Dim) (bytes : List ℕ) → AreBytes bytes
     → Means (SpellsList v variable_tag (SpellsVar v dims) bytes) (StopsInList v variable_tag (SpellsVar v dims) (StopsInVar v dims) bytes) ((var_list_at v dims).run bytes)
-unfolding var_list_at ◌>>=◌
+unfolding list_at ◌>>=◌
 means-vars v dims bytes fits =
-    means-list v variable_tag (SpellsVar v dims) (StopsInVar v dims) (λ n. vars_at v dims n 0 []) (λ n body more. vars-read v dims n [] 0 body refl more) bytes fits
+    means-list v variable_tag (SpellsVar v dims) (StopsInVar v dims) (λ n. each_at (var_after v dims) n [])
+    (λ n. means-each (SpellsVar v dims) (StopsInVar v dims) (var_after v dims) (var-element v dims) n []) bytes fits

@@ -1,27 +1,12 @@
 -- The other direction: variables that are spelled are read, and reading stops with their first wrong field.
-use Rattle.std.proofs.Common.{◌≡◌, ℕ, zero, suc, ◌+◌, ◌≤◌, Bool, true, cond, leb, ltb, List, [], ◌∷◌, ◌++◌, length, inl, inr, Some, None, Ok, Err, refl, sym, ap, ◌∙◌, append_assoc, arith}
-use Rattle.std.proofs.lemmas.Bool.{leb-true}
-use Rattle.std.proofs.lemmas.List.{append-nil}
-use Rattle.std.specs.Prelude.{◌==◌, ◌&&◌}
-use Rattle.nc_base.specs.declared.fault.FormatFault.{FormatFault}
-use Rattle.nc_base.specs.declared.fault.FormatFault.TheVariants.{HeaderTruncated, BadOffset, TooLarge}
-use Rattle.nc_base.specs.declared.header.Att.{Att}
-use Rattle.nc_base.specs.declared.header.Dim.{Dim}
-use Rattle.nc_base.specs.declared.header.Var.{Var}
-use Rattle.nc_base.specs.declared.nc_type.NcType.{NcType}
-use Rattle.nc_base.specs.declared.version.Version.{Version}
-use Rattle.nc_base.specs.declared.version.Version.TheVariants.{Cdf1, Cdf2, Cdf5}
-use Rattle.nc_base.specs.Versions.{offset_width, offset_limit}
-use Rattle.nc_base.specs.Sizes.{is_record_dim, slab_of, slab_limit, record_limit}
-use Rattle.nc_base.specs.Headers.{IsDimid}
-use Rattle.nc_base.specs.Grammar.{variable_tag, SpellsNumber, SpellsOffset, SpellsEach, SpellsCounted, SpellsList, SpellsDimid, SpellsVar, SpellsVarPrefix, SpellsTypedVar}
-use Rattle.nc_base.specs.FirstFault.{IsCutNumber, StopsInCounted, in_count, in_element, StopsInEach, StopsInList, StopsInDimid, cut_dimid, bad_dimid, StopsInVar, in_var_name, in_shape, in_var_atts, in_var_type, too_large, cut_vsize, cut_begin, negative_begin}
-use Rattle.nc_file.specs.declared.head_fault.HeadFault.TheVariants.{Format}
-use Rattle.nc_file.specs.declared.sized_var.SizedVar.{SizedVar}
-use Rattle.nc_file.specs.Reading.{Outcome, Part, ◌>>=◌, done, stop, number_at, type_at, is_dimid, dimid_at, shape_at, wide_at, offset_at, record_part, total_with, total_or_wrong, var_at, vars_at, var_list_at}
+use Rattle.std.proofs.Common.{◌≡◌, ℕ, ◌+◌, ◌≤◌, Bool, true, cond, leb, ltb, List, [], length, Some, None, Ok, Err, refl, ap, ◌∙◌, arith, ◌==◌, ◌&&◌}
+use Rattle.nc_file.proofs.Prelude.{leb-true, FormatFault, HeaderTruncated, BadOffset, TooLarge, Att, Dim, Var, NcType, Version, count_width, offset_width, offset_limit, is_record_dim, slab_of, slab_limit, record_limit, IsDimid, variable_tag, SpellsNumber, SpellsOffset, SpellsCounted, SpellsList, SpellsDimid, SpellsVar, SpellsVarPrefix, SpellsTypedVar, IsCutNumber, StopsInCounted, in_count, in_element, StopsInList, StopsInDimid, cut_dimid, bad_dimid, StopsInVar, in_var_name, in_shape, in_var_atts, in_var_type, too_large, cut_vsize, cut_begin, negative_begin, Format, SizedVar, Outcome, Part, done, stop, number_at, type_at, is_dimid, dimid_at, dimid_after, shape_at, offset_at, record_part, total_with, total_or_wrong, var_at, var_after, var_list_at, each_at, list_at}
+use Rattle.nc_file.specs.code.Reading.{◌>>=◌}
+use Rattle.nc_file.proofs.FieldLaws.{count-wide, offset-wide}
 use Rattle.nc_file.proofs.ListLaws.{and-true}
-use Rattle.nc_file.proofs.VariableLaws.{is_first, is-dimid, known-and-first, dimids_at-each, total_of, total_of-append, Fits, within, fits-within}
-use Rattle.nc_file.proofs.Again.{then-ok, then-err, if-so, if-not, below-test, above-test, not-so, u32-again, u64-again, u32-stops-again, u64-stops-again, number-again, number-stops-again, count-again, count-stops-again, name-again, name-stops-again, type-again, type-stops-again}
+use Rattle.nc_file.proofs.Totals.{total_of}
+use Rattle.nc_file.proofs.VariableLaws.{is_first, is-dimid, known-and-first, Fits, within, fits-within}
+use Rattle.nc_file.proofs.Again.{then-ok, then-err, if-so, if-not, below-test, above-test, not-so, number-again, number-stops-again, count-again, count-stops-again, name-again, name-stops-again, type-again, type-stops-again}
 use Rattle.nc_file.proofs.ListsAgain.{ElementAgain, ElementStopsAgain, each-again, each-stops-again, list-again, list-stops-again, atts-again, atts-stop-again}
 
 -- two tests that hold
@@ -37,17 +22,17 @@ dimid-test dims before id h =
     known-and-first (ltb id (length dims)) (is_first before) (is_record_dim dims id) known (λ r. ap (λ (xs : List ℕ). length xs == 0) (h.record_first r))
 
 -- a spelled dimension id is read
-pub dimid-again : (v : Version) (dims : List Dim) → ElementAgain (SpellsDimid v dims) (λ before. dimid_at v dims (is_first before))
+pub dimid-again : (v : Version) (dims : List Dim) → ElementAgain (SpellsDimid v dims) (dimid_after v dims)
 unfolding dimid_at ◌>>=◌ done
 dimid-again v dims before bytes id rest s =
-    then-ok _ (number-again v bytes id rest s.number) (if-so _ _ (dimid-test dims before id s.known) refl)
+    then-ok _ (number-again (count_width v) (count-wide v) bytes id rest s.number) (if-so _ _ (dimid-test dims before id s.known) refl)
 
 -- reading a dimension id stops where it is wrong
-pub dimid-stops-again : (v : Version) (dims : List Dim) → ElementStopsAgain (StopsInDimid v dims) (λ before. dimid_at v dims (is_first before))
+pub dimid-stops-again : (v : Version) (dims : List Dim) → ElementStopsAgain (StopsInDimid v dims) (dimid_after v dims)
 unfolding dimid_at ◌>>=◌ stop
-dimid-stops-again v dims before bytes fault rest (cut_dimid cut) = then-err _ (number-stops-again v bytes cut)
+dimid-stops-again v dims before bytes fault rest (cut_dimid cut) = then-err _ (number-stops-again (count_width v) bytes cut)
 dimid-stops-again v dims before bytes fault rest (bad_dimid id r number unknown) =
-    then-ok _ (number-again v bytes id r number)
+    then-ok _ (number-again (count_width v) (count-wide v) bytes id r number)
     (if-not _ _ (not-so (is_dimid dims (is_first before) id) (λ e. unknown (is-dimid dims before id e))) refl)
 
 -- a spelled shape is read
@@ -55,8 +40,7 @@ pub shape-again : (v : Version) (dims : List Dim) (bytes ids rest : List ℕ) �
 unfolding shape_at ◌>>=◌
 shape-again v dims bytes ids rest s =
     then-ok _ (count-again v bytes (length ids) s.after_count s.count)
-    (dimids_at-each v dims (length ids) [] s.after_count
-    ∙ each-again (SpellsDimid v dims) (λ b. dimid_at v dims (is_first b)) (dimid-again v dims) ids [] s.after_count rest s.each)
+    (each-again (SpellsDimid v dims) (dimid_after v dims) (dimid-again v dims) ids [] s.after_count rest s.each)
 
 -- reading a shape stops with its first wrong field
 pub shape-stops-again : (v : Version) (dims : List Dim) (bytes : List ℕ) (fault : FormatFault) (rest : List ℕ)
@@ -65,39 +49,26 @@ unfolding shape_at ◌>>=◌
 shape-stops-again v dims bytes fault rest (in_count f r s) = then-err _ (count-stops-again v bytes f r s)
 shape-stops-again v dims bytes fault rest (in_element n body f r count s) =
     then-ok _ (count-again v bytes n body count)
-    (dimids_at-each v dims n [] body
-    ∙ each-stops-again (SpellsDimid v dims) (StopsInDimid v dims) (λ b. dimid_at v dims (is_first b)) (dimid-again v dims) (dimid-stops-again v dims) n [] body f r s)
+    (each-stops-again (SpellsDimid v dims) (StopsInDimid v dims) (dimid_after v dims) (dimid-again v dims) (dimid-stops-again v dims) n [] body f r s)
 
 -- ---- offsets
-
--- a spelled number of an offset's width is read
-pub wide-again : (v : Version) (bytes : List ℕ) (n : ℕ) (rest : List ℕ) → SpellsNumber (offset_width v) bytes n rest → (wide_at v).run bytes ≡ Ok (n, rest)
-wide-again Cdf1 bytes n rest s = u32-again bytes n rest s
-wide-again Cdf2 bytes n rest s = u64-again bytes n rest s
-wide-again Cdf5 bytes n rest s = u64-again bytes n rest s
-
--- where the file ends in one, reading stops
-pub wide-stops-again : (v : Version) (bytes : List ℕ) → IsCutNumber (offset_width v) bytes → (wide_at v).run bytes ≡ Err (Format HeaderTruncated, [])
-wide-stops-again Cdf1 bytes cut = u32-stops-again bytes cut
-wide-stops-again Cdf2 bytes cut = u64-stops-again bytes cut
-wide-stops-again Cdf5 bytes cut = u64-stops-again bytes cut
 
 -- a spelled offset is read
 pub offset-again : (v : Version) (bytes : List ℕ) (n : ℕ) (rest : List ℕ) → SpellsOffset v bytes n rest → (offset_at v).run bytes ≡ Ok (n, rest)
 unfolding offset_at ◌>>=◌ done
 offset-again v bytes n rest s =
-    then-ok _ (wide-again v bytes n rest s.number) (if-not _ _ (below-test _ _ s.non_negative) refl)
+    then-ok _ (number-again (offset_width v) (offset-wide v) bytes n rest s.number) (if-not _ _ (below-test _ _ s.non_negative) refl)
 
 -- the file ends in an offset
 pub cut-offset-again : (v : Version) (bytes : List ℕ) → IsCutNumber (offset_width v) bytes → (offset_at v).run bytes ≡ Err (Format HeaderTruncated, [])
 unfolding offset_at ◌>>=◌
-cut-offset-again v bytes cut = then-err _ (wide-stops-again v bytes cut)
+cut-offset-again v bytes cut = then-err _ (number-stops-again (offset_width v) bytes cut)
 
 -- an offset's top bit is 1
 pub negative-offset-again : (v : Version) (bytes : List ℕ) (n : ℕ) (rest : List ℕ) → SpellsNumber (offset_width v) bytes n rest → offset_limit v ≤ n → (offset_at v).run bytes ≡ Err (Format BadOffset, rest)
 unfolding offset_at ◌>>=◌ stop
 negative-offset-again v bytes n rest number high =
-    then-ok _ (wide-again v bytes n rest number) (if-so _ _ (above-test _ _ high) refl)
+    then-ok _ (number-again (offset_width v) (offset-wide v) bytes n rest number) (if-so _ _ (above-test _ _ high) refl)
 
 -- ---- limits
 
@@ -121,27 +92,25 @@ total-stops-again dims ids ty total here large =
 
 -- ---- variables
 
--- a spelled variable is read, with the padded slabs of the record variables up to and with it
+-- a spelled variable is read, and its padded slab counted
 pub var-again : (v : Version) (dims : List Dim) (before : List Var) (total : ℕ) (bytes : List ℕ) (var : Var) (rest : List ℕ) → total ≡ total_of dims before → SpellsVar v dims before bytes var rest
-    → (var_at v dims total).run bytes ≡ Ok (record { var = var; total = total_of dims (before ++ var ∷ []) }, rest)
+    → (var_at v dims total).run bytes ≡ Ok (record { var = var; total = total + record_part dims var.dimids var.ty }, rest)
 unfolding var_at ◌>>=◌ done
 var-again v dims before total bytes var rest same s =
     let typed = s.typed in
     let prefix = typed.prefix in
-    let sum : total + record_part dims var.dimids var.ty ≡ total_of dims (before ++ var ∷ []) = ap (λ (n : ℕ). n + record_part dims var.dimids var.ty) same ∙ sym (total_of-append dims before var) in
     then-ok _ (name-again v bytes var.name prefix.after_name prefix.name)
     (then-ok _ (shape-again v dims prefix.after_name var.dimids prefix.after_shape prefix.shape)
     (then-ok _ (atts-again v prefix.after_shape var.atts typed.after_atts prefix.atts)
     (then-ok _ (type-again v typed.after_atts var.ty s.after_type typed.ty)
     (then-ok _ (total-again dims var.dimids var.ty total s.after_type (fits-within dims before var total same typed.small))
-    (then-ok _ (number-again v s.after_type s.vsize s.after_vsize s.any_vsize)
-    (then-ok _ (offset-again v s.after_vsize var.begin_at rest s.begin)
-    (ap (λ (n : ℕ). Ok (record { var = var; total = n }, rest)) sum)))))))
+    (then-ok _ (number-again (count_width v) (count-wide v) s.after_type s.vsize s.after_vsize s.any_vsize)
+    (then-ok _ (offset-again v s.after_vsize var.begin_at rest s.begin) refl))))))
 
 -- what is read of a variable after its type
 abbrev after_type_at : Version → List ℕ → List ℕ → List Att → NcType → ℕ → Part SizedVar
 after_type_at v name ids atts ty sum =
-    number_at v >>= λ vsize. offset_at v >>= λ begin. done (record { var = record { name = name; dimids = ids; atts = atts; ty = ty; begin_at = begin }; total = sum })
+    number_at (count_width v) >>= λ vsize. offset_at v >>= λ begin. done (record { var = record { name = name; dimids = ids; atts = atts; ty = ty; begin_at = begin }; total = sum })
 
 -- what is read of a variable after its attributes
 abbrev after_prefix : Version → List Dim → ℕ → List ℕ → List ℕ → List Att → Part SizedVar
@@ -187,45 +156,34 @@ var-stops-again v dims before total bytes fault rest same (too_large var after_a
     (then-ok _ (type-again v after_atts var.ty r typed)
     (then-err _ (total-stops-again dims var.dimids var.ty total r (λ fits. large (within dims before var total same fits)))))
 var-stops-again v dims before total bytes fault rest same (cut_vsize var after_type typed cut) =
-    typed-again v dims before total bytes var after_type _ same typed (then-err _ (number-stops-again v after_type cut))
+    typed-again v dims before total bytes var after_type _ same typed (then-err _ (number-stops-again (count_width v) after_type cut))
 var-stops-again v dims before total bytes fault rest same (cut_begin var after_type after_vsize vsize typed number cut) =
     typed-again v dims before total bytes var after_type _ same typed
-    (then-ok _ (number-again v after_type vsize after_vsize number) (then-err _ (cut-offset-again v after_vsize cut)))
+    (then-ok _ (number-again (count_width v) (count-wide v) after_type vsize after_vsize number) (then-err _ (cut-offset-again v after_vsize cut)))
 var-stops-again v dims before total bytes fault rest same (negative_begin var after_type after_vsize vsize begin r typed number offset high) =
     typed-again v dims before total bytes var after_type _ same typed
-    (then-ok _ (number-again v after_type vsize after_vsize number) (then-err _ (negative-offset-again v after_vsize begin r offset high)))
+    (then-ok _ (number-again (count_width v) (count-wide v) after_type vsize after_vsize number) (then-err _ (negative-offset-again v after_vsize begin r offset high)))
 
--- variables after others
-vars-after : (v : Version) (dims : List Dim) (xs before : List Var) (total : ℕ) (bytes rest : List ℕ) → total ≡ total_of dims before → SpellsEach (SpellsVar v dims) before bytes xs rest
-    → (vars_at v dims (length xs) total before).run bytes ≡ Ok (before ++ xs, rest)
-unfolding vars_at ◌>>=◌ done
-vars-after v dims [] before total bytes rest same s = ap (λ (r : List ℕ). Ok (before, r)) s ∙ ap (λ (xs : List Var). Ok (xs, rest)) (sym (append-nil before))
-vars-after v dims (x ∷ xs) before total bytes rest same s =
-    then-ok _ (var-again v dims before total bytes x s.0 same s.1)
-    (vars-after v dims xs (before ++ x ∷ []) (total_of dims (before ++ x ∷ [])) s.0 rest refl s.2 ∙ ap (λ (ys : List Var). Ok (ys, rest)) (append_assoc before (x ∷ []) xs))
+-- the same without its padded slabs
+var-element-again : (v : Version) (dims : List Dim) → ElementAgain (SpellsVar v dims) (var_after v dims)
+unfolding ◌>>=◌ done
+var-element-again v dims before bytes var rest s = then-ok _ (var-again v dims before (total_of dims before) bytes var rest refl s) refl
 
--- reading them stops with the first wrong field of all
-vars-stop-after : (v : Version) (dims : List Dim) (n : ℕ) (before : List Var) (total : ℕ) (bytes : List ℕ) (fault : FormatFault) (rest : List ℕ) → total ≡ total_of dims before
-    → StopsInEach (SpellsVar v dims) (StopsInVar v dims) n before bytes fault rest
-    → (vars_at v dims n total before).run bytes ≡ Err (Format fault, rest)
-unfolding vars_at ◌>>=◌
-vars-stop-after v dims zero before total bytes fault rest same s = absurd s
-vars-stop-after v dims (suc n) before total bytes fault rest same (inl s) = then-err _ (var-stops-again v dims before total bytes fault rest same s)
-vars-stop-after v dims (suc n) before total bytes fault rest same (inr s) =
-    then-ok _ (var-again v dims before total bytes s.0 s.1 same s.2)
-    (vars-stop-after v dims n (before ++ s.0 ∷ []) (total_of dims (before ++ s.0 ∷ [])) s.1 fault rest refl s.3)
+var-element-stops-again : (v : Version) (dims : List Dim) → ElementStopsAgain (StopsInVar v dims) (var_after v dims)
+unfolding ◌>>=◌
+var-element-stops-again v dims before bytes fault rest s = then-err _ (var-stops-again v dims before (total_of dims before) bytes fault rest refl s)
 
 -- a spelled list of variables is read
 pub vars-again : (v : Version) (dims : List Dim) (bytes : List ℕ) (vars : List Var) (rest : List ℕ) → SpellsList v variable_tag (SpellsVar v dims) bytes vars rest → (var_list_at v dims).run bytes ≡ Ok (vars, rest)
-unfolding var_list_at ◌>>=◌
+unfolding list_at ◌>>=◌
 vars-again v dims bytes vars rest s =
-    list-again v variable_tag (SpellsVar v dims) (λ n. vars_at v dims n 0 []) refl
-    (λ xs body more each. vars-after v dims xs [] 0 body more refl each) bytes vars rest s
+    list-again v variable_tag (SpellsVar v dims) (λ n. each_at (var_after v dims) n []) refl
+    (λ xs body more each. each-again (SpellsVar v dims) (var_after v dims) (var-element-again v dims) xs [] body more each) bytes vars rest s
 
 -- reading a list of variables stops with its first wrong field
 pub vars-stop-again : (v : Version) (dims : List Dim) (bytes : List ℕ) (fault : FormatFault) (rest : List ℕ) → StopsInList v variable_tag (SpellsVar v dims) (StopsInVar v dims) bytes fault rest
     → (var_list_at v dims).run bytes ≡ Err (Format fault, rest)
-unfolding var_list_at ◌>>=◌
+unfolding list_at ◌>>=◌
 vars-stop-again v dims bytes fault rest s =
-    list-stops-again v variable_tag (SpellsVar v dims) (StopsInVar v dims) (λ n. vars_at v dims n 0 []) refl
-    (λ n body f r each. vars-stop-after v dims n [] 0 body f r refl each) bytes fault rest s
+    list-stops-again v variable_tag (SpellsVar v dims) (StopsInVar v dims) (λ n. each_at (var_after v dims) n []) refl
+    (λ n body f r each. each-stops-again (SpellsVar v dims) (StopsInVar v dims) (var_after v dims) (var-element-again v dims) (var-element-stops-again v dims) n [] body f r each) bytes fault rest s

@@ -1,15 +1,8 @@
 -- A header weighs no more than its spelling has bytes.
 use Rattle.std.proofs.Common.{ℕ, ◌*◌, ◌≤◌, length, arith}
-use Rattle.std.proofs.lemmas.List.Sums.{sum_by-le-sum_by}
-use Rattle.nc_base.specs.declared.header.Att.{Att}
-use Rattle.nc_base.specs.declared.header.Dim.{Dim}
-use Rattle.nc_base.specs.declared.header.Header.{Header}
-use Rattle.nc_base.specs.declared.header.Var.{Var}
-use Rattle.nc_base.specs.declared.version.Version.{Version}
-use Rattle.nc_base.specs.declared.version.Version.TheVariants.{Cdf1, Cdf2, Cdf5}
-use Rattle.nc_base.specs.GeneratedFile.{header_spelling}
-use Rattle.nc_base.specs.Weight.{dim_weight, att_weight, var_weight, weight_of}
-use Rattle.nc_file.specs.Lengths as len
+use Rattle.nc_file.proofs.Prelude.{sum_by-le-sum_by, Att, Dim, Header, Var, Version, Cdf1, Cdf2, Cdf5, header_spelling}
+use Rattle.nc_base.specs.code.Weight.{dim_weight, att_weight, var_weight, weight_of}
+use Rattle.nc_file.specs.code.Lengths as len
 use Rattle.nc_file.proofs.HeaderLen.{header-len}
 
 some-count : (v : Version) → 1 ≤ len.count_len v

@@ -1,4 +1,4 @@
--- What holds of a header that is written.
+-- Law. What holds of a header that is written.
 use Rattle.std.specs.Prelude.{ℕ, ◌<◌, ◌++◌, List, All}
 use Rattle.nc_base.specs.declared.header.Header.{Header}
 use Rattle.nc_base.specs.declared.header.Var.{Var}

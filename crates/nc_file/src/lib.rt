@@ -1,6 +1,6 @@
 //! The header of a netCDF classic file.
 //!
-//! [`read_header`] reads the header of a file from any source, through a caller's buffer, and answers a [`HeadFault`] where there
+//! [`read_header`] reads the header of a file from any source, through a caller's buffer, and returns a [`HeadFault`] if there
 //! is none. A header is written in two steps: [`with_begins`] gives each variable the offset of its values, or answers
 //! [`OffsetTooLarge`], and [`write_header`] writes the one spelling of a header to any sink. [`header_len`] is that spelling's
 //! length. The devices of `devices` are named here too, for the crates above.
@@ -16,7 +16,6 @@
 #![tactic(auto)]
 
 mod head_fault;
-mod header;
 pub mod laws;
 mod read;
 mod sized_var;
@@ -29,5 +28,5 @@ pub use devices::{
     Opener, Sink, SinkFailed, SliceSink, Source, SourceFailed, SystemFiles, WriteFailed, put,
 };
 pub use head_fault::HeadFault;
-pub use header::read_header;
+pub use read::read_header;
 pub use write::{OffsetTooLarge, header_len, with_begins, write_header};

@@ -5,3 +5,5 @@ mod dimension;
 mod header;
 mod list;
 mod variable;
+
+pub use header::read_header;

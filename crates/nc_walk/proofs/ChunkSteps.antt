@@ -1,24 +1,10 @@
 -- Values of one slab, and then more of the next ones.
-use Rattle.std.proofs.Common.{◌≡◌, ℕ, ◌+◌, ◌-◌, ◌*◌, ◌^◌, ◌<◌, ◌≤◌, min, Bool, List, ◌++◌, length, take, map, sym, ◌∙◌, ap, subst, arith, length-append, length-take}
-use Rattle.std.specs.Prelude.{All}
-use Rattle.std.specs.List.{concat}
-use Rattle.std.proofs.lemmas.List.{map-append}
-use Rattle.std.proofs.lemmas.List.Elements.{All-append}
-use Rattle.std.proofs.lemmas.List.Folds.{concat-append}
-use Rattle.std.proofs.lemmas.Nat.{mod-mul-add}
-use Rattle.std.proofs.Math.Nat.{mul-le-mul_right, lt_of_mul-lt-mul_right}
-use Rattle.std.proofs.Math.Seq.{take-add}
+use Rattle.std.proofs.Common.{◌≡◌, ℕ, ◌+◌, ◌-◌, ◌*◌, ◌^◌, ◌<◌, ◌≤◌, min, Bool, List, ◌++◌, length, take, map, sym, ◌∙◌, ap, subst, arith, length-append, length-take, All}
+use Rattle.nc_walk.proofs.Prelude.{concat, map-append, All-append, concat-append, mod-mul-add, mul-le-mul_right, lt_of_mul-lt-mul_right, take-add, bytes_at, HasFailed, SourceView, after, Slabs, Cursor, total, number_at, offset, offsets_after, offsets_from, IsSized, IsOffset, Ready, SourceUse, between, WalkView, IsWhole, Exactly, ReturnsValues, Failing, Truncated, ReadValues, Reading, reading, standing}
 use borrow.Rule.Slice.PartMut.{put_mid}
-use Rattle.nc_base.specs.Places.{bytes_at}
-use Rattle.devices.specs.Sources.{SourceView, after, HasFailed}
-use Rattle.nc_walk.specs.declared.slabs.Slabs.{Slabs}
-use Rattle.nc_walk.specs.declared.cursor.Cursor.{Cursor}
 use Rattle.nc_walk.specs.declared.chunk.Chunk.{Chunk}
-use Rattle.nc_walk.specs.Slabs.{total, number_at, offset, offsets_after, offsets_from, IsSized, IsOffset, Ready}
-use Rattle.nc_walk.specs.SourceUses.{SourceUse, between}
-use Rattle.nc_walk.specs.Chunks.{Collected}
-use Rattle.nc_walk.specs.Walks.{WalkView, IsWhole, Exactly, ReturnsValues, Failing, Truncated, ReadValues, Reading, reading, standing}
-use Rattle.nc_walk.proofs.FillSteps.{transparent_both, after_after, prefix_then, prefix_still}
+use Rattle.nc_walk.specs.code.Chunks.{Collected}
+use Rattle.nc_walk.proofs.FullReadSteps.{transparent_both, after_after, prefix_then, prefix_still}
 use Rattle.nc_walk.proofs.Runs.{offset_at, length-offsets, drop-offsets}
 
 -- the first n values from number i on have been read into the start of the buffer, and after them comes a part of it
@@ -99,7 +85,7 @@ module _ (is_transparent : Bool) (l : Slabs) (i n : ℕ) (had part : List ℕ) (
           failed = record {
             bytes = f.partway.failed.bytes ∙ same;
             handed = omega (arith, f.partway.failed.handed, handed);
-            failures = subst (λ (k : ℕ). HasFailed k now) (ap (λ (s : SourceView). s.failures) r.handed) f.partway.failed.failures;
+            failures = subst (λ (k : ℕ). HasFailed k now.failures) (ap (λ (s : SourceView). s.failures) r.handed) f.partway.failed.failures;
           };
         };
       }

@@ -1,24 +1,7 @@
 -- What is written of all arrays is the data part of the file.
-use Rattle.std.proofs.Common.{◌≡◌, ℕ, zero, suc, ◌+◌, ◌*◌, ◌/◌, ◌<◌, ◌≤◌, Bool, true, false, List, [], ◌∷◌, ◌++◌, length, drop, replicate, refl, sym, ◌∙◌, ap, arith, length-take, length-drop, append-nil}
-use Rattle.std.specs.Prelude.{if◌then◌else◌, nat_lt}
-use Rattle.std.specs.List.{concat, flat_map, range_with_len}
-use Rattle.std.proofs.Math.Nat.{mul-le-mul_right}
-use Rattle.std.proofs.lemmas.List.{nil_from_length}
-use Rattle.nc_base.specs.declared.header.Dim.{Dim}
-use Rattle.nc_base.specs.declared.header.Var.{Var}
-use Rattle.nc_base.specs.declared.header.Header.{Header}
-use Rattle.nc_base.specs.declared.nc_type.NcType.{NcType}
-use Rattle.nc_base.specs.declared.nc_type.NcType.TheVariants.{Byte, Char, Short, Int, Ubyte, Ushort, Uint, Int64, Uint64}
-use Rattle.nc_base.specs.Bytes.{padding_len}
-use Rattle.nc_base.specs.GeneratedFile.{blocks, data_of, fill_bytes, known_records, is_sole_narrow, padded_slab, record_of, slab_in}
-use Rattle.nc_base.specs.OwedValues.{whole_array, whole_arrays, IsListed, AreListed}
-use Rattle.nc_base.specs.Sizes.{is_record_var, is_narrow, record_vars, slab_count, slab_size}
-use Rattle.nc_base.specs.Fill.{fill_value}
-use Rattle.nc_base.specs.Numbers.{bytes_of_number}
-use Rattle.nc_base.specs.Types.{size_of}
-use Rattle.nc_base.proofs.FilePlaces.{flat_map-below}
+use Rattle.std.proofs.Common.{◌≡◌, ℕ, zero, suc, ◌+◌, ◌*◌, ◌/◌, ◌<◌, ◌≤◌, Bool, true, false, List, [], ◌∷◌, ◌++◌, length, drop, replicate, refl, sym, ◌∙◌, ap, arith, length-take, length-drop, append-nil, if◌then◌else◌, nat_lt}
+use Rattle.nc_walk.proofs.Prelude.{concat, flat_map, range_with_len, mul-le-mul_right, nil_from_length, Dim, Var, Header, NcType, Byte, Char, Short, Int, Ubyte, Ushort, Uint, Int64, Uint64, padding_len, blocks, data_of, fill_bytes, known_records, is_sole_narrow, padded_slab, record_of, slab_in, whole_array, whole_arrays, IsListed, AreListed, is_record_var, is_narrow, record_vars, slab_count, slab_size, fill_value, bytes_of_number, size_of, flat_map-below, ArrayView, array_view, filled_slab, filled_blocks, filled_record, filled_records, filled_slabs, record_arrays}
 use Rattle.nc_base.proofs.IsAt.{runs-all}
-use Rattle.nc_walk.specs.Filled.{ArrayView, array_view, filled_slab, filled_blocks, filled_record, filled_records, filled_slabs, record_arrays}
 use Rattle.nc_walk.proofs.DataParts.{records-append}
 use Rattle.nc_walk.proofs.FilledArrays.{block-filled, record-filled, slabs-filled, whole-length}
 
@@ -81,7 +64,7 @@ not-sole [] several = refl
 not-sole (x ∷ []) several = absurd (several refl)
 not-sole (x ∷ y ∷ xs) several = refl
 
--- the records of variables of which none or several are record variables
+-- the records of variables, if none or several of them are record variables
 pub records-filled : (dims : List Dim) (n : ℕ) (vars : List Var) (listed : List (List ℕ)) → AreListed dims n vars listed → (length (record_arrays dims vars listed) ≡ 1 → ⊥)
     → flat_map (λ r. filled_records r (record_arrays dims vars listed)) (range_with_len 0 n)
     ≡ flat_map (λ r. record_of (is_sole_narrow (record_vars dims vars)) dims r vars (whole_arrays dims n vars listed)) (range_with_len 0 n)

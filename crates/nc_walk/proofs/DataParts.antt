@@ -1,14 +1,6 @@
 -- The data part of a file, as it is written.
-use Rattle.std.proofs.Common.{◌≡◌, ℕ, suc, ◌+◌, ◌-◌, ◌<◌, ◌≤◌, List, [], ◌∷◌, ◌++◌, length, get_or, map, drop, refl, sym, ◌∙◌, ap, arith, append_assoc}
-use Rattle.std.specs.Prelude.{if◌then◌else◌}
-use Rattle.std.specs.List.{flat_map, range_with_len}
-use Rattle.std.proofs.lemmas.List.{drop_more, drop_all}
-use Rattle.nc_base.specs.declared.header.Dim.{Dim}
-use Rattle.nc_base.specs.declared.header.Var.{Var}
-use Rattle.nc_base.specs.Sizes.{is_record_var}
-use Rattle.nc_walk.specs.declared.write.record_slab.RecordSlab.{RecordSlab}
-use Rattle.nc_walk.specs.Filled.{ArrayView, array_view, filled_slab, filled_blocks, filled_record, filled_records}
-use Rattle.nc_walk.specs.RecordSlabs.{array_of}
+use Rattle.std.proofs.Common.{◌≡◌, ℕ, suc, ◌+◌, ◌-◌, ◌<◌, ◌≤◌, List, [], ◌∷◌, ◌++◌, length, get_or, map, drop, refl, sym, ◌∙◌, ap, arith, append_assoc, if◌then◌else◌}
+use Rattle.nc_walk.proofs.Prelude.{flat_map, range_with_len, drop_more, drop_all, Dim, Var, is_record_var, RecordSlab, ArrayView, array_view, filled_slab, filled_blocks, filled_record, filled_records, array_of}
 
 -- ---- what is left of a list of variables and one of their arrays
 

@@ -1,26 +1,6 @@
 -- A slab of an array whose last values are owed: what of it is listed, and fill values.
-use Rattle.std.proofs.Common.{◌≡◌, ℕ, zero, suc, ◌+◌, ◌-◌, ◌*◌, ◌/◌, ◌<◌, ◌≤◌, inl, inr, Bool, true, false, List, [], ◌++◌, length, take, drop, replicate, refl, sym, ◌∙◌, ap, arith, append_assoc, length-append, length-take, length-drop}
-use Rattle.std.specs.Prelude.{if◌then◌else◌}
-use Rattle.std.specs.List.{concat}
-use Rattle.std.proofs.Math.Nat.{mul-div_cancel, mul-le-mul_right, mul-le-mul_left}
-use Rattle.std.proofs.Math.Seq.{take-append-add}
-use Rattle.std.proofs.lemmas.Bool.{cases_lt}
-use Rattle.std.proofs.lemmas.List.{take-append-le, take_all, append-nil, drop_at, drop-drop, drop_all, drop-append-le}
-use Rattle.nc_base.specs.declared.header.Dim.{Dim}
-use Rattle.nc_base.specs.declared.header.Var.{Var}
-use Rattle.nc_base.specs.declared.nc_type.NcType.{NcType}
-use Rattle.nc_base.specs.declared.nc_type.NcType.TheVariants.{Byte, Char, Short, Int, Ubyte, Ushort, Uint, Int64, Uint64}
-use Rattle.nc_base.specs.Bytes.{padding_len}
-use Rattle.nc_base.specs.Fill.{fill_value}
-use Rattle.nc_base.specs.GeneratedFile.{fill_bytes, padded_slab, slab_in}
-use Rattle.nc_base.specs.Headers.{value_count}
-use Rattle.nc_base.specs.Numbers.{bytes_of_number}
-use Rattle.nc_base.specs.OwedValues.{fills, owed_count, whole_array, IsListed}
-use Rattle.nc_base.specs.Sizes.{is_record_var, slab_count, slab_size}
-use Rattle.nc_base.specs.Types.{size_of}
-use Rattle.nc_base.proofs.FilePlaces.{length-number, whole-padding}
-use Rattle.nc_base.proofs.SoundLaws.{some_size}
-use Rattle.nc_walk.specs.Filled.{array_view, repeated, filled_slab, filled_record, filled_slabs}
+use Rattle.std.proofs.Common.{◌≡◌, ℕ, zero, suc, ◌+◌, ◌-◌, ◌*◌, ◌/◌, ◌<◌, ◌≤◌, inl, inr, Bool, true, false, List, [], ◌++◌, length, take, drop, replicate, refl, sym, ◌∙◌, ap, arith, append_assoc, length-append, length-take, length-drop, if◌then◌else◌}
+use Rattle.nc_walk.proofs.Prelude.{concat, mul-div_cancel, mul-le-mul_right, mul-le-mul_left, take-append-add, cases_lt, take-append-le, take_all, append-nil, drop_at, drop-drop, drop_all, drop-append-le, Dim, Var, NcType, Byte, Char, Short, Int, Ubyte, Ushort, Uint, Int64, Uint64, padding_len, fill_value, fill_bytes, padded_slab, slab_in, value_count, bytes_of_number, fills, owed_count, whole_array, IsListed, is_record_var, slab_count, slab_size, size_of, length-number, whole-padding, some_size, array_view, repeated, filled_slab, filled_record, filled_slabs}
 use Rattle.nc_walk.proofs.Repeats.{length-copies, copies-add, repeated-by}
 
 -- ---- copies of one value
@@ -117,7 +97,7 @@ repeated-values var n =
 
 -- ---- padded slabs
 
--- a slab of c values, of which a part is listed, and m are fill values
+-- a slab: the bytes that are listed of it, and m fill values
 pub padded-filled : (dims : List Dim) (var : Var) (listed part : List ℕ) (m : ℕ) → length part + m * size_of var.ty ≡ slab_size dims var
     → padded_slab var (part ++ fills var m) ≡ filled_slab (array_view dims var listed) part
 unfolding padded_slab fill_bytes

@@ -1,4 +1,4 @@
-pub mod FillSteps
+pub mod FullReadSteps
 pub mod Cursors
 pub mod Runs
 pub mod Orders
@@ -14,3 +14,4 @@ pub mod FilledArrays
 pub mod DataFilled
 pub mod SlabArrays
 pub mod ListedRuns
+pub mod Prelude

@@ -1,12 +1,7 @@
 -- The runs of a listed array, one after the other.
-use Rattle.std.proofs.Common.{◌≡◌, ℕ, zero, suc, ◌+◌, ◌-◌, ◌*◌, ◌<◌, ◌≤◌, inl, inr, List, [], ◌∷◌, ◌++◌, length, take, drop, replicate, refl, sym, ◌∙◌, ap, arith, length-append, append_assoc}
-use Rattle.std.specs.Prelude.{min}
-use Rattle.std.specs.List.{concat}
-use Rattle.std.proofs.Math.Seq.{take-append-add}
-use Rattle.std.proofs.lemmas.Bool.{cases_lt}
-use Rattle.std.proofs.lemmas.List.{take-append-le, take_all, take-replicate, take_at, drop_at, drop_all, drop-drop, append-nil, length-drop, length-replicate, replicate-append-replicate}
-use Rattle.nc_base.specs.ListedRows.{StandAt}
-use Rattle.nc_walk.specs.Filled.{repeated}
+use Rattle.std.proofs.Common.{◌≡◌, ℕ, zero, suc, ◌+◌, ◌-◌, ◌*◌, inl, inr, List, ◌++◌, length, take, drop, replicate, refl, sym, ◌∙◌, ap, arith, length-append, append_assoc, min}
+use Rattle.nc_walk.proofs.Prelude.{concat, take-append-add, cases_lt, take-append-le, take_all, take-replicate, drop_at, drop-drop, append-nil, length-drop, length-replicate, replicate-append-replicate, repeated}
+use Rattle.nc_base.specs.code.ListedRows.{StandAt}
 
 copies-of-byte : (fill n : ℕ) → concat (replicate n (replicate 8 fill)) ≡ replicate (n * 8) fill
 copies-of-byte fill zero = refl

@@ -1,19 +1,7 @@
 -- The first missing value, and the values before it.
-use Rattle.std.proofs.Common.{◌≡◌, ℕ, ◌+◌, ◌<◌, ◌≤◌, Bool, true, false, cond, List, length, get_or, take, sym, ◌∙◌, ap, subst, arith, None, Some, inl, inr, length-take}
-use Rattle.std.specs.Prelude.{not, All, unwrap_or}
-use Rattle.std.specs.List.{position, position_or_len}
-use Rattle.std.proofs.lemmas.Bool.{cases_lt, lt-ltb, le-ltb, ltb-false}
-use Rattle.std.proofs.lemmas.List.{get_or-take}
-use Rattle.std.proofs.lemmas.List.Elements.{All-get_or, All-from_get_or}
+use Rattle.std.proofs.Common.{◌≡◌, ℕ, ◌+◌, ◌<◌, ◌≤◌, Bool, true, false, cond, List, length, get_or, take, sym, ◌∙◌, ap, subst, arith, None, Some, inl, inr, length-take, not, All, unwrap_or}
+use Rattle.nc_walk.proofs.Prelude.{position, position_or_len, cases_lt, lt-ltb, le-ltb, ltb-false, get_or-take, All-get_or, All-from_get_or, Header, Var, size_of, value_count, ends_after, value_offsets, first_missing, IsWhole, whole_count, none-found}
 use Rattle.std.proofs.lemmas.List.Sums.{position_or_len_is, prefix_len-le-length, fails_before_first, passes_at_first}
-use Rattle.nc_base.specs.declared.header.Header.{Header}
-use Rattle.nc_base.specs.declared.header.Var.{Var}
-use Rattle.nc_base.specs.Types.{size_of}
-use Rattle.nc_base.specs.Headers.{value_count}
-use Rattle.nc_base.specs.Places.{ends_after, value_offsets, first_missing}
-use Rattle.nc_walk.specs.Walks.{IsWhole}
-use Rattle.nc_walk.specs.Walked.{whole_count}
-use Rattle.nc_base.proofs.WholeValues.{none-found}
 use Rattle.nc_walk.proofs.Orders.{count_of_offsets}
 
 -- ---- a list of offsets

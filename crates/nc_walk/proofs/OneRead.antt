@@ -1,17 +1,8 @@
 -- One read of a walk, and what the walk is afterwards.
-use Rattle.std.proofs.Common.{◌≡◌, ℕ, zero, suc, ◌+◌, ◌-◌, ◌*◌, ◌/◌, ◌<◌, ◌≤◌, Bool, List, ◌++◌, length, take, drop, map, sym, ◌∙◌, ap, refl, subst, arith, length-append, length-take, Option, None, Some, Ok}
-use Rattle.std.specs.Prelude.{All}
-use Rattle.std.specs.List.{concat}
-use Rattle.std.proofs.lemmas.List.{take-append-le}
-use Rattle.std.proofs.Math.Nat.{mul-div_cancel, mul-le-mul_right, le_of_mul-le-mul_right, div-mul-le_self}
-use Rattle.nc_base.specs.Places.{bytes_at}
-use Rattle.devices.specs.Sources.{SourceView, after}
+use Rattle.std.proofs.Common.{◌≡◌, ℕ, zero, suc, ◌+◌, ◌-◌, ◌*◌, ◌/◌, ◌<◌, ◌≤◌, Bool, List, ◌++◌, length, take, drop, map, sym, ◌∙◌, ap, refl, subst, arith, length-append, length-take, Option, None, Some, Ok, All}
+use Rattle.nc_walk.proofs.Prelude.{concat, take-append-le, mul-div_cancel, mul-le-mul_right, le_of_mul-le-mul_right, div-mul-le_self, bytes_at, SourceView, after, Slabs, ReadInFull, FailedReadInFull, total, offset, offsets_from, offsets_after, Ready, IsSized, IsWhole, Exactly, ReturnsValues, Failing, Truncated, ReadValues, Steps, Advanced, standing, stopped, as_answer, count}
 use Rattle.nc_walk.specs.declared.fault.WalkFault.{WalkFault}
-use Rattle.nc_walk.specs.declared.slabs.Slabs.{Slabs}
-use Rattle.nc_walk.specs.Fills.{Filled, FailedWhileFilling}
-use Rattle.nc_walk.specs.Slabs.{total, offset, offsets_from, offsets_after, Ready, IsSized}
-use Rattle.nc_walk.specs.Walks.{IsWhole, Exactly, ReturnsValues, Failing, Truncated, ReadValues, Steps, Advanced, standing, stopped, as_answer, count}
-use Rattle.nc_walk.proofs.FillSteps.{transparent_any, transparent_map, transparent_both}
+use Rattle.nc_walk.proofs.FullReadSteps.{transparent_any, transparent_map, transparent_both}
 use Rattle.nc_walk.proofs.Runs.{length-offsets, take-offsets, drop-offsets, first_offset, run_bytes, run_within, ready_whole}
 
 some_left : (l : Slabs) (done : ℕ) → done < total l → 0 < length (offsets_after l done)
@@ -34,7 +25,7 @@ not_ready is_transparent l done capacity buf before n more ready none = record {
       );
 }
 
--- n values that were asked for, of which n bytes came
+-- n values were requested, and `got` bytes came
 module _ (is_transparent : Bool) (l : Slabs) (done capacity : ℕ) (buf : List ℕ) (before now : SourceView) (ys rest : List ℕ) (n got : ℕ)
     (sized : IsSized l) (more : done < total l) (fits : capacity ≤ length buf) (ready : Ready l done capacity (length before.bytes) n) (some : 0 < n)
     (len : length ys ≡ n * l.size) where
@@ -66,7 +57,7 @@ module _ (is_transparent : Bool) (l : Slabs) (done capacity : ℕ) (buf : List �
         handed = left ∙ ap (after before) (e ∙ sym long);
       })
 
-  pub came : Filled is_transparent before now (offset l done) ys got → 0 < got / l.size
+  pub came : ReadInFull is_transparent before now (offset l done) ys got → 0 < got / l.size
       → (got / l.size * l.size ≤ length (ys ++ rest)) × ReturnsValues is_transparent (standing l done buf) before now (take (got / l.size * l.size) (ys ++ rest)) (got / l.size)
   came f some_came =
       let w = got / l.size in
@@ -84,7 +75,7 @@ module _ (is_transparent : Bool) (l : Slabs) (done capacity : ℕ) (buf : List �
       )
 
   -- all of them came
-  pub came_all : Filled is_transparent before now (offset l done) ys got → got ≡ n * l.size
+  pub came_all : ReadInFull is_transparent before now (offset l done) ys got → got ≡ n * l.size
       → (n * l.size ≤ length (ys ++ rest)) × ReturnsValues is_transparent (standing l done buf) before now (take (n * l.size) (ys ++ rest)) n
   came_all f all =
       let k : got / l.size ≡ n = ap (λ (m : ℕ). m / l.size) all ∙ mul-div_cancel n sized.some in
@@ -92,16 +83,16 @@ module _ (is_transparent : Bool) (l : Slabs) (done capacity : ℕ) (buf : List �
       (came f (omega (arith, k)))
 
   -- and where all came, these bytes alone were read
-  pub ran_all : Filled is_transparent before now (offset l done) ys got → got ≡ n * l.size → ReadValues l done before now n
+  pub ran_all : ReadInFull is_transparent before now (offset l done) ys got → got ≡ n * l.size → ReadValues l done before now n
   ran_all f all = record { whole = whole; handed = f.same ∙ ap (after before) all }
 
-  pub values_read : Filled is_transparent before now (offset l done) ys got → n ≤ got / l.size → ReadValues l done before now (got / l.size)
+  pub values_read : ReadInFull is_transparent before now (offset l done) ys got → n ≤ got / l.size → ReadValues l done before now (got / l.size)
   values_read f all =
       let e : got / l.size ≡ n = omega (arith, few f.within, all) in
       let up : n * l.size ≤ got / l.size * l.size = mul-le-mul_right l.size all in
       subst (ReadValues l done before now) (sym e) (ran_all f (omega (arith, up, div-mul-le_self got l.size, f.within, len)))
 
-  pub came_none : Filled is_transparent before now (offset l done) ys got → got / l.size ≡ 0 → Truncated is_transparent (standing l done buf) before now done
+  pub came_none : ReadInFull is_transparent before now (offset l done) ys got → got / l.size ≡ 0 → Truncated is_transparent (standing l done buf) before now done
   came_none f none = record {
     value = refl;
     some = some_left l done more;
@@ -111,7 +102,7 @@ module _ (is_transparent : Bool) (l : Slabs) (done capacity : ℕ) (buf : List �
         absurd (omega arith)) f.all;
   }
 
-  pub partway : FailedWhileFilling before now (length ys) → (k : ℕ) × Failing (standing l done buf) before now k
+  pub partway : FailedReadInFull before now (length ys) → (k : ℕ) × Failing (standing l done buf) before now k
   partway b = (
     n,
     record {
@@ -119,7 +110,7 @@ module _ (is_transparent : Bool) (l : Slabs) (done capacity : ℕ) (buf : List �
       within = omega (arith, end, length-offsets l done (total l - done));
       whole = whole;
       capacity = omega (arith, ready.in_capacity, fits);
-      partway = subst (FailedWhileFilling before now) len b;
+      partway = subst (FailedReadInFull before now) len b;
     },
   )
 

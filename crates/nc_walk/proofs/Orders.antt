@@ -1,20 +1,6 @@
 -- The offsets of a variable's values by their index vectors are those by their numbers, in the same order.
-use Rattle.std.proofs.Common.{◌≡◌, ℕ, zero, suc, ◌+◌, ◌*◌, ◌/◌, ◌%◌, ◌<◌, Bool, true, false, List, [], ◌∷◌, ◌++◌, length, map, sym, ◌∙◌, ap, refl, arith}
-use Rattle.std.specs.Prelude.{if◌then◌else◌}
-use Rattle.std.specs.List.{flat_map, range_with_len}
-use Rattle.std.proofs.lemmas.List.{map-append}
-use Rattle.std.proofs.lemmas.List.FromFn.{length-map-range_with_len}
-use Rattle.std.proofs.lemmas.Nat.{div-mul-add, mod-mul-add, mod_below, div-add-mod'}
-use Rattle.nc_base.specs.declared.header.Var.{Var}
-use Rattle.nc_base.specs.declared.header.Header.{Header}
-use Rattle.nc_base.specs.Types.{size_of}
-use Rattle.nc_base.specs.Sizes.{product, is_record_var, slab_lens, record_size}
-use Rattle.nc_base.specs.Headers.{value_count}
-use Rattle.nc_base.specs.Places.{vectors_below, slab_strides, distance, value_offset, value_offsets, lens_over}
-use Rattle.nc_walk.specs.declared.slabs.Slabs.{Slabs}
-use Rattle.nc_walk.specs.Slabs.{total, offset, offsets_from, slabs_of, AreSlabsOf}
-use Rattle.nc_walk.specs.Walks.{Starts, standing}
-use Rattle.nc_base.proofs.WholeValues.{map-map}
+use Rattle.std.proofs.Common.{◌≡◌, ℕ, zero, suc, ◌+◌, ◌*◌, ◌/◌, ◌%◌, ◌<◌, Bool, true, false, List, [], ◌∷◌, ◌++◌, length, map, sym, ◌∙◌, ap, refl, arith, if◌then◌else◌}
+use Rattle.nc_walk.proofs.Prelude.{flat_map, range_with_len, map-append, length-map-range_with_len, div-mul-add, mod-mul-add, mod_below, div-add-mod', Var, Header, size_of, product, is_record_var, slab_lens, record_size, value_count, vectors_below, slab_strides, distance, value_offset, value_offsets, lens_over, Slabs, total, offset, offsets_from, slabs_of, AreSlabsOf, Starts, standing, map-map}
 use Rattle.nc_walk.proofs.Runs.{offset_at}
 
 -- the i-th index vector in row-major order

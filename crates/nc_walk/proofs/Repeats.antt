@@ -1,12 +1,6 @@
 -- A unit of eight bytes that is repeated.
-use Rattle.std.proofs.Common.{◌≡◌, ℕ, zero, suc, ◌+◌, ◌-◌, ◌*◌, ◌<◌, ◌≤◌, inl, inr, List, [], ◌∷◌, ◌++◌, length, take, replicate, refl, sym, ◌∙◌, ap, arith, length-append, append_assoc}
-use Rattle.std.specs.Prelude.{min}
-use Rattle.std.specs.List.{concat, flat_map}
-use Rattle.std.proofs.Math.Nat.{mul-le-mul_left}
-use Rattle.std.proofs.Math.Seq.{take-append-add}
-use Rattle.std.proofs.lemmas.Bool.{cases_lt}
-use Rattle.std.proofs.lemmas.List.{take-append-le, take_all, append-nil}
-use Rattle.nc_walk.specs.Filled.{repeated}
+use Rattle.std.proofs.Common.{◌≡◌, ℕ, zero, suc, ◌+◌, ◌-◌, ◌*◌, ◌<◌, ◌≤◌, inl, inr, List, [], ◌∷◌, ◌++◌, length, take, replicate, refl, sym, ◌∙◌, ap, arith, length-append, append_assoc, min}
+use Rattle.nc_walk.proofs.Prelude.{concat, flat_map, mul-le-mul_left, take-append-add, cases_lt, take-append-le, take_all, append-nil, repeated}
 
 pub length-copies : (n : ℕ) (unit : List ℕ) → length (concat (replicate n unit)) ≡ n * length unit
 length-copies zero unit = omega arith

@@ -1,16 +1,6 @@
 -- Values that lie side by side.
-use Rattle.std.proofs.Common.{◌≡◌, ℕ, zero, suc, ◌+◌, ◌-◌, ◌*◌, ◌/◌, ◌%◌, ◌<◌, ◌≤◌, List, ◌++◌, length, get_or, take, drop, map, refl, sym, ◌∙◌, ap, subst, arith}
-use Rattle.std.specs.Prelude.{All}
-use Rattle.std.specs.List.{concat}
-use Rattle.std.proofs.lemmas.List.{drop-drop}
-use Rattle.std.proofs.lemmas.List.FromFn.{length-map-range_with_len, take-map-range_with_len, get_or-map-range_with_len}
-use Rattle.std.proofs.Math.Seq.{take-add}
-use Rattle.std.proofs.lemmas.Nat.{div-mul-add, mod-mul-add, div_below, div-add-mod'}
-use Rattle.std.proofs.Math.Nat.{mul-le-mul_right}
-use Rattle.nc_base.specs.Places.{bytes_at}
-use Rattle.nc_walk.specs.declared.slabs.Slabs.{Slabs}
-use Rattle.nc_walk.specs.Slabs.{total, offset, offsets_from, Ready}
-use Rattle.nc_walk.specs.Walks.{IsWhole}
+use Rattle.std.proofs.Common.{◌≡◌, ℕ, zero, suc, ◌+◌, ◌-◌, ◌*◌, ◌/◌, ◌%◌, ◌<◌, ◌≤◌, List, ◌++◌, length, get_or, take, drop, map, refl, sym, ◌∙◌, ap, subst, arith, All}
+use Rattle.nc_walk.proofs.Prelude.{concat, drop-drop, length-map-range_with_len, take-map-range_with_len, get_or-map-range_with_len, take-add, div-mul-add, mod-mul-add, div_below, div-add-mod', mul-le-mul_right, bytes_at, Slabs, total, offset, offsets_from, Ready, IsWhole}
 
 pub offset_at : (l : Slabs) (r p : ℕ) → p < l.values_per_slab → offset l (r * l.values_per_slab + p) ≡ l.begin + r * l.stride + p * l.size
 offset_at l r p lt = ap (λ (x : ℕ). l.begin + x * l.stride + (r * l.values_per_slab + p) % l.values_per_slab * l.size) (div-mul-add r l.values_per_slab p lt) ∙ ap (λ (x : ℕ). l.begin + r * l.stride + x * l.size) (mod-mul-add r l.values_per_slab p lt)

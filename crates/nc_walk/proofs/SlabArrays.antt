@@ -1,15 +1,6 @@
 -- The slabs of a record are those of the arrays of the record variables.
-use Rattle.std.proofs.Common.{◌≡◌, ℕ, ◌+◌, ◌<◌, ◌≤◌, Bool, true, false, List, [], ◌∷◌, ◌++◌, All, length, get_or, map, drop, refl, sym, ◌∙◌, ap, arith, subst}
-use Rattle.std.specs.Prelude.{if◌then◌else◌}
-use Rattle.std.proofs.lemmas.List.{drop_more}
-use Rattle.std.proofs.lemmas.List.Elements.{All-cons, All-nil}
-use Rattle.nc_base.specs.declared.header.Dim.{Dim}
-use Rattle.nc_base.specs.declared.header.Var.{Var}
-use Rattle.nc_base.specs.OwedValues.{AreListed}
-use Rattle.nc_base.specs.Sizes.{is_record_var}
-use Rattle.nc_walk.specs.declared.write.record_slab.RecordSlab.{RecordSlab}
-use Rattle.nc_walk.specs.Filled.{ArrayView, array_view, record_arrays}
-use Rattle.nc_walk.specs.RecordSlabs.{array_of, record_slab, record_slabs}
+use Rattle.std.proofs.Common.{◌≡◌, ℕ, ◌+◌, ◌<◌, ◌≤◌, Bool, true, false, List, [], ◌∷◌, ◌++◌, All, length, get_or, map, drop, refl, sym, ◌∙◌, ap, arith, subst, if◌then◌else◌}
+use Rattle.nc_walk.proofs.Prelude.{drop_more, All-cons, All-nil, Dim, Var, AreListed, is_record_var, RecordSlab, ArrayView, array_view, record_arrays, array_of, record_slab, record_slabs}
 use Rattle.nc_walk.proofs.DataFilled.{listed-len}
 
 -- ---- the arrays of the slabs

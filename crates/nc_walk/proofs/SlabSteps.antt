@@ -1,21 +1,7 @@
 -- The slabs of a variable of a sound header.
-use Rattle.std.proofs.Common.{◌≡◌, ℕ, ◌+◌, ◌-◌, ◌*◌, ◌/◌, ◌%◌, ◌<◌, ◌≤◌, length, get_or, map, sym, ◌∙◌, ap, refl, subst, arith}
-use Rattle.std.specs.Prelude.{if◌then◌else◌}
-use Rattle.std.specs.List.{range_with_len}
+use Rattle.std.proofs.Common.{◌≡◌, ℕ, ◌+◌, ◌-◌, ◌*◌, ◌/◌, ◌%◌, ◌<◌, ◌≤◌, length, get_or, map, sym, ◌∙◌, ap, refl, subst, arith, if◌then◌else◌}
+use Rattle.nc_walk.proofs.Prelude.{range_with_len, All-get_or, div-add-mod', mul-div_cancel, NcType, Byte, Char, Short, Int, Ubyte, Ushort, Uint, Int64, Uint64, Var, Header, size_of, is_record_var, record_size, slab_count, IsSound, IsSoundVar, some_count, some_size, Slabs, total, offset, offsets_from, offsets_after, slabs_of, IsSized, AreSlabsOf}
 use Rattle.std.proofs.lemmas.Option.{slice_get_read}
-use Rattle.std.proofs.lemmas.List.Elements.{All-get_or}
-use Rattle.std.proofs.lemmas.Nat.{div-add-mod'}
-use Rattle.std.proofs.Math.Nat.{mul-div_cancel}
-use Rattle.nc_base.specs.declared.nc_type.NcType.{NcType}
-use Rattle.nc_base.specs.declared.nc_type.NcType.TheVariants.{Byte, Char, Short, Int, Ubyte, Ushort, Uint, Int64, Uint64}
-use Rattle.nc_base.specs.declared.header.Var.{Var}
-use Rattle.nc_base.specs.declared.header.Header.{Header}
-use Rattle.nc_base.specs.Types.{size_of}
-use Rattle.nc_base.specs.Sizes.{is_record_var, record_size, slab_count}
-use Rattle.nc_base.specs.Headers.{IsSound, IsSoundVar}
-use Rattle.nc_base.proofs.SoundLaws.{some_count, some_size}
-use Rattle.nc_walk.specs.declared.slabs.Slabs.{Slabs}
-use Rattle.nc_walk.specs.Slabs.{total, offset, offsets_from, offsets_after, slabs_of, IsSized, AreSlabsOf}
 use Rattle.nc_walk.proofs.Orders.{at_first, shifted, offsets_in_order}
 
 small_size : (ty : NcType) → size_of ty ≤ 8

@@ -1,20 +1,6 @@
 -- The bytes of whole values, and their numbers.
-use Rattle.std.proofs.Common.{◌≡◌, ℕ, ◌+◌, List, ◌++◌, length, take, drop, map, sym, ◌∙◌, ap}
-use Rattle.std.specs.Prelude.{All}
-use Rattle.std.specs.List.{concat}
-use Rattle.std.proofs.Math.Seq.{take-add}
-use Rattle.std.proofs.lemmas.List.{take-map, drop-map}
-use Rattle.std.proofs.lemmas.List.Folds.{concat-append}
-use Rattle.std.proofs.lemmas.List.Elements.{All-map, All-weaker}
-use Rattle.nc_base.specs.declared.nc_type.NcType.{NcType}
-use Rattle.nc_base.specs.declared.header.Header.{Header}
-use Rattle.nc_base.specs.declared.header.Var.{Var}
-use Rattle.nc_base.specs.Types.{size_of}
-use Rattle.nc_base.specs.Numbers.{number_of, numbers}
-use Rattle.nc_base.specs.Places.{bytes_at, value_offsets, stored_bytes, stored_values}
-use Rattle.nc_base.proofs.WholeValues.{numbers-concat, length-whole}
-use Rattle.nc_walk.specs.Walks.{IsWhole}
-use Rattle.nc_walk.specs.Walked.{StoredNumbers}
+use Rattle.std.proofs.Common.{◌≡◌, ℕ, ◌+◌, List, ◌++◌, length, take, drop, map, sym, ◌∙◌, ap, All}
+use Rattle.nc_walk.proofs.Prelude.{concat, take-add, take-map, drop-map, concat-append, All-map, All-weaker, NcType, Header, Var, size_of, number_of, numbers, bytes_at, value_offsets, stored_bytes, stored_values, numbers-concat, length-whole, IsWhole, StoredNumbers}
 use Rattle.nc_walk.proofs.Missing.{whole_before}
 
 -- ---- whole values

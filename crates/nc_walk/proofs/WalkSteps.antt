@@ -1,23 +1,8 @@
 -- A walk from call to call, as its caller sees it.
-use Rattle.std.proofs.Common.{◌≡◌, ℕ, ◌+◌, ◌-◌, ◌*◌, ◌<◌, ◌≤◌, Bool, List, ◌++◌, length, get_or, take, drop, sym, ◌∙◌, ap, subst, arith, length-drop, None, Some, Ok, Err}
-use Rattle.std.specs.Prelude.{All}
-use Rattle.std.specs.Bool.{OnTrue}
-use Rattle.std.specs.List.{concat}
-use Rattle.std.proofs.Math.Nat.{mul-le-mul_right}
-use Rattle.std.proofs.Math.Seq.{take-add}
-use Rattle.std.proofs.lemmas.List.{drop-drop, get_or-drop}
-use Rattle.std.proofs.lemmas.List.Elements.{All-nil, All-append}
-use Rattle.nc_base.specs.declared.header.Header.{Header}
-use Rattle.nc_base.specs.declared.header.Var.{Var}
-use Rattle.nc_base.specs.Types.{size_of}
-use Rattle.nc_base.specs.Numbers.{numbers}
-use Rattle.nc_base.specs.Headers.{value_count}
-use Rattle.nc_base.specs.Places.{value_offsets}
-use Rattle.devices.specs.Sources.{SourceView, after, HasFailed}
+use Rattle.std.proofs.Common.{◌≡◌, ℕ, ◌+◌, ◌-◌, ◌*◌, ◌<◌, ◌≤◌, Bool, List, ◌++◌, length, get_or, take, drop, sym, ◌∙◌, ap, subst, arith, length-drop, None, Some, Ok, Err, All}
+use Rattle.nc_walk.proofs.Prelude.{OnTrue, concat, mul-le-mul_right, take-add, drop-drop, get_or-drop, All-nil, All-append, Header, Var, size_of, numbers, value_count, value_offsets, HasFailed, SourceView, after, WalkView, Answer, IsWhole, Starts, Exactly, ReturnsValues, Failing, Truncated, Steps, Advanced, count, Pass, offsets_in, stored_in, total_in, whole_in, going_on, Walked, HasRead, IsChunk, GivesChunk, GivesEnd, GivesCut, GivesFailure, Gives}
 use Rattle.nc_walk.specs.declared.fault.WalkFault.TheVariants.{ReadFailed, DataTruncated}
-use Rattle.nc_walk.specs.Walks.{WalkView, Answer, IsWhole, Starts, Exactly, ReturnsValues, Failing, Truncated, Steps, Advanced, count}
-use Rattle.nc_walk.specs.Walked.{Pass, offsets_in, stored_in, total_in, whole_in, going_on, Walked, HasRead, IsChunk, GivesChunk, GivesEnd, GivesCut, GivesFailure, Gives}
-use Rattle.nc_walk.proofs.FillSteps.{transparent_any, transparent_map, transparent_both, after_after}
+use Rattle.nc_walk.proofs.FullReadSteps.{transparent_any, transparent_map, transparent_both, after_after}
 use Rattle.nc_walk.proofs.Missing.{missing_at, none_missing, whole_count-ge}
 use Rattle.nc_walk.proofs.Orders.{count_of_offsets}
 use Rattle.nc_walk.proofs.Stored.{numbers-whole, chunk_bytes, chunk_values, joined_bytes}
@@ -132,7 +117,7 @@ module _ (p : Pass) (w : WalkView) (c : SourceView) (k : ℕ) (s : Walked p w k)
   gives_failure : (m : ℕ) → Failing (there p w k) b c m → GivesFailure (going_on p c) k
   gives_failure m x = record {
     within = omega (arith, x.some, left_here);
-    failed = subst (λ (q : ℕ). HasFailed q c) s.failures x.partway.failed.failures;
+    failed = subst (λ (q : ℕ). HasFailed q c.failures) s.failures x.partway.failed.failures;
     bytes = transparent_map is_transparent (λ r. x.partway.failed.bytes ∙ ap (λ (v : SourceView). v.bytes) r.handed) s.read;
     whole = transparent_map is_transparent (λ r.
         let all : take (k + m) xs ≡ take k xs ++ take m (drop k xs) = take-add k m xs in

@@ -1,10 +1,1 @@
-pub mod Slabs
-pub mod SourceUses
-pub mod Fills
-pub mod Walks
-pub mod Lends
-pub mod Chunks
-pub mod Walked
-pub mod Filled
-pub mod DataPart
-pub mod RecordSlabs
+pub mod code

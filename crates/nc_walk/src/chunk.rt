@@ -1,10 +1,10 @@
 //! Values of one slab after the other, side by side in a slice.
 
-ghost use Rattle.std.specs.Prelude.{◌≡◌, ◌+◌, ◌*◌, ◌<◌, ◌≤◌, ◌^◌, ◌↔◌, IsTrue, IfOk, length};
-ghost use Rattle.nc_walk.specs.Slabs.{total, number_at, offset, IsSized, IsCursor, AreReady};
-ghost use Rattle.nc_walk.specs.SourceUses.{source_of};
-ghost use Rattle.nc_walk.specs.Walks.{reading};
-ghost use Rattle.nc_walk.specs.Chunks.{Collects, Continues, ReadToSlabEnd};
+ghost use Rattle.std.specs.Prelude.{◌+◌, ◌≤◌, ◌↔◌, IsTrue, IfOk};
+ghost use Rattle.nc_walk.specs.code.Slabs.{IsCursor, AreReady, HasCapacity};
+ghost use Rattle.nc_walk.specs.code.SourceUses.{source_of};
+ghost use Rattle.nc_walk.specs.code.Walks.{reading};
+ghost use Rattle.nc_walk.specs.code.Chunks.{Collects, Continues, ReadToSlabEnd};
 
 use crate::cursor::Cursor;
 use crate::fault::WalkFault;
@@ -31,7 +31,7 @@ impl Chunk {
     }
 }
 
-/// Reads `ready` values from this cursor on, which is at the offset `at`, into the start of the slice: fewer where the source has
+/// Reads `ready` values from this cursor on, which is at the offset `at`, into the start of the slice: fewer if the source has
 /// ended.
 ///
 /// # Errors
@@ -46,13 +46,7 @@ fn read_ready<S: Source>(
     source: &mut S,
     into: &mut [u8],
 ) -> Result<Chunk, WalkFault>
-    requires sized { IsSized slabs.now }
-    requires is_cursor { IsCursor slabs.now cursor }
-    requires more { number_at slabs.now cursor < total slabs.now }
-    requires at { at ≡ offset slabs.now (number_at slabs.now cursor) }
-    requires some { 0 < ready }
-    requires ready { AreReady slabs.now cursor into.old (S.view source.old) ready }
-    requires len { length (S.view source.old).bytes < 2 ^ 64 }
+    requires { AreReady slabs.now cursor at ready into.old (S.view source.old) }
     ensures collects { Collects S.is_transparent (reading slabs.now cursor into.old into.new)
         (source_of S.view source.old source.new) result }
     ensures in_slab { IfOk result (λ chunk. cursor.within + chunk.values ≤ slabs.now.values_per_slab) }
@@ -76,11 +70,7 @@ fn read_run<S: Source>(
     source: &mut S,
     into: &mut [u8],
 ) -> Result<Chunk, WalkFault>
-    requires sized { IsSized slabs.now }
-    requires is_cursor { IsCursor slabs.now cursor }
-    requires more { number_at slabs.now cursor < total slabs.now }
-    requires some { 0 < capacity }
-    requires capacity { capacity * slabs.now.size ≤ length into.old }
+    requires { HasCapacity slabs.now cursor capacity into.old }
     ensures collects { Collects S.is_transparent (reading slabs.now cursor into.old into.new)
         (source_of S.view source.old source.new) result }
     ensures slab_read { IfOk result (ReadToSlabEnd slabs.now cursor S.view source.old source.new) }
@@ -109,11 +99,7 @@ pub(crate) fn read_chunk<S: Source>(
     source: &mut S,
     into: &mut [u8],
 ) -> Result<Chunk, WalkFault>
-    requires sized { IsSized slabs.now }
-    requires is_cursor { IsCursor slabs.now cursor }
-    requires more { number_at slabs.now cursor < total slabs.now }
-    requires some { 0 < capacity }
-    requires capacity { capacity * slabs.now.size ≤ length into.old }
+    requires { HasCapacity slabs.now cursor capacity into.old }
     ensures { Collects S.is_transparent (reading slabs.now cursor into.old into.new)
         (source_of S.view source.old source.new) result }
 {

@@ -1,7 +1,7 @@
 //! The cursor of a value among a variable's values.
 
 ghost use Rattle.std.specs.Prelude.{◌≡◌, ◌+◌, ◌*◌, ◌≤◌, ◌↔◌, IsTrue};
-ghost use Rattle.nc_walk.specs.Slabs.{total, number_at, IsCursor};
+ghost use Rattle.nc_walk.specs.code.Slabs.{total, number_at, IsCursor};
 
 use crate::slabs::Slabs;
 

@@ -8,7 +8,7 @@
 //!
 //! ```
 //! let layout = record_layout(&header, source.len());
-//! let mut walk = Walk::over(&header, var_index, layout, &mut buf);
+//! let mut walk = Walk::with_layout(&header, var_index, layout, &mut buf);
 //! while let Some(chunk) = walk.next(&mut source)? {
 //!     // whole values, big-endian, one after the other
 //! }
@@ -20,8 +20,8 @@
 mod chunk;
 mod cursor;
 mod fault;
-mod fill;
 pub mod laws;
+mod read_full;
 mod reading;
 mod slabs;
 mod walk;

@@ -1,18 +1,18 @@
 //! One read of a walk.
 
-ghost use Rattle.std.specs.Prelude.{◌≡◌, ◌+◌, ◌<◌, ◌≤◌, ◌^◌, length, IfOk};
-ghost use Rattle.nc_walk.specs.Slabs.{total, number_at, offset, IsSized, AreReady};
-ghost use Rattle.nc_walk.specs.SourceUses.{source_of};
-ghost use Rattle.nc_walk.specs.Walks.{reading, Reads, ReadsSlabToEnd};
+ghost use Rattle.std.specs.Prelude.{◌+◌, ◌≤◌, IfOk};
+ghost use Rattle.nc_walk.specs.code.Slabs.{AreReady};
+ghost use Rattle.nc_walk.specs.code.SourceUses.{source_of};
+ghost use Rattle.nc_walk.specs.code.Walks.{reading, Reads, ReadsSlabToEnd};
 
 use crate::cursor::Cursor;
 use crate::fault::WalkFault;
-use crate::fill::fill;
+use crate::read_full::read_full;
 use crate::slabs::Slabs;
 use devices::Source;
 
 /// Reads `ready` values from this cursor on, which is at the offset `at`, into the start of the slice, and gives their number, which
-/// isn't 0: fewer where the source has ended.
+/// isn't 0: fewer if the source has ended.
 ///
 /// # Errors
 ///
@@ -26,20 +26,14 @@ pub(crate) fn read_values<S: Source>(
     source: &mut S,
     into: &mut [u8],
 ) -> Result<u64, WalkFault>
-    requires sized { IsSized slabs.now }
-    requires within { cursor.within < slabs.now.values_per_slab }
-    requires more { number_at slabs.now cursor < total slabs.now }
-    requires at { at ≡ offset slabs.now (number_at slabs.now cursor) }
-    requires some { 0 < ready }
-    requires ready { AreReady slabs.now cursor into.old (S.view source.old) ready }
-    requires len { length (S.view source.old).bytes < 2 ^ 64 }
+    requires { AreReady slabs.now cursor at ready into.old (S.view source.old) }
     ensures reads { Reads S.is_transparent (reading slabs.now cursor into.old into.new)
         (source_of S.view source.old source.new) result }
     ensures in_slab { IfOk result (λ n. cursor.within + n ≤ slabs.now.values_per_slab) }
     ensures values_read { IfOk result (ReadsSlabToEnd slabs.now cursor S.view source.old source.new) }
 {
     let wanted = (ready * slabs.size) as usize;
-    let got = fill(source, at, &mut into[..wanted])?;
+    let got = read_full(source, at, &mut into[..wanted])?;
     if got == wanted {
         return Ok(ready);
     }

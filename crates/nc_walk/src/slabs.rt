@@ -3,7 +3,7 @@
 ghost use Rattle.std.specs.Prelude.{◌≡◌, ◌↔◌, IsTrue, ◌*◌, ◌<◌, ◌≤◌, ◌^◌, if◌then◌else◌, length};
 ghost use Rattle.nc_base.specs.Headers.{IsSound};
 ghost use Rattle.nc_base.specs.Sizes.{is_record_var, record_size, slab_count, slab_size, slab_limit};
-ghost use Rattle.nc_walk.specs.Slabs.{number_at, offset, offsets_after, IsSized, IsOffset, AreSlabsOf, HasWholeSlab, Ready};
+ghost use Rattle.nc_walk.specs.code.Slabs.{number_at, offset, offsets_after, IsSized, IsOffset, AreSlabsOf, HasWholeSlab, Ready};
 
 use crate::cursor::Cursor;
 use nc_base::{Dim, Header, RecordLayout, Var, is_record_var, slab_of};
@@ -24,8 +24,8 @@ pub(crate) struct Slabs {
 }
 
 impl Slabs {
-    /// The slabs of the variable at index `v` over the records of the layout: one for each record, or one in all where the
-    /// variable has no record dimension, or where the records' slabs stand side by side.
+    /// The slabs of the variable at index `v` over the records of the layout: one for each record, or one in all if the
+    /// variable has no record dimension, or if the records' slabs are side by side.
     pub(crate) fn of(header: &Header, v: usize, layout: RecordLayout) -> Slabs
         requires sound { IsSound header.now }
         requires there { v < length header.now.vars }
@@ -44,7 +44,7 @@ impl Slabs {
         slabs.joined()
     }
 
-    /// The same values in one slab, where each slab begins at the end of the one before it; else the slabs as they are.
+    /// The same values in one slab if each slab begins at the end of the one before it; otherwise the slabs as they are.
     fn joined(self) -> Slabs
         requires { IsSized self }
         ensures size { result.size ≡ self.size }
@@ -76,7 +76,7 @@ impl Slabs {
         slab + cursor.within as u128 * self.size as u128
     }
 
-    /// The offset of the value at this cursor, or 2^64 - 1 where that is less: no file has a byte there.
+    /// The offset of the value at this cursor, or 2^64 - 1 if that is less: no file has a byte there.
     pub(crate) fn offset_or_most(&self, cursor: Cursor) -> u64
         requires sized { IsSized self.now }
         requires within { cursor.within < self.now.values_per_slab }

@@ -4,8 +4,8 @@ ghost use Rattle.std.specs.Prelude.{◌≡◌, ◌*◌, ◌<◌, ◌≤◌, leng
 ghost use Rattle.std.specs.Borrow.{sem};
 ghost use Rattle.nc_base.specs.Headers.{IsSound};
 ghost use Rattle.nc_base.specs.Sizes.{record_size};
-ghost use Rattle.nc_walk.specs.Walks.{Starts, TakesStep, Repeats, Advanced, lent, as_answer};
-ghost use Rattle.nc_walk.specs.Lends.{AdvancesAfter};
+ghost use Rattle.nc_walk.specs.code.Walks.{Starts, TakesStep, Repeats, Advanced, lent, as_answer};
+ghost use Rattle.nc_walk.specs.code.Lends.{AdvancesAfter};
 
 use crate::chunk::read_chunk;
 use crate::cursor::Cursor;
@@ -32,8 +32,8 @@ pub struct Walk<'a> {
 }
 
 impl<'a> Model for Walk<'a> {
-    ghost use Rattle.nc_walk.specs.Slabs.{number_at};
-    ghost use Rattle.nc_walk.specs.Walks.{WalkView, IsInOrder, stopped};
+    ghost use Rattle.nc_walk.specs.code.Slabs.{number_at};
+    ghost use Rattle.nc_walk.specs.code.Walks.{WalkView, IsInOrder, stopped};
 
     ghost Value = { WalkView };
 
@@ -52,7 +52,7 @@ impl<'a> Walk<'a> {
         ensures { Starts header.now v records (length buf.old) result }
     {
         let record_size = sound_rec_size(header);
-        Walk::over(
+        Walk::with_layout(
             header,
             v,
             RecordLayout {
@@ -65,7 +65,12 @@ impl<'a> Walk<'a> {
 
     /// The same over the records of this layout, for a caller that walks over many variables of one file: no other variable
     /// is looked at, so it takes time in proportion to the variable's rank alone.
-    pub fn over(header: &Header, v: usize, layout: RecordLayout, buf: &'a mut [u8]) -> Walk<'a>
+    pub fn with_layout(
+        header: &Header,
+        v: usize,
+        layout: RecordLayout,
+        buf: &'a mut [u8],
+    ) -> Walk<'a>
         requires sound { IsSound header.now }
         requires there { v < length header.now.vars }
         requires record_size { layout.record_size ≡ record_size header.now }
@@ -123,8 +128,8 @@ impl<'a> Walk<'a> {
     ///
     /// # Errors
     ///
-    /// [`WalkFault::ReadFailed`] at once where the source fails, and the values that this call has read before are not handed
-    /// out; [`WalkFault::DataTruncated`] where the next value isn't whole in the source, without a read where its length
+    /// [`WalkFault::ReadFailed`] at once if the source fails, and the values that this call has read before are not handed
+    /// out; [`WalkFault::DataTruncated`] if the next value isn't whole in the source, without a read if its length
     /// says so. An end of the source before its length is the file's end. From then on each call answers the same, and
     /// touches nothing.
     pub fn next<S: Source>(&mut self, source: &mut S) -> Result<Option<&[u8]>, WalkFault>

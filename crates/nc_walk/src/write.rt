@@ -1,12 +1,12 @@
 //! Writing the data part of a file: a file for each of its parts.
 
-mod array;
 mod blocks;
 mod data;
 mod fills;
 mod part;
 mod record_slab;
 mod records;
+mod slab_writer;
 
 pub use data::write_data;
 pub use record_slab::{RecordSlab, record_slabs};

@@ -1,11 +1,6 @@
 -- A walk, and a call, by the devices that they begin and end with.
 use Rattle.std.proofs.Common.{ℕ, Bool}
-use Rattle.nc_base.specs.declared.header.Header.{Header}
-use Rattle.nc_base.specs.declared.header.Var.{Var}
-use Rattle.devices.specs.Sources.{SourceView}
-use Rattle.devices.specs.Sinks.{SinkView}
-use Rattle.nc_walk.specs.SourceUses.{between}
-use Rattle.nc_walk.specs.Walked.{Pass}
+use Rattle.ncdump.proofs.Prelude.{Header, Var, SourceView, SinkView, between, Pass}
 use Rattle.ncdump.specs.Calls.{Call}
 
 abbrev pub pass : Bool → Header → Var → ℕ → ℕ → SourceView → SourceView → Pass

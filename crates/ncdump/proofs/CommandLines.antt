@@ -1,22 +1,18 @@
 -- What a width and the whole command line read.
-use Rattle.std.proofs.Common.{ℕ, Bool, true, false, List, [], ◌∷◌, Option, Some, None, Result, Ok, Err, ◌≡◌, ◌<◌, ◌^◌, ◌∙◌, refl, ap, rules, tests, arith, length, ◌⊎◌, IsErrAnd}
-use Rattle.std.specs.Bool.{then_some}
+use Rattle.std.proofs.Common.{ℕ, Bool, true, false, List, [], ◌∷◌, Option, Some, None, Result, Ok, Err, ◌≡◌, ◌<◌, ◌^◌, ◌∙◌, refl, ap, rules, tests, arith, length, ◌⊎◌, IsErrAnd, if◌then◌else◌, option_and_then}
+use Rattle.ncdump.proofs.Prelude.{then_some, list_all, Row, fault_of, is_simple, is_simple_and_free, matches_of, Answers, asked_by, asked_for, asked_in, ncdump, width_of}
 use Rattle.std.specs.Char.{is_ascii_digit}
 use Rattle.std.specs.Int.{is_in_range}
-use Rattle.std.specs.List.{list_all}
-use Rattle.std.specs.Prelude.{if◌then◌else◌, option_and_then}
 use Rattle.std.specs.Str.Parse.{ParsesUnsigned, digits_value}
 use Rattle.std.specs.Result.{OkIff, result_ok}
 use Rattle.std.proofs.lemmas.Str.Parse.{IsNumeralModel, numerals_by_value, parse_digits}
 use Rattle.clap.specs.Kinds.{IsAmong}
-use Rattle.clap.specs.Words.{Row, fault_of, is_simple, is_simple_and_free, matches_of}
 use Rattle.clap.specs.declared.error.kind.ErrorKind.{ErrorKind}
 use Rattle.clap.proofs.OnLiterals.{clap_on_literals}
 use Rattle.clap.specs.declared.error.kind.ErrorKind.TheVariants as kinds
 use Rattle.cli_base.proofs.Refusals.{TellsKind, refusal_answers, unless_none}
 use Rattle.cli_base.specs.declared.fault.OptFault.{OptFault}
 use Rattle.ncdump.specs.declared.options.DumpOptions.{DumpOptions}
-use Rattle.ncdump.specs.CommandLine.{Answers, asked_by, asked_for, asked_in, ncdump, width_of}
 
 digits : IsNumeralModel (λ ds. list_all is_ascii_digit ds ≡ true) (digits_value 10)
 digits = numerals_by_value _ (search rules)

@@ -1,24 +1,11 @@
 -- A dump from reading the header, selecting variables and showing them.
-use Rattle.std.proofs.Common.{◌≡◌, ℕ, ◌+◌, inl, inr, Bool, true, List, ◌++◌, length, Result, Ok, Err, refl, sym, ap, subst, ◌∙◌, append_assoc}
-use Rattle.std.specs.Bool.{OnTrue}
-use Rattle.std.specs.Prelude.{◌&&◌}
-use Rattle.nc_base.specs.declared.header.Header.{Header}
-use Rattle.nc_base.specs.Grammar.{SpellsHeader}
-use Rattle.nc_base.specs.Sizes.{record_count}
-use Rattle.nc_base.specs.Dump.{Options, Section, closing_word, KnowsChosen, selection_of, dump_text, has_values, IsDump, stopped, unknown, shown}
-use Rattle.devices.specs.Sources.{SourceView}
-use Rattle.devices.specs.Sinks.{SinkView}
-use Rattle.nc_file.specs.Answers.{IsRead, Answers, HasAnswered, header_end, fault_end}
+use Rattle.std.proofs.Common.{◌≡◌, ℕ, ◌+◌, inl, inr, Bool, true, List, ◌++◌, length, Result, Ok, Err, refl, sym, ap, subst, ◌∙◌, append_assoc, ◌&&◌}
+use Rattle.ncdump.proofs.Prelude.{OnTrue, Header, SpellsHeader, record_count, Options, Section, closing_word, KnowsChosen, selection_of, dump_text, has_values, IsDump, stopped, unknown, shown, SourceView, SinkView, transparent_map, transparent_both, DumpFault, OutOfMemory, ReadFailed, WriteFailed, Format, NoSuchVariable, DataTruncated, Dumped, dumped, prefix_text, marked_values, values_from, marks_in, text_before, KeepsUpIn, Shows, Dumps, ReadsForward, IsAfterHeader, in_header, after_header, between}
+use Rattle.nc_file.specs.code.Answers.{IsRead, Answers, HasAnswered, header_end, fault_end}
 use Rattle.nc_file.specs.declared.head_fault.HeadFault.{HeadFault}
 use Rattle.nc_file.specs.declared.head_fault.HeadFault.TheVariants as head
-use Rattle.nc_walk.proofs.FillSteps.{transparent_map, transparent_both}
-use Rattle.ncdump.specs.declared.fault.DumpFault.{DumpFault}
-use Rattle.ncdump.specs.declared.fault.DumpFault.TheVariants.{OutOfMemory, ReadFailed, WriteFailed, Format, NoSuchVariable, DataTruncated}
 use Rattle.ncdump.specs.Faults.{fault_of_head}
-use Rattle.ncdump.specs.Selections.{Selects}
-use Rattle.ncdump.specs.Shows.{Dumped, dumped, prefix_text, marked_values, values_from, marks_in, text_before, KeepsUpIn, Shows}
-use Rattle.ncdump.specs.Dumps.{Dumps, ReadsForward, IsAfterHeader, in_header, after_header}
-use Rattle.nc_walk.specs.SourceUses.{between}
+use Rattle.ncdump.specs.code.Selections.{Selects}
 use Rattle.ncdump.proofs.Calls.{call}
 use Rattle.ncdump.proofs.Prefixes.{prefix-in-text}
 use Rattle.ncdump.proofs.Marked.{values-at, more-and}

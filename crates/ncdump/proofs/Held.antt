@@ -1,11 +1,6 @@
 -- What a sink goes on to hold.
-use Rattle.std.proofs.Common.{◌≡◌, ℕ, ◌≤◌, true, List, [], ◌++◌, length, refl, sym, ap, ◌∙◌, append_assoc, subst, Option, Some, None}
-use Rattle.std.specs.Prelude.{is_some, option_map, unwrap_or}
-use Rattle.std.proofs.lemmas.Bool.{OnTrue_at, OnTrue_from}
-use Rattle.std.proofs.lemmas.List.{append-nil}
-use Rattle.devices.specs.Sinks.{SinkView, append, count, is_transparent, IsPrefixIf, IsCut, StoppedShort, Appended, FailedPartway}
-use Rattle.devices.proofs.Writes.{append-++, cut-append, split_prefix, transparent-append}
-use Rattle.ncdump.specs.Shows.{Holds}
+use Rattle.std.proofs.Common.{◌≡◌, ℕ, ◌≤◌, true, List, [], ◌++◌, length, refl, sym, ap, ◌∙◌, append_assoc, subst, Option, Some, None, is_some, option_map, unwrap_or}
+use Rattle.ncdump.proofs.Prelude.{OnTrue_at, OnTrue_from, append-nil, SinkView, append, count, is_transparent, IsPrefixIf, IsCut, StoppedShort, Appended, FailedPartway, append-++, cut-append, split_prefix, transparent-append, Holds}
 
 prefix-trans : (a b c : Option (List ℕ)) → IsPrefixIf a b → IsPrefixIf b c → IsPrefixIf a c
 prefix-trans (Some x) (Some y) (Some z) f g = record { rest = f.rest ++ g.rest; joined = sym (append_assoc x f.rest g.rest) ∙ ap (λ (t : List ℕ). t ++ g.rest) f.joined ∙ g.joined }

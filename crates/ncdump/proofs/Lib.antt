@@ -10,3 +10,4 @@ pub mod Blame
 pub mod WholeText
 pub mod DumpLaws
 pub mod OneDump
+pub mod Prelude

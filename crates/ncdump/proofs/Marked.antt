@@ -1,23 +1,8 @@
 -- Showing one marked variable after the other.
-use Rattle.std.proofs.Common.{◌≡◌, ℕ, suc, ◌+◌, ◌<◌, ◌≤◌, ◌⊎◌, inl, inr, Bool, true, false, List, [], ◌∷◌, ◌++◌, length, drop, get_or, refl, sym, ap, ◌∙◌, append_assoc, subst, arith, Option, Some, None, Result, Ok, Err}
-use Rattle.std.specs.Prelude.{ℤ, slice_get, ◌&&◌, if◌then◌else◌, IfSome}
-use Rattle.std.specs.Bool.{OnTrue}
-use Rattle.std.proofs.Math.Seq.{drop-cons}
-use Rattle.std.proofs.lemmas.List.{append-nil, drop_all}
-use Rattle.std.proofs.lemmas.Option.{get_or_from_slice_get, slice_get_within, slice_get-get_or}
-use Rattle.nc_base.specs.declared.header.Var.{Var}
-use Rattle.nc_base.specs.ValueText.{Look, look_of}
-use Rattle.nc_base.specs.Dump.{Section, no_section, whole, data_truncated, content_in, has_values, values_before, values_of}
-use Rattle.devices.specs.Sources.{SourceView, after}
-use Rattle.devices.specs.Sinks.{SinkView, Appended, FailedPartway}
-use Rattle.devices.proofs.Writes.{appended_then, appended_partway}
-use Rattle.nc_walk.proofs.FillSteps.{after_after, transparent_both}
-use Rattle.ncdump.specs.declared.fault.DumpFault.{DumpFault}
-use Rattle.ncdump.specs.declared.fault.DumpFault.TheVariants.{OutOfMemory, ReadFailed, WriteFailed, Format, NoSuchVariable, DataTruncated}
+use Rattle.std.proofs.Common.{◌≡◌, ℕ, suc, ◌+◌, ◌<◌, ◌≤◌, ◌⊎◌, inl, inr, Bool, true, false, List, [], ◌∷◌, ◌++◌, length, drop, get_or, refl, sym, ap, ◌∙◌, append_assoc, subst, arith, Option, Some, None, Result, Ok, Err, ℤ, slice_get, ◌&&◌, if◌then◌else◌, IfSome}
+use Rattle.ncdump.proofs.Prelude.{OnTrue, drop-cons, append-nil, drop_all, get_or_from_slice_get, slice_get_within, slice_get-get_or, Var, Look, look_of, Section, no_section, whole, data_truncated, content_in, has_values, values_before, values_of, contents, SourceView, after, SinkView, Appended, FailedPartway, appended_then, appended_partway, after_after, transparent_both, DumpFault, OutOfMemory, ReadFailed, WriteFailed, Format, NoSuchVariable, DataTruncated, Dumped, dumped, prefix_text, ShowsOne, ShowsAt, ShowsMarked, values_and, values_alone, values_from, whole_values, whole_bytes, bytes_of, Holds, KeepsUp, KeepsUpIn, IsBefore, IsShown, IsUnread, IsUnwritten, IsUpToDate, AreShown, AreUnread, AreUnwritten, between}
 use Rattle.ncdump.proofs.OneVariable.{some-at}
 use Rattle.nc_base.specs.declared.nc_type.NcType.TheVariants.{Byte}
-use Rattle.ncdump.specs.Shows.{Dumped, dumped, prefix_text, ShowsOne, ShowsAt, ShowsMarked, values_and, values_alone, values_from, whole_values, whole_bytes, bytes_of, Holds, KeepsUp, KeepsUpIn, IsBefore, IsShown, IsUnread, IsUnwritten, IsUpToDate, AreShown, AreUnread, AreUnwritten}
-use Rattle.nc_walk.specs.SourceUses.{between}
 use Rattle.ncdump.proofs.Calls.{call}
 use Rattle.ncdump.proofs.Prefixes.{prefix-in-text}
 use Rattle.ncdump.proofs.Held.{holds-all, holds-prefix, holds-after, holds-partway}
@@ -35,8 +20,8 @@ pub values-at : (d : Dumped) (marks : List Bool) (v : ℕ) (var : Var) (mark sho
     → shown ≡ (mark && has_values d.header.dims d.records var)
     → values_from d marks v ≡ (if shown then values_and d v var (values_from d marks (v + 1)) else values_from d marks (v + 1))
 values-at d marks v var mark shown at marked is =
-    ap (λ (vars : List Var). values_of d.header (content_in d.header d.bytes d.records) d.records d.width v vars (drop v marks)) (from-place d.header.vars v var at)
-    ∙ ap (λ (ms : List Bool). values_of d.header (content_in d.header d.bytes d.records) d.records d.width v (var ∷ drop (v + 1) d.header.vars) ms) (from-place marks v mark marked)
+    ap (λ (vars : List Var). values_of (contents d.header (content_in d.header d.bytes d.records) d.records d.width) v vars (drop v marks)) (from-place d.header.vars v var at)
+    ∙ ap (λ (ms : List Bool). values_of (contents d.header (content_in d.header d.bytes d.records) d.records d.width) v (var ∷ drop (v + 1) d.header.vars) ms) (from-place marks v mark marked)
     ∙ ap (λ (b : Bool). if b then values_and d v var (values_from d marks (v + 1)) else values_from d marks (v + 1)) (sym is)
 
 bytes-at : (d : Dumped) (marks : List Bool) (v : ℕ) (var : Var) (mark shown : Bool) → slice_get d.header.vars v ≡ Some var → slice_get marks v ≡ Some mark
@@ -47,7 +32,7 @@ bytes-at d marks v var mark shown at marked is =
     ∙ ap (λ (ms : List Bool). bytes_of d (var ∷ drop (v + 1) d.header.vars) ms) (from-place marks v mark marked)
     ∙ ap (λ (b : Bool). (if b then whole_bytes d var else 0) + bytes_of d (drop (v + 1) d.header.vars) (drop (v + 1) marks)) (sym is)
 
-no-marks : (d : Dumped) (v : ℕ) (vars : List Var) → values_of d.header (content_in d.header d.bytes d.records) d.records d.width v vars [] ≡ no_section
+no-marks : (d : Dumped) (v : ℕ) (vars : List Var) → values_of (contents d.header (content_in d.header d.bytes d.records) d.records d.width) v vars [] ≡ no_section
 no-marks d v [] = refl
 no-marks d v (var ∷ vars) = refl
 
@@ -247,7 +232,7 @@ pub marked-all : (d : Dumped) (marks : List Bool) (buffer_len v : ℕ) (a b : So
 marked-all d marks buffer_len v a b old new all m =
     let none : drop v marks ≡ [] = drop_all v marks all in
     let nothing : values_from d marks v ≡ no_section =
-    ap (λ (ms : List Bool). values_of d.header (content_in d.header d.bytes d.records) d.records d.width v (drop v d.header.vars) ms) none ∙ no-marks d v (drop v d.header.vars) in
+    ap (λ (ms : List Bool). values_of (contents d.header (content_in d.header d.bytes d.records) d.records d.width) v (drop v d.header.vars) ms) none ∙ no-marks d v (drop v d.header.vars) in
     let no-more : bytes_of d (drop v d.header.vars) (drop v marks) ≡ 0 = ap (bytes_of d (drop v d.header.vars)) none ∙ no-bytes d (drop v d.header.vars) in (
       record {
         ends = m.is_before.ending_is ∙ ap (λ (x : Section). x.ending) nothing;

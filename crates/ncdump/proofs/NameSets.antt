@@ -1,10 +1,9 @@
 -- A name more in a set.
-use Rattle.std.proofs.Common.{◌≡◌, ℕ, Bool, true, false, ◌||◌, List, Bor, refl, ap, ◌∙◌}
+use Rattle.std.proofs.Common.{◌≡◌, ℕ, Bool, true, false, ◌||◌, List, Bor, refl, ap, ◌∙◌, cond}
 use Rattle.std.specs.BTreeSet.{BTreeSet, contains_by, Updates}
 use Rattle.std.specs.Cmp.Lexicographic.{slice_cmp}
 use Rattle.std.specs.Ordering.{nat_cmp}
 use Rattle.std.specs.Str.{bytes_eq}
-use Rattle.std.specs.Prelude.{cond}
 use Rattle.std.proofs.lemmas.Map.Text.{is_eq-slice_cmp}
 
 cond-or : (added had : Bool) → cond added true had ≡ (had || added)

@@ -1,21 +1,9 @@
 -- There is one dump of a file.
-use Rattle.std.proofs.Common.{◌≡◌, ℕ, ◌<◌, false, List, [], length, get_or, refl, sym, ap, ◌∙◌, subst, arith, inl, inr, Option, Some, None, Result, Ok, Err}
-use Rattle.std.specs.Prelude.{◌⊎◌, IsTrue, not, position}
-use Rattle.std.specs.List.{list_all}
-use Rattle.std.proofs.lemmas.Bool.{false≢true}
+use Rattle.std.proofs.Common.{◌≡◌, ℕ, ◌<◌, false, List, [], length, get_or, refl, sym, ap, ◌∙◌, subst, arith, inl, inr, Option, Some, None, Result, Ok, Err, ◌⊎◌, IsTrue, not, position}
+use Rattle.ncdump.proofs.Prelude.{list_all, false≢true, slice_get_within, get_or_from_slice_get, Header, Var, record_count, SpellsHeader, Options, Ending, whole, wrong_field, no_such_variable, data_truncated, has_variable, KnowsChosen, IsFirstUnknown, IsFirstUnknownOf, Section, content_in, shown_values, selection_of, dump_text, IsDump, stopped, unknown, shown, SinkView, Appended, appended_none, DumpFault, OutOfMemory, ReadFailed, WriteFailed, Format, NoSuchVariable, DataTruncated}
 use Rattle.std.proofs.lemmas.List.Folds.{list_all_at}
-use Rattle.std.proofs.lemmas.Option.{slice_get_within, get_or_from_slice_get}
-use Rattle.nc_base.specs.declared.header.Header.{Header}
-use Rattle.nc_base.specs.declared.header.Var.{Var}
-use Rattle.nc_base.specs.Sizes.{record_count}
-use Rattle.nc_base.specs.Grammar.{SpellsHeader}
-use Rattle.nc_base.specs.Dump.{Options, Ending, whole, wrong_field, no_such_variable, data_truncated, has_variable, KnowsChosen, IsFirstUnknown, IsFirstUnknownOf, Section, content_in, shown_values, selection_of, dump_text, IsDump, stopped, unknown, shown}
 use Rattle.nc_file.specs.OneOutcome.{BeginsWithHeader, HasFirstFault, HasOneOutcome}
 use Rattle.nc_file.proofs.Outcomes.{one-outcome}
-use Rattle.devices.specs.Sinks.{SinkView, Appended}
-use Rattle.cdl_print.proofs.Begun.{appended_none}
-use Rattle.ncdump.specs.declared.fault.DumpFault.{DumpFault}
-use Rattle.ncdump.specs.declared.fault.DumpFault.TheVariants.{OutOfMemory, ReadFailed, WriteFailed, Format, NoSuchVariable, DataTruncated}
 use Rattle.ncdump.specs.OneDump.{HasDumped, BytesHaveOneDump, DumpsAgree}
 use Rattle.ncdump.proofs.Unknown.{all-known, first-unknown}
 

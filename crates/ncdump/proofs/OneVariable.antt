@@ -1,31 +1,12 @@
 -- Showing one variable: a walk and a printer that go on together.
-use Rattle.std.proofs.Common.{◌≡◌, ℕ, ◌+◌, ◌*◌, ◌≤◌, inl, inr, Bool, List, [], ◌++◌, length, take, refl, sym, ap, ◌∙◌, append_assoc, subst, arith, Option, Some, None, Ok, Err}
-use Rattle.std.specs.Prelude.{ℤ, slice_get, unwrap_or, IfSome}
-use Rattle.std.specs.Bool.{OnTrue}
+use Rattle.std.proofs.Common.{◌≡◌, ℕ, ◌+◌, ◌*◌, ◌≤◌, inl, inr, Bool, List, [], ◌++◌, length, take, refl, sym, ap, ◌∙◌, append_assoc, subst, arith, Option, Some, None, Ok, Err, ℤ, slice_get, unwrap_or, IfSome}
+use Rattle.ncdump.proofs.Prelude.{OnTrue, take-add, append-nil, take_all, length-append, Header, Var, size_of, numbers, value_count, stored_values, first_missing, Look, look_of, opening, closing, variable_prefix, variable_text, later_pieces, no_section, whole, data_truncated, values_before, prefix-append, prefix_nil, SourceView, after, SinkView, Appended, FailedPartway, appended_then, appended_partway, Pass, Walked, HasRead, IsChunk, GivesChunk, GivesEnd, GivesCut, GivesFailure, transparent_any, transparent_map, transparent_both, look_in, HasPrinted, Printed, Stopped, Takes, Dumped, dumped, whole_values, whole_bytes, Holds, IsShown, IsUnread, IsUnwritten}
 use Rattle.std.proofs.Math.Nat.{mul-le-mul_right}
-use Rattle.std.proofs.Math.Seq.{take-add}
-use Rattle.std.proofs.lemmas.List.{append-nil, take_all, length-append}
-use Rattle.nc_base.specs.declared.header.Header.{Header}
-use Rattle.nc_base.specs.declared.header.Var.{Var}
-use Rattle.nc_base.specs.Types.{size_of}
-use Rattle.nc_base.specs.Numbers.{numbers}
-use Rattle.nc_base.specs.Headers.{value_count}
-use Rattle.nc_base.specs.Places.{stored_values, first_missing}
-use Rattle.nc_base.specs.ValueText.{Look, look_of, opening, closing, variable_prefix, variable_text, later_pieces}
-use Rattle.nc_base.specs.Dump.{no_section, whole, data_truncated, values_before}
-use Rattle.nc_base.proofs.ValueLaws.{prefix-append, prefix_nil}
-use Rattle.devices.specs.Sources.{SourceView, after}
-use Rattle.devices.specs.Sinks.{SinkView, Appended, FailedPartway}
-use Rattle.devices.proofs.Writes.{appended_then, appended_partway}
-use Rattle.nc_walk.specs.Walks.{WalkView, Starts, Steps, Advanced, count}
-use Rattle.nc_walk.specs.Walked.{Pass, Walked, HasRead, IsChunk, GivesChunk, GivesEnd, GivesCut, GivesFailure}
+use Rattle.nc_walk.specs.code.Walks.{WalkView, Starts, Steps, Advanced, count}
 use Rattle.nc_walk.specs.declared.fault.WalkFault.TheVariants as walk
-use Rattle.nc_walk.proofs.FillSteps.{transparent_any, transparent_map, transparent_both}
 use Rattle.nc_walk.proofs.Missing.{whole_count-ge}
 use Rattle.nc_walk.proofs.WalkSteps.{begun, gives, walked_on}
-use Rattle.cdl_print.specs.Printer.{look_in, HasPrinted, Printed, Stopped, Takes}
 use Rattle.cdl_print.specs.declared.printer.ValuePrinter.{ValuePrinter}
-use Rattle.ncdump.specs.Shows.{Dumped, dumped, whole_values, whole_bytes, Holds, IsShown, IsUnread, IsUnwritten}
 use Rattle.cdl_print.proofs.Takes.{length-numbers}
 use Rattle.ncdump.proofs.Calls.{call, pass}
 use Rattle.ncdump.proofs.Prefixes.{count-stored, prefix-in-text}

@@ -1,18 +1,7 @@
 -- Fronts of a variable's text.
-use Rattle.std.proofs.Common.{◌≡◌, ℕ, ◌+◌, ◌-◌, ◌≤◌, List, [], ◌++◌, length, take, drop, sym, ap, ◌∙◌, append_assoc, arith, Option, Some, None}
-use Rattle.std.specs.Prelude.{ℤ, unwrap_or}
-use Rattle.std.proofs.Math.Seq.{take-add}
-use Rattle.std.proofs.lemmas.List.{take_all, length-map}
-use Rattle.nc_base.specs.declared.header.Var.{Var}
-use Rattle.nc_base.specs.Headers.{value_count}
-use Rattle.nc_base.specs.Numbers.{number_of}
-use Rattle.nc_base.specs.Types.{size_of}
-use Rattle.nc_base.specs.Places.{bytes_at, stored_values, stored_bytes, value_offsets, first_missing}
-use Rattle.nc_base.specs.ValueText.{Look, look_of, variable_prefix, variable_text, later_pieces, closing}
-use Rattle.nc_base.specs.Dump.{no_section, values_before}
-use Rattle.nc_base.proofs.ValueLaws.{prefix-append}
+use Rattle.std.proofs.Common.{◌≡◌, ℕ, ◌+◌, ◌-◌, ◌≤◌, List, [], ◌++◌, length, take, drop, sym, ap, ◌∙◌, append_assoc, arith, Option, Some, None, ℤ, unwrap_or}
+use Rattle.ncdump.proofs.Prelude.{take-add, take_all, length-map, Var, value_count, number_of, size_of, bytes_at, stored_values, stored_bytes, value_offsets, first_missing, Look, look_of, variable_prefix, variable_text, later_pieces, closing, no_section, values_before, prefix-append, Dumped, prefix_text, values_alone, whole_values}
 use Rattle.nc_walk.proofs.Orders.{count_of_offsets}
-use Rattle.ncdump.specs.Shows.{Dumped, prefix_text, values_alone, whole_values}
 
 -- as many values are stored as the variable has
 pub count-stored : (d : Dumped) (var : Var) → length (stored_values d.header d.bytes var d.records) ≡ value_count d.header.dims var d.records

@@ -1,12 +1,7 @@
 -- The first name that no variable has.
-use Rattle.std.proofs.Common.{◌≡◌, ℕ, ◌+◌, ◌<◌, Bool, true, false, List, [], ◌∷◌, length, get_or, refl, sym, ap, ◌∙◌, arith, Some, None}
-use Rattle.std.specs.Prelude.{not, cond, nat_lt, position}
-use Rattle.std.specs.List.{list_all, prefix_len, position_or_len}
-use Rattle.std.proofs.lemmas.Bool.{lt-ltb}
+use Rattle.std.proofs.Common.{◌≡◌, ℕ, ◌+◌, ◌<◌, Bool, true, false, List, [], ◌∷◌, length, get_or, refl, sym, ap, ◌∙◌, arith, Some, None, not, cond, nat_lt, position}
+use Rattle.ncdump.proofs.Prelude.{list_all, prefix_len, position_or_len, lt-ltb, get_or_from_slice_get, slice_get-get_or, Var, has_variable, IsFirstUnknown}
 use Rattle.std.proofs.lemmas.List.Quantifiers.{position-Some}
-use Rattle.std.proofs.lemmas.Option.{get_or_from_slice_get, slice_get-get_or}
-use Rattle.nc_base.specs.declared.header.Var.{Var}
-use Rattle.nc_base.specs.Dump.{has_variable, IsFirstUnknown}
 
 not-not : (b : Bool) → not (not b) ≡ b
 not-not true = refl

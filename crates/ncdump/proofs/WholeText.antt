@@ -1,19 +1,9 @@
 -- The text of a dump from its parts.
 use Rattle.std.proofs.Common.{◌≡◌, ℕ, inl, inr, Bool, List, [], ◌++◌, refl, sym, ap, ◌∙◌, append_assoc, subst, arith, Ok, Err}
-use Rattle.std.proofs.lemmas.List.{append-nil}
+use Rattle.ncdump.proofs.Prelude.{append-nil, Header, head_text, Options, Section, Ending, whole, data_truncated, data_word, closing_word, dump_text, SourceView, SinkView, Appended, FailedPartway, appended_then, appended_partway, DumpFault, OutOfMemory, ReadFailed, WriteFailed, Format, NoSuchVariable, DataTruncated, Dumped, dumped, prefix_text, marked_values, text_before, marks_in, KeepsUpIn, IsUpToDate, Holds, ShowsMarked, Shows, between}
 use Rattle.nc_base.specs.Bytes.{concat_parts}
-use Rattle.nc_base.specs.declared.header.Header.{Header}
-use Rattle.nc_base.specs.HeadText.{head_text}
-use Rattle.nc_base.specs.Dump.{Options, Section, Ending, whole, data_truncated, data_word, closing_word, dump_text}
-use Rattle.cdl_print.specs.Words.{word_text}
+use Rattle.cdl_print.specs.code.Words.{word_text}
 use Rattle.cdl_print.specs.declared.word.Word.TheVariants.{End}
-use Rattle.devices.specs.Sources.{SourceView}
-use Rattle.devices.specs.Sinks.{SinkView, Appended, FailedPartway}
-use Rattle.devices.proofs.Writes.{appended_then, appended_partway}
-use Rattle.ncdump.specs.declared.fault.DumpFault.{DumpFault}
-use Rattle.ncdump.specs.declared.fault.DumpFault.TheVariants.{OutOfMemory, ReadFailed, WriteFailed, Format, NoSuchVariable, DataTruncated}
-use Rattle.ncdump.specs.Shows.{Dumped, dumped, prefix_text, marked_values, text_before, marks_in, KeepsUpIn, IsUpToDate, Holds, ShowsMarked, Shows}
-use Rattle.nc_walk.specs.SourceUses.{between}
 use Rattle.ncdump.proofs.Calls.{call}
 use Rattle.ncdump.proofs.Held.{holds-after, holds-partway, partway-longer}
 

@@ -1,7 +1,7 @@
--- What a call did with its source and its sink, through a lent buffer.
+-- Definition. What a call did with its source and its sink, through the caller's buffer.
 use Rattle.std.specs.Prelude.{ℕ, List, length}
 use Rattle.devices.specs.Sinks.{SinkView}
-use Rattle.nc_walk.specs.SourceUses.{SourceUse}
+use Rattle.nc_walk.specs.code.SourceUses.{SourceUse}
 
 -- what a sink was before a call, and what it is now
 pub record SinkUse : Type 0 where

@@ -1,6 +1,5 @@
--- What the words of the command line ask for.
+-- Definition. What the words of the command line ask for.
 use Rattle.std.specs.Prelude.{ℕ, ◌==◌, ◌&&◌, List, [], ◌∷◌, codes, Option, Some, None, option_map, unwrap_or, fold, Result, string_bytes, if◌then◌else◌}
-use Rattle.std.specs.Borrow.{Bor}
 use Rattle.std.specs.Int.{is_in_range}
 use Rattle.std.specs.Char.{is_ascii_digit}
 use Rattle.std.specs.List.{list_all, slice_split}
@@ -33,11 +32,7 @@ abbrev pub width_of : List ℕ → Option ℕ
 width_of word =
     if list_all is_ascii_digit word && is_in_range 20 1000 (digits_value 10 word) then Some (digits_value 10 word) else None
 
--- the word that an entry has, if any
-abbrev pub word_of : Option (Bor (List ℕ)) → Option (List ℕ)
-word_of word = option_map (λ (value : Bor (List ℕ)). value.now) word
-
--- the width: that of `-l`, or else 80
+-- the width: that of `-l`, otherwise 80
 abbrev pub width_in : Option (List ℕ) → Option ℕ
 width_in None = Some 80
 width_in (Some word) = width_of word
@@ -74,16 +69,16 @@ unfoldable pub asked_in : List Row → Option Asked
 asked_in rows = if is_given rows (codes "head") && is_given rows (codes "coords") then None
     else asked_with rows (first_of (codes "file") rows) (width_in (first_of (codes "width") rows))
 
--- what the words ask for, the first of which is the program's name
+-- what the words ask for; the first word is the program's name
 unfoldable pub asked_by : List (List ℕ) → Option Asked
 asked_by words = unless (fault_of ncdump words) (asked_in (matches_of ncdump words))
 
--- ---- what is answered
+-- ---- what the words give
 
 -- what the options are
 abbrev pub asked_for : DumpOptions → Asked
 asked_for o = record { file = string_bytes o.file; options = options_of o }
 
--- the answer to what is asked for, if anything; memory may be refused
+-- the options are those that are asked for, or a usage fault means that nothing is; out of memory says nothing
 abbrev pub Answers : Option Asked → Result DumpOptions OptFault → Type 0
 Answers asked result = AnswersBy asked_for asked result

@@ -1,16 +1,16 @@
--- What a dump has done.
+-- Definition. What a dump has done.
 use Rattle.std.specs.Prelude.{ℕ, ◌≡◌, ◌+◌, ◌⊎◌, List, [], ◌++◌, length, Result, Ok, Err}
 use Rattle.nc_base.specs.declared.header.Header.{Header}
 use Rattle.nc_base.specs.Grammar.{SpellsHeader}
 use Rattle.nc_base.specs.Sizes.{record_count}
 use Rattle.nc_base.specs.Dump.{Options, Ending, whole, wrong_field, no_such_variable, data_truncated, KnowsChosen, selection_of, IsDump}
+use Rattle.devices.specs.Failures.{HasFailed}
 use Rattle.devices.specs.Sources.{SourceView}
-use Rattle.nc_file.specs.Answers.{EndsAt, ReadUpTo}
+use Rattle.nc_file.specs.code.Answers.{EndsAt, ReadUpTo}
 use Rattle.devices.specs.Sinks.{SinkView, Appended, FailedPartway}
-use Rattle.devices.specs.Sinks as sinks
-use Rattle.nc_walk.specs.SourceUses.{between}
+use Rattle.nc_walk.specs.code.SourceUses.{between}
 use Rattle.ncdump.specs.Calls.{Call}
-use Rattle.ncdump.specs.Shows.{Shows}
+use Rattle.ncdump.specs.code.Shows.{Shows}
 use Rattle.ncdump.specs.declared.fault.DumpFault.{DumpFault}
 use Rattle.ncdump.specs.declared.fault.DumpFault.TheVariants.{OutOfMemory, ReadFailed, WriteFailed, Format, NoSuchVariable, DataTruncated}
 use Rattle.ncdump.specs.declared.options.DumpOptions.{DumpOptions}
@@ -23,7 +23,7 @@ options_of o = record { name = o.name; head_only = o.head_only; coords = o.coord
 -- header or of a chosen name
 abbrev pub WriteFailsOnly : {A : Type 0} → SinkView → SinkView → Result A DumpFault → Type 0
 WriteFailsOnly old new (Ok done) = new.failures ≡ old.failures
-WriteFailsOnly old new (Err WriteFailed) = sinks.HasFailed old.failures new
+WriteFailsOnly old new (Err WriteFailed) = HasFailed old.failures new.failures
 WriteFailsOnly old new (Err ReadFailed) = new.failures ≡ old.failures
 WriteFailsOnly old new (Err (DataTruncated v k)) = new.failures ≡ old.failures
 WriteFailsOnly old new (Err _) = new ≡ old

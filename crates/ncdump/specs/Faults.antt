@@ -1,4 +1,4 @@
--- The faults of a run, and the lines that tell them.
+-- Definition. The faults of a run, and the lines that tell them.
 use Rattle.std.specs.Prelude.{ℕ, List, [], ◌∷◌, codes, decimal, string_bytes}
 use Rattle.nc_base.specs.Bytes.{concat_parts}
 use Rattle.nc_base.specs.declared.fault.FormatFault.{FormatFault}

@@ -2,8 +2,6 @@ pub mod Calls
 pub mod Faults
 pub mod Dumps
 pub mod OneDump
-pub mod Names
-pub mod Selections
-pub mod Shows
 pub mod CommandLine
 pub mod Runs
+pub mod code

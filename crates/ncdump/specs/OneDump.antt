@@ -1,4 +1,4 @@
--- There is one dump of a file under all options, and each call that meets no failure writes it.
+-- Law. There is one dump of a file under all options, and each call that meets no failure writes it.
 use Rattle.std.specs.Prelude.{ℕ, ◌≡◌, List, Result, Err}
 use Rattle.nc_base.specs.Bytes.{AreBytes}
 use Rattle.nc_base.specs.Dump.{Options, Ending, IsDump}
@@ -27,7 +27,7 @@ pub record HasDumped (bytes : List ℕ) (o : Options) (old new : SinkView) (answ
   pub sink : WriteFailsOnly old new answer
   pub met_none : MetNoFailure answer
 
--- two such calls wrote the same text, and answered the same
+-- two such calls wrote the same text, and returned the same
 pub record Agree (a b c d : SinkView) (answer other : Result (Unit {0}) DumpFault) : Type 0 where
   pub text : List ℕ
   pub first : Appended a b text

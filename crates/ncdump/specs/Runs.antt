@@ -1,14 +1,16 @@
--- What a run of the program has done.
-use Rattle.std.specs.Prelude.{ℕ, Bool, ◌≡◌, ◌⊎◌, List, [], map, Option, Some, None, IsSome, option_map, Result, Ok, Err, string_bytes}
+-- Definition. What a run of the program has done.
+use Rattle.std.specs.Prelude.{ℕ, Bool, ◌≡◌, ◌⊎◌, List, [], Option, Some, None, IsSome, option_map, Result, Ok, Err, string_bytes}
 use Rattle.std.specs.Bool.{OnTrue}
 use Rattle.std.specs.Borrow.{Bor}
 use Rattle.nc_base.specs.Dump.{Options}
-use Rattle.devices.specs.Openers.{OpenerView, HasFailed, opens_after}
+use Rattle.devices.specs.Failures.{HasFailed}
+use Rattle.devices.specs.Openers.{OpenerView, opens_after}
 use Rattle.devices.specs.Sinks.{SinkView, Appended, FailedPartway}
 use Rattle.ncdump.specs.Calls.{SinkUse}
 use Rattle.ncdump.specs.CommandLine.{Asked, asked_by}
 use Rattle.ncdump.specs.Dumps as dumps
 use Rattle.ncdump.specs.Faults.{line_of_failure}
+use Rattle.cli_base.specs.Arguments.{texts_of}
 use Rattle.cli_base.specs.declared.fault.OptFault.TheVariants.{OutOfMemory, Usage}
 use Rattle.ncdump.specs.declared.options.DumpOptions.{DumpOptions}
 use Rattle.ncdump.specs.declared.fault.Failure.{Failure}
@@ -73,7 +75,7 @@ DumpsOrNot named asked old new (Err Flush) = ⊥
 
 -- a source has failed exactly where the answer says so
 abbrev pub ReadFailsOnly : {A : Type 0} → OpenerView → OpenerView → Result A FileFault → Type 0
-ReadFailsOnly old new (Err (Dump ReadFailed)) = HasFailed old.failures new
+ReadFailsOnly old new (Err (Dump ReadFailed)) = HasFailed old.failures new.failures
 ReadFailsOnly old new _ = new.failures ≡ old.failures
 
 -- a path was opened once, and a source has failed exactly where the answer says so
@@ -106,7 +108,7 @@ pub record Run : Type 0 where
   pub out : SinkUse
 
 abbrev pub run_of : List (Bor (List ℕ)) → FilesUse → SinkUse → Run
-run_of words files out = record { asked = asked_by (map (λ (word : Bor (List ℕ)). word.now) words); files = files; out = out }
+run_of words files out = record { asked = asked_by (texts_of words); files = files; out = out }
 
 -- With this answer, where standard output was this afterwards: the dump that is asked for was written, or the answer is the fault
 -- of the command line, of opening the file, or of its dump.
@@ -147,7 +149,7 @@ pub record Succeeded (run : Run) (err : SinkUse) : Type 0 where
   pub done : HasFlushed run
   pub error : err.new ≡ err.old
 
--- The run has failed, and the line that tells it, or a prefix of it, was written to standard error.
+-- The run has failed, and its failure line, or a prefix of it, was written to standard error.
 pub record Failed (run : Run) (err : SinkUse) : Type 0 where
   pub failure : Failure
   pub fails : Fails run failure

@@ -1,12 +1,13 @@
 //! The words of the command line.
 
-ghost use Rattle.std.specs.Prelude.{◌≡◌, IfOk, map, option_map, unwrap_or};
+ghost use Rattle.std.specs.Prelude.{◌≡◌, IfOk, option_map, unwrap_or};
 ghost use Rattle.std.specs.Char.{is_ascii_digit};
 ghost use Rattle.std.specs.Int.{is_in_range};
 ghost use Rattle.std.specs.List.{list_all};
 ghost use Rattle.clap.specs.Words.{app_of, found_of, rows_of};
 ghost use Rattle.nc_base.specs.Paths.{stem_of};
-ghost use Rattle.ncdump.specs.CommandLine.{ncdump, asked_by, asked_in, names_in, width_in, width_of, word_of, Answers};
+ghost use Rattle.cli_base.specs.Arguments.{text_of, texts_of};
+ghost use Rattle.ncdump.specs.CommandLine.{ncdump, asked_by, asked_in, names_in, width_in, width_of, Answers};
 
 use crate::options::DumpOptions;
 use clap::{Arg, ArgMatches, Command};
@@ -35,13 +36,13 @@ pub fn command<'a>(alloc: Global) -> Result<Command<'a>, AllocError>
         .arg(Arg::new(alloc, "file"))
 }
 
-/// What the words ask for, the first of which is the program's name.
+/// What the words ask for. The first word is the program's name.
 ///
 /// # Errors
 ///
 /// Those of [`options_of`], and [`OptFault::Usage`] for words that the command doesn't take.
 pub(crate) fn options_by(alloc: Global, words: &[&str]) -> Result<DumpOptions, OptFault>
-    ensures { Answers (asked_by (map (λ word. word.now) words.now)) result }
+    ensures { Answers (asked_by (texts_of words.now)) result }
 {
     let matches = command(alloc)?.try_get_matches_from(words)?;
     options_of(alloc, &matches)
@@ -49,14 +50,14 @@ pub(crate) fn options_by(alloc: Global, words: &[&str]) -> Result<DumpOptions, O
 
 /// What the matches of [`command`] ask for.
 ///
-/// The file is the path; the name that of `-n`, or else the [`stem`] of the path; the header alone is `-h`, and the values
+/// The file is the path; the name is that of `-n`, otherwise the [`stem`] of the path; the header alone is `-h`, and the values
 /// of coordinate variables `-c`. The chosen names are those of `-v`, between its commas, also empty ones; the width is that
-/// of `-l`, or else 80 bytes.
+/// of `-l`, otherwise 80 bytes.
 ///
 /// # Errors
 ///
-/// [`OptFault::Usage`] where there is no file, where both `-c` and `-h` are given, and for a width that is not of decimal
-/// digits alone, or not from 20 to 1000; [`OptFault::OutOfMemory`] only where memory was refused.
+/// [`OptFault::Usage`] if there is no file, if both `-c` and `-h` are given, and for a width that is not of decimal
+/// digits alone, or not from 20 to 1000; [`OptFault::OutOfMemory`] only if an allocation failed.
 #[tactic(auto, unfolding(crate::specs::CommandLine::asked_in))]
 pub fn options_of(alloc: Global, matches: &ArgMatches) -> Result<DumpOptions, OptFault>
     ensures { Answers (asked_in (rows_of (found_of matches.now))) result }
@@ -87,9 +88,9 @@ const MIN_WIDTH: usize = 20;
 /// The greatest width that `-l` takes, in bytes.
 const MAX_WIDTH: usize = 1000;
 
-/// The width that `-l` asks for, or else the default.
+/// The width that `-l` asks for, otherwise the default.
 fn width_in(word: Option<&str>) -> Option<usize>
-    ensures { result ≡ width_in (word_of word.entry) }
+    ensures { result ≡ width_in (text_of word.entry) }
 {
     match word {
         Some(word) => width_of(word),
@@ -122,9 +123,9 @@ fn is_of_digits(word: &str) -> bool
     word.as_bytes().iter().all(|byte| byte.is_ascii_digit())
 }
 
-/// The name that `-n` asks for, or else the stem of the path.
+/// The name that `-n` asks for, otherwise the stem of the path.
 fn name_of(alloc: Global, word: Option<&str>, path: &str) -> Result<Sequence<u8>, AllocError>
-    ensures { IfOk result (λ name. name ≡ unwrap_or (word_of word.entry) (stem_of path.now)) }
+    ensures { IfOk result (λ name. name ≡ unwrap_or (text_of word.entry) (stem_of path.now)) }
 {
     bytes_of(alloc, word.unwrap_or(stem(path)))
 }
@@ -134,7 +135,7 @@ fn chosen_in(
     alloc: Global,
     word: Option<&str>,
 ) -> Result<Option<Sequence<Sequence<u8>>>, AllocError>
-    ensures { IfOk result (λ chosen. chosen ≡ option_map names_in (word_of word.entry)) }
+    ensures { IfOk result (λ chosen. chosen ≡ option_map names_in (text_of word.entry)) }
 {
     match word {
         Some(word) => Ok(Some(names_in(alloc, word)?)),

@@ -2,10 +2,10 @@
 
 ghost use Rattle.std.specs.Prelude.{◌≤◌, length};
 ghost use Rattle.std.specs.Bool.{OnTrue};
-ghost use Rattle.nc_walk.specs.SourceUses.{source_of};
+ghost use Rattle.nc_walk.specs.code.SourceUses.{source_of};
 ghost use Rattle.ncdump.specs.Calls.{call_of, sink_of};
 ghost use Rattle.ncdump.specs.Dumps.{options_of, Dumps, ReadsForward, WriteFailsOnly};
-ghost use Rattle.ncdump.specs.Shows.{ReadFailsOnly};
+ghost use Rattle.ncdump.specs.code.Shows.{ReadFailsOnly};
 
 use crate::fault::DumpFault;
 use crate::options::DumpOptions;
@@ -22,8 +22,8 @@ use std::alloc::Global;
 /// # Errors
 ///
 /// The faults of the header, and then [`DumpFault::NoSuchVariable`] for a chosen name that no variable has, each with nothing
-/// written; then those of [`show`]. A device's fault is answered only where the device failed, and
-/// [`DumpFault::OutOfMemory`] only where memory was refused, with nothing written.
+/// written; then those of [`show`]. A device's fault is returned only if the device failed, and
+/// [`DumpFault::OutOfMemory`] only if an allocation failed, with nothing written.
 pub fn dump<S: Source, W: Sink>(
     alloc: Global,
     source: &mut S,

@@ -48,7 +48,7 @@ fn flush_fault_line() -> &'static [u8]
     b"ncdump: write failed\n"
 }
 
-/// The line that tells how the program is used.
+/// The usage line.
 #[tactic(auto, unfolding(crate::specs::Faults::usage_line))]
 fn usage_line() -> &'static [u8]
     ensures { result.now ≡ usage_line }
@@ -85,7 +85,7 @@ fn cannot_open_words() -> &'static [u8]
     b": cannot open\n"
 }
 
-/// Writes the line that tells why this file could not be dumped: `ncdump: FILE: TEXT`.
+/// Writes the fault line of a file that could not be dumped: `ncdump: FILE: TEXT`.
 ///
 /// # Errors
 ///

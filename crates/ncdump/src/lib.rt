@@ -1,8 +1,27 @@
 //! The dump of a netCDF classic file as CDL text, and the command line of the program `ncdump`.
 //!
-//! [`dump`] reads a file and writes its text, and [`fault_line`] says why it could not. What is shown, and under which
-//! name, is said by [`DumpOptions`], which [`options_of`] reads from the matches of [`command`]. [`run_with`] is the whole
-//! program, but for what opens its file and for the flush of standard error.
+//! [`dump`] reads a file and writes its text, and [`fault_line`] writes why it could not. [`DumpOptions`] says what is shown,
+//! and under which name; [`options_of`] reads them from the matches of [`command`]. [`run_with`] is the whole program, except for
+//! what opens its file and for the flush of standard error.
+//!
+//! ```
+//! use devices::FileSource;
+//! use nc_base::Sequence;
+//!
+//! let options = DumpOptions {
+//!     file: String::from_str(alloc, "a.nc")?,
+//!     name: Sequence::from_vec(Vec::from_slice(alloc, b"a")?),
+//!     head_only: false,
+//!     coords: false,
+//!     chosen: None,
+//!     width: 80,
+//! };
+//! let mut source = FileSource::open(&rt, "a.nc")?;
+//! let mut buf = [0; 4096];
+//! if let Err(fault) = dump(alloc, &mut source, &options, &mut buf, &mut out) {
+//!     fault_line(&mut err, b"a.nc", &fault)?;
+//! }
+//! ```
 #![tactic(auto)]
 
 mod command_line;

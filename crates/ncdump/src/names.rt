@@ -1,7 +1,7 @@
 //! Sets of names.
 
 ghost use Rattle.std.specs.Prelude.{◌≡◌, ℕ, List, IfOk, OnOk, false};
-ghost use Rattle.ncdump.specs.Names.{holds, HasGained, HoldsNames};
+ghost use Rattle.ncdump.specs.code.Names.{holds, HasGained, HoldsNames};
 
 use nc_base::{Dim, Sequence, Var};
 use std::alloc::{AllocError, Global};

@@ -6,7 +6,7 @@ ghost use Rattle.ncdump.specs.Calls.{sink_of};
 ghost use Rattle.ncdump.specs.Dumps.{options_of, Dumps};
 ghost use Rattle.ncdump.specs.Dumps as dumps;
 ghost use Rattle.ncdump.specs.Runs.{files_of, OfDump, OpensFile, WriteFailsOnly, DumpsNamed, DumpsWords, RunsWords, EndsWords};
-ghost use Rattle.ncdump.specs.Shows.{ReadFailsOnly};
+ghost use Rattle.ncdump.specs.code.Shows.{ReadFailsOnly};
 
 use crate::command_line::options_by;
 use crate::dumping::dump;
@@ -17,13 +17,12 @@ use devices::Flush;
 use nc_file::{Opener, Sink, Source};
 use std::alloc::Global;
 
-/// Runs the program on its words, the first of which is its name, with the files that the opener opens, and gives its exit
-/// status.
+/// Runs the program on its words, the first one its name, with the files that the opener opens. Returns its exit status.
 ///
-/// The status is 0 where the dump that the words ask for was written to standard output, which was flushed, and 1 otherwise. Then a
-/// line is written to standard error that tells why: the first fault of the command line, of opening the file, and of its dump, or
-/// the flush's. A line that standard error doesn't take changes no status. Standard output is flushed before the line is written,
-/// and standard error is not flushed.
+/// The status is 0 if the dump that the words ask for was written to standard output, and standard output was flushed. Otherwise it
+/// is 1, and a line on standard error says why: the first fault of the command line, of opening the file and of its dump, or the
+/// failure of the flush. A line that standard error doesn't take changes no status. Standard output is flushed before the line is
+/// written. Standard error is not flushed.
 pub fn run_with<P: Opener, O: Flush, E: Sink>(
     opener: &mut P,
     alloc: Global,

@@ -2,8 +2,8 @@
 
 ghost use Rattle.std.specs.Prelude.{◌≡◌, ℕ, List, not, map, position, IfOk};
 ghost use Rattle.ncdump.specs.Dumps.{options_of};
-ghost use Rattle.ncdump.specs.Names.{holds, holds_if};
-ghost use Rattle.ncdump.specs.Selections.{Selects, Chooses, HoldsDims, Knows, is_in_both};
+ghost use Rattle.ncdump.specs.code.Names.{holds, holds_if};
+ghost use Rattle.ncdump.specs.code.Selections.{Selects, Chooses, HoldsDims, Knows, is_in_both};
 
 use crate::fault::DumpFault;
 use crate::names::NameSet;
@@ -11,15 +11,15 @@ use crate::options::DumpOptions;
 use nc_base::{Header, Sequence, Var};
 use std::alloc::{AllocError, Global};
 
-/// Says for each variable, in the order of the header, whether its values are asked for (the options `-v` and `-c` of
-/// ncdump(1)): it has one of the chosen names, where names are chosen; and it is named as a dimension, where the values of
-/// coordinate variables alone are shown. That the header alone may be shown is left out of account.
+/// Returns for each variable, in the order of the header, whether it is selected by the options `-v` and `-c` of ncdump(1): it has
+/// one of the chosen names, if names are chosen; and it is named as a dimension, if the values of coordinate variables alone are
+/// shown. The option for the header alone makes no difference.
 ///
 /// The time grows with the number of names times its logarithm.
 ///
 /// # Errors
 ///
-/// [`DumpFault::OutOfMemory`] where memory was refused, and [`DumpFault::NoSuchVariable`] with the place, counted from 0, of
+/// [`DumpFault::OutOfMemory`] if an allocation failed, and [`DumpFault::NoSuchVariable`] with the place, counted from 0, of
 /// the first chosen name that no variable has.
 pub fn select(alloc: Global, header: &Header, options: &DumpOptions) -> Result<Vec<bool>, DumpFault>
     ensures { Selects header.now (options_of options.now) result }
@@ -29,7 +29,7 @@ pub fn select(alloc: Global, header: &Header, options: &DumpOptions) -> Result<V
     Ok(marks(alloc, header.vars.as_slice(), &chosen, &dims)?)
 }
 
-/// The chosen names, each of which is a variable's; nothing where none are chosen.
+/// The chosen names as a set, if each of them is a variable's; nothing if none are chosen.
 fn chosen_names<'a>(
     alloc: Global,
     header: &Header,
@@ -46,7 +46,7 @@ fn chosen_names<'a>(
     }
 }
 
-/// The names of the dimensions, where the values of coordinate variables alone are shown.
+/// The names of the dimensions if the values of coordinate variables alone are shown.
 fn dim_names<'a>(
     alloc: Global,
     header: &'a Header,
@@ -61,7 +61,7 @@ fn dim_names<'a>(
     Ok(Some(dims))
 }
 
-/// These names as a set, each of which is a variable's.
+/// These names as a set, if each of them is a variable's.
 fn known_names<'a>(
     alloc: Global,
     vars: &[Var],
@@ -104,7 +104,7 @@ fn marks(
     Ok(marks)
 }
 
-/// Returns true if the set, where there is one, has the variable's name.
+/// Returns true if the set has the variable's name, or if there is no set.
 fn has_name_of(set: &Option<NameSet<'_>>, var: &Var) -> bool
     ensures { result ≡ holds_if set.now var.now.name }
 {

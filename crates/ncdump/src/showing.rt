@@ -5,10 +5,10 @@ ghost use Rattle.std.specs.Bool.{OnTrue};
 ghost use Rattle.nc_base.specs.Headers.{IsSound};
 ghost use Rattle.nc_base.specs.Sizes.{record_size};
 ghost use Rattle.nc_base.specs.Dump.{data_word};
-ghost use Rattle.nc_walk.specs.SourceUses.{source_of};
+ghost use Rattle.nc_walk.specs.code.SourceUses.{source_of};
 ghost use Rattle.ncdump.specs.Calls.{call_of, sink_of};
 ghost use Rattle.ncdump.specs.Dumps.{options_of};
-ghost use Rattle.ncdump.specs.Shows.{dumped, marks_in, ReadFailsOnly, SaysHasSlabs, SaysIsShown, ShowsAt, ShowsFile, ShowsMarked, ShowsOrFails};
+ghost use Rattle.ncdump.specs.code.Shows.{dumped, marks_in, ReadFailsOnly, SaysHasSlabs, SaysIsShown, ShowsAt, ShowsFile, ShowsMarked, ShowsOrFails};
 
 use crate::fault::DumpFault;
 use crate::options::DumpOptions;
@@ -18,14 +18,14 @@ use nc_file::{Sink, Source, put};
 use nc_walk::{Walk, WalkFault};
 
 /// Writes the dump of a file with this header, and reads its values through the caller's buffer of at least 16 bytes: the head,
-/// and after `data:` the values of the variables that are marked in `shown`, none where the options ask for the head alone.
+/// and after `data:` the values of the variables that are marked in `shown`, none if the options ask for the head alone.
 ///
 /// It does not allocate. A variable's opening is written before its first value is read, and no value waits for more than one
 /// buffer.
 ///
 /// # Errors
 ///
-/// [`DumpFault::WriteFailed`] where the sink failed, and [`DumpFault::ReadFailed`] where the source failed; and
+/// [`DumpFault::WriteFailed`] if the sink failed, and [`DumpFault::ReadFailed`] if the source failed; and
 /// [`DumpFault::DataTruncated`] at the first value of a shown variable that isn't in the file. What was written by then is a
 /// prefix of the text.
 pub fn show<S: Source, W: Sink>(
@@ -54,7 +54,7 @@ pub fn show<S: Source, W: Sink>(
     Ok(())
 }
 
-/// The marks that count: none where the header alone is asked for.
+/// The marks that count: none if the header alone is asked for.
 fn marks_in<'a>(options: &DumpOptions, shown: &'a [bool]) -> &'a [bool]
     ensures { result.now ≡ marks_in (options_of options.now) shown.now }
 {
@@ -144,7 +144,7 @@ fn show_variable<S: Source, W: Sink>(
         (call_of buf.old (source_of S.view source.old source.new) (sink_of W.view sink.old sink.new))
         result) }
 {
-    let mut walk = Walk::over(header, v, layout, buf);
+    let mut walk = Walk::with_layout(header, v, layout, buf);
     let mut printer = ValuePrinter::new(header, v, layout.records, width);
     printer.start(sink)?;
     loop {

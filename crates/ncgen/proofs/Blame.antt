@@ -1,11 +1,9 @@
 -- Whose failure it was that a text could not be read.
 use Rattle.std.proofs.Common.{◌≡◌, ℕ, subst, ◌∙◌, Err}
 use Rattle.devices.proofs.Openings.{one_failure, no_failure}
+use Rattle.ncgen.proofs.Prelude.{HasFailed, ReaderView, ReadsText}
 use Rattle.devices.specs.Openers.{OpenerView, OpensOnce, HasBack}
-use Rattle.devices.specs.Readers.{ReaderView}
-use Rattle.devices.specs.Readers as readers
 use Rattle.ncgen.specs.Inputs.{OpensText}
-use Rattle.ncgen.specs.TextReads.{ReadsText}
 use Rattle.ncgen.specs.declared.fault.TextFault.{TextFault}
 use Rattle.ncgen.specs.declared.fault.TextFault.TheVariants.{OutOfMemory, ReadFailed, TooLong}
 use Rattle.ncgen.specs.declared.failure.InputFault.TheVariants.{Text}
@@ -13,9 +11,9 @@ use Rattle.ncgen.specs.declared.failure.InputFault.TheVariants.{Text}
 -- the text's failure is the opener's, once it has the text back
 pub opens_text : {A : Type 0} (old mid new : OpenerView) (start text : ReaderView) (max : ℕ) (fault : TextFault) → OpensOnce old mid → start.failures ≡ 0
     → ReadsText max start text (Err fault) → HasBack mid new text.failures → OpensText {A = A} old new (Err (Text fault))
-unfolding readers.HasFailed
+unfolding HasFailed
 opens_text old mid new start text max ReadFailed opened fresh failed back =
-    record { opens = back.opens ∙ opened.opens; reads = one_failure old mid new text.failures opened (subst (λ n. readers.HasFailed n text) fresh failed) back }
+    record { opens = back.opens ∙ opened.opens; reads = one_failure old mid new text.failures opened (subst (λ n. HasFailed n text.failures) fresh failed) back }
 opens_text old mid new start text max TooLong opened fresh long back =
     record { opens = back.opens ∙ opened.opens; reads = no_failure old mid new text.failures opened (long.failures ∙ fresh) back }
 opens_text old mid new start text max OutOfMemory opened fresh same back =

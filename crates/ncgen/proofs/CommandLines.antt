@@ -1,14 +1,13 @@
 -- What the whole command line reads.
 use Rattle.std.proofs.Common.{ℕ, true, List, [], Result, ◌≡◌, ◌∙◌, refl, ap, ◌⊎◌, IsErrAnd}
 use Rattle.clap.specs.Kinds.{IsAmong}
-use Rattle.clap.specs.Words.{Row, fault_of, is_simple, is_simple_and_free, matches_of}
+use Rattle.ncgen.proofs.Prelude.{Row, fault_of, is_simple, is_simple_and_free, matches_of, Answers, asked_by, asked_for, asked_in, ncgen}
 use Rattle.clap.specs.declared.error.kind.ErrorKind.{ErrorKind}
 use Rattle.clap.specs.declared.error.kind.ErrorKind.TheVariants as kinds
 use Rattle.clap.proofs.OnLiterals.{clap_on_literals}
 use Rattle.cli_base.proofs.Refusals.{TellsKind, refusal_answers, unless_none}
 use Rattle.cli_base.specs.declared.fault.OptFault.{OptFault}
 use Rattle.ncgen.specs.declared.options.GenOptions.{GenOptions}
-use Rattle.ncgen.specs.CommandLine.{Answers, asked_by, asked_for, asked_in, ncgen}
 
 -- the parse says all of the command's matches
 pub is_plain : is_simple_and_free ncgen ≡ true

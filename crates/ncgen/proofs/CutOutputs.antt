@@ -1,18 +1,16 @@
 -- What an output holds that could not be written.
-use Rattle.std.proofs.Common.{ℕ, ◌≡◌, Bool, true, List, [], ◌++◌, Option, Some, None, Result, Ok, Err, inl, inr, refl, ap, subst, ◌∙◌}
-use Rattle.std.specs.Prelude.{◌+◌, ◌-◌, ◌^◌, min, is_some, option_map}
+use Rattle.std.proofs.Common.{ℕ, ◌≡◌, Bool, true, List, [], ◌++◌, Option, Some, None, Result, Ok, Err, inl, inr, refl, ap, subst, ◌∙◌, ◌+◌, ◌-◌, ◌^◌, min, is_some, option_map}
 use Rattle.std.proofs.lemmas.Bool.{OnTrue_at, OnTrue_from}
-use Rattle.devices.specs.Creators.{CreatorView, Closed, CreatedAt, HasFailed, give}
-use Rattle.devices.specs.Sinks.{SinkView, FailedPartway, IsCut, IsPrefix, IsPrefixIf, StoppedShort, append, is_transparent}
-use Rattle.devices.specs.Sinks as sinks
+use Rattle.ncgen.proofs.Prelude.{HasFailed, SinkView, FailedPartway, IsCut, IsPrefix, IsPrefixIf, StoppedShort, append, is_transparent}
+use Rattle.devices.specs.Creators.{CreatorView, Closed, CreatedAt, give}
 use Rattle.ncgen.specs.Outputs.{IsCutShortAt, created_at}
 
 -- the sink's one failure is the creator's
-one_failure : (before : CreatorView) (new : CreatorView) (sink : SinkView) → sinks.HasFailed 0 sink → new.failures ≡ min (before.failures + sink.failures) (2 ^ 128 - 1) → HasFailed before.failures new
-unfolding sinks.HasFailed HasFailed
+one_failure : (before : CreatorView) (new : CreatorView) (sink : SinkView) → HasFailed 0 sink.failures → new.failures ≡ min (before.failures + sink.failures) (2 ^ 128 - 1) → HasFailed before.failures new.failures
+unfolding HasFailed
 one_failure before new sink one added = added ∙ ap (λ (n : ℕ). min (before.failures + n) (2 ^ 128 - 1)) one
 
--- it took a prefix of the text, of which it had nothing before
+-- it was empty before, and has taken a prefix of the text
 prefix_taken : (start sink : SinkView) (file : List ℕ) → start.taken ≡ Some [] → FailedPartway start sink file
     → (prefix : List ℕ) × (sink.taken ≡ Some prefix) × IsPrefix prefix file
 unfolding append IsCut is_transparent
@@ -32,7 +30,7 @@ pub cut_short : {A E : Type 0} (known : Bool) (old between new : CreatorView) (p
     → IsCutShortAt (record { is_transparent = known; before = old; after = new }) path file
 cut_short known old between new path file start sink (Ok done) created partway closed = record {
   creations = closed.creations ∙ created.creations;
-  failures = subst (λ n. HasFailed n new) created.failures (one_failure between new sink (subst (λ n. sinks.HasFailed n sink) created.sink_failures partway.failures) closed.failed);
+  failures = subst (λ n. HasFailed n new.failures) created.failures (one_failure between new sink (subst (λ n. HasFailed n sink.failures) created.sink_failures partway.failures) closed.failed);
   given = OnTrue_from _ _ (λ is.
       let taken = prefix_taken start sink file (OnTrue_at {P = start.taken ≡ Some []} is created.sink_taken) partway in
       let before = OnTrue_at {P = between.given ≡ created_at old path} is created.given in
@@ -45,6 +43,6 @@ cut_short known old between new path file start sink (Ok done) created partway c
 }
 cut_short known old between new path file start sink (Err failure) created partway closed = record {
   creations = closed.creations ∙ created.creations;
-  failures = subst (λ n. HasFailed n new) created.failures closed.failures;
+  failures = subst (λ n. HasFailed n new.failures) created.failures closed.failures;
   given = OnTrue_from _ _ (λ is. inl (closed.given ∙ OnTrue_at {P = between.given ≡ created_at old path} is created.given));
 }

@@ -5,3 +5,4 @@ pub mod TextFiles
 pub mod CommandLines
 pub mod TextParts
 pub mod CutOutputs
+pub mod Prelude

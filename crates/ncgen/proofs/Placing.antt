@@ -2,15 +2,11 @@
 use Rattle.std.proofs.Common.{◌≡◌, ◌∙◌, ℕ, List, [], ◌∷◌, ◌++◌, Bool, if◌then◌else◌, map, refl, sym, ap}
 use Rattle.std.specs.List.{flat_map, range_with_len}
 use Rattle.nc_base.specs.declared.header.Dim.{Dim}
-use Rattle.nc_base.specs.declared.header.Header.{Header}
+use Rattle.ncgen.proofs.Prelude.{Header, blocks, data_of, fill_bytes, is_sole_narrow, known_records, padded_slab, record_of, slab_in, vars_after, with_begins, bare_var, AreListed, whole_array, whole_arrays, listed_data}
 use Rattle.nc_base.specs.declared.header.Var.{Var}
 use Rattle.nc_base.specs.Fill.{fill_value}
-use Rattle.nc_base.specs.GeneratedFile.{blocks, data_of, fill_bytes, is_sole_narrow, known_records, padded_slab, record_of, slab_in, vars_after, with_begins}
-use Rattle.nc_base.specs.Headers.{bare_var}
-use Rattle.nc_base.specs.OwedValues.{AreListed, whole_array, whole_arrays}
 use Rattle.nc_base.specs.Sizes.{is_record_var, record_vars}
 use Rattle.nc_base.proofs.FileHolds.{bare-after, records-bare}
-use Rattle.ncgen.specs.Prepared.{listed_data}
 
 module _ (h : Header) (dims : List Dim) (n : ℕ) where
   blocks-after : (before vars : List Var) (listed : List (List ℕ))

@@ -1,35 +1,19 @@
 -- A text's file stands ready to be written.
 use Rattle.std.proofs.Common.{◌≡◌, ◌≤◌, inl, inr, ◌∙◌, ℕ, List, [], ◌++◌, length, Bool, true, false, if◌then◌else◌, Result, Ok, Err, refl, sym, ap, subst}
-use Rattle.nc_base.specs.Bytes.{AreBytes}
-use Rattle.nc_base.specs.declared.dataset.Dataset.{Dataset}
-use Rattle.nc_base.specs.declared.header.Header.{Header}
-use Rattle.nc_base.specs.declared.version.Version.{Version}
-use Rattle.nc_base.specs.GeneratedFile.{file_of, fits, header_spelling, known_records, with_begins}
-use Rattle.nc_base.specs.Headers.{AreArrays, IsGood, IsSound}
-use Rattle.nc_base.specs.OwedValues.{whole_arrays}
-use Rattle.devices.specs.Sinks.{SinkView}
-use Rattle.nc_file.specs.Begins.{offset_too_large}
+use Rattle.ncgen.proofs.Prelude.{AreBytes, Dataset, Header, Version, file_of, fits, header_spelling, known_records, with_begins, AreArrays, IsGood, IsSound, whole_arrays, SinkView, record_slabs, IsSound-with_begins, begins-below, CdlFault, meaning, text_limit, meanings_are_good, Generates, Refuses, file_or_fault, generated, IsReady, Prepares, file_of_prepared, GenFault, Cdl, OffsetTooLarge, WriteFailed}
+use Rattle.nc_file.specs.code.Begins.{offset_too_large}
 use Rattle.nc_walk.specs.declared.write.record_slab.RecordSlab.{RecordSlab}
-use Rattle.nc_walk.specs.RecordSlabs.{record_slabs}
 use Rattle.nc_file.specs.declared.write.begins.OffsetTooLarge.{OffsetTooLarge as NoRoom}
 use Rattle.nc_base.proofs.ListedArrays.{are-listed}
-use Rattle.nc_base.proofs.Fitting.{IsSound-with_begins, begins-below}
-use Rattle.cdl_statements.specs.declared.fault.CdlFault.{CdlFault}
-use Rattle.cdl_parse.specs.DeclaredDatasets.{dataset_of_declared}
+use Rattle.cdl_parse.specs.code.DeclaredDatasets.{dataset_of_declared}
 use Rattle.cdl_parse.specs.declared.declared_values.Declared.{Declared}
-use Rattle.cdl_meaning.specs.Meaning.{meaning, text_limit}
-use Rattle.cdl_parse.specs.Parsing.{Answers, as_dataset, refused}
-use Rattle.cdl_laws.proofs.MeaningsAreGood.{meanings_are_good}
-use Rattle.ncgen.specs.Generated.{Generates, Refuses, file_or_fault, generated}
-use Rattle.ncgen.specs.Prepared.{IsReady, Prepares, file_of_prepared}
-use Rattle.ncgen.specs.declared.fault.GenFault.{GenFault}
-use Rattle.ncgen.specs.declared.fault.GenFault.TheVariants.{Cdl, OffsetTooLarge, WriteFailed}
+use Rattle.cdl_parse.specs.code.Parsing.{MeansOrOutOfMemory, as_dataset, refused}
 use Rattle.ncgen.specs.declared.prepared.Prepared.{Prepared}
 use Rattle.ncgen.proofs.Placing.{data-after, listed-after}
 
 -- ---- faults of the text
 
-pub text-fault : (text : List ℕ) (v : Version) (fault : CdlFault) → Answers (as_dataset (Err fault)) (meaning text v) → Refuses (generated text v) (Cdl fault)
+pub text-fault : (text : List ℕ) (v : Version) (fault : CdlFault) → MeansOrOutOfMemory (as_dataset (Err fault)) (meaning text v) → Refuses (generated text v) (Cdl fault)
 unfolding generated
 text-fault text v fault (inl stated) = inl (ap file_or_fault (sym stated))
 text-fault text v fault (inr memory) = inr (ap (λ (r : Result Dataset CdlFault). Cdl (fault-or refused r)) memory)
@@ -40,7 +24,7 @@ text-fault text v fault (inr memory) = inr (ap (λ (r : Result Dataset CdlFault)
 
 -- ---- what a text declares
 
-means : (text : List ℕ) (v : Version) (d : Declared) → Answers (as_dataset (Ok d)) (meaning text v) → meaning text v ≡ Ok (dataset_of_declared d)
+means : (text : List ℕ) (v : Version) (d : Declared) → MeansOrOutOfMemory (as_dataset (Ok d)) (meaning text v) → meaning text v ≡ Ok (dataset_of_declared d)
 means text v d (inl stated) = sym stated
 means text v d (inr memory) = absurd (ok-is-no-err (dataset_of_declared d) refused memory)
   where
@@ -51,7 +35,7 @@ means text v d (inr memory) = absurd (ok-is-no-err (dataset_of_declared d) refus
     ok-is-no-err : (d : Dataset) (fault : CdlFault) → (Ok d ≡ Err fault) → ⊥
     ok-is-no-err d fault e = subst is-ok e tt
 
-module _ (text : List ℕ) (v : Version) (d : Declared) (bytes : AreBytes text) (few : length text ≤ text_limit) (answers : Answers (as_dataset (Ok d)) (meaning text v)) where
+module _ (text : List ℕ) (v : Version) (d : Declared) (bytes : AreBytes text) (few : length text ≤ text_limit) (answers : MeansOrOutOfMemory (as_dataset (Ok d)) (meaning text v)) where
   is-meaning : meaning text v ≡ Ok (dataset_of_declared d)
   is-meaning = means text v d answers
 

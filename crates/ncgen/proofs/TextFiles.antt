@@ -1,21 +1,10 @@
 -- The file of a text is dumped, and the dump generates it again.
-use Rattle.std.specs.Prelude.{◌↔◌}
-use Rattle.std.proofs.Common.{◌≡◌, ◌≤◌, ℕ, List, length, Bool, true, false, if◌then◌else◌, Result, Ok, Err, refl, sym, ap, subst}
-use Rattle.nc_base.specs.Bytes.{AreBytes}
-use Rattle.nc_base.specs.declared.dataset.Dataset.{Dataset}
-use Rattle.nc_base.specs.declared.version.Version.{Version}
+use Rattle.std.proofs.Common.{◌≡◌, ◌≤◌, ℕ, List, length, Bool, true, false, if◌then◌else◌, Result, Ok, Err, refl, sym, ap, subst, ◌↔◌}
+use Rattle.ncgen.proofs.Prelude.{AreBytes, Dataset, Version, file_of, fits, Fits-from_fits, CdlFault, meaning, text_limit, meanings_are_good, file_or_fault, generated, GenFault, OffsetTooLarge}
 use Rattle.nc_base.specs.Dump.{Ending, IsDump, IsText, Options}
-use Rattle.nc_base.specs.GeneratedFile.{file_of, fits}
-use Rattle.nc_base.proofs.Fitting.{Fits-from_fits}
 use Rattle.nc_file.proofs.FileLaws.{generated-dumped}
-use Rattle.cdl_statements.specs.declared.fault.CdlFault.{CdlFault}
-use Rattle.cdl_meaning.specs.Meaning.{meaning, text_limit}
-use Rattle.cdl_laws.proofs.MeaningsAreGood.{meanings_are_good}
 use Rattle.cdl_laws.proofs.TextReadsBack.{text_reads_back}
-use Rattle.ncgen.specs.Generated.{file_or_fault, generated}
 use Rattle.ncgen.specs.Laws.{DumpsGenerateBack, FilesOfTextsAreDumped, IsDumpedAs}
-use Rattle.ncgen.specs.declared.fault.GenFault.{GenFault}
-use Rattle.ncgen.specs.declared.fault.GenFault.TheVariants.{OffsetTooLarge}
 
 abbrev HasFile : Result (List ℕ) GenFault → Type 0
 HasFile (Ok file) = Unit {0}

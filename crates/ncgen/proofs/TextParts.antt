@@ -1,10 +1,8 @@
 -- Reading a text part by part.
-use Rattle.std.proofs.Common.{ℕ, ◌≡◌, ◌+◌, ◌<◌, ◌≤◌, List, [], ◌++◌, length, Option, Some, None, append_assoc, arith, sym, ap, ◌∙◌, refl, subst}
-use Rattle.std.specs.Prelude.{IfSome}
+use Rattle.std.proofs.Common.{ℕ, ◌≡◌, ◌+◌, ◌<◌, ◌≤◌, List, [], ◌++◌, length, Option, Some, None, append_assoc, arith, sym, ap, ◌∙◌, refl, subst, IfSome}
 use Rattle.std.specs.Io.KnownBytes.{Consumes, IsAtEnd}
 use Rattle.std.proofs.lemmas.List.{append-nil, length-append}
-use Rattle.devices.specs.Readers.{ReaderView}
-use Rattle.ncgen.specs.TextReads.{HasGrown}
+use Rattle.ncgen.proofs.Prelude.{ReaderView, HasGrown}
 
 -- this is what was handed over so far, by as many reads at most
 pub record HasRead (max : ℕ) (start now : ReaderView) (text : List ℕ) : Type 0 where

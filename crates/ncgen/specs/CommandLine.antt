@@ -1,4 +1,4 @@
--- What the words of the command line ask for.
+-- Definition. What the words of the command line ask for.
 use Rattle.std.specs.Prelude.{◌≡◌, ℕ, String, Bool, true, false, ◌&&◌, ◌||◌, List, [], ◌∷◌, ◌++◌, codes, Option, Some, None, option_map, is_none, fold, Result, string_bytes, if◌then◌else◌}
 use Rattle.std.specs.Str.{bytes_eq}
 use Rattle.clap.specs.Words.{App, Row, fault_of, first_of, matches_of, new_app, new_rule, with_rule}
@@ -30,7 +30,7 @@ version_of word =
     else if bytes_eq word (codes "64-bit data") || bytes_eq word (codes "nc5") then Some Cdf5
     else None
 
--- the version: that of `-k`, or else the first
+-- the version: that of `-k`, otherwise CDF-1
 abbrev pub version_in : Option (List ℕ) → Option Version
 version_in None = Some Cdf1
 version_in (Some word) = version_of word
@@ -39,7 +39,7 @@ version_in (Some word) = version_of word
 abbrev pub output_name : List ℕ → List ℕ
 output_name path = stem_of path ++ codes ".nc"
 
--- the path of the output, if there is one: that of `-o`, or else, with `-b`, one after the text's
+-- the path of the output, if any: that of `-o`; otherwise, with `-b`, one made of the text's path
 abbrev pub output_in : Bool → Option (List ℕ) → Option (List ℕ) → Option (List ℕ)
 output_in is_binary (Some output) file = Some output
 output_in true None (Some file) = Some (output_name file)
@@ -73,16 +73,16 @@ unfoldable pub asked_in : List Row → Option Asked
 asked_in rows = if is_unnamed (is_given rows (codes "binary")) (first_of (codes "output") rows) (first_of (codes "file") rows) then None
     else option_map (asked_of rows) (version_in (first_of (codes "kind") rows))
 
--- what the words ask for, the first of which is the program's name
+-- what the words ask for; the first word is the program's name
 unfoldable pub asked_by : List (List ℕ) → Option Asked
 asked_by words = unless (fault_of ncgen words) (asked_in (matches_of ncgen words))
 
--- ---- what is answered
+-- ---- what the words give
 
 -- what the options are
 abbrev pub asked_for : GenOptions → Asked
 asked_for o = record { version = o.kind; output = option_map string_bytes o.out; file = option_map string_bytes o.file }
 
--- the answer to what is asked for, if anything; memory may be refused
+-- the options are those that are asked for, or a usage fault means that nothing is; out of memory says nothing
 abbrev pub Answers : Option Asked → Result GenOptions OptFault → Type 0
 Answers asked result = AnswersBy asked_for asked result

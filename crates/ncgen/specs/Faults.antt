@@ -1,4 +1,4 @@
--- The faults of a run, and the lines that tell them.
+-- Definition. The faults of a run, and the lines that tell them.
 use Rattle.std.specs.Global.{Global}
 use Rattle.std.specs.Prelude.{ℕ, List, [], ◌∷◌, Option, Some, None, String, codes, decimal, string_bytes}
 use Rattle.nc_base.specs.Bytes.{concat_parts}
@@ -45,7 +45,7 @@ kind_words cdl.TooLarge = codes "too large"
 abbrev pub line_number : ℕ → List ℕ
 line_number line = concat_parts (codes "line " ∷ decimal line ∷ codes ": " ∷ [])
 
--- which line a fault of this kind is in; want of memory is in none
+-- the line of a fault of this kind; out of memory has none
 unfoldable pub place_text : CdlKind → ℕ → List ℕ
 place_text cdl.OutOfMemory line = []
 place_text kind line = line_number line

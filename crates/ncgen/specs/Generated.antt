@@ -1,4 +1,4 @@
--- What a CDL text gives: a file, or a fault.
+-- Definition. What is generated from a CDL text: a file, or a fault.
 use Rattle.std.specs.Prelude.{◌≡◌, ◌⊎◌, ℕ, List, if◌then◌else◌, Result, Ok, Err}
 use Rattle.nc_base.specs.declared.dataset.Dataset.{Dataset}
 use Rattle.nc_base.specs.declared.version.Version.{Version}
@@ -6,20 +6,20 @@ use Rattle.nc_base.specs.GeneratedFile.{file_of, fits}
 use Rattle.devices.specs.Sinks.{SinkView, Appended, FailedPartway}
 use Rattle.cdl_statements.specs.declared.fault.CdlFault.{CdlFault}
 use Rattle.cdl_meaning.specs.Meaning.{meaning}
-use Rattle.cdl_parse.specs.Parsing.{refused}
+use Rattle.cdl_parse.specs.code.Parsing.{refused}
 use Rattle.ncgen.specs.declared.fault.GenFault.{GenFault}
 use Rattle.ncgen.specs.declared.fault.GenFault.TheVariants.{Cdl, OffsetTooLarge, WriteFailed}
 
--- the file of a dataset, where it fits; and a fault stays what it is
+-- the file of a dataset, if it fits; a fault stays the same
 abbrev pub file_or_fault : Result Dataset CdlFault → Result (List ℕ) GenFault
 file_or_fault (Ok d) = if fits d.header then Ok (file_of d) else Err OffsetTooLarge
 file_or_fault (Err fault) = Err (Cdl fault)
 
--- what a text gives in a version: the file of the dataset that it means, or its fault, or that the dataset doesn't fit
+-- what is generated from a text in a version: the file of the dataset that it means, its fault, or that the dataset doesn't fit
 unfoldable pub generated : List ℕ → Version → Result (List ℕ) GenFault
 generated text v = file_or_fault (meaning text v)
 
--- the stated fault, or want of memory, which says nothing of the text
+-- the stated fault, or out of memory, which says nothing of the text
 abbrev pub Refuses : Result (List ℕ) GenFault → GenFault → Type 0
 Refuses stated fault = (stated ≡ Err fault) ⊎ (fault ≡ Cdl refused)
 
@@ -35,7 +35,8 @@ pub record IsCutShort (stated : Result (List ℕ) GenFault) (old new : SinkView)
   pub is_stated : stated ≡ Ok file
   pub partway : FailedPartway old new file
 
--- The stated file, with success; a prefix of it, where the sink failed; or nothing, with the stated fault or for want of memory.
+-- With success, the stated file was written; if the sink failed, a prefix of it; otherwise nothing, with the stated fault or out
+-- of memory.
 abbrev pub Generates : {A : Type 0} → Result (List ℕ) GenFault → SinkView → SinkView → Result A GenFault → Type 0
 Generates stated old new (Ok done) = IsWritten stated old new
 Generates stated old new (Err WriteFailed) = IsCutShort stated old new

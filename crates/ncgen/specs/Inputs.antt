@@ -1,15 +1,16 @@
--- What reading the text that is asked for has done.
+-- Definition. What reading the text that is asked for has done.
 use Rattle.std.specs.Prelude.{◌≡◌, ℕ, ◌<◌, ◌≤◌, Bool, List, length, Option, Some, None, IsSome, IsSomeAnd, IfSome, Result, Ok, Err}
 use Rattle.std.specs.Bool.{OnTrue}
 use Rattle.std.specs.Global.{Vec}
 use Rattle.nc_base.specs.declared.version.Version.{Version}
-use Rattle.devices.specs.Openers.{OpenerView, HasFailed, opens_after}
+use Rattle.devices.specs.Failures.{HasFailed}
+use Rattle.devices.specs.Openers.{OpenerView, opens_after}
 use Rattle.devices.specs.Readers.{ReaderView, view_of}
 use Rattle.devices.specs.declared.reader.CountedRead.{CountedRead}
 use Rattle.cdl_meaning.specs.Meaning.{text_limit}
 use Rattle.ncgen.specs.Generated.{generated, Refuses}
-use Rattle.ncgen.specs.Prepared.{IsReady, file_of_prepared}
-use Rattle.ncgen.specs.TextReads.{ReadsText}
+use Rattle.ncgen.specs.code.Prepared.{IsReady, file_of_prepared}
+use Rattle.ncgen.specs.code.TextReads.{ReadsText}
 use Rattle.ncgen.specs.declared.fault.GenFault.{GenFault}
 use Rattle.ncgen.specs.declared.fault.TextFault.TheVariants.{ReadFailed, TooLong}
 use Rattle.ncgen.specs.declared.failure.InputFault.{InputFault}
@@ -63,7 +64,7 @@ IsText i None text = IfSome i.before.remaining (λ bytes. text ≡ bytes)
 
 -- a text has failed exactly where the answer says so
 abbrev pub ReadFailsOnly : {A : Type 0} → OpenerView → OpenerView → Result A InputFault → Type 0
-ReadFailsOnly old new (Err (Text ReadFailed)) = HasFailed old.failures new
+ReadFailsOnly old new (Err (Text ReadFailed)) = HasFailed old.failures new.failures
 ReadFailsOnly old new _ = new.failures ≡ old.failures
 
 -- a path was opened once, and a text has failed exactly where the answer says so

@@ -1,4 +1,4 @@
--- What holds of the file of a text.
+-- Law. What holds of the file of a text.
 use Rattle.std.specs.Prelude.{◌≡◌, ◌≤◌, ◌↔◌, ℕ, List, length, Ok}
 use Rattle.nc_base.specs.Bytes.{AreBytes}
 use Rattle.nc_base.specs.declared.dataset.Dataset.{Dataset}
@@ -21,8 +21,8 @@ pub record IsDumpedAs (text : List ℕ) (v : Version) (file : List ℕ) : Type 0
 abbrev pub FilesOfTextsAreDumped : Type 0
 FilesOfTextsAreDumped = (text : List ℕ) (v : Version) (file : List ℕ) → AreBytes text → length text ≤ text_limit → generated text v ≡ Ok file → IsDumpedAs text v file
 
--- What a full dump of a dataset that a text can declare gives, at any width: the file of that dataset without the NULs at the
--- end of its attributes, or that it doesn't fit.
+-- What is generated from a full dump of a dataset that a text can declare, at any width: the file of that dataset without the NULs
+-- at the end of its attributes, or that it doesn't fit.
 abbrev pub DumpsGenerateBack : Type 0
 DumpsGenerateBack = (d : Dataset) (o : Options) (text : List ℕ) → IsSayable d → IsFull o → IsText d o text whole
     → generated text d.header.version ≡ file_or_fault (Ok (trimmed d))

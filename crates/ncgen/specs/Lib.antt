@@ -1,9 +1,8 @@
 pub mod Generated
-pub mod Prepared
 pub mod Laws
 pub mod CommandLine
 pub mod Faults
-pub mod TextReads
 pub mod Inputs
 pub mod Outputs
 pub mod Runs
+pub mod code

@@ -1,7 +1,8 @@
--- What writing a file to an output has done.
+-- Definition. What writing a file to an output has done.
 use Rattle.std.specs.Prelude.{◌≡◌, ℕ, ◌+◌, ◌⊎◌, Bool, List, [], Option, Some, None, Result, Ok, Err}
 use Rattle.std.specs.Bool.{OnTrue}
-use Rattle.devices.specs.Creators.{CreatorView, HasFailed, Output, Unmade, give}
+use Rattle.devices.specs.Failures.{HasFailed}
+use Rattle.devices.specs.Creators.{CreatorView, Output, Unmade, give}
 use Rattle.devices.specs.Sinks.{IsPrefix}
 use Rattle.ncgen.specs.declared.failure.OutputFault.{OutputFault}
 use Rattle.ncgen.specs.declared.failure.OutputFault.TheVariants.{CannotOpen, WriteFailed}
@@ -34,7 +35,7 @@ pub record IsGivenPrefix (o : Outputs) (path bytes : List ℕ) : Type 0 where
 -- an output was created at the path, and has failed: it was given a prefix of these bytes, or could not be closed
 pub record IsCutShortAt (o : Outputs) (path bytes : List ℕ) : Type 0 where
   pub creations : o.after.creations ≡ o.before.creations + 1
-  pub failures : HasFailed o.before.failures o.after
+  pub failures : HasFailed o.before.failures o.after.failures
   pub given : OnTrue o.is_transparent ((o.after.given ≡ created_at o.before path) ⊎ IsGivenPrefix o path bytes)
 
 -- why these bytes were not written at the path

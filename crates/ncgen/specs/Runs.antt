@@ -1,4 +1,4 @@
--- What a run of the program has done.
+-- Definition. What a run of the program has done.
 use Rattle.std.specs.Prelude.{ℕ, ◌≡◌, ◌⊎◌, List, Option, Some, None, option_map, Result, Ok, Err, string_bytes}
 use Rattle.devices.specs.Sinks.{SinkView, Appended, FailedPartway}
 use Rattle.cli_base.specs.declared.fault.OptFault.{OptFault}
@@ -78,7 +78,7 @@ pub record Succeeded (run : Run) : Type 0 where
   pub generated : IsGenerated run.inputs run.outputs run.asked
   pub error : run.error_after ≡ run.error
 
--- The run has failed, and the line that tells it, or a prefix of it, was written to standard error.
+-- The run has failed, and its failure line, or a prefix of it, was written to standard error.
 pub record Failed (run : Run) : Type 0 where
   pub failure : Failure
   pub fails : Fails run.inputs run.outputs run.asked failure

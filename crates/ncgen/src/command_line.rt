@@ -30,7 +30,7 @@ pub fn command<'a>(alloc: Global) -> Result<Command<'a>, AllocError>
         .arg(Arg::new(alloc, "file"))
 }
 
-/// What the words ask for, the first of which is the program's name.
+/// What the words ask for. The first word is the program's name.
 ///
 /// # Errors
 ///
@@ -44,13 +44,13 @@ pub(crate) fn options_by(alloc: Global, words: &[&str]) -> Result<GenOptions, Op
 
 /// What the matches of [`command`] ask for.
 ///
-/// The output is that of `-o`; or else, with `-b`, the [`stem`] of the text's path and `.nc`, in the current folder. Without
+/// The output is that of `-o`; otherwise, with `-b`, the [`stem`] of the text's path and `.nc`, in the current folder. Without
 /// both options nothing is written.
 ///
 /// # Errors
 ///
 /// [`OptFault::Usage`] for a word of `-k` that names no version, and where `-b` without `-o` stands without a path, which could give
-/// the output its name; [`OptFault::OutOfMemory`] only where memory was refused.
+/// the output its name; [`OptFault::OutOfMemory`] only if an allocation failed.
 #[tactic(auto, unfolding(crate::specs::CommandLine::asked_in))]
 pub fn options_of(alloc: Global, matches: &ArgMatches) -> Result<GenOptions, OptFault>
     ensures { Answers (asked_in (rows_of (found_of matches.now))) result }
@@ -111,7 +111,7 @@ fn string_in(alloc: Global, text: Option<&str>) -> Result<Option<String>, AllocE
     }
 }
 
-/// The version that `-k` asks for, or else the first.
+/// The version that `-k` asks for, otherwise the first.
 fn version_in(word: Option<&str>) -> Option<Version>
     ensures { result ≡ version_in (text_of word.entry) }
 {

@@ -41,7 +41,7 @@ pub fn opt_fault_line<W: Sink>(sink: &mut W, fault: OptFault) -> Result<(), Writ
     }
 }
 
-/// The line that tells how the program is used.
+/// The usage line.
 #[tactic(auto, unfolding(crate::specs::Faults::usage_line))]
 fn usage_line() -> &'static [u8]
     ensures { result.now ≡ usage_line }
@@ -88,8 +88,8 @@ fn put_line<W: Sink>(sink: &mut W, file: &[u8], text: &[u8]) -> Result<(), Write
     put(sink, b"\n")
 }
 
-/// Writes the line that tells why no file was generated from this file's text: `ncgen: FILE: TEXT`, with `line N: ` before the
-/// text for what is wrong with the text.
+/// Writes the fault line of a text that gave no file: `ncgen: FILE: TEXT`, with `line N: ` before TEXT for a fault of the text
+/// itself.
 ///
 /// # Errors
 ///

@@ -3,7 +3,7 @@
 ghost use Rattle.std.specs.Prelude.{◌≤◌, length};
 ghost use Rattle.cdl_meaning.specs.Meaning.{text_limit};
 ghost use Rattle.ncgen.specs.Generated.{Generates, generated};
-ghost use Rattle.ncgen.specs.Prepared.{Prepares};
+ghost use Rattle.ncgen.specs.code.Prepared.{Prepares};
 
 use crate::fault::GenFault;
 use crate::prepared::Prepared;
@@ -42,7 +42,7 @@ pub fn prepare(alloc: Global, text: &[u8], version: Version) -> Result<Prepared,
 ///
 /// # Errors
 ///
-/// Those of [`prepare`], with nothing written; and [`GenFault::WriteFailed`] where the sink failed, which then took some
+/// Those of [`prepare`], with nothing written; and [`GenFault::WriteFailed`] if the sink failed, which then took some
 /// prefix of the file.
 pub fn generate<W: Sink>(
     alloc: Global,

@@ -1,9 +1,21 @@
 //! The netCDF classic file of a CDL text, and the command line of the program `ncgen`.
 //!
-//! [`generate`] reads a text and writes its file; [`prepare`] reads it alone, and gives the file ready to be written.
-//! [`read_text`] reads a text of a reader. [`GenOptions`] says which text to read and where to write its file; [`options_of`]
-//! reads it from the matches of [`command`]. [`fault_line`] says why there is no file. [`run_with`] is the whole program, but
-//! for what opens its text and creates its output, and for its streams.
+//! [`generate`] reads a text and writes its file; [`prepare`] only reads it, and returns the file ready to be written.
+//! [`read_text`] reads a text from a reader. [`GenOptions`] says which text to read and where to write its file; [`options_of`]
+//! reads them from the matches of [`command`]. [`fault_line`] writes why there is no file. [`run_with`] is the whole program,
+//! except for what opens its text and creates its output, and for its streams.
+//!
+//! ```
+//! use devices::MemSink;
+//! use nc_base::Version;
+//!
+//! const TEXT: &[u8] = b"netcdf a { dimensions: x = 3 ; variables: int v(x) ; data: v = 1, 2, 3 ; }";
+//! let mut file = MemSink::new(alloc);
+//! match generate(alloc, TEXT, Version::Cdf1, &mut file) {
+//!     Ok(()) => println!(rt; "{} bytes", file.as_slice().len())?,
+//!     Err(fault) => fault_line(&mut err, b"a.cdl", &fault)?,
+//! }
+//! ```
 #![tactic(auto)]
 
 mod command_line;

@@ -1,7 +1,7 @@
 //! The file that is written.
 
 ghost use Rattle.ncgen.specs.Outputs.{outputs, WritesAt};
-ghost use Rattle.ncgen.specs.Prepared.{file_of_prepared, IsReady};
+ghost use Rattle.ncgen.specs.code.Prepared.{file_of_prepared, IsReady};
 
 use crate::failure::OutputFault;
 use crate::prepared::Prepared;

@@ -1,6 +1,6 @@
 //! A file that stands ready to be written.
 
-ghost use Rattle.ncgen.specs.Prepared.{IsReady, file_of_prepared};
+ghost use Rattle.ncgen.specs.code.Prepared.{IsReady, file_of_prepared};
 ghost use Rattle.devices.specs.Sinks.{Wrote};
 
 use nc_base::{Header, ListedArray, Sequence};
@@ -26,7 +26,7 @@ impl Prepared {
     /// # Errors
     ///
     /// The sink failed. It took some prefix of the file.
-    #[tactic(auto, using(devices::proofs::Writes::writes), unfolding(crate::specs::Prepared::file_of_prepared))]
+    #[tactic(auto, using(devices::proofs::Writes::writes), unfolding(crate::specs::code::Prepared::file_of_prepared))]
     pub fn write<W: Sink>(&self, sink: &mut W) -> Result<(), WriteFailed>
         requires { IsReady self.now }
         ensures { Wrote W.view sink.old sink.new (file_of_prepared self.now) result }

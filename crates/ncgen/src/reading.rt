@@ -2,7 +2,7 @@
 
 ghost use Rattle.std.specs.Prelude.{◌+◌, ◌<◌, ◌≤◌, ◌^◌, length, vec_len};
 ghost use Rattle.devices.specs.Readers.{view_of};
-ghost use Rattle.ncgen.specs.TextReads.{ReadsAtMost, ReadsPart, ReadsTextOf};
+ghost use Rattle.ncgen.specs.code.TextReads.{ReadsAtMost, ReadsPart, ReadsTextOf};
 
 use crate::fault::TextFault;
 use devices::CountedRead;
@@ -12,14 +12,14 @@ use std::io::Read;
 /// How many bytes are asked for at a time.
 const PART: usize = 65536;
 
-/// Reads all bytes of the reader, of which there may be `max`.
+/// Reads all bytes of the reader, at most `max`.
 ///
-/// It takes at most `max + 1` bytes, by as many reads at most. Its memory grows with the text.
+/// It reads at most `max + 1` bytes, with at most as many reads. Its memory grows with the text.
 ///
 /// # Errors
 ///
-/// [`TextFault::TooLong`] where more than `max` bytes came, [`TextFault::ReadFailed`] where the reader failed, and
-/// [`TextFault::OutOfMemory`] where memory was refused.
+/// [`TextFault::TooLong`] if more than `max` bytes came, [`TextFault::ReadFailed`] if the reader failed, and
+/// [`TextFault::OutOfMemory`] if an allocation failed.
 pub fn read_text<R: Read>(
     alloc: Global,
     input: &mut CountedRead<R>,

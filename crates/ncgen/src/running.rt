@@ -5,7 +5,7 @@ ghost use Rattle.cli_base.specs.Arguments.{texts_of};
 ghost use Rattle.ncgen.specs.CommandLine.{asked_by};
 ghost use Rattle.ncgen.specs.Inputs.{inputs, opening, reading, PreparesInput};
 ghost use Rattle.ncgen.specs.Outputs.{outputs};
-ghost use Rattle.ncgen.specs.Prepared.{file_of_prepared, IsReady};
+ghost use Rattle.ncgen.specs.code.Prepared.{file_of_prepared, IsReady};
 ghost use Rattle.ncgen.specs.Runs.{GeneratesAsked, Runs, WritesAsked};
 
 use crate::command_line::options_by;
@@ -20,13 +20,13 @@ use devices::{CountedRead, Creator, Sink, TextOpener};
 use std::alloc::Global;
 use std::io::Read;
 
-/// Runs the program on its words, the first of which is its name, with what opens texts, what creates outputs and standard
-/// input, and gives its exit status.
+/// Runs the program on its words, the first one its name, with what opens texts, what creates outputs, and standard input. Returns
+/// its exit status.
 ///
-/// The status is 0 where the file that the words ask for was written, or, without an output, where the text gives one. Else it
-/// is 1, and a line is written to standard error that tells why: the first fault of the command line, of opening and reading the
-/// text, of the text, and of creating and writing the output, which is created only where the text gives a file. A line that
-/// standard error doesn't take changes no status. Standard error is not flushed.
+/// The status is 0 if the file that the words ask for was written, or, without an output, if the text gives one. Otherwise it is 1,
+/// and a line on standard error says why: the first fault of the command line, of opening and reading the text, of the text itself,
+/// and of creating and writing the output. The output is created only if the text gives a file. A line that standard error doesn't
+/// take changes no status. Standard error is not flushed.
 pub fn run_with<T: TextOpener, C: Creator, R: Read, E: Sink>(
     texts: &mut T,
     creator: &mut C,

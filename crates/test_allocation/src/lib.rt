@@ -5,8 +5,6 @@
 #[cfg(test)]
 mod dumps;
 #[cfg(test)]
-mod files;
-#[cfg(test)]
 mod generated;
 #[cfg(test)]
 mod parsed;

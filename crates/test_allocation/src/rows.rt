@@ -1,7 +1,7 @@
 //! Files with the texts that they are dumped as and with their headers, and texts with the files that they give.
 
+use crate::texts;
 use crate::wanted::{SCALAR, Wanted, WantedVar};
-use crate::{files, texts};
 use nc_base::{NcType, Version};
 
 /// A dump with the name `t`.
@@ -17,7 +17,7 @@ pub struct Dump<'a> {
     pub text: &'a [u8],
 }
 
-/// A dump of an empty file, of which each value is shown.
+/// A dump of an empty file, with each value shown.
 const WHOLE: Dump<'static> = Dump {
     file: b"",
     chosen: None,
@@ -28,7 +28,7 @@ const WHOLE: Dump<'static> = Dump {
 
 /// A variable of three shorts, one of them missing.
 pub const ONE_VARIABLE: Dump<'static> = Dump {
-    file: files::ONE_VARIABLE,
+    file: test_files::ONE_VARIABLE,
     most_read: 80 + 16 + 6,
     text: b"netcdf t {\ndimensions:\n\tx = 3 ;\nvariables:\n\tshort s(x) ;\ndata:\n\n s = 1, _, 3 ;\n}\n",
     ..WHOLE
@@ -36,14 +36,14 @@ pub const ONE_VARIABLE: Dump<'static> = Dump {
 
 /// The same in version 5.
 pub const ONE_VARIABLE_OF_VERSION_5: Dump<'static> = Dump {
-    file: files::ONE_VARIABLE_CDF5,
+    file: test_files::ONE_VARIABLE_CDF5,
     most_read: 128 + 16 + 6,
     ..ONE_VARIABLE
 };
 
 /// One of three variables, with the records of another between its own.
 pub const RANK_THREE_SELECTION: Dump<'static> = Dump {
-    file: files::RANK_THREE,
+    file: test_files::THREE_VARIABLES,
     chosen: Some(b"b"),
     most_read: 180 + 16 + 32,
     text: b"netcdf t {\ndimensions:\n\tt = UNLIMITED ; // (2 currently)\n\ty = 2 ;\n\tx = 2 ;\n\
@@ -54,7 +54,7 @@ pub const RANK_THREE_SELECTION: Dump<'static> = Dump {
 
 /// Two record variables, whose slabs are padded.
 pub const PADDED_RECORDS: Dump<'static> = Dump {
-    file: files::PADDED_RECORDS,
+    file: test_files::PADDED_RECORDS,
     most_read: 116 + 16 + 9,
     text: b"netcdf t {\ndimensions:\n\tt = UNLIMITED ; // (3 currently)\n\
         variables:\n\tbyte b(t) ;\n\tshort s(t) ;\n\
@@ -64,7 +64,7 @@ pub const PADDED_RECORDS: Dump<'static> = Dump {
 
 /// Three record variables of three types, whose slabs are padded.
 pub const THREE_PADDED_RECORDS: Dump<'static> = Dump {
-    file: files::THREE_PADDED_RECORDS,
+    file: test_files::THREE_PADDED_RECORDS,
     most_read: 172 + 16 + 20,
     text: b"netcdf t {\ndimensions:\n\tt = UNLIMITED ; // (2 currently)\n\tx = 3 ;\n\
         variables:\n\tbyte a(t) ;\n\tshort b(t, x) ;\n\tchar c(t, x) ;\n\
@@ -74,7 +74,7 @@ pub const THREE_PADDED_RECORDS: Dump<'static> = Dump {
 
 /// NULs in the midst of a row, which wait for the byte after them.
 pub const NULS_IN_A_ROW: Dump<'static> = Dump {
-    file: files::HELD_NULS,
+    file: test_files::HELD_NULS,
     most_read: 80 + 16 + 5,
     text: b"netcdf t {\ndimensions:\n\tx = 5 ;\nvariables:\n\tchar c(x) ;\n\
         data:\n\n c = \"a\\000\\000b\" ;\n}\n",
@@ -83,7 +83,7 @@ pub const NULS_IN_A_ROW: Dump<'static> = Dump {
 
 /// More NULs in a row than the buffer of 16 bytes has.
 pub const MANY_NULS_IN_A_ROW: Dump<'static> = Dump {
-    file: files::MANY_HELD_NULS,
+    file: test_files::MANY_HELD_NULS,
     most_read: 80 + 16 + 20,
     text: b"netcdf t {\ndimensions:\n\tx = 20 ;\nvariables:\n\tchar c(x) ;\n\
         data:\n\n c = \"a\\000\\000\\000\\000\\000\\000\\000\\000\\000\\000\\000\\000\\000\\000\\000\\000\\000\\000b\" ;\n}\n",
@@ -92,7 +92,7 @@ pub const MANY_NULS_IN_A_ROW: Dump<'static> = Dump {
 
 /// A text attribute of the file.
 pub const TEXT_ATTRIBUTE: Dump<'static> = Dump {
-    file: files::TEXT_ATTRIBUTE,
+    file: test_files::TEXT_ATTRIBUTE,
     most_read: 52 + 16,
     text: b"netcdf t {\n\n// global attributes:\n\t\t:note = \"a\\n\",\n\t\t\t\"b\\n\" ;\n}\n",
     ..WHOLE
@@ -100,7 +100,7 @@ pub const TEXT_ATTRIBUTE: Dump<'static> = Dump {
 
 /// A chosen variable, where only the values of coordinate variables are shown, and it is none.
 pub const HIDDEN_VARIABLE: Dump<'static> = Dump {
-    file: files::COORDINATES,
+    file: test_files::COORDINATES,
     chosen: Some(b"y"),
     coords: true,
     most_read: 116 + 16,
@@ -116,7 +116,7 @@ pub struct Headed<'a> {
 
 /// A name that is a reserved word, and attributes of strings and of numbers.
 pub const NAMES_AND_STRINGS: Headed<'static> = Headed {
-    file: files::NAMES_AND_STRINGS,
+    file: test_files::NAMES_AND_STRINGS,
     want: Wanted {
         records: 2,
         dims: &[(b"t", 0), (b"x", 3)],
@@ -149,18 +149,18 @@ pub struct Made<'a> {
     pub file: &'a [u8],
 }
 
-/// One variable, of which the text says one value by `_`.
+/// One variable, with one value written as `_` in the text.
 pub const ONE_VARIABLE_MADE: Made<'static> = Made {
     version: Version::Cdf1,
     cdl: texts::ONE_VARIABLE,
-    file: files::ONE_VARIABLE,
+    file: test_files::ONE_VARIABLE,
 };
 
 /// Forty values of one variable.
 pub const FORTY_SHORTS_MADE: Made<'static> = Made {
     version: Version::Cdf1,
     cdl: texts::FORTY_SHORTS,
-    file: files::FORTY_SHORTS,
+    file: test_files::FORTY_SHORTS,
 };
 
 /// Two record variables, one of them of rank three, and a scalar after them, whose value comes before theirs.
@@ -171,7 +171,7 @@ pub const RANK_THREE_MADE: Made<'static> = Made {
         variables: int a(t) ; int b(t, y, x) ; int c ;\n\
         data: a = 10, 20 ; b = 1, 2, 3, 4, 5, 6, 7, 8 ; c = 7 ;\n\
         }\n",
-    file: files::RANK_THREE,
+    file: test_files::THREE_VARIABLES,
 };
 
 /// Three record variables whose slabs are padded, and a row that is filled up.
@@ -182,7 +182,7 @@ pub const THREE_PADDED_RECORDS_MADE: Made<'static> = Made {
         variables: byte a(t) ; short b(t, x) ; char c(t, x) ;\n\
         data: a = 1, 2 ; b = 3, 4, 5, 6, 7, 8 ; c = \"pq\", \"rst\" ;\n\
         }\n",
-    file: files::THREE_PADDED_RECORDS,
+    file: test_files::THREE_PADDED_RECORDS,
 };
 
 /// Two record variables whose slabs are padded.
@@ -193,7 +193,7 @@ pub const PADDED_RECORDS_MADE: Made<'static> = Made {
         variables: byte b(t) ; short s(t) ;\n\
         data: b = 1, 2, 3 ; s = 4, 5, 6 ;\n\
         }\n",
-    file: files::PADDED_RECORDS,
+    file: test_files::PADDED_RECORDS,
 };
 
 /// A type that only CDF-5 has.
@@ -204,7 +204,7 @@ pub const UNSIGNED_RECORDS_MADE: Made<'static> = Made {
         variables: ubyte b(t) ;\n\
         data: b = 255, 254, 1 ;\n\
         }\n",
-    file: files::UNSIGNED_RECORDS,
+    file: test_files::UNSIGNED_RECORDS,
 };
 
 /// A name that is a reserved word, attributes of strings and of numbers, and rows of characters.
@@ -216,5 +216,5 @@ pub const NAMES_AND_STRINGS_MADE: Made<'static> = Made {
         variables: int \\data ; \\data:range = 1s, -1s ; char c(t, x) ; c:_FillValue = \"-\" ;\n\
         data: c = \"ab\", \"\" ; \\data = 5 ;\n\
         }\n",
-    file: files::NAMES_AND_STRINGS,
+    file: test_files::NAMES_AND_STRINGS,
 };

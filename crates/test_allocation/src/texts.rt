@@ -19,7 +19,7 @@ pub struct Faulty<'a> {
     pub fault: CdlFault,
 }
 
-/// A text of one variable of three values, of which one is left to be filled.
+/// A text of one variable of three values. One of them is left to be filled.
 pub const ONE_VARIABLE: &[u8] =
     b"netcdf t {\ndimensions:\n x = 3 ;\nvariables:\n short s(x) ;\ndata:\n s = 1, _, 3 ;\n}\n";
 
@@ -29,7 +29,7 @@ pub const FORTY_SHORTS: &[u8] =
     1, 2, 3, 4, 5, 6, 7, 8, 9, 10, 11, 12, 13, 14, 15, 16, 17, 18, 19, 20,\n\
     21, 22, 23, 24, 25, 26, 27, 28, 29, 30, 31, 32, 33, 34, 35, 36, 37, 38, 39, 40 ;\n}\n";
 
-/// Three shorts, of which one is left to be filled.
+/// Three shorts. One of them is left to be filled.
 pub const THREE_SHORTS: Text<'static> = Text {
     version: Version::Cdf1,
     cdl: ONE_VARIABLE,

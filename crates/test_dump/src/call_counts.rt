@@ -1,7 +1,6 @@
 //! How often a dump calls its devices, on files of some 100,000 bytes: about once for each buffer of the file, and for each stretch
 //! of the text.
 
-use crate::files;
 use crate::runs::{WHOLE, options_of};
 use nc_file::{DripSource, FailWhen, IoSink};
 use ncdump::dump;
@@ -81,7 +80,7 @@ type Calls = (
 /// takes a read of its own, and none takes two.
 const FILES: [Calls; 4] = [
     (
-        files::GENERATED,
+        test_files::ONE_VARIABLE,
         80,
         (24, b"\0\0\xc3\x50"),
         7,
@@ -90,7 +89,7 @@ const FILES: [Calls; 4] = [
         3_000,
     ),
     (
-        files::PADDED_RECORDS,
+        test_files::PADDED_RECORDS,
         116,
         (4, b"\0\0\x30\xd4"),
         7,
@@ -99,7 +98,7 @@ const FILES: [Calls; 4] = [
         3_000,
     ),
     (
-        files::HELD_NULS,
+        test_files::HELD_NULS,
         80,
         (24, b"\0\x01\x86\xa0"),
         b'a',
@@ -108,7 +107,7 @@ const FILES: [Calls; 4] = [
         80,
     ),
     (
-        files::TEXT_ATTRIBUTE,
+        test_files::TEXT_ATTRIBUTE,
         40,
         (36, b"\0\x01\x86\xa0"),
         b'a',
@@ -122,7 +121,7 @@ const FILES: [Calls; 4] = [
 fn dumps_of_long_files(rt: HostRuntime) -> Result<(), Fail> {
     for (bytes, len, (at, change), byte, tail, reads, writes) in FILES {
         assert!(rt; len <= bytes.len());
-        let head = files::patched(rt.alloc(), &bytes[..len], at, change)?;
+        let head = test_files::patched(rt.alloc(), &bytes[..len], at, change)?;
         let file = long_file(rt.alloc(), head.as_slice(), (byte, COUNT), tail)?;
         takes_few_calls(&rt, rt.alloc(), file.as_slice(), reads, writes)?;
     }

@@ -1,6 +1,5 @@
 //! Files with bytes changed, or cut.
 
-use crate::files;
 use crate::rows::ONE_VARIABLE;
 use crate::runs::{DumpRow, WHOLE, expect_dump, expect_dumps};
 use nc_base::FormatFault;
@@ -37,7 +36,7 @@ const CHANGED: &[DumpRow<'static>] = &[
     },
     DumpRow {
         about: "a wrong vsize of a record variable",
-        bytes: files::UNSIGNED_RECORDS,
+        bytes: test_files::UNSIGNED_RECORDS,
         change: (112, b"\x7f\xff\xff\xff\xff\xff\xff\xff"),
         text: b"netcdf t {\ndimensions:\n\tt = UNLIMITED ; // (3 currently)\nvariables:\n\tubyte b(t) ;\ndata:\n\n b = 255, 254, 1 ;\n}\n",
         ..WHOLE
@@ -50,14 +49,14 @@ const CHANGED: &[DumpRow<'static>] = &[
     },
     DumpRow {
         about: "an offset with its top bit set",
-        bytes: files::GENERATED_CDF2,
+        bytes: test_files::ONE_VARIABLE_CDF2,
         change: (76, b"\x80\0\0\0\0\0\0\0"),
         answer: Err(DumpFault::Format(FormatFault::BadOffset)),
         ..WHOLE
     },
     DumpRow {
         about: "the greatest offset",
-        bytes: files::GENERATED_CDF2,
+        bytes: test_files::ONE_VARIABLE_CDF2,
         change: (76, b"\x7f\xff\xff\xff\xff\xff\xff\xff"),
         answer: Err(DumpFault::DataTruncated { var: 0, value: 0 }),
         text: b"netcdf t {\ndimensions:\n\tx = 3 ;\nvariables:\n\tshort s(x) ;\ndata:\n\n s =",
@@ -65,7 +64,7 @@ const CHANGED: &[DumpRow<'static>] = &[
     },
     DumpRow {
         about: "no padding after the last value",
-        bytes: files::GENERATED_CDF5,
+        bytes: test_files::ONE_VARIABLE_CDF5,
         len: 134,
         ..ONE_VARIABLE
     },
@@ -102,6 +101,6 @@ fn refuses_cut_headers(
 
 #[test]
 fn cut_headers(rt: HostRuntime) -> Result<(), Fail> {
-    refuses_cut_headers(&rt, rt.alloc(), files::RECORD_BYTES, 80)?;
-    refuses_cut_headers(&rt, rt.alloc(), files::PADDED_RECORDS, 116)
+    refuses_cut_headers(&rt, rt.alloc(), test_files::RECORD_BYTES, 80)?;
+    refuses_cut_headers(&rt, rt.alloc(), test_files::PADDED_RECORDS, 116)
 }

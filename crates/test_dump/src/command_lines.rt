@@ -1,6 +1,5 @@
 //! Runs of the program on a file in memory: what the words ask for, and what is answered.
 
-use crate::files;
 use crate::rows::{COORDINATES_TEXT, GENERATED_TEXT, SELECTION_TEXT};
 use cli_base::OptFault;
 use devices::{Flush, MemSource, OpenFailed, Opener};
@@ -15,8 +14,8 @@ use std::test::Fail;
 /// How the program is used.
 const USAGE: &[u8] = b"usage: ncdump [-h] [-c] [-v names] [-n name] [-l width] file\n";
 
-/// A run of the program on these words, of which the first is its name, where the file `t.nc` has these bytes and is the
-/// only one. It ends with this status, and writes this text to standard output and this line to standard error.
+/// A run of the program on these words, the first one its name. The only file is `t.nc`, which has these bytes. The run ends
+/// with this status, and writes this text to standard output and this line to standard error.
 #[derive(Clone, Copy)]
 struct Run<'a> {
     bytes: &'a [u8],
@@ -101,26 +100,30 @@ const WRITTEN: &[(&[&str], &[u8])] = &[
 
 /// Words for other files, each with the text of the dump that they ask for.
 const WRITTEN_OF_OTHERS: &[(&[u8], &[&str], &[u8])] = &[
-    (files::GENERATED, &["ncdump", "t.nc"], GENERATED_TEXT),
     (
-        files::THREE_VARIABLES,
+        test_files::ONE_VARIABLE,
+        &["ncdump", "t.nc"],
+        GENERATED_TEXT,
+    ),
+    (
+        test_files::THREE_VARIABLES,
         &["ncdump", "-v", "b", "t.nc"],
         SELECTION_TEXT,
     ),
     // chosen variables that are no coordinates
     (
-        files::COORDINATES,
+        test_files::COORDINATES,
         &["ncdump", "-c", "-v", "y", "t.nc"],
         COORDINATES_TEXT,
     ),
     (
-        files::COORDINATES,
+        test_files::COORDINATES,
         &["ncdump", "t.nc", "-cv", "y"],
         COORDINATES_TEXT,
     ),
     // the head alone, of named variables
     (
-        files::COORDINATES,
+        test_files::COORDINATES,
         &["ncdump", "-v", "x,y", "-n", "t", "-h", "t.nc"],
         b"netcdf t {\ndimensions:\n\tx = 2 ;\nvariables:\n\tint x(x) ;\n\tint y(x) ;\n}\n",
     ),
@@ -151,7 +154,11 @@ fn refused<'a>(bytes: &'a [u8], words: &'a [&'a str], line: &'a [u8]) -> Run<'a>
 #[test]
 fn dumps_are_written(rt: HostRuntime) {
     for (words, text) in WRITTEN {
-        runs(&rt, rt.alloc(), written(files::LONG_LINE, *words, *text));
+        runs(
+            &rt,
+            rt.alloc(),
+            written(test_files::LONG_LINE, *words, *text),
+        );
     }
     for (bytes, words, text) in WRITTEN_OF_OTHERS {
         runs(&rt, rt.alloc(), written(*bytes, *words, *text));
@@ -191,17 +198,17 @@ const USAGE_FAULTS: &[&[&str]] = &[
 /// A file, words that don't lead to a dump of it, and the line that says why.
 const REFUSED: &[(&[u8], &[&str], &[u8])] = &[
     (
-        files::GENERATED,
+        test_files::ONE_VARIABLE,
         &["ncdump", "-v", "s,nope", "t.nc"],
         b"ncdump: t.nc: no such variable: item 1 of -v\n",
     ),
     (
-        files::UNSIGNED_FILLS,
+        test_files::UNSIGNED_FILLS,
         &["ncdump", "-v", "a,,b", "t.nc"],
         b"ncdump: t.nc: no such variable: item 1 of -v\n",
     ),
     (
-        files::GENERATED,
+        test_files::ONE_VARIABLE,
         &["ncdump", "u.nc"],
         b"ncdump: u.nc: cannot open\n",
     ),
@@ -210,7 +217,11 @@ const REFUSED: &[(&[u8], &[&str], &[u8])] = &[
 #[test]
 fn faults_have_their_lines(rt: HostRuntime) {
     for words in USAGE_FAULTS {
-        runs(&rt, rt.alloc(), refused(files::GENERATED, *words, USAGE));
+        runs(
+            &rt,
+            rt.alloc(),
+            refused(test_files::ONE_VARIABLE, *words, USAGE),
+        );
     }
     for (bytes, words, line) in REFUSED {
         runs(&rt, rt.alloc(), refused(*bytes, *words, *line));
@@ -247,7 +258,7 @@ impl<'a> Opener for Watched<'a> {
 fn path_is_opened_once(rt: HostRuntime) {
     let listed = [MemFile {
         path: "t.nc",
-        bytes: files::GENERATED,
+        bytes: test_files::ONE_VARIABLE,
     }];
     let mut watched = Watched {
         files: MemFiles::new(&listed),
@@ -293,9 +304,9 @@ fn truncated_data(rt: HostRuntime) {
         ),
     ];
     for (len, text, line) in ROWS {
-        assert!(rt; len <= files::GENERATED.len());
+        assert!(rt; len <= test_files::ONE_VARIABLE.len());
         let run = Run {
-            bytes: &files::GENERATED[..len],
+            bytes: &test_files::ONE_VARIABLE[..len],
             words: &["ncdump", "t.nc"],
             status: 1,
             text,
@@ -311,7 +322,7 @@ fn every_number_of_words(rt: HostRuntime) -> Result<(), Fail> {
     let mut words = Vec::from_slice(rt.alloc(), &["ncdump", "t.nc"])?;
     for _ in 0..100 {
         words.push("t.nc")?;
-        let run = refused(files::GENERATED, words.as_slice(), USAGE);
+        let run = refused(test_files::ONE_VARIABLE, words.as_slice(), USAGE);
         runs(&rt, rt.alloc(), run);
     }
     Ok(())
@@ -325,7 +336,11 @@ fn eleventh_word(rt: HostRuntime) {
         let words = [
             "ncdump", "-c", "-v", "v", "-n", "other", "-l", "20", "--", "t.nc", word,
         ];
-        runs(&rt, rt.alloc(), refused(files::LONG_LINE, &words, USAGE));
+        runs(
+            &rt,
+            rt.alloc(),
+            refused(test_files::LONG_LINE, &words, USAGE),
+        );
     }
 }
 
@@ -370,7 +385,7 @@ fn every_number_of_names(rt: HostRuntime) -> Result<(), Fail> {
         runs(
             &rt,
             rt.alloc(),
-            written(files::LONG_LINE, &words, WIDE_TEXT),
+            written(test_files::LONG_LINE, &words, WIDE_TEXT),
         );
     }
     Ok(())
@@ -380,7 +395,7 @@ fn every_number_of_names(rt: HostRuntime) -> Result<(), Fail> {
 fn runs_into(rt: &impl Abort, alloc: Global, words: &[&str], out: &mut [u8], err: &mut [u8]) {
     let mut out = SliceSink::new(out, 3);
     let mut err = SliceSink::new(err, 5);
-    assert!(rt; status_of(alloc, files::SMALLEST, words, &mut out, &mut err) == 1);
+    assert!(rt; status_of(alloc, test_files::SMALLEST, words, &mut out, &mut err) == 1);
 }
 
 #[test]
@@ -395,7 +410,7 @@ fn failing_standard_streams(rt: HostRuntime) {
     assert!(rt; err == *b"ncdump: t.nc: write failed\n");
 }
 
-/// A writer that holds back all that it is given, and counts the flushes, each of which fails.
+/// A writer that holds back all that it is given. Each flush fails, and is counted.
 #[derive(Drop)]
 struct HeldBack {
     flushes: u32,
@@ -422,7 +437,13 @@ fn failing_flush_of_standard_output(rt: HostRuntime) {
         let mut out = IoSink::new(HeldBack { flushes: 0 });
         let mut space = [0; 32];
         let mut err = SliceSink::new(&mut space, 5);
-        let status = status_of(rt.alloc(), files::GENERATED, words, &mut out, &mut err);
+        let status = status_of(
+            rt.alloc(),
+            test_files::ONE_VARIABLE,
+            words,
+            &mut out,
+            &mut err,
+        );
         assert!(rt; status == 1);
         assert!(rt; err.taken() == line);
         assert!(rt; out.into_inner().flushes == 1);

@@ -1,6 +1,5 @@
 //! Dumps of whole files, through buffers of every length.
 
-use crate::files;
 use crate::rows::{ONE_VARIABLE, TWO_RECORDS};
 use crate::runs::{DumpRow, WHOLE, Want, dumps_through, expect_dump, expect_dumps, options_of};
 use nc_base::FormatFault;
@@ -14,7 +13,7 @@ use std::test::Fail;
 /// The dump of a file without anything.
 const SMALLEST: DumpRow<'static> = DumpRow {
     about: "the smallest file",
-    bytes: files::SMALLEST,
+    bytes: test_files::SMALLEST,
     text: b"netcdf t {\n}\n",
     ..WHOLE
 };
@@ -22,7 +21,7 @@ const SMALLEST: DumpRow<'static> = DumpRow {
 /// The head of a generated file.
 const HEAD: DumpRow<'static> = DumpRow {
     about: "the head of one variable",
-    bytes: files::GENERATED,
+    bytes: test_files::ONE_VARIABLE,
     head_only: true,
     text: b"netcdf t {\ndimensions:\n\tx = 3 ;\nvariables:\n\tshort s(x) ;\n}\n",
     ..WHOLE
@@ -33,31 +32,31 @@ const HEADS: &[DumpRow<'static>] = &[
     SMALLEST,
     DumpRow {
         about: "the smallest file of CDF-5",
-        bytes: files::SMALLEST_CDF5,
+        bytes: test_files::SMALLEST_CDF5,
         ..SMALLEST
     },
     DumpRow {
         about: "a text attribute",
-        bytes: files::TEXT_ATTRIBUTE,
+        bytes: test_files::TEXT_ATTRIBUTE,
         text: b"netcdf t {\n\n// global attributes:\n\t\t:note = \"a\\n\",\n\t\t\t\"b\\n\" ;\n}\n",
         ..WHOLE
     },
     TWO_RECORDS,
     DumpRow {
         about: "streamed records",
-        bytes: files::STREAMED_RECORDS,
+        bytes: test_files::STREAMED_RECORDS,
         text: b"netcdf t {\ndimensions:\n\tt = UNLIMITED ; // (0 currently)\n}\n",
         ..WHOLE
     },
     HEAD,
     DumpRow {
         about: "the head of one variable of CDF-2",
-        bytes: files::GENERATED_CDF2,
+        bytes: test_files::ONE_VARIABLE_CDF2,
         ..HEAD
     },
     DumpRow {
         about: "the head of one variable of CDF-5",
-        bytes: files::GENERATED_CDF5,
+        bytes: test_files::ONE_VARIABLE_CDF5,
         ..HEAD
     },
 ];
@@ -74,15 +73,19 @@ fn refused_headers(rt: HostRuntime) -> Result<(), Fail> {
         ("three bytes", b"CDF", FormatFault::HeaderTruncated),
         (
             "a hostile count",
-            files::HOSTILE_COUNT,
+            test_files::HOSTILE_COUNT,
             FormatFault::HeaderTruncated,
         ),
         (
             "two record dimensions",
-            files::TWO_RECORD_DIMS,
+            test_files::TWO_RECORD_DIMS,
             FormatFault::TwoRecordDims,
         ),
-        ("a large slab", files::LARGE_SLAB, FormatFault::TooLarge),
+        (
+            "a large slab",
+            test_files::LARGE_SLAB,
+            FormatFault::TooLarge,
+        ),
     ];
     for (about, bytes, fault) in ROWS {
         let answer = Err(DumpFault::Format(fault));
@@ -133,7 +136,7 @@ fn failed_read_writes_nothing(rt: HostRuntime) -> Result<(), Fail> {
     };
     // The header has 44 bytes, read one by one.
     for n in 0..44 {
-        let mut source = DripSource::new(files::TWO_RECORDS, 1, FailWhen::Read(n));
+        let mut source = DripSource::new(test_files::TWO_RECORDS, 1, FailWhen::Read(n));
         dumps_through(&rt, rt.alloc(), &mut source, 16, &want);
     }
     Ok(())

@@ -1,6 +1,5 @@
 //! Dumps from sources and into sinks that fail at each place in turn.
 
-use crate::files;
 use crate::rows::{
     NO_RECORDS, ONE_VARIABLE, ROWS, Row, SELECTION, SELECTION_TEXT, TWO_RECORDS, is_same,
 };
@@ -141,7 +140,7 @@ fn selections_through_every_buffer(rt: HostRuntime) -> Result<(), Fail> {
     };
     for buffer_len in 16..41 {
         for step in 1..10 {
-            let mut source = DripSource::new(files::THREE_VARIABLES, step, FailWhen::Never);
+            let mut source = DripSource::new(test_files::THREE_VARIABLES, step, FailWhen::Never);
             dumps_through(&rt, rt.alloc(), &mut source, buffer_len, &want);
             assert!(rt; source.handed() <= 180 + 32 + buffer_len as u128);
         }
@@ -160,7 +159,7 @@ fn failing_source(rt: HostRuntime) -> Result<(), Fail> {
         answer: Err(DumpFault::ReadFailed),
         text: PREFIX,
     };
-    let mut source = DripSource::new(files::GENERATED, 4096, FailWhen::From(80));
+    let mut source = DripSource::new(test_files::ONE_VARIABLE, 4096, FailWhen::From(80));
     dumps_through(&rt, rt.alloc(), &mut source, 16, &want);
     Ok(())
 }

@@ -1,4 +1,4 @@
-//! Tests that go across the crates: whole files, read and dumped through buffers of every length.
+//! Tests of dumps that go across the crates: whole files, dumped through buffers of every length, command lines and whole runs.
 #![tactic(auto)]
 
 #[cfg(test)]
@@ -6,25 +6,15 @@ mod call_counts;
 #[cfg(test)]
 mod changed_files;
 #[cfg(test)]
-mod chunks;
-#[cfg(test)]
 mod command_lines;
 #[cfg(test)]
 mod cut_sources;
-#[cfg(test)]
-mod data_parts;
 #[cfg(test)]
 mod dumps;
 #[cfg(test)]
 mod failures;
 #[cfg(test)]
-mod files;
-#[cfg(test)]
-mod header_reads;
-#[cfg(test)]
-mod headers;
-#[cfg(test)]
-mod reading;
+mod many_variables;
 #[cfg(test)]
 mod rows;
 #[cfg(test)]
@@ -32,8 +22,4 @@ mod runs;
 #[cfg(test)]
 mod selections;
 #[cfg(test)]
-mod stretches;
-#[cfg(test)]
 mod values;
-#[cfg(test)]
-mod walks;

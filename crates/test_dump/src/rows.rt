@@ -1,6 +1,5 @@
 //! Dumps that tests repeat with devices that fail.
 
-use crate::files;
 use crate::runs::{DumpRow, WHOLE};
 
 /// A dump, its header's length, and the stops on the way to its end.
@@ -60,7 +59,7 @@ pub const GENERATED_TEXT: &[u8] =
 /// A variable of three shorts, one of them missing.
 pub const ONE_VARIABLE: DumpRow<'static> = DumpRow {
     about: "one variable",
-    bytes: files::GENERATED,
+    bytes: test_files::ONE_VARIABLE,
     text: GENERATED_TEXT,
     ..WHOLE
 };
@@ -68,7 +67,7 @@ pub const ONE_VARIABLE: DumpRow<'static> = DumpRow {
 /// Two record variables with three records, whose slabs are padded.
 pub const PADDED_RECORDS: DumpRow<'static> = DumpRow {
     about: "padded records",
-    bytes: files::PADDED_RECORDS,
+    bytes: test_files::PADDED_RECORDS,
     text: b"netcdf t {\ndimensions:\n\tt = UNLIMITED ; // (3 currently)\nvariables:\n\tbyte b(t) ;\n\tshort s(t) ;\ndata:\n\n b = 1, 2, 3 ;\n\n s = 4, 5, 6 ;\n}\n",
     ..WHOLE
 };
@@ -80,20 +79,20 @@ pub const SELECTION_TEXT: &[u8] =
 /// One of three variables, with the records of another between its own.
 pub const SELECTION: DumpRow<'static> = DumpRow {
     about: "a selection of rank three",
-    bytes: files::THREE_VARIABLES,
+    bytes: test_files::THREE_VARIABLES,
     chosen: Some(&[b"b"]),
     text: SELECTION_TEXT,
     ..WHOLE
 };
 
-/// The dump of two variables of which no value is shown.
+/// The dump of two variables without their values.
 pub const COORDINATES_TEXT: &[u8] =
     b"netcdf t {\ndimensions:\n\tx = 2 ;\nvariables:\n\tint x(x) ;\n\tint y(x) ;\ndata:\n}\n";
 
-/// Coordinate variables alone, of which none is chosen.
+/// Coordinate variables alone, and none of them is chosen.
 pub const COORDINATES: DumpRow<'static> = DumpRow {
     about: "coordinate variables that are not chosen",
-    bytes: files::COORDINATES,
+    bytes: test_files::COORDINATES,
     coords: true,
     chosen: Some(&[b"y"]),
     text: COORDINATES_TEXT,
@@ -103,7 +102,7 @@ pub const COORDINATES: DumpRow<'static> = DumpRow {
 /// The record dimension alone, with two records.
 pub const TWO_RECORDS: DumpRow<'static> = DumpRow {
     about: "two records",
-    bytes: files::TWO_RECORDS,
+    bytes: test_files::TWO_RECORDS,
     text: b"netcdf t {\ndimensions:\n\tt = UNLIMITED ; // (2 currently)\n}\n",
     ..WHOLE
 };
@@ -111,7 +110,7 @@ pub const TWO_RECORDS: DumpRow<'static> = DumpRow {
 /// A record variable without records.
 pub const NO_RECORDS: DumpRow<'static> = DumpRow {
     about: "no records",
-    bytes: files::NO_RECORDS,
+    bytes: test_files::NO_RECORDS,
     text: b"netcdf t {\ndimensions:\n\tt = UNLIMITED ; // (0 currently)\nvariables:\n\tint v(t) ;\ndata:\n}\n",
     ..WHOLE
 };
@@ -119,7 +118,7 @@ pub const NO_RECORDS: DumpRow<'static> = DumpRow {
 /// NULs between two characters.
 pub const HELD_NULS: DumpRow<'static> = DumpRow {
     about: "held back NULs",
-    bytes: files::HELD_NULS,
+    bytes: test_files::HELD_NULS,
     text: b"netcdf t {\ndimensions:\n\tx = 5 ;\nvariables:\n\tchar c(x) ;\ndata:\n\n c = \"a\\000\\000b\" ;\n}\n",
     ..WHOLE
 };
@@ -127,7 +126,7 @@ pub const HELD_NULS: DumpRow<'static> = DumpRow {
 /// The same of many NULs.
 pub const MANY_HELD_NULS: DumpRow<'static> = DumpRow {
     about: "many held back NULs",
-    bytes: files::MANY_HELD_NULS,
+    bytes: test_files::MANY_HELD_NULS,
     text: b"netcdf t {\ndimensions:\n\tx = 20 ;\nvariables:\n\tchar c(x) ;\ndata:\n\n c = \"a\\000\\000\\000\\000\\000\\000\\000\\000\\000\\000\\000\\000\\000\\000\\000\\000\\000\\000b\" ;\n}\n",
     ..WHOLE
 };
@@ -165,14 +164,14 @@ const RECORDS_STOPS: &[Stop<'static>] = &[
     (b" ;\n}\n", 9),
 ];
 
-/// The stops in five characters, of which two are NULs.
+/// The stops in five characters, two of them NULs.
 const NULS_STOPS: &[Stop<'static>] = &[
     (b" \"a\\000\\000b\" ;\n}\n", 0),
     (b"\\000\\000b\" ;\n}\n", 3),
     (b"\" ;\n}\n", 5),
 ];
 
-/// The stops in twenty characters, of which eighteen are NULs.
+/// The stops in twenty characters, eighteen of them NULs.
 const MANY_NULS_STOPS: &[Stop<'static>] = &[
     (
         b" \"a\\000\\000\\000\\000\\000\\000\\000\\000\\000\\000\\000\\000\\000\\000\\000\\000\\000\\000b\" ;\n}\n",
@@ -195,7 +194,7 @@ pub const ROWS: [Row<'static>; 6] = [
     Row {
         dump: DumpRow {
             about: "one variable of CDF-5",
-            bytes: files::GENERATED_CDF5,
+            bytes: test_files::ONE_VARIABLE_CDF5,
             ..ONE_VARIABLE
         },
         header_len: 128,

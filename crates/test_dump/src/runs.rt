@@ -1,6 +1,5 @@
 //! What the tests of dumps have in common: rows of dumps, through buffers of every length, and in reads of several lengths.
 
-use crate::files;
 use crate::rows::is_same;
 use nc_base::Sequence;
 use nc_file::{DripSource, FailWhen, MemSink, MemSource, Sink, Source};
@@ -10,7 +9,7 @@ use std::process::Abort;
 use std::test::Fail;
 
 /// A dump of a file, or of its first `len` bytes, with some bytes in place of its own from an offset on; what is shown of it, how
-/// it ends, and the text that it writes, of which `head` are the lines before the values.
+/// it ends, and the text that it writes. `head` has the lines before the values.
 #[derive(Clone, Copy)]
 pub struct DumpRow<'a> {
     pub about: &'static str,
@@ -108,7 +107,7 @@ pub fn dumps(rt: &impl Abort, alloc: Global, bytes: &[u8], want: &Want<'_>) {
 /// Fails unless the dump of the row is as it says.
 pub fn expect_dump(rt: &impl Abort, alloc: Global, row: &DumpRow<'_>) -> Result<(), Fail> {
     let (at, bytes) = row.change;
-    let file = files::patched(alloc, row.bytes, at, bytes)?;
+    let file = test_files::patched(alloc, row.bytes, at, bytes)?;
     let file = &file.as_slice()[..row.len.min(file.len())];
     let mut text = Vec::from_slice(alloc, row.head)?;
     text.extend_from_slice(row.text)?;

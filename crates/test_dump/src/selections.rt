@@ -1,6 +1,5 @@
 //! Dumps that show no value: of the header alone, of no records, and of variables that aren't chosen.
 
-use crate::files;
 use crate::rows::{COORDINATES, NO_RECORDS};
 use crate::runs::{DumpRow, WHOLE, Want, dumps, expect_dump, expect_dumps, options_of};
 use nc_base::Sequence;
@@ -22,21 +21,21 @@ const NO_VALUES: &[DumpRow<'static>] = &[
     },
     DumpRow {
         about: "escaped names",
-        bytes: files::ESCAPED_NAMES,
+        bytes: test_files::ESCAPED_NAMES,
         head_only: true,
         text: b"netcdf t {\nvariables:\n\tint \\data ;\n\t\t\\data:units = \"m\" ;\n\tshort \\2\\ b ;\n}\n",
         ..WHOLE
     },
     DumpRow {
         about: "a fill value of bytes",
-        bytes: files::FILL_OF_BYTES,
+        bytes: test_files::FILL_OF_BYTES,
         head_only: true,
         text: b"netcdf t {\nvariables:\n\tbyte b ;\n\t\tb:_FillValue = -127b ;\n}\n",
         ..WHOLE
     },
     DumpRow {
         about: "unsigned fill values",
-        bytes: files::UNSIGNED_FILLS,
+        bytes: test_files::UNSIGNED_FILLS,
         head_only: true,
         text: b"netcdf t {\nvariables:\n\tubyte a ;\n\t\ta:_FillValue = 255UB ;\n\tuint64 b ;\n\t\tb:r = 0ULL, 18446744073709551615ULL ;\n}\n",
         ..WHOLE
@@ -48,10 +47,10 @@ fn dumps_of_no_value(rt: HostRuntime) -> Result<(), Fail> {
     expect_dumps(&rt, rt.alloc(), NO_VALUES)
 }
 
-/// A dump of chosen names, all of which the file has.
+/// A dump of chosen names that are all in the file.
 const CHOSEN: DumpRow<'static> = DumpRow {
     about: "an unknown name",
-    bytes: files::GENERATED,
+    bytes: test_files::ONE_VARIABLE,
     ..WHOLE
 };
 
@@ -80,7 +79,7 @@ fn unknown_name(rt: HostRuntime) -> Result<(), Fail> {
 
 /// Which of the variables x and y are marked with the options of a row.
 fn marks(alloc: Global, row: &DumpRow<'_>) -> Result<Vec<bool>, DumpFault> {
-    let mut source = MemSource::new(files::COORDINATES);
+    let mut source = MemSource::new(test_files::COORDINATES);
     let header = nc_file::read_header(alloc, &mut source, &mut [0; 16])?;
     select(alloc, &header, &options_of(alloc, row)?)
 }

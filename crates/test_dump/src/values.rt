@@ -1,6 +1,5 @@
 //! Dumps of values, through buffers of every length.
 
-use crate::files;
 use crate::rows::{
     COORDINATES, HELD_NULS, MANY_HELD_NULS, ONE_VARIABLE, PADDED_RECORDS, SELECTION,
 };
@@ -15,44 +14,44 @@ const WHOLE_FILES: &[DumpRow<'static>] = &[
     ONE_VARIABLE,
     DumpRow {
         about: "one variable of CDF-2",
-        bytes: files::GENERATED_CDF2,
+        bytes: test_files::ONE_VARIABLE_CDF2,
         ..ONE_VARIABLE
     },
     DumpRow {
         about: "one variable of CDF-5",
-        bytes: files::GENERATED_CDF5,
+        bytes: test_files::ONE_VARIABLE_CDF5,
         ..ONE_VARIABLE
     },
     SELECTION,
     DumpRow {
         about: "all of three variables",
-        bytes: files::THREE_VARIABLES,
+        bytes: test_files::THREE_VARIABLES,
         text: b"netcdf t {\ndimensions:\n\tt = UNLIMITED ; // (2 currently)\n\ty = 2 ;\n\tx = 2 ;\nvariables:\n\tint a(t) ;\n\tint b(t, y, x) ;\n\tint c ;\ndata:\n\n a = 10, 20 ;\n\n b =\n  1, 2,\n  3, 4,\n  5, 6,\n  7, 8 ;\n\n c = 7 ;\n}\n",
         ..WHOLE
     },
     DumpRow {
         about: "records that are not padded",
-        bytes: files::RECORD_BYTES,
+        bytes: test_files::RECORD_BYTES,
         text: b"netcdf t {\ndimensions:\n\tt = UNLIMITED ; // (3 currently)\nvariables:\n\tbyte b(t) ;\ndata:\n\n b = 1, 2, 3 ;\n}\n",
         ..WHOLE
     },
     PADDED_RECORDS,
     DumpRow {
         about: "records off a boundary of four bytes",
-        bytes: files::RECORDS_OFF_BOUNDARY,
+        bytes: test_files::RECORDS_OFF_BOUNDARY,
         text: b"netcdf t {\ndimensions:\n\tt = UNLIMITED ; // (3 currently)\n\ty = 3 ;\nvariables:\n\tshort s(t, y) ;\ndata:\n\n s =\n  1, 2, 3,\n  4, 5, 6,\n  7, 8, 9 ;\n}\n",
         ..WHOLE
     },
     DumpRow {
         about: "a line of 20 bytes",
-        bytes: files::LONG_LINE,
+        bytes: test_files::LONG_LINE,
         width: 20,
         text: b"netcdf t {\ndimensions:\n\tx = 3 ;\nvariables:\n\tint v(x) ;\ndata:\n\n v = 100, 200, \n    3000 ;\n}\n",
         ..WHOLE
     },
     DumpRow {
         about: "a line of 21 bytes",
-        bytes: files::LONG_LINE,
+        bytes: test_files::LONG_LINE,
         width: 21,
         text: b"netcdf t {\ndimensions:\n\tx = 3 ;\nvariables:\n\tint v(x) ;\ndata:\n\n v = 100, 200, 3000 ;\n}\n",
         ..WHOLE
@@ -61,31 +60,31 @@ const WHOLE_FILES: &[DumpRow<'static>] = &[
     MANY_HELD_NULS,
     DumpRow {
         about: "NULs alone",
-        bytes: files::ALL_NULS,
+        bytes: test_files::ALL_NULS,
         text: b"netcdf t {\ndimensions:\n\tt = UNLIMITED ; // (2 currently)\nvariables:\n\tchar c(t) ;\ndata:\n\n c = \"\\000\\000\" ;\n}\n",
         ..WHOLE
     },
     DumpRow {
         about: "escaped names",
-        bytes: files::ESCAPED_NAMES,
+        bytes: test_files::ESCAPED_NAMES,
         text: b"netcdf t {\nvariables:\n\tint \\data ;\n\t\t\\data:units = \"m\" ;\n\tshort \\2\\ b ;\ndata:\n\n \\data = 5 ;\n\n \\2\\ b = 6 ;\n}\n",
         ..WHOLE
     },
     DumpRow {
         about: "a fill value of bytes",
-        bytes: files::FILL_OF_BYTES,
+        bytes: test_files::FILL_OF_BYTES,
         text: b"netcdf t {\nvariables:\n\tbyte b ;\n\t\tb:_FillValue = -127b ;\ndata:\n\n b = _ ;\n}\n",
         ..WHOLE
     },
     DumpRow {
         about: "unsigned fill values",
-        bytes: files::UNSIGNED_FILLS,
+        bytes: test_files::UNSIGNED_FILLS,
         text: b"netcdf t {\nvariables:\n\tubyte a ;\n\t\ta:_FillValue = 255UB ;\n\tuint64 b ;\n\t\tb:r = 0ULL, 18446744073709551615ULL ;\ndata:\n\n a = _ ;\n\n b = _ ;\n}\n",
         ..WHOLE
     },
     DumpRow {
         about: "unsigned records",
-        bytes: files::UNSIGNED_RECORDS,
+        bytes: test_files::UNSIGNED_RECORDS,
         text: b"netcdf t {\ndimensions:\n\tt = UNLIMITED ; // (3 currently)\nvariables:\n\tubyte b(t) ;\ndata:\n\n b = 255, 254, 1 ;\n}\n",
         ..WHOLE
     },
@@ -106,7 +105,7 @@ fn whole_files(rt: HostRuntime) -> Result<(), Fail> {
 const CHANGED_FILES: &[DumpRow<'static>] = &[
     DumpRow {
         about: "streaming records",
-        bytes: files::PADDED_RECORDS,
+        bytes: test_files::PADDED_RECORDS,
         change: (4, b"\xff\xff\xff\xff"),
         len: 139,
         text: b"netcdf t {\ndimensions:\n\tt = UNLIMITED ; // (2 currently)\nvariables:\n\tbyte b(t) ;\n\tshort s(t) ;\ndata:\n\n b = 1, 2 ;\n\n s = 4, 5 ;\n}\n",
@@ -121,7 +120,7 @@ const CHANGED_FILES: &[DumpRow<'static>] = &[
     },
     DumpRow {
         about: "a hostile number of records",
-        bytes: files::RECORD_BYTES,
+        bytes: test_files::RECORD_BYTES,
         change: (4, b"\x7f\xff\xff\xff"),
         answer: Err(DumpFault::DataTruncated { var: 0, value: 3 }),
         text: b"netcdf t {\ndimensions:\n\tt = UNLIMITED ; // (2147483647 currently)\nvariables:\n\tbyte b(t) ;\ndata:\n\n b = 1, 2, 3",
@@ -129,7 +128,7 @@ const CHANGED_FILES: &[DumpRow<'static>] = &[
     },
     DumpRow {
         about: "values in the header",
-        bytes: files::GENERATED,
+        bytes: test_files::ONE_VARIABLE,
         change: (76, b"\0\0\0\0"),
         text: b"netcdf t {\ndimensions:\n\tx = 3 ;\nvariables:\n\tshort s(x) ;\ndata:\n\n s = 17220, 17921, 0 ;\n}\n",
         ..WHOLE
@@ -181,7 +180,7 @@ const CUT_FILES: [(DumpRow<'static>, &[Cut]); 4] = [
     (
         DumpRow {
             about: "one variable of CDF-5",
-            bytes: files::GENERATED_CDF5,
+            bytes: test_files::ONE_VARIABLE_CDF5,
             head: b"netcdf t {\ndimensions:\n\tx = 3 ;\nvariables:\n\tshort s(x) ;\ndata:\n\n",
             ..WHOLE
         },
@@ -194,7 +193,7 @@ const CUT_FILES: [(DumpRow<'static>, &[Cut]); 4] = [
     (
         DumpRow {
             about: "records that are not padded",
-            bytes: files::RECORD_BYTES,
+            bytes: test_files::RECORD_BYTES,
             head: b"netcdf t {\ndimensions:\n\tt = UNLIMITED ; // (3 currently)\nvariables:\n\tbyte b(t) ;\ndata:\n\n",
             ..WHOLE
         },

@@ -10,7 +10,7 @@ use devices::{
 use std::alloc::Global;
 use std::process::Abort;
 
-/// Outputs of which some can be created, and which hold some bytes together.
+/// Outputs on a full disk: only a few can be created, and together they take only a few bytes.
 #[derive(Drop)]
 pub struct FullDisk {
     alloc: Global,
@@ -64,7 +64,7 @@ impl SmallSink {
 impl Sink for SmallSink {
     ghost view = { λ s. record { taken = None; failures = s.failures } };
 
-    #[tactic(auto, unfolding(devices::specs::Sinks::is_transparent, devices::specs::Sinks::HasFailed))]
+    #[tactic(auto, unfolding(devices::specs::Sinks::is_transparent, devices::specs::Failures::HasFailed))]
     fn write_some(&mut self, bytes: &[u8]) -> Result<usize, SinkFailed> {
         if bytes.is_empty() {
             return Ok(0);
@@ -85,7 +85,7 @@ impl Creator for FullDisk {
 
     ghost view = { λ s. record { given = []; creations = s.creations; failures = s.failures } };
 
-    #[tactic(auto, unfolding(devices::specs::Creators::HasFailed))]
+    #[tactic(auto, unfolding(devices::specs::Failures::HasFailed))]
     fn create(&mut self, _path: &str) -> Result<SmallSink, CreateFailed> {
         if self.files_left == 0 || self.creations == u128::MAX {
             self.failures = self.failures.saturating_add(1);
@@ -100,7 +100,7 @@ impl Creator for FullDisk {
         })
     }
 
-    #[tactic(auto, unfolding(devices::specs::Creators::HasFailed))]
+    #[tactic(auto, unfolding(devices::specs::Failures::HasFailed))]
     fn close(&mut self, _path: &str, output: SmallSink) -> Result<(), CloseFailed> {
         let SmallSink {
             bytes,

@@ -6,8 +6,7 @@ use std::alloc::Global;
 use std::io::Read;
 use std::process::Abort;
 
-/// A run of the program on these words, of which the first is its name, where these are the texts that paths name and this is
-/// standard input.
+/// A run of the program on these words, the first one its name, with the texts that paths name and with standard input.
 #[derive(Clone, Copy)]
 pub struct Invocation<'a> {
     pub words: &'a [&'a str],

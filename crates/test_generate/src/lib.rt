@@ -7,11 +7,7 @@ mod call_counts;
 #[cfg(test)]
 mod command_lines;
 #[cfg(test)]
-mod dumped_files;
-#[cfg(test)]
 mod failing_sinks;
-#[cfg(test)]
-mod files;
 #[cfg(test)]
 mod full_disks;
 #[cfg(test)]
@@ -22,7 +18,6 @@ mod generating;
 mod invocations;
 #[cfg(test)]
 mod large_files;
-#[cfg(test)]
 mod readers;
 #[cfg(test)]
 mod reading_text;

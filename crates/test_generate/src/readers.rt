@@ -2,7 +2,7 @@
 
 ghost use Rattle.std.specs.Prelude.{None, false, true};
 ghost use Rattle.devices.specs.Openers.{HasBack};
-ghost use Rattle.devices.specs.Readers.{view_of};
+ghost use Rattle.test_generate.specs.code.TextDevices.{view_of_failing, view_of_watched};
 
 use devices::{CountedRead, MemFiles, OpenFailed, TextOpener};
 use std::io;
@@ -75,7 +75,7 @@ impl<'a> TextOpener for FailingTexts<'a> {
 
     ghost named = { λ _ _. None };
 
-    ghost view = { λ texts. record { opens = texts.opens; failures = texts.failures } };
+    ghost view = { view_of_failing };
 
     fn open_text(&mut self, _path: &str) -> Result<CountedRead<FailingReader<'a>>, OpenFailed> {
         self.opens = self.opens.saturating_add(1);
@@ -84,7 +84,7 @@ impl<'a> TextOpener for FailingTexts<'a> {
     }
 
     fn close_text(&mut self, text: CountedRead<FailingReader<'a>>)
-        ensures { HasBack (⟦<FailingTexts<'static> as TextOpener>⟧.view self.old) (⟦<FailingTexts<'static> as TextOpener>⟧.view self.new) (view_of (⟦<FailingReader<'static> as Read>⟧.remaining) text.entry).failures }
+        ensures { HasBack (view_of_failing self.old) (view_of_failing self.new) text.entry.failures }
     {
         self.failures = self.failures.saturating_add(text.failures());
     }
@@ -121,7 +121,7 @@ impl<'a> TextOpener for WatchedTexts<'a> {
 
     ghost named = { λ watched path. ⟦<MemFiles<'static> as TextOpener>⟧.named watched.texts path };
 
-    ghost view = { λ watched. ⟦<MemFiles<'static> as TextOpener>⟧.view watched.texts };
+    ghost view = { view_of_watched };
 
     fn open_text(&mut self, path: &str) -> Result<CountedRead<&'a [u8]>, OpenFailed> {
         self.opens = self.opens.saturating_add(1);
@@ -129,7 +129,7 @@ impl<'a> TextOpener for WatchedTexts<'a> {
     }
 
     fn close_text(&mut self, text: CountedRead<&'a [u8]>)
-        ensures { HasBack (⟦<WatchedTexts<'static> as TextOpener>⟧.view self.old) (⟦<WatchedTexts<'static> as TextOpener>⟧.view self.new) (view_of (⟦<&'static [u8] as Read>⟧.remaining) text.entry).failures }
+        ensures { HasBack (view_of_watched self.old) (view_of_watched self.new) text.entry.failures }
     {
         self.closings = self.closings.saturating_add(1);
         self.texts.close_text(text);

@@ -124,7 +124,7 @@ const UBYTE: &[u8] = b"netcdf t {\nvariables: ubyte b ;\n}\n";
 
 const SUFFIX: &[u8] = b"netcdf t {\n:a = 256UB ;\n}\n";
 
-/// Two variables, of which the second begins past the offsets of CDF-1, and not past those of CDF-2.
+/// Two variables. The second begins past the offsets of CDF-1, and not past those of CDF-2.
 const FAR: &[u8] = b"netcdf t {\ndimensions: x = 2147483647 ;\nvariables: byte a(x), b(x) ;\n}\n";
 
 /// 116 bytes of header: after 2147483528 bytes of values the next ones begin at 2147483644, and after 4 more at 2^31.

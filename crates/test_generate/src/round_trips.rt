@@ -1,7 +1,7 @@
 //! Files that are dumped and generated again from their dumps: the same file, but for the NULs at the end of its attributes.
 
 use crate::generating::{dump_of, file_of, is_same};
-use crate::{dumped_files, files, wide_files};
+use crate::wide_files;
 use nc_base::Version;
 use std::alloc::Global;
 use std::process::Abort;
@@ -18,25 +18,25 @@ struct Returned {
 
 /// Files in CDF-1 that come back as they are, and what each is.
 const SAME: [(&str, &[u8]); 16] = [
-    ("one variable", files::ONE_VARIABLE),
-    ("no records", files::NO_RECORDS),
-    ("rank three", files::THREE_VARIABLES),
-    ("records off the boundary", files::RECORDS_OFF_BOUNDARY),
-    ("a line of 20 bytes", dumped_files::SHORT_LINE),
-    ("a line past 20 bytes", dumped_files::LONG_LINE),
-    ("held NULs", dumped_files::HELD_NULS),
-    ("many held NULs", dumped_files::MANY_HELD_NULS),
-    ("all NULs", files::ALL_NULS),
-    ("escaped characters", dumped_files::ESCAPED_CHARACTERS),
-    ("rows of NULs", dumped_files::ROWS_OF_NULS),
+    ("one variable", test_files::ONE_VARIABLE),
+    ("no records", test_files::NO_RECORDS),
+    ("rank three", test_files::THREE_VARIABLES),
+    ("records off the boundary", test_files::RECORDS_OFF_BOUNDARY),
+    ("a line of 20 bytes", test_files::SHORT_LINE),
+    ("a line past 20 bytes", test_files::LONG_LINE),
+    ("held NULs", test_files::HELD_NULS),
+    ("many held NULs", test_files::MANY_HELD_NULS),
+    ("all NULs", test_files::ALL_NULS),
+    ("escaped characters", test_files::ESCAPED_CHARACTERS),
+    ("rows of NULs", test_files::ROWS_OF_NULS),
     (
         "rows of NULs with a fill value",
-        dumped_files::ROWS_OF_NULS_AND_FILL,
+        test_files::ROWS_OF_NULS_AND_FILL,
     ),
-    ("escaped names", dumped_files::ESCAPED_NAMES),
-    ("a text attribute", dumped_files::TEXT_ATTRIBUTE),
-    ("a byte that is no fill value", dumped_files::LOW_BYTE),
-    ("a byte that is a fill value", dumped_files::FILL_OF_BYTES),
+    ("escaped names", test_files::ESCAPED_NAMES),
+    ("a text attribute", test_files::TEXT_ATTRIBUTE),
+    ("a byte that is no fill value", test_files::LOW_BYTE),
+    ("a byte that is a fill value", test_files::FILL_OF_BYTES),
 ];
 
 /// Other files.
@@ -62,8 +62,8 @@ const OTHERS: [Returned; 4] = [
     Returned {
         about: "NULs at the end of attributes",
         version: Version::Cdf1,
-        file: dumped_files::NULS_IN_ATTRIBUTES,
-        trimmed: dumped_files::NULS_TRIMMED,
+        file: test_files::NULS_IN_ATTRIBUTES,
+        trimmed: test_files::NULS_TRIMMED,
     },
 ];
 

@@ -1,6 +1,6 @@
 //! Texts, each with the file that it gives, and with the dump of that file.
 
-use crate::{files, wide_files};
+use crate::wide_files;
 use nc_base::Version;
 
 /// A text, its file in this version, and the dump of that file.
@@ -16,7 +16,7 @@ pub struct Row<'a> {
 pub const NOTHING: Row<'static> = Row {
     version: Version::Cdf1,
     cdl: b"netcdf t { }",
-    file: files::SMALLEST,
+    file: test_files::SMALLEST,
     dump: b"netcdf t {\n}\n",
 };
 
@@ -34,7 +34,7 @@ pub const NOTHING_CDF5: Row<'static> = Row {
     ..NOTHING
 };
 
-/// One variable, of which the text says one value by `_`.
+/// One variable, with one value written as `_` in the text.
 pub const ONE_VARIABLE: Row<'static> = Row {
     version: Version::Cdf1,
     cdl: b"netcdf t {\n\
@@ -45,7 +45,7 @@ pub const ONE_VARIABLE: Row<'static> = Row {
         data:\n\
         \x20s = 1, _, 3 ;\n\
         }\n",
-    file: files::ONE_VARIABLE,
+    file: test_files::ONE_VARIABLE,
     dump: b"netcdf t {\ndimensions:\n\tx = 3 ;\nvariables:\n\tshort s(x) ;\ndata:\n\n s = 1, _, 3 ;\n}\n",
 };
 
@@ -67,7 +67,7 @@ pub const ONE_VARIABLE_CDF5: Row<'static> = Row {
 pub const NO_RECORDS: Row<'static> = Row {
     version: Version::Cdf1,
     cdl: b"netcdf t { dimensions: t = UNLIMITED ; variables: int v(t) ; }",
-    file: files::NO_RECORDS,
+    file: test_files::NO_RECORDS,
     dump: b"netcdf t {\ndimensions:\n\tt = UNLIMITED ; // (0 currently)\nvariables:\n\tint v(t) ;\ndata:\n}\n",
 };
 
@@ -79,7 +79,7 @@ pub const RANK_THREE: Row<'static> = Row {
         variables: int a(t) ; int b(t, y, x) ; int c ;\n\
         data: a = 10, 20 ; b = 1, 2, 3, 4, 5, 6, 7, 8 ; c = 7 ;\n\
         }\n",
-    file: files::THREE_VARIABLES,
+    file: test_files::THREE_VARIABLES,
     dump: b"netcdf t {\n\
         dimensions:\n\
         \tt = UNLIMITED ; // (2 currently)\n\
@@ -100,7 +100,7 @@ pub const RANK_THREE: Row<'static> = Row {
 pub const UNPADDED_RECORDS: Row<'static> = Row {
     version: Version::Cdf1,
     cdl: b"netcdf t { dimensions: t = UNLIMITED ; variables: byte b(t) ; data: b = 1, 2, 3 ; }",
-    file: files::RECORD_BYTES,
+    file: test_files::RECORD_BYTES,
     dump: b"netcdf t {\n\
         dimensions:\n\
         \tt = UNLIMITED ; // (3 currently)\n\
@@ -119,7 +119,7 @@ pub const PADDED_RECORDS: Row<'static> = Row {
         variables: byte b(t) ; short s(t) ;\n\
         data: b = 1, 2, 3 ; s = 4, 5, 6 ;\n\
         }\n",
-    file: files::PADDED_RECORDS,
+    file: test_files::PADDED_RECORDS,
     dump: b"netcdf t {\n\
         dimensions:\n\
         \tt = UNLIMITED ; // (3 currently)\n\
@@ -140,7 +140,7 @@ pub const RECORDS_OFF_BOUNDARY: Row<'static> = Row {
         variables: short s(t, y) ;\n\
         data: s = 1, 2, 3, 4, 5, 6, 7, 8, 9 ;\n\
         }\n",
-    file: files::RECORDS_OFF_BOUNDARY,
+    file: test_files::RECORDS_OFF_BOUNDARY,
     dump: b"netcdf t {\n\
         dimensions:\n\
         \tt = UNLIMITED ; // (3 currently)\n\
@@ -160,7 +160,7 @@ pub const LONGER_RECORDS: Row<'static> = Row {
         variables: short a(t, x) ; byte b(t) ;\n\
         data: a = 1, 2, 3 ; b = 9 ;\n\
         }\n",
-    file: files::LONGER_RECORDS,
+    file: test_files::LONGER_RECORDS,
     dump: b"netcdf t {\n\
         dimensions:\n\
         \tt = UNLIMITED ; // (2 currently)\n\
@@ -174,11 +174,11 @@ pub const LONGER_RECORDS: Row<'static> = Row {
         }\n",
 };
 
-/// Two rows of one character, of which the text has one.
+/// Two rows of one character. The text lists only the first.
 pub const SECOND_ROW_LACKING: Row<'static> = Row {
     version: Version::Cdf1,
     cdl: b"netcdf t { dimensions: x = 2, y = 1 ; variables: char c(x, y) ; data: c = \"a\" ; }",
-    file: files::SECOND_ROW_LACKING,
+    file: test_files::SECOND_ROW_LACKING,
     dump: b"netcdf t {\n\
         dimensions:\n\
         \tx = 2 ;\n\
@@ -194,7 +194,7 @@ pub const SECOND_ROW_LACKING: Row<'static> = Row {
 pub const ALL_NULS: Row<'static> = Row {
     version: Version::Cdf1,
     cdl: b"netcdf t { dimensions: t = UNLIMITED ; variables: char c(t) ; data: c = \"\\000\\000\" ; }",
-    file: files::ALL_NULS,
+    file: test_files::ALL_NULS,
     dump: b"netcdf t {\n\
         dimensions:\n\
         \tt = UNLIMITED ; // (2 currently)\n\
@@ -213,7 +213,7 @@ pub const FILLED_ROWS: Row<'static> = Row {
         variables: char c(y, x) ; c:_FillValue = \"-\" ;\n\
         data: c = \"ab\", \"c\" ;\n\
         }\n",
-    file: files::FILLED_ROWS,
+    file: test_files::FILLED_ROWS,
     dump: b"netcdf t {\n\
         dimensions:\n\
         \ty = 3 ;\n\
@@ -234,7 +234,7 @@ pub const FILLED_SHORTS: Row<'static> = Row {
         variables: short s(x) ; s:_FillValue = 9s ;\n\
         data: s = 1, _ ;\n\
         }\n",
-    file: files::FILLED_SHORTS,
+    file: test_files::FILLED_SHORTS,
     dump: b"netcdf t {\n\
         dimensions:\n\
         \tx = 3 ;\n\
@@ -255,7 +255,7 @@ pub const NAMES_AND_STRINGS: Row<'static> = Row {
         variables: int \\data ; \\data:range = 1s, -1s ; char c(t, x) ; c:_FillValue = \"-\" ;\n\
         data: c = \"ab\", \"\" ; \\data = 5 ;\n\
         }\n",
-    file: files::NAMES_AND_STRINGS,
+    file: test_files::NAMES_AND_STRINGS,
     dump: b"netcdf t {\n\
         dimensions:\n\
         \tt = UNLIMITED ; // (2 currently)\n\

@@ -1,4 +1,4 @@
-//! Whole runs: what is written where, and what is told.
+//! Whole runs: what is written to which path, and which line is printed.
 
 use crate::full_disks::{FullDisk, leaves};
 use crate::invocations::{Invocation, Outcome, ends, refuses, status_of};
@@ -10,7 +10,7 @@ use std::io::Read;
 use std::process::Abort;
 use std::test::Fail;
 
-/// Texts, one of which has a fault.
+/// Two texts. The second one has a fault.
 const TEXTS: &[MemFile<'static>] = &[
     MemFile {
         path: "t.cdl",

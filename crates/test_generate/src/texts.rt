@@ -1,13 +1,13 @@
 //! A text, and the files that it gives.
 
-use crate::{files, wide_files};
+use crate::wide_files;
 
-/// A text of one variable of three values, of which one is left to be filled.
+/// A text of one variable of three values. One of them is left to be filled.
 pub const TEXT: &[u8] =
     b"netcdf t {\ndimensions:\n x = 3 ;\nvariables:\n short s(x) ;\ndata:\n s = 1, _, 3 ;\n}\n";
 
 /// Its file as CDF-1.
-pub const FIRST_FILE: &[u8] = files::ONE_VARIABLE;
+pub const FIRST_FILE: &[u8] = test_files::ONE_VARIABLE;
 
 /// Its file as CDF-2.
 pub const SECOND_FILE: &[u8] = wide_files::ONE_VARIABLE_CDF2;

@@ -84,7 +84,7 @@ struct Failing {
 impl Sink for Failing {
     ghost view = { λ s. record { taken = None; failures = s.failures } };
 
-    #[tactic(auto, unfolding(devices::specs::Sinks::is_transparent, devices::specs::Sinks::HasFailed))]
+    #[tactic(auto, unfolding(devices::specs::Sinks::is_transparent, devices::specs::Failures::HasFailed))]
     fn write_some(&mut self, bytes: &[u8]) -> Result<usize, SinkFailed> {
         if bytes.is_empty() {
             return Ok(0);
@@ -197,7 +197,7 @@ fn failed_writes_are_counted_and_not_tried_again(rt: HostRuntime) {
     expect_put(&rt, &mut sink, b"", Ok(()));
 }
 
-/// Three files, of which two have the same path.
+/// Three files. Two of them have the same path.
 const FILES: [MemFile<'static>; 3] = [
     MemFile {
         path: "a.nc",

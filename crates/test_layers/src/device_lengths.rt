@@ -1,4 +1,4 @@
-//! Devices at every length: reads, writes, paths and outputs, none of which fails.
+//! Devices at every length: reads, writes, paths and outputs, without a failure.
 
 use crate::device_rows::{distinct_bytes, expect_write, source_of};
 use devices::{

@@ -73,7 +73,7 @@ pub fn source_of(
     Ok(source)
 }
 
-/// This number of bytes, none of them 0, of which no two that are a power of two apart are the same.
+/// This number of bytes other than 0. Two bytes that are a power of two apart are never the same.
 pub fn distinct_bytes(alloc: Global, len: usize) -> Result<Vec<u8>, AllocError> {
     let mut bytes = Vec::new(alloc);
     for i in 0..len {

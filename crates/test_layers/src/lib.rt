@@ -1,5 +1,5 @@
-//! Tests of the crates under the programs, each by itself: types and sizes, devices, the text of heads and values, and the
-//! statements of CDL text.
+//! Tests of the crates under the programs, each by itself: types and sizes, devices, headers that are
+//! written, and the text of heads and values.
 #![tactic(auto)]
 
 #[cfg(test)]
@@ -17,19 +17,9 @@ mod lines;
 #[cfg(test)]
 mod listed_rows;
 #[cfg(test)]
-mod name_indices;
-#[cfg(test)]
 mod sizes;
 #[cfg(test)]
 mod small_steps;
-#[cfg(test)]
-mod text_attributes;
-#[cfg(test)]
-mod text_data;
-#[cfg(test)]
-mod text_statements;
-#[cfg(test)]
-mod text_values;
 #[cfg(test)]
 mod types_and_names;
 #[cfg(test)]

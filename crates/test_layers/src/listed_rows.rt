@@ -1,11 +1,11 @@
-//! Listed arrays, of which rows lack bytes at their end.
+//! Listed arrays whose rows lack bytes at their end.
 
 use nc_base::{ListedArray, Run};
 use std::alloc::{AllocError, Global};
 use std::process::Abort;
 use std::test::*;
 
-/// What is listed of a row, and how many of which fill byte it lacks.
+/// The listed bytes of a row, the number of bytes that it lacks, and its fill byte.
 type Row = (&'static [u8], u64, u8);
 
 /// These rows, and bytes after them.

@@ -22,7 +22,7 @@ fn header<'a>(
     header_of(alloc, &row)
 }
 
-/// Dimensions of which the first is the record dimension.
+/// Dimensions. The first is the record dimension.
 const SHORT_DIMS: &[NamedLength<'static>] = &[(b"", 0), (b"", 3), (b"", 2)];
 
 /// Dimensions near the limit of slabs and after it, and the record dimension.

@@ -8,8 +8,8 @@ use std::alloc::{AllocError, Global};
 use std::process::Abort;
 use std::test::*;
 
-/// A variable, its values and the text that they are to have. Its dimensions have these lengths, of which 0 is that of the
-/// record dimension.
+/// A variable, its values and the text that they are to have. Its dimensions have these lengths; 0 stands for the record
+/// dimension.
 #[derive(Clone, Copy)]
 pub struct Row<'a> {
     pub name: &'a [u8],

@@ -301,12 +301,12 @@ const ZEROS: &[u8] = &[b'0'; 400];
 /// Digits 9.
 const NINES: &[u8] = &[b'9'; 400];
 
-/// So many digits 0, up to 400.
+/// `count` digits 0, up to 400.
 pub fn zeros(count: usize) -> &'static [u8] {
     ZEROS.get(..count).unwrap_or(ZEROS)
 }
 
-/// So many digits 9, up to 400.
+/// `count` digits 9, up to 400.
 pub fn nines(count: usize) -> &'static [u8] {
     NINES.get(..count).unwrap_or(NINES)
 }

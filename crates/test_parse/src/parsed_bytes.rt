@@ -24,7 +24,7 @@ fn answers(
     Ok(())
 }
 
-/// The fault of a byte between the braces of a text; none for a blank.
+/// The fault of a byte between the braces of a text; none for white space.
 fn fault_within(byte: u8) -> Option<CdlKind> {
     match byte {
         b'\t'..=b'\r' | b' ' => None,
@@ -44,7 +44,7 @@ fn fault_alone(byte: u8) -> CdlKind {
     }
 }
 
-/// The fault of a byte between line feeds between the braces of a text; none for a blank.
+/// The fault of a byte on a line of its own between the braces of a text; none for white space.
 fn fault_on_a_line(byte: u8) -> Option<CdlKind> {
     match byte {
         b'\\' => Some(CdlKind::BadToken),
@@ -62,7 +62,7 @@ fn line_of_fault(byte: u8) -> u64 {
     }
 }
 
-/// The fault of a byte between the first word and the braces of a text; none for a blank.
+/// The fault of a byte between the first word and the braces of a text; none for white space.
 fn fault_before_braces(byte: u8) -> Option<CdlKind> {
     match byte {
         b'\t'..=b'\r' | b' ' => None,

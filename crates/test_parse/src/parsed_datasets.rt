@@ -99,7 +99,7 @@ const NO_RECORDS: Wanted<'static> = Wanted {
 const TEXT_OF_NO_RECORDS: &[u8] =
     b"netcdf t { dimensions: t = UNLIMITED ; variables: int v(t) ; char c(t) ; data: c = \"\" ; }";
 
-/// Variables with fill values of their own, of which one fits.
+/// Variables with fill values of their own. Only one fits its variable.
 const FILLED: Wanted<'static> = Wanted {
     dims: &[(b"x", 2)],
     vars: &[

@@ -98,7 +98,7 @@ fn arrays_at_their_limit(rt: HostRuntime) {
     assert!(rt; parsed(rt.alloc(), Version::Cdf1, NO_RECORDS).is_ok());
 }
 
-/// This many record variables, each of 2^48 bytes a record, of which no two have the same name.
+/// This many record variables with different names, each of 2^48 bytes a record.
 fn large_records(alloc: Global, count: u16) -> Result<Vec<u8>, AllocError> {
     const BEFORE: &[u8] = b"netcdf t { dimensions: t = UNLIMITED, x = 16777216 ; variables:";
     let mut text = Vec::from_slice(alloc, BEFORE)?;

@@ -1,5 +1,5 @@
-//! Lists of numbers and of rows: of each length up to one past a variable's, with blanks, signs, escapes and other values among them,
-//! and with a fault.
+//! Lists of numbers and of rows: of each length up to one past a variable's, with white space, signs, escapes and other values
+//! among them, and with a fault.
 
 use crate::number_ranges::{Number, RANGES, ends_of};
 use crate::parsing::{Group, VERSIONS, joined, parsed, refuse_groups, refuses, refuses_in_all};
@@ -177,7 +177,7 @@ fn faults_in_lists(rt: HostRuntime) -> Result<(), Fail> {
     refuse_groups(&rt, rt.alloc(), &[FAULTS])
 }
 
-/// A text with three rows of these letters, after the second of which these escapes stand.
+/// A text with three rows of these letters. These escapes follow the second row.
 fn with_escapes(alloc: Global, letters: &[u8], escapes: &[u8]) -> Result<Vec<u8>, AllocError> {
     let parts: [&[u8]; 8] = [
         b"netcdf t {\ndimensions: r = 3, x = 202 ;\nvariables: char c(r, x) ;\ndata: c = \"",

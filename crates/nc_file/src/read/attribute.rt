@@ -1,8 +1,8 @@
 //! Attributes.
 
 ghost use Rattle.std.specs.Prelude.{[]};
-ghost use Rattle.nc_file.specs.Reading.{att_at, atts_at, att_list_at};
-ghost use Rattle.nc_file.specs.Window.{Opened, Read};
+ghost use Rattle.nc_file.specs.code.Reading.{att_at, att_after, att_list_at, each_at};
+ghost use Rattle.nc_file.specs.code.Window.{Read};
 
 use crate::head_fault::HeadFault;
 use crate::tag::NC_ATTRIBUTE;
@@ -13,10 +13,9 @@ use std::alloc::Global;
 
 impl<S: Source> Window<'_, S> {
     /// An attribute.
-    #[tactic(auto, using(crate::proofs::Parts::parts), unfolding(crate::specs::Reading::att_at))]
+    #[tactic(auto, using(crate::proofs::Parts::parts), unfolding(crate::specs::code::Reading::att_at))]
     fn att(&mut self, alloc: Global, version: Version) -> Result<Att, HeadFault>
-        requires { Opened S.is_transparent S.view self.old }
-        ensures { Read S.is_transparent S.view self.old self.new (att_at version) result }
+        ensures { Read self.old self.new (att_at version) result }
     {
         let name = self.name(alloc, version)?;
         let ty = self.nc_type(version)?;
@@ -26,10 +25,9 @@ impl<S: Source> Window<'_, S> {
     }
 
     /// This number of attributes.
-    #[tactic(auto, using(crate::proofs::Loops::atts))]
+    #[tactic(auto, using(crate::proofs::Loops::each))]
     fn atts(&mut self, alloc: Global, version: Version, n: u64) -> Result<Sequence<Att>, HeadFault>
-        requires { Opened S.is_transparent S.view self.old }
-        ensures { Read S.is_transparent S.view self.old self.new (atts_at version n []) result }
+        ensures { Read self.old self.new (each_at (att_after version) n []) result }
     {
         let mut atts = Sequence::new(alloc);
         for _ in 0..n {
@@ -40,14 +38,13 @@ impl<S: Source> Window<'_, S> {
     }
 
     /// A list of attributes: its tag, their number and the attributes.
-    #[tactic(auto, using(crate::proofs::Parts::parts), unfolding(crate::specs::Reading::att_list_at))]
+    #[tactic(auto, using(crate::proofs::Parts::parts), unfolding(crate::specs::code::Reading::list_at))]
     pub(crate) fn att_list(
         &mut self,
         alloc: Global,
         version: Version,
     ) -> Result<Sequence<Att>, HeadFault>
-        requires { Opened S.is_transparent S.view self.old }
-        ensures { Read S.is_transparent S.view self.old self.new (att_list_at version) result }
+        ensures { Read self.old self.new (att_list_at version) result }
     {
         let n = self.list_len(version, NC_ATTRIBUTE)?;
         self.atts(alloc, version, n)

@@ -1,8 +1,8 @@
 //! Dimensions.
 
-ghost use Rattle.std.specs.Prelude.{[], false};
-ghost use Rattle.nc_file.specs.Reading.{dim_at, dims_at, dim_list_at};
-ghost use Rattle.nc_file.specs.Window.{Opened, Read};
+ghost use Rattle.std.specs.Prelude.{[]};
+ghost use Rattle.nc_file.specs.code.Reading.{dim_at, dim_after, dim_list_at, each_at};
+ghost use Rattle.nc_file.specs.code.Window.{Read};
 
 use crate::head_fault::HeadFault;
 use crate::tag::NC_DIMENSION;
@@ -13,10 +13,9 @@ use std::alloc::Global;
 
 impl<S: Source> Window<'_, S> {
     /// A dimension. Only one may have length 0, and `has_record` is true if one had.
-    #[tactic(auto, using(crate::proofs::Parts::parts), unfolding(crate::specs::Reading::dim_at))]
+    #[tactic(auto, using(crate::proofs::Parts::parts), unfolding(crate::specs::code::Reading::dim_at))]
     fn dim(&mut self, alloc: Global, version: Version, has_record: bool) -> Result<Dim, HeadFault>
-        requires { Opened S.is_transparent S.view self.old }
-        ensures { Read S.is_transparent S.view self.old self.new (dim_at version has_record) result }
+        ensures { Read self.old self.new (dim_at version has_record) result }
     {
         let name = self.name(alloc, version)?;
         let len = self.count(version)?;
@@ -27,10 +26,9 @@ impl<S: Source> Window<'_, S> {
     }
 
     /// This number of dimensions.
-    #[tactic(auto, using(crate::proofs::Loops::dims))]
+    #[tactic(auto, using(crate::proofs::Loops::each))]
     fn dims(&mut self, alloc: Global, version: Version, n: u64) -> Result<Sequence<Dim>, HeadFault>
-        requires { Opened S.is_transparent S.view self.old }
-        ensures { Read S.is_transparent S.view self.old self.new (dims_at version n false []) result }
+        ensures { Read self.old self.new (each_at (dim_after version) n []) result }
     {
         let mut dims = Sequence::new(alloc);
         let mut has_record = false;
@@ -43,14 +41,13 @@ impl<S: Source> Window<'_, S> {
     }
 
     /// The list of dimensions: its tag, their number and the dimensions.
-    #[tactic(auto, using(crate::proofs::Parts::parts), unfolding(crate::specs::Reading::dim_list_at))]
+    #[tactic(auto, using(crate::proofs::Parts::parts), unfolding(crate::specs::code::Reading::list_at))]
     pub(crate) fn dim_list(
         &mut self,
         alloc: Global,
         version: Version,
     ) -> Result<Sequence<Dim>, HeadFault>
-        requires { Opened S.is_transparent S.view self.old }
-        ensures { Read S.is_transparent S.view self.old self.new (dim_list_at version) result }
+        ensures { Read self.old self.new (dim_list_at version) result }
     {
         let n = self.list_len(version, NC_DIMENSION)?;
         self.dims(alloc, version, n)

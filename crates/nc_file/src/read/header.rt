@@ -1,7 +1,12 @@
 //! The whole header.
 
-ghost use Rattle.nc_file.specs.Reading.{first_at, version_at, magic_at, numrecs_at, header_at};
-ghost use Rattle.nc_file.specs.Window.{Opened, Read};
+ghost use Rattle.std.specs.Prelude.{◌≡◌, ◌≤◌, length, IfOk};
+ghost use Rattle.nc_base.specs.GeneratedFile.{header_spelling};
+ghost use Rattle.nc_base.specs.Headers.{IsSound};
+ghost use Rattle.nc_base.specs.code.Weight.{weight_of};
+ghost use Rattle.nc_file.specs.code.Answers.{AnswersIn};
+ghost use Rattle.nc_file.specs.code.Reading.{Caused, first_at, version_at, magic_at, numrecs_at, header_at};
+ghost use Rattle.nc_file.specs.code.Window.{Read};
 
 use crate::head_fault::HeadFault;
 use crate::window::Window;
@@ -9,12 +14,66 @@ use devices::Source;
 use nc_base::{FormatFault, Header, NumRecs, Version};
 use std::alloc::Global;
 
+/// Reads the header at the start of a source, through a caller's buffer of at least 16 bytes. Whatever source it comes from,
+/// the header is sound, and it weighs no more than its bytes (`nc_base::weight`, [`header_len`](crate::header_len)).
+///
+/// It reads from the source only when it lacks a byte of the next field, and from that byte on; so of a transparent
+/// source it reads the header's bytes, or those up to the end of the first wrong field, and at most one buffer more. No
+/// count of the header reserves memory: a list grows as its elements are read. The padding of names and attributes may be
+/// any bytes (NetCDF Classic Format Specification).
+///
+/// # Errors
+///
+/// [`HeadFault::ReadFailed`] at once if the source fails, [`HeadFault::OutOfMemory`] at once if an allocation fails, and
+/// else what is wrong with the first wrong field from the left. An end of the source before its length is the file's end.
+#[tactic(auto, using(crate::proofs::Weights::weighs_no_more))]
+pub fn read_header<S: Source>(
+    alloc: Global,
+    source: &mut S,
+    buf: &mut [u8],
+) -> Result<Header, HeadFault>
+    requires { 16 ≤ length buf.old }
+    ensures bytes { (S.view source.new).bytes ≡ (S.view source.old).bytes }
+    ensures cause { Caused (S.view source.old).failures (S.view source.new) result }
+    ensures answer { AnswersIn S.is_transparent (S.view source.old) (S.view source.new) buf.old result }
+    ensures sound { IfOk result IsSound }
+    ensures weight { IfOk result (λ h. weight_of h ≤ length (header_spelling h)) }
+{
+    match header_at_start(alloc, source, buf) {
+        Ok(header) if !header.sound() => Err(HeadFault::Format(FormatFault::TooLarge)),
+        answer => answer,
+    }
+}
+
+/// Reads the header at the start of the source. It is sound if the source is transparent; of the bytes of another source
+/// nothing is known.
+fn header_at_start<S: Source>(
+    alloc: Global,
+    source: &mut S,
+    buf: &mut [u8],
+) -> Result<Header, HeadFault>
+    requires { 16 ≤ length buf.old }
+    ensures bytes { (S.view source.new).bytes ≡ (S.view source.old).bytes }
+    ensures cause { Caused (S.view source.old).failures (S.view source.new) result }
+    ensures answer { AnswersIn S.is_transparent (S.view source.old) (S.view source.new) buf.old result }
+{
+    let len = source.len();
+    let mut window = Window {
+        source,
+        len,
+        buf,
+        base: 0,
+        filled: 0,
+        pos: 0,
+    };
+    window.header(alloc)
+}
+
 impl<S: Source> Window<'_, S> {
     /// A byte of `CDF`.
-    #[tactic(auto, using(crate::proofs::Parts::byte_shorter), unfolding(crate::specs::Reading::byte_or, crate::specs::Reading::left_over))]
+    #[tactic(auto, using(crate::proofs::Parts::byte_shorter), unfolding(crate::specs::code::Reading::byte_or, crate::specs::code::Reading::left_over))]
     fn first(&mut self) -> Result<u8, HeadFault>
-        requires { Opened S.is_transparent S.view self.old }
-        ensures { Read S.is_transparent S.view self.old self.new first_at result }
+        ensures { Read self.old self.new first_at result }
     {
         match self.byte() {
             Err(HeadFault::Format(_)) => Err(HeadFault::Format(FormatFault::NotNetcdf)),
@@ -23,20 +82,18 @@ impl<S: Source> Window<'_, S> {
     }
 
     /// The version byte.
-    #[tactic(auto, using(crate::proofs::Parts::parts), unfolding(crate::specs::Reading::version_at))]
+    #[tactic(auto, using(crate::proofs::Parts::parts), unfolding(crate::specs::code::Reading::version_at))]
     fn version(&mut self) -> Result<Version, HeadFault>
-        requires { Opened S.is_transparent S.view self.old }
-        ensures { Read S.is_transparent S.view self.old self.new version_at result }
+        ensures { Read self.old self.new version_at result }
     {
         let b = self.byte()?;
         Ok(Version::of_byte(b).ok_or(FormatFault::UnknownVersion(b))?)
     }
 
     /// `CDF` and the version byte.
-    #[tactic(auto, using(crate::proofs::Parts::parts), unfolding(crate::specs::Reading::magic_at))]
+    #[tactic(auto, using(crate::proofs::Parts::parts), unfolding(crate::specs::code::Reading::magic_at))]
     fn magic(&mut self) -> Result<Version, HeadFault>
-        requires { Opened S.is_transparent S.view self.old }
-        ensures { Read S.is_transparent S.view self.old self.new magic_at result }
+        ensures { Read self.old self.new magic_at result }
     {
         let a = self.first()?;
         let b = self.first()?;
@@ -49,10 +106,9 @@ impl<S: Source> Window<'_, S> {
     }
 
     /// The number of records, or the mark for an unknown one.
-    #[tactic(auto, using(crate::proofs::Parts::parts), unfolding(crate::specs::Reading::numrecs_at))]
+    #[tactic(auto, using(crate::proofs::Parts::parts), unfolding(crate::specs::code::Reading::numrecs_at))]
     fn numrecs(&mut self, version: Version) -> Result<NumRecs, HeadFault>
-        requires { Opened S.is_transparent S.view self.old }
-        ensures { Read S.is_transparent S.view self.old self.new (numrecs_at version) result }
+        ensures { Read self.old self.new (numrecs_at version) result }
     {
         let n = self.number(version)?;
         if n == version.streaming_mark() {
@@ -65,10 +121,9 @@ impl<S: Source> Window<'_, S> {
     }
 
     /// The whole header.
-    #[tactic(auto, using(crate::proofs::Parts::parts), unfolding(crate::specs::Reading::header_at))]
-    pub(crate) fn header(&mut self, alloc: Global) -> Result<Header, HeadFault>
-        requires { Opened S.is_transparent S.view self.old }
-        ensures { Read S.is_transparent S.view self.old self.new header_at result }
+    #[tactic(auto, using(crate::proofs::Parts::parts), unfolding(crate::specs::code::Reading::header_at))]
+    fn header(&mut self, alloc: Global) -> Result<Header, HeadFault>
+        ensures { Read self.old self.new header_at result }
     {
         let version = self.magic()?;
         let numrecs = self.numrecs(version)?;

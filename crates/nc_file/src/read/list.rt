@@ -1,8 +1,8 @@
 //! The parts that several lists share: a name, a type, and the number of elements.
 
 ghost use Rattle.std.specs.Prelude.{◌≡◌};
-ghost use Rattle.nc_file.specs.Reading.{type_in, name_at, type_at, list_len_at};
-ghost use Rattle.nc_file.specs.Window.{Opened, Read};
+ghost use Rattle.nc_file.specs.code.Reading.{type_in, name_at, type_at, list_len_at};
+ghost use Rattle.nc_file.specs.code.Window.{Read};
 
 use crate::head_fault::HeadFault;
 use crate::tag::{NC_DOUBLE, NC_FLOAT};
@@ -13,14 +13,13 @@ use std::alloc::Global;
 
 impl<S: Source> Window<'_, S> {
     /// A name: its length, its bytes and their padding.
-    #[tactic(auto, using(crate::proofs::Parts::parts), unfolding(crate::specs::Reading::name_at))]
+    #[tactic(auto, using(crate::proofs::Parts::parts), unfolding(crate::specs::code::Reading::name_at))]
     pub(crate) fn name(
         &mut self,
         alloc: Global,
         version: Version,
     ) -> Result<Sequence<u8>, HeadFault>
-        requires { Opened S.is_transparent S.view self.old }
-        ensures { Read S.is_transparent S.view self.old self.new (name_at version) result }
+        ensures { Read self.old self.new (name_at version) result }
     {
         let n = self.count(version)?;
         let name = self.bytes(alloc, n as u128)?;
@@ -32,10 +31,9 @@ impl<S: Source> Window<'_, S> {
     }
 
     /// A type.
-    #[tactic(auto, using(crate::proofs::Parts::parts), unfolding(crate::specs::Reading::type_at))]
+    #[tactic(auto, using(crate::proofs::Parts::parts), unfolding(crate::specs::code::Reading::type_at))]
     pub(crate) fn nc_type(&mut self, version: Version) -> Result<NcType, HeadFault>
-        requires { Opened S.is_transparent S.view self.old }
-        ensures { Read S.is_transparent S.view self.old self.new (type_at version) result }
+        ensures { Read self.old self.new (type_at version) result }
     {
         let code = self.read_u32()?;
         if code == NC_FLOAT || code == NC_DOUBLE {
@@ -45,10 +43,9 @@ impl<S: Source> Window<'_, S> {
     }
 
     /// The number of elements of a list, after its tag.
-    #[tactic(auto, using(crate::proofs::Parts::parts), unfolding(crate::specs::Reading::list_len_at))]
+    #[tactic(auto, using(crate::proofs::Parts::parts), unfolding(crate::specs::code::Reading::list_len_at))]
     pub(crate) fn list_len(&mut self, version: Version, tag: u32) -> Result<u64, HeadFault>
-        requires { Opened S.is_transparent S.view self.old }
-        ensures { Read S.is_transparent S.view self.old self.new (list_len_at version tag) result }
+        ensures { Read self.old self.new (list_len_at version tag) result }
     {
         let found = self.read_u32()?;
         if found != 0 && found != tag {
@@ -63,7 +60,7 @@ impl<S: Source> Window<'_, S> {
 }
 
 /// The version's type with this code.
-#[tactic(auto, unfolding(crate::specs::Reading::type_in))]
+#[tactic(auto, unfolding(crate::specs::code::Reading::type_in))]
 fn type_of(version: Version, code: u32) -> Option<NcType>
     ensures { result ≡ type_in version code }
 {

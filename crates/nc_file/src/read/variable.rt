@@ -1,10 +1,11 @@
 //! Variables.
 
-ghost use Rattle.std.specs.Prelude.{◌≡◌, ◌+◌, ◌≤◌, [], true, if◌then◌else◌};
+ghost use Rattle.std.specs.Prelude.{IfOk, ◌≡◌, ◌+◌, ◌≤◌, [], true, if◌then◌else◌};
 ghost use Rattle.nc_base.specs.Bytes.{padding_len};
 ghost use Rattle.nc_base.specs.Sizes.{has_records, slab_limit};
-ghost use Rattle.nc_file.specs.Reading.{is_dimid, dimid_at, dimids_of, shape_at, wide_at, offset_at, total_with, var_at, vars_at, var_list_at};
-ghost use Rattle.nc_file.specs.Window.{Opened, Read};
+ghost use Rattle.nc_base.specs.Versions.{offset_width};
+ghost use Rattle.nc_file.specs.code.Reading.{is_dimid, dimid_at, dimid_after, each_at, number_at, shape_at, offset_at, total_with, var_at, var_after, var_list_at, IsCounted};
+ghost use Rattle.nc_file.specs.code.Window.{Read};
 
 use crate::head_fault::HeadFault;
 use crate::sized_var::SizedVar;
@@ -19,10 +20,9 @@ use std::alloc::Global;
 
 impl<S: Source> Window<'_, S> {
     /// A dimension id. That of the record dimension stands in the first place of a shape alone.
-    #[tactic(auto, using(crate::proofs::Parts::parts), unfolding(crate::specs::Reading::dimid_at))]
+    #[tactic(auto, using(crate::proofs::Parts::parts), unfolding(crate::specs::code::Reading::dimid_at))]
     fn dimid(&mut self, version: Version, dims: &[Dim], first: bool) -> Result<u64, HeadFault>
-        requires { Opened S.is_transparent S.view self.old }
-        ensures { Read S.is_transparent S.view self.old self.new (dimid_at version dims.now first) result }
+        ensures { Read self.old self.new (dimid_at version dims.now first) result }
     {
         let id = self.number(version)?;
         if !is_dimid(dims, first, id) {
@@ -32,7 +32,7 @@ impl<S: Source> Window<'_, S> {
     }
 
     /// This number of dimension ids.
-    #[tactic(auto, using(crate::proofs::Loops::dimids))]
+    #[tactic(auto, using(crate::proofs::Loops::each))]
     fn dimids(
         &mut self,
         alloc: Global,
@@ -40,8 +40,7 @@ impl<S: Source> Window<'_, S> {
         dims: &[Dim],
         n: u64,
     ) -> Result<Sequence<u64>, HeadFault>
-        requires { Opened S.is_transparent S.view self.old }
-        ensures { Read S.is_transparent S.view self.old self.new (dimids_of version dims.now n) result }
+        ensures { Read self.old self.new (each_at (dimid_after version dims.now) n []) result }
     {
         let mut dimids = Sequence::new(alloc);
         let mut first = true;
@@ -53,15 +52,14 @@ impl<S: Source> Window<'_, S> {
     }
 
     /// The shape of a variable: its rank and its dimension ids.
-    #[tactic(auto, using(crate::proofs::Parts::parts), unfolding(crate::specs::Reading::shape_at))]
+    #[tactic(auto, using(crate::proofs::Parts::parts), unfolding(crate::specs::code::Reading::shape_at))]
     fn shape(
         &mut self,
         alloc: Global,
         version: Version,
         dims: &[Dim],
     ) -> Result<Sequence<u64>, HeadFault>
-        requires { Opened S.is_transparent S.view self.old }
-        ensures { Read S.is_transparent S.view self.old self.new (shape_at version dims.now) result }
+        ensures { Read self.old self.new (shape_at version dims.now) result }
     {
         let n = self.count(version)?;
         self.dimids(alloc, version, dims, n)
@@ -69,8 +67,7 @@ impl<S: Source> Window<'_, S> {
 
     /// A number of the width that offsets have in the version.
     fn wide(&mut self, version: Version) -> Result<u64, HeadFault>
-        requires { Opened S.is_transparent S.view self.old }
-        ensures { Read S.is_transparent S.view self.old self.new (wide_at version) result }
+        ensures { Read self.old self.new (number_at (offset_width version)) result }
     {
         match version {
             Version::Cdf1 => self.narrow_number(),
@@ -79,10 +76,9 @@ impl<S: Source> Window<'_, S> {
     }
 
     /// The offset of a variable.
-    #[tactic(auto, using(crate::proofs::Parts::parts), unfolding(crate::specs::Reading::offset_at))]
+    #[tactic(auto, using(crate::proofs::Parts::parts), unfolding(crate::specs::code::Reading::offset_at))]
     fn offset(&mut self, version: Version) -> Result<u64, HeadFault>
-        requires { Opened S.is_transparent S.view self.old }
-        ensures { Read S.is_transparent S.view self.old self.new (offset_at version) result }
+        ensures { Read self.old self.new (offset_at version) result }
     {
         let n = self.wide(version)?;
         if version.offset_limit() <= n {
@@ -92,7 +88,7 @@ impl<S: Source> Window<'_, S> {
     }
 
     /// A variable, after others whose records have `total` bytes. Its `vsize` may be any number.
-    #[tactic(auto, using(crate::proofs::Parts::parts), unfolding(crate::specs::Reading::var_at))]
+    #[tactic(auto, using(crate::proofs::Parts::parts), unfolding(crate::specs::code::Reading::var_at))]
     fn var(
         &mut self,
         alloc: Global,
@@ -100,8 +96,8 @@ impl<S: Source> Window<'_, S> {
         dims: &[Dim],
         total: u64,
     ) -> Result<SizedVar, HeadFault>
-        requires { Opened S.is_transparent S.view self.old }
-        ensures { Read S.is_transparent S.view self.old self.new (var_at version dims.now total) result }
+        ensures read { Read self.old self.new (var_at version dims.now total) result }
+        ensures total { IfOk result (IsCounted dims.now total) }
     {
         let name = self.name(alloc, version)?;
         let dimids = self.shape(alloc, version, dims)?;
@@ -123,7 +119,7 @@ impl<S: Source> Window<'_, S> {
     }
 
     /// This number of variables.
-    #[tactic(auto, using(crate::proofs::Loops::vars))]
+    #[tactic(auto, using(crate::proofs::Loops::each))]
     fn vars(
         &mut self,
         alloc: Global,
@@ -131,8 +127,7 @@ impl<S: Source> Window<'_, S> {
         dims: &[Dim],
         n: u64,
     ) -> Result<Sequence<Var>, HeadFault>
-        requires { Opened S.is_transparent S.view self.old }
-        ensures { Read S.is_transparent S.view self.old self.new (vars_at version dims.now n 0 []) result }
+        ensures { Read self.old self.new (each_at (var_after version dims.now) n []) result }
     {
         let mut vars = Sequence::new(alloc);
         let mut total = 0;
@@ -145,15 +140,14 @@ impl<S: Source> Window<'_, S> {
     }
 
     /// The list of variables: its tag, their number and the variables.
-    #[tactic(auto, using(crate::proofs::Parts::parts), unfolding(crate::specs::Reading::var_list_at))]
+    #[tactic(auto, using(crate::proofs::Parts::parts), unfolding(crate::specs::code::Reading::list_at))]
     pub(crate) fn var_list(
         &mut self,
         alloc: Global,
         version: Version,
         dims: &[Dim],
     ) -> Result<Sequence<Var>, HeadFault>
-        requires { Opened S.is_transparent S.view self.old }
-        ensures { Read S.is_transparent S.view self.old self.new (var_list_at version dims.now) result }
+        ensures { Read self.old self.new (var_list_at version dims.now) result }
     {
         let n = self.list_len(version, NC_VARIABLE)?;
         self.vars(alloc, version, dims, n)
@@ -167,9 +161,9 @@ fn is_dimid(dims: &[Dim], first: bool, id: u64) -> bool
     id < dims.len() as u64 && (first || !is_record_dim(dims, id))
 }
 
-/// The padded slabs of the record variables so far, with that of a variable of this shape and type; none where its slab or
+/// The padded slabs of the record variables so far, with that of a variable of this shape and type; none if its slab or
 /// the record passes its limit.
-#[tactic(auto, unfolding(crate::specs::Reading::total_with))]
+#[tactic(auto, unfolding(crate::specs::code::Reading::total_with))]
 fn total_with(dims: &[Dim], dimids: &[u64], ty: NcType, total: u64) -> Option<u64>
     ensures { result ≡ total_with dims.now dimids.now ty total }
 {
@@ -182,7 +176,7 @@ fn total_with(dims: &[Dim], dimids: &[u64], ty: NcType, total: u64) -> Option<u6
     }
 }
 
-/// What a slab of this shape adds to a record: its padded size, and nothing where the shape has no records.
+/// What a slab of this shape adds to a record: its padded size, and nothing if the shape has no records.
 fn record_part(dims: &[Dim], dimids: &[u64], slab: u64) -> u64
     requires { slab ≤ slab_limit }
     ensures { result ≡ (if has_records dims.now dimids.now then slab + padding_len slab else 0) }

@@ -5,10 +5,10 @@ ghost use Rattle.std.specs.List.{list_all};
 ghost use Rattle.nc_base.specs.GeneratedFile.{fits, fixed_vars, with_begins};
 ghost use Rattle.nc_base.specs.Headers.{IsSound};
 ghost use Rattle.nc_base.specs.Sizes.{padded_total, slab_limit, slab_size};
-ghost use Rattle.nc_file.specs.Begins.{after, is_below, offset_of, offset_too_large, placed};
+ghost use Rattle.nc_file.specs.code.Begins.{after, is_below, offset_of, offset_too_large, placed};
 
 use super::length::header_len;
-use super::slab::padded_slab_bytes;
+use super::slab::padded_slab_len;
 use nc_base::{Dim, Header, Sequence, Var, is_record_var};
 
 /// An offset that the version has no room for.
@@ -76,7 +76,7 @@ fn fixed_total(dims: &[Dim], vars: &[Var]) -> u128
     let mut total: u128 = 0;
     for var in vars {
         if !is_record_var(dims, var) {
-            total += padded_slab_bytes(dims, var) as u128;
+            total += padded_slab_len(dims, var) as u128;
         }
     }
     total
@@ -123,7 +123,7 @@ impl Offsets {
         ensures block { result.block < self.block + 2 ^ 49 }
         ensures slab { result.slab < self.slab + 2 ^ 49 }
     {
-        let bytes = padded_slab_bytes(dims, var) as u128;
+        let bytes = padded_slab_len(dims, var) as u128;
         if is_record_var(dims, var) {
             Offsets {
                 block: self.block,

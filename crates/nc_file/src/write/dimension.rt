@@ -6,7 +6,7 @@ ghost use Rattle.nc_base.specs.GeneratedFile.{dim_spelling};
 ghost use Rattle.nc_base.specs.Headers.{IsSoundDim};
 ghost use Rattle.nc_base.specs.Versions.{count_limit};
 ghost use Rattle.devices.specs.Sinks.{Wrote};
-ghost use Rattle.nc_file.specs.WrittenParts.{dim_list};
+ghost use Rattle.nc_file.specs.code.WrittenParts.{dim_list};
 
 use super::list::{put_list_head, put_name};
 use super::number::put_count;

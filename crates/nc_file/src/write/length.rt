@@ -5,14 +5,14 @@ ghost use Rattle.std.specs.Int.{byte_len};
 ghost use Rattle.std.specs.List.{sum_by};
 ghost use Rattle.nc_base.specs.GeneratedFile.{header_spelling};
 ghost use Rattle.nc_base.specs.Versions.{offset_width};
-ghost use Rattle.nc_file.specs.Lengths.{att_len, atts_len, count_len, dim_len, list_head_len, name_len, padded_len, var_len};
+ghost use Rattle.nc_file.specs.code.Lengths.{att_len, atts_len, count_len, dim_len, list_head_len, name_len, padded_len, var_len};
 
 use nc_base::{Att, Dim, Header, Var, Version, padding_len};
 
 /// The bytes of a number of 32 bits: a tag, or the code of a type. `CDF` and the version byte take as many.
 const WORD_LEN: u64 = 4;
 
-/// The number of bytes of a header's spelling, or `u64::MAX` where there are more.
+/// The number of bytes of a header's spelling, or `u64::MAX` if there are more.
 #[tactic(auto, using(crate::proofs::HeaderLen::header_len))]
 pub fn header_len(header: &Header) -> u64
     ensures { result ≡ min (length (header_spelling header.now)) (2 ^ 64 - 1) }

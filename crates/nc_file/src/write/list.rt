@@ -41,7 +41,7 @@ fn put_zeros<W: Sink>(sink: &mut W, n: u64) -> Result<(), WriteFailed>
     put(sink, &zeros[..n as usize])
 }
 
-/// Writes what stands before the elements of a list: its tag, which is 0 where it has none, and their number.
+/// Writes what comes before the elements of a list: its tag, which is 0 if there are none, and their number.
 #[tactic(auto, using(devices::proofs::Writes::writes))]
 pub(crate) fn put_list_head<W: Sink>(
     sink: &mut W,

@@ -6,12 +6,12 @@ ghost use Rattle.nc_base.specs.GeneratedFile.{count_spelling, var_spelling, vsiz
 ghost use Rattle.nc_base.specs.Headers.{IsSoundVar};
 ghost use Rattle.nc_base.specs.Versions.{count_limit, offset_limit};
 ghost use Rattle.devices.specs.Sinks.{Wrote};
-ghost use Rattle.nc_file.specs.WrittenParts.{shape_spelling, var_list, vars_spelling, vsize_spelling};
+ghost use Rattle.nc_file.specs.code.WrittenParts.{shape_spelling, var_list, vars_spelling, vsize_spelling};
 
 use super::attribute::put_att_list;
 use super::list::{put_list_head, put_name};
 use super::number::{put_count, put_number, put_offset, put_word};
-use super::slab::padded_slab_bytes;
+use super::slab::padded_slab_len;
 use crate::tag::NC_VARIABLE;
 use devices::{Sink, WriteFailed};
 use nc_base::{Dim, Var, Version};
@@ -117,14 +117,10 @@ fn put_vsize<W: Sink>(
     requires { IsSoundVar version dims.now var.now }
     ensures { Wrote W.view sink.old sink.new (vsize_spelling version dims.now var.now) result }
 {
-    put_number(
-        sink,
-        version,
-        vsize_of(version, padded_slab_bytes(dims, var)),
-    )
+    put_number(sink, version, vsize_of(version, padded_slab_len(dims, var)))
 }
 
-/// The padded slab, or the greatest number of 32 bits where the version has no room for it.
+/// The padded slab, or the greatest number of 32 bits if it doesn't fit the version's field.
 fn vsize_of(version: Version, padded: u64) -> u64
     ensures { result ≡ vsize_of version padded }
 {

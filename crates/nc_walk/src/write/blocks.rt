@@ -4,9 +4,9 @@ ghost use Rattle.std.specs.Prelude.{◌≡◌, ◌≤◌, length};
 ghost use Rattle.devices.specs.Sinks.{Wrote};
 ghost use Rattle.nc_base.specs.Headers.{IsSound};
 ghost use Rattle.nc_base.specs.Sizes.{slab_limit, slab_size};
-ghost use Rattle.nc_walk.specs.Filled.{block_of, blocks_of};
+ghost use Rattle.nc_walk.specs.code.Filled.{block_of, blocks_of};
 
-use super::array::Array;
+use super::slab_writer::SlabWriter;
 use devices::{Sink, WriteFailed};
 use nc_base::{Dim, Header, ListedArray, Var, is_record_var};
 
@@ -41,5 +41,5 @@ fn put_block<W: Sink>(
     if is_record_var(dims, var) {
         return Ok(());
     }
-    Array::of(dims, var, listed).put_block(sink)
+    SlabWriter::of(dims, var, listed).put_block(sink)
 }

@@ -3,8 +3,8 @@
 ghost use Rattle.std.specs.Prelude.{◌≡◌};
 ghost use Rattle.devices.specs.Sinks.{Wrote};
 ghost use Rattle.nc_base.specs.Headers.{IsSound};
-ghost use Rattle.nc_walk.specs.DataPart.{AreListedOf, whole_data};
-ghost use Rattle.nc_walk.specs.RecordSlabs.{record_slabs};
+ghost use Rattle.nc_walk.specs.code.DataPart.{AreListedOf, whole_data};
+ghost use Rattle.nc_walk.specs.code.RecordSlabs.{record_slabs};
 
 use super::blocks::put_blocks;
 use super::record_slab::RecordSlab;

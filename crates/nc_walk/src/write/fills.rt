@@ -3,7 +3,7 @@
 ghost use Rattle.std.specs.Prelude.{◌≡◌, ◌≤◌};
 ghost use Rattle.devices.specs.Sinks.{Wrote};
 ghost use Rattle.nc_base.specs.GeneratedFile.{fill_bytes};
-ghost use Rattle.nc_walk.specs.Filled.{eight_times, four_times, repeated, twice};
+ghost use Rattle.nc_walk.specs.code.Filled.{eight_times, four_times, repeated, twice};
 
 use devices::{Sink, WriteFailed, put};
 use nc_base::{NcType, Var, fill_of};
@@ -27,7 +27,7 @@ pub(super) fn put_fills<W: Sink>(sink: &mut W, unit: [u8; 8], n: u128) -> Result
     put_many_fills(sink, unit, n)
 }
 
-/// The same at once, of at most 256 bytes: where slabs are short, no record lacks more of one.
+/// The same at once, of at most 256 bytes: if slabs are short, no record lacks more of one.
 fn put_few_fills<W: Sink>(sink: &mut W, unit: [u8; 8], n: u128) -> Result<(), WriteFailed>
     requires { n ≤ 256 }
     ensures { Wrote W.view sink.old sink.new (repeated unit n) result }

@@ -2,7 +2,7 @@
 
 ghost use Rattle.std.specs.Prelude.{◌≡◌, ◌+◌, IfOk, drop, length, min, take};
 ghost use Rattle.devices.specs.Sinks.{Wrote};
-ghost use Rattle.nc_walk.specs.Filled.{run_bytes};
+ghost use Rattle.nc_walk.specs.code.Filled.{run_bytes};
 
 use super::fills::put_fills;
 use devices::{Sink, WriteFailed, put};
@@ -27,7 +27,7 @@ pub(super) fn put_part<W: Sink>(
     Ok(())
 }
 
-/// Writes the first `n` bytes of a run, or all where it has fewer, and says how many.
+/// Writes the first `n` bytes of a run, or all if it has fewer, and says how many.
 #[tactic(auto, using(devices::proofs::Writes::writes))]
 fn put_run<W: Sink>(sink: &mut W, run: Run<'_>, n: u128) -> Result<u128, WriteFailed>
     ensures writes { Wrote W.view sink.old sink.new (take n (run_bytes run.entry)) result }

@@ -3,10 +3,10 @@
 ghost use Rattle.std.specs.Prelude.{◌≡◌, ◌≤◌, ◌<◌, IfOk, length};
 ghost use Rattle.nc_base.specs.Headers.{IsSound};
 ghost use Rattle.nc_base.specs.Sizes.{slab_limit, slab_size};
-ghost use Rattle.nc_walk.specs.RecordSlabs.{array_of, record_slab, record_slabs};
+ghost use Rattle.nc_walk.specs.code.RecordSlabs.{array_of, record_slab, record_slabs};
 
-use super::array::Array;
 use super::fills::fill_unit;
+use super::slab_writer::SlabWriter;
 use nc_base::{Dim, Header, ListedArray, Sequence, Var, is_record_var, slab_of};
 use std::alloc::{AllocError, Global};
 
@@ -58,11 +58,11 @@ impl RecordSlab {
     }
 
     /// The array of its variable, among those of all variables.
-    pub(super) fn array_in<'a>(&self, arrays: &'a [ListedArray]) -> Array<'a>
+    pub(super) fn array_in<'a>(&self, arrays: &'a [ListedArray]) -> SlabWriter<'a>
         requires { self.now.var_index < length arrays.now }
         ensures { result ≡ array_of arrays.now self.now }
     {
-        Array {
+        SlabWriter {
             listed: &arrays[self.var_index],
             slab: self.len,
             unit: self.unit,

@@ -3,8 +3,8 @@
 ghost use Rattle.std.specs.Prelude.{◌≡◌, ◌<◌, All, length};
 ghost use Rattle.devices.specs.Sinks.{Wrote};
 ghost use Rattle.nc_base.specs.Headers.{IsSound};
-ghost use Rattle.nc_walk.specs.DataPart.{AreListedOf, whole_records};
-ghost use Rattle.nc_walk.specs.RecordSlabs.{record_in, record_slabs, records_in};
+ghost use Rattle.nc_walk.specs.code.DataPart.{AreListedOf, whole_records};
+ghost use Rattle.nc_walk.specs.code.RecordSlabs.{record_in, record_slabs, records_in};
 
 use super::record_slab::RecordSlab;
 use devices::{Sink, WriteFailed};

@@ -1,5 +1,5 @@
 use Rattle.std.proofs.Common.{◌≡◌, ◌-◌, length, false}
-use Rattle.cdl_statements.specs.Cutters.{SameText, after, is_done, offset_of, text_of}
+use Rattle.cdl_statements.specs.code.Cutters.{SameText, after, is_done, offset_of, text_of}
 use Rattle.cdl_parse.proofs.closing.after_statement.Given as goal
 
 abbrev pub invariant-tokens : goal.invariant-tokens

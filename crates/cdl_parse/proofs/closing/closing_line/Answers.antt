@@ -1,7 +1,5 @@
 use Rattle.std.proofs.Common.{rules, ◌≡◌, ◌<◌, List, length, true, false, ap, sym, subst, ◌∙◌}
-use Rattle.cdl_statements.specs.Cutters.{after, is_done, pieces_left}
-use Rattle.cdl_tokens.specs.declared.token.Token.{Token}
-use Rattle.cdl_statements.specs.Statements.{statements}
+use Rattle.cdl_parse.proofs.Prelude.{after, is_done, pieces_left, Token, statements}
 use Rattle.cdl_parse.proofs.Closings.{closing_end, closing_from, closing_on, fewer, from_start}
 use Rattle.cdl_parse.proofs.closing.closing_line.Goals as goal
 

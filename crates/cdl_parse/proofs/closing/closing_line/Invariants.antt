@@ -1,7 +1,5 @@
 use Rattle.std.proofs.Common.{◌≡◌, length}
-use Rattle.cdl_statements.specs.Cutters.{pieces_left}
-use Rattle.cdl_statements.specs.Statements.{statements}
-use Rattle.cdl_meaning.specs.Meaning.{closing_line}
+use Rattle.cdl_parse.proofs.Prelude.{pieces_left, statements, closing_line}
 use Rattle.cdl_parse.proofs.Closings.{closing_from}
 use Rattle.cdl_parse.proofs.closing.closing_line.Given as goal
 

@@ -1,5 +1,5 @@
 use Rattle.std.proofs.Common.{refl}
-use Rattle.cdl_statements.specs.Cutters.{version_of, words}
+use Rattle.cdl_statements.specs.code.Cutters.{version_of, words}
 use Rattle.cdl_parse.proofs.DataStatements.{closing}
 use Rattle.cdl_parse.proofs.data_section.close.Goals as goal
 

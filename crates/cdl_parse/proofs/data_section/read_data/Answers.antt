@@ -1,11 +1,5 @@
-use Rattle.std.proofs.Common.{rules, ◌≡◌, ◌<◌, ℕ, false, List, [], length, refl, sym, ap, ◌∙◌, subst}
-use Rattle.std.specs.Prelude.{replicate, ◌^◌}
-use Rattle.cdl_statements.specs.Cutters.{is_done, pieces_left, text_of, version_of}
-use Rattle.cdl_statements.specs.declared.section.Section.{Section}
-use Rattle.cdl_meaning.specs.Meaning.{run}
-use Rattle.cdl_parse.specs.DataSections.{IsInDataSection, Takes}
-use Rattle.cdl_parse.specs.Runs.{FailsAt, at_line}
-use Rattle.cdl_parse.specs.declared.parse_error.ParseError.{ParseError}
+use Rattle.std.proofs.Common.{rules, ◌≡◌, ◌<◌, ℕ, false, List, [], length, refl, sym, ap, ◌∙◌, subst, replicate, ◌^◌}
+use Rattle.cdl_parse.proofs.Prelude.{is_done, pieces_left, text_of, version_of, Section, run, IsInDataSection, TakesStatement, FailsAt, at_line, ParseError}
 use Rattle.cdl_parse.proofs.DataRuns.{none_so_far, values_on}
 use Rattle.cdl_parse.proofs.RunSteps.{fewer, goes_on, stops}
 use Rattle.cdl_parse.proofs.data_section.read_data.Goals as goal
@@ -32,7 +26,7 @@ statements-preserved c =
           let so = t.invariant.reads vars s at in
           let taken = found.reads vars (record s { drafts = so.0 }) (subst (λ names. IsInDataSection vars names t.listings.targets.items t.listings.arrays.items (record s { drafts = so.0 })) (sym at.named) so.1) (subst (λ text. length text < 2 ^ 63) (sym t.invariant.text) at.short) in
           values_on start t.cutter t.invariant.text t.invariant.version more vars s t.listings.targets.items c.read_one.new.listings.targets.items t.listings.arrays.items c.read_one.new.listings.arrays.items c.in-Ok.passed.rest found.rest.pieces so
-          (subst (λ b. Takes b vars t.cutter (record s { drafts = so.0 }) c.read_one.new.listings.targets.items c.read_one.new.listings.arrays.items) c.if-passed.false taken);
+          (subst (λ b. TakesStatement b vars t.cutter (record s { drafts = so.0 }) c.read_one.new.listings.targets.items c.read_one.new.listings.arrays.items) c.if-passed.false taken);
     }
 
 pub returns-then-is_done-clause-reads : goal.returns-then-is_done-clause-reads
@@ -49,7 +43,7 @@ returns-then-passed-clause-reads c = λ vars s at.
     let more : is_done t.cutter ≡ false = sym c.is_done.ensures ∙ c.if-is_done.false in
     let so = t.invariant.reads vars s at in
     let taken = found.reads vars (record s { drafts = so.0 }) (subst (λ names. IsInDataSection vars names t.listings.targets.items t.listings.arrays.items (record s { drafts = so.0 })) (sym at.named) so.1) (subst (λ text. length text < 2 ^ 63) (sym t.invariant.text) at.short) in
-    let closed = subst (λ b. Takes b vars t.cutter (record s { drafts = so.0 }) c.read_one.new.listings.targets.items c.read_one.new.listings.arrays.items) c.if-passed.true taken in
+    let closed = subst (λ b. TakesStatement b vars t.cutter (record s { drafts = so.0 }) c.read_one.new.listings.targets.items c.read_one.new.listings.arrays.items) c.if-passed.true taken in
     (so.0, closed.1, so.2 ∙ goes_on start t.cutter t.invariant.text t.invariant.version more (record s { drafts = so.0 }) (record s { section = Section.Closed; drafts = so.0 }) c.in-Ok.passed.rest closed.0 found.rest.pieces)
 
 pub returns-in-Err-clause-reads : goal.returns-in-Err-clause-reads

@@ -1,8 +1,5 @@
 use Rattle.std.proofs.Common.{◌≡◌, List, length}
-use Rattle.nc_base.specs.declared.header.Var.{Var}
-use Rattle.cdl_statements.specs.Cutters.{pieces_left, text_of, version_of}
-use Rattle.cdl_meaning.specs.State.{State}
-use Rattle.cdl_parse.specs.DataSections.{BeginsData}
+use Rattle.cdl_parse.proofs.Prelude.{Var, pieces_left, text_of, version_of, State, BeginsData}
 use Rattle.cdl_parse.proofs.DataRuns.{SoFar}
 use Rattle.cdl_parse.proofs.data_section.read_data.Given as goal
 

@@ -1,8 +1,5 @@
 use Rattle.std.proofs.Common.{◌≡◌, ℕ, List, false, sym, ap, ◌∙◌, subst}
-use Rattle.cdl_statements.specs.Cutters.{version_of, words}
-use Rattle.cdl_values.specs.Meant.{Suit, begins_brace, names_of}
-use Rattle.cdl_values.specs.declared.data.Target.{Target}
-use Rattle.cdl_parse.specs.DataSections.{IsInDataSection, given_at}
+use Rattle.cdl_parse.proofs.Prelude.{version_of, words, AllSuit, begins_brace, names_of, Target, IsInDataSection, given_at}
 use Rattle.cdl_parse.proofs.DataStatements.{closed, takes}
 use Rattle.cdl_parse.proofs.data_section.read_one.Goals as goal
 
@@ -16,7 +13,7 @@ returns-clause-reads c = λ vars s stands short.
     let arrays = c.args.listings.now.arrays.items in
     let given = c.in_ok-given.given in
     let off : begins_brace (words c.args.start) ≡ false = ap begins_brace (c.lexeme.ensures.first c.requires) ∙ sym c.is_mark.ensures ∙ c.if-is_mark.false in
-    let suit = subst (λ (ts : List Target). Suit s.dims ts s.drafts) (sym c.deref.ensures.value) stands.suit in
+    let suit = subst (λ (ts : List Target). AllSuit s.dims ts s.drafts) (sym c.deref.ensures.value) stands.suit in
     let means = c.in_ok-given.ensures.means s (record { section = stands.section; named = stands.named; suit = suit; lists = off; short = short }) in
     let after = takes vars (version_of c.args.start) s (words c.args.start) targets arrays given.array given.position c.args.names.now stands means c.in_ok-given.ensures.position in
     let others = subst (λ (arrays : List (List ℕ)). IsInDataSection vars (names_of s.drafts) (given_at given.position targets) arrays (record s { drafts = after.0 })) (sym c.store.ensures) after.2 in

@@ -1,11 +1,5 @@
 use Rattle.std.proofs.Common.{◌≡◌, refl, ap, sym, subst, ◌∙◌, Ok}
-use Rattle.cdl_statements.specs.Cutters.{next_token, text_of, version_of, words}
-use Rattle.cdl_statements.specs.DueTokens.{completes}
-use Rattle.cdl_statements.specs.Lexemes.{lexeme}
-use Rattle.cdl_statements.specs.Views.{lexeme_of}
-use Rattle.cdl_statements.specs.declared.due.Due.TheVariants.{VariableName}
-use Rattle.cdl_meaning.specs.State.{type_of}
-use Rattle.cdl_values.specs.Answers.{Leaves}
+use Rattle.cdl_parse.proofs.Prelude.{next_token, text_of, version_of, words, completes, lexeme, lexeme_of, VariableName, type_of, Leaves}
 use Rattle.cdl_parse.proofs.DeclarationReads.{goes_on, typed}
 use Rattle.cdl_parse.proofs.declaration.read_declaration.Goals as goal
 

@@ -1,9 +1,6 @@
 use Rattle.std.proofs.Common.{rules, sym, subst}
-use Rattle.cdl_statements.specs.Views.{lexeme_of}
-use Rattle.cdl_values.specs.Answers.{Continues}
+use Rattle.cdl_parse.proofs.Prelude.{lexeme_of, ContinuesRead, read_on, PartialVariable}
 use Rattle.cdl_values.proofs.PackedTokens.{no_mark}
-use Rattle.cdl_parse.specs.Declarations.{read_on}
-use Rattle.cdl_parse.specs.declared.declaration.Begun.{Begun}
 use Rattle.cdl_parse.proofs.DeclarationReads.{dimension_on, next_fails, next_variable, refused}
 use Rattle.cdl_parse.proofs.declaration.read_on.Goals as goal
 
@@ -18,7 +15,7 @@ returns-in_ok-put-in_default-2 c = λ ls.
     let a = c.args in
     let l = lexeme_of a.token in
     let after = c.put.new.variables in
-    subst (Continues (λ (b : Begun). read_on a.dims.now after b ls) c.begin.result) (sym (next_variable a.dims.now a.variables.now a.begun after l ls (no_mark l.kind c.in_default.not-Mark) c.if-begun.false c.in_ok-put-in_default-2.ensures))
+    subst (ContinuesRead (λ (b : PartialVariable). read_on a.dims.now after b ls) c.begin.result) (sym (next_variable a.dims.now a.variables.now a.begun after l ls (no_mark l.kind c.in_default.not-Mark) c.if-begun.false c.in_ok-put-in_default-2.ensures))
     (c.begin.ensures a.dims.now after ls)
 
 pub returns-in_err-put-in_default-2 : goal.returns-in_err-put-in_default-2
@@ -26,5 +23,5 @@ returns-in_err-put-in_default-2 c = λ ls.
     let a = c.args in
     let l = lexeme_of a.token in
     let e = c.in_err-put-in_default-2.field-0.0 in
-    refused (λ (b : Begun). read_on a.dims.now c.put.new.variables b ls) c.from_residual.result e _ (search rules)
+    refused (λ (b : PartialVariable). read_on a.dims.now c.put.new.variables b ls) c.from_residual.result e _ (search rules)
     (next_fails a.dims.now a.variables.now a.begun l ls e (no_mark l.kind c.in_default.not-Mark) c.if-begun.false c.in_err-put-in_default-2.ensures)

@@ -1,10 +1,6 @@
 use Rattle.std.proofs.Common.{ap, sym, subst, ◌∙◌}
-use Rattle.cdl_statements.specs.Cutters.{next_token, text_of, words}
-use Rattle.cdl_statements.specs.Lexemes.{lexeme}
-use Rattle.cdl_statements.specs.Views.{lexeme_of}
+use Rattle.cdl_parse.proofs.Prelude.{next_token, text_of, words, lexeme, lexeme_of, Leaves, added}
 use Rattle.cdl_statements.proofs.Surveys.{first_word, going}
-use Rattle.cdl_values.specs.Answers.{Leaves}
-use Rattle.cdl_parse.specs.Declarations.{added}
 use Rattle.cdl_parse.proofs.DeclarationReads.{all_read, begins_name, goes_name}
 use Rattle.cdl_parse.proofs.declaration.read_variables.Goals as goal
 

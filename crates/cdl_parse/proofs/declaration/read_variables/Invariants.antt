@@ -1,6 +1,5 @@
 use Rattle.std.proofs.Common.{◌≡◌, ◌-◌, length, false}
-use Rattle.cdl_statements.specs.Cutters.{is_done, offset_of, text_of, words}
-use Rattle.cdl_parse.specs.Declarations.{added, read_on}
+use Rattle.cdl_parse.proofs.Prelude.{is_done, offset_of, text_of, words, added, read_on}
 use Rattle.cdl_parse.proofs.declaration.read_variables.Given as goal
 
 abbrev pub invariant-tokens : goal.invariant-tokens

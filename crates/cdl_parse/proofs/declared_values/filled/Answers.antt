@@ -1,8 +1,5 @@
-use Rattle.std.proofs.Common.{rules, ◌≡◌, ◌++◌, ◌∙◌, ap, replicate}
-use Rattle.std.specs.Prelude.{List, ℕ}
-use Rattle.std.specs.List.{concat}
-use Rattle.nc_base.specs.Fill.{fill_value}
-use Rattle.nc_base.specs.Numbers.{bytes_of_number}
+use Rattle.std.proofs.Common.{rules, ◌≡◌, ◌++◌, ◌∙◌, ap, replicate, List, ℕ}
+use Rattle.cdl_parse.proofs.Prelude.{concat, fill_value, bytes_of_number}
 use Rattle.cdl_parse.proofs.Copies.{copies_of}
 use Rattle.cdl_parse.proofs.declared_values.filled.Goals as goal
 

@@ -1,6 +1,5 @@
 use Rattle.std.proofs.Common.{◌≡◌, ◌++◌, drop}
-use Rattle.std.specs.Vec.Iter.{into_iter_items}
-use Rattle.nc_base.specs.OwedValues.{whole_arrays}
+use Rattle.cdl_parse.proofs.Prelude.{into_iter_items, whole_arrays}
 use Rattle.cdl_parse.proofs.declared_values.whole_arrays.Given as goal
 
 abbrev pub invariant-loop-var : goal.invariant-loop-var

@@ -1,8 +1,5 @@
 use Rattle.std.proofs.Common.{◌≡◌, false, sym, ◌∙◌, subst}
-use Rattle.cdl_statements.specs.Cutters.{is_done, pieces_left, text_of, version_of, words}
-use Rattle.cdl_meaning.specs.Meaning.{empty, run}
-use Rattle.cdl_parse.specs.Defined.{state_of}
-use Rattle.cdl_parse.specs.Runs.{FailsAt, at_line}
+use Rattle.cdl_parse.proofs.Prelude.{is_done, pieces_left, text_of, version_of, words, empty, run, state_of, FailsAt, at_line}
 use Rattle.cdl_parse.proofs.RunSteps.{fewer, goes_on, stops}
 use Rattle.cdl_parse.proofs.ShapesKept.{kept}
 use Rattle.cdl_parse.proofs.definition_sections.read_definitions.Goals as goal

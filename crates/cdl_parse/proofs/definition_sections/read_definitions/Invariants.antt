@@ -1,8 +1,5 @@
 use Rattle.std.proofs.Common.{◌≡◌, length}
-use Rattle.cdl_statements.specs.Cutters.{pieces_left, text_of, version_of}
-use Rattle.cdl_meaning.specs.Meaning.{empty, run}
-use Rattle.cdl_values.specs.Listed.{AreShaped}
-use Rattle.cdl_parse.specs.Defined.{state_of}
+use Rattle.cdl_parse.proofs.Prelude.{pieces_left, text_of, version_of, empty, run, AreShaped, state_of}
 use Rattle.cdl_parse.proofs.definition_sections.read_definitions.Given as goal
 
 abbrev pub invariant-statements : goal.invariant-statements

@@ -1,16 +1,6 @@
-use Rattle.std.proofs.Common.{rules, ◌≡◌, ap, sym, subst, ◌∙◌}
-use Rattle.std.specs.Prelude.{Result, List, ℕ, Ok, Err}
-use Rattle.nc_base.specs.Names.{is_name}
-use Rattle.nc_base.specs.declared.header.Dim.{Dim}
-use Rattle.cdl_statements.specs.Contents.{dimension_said}
-use Rattle.cdl_statements.specs.Views.{lexeme_of}
-use Rattle.cdl_statements.specs.declared.fault.CdlKind.{CdlKind}
-use Rattle.cdl_statements.specs.declared.fault.CdlKind.TheVariants.{BadName, DuplicateName}
-use Rattle.cdl_meaning.specs.State.{add_dim, dim_len_of, unless, when, ◌>>=◌}
-use Rattle.cdl_values.specs.Answers.{Fails}
-use Rattle.cdl_values.specs.declared.read_error.ReadError.TheVariants.{Fault}
-use Rattle.cdl_parse.specs.DimensionNames.{is_taken, with_new_dim}
-use Rattle.cdl_parse.specs.TakenNames.{after_name}
+use Rattle.std.proofs.Common.{rules, ◌≡◌, ap, sym, subst, ◌∙◌, Result, List, ℕ, Ok, Err}
+use Rattle.cdl_parse.proofs.Prelude.{is_name, Dim, dimension_said, lexeme_of, CdlKind, BadName, DuplicateName, add_dim, dim_len_of, unless, when, FailsRead, Fault, is_dimension_name, with_new_dim, after_name}
+use Rattle.cdl_meaning.specs.State.{◌>>=◌}
 use Rattle.cdl_parse.proofs.AttributeReads.{fails_then, refused}
 use Rattle.cdl_parse.proofs.DimensionReads.{leaves_as, name_first, with_len}
 use Rattle.cdl_parse.proofs.TakenNames.{fails_after, named}
@@ -23,8 +13,8 @@ returns-in_err-name c =
     let d = dimension_said v (lexeme_of c.args.name) (lexeme_of c.args.length) in
     let e = c.in_err-name.field-0.0 in
     refused dims c.from_residual.result e (add_dim v dims d) (search rules)
-    (subst (λ (r : Result (List Dim) CdlKind). Fails e r) (sym (name_first v dims d))
-    (fails_then e (unless (is_name d.name) BadName) (λ u. when (is_taken d.name dims) DuplicateName >>= (λ w. with_len dims d.name (dim_len_of v dims d.len))) c.in_err-name.ensures.fault))
+    (subst (λ (r : Result (List Dim) CdlKind). FailsRead e r) (sym (name_first v dims d))
+    (fails_then e (unless (is_name d.name) BadName) (λ u. when (is_dimension_name d.name dims) DuplicateName >>= (λ w. with_len dims d.name (dim_len_of v dims d.len))) c.in_err-name.ensures.fault))
 
 pub returns-in-Ok : goal.returns-in-Ok
 returns-in-Ok c =
@@ -34,7 +24,7 @@ returns-in-Ok c =
     let name = c.in_ok-name.name.items in
     let len : dim_len_of v dims d.len ≡ Ok c.in-Ok.len = sym (c.len_said.ensures dims c.has_record.ensures) ∙ c.in-Ok.is in
     leaves_as c.push.new.dims c.push.result (add_dim v dims d) (with_new_dim dims name c.in-Ok.len)
-    (name_first v dims d ∙ named (is_name d.name) _ c.in_ok-name.ensures.allowed ∙ ap (λ (r : Result ℕ CdlKind). when (is_taken d.name dims) DuplicateName >>= (λ w. with_len dims d.name r)) len ∙
+    (name_first v dims d ∙ named (is_name d.name) _ c.in_ok-name.ensures.allowed ∙ ap (λ (r : Result ℕ CdlKind). when (is_dimension_name d.name dims) DuplicateName >>= (λ w. with_len dims d.name r)) len ∙
     ap (λ (n : List ℕ). with_new_dim dims n c.in-Ok.len) (sym c.in_ok-name.ensures.name)) c.push.ensures
 
 pub returns-in-Err : goal.returns-in-Err
@@ -44,8 +34,8 @@ returns-in-Err c =
     let d = dimension_said v (lexeme_of c.args.name) (lexeme_of c.args.length) in
     let kind = c.in-Err.kind in
     let len : dim_len_of v dims d.len ≡ Err kind = sym (c.len_said.ensures dims c.has_record.ensures) ∙ c.in-Err.is in
-    let taken : c.has_name-is_taken.result ≡ is_taken d.name dims = c.has_name-is_taken.ensures ∙ ap (λ n. is_taken n dims) (c.as_slice.ensures.value ∙ c.in_ok-name.ensures.name) in
-    let error : c.after_name.result ≡ after_name (is_taken d.name dims) (Fault kind) = c.after_name.ensures ∙ ap (λ b. after_name b (Fault kind)) taken in
-    subst (λ x. Fails x (add_dim v dims d)) (sym error)
-    (subst (Fails (after_name (is_taken d.name dims) (Fault kind))) (sym (name_first v dims d ∙ named (is_name d.name) _ c.in_ok-name.ensures.allowed))
-    (fails_after (is_taken d.name dims) (Fault kind) (with_len dims d.name (dim_len_of v dims d.len)) (ap (with_len dims d.name) len)))
+    let taken : c.has_name-is_taken.result ≡ is_dimension_name d.name dims = c.has_name-is_taken.ensures ∙ ap (λ n. is_dimension_name n dims) (c.as_slice.ensures.value ∙ c.in_ok-name.ensures.name) in
+    let error : c.after_name.result ≡ after_name (is_dimension_name d.name dims) (Fault kind) = c.after_name.ensures ∙ ap (λ b. after_name b (Fault kind)) taken in
+    subst (λ x. FailsRead x (add_dim v dims d)) (sym error)
+    (subst (FailsRead (after_name (is_dimension_name d.name dims) (Fault kind))) (sym (name_first v dims d ∙ named (is_name d.name) _ c.in_ok-name.ensures.allowed))
+    (fails_after (is_dimension_name d.name dims) (Fault kind) (with_len dims d.name (dim_len_of v dims d.len)) (ap (with_len dims d.name) len)))

@@ -1,9 +1,5 @@
-use Rattle.std.proofs.Common.{◌≡◌, ap, sym, ◌∙◌, refl, true, false}
-use Rattle.std.specs.Prelude.{None, Some, if◌then◌else◌}
-use Rattle.cdl_statements.specs.Contents.{is_unlimited, parts_or_zero}
-use Rattle.cdl_tokens.specs.Numerals.{number, parts}
-use Rattle.cdl_statements.specs.Views.{lexeme_of}
-use Rattle.cdl_meaning.specs.State.{dim_len_of}
+use Rattle.std.proofs.Common.{◌≡◌, ap, sym, ◌∙◌, refl, true, false, None, Some, if◌then◌else◌}
+use Rattle.cdl_parse.proofs.Prelude.{is_unlimited, parts_or_zero, number, parts, lexeme_of, dim_len_of}
 use Rattle.cdl_parse.proofs.dimension_list.len_said.Goals as goal
 
 pub returns-then-is_unlimited : goal.returns-then-is_unlimited

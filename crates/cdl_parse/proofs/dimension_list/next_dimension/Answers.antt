@@ -1,11 +1,5 @@
-use Rattle.std.proofs.Common.{rules, arith, ◌≡◌, ◌∷◌, [], ap, sym, ◌∙◌}
-use Rattle.std.specs.Prelude.{if◌then◌else◌}
-use Rattle.cdl_statements.specs.Contents.{dimension_said, dimensions_said}
-use Rattle.cdl_statements.specs.Cutters.{next_token, text_of, version_of, words}
-use Rattle.cdl_statements.specs.Lexemes.{Lexeme, lexeme}
-use Rattle.cdl_statements.specs.Views.{lexeme_of}
-use Rattle.cdl_statements.specs.declared.cutter.Cutter.{Cutter}
-use Rattle.cdl_statements.proofs.DimensionSteps.{said_on, shaped_on}
+use Rattle.std.proofs.Common.{rules, arith, ◌≡◌, ◌∷◌, [], ap, sym, ◌∙◌, if◌then◌else◌}
+use Rattle.cdl_parse.proofs.Prelude.{dimension_said, dimensions_said, next_token, text_of, version_of, words, Lexeme, lexeme, lexeme_of, Cutter, said_on, shaped_on}
 use Rattle.cdl_parse.proofs.DimensionReads.{name_goes, equals_goes, length_goes, four_on}
 use Rattle.cdl_parse.proofs.StatementWords.{begins}
 use Rattle.cdl_parse.proofs.dimension_list.next_dimension.Goals as goal

@@ -1,9 +1,5 @@
 use Rattle.std.proofs.Common.{◌≡◌, ◌-◌, length, true, false}
-use Rattle.cdl_statements.specs.Contents.{dimensions_said}
-use Rattle.cdl_statements.specs.Cutters.{words, is_done, offset_of, text_of, version_of}
-use Rattle.cdl_statements.specs.DueTokens.{completes}
-use Rattle.cdl_statements.specs.declared.due.Due.TheVariants.{DimensionName}
-use Rattle.cdl_meaning.specs.State.{add_dim, in_turn}
+use Rattle.cdl_parse.proofs.Prelude.{dimensions_said, words, is_done, offset_of, text_of, version_of, completes, DimensionName, add_dim, in_turn}
 use Rattle.cdl_parse.proofs.dimension_list.read_dimensions.Given as goal
 
 abbrev pub invariant-dimensions : goal.invariant-dimensions

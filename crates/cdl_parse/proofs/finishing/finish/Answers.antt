@@ -1,10 +1,5 @@
-use Rattle.std.proofs.Common.{rules, ◌≡◌, ◌∙◌, ap, sym, true}
-use Rattle.std.specs.Prelude.{None, Some, is_some, List, ℕ, map}
-use Rattle.nc_base.specs.declared.header.NumRecs.TheVariants.{Known}
-use Rattle.nc_base.specs.SizeParts.{checked_record_size}
-use Rattle.nc_base.specs.declared.header.Dim.{Dim}
-use Rattle.nc_base.specs.declared.header.Header.{Header}
-use Rattle.cdl_parse.specs.DeclaredDatasets.{or_too_large}
+use Rattle.std.proofs.Common.{rules, ◌≡◌, ◌∙◌, ap, sym, true, None, Some, is_some, List, ℕ, map}
+use Rattle.cdl_parse.proofs.Prelude.{Known, checked_record_size, Dim, Header, or_too_large}
 use Rattle.cdl_parse.proofs.Finished.{array_too_large, header_at, is_declared, kept_at, record_too_large}
 use Rattle.cdl_parse.proofs.SizeLimits.{all_are, listed_of}
 use Rattle.cdl_parse.proofs.finishing.finish.Goals as goal

@@ -1,7 +1,5 @@
 use Rattle.std.proofs.Common.{◌≡◌, ◌<◌, All, Some, drop}
-use Rattle.nc_base.specs.declared.header.Var.{Var}
-use Rattle.nc_base.specs.Sizes.{slab_count}
-use Rattle.cdl_parse.specs.Extents.{with_all}
+use Rattle.cdl_parse.proofs.Prelude.{Var, slab_count, with_all}
 use Rattle.cdl_parse.proofs.records.extent_of.Given as goal
 
 abbrev pub invariant-loop-at : goal.invariant-loop-at

@@ -1,8 +1,5 @@
-use Rattle.std.proofs.Common.{ap, sym, ◌∙◌}
-use Rattle.std.specs.Prelude.{Some, is_some}
-use Rattle.cdl_statements.specs.Contents.{statement_said}
-use Rattle.cdl_statements.specs.Cutters.{version_of, words}
-use Rattle.cdl_statements.specs.Shapes.{shape}
+use Rattle.std.proofs.Common.{ap, sym, ◌∙◌, Some, is_some}
+use Rattle.cdl_parse.proofs.Prelude.{statement_said, version_of, words, shape}
 use Rattle.cdl_parse.proofs.Defining.{reads_bad, reads_shapeless, reads_statement}
 use Rattle.cdl_parse.proofs.statement.pass.Goals as goal
 

@@ -1,12 +1,6 @@
-use Rattle.std.proofs.Common.{rules, ◌≡◌, ◌<◌, length, refl, ap, sym, ◌∙◌, subst}
-use Rattle.std.specs.Prelude.{◌^◌, Result, Err}
-use Rattle.cdl_statements.specs.Cutters.{pieces_left, text_of, version_of}
-use Rattle.cdl_meaning.specs.Meaning.{empty, run}
-use Rattle.cdl_meaning.specs.State.{State}
-use Rattle.cdl_values.specs.Listed.{AllList, AreShaped, fresh}
-use Rattle.cdl_parse.specs.Defined.{state_of}
-use Rattle.cdl_parse.specs.Parsing.{ReadsAll}
-use Rattle.cdl_parse.specs.declared.parse_error.ParseError.{ParseError}
+use Rattle.std.proofs.Common.{rules, ◌≡◌, ◌<◌, length, refl, ap, sym, ◌∙◌, subst, ◌^◌, Result, Err}
+use Rattle.cdl_parse.proofs.Prelude.{pieces_left, text_of, version_of, empty, run, State, AllList, AreShaped, unlisted_drafts, state_of, ParseError}
+use Rattle.cdl_parse.specs.code.Parsing.{ReadsAll}
 use Rattle.cdl_parse.specs.declared.parse_error.ParseError.TheVariants.{Fault}
 use Rattle.cdl_parse.specs.declared.text.Contents.{Contents}
 use Rattle.cdl_parse.proofs.WholeTexts.{listed_shapes, same_end, same_run}
@@ -22,7 +16,7 @@ returns c = λ small.
     let short : length (text_of rest) < 2 ^ 63 = subst (λ text. length text < 2 ^ 63) (sym c.in_ok-definitions.ensures.same.text) small in
     let dims : s.dims ≡ c.as_slice.result.now = search rules in
     let listed_of : c.as_slice-2.result.now ≡ vars = search rules in
-    let drafts : s.drafts ≡ fresh c.as_slice-2.result.now = sym c.in_ok-vars.ensures.vars ∙ ap fresh (sym listed_of) in
+    let drafts : s.drafts ≡ unlisted_drafts c.as_slice-2.result.now = sym c.in_ok-vars.ensures.vars ∙ ap unlisted_drafts (sym listed_of) in
     let read = c.in_ok-values.ensures.reads s refl (record { has_dims = dims; unlisted = drafts; named = c.in_ok-vars.ensures.names; shaped = c.in_ok-definitions.ensures.shaped; short = short }) in
     let at : State = record s { section = values.section; drafts = read.0 } in
     let so_far : run (text_of start) (version_of start) empty (pieces_left start) ≡ run (text_of start) (version_of start) at (pieces_left values.rest) =
@@ -52,7 +46,7 @@ returns-in_err-read_end c = λ small.
     let short : length (text_of rest) < 2 ^ 63 = subst (λ text. length text < 2 ^ 63) (sym c.in_ok-definitions.ensures.same.text) small in
     let dims : s.dims ≡ c.as_slice.result.now = search rules in
     let listed_of : c.as_slice-2.result.now ≡ vars = search rules in
-    let drafts : s.drafts ≡ fresh c.as_slice-2.result.now = sym c.in_ok-vars.ensures.vars ∙ ap fresh (sym listed_of) in
+    let drafts : s.drafts ≡ unlisted_drafts c.as_slice-2.result.now = sym c.in_ok-vars.ensures.vars ∙ ap unlisted_drafts (sym listed_of) in
     let read = c.in_ok-values.ensures.reads s refl (record { has_dims = dims; unlisted = drafts; named = c.in_ok-vars.ensures.names; shaped = c.in_ok-definitions.ensures.shaped; short = short }) in
     let at : State = record s { section = values.section; drafts = read.0 } in
     let so_far : run (text_of start) (version_of start) empty (pieces_left start) ≡ run (text_of start) (version_of start) at (pieces_left values.rest) =

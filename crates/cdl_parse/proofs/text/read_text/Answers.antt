@@ -1,12 +1,5 @@
-use Rattle.std.proofs.Common.{rules, ◌≡◌, ◌∙◌, ◌<◌, ap, length, sym, subst}
-use Rattle.cdl_statements.specs.Cutters.{pieces_left, text_of, version_of}
-use Rattle.cdl_statements.specs.Statements.{statements}
-use Rattle.cdl_meaning.specs.Meaning.{closing_line, empty, meaning, run}
-use Rattle.std.specs.Prelude.{◌^◌, Result, Ok, Err}
-use Rattle.cdl_parse.specs.DeclaredDatasets.{dataset_of_declared}
-use Rattle.cdl_parse.specs.Runs.{FailsAt, ReadsOn}
-use Rattle.cdl_parse.specs.declared.declared_values.Declared.{Declared}
-use Rattle.cdl_parse.specs.declared.parse_error.ParseError.{ParseError}
+use Rattle.std.proofs.Common.{rules, ◌≡◌, ◌∙◌, ◌<◌, ap, length, sym, subst, ◌^◌, Result, Ok, Err}
+use Rattle.cdl_parse.proofs.Prelude.{pieces_left, text_of, version_of, statements, closing_line, empty, meaning, run, dataset_of_declared, FailsAt, ReadsOn, Declared, ParseError}
 use Rattle.cdl_parse.proofs.SizeLimits.{one-each}
 use Rattle.cdl_parse.proofs.WholeTexts.{run_fails, same_fault}
 use Rattle.cdl_parse.proofs.text.read_text.Goals as goal

@@ -1,8 +1,5 @@
 use Rattle.std.proofs.Common.{◌≡◌, false, refl, ap, sym, ◌∙◌}
-use Rattle.cdl_statements.specs.Cutters.{is_done, next_token, pieces_left, text_of, version_of, words}
-use Rattle.cdl_statements.specs.Lexemes.{lexeme}
-use Rattle.cdl_statements.specs.declared.section.Section.TheVariants.{Ended}
-use Rattle.cdl_meaning.specs.Meaning.{run}
+use Rattle.cdl_parse.proofs.Prelude.{is_done, next_token, pieces_left, text_of, version_of, words, lexeme, Ended, run}
 use Rattle.cdl_parse.proofs.Defining.{ends}
 use Rattle.cdl_parse.proofs.RunSteps.{fault_stops, fewer, goes_on}
 use Rattle.cdl_parse.proofs.Runs.{run_none}

@@ -1,9 +1,5 @@
 use Rattle.std.proofs.Common.{rules, ap, sym, ◌∙◌}
-use Rattle.cdl_tokens.specs.Escapes.{word_value}
-use Rattle.cdl_meaning.specs.State.{at_variable}
-use Rattle.cdl_values.specs.Meant.{names_of}
-use Rattle.cdl_values.specs.NameIndices.{position_of}
-use Rattle.cdl_parse.specs.VariablePositions.{at_position}
+use Rattle.cdl_parse.proofs.Prelude.{word_value, at_variable, names_of, position_of, at_position}
 use Rattle.cdl_parse.proofs.DeclarationReads.{refused}
 use Rattle.cdl_parse.proofs.VariableNames.{changed, no_name, unknown, within}
 use Rattle.cdl_parse.proofs.variable_lookup.variable_position.Goals as goal

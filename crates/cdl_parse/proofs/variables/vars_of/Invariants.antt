@@ -1,6 +1,5 @@
 use Rattle.std.proofs.Common.{◌≡◌, ◌++◌, map}
-use Rattle.std.specs.Vec.Iter.{into_iter_items}
-use Rattle.cdl_parse.specs.Drafts.{var_of}
+use Rattle.cdl_parse.proofs.Prelude.{into_iter_items, var_of}
 use Rattle.cdl_parse.proofs.variables.vars_of.Given as goal
 
 -- those so far, and those that are left

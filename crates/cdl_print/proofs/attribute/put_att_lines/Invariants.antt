@@ -1,6 +1,4 @@
-use Rattle.nc_base.specs.Escapes.{escaped_name}
-use Rattle.nc_base.specs.HeadText.{att_line}
-use Rattle.devices.proofs.Writes.{IsWritten}
+use Rattle.cdl_print.proofs.Prelude.{escaped_name, att_line, IsWritten}
 use Rattle.cdl_print.proofs.attribute.put_att_lines.Given as goal
 
 abbrev pub invariant-loop-att : goal.invariant-loop-att

@@ -1,6 +1,5 @@
 use Rattle.std.proofs.Common.{◌≡◌, [], rules, arith}
-use Rattle.std.proofs.lemmas.Result.{err_from_is_err_and}
-use Rattle.nc_base.specs.Numbers.{numbers}
+use Rattle.cdl_print.proofs.Prelude.{err_from_is_err_and, numbers}
 use Rattle.cdl_print.proofs.CharRows.{chars_parts, chars_count, no_chars}
 use Rattle.cdl_print.proofs.PrintingLaws.{underway_at_first, underway_next, underway_failed, underway_after, underway_appended, underway_within}
 use Rattle.cdl_print.proofs.char_row.put_char_values.Goals as goal

@@ -1,6 +1,5 @@
 use Rattle.std.proofs.Common.{◌≡◌, ◌+◌, ◌-◌, ◌≤◌, length, drop}
-use Rattle.std.specs.List.{prefix_len}
-use Rattle.nc_base.specs.Quoted.{stands_for_itself}
+use Rattle.cdl_print.proofs.Prelude.{prefix_len, stands_for_itself}
 use Rattle.cdl_print.proofs.escaped.plain_len.Given as goal
 
 abbrev pub invariant-loop-len : goal.invariant-loop-len

@@ -1,6 +1,5 @@
 use Rattle.std.proofs.Common.{rules, arith, ◌<◌, length}
-use Rattle.std.proofs.lemmas.Result.{err_from_is_err_and}
-use Rattle.nc_base.specs.Quoted.{escaped_in, stands_for_itself}
+use Rattle.cdl_print.proofs.Prelude.{err_from_is_err_and, escaped_in, stands_for_itself}
 use Rattle.cdl_print.proofs.Begun.{begun_at_first, begun_next, begun_partway}
 use Rattle.cdl_print.proofs.Runs.{run_len-le, prefix_is_run, flat_map_parts}
 use Rattle.cdl_print.proofs.escaped.put_escaped.Goals as goal

@@ -1,6 +1,5 @@
 use Rattle.std.proofs.Common.{length}
-use Rattle.std.specs.List.{flat_map}
-use Rattle.nc_base.specs.Quoted.{escaped_in}
+use Rattle.cdl_print.proofs.Prelude.{flat_map, escaped_in}
 use Rattle.cdl_print.proofs.Begun.{IsBegun}
 use Rattle.cdl_print.proofs.escaped.put_escaped.Given as goal
 

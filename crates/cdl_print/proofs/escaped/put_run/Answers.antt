@@ -1,6 +1,5 @@
 use Rattle.std.proofs.Common.{arith, ◌≡◌, true}
-use Rattle.std.specs.List.{list_all}
-use Rattle.nc_base.specs.Quoted.{escaped_in, stands_for_itself}
+use Rattle.cdl_print.proofs.Prelude.{list_all, escaped_in, stands_for_itself}
 use Rattle.cdl_print.proofs.Runs.{flat_map_itself, plain_itself}
 use Rattle.cdl_print.proofs.escaped.put_run.Goals.{in_default-via-then-run-lt1, in_default-via-else-run-lt1+else-run-lt2}
 use Rattle.cdl_print.proofs.escaped.put_run.Goals as goal

@@ -1,6 +1,4 @@
-use Rattle.std.proofs.lemmas.Result.{err_from_is_err_and}
-use Rattle.nc_base.specs.HeadText.{dim_lines}
-use Rattle.devices.proofs.Writes.{wrote_next, partway_next}
+use Rattle.cdl_print.proofs.Prelude.{err_from_is_err_and, dim_lines, wrote_next, partway_next}
 use Rattle.cdl_print.proofs.head.put_dim_lines.Goals as goal
 
 pub loop-dim-preserved : goal.loop-dim-preserved

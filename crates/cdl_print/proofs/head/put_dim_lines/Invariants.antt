@@ -1,5 +1,4 @@
-use Rattle.nc_base.specs.HeadText.{dim_line}
-use Rattle.devices.proofs.Writes.{IsWritten}
+use Rattle.cdl_print.proofs.Prelude.{dim_line, IsWritten}
 use Rattle.cdl_print.proofs.head.put_dim_lines.Given as goal
 
 abbrev pub invariant-loop-dim : goal.invariant-loop-dim

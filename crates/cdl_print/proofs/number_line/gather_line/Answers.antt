@@ -1,7 +1,5 @@
 use Rattle.std.proofs.Common.{subst, sym}
-use Rattle.nc_base.specs.Numbers.{numbers}
-use Rattle.nc_base.specs.declared.nc_type.NcType.{NcType}
-use Rattle.cdl_print.specs.Printing.{PutLine}
+use Rattle.cdl_print.proofs.Prelude.{numbers, NcType, PutLine}
 use Rattle.cdl_print.proofs.number_line.gather_line.Goals as goal
 
 pub returns-in-Byte-clause-more : goal.returns-in-Byte-clause-more

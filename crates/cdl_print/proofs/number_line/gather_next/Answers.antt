@@ -1,6 +1,5 @@
 use Rattle.std.proofs.Common.{◌∙◌, ℤ, subst, to_z-of_z}
-use Rattle.std.specs.Int.{w128}
-use Rattle.cdl_print.specs.Printing.{PutNumber}
+use Rattle.cdl_print.proofs.Prelude.{w128, PutNumber}
 use Rattle.cdl_print.proofs.number_line.gather_next.Goals as goal
 
 pub returns-clause-put : goal.returns-clause-put

@@ -1,6 +1,5 @@
 use Rattle.std.proofs.Common.{◌≡◌, ◌+◌, ◌*◌, ◌≤◌, length, take}
-use Rattle.nc_base.specs.Numbers.{numbers}
-use Rattle.cdl_print.specs.Leads.{look_at}
+use Rattle.cdl_print.proofs.Prelude.{numbers, look_at}
 use Rattle.cdl_print.proofs.NumberRows.{IsInRow}
 use Rattle.cdl_print.proofs.number_line.gather_typed.Given as goal
 

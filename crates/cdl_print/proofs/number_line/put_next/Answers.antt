@@ -1,9 +1,5 @@
 use Rattle.std.proofs.Common.{◌≡◌, ◌∙◌, ℕ, true, List, ap, subst, sym, to_z-of_z, unsigned_abs}
-use Rattle.std.specs.Fmt.{decimal}
-use Rattle.std.specs.Int.{w128}
-use Rattle.cdl_print.specs.Fills.{shows_below_100}
-use Rattle.cdl_print.specs.Leads.{look_at}
-use Rattle.cdl_print.specs.Printing.{PutInRow}
+use Rattle.cdl_print.proofs.Prelude.{decimal, w128, shows_below_100, look_at, PutInRow}
 use Rattle.cdl_print.proofs.NumberRows.{shown_digits}
 use Rattle.cdl_print.proofs.number_line.put_next.Goals as goal
 

@@ -1,6 +1,5 @@
 use Rattle.std.proofs.Common.{◌≡◌, ◌∙◌, ◌+◌, ◌/◌, ◌==◌, ◌<◌, [], cond, arith, rules, ap, sym, refl, length}
-use Rattle.std.proofs.lemmas.List.{nil_from_length}
-use Rattle.nc_base.specs.Numbers.{numbers}
+use Rattle.cdl_print.proofs.Prelude.{nil_from_length, numbers}
 use Rattle.cdl_print.proofs.Joined.{numbers-none, size_some}
 use Rattle.cdl_print.proofs.Batches.{some_numbers}
 use Rattle.cdl_print.proofs.Takes.{length-numbers}

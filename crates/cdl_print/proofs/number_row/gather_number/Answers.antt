@@ -1,9 +1,6 @@
 use Rattle.std.proofs.Common.{◌∙◌, ◌++◌, List, ℕ, ap, length, take, append_assoc, to_z-of_z}
-use Rattle.std.specs.Int.{w128, cast_signed, cast_unsigned}
-use Rattle.nc_base.specs.ValueText.{number_text}
-use Rattle.cdl_number_text.specs.NumberTexts.{text_of}
-use Rattle.cdl_print.specs.Leads.{gap_bytes, next_gap, look_at}
-use Rattle.cdl_print.specs.Printing.{number_bytes}
+use Rattle.cdl_print.proofs.Prelude.{w128, cast_signed, cast_unsigned, number_text, gap_bytes, next_gap, look_at, number_bytes}
+use Rattle.cdl_number_text.specs.code.NumberTexts.{text_of}
 use Rattle.cdl_print.proofs.number_row.gather_number.Goals as goal
 
 pub returns-clause-text : goal.returns-clause-text

@@ -1,7 +1,5 @@
 use Rattle.std.proofs.Common.{◌+◌, ◌*◌, ◌≤◌, [], length, take}
-use Rattle.nc_base.specs.Numbers.{numbers}
-use Rattle.cdl_print.specs.Leads.{look_at}
-use Rattle.cdl_print.specs.Printing.{gathered}
+use Rattle.cdl_print.proofs.Prelude.{numbers, look_at, gathered}
 use Rattle.cdl_print.proofs.PrintingLaws.{IsUnderway}
 use Rattle.cdl_print.proofs.number_row.gather_numbers.Given as goal
 

@@ -1,7 +1,5 @@
 use Rattle.std.proofs.Common.{rules, arith, ap, length, length-append}
-use Rattle.std.proofs.lemmas.List.{nil_from_length}
-use Rattle.std.proofs.lemmas.Result.{err_from_is_err_and}
-use Rattle.nc_base.specs.Numbers.{numbers}
+use Rattle.cdl_print.proofs.Prelude.{nil_from_length, err_from_is_err_and, numbers}
 use Rattle.cdl_print.proofs.Batches.{batch_parts, batch_few}
 use Rattle.cdl_print.proofs.Joined.{numbers-none, size_some}
 use Rattle.cdl_print.proofs.PrintingLaws.{underway_at_first, underway_next, underway_failed, underway_after, underway_appended, underway_within}

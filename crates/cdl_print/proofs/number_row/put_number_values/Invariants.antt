@@ -1,6 +1,5 @@
 use Rattle.std.proofs.Common.{length}
-use Rattle.nc_base.specs.Numbers.{numbers}
-use Rattle.cdl_print.specs.Leads.{look_at}
+use Rattle.cdl_print.proofs.Prelude.{numbers, look_at}
 use Rattle.cdl_print.proofs.PrintingLaws.{IsUnderway}
 use Rattle.cdl_print.proofs.number_row.put_number_values.Given as goal
 

@@ -1,6 +1,4 @@
-use Rattle.std.proofs.lemmas.Result.{err_from_is_err_and}
-use Rattle.cdl_print.specs.Pieces.{var_rows}
-use Rattle.devices.proofs.Writes.{wrote_next, partway_next}
+use Rattle.cdl_print.proofs.Prelude.{err_from_is_err_and, var_rows, wrote_next, partway_next}
 use Rattle.cdl_print.proofs.variable.put_var_rows.Goals as goal
 
 pub loop-var-preserved : goal.loop-var-preserved

@@ -1,5 +1,4 @@
-use Rattle.nc_base.specs.HeadText.{var_lines}
-use Rattle.devices.proofs.Writes.{IsWritten}
+use Rattle.cdl_print.proofs.Prelude.{var_lines, IsWritten}
 use Rattle.cdl_print.proofs.variable.put_var_rows.Given as goal
 
 abbrev pub invariant-loop-var : goal.invariant-loop-var

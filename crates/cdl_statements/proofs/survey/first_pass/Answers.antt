@@ -1,9 +1,5 @@
 use Rattle.std.proofs.Common.{rules, sym, ap, ◌∙◌, []}
-use Rattle.cdl_statements.specs.Lexemes.{lexeme}
-use Rattle.cdl_statements.specs.Shapes.{first_bad, either, token_fault}
-use Rattle.cdl_statements.specs.DueTokens.{completes}
-use Rattle.cdl_statements.specs.Cutters.{next_token, text_of, words}
-use Rattle.cdl_statements.specs.Views.{lexeme_of}
+use Rattle.cdl_statements.proofs.Prelude.{lexeme, first_bad, either, token_fault, completes, next_token, text_of, words, lexeme_of}
 use Rattle.cdl_statements.proofs.Surveys.{bad_on, none_bad, going, ending}
 use Rattle.cdl_statements.proofs.survey.first_pass.Goals as goal
 

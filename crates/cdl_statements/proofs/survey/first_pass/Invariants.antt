@@ -1,7 +1,5 @@
 use Rattle.std.proofs.Common.{◌≡◌, ◌-◌, length, false}
-use Rattle.cdl_statements.specs.Shapes.{first_bad, either}
-use Rattle.cdl_statements.specs.DueTokens.{completes}
-use Rattle.cdl_statements.specs.Cutters.{words, after, is_done, offset_of, text_of, version_of}
+use Rattle.cdl_statements.proofs.Prelude.{first_bad, either, completes, words, after, is_done, offset_of, text_of, version_of}
 use Rattle.cdl_statements.proofs.survey.first_pass.Given as goal
 
 abbrev pub invariant-tokens : goal.invariant-tokens

@@ -1,5 +1,5 @@
 use Rattle.std.proofs.Common.{sym, ◌∙◌}
-use Rattle.cdl_statements.specs.Cutters.{version_of, words}
+use Rattle.cdl_statements.specs.code.Cutters.{version_of, words}
 use Rattle.cdl_statements.proofs.Sections.{piece_completes}
 use Rattle.cdl_statements.proofs.StatementsSaid.{said_is}
 use Rattle.cdl_statements.proofs.survey.look_over.Goals as goal

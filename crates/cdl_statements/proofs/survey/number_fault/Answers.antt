@@ -1,5 +1,4 @@
-use Rattle.std.proofs.Common.{rules, ◌≡◌, true, false, sym, ◌∙◌, refl}
-use Rattle.std.specs.Prelude.{is_none}
+use Rattle.std.proofs.Common.{rules, ◌≡◌, true, false, sym, ◌∙◌, refl, is_none}
 use Rattle.cdl_tokens.specs.Numerals.{numeral}
 use Rattle.cdl_statements.proofs.Surveys.{bad_number}
 use Rattle.cdl_statements.proofs.survey.number_fault.Goals as goal

@@ -1,12 +1,11 @@
-use Rattle.std.proofs.Common.{length, ◌-◌, ◌≡◌, ◌≤◌, drop}
-use Rattle.std.specs.Prelude.{is_some}
-use Rattle.cdl_tokens.specs.Escapes.{unescape}
+use Rattle.std.proofs.Common.{length, ◌-◌, ◌≡◌, ◌≤◌, drop, is_some}
+use Rattle.cdl_tokens.proofs.Prelude.{list_all, unescape}
 use Rattle.cdl_tokens.proofs.escape.is_string.Given as goal
 
 abbrev pub invariant-loop-at : goal.invariant-loop-at
 invariant-loop-at l = record {
   within : l.at ≤ length l.raw;
-  rest : is_some (unescape (drop l.at l.raw)) ≡ is_some (unescape l.raw);
+  rest : list_all is_some (unescape (drop l.at l.raw)) ≡ list_all is_some (unescape l.raw);
 }
 
 abbrev pub decreases-loop-at : goal.decreases-loop-at

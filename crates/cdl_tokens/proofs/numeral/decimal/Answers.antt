@@ -1,7 +1,5 @@
-use Rattle.std.proofs.Common.{rules, ◌≡◌, false, drop, sym, ap, ◌∙◌}
-use Rattle.std.specs.Prelude.{◌==◌, nat_lt, slice_index}
-use Rattle.cdl_tokens.specs.Bytes.{is_digit}
-use Rattle.cdl_tokens.specs.Numerals.{suffix}
+use Rattle.std.proofs.Common.{rules, ◌≡◌, false, drop, sym, ap, ◌∙◌, ◌==◌, nat_lt, slice_index}
+use Rattle.cdl_tokens.proofs.Prelude.{is_digit, suffix}
 use Rattle.cdl_tokens.proofs.Decimals.{all_read, said}
 use Rattle.cdl_tokens.proofs.numeral.decimal.Goals as goal
 
@@ -12,7 +10,7 @@ returns c =
     let value = c.first_digits-n.result.1 in
     let back = c.split_at.ensures.back in
     let off : is_digit (slice_index (drop n bs) 0) ≡ false = ap (λ xs. is_digit (slice_index xs 0)) (sym back) ∙ ap is_digit (sym c.byte_at.ensures) ∙ sym c.is_digit.ensures ∙ c.if-is_digit.false in
-    let all = all_read bs n value c.first_digits-n.ensures.count c.first_digits-n.ensures.value off in
+    let all = all_read bs n value c.first_digits-n.ensures off in
     let some : (n == 0) ≡ false = search rules in
     let small : nat_lt 18446744073709551615 value ≡ false = search rules in
     said c.args.version c.args.minus bs n value c.in_ok-suffix.field-0 all.0 all.1 (ap (suffix c.args.version) (sym back) ∙ sym c.in_ok-suffix.ensures) some small

@@ -1,4 +1,4 @@
-use Rattle.std.proofs.Common.{arith, rules, ◌≡◌, ◌<◌, ◌≤◌, length, true, ◌∙◌, slice_index_or}
+use Rattle.std.proofs.Common.{arith, rules, ◌≡◌, ◌<◌, ◌≤◌, length, true, slice_index_or}
 use Rattle.cdl_tokens.specs.Bytes.{is_digit}
 use Rattle.cdl_tokens.proofs.Decimals.{one_digit}
 use Rattle.cdl_tokens.proofs.Sizes.{one_longer, short_number}
@@ -12,13 +12,10 @@ digits-preserved c =
     let test = c.digits-test.true in
     let most = c.min-most.ensures in
     let room : l.at < length bs = omega (arith, test, most) in
-    let more = one_digit bs l.at l.value room is in
     record {
       short = omega (arith, test, most);
       small = one_longer l.at l.value (slice_index_or bs l.at 0) l.invariant.small is;
-      within = omega (arith, room);
-      count = more.0 ∙ l.invariant.count;
-      value = more.1 ∙ l.invariant.value;
+      read = one_digit bs l.at l.value room is l.invariant.read;
     }
 
 pub overflow_mul-value : goal.overflow_mul-value

@@ -1,8 +1,5 @@
 use Rattle.std.proofs.Common.{arith, ◌≡◌, ◌+◌, ap, ◌∙◌, drop}
-use Rattle.std.proofs.lemmas.Bool.{ne_eqb}
-use Rattle.std.specs.List.{prefix_len}
-use Rattle.cdl_tokens.specs.Scan.{until}
-use Rattle.cdl_tokens.specs.Scanners.{is_ordinary}
+use Rattle.cdl_tokens.proofs.Prelude.{ne_eqb, prefix_len, until, is_ordinary}
 use Rattle.cdl_tokens.proofs.Words.{until_byte, until_run}
 use Rattle.cdl_tokens.proofs.scan.until.Goals as goal
 

@@ -1,8 +1,5 @@
-use Rattle.std.proofs.Common.{arith, ◌≡◌, false, drop, take, sym, ap, ◌∙◌}
-use Rattle.std.proofs.lemmas.List.{length-drop}
-use Rattle.std.specs.Prelude.{not}
-use Rattle.std.specs.List.{list_any}
-use Rattle.cdl_tokens.specs.Scanners.{is_none_of}
+use Rattle.std.proofs.Common.{arith, ◌≡◌, false, drop, take, sym, ap, ◌∙◌, not}
+use Rattle.cdl_tokens.proofs.Prelude.{length-drop, list_any, is_none_of}
 use Rattle.cdl_tokens.proofs.Searches.{past_block}
 use Rattle.cdl_tokens.proofs.search.far_len.Goals as goal
 

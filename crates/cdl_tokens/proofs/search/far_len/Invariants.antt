@@ -1,6 +1,5 @@
 use Rattle.std.proofs.Common.{◌≡◌, ◌≤◌, ◌+◌, ◌-◌, length, drop}
-use Rattle.std.specs.List.{prefix_len}
-use Rattle.cdl_tokens.specs.Scanners.{is_none_of}
+use Rattle.cdl_tokens.proofs.Prelude.{prefix_len, is_none_of}
 use Rattle.cdl_tokens.proofs.search.far_len.Given as goal
 
 abbrev pub invariant-loop-at : goal.invariant-loop-at

@@ -1,7 +1,5 @@
-use Rattle.std.proofs.Common.{◌≡◌, take}
-use Rattle.std.specs.Prelude.{not}
-use Rattle.std.specs.List.{list_any}
-use Rattle.cdl_tokens.specs.Scanners.{is_none_of}
+use Rattle.std.proofs.Common.{◌≡◌, take, not}
+use Rattle.cdl_tokens.proofs.Prelude.{list_any, is_none_of}
 use Rattle.cdl_tokens.proofs.search.has_any.Given as goal
 
 abbrev pub invariant-loop-x : goal.invariant-loop-x

@@ -1,6 +1,5 @@
 use Rattle.std.proofs.Common.{arith, ◌≡◌, ◌++◌, take, sym, ap, ◌∙◌}
-use Rattle.std.proofs.lemmas.List.{take-append-drop}
-use Rattle.cdl_tokens.specs.Scanners.{is_none_of}
+use Rattle.cdl_tokens.proofs.Prelude.{take-append-drop, is_none_of}
 use Rattle.cdl_tokens.proofs.Searches.{goes_far, stops_near}
 use Rattle.cdl_tokens.proofs.search.len_before.Goals as goal
 

@@ -1,7 +1,5 @@
-use Rattle.std.proofs.Common.{rules, arith, ◌≡◌, ◌<◌, true}
-use Rattle.std.specs.Prelude.{slice_index}
-use Rattle.nc_base.specs.declared.nc_type.NcType.TheVariants.{Char}
-use Rattle.cdl_meaning.specs.State.{same_type}
+use Rattle.std.proofs.Common.{rules, arith, ◌≡◌, ◌<◌, true, slice_index}
+use Rattle.cdl_values.proofs.Prelude.{Char, same_type}
 use Rattle.cdl_values.proofs.ConstantBytes.{characters_left}
 use Rattle.cdl_values.proofs.constant.put_characters.Goals as goal
 

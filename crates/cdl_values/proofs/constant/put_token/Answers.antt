@@ -1,11 +1,5 @@
-use Rattle.std.proofs.Common.{ap, sym, subst}
-use Rattle.std.specs.Prelude.{List}
-use Rattle.cdl_statements.specs.Contents.{value_of, values}
-use Rattle.cdl_statements.specs.Lexemes.{is_mark_kind}
-use Rattle.cdl_statements.specs.Shapes.{Value}
-use Rattle.cdl_statements.specs.Views.{lexeme_of}
-use Rattle.cdl_meaning.specs.State.{add_constant, in_turn}
-use Rattle.cdl_values.specs.Answers.{Continues}
+use Rattle.std.proofs.Common.{ap, sym, subst, List}
+use Rattle.cdl_values.proofs.Prelude.{value_of, values, is_mark_kind, Value, lexeme_of, add_constant, in_turn, ContinuesRead}
 use Rattle.cdl_values.proofs.ConstantBytes.{turn_on}
 use Rattle.cdl_values.proofs.PackedTokens.{over_mark, over_value, no_mark}
 use Rattle.cdl_values.proofs.constant.put_token.Goals as goal
@@ -15,7 +9,7 @@ returns-in_default c = λ rest.
     let a = c.args in
     let l = lexeme_of a.token in
     let after = c.put_constant.new.vals in
-    subst (λ (vs : List Value). Continues (λ u. in_turn (add_constant a.ty) after (values a.version rest)) c.put_constant.result (in_turn (add_constant a.ty) a.vals.now vs))
+    subst (λ (vs : List Value). ContinuesRead (λ u. in_turn (add_constant a.ty) after (values a.version rest)) c.put_constant.result (in_turn (add_constant a.ty) a.vals.now vs))
     (sym (over_value a.version l rest (no_mark l.kind c.in_default.not-Mark)))
     (turn_on (add_constant a.ty) a.vals.now after (value_of a.version l l.kind) (values a.version rest) c.put_constant.result c.put_constant.ensures)
 

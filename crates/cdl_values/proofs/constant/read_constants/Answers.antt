@@ -1,10 +1,5 @@
 use Rattle.std.proofs.Common.{rules, ◌≡◌, [], ap, sym, ◌∙◌}
-use Rattle.cdl_statements.specs.Contents.{values}
-use Rattle.cdl_statements.specs.Cutters.{next_token, text_of, words}
-use Rattle.cdl_statements.specs.Lexemes.{lexeme}
-use Rattle.cdl_statements.specs.Views.{lexeme_of}
-use Rattle.cdl_statements.proofs.Surveys.{ending}
-use Rattle.cdl_meaning.specs.State.{add_constant, in_turn}
+use Rattle.cdl_values.proofs.Prelude.{values, next_token, text_of, words, lexeme, lexeme_of, ending, add_constant, in_turn}
 use Rattle.cdl_values.proofs.ConstantBytes.{none_left}
 use Rattle.cdl_values.proofs.constant.read_constants.Goals as goal
 

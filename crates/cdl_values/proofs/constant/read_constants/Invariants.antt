@@ -1,7 +1,5 @@
 use Rattle.std.proofs.Common.{◌≡◌, ◌-◌, [], length, false}
-use Rattle.cdl_statements.specs.Contents.{values}
-use Rattle.cdl_statements.specs.Cutters.{words, is_done, offset_of, text_of}
-use Rattle.cdl_meaning.specs.State.{add_constant, in_turn}
+use Rattle.cdl_values.proofs.Prelude.{values, words, is_done, offset_of, text_of, add_constant, in_turn}
 use Rattle.cdl_values.proofs.constant.read_constants.Given as goal
 
 abbrev pub invariant-tokens : goal.invariant-tokens

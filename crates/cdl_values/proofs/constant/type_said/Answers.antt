@@ -1,8 +1,5 @@
 use Rattle.std.proofs.Common.{ap, sym, ◌∙◌}
-use Rattle.cdl_statements.specs.Contents.{value_of}
-use Rattle.cdl_statements.specs.Views.{lexeme_of}
-use Rattle.cdl_tokens.specs.declared.numeral.Numeral.{Numeral}
-use Rattle.cdl_meaning.specs.State.{type_said}
+use Rattle.cdl_values.proofs.Prelude.{value_of, lexeme_of, Numeral, type_said}
 use Rattle.cdl_values.proofs.ConstantBytes.{no_number}
 use Rattle.cdl_values.proofs.constant.type_said.Goals as goal
 

@@ -1,9 +1,5 @@
 use Rattle.std.proofs.Common.{arith, ◌≤◌, length, subst, List, ℕ}
-use Rattle.cdl_statements.specs.Cutters.{version_of, words}
-use Rattle.cdl_values.specs.Answers.{Gives}
-use Rattle.cdl_values.specs.Capacities.{most}
-use Rattle.cdl_values.specs.DataRead.{data_read}
-use Rattle.cdl_values.specs.declared.data.Given.{Given}
+use Rattle.cdl_values.proofs.Prelude.{version_of, words, GivesRead, most, data_read, Given}
 use Rattle.cdl_values.proofs.Counts.{words_len}
 use Rattle.cdl_values.proofs.Joins.{reads_statement}
 use Rattle.cdl_values.proofs.data.read.Goals as goal
@@ -14,4 +10,4 @@ returns-clause-means c = λ s at.
     let ws = words c.args.start in
     let few : length ws ≤ most = let h = words_len c.args.start in let short = at.short in omega (arith, h, short) in
     reads_statement (λ (g : Given). g.array) c.read_either.result v s c.args.targets.now ws at.section at.suit at.lists few
-    (subst (λ (names : List (List ℕ)). Gives (λ (g : Given). g.array) c.read_either.result (data_read v names c.args.targets.now ws)) at.named c.read_either.ensures.read)
+    (subst (λ (names : List (List ℕ)). GivesRead (λ (g : Given). g.array) c.read_either.result (data_read v names c.args.targets.now ws)) at.named c.read_either.ensures.read)

@@ -1,16 +1,6 @@
 use Rattle.std.proofs.Common.{rules, ◌≡◌, sym, ap, ◌∙◌, true}
-use Rattle.cdl_tokens.specs.Escapes.{word_value}
-use Rattle.cdl_statements.specs.Lexemes.{Lexeme, lexeme}
-use Rattle.cdl_statements.specs.DueTokens.{completes}
-use Rattle.cdl_statements.specs.declared.due.Due.TheVariants.{DataName}
-use Rattle.cdl_statements.specs.Cutters.{next_token, text_of, version_of, words}
-use Rattle.cdl_statements.specs.Views.{lexeme_of}
-use Rattle.cdl_statements.specs.Contents.{values}
-use Rattle.cdl_statements.specs.Shapes.{first_bad}
+use Rattle.cdl_values.proofs.Prelude.{word_value, Lexeme, lexeme, completes, DataName, next_token, text_of, version_of, words, lexeme_of, values, first_bad, going, target_of, packed}
 use Rattle.cdl_statements.specs.declared.due.Due.TheVariants as dues
-use Rattle.cdl_statements.proofs.Surveys.{going}
-use Rattle.cdl_values.specs.DataRead.{target_of}
-use Rattle.cdl_values.specs.PackedValues.{packed}
 use Rattle.cdl_values.proofs.DataReads.{read_on, filled_ok, quick_good}
 use Rattle.cdl_values.proofs.data.read_quickly.Goals as goal
 

@@ -1,16 +1,5 @@
-use Rattle.std.proofs.Common.{rules, ◌≡◌, sym, ap, ◌∙◌, true, false, subst}
-use Rattle.std.specs.Prelude.{Result, List, ℕ}
-use Rattle.cdl_statements.specs.Contents.{values}
-use Rattle.cdl_tokens.specs.Escapes.{word_value}
-use Rattle.cdl_statements.specs.Lexemes.{Lexeme, lexeme}
-use Rattle.cdl_statements.specs.DueTokens.{completes}
-use Rattle.cdl_statements.specs.declared.due.Due.TheVariants.{DataName}
-use Rattle.cdl_statements.specs.Cutters.{next_token, text_of, version_of, words}
-use Rattle.cdl_statements.specs.declared.fault.CdlKind.{CdlKind}
-use Rattle.cdl_values.specs.Answers.{Fails}
-use Rattle.cdl_values.specs.PackedValues.{packed}
-use Rattle.cdl_values.specs.DataRead.{data_read, filled, target_of}
-use Rattle.cdl_values.specs.declared.data.Given.{Given}
+use Rattle.std.proofs.Common.{rules, ◌≡◌, sym, ap, ◌∙◌, true, false, subst, Result, List, ℕ}
+use Rattle.cdl_values.proofs.Prelude.{values, word_value, Lexeme, lexeme, completes, DataName, next_token, text_of, version_of, words, CdlKind, FailsRead, packed, data_read, packed_for, target_of, Given}
 use Rattle.cdl_values.proofs.AllowedNames.{refused}
 use Rattle.cdl_values.proofs.DataReads.{bad_read, no_fault, unshaped_read, read_on, name_goes, name_on, equals_goes, filled_ok, filled_err}
 use Rattle.cdl_values.proofs.data.read_slowly.Goals as goal
@@ -63,7 +52,7 @@ returns-in_err-array-clause-read c =
     filled_ok version (words c.advanced-2.result.0) (target_of names c.args.targets.now (word_value n.bytes)) target (ap (λ (l : Lexeme). target_of names c.args.targets.now (word_value l.bytes)) (sym c.lexeme-name.ensures.lexeme) ∙ c.in_ok-position.ensures.target) ∙
     ap (λ v. packed target.filling target.capacity (values v (words c.advanced-2.result.0))) (sym (c.advanced-2.ensures.same.version ∙ c.advanced.ensures.same.version)) in
     refused (λ (g : Given). g.array) c.from_residual-in_err-array.result e (data_read version names c.args.targets.now (words c.args.start)) (search rules)
-    (subst (λ (r : Result (List ℕ) CdlKind). Fails e r) (sym read) c.in_err-array.ensures)
+    (subst (λ (r : Result (List ℕ) CdlKind). FailsRead e r) (sym read) c.in_err-array.ensures)
 
 pub returns-in_err-position-clause-read : goal.returns-in_err-position-clause-read
 returns-in_err-position-clause-read c =
@@ -75,6 +64,6 @@ returns-in_err-position-clause-read c =
     let e = c.in_err-position.field-0.0 in
     let read = read_on version names c.args.targets.now (words c.args.start) (words equals) (words c.advanced-2.result.0) n (lexeme (text_of equals) (next_token equals)) c.advanced.result.1 c.advanced-2.result.1
     c.advanced.ensures.words c.advanced-2.ensures.words (sym c.first_pass-found.ensures.bad ∙ no_fault c.first_pass-found.result.bad c.in_default.not-Some) on ∙
-    ap (λ (l : Lexeme). filled version (words c.advanced-2.result.0) (target_of names c.args.targets.now (word_value l.bytes))) (sym c.lexeme-name.ensures.lexeme) in
+    ap (λ (l : Lexeme). packed_for version (words c.advanced-2.result.0) (target_of names c.args.targets.now (word_value l.bytes))) (sym c.lexeme-name.ensures.lexeme) in
     refused (λ (g : Given). g.array) c.from_residual.result e (data_read version names c.args.targets.now (words c.args.start)) (search rules)
-    (subst (λ (r : Result (List ℕ) CdlKind). Fails e r) (sym read) (filled_err version (words c.advanced-2.result.0) (target_of names c.args.targets.now (word_value c.lexeme-name.result.bytes.now)) e (c.in_err-position.ensures.target)))
+    (subst (λ (r : Result (List ℕ) CdlKind). FailsRead e r) (sym read) (filled_err version (words c.advanced-2.result.0) (target_of names c.args.targets.now (word_value c.lexeme-name.result.bytes.now)) e (c.in_err-position.ensures.target)))

@@ -1,13 +1,5 @@
-use Rattle.std.proofs.Common.{rules, sym, ap, ◌∙◌, [], List, Ok, subst}
-use Rattle.std.specs.Prelude.{Result, ℕ, if◌then◌else◌}
-use Rattle.cdl_statements.specs.declared.fault.CdlKind.{CdlKind}
-use Rattle.cdl_statements.specs.Contents.{values}
-use Rattle.cdl_statements.specs.Lexemes.{lexeme}
-use Rattle.cdl_statements.specs.Cutters.{next_token, text_of, version_of, words}
-use Rattle.cdl_statements.specs.Views.{lexeme_of}
-use Rattle.cdl_statements.proofs.Surveys.{going, ending, first_word}
-use Rattle.cdl_values.specs.Answers.{Fails}
-use Rattle.cdl_values.specs.PackedValues.{packed, joined}
+use Rattle.std.proofs.Common.{rules, sym, ap, ◌∙◌, [], List, Ok, subst, Result, ℕ, if◌then◌else◌}
+use Rattle.cdl_values.proofs.Prelude.{CdlKind, values, lexeme, next_token, text_of, version_of, words, lexeme_of, going, ending, first_word, FailsRead, packed, joined}
 use Rattle.nc_base.specs.declared.listed_array.ListedArray.{ListedArray}
 use Rattle.cdl_values.proofs.AllowedNames.{refused}
 use Rattle.cdl_values.proofs.PackedTokens.{none_packed}
@@ -43,4 +35,4 @@ returns-in_err-left c =
     let rest = if c.advance-ends.result then [] else words c.advance-ends.new.self in
     let here = first_word (words t.cutter) (words c.advance-ends.new.self) (lexeme (text_of t.cutter) (next_token t.cutter)) l c.advance-ends.result c.advance-ends.ensures.words (sym c.lexeme-token.ensures.lexeme) in
     refused (λ (array : ListedArray). array) c.from_residual.result c.in_err-left.field-0.0 (packed a.filling a.capacity (values (version_of a.start) (words a.start))) (search rules)
-    (subst (λ (r : Result (List ℕ) CdlKind). Fails c.in_err-left.field-0.0 r) (sym (ap (λ v. packed a.filling a.capacity (values v (words a.start))) (sym c.version-version.ensures) ∙ sym t.invariant.rest ∙ ap (λ ws. joined (Ok t.array) (packed a.filling t.left (values c.version-version.result ws))) here)) (c.in_err-left.ensures rest))
+    (subst (λ (r : Result (List ℕ) CdlKind). FailsRead c.in_err-left.field-0.0 r) (sym (ap (λ v. packed a.filling a.capacity (values v (words a.start))) (sym c.version-version.ensures) ∙ sym t.invariant.rest ∙ ap (λ ws. joined (Ok t.array) (packed a.filling t.left (values c.version-version.result ws))) here)) (c.in_err-left.ensures rest))

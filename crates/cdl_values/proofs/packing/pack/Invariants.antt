@@ -1,7 +1,5 @@
 use Rattle.std.proofs.Common.{◌≡◌, ◌-◌, length, false, Ok}
-use Rattle.cdl_statements.specs.Cutters.{words, is_done, offset_of, text_of, version_of}
-use Rattle.cdl_statements.specs.Contents.{values}
-use Rattle.cdl_values.specs.PackedValues.{packed, joined}
+use Rattle.cdl_values.proofs.Prelude.{words, is_done, offset_of, text_of, version_of, values, packed, joined}
 use Rattle.cdl_values.proofs.packing.pack.Given as goal
 
 abbrev pub invariant-tokens : goal.invariant-tokens

@@ -1,8 +1,5 @@
-use Rattle.std.proofs.Common.{rules, arith, ◌≡◌, ◌<◌, ◌+◌, ◌++◌, ◌-◌, drop, length, sym, ap, ◌∙◌, refl, Ok, true, false, append_assoc}
-use Rattle.std.proofs.lemmas.List.{get_or-drop}
-use Rattle.std.specs.Prelude.{nat_lt, replicate, slice_index}
-use Rattle.cdl_tokens.specs.Escapes.{inner, stands}
-use Rattle.cdl_values.specs.PackedValues.{char_bytes}
+use Rattle.std.proofs.Common.{rules, arith, ◌≡◌, ◌<◌, ◌+◌, ◌++◌, ◌-◌, drop, length, sym, ap, ◌∙◌, refl, Ok, true, false, append_assoc, nat_lt, replicate, slice_index}
+use Rattle.cdl_values.proofs.Prelude.{get_or-drop, inner, stands, char_bytes}
 use Rattle.cdl_values.proofs.ConstantBytes.{first_stay}
 use Rattle.cdl_values.proofs.string.put_plain_row.Goals as goal
 

@@ -1,7 +1,5 @@
-use Rattle.std.proofs.Common.{rules, arith, ◌≡◌, ◌+◌, ◌-◌, ◌++◌, length, sym, ap, ◌∙◌, refl, length-append, Ok, true, false, append_assoc}
-use Rattle.std.specs.Prelude.{List, ℕ, nat_lt, replicate}
-use Rattle.cdl_tokens.specs.Escapes.{inner, stands}
-use Rattle.cdl_values.specs.PackedValues.{char_bytes}
+use Rattle.std.proofs.Common.{rules, arith, ◌≡◌, ◌+◌, ◌-◌, ◌++◌, length, sym, ap, ◌∙◌, refl, length-append, Ok, true, false, append_assoc, List, ℕ, nat_lt, replicate}
+use Rattle.cdl_values.proofs.Prelude.{inner, stands, char_bytes}
 use Rattle.cdl_values.proofs.PackedTokens.{chars_len}
 use Rattle.cdl_values.proofs.string.put_row.Goals as goal
 

@@ -1,6 +1,5 @@
 use Rattle.std.proofs.Common.{length, ◌-◌, ◌≡◌, ◌++◌, drop}
-use Rattle.cdl_tokens.specs.Escapes.{stands}
-use Rattle.cdl_values.specs.PackedValues.{char_bytes}
+use Rattle.cdl_values.proofs.Prelude.{stands, char_bytes}
 use Rattle.cdl_values.proofs.string.put_string.Given as goal
 
 abbrev pub invariant-loop-at : goal.invariant-loop-at

@@ -1,7 +1,5 @@
-use Rattle.std.proofs.Common.{rules, arith, ◌≡◌, ◌+◌, ◌++◌, length, sym, ap, ◌∙◌, refl, length-append, Ok, true, false}
-use Rattle.std.specs.Prelude.{List, ℕ}
-use Rattle.cdl_tokens.specs.Escapes.{inner, stands}
-use Rattle.cdl_values.specs.PackedValues.{char_bytes, is_past}
+use Rattle.std.proofs.Common.{rules, arith, ◌≡◌, ◌+◌, ◌++◌, length, sym, ap, ◌∙◌, refl, length-append, Ok, true, false, List, ℕ}
+use Rattle.cdl_values.proofs.Prelude.{inner, stands, char_bytes, is_past}
 use Rattle.cdl_values.proofs.PackedTokens.{chars_len}
 use Rattle.cdl_values.proofs.string.put_text.Goals as goal
 

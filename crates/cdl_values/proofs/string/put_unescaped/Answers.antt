@@ -1,5 +1,4 @@
-use Rattle.std.proofs.Common.{rules, arith, ◌≡◌, ◌<◌, ◌++◌, take, sym, ap, ◌∙◌}
-use Rattle.std.specs.Prelude.{slice_index}
+use Rattle.std.proofs.Common.{rules, arith, ◌≡◌, ◌<◌, ◌++◌, take, sym, ap, ◌∙◌, slice_index}
 use Rattle.cdl_values.proofs.ConstantBytes.{first_stay}
 use Rattle.cdl_values.proofs.string.put_unescaped.Goals as goal
 

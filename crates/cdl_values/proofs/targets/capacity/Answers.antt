@@ -1,7 +1,5 @@
 use Rattle.std.proofs.Common.{◌≡◌, ◌-◌, sym, ap, ◌∙◌, length, map, take, min, false}
-use Rattle.nc_base.specs.Sizes.{dim_len, is_record_var, product}
-use Rattle.cdl_meaning.specs.State.{capacity_of}
-use Rattle.cdl_values.specs.Capacities.{most}
+use Rattle.cdl_values.proofs.Prelude.{dim_len, is_record_var, product, capacity_of, most}
 use Rattle.cdl_values.proofs.Places.{takes_numbers, takes_joined, takes_rows}
 use Rattle.cdl_values.proofs.targets.capacity.Goals as goal
 

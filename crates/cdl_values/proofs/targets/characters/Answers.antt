@@ -1,11 +1,5 @@
-use Rattle.std.proofs.Common.{rules, ◌≡◌, ◌-◌, sym, ap, ◌∙◌, subst, nat_lt, length, false, to_z, of_z}
-use Rattle.std.specs.Prelude.{not, slice_index, unsigned_abs, [], ◌∷◌}
-use Rattle.std.specs.Int.{w128}
-use Rattle.std.proofs.lemmas.Int.{to_z-of_z}
-use Rattle.nc_base.specs.Numbers.{IsInRange, bytes_of_number}
-use Rattle.nc_base.specs.Sizes.{dim_len}
-use Rattle.nc_base.specs.declared.nc_type.NcType.TheVariants.{Char}
-use Rattle.cdl_meaning.specs.State.{capacity_of}
+use Rattle.std.proofs.Common.{rules, ◌≡◌, ◌-◌, sym, ap, ◌∙◌, subst, nat_lt, length, false, to_z, of_z, not, slice_index, unsigned_abs, [], ◌∷◌}
+use Rattle.cdl_values.proofs.Prelude.{w128, to_z-of_z, IsInRange, bytes_of_number, dim_len, Char, capacity_of}
 use Rattle.cdl_values.proofs.Places.{char_byte}
 use Rattle.cdl_values.proofs.targets.characters.Goals as goal
 

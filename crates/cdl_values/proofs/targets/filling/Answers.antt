@@ -1,8 +1,5 @@
 use Rattle.std.proofs.Common.{sym, ◌∙◌, ap}
-use Rattle.std.specs.Int.{w128}
-use Rattle.std.proofs.lemmas.Int.{to_z-of_z}
-use Rattle.nc_base.specs.ValueText.{is_char}
-use Rattle.cdl_meaning.specs.State.{capacity_of}
+use Rattle.cdl_values.proofs.Prelude.{w128, to_z-of_z, is_char, capacity_of}
 use Rattle.cdl_values.proofs.Places.{no_char}
 use Rattle.cdl_values.proofs.targets.filling.Goals as goal
 

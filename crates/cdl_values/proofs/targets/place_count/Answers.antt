@@ -1,7 +1,6 @@
 use Rattle.std.proofs.Common.{◌≡◌, ◌+◌, ◌*◌, min, get_or, drop, map, arith, ◌∙◌, ap}
-use Rattle.nc_base.specs.Sizes.{dim_len, product}
+use Rattle.cdl_values.proofs.Prelude.{dim_len, product, most}
 use Rattle.nc_base.proofs.SizeLaws.{capped_more, capped_all}
-use Rattle.cdl_values.specs.Capacities.{most}
 use Rattle.cdl_values.proofs.targets.place_count.Goals as goal
 
 pub loop-id-preserved : goal.loop-id-preserved

@@ -1,6 +1,5 @@
 use Rattle.std.proofs.Common.{◌≡◌, ◌*◌, ◌≤◌, drop, map, min}
-use Rattle.nc_base.specs.Sizes.{dim_len, product}
-use Rattle.cdl_values.specs.Capacities.{most}
+use Rattle.cdl_values.proofs.Prelude.{dim_len, product, most}
 use Rattle.cdl_values.proofs.targets.place_count.Given as goal
 
 -- what has been multiplied, times the lengths that are left, keeps the capped product

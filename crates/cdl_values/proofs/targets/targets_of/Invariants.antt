@@ -1,8 +1,7 @@
 use Rattle.std.proofs.Common.{take}
-use Rattle.cdl_values.specs.Listed.{AreShaped, fresh}
-use Rattle.cdl_values.specs.Meant.{Suit}
+use Rattle.cdl_values.proofs.Prelude.{AreShaped, unlisted_drafts, AllSuit}
 use Rattle.cdl_values.proofs.targets.targets_of.Given as goal
 
 -- the targets so far suit the variables so far
 abbrev pub invariant-loop-var : goal.invariant-loop-var
-invariant-loop-var l = AreShaped l.dims (fresh l.vars) → Suit l.dims l.targets.items (fresh (take l.var-index l.vars))
+invariant-loop-var l = AreShaped l.dims (unlisted_drafts l.vars) → AllSuit l.dims l.targets.items (unlisted_drafts (take l.var-index l.vars))

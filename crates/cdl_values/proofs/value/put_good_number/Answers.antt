@@ -1,9 +1,5 @@
-use Rattle.std.proofs.Common.{rules, ◌≡◌, sym, ◌∙◌, Ok, false}
-use Rattle.std.specs.Prelude.{Some, option_map}
-use Rattle.cdl_statements.specs.Contents.{value_of}
-use Rattle.cdl_tokens.specs.Numerals.{parts}
-use Rattle.cdl_tokens.specs.Magnitudes.{held}
-use Rattle.cdl_values.specs.PackedValues.{joined, held_bytes, is_full}
+use Rattle.std.proofs.Common.{rules, ◌≡◌, sym, ◌∙◌, Ok, false, Some, option_map}
+use Rattle.cdl_values.proofs.Prelude.{value_of, parts, held, joined, held_bytes, is_full}
 use Rattle.cdl_values.proofs.Ranges.{number_added}
 use Rattle.cdl_values.proofs.value.put_good_number.Goals as goal
 

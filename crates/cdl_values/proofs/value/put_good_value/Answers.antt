@@ -1,10 +1,6 @@
-use Rattle.std.proofs.Common.{◌≡◌, sym, ap, ◌∙◌, Ok, drop, length, length-drop}
-use Rattle.std.specs.Prelude.{◌-◌}
-use Rattle.cdl_statements.specs.Contents.{values, value_of}
-use Rattle.cdl_statements.specs.Lexemes.{is_mark_kind}
-use Rattle.cdl_statements.specs.Views.{lexeme_of, lexeme_with}
+use Rattle.std.proofs.Common.{◌≡◌, sym, ap, ◌∙◌, Ok, drop, length, length-drop, ◌-◌}
+use Rattle.cdl_values.proofs.Prelude.{values, value_of, is_mark_kind, lexeme_of, lexeme_with, packed, joined, bytes_of}
 use Rattle.cdl_tokens.specs.declared.token.TokenKind.TheVariants.{Number}
-use Rattle.cdl_values.specs.PackedValues.{packed, joined, bytes_of}
 use Rattle.cdl_values.proofs.PackedTokens.{over_value, one_packed, no_mark, added, is_after}
 use Rattle.cdl_values.proofs.value.put_good_value.Goals as goal
 

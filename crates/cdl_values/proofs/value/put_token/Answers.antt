@@ -1,11 +1,5 @@
-use Rattle.std.proofs.Common.{rules, ◌∷◌, sym, ap, ◌∙◌, Ok, subst, drop, length, length-drop}
-use Rattle.std.specs.Prelude.{List, ◌-◌}
-use Rattle.cdl_statements.specs.Contents.{values, value_of}
-use Rattle.cdl_statements.specs.Shapes.{Value}
-use Rattle.cdl_statements.specs.Lexemes.{is_mark_kind}
-use Rattle.cdl_statements.specs.Views.{lexeme_of}
-use Rattle.cdl_values.specs.PackedValues.{packed, joined, bytes_of}
-use Rattle.cdl_values.specs.Answers.{Fails}
+use Rattle.std.proofs.Common.{rules, ◌∷◌, sym, ap, ◌∙◌, Ok, subst, drop, length, length-drop, List, ◌-◌}
+use Rattle.cdl_values.proofs.Prelude.{values, value_of, Value, is_mark_kind, lexeme_of, packed, joined, bytes_of, FailsRead}
 use Rattle.cdl_values.proofs.AllowedNames.{stopped}
 use Rattle.cdl_values.proofs.PackedTokens.{over_mark, over_value, one_packed, refused, no_mark, added, is_after}
 use Rattle.cdl_values.proofs.value.put_token.Goals as goal
@@ -35,5 +29,5 @@ returns-in_err-put-in_default c = λ rest.
     let v = value_of a.version l l.kind in
     let read = joined (Ok a.array.now) (packed a.filling a.capacity (values a.version (l ∷ rest))) in
     stopped (λ left. joined (Ok c.put.new.array) (packed a.filling left (values a.version rest))) c.from_residual.result c.in_err-put-in_default.field-0.0 read (search rules)
-    (subst (λ (vs : List Value). Fails c.in_err-put-in_default.field-0.0 (joined (Ok a.array.now) (packed a.filling a.capacity vs))) (sym (over_value a.version l rest (no_mark l.kind c.in_default.not-Mark)))
+    (subst (λ (vs : List Value). FailsRead c.in_err-put-in_default.field-0.0 (joined (Ok a.array.now) (packed a.filling a.capacity vs))) (sym (over_value a.version l rest (no_mark l.kind c.in_default.not-Mark)))
     (refused a.filling a.capacity v (values a.version rest) c.in_err-put-in_default.field-0.0 a.array.now c.in_err-put-in_default.ensures))

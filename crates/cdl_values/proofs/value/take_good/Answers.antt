@@ -1,7 +1,5 @@
 use Rattle.std.proofs.Common.{ap, Ok}
-use Rattle.cdl_statements.specs.Lexemes.{is_mark_kind}
-use Rattle.cdl_statements.specs.Views.{lexeme_of}
-use Rattle.cdl_values.specs.PackedValues.{packed, joined}
+use Rattle.cdl_values.proofs.Prelude.{is_mark_kind, lexeme_of, packed, joined}
 use Rattle.cdl_values.proofs.PackedTokens.{over_mark}
 use Rattle.cdl_values.proofs.value.take_good.Goals as goal
 

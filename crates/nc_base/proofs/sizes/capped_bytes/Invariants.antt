@@ -1,6 +1,5 @@
 use Rattle.std.proofs.Common.{◌≡◌, ◌+◌, ◌*◌, ◌≤◌, drop, map, min}
-use Rattle.nc_base.specs.Types.{size_of}
-use Rattle.nc_base.specs.Sizes.{dim_len, product, slab_limit}
+use Rattle.nc_base.proofs.Prelude.{size_of, dim_len, product, slab_limit}
 use Rattle.nc_base.proofs.sizes.capped_bytes.Given as goal
 
 -- what has been multiplied, times the lengths that are left, keeps the capped product

@@ -1,5 +1,5 @@
 use Rattle.std.proofs.Common.{◌∙◌, ap, sym, Some}
-use Rattle.nc_base.specs.SizeParts.{first_begin, lesser}
+use Rattle.nc_base.specs.code.SizeParts.{first_begin, lesser}
 use Rattle.nc_base.proofs.SizeLaws.{first_begin_more, seen_skipped_at}
 use Rattle.nc_base.proofs.sizes.first_begin.Goals as goal
 use Rattle.nc_base.proofs.sizes.first_begin.Goals.{then-is_record_var, else-is_record_var}

@@ -1,5 +1,5 @@
 use Rattle.std.proofs.Common.{◌≡◌}
-use Rattle.nc_base.specs.SizeParts.{first_begin}
+use Rattle.nc_base.specs.code.SizeParts.{first_begin}
 use Rattle.nc_base.proofs.SizeLaws.{seen}
 use Rattle.nc_base.proofs.sizes.first_begin.Given as goal
 

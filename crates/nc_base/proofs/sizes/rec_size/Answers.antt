@@ -1,8 +1,5 @@
-use Rattle.std.proofs.Common.{◌≡◌, ℕ, ◌+◌, ◌<◌, ◌≤◌, ◌&&◌, List, length, get_or, sym, ◌∙◌, ap, subst, arith, true}
-use Rattle.std.specs.Prelude.{if◌then◌else◌}
-use Rattle.nc_base.specs.Sizes.{slab_of, is_record_var, is_narrow, slab_limit}
-use Rattle.nc_base.specs.declared.header.Dim.{Dim}
-use Rattle.nc_base.specs.declared.header.Var.{Var}
+use Rattle.std.proofs.Common.{◌≡◌, ℕ, ◌+◌, ◌<◌, ◌≤◌, ◌&&◌, List, length, get_or, sym, ◌∙◌, ap, subst, arith, true, if◌then◌else◌}
+use Rattle.nc_base.proofs.Prelude.{slab_of, is_record_var, is_narrow, slab_limit, Dim, Var}
 use Rattle.nc_base.proofs.SizeLaws.{sums_more_at, sums_skipped_at, checked-none_at}
 use Rattle.nc_base.proofs.sizes.rec_size.Goals as goal
 use Rattle.nc_base.proofs.sizes.rec_size.Goals.{then-is_record_var+in_ok-slab, else-is_record_var}

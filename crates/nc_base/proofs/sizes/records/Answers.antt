@@ -1,9 +1,5 @@
-use Rattle.std.proofs.Common.{◌≡◌, ◌∙◌, ap, sym, subst, List, Some, ◌/◌}
-use Rattle.std.specs.Prelude.{IfSome}
-use Rattle.nc_base.specs.Sizes.{record_vars}
-use Rattle.nc_base.specs.SizeParts.{first_begin}
-use Rattle.nc_base.specs.declared.header.Dim.{Dim}
-use Rattle.nc_base.specs.declared.header.Var.{Var}
+use Rattle.std.proofs.Common.{◌≡◌, ◌∙◌, ap, sym, subst, List, Some, ◌/◌, IfSome}
+use Rattle.nc_base.proofs.Prelude.{record_vars, first_begin, Dim, Var}
 use Rattle.nc_base.proofs.SoundLaws.{streamed}
 use Rattle.nc_base.proofs.sizes.records.Goals as goal
 

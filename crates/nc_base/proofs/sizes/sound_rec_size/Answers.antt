@@ -1,5 +1,4 @@
-use Rattle.std.proofs.Common.{◌∙◌, ap}
-use Rattle.std.specs.Prelude.{is_some}
+use Rattle.std.proofs.Common.{◌∙◌, ap, is_some}
 use Rattle.nc_base.proofs.SoundLaws.{checked-sound}
 use Rattle.nc_base.proofs.sizes.sound_rec_size.Goals as goal
 

@@ -1,9 +1,5 @@
-use Rattle.std.proofs.Common.{◌<◌, ◌∙◌, List, length, ap, sym, subst}
-use Rattle.std.specs.Prelude.{All, is_some}
-use Rattle.nc_base.specs.Headers.{IsSoundVar}
-use Rattle.nc_base.specs.Versions.{count_limit}
-use Rattle.nc_base.specs.declared.header.Dim.{Dim}
-use Rattle.nc_base.specs.declared.header.Var.{Var}
+use Rattle.std.proofs.Common.{◌<◌, ◌∙◌, List, length, ap, sym, subst, All, is_some}
+use Rattle.nc_base.proofs.Prelude.{IsSoundVar, count_limit, Dim, Var}
 use Rattle.nc_base.proofs.SoundLaws.{checked-small, small-checked}
 use Rattle.nc_base.proofs.sound.has_sound_vars.Goals as goal
 

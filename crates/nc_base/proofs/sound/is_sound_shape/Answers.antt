@@ -1,7 +1,5 @@
 use Rattle.std.proofs.Common.{◌-◌, ◌∙◌, length, length-drop, drop, ap, arith}
-use Rattle.std.proofs.lemmas.List.{take_all}
-use Rattle.std.specs.List.{list_all}
-use Rattle.nc_base.specs.SizeParts.{is_fixed_dim}
+use Rattle.nc_base.proofs.Prelude.{take_all, list_all, is_fixed_dim}
 use Rattle.nc_base.proofs.SoundLaws.{sound_shape}
 use Rattle.nc_base.proofs.sound.is_sound_shape.Goals as goal
 

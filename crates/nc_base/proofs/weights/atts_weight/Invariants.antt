@@ -1,6 +1,5 @@
 use Rattle.std.proofs.Common.{◌≡◌, ◌-◌, ◌^◌, min, take}
-use Rattle.std.specs.List.{sum_by}
-use Rattle.nc_base.specs.Weight.{att_weight}
+use Rattle.nc_base.proofs.Prelude.{sum_by, att_weight}
 use Rattle.nc_base.proofs.weights.atts_weight.Given as goal
 
 abbrev pub invariant-loop-att : goal.invariant-loop-att

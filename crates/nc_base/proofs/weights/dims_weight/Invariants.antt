@@ -1,6 +1,5 @@
 use Rattle.std.proofs.Common.{◌≡◌, ◌-◌, ◌^◌, min, take}
-use Rattle.std.specs.List.{sum_by}
-use Rattle.nc_base.specs.Weight.{dim_weight}
+use Rattle.nc_base.proofs.Prelude.{sum_by, dim_weight}
 use Rattle.nc_base.proofs.weights.dims_weight.Given as goal
 
 abbrev pub invariant-loop-dim : goal.invariant-loop-dim

@@ -1,6 +1,5 @@
 use Rattle.std.proofs.Common.{◌≡◌, ◌-◌, ◌^◌, min, take}
-use Rattle.std.specs.List.{sum_by}
-use Rattle.nc_base.specs.Weight.{var_weight}
+use Rattle.nc_base.proofs.Prelude.{sum_by, var_weight}
 use Rattle.nc_base.proofs.weights.vars_weight.Given as goal
 
 abbrev pub invariant-loop-var : goal.invariant-loop-var

@@ -1,10 +1,6 @@
 use Rattle.std.proofs.Common.{rules, ◌≡◌, ℕ, ◌+◌, ◌-◌, ◌*◌, ◌^◌, ◌<◌, ◌≤◌, List, length, take, drop, arith, ap, sym, subst, ◌∙◌, length-drop, length-take, refl}
-use Rattle.std.proofs.Math.Nat.{mul-le-mul_left, mul-le-mul_right}
+use Rattle.nc_walk.proofs.Prelude.{mul-le-mul_left, mul-le-mul_right, Slabs, Cursor, number_at, offset, IsSized, IsOffset, Ready, SourceView, after}
 use Rattle.nc_walk.proofs.ChunkSteps.{whole_ready, next_offset, goes_on, fails}
-use Rattle.nc_walk.specs.declared.slabs.Slabs.{Slabs}
-use Rattle.nc_walk.specs.declared.cursor.Cursor.{Cursor}
-use Rattle.nc_walk.specs.Slabs.{number_at, offset, IsSized, IsOffset, Ready}
-use Rattle.devices.specs.Sources.{SourceView, after}
 use Rattle.nc_walk.proofs.chunk.read_chunk.Goals as goal
 
 -- the rest of a list, and its prefix, are as long as the list
@@ -35,21 +31,14 @@ follows l cursor values capacity len at into had before now n sized first is fit
     subst (λ (k : ℕ). (at ≡ offset l (number_at l cursor)) × Ready l (number_at l cursor) room k l.values_per_slab) (known ∙ ap (λ (s : SourceView). length s.bytes) (sym handed))
     (whole_ready l cursor room len at sized first is fits.1 small (omega (arith, up, left)))
 
-pub read_ready-requires-clause-at : goal.read_ready-requires-clause-at
-read_ready-requires-clause-at g c =
+pub read_ready-requires : goal.read_ready-requires
+read_ready-requires g c =
     let test = c.loop-slabs-test.ensures.0 refl in
-    (follows c.args.slabs.now c.loop-slabs.chunk.next c.loop-slabs.chunk.values c.args.capacity c.len-len.result c.loop-slabs.at c.loop-slabs.into c.args.into.now (g.S.Source.view c.args.source.now) (g.S.Source.view c.loop-slabs.source) _
+    let next = follows c.args.slabs.now c.loop-slabs.chunk.next c.loop-slabs.chunk.values c.args.capacity c.len-len.result c.loop-slabs.at c.loop-slabs.into c.args.into.now (g.S.Source.view c.args.source.now) (g.S.Source.view c.loop-slabs.source) _
     c.requires.sized test.slab (c.loop-slabs.invariant.at test.slab) (c.if-is_whole.ensures.0 refl) c.len-len.type_inv
     c.len-len.ensures.length (c.loop-slabs.invariant.going.slab_read test.slab).handed
-    test.fits c.loop-slabs.invariant.going.collected.fits c.requires.capacity (c.loop-slabs.auto.into ∙ c.read_run.auto.into)).0
-
-pub read_ready-requires-clause-ready : goal.read_ready-requires-clause-ready
-read_ready-requires-clause-ready g c =
-    let test = c.loop-slabs-test.ensures.0 refl in
-    (follows c.args.slabs.now c.loop-slabs.chunk.next c.loop-slabs.chunk.values c.args.capacity c.len-len.result c.loop-slabs.at c.loop-slabs.into c.args.into.now (g.S.Source.view c.args.source.now) (g.S.Source.view c.loop-slabs.source) _
-    c.requires.sized test.slab (c.loop-slabs.invariant.at test.slab) (c.if-is_whole.ensures.0 refl) c.len-len.type_inv
-    c.len-len.ensures.length (c.loop-slabs.invariant.going.slab_read test.slab).handed
-    test.fits c.loop-slabs.invariant.going.collected.fits c.requires.capacity (c.loop-slabs.auto.into ∙ c.read_run.auto.into)).1
+    test.fits c.loop-slabs.invariant.going.collected.fits c.requires.capacity (c.loop-slabs.auto.into ∙ c.read_run.auto.into) in
+    record { sized = search rules; is_cursor = search rules; more = test.more; at = next.0; some = c.requires.sized.values_per_slab; ready = next.1; len = search rules }
 
 pub loop-slabs-preserved : goal.loop-slabs-preserved
 loop-slabs-preserved g c =
@@ -71,10 +60,12 @@ returns-in-Err-ReadFailed g c =
     (omega (arith, rest (c.loop-slabs.chunk.values * c.args.slabs.now.size) c.loop-slabs.into c.loop-slabs.invariant.going.collected.fits, c.loop-slabs.auto.into, c.read_run.auto.into))
     _ (rw c.in-Err-ReadFailed.field-0-is at c.in-Err-ReadFailed.ensures.collects).1
 
-pub read_run-requires-2-clause-capacity : goal.read_run-requires-2-clause-capacity
-read_run-requires-2-clause-capacity g c =
-    capacity_left c.loop-slabs.chunk.values c.args.capacity c.args.slabs.now.size c.loop-slabs.into c.args.into.now
-    (let below = (c.if-not-goes_on.ensures.0 refl).fits in omega arith) c.loop-slabs.invariant.going.collected.fits c.requires.capacity (c.loop-slabs.auto.into ∙ c.read_run.auto.into)
+pub read_run-requires-2 : goal.read_run-requires-2
+read_run-requires-2 g c =
+    let test = c.if-not-goes_on.ensures.0 refl in
+    let capacity = capacity_left c.loop-slabs.chunk.values c.args.capacity c.args.slabs.now.size c.loop-slabs.into c.args.into.now
+    (let below = test.fits in omega arith) c.loop-slabs.invariant.going.collected.fits c.requires.capacity (c.loop-slabs.auto.into ∙ c.read_run.auto.into) in
+    record { sized = search rules; is_cursor = search rules; more = test.more; some = (let below = test.fits in omega arith); capacity = capacity }
 
 pub overflow_add-result : goal.overflow_add-result
 overflow_add-result g c =

@@ -1,7 +1,5 @@
 use Rattle.std.proofs.Common.{◌≡◌, ◌-◌}
-use Rattle.nc_walk.specs.Slabs.{number_at, IsOffset}
-use Rattle.nc_walk.specs.SourceUses.{source_of}
-use Rattle.nc_walk.specs.Walks.{reading}
+use Rattle.nc_walk.proofs.Prelude.{number_at, IsOffset, source_of, reading}
 use Rattle.nc_walk.proofs.ChunkSteps.{Going}
 use Rattle.nc_walk.proofs.chunk.read_chunk.Given as goal
 

@@ -1,50 +1,49 @@
 use Rattle.std.proofs.Common.{◌*◌, drop, arith, length-take}
-use Rattle.std.proofs.lemmas.Nat.{mod-mul-add}
-use Rattle.std.proofs.lemmas.Result.{err_from_is_err_and}
+use Rattle.nc_walk.proofs.Prelude.{mod-mul-add, err_from_is_err_and}
 use Rattle.nc_walk.proofs.OneRead.{came, came_all, came_none, values_read, ran_all, partway}
 use Rattle.nc_walk.proofs.reading.read_values.Goals as goal
 
 pub returns-in_err-got-clause-reads : goal.returns-in_err-got-clause-reads
 returns-in_err-got-clause-reads g c =
     let p = err_from_is_err_and c.from_residual.result c.from_residual.ensures.1 in
-    rw p.1 (rw p.2 (partway g.S.Source.is_transparent _ _ _ c.args.into.now _ _ c.fill.new.into (drop (c.args.ready * c.args.slabs.now.size) c.args.into.now) c.args.ready 0
+    rw p.1 (rw p.2 (partway g.S.Source.is_transparent _ _ _ c.args.into.now _ _ c.read_full.new.into (drop (c.args.ready * c.args.slabs.now.size) c.args.into.now) c.args.ready 0
     c.requires.sized c.requires.more (omega arith) c.requires.ready c.requires.some
-    (omega (arith, c.fill.auto.into, c.requires.ready.in_capacity, length-take (c.args.ready * c.args.slabs.now.size) c.args.into.now))
+    (omega (arith, c.read_full.auto.into, c.requires.ready.in_capacity, length-take (c.args.ready * c.args.slabs.now.size) c.args.into.now))
     c.in_err-got.ensures))
 
 pub returns-then-got-wanted-clause-reads : goal.returns-then-got-wanted-clause-reads
 returns-then-got-wanted-clause-reads g c =
-    came_all g.S.Source.is_transparent _ _ _ c.args.into.now _ _ c.fill.new.into (drop (c.args.ready * c.args.slabs.now.size) c.args.into.now) c.args.ready c.in_ok-got.got
+    came_all g.S.Source.is_transparent _ _ _ c.args.into.now _ _ c.read_full.new.into (drop (c.args.ready * c.args.slabs.now.size) c.args.into.now) c.args.ready c.in_ok-got.got
     c.requires.sized c.requires.more (omega arith) c.requires.ready c.requires.some
-    (omega (arith, c.fill.auto.into, c.requires.ready.in_capacity, length-take (c.args.ready * c.args.slabs.now.size) c.args.into.now))
+    (omega (arith, c.read_full.auto.into, c.requires.ready.in_capacity, length-take (c.args.ready * c.args.slabs.now.size) c.args.into.now))
     (rw c.requires.at at c.in_ok-got.ensures) c.if-got-wanted.true
 
 pub returns-then-whole-eq0-clause-reads : goal.returns-then-whole-eq0-clause-reads
 returns-then-whole-eq0-clause-reads g c =
     rw c.number.ensures
-    (came_none g.S.Source.is_transparent _ _ _ c.args.into.now _ _ c.fill.new.into (drop (c.args.ready * c.args.slabs.now.size) c.args.into.now) c.args.ready c.in_ok-got.got
+    (came_none g.S.Source.is_transparent _ _ _ c.args.into.now _ _ c.read_full.new.into (drop (c.args.ready * c.args.slabs.now.size) c.args.into.now) c.args.ready c.in_ok-got.got
     c.requires.sized c.requires.more (omega arith) c.requires.ready c.requires.some
-    (omega (arith, c.fill.auto.into, c.requires.ready.in_capacity, length-take (c.args.ready * c.args.slabs.now.size) c.args.into.now))
+    (omega (arith, c.read_full.auto.into, c.requires.ready.in_capacity, length-take (c.args.ready * c.args.slabs.now.size) c.args.into.now))
     (rw c.requires.at at c.in_ok-got.ensures) c.if-whole-eq0.true)
 
 pub returns-clause-reads : goal.returns-clause-reads
 returns-clause-reads g c =
-    came g.S.Source.is_transparent _ _ _ c.args.into.now _ _ c.fill.new.into (drop (c.args.ready * c.args.slabs.now.size) c.args.into.now) c.args.ready c.in_ok-got.got
+    came g.S.Source.is_transparent _ _ _ c.args.into.now _ _ c.read_full.new.into (drop (c.args.ready * c.args.slabs.now.size) c.args.into.now) c.args.ready c.in_ok-got.got
     c.requires.sized c.requires.more (omega arith) c.requires.ready c.requires.some
-    (omega (arith, c.fill.auto.into, c.requires.ready.in_capacity, length-take (c.args.ready * c.args.slabs.now.size) c.args.into.now))
+    (omega (arith, c.read_full.auto.into, c.requires.ready.in_capacity, length-take (c.args.ready * c.args.slabs.now.size) c.args.into.now))
     (rw c.requires.at at c.in_ok-got.ensures) (omega arith)
 
 pub returns-then-got-wanted-clause-values_read : goal.returns-then-got-wanted-clause-values_read
 returns-then-got-wanted-clause-values_read g c = λ full.
-    ran_all g.S.Source.is_transparent _ _ _ c.args.into.now _ _ c.fill.new.into (drop (c.args.ready * c.args.slabs.now.size) c.args.into.now) c.args.ready c.in_ok-got.got
+    ran_all g.S.Source.is_transparent _ _ _ c.args.into.now _ _ c.read_full.new.into (drop (c.args.ready * c.args.slabs.now.size) c.args.into.now) c.args.ready c.in_ok-got.got
     c.requires.sized c.requires.more (omega arith) c.requires.ready c.requires.some
-    (omega (arith, c.fill.auto.into, c.requires.ready.in_capacity, length-take (c.args.ready * c.args.slabs.now.size) c.args.into.now))
+    (omega (arith, c.read_full.auto.into, c.requires.ready.in_capacity, length-take (c.args.ready * c.args.slabs.now.size) c.args.into.now))
     (rw c.requires.at at c.in_ok-got.ensures) c.if-got-wanted.true
 
 pub returns-clause-values_read : goal.returns-clause-values_read
 returns-clause-values_read g c = λ full.
-    values_read g.S.Source.is_transparent _ _ _ c.args.into.now _ _ c.fill.new.into (drop (c.args.ready * c.args.slabs.now.size) c.args.into.now) c.args.ready c.in_ok-got.got
+    values_read g.S.Source.is_transparent _ _ _ c.args.into.now _ _ c.read_full.new.into (drop (c.args.ready * c.args.slabs.now.size) c.args.into.now) c.args.ready c.in_ok-got.got
     c.requires.sized c.requires.more (omega arith) c.requires.ready c.requires.some
-    (omega (arith, c.fill.auto.into, c.requires.ready.in_capacity, length-take (c.args.ready * c.args.slabs.now.size) c.args.into.now))
+    (omega (arith, c.read_full.auto.into, c.requires.ready.in_capacity, length-take (c.args.ready * c.args.slabs.now.size) c.args.into.now))
     (rw c.requires.at at c.in_ok-got.ensures)
-    (omega (arith, full, c.requires.ready.in_slab, mod-mul-add c.args.cursor.slab c.args.slabs.now.values_per_slab c.args.cursor.within c.requires.within))
+    (omega (arith, full, c.requires.ready.in_slab, mod-mul-add c.args.cursor.slab c.args.slabs.now.values_per_slab c.args.cursor.within c.requires.is_cursor.within))

@@ -1,8 +1,5 @@
 use Rattle.std.proofs.Common.{rules, ◌≡◌, ◌∙◌, ap₂, codes}
-use Rattle.std.proofs.lemmas.Result.{IfOk-weaker}
-use Rattle.clap.specs.Words.{app_of, new_app, new_rule, rule_of, with_rule}
-use Rattle.cli_base.specs.Arguments.{flag, option, quiet}
-use Rattle.ncdump.specs.CommandLine.{ncdump}
+use Rattle.ncdump.proofs.Prelude.{IfOk-weaker, app_of, new_app, new_rule, rule_of, with_rule, flag, option, quiet, ncdump}
 use Rattle.ncdump.proofs.command_line.command.Goals as goal
 
 pub returns : goal.returns

@@ -1,6 +1,5 @@
-use Rattle.std.proofs.Common.{sym, ap, ◌∙◌, Bool}
+use Rattle.std.proofs.Common.{sym, ap, ◌∙◌, Bool, option_and_then}
 use Rattle.std.specs.Bool.{then_some}
-use Rattle.std.specs.Prelude.{option_and_then}
 use Rattle.ncdump.proofs.CommandLines.{width_if, width_of_digits}
 use Rattle.ncdump.proofs.command_line.width_of.Goals as goal
 

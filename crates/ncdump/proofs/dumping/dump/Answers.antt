@@ -1,7 +1,5 @@
 use Rattle.std.proofs.Common.{◌∙◌}
-use Rattle.std.proofs.lemmas.Result.{err_from_is_err_and}
-use Rattle.nc_walk.proofs.FillSteps.{transparent_map}
-use Rattle.ncdump.specs.Dumps.{options_of}
+use Rattle.ncdump.proofs.Prelude.{err_from_is_err_and, transparent_map, options_of}
 use Rattle.ncdump.proofs.DumpLaws.{transparent-refused, transparent-unselected, transparent-shown}
 use Rattle.ncdump.proofs.dumping.dump.Goals as goal
 

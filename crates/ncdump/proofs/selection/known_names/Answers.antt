@@ -1,5 +1,5 @@
 use Rattle.std.proofs.Common.{sym, ◌∙◌}
-use Rattle.ncdump.specs.Names.{holds}
+use Rattle.ncdump.specs.code.Names.{holds}
 use Rattle.ncdump.proofs.Unknown.{all-known, first-unknown}
 use Rattle.ncdump.proofs.selection.known_names.Goals as goal
 

@@ -1,9 +1,7 @@
 use Rattle.std.proofs.Common.{rules, ◌&&◌}
 use Rattle.std.proofs.lemmas.Iterator.{YieldsList-from_map, YieldsList-from_slice}
 use Rattle.std.proofs.lemmas.Iterator.Adapters.{items_from_extend}
-use Rattle.std.proofs.lemmas.Iterator.Consumers.{YieldsList-at}
-use Rattle.nc_base.specs.declared.header.Var.{Var}
-use Rattle.ncdump.specs.Names.{holds_if}
+use Rattle.ncdump.proofs.Prelude.{YieldsList-at, Var, holds_if}
 use Rattle.ncdump.proofs.selection.marks.Goals as goal
 
 pub returns : goal.returns

@@ -1,13 +1,5 @@
 use Rattle.std.proofs.Common.{ℕ, Bool, List, length, ap, ◌∙◌, subst, Ok, Err}
-use Rattle.std.proofs.lemmas.Result.{err_from_is_err_and}
-use Rattle.nc_base.specs.HeadText.{head_text}
-use Rattle.nc_base.specs.Sizes.{record_count}
-use Rattle.devices.specs.Sinks.{Appended, FailedPartway}
-use Rattle.devices.proofs.Writes.{appended_then}
-use Rattle.nc_walk.proofs.FillSteps.{transparent_any, transparent_map}
-use Rattle.ncdump.specs.declared.fault.DumpFault.TheVariants.{WriteFailed}
-use Rattle.ncdump.specs.Dumps.{options_of}
-use Rattle.ncdump.specs.Shows.{dumped, Shows, ShowsMarked}
+use Rattle.ncdump.proofs.Prelude.{err_from_is_err_and, head_text, record_count, Appended, FailedPartway, appended_then, transparent_any, transparent_map, WriteFailed, options_of, dumped, Shows, ShowsMarked}
 use Rattle.ncdump.proofs.Calls.{call}
 use Rattle.ncdump.proofs.WholeText.{no-head, no-word, no-values, no-brace, all-written, brace}
 use Rattle.ncdump.proofs.showing.show.Goals as goal

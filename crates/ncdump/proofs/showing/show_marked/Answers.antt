@@ -1,8 +1,5 @@
 use Rattle.std.proofs.Common.{◌<◌, length, refl, ◌∙◌, arith}
-use Rattle.std.proofs.lemmas.Result.{err_from_is_err_and}
-use Rattle.nc_walk.proofs.FillSteps.{transparent_any, transparent_map}
-use Rattle.ncdump.specs.Shows.{dumped}
-use Rattle.cdl_print.proofs.Begun.{appended_none}
+use Rattle.ncdump.proofs.Prelude.{err_from_is_err_and, transparent_any, transparent_map, dumped, appended_none}
 use Rattle.ncdump.proofs.Marked.{marked-begins, place-skips, place-shown, place-failed, marked-all}
 use Rattle.ncdump.proofs.Blame.{fails-after}
 use Rattle.ncdump.proofs.showing.show_marked.Goals as goal

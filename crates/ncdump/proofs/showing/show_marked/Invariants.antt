@@ -1,6 +1,5 @@
 use Rattle.std.proofs.Common.{◌≡◌, length}
-use Rattle.std.specs.Bool.{OnTrue}
-use Rattle.ncdump.specs.Shows.{dumped}
+use Rattle.ncdump.proofs.Prelude.{OnTrue, dumped}
 use Rattle.ncdump.proofs.Marked.{Marked}
 use Rattle.ncdump.proofs.showing.show_marked.Given as goal
 

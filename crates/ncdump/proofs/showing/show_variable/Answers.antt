@@ -1,16 +1,11 @@
-use Rattle.std.proofs.Common.{[], sym, ap, ◌∙◌, subst, Ok}
-use Rattle.std.specs.Prelude.{slice_get}
-use Rattle.std.proofs.lemmas.Result.{err_from_is_err_and}
-use Rattle.nc_base.specs.ValueText.{look_of, opening, Look}
-use Rattle.devices.specs.Sinks.{Appended, FailedPartway}
-use Rattle.nc_walk.proofs.FillSteps.{transparent_map}
-use Rattle.cdl_print.specs.Printer.{HasPrinted}
+use Rattle.std.proofs.Common.{[], sym, ap, ◌∙◌, subst, Ok, slice_get}
+use Rattle.ncdump.proofs.Prelude.{err_from_is_err_and, look_of, opening, Look, Appended, FailedPartway, transparent_map, HasPrinted}
 use Rattle.ncdump.proofs.OneVariable.{some-at, at-some, showing-begins, takes-chunk, showing-on, unwritten-chunk, shown-whole, unwritten-closing, shown-prefix, unread, unwritten-opening}
 use Rattle.ncdump.proofs.showing.show_variable.Goals as goal
 
 pub loop-chunk-init : goal.loop-chunk-init
 loop-chunk-init g c =
-    let s = c.over-walk.ensures in
+    let s = c.with_layout-walk.ensures in
     let h = c.args.header.now in
     let new = some-at (λ var. HasPrinted (look_of h var c.args.layout.records c.args.width) [] c.new-printer.result) (slice_get h.vars c.args.v) s.var s.at c.new-printer.ensures in
     let has_printed = subst (HasPrinted (look_of h s.var c.args.layout.records c.args.width) []) (sym c.in_ok-start.ensures.ok) new in
@@ -30,7 +25,7 @@ loop-chunk-preserved g c =
 pub returns-in_err-start-clause-shows : goal.returns-in_err-start-clause-shows
 returns-in_err-start-clause-shows g c =
     let p = err_from_is_err_and c.from_residual.result c.from_residual.ensures.1 in
-    let s = c.over-walk.ensures in
+    let s = c.with_layout-walk.ensures in
     let h = c.args.header.now in
     let new = some-at (λ var. HasPrinted (look_of h var c.args.layout.records c.args.width) [] c.new-printer.result) (slice_get h.vars c.args.v) s.var s.at c.new-printer.ensures in
     let partway = subst (λ (l : Look). FailedPartway (g.W.Sink.view c.args.sink.now) (g.W.Sink.view c.start.new.sink) (opening l)) new.same_look (c.in_err-start.ensures.wrote new.unfailed) in

@@ -1,8 +1,5 @@
 use Rattle.std.proofs.Common.{rules, ◌≡◌, ◌∙◌, ap₂, codes}
-use Rattle.std.proofs.lemmas.Result.{IfOk-weaker}
-use Rattle.clap.specs.Words.{app_of, new_app, new_rule, rule_of, with_rule}
-use Rattle.cli_base.specs.Arguments.{flag, option, quiet}
-use Rattle.ncgen.specs.CommandLine.{ncgen}
+use Rattle.ncgen.proofs.Prelude.{IfOk-weaker, app_of, new_app, new_rule, rule_of, with_rule, flag, option, quiet, ncgen}
 use Rattle.ncgen.proofs.command_line.command.Goals as goal
 
 pub returns : goal.returns

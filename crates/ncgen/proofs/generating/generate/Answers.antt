@@ -1,7 +1,5 @@
-use Rattle.std.proofs.Common.{rules, ◌≡◌, Err, sym, subst}
-use Rattle.std.specs.Prelude.{Result}
-use Rattle.ncgen.specs.Generated.{Generates, generated}
-use Rattle.ncgen.specs.declared.fault.GenFault.{GenFault}
+use Rattle.std.proofs.Common.{rules, ◌≡◌, Err, sym, subst, Result}
+use Rattle.ncgen.proofs.Prelude.{Generates, generated, GenFault}
 use Rattle.ncgen.proofs.Preparing.{refused-text}
 use Rattle.ncgen.proofs.generating.generate.Goals as goal
 

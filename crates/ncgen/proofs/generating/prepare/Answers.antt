@@ -1,12 +1,5 @@
 use Rattle.std.proofs.Common.{rules, ◌≡◌, Ok, Err, refl, sym, subst}
-use Rattle.nc_base.specs.Bytes.{AreBytes}
-use Rattle.nc_base.specs.declared.header.Header.{Header}
-use Rattle.ncgen.specs.Generated.{generated}
-use Rattle.ncgen.specs.Prepared.{Prepares}
-use Rattle.ncgen.specs.declared.fault.GenFault.TheVariants.{Cdl, OffsetTooLarge}
-use Rattle.nc_base.specs.GeneratedFile.{fits, with_begins}
-use Rattle.nc_base.specs.Headers.{IsSound}
-use Rattle.nc_walk.specs.RecordSlabs.{record_slabs}
+use Rattle.ncgen.proofs.Prelude.{AreBytes, Header, generated, Prepares, Cdl, OffsetTooLarge, fits, with_begins, IsSound, record_slabs}
 use Rattle.ncgen.proofs.Preparing.{good, not-placed, placed, ready, sound, text-fault, too-large}
 use Rattle.ncgen.proofs.generating.prepare.Goals as goal
 

@@ -1,5 +1,4 @@
-use Rattle.std.proofs.lemmas.Result.{err_from_is_err_and}
-use Rattle.devices.specs.Readers.{view_of}
+use Rattle.ncgen.proofs.Prelude.{err_from_is_err_and, view_of}
 use Rattle.ncgen.proofs.Blame.{opens_text}
 use Rattle.ncgen.proofs.input.read_path.Goals as goal
 

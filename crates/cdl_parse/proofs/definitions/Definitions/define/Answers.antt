@@ -1,12 +1,5 @@
 use Rattle.std.proofs.Common.{◌≡◌, true, false, Ok, ap, sym, ◌∙◌, subst}
-use Rattle.cdl_statements.specs.Cutters.{next_token, text_of, version_of, words}
-use Rattle.cdl_statements.specs.Lexemes.{is_mark, lexeme}
-use Rattle.cdl_statements.specs.Shapes.{section_of}
-use Rattle.cdl_meaning.specs.State.{add_att}
-use Rattle.cdl_values.specs.Answers.{Leaves}
-use Rattle.cdl_values.specs.Meant.{name_first}
-use Rattle.cdl_parse.specs.AttributeRead.{constants_said}
-use Rattle.cdl_parse.specs.Defined.{after_mark, state_of}
+use Rattle.cdl_parse.proofs.Prelude.{next_token, text_of, version_of, words, is_mark, lexeme, section_of, add_att, Leaves, name_first, constants_said, after_mark, state_of}
 use Rattle.cdl_parse.proofs.Defining.{closes, goes_global, gone, makes_first_mark, makes_global, only_globals}
 use Rattle.cdl_parse.proofs.StatementWords.{begins}
 use Rattle.cdl_parse.proofs.definitions.Definitions.define.Goals as goal

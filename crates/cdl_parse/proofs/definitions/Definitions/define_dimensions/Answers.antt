@@ -1,10 +1,5 @@
 use Rattle.std.proofs.Common.{◌≡◌, true, false, Ok, ap, sym, ◌∙◌}
-use Rattle.cdl_statements.specs.Cutters.{next_token, text_of, version_of, words}
-use Rattle.cdl_statements.specs.DueTokens.{goes_to}
-use Rattle.cdl_statements.specs.Lexemes.{lexeme}
-use Rattle.cdl_statements.specs.Shapes.{section_of}
-use Rattle.cdl_statements.specs.declared.section.Section.TheVariants.{Dimensions}
-use Rattle.cdl_parse.specs.Defined.{after_mark, state_of}
+use Rattle.cdl_parse.proofs.Prelude.{next_token, text_of, version_of, words, goes_to, lexeme, section_of, Dimensions, after_mark, state_of}
 use Rattle.cdl_parse.proofs.Defining.{goes_dimensions, gone, makes_dimension_mark, makes_dimensions}
 use Rattle.cdl_parse.proofs.StatementWords.{begins}
 use Rattle.cdl_parse.proofs.definitions.Definitions.define_dimensions.Goals as goal

@@ -1,11 +1,6 @@
 use Rattle.std.proofs.Common.{◌≡◌, true, false, Ok, drop, ap, sym, ◌∙◌}
-use Rattle.cdl_statements.specs.Cutters.{next_token, text_of, version_of, words}
-use Rattle.cdl_statements.specs.DueTokens.{completes, goes_to, is_name}
-use Rattle.cdl_statements.specs.Lexemes.{is_mark, lexeme}
-use Rattle.cdl_statements.specs.Shapes.{section_of}
-use Rattle.cdl_statements.specs.declared.due.Due.TheVariants.{AttributeName, VariableName}
-use Rattle.cdl_statements.specs.declared.section.Section.TheVariants.{Variables}
-use Rattle.cdl_parse.specs.Defined.{after_mark, state_of}
+use Rattle.cdl_parse.proofs.Prelude.{next_token, text_of, version_of, words, completes, goes_to, is_mark, lexeme, section_of, AttributeName, VariableName, Variables, after_mark, state_of}
+use Rattle.cdl_statements.specs.code.DueTokens.{is_name}
 use Rattle.cdl_parse.proofs.Defining.{goes_attribute, goes_declaration, gone, makes_attribute, makes_declaration, makes_variable_mark, second_on}
 use Rattle.cdl_parse.proofs.definitions.Definitions.define_variables.Goals as goal
 

@@ -1,8 +1,5 @@
-use Rattle.std.proofs.Common.{rules, ◌≡◌, ◌∙◌, sym, subst}
-use Rattle.std.specs.Prelude.{Bool, Result, IfOk, not}
-use Rattle.std.specs.declared.alloc.AllocError.{AllocError}
-use Rattle.cdl_values.specs.NameIndices.{is_new}
-use Rattle.cdl_parse.specs.DimensionNames.{is_taken}
+use Rattle.std.proofs.Common.{rules, ◌≡◌, ◌∙◌, sym, subst, Bool, Result, IfOk, not}
+use Rattle.cdl_parse.proofs.Prelude.{AllocError, is_new, is_dimension_name}
 use Rattle.cdl_parse.proofs.DimensionPositions.{new_is}
 use Rattle.cdl_parse.proofs.TakenNames.{answers_as}
 use Rattle.cdl_parse.proofs.dimensions.Dimensions.add.Goals as goal
@@ -15,5 +12,5 @@ pub returns-in_default-clause-new : goal.returns-in_default-clause-new
 returns-in_default-clause-new c =
     let same = new_is c.self.inside.names c.self.inside.list.items c.args.self.now c.in_ok-name.name.items c.args.dim.name c.self.invariant.0 c.self.view_is (search rules) in
     let added : c.in_default.added ≡ c.add-added.result = elim c.in_default.branch [ in_default-via-in-Ok+else-added w ↦ search rules | in_default-via-in_default w ↦ w.added-is ] in
-    answers_as c.in_default.added (is_new c.self.inside.names c.in_ok-name.name.items) (not (is_taken c.args.dim.name c.args.self.now)) same
+    answers_as c.in_default.added (is_new c.self.inside.names c.in_ok-name.name.items) (not (is_dimension_name c.args.dim.name c.args.self.now)) same
     (subst (λ (r : Result Bool AllocError). IfOk r (λ b. b ≡ is_new c.self.inside.names c.in_ok-name.name.items)) (sym added) c.add-added.ensures.new)

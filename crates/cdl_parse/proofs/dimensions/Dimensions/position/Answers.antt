@@ -1,8 +1,5 @@
 use Rattle.std.proofs.Common.{◌∙◌, ap}
-use Rattle.std.specs.List.{position}
-use Rattle.std.specs.Str.{bytes_eq}
-use Rattle.nc_base.specs.declared.header.Dim.{Dim}
-use Rattle.cdl_values.specs.NameIndices.{position_of}
+use Rattle.cdl_parse.proofs.Prelude.{position, bytes_eq, Dim, position_of}
 use Rattle.cdl_parse.proofs.DimensionPositions.{position_is}
 use Rattle.cdl_parse.proofs.dimensions.Dimensions.position.Goals as goal
 

@@ -1,8 +1,5 @@
-use Rattle.std.proofs.Common.{rules, ◌≡◌, ◌∙◌, sym, subst}
-use Rattle.std.specs.Prelude.{Bool, Result, IfOk, not}
-use Rattle.std.specs.declared.alloc.AllocError.{AllocError}
-use Rattle.cdl_values.specs.NameIndices.{is_new}
-use Rattle.cdl_parse.specs.Drafts.{drafts_of, is_taken}
+use Rattle.std.proofs.Common.{rules, ◌≡◌, ◌∙◌, sym, subst, Bool, Result, IfOk, not}
+use Rattle.cdl_parse.proofs.Prelude.{AllocError, is_new, drafts_of, is_variable_name}
 use Rattle.cdl_parse.proofs.DraftNames.{new_is}
 use Rattle.cdl_parse.proofs.TakenNames.{answers_as}
 use Rattle.cdl_parse.proofs.variables.Variables.add.Goals as goal
@@ -15,5 +12,5 @@ pub returns-in_default-clause-new : goal.returns-in_default-clause-new
 returns-in_default-clause-new c =
     let same = new_is c.self.inside.names (drafts_of c.self.inside.list.items) c.args.self.now c.in_ok-key.key.items c.args.name.items c.self.invariant c.self.view_is (search rules) in
     let added : c.in_default.added ≡ c.add-added.result = elim c.in_default.branch [ in_default-via-in-Ok+else-added w ↦ search rules | in_default-via-in_default w ↦ w.added-is ] in
-    answers_as c.in_default.added (is_new c.self.inside.names c.in_ok-key.key.items) (not (is_taken c.args.name.items c.args.self.now)) same
+    answers_as c.in_default.added (is_new c.self.inside.names c.in_ok-key.key.items) (not (is_variable_name c.args.name.items c.args.self.now)) same
     (subst (λ (r : Result Bool AllocError). IfOk r (λ b. b ≡ is_new c.self.inside.names c.in_ok-key.key.items)) (sym added) c.add-added.ensures.new)

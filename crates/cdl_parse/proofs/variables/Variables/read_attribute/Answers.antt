@@ -1,16 +1,5 @@
 use Rattle.std.proofs.Common.{◌≡◌, ◌<◌, List, ℕ, drop, true, ap, sym, subst, ◌∙◌, length, set, arith}
-use Rattle.cdl_statements.specs.Cutters.{next_token, text_of, version_of, words}
-use Rattle.cdl_statements.specs.DueTokens.{completes}
-use Rattle.cdl_tokens.specs.Escapes.{word_value}
-use Rattle.cdl_statements.specs.Lexemes.{lexeme}
-use Rattle.cdl_statements.specs.Views.{lexeme_of}
-use Rattle.cdl_statements.specs.declared.due.Due.TheVariants.{AttributeName}
-use Rattle.cdl_meaning.specs.State.{at_variable, with_att}
-use Rattle.cdl_values.specs.Answers.{Leaves}
-use Rattle.cdl_values.specs.Meant.{name_first}
-use Rattle.cdl_parse.specs.AttributeRead.{constants_said}
-use Rattle.cdl_parse.specs.Drafts.{drafts_of}
-use Rattle.cdl_parse.specs.VariablePositions.{at_position}
+use Rattle.cdl_parse.proofs.Prelude.{next_token, text_of, version_of, words, completes, word_value, lexeme, lexeme_of, AttributeName, at_variable, with_att, Leaves, name_first, constants_said, drafts_of, at_position}
 use Rattle.cdl_parse.proofs.DraftNames.{name_count}
 use Rattle.cdl_parse.proofs.VariableAttributes.{changed_at, name_is, names_kept, past_colon, past_name, unchanged_at, with_atts}
 use Rattle.cdl_parse.proofs.variables.Variables.read_attribute.Goals as goal

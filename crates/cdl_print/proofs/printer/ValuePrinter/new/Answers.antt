@@ -1,7 +1,6 @@
 use Rattle.std.proofs.Common.{◌≡◌, refl, slice_get}
-use Rattle.nc_base.specs.ValueText.{look_of}
+use Rattle.cdl_print.proofs.Prelude.{look_of, look_at}
 use Rattle.nc_base.specs.declared.header.Var.{Var}
-use Rattle.cdl_print.specs.Leads.{look_at}
 use Rattle.cdl_print.proofs.PrinterLaws.{stands_first, if_some}
 use Rattle.cdl_print.proofs.printer.ValuePrinter.new.Goals as goal
 

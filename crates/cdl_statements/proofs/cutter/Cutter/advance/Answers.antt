@@ -1,25 +1,19 @@
-use Rattle.std.proofs.Common.{◌≡◌, ◌∷◌, [], List, sym, ap, ◌∙◌, refl}
-use Rattle.std.specs.Prelude.{map, if◌then◌else◌}
-use Rattle.cdl_tokens.specs.Scanners as scanners
-use Rattle.cdl_tokens.specs.declared.token.Token.{Token}
-use Rattle.cdl_tokens.specs.Scanners.{left, followed}
-use Rattle.cdl_statements.specs.Lexemes.{lexeme}
-use Rattle.cdl_statements.specs.Cutters.{pieces_left, tokens_left, words, after, first_piece, other_pieces}
-use Rattle.cdl_statements.specs.Roles.{role_in}
-use Rattle.cdl_statements.specs.Pieces.{pieces_at, with_first}
+use Rattle.std.proofs.Common.{◌≡◌, ◌∷◌, [], List, sym, ap, ◌∙◌, refl, map, if◌then◌else◌}
+use Rattle.cdl_tokens.specs.code.Scanners as scanners
+use Rattle.cdl_statements.proofs.Prelude.{Token, left, followed, lexeme, pieces_left, tokens_left, words, after, first_piece, other_pieces, role_in, pieces_after, with_first}
 use Rattle.cdl_statements.proofs.Cuts.{advance_to, no_end, words_on, after_on}
 use Rattle.cdl_statements.proofs.cutter.Cutter.advance.Goals as goal
 
 -- the pieces that the cutter has one token on
 abbrev on : goal.After-self-1 → List (List Token)
-on c = pieces_at (role_in (scanners.text_of c.token-following.new.self)) c.step-found.result.state (if c.is_end-self.result then [] else followed c.token-following.result c.token-following.result.kind (left c.token-following.new.self))
+on c = pieces_after (role_in (scanners.text_of c.token-following.new.self)) c.step-found.result.state (if c.is_end-self.result then [] else followed c.token-following.result c.token-following.result.kind (left c.token-following.new.self))
 
 pieces : (c : goal.After-self-1) → pieces_left c.args.self.now ≡ with_first c.step-found.result.ends c.args.self.now.next (on c)
 unfolding pieces_left
 pieces c =
     let s = c.args.self.now in
     let off : tokens_left s ≡ followed s.next s.next.kind (left s.scanner) = rw (c.requires) refl in
-    ap (pieces_at (role_in (scanners.text_of s.scanner)) s.state) off ∙
+    ap (pieces_after (role_in (scanners.text_of s.scanner)) s.state) off ∙
     advance_to (scanners.text_of s.scanner) s.state s.next c.token-following.result (left s.scanner) (left c.token-following.new.self) c.token-following.ensures.token
     (scanners.text_of c.token-following.new.self) c.token-following.ensures.text s.next_role c.of-following_role.result s.known (c.of-following_role.ensures ∙ ap (λ text. role_in text c.token-following.result) (c.text.ensures ∙ c.token-following.ensures.text)) c.step-found.result c.step-found.ensures.step c.is_end-self.result c.is_end-self.ensures
 

@@ -1,10 +1,7 @@
 use Rattle.std.proofs.Common.{arith, ◌≡◌, ◌∷◌, ◌++◌, [], ap, ◌∙◌}
 use Rattle.std.proofs.lemmas.Grind.{common_steps}
-use Rattle.cdl_tokens.specs.Scanners as scanners
-use Rattle.cdl_tokens.specs.Scanners.{left, followed}
-use Rattle.cdl_statements.specs.Cutters.{pieces_left}
-use Rattle.cdl_statements.specs.Roles.{role_in}
-use Rattle.cdl_statements.specs.Pieces.{with_first}
+use Rattle.cdl_tokens.specs.code.Scanners as scanners
+use Rattle.cdl_statements.proofs.Prelude.{left, followed, pieces_left, role_in, with_first}
 use Rattle.cdl_statements.proofs.Cuts.{goes_on, none_left}
 use Rattle.cdl_statements.proofs.cutter.Cutter.next.Goals as goal
 

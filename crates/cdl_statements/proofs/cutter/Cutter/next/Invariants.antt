@@ -1,6 +1,5 @@
 use Rattle.std.proofs.Common.{length, ◌-◌, ◌≡◌, ◌++◌, ◌∷◌, List, false}
-use Rattle.cdl_statements.specs.Cutters.{offset_of, pieces_left, text_of}
-use Rattle.cdl_tokens.specs.declared.token.Token.{Token}
+use Rattle.cdl_statements.proofs.Prelude.{offset_of, pieces_left, text_of, Token}
 use Rattle.cdl_statements.proofs.cutter.Cutter.next.Given as goal
 
 abbrev pub invariant-piece : goal.invariant-piece

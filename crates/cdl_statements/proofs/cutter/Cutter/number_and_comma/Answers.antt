@@ -1,10 +1,6 @@
 use Rattle.std.proofs.Common.{◌∷◌, ◌<◌, sym, ap, ◌∙◌, subst}
-use Rattle.cdl_tokens.specs.Scanners as scanners
-use Rattle.cdl_tokens.specs.Tokens.{raw}
-use Rattle.cdl_tokens.specs.declared.token.TokenKind.{TokenKind}
-use Rattle.cdl_statements.specs.ListedTokens.{Passes}
-use Rattle.cdl_statements.specs.Pieces.{role_of}
-use Rattle.cdl_statements.specs.Views.{lexeme_with}
+use Rattle.cdl_tokens.specs.code.Scanners as scanners
+use Rattle.cdl_statements.proofs.Prelude.{raw, TokenKind, Passes, role_of, lexeme_with}
 use Rattle.cdl_statements.proofs.ListedTokens.{comma_role, passes}
 use Rattle.cdl_statements.proofs.cutter.Cutter.number_and_comma.Goals as goal
 

@@ -1,11 +1,7 @@
 use Rattle.std.proofs.Common.{◌≡◌, ◌∷◌, ◌<◌, List, ℕ, sym, ap, ◌∙◌, subst}
-use Rattle.cdl_tokens.specs.Scanners as scanners
-use Rattle.cdl_tokens.specs.Tokens.{raw}
-use Rattle.cdl_tokens.specs.declared.token.TokenKind.{TokenKind}
+use Rattle.cdl_tokens.specs.code.Scanners as scanners
+use Rattle.cdl_statements.proofs.Prelude.{raw, TokenKind, Passes, PassesString, role_of, lexeme_with}
 use Rattle.cdl_tokens.specs.declared.token.TokenKind.TheVariants as kinds
-use Rattle.cdl_statements.specs.ListedTokens.{Passes, PassesString}
-use Rattle.cdl_statements.specs.Pieces.{role_of}
-use Rattle.cdl_statements.specs.Views.{lexeme_with}
 use Rattle.cdl_statements.proofs.ListedTokens.{comma_role, passes}
 use Rattle.cdl_statements.proofs.cutter.Cutter.string_and_comma.Goals as goal
 

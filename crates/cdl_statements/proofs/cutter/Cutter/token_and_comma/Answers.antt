@@ -1,8 +1,6 @@
 use Rattle.std.proofs.Common.{◌≡◌, ◌∷◌, ◌<◌, List, ℕ, sym, ap, ◌∙◌, subst}
-use Rattle.cdl_tokens.specs.Scanners as scanners
-use Rattle.cdl_statements.specs.Lexemes.{Lexeme, lexeme}
-use Rattle.cdl_statements.specs.ListedTokens.{Passes}
-use Rattle.cdl_statements.specs.Roles.{role_in}
+use Rattle.cdl_tokens.specs.code.Scanners as scanners
+use Rattle.cdl_statements.proofs.Prelude.{Lexeme, lexeme, Passes, role_in}
 use Rattle.cdl_statements.proofs.ListedTokens.{comma_role, passes}
 use Rattle.cdl_statements.proofs.cutter.Cutter.token_and_comma.Goals as goal
 

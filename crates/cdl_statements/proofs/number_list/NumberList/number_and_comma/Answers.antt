@@ -1,11 +1,6 @@
 use Rattle.std.proofs.Common.{refl, sym, ap, subst}
-use Rattle.cdl_tokens.specs.Scanners as scanners
-use Rattle.cdl_tokens.specs.Tokens.{raw}
-use Rattle.cdl_tokens.specs.declared.token.TokenKind.{TokenKind}
-use Rattle.cdl_statements.specs.ListedTokens.{Passes}
-use Rattle.cdl_statements.specs.NumberLists.{reached}
-use Rattle.cdl_statements.specs.Pieces.{role_of}
-use Rattle.cdl_statements.specs.Views.{lexeme_with}
+use Rattle.cdl_tokens.specs.code.Scanners as scanners
+use Rattle.cdl_statements.proofs.Prelude.{raw, TokenKind, Passes, reached, role_of, lexeme_with}
 use Rattle.cdl_statements.proofs.ListedTokens.{passes}
 use Rattle.cdl_statements.proofs.number_list.NumberList.number_and_comma.Goals as goal
 

@@ -1,5 +1,4 @@
-use Rattle.std.proofs.Common.{◌+◌, take, sym, ap, ◌∙◌}
-use Rattle.std.specs.Prelude.{count_by, ◌==◌}
+use Rattle.std.proofs.Common.{◌+◌, take, sym, ap, ◌∙◌, count_by, ◌==◌}
 use Rattle.cdl_tokens.specs.Tokens.{line_at}
 use Rattle.cdl_tokens.proofs.Scans.{line_more}
 use Rattle.cdl_tokens.proofs.scanner.Scanner.after.Goals as goal

@@ -1,12 +1,5 @@
-use Rattle.std.proofs.Common.{◌≡◌, ℕ, List, sym, ap, ◌∙◌, count_by, take, subst}
-use Rattle.std.specs.Prelude.{◌==◌, option_map, slice_index}
-use Rattle.std.proofs.lemmas.List.{get_or-drop}
-use Rattle.cdl_tokens.specs.PlainTokens.{IsComma}
-use Rattle.cdl_tokens.specs.Scan.{scan, token}
-use Rattle.cdl_tokens.specs.declared.token.TokenKind.TheVariants.{Number}
-use Rattle.cdl_tokens.specs.Magnitudes.{held}
-use Rattle.cdl_tokens.specs.Numerals.{parts}
-use Rattle.cdl_tokens.specs.Tokens.{raw}
+use Rattle.std.proofs.Common.{◌≡◌, ℕ, List, sym, ap, ◌∙◌, count_by, take, subst, ◌==◌, option_map, slice_index}
+use Rattle.cdl_tokens.proofs.Prelude.{get_or-drop, IsComma, scan, token, Number, held, parts, raw}
 use Rattle.cdl_tokens.proofs.PlainTokens.{scan_number, number_flat}
 use Rattle.cdl_tokens.proofs.scanner.Scanner.number_and_comma.Goals as goal
 
@@ -14,7 +7,7 @@ pub take-number-requires-clause-here : goal.take-number-requires-clause-here
 take-number-requires-clause-here c =
     let s = c.skip_to_number.new.self in
     let p = c.in_ok-plain.ensures in
-    ap (scan s.fresh) (sym c.split_at.ensures.back) ∙ scan_number s.fresh c.split_at.result.1.now p.begins ∙ ap (token Number) (sym p.len)
+    ap (scan s.at_start) (sym c.split_at.ensures.back) ∙ scan_number s.at_start c.split_at.result.1.now p.begins ∙ ap (token Number) (sym p.len)
 
 pub take-number-requires-clause-flat : goal.take-number-requires-clause-flat
 take-number-requires-clause-flat c =

@@ -1,7 +1,5 @@
 use Rattle.std.proofs.Common.{arith, ◌+◌, ℕ, sym, ap, ◌∙◌, false}
-use Rattle.cdl_tokens.specs.Scan.{scan}
-use Rattle.cdl_tokens.specs.declared.token.Token.{Token}
-use Rattle.cdl_tokens.specs.Scanners.{left, followed}
+use Rattle.cdl_tokens.proofs.Prelude.{scan, Token, left, followed}
 use Rattle.cdl_tokens.proofs.Scans.{step_token, step_gap, step_end, left_of}
 use Rattle.cdl_tokens.proofs.scanner.Scanner.scanned_token.Goals as goal
 
@@ -10,8 +8,8 @@ returns-in-Some-clause-token c =
     let s = c.loop-self.self in
     let f = c.scan-found in
     let back = c.split_at.ensures.back in
-    let step = step_token s.text.now s.fresh s.at s.line f.result c.in-Some.kind c.loop-self-test.true (f.ensures.scan ∙ ap (scan s.fresh) back) f.ensures.some (rw (← back) f.ensures.within) f.ensures.kind c.in-Some.is s.on_line in
-    let on = left_of c.after.result s.text.now false (s.at + f.result.len) c.after.ensures.text c.after.ensures.fresh c.after.ensures.at in
+    let step = step_token s.text.now s.at_start s.at s.line f.result c.in-Some.kind c.loop-self-test.true (f.ensures.scan ∙ ap (scan s.at_start) back) f.ensures.some (rw (← back) f.ensures.within) f.ensures.kind c.in-Some.is s.on_line in
+    let on = left_of c.after.result s.text.now false (s.at + f.result.len) c.after.ensures.text c.after.ensures.at_start c.after.ensures.at in
     let t : ℕ → Token = λ p. record { kind = c.in-Some.kind; line = s.line; first = s.at; past = p } in
     sym c.loop-self.invariant.rest ∙ step ∙ ap (followed (t (s.at + f.result.len)) c.in-Some.kind) (sym on) ∙ ap (λ p. followed (t p) c.in-Some.kind (left c.after.result)) (sym c.after.ensures.at)
 
@@ -20,11 +18,11 @@ loop-self-preserved c =
     let s = c.loop-self.self in
     let f = c.scan-found in
     let back = c.split_at.ensures.back in
-    let step = step_gap s.text.now s.fresh s.at f.result c.loop-self-test.true (f.ensures.scan ∙ ap (scan s.fresh) back) f.ensures.some (rw (← back) f.ensures.within) c.in-None.is in
-    let on = left_of c.after-in-None.result s.text.now s.fresh (s.at + f.result.len) c.after-in-None.ensures.text c.after-in-None.ensures.fresh c.after-in-None.ensures.at in
+    let step = step_gap s.text.now s.at_start s.at f.result c.loop-self-test.true (f.ensures.scan ∙ ap (scan s.at_start) back) f.ensures.some (rw (← back) f.ensures.within) c.in-None.is in
+    let on = left_of c.after-in-None.result s.text.now s.at_start (s.at + f.result.len) c.after-in-None.ensures.text c.after-in-None.ensures.at_start c.after-in-None.ensures.at in
     record { rest = on ∙ sym step ∙ c.loop-self.invariant.rest; text = c.after-in-None.ensures.text ∙ c.loop-self.invariant.text; on = omega (arith, c.after-in-None.ensures.at, c.loop-self.invariant.on) }
 
 pub returns-clause-token : goal.returns-clause-token
 returns-clause-token c =
     let s = c.loop-self.self in
-    sym c.loop-self.invariant.rest ∙ step_end s.text.now s.fresh s.at s.line (omega arith) s.on_line
+    sym c.loop-self.invariant.rest ∙ step_end s.text.now s.at_start s.at s.line (omega arith) s.on_line

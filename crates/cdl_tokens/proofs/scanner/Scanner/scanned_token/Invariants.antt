@@ -1,5 +1,5 @@
 use Rattle.std.proofs.Common.{length, ◌-◌, ◌≡◌, ◌≤◌}
-use Rattle.cdl_tokens.specs.Scanners.{left}
+use Rattle.cdl_tokens.specs.code.Scanners.{left}
 use Rattle.cdl_tokens.proofs.scanner.Scanner.scanned_token.Given as goal
 
 abbrev pub invariant-loop-self : goal.invariant-loop-self

@@ -7,6 +7,6 @@ pub loop-self-preserved : goal.loop-self-preserved
 loop-self-preserved c =
     let s = c.loop-self.self in
     let a = c.after_byte in
-    let step = past_blank s.text.now s.fresh s.at c.loop-self-test.true (sym c.is_blank.ensures ∙ c.if-not-is_blank.false) in
-    let on = left_of a.result s.text.now s.fresh (s.at + 1) a.ensures.text a.ensures.fresh a.ensures.at in
+    let step = past_blank s.text.now s.at_start s.at c.loop-self-test.true (sym c.is_blank.ensures ∙ c.if-not-is_blank.false) in
+    let on = left_of a.result s.text.now s.at_start (s.at + 1) a.ensures.text a.ensures.at_start a.ensures.at in
     record { rest = on ∙ sym step ∙ c.loop-self.invariant.rest; text = a.ensures.text ∙ c.loop-self.invariant.text; on = omega (arith, a.ensures.at, c.loop-self.invariant.on) }

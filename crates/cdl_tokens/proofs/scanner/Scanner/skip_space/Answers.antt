@@ -8,4 +8,4 @@ pub returns-then-self-eq32-clause-left : goal.returns-then-self-eq32-clause-left
 returns-then-self-eq32-clause-left c =
     let s = c.args.self.now in
     let a = c.after_byte in
-    left_of a.result s.text.now s.fresh (s.at + 1) a.ensures.text a.ensures.fresh a.ensures.at ∙ sym (past_blank s.text.now s.fresh s.at c.if-self.true (ap is_blank c.if-self-eq32.true))
+    left_of a.result s.text.now s.at_start (s.at + 1) a.ensures.text a.ensures.at_start a.ensures.at ∙ sym (past_blank s.text.now s.at_start s.at c.if-self.true (ap is_blank c.if-self-eq32.true))

@@ -1,15 +1,11 @@
-use Rattle.std.proofs.Common.{◌≡◌, ℕ, List, sym, ap, ◌∙◌, count_by, take, subst}
-use Rattle.std.specs.Prelude.{◌==◌}
-use Rattle.cdl_tokens.specs.Escapes.{inner, stands}
-use Rattle.cdl_tokens.specs.PlainTokens.{IsComma}
-use Rattle.cdl_tokens.specs.Scan.{scan}
-use Rattle.cdl_tokens.specs.Tokens.{raw}
+use Rattle.std.proofs.Common.{◌≡◌, ℕ, List, sym, ap, ◌∙◌, count_by, take, subst, ◌==◌}
+use Rattle.cdl_tokens.proofs.Prelude.{inner, stands, IsComma, scan, raw}
 use Rattle.cdl_tokens.proofs.scanner.Scanner.string_and_comma.Goals as goal
 
 pub take-token-requires-clause-here : goal.take-token-requires-clause-here
 take-token-requires-clause-here c =
     let s = c.skip_blanks.new.self in
-    ap (scan s.fresh) (sym c.split_at.ensures.back) ∙ c.in_ok-len.ensures.begins s.fresh
+    ap (scan s.at_start) (sym c.split_at.ensures.back) ∙ c.in_ok-len.ensures.begins s.at_start
 
 pub take-token-requires-clause-flat : goal.take-token-requires-clause-flat
 take-token-requires-clause-flat c =

@@ -10,4 +10,4 @@ pub returns-clause-token : goal.returns-clause-token
 returns-clause-token c =
     let s = c.args.self.now in
     let r = c.requires in
-    past_token s.text.now s.fresh s.at s.line c.args.len c.args.kind r.here r.some r.within r.kind s.on_line
+    past_token s.text.now s.at_start s.at s.line c.args.len c.args.kind r.here r.some r.within r.kind s.on_line

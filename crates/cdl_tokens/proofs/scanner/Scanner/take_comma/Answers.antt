@@ -1,5 +1,4 @@
-use Rattle.std.proofs.Common.{arith, ap, ◌∙◌, drop, List, ℕ}
-use Rattle.std.specs.Prelude.{slice_index}
+use Rattle.std.proofs.Common.{arith, ap, ◌∙◌, drop, List, ℕ, slice_index}
 use Rattle.cdl_tokens.proofs.PlainNumbers.{first_taken}
 use Rattle.cdl_tokens.proofs.PlainTokens.{comma_at, comma_flat, here_dropped, inside_at}
 use Rattle.cdl_tokens.proofs.scanner.Scanner.take_comma.Goals as goal
@@ -7,7 +6,7 @@ use Rattle.cdl_tokens.proofs.scanner.Scanner.take_comma.Goals as goal
 pub take-requires-clause-here : goal.take-requires-clause-here
 take-requires-clause-here c =
     let s = c.args.self.now in
-    comma_at s.text.now s.fresh s.at c.requires
+    comma_at s.text.now s.at_start s.at c.requires
 
 pub take-requires-clause-within : goal.take-requires-clause-within
 take-requires-clause-within c =

@@ -1,8 +1,5 @@
-use Rattle.std.proofs.Common.{◌≡◌, sym, ap, ◌∙◌, true, count_by, take}
-use Rattle.std.specs.Prelude.{◌==◌}
-use Rattle.cdl_tokens.specs.Bytes.{is_mark, is_digit}
-use Rattle.cdl_tokens.specs.Scan.{scan, token, begins_number}
-use Rattle.cdl_tokens.specs.declared.token.TokenKind.TheVariants.{Number}
+use Rattle.std.proofs.Common.{◌≡◌, sym, ap, ◌∙◌, true, count_by, take, ◌==◌}
+use Rattle.cdl_tokens.proofs.Prelude.{is_mark, is_digit, scan, token, begins_number, Number}
 use Rattle.cdl_tokens.proofs.PlainTokens.{scan_mark, scan_number, digit_number, number_flat}
 use Rattle.cdl_tokens.proofs.scanner.Scanner.token.Goals as goal
 
@@ -12,7 +9,7 @@ take-requires-clause-here c =
     let s = c.skip_blanks.new.self in
     let rest = c.split_at.result.1.now in
     let is : begins_number rest ≡ true = digit_number rest (ap is_digit (sym c.byte_at-b.ensures) ∙ sym c.is_digit.ensures ∙ c.if-is_digit.true) in
-    ap (scan s.fresh) (sym c.split_at.ensures.back) ∙ scan_number s.fresh rest is ∙ ap (token Number) (sym c.number_len.ensures.len)
+    ap (scan s.at_start) (sym c.split_at.ensures.back) ∙ scan_number s.at_start rest is ∙ ap (token Number) (sym c.number_len.ensures.len)
 
 pub take-requires-clause-flat : goal.take-requires-clause-flat
 take-requires-clause-flat c =
@@ -24,13 +21,13 @@ take-requires-clause-flat c =
 pub take-requires-then-is_mark-clause-here : goal.take-requires-then-is_mark-clause-here
 take-requires-then-is_mark-clause-here c =
     let s = c.skip_blanks.new.self in
-    ap (scan s.fresh) (sym c.split_at.ensures.back) ∙ scan_mark s.fresh _ (ap is_mark (sym c.byte_at-b.ensures) ∙ sym c.is_mark.ensures ∙ c.if-is_mark.true)
+    ap (scan s.at_start) (sym c.split_at.ensures.back) ∙ scan_mark s.at_start _ (ap is_mark (sym c.byte_at-b.ensures) ∙ sym c.is_mark.ensures ∙ c.if-is_mark.true)
 
 -- a sign or a point before the digit
 pub take-requires-then-begins_number-clause-here : goal.take-requires-then-begins_number-clause-here
 take-requires-then-begins_number-clause-here c =
     let s = c.skip_blanks.new.self in
-    ap (scan s.fresh) (sym c.split_at.ensures.back) ∙ scan_number s.fresh _ (sym c.begins_number.ensures ∙ c.if-begins_number.true) ∙ ap (token Number) (sym c.number_len-then-begins_number.ensures.len)
+    ap (scan s.at_start) (sym c.split_at.ensures.back) ∙ scan_number s.at_start _ (sym c.begins_number.ensures ∙ c.if-begins_number.true) ∙ ap (token Number) (sym c.number_len-then-begins_number.ensures.len)
 
 pub take-requires-then-begins_number-clause-flat : goal.take-requires-then-begins_number-clause-flat
 take-requires-then-begins_number-clause-flat c =

@@ -1,5 +1,5 @@
 use Rattle.std.proofs.Common.{◌∷◌, ℕ, List, sym, ap, ◌∙◌, subst}
-use Rattle.cdl_tokens.specs.PlainTokens.{IsComma}
+use Rattle.cdl_tokens.specs.code.PlainTokens.{IsComma}
 use Rattle.cdl_tokens.proofs.Scans.{followed_token, no_end}
 use Rattle.cdl_tokens.proofs.scanner.Scanner.token_and_comma.Goals as goal
 

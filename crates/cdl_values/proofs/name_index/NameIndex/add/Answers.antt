@@ -1,8 +1,6 @@
-use Rattle.std.proofs.Common.{rules, ◌≡◌, ◌++◌, ◌∷◌, [], List, ℕ, ap, sym, subst, ◌∙◌}
-use Rattle.std.specs.Prelude.{Bool, IfOk, Result, length}
+use Rattle.std.proofs.Common.{rules, ◌≡◌, ◌++◌, ◌∷◌, [], List, ℕ, ap, sym, subst, ◌∙◌, Bool, IfOk, Result, length}
 use Rattle.std.specs.declared.alloc.AllocError.{AllocError}
-use Rattle.cdl_values.specs.NameIndices.{names_in, with_name}
-use Rattle.std.specs.BTreeMap.{insert_entry}
+use Rattle.cdl_values.proofs.Prelude.{names_of_map, with_added_name, insert_entry}
 use Rattle.std.specs.BTreeMap.Entry.{map_with_value}
 use Rattle.cdl_values.proofs.NamePositions.{key_order, index_added, index_same, names_added, names_same}
 use Rattle.cdl_values.proofs.name_index.NameIndex.add.Goals as goal
@@ -27,7 +25,7 @@ returns-clause-names c =
     let m = c.self.inside.positions in
     let n = c.match-branch-2.self-inside.positions in
     elim c.match-branch-2.branch [
-      | in-Occupied w ↦ subst (λ (r : Result Bool AllocError). IfOk r (λ added. names_in n ≡ with_name added c.args.self.now c.args.name.items)) (sym w.result-is) (names_same m n (search rules) ∙ c.self.view_is)
-      | in-Vacant w ↦ subst (λ (r : Result Bool AllocError). IfOk r (λ added. names_in n ≡ with_name added c.args.self.now c.args.name.items)) (sym w.result-is)
+      | in-Occupied w ↦ subst (λ (r : Result Bool AllocError). IfOk r (λ added. names_of_map n ≡ with_added_name added c.args.self.now c.args.name.items)) (sym w.result-is) (names_same m n (search rules) ∙ c.self.view_is)
+      | in-Vacant w ↦ subst (λ (r : Result Bool AllocError). IfOk r (λ added. names_of_map n ≡ with_added_name added c.args.self.now c.args.name.items)) (sym w.result-is)
           (names_added m n c.args.name c.self.invariant (search rules) (search rules) ∙ ap (λ (names : List (List ℕ)). names ++ c.args.name.items ∷ []) c.self.view_is)
     ]

@@ -1,8 +1,5 @@
-use Rattle.std.proofs.Common.{ℕ, ◌≡◌, ◌+◌, ◌-◌, ◌∷◌, ◌++◌, List, [], length, ap, sym, ◌∙◌, subst, arith}
-use Rattle.std.specs.Prelude.{replicate}
-use Rattle.std.proofs.lemmas.Grind.{common_steps}
-use Rattle.std.proofs.lemmas.List.{nil_from_length}
-use Rattle.nc_base.specs.ListedRows.{filled_rows, AreRowEnds}
+use Rattle.std.proofs.Common.{ℕ, ◌≡◌, ◌+◌, ◌-◌, ◌∷◌, ◌++◌, List, [], length, ap, sym, ◌∙◌, subst, arith, replicate}
+use Rattle.nc_base.proofs.Prelude.{common_steps, nil_from_length, filled_rows, AreRowEnds}
 use Rattle.nc_base.proofs.FilledRows.{AreToldAs, no-rows, like-rows, filled_end, ends_end}
 use Rattle.nc_base.proofs.listed_array.ListedArray.end_row.Goals as goal
 use Rattle.nc_base.proofs.listed_array.ListedArray.end_row.Goals.{then-is_empty, else-is_empty+then-row_len-self, else-is_empty+else-row_len-self}

@@ -1,7 +1,5 @@
 use Rattle.std.proofs.Common.{ℕ, ◌≡◌, List, [], ap, sym, ◌∙◌, arith}
-use Rattle.std.proofs.lemmas.Grind.{common_steps}
-use Rattle.std.proofs.lemmas.List.{nil_from_length}
-use Rattle.nc_base.specs.ListedRows.{filled_rows}
+use Rattle.nc_base.proofs.Prelude.{common_steps, nil_from_length, filled_rows}
 use Rattle.nc_base.proofs.listed_array.ListedArray.into_bytes.Goals as goal
 
 pub returns-then-is_empty : goal.returns-then-is_empty

@@ -1,7 +1,5 @@
 use Rattle.std.proofs.Common.{ℕ, ◌≡◌, ◌≤◌, ◌+◌, ◌-◌, ◌*◌, ◌/◌, ◌%◌, List, length, get_or, take, drop, min, max, refl, ap, sym, ◌∙◌, subst, arith}
-use Rattle.std.proofs.Math.Nat.{mod-add-div}
-use Rattle.std.proofs.lemmas.List.{take_all, length-drop, length-take, length-take-le, drop-drop, drop_min}
-use Rattle.nc_base.specs.ListedRows.{row_start}
+use Rattle.nc_base.proofs.Prelude.{mod-add-div, take_all, length-drop, length-take, length-take-le, drop-drop, drop_min, row_start}
 use Rattle.nc_base.proofs.FilledRows.{row-of, in_row, after_rows, stands-told}
 use Rattle.nc_base.proofs.listed_array.ListedArray.run_of_rows.Goals as goal
 

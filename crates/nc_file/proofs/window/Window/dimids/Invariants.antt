@@ -1,7 +1,10 @@
-use Rattle.std.proofs.Common.{◌-◌, [], true}
-use Rattle.nc_file.specs.Reading.{dimids_at}
+use Rattle.std.proofs.Common.{◌≡◌, ◌-◌, [], length, ◌==◌}
+use Rattle.nc_file.specs.code.Reading.{dimid_after, each_at}
 use Rattle.nc_file.proofs.Loops.{ReadsOn}
 use Rattle.nc_file.proofs.window.Window.dimids.Given as goal
 
 abbrev pub invariant-loop : goal.invariant-loop
-invariant-loop g l = ReadsOn g.S.Source.is_transparent g.S.Source.view l.fn.self l.self (dimids_at l.version l.dims (l.n - l.counter) l.first l.dimids) (dimids_at l.version l.dims l.n true [])
+invariant-loop g l = record {
+  reads : ReadsOn l.fn.self l.self (each_at (dimid_after l.version l.dims) (l.n - l.counter) l.dimids) (each_at (dimid_after l.version l.dims) l.n []);
+  first : l.first ≡ (length l.dimids == 0);
+}

@@ -1,6 +1,4 @@
-use Rattle.std.proofs.lemmas.Result.{err_from_is_err_and}
-use Rattle.nc_base.specs.GeneratedFile.{att_spelling}
-use Rattle.devices.proofs.UpTo.{up-start, up-next, up-partway, each-left}
+use Rattle.nc_file.proofs.Prelude.{err_from_is_err_and, att_spelling, up-start, up-next, up-partway, each-left}
 use Rattle.nc_file.proofs.write.attribute.put_atts.Goals as goal
 
 pub loop-att-init : goal.loop-att-init

@@ -1,7 +1,5 @@
 use Rattle.std.proofs.Common.{drop}
-use Rattle.std.specs.List.{flat_map}
-use Rattle.nc_base.specs.GeneratedFile.{att_spelling}
-use Rattle.devices.proofs.UpTo.{UpTo}
+use Rattle.nc_file.proofs.Prelude.{flat_map, att_spelling, UpTo}
 use Rattle.nc_file.proofs.write.attribute.put_atts.Given as goal
 
 abbrev pub invariant-loop-att : goal.invariant-loop-att

@@ -1,6 +1,5 @@
 use Rattle.std.proofs.Common.{◌≡◌, ◌*◌, ◌^◌, ◌≤◌, take}
-use Rattle.nc_base.specs.Sizes.{padded_total}
-use Rattle.nc_base.specs.GeneratedFile.{fixed_vars}
+use Rattle.nc_file.proofs.Prelude.{padded_total, fixed_vars}
 use Rattle.nc_file.proofs.write.begins.fixed_total.Given as goal
 
 abbrev pub invariant-loop-var : goal.invariant-loop-var

@@ -1,9 +1,5 @@
-use Rattle.std.proofs.Common.{◌≡◌, ◌+◌, ◌*◌, ◌^◌, ◌<◌, ◌≤◌, ◌++◌, true, take, drop}
-use Rattle.std.specs.Prelude.{All}
-use Rattle.std.specs.List.{list_all}
-use Rattle.nc_base.specs.declared.header.Var.{Var}
-use Rattle.nc_base.specs.Sizes.{slab_size, slab_limit}
-use Rattle.nc_file.specs.Begins.{placed, is_below}
+use Rattle.std.proofs.Common.{◌≡◌, ◌+◌, ◌*◌, ◌^◌, ◌<◌, ◌≤◌, ◌++◌, true, take, drop, All}
+use Rattle.nc_file.proofs.Prelude.{list_all, Var, slab_size, slab_limit, placed, is_below}
 use Rattle.nc_file.proofs.write.begins.place_each.Given as goal
 
 abbrev pub invariant-loop-v : goal.invariant-loop-v

@@ -1,7 +1,5 @@
 use Rattle.std.proofs.Common.{◌≡◌, sym, ◌∙◌, arith, true, length}
-use Rattle.std.proofs.lemmas.List.{take_at}
-use Rattle.nc_base.specs.GeneratedFile.{with_begins, fits}
-use Rattle.nc_file.specs.Begins.{offset_too_large}
+use Rattle.nc_file.proofs.Prelude.{take_at, with_begins, fits, offset_too_large}
 use Rattle.nc_file.proofs.BeginLaws.{placed-as-seen, header-placed, is_ok, is_err}
 use Rattle.nc_file.proofs.write.begins.with_begins.Goals as goal
 

@@ -1,6 +1,4 @@
-use Rattle.std.proofs.lemmas.Result.{err_from_is_err_and}
-use Rattle.nc_base.specs.GeneratedFile.{dim_spelling}
-use Rattle.devices.proofs.UpTo.{up-start, up-next, up-partway, each-left}
+use Rattle.nc_file.proofs.Prelude.{err_from_is_err_and, dim_spelling, up-start, up-next, up-partway, each-left}
 use Rattle.nc_file.proofs.write.dimension.put_dims.Goals as goal
 
 pub loop-dim-init : goal.loop-dim-init

@@ -1,7 +1,5 @@
 use Rattle.std.proofs.Common.{drop}
-use Rattle.std.specs.List.{flat_map}
-use Rattle.nc_base.specs.GeneratedFile.{dim_spelling}
-use Rattle.devices.proofs.UpTo.{UpTo}
+use Rattle.nc_file.proofs.Prelude.{flat_map, dim_spelling, UpTo}
 use Rattle.nc_file.proofs.write.dimension.put_dims.Given as goal
 
 abbrev pub invariant-loop-dim : goal.invariant-loop-dim

@@ -1,6 +1,5 @@
 use Rattle.std.proofs.Common.{◌≡◌, ◌+◌, ◌-◌, ◌^◌, min, take}
-use Rattle.std.specs.List.{sum_by}
-use Rattle.nc_file.specs.Lengths.{list_head_len, var_len}
+use Rattle.nc_file.proofs.Prelude.{sum_by, list_head_len, var_len}
 use Rattle.nc_file.proofs.write.length.vars_len.Given as goal
 
 abbrev pub invariant-loop-var : goal.invariant-loop-var

@@ -1,8 +1,5 @@
 use Rattle.std.proofs.Common.{get_or}
-use Rattle.std.proofs.lemmas.List.{get_or_default}
-use Rattle.std.proofs.lemmas.Result.{err_from_is_err_and}
-use Rattle.nc_base.specs.GeneratedFile.{count_spelling}
-use Rattle.devices.proofs.UpTo.{up-start, up-next, up-partway, each-left}
+use Rattle.nc_file.proofs.Prelude.{get_or_default, err_from_is_err_and, count_spelling, up-start, up-next, up-partway, each-left}
 use Rattle.nc_file.proofs.write.variable.put_dimids.Goals as goal
 
 pub loop-id-init : goal.loop-id-init

@@ -1,7 +1,5 @@
 use Rattle.std.proofs.Common.{drop}
-use Rattle.std.specs.List.{flat_map}
-use Rattle.nc_base.specs.GeneratedFile.{var_spelling}
-use Rattle.devices.proofs.UpTo.{UpTo}
+use Rattle.nc_file.proofs.Prelude.{flat_map, var_spelling, UpTo}
 use Rattle.nc_file.proofs.write.variable.put_vars.Given as goal
 
 abbrev pub invariant-loop-var : goal.invariant-loop-var

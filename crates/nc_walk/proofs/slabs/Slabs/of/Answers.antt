@@ -1,8 +1,5 @@
-use Rattle.std.proofs.Common.{List, get_or, ◌∙◌, ap}
-use Rattle.std.specs.Prelude.{if◌then◌else◌}
-use Rattle.nc_base.specs.declared.header.Dim.{Dim}
-use Rattle.nc_base.specs.declared.header.Var.{Var}
-use Rattle.nc_base.specs.Sizes.{slab_count, is_record_var}
+use Rattle.std.proofs.Common.{List, get_or, ◌∙◌, ap, if◌then◌else◌}
+use Rattle.nc_walk.proofs.Prelude.{Dim, Var, slab_count, is_record_var}
 use Rattle.nc_walk.proofs.SlabSteps.{sound_var, are_slabs, sized_slabs, same_slabs}
 use Rattle.nc_walk.proofs.slabs.Slabs.of.Goals as goal
 

@@ -1,6 +1,5 @@
 use Rattle.std.proofs.Common.{◌≡◌, true, ◌∙◌, sym}
-use Rattle.nc_base.specs.Sizes.{is_record_var}
-use Rattle.devices.proofs.UpTo.{appended-nothing}
+use Rattle.nc_walk.proofs.Prelude.{is_record_var, appended-nothing}
 use Rattle.nc_walk.proofs.write.blocks.put_block.Goals as goal
 
 pub returns-then-is_record_var : goal.returns-then-is_record_var

@@ -1,7 +1,6 @@
 use Rattle.std.proofs.Common.{rules, length, ◌<◌, arith}
-use Rattle.std.proofs.lemmas.Result.{err_from_is_err_and}
+use Rattle.nc_walk.proofs.Prelude.{err_from_is_err_and, up-start, up-next, up-partway}
 use Rattle.nc_walk.proofs.DataParts.{blocks-left}
-use Rattle.devices.proofs.UpTo.{up-start, up-next, up-partway}
 use Rattle.nc_walk.proofs.write.blocks.put_blocks.Goals as goal
 
 pub loop-v-init : goal.loop-v-init

@@ -1,6 +1,5 @@
 use Rattle.std.proofs.Common.{drop}
-use Rattle.nc_walk.specs.Filled.{filled_blocks}
-use Rattle.devices.proofs.UpTo.{UpTo}
+use Rattle.nc_walk.proofs.Prelude.{filled_blocks, UpTo}
 use Rattle.nc_walk.proofs.write.blocks.put_blocks.Given as goal
 
 abbrev pub invariant-loop-v : goal.invariant-loop-v

@@ -1,6 +1,5 @@
-use Rattle.std.proofs.lemmas.Result.{err_from_is_err_and}
+use Rattle.nc_walk.proofs.Prelude.{err_from_is_err_and, up-start, up-partway, up-then}
 use Rattle.nc_walk.proofs.DataFilled.{listed-len, data-filled}
-use Rattle.devices.proofs.UpTo.{up-start, up-partway, up-then}
 use Rattle.nc_walk.proofs.write.data.write_data.Goals as goal
 
 pub put_blocks-requires-clause-one_each : goal.put_blocks-requires-clause-one_each

@@ -1,8 +1,6 @@
 use Rattle.std.proofs.Common.{◌≡◌, arith, ap, ◌∙◌}
-use Rattle.std.proofs.lemmas.Result.{err_from_is_err_and}
-use Rattle.nc_walk.specs.Filled.{repeated}
+use Rattle.nc_walk.proofs.Prelude.{err_from_is_err_and, repeated, up-start, up-next, up-partway, up-all}
 use Rattle.nc_walk.proofs.Repeats.{next-piece, repeated-none}
-use Rattle.devices.proofs.UpTo.{up-start, up-next, up-partway, up-all}
 use Rattle.nc_walk.proofs.write.fills.put_many_fills.Goals as goal
 
 pub loop-left-init : goal.loop-left-init

@@ -1,5 +1,4 @@
-use Rattle.nc_walk.specs.Filled.{repeated}
-use Rattle.devices.proofs.UpTo.{UpTo}
+use Rattle.nc_walk.proofs.Prelude.{repeated, UpTo}
 use Rattle.nc_walk.proofs.write.fills.put_many_fills.Given as goal
 
 abbrev pub invariant-loop-left : goal.invariant-loop-left

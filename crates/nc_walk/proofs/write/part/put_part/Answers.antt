@@ -1,8 +1,6 @@
-use Rattle.std.proofs.Common.{ℕ, List, [], ◌≡◌, ◌+◌, ◌++◌, ◌-◌, ◌<◌, take, drop, length, replicate, refl, sym, ap, ◌∙◌, arith, subst}
-use Rattle.std.specs.Prelude.{min}
-use Rattle.std.proofs.lemmas.Result.{err_from_is_err_and}
+use Rattle.std.proofs.Common.{ℕ, ◌≡◌, ◌+◌, ◌-◌, take, drop, length, refl, ap, arith, subst, min}
+use Rattle.nc_walk.proofs.Prelude.{err_from_is_err_and, UpTo, up-start, up-next, up-partway, up-all}
 use Rattle.nc_walk.proofs.ListedRuns.{next-run, part-whole}
-use Rattle.devices.proofs.UpTo.{UpTo, up-start, up-next, up-partway, up-all}
 use Rattle.nc_walk.proofs.write.part.put_part.Goals as goal
 
 pub loop-at-init : goal.loop-at-init

@@ -1,12 +1,7 @@
-use Rattle.std.proofs.Common.{ℕ, List, [], ◌≡◌, ◌+◌, ◌++◌, ◌-◌, take, length, replicate, refl, sym, ap, ◌∙◌, arith, subst}
-use Rattle.std.specs.Prelude.{min}
-use Rattle.std.proofs.lemmas.Result.{err_from_is_err_and}
-use Rattle.nc_walk.specs.Filled.{repeated}
-use Rattle.std.proofs.lemmas.List.{append-nil}
+use Rattle.std.proofs.Common.{ℕ, List, [], ◌++◌, take, replicate, refl, sym, ap, ◌∙◌, subst}
+use Rattle.nc_walk.proofs.Prelude.{err_from_is_err_and, repeated, append-nil, Appended, FailedPartway, up-start, up-partway}
 use Rattle.nc_walk.proofs.ListedRuns.{run-pieces}
-use Rattle.devices.specs.Sinks.{Appended, FailedPartway}
 use Rattle.devices.proofs.Writes.{appended_then, appended_partway}
-use Rattle.devices.proofs.UpTo.{up-start, up-next, up-partway, up-all}
 use Rattle.nc_walk.proofs.write.part.put_run.Goals as goal
 
 pub returns-in_err-put-clause-writes : goal.returns-in_err-put-clause-writes

@@ -1,10 +1,6 @@
 use Rattle.std.proofs.Common.{◌≡◌, ℕ, List, ◌-◌, map, arith, subst}
-use Rattle.std.specs.List.{flat_map, range_with_len}
-use Rattle.std.proofs.lemmas.Result.{err_from_is_err_and}
-use Rattle.nc_walk.specs.Filled.{filled_records}
-use Rattle.nc_walk.specs.RecordSlabs.{array_of}
+use Rattle.nc_walk.proofs.Prelude.{flat_map, range_with_len, err_from_is_err_and, filled_records, array_of, UpTo, up-start, up-next, up-partway, up-all}
 use Rattle.nc_walk.proofs.DataParts.{rows-left, rows-none}
-use Rattle.devices.proofs.UpTo.{UpTo, up-start, up-next, up-partway, up-all}
 use Rattle.nc_walk.proofs.write.records.put_each_record.Goals as goal
 
 pub loop-r-init : goal.loop-r-init

@@ -1,8 +1,5 @@
 use Rattle.std.proofs.Common.{ℕ, ◌-◌, map}
-use Rattle.std.specs.List.{flat_map, range_with_len}
-use Rattle.nc_walk.specs.Filled.{filled_records}
-use Rattle.nc_walk.specs.RecordSlabs.{array_of}
-use Rattle.devices.proofs.UpTo.{UpTo}
+use Rattle.nc_walk.proofs.Prelude.{flat_map, range_with_len, filled_records, array_of, UpTo}
 use Rattle.nc_walk.proofs.write.records.put_each_record.Given as goal
 
 abbrev pub invariant-loop-r : goal.invariant-loop-r

@@ -1,6 +1,5 @@
-use Rattle.std.proofs.lemmas.Result.{err_from_is_err_and}
+use Rattle.nc_walk.proofs.Prelude.{err_from_is_err_and, up-start, up-next, up-partway, up-all}
 use Rattle.nc_walk.proofs.DataParts.{slab-left, slab-none}
-use Rattle.devices.proofs.UpTo.{up-start, up-next, up-partway, up-all}
 use Rattle.nc_walk.proofs.write.records.put_record.Goals as goal
 
 pub loop-slab-init : goal.loop-slab-init

@@ -1,7 +1,5 @@
 use Rattle.std.proofs.Common.{drop, map}
-use Rattle.nc_walk.specs.Filled.{filled_records}
-use Rattle.nc_walk.specs.RecordSlabs.{array_of}
-use Rattle.devices.proofs.UpTo.{UpTo}
+use Rattle.nc_walk.proofs.Prelude.{filled_records, array_of, UpTo}
 use Rattle.nc_walk.proofs.write.records.put_record.Given as goal
 
 abbrev pub invariant-loop-slab : goal.invariant-loop-slab

@@ -1,15 +1,7 @@
 use Rattle.std.proofs.Common.{◌≡◌, ℕ, ◌<◌, ◌∙◌, [], List, length, map, arith, ap, sym, subst}
-use Rattle.std.specs.List.{flat_map, range_with_len}
-use Rattle.std.proofs.lemmas.List.{length-map, nil_from_length}
-use Rattle.std.proofs.lemmas.List.Elements.{All-get_or}
-use Rattle.devices.specs.Sinks.{Written, Appended}
-use Rattle.nc_base.specs.GeneratedFile.{known_records}
-use Rattle.nc_walk.specs.declared.write.record_slab.RecordSlab.{RecordSlab}
-use Rattle.nc_walk.specs.Filled.{ArrayView, filled_records, filled_slabs, record_arrays}
-use Rattle.nc_walk.specs.RecordSlabs.{array_of}
+use Rattle.nc_walk.proofs.Prelude.{flat_map, range_with_len, length-map, nil_from_length, All-get_or, Written, Appended, known_records, RecordSlab, ArrayView, filled_records, filled_slabs, record_arrays, array_of, appended-nothing}
 use Rattle.nc_walk.proofs.DataFilled.{records-filled, no-records, sole-filled}
 use Rattle.nc_walk.proofs.SlabArrays.{arrays-of-slabs, one-array, slabs-within}
-use Rattle.devices.proofs.UpTo.{appended-nothing}
 use Rattle.nc_walk.proofs.write.records.put_records.Goals as goal
 
 pub array_in-requires : goal.array_in-requires

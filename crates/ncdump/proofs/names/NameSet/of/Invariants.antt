@@ -1,7 +1,5 @@
 use Rattle.std.proofs.Common.{◌≡◌, ℕ, List, take}
-use Rattle.std.specs.List.{list_any}
-use Rattle.std.specs.Str.{bytes_eq}
-use Rattle.ncdump.specs.Names.{holds}
+use Rattle.ncdump.proofs.Prelude.{list_any, bytes_eq, holds}
 use Rattle.ncdump.proofs.names.NameSet.of.Given as goal
 
 -- the set has the names so far

@@ -1,0 +1,96 @@
+-- The names that most proofs of this crate cite, passed on from one place.
+pub use Rattle.cdl_laws.specs.Goods.{IsNearlySayable, LimitIsNeeded, MeaningsAreGood, MeaningsAreNearlySayable, NearlyIsSayable}
+pub use Rattle.cdl_laws.specs.PieceLaws.{AttributeReadsBack, AttributesReadBack, DataReadsBack, DeclarationReadsBack, DeclarationsReadBack, DimensionsReadBack, GlobalAttributesReadBack, IsBeforeData, IsStatement, MarksReadBack, PiecesAreStatements, SaysStatement, brace_piece, declaration, dimensions, end_piece, extent_said, globals, opening_line, opening_piece, said_dim, variables}
+pub use Rattle.cdl_laws.specs.Reading.{cut_lexemes, lexemes, with_lexeme}
+unfoldable pub use Rattle.cdl_laws.specs.Reading.{lexemes_at, pieces_of}
+pub use Rattle.cdl_laws.specs.RoundTrip.{IsFull, TextReadsBack}
+pub use Rattle.cdl_laws.specs.TokenLaws.{AreToken, BlanksAndMarksStop, ConstantsReadBack, NameReadsBack, NamesReadBack, StandsForBytes, StopsNumber, StopsWord, StringsReadBack, StringsStandForBytes, ValuesReadBack, quoted}
+pub use Rattle.cdl_laws.specs.Trims.{FillValueSurvivesTrim, MeaningsAreSayable, MeaningsComeBack, SecondTripIsSame, TrimmedIsSayable, TrimsOnce, has_cut_fill, is_cut}
+pub use Rattle.cdl_meaning.specs.Meaning.{array_of, checked, closing_line, dataset_of, empty, header_of, is_small, line_of, meaning, records_in, records_of, shaped, text_limit, values_of}
+unfoldable pub use Rattle.cdl_meaning.specs.Meaning.{finished, is_small_enough, piece_read, run}
+pub use Rattle.cdl_meaning.specs.State.{Capacity, Draft, Joined, Listing, Numbers, Rows, State, add_characters, add_constant, add_number, add_row, at_named, between, dim_len_of, filled, first_type, found, in_turn, is_listed, is_word_of, listed_by, same_type, unless, values_in, when, with_att, with_values}
+unfoldable pub use Rattle.cdl_meaning.specs.State.{act, add_att, add_dim, add_dimid, add_var, at_variable, capacity_of, fits, listing_of, type_of}
+pub use Rattle.cdl_statements.proofs.PieceLengths.{pieces_by_steps}
+pub use Rattle.cdl_statements.specs.Lexemes.{Lexeme, is_end_kind, is_mark, is_opening_kind, is_word, is_word_kind, lexeme}
+unfoldable pub use Rattle.cdl_statements.specs.Lexemes.{name_of}
+unfoldable pub use Rattle.cdl_statements.specs.Pieces.{is_section, pieces_at}
+pub use Rattle.cdl_statements.specs.Shapes.{Attribute, Brace, Characters, Declared, Dimension, End, Listed, Mark, Number, Opening, Statement, Typed, Underscore, Value, Variable, alone, assigned, attribute, before_mark, body, both, constant, constant_of, constants, dimension, each, either, first_bad, given, global, into_first, length_of, mark_after, members, members_in, name_alone, section_mark, section_number, section_of, token_fault, typed, variable}
+unfoldable pub use Rattle.cdl_statements.specs.Shapes.{shape}
+pub use Rattle.cdl_statements.specs.Statements.{statements}
+pub use Rattle.cdl_statements.specs.code.CutSteps.{going, step, unless_end, with_first}
+unfoldable pub use Rattle.cdl_statements.specs.code.CutSteps.{pieces_after}
+pub use Rattle.cdl_statements.specs.code.Roles.{first_role, role}
+pub use Rattle.cdl_statements.specs.declared.fault.CdlFault.{CdlFault}
+pub use Rattle.cdl_statements.specs.declared.fault.CdlKind.{CdlKind}
+pub use Rattle.cdl_statements.specs.declared.fault.CdlKind.TheVariants.{BadName, BadNumber, BadShape, BadToken, DuplicateData, DuplicateName, FloatingType, MixedConstants, NumberRange, StringTooLong, Syntax, TooLarge, TooManyValues, TwoRecordDims, UnknownDimension, UnknownType, UnknownVariable, WrongKind, ZeroDimension}
+pub use Rattle.cdl_statements.specs.declared.piece.CutState.{CutState}
+pub use Rattle.cdl_statements.specs.declared.piece.Role.{Role}
+pub use Rattle.cdl_statements.specs.declared.section.Section.{Section}
+pub use Rattle.cdl_statements.specs.declared.section.Section.TheVariants.{Closed, Dimensions, Ended, Globals, Unopened, Values, Variables}
+pub use Rattle.cdl_tokens.proofs.Strings.{or_zero, stands_for}
+pub use Rattle.cdl_tokens.specs.Bytes.{begins_word, digit, goes_on_number, goes_on_word, is_blank, is_digit, is_escapable, is_escape, is_hex, is_octal, is_sign, number_in, within}
+pub use Rattle.cdl_tokens.specs.Escapes.{byte, escape, inner, number_escape, plain_escape, stands, unescape}
+unfoldable pub use Rattle.cdl_tokens.specs.Escapes.{character, unescape_at, word_value}
+pub use Rattle.cdl_tokens.specs.Numerals.{Numeral, Parts, has_suffix, in_base, number, unsigned}
+unfoldable pub use Rattle.cdl_tokens.specs.Numerals.{numeral, parts, suffix}
+pub use Rattle.cdl_tokens.specs.Scan.{begins_a_word, begins_comment, begins_number, begins_opening, gap, scan_opening, scan_text, token}
+unfoldable pub use Rattle.cdl_tokens.specs.Scan.{scan, until, word_len}
+pub use Rattle.cdl_tokens.specs.Tokens.{raw, token_at, tokens, with_token}
+unfoldable pub use Rattle.cdl_tokens.specs.Tokens.{tokens_at}
+pub use Rattle.cdl_tokens.specs.declared.scan.Scanned.{Scanned}
+pub use Rattle.cdl_tokens.specs.declared.token.Token.{Token}
+pub use Rattle.cdl_tokens.specs.declared.token.TokenKind.{TokenKind}
+pub use Rattle.cdl_tokens.specs.declared.token.TokenKind.TheVariants.{Bad, Text, Word}
+pub use Rattle.nc_base.proofs.examples.Written.{att, dataset, dim, hex, var}
+unfoldable pub use Rattle.nc_base.proofs.examples.Written.{files_computed, values_computed}
+pub use Rattle.nc_base.specs.Bytes.{AreBytes}
+unfoldable pub use Rattle.nc_base.specs.Bytes.{concat_parts}
+pub use Rattle.nc_base.specs.Dump.{Content, Ending, IsText, Options, content_of, contents, dump_text, has_dimension, has_name, has_values, is_chosen, is_selected, selection_of, shown, shown_values, unknown, values_before, whole}
+unfoldable pub use Rattle.nc_base.specs.Dump.{closing_word, data_word}
+pub use Rattle.nc_base.specs.Escapes.{begins_with_digit_or_mark, escaped_in_name, escaped_in_string, is_name_mark, is_plain, octal_escape, reserved_words}
+unfoldable pub use Rattle.nc_base.specs.Escapes.{escaped_name, escaped_text, is_reserved}
+pub use Rattle.nc_base.specs.Fill.{fill_of_att, fill_or_default, is_fill_att}
+unfoldable pub use Rattle.nc_base.specs.Fill.{fill_value}
+unfoldable pub use Rattle.nc_base.specs.GeneratedFile.{file_of, var_spelling, with_begins}
+pub use Rattle.nc_base.specs.HeadText.{att_values, broken_text, dim_name, joined, without_trailing_nuls}
+unfoldable pub use Rattle.nc_base.specs.HeadText.{att_line, att_lines, char_values, currently_word, dim_extent, dim_line, dim_lines, dimensions_word, dims_text, gatts_text, global_word, head_text, netcdf_word, number_values, shape_text, string_break, unlimited_word, var_lines, variables_word, vars_text}
+pub use Rattle.nc_base.specs.Headers.{AreArrays, AreDimids, IsArray, IsDimid, IsGood, IsSound, IsSoundAtt, IsSoundDim, IsSoundVar, bare, bare_var, has_record_dim, value_count}
+pub use Rattle.nc_base.specs.Names.{IsName, ends_with_space, has_name_bytes, is_beyond_ascii, is_name, may_begin_name, may_follow_in_name}
+pub use Rattle.nc_base.specs.Numbers.{IsInRange, bytes_of_number, number_of, numbers_from}
+unfoldable pub use Rattle.nc_base.specs.Numbers.{numbers}
+pub use Rattle.nc_base.specs.Sayable.{AreDistinct, AreSayableAtts, HasSomeNumber, IsSayable, IsSayableVar, trimmed, trimmed_att, trimmed_header, trimmed_var}
+pub use Rattle.nc_base.specs.Sizes.{array_limit, dim_len, has_records, is_record_dim, is_record_var, padded_size, padded_total, product, record_limit, record_size, record_size_of, record_vars, slab_count, slab_lens, slab_limit, slab_size}
+pub use Rattle.nc_base.specs.Types.{all_types, code_of, number_suffix, size_of, type_word}
+pub use Rattle.nc_base.specs.ValueText.{Look, begins_row, char_lead, char_text, column, held, is_char, is_nul, line_break, number_lead, number_text, row_len, row_so_far}
+unfoldable pub use Rattle.nc_base.specs.ValueText.{char_piece, closing, look_of, number_piece, opening, piece, pieces, variable_prefix, variable_text}
+pub use Rattle.nc_base.specs.Versions.{count_limit, has_type, offset_limit}
+pub use Rattle.nc_base.specs.declared.dataset.Dataset.{Dataset}
+pub use Rattle.nc_base.specs.declared.header.Att.{Att}
+pub use Rattle.nc_base.specs.declared.header.Dim.{Dim}
+pub use Rattle.nc_base.specs.declared.header.Header.{Header}
+pub use Rattle.nc_base.specs.declared.header.NumRecs.TheVariants.{Known, Streaming}
+pub use Rattle.nc_base.specs.declared.header.Var.{Var}
+pub use Rattle.nc_base.specs.declared.nc_type.NcType.{NcType}
+pub use Rattle.nc_base.specs.declared.nc_type.NcType.TheVariants.{Byte, Char, Int, Int64, Short, Ubyte, Uint, Uint64, Ushort}
+pub use Rattle.nc_base.specs.declared.version.Version.{Version}
+pub use Rattle.nc_base.specs.declared.version.Version.TheVariants.{Cdf1, Cdf2, Cdf5}
+pub use Rattle.std.proofs.Math.Nat.{div-eq_of_lt, div-lt_iff_lt-mul, lt-div-mul-add, lt_of_mul-lt-mul_right, mod-eq_of_lt, mul-add-div, mul-div_cancel, mul-le-mul, mul-le-mul_left, mul-le-mul_right, mul-mod_left, mul_comm, zero-mod}
+pub use Rattle.std.proofs.Math.Seq.{drop-append_seam, take-append_seam, take-length}
+pub use Rattle.std.proofs.lemmas.Bool.{cases_lt, eqb-true, false≢true}
+pub use Rattle.std.proofs.lemmas.Bool.Decides.{Decides-int_eq}
+pub use Rattle.std.proofs.lemmas.Fmt.{decimal_nonempty, first_decimal}
+pub use Rattle.std.proofs.lemmas.Grind.{flat_map-append}
+pub use Rattle.std.proofs.lemmas.Int.{ints}
+pub use Rattle.std.proofs.lemmas.List.{at_drop_all, at_drop_more, drop-drop, drop_all, get_or-drop, get_or-replicate, get_or_past, length-append, length-drop, length-map, length-replicate, length-take, map-append, replicate_more, reverse-append, take-append-drop}
+pub use Rattle.std.proofs.lemmas.List.Folds.{list_all-append, list_any-append}
+pub use Rattle.std.proofs.lemmas.List.Sums.{suffix_len-take_no, suffix_len-take_yes}
+pub use Rattle.std.proofs.lemmas.Slice.Eq.{bytes_eq-Decides}
+pub use Rattle.std.specs.Char.{is_ascii_control, is_ascii_digit, to_ascii_lowercase}
+pub use Rattle.std.specs.Fmt.{digit_glyph, digits_onto, signed_decimal}
+unfoldable pub use Rattle.std.specs.Fmt.{digits}
+pub use Rattle.std.specs.Int.{cast_unsigned, is_in_range, to_be_bytes, w16, w32, w64, w8}
+pub use Rattle.std.specs.List.{flat_map, list_all, list_any, position, position_or_len, prefix_len, range_with_len, starts_with, suffix_len, take_while}
+pub use Rattle.std.specs.Option.{option_and_then, option_map}
+pub use Rattle.std.specs.Ordering.{int_eq}
+pub use Rattle.std.specs.Str.{bytes_eq}
+unfoldable pub use Rattle.std.specs.Str.{chars, is_utf8}

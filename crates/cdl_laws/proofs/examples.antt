@@ -1,0 +1,9 @@
+mod Bytes
+mod Declarable
+mod Dumps
+mod Files
+mod Meanings
+mod Misplaced
+mod Refused
+mod Tokens
+mod Written

@@ -1,0 +1,53 @@
+-- Words in which examples are written down, and what a proof unfolds to compute them.
+use Prim.Native.String.{String}
+use Rattle.std.proofs.Common.{◌≡◌, ℕ, List, [], ◌∷◌, ◌++◌, codes, map, Some, None, Option, Result, Ok, Err, false}
+use Rattle.std.specs.Prelude.{⊤}
+use Rattle.cdl_laws.proofs.Prelude.{flat_map, is_utf8, chars, Dataset, Version, Options, dump_text, shown_values, content_of, selection_of, data_word, closing_word, is_reserved, fill_value, file_of, dimensions_word, unlimited_word, currently_word, variables_word, global_word, netcdf_word, string_break, number_values, char_values, att_line, att_lines, dim_extent, dim_line, dim_lines, dims_text, shape_text, var_lines, vars_text, gatts_text, head_text, numbers, look_of, values_computed, word_len, until, scan, unescape_at, character, word_value, tokens_at, suffix, numeral, parts, CdlFault, CdlKind, pieces_at, is_section, name_of, shape, act, fits, add_dim, type_of, add_dimid, add_var, at_variable, add_att, capacity_of, listing_of, run, piece_read, meaning, finished, is_small_enough}
+use lib.Utf8.{encode}
+
+-- ---- texts with a fault
+
+abbrev pub fault : Result Dataset CdlFault → Option CdlFault
+fault (Ok d) = None
+fault (Err f) = Some f
+
+-- texts, and the fault that each of them has, if any
+pub record Row : Type 0 where
+  pub fault : Option CdlFault
+  pub texts : List String
+
+abbrev pub fine : List String → Row
+fine texts = record { fault = None; texts = texts }
+
+abbrev pub at : ℕ → CdlKind → List String → Row
+at line kind texts = record { fault = Some (record { line = line; kind = kind }); texts = texts }
+
+-- each text of the rows has its fault, when it stands between these two
+abbrev pub Faults : Version → String → String → List Row → Type 0
+Faults v before after rows =
+    flat_map (λ (row : Row). map (λ text. fault (meaning (codes before ++ (codes text ++ codes after)) v)) row.texts) rows
+    ≡ flat_map (λ (row : Row). map (λ (text : String). row.fault) row.texts) rows
+
+-- ---- texts and their datasets
+
+-- the file of a text's dataset, and no bytes where the text has a fault
+abbrev pub file_from : Version → String → List ℕ
+file_from v text = elim (meaning (codes text) v) as (λ (r : Result Dataset CdlFault). List ℕ) [ Ok d ↦ file_of d | Err f ↦ [] ]
+
+-- a dataset as a text, under this name and in lines of this width
+abbrev pub text_of : String → ℕ → Dataset → ℕ → List ℕ
+text_of name width d records =
+    let options : Options = record { name = codes name; head_only = false; coords = false; chosen = None; width = width } in
+    dump_text d.header options records (shown_values d.header options (content_of d) records (selection_of d.header options))
+
+-- ---- what is computed
+
+-- what a text means
+unfoldable pub texts_computed : ⊤
+unfolding tokens_at scan word_len until unescape_at character pieces_at is_section word_value is_reserved name_of suffix numeral parts shape act fits add_dim type_of add_dimid add_var at_variable add_att capacity_of listing_of fill_value run piece_read finished is_small_enough is_utf8 chars encode
+texts_computed = tt
+
+-- the text of a dataset
+unfoldable pub dumps_computed : ⊤
+unfolding values_computed numbers fill_value dimensions_word unlimited_word currently_word variables_word global_word netcdf_word string_break number_values char_values att_line att_lines dim_extent dim_line dim_lines dims_text shape_text var_lines vars_text gatts_text head_text look_of data_word closing_word
+dumps_computed = tt

@@ -1,7 +1,0 @@
--- How a number prints.
-use Rattle.std.specs.Prelude.{ℕ, ℤ, Bool, List, if◌then◌else◌, codes}
-use Rattle.std.specs.Fmt.{signed_decimal}
-
--- a number, or `_` if it prints as that
-abbrev pub text_of : Bool → ℤ → List ℕ
-text_of is_blank number = if is_blank then codes "_" else signed_decimal number

@@ -1,0 +1,77 @@
+-- The names that most proofs of this crate cite, passed on from one place.
+pub use Rattle.cdl_meaning.specs.Meaning.{array_of, checked, closing_line, dataset_of, empty, header_of, is_small, line_of, meaning, records_in, shaped, values_of}
+unfoldable pub use Rattle.cdl_meaning.specs.Meaning.{finished, is_small_enough, piece_read, run}
+pub use Rattle.cdl_meaning.specs.State.{Draft, Listing, State, add_constant, at_named, dim_len_of, first_type, found, in_turn, is_listed, type_said, unless, values_in, when, with_att, with_values}
+unfoldable pub use Rattle.cdl_meaning.specs.State.{act, add_att, add_dim, add_dimid, add_var, at_variable, capacity_of, listing_of, type_of}
+pub use Rattle.cdl_parse.specs.code.AttributeNames.{HasNames, contains_name, has_attribute}
+pub use Rattle.cdl_parse.specs.code.AttributeRead.{att_read, att_said, constants_said}
+pub use Rattle.cdl_parse.specs.code.DataSections.{BeginsData, Closes, IsInDataSection, ReadsOne, TakesStatement, given_at}
+pub use Rattle.cdl_parse.specs.code.Declarations.{ReadsDimension, added, continued, declared, is_open_after, next_dimid, read_on, type_first, with_begun}
+pub use Rattle.cdl_parse.specs.code.DeclaredDatasets.{dataset_of_declared, or_too_large}
+pub use Rattle.cdl_parse.specs.code.Defined.{Makes, after_mark, is_defining, is_early, is_over, state_of}
+pub use Rattle.cdl_parse.specs.code.DimensionNames.{dim_names, is_dimension_name, with_new_dim}
+pub use Rattle.cdl_parse.specs.code.Drafts.{draft, draft_of, drafts_of, is_variable_name, var_of, with_new_draft}
+pub use Rattle.cdl_parse.specs.code.Extents.{records_for, records_kept, records_within, with_all}
+pub use Rattle.cdl_parse.specs.code.Runs.{FailsAt, ReadsOn, at_line, run_after}
+pub use Rattle.cdl_parse.specs.code.TakenNames.{after_name}
+pub use Rattle.cdl_parse.specs.code.VariablePositions.{at_position}
+pub use Rattle.cdl_parse.specs.declared.declaration.PartialVariable.{PartialVariable}
+pub use Rattle.cdl_parse.specs.declared.declared_values.Declared.{Declared}
+pub use Rattle.cdl_parse.specs.declared.parse_error.ParseError.{ParseError}
+pub use Rattle.cdl_parse.specs.declared.records.Extent.{Extent}
+pub use Rattle.cdl_parse.specs.declared.variables.Variable.{Variable}
+pub use Rattle.cdl_statements.proofs.DimensionSteps.{first_goes, on, said_on, second_goes, shaped_on, third_goes}
+pub use Rattle.cdl_statements.proofs.Listing.{only_completes, value_first}
+pub use Rattle.cdl_statements.specs.Lexemes.{Lexeme, is_mark, is_mark_kind, is_word_kind, lexeme}
+pub use Rattle.cdl_statements.specs.Shapes.{Attribute, Brace, Dimension, End, Listed, Mark, Opening, Statement, Typed, Value, first_bad, section_of}
+unfoldable pub use Rattle.cdl_statements.specs.Shapes.{shape}
+pub use Rattle.cdl_statements.specs.Statements.{statements}
+pub use Rattle.cdl_statements.specs.code.Contents.{Declaration, attribute_said, dimension_said, is_unlimited, mark_said, other_said, parts_or_zero, variable_said, with_name}
+unfoldable pub use Rattle.cdl_statements.specs.code.Contents.{declaration_said, dimensions_said, statement_said, value_of, values}
+pub use Rattle.cdl_statements.specs.code.CutSteps.{step}
+unfoldable pub use Rattle.cdl_statements.specs.code.CutSteps.{pieces_after}
+pub use Rattle.cdl_statements.specs.code.Cutters.{first_line, first_piece, is_done, next_token, offset_of, other_pieces, text_of, tokens_left, version_of}
+unfoldable pub use Rattle.cdl_statements.specs.code.Cutters.{after, pieces_left, words}
+pub use Rattle.cdl_statements.specs.code.DueTokens.{goes_to, is_value_of, is_whole, only}
+unfoldable pub use Rattle.cdl_statements.specs.code.DueTokens.{completes, next}
+pub use Rattle.cdl_statements.specs.code.Views.{lexeme_of}
+pub use Rattle.cdl_statements.specs.declared.cutter.Cutter.{Cutter}
+pub use Rattle.cdl_statements.specs.declared.due.Due.{Due}
+pub use Rattle.cdl_statements.specs.declared.due.Due.TheVariants.{AfterVariable, AttributeName, DimensionName, Equals, Separator, VariableName}
+pub use Rattle.cdl_statements.specs.declared.fault.CdlKind.{CdlKind}
+pub use Rattle.cdl_statements.specs.declared.fault.CdlKind.TheVariants.{BadName, BadShape, DuplicateData, DuplicateName, NumberRange, Syntax, UnknownDimension, UnknownVariable}
+pub use Rattle.cdl_statements.specs.declared.section.Section.{Section}
+pub use Rattle.cdl_statements.specs.declared.section.Section.TheVariants.{Closed, Dimensions, Ended, Globals, Unopened, Values, Variables}
+unfoldable pub use Rattle.cdl_tokens.specs.Escapes.{word_value}
+pub use Rattle.cdl_tokens.specs.Numerals.{Parts, number, signed}
+unfoldable pub use Rattle.cdl_tokens.specs.Numerals.{parts}
+pub use Rattle.cdl_tokens.specs.declared.token.Token.{Token}
+pub use Rattle.cdl_values.specs.code.Answers.{ContinuesRead, FailsRead, Leaves}
+pub use Rattle.cdl_values.specs.code.Listed.{AllList, AreShaped, Lists, unlisted_drafts}
+pub use Rattle.cdl_values.specs.code.Meant.{AllSuit, Means, Suits, begins_brace, listing_bytes, name_first, names_of, with_listing}
+pub use Rattle.cdl_values.specs.code.NameIndices.{is_new, position_of}
+pub use Rattle.cdl_values.specs.declared.data.Target.{Target}
+pub use Rattle.cdl_values.specs.declared.read_error.ReadError.{ReadError}
+pub use Rattle.cdl_values.specs.declared.read_error.ReadError.TheVariants.{Fault, OutOfMemory}
+unfoldable pub use Rattle.nc_base.specs.Fill.{fill_value}
+pub use Rattle.nc_base.specs.Headers.{AreDimids, IsDimid, value_count}
+pub use Rattle.nc_base.specs.Names.{is_name}
+pub use Rattle.nc_base.specs.Numbers.{bytes_of_number}
+pub use Rattle.nc_base.specs.Sizes.{array_limit, dim_len, is_record_dim, is_record_var, product, record_limit, record_size, slab_count, slab_lens, slab_limit, slab_size}
+pub use Rattle.nc_base.specs.code.OwedValues.{fills, whole_array, whole_arrays}
+pub use Rattle.nc_base.specs.code.SizeParts.{checked_record_size, has_small_slab}
+pub use Rattle.nc_base.specs.declared.header.Att.{Att}
+pub use Rattle.nc_base.specs.declared.header.Dim.{Dim}
+pub use Rattle.nc_base.specs.declared.header.Header.{Header}
+pub use Rattle.nc_base.specs.declared.header.NumRecs.TheVariants.{Known}
+pub use Rattle.nc_base.specs.declared.header.Var.{Var}
+pub use Rattle.nc_base.specs.declared.nc_type.NcType.{NcType}
+pub use Rattle.nc_base.specs.declared.version.Version.{Version}
+pub use Rattle.std.proofs.lemmas.Bool.{cases_Bool, cond-false, cond-true, false≢true}
+pub use Rattle.std.proofs.lemmas.List.{append-nil, get_or_append_left, length-append, length-map, map-append, set-get_or}
+pub use Rattle.std.proofs.lemmas.List.Elements.{All-cons, All-head, All-nil, All-push, All-tail}
+pub use Rattle.std.specs.List.{concat, filter, flat_map, list_all, list_any, position, position_from, position_or_len}
+pub use Rattle.std.specs.Ordering.{int_eq, is_eq, nat_cmp}
+pub use Rattle.std.specs.Str.{bytes_eq}
+pub use Rattle.std.specs.Vec.Iter.{into_iter_items}
+pub use Rattle.std.specs.declared.alloc.AllocError.{AllocError}

@@ -1,7 +1,0 @@
-use Rattle.cdl_statements.specs.Views.{lexeme_of}
-use Rattle.cdl_parse.proofs.DeclarationReads.{over_mark}
-use Rattle.cdl_parse.proofs.declaration.over_mark.Goals as goal
-
-pub returns : goal.returns
-returns c = λ dims drafts ls.
-    over_mark dims c.args.begun.ty drafts c.args.begun.name.items c.args.begun.dimids.items c.args.begun.is_open c.is_open_after.result (lexeme_of c.args.mark) ls c.requires c.is_open_after.ensures

@@ -1,0 +1,16 @@
+pub mod DimensionLengths
+pub mod DimensionNames
+pub mod DimensionStatements
+pub mod TakenNames
+pub mod AttributeNames
+pub mod AttributeRead
+pub mod VariablePositions
+pub mod Runs
+pub mod Defined
+pub mod DeclaredDatasets
+pub mod Extents
+pub mod OwedCounts
+pub mod DataSections
+pub mod Drafts
+pub mod Declarations
+pub mod Parsing

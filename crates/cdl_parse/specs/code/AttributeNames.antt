@@ -1,0 +1,35 @@
+-- For contracts. The names of attributes, as a set.
+use Rattle.std.specs.Prelude.{ℕ, ◌≡◌, Bool, List, [], ◌∷◌, ◌++◌, if◌then◌else◌, Vec, Result, Ok}
+use Rattle.std.specs.Global.{Global}
+use Rattle.std.specs.BTreeSet.{BTreeSet, contains_by}
+use Rattle.std.specs.Cmp.Lexicographic.{slice_cmp}
+use Rattle.std.specs.List.{list_any}
+use Rattle.std.specs.Ordering.{nat_cmp}
+use Rattle.std.specs.Str.{bytes_eq}
+use Rattle.nc_base.specs.declared.header.Att.{Att}
+use Rattle.nc_base.specs.declared.nc_type.NcType.{NcType}
+use Rattle.cdl_statements.specs.declared.fault.CdlKind.{CdlKind}
+use Rattle.cdl_statements.specs.declared.fault.CdlKind.TheVariants.{DuplicateName}
+use Rattle.cdl_meaning.specs.State.{when, ◌>>=◌}
+
+-- one of them has the name
+abbrev pub has_attribute : List ℕ → List Att → Bool
+has_attribute name atts = list_any (λ (a : Att). bytes_eq a.name name) atts
+
+-- the attributes, with this one at their end if it was added
+abbrev pub with_added_att : Bool → List Att → Att → List Att
+with_added_att added atts att = if added then atts ++ att ∷ [] else atts
+
+-- the attributes with a new one at their end
+abbrev pub with_new_att : List Att → List ℕ → NcType → List ℕ → Result (List Att) CdlKind
+with_new_att atts name ty vals = do
+  _ ← when (has_attribute name atts) DuplicateName
+  Ok (atts ++ record { name = name; ty = ty; vals = vals } ∷ [])
+
+-- the set has the name
+abbrev pub contains_name : BTreeSet (Vec ℕ Global) → List ℕ → Bool
+contains_name names name = contains_by (λ k. slice_cmp nat_cmp name k.items) names
+
+-- the set has the names of these attributes, and no other
+abbrev pub HasNames : BTreeSet (Vec ℕ Global) → List Att → Type 0
+HasNames names atts = (name : List ℕ) → contains_name names name ≡ has_attribute name atts

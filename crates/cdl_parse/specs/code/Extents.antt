@@ -1,0 +1,49 @@
+-- For contracts. How far what is listed reaches.
+use Rattle.std.specs.Prelude.{ℕ, ◌≡◌, ◌<◌, ◌+◌, ◌-◌, ◌*◌, ◌/◌, ◌&&◌, All, nat_le, max, if◌then◌else◌, List, ◌∷◌, length, Option, None, Some}
+use Rattle.std.specs.List.{list_all}
+use Rattle.nc_base.specs.declared.header.Dim.{Dim}
+use Rattle.nc_base.specs.declared.header.Var.{Var}
+use Rattle.nc_base.specs.Sizes.{is_record_var, slab_count, slab_size, slab_limit, array_limit}
+use Rattle.nc_base.specs.Types.{size_of}
+use Rattle.cdl_meaning.specs.Meaning.{is_small, records_in}
+use Rattle.cdl_meaning.specs.State.{Draft}
+use Rattle.cdl_values.specs.code.Listed.{AllList, AreShaped}
+use Rattle.cdl_parse.specs.declared.records.Extent.{Extent}
+
+-- how many records of `count` values hold n of them
+abbrev pub records_for : ℕ → ℕ → ℕ
+records_for count n = (n + count - 1) / count
+
+-- with a variable and the bytes that are listed of it; None if its slab is above the limit
+abbrev pub with_listed : List Dim → Extent → Var → List ℕ → Option Extent
+with_listed dims e var listed =
+    if nat_le (slab_size dims var) slab_limit then Some (if is_record_var dims var then record {
+      records = max e.records (records_for (slab_count dims var) (length listed / size_of var.ty));
+      widest = max e.widest (slab_size dims var);
+    } else e) else None
+
+-- with all these
+abbrev pub with_all : List Dim → Option Extent → List Var → List (List ℕ) → Option Extent
+with_all dims None vars arrays = None
+with_all dims (Some e) (var ∷ vars) (listed ∷ arrays) = with_all dims (with_listed dims e var listed) vars arrays
+with_all dims (Some e) _ _ = Some e
+
+-- the number of records; None where the array of the widest variable over them passes the limit
+abbrev pub records_within : Extent → Option ℕ
+records_within e = if nat_le e.records array_limit && nat_le (e.records * e.widest) array_limit then Some e.records else None
+
+-- the number of records; None where over that many records a slab or an array passes its limit
+abbrev pub records_kept : List Dim → List Draft → Option ℕ
+records_kept dims drafts = if list_all (is_small dims (records_in dims drafts)) drafts then Some (records_in dims drafts) else None
+
+-- each variable has a value in a slab
+abbrev pub HaveValues : List Dim → List Var → Type 0
+HaveValues dims vars = All (λ (var : Var). 0 < slab_count dims var) vars
+
+-- how far the listed values of these variables reach
+abbrev pub extent_of : List Dim → List Var → List (List ℕ) → Option Extent
+extent_of dims vars listed = with_all dims (Some (record { records = 0; widest = 0 })) vars listed
+
+-- the result is the number of records that are kept, if this is what is listed of the variables
+abbrev pub CountsRecords : List Dim → List Var → List (List ℕ) → Option ℕ → Type 0
+CountsRecords dims vars listed result = (drafts : List Draft) → AllList dims vars listed drafts → AreShaped dims drafts → result ≡ records_kept dims drafts

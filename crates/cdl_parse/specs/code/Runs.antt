@@ -1,0 +1,36 @@
+-- For contracts. What the calls that read several statements answer, but for want of memory.
+use Rattle.std.specs.Prelude.{◌≡◌, ℕ, List, Result, Ok, Err}
+use Rattle.nc_base.specs.declared.version.Version.{Version}
+use Rattle.cdl_statements.specs.code.Cutters.{pieces_left, text_of, version_of}
+use Rattle.cdl_statements.specs.declared.cutter.Cutter.{Cutter}
+use Rattle.cdl_statements.specs.declared.fault.CdlFault.{CdlFault}
+use Rattle.cdl_statements.specs.declared.fault.CdlKind.{CdlKind}
+use Rattle.cdl_tokens.specs.declared.token.Token.{Token}
+use Rattle.cdl_meaning.specs.Meaning.{run}
+use Rattle.cdl_meaning.specs.State.{State}
+use Rattle.cdl_values.specs.declared.read_error.ReadError.{ReadError}
+use Rattle.cdl_values.specs.declared.read_error.ReadError.TheVariants.{OutOfMemory, Fault}
+use Rattle.cdl_parse.specs.declared.parse_error.ParseError.{ParseError}
+use Rattle.cdl_parse.specs.declared.parse_error.ParseError.TheVariants as stops
+
+abbrev pub at_line : ℕ → ReadError → ParseError
+at_line line OutOfMemory = stops.OutOfMemory
+at_line line (Fault k) = stops.Fault (record { line = line; kind = k })
+
+abbrev pub FailsAt : {A : Type 0} → ParseError → Result A CdlFault → Type 0
+FailsAt stops.OutOfMemory read = Unit {0}
+FailsAt (stops.Fault f) read = read ≡ Err f
+
+-- with an Ok the text is read on from there; a fault is the answer
+abbrev pub ReadsOn : {B A : Type 0} → (B → Result A CdlFault) → Result B ParseError → Result A CdlFault → Type 0
+ReadsOn after (Ok b) read = read ≡ after b
+ReadsOn after (Err e) read = FailsAt e read
+
+-- the other statements, after what the first one makes of the state
+abbrev pub run_after : List ℕ → Version → ℕ → List (List Token) → Result State CdlKind → Result State CdlFault
+run_after text v line others (Ok s) = run text v s others
+run_after text v line others (Err k) = Err (record { line = line; kind = k })
+
+-- the statements of a cutter, from this state on
+abbrev pub run_from : Cutter → State → Result State CdlFault
+run_from start s = run (text_of start) (version_of start) s (pieces_left start)

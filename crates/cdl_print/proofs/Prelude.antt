@@ -1,0 +1,37 @@
+-- The names that most proofs of this crate cite, passed on from one place.
+pub use Rattle.cdl_print.specs.code.Fills.{IsFillOf, shows_below_100}
+pub use Rattle.cdl_print.specs.code.Leads.{columns_left_after, gap_bytes, gap_in_row, look_at, next_char_lead, next_gap, row_gap}
+pub use Rattle.cdl_print.specs.code.Pieces.{IsRun, line_len, opening_of}
+unfoldable pub use Rattle.cdl_print.specs.code.Pieces.{dim_text, line_text, prefix_escape, var_rows}
+pub use Rattle.cdl_print.specs.code.Printer.{HasPrinted, Takes, look_in, position_of}
+pub use Rattle.cdl_print.specs.code.Printing.{AppendedNext, FailedInNext, IsAfter, IsAfterNext, IsAfterNumber, IsAfterRun, NextValues, PrintedInRow, PutAt, PutInRow, PutLine, PutNumber, WrittenNext, bytes_in_row, columns_left_after_text, columns_left_in_row, gathered, number_bytes, row_index_after_run, run_bytes, text_in_row, values_after}
+unfoldable pub use Rattle.cdl_print.specs.code.Printing.{run_text}
+pub use Rattle.cdl_print.specs.declared.printer.ValuePrinter.{ValuePrinter}
+pub use Rattle.cdl_print.specs.declared.progress.Progress.{Progress}
+pub use Rattle.devices.proofs.Writes.{IsWritten, append-none, appended_partway, appended_then, partway_next, wrote_next}
+pub use Rattle.devices.specs.Sinks.{Appended, FailedPartway, SinkView, Written}
+unfoldable pub use Rattle.devices.specs.Sinks.{append, is_transparent}
+pub use Rattle.nc_base.proofs.ValueLaws.{column-broken, column-flat, held_first, held_nul, held_other, held_untrimmed, later-append, later_none, later_one, number_flat, place-add, prefix-append, prefix_nil}
+unfoldable pub use Rattle.nc_base.specs.Bytes.{concat_parts}
+pub use Rattle.nc_base.specs.Escapes.{begins_with_digit_or_mark, escaped_in_name, escaped_in_string, is_literal}
+unfoldable pub use Rattle.nc_base.specs.Escapes.{escaped_name, escaped_text, is_reserved}
+pub use Rattle.nc_base.specs.HeadText.{broken_text, dim_name, joined}
+unfoldable pub use Rattle.nc_base.specs.HeadText.{att_line, att_lines, dim_line, dim_lines, number_values, string_break, var_lines}
+pub use Rattle.nc_base.specs.Numbers.{number_of, numbers_from}
+unfoldable pub use Rattle.nc_base.specs.Numbers.{numbers}
+pub use Rattle.nc_base.specs.Types.{number_suffix, size_of}
+pub use Rattle.nc_base.specs.ValueText.{Look, begins_row, char_lead, char_text, column, held, is_char, later_pieces, line_break, number_lead, number_text}
+unfoldable pub use Rattle.nc_base.specs.ValueText.{char_piece, look_of, number_piece, opening, piece, pieces, variable_prefix}
+pub use Rattle.nc_base.specs.code.Quoted.{escaped_in, stands_for_itself}
+pub use Rattle.nc_base.specs.declared.nc_type.NcType.{NcType}
+pub use Rattle.nc_base.specs.declared.nc_type.NcType.TheVariants.{Byte, Char, Int, Int64, Short, Ubyte, Uint, Uint64, Ushort}
+pub use Rattle.std.proofs.Math.Nat.{div-eq-sub-div, div-eq_of_lt, div-mul-le_self, le_of_mul-le-mul_right, mul-div_cancel, mul-le-mul_right, zero-mod}
+pub use Rattle.std.proofs.lemmas.Bool.{OnTrue_at, OnTrue_from, cases_lt, cond-false, cond-true, false≢true, lt-ltb}
+pub use Rattle.std.proofs.lemmas.Bool.Decides.{nat_tests}
+pub use Rattle.std.proofs.lemmas.Grind.{common_steps, flat_map-append}
+pub use Rattle.std.proofs.lemmas.List.{append-nil, drop-drop, drop-take, length-drop, length-map, length-take-le, map-append, nil_from_length, take-append-drop, take-take, take_all, take_more}
+pub use Rattle.std.proofs.lemmas.List.Sums.{prefix_len-le-length}
+pub use Rattle.std.proofs.lemmas.Result.{err_from_is_err_and}
+pub use Rattle.std.specs.Fmt.{decimal, signed_decimal}
+pub use Rattle.std.specs.Int.{cast_signed, cast_unsigned, w128}
+pub use Rattle.std.specs.List.{flat_map, list_all, position_or_len, prefix_len}

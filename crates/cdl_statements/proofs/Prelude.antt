@@ -1,0 +1,40 @@
+-- The names that most proofs of this crate cite, passed on from one place.
+pub use Rattle.cdl_statements.specs.Lexemes.{Lexeme, is_end_kind, is_mark, is_mark_kind, is_opening_kind, is_word, is_word_kind, lexeme}
+unfoldable pub use Rattle.cdl_statements.specs.Lexemes.{name_of}
+pub use Rattle.cdl_statements.specs.Shapes.{Attribute, Brace, Declared, Dimension, End, Listed, Mark, Number, Opening, Statement, Typed, Value, Variable, alone, assigned, attribute, before_mark, body, both, constant, constant_of, constants, dimension, dimensions, each, either, first_bad, given, global, into_first, length_of, mark_after, members, members_in, name_alone, numeral_of, section_mark, section_number, section_of, token_fault, typed, variable}
+unfoldable pub use Rattle.cdl_statements.specs.Shapes.{shape}
+pub use Rattle.cdl_statements.specs.code.Contents.{Declaration, attribute_said, dimension_said, is_unlimited, length_said, mark_said, parts_or_zero, variable_said, with_name}
+unfoldable pub use Rattle.cdl_statements.specs.code.Contents.{declaration_said, dimensions_said, statement_said, value_of, values}
+pub use Rattle.cdl_statements.specs.code.CutSteps.{ending, section_step, step, unless_end, with_first}
+unfoldable pub use Rattle.cdl_statements.specs.code.CutSteps.{pieces_after}
+pub use Rattle.cdl_statements.specs.code.Cutters.{first_line, first_piece, is_done, next_token, offset_of, other_pieces, text_of, tokens_left, version_of}
+unfoldable pub use Rattle.cdl_statements.specs.code.Cutters.{after, pieces_left, words}
+pub use Rattle.cdl_statements.specs.code.DueTokens.{goes_to, is_after, is_length, is_name, is_number, is_value_of, is_whole, only, separator}
+unfoldable pub use Rattle.cdl_statements.specs.code.DueTokens.{completes, next}
+pub use Rattle.cdl_statements.specs.code.ListedTokens.{IsAtComma, Passes, PassesString}
+pub use Rattle.cdl_statements.specs.code.NumberLists.{SamePlace, reached}
+pub use Rattle.cdl_statements.specs.code.Roles.{first_role, is_end_role, mark_role, role, role_in, role_of}
+pub use Rattle.cdl_statements.specs.code.Views.{lexeme_of, lexeme_with}
+pub use Rattle.cdl_statements.specs.declared.cutter.Cutter.{Cutter}
+pub use Rattle.cdl_statements.specs.declared.due.Due.{Due}
+pub use Rattle.cdl_statements.specs.declared.fault.CdlKind.{CdlKind}
+pub use Rattle.cdl_statements.specs.declared.fault.CdlKind.TheVariants.{BadNumber}
+pub use Rattle.cdl_statements.specs.declared.piece.CutState.{CutState}
+pub use Rattle.cdl_statements.specs.declared.piece.CutState.TheVariants.{Begins, Closed, Inside, Marked}
+pub use Rattle.cdl_statements.specs.declared.piece.Role.{Role}
+pub use Rattle.cdl_statements.specs.declared.piece.Role.TheVariants.{Colon, Other, Semicolon}
+pub use Rattle.cdl_statements.specs.declared.piece.Step.{Step}
+pub use Rattle.cdl_statements.specs.declared.section.Section.{Section}
+pub use Rattle.cdl_statements.specs.declared.section.Section.TheVariants.{Dimensions, Ended, Globals, Unopened, Values, Variables}
+pub use Rattle.cdl_tokens.proofs.Words.{and_false}
+unfoldable pub use Rattle.cdl_tokens.specs.Escapes.{word_value}
+pub use Rattle.cdl_tokens.specs.Numerals.{Numeral, Parts, number}
+unfoldable pub use Rattle.cdl_tokens.specs.Numerals.{numeral, parts}
+pub use Rattle.cdl_tokens.specs.Tokens.{raw, tokens}
+pub use Rattle.cdl_tokens.specs.code.Scanners.{followed, is_end, left}
+pub use Rattle.cdl_tokens.specs.declared.token.Token.{Token}
+pub use Rattle.cdl_tokens.specs.declared.token.TokenKind.{TokenKind}
+unfoldable pub use Rattle.nc_base.specs.Escapes.{is_reserved}
+pub use Rattle.nc_base.specs.declared.version.Version.{Version}
+pub use Rattle.std.proofs.lemmas.Bool.{false≢true}
+pub use Rattle.std.specs.Option.{option_and_then, option_map}

@@ -1,0 +1,9 @@
+pub mod Roles
+pub mod CutSteps
+pub mod Cutters
+pub mod Views
+pub mod DueTokens
+pub mod Contents
+pub mod ListedTokens
+pub mod NumberLists
+pub mod ShapesFound

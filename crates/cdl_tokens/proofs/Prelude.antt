@@ -1,0 +1,24 @@
+-- The names that most proofs of this crate cite, passed on from one place.
+pub use Rattle.cdl_tokens.specs.Bytes.{begins_word, digit, goes_on_number, goes_on_word, is_blank, is_digit, is_escape, is_mark, is_sign, number_in}
+pub use Rattle.cdl_tokens.specs.Escapes.{inner, stands, unescape}
+unfoldable pub use Rattle.cdl_tokens.specs.Escapes.{character, unescape_at, word_value}
+pub use Rattle.cdl_tokens.specs.Numerals.{unsigned}
+unfoldable pub use Rattle.cdl_tokens.specs.Numerals.{parts, suffix}
+pub use Rattle.cdl_tokens.specs.Scan.{begins_number, begins_opening, gap, scan_text, token}
+unfoldable pub use Rattle.cdl_tokens.specs.Scan.{scan, until, word_len}
+pub use Rattle.cdl_tokens.specs.Tokens.{line_at, raw, token_at, with_token}
+unfoldable pub use Rattle.cdl_tokens.specs.Tokens.{tokens_at}
+pub use Rattle.cdl_tokens.specs.code.Magnitudes.{ReadsDigits, held, in_decimal, word}
+pub use Rattle.cdl_tokens.specs.code.PlainTokens.{AreDigits, Begins, BeginsString, IsComma}
+pub use Rattle.cdl_tokens.specs.code.Scanners.{followed, is_end, is_none_of, is_ordinary, is_token, is_unescaped, left}
+pub use Rattle.cdl_tokens.specs.declared.scan.Scanned.{Scanned}
+pub use Rattle.cdl_tokens.specs.declared.token.Token.{Token}
+pub use Rattle.cdl_tokens.specs.declared.token.TokenKind.{TokenKind}
+pub use Rattle.cdl_tokens.specs.declared.token.TokenKind.TheVariants.{Bad, End, Mark, Number, Opening, Text, Word}
+pub use Rattle.nc_base.specs.declared.nc_type.NcType.TheVariants.{Int}
+pub use Rattle.nc_base.specs.declared.version.Version.{Version}
+pub use Rattle.std.proofs.lemmas.Bool.{cases_lt, false≢true, ne_eqb}
+pub use Rattle.std.proofs.lemmas.Grind.{common_steps, pow_more}
+pub use Rattle.std.proofs.lemmas.List.{append-nil, at_drop_all, at_drop_more, drop-drop, get_or-drop, get_or_past, length-drop, length-take-le, take-append-drop, take_all}
+pub use Rattle.std.proofs.lemmas.List.Sums.{prefix_len-le-length, sum_by-append}
+pub use Rattle.std.specs.List.{list_all, list_any, prefix_len, take_while}

@@ -1,0 +1,3 @@
+pub mod Scanners
+pub mod Magnitudes
+pub mod PlainTokens

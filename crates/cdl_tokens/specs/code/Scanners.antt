@@ -1,0 +1,51 @@
+-- For contracts. What a scanner has before it.
+use Rattle.std.specs.Prelude.{ℕ, ◌-◌, Bool, not, ◌&&◌, ◌==◌, true, false, List, ◌∷◌, [], drop, Option, Some}
+use Rattle.cdl_tokens.specs.Tokens.{tokens_at}
+use Rattle.cdl_tokens.specs.declared.token.Token.{Token}
+use Rattle.cdl_tokens.specs.declared.token.TokenKind.{TokenKind}
+use Rattle.cdl_tokens.specs.declared.token.TokenKind.TheVariants.{End, Mark}
+use Rattle.cdl_tokens.specs.declared.scanner.Scanner.{Scanner}
+
+abbrev pub text_of : Scanner → List ℕ
+text_of s = s.text.now
+
+abbrev pub offset_of : Scanner → ℕ
+offset_of s = s.at
+
+-- the token of this kind and length that ends where the scanner stands, on the same line
+abbrev pub token_before : TokenKind → ℕ → Scanner → Token
+token_before kind len s = record { kind = kind; line = s.line; first = s.at - len; past = s.at }
+
+-- the comma that ends where the scanner stands, if one does
+abbrev pub comma_before : Scanner → Token
+comma_before = token_before Mark 1
+
+-- a byte that is none of the three
+abbrev pub is_none_of : ℕ → ℕ → ℕ → ℕ → Bool
+is_none_of first second third b = not (b == first) && not (b == second) && not (b == third)
+
+-- a byte that stands for itself in a string: any but a backslash
+abbrev pub is_unescaped : ℕ → Bool
+is_unescaped b = not (b == 0x5c)
+
+-- a byte that neither escapes nor closes
+abbrev pub is_ordinary : ℕ → ℕ → Bool
+is_ordinary close b = not (b == 0x5c) && not (b == close)
+
+-- the tokens that are left
+abbrev pub left : Scanner → List Token
+left s = tokens_at s.text.now s.at_start s.at 0 (drop s.at s.text.now)
+
+-- a token and those after it; none stands after End
+abbrev pub followed : Token → TokenKind → List Token → List Token
+followed t End rest = t ∷ []
+followed t _ rest = t ∷ rest
+
+abbrev pub is_end : TokenKind → Bool
+is_end End = true
+is_end _ = false
+
+-- a gap, or a token that isn't End
+abbrev pub is_token : Option TokenKind → Bool
+is_token (Some End) = false
+is_token _ = true

@@ -1,0 +1,74 @@
+//! Digits, and their number in a base.
+
+ghost use Rattle.std.specs.Prelude.{◌≡◌, ◌≤◌, ◌+◌, ◌*◌, length};
+ghost use Rattle.std.specs.List.{prefix_len};
+ghost use Rattle.cdl_tokens.specs.Bytes.{digit, is_digit, is_hex, is_octal, number_in};
+ghost use Rattle.cdl_tokens.specs.code.Magnitudes.{word};
+
+use crate::bytes::{is_digit, is_hex, is_octal};
+
+/// A number below it has 64 bits at most with one digit more, in every base.
+const SMALL: u64 = 1 << 59;
+
+/// The number of an octal, decimal or hexadecimal digit, in either case.
+fn digit(b: u8) -> u8
+    ensures { result ≡ digit b }
+{
+    if is_digit(b) {
+        b - b'0'
+    } else if b >= b'A' && b <= b'F' {
+        b - b'A' + 10
+    } else {
+        b.saturating_sub(b'a' - 10)
+    }
+}
+
+/// How many of the first bytes are decimal digits.
+pub fn digit_len(bytes: &[u8]) -> usize
+    ensures len { result ≡ prefix_len is_digit bytes.now }
+    ensures within { result ≤ length bytes.now }
+{
+    bytes.iter().take_while(|b| is_digit(**b)).count()
+}
+
+/// How many of the first bytes are octal digits.
+pub fn octal_len(bytes: &[u8]) -> usize
+    ensures len { result ≡ prefix_len is_octal bytes.now }
+    ensures within { result ≤ length bytes.now }
+{
+    bytes.iter().take_while(|b| is_octal(**b)).count()
+}
+
+/// How many of the first bytes are hexadecimal digits.
+pub fn hex_len(bytes: &[u8]) -> usize
+    ensures len { result ≡ prefix_len is_hex bytes.now }
+    ensures within { result ≤ length bytes.now }
+{
+    bytes.iter().take_while(|b| is_hex(**b)).count()
+}
+
+/// The number of these digits, if it has 64 bits at most.
+pub fn number_in(base: u64, digits: &[u8]) -> Option<u64>
+    requires some { 1 ≤ base }
+    requires small { base ≤ 16 }
+    ensures { result ≡ word (number_in base 0 digits.now) }
+{
+    let mut value = 0;
+    for b in digits {
+        value = one_more(base, value, *b)?;
+    }
+    Some(value)
+}
+
+/// The number with one digit more, if it has 64 bits at most.
+#[tactic(auto, using(crate::proofs::Sizes::small_product))]
+fn one_more(base: u64, value: u64, b: u8) -> Option<u64>
+    requires { base ≤ 16 }
+    ensures { result ≡ word (base * value + digit b) }
+{
+    // Of most numbers neither the product nor the sum can be too large.
+    if value < SMALL {
+        return Some(base * value + digit(b) as u64);
+    }
+    base.checked_mul(value)?.checked_add(digit(b) as u64)
+}

@@ -1,0 +1,66 @@
+-- The names that most proofs of this crate cite, passed on from one place.
+pub use Rattle.cdl_meaning.specs.State.{Capacity, Draft, Listing, State, add_characters, add_constant, add_number, add_row, at_named, filled, in_turn, listed_by, row_count, same_type, type_said, unless, values_in, when, with_values}
+unfoldable pub use Rattle.cdl_meaning.specs.State.{act, at_variable, capacity_of, fits, listing_of}
+pub use Rattle.cdl_statements.proofs.Listing.{fine_on, only_completes}
+pub use Rattle.cdl_statements.proofs.NumberLists.{at_same_comma, same_after, same_words}
+pub use Rattle.cdl_statements.proofs.Surveys.{ending, first_word, going, good_end, good_on}
+pub use Rattle.cdl_statements.specs.Lexemes.{Lexeme, is_mark, is_mark_kind, is_word_kind, lexeme}
+pub use Rattle.cdl_statements.specs.Shapes.{Brace, Characters, Listed, Number, Underscore, Value, first_bad, token_fault}
+unfoldable pub use Rattle.cdl_statements.specs.Shapes.{shape}
+pub use Rattle.cdl_statements.specs.code.Contents.{parts_or_zero}
+unfoldable pub use Rattle.cdl_statements.specs.code.Contents.{value_of, values}
+pub use Rattle.cdl_statements.specs.code.Cutters.{first_piece, is_done, next_token, offset_of, text_of, tokens_left, version_of}
+unfoldable pub use Rattle.cdl_statements.specs.code.Cutters.{after, pieces_left, words}
+pub use Rattle.cdl_statements.specs.code.DueTokens.{is_value_of, is_whole, only, separator}
+unfoldable pub use Rattle.cdl_statements.specs.code.DueTokens.{completes, next}
+pub use Rattle.cdl_statements.specs.code.ListedTokens.{IsAtComma, Passes, PassesNumber, PassesString}
+pub use Rattle.cdl_statements.specs.code.Views.{lexeme_of, lexeme_with}
+pub use Rattle.cdl_statements.specs.declared.cutter.Cutter.{Cutter}
+pub use Rattle.cdl_statements.specs.declared.due.Due.{Due}
+pub use Rattle.cdl_statements.specs.declared.due.Due.TheVariants.{DataName, Equals, Separator}
+pub use Rattle.cdl_statements.specs.declared.fault.CdlKind.{CdlKind}
+pub use Rattle.cdl_statements.specs.declared.fault.CdlKind.TheVariants.{BadName, BadNumber, DuplicateData, NumberRange, StringTooLong, Syntax, TooManyValues, UnknownVariable, WrongKind}
+pub use Rattle.cdl_tokens.proofs.Strings.{or_zero, stands_run, unescape_more, unescape_past}
+pub use Rattle.cdl_tokens.specs.Bytes.{is_escape, is_hex, is_octal, number_in}
+pub use Rattle.cdl_tokens.specs.Escapes.{byte, escape, inner, number_escape, plain_escape, stands}
+unfoldable pub use Rattle.cdl_tokens.specs.Escapes.{character, unescape_at, word_value}
+pub use Rattle.cdl_tokens.specs.Numerals.{Parts, number, signed}
+unfoldable pub use Rattle.cdl_tokens.specs.Numerals.{numeral, parts}
+pub use Rattle.cdl_tokens.specs.code.Magnitudes.{held, word}
+pub use Rattle.cdl_tokens.specs.code.Scanners.{followed, is_unescaped, left}
+pub use Rattle.cdl_tokens.specs.declared.numeral.Numeral.{Numeral}
+pub use Rattle.cdl_tokens.specs.declared.token.TokenKind.{TokenKind}
+pub use Rattle.cdl_values.specs.code.Answers.{Adds, ContinuesRead, FailsRead, GivesRead, Leaves}
+pub use Rattle.cdl_values.specs.code.Capacities.{Fills, HasCapacity, as_bytes, capacity_for, most, positions_in}
+pub use Rattle.cdl_values.specs.code.DataRead.{bytes_assigned, if_new, packed_for, target_at, target_of, unless_bad}
+unfoldable pub use Rattle.cdl_values.specs.code.DataRead.{data_read}
+pub use Rattle.cdl_values.specs.code.Listed.{AreShaped, unlisted_draft, unlisted_drafts}
+pub use Rattle.cdl_values.specs.code.Meant.{AllSuit, HasListed, Means, ReadsStatement, Suits, begins_brace, listing_bytes, names_of, result_array, with_listing}
+pub use Rattle.cdl_values.specs.code.NameIndices.{AreBelow, IsIndex, name_of_entry, names_below, names_of_map, position_of, with_added_name}
+pub use Rattle.cdl_values.specs.code.PackedValues.{bytes_of, capacity_after, char_bytes, followed_by, greatest, held_bytes, is_full, is_past, joined, less, number_bytes, row_bytes, text_bytes, value_bytes}
+unfoldable pub use Rattle.cdl_values.specs.code.PackedValues.{packed}
+pub use Rattle.cdl_values.specs.code.ValueRuns.{GoesOn, Place, TakesValues, place}
+pub use Rattle.cdl_values.specs.declared.data.Given.{Given}
+pub use Rattle.cdl_values.specs.declared.data.Target.{Target}
+pub use Rattle.cdl_values.specs.declared.fill.Fill.{Fill}
+pub use Rattle.cdl_values.specs.declared.filling.Filling.{Filling}
+pub use Rattle.cdl_values.specs.declared.filling.Filling.TheVariants.{Joined, Numbers, Rows}
+pub use Rattle.cdl_values.specs.declared.read_error.ReadError.{ReadError}
+pub use Rattle.cdl_values.specs.declared.read_error.ReadError.TheVariants.{Fault, OutOfMemory}
+pub use Rattle.nc_base.specs.Names.{is_name}
+pub use Rattle.nc_base.specs.Numbers.{IsInRange, bytes_of_number}
+pub use Rattle.nc_base.specs.Sizes.{dim_len, is_record_var, product, slab_count}
+pub use Rattle.nc_base.specs.ValueText.{is_char}
+pub use Rattle.nc_base.specs.declared.header.Dim.{Dim}
+pub use Rattle.nc_base.specs.declared.nc_type.NcType.{NcType}
+pub use Rattle.nc_base.specs.declared.nc_type.NcType.TheVariants.{Byte, Char, Int, Int64, Short, Ubyte, Uint, Uint64, Ushort}
+pub use Rattle.nc_base.specs.declared.version.Version.{Version}
+pub use Rattle.std.proofs.Math.Seq.{drop-append_seam, take-suc}
+pub use Rattle.std.proofs.lemmas.Bool.{cases_Bool, cond-false, cond-true, false≢true}
+pub use Rattle.std.proofs.lemmas.Grind.{common_steps, flat_map-append}
+pub use Rattle.std.proofs.lemmas.Int.{to_z-of_z}
+pub use Rattle.std.proofs.lemmas.List.{drop-drop, get_or-drop, get_or-map, length-drop, length-map, map-append}
+pub use Rattle.std.specs.BTreeMap.{BTreeMap, insert_entry}
+pub use Rattle.std.specs.Int.{w128}
+pub use Rattle.std.specs.List.{flat_map, position_from, prefix_len, take_while}
+pub use Rattle.std.specs.Str.{bytes_eq}

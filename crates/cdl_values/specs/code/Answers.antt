@@ -1,0 +1,35 @@
+-- For contracts. What the calls answer, but for want of memory.
+use Rattle.std.specs.Prelude.{◌≡◌, ℕ, List, Result, Ok, Err, ⊤}
+use Rattle.cdl_statements.specs.declared.fault.CdlKind.{CdlKind}
+use Rattle.cdl_values.specs.code.PackedValues.{joined}
+use Rattle.cdl_values.specs.declared.read_error.ReadError.{ReadError}
+use Rattle.cdl_values.specs.declared.read_error.ReadError.TheVariants.{OutOfMemory, Fault}
+
+abbrev pub FailsRead : {A : Type 0} → ReadError → Result A CdlKind → Type 0
+FailsRead OutOfMemory read = Unit {0}
+FailsRead (Fault f) read = read ≡ Err f
+
+-- with an Ok its value, seen so, is what the definition gives; with a fault that is it
+abbrev pub GivesRead : {B A : Type 0} → (B → A) → Result B ReadError → Result A CdlKind → Type 0
+GivesRead view (Ok b) read = read ≡ Ok (view b)
+GivesRead view (Err e) read = FailsRead e read
+
+-- with an Ok the rest is read on from there; a fault is the answer
+abbrev pub ContinuesRead : {B A : Type 0} → (B → Result A CdlKind) → Result B ReadError → Result A CdlKind → Type 0
+ContinuesRead after (Ok b) read = read ≡ after b
+ContinuesRead after (Err e) read = FailsRead e read
+
+-- with an Ok the bytes that the definition gives are added; a fault is its fault
+abbrev pub Adds : List ℕ → List ℕ → Result ⊤ ReadError → Result (List ℕ) CdlKind → Type 0
+Adds before after (Ok u) bytes = joined (Ok before) bytes ≡ Ok after
+Adds before after (Err e) bytes = FailsRead e bytes
+
+-- a fault is the answer, however much memory there is
+abbrev pub RefusesValue : Result ⊤ ReadError → Result (List ℕ) CdlKind → Type 0
+RefusesValue answer (Ok bytes) = Unit {0}
+RefusesValue answer (Err f) = answer ≡ Err (Fault f)
+
+-- with an Ok the value afterwards is what the definition gives; a fault is its fault
+abbrev pub Leaves : {A : Type 0} → A → Result ⊤ ReadError → Result A CdlKind → Type 0
+Leaves after (Ok u) read = read ≡ Ok after
+Leaves after (Err e) read = FailsRead e read

@@ -1,0 +1,31 @@
+-- For contracts. What the data section lists of the variables, as bytes.
+use Rattle.std.specs.Prelude.{ℕ, ◌≡◌, List, [], ◌∷◌, map, None, ⊤, All}
+use Rattle.std.specs.List.{flat_map}
+use Rattle.nc_base.specs.Headers.{AreDimids}
+use Rattle.nc_base.specs.Numbers.{bytes_of_number}
+use Rattle.nc_base.specs.declared.header.Dim.{Dim}
+use Rattle.nc_base.specs.declared.header.Var.{Var}
+use Rattle.cdl_meaning.specs.Meaning.{values_of}
+use Rattle.cdl_meaning.specs.State.{Draft}
+
+-- a variable before the data section
+abbrev pub unlisted_draft : Var → Draft
+unlisted_draft var = record { var = var; listed = None }
+
+abbrev pub unlisted_drafts : List Var → List Draft
+unlisted_drafts vars = map unlisted_draft vars
+
+-- each variable's dimensions are known ones, and the record dimension stands first
+abbrev pub AreShaped : List Dim → List Draft → Type 0
+AreShaped dims drafts = All (λ (d : Draft). AreDimids dims [] d.var.dimids) drafts
+
+-- of this variable these bytes are listed
+pub record Lists (dims : List Dim) (var : Var) (array : List ℕ) (d : Draft) : Type 0 where
+  pub is : d.var ≡ var
+  pub bytes : array ≡ flat_map (bytes_of_number var.ty) (values_of dims d)
+
+-- of each variable the bytes at its place
+abbrev pub AllList : List Dim → List Var → List (List ℕ) → List Draft → Type 0
+AllList dims [] [] [] = ⊤
+AllList dims (var ∷ vars) (array ∷ arrays) (d ∷ drafts) = Lists dims var array d × AllList dims vars arrays drafts
+AllList dims _ _ _ = ⊥

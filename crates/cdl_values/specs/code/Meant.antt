@@ -1,0 +1,97 @@
+-- For contracts. What a statement of the data section means, in bytes.
+use Rattle.std.specs.Prelude.{ℕ, ◌≡◌, ◌<◌, ◌^◌, length, Bool, false, List, [], ◌∷◌, if◌then◌else◌, map, Some, Result, Ok, Err, ⊤}
+use Rattle.std.specs.List.{flat_map}
+use Rattle.std.specs.Str.{bytes_eq}
+use Rattle.nc_base.specs.Numbers.{bytes_of_number}
+use Rattle.nc_base.specs.declared.header.Dim.{Dim}
+use Rattle.nc_base.specs.declared.header.Var.{Var}
+use Rattle.nc_base.specs.declared.version.Version.{Version}
+use Rattle.cdl_tokens.specs.Escapes.{word_value}
+use Rattle.cdl_statements.specs.code.Cutters.{text_of, version_of, words}
+use Rattle.cdl_statements.specs.declared.cutter.Cutter.{Cutter}
+use Rattle.cdl_statements.specs.declared.section.Section.TheVariants.{Values}
+use Rattle.cdl_statements.specs.Lexemes.{Lexeme, is_mark}
+use Rattle.cdl_statements.specs.declared.fault.CdlKind.{CdlKind}
+use Rattle.cdl_meaning.specs.Meaning.{piece_read}
+use Rattle.cdl_meaning.specs.State.{State, Draft, Listing, capacity_of, is_listed, values_in}
+use Rattle.cdl_values.specs.declared.read_error.ReadError.{ReadError}
+use Rattle.cdl_values.specs.declared.read_error.ReadError.TheVariants.{OutOfMemory, Fault}
+use Rattle.cdl_values.specs.code.Capacities.{Fills, HasCapacity}
+use Rattle.cdl_values.specs.code.Listed.{AreShaped, unlisted_drafts}
+use Rattle.cdl_values.specs.declared.data.Given.{Given}
+use Rattle.cdl_values.specs.declared.data.Target.{Target}
+
+-- a target is what a draft takes
+pub record Suits (dims : List Dim) (t : Target) (d : Draft) : Type 0 where
+  pub given : t.given ≡ is_listed d.listed
+  pub fills : Fills t.filling (capacity_of dims d.var)
+  pub takes : HasCapacity t.filling t.capacity (capacity_of dims d.var)
+
+-- each target is what the draft at its position takes
+abbrev pub AllSuit : List Dim → List Target → List Draft → Type 0
+AllSuit dims [] [] = ⊤
+AllSuit dims (t ∷ ts) (d ∷ ds) = Suits dims t d × AllSuit dims ts ds
+AllSuit dims _ _ = ⊥
+
+-- each target is what the variable at its position takes before the data section
+abbrev pub SuitVariables : List Dim → List Var → List Target → Type 0
+SuitVariables dims vars targets = AreShaped dims (unlisted_drafts vars) → AllSuit dims targets (unlisted_drafts vars)
+
+abbrev pub names_of : List Draft → List (List ℕ)
+names_of drafts = map (λ (d : Draft). d.var.name) drafts
+
+-- with this listing of the first variable of this name
+abbrev pub with_listing : List ℕ → Listing → List Draft → List Draft
+with_listing name listing [] = []
+with_listing name listing (d ∷ ds) = if bytes_eq d.var.name name then record d { listed = Some listing } ∷ ds else d ∷ with_listing name listing ds
+
+-- the listing as its bytes
+abbrev pub listing_bytes : List Dim → List ℕ → Listing → List Draft → List ℕ
+listing_bytes dims name listing [] = []
+listing_bytes dims name listing (d ∷ ds) = if bytes_eq d.var.name name then flat_map (bytes_of_number d.var.ty) (values_in (capacity_of dims d.var) listing) else listing_bytes dims name listing ds
+
+-- the drafts with a listing of these bytes, or the fault
+abbrev pub HasListed : List Dim → List ℕ → List Draft → Result (List ℕ) CdlKind → Result (List Draft) CdlKind → Type 0
+HasListed dims name drafts (Err e) after = after ≡ Err e
+HasListed dims name drafts (Ok array) after = (listing : Listing) × (listing_bytes dims name listing drafts ≡ array) × (after ≡ Ok (with_listing name listing drafts))
+
+abbrev pub name_first : List Lexeme → List ℕ
+name_first [] = []
+name_first (l ∷ ls) = word_value l.bytes
+
+-- the name that the next statement begins with
+abbrev pub name_said : Cutter → List ℕ
+name_said start = name_first (words start)
+
+-- the piece makes such a state of this one, or has the fault
+abbrev pub Means : Version → State → List Lexeme → Result (List ℕ) CdlKind → Type 0
+Means v s ws (Err e) = piece_read v s ws ≡ Err e
+Means v s ws (Ok array) =
+    (listing : Listing) × (listing_bytes s.dims (name_first ws) listing s.drafts ≡ array) × (piece_read v s ws ≡ Ok (record s { drafts = with_listing (name_first ws) listing s.drafts }))
+
+-- its first token is the closing brace
+abbrev pub begins_brace : List Lexeme → Bool
+begins_brace [] = false
+begins_brace (l ∷ ls) = is_mark 0x7d l
+
+-- what a call answers of a piece, but for want of memory
+abbrev pub ReadsStatement : Version → State → List Lexeme → Result (List ℕ) (ReadError) → Type 0
+ReadsStatement v s ws (Ok array) = Means v s ws (Ok array)
+ReadsStatement v s ws (Err (Fault e)) = Means v s ws (Err e)
+ReadsStatement v s ws (Err OutOfMemory) = Unit {0}
+
+abbrev pub result_array : {G : Type 0} → (G → List ℕ) → Result G (ReadError) → Result (List ℕ) (ReadError)
+result_array view (Ok g) = Ok (view g)
+result_array view (Err e) = Err e
+
+-- The next statement stands in the data section, and lists values: the variables have these names, and take this.
+pub record ListsValues (start : Cutter) (names : List (List ℕ)) (targets : List Target) (s : State) : Type 0 where
+  pub section : s.section ≡ Values
+  pub named : names ≡ names_of s.drafts
+  pub suit : AllSuit s.dims targets s.drafts
+  pub lists : begins_brace (words start) ≡ false
+  pub short : length (text_of start) < 2 ^ 63
+
+-- what is given of the next statement is what it means, in each state that has these names and takes this
+abbrev pub MeansWhatIsGiven : Cutter → List (List ℕ) → List Target → Result Given ReadError → Type 0
+MeansWhatIsGiven start names targets result = (s : State) → ListsValues start names targets s → ReadsStatement (version_of start) s (words start) (result_array (λ (g : Given). g.array) result)

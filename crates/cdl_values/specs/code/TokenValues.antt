@@ -1,0 +1,108 @@
+-- For contracts. The values of tokens, packed one after the other.
+use Rattle.std.specs.Prelude.{ℕ, ◌≡◌, Bool, List, [], ◌∷◌, Option, Result, Ok, ⊤, OnOk, IfOk}
+use Rattle.nc_base.specs.declared.nc_type.NcType.{NcType}
+use Rattle.nc_base.specs.declared.version.Version.{Version}
+use Rattle.cdl_tokens.specs.Escapes.{inner, stands}
+use Rattle.cdl_tokens.specs.code.Magnitudes.{held}
+use Rattle.cdl_tokens.specs.Numerals.{Parts, number}
+use Rattle.cdl_tokens.specs.declared.numeral.Numeral.{Numeral}
+use Rattle.cdl_tokens.specs.declared.token.TokenKind.TheVariants as kinds
+use Rattle.cdl_statements.specs.code.Contents.{value_of, values}
+use Rattle.cdl_statements.specs.code.Cutters.{version_of, words}
+use Rattle.cdl_statements.specs.Lexemes as lexemes
+use Rattle.cdl_statements.specs.Shapes.{Value, Number, Characters}
+use Rattle.cdl_statements.specs.code.Views.{lexeme_of, lexeme_with}
+use Rattle.cdl_statements.specs.declared.cutter.Cutter.{Cutter}
+use Rattle.cdl_statements.specs.declared.due.Due.{Due}
+use Rattle.cdl_statements.specs.declared.fault.CdlKind.{CdlKind}
+use Rattle.cdl_statements.specs.declared.lexeme.Lexeme.{Lexeme}
+use Rattle.cdl_meaning.specs.State.{add_constant, in_turn}
+use Rattle.cdl_values.specs.code.Answers.{ContinuesRead, Leaves}
+use Rattle.cdl_values.specs.code.PackedValues.{bytes_of, capacity_after, joined, less, packed, value_bytes}
+use Rattle.cdl_values.specs.declared.fill.Fill.{Fill}
+use Rattle.cdl_values.specs.declared.filling.Filling.{Filling}
+use Rattle.cdl_values.specs.declared.read_error.ReadError.{ReadError}
+use Rattle.cdl_values.specs.declared.value.FastPathFault.{FastPathFault}
+
+-- ---- one token
+
+-- the value that a token says
+abbrev pub value_said : Version → Lexeme → Value
+value_said version token = value_of version (lexeme_of token) token.kind
+
+-- the characters between the quotes of a string
+abbrev pub text_said : List ℕ → Value
+text_said bytes = Characters (stands (inner bytes))
+
+-- the bytes of a token's value
+abbrev pub token_bytes : Filling → Option ℕ → Version → Lexeme → Result (List ℕ) CdlKind
+token_bytes filling capacity version token = bytes_of filling capacity (value_said version token)
+
+-- the same of a token that is a number
+abbrev pub numeral_bytes : Filling → Option ℕ → Version → List ℕ → Result (List ℕ) CdlKind
+numeral_bytes filling capacity version bytes = bytes_of filling capacity (value_of version (lexeme_with kinds.Number bytes) kinds.Number)
+
+-- the same of a variable of numbers
+abbrev pub number_token_bytes : Fill → Bool → Version → Lexeme → Result (List ℕ) CdlKind
+number_token_bytes fill full version token = value_bytes fill.ty fill.value full (value_said version token)
+
+-- a value takes one of the capacity, whatever its bytes
+abbrev pub CountsOne : Filling → Option ℕ → Type 0
+CountsOne filling capacity = (added : List ℕ) → capacity_after filling added capacity ≡ less 1 capacity
+
+-- ---- one token after the other
+
+-- packing, between two tokens: the bytes so far, and the capacity that is left
+pub record Packing : Type 0 where
+  pub bytes : List ℕ
+  pub left : Option ℕ
+
+abbrev pub at : List ℕ → Option ℕ → Packing
+at bytes left = record { bytes = bytes; left = left }
+
+-- the bytes with the values of these tokens
+abbrev pub packed_on : Version → Filling → Packing → List lexemes.Lexeme → Result (List ℕ) CdlKind
+packed_on version filling here tokens = joined (Ok here.bytes) (packed filling here.left (values version tokens))
+
+-- the token's value is added, which leaves such a capacity; or the fault is that of the values
+abbrev pub PacksToken : Version → Filling → Lexeme → Packing → List ℕ → Result (Option ℕ) ReadError → Type 0
+PacksToken version filling token before bytes result =
+    (rest : List lexemes.Lexeme) → ContinuesRead (λ left. packed_on version filling (at bytes left) rest) result (packed_on version filling before (lexeme_of token ∷ rest))
+
+-- past a token
+abbrev pub Packs : Version → Filling → Lexeme → Packing → Packing → Type 0
+Packs version filling token before after = (rest : List lexemes.Lexeme) → packed_on version filling before (lexeme_of token ∷ rest) ≡ packed_on version filling after rest
+
+-- with an Ok the token's value is added, which leaves such a capacity
+abbrev pub PacksGood : Version → Filling → Lexeme → Packing → List ℕ → Result (Option ℕ) FastPathFault → Type 0
+PacksGood version filling token before bytes result = IfOk result (λ left. Packs version filling token before (at bytes left))
+
+abbrev pub TakesGood : Version → Filling → Lexeme → Packing → List ℕ → Result (Option ℕ × Due) FastPathFault → Type 0
+TakesGood version filling token before bytes result = IfOk result (λ r. Packs version filling token before (at bytes r.0))
+
+-- with an Ok the bytes of the token's value are appended
+abbrev pub Appends : Version → Filling → Lexeme → Packing → List ℕ → Result ⊤ FastPathFault → Type 0
+Appends version filling token before after result = OnOk result (joined (Ok before.bytes) (token_bytes filling before.left version token) ≡ Ok after)
+
+-- the same of a token that is a number
+abbrev pub AppendsNumber : Version → Filling → List ℕ → Packing → List ℕ → Result ⊤ FastPathFault → Type 0
+AppendsNumber version filling bytes before after result = OnOk result (joined (Ok before.bytes) (numeral_bytes filling before.left version bytes) ≡ Ok after)
+
+-- the values from a cutter on, packed
+abbrev pub packed_from : Filling → Option ℕ → Cutter → Result (List ℕ) CdlKind
+packed_from filling capacity start = packed filling capacity (values (version_of start) (words start))
+
+-- ---- constants
+
+-- the constants from a cutter on
+abbrev pub constants_read : NcType → Cutter → Result (List ℕ) CdlKind
+constants_read ty start = in_turn (add_constant ty) [] (values (version_of start) (words start))
+
+-- the token's constant is added, or the fault is that of the constants
+abbrev pub AddsToken : Version → NcType → Lexeme → List ℕ → List ℕ → Result ⊤ ReadError → Type 0
+AddsToken version ty token before after result =
+    (rest : List lexemes.Lexeme) → ContinuesRead (λ u. in_turn (add_constant ty) after (values version rest)) result (in_turn (add_constant ty) before (values version (lexeme_of token ∷ rest)))
+
+-- the number that is held so is added, or it has the fault
+abbrev pub AddsNumber : NcType → Numeral → List ℕ → List ℕ → Result ⊤ ReadError → Type 0
+AddsNumber ty n before after result = (p : Parts) → n ≡ held p → Leaves after result (add_constant ty before (Number (number p)))

@@ -1,0 +1,50 @@
+-- For contracts. What goes past several values of a statement at once.
+use Rattle.std.specs.Prelude.{ℕ, List, Bool, ◌≡◌, ◌≤◌, false, Option, Result, Ok, IfOk}
+use Rattle.cdl_statements.specs.code.Contents.{values}
+use Rattle.cdl_statements.specs.code.Cutters.{SameText, after, is_done, offset_of, version_of, words}
+use Rattle.cdl_statements.specs.code.DueTokens.{completes}
+use Rattle.cdl_statements.specs.code.ListedTokens.{IsAtComma}
+use Rattle.cdl_statements.specs.Shapes.{first_bad}
+use Rattle.cdl_statements.specs.declared.cutter.Cutter.{Cutter}
+use Rattle.cdl_statements.specs.declared.due.Due.{Due}
+use Rattle.cdl_statements.specs.declared.due.Due.TheVariants.{Separator}
+use Rattle.cdl_values.specs.code.PackedValues.{joined, packed}
+use Rattle.cdl_values.specs.declared.filling.Filling.{Filling}
+use Rattle.cdl_values.specs.declared.value.FastPathFault.{FastPathFault}
+use Rattle.cdl_values.specs.declared.value_run.UnreadValues.{UnreadValues}
+
+-- A place among the values of a statement: the bytes of those before it, and what capacity is left.
+pub record Place : Type 0 where
+  pub cutter : Cutter
+  pub bytes : List ℕ
+  pub left : Option ℕ
+
+abbrev pub place : UnreadValues → List ℕ → Place
+place unread bytes = record { cutter = unread.cutter; bytes = bytes; left = unread.capacity }
+
+-- The tokens between two places are good ones, after which the same token is due. Their values are what the bytes before have become, and what the capacity has lost.
+pub record GoesOn (due : Due) (filling : Filling) (start rest : Place) : Type 0 where
+  pub same : SameText start.cutter rest.cutter
+  pub goes : is_done rest.cutter ≡ false
+  pub bad : first_bad (version_of start.cutter) (words rest.cutter) ≡ first_bad (version_of start.cutter) (words start.cutter)
+  pub shaped : completes due (words rest.cutter) ≡ completes due (words start.cutter)
+  pub packs : joined (Ok rest.bytes) (packed filling rest.left (values (version_of start.cutter) (words rest.cutter))) ≡ joined (Ok start.bytes) (packed filling start.left (values (version_of start.cutter) (words start.cutter)))
+  pub others : after rest.cutter ≡ after start.cutter
+  pub on : offset_of start.cutter ≤ offset_of rest.cutter
+
+-- From comma to comma of a list of values.
+pub record TakesValues (takes_fill : Bool) (filling : Filling) (start rest : Place) : Type 0 where
+  pub at : IsAtComma rest.cutter
+  pub on : GoesOn (Separator takes_fill) filling start rest
+
+-- with an Ok the bytes have become these, and the values that are left are unread
+abbrev pub GoesTo : Due → Filling → Place → List ℕ → Result UnreadValues FastPathFault → Type 0
+GoesTo due filling start bytes result = IfOk result (λ rest. GoesOn due filling start (place rest bytes))
+
+-- the same from comma to comma
+abbrev pub TakesTo : Bool → Filling → Place → List ℕ → Result UnreadValues FastPathFault → Type 0
+TakesTo takes_fill filling start bytes result = IfOk result (λ rest. TakesValues takes_fill filling start (place rest bytes))
+
+-- none of these values is a `_`, so that it doesn't matter if one may stand there
+abbrev pub TakesPlain : Filling → Place → List ℕ → Result UnreadValues FastPathFault → Type 0
+TakesPlain filling start bytes result = (takes_fill : Bool) → TakesTo takes_fill filling start bytes result

@@ -1,0 +1,101 @@
+//! Outputs in memory.
+
+ghost use Rattle.std.specs.Prelude.{◌≡◌, Some, true};
+ghost use Rattle.devices.specs.Creators.{uncreated};
+ghost use Rattle.devices.specs.code.Made.{Gave, given_of, output_of, view_of};
+
+use crate::{CloseFailed, CreateFailed, Creator, MemSink};
+use std::alloc::{AllocError, Global};
+
+/// A path and what it was given.
+#[derive(Drop)]
+pub struct MadeFile {
+    path: String,
+    bytes: MemSink,
+}
+
+impl MadeFile {
+    /// The path.
+    pub fn path(&self) -> &str
+        ensures { result.now ≡ (output_of self.now).path }
+    {
+        self.path.as_str()
+    }
+
+    /// The bytes.
+    pub fn bytes(&self) -> &[u8]
+        ensures { (output_of self.now).bytes ≡ Some result.now }
+    {
+        self.bytes.as_slice()
+    }
+}
+
+/// Outputs in memory. They are transparent.
+#[derive(Drop)]
+pub struct MadeFiles {
+    alloc: Global,
+    made: Vec<MadeFile>,
+    creations: u128,
+    failures: u128,
+}
+
+impl MadeFiles {
+    /// No outputs yet.
+    pub fn new(alloc: Global) -> MadeFiles
+        ensures { view_of result ≡ uncreated }
+    {
+        MadeFiles {
+            alloc,
+            made: Vec::new(alloc),
+            creations: 0,
+            failures: 0,
+        }
+    }
+
+    /// What paths were given, in order.
+    pub fn given(&self) -> &[MadeFile]
+        ensures { given_of result.now ≡ (view_of self.now).given }
+    {
+        self.made.as_slice()
+    }
+
+    /// Gives the path these bytes.
+    fn give(&mut self, path: &str, bytes: MemSink) -> Result<(), AllocError>
+        ensures { Gave self.old self.new path.now bytes result }
+    {
+        let path = String::from_str(self.alloc, path)?;
+        self.made.push(MadeFile { path, bytes })?;
+        Ok(())
+    }
+}
+
+impl Creator for MadeFiles {
+    type Output = MemSink;
+
+    ghost is_transparent = { true };
+
+    ghost view = { view_of };
+
+    #[tactic(auto, unfolding(crate::specs::Failures::HasFailed))]
+    fn create(&mut self, path: &str) -> Result<MemSink, CreateFailed> {
+        let is_given = self.creations < u128::MAX
+            && self.give(path, MemSink::new(self.alloc)).is_ok();
+        if !is_given {
+            self.failures = self.failures.saturating_add(1);
+            return Err(CreateFailed);
+        }
+        self.creations += 1;
+        Ok(MemSink::new(self.alloc))
+    }
+
+    #[tactic(auto, unfolding(crate::specs::Failures::HasFailed))]
+    fn close(&mut self, path: &str, output: MemSink) -> Result<(), CloseFailed> {
+        let failures = output.failures();
+        if self.give(path, output).is_err() {
+            self.failures = self.failures.saturating_add(1);
+            return Err(CloseFailed);
+        }
+        self.failures = self.failures.saturating_add(failures);
+        Ok(())
+    }
+}

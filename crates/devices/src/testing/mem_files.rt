@@ -1,0 +1,101 @@
+//! Files in memory.
+
+ghost use Rattle.std.specs.Prelude.{◌≡◌, option_map, true};
+ghost use Rattle.devices.specs.code.MemFiles.{bytes_named, file_named, files_of, is_at, view_of};
+ghost use Rattle.devices.specs.Openers.{HasBack, unopened};
+
+use crate::{CountedRead, MemSource, OpenFailed, Opener, TextOpener};
+use std::io::Read;
+
+/// A file in memory: a path and its bytes.
+#[derive(Clone, Copy, Debug)]
+pub struct MemFile<'a> {
+    /// The path.
+    pub path: &'a str,
+    /// The bytes.
+    pub bytes: &'a [u8],
+}
+
+/// Files in memory. A path names the first of them that has it. They are transparent.
+#[derive(Drop)]
+pub struct MemFiles<'a> {
+    files: &'a [MemFile<'a>],
+    opens: u128,
+    failures: u128,
+}
+
+impl<'a> MemFiles<'a> {
+    /// These files. None of them has been opened.
+    pub fn new(files: &'a [MemFile<'a>]) -> MemFiles<'a>
+        ensures files { files_of result ≡ files.now }
+        ensures view { view_of result ≡ unopened }
+    {
+        MemFiles {
+            files,
+            opens: 0,
+            failures: 0,
+        }
+    }
+}
+
+impl<'a> Opener for MemFiles<'a> {
+    type Source = MemSource<'a>;
+
+    ghost named = { λ listed path. bytes_named (files_of listed) path };
+
+    ghost view = { view_of };
+
+    fn open(&mut self, path: &str) -> Result<MemSource<'a>, OpenFailed> {
+        self.opens = self.opens.saturating_add(1);
+        let bytes = bytes_at(self.files, path).ok_or(OpenFailed)?;
+        Ok(MemSource::new(bytes))
+    }
+
+    fn close(&mut self, source: MemSource<'a>) {
+        self.failures = self.failures.saturating_add(source.failures());
+    }
+}
+
+impl<'a> TextOpener for MemFiles<'a> {
+    type Text = &'a [u8];
+
+    ghost is_transparent = { true };
+
+    ghost named = { λ listed path. bytes_named (files_of listed) path };
+
+    ghost view = { view_of };
+
+    fn open_text(&mut self, path: &str) -> Result<CountedRead<&'a [u8]>, OpenFailed> {
+        self.opens = self.opens.saturating_add(1);
+        let bytes = bytes_at(self.files, path).ok_or(OpenFailed)?;
+        Ok(CountedRead::new(bytes))
+    }
+
+    fn close_text(&mut self, text: CountedRead<&'a [u8]>)
+        ensures { HasBack (view_of self.old) (view_of self.new) text.entry.failures }
+    {
+        self.failures = self.failures.saturating_add(text.failures());
+    }
+}
+
+/// The bytes of the first file at this path.
+fn bytes_at<'a>(files: &'a [MemFile<'a>], path: &str) -> Option<&'a [u8]>
+    ensures { option_map (λ bytes. bytes.now) result ≡ bytes_named files.now path.now }
+{
+    let file = file_at(files, path)?;
+    Some(file.bytes)
+}
+
+/// The first file at this path.
+fn file_at<'a>(files: &'a [MemFile<'a>], path: &str) -> Option<&'a MemFile<'a>>
+    ensures { option_map (λ file. file.now) result ≡ file_named files.now path.now }
+{
+    files.iter().find(|file| is_at(file, path))
+}
+
+/// Returns true if the file is at this path.
+fn is_at(file: &MemFile<'_>, path: &str) -> bool
+    ensures { result ≡ is_at file.now path.now }
+{
+    file.path == path
+}

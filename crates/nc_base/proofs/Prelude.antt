@@ -1,0 +1,52 @@
+-- The names that most proofs of this crate cite, passed on from one place.
+pub use Rattle.nc_base.specs.Bytes.{AreBytes, padding_len}
+unfoldable pub use Rattle.nc_base.specs.Bytes.{concat_parts}
+pub use Rattle.nc_base.specs.Dump.{Content, Ending, IsDump, IsFirstUnknown, IsFirstUnknownOf, IsText, KnowsChosen, Options, Section, content_in, content_of, contents, dump_text, has_values, has_variable, is_selected, selection_of, shown, shown_values, stopped, unknown, values_before, values_of}
+unfoldable pub use Rattle.nc_base.specs.Dump.{closing_word, data_word}
+unfoldable pub use Rattle.nc_base.specs.Escapes.{escaped_name, escaped_text, is_reserved}
+unfoldable pub use Rattle.nc_base.specs.Fill.{fill_value}
+pub use Rattle.nc_base.specs.GeneratedFile.{Fits, atts_spelling, begin_after, blocks, count_spelling, fits, fixed_vars, is_sole_narrow, known_records, list_head, list_spelling, name_spelling, numrecs_spelling, record_of, slab_in, vars_after, vsize_of, zero_padded}
+unfoldable pub use Rattle.nc_base.specs.GeneratedFile.{att_spelling, data_of, dim_spelling, file_of, fill_bytes, header_spelling, magic_spelling, padded_slab, var_spelling, with_begins, word_spelling}
+pub use Rattle.nc_base.specs.Grammar.{ElementSpelling, IsWithinLimits, SpellsAtt, SpellsAtts, SpellsCount, SpellsCounted, SpellsDim, SpellsDimid, SpellsEach, SpellsHeader, SpellsList, SpellsName, SpellsNumRecs, SpellsNumber, SpellsPadded, SpellsType, SpellsVar, absent, attribute_tag, dimension_tag, present, variable_tag}
+pub use Rattle.nc_base.specs.Headers.{AreArrays, AreDimids, HasValidNames, HasWholeValues, IsArray, IsDimid, IsGood, IsSound, IsSoundAtt, IsSoundDim, IsSoundNumRecs, IsSoundVar, bare, bare_var, has_record_dim, value_count}
+pub use Rattle.nc_base.specs.Names.{IsName}
+pub use Rattle.nc_base.specs.Numbers.{bytes_of_number, number_of, numbers_from}
+unfoldable pub use Rattle.nc_base.specs.Numbers.{numbers}
+pub use Rattle.nc_base.specs.Places.{HoldsDataset, bytes_at, distance, end_after, ends_after, extent_end, first_missing, slab_strides, stored_bytes, stored_values, vectors_below}
+unfoldable pub use Rattle.nc_base.specs.Places.{value_offsets}
+pub use Rattle.nc_base.specs.Sizes.{dim_len, is_narrow, is_record_dim, is_record_var, least_begin, padded_size, padded_total, product, record_count, record_limit, record_size, record_size_of, record_vars, records_between, slab_count, slab_lens, slab_limit, slab_of, slab_size}
+pub use Rattle.nc_base.specs.Types.{code_of, size_of}
+pub use Rattle.nc_base.specs.ValueText.{Look, column, held, is_nul, later_pieces, number_text, row_so_far}
+unfoldable pub use Rattle.nc_base.specs.ValueText.{char_piece, closing, look_of, number_piece, opening, piece, pieces, variable_prefix, variable_text}
+pub use Rattle.nc_base.specs.Versions.{count_limit, count_width, has_type, offset_limit, offset_width, streaming_mark, version_byte}
+pub use Rattle.nc_base.specs.code.ListedRows.{AreRowEnds, StandAt}
+unfoldable pub use Rattle.nc_base.specs.code.ListedRows.{filled_rows, row_start}
+pub use Rattle.nc_base.specs.code.SizeParts.{checked_record_size, end_of, first_begin, has_small_slab, is_fixed_dim, lesser, slab_at}
+pub use Rattle.nc_base.specs.code.Weight.{att_weight, dim_weight, var_weight}
+pub use Rattle.nc_base.specs.declared.dataset.Dataset.{Dataset}
+pub use Rattle.nc_base.specs.declared.header.Att.{Att}
+pub use Rattle.nc_base.specs.declared.header.Dim.{Dim}
+pub use Rattle.nc_base.specs.declared.header.Header.{Header}
+pub use Rattle.nc_base.specs.declared.header.NumRecs.{NumRecs}
+pub use Rattle.nc_base.specs.declared.header.NumRecs.TheVariants.{Known, Streaming}
+pub use Rattle.nc_base.specs.declared.header.Var.{Var}
+pub use Rattle.nc_base.specs.declared.nc_type.NcType.{NcType}
+pub use Rattle.nc_base.specs.declared.nc_type.NcType.TheVariants.{Byte, Char, Int, Int64, Short, Ubyte, Uint, Uint64, Ushort}
+pub use Rattle.nc_base.specs.declared.version.Version.{Version}
+pub use Rattle.nc_base.specs.declared.version.Version.TheVariants.{Cdf1, Cdf2, Cdf5}
+pub use Rattle.std.proofs.Math.Nat.{div-lt_iff_lt-mul, div-mul-le_self, mod-add-div, mod-add-mod, mod-eq-sub-div-mul, mod-lt, mod-zero, mod_self, mul-div_cancel, mul-le-mul_left, mul-le-mul_right}
+pub use Rattle.std.proofs.Math.Seq.{take-add, take-append_seam}
+pub use Rattle.std.proofs.lemmas.Bool.{cases_lt, cond-false, cond-true, eq-eqb, eqb-false, eqb-true, false_from_ne_true, le-leb, le-ltb, leb-true, lt-ltb, ltb-false, ltb-true}
+pub use Rattle.std.proofs.lemmas.Bool.Decides.{leb_tells, nat_tests}
+pub use Rattle.std.proofs.lemmas.Grind.{common_steps}
+pub use Rattle.std.proofs.lemmas.List.{append-nil, drop-append-le, drop-drop, drop-replicate, drop_all, drop_at, drop_min, drop_more, length-append, length-drop, length-map, length-replicate, length-reverse, length-take, length-take-le, map-append, nil_from_length, reverse-append, take-append-drop, take-append-le, take_all, take_at}
+pub use Rattle.std.proofs.lemmas.List.Elements.{All-append, All-cons, All-filter, All-from_get_or, All-from_recursion, All-get_or, All-head, All-map, All-nil, All-tail, All-weaker, filter-append, filter_more}
+pub use Rattle.std.proofs.lemmas.List.Folds.{concat-append, list_all-append, list_any_at, prefix_len-append}
+pub use Rattle.std.proofs.lemmas.List.Sums.{fails_before_first, length-filter, position_or_len_is, prefix_len-le-length, suffix_len_is, sum-map, sum_by-append, sum_by-cons, sum_by_push}
+pub use Rattle.std.proofs.lemmas.Nat.{be_bytes_2, be_bytes_4, be_bytes_8, div-mul-add, from_be_bytes-to_be_bytes_2, from_be_bytes-to_be_bytes_4, from_be_bytes-to_be_bytes_8, mod-mul-add}
+pub use Rattle.std.specs.Fmt.{decimal, digit_glyph, digits_onto, signed_decimal}
+unfoldable pub use Rattle.std.specs.Fmt.{digits}
+pub use Rattle.std.specs.Int.{FitsUnsigned, Width, byte_len, cast_signed, cast_unsigned, from_be_bytes, to_be_bytes, w16, w32, w64, w8}
+pub use Rattle.std.specs.List.{AllByRecursion, after_last, before_last, concat, count_by, flat_map, last_or, list_all, list_any, position, position_or_len, prefix_len, range_with_len, suffix_len, sum_by}
+pub use Rattle.std.specs.Str.{IsUtf8, bytes_eq}
+unfoldable pub use Rattle.std.specs.Str.{is_utf8}

@@ -1,0 +1,3 @@
+mod Files
+mod Texts
+pub mod Written

@@ -1,0 +1,6 @@
+pub mod SizeParts
+pub mod SoundParts
+pub mod Quoted
+pub mod OwedValues
+pub mod ListedRows
+pub mod Weight

@@ -1,0 +1,23 @@
+-- For contracts. How one byte is written where it stands, in words for the code that prints and the code that reads.
+use Rattle.std.specs.Prelude.{ℕ, Bool, List, [], ◌∷◌}
+use Rattle.nc_base.specs.Escapes.{escaped_in_name, escaped_in_string, is_literal, is_plain, octal_escape}
+use Rattle.nc_base.specs.declared.escape.Escape.{Escape}
+use Rattle.nc_base.specs.declared.escape.Escape.TheVariants.{Plain, Backslash, Octal}
+use Rattle.nc_base.specs.declared.escape.Quoting.{Quoting}
+use Rattle.nc_base.specs.declared.escape.Quoting.TheVariants.{InName, InString}
+
+-- a byte that is written so
+abbrev pub written : Escape → ℕ → List ℕ
+written Plain b = b ∷ []
+written (Backslash c) b = 92 ∷ c ∷ []
+written Octal b = octal_escape b
+
+-- one byte of a name or of a string, with its escape
+abbrev pub escaped_in : Quoting → (ℕ → List ℕ)
+escaped_in InName = escaped_in_name
+escaped_in InString = escaped_in_string
+
+-- it has no escape there
+abbrev pub stands_for_itself : Quoting → (ℕ → Bool)
+stands_for_itself InName = is_plain
+stands_for_itself InString = is_literal

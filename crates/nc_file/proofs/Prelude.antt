@@ -1,0 +1,42 @@
+-- The names that most proofs of this crate cite, passed on from one place.
+pub use Rattle.devices.proofs.UpTo.{UpTo, each-left, up-next, up-partway, up-start}
+pub use Rattle.devices.specs.declared.source.Source.{Ghosts}
+pub use Rattle.nc_base.proofs.HeaderSpelled.{total-append}
+pub use Rattle.nc_base.specs.Bytes.{AreBytes, padding_len}
+pub use Rattle.nc_base.specs.FirstFault.{ElementStop, IsCutNumber, StopsAt, StopsInAtt, StopsInAtts, StopsInCount, StopsInCounted, StopsInDim, StopsInDimid, StopsInEach, StopsInList, StopsInMagic, StopsInName, StopsInNumRecs, StopsInType, StopsInVar, StopsWith, absent_elements, bad_dimid, bad_name, bad_tag, bad_type, bad_version, cut_begin, cut_count, cut_dimid, cut_magic, cut_name, cut_name_padding, cut_numrecs, cut_tag, cut_type, cut_value_padding, cut_values, cut_version, cut_vsize, floating, in_absent_count, in_att_count, in_att_name, in_att_type, in_count, in_dim_len, in_dim_name, in_dims, in_element, in_gatts, in_magic, in_name_len, in_numrecs, in_present, in_shape, in_var_atts, in_var_name, in_var_type, in_vars, negative_begin, negative_count, negative_numrecs, other_magic, second_record_dim, too_large}
+pub use Rattle.nc_base.specs.GeneratedFile.{atts_spelling, begin_after, count_spelling, fits, fixed_vars, list_head, list_spelling, name_spelling, numrecs_spelling, vars_after, vsize_of, zero_padded}
+unfoldable pub use Rattle.nc_base.specs.GeneratedFile.{att_spelling, dim_spelling, file_of, header_spelling, magic_spelling, var_spelling, with_begins, word_spelling}
+pub use Rattle.nc_base.specs.Grammar.{ElementSpelling, IsWithinLimits, SpellsAtt, SpellsAttPrefix, SpellsAtts, SpellsCount, SpellsCounted, SpellsDim, SpellsDimid, SpellsEach, SpellsHeader, SpellsList, SpellsMagic, SpellsName, SpellsNumRecs, SpellsNumber, SpellsOffset, SpellsPadded, SpellsStart, SpellsType, SpellsTypedVar, SpellsUpToDims, SpellsUpToGatts, SpellsVar, SpellsVarPrefix, absent, attribute_tag, dimension_tag, present, variable_tag}
+pub use Rattle.nc_base.specs.Headers.{AreDimids, IsDimid, has_record_dim}
+pub use Rattle.nc_base.specs.Sizes.{is_record_dim, is_record_var, padded_size, padded_total, record_limit, record_vars, slab_limit, slab_of, slab_size}
+pub use Rattle.nc_base.specs.Types.{all_types, code_of, size_of, type_of_code}
+pub use Rattle.nc_base.specs.Versions.{count_limit, count_width, has_type, offset_limit, offset_width, streaming_mark, version_byte, version_of_byte}
+pub use Rattle.nc_base.specs.declared.fault.FormatFault.{FormatFault}
+pub use Rattle.nc_base.specs.declared.fault.FormatFault.TheVariants.{BadCount, BadOffset, BadTag, HeaderTruncated, NotNetcdf, TooLarge}
+pub use Rattle.nc_base.specs.declared.header.Att.{Att}
+pub use Rattle.nc_base.specs.declared.header.Dim.{Dim}
+pub use Rattle.nc_base.specs.declared.header.Header.{Header}
+pub use Rattle.nc_base.specs.declared.header.NumRecs.{NumRecs}
+pub use Rattle.nc_base.specs.declared.header.NumRecs.TheVariants.{Known, Streaming}
+pub use Rattle.nc_base.specs.declared.header.Var.{Var}
+pub use Rattle.nc_base.specs.declared.nc_type.NcType.{NcType}
+pub use Rattle.nc_base.specs.declared.nc_type.NcType.TheVariants.{Byte, Char, Int, Int64, Short, Ubyte, Uint, Uint64, Ushort}
+pub use Rattle.nc_base.specs.declared.version.Version.{Version}
+pub use Rattle.nc_base.specs.declared.version.Version.TheVariants.{Cdf1, Cdf2, Cdf5}
+pub use Rattle.nc_file.specs.code.Begins.{after, is_below, offset_of, offset_too_large, placed}
+pub use Rattle.nc_file.specs.code.Lengths.{att_len, dim_len, list_head_len, var_len}
+pub use Rattle.nc_file.specs.code.Reading.{Outcome, Part, Reads, att_after, att_list_at, byte_at, byte_run, dim_after, dim_list_at, dimid_after, is_dimid, known_type, next, next-shorter, record_part, total_or_wrong, type_or_wrong, var_after, var_list_at, version_or}
+unfoldable pub use Rattle.nc_file.specs.code.Reading.{att_at, byte_or, bytes_at, count_at, dim_at, dimid_at, done, each_at, header_at, left_over, list_at, list_len_at, magic_at, name_at, number_at, numrecs_at, offset_at, padded_at, shape_at, skip_at, stop, total_with, type_at, type_in, var_at, version_at}
+pub use Rattle.nc_file.specs.code.Window.{Kept, Read, Ready, left, source_of}
+pub use Rattle.nc_file.specs.declared.head_fault.HeadFault.{HeadFault}
+pub use Rattle.nc_file.specs.declared.head_fault.HeadFault.TheVariants.{Format, OutOfMemory, ReadFailed}
+pub use Rattle.nc_file.specs.declared.sized_var.SizedVar.{SizedVar}
+pub use Rattle.nc_file.specs.declared.window.Window.{Window}
+pub use Rattle.std.proofs.Math.Nat.{sub-zero}
+pub use Rattle.std.proofs.lemmas.Bool.{OnTrue_at, OnTrue_from, cases_lt, eq-eqb, eqb-false, eqb-true, le-ltb, leb-false, leb-true, ltb-true}
+pub use Rattle.std.proofs.lemmas.List.{append-nil, drop-drop, drop-take, get_or-take, get_or_default, get_or_past, length-drop, length-replicate, length-take, take-take, take_all, take_at}
+pub use Rattle.std.proofs.lemmas.List.Sums.{sum_by-cons, sum_by-le-sum_by}
+pub use Rattle.std.proofs.lemmas.Result.{err_from_is_err_and}
+pub use Rattle.std.specs.Bool.{OnTrue}
+pub use Rattle.std.specs.Int.{Width, byte_len, from_be_bytes, to_be_bytes, w32, w64}
+pub use Rattle.std.specs.List.{AllByRecursion, flat_map, list_all, sum_by}

@@ -1,9 +1,0 @@
-use Rattle.std.proofs.Common.{◌-◌, length}
-use Rattle.nc_walk.proofs.FillSteps.{Filling}
-use Rattle.nc_walk.proofs.fill.fill_on.Given as goal
-
-abbrev pub invariant-loop-got : goal.invariant-loop-got
-invariant-loop-got g l = Filling g.S.Source.is_transparent (g.S.Source.view l.fn.source) (g.S.Source.view l.source) l.at l.got l.into
-
-abbrev pub decreases-loop-got : goal.decreases-loop-got
-decreases-loop-got g l = length l.initial.into - l.got

@@ -1,0 +1,10 @@
+pub mod Slabs
+pub mod SourceUses
+pub mod FullReads
+pub mod Walks
+pub mod Lends
+pub mod Chunks
+pub mod Walked
+pub mod Filled
+pub mod DataPart
+pub mod RecordSlabs

@@ -1,0 +1,54 @@
+//! Reading on until a slice is full.
+
+ghost use Rattle.std.specs.Prelude.{◌≡◌, ◌+◌, ◌*◌, ◌<◌, ◌≤◌, ◌^◌, length};
+ghost use Rattle.nc_walk.specs.code.FullReads.{ReadsInFull};
+
+use devices::{Source, SourceFailed};
+
+/// Reads the bytes from the offset `at` on until the slice is full, or the source says that it has ended, and gives their
+/// number. A source that is transparent fills the slice.
+///
+/// # Errors
+///
+/// The source failed.
+// Most slices are filled by one read.
+#[inline(always)]
+pub(crate) fn read_full<S: Source>(
+    source: &mut S,
+    at: u64,
+    into: &mut [u8],
+) -> Result<usize, SourceFailed>
+    requires some { 0 < length into.old }
+    requires fits { at + length into.old < 2 ^ 64 }
+    requires there { at + length into.old ≤ length (S.view source.old).bytes }
+    ensures { ReadsInFull S.is_transparent (S.view source.old) (S.view source.new) at into.new result }
+{
+    let got = source.read_at(at, into)?;
+    if got == into.len() || got == 0 {
+        return Ok(got);
+    }
+    let more = read_on(source, at + got as u64, &mut into[got..])?;
+    Ok(got + more)
+}
+
+/// The same, read by read.
+///
+/// # Errors
+///
+/// The source failed.
+#[inline(never)]
+fn read_on<S: Source>(source: &mut S, at: u64, into: &mut [u8]) -> Result<usize, SourceFailed>
+    requires fits { at + length into.old < 2 ^ 64 }
+    requires there { at + length into.old ≤ length (S.view source.old).bytes }
+    ensures { ReadsInFull S.is_transparent (S.view source.old) (S.view source.new) at into.new result }
+{
+    let mut got = 0;
+    while got < into.len() {
+        match source.read_at(at + got as u64, &mut into[got..]) {
+            Ok(0) => return Ok(got),
+            Ok(n) => got += n,
+            Err(failure) => return Err(failure),
+        }
+    }
+    Ok(got)
+}

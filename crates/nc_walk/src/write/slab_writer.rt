@@ -1,0 +1,81 @@
+//! A variable's array, written slab by slab.
+
+ghost use Rattle.std.specs.Prelude.{◌≡◌, ◌≤◌};
+ghost use Rattle.devices.specs.Sinks.{Wrote};
+ghost use Rattle.nc_base.specs.Sizes.{slab_limit, slab_size};
+ghost use Rattle.nc_walk.specs.code.Filled.{ArrayView, array_view, filled_part, filled_record, filled_slab, filled_slabs};
+
+use super::fills::{fill_unit, put_fills};
+use super::part::put_part;
+use devices::{Sink, WriteFailed};
+use nc_base::{Dim, ListedArray, Var, padding_len, slab_of};
+use std::marker::Model;
+
+/// The array of a variable, whose last values may be lacking: they are its fill value.
+#[derive(Drop)]
+pub(super) struct SlabWriter<'a> {
+    /// The bytes of the values that are listed.
+    pub(super) listed: &'a ListedArray,
+    /// The bytes of a slab.
+    pub(super) slab: u64,
+    /// Eight bytes of fill values.
+    pub(super) unit: [u8; 8],
+}
+
+impl<'a> Model for SlabWriter<'a> {
+    ghost Value = { ArrayView };
+
+    ghost view = { λ array. record { listed = array.listed.now; slab = array.slab; unit = array.unit } };
+}
+
+impl<'a> SlabWriter<'a> {
+    /// A writer for a variable over these dimensions, with its listed bytes.
+    pub(super) fn of(dims: &[Dim], var: &Var, listed: &'a ListedArray) -> SlabWriter<'a>
+        requires { slab_size dims.now var.now ≤ slab_limit }
+        ensures { result ≡ array_view dims.now var.now listed.now }
+    {
+        SlabWriter {
+            listed,
+            slab: slab_of(dims, var.dimids.as_slice(), var.ty).unwrap(),
+            unit: fill_unit(var),
+        }
+    }
+
+    /// Writes the array of a variable without records, and its padding.
+    pub(super) fn put_block<W: Sink>(&self, sink: &mut W) -> Result<(), WriteFailed>
+        ensures { Wrote W.view sink.old sink.new (filled_slab self.now self.now.listed) result }
+    {
+        self.put_slab(sink, 0, self.listed.len())
+    }
+
+    /// Writes the slab of record `r`, and its padding.
+    pub(super) fn put_record<W: Sink>(&self, sink: &mut W, r: u64) -> Result<(), WriteFailed>
+        ensures { Wrote W.view sink.old sink.new (filled_record r self.now) result }
+    {
+        let len = self.slab as u128;
+        self.put_slab(sink, r as u128 * len, len)
+    }
+
+    /// Writes the slabs of all records, one after the other and without padding.
+    #[tactic(auto, using(devices::proofs::Writes::writes))]
+    pub(super) fn put_records<W: Sink>(&self, sink: &mut W, records: u64) -> Result<(), WriteFailed>
+        ensures { Wrote W.view sink.old sink.new (filled_slabs records self.now) result }
+    {
+        let listed = self.listed.len();
+        put_part(sink, self.listed, 0, listed)?;
+        let all = records as u128 * self.slab as u128;
+        put_fills(sink, self.unit, all.saturating_sub(listed))
+    }
+
+    /// Writes a slab and its padding: `len` listed bytes from `start` on, or fewer if the list ends, and then fill values.
+    #[tactic(auto, using(devices::proofs::Writes::writes))]
+    fn put_slab<W: Sink>(&self, sink: &mut W, start: u128, len: u128) -> Result<(), WriteFailed>
+        ensures { Wrote W.view sink.old sink.new (filled_part self.now start len) result }
+    {
+        put_part(sink, self.listed, start, len)?;
+        let listed = self.listed.len().saturating_sub(start).min(len);
+        let owed = (self.slab as u128).saturating_sub(listed);
+        let padding = padding_len(self.slab as u128);
+        put_fills(sink, self.unit, owed + padding as u128)
+    }
+}

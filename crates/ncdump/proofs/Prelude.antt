@@ -1,0 +1,44 @@
+-- The names that most proofs of this crate cite, passed on from one place.
+pub use Rattle.cdl_print.proofs.Begun.{appended_none}
+pub use Rattle.cdl_print.specs.code.Printer.{HasPrinted, Printed, Stopped, Takes, look_in}
+pub use Rattle.clap.specs.Words.{App, HasKind, Row, app_of, fault_of, found_of, is_simple, is_simple_and_free, kind_of, matches_of, new_app, new_rule, rows_of, rule_of, with_rule}
+pub use Rattle.cli_base.specs.Arguments.{flag, option, quiet, texts_of}
+pub use Rattle.devices.proofs.Writes.{append-++, appended_partway, appended_then, cut-append, split_prefix, transparent-append}
+pub use Rattle.devices.specs.Sinks.{Appended, FailedPartway, IsPrefixIf, SinkView, StoppedShort}
+unfoldable pub use Rattle.devices.specs.Sinks.{IsCut, append, count, is_transparent}
+pub use Rattle.devices.specs.Sources.{SourceView, after}
+pub use Rattle.nc_base.proofs.ValueLaws.{prefix-append, prefix_nil}
+pub use Rattle.nc_base.specs.Dump.{Ending, IsDump, IsFirstUnknown, IsFirstUnknownOf, KnowsChosen, Options, Section, content_in, contents, data_truncated, dump_text, has_values, has_variable, no_section, no_such_variable, selection_of, shown, shown_values, stopped, unknown, values_before, values_of, whole, wrong_field}
+unfoldable pub use Rattle.nc_base.specs.Dump.{closing_word, data_word}
+pub use Rattle.nc_base.specs.Grammar.{SpellsHeader}
+unfoldable pub use Rattle.nc_base.specs.HeadText.{head_text}
+pub use Rattle.nc_base.specs.Headers.{IsSoundVar, value_count}
+pub use Rattle.nc_base.specs.Numbers.{number_of}
+unfoldable pub use Rattle.nc_base.specs.Numbers.{numbers}
+pub use Rattle.nc_base.specs.Places.{bytes_at, first_missing, stored_bytes, stored_values}
+unfoldable pub use Rattle.nc_base.specs.Places.{value_offsets}
+pub use Rattle.nc_base.specs.Sizes.{is_record_var, record_count}
+pub use Rattle.nc_base.specs.Types.{size_of}
+pub use Rattle.nc_base.specs.ValueText.{Look, later_pieces}
+unfoldable pub use Rattle.nc_base.specs.ValueText.{closing, look_of, opening, variable_prefix, variable_text}
+pub use Rattle.nc_base.specs.declared.header.Header.{Header}
+pub use Rattle.nc_base.specs.declared.header.Var.{Var}
+pub use Rattle.nc_walk.proofs.FullReadSteps.{after_after, transparent_any, transparent_both, transparent_map}
+pub use Rattle.nc_walk.specs.code.SourceUses.{between}
+pub use Rattle.nc_walk.specs.code.Walked.{GivesChunk, GivesCut, GivesEnd, GivesFailure, HasRead, IsChunk, Pass, Walked}
+pub use Rattle.ncdump.specs.CommandLine.{Answers, Asked, asked_for, width_of}
+unfoldable pub use Rattle.ncdump.specs.CommandLine.{asked_by, asked_in, ncdump}
+pub use Rattle.ncdump.specs.Dumps.{Dumps, IsAfterHeader, ReadsForward, after_header, in_header, options_of}
+pub use Rattle.ncdump.specs.code.Names.{holds, holds_if}
+pub use Rattle.ncdump.specs.code.Shows.{AreShown, AreUnread, AreUnwritten, Dumped, Holds, IsBefore, IsShown, IsUnread, IsUnwritten, IsUpToDate, KeepsUp, KeepsUpIn, ReadFailsOnly, Shows, ShowsAt, ShowsMarked, ShowsOne, ShowsOrFails, bytes_of, dumped, marked_values, marks_in, prefix_text, text_before, values_alone, values_and, values_from, whole_bytes, whole_values}
+pub use Rattle.ncdump.specs.declared.fault.DumpFault.{DumpFault}
+pub use Rattle.ncdump.specs.declared.fault.DumpFault.TheVariants.{DataTruncated, Format, NoSuchVariable, OutOfMemory, ReadFailed, WriteFailed}
+pub use Rattle.std.proofs.Math.Seq.{drop-cons, take-add}
+pub use Rattle.std.proofs.lemmas.Bool.{OnTrue_at, OnTrue_from, false≢true, lt-ltb}
+pub use Rattle.std.proofs.lemmas.Iterator.Consumers.{YieldsList-at}
+pub use Rattle.std.proofs.lemmas.List.{append-nil, drop_all, length-append, length-map, take_all}
+pub use Rattle.std.proofs.lemmas.Option.{get_or_from_slice_get, slice_get-get_or, slice_get_within}
+pub use Rattle.std.proofs.lemmas.Result.{IfOk-weaker, err_from_is_err_and}
+pub use Rattle.std.specs.Bool.{OnTrue, then_some}
+pub use Rattle.std.specs.List.{list_all, list_any, position_or_len, prefix_len}
+pub use Rattle.std.specs.Str.{bytes_eq}

@@ -1,0 +1,30 @@
+-- The names that most proofs of this crate cite, passed on from one place.
+pub use Rattle.cdl_laws.proofs.MeaningsAreGood.{meanings_are_good}
+pub use Rattle.cdl_meaning.specs.Meaning.{meaning, text_limit}
+pub use Rattle.cdl_statements.specs.declared.fault.CdlFault.{CdlFault}
+pub use Rattle.clap.specs.Words.{App, HasKind, Row, app_of, fault_of, found_of, is_simple, is_simple_and_free, kind_of, matches_of, new_app, new_rule, rows_of, rule_of, with_rule}
+pub use Rattle.cli_base.specs.Arguments.{flag, option, quiet, texts_of}
+unfoldable pub use Rattle.devices.specs.Failures.{HasFailed}
+pub use Rattle.devices.specs.Readers.{ReaderView, view_of}
+pub use Rattle.devices.specs.Sinks.{FailedPartway, IsPrefix, IsPrefixIf, SinkView, StoppedShort}
+unfoldable pub use Rattle.devices.specs.Sinks.{IsCut, append, is_transparent}
+pub use Rattle.nc_base.proofs.Fitting.{Fits-from_fits, IsSound-with_begins, begins-below}
+pub use Rattle.nc_base.specs.Bytes.{AreBytes}
+pub use Rattle.nc_base.specs.GeneratedFile.{blocks, fits, is_sole_narrow, known_records, record_of, slab_in, vars_after}
+unfoldable pub use Rattle.nc_base.specs.GeneratedFile.{data_of, file_of, fill_bytes, header_spelling, padded_slab, with_begins}
+pub use Rattle.nc_base.specs.Headers.{AreArrays, IsGood, IsSound, bare_var}
+pub use Rattle.nc_base.specs.code.OwedValues.{AreListed, whole_array, whole_arrays}
+pub use Rattle.nc_base.specs.declared.dataset.Dataset.{Dataset}
+pub use Rattle.nc_base.specs.declared.header.Header.{Header}
+pub use Rattle.nc_base.specs.declared.version.Version.{Version}
+pub use Rattle.nc_walk.specs.code.RecordSlabs.{record_slabs}
+pub use Rattle.ncgen.specs.CommandLine.{Answers, Asked, asked_for}
+unfoldable pub use Rattle.ncgen.specs.CommandLine.{asked_by, asked_in, ncgen}
+pub use Rattle.ncgen.specs.Generated.{Generates, Refuses, file_or_fault}
+unfoldable pub use Rattle.ncgen.specs.Generated.{generated}
+pub use Rattle.ncgen.specs.code.Prepared.{IsReady, Prepares, listed_data}
+unfoldable pub use Rattle.ncgen.specs.code.Prepared.{file_of_prepared}
+pub use Rattle.ncgen.specs.code.TextReads.{HasGrown, ReadsText}
+pub use Rattle.ncgen.specs.declared.fault.GenFault.{GenFault}
+pub use Rattle.ncgen.specs.declared.fault.GenFault.TheVariants.{Cdl, OffsetTooLarge, WriteFailed}
+pub use Rattle.std.proofs.lemmas.Result.{IfOk-weaker, err_from_is_err_and}

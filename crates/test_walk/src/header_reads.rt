@@ -1,0 +1,101 @@
+//! Headers read from failing devices, and long ones.
+
+use crate::reading::header_through;
+use nc_base::{FormatFault, Header};
+use nc_file::{DripSource, FailWhen, HeadFault, MemSource};
+use std::alloc::Global;
+use std::process::Abort;
+use std::test::Fail;
+use test_files::repeated;
+
+/// A failed read is answered at once: the nth one, of a byte each.
+fn failed_read(rt: &impl Abort, alloc: Global, bytes: &[u8], n: u64, buffer_len: usize) {
+    let mut space = [0; 4096];
+    assert!(rt; buffer_len <= 4096);
+    let mut source = DripSource::new(bytes, 1, FailWhen::Read(n));
+    let answer = header_through(rt, alloc, &mut source, &mut space[..buffer_len]);
+    assert!(rt; matches!(answer, Err(HeadFault::ReadFailed)));
+}
+
+/// The header is read, though each read after it would fail, and little more than it is read.
+fn read_alone(
+    rt: &impl Abort,
+    alloc: Global,
+    bytes: &[u8],
+    step: usize,
+    header_len: u64,
+    buffer_len: usize,
+) {
+    let mut space = [0; 4096];
+    assert!(rt; 1 <= step && buffer_len <= 4096);
+    let mut source = DripSource::new(bytes, step, FailWhen::From(header_len));
+    let answer = header_through(rt, alloc, &mut source, &mut space[..buffer_len]);
+    assert!(rt; answer.is_ok());
+    assert!(rt; source.handed() <= header_len as u128 + buffer_len as u128);
+}
+
+#[test]
+fn each_read_fails_in_turn(rt: HostRuntime) {
+    const ROWS: [(&[u8], u64, usize); 3] = [
+        (test_files::ONE_VARIABLE, 80, 16),
+        (test_files::ONE_VARIABLE, 80, 4096),
+        (test_files::ONE_VARIABLE_CDF5, 128, 17),
+    ];
+    // a header has as many bytes as there are reads
+    for (file, header_len, buffer_len) in ROWS {
+        for n in 0..header_len {
+            failed_read(&rt, rt.alloc(), file, n, buffer_len);
+        }
+    }
+}
+
+#[test]
+fn no_read_begins_after_the_header(rt: HostRuntime) {
+    const ROWS: [(&[u8], usize, u64, usize); 5] = [
+        (test_files::ONE_VARIABLE, 1, 80, 16),
+        (test_files::ONE_VARIABLE, 3, 80, 17),
+        (test_files::ONE_VARIABLE, 7, 80, 31),
+        (test_files::ONE_VARIABLE, 4096, 80, 16),
+        (test_files::ONE_VARIABLE_CDF5, 7, 128, 31),
+    ];
+    for (file, step, header_len, buffer_len) in ROWS {
+        read_alone(&rt, rt.alloc(), file, step, header_len, buffer_len);
+    }
+}
+
+/// Returns true if the answer is this fault.
+fn is_fault(answer: Result<Header, HeadFault>, fault: FormatFault) -> bool {
+    matches!(answer, Err(found) if found == HeadFault::Format(fault))
+}
+
+/// A header that is cut off is read up to the cut, and no further, where each read would fail.
+#[test]
+fn no_read_begins_at_the_cut(rt: HostRuntime) {
+    for n in 4..80 {
+        let cut = &test_files::ONE_VARIABLE[..n];
+        let mut source = DripSource::new(cut, 7, FailWhen::From(n as u64));
+        let answer = header_through(&rt, rt.alloc(), &mut source, &mut [0; 16]);
+        assert!(rt; is_fault(answer, FormatFault::HeaderTruncated));
+    }
+}
+
+/// Variables `byte v(t, x, x)`, all alike, each with 2^48 bytes a record, and what stands before their count.
+const LARGE_RECORD: &[u8] = b"\0\0\0\x01v\0\0\0\0\0\0\x03\0\0\0\0\0\0\0\x01\0\0\0\x01\
+    \0\0\0\0\0\0\0\0\0\0\0\x01\xff\xff\xff\xff\0\0\0\0";
+
+const BEFORE_LARGE_RECORDS: &[u8] = b"CDF\x01\0\0\0\0\
+    \0\0\0\x0a\0\0\0\x02\0\0\0\x01t\0\0\0\0\0\0\0\0\0\0\x01x\0\0\0\x01\0\0\0\
+    \0\0\0\0\0\0\0\0\0\0\0\x0b";
+
+/// A record may have 2^62 bytes, and no more.
+#[test]
+fn records_at_their_limit(rt: HostRuntime) -> Result<(), Fail> {
+    for (count, is_read) in [(16_384, true), (16_385, false)] {
+        let bytes = repeated(rt.alloc(), BEFORE_LARGE_RECORDS, LARGE_RECORD, count)?;
+        let mut source = MemSource::new(bytes.as_slice());
+        let answer = header_through(&rt, rt.alloc(), &mut source, &mut [0; 4096]);
+        assert!(rt; answer.is_ok() == is_read);
+        assert!(rt; is_fault(answer, FormatFault::TooLarge) != is_read);
+    }
+    Ok(())
+}
