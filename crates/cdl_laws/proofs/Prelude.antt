@@ -41,8 +41,6 @@ pub use Rattle.cdl_tokens.specs.declared.scan.Scanned.{Scanned}
 pub use Rattle.cdl_tokens.specs.declared.token.Token.{Token}
 pub use Rattle.cdl_tokens.specs.declared.token.TokenKind.{TokenKind}
 pub use Rattle.cdl_tokens.specs.declared.token.TokenKind.TheVariants.{Bad, Text, Word}
-pub use Rattle.nc_base.proofs.examples.Written.{att, dataset, dim, hex, var}
-unfoldable pub use Rattle.nc_base.proofs.examples.Written.{files_computed, values_computed}
 pub use Rattle.nc_base.specs.Bytes.{AreBytes}
 unfoldable pub use Rattle.nc_base.specs.Bytes.{concat_parts}
 pub use Rattle.nc_base.specs.Dump.{Content, Ending, IsText, Options, content_of, contents, dump_text, has_dimension, has_name, has_values, is_chosen, is_selected, selection_of, shown, shown_values, unknown, values_before, whole}

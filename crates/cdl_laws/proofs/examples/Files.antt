@@ -1,7 +1,8 @@
 -- Texts with a dataset, and the files of their datasets, byte by byte, by computation.
 use Prim.Native.String.{String}
 use Rattle.std.proofs.Common.{◌≡◌, List, [], ◌∷◌, refl, codes, Bool, true, false, drop, map, nat_lt}
-use Rattle.cdl_laws.proofs.Prelude.{Header, Known, Var, Byte, Int, Version, Cdf1, Cdf2, Cdf5, var_spelling, with_begins, offset_limit, hex, dim, var, files_computed}
+use Rattle.cdl_laws.proofs.Prelude.{Header, Known, Var, Byte, Int, Version, Cdf1, Cdf2, Cdf5, var_spelling, with_begins, offset_limit}
+use Rattle.nc_base.proofs.examples.Written.{hex, dim, var, files_computed}
 use Rattle.cdl_laws.proofs.examples.Written.{file_from, texts_computed}
 
 -- three shorts; the second is missing

@@ -1,6 +1,7 @@
 -- The datasets of a few texts, and sizes at their limits, by computation.
 use Rattle.std.proofs.Common.{◌≡◌, ℕ, List, [], ◌∷◌, ◌^◌, refl, Bool, true, false, ℤ, pos, codes, map, Some, Ok}
-use Rattle.cdl_laws.proofs.Prelude.{NcType, Byte, Char, Short, Int, Ubyte, Cdf1, Cdf5, dim, att, var, dataset, Ended, State, Draft, Numbers, text_limit, meaning, is_small_enough}
+use Rattle.cdl_laws.proofs.Prelude.{NcType, Byte, Char, Short, Int, Ubyte, Cdf1, Cdf5, Ended, State, Draft, Numbers, text_limit, meaning, is_small_enough}
+use Rattle.nc_base.proofs.examples.Written.{dim, att, var, dataset}
 use Rattle.cdl_laws.proofs.examples.Written.{texts_computed}
 
 -- a variable with the name of a section, and one whose name begins with a digit and has a space

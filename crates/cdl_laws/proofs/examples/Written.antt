@@ -2,7 +2,8 @@
 use Prim.Native.String.{String}
 use Rattle.std.proofs.Common.{◌≡◌, ℕ, List, [], ◌∷◌, ◌++◌, codes, map, Some, None, Option, Result, Ok, Err, false}
 use Rattle.std.specs.Prelude.{⊤}
-use Rattle.cdl_laws.proofs.Prelude.{flat_map, is_utf8, chars, Dataset, Version, Options, dump_text, shown_values, content_of, selection_of, data_word, closing_word, is_reserved, fill_value, file_of, dimensions_word, unlimited_word, currently_word, variables_word, global_word, netcdf_word, string_break, number_values, char_values, att_line, att_lines, dim_extent, dim_line, dim_lines, dims_text, shape_text, var_lines, vars_text, gatts_text, head_text, numbers, look_of, values_computed, word_len, until, scan, unescape_at, character, word_value, tokens_at, suffix, numeral, parts, CdlFault, CdlKind, pieces_at, is_section, name_of, shape, act, fits, add_dim, type_of, add_dimid, add_var, at_variable, add_att, capacity_of, listing_of, run, piece_read, meaning, finished, is_small_enough}
+use Rattle.cdl_laws.proofs.Prelude.{flat_map, is_utf8, chars, Dataset, Version, Options, dump_text, shown_values, content_of, selection_of, data_word, closing_word, is_reserved, fill_value, file_of, dimensions_word, unlimited_word, currently_word, variables_word, global_word, netcdf_word, string_break, number_values, char_values, att_line, att_lines, dim_extent, dim_line, dim_lines, dims_text, shape_text, var_lines, vars_text, gatts_text, head_text, numbers, look_of, word_len, until, scan, unescape_at, character, word_value, tokens_at, suffix, numeral, parts, CdlFault, CdlKind, pieces_at, is_section, name_of, shape, act, fits, add_dim, type_of, add_dimid, add_var, at_variable, add_att, capacity_of, listing_of, run, piece_read, meaning, finished, is_small_enough}
+use Rattle.nc_base.proofs.examples.Written.{values_computed}
 use lib.Utf8.{encode}
 
 -- ---- texts with a fault
