@@ -231,7 +231,7 @@ only_globals Values inside a b = cc
 only_globals Closed inside a b = cc
 only_globals Ended inside a b = cc
 
--- ---- a statement, by what a first pass over it finds
+-- ---- a statement, by what the check of it finds
 
 pub reads_bad : (v : Version) (s : State) (ws : List Lexeme) (kind : CdlKind) → first_bad v ws ≡ Some kind → piece_read v s ws ≡ Err kind
 unfolding piece_read

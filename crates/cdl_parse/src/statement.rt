@@ -7,7 +7,7 @@ ghost use Rattle.cdl_statements.specs.declared.due.Due.TheVariants.{First};
 ghost use Rattle.cdl_meaning.specs.State.{State};
 ghost use Rattle.cdl_parse.specs.code.Defined.{ActsAsSaid};
 
-use cdl_statements::{CdlKind, Cutter, Section, look_over};
+use cdl_statements::{CdlKind, Cutter, Section, check_shape};
 
 /// Passes over the next statement, which stands in this section, and gives the statements after it. It does not allocate.
 ///
@@ -20,7 +20,7 @@ pub fn pass(start: Cutter<'_>, section: Section) -> Result<Cutter<'_>, CdlKind>
     ensures whole { IfOk result (λ c. completes (First section) (words start.entry) ≡ true) }
     ensures rest { IfOk result (λ c. Follows start.entry c) }
 {
-    let found = look_over(start, section);
+    let found = check_shape(start, section);
     match found.bad {
         Some(kind) => return Err(kind),
         None => {}

@@ -1,6 +1,6 @@
 pub mod Cuts
 pub mod PieceLengths
-pub mod Surveys
+pub mod ShapeChecks
 pub mod Options
 pub mod Listing
 pub mod Shaping

@@ -106,9 +106,9 @@ pub value_first : (v : Version) (takes_fill : Bool) (l : Lexeme) (ls : List Lexe
 unfolding values
 value_first v takes_fill l ls h = rw (no_mark_value takes_fill l h) refl
 
-pub over_mark : (v : Version) (l : Lexeme) (ls : List Lexeme) → is_mark_kind l.kind ≡ true → values v (l ∷ ls) ≡ values v ls
+pub past_mark : (v : Version) (l : Lexeme) (ls : List Lexeme) → is_mark_kind l.kind ≡ true → values v (l ∷ ls) ≡ values v ls
 unfolding values
-over_mark v l ls h = rw (h) refl
+past_mark v l ls h = rw (h) refl
 
 -- a statement's list up to its semicolon
 abbrev pub listed : Version → Bool → List Lexeme → Option (List Value)
@@ -174,9 +174,9 @@ listed_is v takes_fill (l ∷ m ∷ []) h =
     listed_last v takes_fill l m ∙
     combine (is_value_of takes_fill l l.kind) (is_mark 0x3b m) true (completes (dues.Value takes_fill) (l ∷ m ∷ [])) (constant v takes_fill l) (value_of v l l.kind) (Some []) [] (values v (l ∷ m ∷ []))
     (constant_is v takes_fill l (fine v l (m ∷ []) h)) refl (completes_last takes_fill l m)
-    (λ i s. value_first v takes_fill l (m ∷ []) i ∙ ap (λ vs. value_of v l l.kind ∷ vs) (over_mark v m [] (kind_of_mark 0x3b m s)))
+    (λ i s. value_first v takes_fill l (m ∷ []) i ∙ ap (λ vs. value_of v l l.kind ∷ vs) (past_mark v m [] (kind_of_mark 0x3b m s)))
 listed_is v takes_fill (l ∷ m ∷ r ∷ rs) h =
     listed_more v takes_fill l m r rs ∙
     combine (is_value_of takes_fill l l.kind) (is_mark 0x2c m) (completes (dues.Value takes_fill) (r ∷ rs)) (completes (dues.Value takes_fill) (l ∷ m ∷ r ∷ rs)) (constant v takes_fill l) (value_of v l l.kind) (listed v takes_fill (r ∷ rs)) (values v (r ∷ rs)) (values v (l ∷ m ∷ r ∷ rs))
     (constant_is v takes_fill l (fine v l (m ∷ r ∷ rs) h)) (listed_is v takes_fill (r ∷ rs) (fine_on v m (r ∷ rs) (fine_on v l (m ∷ r ∷ rs) h))) (completes_more takes_fill l m r rs)
-    (λ i c. value_first v takes_fill l (m ∷ r ∷ rs) i ∙ ap (λ vs. value_of v l l.kind ∷ vs) (over_mark v m (r ∷ rs) (kind_of_mark 0x2c m c)))
+    (λ i c. value_first v takes_fill l (m ∷ r ∷ rs) i ∙ ap (λ vs. value_of v l l.kind ∷ vs) (past_mark v m (r ∷ rs) (kind_of_mark 0x2c m c)))

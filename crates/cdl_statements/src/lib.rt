@@ -22,7 +22,7 @@ mod lexeme;
 mod number_list;
 mod piece;
 mod section;
-mod survey;
+mod shape_check;
 
 pub use cutter::Cutter;
 pub use due::Due;
@@ -31,4 +31,4 @@ pub use lexeme::Lexeme;
 pub use number_list::NumberList;
 pub use piece::{CutState, Role, Step};
 pub use section::Section;
-pub use survey::{Survey, first_pass, look_over, token_fault};
+pub use shape_check::{ShapeCheck, check_shape, check_shape_from, token_fault};

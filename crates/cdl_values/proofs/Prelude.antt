@@ -3,7 +3,7 @@ pub use Rattle.cdl_meaning.specs.State.{Capacity, Draft, Listing, State, add_cha
 unfoldable pub use Rattle.cdl_meaning.specs.State.{act, at_variable, capacity_of, fits, listing_of}
 pub use Rattle.cdl_statements.proofs.Listing.{fine_on, only_completes}
 pub use Rattle.cdl_statements.proofs.NumberLists.{at_same_comma, same_after, same_words}
-pub use Rattle.cdl_statements.proofs.Surveys.{ending, first_word, going, good_end, good_on}
+pub use Rattle.cdl_statements.proofs.ShapeChecks.{ending, first_word, going, good_end, good_on}
 pub use Rattle.cdl_statements.specs.Lexemes.{Lexeme, is_mark, is_mark_kind, is_word_kind, lexeme}
 pub use Rattle.cdl_statements.specs.Shapes.{Brace, Characters, Listed, Number, Underscore, Value, first_bad, token_fault}
 unfoldable pub use Rattle.cdl_statements.specs.Shapes.{shape}

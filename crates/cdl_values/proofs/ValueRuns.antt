@@ -7,7 +7,7 @@ use Rattle.cdl_tokens.specs.declared.token.TokenKind.TheVariants as kinds
 use Rattle.cdl_statements.specs.code.NumberLists as lists
 use Rattle.cdl_statements.specs.declared.due.Due.TheVariants.{Value}
 use Rattle.cdl_statements.specs.declared.number_list.NumberList.{NumberList}
-use Rattle.cdl_values.proofs.PackedTokens.{added, is_after, one_packed, over_mark, over_value}
+use Rattle.cdl_values.proofs.PackedTokens.{added, is_after, one_packed, past_mark, over_value}
 use Rattle.cdl_values.proofs.Ranges.{good_number, number_added}
 
 comma_good : (v : Version) (l : Lexeme) → is_mark 0x2c l ≡ true → (is_mark_kind l.kind ≡ true) × (token_fault v l.kind l.bytes ≡ None)
@@ -79,7 +79,7 @@ value_on takes_fill filling start rest l at passes good value packs =
         goes = passes.at.goes;
         bad = sym (ap (first_bad v) passes.passed ∙ good_on v comma (l ∷ ws) fine.1 ∙ good_on v l ws good);
         shaped = sym (ap (completes (Separator takes_fill)) passes.passed ∙ ap (λ d. completes (next d l) ws) here ∙ ap (λ d. completes d ws) there);
-        packs = sym (ap (λ vs. joined (Ok start.bytes) (packed filling start.left vs)) (ap (values v) passes.passed ∙ over_mark v comma (l ∷ ws) fine.0) ∙ packs ws);
+        packs = sym (ap (λ vs. joined (Ok start.bytes) (packed filling start.left vs)) (ap (values v) passes.passed ∙ past_mark v comma (l ∷ ws) fine.0) ∙ packs ws);
         others = passes.others;
         on = omega (arith, on);
       };

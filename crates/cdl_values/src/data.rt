@@ -14,7 +14,7 @@ use crate::name_index::NameIndex;
 use crate::packing::{pack, pack_good};
 use crate::read_error::ReadError;
 use crate::value::FastPathFault;
-use cdl_statements::{CdlKind, Cutter, Due, first_pass};
+use cdl_statements::{CdlKind, Cutter, Due, check_shape_from};
 use nc_base::ListedArray;
 use std::alloc::Global;
 
@@ -137,7 +137,7 @@ fn read_slowly<'a>(
     ensures position { IfOk result (λ g. IsPosition names.now (name_said start.entry) g.position) }
     ensures rest { IfOk result (λ g. Follows start.entry g.rest) }
 {
-    let found = first_pass(start, Due::DataName);
+    let found = check_shape_from(start, Due::DataName);
     if let Some(kind) = found.bad {
         return Err(ReadError::Fault(kind));
     }

@@ -2,7 +2,7 @@
 
 use crate::name_indices::index_of;
 use cdl_parse::{Attributes, read_attribute, variable_position};
-use cdl_statements::{CdlKind, Cutter, Due, first_pass};
+use cdl_statements::{CdlKind, Cutter, Due, check_shape_from};
 use cdl_values::ReadError;
 use nc_base::{Att, NcType, Version};
 use std::alloc::Global;
@@ -17,7 +17,7 @@ fn add(
     text: &[u8],
 ) -> Result<(), ReadError> {
     let start = Cutter::new(text, version);
-    let found = first_pass(start, Due::AttributeName);
+    let found = check_shape_from(start, Due::AttributeName);
     match found.bad {
         Some(kind) => return Err(ReadError::Fault(kind)),
         None => {}

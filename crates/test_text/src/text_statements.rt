@@ -1,6 +1,6 @@
 //! The tokens, statements and numbers of CDL text.
 
-use cdl_statements::{CdlKind, Cutter, Section, look_over};
+use cdl_statements::{CdlKind, Cutter, Section, check_shape};
 use cdl_tokens::{Character, Numeral, Scanner, Token, TokenKind, character, number_of_token};
 use nc_base::{NcType, Version};
 use std::alloc::{AllocError, Global};
@@ -206,7 +206,7 @@ fn statements_have_shapes(rt: HostRuntime) {
         (Section::Closed, b"y ;", false),
     ];
     for (section, bytes, shaped) in ROWS {
-        let found = look_over(Cutter::new(bytes, Version::Cdf1), section);
+        let found = check_shape(Cutter::new(bytes, Version::Cdf1), section);
         assert!(rt; found.bad.is_none() && found.shaped == shaped, "{bytes:?}");
     }
 }
@@ -221,7 +221,7 @@ fn first_bad_token_decides(rt: HostRuntime) {
         (b"v = 1 ; %", None),
     ];
     for (bytes, bad) in ROWS {
-        let found = look_over(Cutter::new(bytes, Version::Cdf1), Section::Values);
+        let found = check_shape(Cutter::new(bytes, Version::Cdf1), Section::Values);
         assert!(rt; found.bad == bad, "{bytes:?}");
     }
 }

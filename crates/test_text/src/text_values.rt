@@ -2,7 +2,7 @@
 
 use crate::name_indices::index_of;
 use cdl_parse::{Dimensions, dim_len, read_dimensions};
-use cdl_statements::{CdlKind, Cutter, Due, first_pass};
+use cdl_statements::{CdlKind, Cutter, Due, check_shape_from};
 use cdl_tokens::Numeral;
 use cdl_values::{Fill, Filling, ReadError, Target, read};
 use nc_base::{NcType, Version};
@@ -122,7 +122,7 @@ fn dimensions_have_lengths(rt: HostRuntime) {
 /// Reads the dimensions of a statement `NAME = LENGTH, .. ;`.
 fn add_dimensions(alloc: Global, dims: &mut Dimensions, text: &[u8]) -> Result<(), ReadError> {
     let start = Cutter::new(text, Version::Cdf1);
-    let found = first_pass(start, Due::DimensionName);
+    let found = check_shape_from(start, Due::DimensionName);
     match found.bad {
         Some(kind) => return Err(ReadError::Fault(kind)),
         None => {}

@@ -1,7 +1,7 @@
 use Rattle.std.proofs.Common.{ap, sym, subst, List}
 use Rattle.cdl_values.proofs.Prelude.{value_of, values, is_mark_kind, Value, lexeme_of, add_constant, in_turn, ContinuesRead}
 use Rattle.cdl_values.proofs.ConstantBytes.{turn_on}
-use Rattle.cdl_values.proofs.PackedTokens.{over_mark, over_value, no_mark}
+use Rattle.cdl_values.proofs.PackedTokens.{past_mark, over_value, no_mark}
 use Rattle.cdl_values.proofs.constant.put_token.Goals as goal
 
 pub returns-in_default : goal.returns-in_default
@@ -16,4 +16,4 @@ returns-in_default c = λ rest.
 pub returns-in-Mark : goal.returns-in-Mark
 returns-in-Mark c = λ rest.
     let a = c.args in
-    ap (in_turn (add_constant a.ty) a.vals.now) (over_mark a.version (lexeme_of a.token) rest (ap is_mark_kind c.in-Mark.is))
+    ap (in_turn (add_constant a.ty) a.vals.now) (past_mark a.version (lexeme_of a.token) rest (ap is_mark_kind c.in-Mark.is))

@@ -1,13 +1,13 @@
 use Rattle.std.proofs.Common.{rules, ◌∷◌, sym, ap, ◌∙◌, Ok, subst, drop, length, length-drop, List, ◌-◌}
 use Rattle.cdl_values.proofs.Prelude.{values, value_of, Value, is_mark_kind, lexeme_of, packed, joined, bytes_of, FailsRead}
 use Rattle.cdl_values.proofs.AllowedNames.{stopped}
-use Rattle.cdl_values.proofs.PackedTokens.{over_mark, over_value, one_packed, refused, no_mark, added, is_after}
+use Rattle.cdl_values.proofs.PackedTokens.{past_mark, over_value, one_packed, refused, no_mark, added, is_after}
 use Rattle.cdl_values.proofs.value.put_token.Goals as goal
 
 pub returns-in-Mark : goal.returns-in-Mark
 returns-in-Mark c = λ rest.
     let a = c.args in
-    ap (λ vs. joined (Ok a.array.now) (packed a.filling a.capacity vs)) (over_mark a.version (lexeme_of a.token) rest (ap is_mark_kind c.in-Mark.is))
+    ap (λ vs. joined (Ok a.array.now) (packed a.filling a.capacity vs)) (past_mark a.version (lexeme_of a.token) rest (ap is_mark_kind c.in-Mark.is))
 
 pub returns-in_ok-put-in_default : goal.returns-in_ok-put-in_default
 returns-in_ok-put-in_default c = λ rest.

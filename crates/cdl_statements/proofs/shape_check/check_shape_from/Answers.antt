@@ -1,7 +1,7 @@
 use Rattle.std.proofs.Common.{rules, sym, ap, ◌∙◌, []}
 use Rattle.cdl_statements.proofs.Prelude.{lexeme, first_bad, either, token_fault, completes, next_token, text_of, words, lexeme_of}
-use Rattle.cdl_statements.proofs.Surveys.{bad_on, none_bad, going, ending}
-use Rattle.cdl_statements.proofs.survey.first_pass.Goals as goal
+use Rattle.cdl_statements.proofs.ShapeChecks.{bad_on, none_bad, going, ending}
+use Rattle.cdl_statements.proofs.shape_check.check_shape_from.Goals as goal
 
 pub returns-then-ends-clause-bad : goal.returns-then-ends-clause-bad
 returns-then-ends-clause-bad c =

@@ -1,7 +1,7 @@
 use Rattle.std.proofs.Common.{rules, ◌≡◌, true, false, sym, ◌∙◌, refl, is_none}
 use Rattle.cdl_tokens.specs.Numerals.{numeral}
-use Rattle.cdl_statements.proofs.Surveys.{bad_number}
-use Rattle.cdl_statements.proofs.survey.number_fault.Goals as goal
+use Rattle.cdl_statements.proofs.ShapeChecks.{bad_number}
+use Rattle.cdl_statements.proofs.shape_check.number_fault.Goals as goal
 
 pub returns-then-is_none : goal.returns-then-is_none
 returns-then-is_none c =

@@ -1,4 +1,4 @@
-//! The first pass over a statement: where it ends, its first bad token, and whether it has its shape.
+//! The check of a statement's shape: where it ends, its first bad token, and whether it has its shape.
 
 ghost use Rattle.std.specs.Prelude.{◌≡◌, false, true, is_none, None, Some};
 ghost use Rattle.cdl_statements.specs.code.Cutters.{Follows, is_done, version_of, words};
@@ -14,9 +14,9 @@ use crate::section::Section;
 use cdl_tokens::{TokenKind, number_of_token};
 use nc_base::Version;
 
-/// What a first pass over a statement finds.
+/// What the check of a statement finds.
 #[derive(Clone, Copy)]
-pub struct Survey<'a> {
+pub struct ShapeCheck<'a> {
     /// The fault of its first bad token or bad number.
     pub bad: Option<CdlKind>,
     /// It has the shape that was asked for. Where a token is bad, this says nothing.
@@ -25,8 +25,8 @@ pub struct Survey<'a> {
     pub rest: Cutter<'a>,
 }
 
-/// Passes over the next statement, which stands in this section. It does not allocate.
-pub fn look_over(start: Cutter<'_>, section: Section) -> Survey<'_>
+/// Checks the next statement, which stands in this section, and passes over it. It does not allocate.
+pub fn check_shape(start: Cutter<'_>, section: Section) -> ShapeCheck<'_>
     requires { is_done start ≡ false }
     ensures bad { result.bad ≡ first_bad (version_of start.entry) (words start.entry) }
     ensures shaped { result.bad ≡ None → HasShape start.entry section result.shaped }
@@ -34,11 +34,11 @@ pub fn look_over(start: Cutter<'_>, section: Section) -> Survey<'_>
     ensures table { result.shaped ≡ completes (Due.First section) (words start.entry) }
     ensures rest { Follows start.entry result.rest }
 {
-    first_pass(start, Due::First(section))
+    check_shape_from(start, Due::First(section))
 }
 
-/// Passes over the next statement, in which this token is due first. Does not allocate.
-pub fn first_pass(start: Cutter<'_>, first: Due) -> Survey<'_>
+/// Checks the next statement, in which this token is due first, and passes over it. It does not allocate.
+pub fn check_shape_from(start: Cutter<'_>, first: Due) -> ShapeCheck<'_>
     requires { is_done start ≡ false }
     ensures bad { result.bad ≡ first_bad (version_of start.entry) (words start.entry) }
     ensures shaped { result.shaped ≡ completes first (words start.entry) }
@@ -54,7 +54,7 @@ pub fn first_pass(start: Cutter<'_>, first: Due) -> Survey<'_>
         due = due.after(token);
         let ends = cutter.advance();
         if ends {
-            return Survey {
+            return ShapeCheck {
                 bad,
                 shaped: due.is_whole(),
                 rest: cutter,

@@ -1,6 +1,6 @@
 use Rattle.std.proofs.Common.{◌≡◌, ◌-◌, length, false}
 use Rattle.cdl_statements.proofs.Prelude.{first_bad, either, completes, words, after, is_done, offset_of, text_of, version_of}
-use Rattle.cdl_statements.proofs.survey.first_pass.Given as goal
+use Rattle.cdl_statements.proofs.shape_check.check_shape_from.Given as goal
 
 abbrev pub invariant-tokens : goal.invariant-tokens
 invariant-tokens l = record {
