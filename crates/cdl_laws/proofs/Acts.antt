@@ -1,11 +1,10 @@
 -- What the statements of a dump make of a state.
 use Rattle.std.proofs.Common.{◌≡◌, ℕ, zero, suc, ◌-◌, ◌<◌, ◌≤◌, true, false, List, [], ◌∷◌, ◌++◌, length, map, sym, ◌∙◌, ap, refl, arith, append_assoc, append-nil, ℤ, pos, unsigned_abs, IsTrue, ◌&&◌, ◌==◌, if◌then◌else◌, nat_lt, nat_le, None, Some, Result, Ok}
-use Rattle.cdl_laws.proofs.Prelude.{flat_map, list_any, position, position_or_len, int_eq, bytes_eq, false≢true, eqb-true, Decides-int_eq, bytes_eq-Decides, Att, Dim, NcType, Byte, Char, Short, Int, Ubyte, Ushort, Uint, Int64, Uint64, Version, Cdf1, Cdf2, Cdf5, has_name, has_record_dim, IsDimid, AreDimids, IsName, is_name, is_record_dim, type_word, count_limit, has_type, CdlKind, UnknownDimension, BadShape, Value, Number, Characters, Draft, add_dim, dim_len_of, add_dimid, add_var, type_of, add_att, add_constant, first_type, same_type, at_named, at_variable, in_turn, when, found, between, fits, extent_said, said_dim, AreDistinct, bytes_of_number}
+use Rattle.cdl_laws.proofs.Prelude.{flat_map, list_any, position, position_or_len, int_eq, bytes_eq, false≢true, eqb-true, Decides-int_eq, bytes_eq-Decides, Att, Dim, NcType, Byte, Char, Short, Int, Ubyte, Ushort, Uint, Int64, Uint64, Version, Cdf1, Cdf2, Cdf5, has_name, has_record_dim, IsDimid, AreDimids, IsName, is_name, is_record_dim, type_word, count_limit, has_type, CdlKind, UnknownDimension, BadShape, Value, Number, Characters, Draft, add_dim, dim_len_of, add_dimid, add_var, type_of, add_att, add_constant, first_type, same_type, at_named, at_variable, in_turn, when, found, between, fits, extent_said, said_dim, AreDistinct, bytes_of_number, and_both, and_false}
 use Rattle.cdl_meaning.specs.State.{◌>>=◌}
-use Rattle.cdl_laws.proofs.Bools.{and_both, or_left, or_right}
+use Rattle.cdl_laws.proofs.Bools.{or_left, or_right}
 use Rattle.cdl_laws.proofs.Lists.{Each}
 use Rattle.cdl_laws.proofs.Texts.{word}
-use Rattle.cdl_laws.proofs.Words.{and_false}
 use Rattle.cdl_laws.proofs.ValueTexts.{turn}
 use Rattle.cdl_laws.proofs.Declarations.{numbers_said}
 

@@ -1,10 +1,8 @@
 -- The array of each variable of a dataset is given back.
 use Rattle.std.proofs.Common.{◌≡◌, ℕ, zero, suc, ◌*◌, ◌<◌, Bool, true, false, List, [], ◌∷◌, length, sym, ◌∙◌, ap, refl, subst, arith, ℤ, pos, ◌&&◌, ◌==◌, not, if◌then◌else◌, nat_lt, Option, None, Some}
-use Rattle.cdl_laws.proofs.Prelude.{int_eq, false≢true, Dim, Header, Var, Version, has_values, fill_value, value_count, IsArray, IsName, numbers, is_record_var, has_records, slab_lens, product, look_of, is_char, row_len, trimmed_var, array_of, values_of, Listing}
-use Rattle.cdl_laws.proofs.Bools.{off}
+use Rattle.cdl_laws.proofs.Prelude.{int_eq, false≢true, Dim, Header, Var, Version, has_values, fill_value, value_count, IsArray, IsName, numbers, is_record_var, has_records, slab_lens, product, look_of, is_char, row_len, trimmed_var, array_of, values_of, Listing, is_off, and_false, is_on}
 use Rattle.cdl_laws.proofs.DataTexts.{Gives, IsGivenBy, given_draft}
-use Rattle.cdl_laws.proofs.Given.{slab_rows, number_row_reads_back, line_reads_back, table_reads_back, array_none, array_len, not_off}
-use Rattle.cdl_laws.proofs.Words.{and_false}
+use Rattle.cdl_laws.proofs.Given.{slab_rows, number_row_reads_back, line_reads_back, table_reads_back, array_none, array_len}
 
 -- ---- rows
 
@@ -22,7 +20,7 @@ two_long n = grind arith
 
 table_rows : (dims : List Dim) (ids : List ℕ) (total m : ℕ) → not (nat_lt (length ids) 2) ≡ true → total ≡ product (slab_lens dims ids) * m → 0 < total → WholeRows total (row_len dims ids total)
 table_rows dims ids total m rank e some =
-    let h = off (nat_lt (length ids) 2) rank in
+    let h = is_off (nat_lt (length ids) 2) rank in
     let r = slab_rows dims ids h in
     let row = row_len dims ids 0 in
     subst (WholeRows total) (let same : row ≡ row_len dims ids total = rw (h) refl in same)
@@ -36,7 +34,7 @@ look_rows h var n width rank some = table_rows h.dims var.dimids (value_count h.
 never_trimmed : (dims : List Dim) (ids : List ℕ) (b : Bool) → not (nat_lt (length ids) 2) ≡ false → has_records dims ids ≡ true → (b && not (has_records dims ids && (length ids == 1))) ≡ false
 never_trimmed dims [] b rank h = cc
 never_trimmed dims (a ∷ []) b rank h = rw (h) (and_false b)
-never_trimmed dims (a ∷ c ∷ ids) b rank h = absurd (false≢true (sym (two_long (length ids)) ∙ not_off (nat_lt (length (a ∷ c ∷ ids)) 2) rank))
+never_trimmed dims (a ∷ c ∷ ids) b rank h = absurd (false≢true (sym (two_long (length ids)) ∙ is_on (nat_lt (length (a ∷ c ∷ ids)) 2) rank))
 
 line_whole : (h : Header) (var : Var) (n width : ℕ) → (look_of h var n width).in_rows ≡ false → is_record_var h.dims var ≡ true → (look_of h var n width).trimmed ≡ false
 unfolding look_of

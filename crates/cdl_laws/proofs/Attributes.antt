@@ -1,38 +1,13 @@
 -- The values of an attribute are read back.
 use Rattle.std.proofs.Common.{◌≡◌, ℕ, zero, suc, ◌+◌, ◌*◌, ◌/◌, ◌^◌, ◌<◌, ◌≤◌, true, false, List, [], ◌∷◌, ◌++◌, length, drop, take, map, sym, ◌∙◌, ap, refl, subst, arith, length-take, length-drop, ℤ, pos, negsuc, unsigned_abs, if◌then◌else◌, nat_le, Ok}
-use Rattle.cdl_laws.proofs.Prelude.{flat_map, mul-div_cancel, ints, take-append-drop, get_or-drop, AreBytes, Att, NcType, Byte, Char, Short, Int, Ubyte, Ushort, Uint, Int64, Uint64, Version, numbers, numbers_from, number_of, bytes_of_number, IsInRange, size_of, IsSoundAtt, att_values, number_values, joined, without_trailing_nuls, IsName, is_char, has_type, trimmed_att, HasSomeNumber, Characters, fits, in_turn, add_constant}
+use Rattle.cdl_laws.proofs.Prelude.{flat_map, mul-div_cancel, ints, take-append-drop, get_or-drop, AreBytes, Att, NcType, Byte, Char, Short, Int, Ubyte, Ushort, Uint, Int64, Uint64, Version, numbers, numbers_from, number_of, bytes_of_number, IsInRange, size_of, IsSoundAtt, att_values, number_values, joined, without_trailing_nuls, IsName, is_char, has_type, trimmed_att, HasSomeNumber, Characters, fits, in_turn, add_constant, and_both, le-leb, some_size, is_had}
 use Rattle.nc_base.proofs.NumberBytes.{bytes_read_back, numbers_in_range}
 use Rattle.cdl_laws.proofs.Acts.{numbers_added, chars_added}
 use Rattle.cdl_laws.proofs.Declarations.{IsListOf, chars_list, numbers_list, numbers_said, suffixed, first, others, all_bytes}
 use Rattle.cdl_laws.proofs.Wholes.{Speaks}
 use Rattle.cdl_laws.proofs.Lists.{Each, each_map}
-use Rattle.cdl_laws.proofs.Bools.{and_both}
 
-nat_le_true : (m n : ℕ) → m ≤ n → nat_le m n ≡ true
-nat_le_true m n h = grind (arith, h)
-
-fits_is : (ty : NcType) (z : ℤ) → IsInRange ty z → fits ty z ≡ true
-unfolding fits
-fits_is Byte (pos n) h = nat_le_true n 127 (let f : n < 128 = h.sfits in omega (arith, f))
-fits_is Byte (negsuc n) h = and_both (nat_le n 127) true (nat_le_true n 127 (let f : n < 128 = h.sfits in omega (arith, f))) refl
-fits_is Short (pos n) h = nat_le_true n 32767 (let f : n < 32768 = h.sfits in omega (arith, f))
-fits_is Short (negsuc n) h = and_both (nat_le n 32767) true (nat_le_true n 32767 (let f : n < 32768 = h.sfits in omega (arith, f))) refl
-fits_is Int (pos n) h = nat_le_true n 2147483647 (let f : n < 2147483648 = h.sfits in omega (arith, f))
-fits_is Int (negsuc n) h = and_both (nat_le n 2147483647) true (nat_le_true n 2147483647 (let f : n < 2147483648 = h.sfits in omega (arith, f))) refl
-fits_is Int64 (pos n) h = nat_le_true n 9223372036854775807 (let f : n < 9223372036854775808 = h.sfits in omega (arith, f))
-fits_is Int64 (negsuc n) h = and_both (nat_le n 9223372036854775807) true (nat_le_true n 9223372036854775807 (let f : n < 9223372036854775808 = h.sfits in omega (arith, f))) refl
-fits_is Char (pos n) h = and_both (nat_le 0 n) (nat_le n 255) (nat_le_true 0 n (omega arith)) (nat_le_true n 255 (omega (arith, ints, h.0, h.1)))
-fits_is Char (negsuc n) h = absurd (omega (arith, ints, h.0))
-fits_is Ubyte (pos n) h = and_both (nat_le 0 n) (nat_le n 255) (nat_le_true 0 n (omega arith)) (nat_le_true n 255 (omega (arith, ints, h.0, h.1)))
-fits_is Ubyte (negsuc n) h = absurd (omega (arith, ints, h.0))
-fits_is Ushort (pos n) h = and_both (nat_le 0 n) (nat_le n 65535) (nat_le_true 0 n (omega arith)) (nat_le_true n 65535 (omega (arith, ints, h.0, h.1)))
-fits_is Ushort (negsuc n) h = absurd (omega (arith, ints, h.0))
-fits_is Uint (pos n) h = and_both (nat_le 0 n) (nat_le n 4294967295) (nat_le_true 0 n (omega arith)) (nat_le_true n 4294967295 (omega (arith, ints, h.0, h.1)))
-fits_is Uint (negsuc n) h = absurd (omega (arith, ints, h.0))
-fits_is Uint64 (pos n) h = and_both (nat_le 0 n) (nat_le n 18446744073709551615) (nat_le_true 0 n (omega arith)) (nat_le_true n 18446744073709551615 (omega (arith, ints, h.0, h.1)))
-fits_is Uint64 (negsuc n) h = absurd (omega (arith, ints, h.0))
-
-small_is : (ty : NcType) (z : ℤ) → IsInRange ty z → unsigned_abs z < 2 ^ 64
+pub small_is : (ty : NcType) (z : ℤ) → IsInRange ty z → unsigned_abs z < 2 ^ 64
 small_is Byte (pos n) h = let f : n < 128 = h.sfits in omega (arith, f)
 small_is Byte (negsuc n) h = let f : n < 128 = h.sfits in omega (arith, f)
 small_is Short (pos n) h = let f : n < 32768 = h.sfits in omega (arith, f)
@@ -63,17 +38,6 @@ take_bytes (suc n) [] h i = omega arith
 take_bytes (suc n) (b ∷ bytes) h zero = h 0
 take_bytes (suc n) (b ∷ bytes) h (suc i) = take_bytes n bytes (λ j. h (suc j)) i
 
-size_some : (ty : NcType) → 0 < size_of ty
-size_some Byte = omega arith
-size_some Char = omega arith
-size_some Short = omega arith
-size_some Int = omega arith
-size_some Ubyte = omega arith
-size_some Ushort = omega arith
-size_some Uint = omega arith
-size_some Int64 = omega arith
-size_some Uint64 = omega arith
-
 len_take : (ty : NcType) (n : ℕ) (bytes : List ℕ) → length bytes ≡ suc n * size_of ty → length (take (size_of ty) bytes) ≡ size_of ty
 len_take ty n bytes h = let e = length-take (size_of ty) bytes in let g : suc n * size_of ty ≡ size_of ty + n * size_of ty = grind arith in omega (arith, e, h, g)
 
@@ -94,7 +58,7 @@ numbers_range ty (suc n) bytes small h =
     (numbers_in_range ty (take (size_of ty) bytes) (take_bytes (size_of ty) bytes small) (len_take ty n bytes h), numbers_range ty n (drop (size_of ty) bytes) (drop_bytes (size_of ty) bytes small) (len_drop ty n bytes h))
 
 pub all_fit : (ty : NcType) (xs : List ℤ) → Each (IsInRange ty) xs → Each (λ x. fits ty x ≡ true) xs
-all_fit ty xs h = each_map (IsInRange ty) (λ x. fits ty x ≡ true) xs (fits_is ty) h
+all_fit ty xs h = each_map (IsInRange ty) (λ x. fits ty x ≡ true) xs (is_had ty) h
 
 pub all_small : (ty : NcType) (xs : List ℤ) → Each (IsInRange ty) xs → Each (λ x. unsigned_abs x < 2 ^ 64) xs
 all_small ty xs h = each_map (IsInRange ty) (λ x. unsigned_abs x < 2 ^ 64) xs (small_is ty) h
@@ -102,11 +66,7 @@ all_small ty xs h = each_map (IsInRange ty) (λ x. unsigned_abs x < 2 ^ 64) xs (
 -- the number of values in a list of whole values
 pub count_is : (ty : NcType) (n : ℕ) (bytes : List ℕ) → length bytes ≡ n * size_of ty → numbers ty bytes ≡ numbers_from ty n bytes
 unfolding numbers
-count_is ty n bytes h = ap (λ k. numbers_from ty k bytes) (ap (λ m. m / size_of ty) h ∙ mul-div_cancel n (size_some ty))
-
-pub numbers_len : (ty : NcType) (n : ℕ) (bytes : List ℕ) → length (numbers_from ty n bytes) ≡ n
-numbers_len ty zero bytes = refl
-numbers_len ty (suc n) bytes = ap suc (numbers_len ty n (drop (size_of ty) bytes))
+count_is ty n bytes h = ap (λ k. numbers_from ty k bytes) (ap (λ m. m / size_of ty) h ∙ mul-div_cancel n (some_size ty))
 
 -- ---- attributes
 

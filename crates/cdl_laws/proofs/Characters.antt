@@ -1,8 +1,7 @@
 -- The strings of a variable of characters are read back.
 use Rattle.std.proofs.Common.{◌≡◌, ℕ, suc, ◌+◌, ◌*◌, ◌-◌, ◌%◌, ◌<◌, ◌≤◌, Bool, true, false, List, [], ◌∷◌, ◌++◌, length, drop, map, sym, ◌∙◌, ap, refl, subst, arith, append_assoc, append-nil, length-append, ℤ, unsigned_abs, ◌&&◌, ◌==◌, if◌then◌else◌, replicate, codes}
-use Rattle.cdl_laws.proofs.Prelude.{flat_map, suffix_len, prefix_len, reverse-append, drop_all, flat_map-append, mul-mod_left, drop-append_seam, escaped_name, escaped_in_string, escaped_text, IsName, Look, is_char, begins_row, char_lead, char_text, char_piece, held, row_so_far, is_nul, piece, pieces, opening, closing, variable_prefix, variable_text, Lexeme, lexemes_at, scan}
+use Rattle.cdl_laws.proofs.Prelude.{flat_map, suffix_len, prefix_len, reverse-append, drop_all, flat_map-append, mul-mod_left, drop-append_seam, escaped_name, escaped_in_string, escaped_text, IsName, Look, is_char, begins_row, char_lead, char_text, char_piece, held, row_so_far, is_nul, piece, pieces, opening, closing, variable_prefix, variable_text, Lexeme, lexemes_at, scan, and_left, and_right, escaped-append}
 use Rattle.std.proofs.lemmas.Nat.{mod-mul-add}
-use Rattle.cdl_laws.proofs.Bools.{and_left, and_right}
 use Rattle.cdl_laws.proofs.Lists.{Each}
 use Rattle.cdl_laws.proofs.Texts.{Closed, closed_both, mark, word}
 use Rattle.cdl_laws.proofs.Strings.{quoted, string, string_closed}
@@ -68,10 +67,6 @@ unfolding char_piece
 char_inside look done p k x h some small =
     rw (inside look done p k h some small) (ap (λ n. char_text look n x) (held_is look done p k h small))
 
-esc_append : (a b : List ℕ) → escaped_text (a ++ b) ≡ escaped_text a ++ escaped_text b
-unfolding escaped_text
-esc_append a b = flat_map-append escaped_in_string a b
-
 pub shown_more : (t : Bool) (n : ℕ) (x : ℤ) (xs : List ℤ) → shown t n (x ∷ xs) ≡ (if t && is_nul x then shown t (n + 1) xs else (replicate n 0 ++ unsigned_abs x ∷ []) ++ shown t 0 xs)
 unfolding shown
 shown_more t n x xs = refl
@@ -88,7 +83,7 @@ joins look n m x xs tail on other =
           let a = replicate n 0 ++ unsigned_abs x ∷ [] in
           ap (λ k. escaped_text a ++ (escaped_text (shown t k xs) ++ tail)) (other e) ∙
           sym (append_assoc (escaped_text a) (escaped_text (shown t 0 xs)) tail) ∙
-          ap (λ bs. bs ++ tail) (sym (esc_append a (shown t 0 xs))) ∙
+          ap (λ bs. bs ++ tail) (sym (escaped-append a (shown t 0 xs))) ∙
           ap (λ bs. escaped_text bs ++ tail) (sym (shown_more t n x xs ∙ rw (e) refl)))
     ] refl
 

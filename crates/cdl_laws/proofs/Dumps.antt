@@ -1,11 +1,11 @@
 -- A full dump is read back.
 use Rattle.std.proofs.Common.{◌≡◌, ℕ, true, false, List, [], ◌∷◌, ◌++◌, length, map, sym, ◌∙◌, ap, refl, append_assoc, append-nil, ◌&&◌, ◌||◌, ◌==◌, not, if◌then◌else◌, Option, None, Ok, codes}
-use Rattle.cdl_laws.proofs.Prelude.{concat_parts, Dataset, Att, Dim, Header, Var, Version, Options, Content, dump_text, shown_values, content_of, contents, selection_of, is_selected, is_chosen, data_word, closing_word, has_dimension, escaped_name, head_text, netcdf_word, dims_text, vars_text, gatts_text, Globals, Variables, Values, Ended, meaning, run, piece_read, empty, finished, is_small_enough, dataset_of, closing_line, statements, cut_lexemes, lexemes, pieces_of, IsFull, trimmed, trimmed_att, Listing, in_turn}
+use Rattle.cdl_laws.proofs.Prelude.{concat_parts, Dataset, Att, Dim, Header, Var, Version, Options, Content, dump_text, shown_values, content_of, contents, selection_of, is_selected, is_chosen, data_word, closing_word, has_dimension, escaped_name, head_text, netcdf_word, dims_text, vars_text, gatts_text, Globals, Variables, Values, Ended, meaning, run, piece_read, empty, finished, is_small_enough, dataset_of, closing_line, statements, cut_lexemes, lexemes, pieces_of, IsFull, trimmed, trimmed_att, Listing, in_turn, not_none}
 use Rattle.nc_base.specs.Dump.{Section, values_of}
 use Rattle.cdl_laws.proofs.Lists.{Each}
 use Rattle.cdl_laws.proofs.Takes.{is_open}
 use Rattle.cdl_laws.proofs.Acts.{AreDistinctDims, HaveNames}
-use Rattle.cdl_laws.proofs.Wholes.{state, AreNewDims, Speaks, AreNewAtts, AreFit, draft_of, not_none}
+use Rattle.cdl_laws.proofs.Wholes.{state, AreNewDims, Speaks, AreNewAtts, AreFit, draft_of}
 use Rattle.cdl_laws.proofs.DataTexts.{AreGiven, given_drafts, all_marked, data_taken, data_whole}
 use Rattle.cdl_laws.proofs.Ends.{opening_bytes, opened, dims_part, vars_part, gatts_part, data_mark, end_taken, after_dims, after_vars}
 use Rattle.cdl_laws.proofs.Lines.{pieces_are, run_is}

@@ -1,19 +1,17 @@
 -- The opening, the section marks and the closing brace of a dump.
 use Rattle.std.proofs.Common.{◌≡◌, ℕ, ◌+◌, ◌<◌, true, false, List, [], ◌∷◌, ◌++◌, length, map, sym, ◌∙◌, ap, refl, subst, arith, append_assoc, append-nil, length-append, ◌==◌, if◌then◌else◌, nat_lt, Some, Ok, codes}
-use Rattle.cdl_laws.proofs.Prelude.{list_all, false≢true, eqb-true, concat_parts, Att, Dim, Var, Version, escaped_name, is_plain, dim_line, dim_lines, dims_text, att_line, att_lines, var_lines, vars_text, gatts_text, dimensions_word, variables_word, global_word, IsName, may_follow_in_name, may_begin_name, Section, Globals, Dimensions, Variables, Values, Ended, scan, word_len, until, scan_opening, token, Lexeme, piece_read, empty, pieces_at, is_section, cut_lexemes, lexemes_at, lexemes, pieces_of, trimmed_att, Mark, shape, State, Draft, act, in_turn, IsBeforeData, globals, dimensions, variables}
+use Rattle.cdl_laws.proofs.Prelude.{list_all, false≢true, eqb-true, concat_parts, Att, Dim, Var, Version, escaped_name, is_plain, dim_line, dim_lines, dims_text, att_line, att_lines, var_lines, vars_text, gatts_text, dimensions_word, variables_word, global_word, IsName, may_follow_in_name, may_begin_name, Section, Globals, Dimensions, Variables, Values, Ended, scan, word_len, until, scan_opening, token, Lexeme, piece_read, empty, pieces_at, is_section, cut_lexemes, lexemes_at, lexemes, pieces_of, trimmed_att, Mark, shape, State, Draft, act, in_turn, IsBeforeData, globals, dimensions, variables, and_left, until_at_start, lt-ltb, not_none}
 use Rattle.cdl_statements.specs.declared.section.Section.TheVariants as sections
 use Rattle.cdl_tokens.specs.declared.token.TokenKind.TheVariants as kinds
-use Rattle.cdl_laws.proofs.Bools.{and_left}
 use Rattle.cdl_laws.proofs.Lists.{Each}
 use Rattle.cdl_laws.proofs.NameTexts.{rest_of, begins_goes_on, Begins, marked, bare, begins}
-use Rattle.cdl_laws.proofs.Words.{until_prefix}
 use Rattle.cdl_laws.proofs.Texts.{mark, word, prefix_again, some_name}
 use Rattle.cdl_laws.proofs.ValueTexts.{turn}
 use Rattle.cdl_laws.proofs.Heads.{feed_closed}
 use Rattle.cdl_laws.proofs.Strings.{until_plain}
 use Rattle.cdl_laws.proofs.Takes.{Takes, Says, says_takes, takes_both, takes_nothing, is_open}
 use Rattle.cdl_laws.proofs.Acts as acts
-use Rattle.cdl_laws.proofs.Wholes.{state, dims_taken, AreNewDims, Speaks, AreNewAtts, globals_taken, AreFit, vars_taken, draft_of, not_none}
+use Rattle.cdl_laws.proofs.Wholes.{state, dims_taken, AreNewDims, Speaks, AreNewAtts, globals_taken, AreFit, vars_taken, draft_of}
 
 -- ---- section marks
 
@@ -130,7 +128,7 @@ unfolding until
 until_escape b rest = refl
 
 until_rest : (bs rest : List ℕ) → until 0x7b (rest_of bs ++ 32 ∷ 123 ∷ rest) ≡ length (rest_of bs) + 1
-until_rest [] rest = until_plain 0x7b 32 (123 ∷ rest) refl refl ∙ ap (λ n. 1 + n) (until_prefix 0x7b 123 rest)
+until_rest [] rest = until_plain 0x7b 32 (123 ∷ rest) refl refl ∙ ap (λ n. 1 + n) (until_at_start 0x7b 123 rest)
 until_rest (b ∷ bs) rest =
     let ih = until_rest bs rest in
     elim (is_plain b) as (λ w. is_plain b ≡ w → until 0x7b (((if w then b ∷ [] else 0x5c ∷ b ∷ []) ++ rest_of bs) ++ 32 ∷ 123 ∷ rest) ≡ length ((if w then b ∷ [] else 0x5c ∷ b ∷ []) ++ rest_of bs) + 1) [
@@ -150,9 +148,6 @@ until_valid (b ∷ bs) rest h = until_name b bs rest (begins b bs (and_left (may
 abbrev pub opening_bytes : List ℕ → List ℕ
 opening_bytes name = codes "netcdf " ++ (escaped_name name ++ codes " {")
 
-fits_in : (n m : ℕ) → n < m → nat_lt n m ≡ true
-fits_in n m h = grind (arith, h)
-
 opening_is : (e rest : List ℕ) → until 0x7b (e ++ 32 ∷ 123 ∷ 10 ∷ rest) ≡ length e + 1 →
     scan_opening (32 ∷ (e ++ 32 ∷ 123 ∷ 10 ∷ rest)) (until 0x7b (32 ∷ (e ++ 32 ∷ 123 ∷ 10 ∷ rest))) ≡ record { kind = Some kinds.Opening; len = length (codes "netcdf " ++ (e ++ codes " {")) }
 opening_is e rest h =
@@ -160,7 +155,7 @@ opening_is e rest h =
     let some = length-append e (codes " {") in
     let n : until 0x7b (32 ∷ (e ++ 32 ∷ 123 ∷ 10 ∷ rest)) ≡ 1 + (length e + 1) = until_plain 0x7b 32 (e ++ 32 ∷ 123 ∷ 10 ∷ rest) refl refl ∙ ap (λ m. 1 + m) h in
     ap (scan_opening (32 ∷ (e ++ 32 ∷ 123 ∷ 10 ∷ rest))) n ∙
-    rw (fits_in (1 + (length e + 1)) (length (32 ∷ (e ++ 32 ∷ 123 ∷ 10 ∷ rest))) (omega (arith, all)))
+    rw (lt-ltb (1 + (length e + 1)) (length (32 ∷ (e ++ 32 ∷ 123 ∷ 10 ∷ rest))) (omega (arith, all)))
     (ap (token kinds.Opening) (let f : 6 + (1 + (length e + 1)) + 1 ≡ length (codes "netcdf " ++ (e ++ codes " {")) = omega (arith, some) in f))
 
 opening_prefix_is : (name rest : List ℕ) → IsName name → scan true (opening_bytes name ++ 10 ∷ rest) ≡ record { kind = Some kinds.Opening; len = length (opening_bytes name) }

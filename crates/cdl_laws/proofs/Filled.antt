@@ -1,6 +1,6 @@
 -- What a row shows, filled up, is the row.
 use Rattle.std.proofs.Common.{◌≡◌, ℕ, zero, suc, ◌+◌, ◌-◌, ◌<◌, ◌≤◌, Bool, true, false, List, [], ◌∷◌, ◌++◌, length, map, sym, ◌∙◌, ap, refl, arith, append_assoc, append-nil, length-append, ℤ, pos, unsigned_abs, ◌&&◌, ◌||◌, if◌then◌else◌, nat_le, replicate, Some, Ok}
-use Rattle.cdl_laws.proofs.Prelude.{flat_map, eqb-true, map-append, length-replicate, replicate_more, Version, escaped_in_string, is_nul, is_char, stands, stands_for, Characters, each, both, constant, constants, Capacity, Joined, Rows, add_characters, add_row, filled, in_turn, listing_of, values_in}
+use Rattle.cdl_laws.proofs.Prelude.{flat_map, eqb-true, map-append, length-replicate, replicate_more, Version, escaped_in_string, is_nul, is_char, stands, stands_for, Characters, each, both, constant, constants, Capacity, Joined, Rows, add_characters, add_row, filled, in_turn, listing_of, values_in, le-leb, length-map}
 use Rattle.cdl_meaning.specs.State.{◌>>=◌}
 use Rattle.cdl_laws.proofs.Lists.{Each}
 use Rattle.cdl_laws.proofs.Characters.{shown, flat}
@@ -70,15 +70,11 @@ back_whole (x ∷ xs) all = with_first 0 x (shown false 0 xs) all.0 ∙ ap (λ y
 pub filled_whole : (n : ℕ) (fill : ℤ) (xs : List ℤ) → length xs ≡ n → filled n fill xs ≡ xs
 filled_whole n fill xs h = ap (λ m. xs ++ replicate m fill) (let e : n - length xs ≡ 0 = omega (arith, h) in e) ∙ append-nil xs
 
-length_map : (bs : List ℕ) → length (map pos bs) ≡ length bs
-length_map [] = refl
-length_map (b ∷ bs) = ap suc (length_map bs)
-
 -- what a row shows, filled up: the fill value is NUL where it is trimmed
 pub row_back : (t : Bool) (n : ℕ) (fill : ℤ) (xs : List ℤ) → (t ≡ true → fill ≡ pos 0) → length xs ≡ n → Each IsCharacter xs → filled n fill (map pos (shown t 0 xs)) ≡ xs
 row_back true n fill xs h len all =
     ap (λ f. filled n f (map pos (shown true 0 xs))) (h refl) ∙
-    ap (λ m. map pos (shown true 0 xs) ++ replicate m (pos 0)) (let l = length_map (shown true 0 xs) in let e : n - length (map pos (shown true 0 xs)) ≡ 0 + length xs - length (shown true 0 xs) = omega (arith, l, len) in e) ∙
+    ap (λ m. map pos (shown true 0 xs) ++ replicate m (pos 0)) (let l = length-map (shown true 0 xs) pos in let e : n - length (map pos (shown true 0 xs)) ≡ 0 + length xs - length (shown true 0 xs) = omega (arith, l, len) in e) ∙
     back_trimmed 0 xs all
 row_back false n fill xs h len all = ap (filled n fill) (back_whole xs all) ∙ filled_whole n fill xs len
 
@@ -98,13 +94,10 @@ strings_said v takes_fill bytes all = constants_all v takes_fill (string bytes) 
 
 -- ---- what becomes of them
 
-le_true : (m n : ℕ) → m ≤ n → nat_le m n ≡ true
-le_true m n h = grind (arith, h)
-
 row_added : (capacity : Capacity) (t : Bool) (before : List (List ℕ)) (r : List ℤ) → (capacity.is_open ≡ false → length before < capacity.rows) → length r ≡ capacity.row →
     add_row capacity before (Characters (shown t 0 r)) ≡ Ok (before ++ shown t 0 r ∷ [])
 row_added capacity t before r wide len =
-    rw (room_for capacity.is_open (length before) capacity.rows wide) (rw (le_true (length (shown t 0 r)) capacity.row (let s = shown_len t 0 r in omega (arith, s, len))) refl)
+    rw (room_for capacity.is_open (length before) capacity.rows wide) (rw (le-leb (length (shown t 0 r)) capacity.row (let s = shown_len t 0 r in omega (arith, s, len))) refl)
 
 rows_added : (capacity : Capacity) (t : Bool) (before : List (List ℕ)) (rows : List (List ℤ)) → (capacity.is_open ≡ false → length before + length rows ≤ capacity.rows) → Each (λ (r : List ℤ). (length r ≡ capacity.row) × Each IsCharacter r) rows →
     in_turn (add_row capacity) before (map Characters (map (shown t 0) rows)) ≡ Ok (before ++ map (shown t 0) rows)
@@ -127,7 +120,7 @@ rows_full capacity t (r ∷ rows) fill all =
 
 enough : (is_open : Bool) (m n : ℕ) → (is_open ≡ false → m ≤ n) → (is_open || nat_le m n) ≡ true
 enough true m n f = refl
-enough false m n f = le_true m n (f refl)
+enough false m n f = le-leb m n (f refl)
 
 line_added : (capacity : Capacity) (bytes : List ℕ) → (capacity.is_open ≡ false → length bytes ≤ capacity.count) → add_characters capacity [] (Characters bytes) ≡ Ok bytes
 line_added capacity bytes wide = rw (enough capacity.is_open (0 + length bytes) capacity.count (λ e. let f = wide e in omega (arith, f))) refl

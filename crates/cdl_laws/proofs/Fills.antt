@@ -1,8 +1,7 @@
 -- The fill values of characters, with and without the NULs at the end of attributes.
 use Rattle.std.proofs.Common.{◌≡◌, ℕ, ◌-◌, ◌<◌, Bool, true, false, List, [], ◌∷◌, length, map, sym, ◌∙◌, ap, refl, subst, arith, take, get_or, ◌↔◌, ℤ, pos, unsigned_abs, if◌then◌else◌, ◌==◌, ◌&&◌, nat_lt, find, Option, None, Some, Ok}
-use Rattle.cdl_laws.proofs.Prelude.{false≢true, eqb-true, suffix_len, option_map, Att, NcType, Byte, Char, Short, Int, Ubyte, Ushort, Uint, Int64, Uint64, fill_value, is_fill_att, fill_of_att, fill_or_default, without_trailing_nuls, number_of, code_of, size_of, is_char, is_cut, FillValueSurvivesTrim, MeaningsAreSayable, MeaningsComeBack, meaning, trimmed, trimmed_att}
+use Rattle.cdl_laws.proofs.Prelude.{false≢true, eqb-true, suffix_len, option_map, Att, NcType, Byte, Char, Short, Int, Ubyte, Ushort, Uint, Int64, Uint64, fill_value, is_fill_att, fill_of_att, fill_or_default, without_trailing_nuls, number_of, code_of, size_of, is_char, is_cut, FillValueSurvivesTrim, MeaningsAreSayable, MeaningsComeBack, meaning, trimmed, trimmed_att, and_left, and_right}
 use Rattle.cdl_laws.proofs.MeaningsAreGood.{meanings_are_good, meanings_are_nearly_sayable, nearly_is_sayable}
-use Rattle.cdl_laws.proofs.Bools.{and_left, and_right}
 use Rattle.cdl_laws.proofs.Trimmed.{none_left, second_trip_is_same}
 
 -- what an attribute of this type and these values makes the fill value of characters

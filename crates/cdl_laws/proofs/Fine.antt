@@ -1,8 +1,8 @@
 -- What holds of the dataset so far, of its attributes, dimensions and declarations.
 use Rattle.std.proofs.Common.{◌≡◌, ℕ, ◌+◌, ◌-◌, ◌*◌, ◌≤◌, ◌<◌, Bool, true, false, List, [], ◌∷◌, ◌++◌, length, map, sym, ◌∙◌, ap, refl, subst, arith, zero, suc, append_assoc, append-nil, ℤ, pos, negsuc, IsTrue, if◌then◌else◌, Option, None, Some, Result, Ok, Err, ◌&&◌, ◌||◌, ◌==◌, filter, nat_lt, nat_le, unsigned_abs}
-use Rattle.cdl_laws.proofs.Prelude.{false≢true, eqb-true, length-append, map-append, list_any-append, w8, w16, w32, w64, to_be_bytes, cast_unsigned, list_any, position, position_or_len, int_eq, bytes_eq, Att, Dim, NcType, Byte, Char, Short, Int, Ubyte, Ushort, Uint, Int64, Uint64, Version, Cdf1, Cdf2, Cdf5, has_name, has_record_dim, IsDimid, AreDimids, value_count, IsName, is_name, bytes_of_number, is_record_dim, size_of, is_char, count_limit, has_type, AreDistinct, Value, Number, Characters, Underscore, Dimension, Variable, Draft, in_turn, unless, when, found, between, fits, same_type, dim_len_of, add_dim, add_dimid, add_var, at_named, at_variable, add_constant, first_type, add_att, with_att, values_of, CdlKind, BadName, DuplicateName, UnknownDimension, ZeroDimension, TwoRecordDims, BadShape, MixedConstants, NumberRange}
+use Rattle.cdl_laws.proofs.Prelude.{false≢true, eqb-true, length-append, map-append, list_any-append, w8, w16, w32, w64, to_be_bytes, cast_unsigned, list_any, position, position_or_len, int_eq, bytes_eq, Att, Dim, NcType, Byte, Char, Short, Int, Ubyte, Ushort, Uint, Int64, Uint64, Version, Cdf1, Cdf2, Cdf5, has_name, has_record_dim, IsDimid, AreDimids, value_count, IsName, is_name, bytes_of_number, is_record_dim, size_of, is_char, count_limit, has_type, AreDistinct, Value, Number, Characters, Underscore, Dimension, Variable, Draft, in_turn, unless, when, found, between, fits, same_type, dim_len_of, add_dim, add_dimid, add_var, at_named, at_variable, add_constant, first_type, add_att, with_att, values_of, CdlKind, BadName, DuplicateName, UnknownDimension, ZeroDimension, TwoRecordDims, BadShape, MixedConstants, NumberRange, and_left, and_right, some_product, some_size, some-limit, none_before}
 use Rattle.cdl_meaning.specs.State.{◌>>=◌}
-use Rattle.cdl_laws.proofs.Bools.{and_left, and_right, or_left, or_right}
+use Rattle.cdl_laws.proofs.Bools.{or_left, or_right}
 use Rattle.cdl_laws.proofs.Lists.{Each, each_map}
 use Rattle.cdl_laws.proofs.Outcomes.{SomeIs, OkIs, ok_then, ok_unless, ok_when, ok_found, total, each_under, turns, each_more}
 use Rattle.cdl_laws.proofs.Said.{IsByte, cost, IsFineValue, dim_cost, name_cost, var_cost}
@@ -144,22 +144,6 @@ some_cost (Number n ∷ cs) h = omega arith
 some_cost (Characters bytes ∷ cs) h = omega arith
 some_cost (Underscore ∷ cs) h = omega arith
 
-size_some : (ty : NcType) → 0 < size_of ty
-size_some Byte = omega arith
-size_some Char = omega arith
-size_some Short = omega arith
-size_some Int = omega arith
-size_some Ubyte = omega arith
-size_some Ushort = omega arith
-size_some Uint = omega arith
-size_some Int64 = omega arith
-size_some Uint64 = omega arith
-
-times_some : (a b : ℕ) → 0 < a → 0 < b → 0 < a * b
-times_some (suc a) (suc b) h k = let e = one_times a (suc b) in omega (arith, e)
-times_some zero b h k = absurd (omega (arith, h))
-times_some (suc a) zero h k = absurd (omega (arith, k))
-
 pub att_keeps : (v : Version) (N n m : ℕ) (name : List ℕ) (cs : List Value) (atts : List Att) → m ≤ N → AreFineValues v m name cs → AreFineAtts v N n atts → OkIs (AreFineAtts v N (n + m)) (add_att name cs atts)
 unfolding add_att
 att_keeps v N n m name cs atts small said fine =
@@ -182,7 +166,7 @@ att_keeps v N n m name cs atts small said fine =
           few = (let a = part.few in let c = said.1 in omega (arith, a, c, small));
           whole = part.whole;
           bytes = part.bytes;
-          some = (λ e. let a = some_cost cs e in let b = part.many e in let c = times_some part.count (size_of ty) (omega (arith, a, b)) (size_some ty) in let d = part.whole in omega (arith, c, d));
+          some = (λ e. let a = some_cost cs e in let b = part.many e in let c = some_product part.count (size_of ty) (omega (arith, a, b)) (some_size ty) in let d = part.whole in omega (arith, c, d));
         },
         tt,
       );
@@ -214,21 +198,16 @@ record IsFineLen (v : Version) (dims : List Dim) (len : ℕ) : Type 0 where
   small : len < count_limit v
   once : len ≡ 0 → has_record_dim dims ≡ false
 
-limit_some : (v : Version) → 0 < count_limit v
-limit_some Cdf1 = omega arith
-limit_some Cdf2 = omega arith
-limit_some Cdf5 = omega arith
-
 extent_fine : (v : Version) (dims : List Dim) (n : ℤ) → between (pos 1) (pos (count_limit v - 1)) n ≡ true → IsFineLen v dims (unsigned_abs n)
 extent_fine v dims (pos n) h =
     let a : 1 ≤ n = grind (arith, and_left (nat_le 1 n) (nat_le n (count_limit v - 1)) h) in
     let b : n ≤ count_limit v - 1 = grind (arith, and_right (nat_le 1 n) (nat_le n (count_limit v - 1)) h) in
-    let c = limit_some v in
+    let c = some-limit v in
     record { small = omega (arith, a, b, c); once = (λ e. absurd (omega (arith, a, e))) }
 extent_fine v dims (negsuc n) h = cc
 
 len_fine : (v : Version) (dims : List Dim) (o : Option ℤ) → OkIs (IsFineLen v dims) (dim_len_of v dims o)
-len_fine v dims None = ok_when (IsFineLen v dims) (has_record_dim dims) TwoRecordDims (λ u. Ok 0) (λ e. record { small = limit_some v; once = (λ z. e) })
+len_fine v dims None = ok_when (IsFineLen v dims) (has_record_dim dims) TwoRecordDims (λ u. Ok 0) (λ e. record { small = some-limit v; once = (λ z. e) })
 len_fine v dims (Some n) =
     ok_when (IsFineLen v dims) (int_eq n (pos 0)) ZeroDimension (λ u. unless (between (pos 1) (pos (count_limit v - 1)) n) NumberRange >>= (λ w. Ok (unsigned_abs n))) (λ e.
     ok_unless (IsFineLen v dims) (between (pos 1) (pos (count_limit v - 1)) n) NumberRange (λ w. Ok (unsigned_abs n)) (λ h. extent_fine v dims n h))
@@ -280,11 +259,6 @@ position_under p xs =
 abbrev IsShape : List Dim → ℕ → List ℕ → Type 0
 IsShape dims n ids = AreDimids dims [] ids × (length ids ≤ n)
 
-first_alone : (ids : List ℕ) (b : Bool) → (nat_lt 0 (length ids) && b) ≡ false → IsTrue b → ids ≡ []
-first_alone [] b h t = refl
-first_alone (i ∷ ids) true h t = absurd (false≢true (sym h ∙ let e : nat_lt 0 (length (i ∷ ids)) ≡ true = grind arith in ap (λ w. w && true) e))
-first_alone (i ∷ ids) false h t = cc
-
 id_step : (dims : List Dim) (n : ℕ) (ids name : List ℕ) → IsShape dims n ids → Unit {0} → OkIs (IsShape dims (n + name_cost name)) (add_dimid dims ids name)
 unfolding add_dimid
 id_step dims n ids name shape u =
@@ -294,7 +268,7 @@ id_step dims n ids name shape u =
     ok_unless Q (is_name name) BadName (λ w. found (position p dims) UnknownDimension >>= last) (λ named.
     ok_found (λ k. k < length dims) Q (position p dims) UnknownDimension last (position_under p dims) (λ k known.
     ok_when Q (nat_lt 0 (length ids) && is_record_dim dims k) BadShape (λ w. Ok (ids ++ k ∷ [])) (λ e. (
-      dimids_more dims [] ids k shape.0 (record { known = known; record_first = first_alone ids (is_record_dim dims k) e }),
+      dimids_more dims [] ids k shape.0 (record { known = known; record_first = none_before ids (is_record_dim dims k) e }),
       (let a = one_more ids k in let b = shape.1 in omega (arith, a, b)),
     ))))
 

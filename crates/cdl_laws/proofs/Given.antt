@@ -1,8 +1,7 @@
 -- The array of a variable is given back by the text of its values.
 use Rattle.std.proofs.Common.{◌≡◌, ℕ, zero, suc, ◌+◌, ◌*◌, ◌-◌, ◌<◌, ◌≤◌, Bool, true, false, List, [], ◌∷◌, ◌++◌, length, drop, take, map, sym, ◌∙◌, ap, refl, subst, arith, length-take, length-drop, ℤ, pos, negsuc, ◌&&◌, ◌==◌, not, if◌then◌else◌, nat_lt, slice_index, find, None, Some}
-use Rattle.cdl_laws.proofs.Prelude.{flat_map, int_eq, lt_of_mul-lt-mul_right, false≢true, Decides-int_eq, ints, take-append-drop, Att, Dim, Header, Var, NcType, Byte, Char, Short, Int, Ubyte, Ushort, Uint, Int64, Uint64, Version, fill_value, fill_of_att, fill_or_default, is_fill_att, value_count, IsArray, IsName, numbers, bytes_of_number, IsInRange, dim_len, has_records, is_record_var, product, slab_count, slab_lens, Look, look_of, is_char, row_len, trimmed_att, trimmed_var, capacity_of, filled, fits, values_in, array_of}
-use Rattle.cdl_laws.proofs.Attributes.{numbers_back, numbers_range, all_fit, all_small, count_is, numbers_len}
-use Rattle.cdl_laws.proofs.Bools.{and_left, off}
+use Rattle.cdl_laws.proofs.Prelude.{flat_map, int_eq, lt_of_mul-lt-mul_right, false≢true, Decides-int_eq, ints, take-append-drop, Att, Dim, Header, Var, NcType, Byte, Char, Short, Int, Ubyte, Ushort, Uint, Int64, Uint64, Version, fill_value, fill_of_att, fill_or_default, is_fill_att, value_count, IsArray, IsName, numbers, bytes_of_number, IsInRange, dim_len, has_records, is_record_var, product, slab_count, slab_lens, Look, look_of, is_char, row_len, trimmed_att, trimmed_var, capacity_of, filled, fits, values_in, array_of, and_left, is_off, is_on, look-type, length-numbers_from}
+use Rattle.cdl_laws.proofs.Attributes.{numbers_back, numbers_range, all_fit, all_small, count_is}
 use Rattle.cdl_laws.proofs.Characters.{flat}
 use Rattle.cdl_laws.proofs.DataTexts.{Gives, IsRoomFor, gives_numbers, gives_table, gives_line, given_draft}
 use Rattle.cdl_laws.proofs.Filled.{IsCharacter}
@@ -53,22 +52,14 @@ room_is h var n width m is name fill = record {
   wide = λ e. subst (λ k. k ≤ slab_count h.dims var) (sym is) (wide_enough (slab_count h.dims var) n (is_record_var h.dims var) e);
 }
 
-pub not_off : (b : Bool) → not b ≡ false → b ≡ true
-not_off true e = refl
-not_off false e = cc
-
 row_all : (h : Header) (var : Var) (n width : ℕ) → (look_of h var n width).in_rows ≡ false → (look_of h var n width).row ≡ value_count h.dims var n
 unfolding look_of
-row_all h var n width e = rw (not_off (nat_lt (length var.dimids) 2) e) refl
+row_all h var n width e = rw (is_on (nat_lt (length var.dimids) 2) e) refl
 
 -- ---- numbers
 
 abbrev look_ty : Header → Var → ℕ → ℕ → NcType
 look_ty h var n width = (look_of h var n width).ty
-
-look_type : (h : Header) (var : Var) (n width : ℕ) → (look_of h var n width).ty ≡ var.ty
-unfolding look_of
-look_type h var n width = refl
 
 room_type : (dims : List Dim) (var : Var) → (capacity_of dims (trimmed_var var)).ty ≡ var.ty
 unfolding capacity_of
@@ -78,7 +69,7 @@ listed_numbers : (v : Version) (h : Header) (var : Var) (n width : ℕ) (xs : Li
     Gives v h.dims (look_of h var n width) var xs
 listed_numbers v h var n width [] some len range other name = absurd (omega (arith, some))
 listed_numbers v h var n width (x ∷ xs) some len range other name =
-    gives_numbers v h.dims (look_of h var n width) var x xs (room_is h var n width (length (x ∷ xs)) len name (same_fill var other)) (ap is_char (look_type h var n width) ∙ other)
+    gives_numbers v h.dims (look_of h var n width) var x xs (room_is h var n width (length (x ∷ xs)) len name (same_fill var other)) (ap is_char (look-type h var n width) ∙ other)
     (λ e. let r = row_all h var n width e in omega (arith, r, len)) (all_small var.ty (x ∷ xs) range)
     (subst (λ ty. Each (λ y. fits ty y ≡ true) (x ∷ xs)) (sym (room_type h.dims var)) (all_fit var.ty (x ∷ xs) range))
 
@@ -100,7 +91,7 @@ listed_line : (v : Version) (h : Header) (var : Var) (n width : ℕ) (xs : List 
     fill_value (trimmed_var var) ≡ fill_value var → (look_of h var n width).in_rows ≡ false → (is_record_var h.dims var ≡ true → (look_of h var n width).trimmed ≡ false) → Gives v h.dims (look_of h var n width) var xs
 listed_line v h var n width [] some len range char name fill rank whole = absurd (omega (arith, some))
 listed_line v h var n width (x ∷ xs) some len range char name fill rank whole =
-    gives_line v h.dims (look_of h var n width) var x xs (room_is h var n width (length (x ∷ xs)) len name fill) (ap is_char (look_type h var n width) ∙ char) rank
+    gives_line v h.dims (look_of h var n width) var x xs (room_is h var n width (length (x ∷ xs)) len name fill) (ap is_char (look-type h var n width) ∙ char) rank
     (let r = row_all h var n width rank in omega (arith, r, len)) (λ e. fill ∙ trimmed_fill h var n width e) whole (are_characters var.ty (x ∷ xs) char range)
 
 -- ---- characters at rank 2 and up
@@ -172,11 +163,11 @@ rows_are (suc k) row xs h all =
 
 rank_two : (h : Header) (var : Var) (n width : ℕ) → (look_of h var n width).in_rows ≡ true → nat_lt (length var.dimids) 2 ≡ false
 unfolding look_of
-rank_two h var n width e = off (nat_lt (length var.dimids) 2) e
+rank_two h var n width e = is_off (nat_lt (length var.dimids) 2) e
 
 rank_row : (h : Header) (var : Var) (n width : ℕ) → (look_of h var n width).in_rows ≡ true → (look_of h var n width).row ≡ (capacity_of h.dims (trimmed_var var)).row
 unfolding look_of capacity_of
-rank_row h var n width e = let f = off (nat_lt (length var.dimids) 2) e in rw (f) refl
+rank_row h var n width e = let f = is_off (nat_lt (length var.dimids) 2) e in rw (f) refl
 
 rows_len : (k row : ℕ) (xs : List ℤ) → length (rows_of k row xs) ≡ k
 unfolding rows_of
@@ -207,7 +198,7 @@ listed_table v h var n width k xs split some len range char name fill rank =
     let look = look_of h var n width in
     let same = flat_rows (suc k) look.row xs split in
     subst (λ ys. Gives v h.dims look var ys) same
-    (gives_table v h.dims look var (take look.row xs) (rows_of k look.row (drop look.row xs)) (room_is h var n width (length (flat (rows_of (suc k) look.row xs))) (ap (λ (ys : List ℤ). length ys) same ∙ len) name fill) (ap is_char (look_type h var n width) ∙ char) rank
+    (gives_table v h.dims look var (take look.row xs) (rows_of k look.row (drop look.row xs)) (room_is h var n width (length (flat (rows_of (suc k) look.row xs))) (ap (λ (ys : List ℤ). length ys) same ∙ len) name fill) (ap is_char (look-type h var n width) ∙ char) rank
     (λ e. look_fill h var n width ∙ trimmed_fill h var n width e) (rank_row h var n width rank) some
     (λ closed. let few = rows_within h var n width k rank (sym split ∙ len) some closed in let m = rows_len k look.row (drop look.row xs) in omega (arith, few, m)) (rows_are (suc k) look.row xs split (are_characters var.ty xs char range)))
 
@@ -230,7 +221,7 @@ array_numbers dims n var array is =
 
 pub array_len : (dims : List Dim) (n : ℕ) (var : Var) (array : List ℕ) → IsArray dims n var array → length (numbers var.ty array) ≡ value_count dims var n
 array_len dims n var array is =
-    ap (λ (xs : List ℤ). length xs) (count_is var.ty (value_count dims var n) array is.whole) ∙ numbers_len var.ty (value_count dims var n) array
+    ap (λ (xs : List ℤ). length xs) (count_is var.ty (value_count dims var n) array is.whole) ∙ length-numbers_from var.ty (value_count dims var n) array
 
 array_range : (dims : List Dim) (n : ℕ) (var : Var) (array : List ℕ) → IsArray dims n var array → Each (IsInRange var.ty) (numbers var.ty array)
 array_range dims n var array is =

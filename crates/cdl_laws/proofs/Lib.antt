@@ -1,5 +1,4 @@
 pub mod Lists
-pub mod Words
 pub mod Bools
 pub mod NameTexts
 pub mod Texts

@@ -1,57 +1,13 @@
 -- What is read back keeps its limits.
 use Rattle.std.proofs.Common.{◌≡◌, ℕ, zero, suc, ◌+◌, ◌*◌, ◌<◌, ◌≤◌, Bool, true, false, List, [], ◌∷◌, ◌++◌, length, map, ◌∙◌, ap, refl, subst, arith, ◌&&◌, ◌==◌, if◌then◌else◌, nat_lt, nat_le, sum}
-use Rattle.cdl_laws.proofs.Prelude.{list_all, Dim, Header, Var, Version, value_count, AreArrays, AreDimids, IsDimid, is_record_var, is_record_dim, slab_count, slab_lens, slab_size, product, dim_len, record_vars, record_size_of, padded_size, padded_total, slab_limit, array_limit, size_of, trimmed_var, is_small}
-use Rattle.cdl_laws.proofs.Bools.{and_both}
+use Rattle.cdl_laws.proofs.Prelude.{list_all, Dim, Header, Var, Version, value_count, AreArrays, AreDimids, IsDimid, is_record_var, is_record_dim, slab_count, slab_lens, slab_size, product, dim_len, record_vars, record_size_of, padded_size, padded_total, slab_limit, array_limit, size_of, trimmed_var, is_small, and_both, le-leb}
 use Rattle.cdl_laws.proofs.DataTexts.{given_draft, given_drafts}
 use Rattle.cdl_laws.proofs.Datasets.{AreBack, listings}
 use Rattle.cdl_laws.proofs.Lists.{Each}
 
 -- ---- a slab has a value
 
-fixed_len : (known : Bool) (len : ℕ) → known ≡ true → (known && (len == 0)) ≡ false → 0 < len
-fixed_len true len k h = grind (arith, h)
-fixed_len false len k h = cc
-
-known_true : (m n : ℕ) → m < n → nat_lt m n ≡ true
-known_true m n h = grind (arith, h)
-
-times : (a b : ℕ) → 0 < a → 0 < b → 0 < a * b
-times (suc a) (suc b) h k = let e : suc a * suc b ≡ a * suc b + suc b = grind arith in omega (arith, e)
-times zero b h k = absurd (omega (arith, h))
-times (suc a) zero h k = absurd (omega (arith, k))
-
-no_record : (dims : List Dim) (before : List ℕ) (k : ℕ) → IsDimid dims before k → 0 < length before → is_record_dim dims k ≡ false
-no_record dims before k is some =
-    elim (is_record_dim dims k) as (λ b. is_record_dim dims k ≡ b → b ≡ false) [
-      | true ↦ (λ e. absurd (let z : length before ≡ 0 = ap (λ (bs : List ℕ). length bs) (is.record_first e) in omega (arith, z, some)))
-      | false ↦ (λ e. refl)
-    ] refl
-
-later_some : (dims : List Dim) (before ids : List ℕ) → AreDimids dims before ids → 0 < length before → 0 < product (map (dim_len dims) ids)
-later_some dims before [] are some = omega arith
-later_some dims before (k ∷ ids) are some =
-    times (dim_len dims k) (product (map (dim_len dims) ids)) (fixed_len (nat_lt k (length dims)) (dim_len dims k) (known_true k (length dims) are.0.known) (no_record dims before k are.0 some))
-    (later_some dims (before ++ k ∷ []) ids are.1 (more before k))
-  where
-    more : (before : List ℕ) (k : ℕ) → 0 < length (before ++ k ∷ [])
-    more [] k = omega arith
-    more (b ∷ before) k = omega arith
-
-pub slab_some : (dims : List Dim) (var : Var) → AreDimids dims [] var.dimids → 0 < slab_count dims var
-slab_some dims var are = of_ids var.dimids are
-  where
-    of_ids : (ids : List ℕ) → AreDimids dims [] ids → 0 < product (slab_lens dims ids)
-    of_ids [] are = omega arith
-    of_ids (k ∷ ids) are =
-        elim (is_record_dim dims k) as (λ b. is_record_dim dims k ≡ b → 0 < product (map (dim_len dims) (if b then ids else k ∷ ids))) [
-          | true ↦ (λ e. later_some dims (k ∷ []) ids are.1 (omega arith))
-          | false ↦ (λ e. times (dim_len dims k) (product (map (dim_len dims) ids)) (fixed_len (nat_lt k (length dims)) (dim_len dims k) (known_true k (length dims) are.0.known) e) (later_some dims (k ∷ []) ids are.1 (omega arith)))
-        ] refl
-
 -- ---- limits
-
-le_true : (m n : ℕ) → m ≤ n → nat_le m n ≡ true
-le_true m n h = grind (arith, h)
 
 pub all_small : (v : Version) (h : Header) (n width : ℕ) (vars : List Var) (arrays : List (List ℕ)) (backs : AreBack v h n width vars arrays) → AreArrays h.dims n vars arrays → Each (λ (var : Var). slab_size h.dims var ≤ slab_limit) vars →
     list_all (is_small h.dims n) (given_drafts vars (listings v h n width vars arrays backs)) ≡ true
@@ -60,8 +16,8 @@ all_small v h n width [] (a ∷ arrays) backs are slabs = absurd are
 all_small v h n width (var ∷ vars) [] backs are slabs = absurd are
 all_small v h n width (var ∷ vars) (a ∷ arrays) backs are slabs =
     and_both (is_small h.dims n (given_draft var backs.0.o)) (list_all (is_small h.dims n) (given_drafts vars (listings v h n width vars arrays backs.1)))
-    (and_both (nat_le (slab_size h.dims var) slab_limit) (nat_le (value_count h.dims var n * size_of var.ty) array_limit) (le_true (slab_size h.dims var) slab_limit slabs.0)
-    (le_true (value_count h.dims var n * size_of var.ty) array_limit (subst (λ m. m ≤ array_limit) are.0.whole are.0.small)))
+    (and_both (nat_le (slab_size h.dims var) slab_limit) (nat_le (value_count h.dims var n * size_of var.ty) array_limit) (le-leb (slab_size h.dims var) slab_limit slabs.0)
+    (le-leb (value_count h.dims var n * size_of var.ty) array_limit (subst (λ m. m ≤ array_limit) are.0.whole are.0.small)))
     (all_small v h n width vars arrays backs.1 are.1 slabs.1)
 
 pub record_trimmed : (dims : List Dim) (vars : List Var) → record_vars dims (map trimmed_var vars) ≡ map trimmed_var (record_vars dims vars)

@@ -1,9 +1,7 @@
 -- What a text means is good.
 use Rattle.std.proofs.Common.{◌≡◌, ℕ, ◌+◌, ◌-◌, ◌*◌, ◌/◌, ◌≤◌, ◌<◌, Bool, true, false, List, [], ◌∷◌, length, map, max, sym, ◌∙◌, ap, refl, subst, arith, zero, suc, ℤ, if◌then◌else◌, Option, None, Some, Result, Ok, Err, ◌||◌, find, nat_le, codes, All}
-use Rattle.cdl_laws.proofs.Prelude.{length-append, length-map, div-lt_iff_lt-mul, lt-div-mul-add, mul_comm, mul-le-mul_left, flat_map, list_all, AreBytes, Dataset, Att, Dim, Known, Var, NcType, Int, Version, Cdf1, Cdf2, Cdf5, fill_value, IsGood, IsSound, IsSoundAtt, IsSoundVar, IsSoundDim, IsArray, AreArrays, bare_var, value_count, IsName, bytes_of_number, is_record_var, record_vars, slab_count, slab_size, record_size, slab_limit, array_limit, record_limit, size_of, all_types, type_word, count_limit, has_type, MeaningsAreGood, MeaningsAreNearlySayable, IsNearlySayable, NearlyIsSayable, text_limit, Lexeme, lexeme, is_word, statements, shaped, checked, piece_read, line_of, run, empty, values_of, records_of, records_in, array_of, header_of, dataset_of, is_small, is_small_enough, closing_line, finished, meaning, AreDistinct, AreSayableAtts, HasSomeNumber, Statement, Opening, Mark, Declared, Typed, Attribute, Listed, Brace, End, shape, first_bad, State, Draft, act, add_dim, add_var, add_att, at_variable, with_att, with_values, type_of, is_word_of, found, in_turn, filled, CdlFault, CdlKind, FloatingType, UnknownType, TooLarge, Section, Token}
+use Rattle.cdl_laws.proofs.Prelude.{length-append, length-map, div-lt_iff_lt-mul, lt-div-mul-add, mul_comm, mul-le-mul_left, flat_map, list_all, AreBytes, Dataset, Att, Dim, Known, Var, NcType, Int, Version, Cdf1, Cdf2, Cdf5, fill_value, IsGood, IsSound, IsSoundAtt, IsSoundVar, IsSoundDim, IsArray, AreArrays, bare_var, value_count, IsName, bytes_of_number, is_record_var, record_vars, slab_count, slab_size, record_size, slab_limit, array_limit, record_limit, size_of, all_types, type_word, count_limit, has_type, MeaningsAreGood, MeaningsAreNearlySayable, IsNearlySayable, NearlyIsSayable, text_limit, Lexeme, lexeme, is_word, statements, shaped, checked, piece_read, line_of, run, empty, values_of, records_of, records_in, array_of, header_of, dataset_of, is_small, is_small_enough, closing_line, finished, meaning, AreDistinct, AreSayableAtts, HasSomeNumber, Statement, Opening, Mark, Declared, Typed, Attribute, Listed, Brace, End, shape, first_bad, State, Draft, act, add_dim, add_var, add_att, at_variable, with_att, with_values, type_of, is_word_of, found, in_turn, filled, CdlFault, CdlKind, FloatingType, UnknownType, TooLarge, Section, Token, and_left, and_right, some_count, length-numbers}
 use Rattle.cdl_meaning.specs.State.{◌>>=◌}
-use Rattle.cdl_laws.proofs.Bools.{and_left, and_right}
-use Rattle.cdl_laws.proofs.Limits.{slab_some}
 use Rattle.cdl_laws.proofs.Lists.{Each, each_map}
 use Rattle.cdl_laws.proofs.Outcomes.{SomeIs, OkIs, ok_then, in_if, total, each_more, all_of}
 use Rattle.cdl_laws.proofs.Sayables.{draft_name}
@@ -11,6 +9,7 @@ use Rattle.cdl_laws.proofs.Said.{IsByte, HasBytes, mass}
 use Rattle.cdl_laws.proofs.Uttered.{late, IsSaid, shape_says, token_mass, all_mass, mass_is, piece_bytes}
 use Rattle.cdl_laws.proofs.Fine.{IsFineAtt, AreFineAtts, IsFineDim, AreFineDims, IsFineDraft, AreFineDrafts, att_keeps, dims_keep, vars_keep, at_keeps, with_att_keeps, all_later, number_bytes, number_size, one_times}
 use Rattle.cdl_laws.proofs.Roomy.{with_values_keeps, filled_len, up_to}
+use Rattle.cdl_laws.proofs.Numerals.{int_known}
 
 -- ---- states
 
@@ -44,17 +43,12 @@ found_passes p [] = tt
 found_passes p (x ∷ xs) =
     elim (p x) as (λ b. p x ≡ b → SomeIs (λ y. p y ≡ true) (if b then Some x else find p xs)) [ true ↦ (λ e. e) | false ↦ (λ e. found_passes p xs) ] refl
 
-has_int : (v : Version) → has_type v Int ≡ true
-has_int Cdf1 = refl
-has_int Cdf2 = refl
-has_int Cdf5 = refl
-
 type_has : (v : Version) (word : Lexeme) → OkIs (λ ty. has_type v ty ≡ true) (type_of v word)
 unfolding type_of
 type_has v word =
     in_if (OkIs (λ ty. has_type v ty ≡ true)) (is_word (codes "float") word || is_word (codes "real") word || is_word (codes "double") word) (Err FloatingType)
     (if is_word (codes "long") word then Ok Int else found (find (is_word_of v word) all_types) UnknownType) tt
-    (in_if (OkIs (λ ty. has_type v ty ≡ true)) (is_word (codes "long") word) (Ok Int) (found (find (is_word_of v word) all_types) UnknownType) (has_int v) (of_find (find (is_word_of v word) all_types) (found_passes (is_word_of v word) all_types)))
+    (in_if (OkIs (λ ty. has_type v ty ≡ true)) (is_word (codes "long") word) (Ok Int) (found (find (is_word_of v word) all_types) UnknownType) (int_known v) (of_find (find (is_word_of v word) all_types) (found_passes (is_word_of v word) all_types)))
   where
     of_find : (o : Option NcType) → SomeIs (λ ty. is_word_of v word ty ≡ true) o → OkIs (λ ty. has_type v ty ≡ true) (found o UnknownType)
     of_find None h = tt
@@ -135,7 +129,7 @@ run_keeps text v N n s (p ∷ ps) bytes small f =
 records_small : (v : Version) (N n : ℕ) (dims : List Dim) (d : Draft) → IsFineDraft v N n dims d → records_of dims d ≤ N
 records_small v N n dims d f =
     let slab = slab_count dims d.var in
-    let some = slab_some dims d.var f.shape in
+    let some = some_count dims d.var.dimids f.shape in
     elim (is_record_var dims d.var) as (λ b. length (values_of dims d) ≤ slab * (if b then N else 1) → (if b then (length (values_of dims d) + slab - 1) / slab else 0) ≤ N) [
       | true ↦ (λ h.
           let a = one_times N slab in
@@ -153,7 +147,7 @@ all_records_small v N n dims (d ∷ ds) f = let a = records_small v N n dims d f
 listed_fits : (v : Version) (N n : ℕ) (dims : List Dim) (r : ℕ) (d : Draft) → IsFineDraft v N n dims d → records_of dims d ≤ r → length (values_of dims d) ≤ value_count dims d.var r
 listed_fits v N n dims r d f h =
     let slab = slab_count dims d.var in
-    let some = slab_some dims d.var f.shape in
+    let some = some_count dims d.var.dimids f.shape in
     elim (is_record_var dims d.var) as (λ b. length (values_of dims d) ≤ slab * (if b then N else 1) → (if b then (length (values_of dims d) + slab - 1) / slab else 0) ≤ r → length (values_of dims d) ≤ slab * (if b then r else 1)) [
       | true ↦ (λ l k.
           let q = (length (values_of dims d) + slab - 1) / slab in
@@ -172,12 +166,6 @@ pub are_bytes : (bs : List ℕ) → Each IsByte bs → AreBytes bs
 are_bytes [] h i = omega arith
 are_bytes (b ∷ bs) h zero = h.0
 are_bytes (b ∷ bs) h (suc i) = are_bytes bs h.1 i
-
-numbers_len : (ty : NcType) (xs : List ℤ) → length (flat_map (bytes_of_number ty) xs) ≡ length xs * size_of ty
-numbers_len ty [] = omega arith
-numbers_len ty (x ∷ xs) =
-    let a = length-append (bytes_of_number ty x) (flat_map (bytes_of_number ty) xs) in let b = number_size ty x in let c = numbers_len ty xs in let d = one_times (length xs) (size_of ty) in
-    omega (arith, a, b, c, d)
 
 numbers_bytes : (ty : NcType) (xs : List ℤ) → Each IsByte (flat_map (bytes_of_number ty) xs)
 numbers_bytes ty [] = tt
@@ -202,7 +190,7 @@ array_is v N n dims r d f small h =
     let count = value_count dims d.var r in
     let all = filled count (fill_value d.var) (values_of dims d) in
     let len : length (array_of dims r d) ≡ count * size_of d.var.ty =
-    numbers_len d.var.ty all ∙ ap (λ m. m * size_of d.var.ty) (filled_len count (fill_value d.var) (values_of dims d) (listed_fits v N n dims r d f h)) in
+    length-numbers d.var.ty all ∙ ap (λ m. m * size_of d.var.ty) (filled_len count (fill_value d.var) (values_of dims d) (listed_fits v N n dims r d f h)) in
     record {
       bytes = are_bytes (array_of dims r d) (numbers_bytes d.var.ty all);
       whole = len;

@@ -1,8 +1,7 @@
 -- A valid name, escaped, is one word that stands for it.
 use Rattle.std.proofs.Common.{◌≡◌, ℕ, Bool, true, false, List, [], ◌∷◌, ◌++◌, length, get_or, drop, sym, ◌∙◌, ap, refl, subst, arith, nat_le, ◌&&◌, ◌||◌, ◌==◌, if◌then◌else◌, not}
-use Rattle.cdl_laws.proofs.Prelude.{is_ascii_digit, is_in_range, flat_map, list_all, bytes_eq, false≢true, eqb-true, bytes_eq-Decides, is_plain, is_name_mark, escaped_in_name, escaped_name, is_reserved, reserved_words, begins_with_digit_or_mark, may_begin_name, may_follow_in_name, is_beyond_ascii, is_escape, is_escapable, goes_on_word, begins_word, word_len, begins_a_word, word_value}
-use Rattle.cdl_laws.proofs.Words.{word_prefix, and_false}
-use Rattle.cdl_laws.proofs.Bools.{and_left, and_right, or_left, or_right, of_any}
+use Rattle.cdl_laws.proofs.Prelude.{is_ascii_digit, is_in_range, flat_map, list_all, bytes_eq, false≢true, eqb-true, bytes_eq-Decides, is_plain, is_name_mark, escaped_in_name, escaped_name, is_reserved, reserved_words, begins_with_digit_or_mark, may_begin_name, may_follow_in_name, is_beyond_ascii, is_escape, is_escapable, goes_on_word, begins_word, word_len, begins_a_word, word_value, and_left, and_right, word_at_start, and_false}
+use Rattle.cdl_laws.proofs.Bools.{or_left, or_right, of_any}
 
 -- ---- bytes
 
@@ -72,8 +71,8 @@ rest_len (b ∷ name) rest h e =
     let one : is_escapable b ≡ true = escapable b (and_left (may_follow_in_name b) (list_all may_follow_in_name name) h) in
     let ih = rest_len name rest more e in
     elim (is_plain b) as (λ w. is_plain b ≡ w → word_len (((if w then b ∷ [] else 0x5c ∷ b ∷ []) ++ rest_of name) ++ rest) ≡ length ((if w then b ∷ [] else 0x5c ∷ b ∷ []) ++ rest_of name)) [
-      | true ↦ (λ g. word_prefix b (rest_of name ++ rest) ∙ rw (no_escape b (get_or (rest_of name ++ rest) 0 0) g) (rw (g) (omega (arith, ih))))
-      | false ↦ (λ g. word_prefix 0x5c (b ∷ rest_of name ++ rest) ∙ rw (one) (omega (arith, ih)))
+      | true ↦ (λ g. word_at_start b (rest_of name ++ rest) ∙ rw (no_escape b (get_or (rest_of name ++ rest) 0 0) g) (rw (g) (omega (arith, ih))))
+      | false ↦ (λ g. word_at_start 0x5c (b ∷ rest_of name ++ rest) ∙ rw (one) (omega (arith, ih)))
     ] refl
 
 pub value_prefix : (b : ℕ) (rest : List ℕ) → word_value (b ∷ rest) ≡ (if is_escape b (get_or rest 0 0) then get_or rest 0 0 ∷ word_value (drop 1 rest) else b ∷ word_value rest)
@@ -133,10 +132,10 @@ begins b bs h =
 -- ---- names
 
 pub name_len : (b : ℕ) (bs rest : List ℕ) → Begins b bs → list_all may_follow_in_name bs ≡ true → word_len rest ≡ 0 → word_len (escaped_name (b ∷ bs) ++ rest) ≡ length (escaped_name (b ∷ bs))
-name_len b bs rest (marked one is) h stop = let ih = rest_len bs rest h stop in rw (is) (word_prefix 0x5c (b ∷ rest_of bs ++ rest) ∙ rw (one) (omega (arith, ih)))
+name_len b bs rest (marked one is) h stop = let ih = rest_len bs rest h stop in rw (is) (word_at_start 0x5c (b ∷ rest_of bs ++ rest) ∙ rw (one) (omega (arith, ih)))
 name_len b bs rest (bare one free is) h stop =
     let ih = rest_len bs rest h stop in
-    rw (is) (word_prefix b (rest_of bs ++ rest) ∙ rw (no_escape b (get_or (rest_of bs ++ rest) 0 0) (begins_goes_on b one)) (rw (begins_goes_on b one) (omega (arith, ih))))
+    rw (is) (word_at_start b (rest_of bs ++ rest) ∙ rw (no_escape b (get_or (rest_of bs ++ rest) 0 0) (begins_goes_on b one)) (rw (begins_goes_on b one) (omega (arith, ih))))
 
 pub name_begins : (b : ℕ) (bs rest : List ℕ) → Begins b bs → begins_a_word (escaped_name (b ∷ bs) ++ rest) ≡ true
 name_begins b bs rest (marked one is) = rw (is) one

@@ -1,9 +1,8 @@
 -- A decimal number is read again.
 use Rattle.std.proofs.Common.{◌≡◌, ℕ, zero, suc, ◌+◌, ◌*◌, ◌/◌, ◌%◌, ◌^◌, ◌<◌, ◌≤◌, Bool, true, false, List, [], ◌∷◌, ◌++◌, length, get_or, drop, sym, ◌∙◌, ap, refl, arith, append-nil, ℤ, pos, negsuc, unsigned_abs, decimal, ◌==◌, not, if◌then◌else◌, Some, nat_lt, Option}
-use Rattle.cdl_laws.proofs.Prelude.{signed_decimal, digits_onto, digits, digit_glyph, prefix_len, list_all, eqb-true, first_decimal, decimal_nonempty, drop-append_seam, take-append_seam, NcType, Byte, Char, Short, Int, Ubyte, Ushort, Uint, Int64, Uint64, Version, Cdf1, Cdf2, Cdf5, number_suffix, is_char, has_type, digit, is_digit, is_sign, goes_on_number, number_in, suffix, in_base, unsigned, numeral, parts, Parts, option_map, list_all-append}
+use Rattle.cdl_laws.proofs.Prelude.{signed_decimal, digits_onto, digits, digit_glyph, prefix_len, list_all, eqb-true, first_decimal, decimal_nonempty, drop-append_seam, take-append_seam, NcType, Byte, Char, Short, Int, Ubyte, Ushort, Uint, Int64, Uint64, Version, Cdf1, Cdf2, Cdf5, number_suffix, is_char, has_type, digit, is_digit, is_sign, goes_on_number, number_in, suffix, in_base, unsigned, numeral, parts, Parts, option_map, list_all-append, and_left, and_right, and_both, is_off, not_none}
 use native.Mathlib.Numerals.{unary_clauses}
 use Rattle.cdl_tokens.specs.Numerals.{number as number_of}
-use Rattle.cdl_laws.proofs.Bools.{and_left, and_right, and_both, off}
 use Rattle.cdl_laws.proofs.Texts.{Reads, number, digits_read, minus_reads}
 
 -- ---- the digits of a number
@@ -54,7 +53,7 @@ no_digit (b ∷ bs) = not (is_digit b)
 
 digits_then : (ds suf : List ℕ) → list_all is_digit ds ≡ true → no_digit suf ≡ true → prefix_len is_digit (ds ++ suf) ≡ length ds
 digits_then [] [] h k = refl
-digits_then [] (b ∷ suf) h k = rw (off (is_digit b) k) refl
+digits_then [] (b ∷ suf) h k = rw (is_off (is_digit b) k) refl
 digits_then (d ∷ ds) suf h k = rw (and_left (is_digit d) (list_all is_digit ds) h) (let ih = digits_then ds suf (and_right (is_digit d) (list_all is_digit ds) h) k in omega (arith, ih))
 
 not_zero : (d : ℕ) → 48 < d → (d == 48) ≡ false
@@ -63,9 +62,6 @@ not_zero d h = grind (arith, h)
 no_sign : (d : ℕ) → is_digit d ≡ true → is_sign d ≡ false
 no_sign d h = grind (arith, h)
 
-some_one : (n : ℕ) → (suc n == 0) ≡ false
-some_one n = grind arith
-
 -- the number with the type of its suffix
 abbrev with_suffix : Bool → ℕ → Option NcType → Option Parts
 with_suffix minus n suf = option_map (λ ty. record { minus = minus; magnitude = n; ty = ty }) suf
@@ -73,7 +69,7 @@ with_suffix minus n suf = option_map (λ ty. record { minus = minus; magnitude =
 based : (v : Version) (minus : Bool) (d : ℕ) (ds suf : List ℕ) (n : ℕ) → n ≡ length (d ∷ ds) →
     in_base v minus 10 n ((d ∷ ds) ++ suf) ≡ with_suffix minus (number_in 10 0 (d ∷ ds)) (suffix v suf)
 based v minus d ds suf n e =
-    rw (e) (rw (some_one (length ds)) (ap (λ xs. with_suffix minus (number_in 10 0 xs) (suffix v (drop (length (d ∷ ds)) ((d ∷ ds) ++ suf)))) (take-append_seam (d ∷ ds) suf) ∙
+    rw (e) (rw (not_none (length ds)) (ap (λ xs. with_suffix minus (number_in 10 0 xs) (suffix v (drop (length (d ∷ ds)) ((d ∷ ds) ++ suf)))) (take-append_seam (d ∷ ds) suf) ∙
     ap (λ xs. with_suffix minus (number_in 10 0 (d ∷ ds)) (suffix v xs)) (drop-append_seam (d ∷ ds) suf)))
 
 big_back : (v : Version) (minus : Bool) (ds suf : List ℕ) → list_all is_digit ds ≡ true → 48 < get_or ds 0 0 → no_digit suf ≡ true →
@@ -160,7 +156,7 @@ numeral_again v ty (pos n) h k l = ap (λ (r : Option Parts). option_map number_
 numeral_again v ty (negsuc n) h k l = ap (λ (r : Option Parts). option_map number_of r) (parts_negative v ty (suc n) h k l)
 
 -- a number as a value
-int_known : (v : Version) → has_type v Int ≡ true
+pub int_known : (v : Version) → has_type v Int ≡ true
 int_known Cdf1 = refl
 int_known Cdf2 = refl
 int_known Cdf5 = refl

@@ -27,7 +27,7 @@ pub use Rattle.cdl_statements.specs.declared.piece.CutState.{CutState}
 pub use Rattle.cdl_statements.specs.declared.piece.Role.{Role}
 pub use Rattle.cdl_statements.specs.declared.section.Section.{Section}
 pub use Rattle.cdl_statements.specs.declared.section.Section.TheVariants.{Closed, Dimensions, Ended, Globals, Unopened, Values, Variables}
-pub use Rattle.cdl_tokens.proofs.Strings.{or_zero, stands_for}
+pub use Rattle.cdl_tokens.proofs.Strings.{or_zero, stands_for, plain_small}
 pub use Rattle.cdl_tokens.specs.Bytes.{begins_word, digit, goes_on_number, goes_on_word, is_blank, is_digit, is_escapable, is_escape, is_hex, is_octal, is_sign, number_in, within}
 pub use Rattle.cdl_tokens.specs.Escapes.{byte, escape, inner, number_escape, plain_escape, stands, unescape}
 unfoldable pub use Rattle.cdl_tokens.specs.Escapes.{character, unescape_at, word_value}
@@ -74,7 +74,7 @@ pub use Rattle.nc_base.specs.declared.version.Version.{Version}
 pub use Rattle.nc_base.specs.declared.version.Version.TheVariants.{Cdf1, Cdf2, Cdf5}
 pub use Rattle.std.proofs.Math.Nat.{div-eq_of_lt, div-lt_iff_lt-mul, lt-div-mul-add, lt_of_mul-lt-mul_right, mod-eq_of_lt, mul-add-div, mul-div_cancel, mul-le-mul, mul-le-mul_left, mul-le-mul_right, mul-mod_left, mul_comm, zero-mod}
 pub use Rattle.std.proofs.Math.Seq.{drop-append_seam, take-append_seam, take-length}
-pub use Rattle.std.proofs.lemmas.Bool.{cases_lt, eqb-true, false≢true}
+pub use Rattle.std.proofs.lemmas.Bool.{cases_lt, eqb-true, false≢true, le-leb, lt-ltb}
 pub use Rattle.std.proofs.lemmas.Bool.Decides.{Decides-int_eq}
 pub use Rattle.std.proofs.lemmas.Fmt.{decimal_nonempty, first_decimal}
 pub use Rattle.std.proofs.lemmas.Grind.{flat_map-append}
@@ -92,3 +92,12 @@ pub use Rattle.std.specs.Option.{option_and_then, option_map}
 pub use Rattle.std.specs.Ordering.{int_eq}
 pub use Rattle.std.specs.Str.{bytes_eq}
 unfoldable pub use Rattle.std.specs.Str.{chars, is_utf8}
+pub use Rattle.nc_base.proofs.Tests.{and_left, and_right, and_both, is_off, none_before, not_none, or_second, is_on}
+pub use Rattle.cdl_tokens.proofs.Words.{word_at_start, until_at_start, and_false}
+pub use Rattle.nc_base.proofs.SoundLaws.{some_product, some_size, some_count}
+pub use Rattle.nc_base.proofs.HeaderSpelled.{some-limit}
+pub use Rattle.nc_base.proofs.Found.{all-at}
+pub use Rattle.cdl_tokens.proofs.PlainStrings.{inner_of}
+pub use Rattle.nc_base.proofs.ValueLaws.{escaped-append, look-type, length-numbers_from}
+pub use Rattle.nc_base.proofs.FilePlaces.{length-numbers}
+pub use Rattle.cdl_meaning.proofs.InRange.{is_had}

@@ -1,10 +1,8 @@
 -- No more is listed of a variable than it has values, over as many records as the text has bytes.
 use Rattle.std.proofs.Common.{◌≡◌, ℕ, ◌+◌, ◌-◌, ◌*◌, ◌≤◌, ◌<◌, Bool, true, false, List, [], ◌∷◌, ◌++◌, length, map, replicate, sym, ◌∙◌, ap, refl, arith, zero, suc, ℤ, pos, if◌then◌else◌, Some, Result, Ok, ◌||◌, not, nat_lt, nat_le}
-use Rattle.cdl_laws.proofs.Prelude.{length-append, length-replicate, length-map, flat_map-append, mul-le-mul_right, mul_comm, mul-le-mul, Dim, Var, Version, fill_value, is_char, Value, Number, Characters, Underscore, Draft, Listing, Numbers, Joined, Rows, Capacity, capacity_of, in_turn, unless, fits, filled, add_number, add_characters, add_row, listed_by, listing_of, values_in, is_listed, with_values, CdlKind, TooManyValues, StringTooLong, DuplicateData, NumberRange}
+use Rattle.cdl_laws.proofs.Prelude.{length-append, length-replicate, length-map, flat_map-append, mul-le-mul_right, mul_comm, mul-le-mul, Dim, Var, Version, fill_value, is_char, Value, Number, Characters, Underscore, Draft, Listing, Numbers, Joined, Rows, Capacity, capacity_of, in_turn, unless, fits, filled, add_number, add_characters, add_row, listed_by, listing_of, values_in, is_listed, with_values, CdlKind, TooManyValues, StringTooLong, DuplicateData, NumberRange, is_off, or_second, some_count}
 use Rattle.cdl_meaning.specs.State.{◌>>=◌}
-use Rattle.cdl_laws.proofs.Bools.{off}
 use Rattle.cdl_laws.proofs.Given.{slab_rows}
-use Rattle.cdl_laws.proofs.Limits.{slab_some}
 use Rattle.cdl_laws.proofs.Outcomes.{OkIs, ok_then, ok_unless, ok_when, total, turns}
 use Rattle.cdl_laws.proofs.Said.{cost}
 use Rattle.cdl_laws.proofs.Uttered.{AreFineValues}
@@ -26,10 +24,6 @@ under a b h = grind (arith, h)
 pub up_to : (a b : ℕ) → nat_le a b ≡ true → a ≤ b
 up_to a b h = grind (arith, h)
 
-closed : (open_ b : Bool) → (open_ || b) ≡ true → open_ ≡ false → b ≡ true
-closed true b h e = cc
-closed false b h e = h
-
 pub filled_len : (n : ℕ) (fill : ℤ) (xs : List ℤ) → length xs ≤ n → length (filled n fill xs) ≡ n
 filled_len n fill xs h = let a = length-append xs (replicate (n - length xs) fill) in let b = length-replicate (n - length xs) fill in omega (arith, a, b, h)
 
@@ -44,7 +38,7 @@ grown capacity count unit k n m c l before after is len cheap wide more = record
 
 -- where there was room for one
 one_wide : (capacity : Capacity) (n count : ℕ) → (capacity.is_open || nat_lt n count) ≡ true → capacity.is_open ≡ false → n + 1 ≤ count
-one_wide capacity n count test e = under n count (closed capacity.is_open (nat_lt n count) test e)
+one_wide capacity n count test e = under n count (or_second capacity.is_open (nat_lt n count) test e)
 
 -- ---- each kind of listing
 
@@ -74,7 +68,7 @@ joined_step capacity k before (Characters bytes) is u =
     let all = length-map (before ++ bytes) pos in
     let old = length-map before pos in
     grown capacity capacity.count 1 k (length before) (length bytes) (suc (length bytes)) (length (before ++ bytes)) (Joined before) (Joined (before ++ bytes)) is len (omega arith)
-    (λ e. up_to (length before + length bytes) capacity.count (closed capacity.is_open (nat_le (length before + length bytes) capacity.count) t e)) (λ fill. omega (arith, len, all, old)))
+    (λ e. up_to (length before + length bytes) capacity.count (or_second capacity.is_open (nat_le (length before + length bytes) capacity.count) t e)) (λ fill. omega (arith, len, all, old)))
 joined_step capacity k before Underscore is u = tt
 joined_step capacity k before (Number n) is u = tt
 
@@ -147,7 +141,7 @@ values_fit dims var records xs some le = of_type (is_char var.ty)
 
     of_rank : (deep : Bool) → not (nat_lt (length var.dimids) 2) ≡ deep → OkIs (Fits r records) (if deep then listed_by (add_row r) Rows xs else listed_by (add_characters r) Joined xs)
     of_rank true deep =
-        let s = slab_rows dims var.dimids (off (nat_lt (length var.dimids) 2) deep) in
+        let s = slab_rows dims var.dimids (is_off (nat_lt (length var.dimids) 2) deep) in
         all_listed r r.rows r.row records (add_row r) Rows xs (row_small s.rows r.row r.count s.whole some) (λ e. let a = s.whole in let b = s.all e in ap (λ n. n * r.row) (sym b) ∙ sym a) le (λ fill. refl) (row_step r)
     of_rank false flat = all_listed r r.count 1 records (add_characters r) Joined xs some one le (λ fill. refl) (joined_step r)
 
@@ -162,7 +156,7 @@ with_values_keeps v N n m dims name xs small said d f =
     let Q : Draft → Type 0 = λ e. IsFineDraft v N (n + m) dims e × (e.var.name ≡ d.var.name) in
     let capacity = capacity_of dims d.var in
     ok_when Q (is_listed d.listed) DuplicateData (λ u. listing_of capacity xs >>= (λ listing. Ok (record d { listed = Some listing }))) (λ new.
-    ok_then (Fits capacity N) Q (listing_of capacity xs) (λ listing. Ok (record d { listed = Some listing })) (values_fit dims d.var N xs (slab_some dims d.var f.shape) (let a = said.1 in omega (arith, a, small))) (λ listing fit.
+    ok_then (Fits capacity N) Q (listing_of capacity xs) (λ listing. Ok (record d { listed = Some listing })) (values_fit dims d.var N xs (some_count dims d.var.dimids f.shape) (let a = said.1 in omega (arith, a, small))) (λ listing fit.
     let g = later v N n (n + m) dims d (omega arith) f in (
       record {
         name = g.name;

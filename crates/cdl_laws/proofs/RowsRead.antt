@@ -1,6 +1,6 @@
 -- The values that the text of a variable lists give its array.
 use Rattle.std.proofs.Common.{◌≡◌, ℕ, zero, suc, true, false, List, [], ◌∷◌, length, sym, ◌∙◌, ap, refl, subst, arith, ℤ, All, Some, slice_get, slice_index_or}
-use Rattle.cdl_laws.proofs.Prelude.{flat_map, Dataset, Att, Dim, Header, Known, Var, content_of, fill_value, IsArray, AreArrays, value_count, IsName, bytes_of_number, IsSayable, IsSayableVar, trimmed_var, is_char, look_of, variable_text, Values, Listed, array_of, Capacity, capacity_of, filled, listing_of, values_in, DataReadsBack}
+use Rattle.cdl_laws.proofs.Prelude.{flat_map, Dataset, Att, Dim, Header, Known, Var, content_of, fill_value, IsArray, AreArrays, value_count, IsName, bytes_of_number, IsSayable, IsSayableVar, trimmed_var, is_char, look_of, variable_text, Values, Listed, array_of, Capacity, capacity_of, filled, listing_of, values_in, DataReadsBack, all-at}
 use Rattle.cdl_laws.specs.RowLaws.{RowReadsBack, RowsReadBack, EmptyRowsReadBack}
 use Rattle.cdl_laws.proofs.Arrays.{row_back, no_bytes}
 use Rattle.cdl_laws.proofs.DataTexts.{Gives, given_draft}
@@ -8,12 +8,6 @@ use Rattle.cdl_laws.proofs.Given.{same_fill, array_len}
 use Rattle.cdl_laws.proofs.PiecesRead.{is_statement}
 
 -- ---- the parts of a dataset
-
--- what holds of each holds of the one in a place
-in_place : {X : Type 0} (P : X → Type 0) (xs : List X) (k : ℕ) (x : X) → All P xs → slice_get xs k ≡ Some x → P x
-in_place P [] k x all at = cc
-in_place P (y ∷ xs) zero x all at = let e : y ≡ x = cc in subst P e (all 0 y (omega arith))
-in_place P (y ∷ xs) (suc k) x all at = in_place P xs k x (λ j d h. all (suc j) d (omega (arith, h))) at
 
 array_in_place : (dims : List Dim) (n : ℕ) (vars : List Var) (arrays : List (List ℕ)) (k : ℕ) (var : Var) → AreArrays dims n vars arrays → slice_get vars k ≡ Some var → IsArray dims n var (slice_index_or arrays k [])
 array_in_place dims n [] arrays k var are at = cc
@@ -65,8 +59,8 @@ rows_read_back d records width place var s known at some =
     let h = d.header in
     let array = slice_index_or d.arrays place [] in
     let is = is_array d records place var s known at in
-    let name = (in_place (λ (w : Var). IsName w.name × All (λ (att : Att). IsName att.name) w.atts) h.vars place var s.good.names.vars at).0 in
-    let keeps = (in_place IsSayableVar h.vars place var s.vars at).fill in
+    let name = (all-at (λ (w : Var). IsName w.name × All (λ (att : Att). IsName att.name) w.atts) h.vars place var s.good.names.vars at).0 in
+    let keeps = (all-at IsSayableVar h.vars place var s.vars at).fill in
     let back = row_back h.version h records width var array is (grind (arith, some)) name keeps in
     row_of d records width place var is (same_value var keeps) back.0 back.1
 

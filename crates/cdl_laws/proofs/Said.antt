@@ -1,10 +1,9 @@
 -- What the shapes give: names, counts and types of what a statement says, against the bytes of its tokens.
 use Rattle.std.proofs.Common.{◌≡◌, ℕ, ◌+◌, ◌-◌, ◌*◌, ◌≤◌, ◌<◌, Bool, true, false, List, [], ◌∷◌, length, refl, arith, zero, suc, find, if◌then◌else◌, Option, None, Some, take, drop, ◌&&◌, ◌||◌, not, ◌==◌, slice_index, codes, ℤ, map, nat_lt}
-use Rattle.cdl_laws.proofs.Prelude.{length-take, length-drop, option_map, option_and_then, prefix_len, take_while, is_reserved, NcType, Version, all_types, has_type, to_ascii_lowercase, is_digit, is_octal, is_hex, is_escape, is_sign, number_in, byte, character, escape, inner, number_escape, plain_escape, unescape_at, word_value, or_zero, Lexeme, is_word_kind, is_mark, is_word, name_of, Parts, parts, number, Numeral, numeral, suffix, has_suffix, in_base, unsigned, Value, Number, Characters, Underscore, Dimension, Variable, both, each, given, into_first, members_in, members, length_of, dimension, constant_of, constant, constants, name_alone, before_mark, variable, TokenKind}
+use Rattle.cdl_laws.proofs.Prelude.{length-take, length-drop, option_map, option_and_then, prefix_len, take_while, is_reserved, NcType, Version, all_types, has_type, to_ascii_lowercase, is_digit, is_octal, is_hex, is_escape, is_sign, number_in, byte, character, escape, inner, number_escape, plain_escape, unescape_at, word_value, or_zero, Lexeme, is_word_kind, is_mark, is_word, name_of, Parts, parts, number, Numeral, numeral, suffix, has_suffix, in_base, unsigned, Value, Number, Characters, Underscore, Dimension, Variable, both, each, given, into_first, members_in, members, length_of, dimension, constant_of, constant, constants, name_alone, before_mark, variable, TokenKind, and_right, plain_small}
 use Rattle.cdl_statements.specs.Shapes.{dimensions}
 use Rattle.cdl_tokens.specs.declared.token.TokenKind.TheVariants as kinds
 use Rattle.cdl_tokens.specs.declared.scan.Character.{Character}
-use Rattle.cdl_laws.proofs.Bools.{and_right}
 use Rattle.cdl_laws.proofs.Lists.{Each}
 use Rattle.cdl_laws.proofs.Outcomes.{SomeIs, some_map, some_then, some_weaker, some_both, some_given, in_if, total, each_total, each_take, each_drop}
 
@@ -119,16 +118,6 @@ prefix_byte : (bs : List ℕ) → Each IsByte bs → slice_index bs 0 < 256
 prefix_byte [] h = omega arith
 prefix_byte (b ∷ bs) h = h.0
 
-plain_byte : (b : ℕ) → b < 256 → plain_escape b < 256
-plain_byte b h =
-    in_if (λ n. n < 256) (b == 0x61) 0x07 (if b == 0x62 then 0x08 else (if b == 0x66 then 0x0c else (if b == 0x6e then 0x0a else (if b == 0x72 then 0x0d else (if b == 0x74 then 0x09 else (if b == 0x76 then 0x0b else b)))))) (omega arith)
-    (in_if (λ n. n < 256) (b == 0x62) 0x08 (if b == 0x66 then 0x0c else (if b == 0x6e then 0x0a else (if b == 0x72 then 0x0d else (if b == 0x74 then 0x09 else (if b == 0x76 then 0x0b else b))))) (omega arith)
-    (in_if (λ n. n < 256) (b == 0x66) 0x0c (if b == 0x6e then 0x0a else (if b == 0x72 then 0x0d else (if b == 0x74 then 0x09 else (if b == 0x76 then 0x0b else b)))) (omega arith)
-    (in_if (λ n. n < 256) (b == 0x6e) 0x0a (if b == 0x72 then 0x0d else (if b == 0x74 then 0x09 else (if b == 0x76 then 0x0b else b))) (omega arith)
-    (in_if (λ n. n < 256) (b == 0x72) 0x0d (if b == 0x74 then 0x09 else (if b == 0x76 then 0x0b else b)) (omega arith)
-    (in_if (λ n. n < 256) (b == 0x74) 0x09 (if b == 0x76 then 0x0b else b) (omega arith)
-    (in_if (λ n. n < 256) (b == 0x76) 0x0b b (omega arith) h))))))
-
 abbrev IsFine : Character → Type 0
 IsFine c = ByteOrNone c.value
 
@@ -141,7 +130,7 @@ escape_fine bs h =
     let hex = number_escape 2 16 (take_while is_hex (take 2 (drop 1 bs))) in
     let plain : Character = record { value = Some (plain_escape (slice_index bs 0)); len = 2 } in
     in_if IsFine (is_octal (slice_index bs 0)) octal (if slice_index bs 0 == 0x78 then hex else plain) (number_fine 1 8 (take_while is_octal (take 3 bs)))
-    (in_if IsFine (slice_index bs 0 == 0x78) hex plain (number_fine 2 16 (take_while is_hex (take 2 (drop 1 bs)))) (plain_byte (slice_index bs 0) (prefix_byte bs h)))
+    (in_if IsFine (slice_index bs 0 == 0x78) hex plain (number_fine 2 16 (take_while is_hex (take 2 (drop 1 bs)))) (plain_small (slice_index bs 0) (prefix_byte bs h)))
 
 character_fine : (bs : List ℕ) → Each IsByte bs → IsFine (character bs)
 unfolding character

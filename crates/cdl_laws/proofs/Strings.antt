@@ -1,8 +1,7 @@
 -- An escaped string between quotes is one token that stands for it.
 use Rattle.std.proofs.Common.{◌≡◌, ℕ, suc, ◌+◌, ◌*◌, ◌-◌, ◌/◌, ◌%◌, ◌<◌, true, false, List, [], ◌∷◌, ◌++◌, length, drop, take, sym, ◌∙◌, ap, refl, subst, arith, append_assoc, length-append, ◌==◌, nat_lt, map, Some, is_some}
-use Rattle.cdl_laws.proofs.Prelude.{is_ascii_control, flat_map, list_all, false≢true, eqb-true, take-append_seam, escaped_in_string, octal_escape, digit, is_octal, is_digit, number_in, until, scan, scan_text, character, byte, plain_escape, unescape, unescape_at, Lexeme}
+use Rattle.cdl_laws.proofs.Prelude.{is_ascii_control, flat_map, list_all, false≢true, eqb-true, take-append_seam, escaped_in_string, octal_escape, digit, is_octal, is_digit, number_in, until, scan, scan_text, character, byte, plain_escape, unescape, unescape_at, Lexeme, until_at_start}
 use Rattle.cdl_tokens.specs.declared.token.TokenKind.TheVariants as kinds
-use Rattle.cdl_laws.proofs.Words.{until_prefix}
 use Rattle.cdl_laws.proofs.Texts.{Closed, prefix_again}
 
 -- ---- the characters
@@ -11,7 +10,7 @@ not_octal : (b c : ℕ) → is_octal c ≡ false → is_octal b ≡ true → (b 
 not_octal b c o on = elim (b == c) as (λ w. (b == c) ≡ w → w ≡ false) [ true ↦ (λ e. absurd (false≢true (sym o ∙ subst (λ n. is_octal n ≡ true) (eqb-true b c e) on))) | false ↦ (λ e. refl) ] refl
 
 pub until_plain : (close b : ℕ) (rest : List ℕ) → (b == 0x5c) ≡ false → (b == close) ≡ false → until close (b ∷ rest) ≡ 1 + until close rest
-until_plain close b rest h k = until_prefix close b rest ∙ rw (h) (rw (k) refl)
+until_plain close b rest h k = until_at_start close b rest ∙ rw (h) (rw (k) refl)
 
 until_octal : (d e f : ℕ) (rest : List ℕ) → is_octal e ≡ true → is_octal f ≡ true → until 0x22 (0x5c ∷ d ∷ e ∷ f ∷ rest) ≡ 4 + until 0x22 rest
 unfolding until

@@ -1,10 +1,9 @@
 -- What a text makes of a state, statement by statement.
 use Rattle.std.proofs.Common.{◌≡◌, ℕ, Bool, true, false, List, [], ◌∷◌, ◌++◌, ◌∙◌, ap, sym, refl, append_assoc, ◌&&◌, if◌then◌else◌, Option, None, Some, is_none, Ok}
-use Rattle.cdl_laws.proofs.Prelude.{list_all, option_map, option_and_then, Version, CdlKind, Section, Globals, Dimensions, Variables, Values, Role, Lexeme, first_role, role, piece_read, pieces_after, step, going, unless_end, with_first, is_section, pieces_by_steps, cut_lexemes, lexemes_at, pieces_of, Statement, first_bad, token_fault, shape, before_mark, body, State, act, in_turn}
+use Rattle.cdl_laws.proofs.Prelude.{list_all, option_map, option_and_then, Version, CdlKind, Section, Globals, Dimensions, Variables, Values, Role, Lexeme, first_role, role, piece_read, pieces_after, step, going, unless_end, with_first, is_section, pieces_by_steps, cut_lexemes, lexemes_at, pieces_of, Statement, first_bad, token_fault, shape, before_mark, body, State, act, in_turn, and_left, and_right, and_both}
 use Rattle.cdl_statements.specs.declared.section.Section.TheVariants as sections
 use Rattle.cdl_statements.specs.declared.piece.Role.TheVariants as roles
 use Rattle.cdl_statements.specs.declared.piece.CutState.TheVariants.{Begins, Inside}
-use Rattle.cdl_laws.proofs.Bools.{and_left, and_right, and_both}
 use Rattle.cdl_laws.proofs.Texts as texts
 use Rattle.cdl_laws.proofs.Texts.{mark, word, number}
 use Rattle.cdl_laws.proofs.ValueTexts.{turn}

@@ -1,13 +1,12 @@
 -- The full dump of a dataset that a text can declare means that dataset, trimmed.
 use Rattle.std.proofs.Common.{◌≡◌, ℕ, ◌<◌, ◌≤◌, true, List, [], ◌∷◌, ◌++◌, map, sym, ◌∙◌, ap, refl, subst, arith, nat_le, All, Option, Ok}
-use Rattle.cdl_laws.proofs.Prelude.{list_all, map-append, AreBytes, Dataset, Att, Dim, Header, Known, Streaming, Var, Version, Options, Ending, whole, IsText, unknown, shown, dump_text, shown_values, content_of, selection_of, IsGood, IsSoundVar, bare, bare_var, IsName, slab_count, slab_size, slab_limit, record_limit, record_vars, record_size_of, Ended, meaning, is_small, is_small_enough, dataset_of, array_of, records_in, IsFull, TextReadsBack, trimmed, trimmed_att, trimmed_var, AreDistinct, IsSayable, IsSayableVar, Draft, Listing}
+use Rattle.cdl_laws.proofs.Prelude.{list_all, map-append, AreBytes, Dataset, Att, Dim, Header, Known, Streaming, Var, Version, Options, Ending, whole, IsText, unknown, shown, dump_text, shown_values, content_of, selection_of, IsGood, IsSoundVar, bare, bare_var, IsName, slab_count, slab_size, slab_limit, record_limit, record_vars, record_size_of, Ended, meaning, is_small, is_small_enough, dataset_of, array_of, records_in, IsFull, TextReadsBack, trimmed, trimmed_att, trimmed_var, AreDistinct, IsSayable, IsSayableVar, Draft, Listing, and_both, some_count}
 use Rattle.nc_base.specs.declared.header.NumRecs.{NumRecs}
 use Rattle.nc_base.specs.Dump.{Section}
-use Rattle.cdl_laws.proofs.Bools.{and_both}
 use Rattle.cdl_laws.proofs.DataTexts.{given_draft, given_drafts}
 use Rattle.cdl_laws.proofs.Datasets.{keeps_fill, are_back, listings, stand_after, AreNewVars, all_given, arrays_back, vars_back, records_back}
 use Rattle.cdl_laws.proofs.Dumps.{text_back}
-use Rattle.cdl_laws.proofs.Limits.{slab_some, all_small, same_record}
+use Rattle.cdl_laws.proofs.Limits.{all_small, same_record}
 use Rattle.cdl_laws.proofs.Lists.{Each, each_of, each_map}
 use Rattle.cdl_laws.proofs.Sayables.{AreFresh, fresh_more, any_map, none_before, draft_name, var_name, atts_new, atts_speak, dims_new, IsSayableHead, vars_fit}
 use Rattle.cdl_laws.proofs.Wholes.{state}
@@ -71,7 +70,7 @@ ready d o s full section g is =
     let drafts = given_drafts h.vars os in
     let gatts = map trimmed_att h.gatts in
     let known : h.numrecs ≡ Known n = ap (λ (k : Header). k.numrecs) g.is_bare in
-    let slabs = each_map (IsSoundVar v h.dims) (λ (var : Var). 0 < slab_count h.dims var) h.vars (λ var x. slab_some h.dims var x.shape) sound in
+    let slabs = each_map (IsSoundVar v h.dims) (λ (var : Var). 0 < slab_count h.dims var) h.vars (λ var x. some_count h.dims var.dimids x.shape) sound in
     let count : records_in h.dims drafts ≡ n = records_back v h n o.width h.vars d.arrays backs slabs (λ none. ap number (sym known ∙ s.records none)) in
     let limits = each_map (IsSoundVar v h.dims) (λ (var : Var). slab_size h.dims var ≤ slab_limit) h.vars (λ var x. x.slab) sound in
     let vars = vars_back v h n o.width h.vars d.arrays backs in

@@ -1,6 +1,6 @@
 -- The strings of a text stand for bytes.
 use Rattle.std.proofs.Common.{◌≡◌, ℕ, zero, suc, ◌+◌, ◌-◌, ◌<◌, Bool, true, false, List, [], ◌∷◌, length, get_or, take, drop, sym, ◌∙◌, ap, refl, subst, arith, length-take, ◌&&◌, ◌==◌, nat_lt, not, if◌then◌else◌, map, Option, None, Some, is_none, is_some}
-use Rattle.cdl_laws.proofs.Prelude.{list_all, prefix_len, is_blank, goes_on_number, inner, stands, unescape, or_zero, scan, gap, token, scan_text, scan_opening, until, word_len, begins_opening, begins_a_word, begins_number, begins_comment, raw, tokens_at, tokens, with_token, token_at, Scanned, Token, TokenKind, StandsForBytes, StringsStandForBytes}
+use Rattle.cdl_laws.proofs.Prelude.{list_all, prefix_len, is_blank, goes_on_number, inner, stands, unescape, or_zero, scan, gap, token, scan_text, scan_opening, until, word_len, begins_opening, begins_a_word, begins_number, begins_comment, raw, tokens_at, tokens, with_token, token_at, Scanned, Token, TokenKind, StandsForBytes, StringsStandForBytes, inner_of}
 use Rattle.cdl_tokens.specs.Bytes.{is_mark}
 use Rattle.cdl_tokens.specs.declared.token.TokenKind.TheVariants as kinds
 use Rattle.cdl_laws.proofs.Lines.{tail_at}
@@ -65,13 +65,6 @@ take_less zero (x ∷ xs) = refl
 take_less (suc n) [] = refl
 take_less (suc n) (x ∷ xs) = ap (λ ys. x ∷ ys) (take_less n xs)
 
--- the bytes between its quotes
-string_inner : (b n : ℕ) (bytes : List ℕ) → n < length bytes → inner (take (n + 2) (b ∷ bytes)) ≡ take n bytes
-string_inner b n bytes h =
-    let len : length (take (suc n) bytes) ≡ suc n = (let e = length-take (suc n) bytes in omega (arith, e, h)) in
-    ap (λ m. inner (take m (b ∷ bytes))) (let e : n + 2 ≡ suc (suc n) = omega arith in e) ∙
-    ap (λ m. take m (take (suc n) bytes)) (let e : suc (length (take (suc n) bytes)) - 2 ≡ n = omega (arith, len) in e) ∙ take_less n bytes
-
 all_some : (os : List (Option ℕ)) → list_all is_some os ≡ true → os ≡ map Some (map or_zero os)
 all_some [] h = refl
 all_some (None ∷ os) h = cc
@@ -79,7 +72,7 @@ all_some (Some b ∷ os) h = ap (λ xs. Some b ∷ xs) (all_some os h)
 
 string_stands : (b len : ℕ) (bytes : List ℕ) → IsString bytes len → unescape (inner (take len (b ∷ bytes))) ≡ map Some (stands (inner (take len (b ∷ bytes))))
 string_stands b len bytes s =
-    let same : inner (take len (b ∷ bytes)) ≡ take s.body bytes = ap (λ n. inner (take n (b ∷ bytes))) s.past ∙ string_inner b s.body bytes s.inside in
+    let same : inner (take len (b ∷ bytes)) ≡ take s.body bytes = ap (λ n. inner (take n (b ∷ bytes))) s.past ∙ inner_of b s.body bytes s.inside in
     subst (λ xs. unescape xs ≡ map Some (stands xs)) (sym same) (all_some (unescape (take s.body bytes)) s.sound)
 
 -- ---- the tokens of a text

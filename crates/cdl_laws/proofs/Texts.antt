@@ -1,9 +1,7 @@
 -- Texts that are put together are read apart again, token by token.
 use Rattle.std.proofs.Common.{◌≡◌, ℕ, zero, suc, ◌+◌, ◌-◌, Bool, true, false, List, [], ◌∷◌, ◌++◌, length, get_or, drop, sym, ◌∙◌, ap, refl, arith, append_assoc, ◌&&◌, ◌||◌, ◌==◌, not, Option, Some, is_none}
-use Rattle.cdl_laws.proofs.Prelude.{prefix_len, list_all, false≢true, drop-append_seam, take-append_seam, is_ascii_digit, is_in_range, escaped_name, is_reserved, IsName, has_name_bytes, may_begin_name, may_follow_in_name, ends_with_space, is_beyond_ascii, is_utf8, is_digit, is_escape, goes_on_word, goes_on_number, begins_word, word_len, scan, begins_a_word, token, Lexeme, name_of, lexemes_at, with_lexeme, TokenKind}
+use Rattle.cdl_laws.proofs.Prelude.{prefix_len, list_all, false≢true, drop-append_seam, take-append_seam, is_ascii_digit, is_in_range, escaped_name, is_reserved, IsName, has_name_bytes, may_begin_name, may_follow_in_name, ends_with_space, is_beyond_ascii, is_utf8, is_digit, is_escape, goes_on_word, goes_on_number, begins_word, word_len, scan, begins_a_word, token, Lexeme, name_of, lexemes_at, with_lexeme, TokenKind, and_left, and_right, is_off, word_at_start}
 use Rattle.cdl_tokens.specs.declared.token.TokenKind.TheVariants as kinds
-use Rattle.cdl_laws.proofs.Words.{word_prefix}
-use Rattle.cdl_laws.proofs.Bools.{and_left, and_right, off}
 use Rattle.cdl_laws.proofs.NameTexts.{rest_of, marked_plain, no_escape, Begins, marked, bare, begins, name_len, name_begins, name_value, name_free}
 
 -- ---- one token, whatever follows
@@ -76,15 +74,15 @@ mark b = record { kind = kinds.Mark; bytes = b ∷ [] }
 -- ---- what stops a word or a number
 
 bare_stop : (b : ℕ) → is_stop b ≡ true → goes_on_word b ≡ false
-bare_stop b h = off (goes_on_word b) (and_left (not (goes_on_word b)) (not (b == 0x5c)) h)
+bare_stop b h = is_off (goes_on_word b) (and_left (not (goes_on_word b)) (not (b == 0x5c)) h)
 
 no_backslash : (b : ℕ) → is_stop b ≡ true → (b == 0x5c) ≡ false
-no_backslash b h = off (b == 0x5c) (and_right (not (goes_on_word b)) (not (b == 0x5c)) h)
+no_backslash b h = is_off (b == 0x5c) (and_right (not (goes_on_word b)) (not (b == 0x5c)) h)
 
 pub stop_word : (rest : List ℕ) → stops rest ≡ true → word_len rest ≡ 0
 unfolding word_len
 stop_word [] h = refl
-stop_word (b ∷ rest) h = word_prefix b rest ∙ rw (no_backslash b h) (rw (bare_stop b h) refl)
+stop_word (b ∷ rest) h = word_at_start b rest ∙ rw (no_backslash b h) (rw (bare_stop b h) refl)
 
 -- by the tests: digit, upper, lower, `_`, point, `@ + -`, beyond
 no_number : (d u l s p a c e x : Bool) → (((d || u) || l) || s || (p || a || c || e) || x) ≡ false → ((u || l) || d || s || p) ≡ false

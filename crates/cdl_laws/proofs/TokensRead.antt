@@ -1,16 +1,14 @@
 -- Names, strings and numbers are read back, each as one token.
 use Rattle.std.proofs.Common.{◌≡◌, ℕ, suc, ◌+◌, ◌^◌, ◌<◌, Bool, true, false, List, [], ◌∷◌, ◌++◌, length, get_or, take, drop, sym, ◌∙◌, ap, refl, subst, arith, append_assoc, length-append, append-nil, ℤ, pos, negsuc, unsigned_abs, decimal, ◌||◌, ◌==◌, nat_eq, codes, is_some}
-use Rattle.cdl_laws.proofs.Prelude.{signed_decimal, prefix_len, list_all, starts_with, flat_map, false≢true, eqb-true, decimal_nonempty, take-append-drop, get_or-drop, list_all-append, bytes_eq-Decides, take-append_seam, NcType, escaped_name, escaped_text, escaped_in_string, is_reserved, IsName, may_begin_name, may_follow_in_name, IsInRange, number_suffix, within, is_digit, is_blank, goes_on_word, goes_on_number, inner, unescape, word_len, until, scan, token, begins_opening, begins_a_word, begins_number, Word, Text, stands_for, AreToken, BlanksAndMarksStop, StopsWord, NameReadsBack, NamesReadBack, quoted, StringsReadBack, StopsNumber, ConstantsReadBack, ValuesReadBack}
+use Rattle.cdl_laws.proofs.Prelude.{signed_decimal, prefix_len, list_all, starts_with, flat_map, false≢true, eqb-true, decimal_nonempty, take-append-drop, get_or-drop, list_all-append, bytes_eq-Decides, take-append_seam, NcType, escaped_name, escaped_text, escaped_in_string, is_reserved, IsName, may_begin_name, may_follow_in_name, IsInRange, number_suffix, within, is_digit, is_blank, goes_on_word, goes_on_number, inner, unescape, word_len, until, scan, token, begins_opening, begins_a_word, begins_number, Word, Text, stands_for, AreToken, BlanksAndMarksStop, StopsWord, NameReadsBack, NamesReadBack, quoted, StringsReadBack, StopsNumber, ConstantsReadBack, ValuesReadBack, and_left, and_right, and_both, word_at_start, and_false}
 use Rattle.cdl_tokens.specs.Bytes.{is_mark}
 use Rattle.cdl_tokens.specs.declared.token.TokenKind.TheVariants.{Number}
-use Rattle.cdl_laws.proofs.Attributes.{all_small}
-use Rattle.cdl_laws.proofs.Bools.{and_left, and_right, and_both}
+use Rattle.cdl_laws.proofs.Attributes.{all_small, small_is}
 use Rattle.cdl_laws.proofs.Heads.{no_section}
 use Rattle.cdl_laws.proofs.NameTexts.{begins, name_len, name_begins, name_value, name_free}
 use Rattle.cdl_laws.proofs.Numerals.{decimal_digits, goes_on, on_suffix, numeral_again, value_again}
 use Rattle.cdl_laws.proofs.Strings.{is_string, until_all, unescape_all, text_len, between_quotes}
 use Rattle.cdl_laws.proofs.Texts.{all_on, digit_no_word, digit_no_escape, name_word, some_name}
-use Rattle.cdl_laws.proofs.Words.{word_prefix, and_false}
 
 -- ---- what begins with a word or a number
 
@@ -91,16 +89,16 @@ blanks_and_marks_stop b rest h =
 stop_word : (rest : List ℕ) → StopsWord rest → word_len rest ≡ 0
 unfolding word_len
 stop_word [] stop = refl
-stop_word (b ∷ rest) stop = word_prefix b rest ∙ rw (stop.escape) (rw (stop.byte) refl)
+stop_word (b ∷ rest) stop = word_at_start b rest ∙ rw (stop.escape) (rw (stop.byte) refl)
 
 ends_word : (bs : List ℕ) → (is_blank (get_or bs 0 0) || get_or bs 0 0 == 0x7b) ≡ true → word_len bs ≡ 0
 unfolding word_len
 ends_word [] h = refl
-ends_word (b ∷ bs) h = word_prefix b bs ∙ rw ((opens_stop b h).slash) (rw ((opens_stop b h).word) refl)
+ends_word (b ∷ bs) h = word_at_start b bs ∙ rw ((opens_stop b h).slash) (rw ((opens_stop b h).word) refl)
 
 six_letters : (bs : List ℕ) → word_len (codes "netcdf" ++ bs) ≡ 6 + word_len bs
 unfolding word_len
-six_letters bs = ap (λ n. 1 + (1 + (1 + (1 + (1 + n))))) (word_prefix 102 bs) ∙ omega arith
+six_letters bs = ap (λ n. 1 + (1 + (1 + (1 + (1 + n))))) (word_at_start 102 bs) ∙ omega arith
 
 -- the word that an opening begins with is `netcdf`
 opening_len : (bs : List ℕ) → begins_opening bs ≡ true → word_len bs ≡ 6
@@ -208,17 +206,14 @@ number_token : (n : ℤ) (suf rest : List ℕ) → unsigned_abs n < 2 ^ 64 → l
 number_token (pos n) suf rest h k stop = unsigned_token (decimal n) suf rest (decimal_digits n) (decimal_nonempty n h) k stop
 number_token (negsuc n) suf rest h k stop = signed_token (decimal (suc n)) suf rest (decimal_digits (suc n)) (decimal_nonempty (suc n) h) k stop
 
-small : (ty : NcType) (n : ℤ) → IsInRange ty n → unsigned_abs n < 2 ^ 64
-small ty n range = (all_small ty (n ∷ []) (range, tt)).0
-
 pub constants_read_back : ConstantsReadBack
 constants_read_back v ty n other known range = record {
-  token = λ rest stop. number_token n (number_suffix ty) rest (small ty n range) (on_suffix ty) stop;
-  value = numeral_again v ty n (small ty n range) known other;
+  token = λ rest stop. number_token n (number_suffix ty) rest (small_is ty n range) (on_suffix ty) stop;
+  value = numeral_again v ty n (small_is ty n range) known other;
 }
 
 pub values_read_back : ValuesReadBack
 values_read_back v ty n other known range = record {
-  token = λ rest stop. subst (λ bytes. AreToken Number bytes rest) (append-nil (signed_decimal n)) (number_token n [] rest (small ty n range) refl stop);
-  value = value_again v n (small ty n range);
+  token = λ rest stop. subst (λ bytes. AreToken Number bytes rest) (append-nil (signed_decimal n)) (number_token n [] rest (small_is ty n range) refl stop);
+  value = value_again v n (small_is ty n range);
 }

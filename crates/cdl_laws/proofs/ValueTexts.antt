@@ -1,10 +1,8 @@
 -- The listed numbers of a variable are read back, wherever the breaks are.
 use Rattle.std.proofs.Common.{◌≡◌, ℕ, ◌+◌, ◌^◌, ◌<◌, ◌≤◌, Bool, true, false, List, [], ◌∷◌, ◌++◌, length, map, sym, ◌∙◌, ap, refl, subst, arith, append_assoc, append-nil, length-append, ℤ, unsigned_abs, ◌&&◌, ◌||◌, ◌==◌, not, if◌then◌else◌, nat_lt, Some, Result, Ok, codes}
-use Rattle.cdl_laws.proofs.Prelude.{signed_decimal, flat_map, list_all, int_eq, mod-eq_of_lt, zero-mod, false≢true, Decides-int_eq, concat_parts, escaped_name, Int, Version, IsName, Look, is_char, number_text, number_lead, line_break, begins_row, column, number_piece, piece, pieces, opening, closing, variable_prefix, variable_text, CdlKind, Lexeme, is_mark, lexemes_at, scan, Value, Number, Underscore, members_in, members, each, both, constant, constants, Capacity, Numbers, add_number, fits, in_turn, listing_of}
+use Rattle.cdl_laws.proofs.Prelude.{signed_decimal, flat_map, list_all, int_eq, mod-eq_of_lt, zero-mod, false≢true, Decides-int_eq, concat_parts, escaped_name, Int, Version, IsName, Look, is_char, number_text, number_lead, line_break, begins_row, column, number_piece, piece, pieces, opening, closing, variable_prefix, variable_text, CdlKind, Lexeme, is_mark, lexemes_at, scan, Value, Number, Underscore, members_in, members, each, both, constant, constants, Capacity, Numbers, add_number, fits, in_turn, listing_of, and_left, and_right, and_both, is_off, word_at_start, lt-ltb}
 use Rattle.cdl_meaning.specs.State.{◌>>=◌}
-use Rattle.cdl_laws.proofs.Bools.{and_left, and_right, and_both, off}
 use Rattle.cdl_laws.proofs.Lists.{Each}
-use Rattle.cdl_laws.proofs.Words.{word_prefix}
 use Rattle.cdl_laws.proofs.Texts.{Closed, Reads, Stops, closed_both, then_reads, closed_by, reads_both, closed_nothing, mark, word, number, name_word, word_reads, stop_word}
 use Rattle.cdl_laws.proofs.Numerals.{number_reads, value_again}
 
@@ -27,13 +25,13 @@ is_member l = not (is_mark 0x2c l) && not (is_mark 0x28 l)
 
 pub members_last : (l : Lexeme) → is_member l ≡ true → members (l ∷ []) ≡ (l ∷ []) ∷ []
 members_last l h =
-    let p : is_mark 0x2c l ≡ false = off (is_mark 0x2c l) (and_left (not (is_mark 0x2c l)) (not (is_mark 0x28 l)) h) in
+    let p : is_mark 0x2c l ≡ false = is_off (is_mark 0x2c l) (and_left (not (is_mark 0x2c l)) (not (is_mark 0x28 l)) h) in
     rw (members_in, p) refl
 
 pub members_more : (l : Lexeme) (ls : List Lexeme) → is_member l ≡ true → members (l ∷ comma ∷ ls) ≡ (l ∷ []) ∷ members ls
 members_more l ls h =
-    let p : is_mark 0x2c l ≡ false = off (is_mark 0x2c l) (and_left (not (is_mark 0x2c l)) (not (is_mark 0x28 l)) h) in
-    let q : is_mark 0x28 l ≡ false = off (is_mark 0x28 l) (and_right (not (is_mark 0x2c l)) (not (is_mark 0x28 l)) h) in
+    let p : is_mark 0x2c l ≡ false = is_off (is_mark 0x2c l) (and_left (not (is_mark 0x2c l)) (not (is_mark 0x28 l)) h) in
+    let q : is_mark 0x28 l ≡ false = is_off (is_mark 0x28 l) (and_right (not (is_mark 0x2c l)) (not (is_mark 0x28 l)) h) in
     rw (members_in, p) (rw (q) (ap (λ b. (l ∷ []) ∷ members_in (b || false) ls) q))
 
 pub members_all : (l : Lexeme) (ls : List Lexeme) → list_all is_member (l ∷ ls) ≡ true → members (l ∷ commas ls) ≡ map (λ m. m ∷ []) (l ∷ ls)
@@ -60,7 +58,7 @@ abbrev pub value_said : Look → ℤ → Value
 value_said look x = if is_fill_value look x then Underscore else Number (record { value = x; ty = Int })
 
 blank_reads : Reads (codes "_") (word (codes "_") ∷ [])
-blank_reads = word_reads 95 [] (λ rest. refl) (λ rest stop. word_prefix 95 rest ∙ ap (λ n. 1 + n) (stop_word rest stop))
+blank_reads = word_reads 95 [] (λ rest. refl) (λ rest stop. word_at_start 95 rest ∙ ap (λ n. 1 + n) (stop_word rest stop))
 
 text_reads : (look : Look) (x : ℤ) → unsigned_abs x < 2 ^ 64 → Reads (number_text look x) (value_lexeme look x ∷ [])
 text_reads look x h =
@@ -255,12 +253,9 @@ values_said v look x xs fit =
 
 -- ---- what becomes of them
 
-lt_true : (m n : ℕ) → m < n → nat_lt m n ≡ true
-lt_true m n h = grind (arith, h)
-
 pub room_for : (is_open : Bool) (m n : ℕ) → (is_open ≡ false → m < n) → (is_open || nat_lt m n) ≡ true
 room_for true m n h = refl
-room_for false m n h = lt_true m n (h refl)
+room_for false m n h = lt-ltb m n (h refl)
 
 one_added : (look : Look) (capacity : Capacity) (before : List ℤ) (x : ℤ) → capacity.fill ≡ look.fill → (capacity.is_open ≡ false → length before < capacity.count) → fits capacity.ty x ≡ true →
     add_number capacity before (value_said look x) ≡ Ok (before ++ x ∷ [])

@@ -1,6 +1,6 @@
 -- The head of a dump, statement after statement.
 use Rattle.std.proofs.Common.{◌≡◌, ℕ, zero, suc, ◌^◌, ◌<◌, true, false, List, [], ◌∷◌, ◌++◌, length, map, sym, ◌∙◌, ap, refl, subst, arith, append_assoc, append-nil, ◌==◌, None, Some, Ok, codes}
-use Rattle.cdl_laws.proofs.Prelude.{list_any, bytes_eq, concat_parts, Att, Dim, Var, NcType, Version, escaped_name, AreDimids, joined, dim_line, att_line, att_lines, att_values, var_lines, shape_text, dim_name, IsName, type_word, count_limit, has_type, Section, Dimensions, Variables, trimmed_att, trimmed_var, Value, Declared, Typed, Attribute, State, Draft, act, add_dim, add_att, add_constant, first_type, add_var, with_att, in_turn, said_dim, IsBeforeData}
+use Rattle.cdl_laws.proofs.Prelude.{list_any, bytes_eq, concat_parts, Att, Dim, Var, NcType, Version, escaped_name, AreDimids, joined, dim_line, att_line, att_lines, att_values, var_lines, shape_text, dim_name, IsName, type_word, count_limit, has_type, Section, Dimensions, Variables, trimmed_att, trimmed_var, Value, Declared, Typed, Attribute, State, Draft, act, add_dim, add_att, add_constant, first_type, add_var, with_att, in_turn, said_dim, IsBeforeData, not_none}
 use Rattle.cdl_meaning.specs.State.{◌>>=◌}
 use Rattle.cdl_laws.proofs.Lists.{Each}
 use Rattle.cdl_laws.proofs.Texts.{word}
@@ -143,9 +143,6 @@ known_name (d ∷ dims) (suc k) h = known_name dims k (omega (arith, h))
 known_names : (dims : List Dim) (before ids : List ℕ) → AreDimids dims before ids → map (dim_name dims) ids ≡ map escaped_name (map (name_at dims) ids)
 known_names dims before [] are = refl
 known_names dims before (k ∷ ids) are = ap (λ n. n ∷ map (dim_name dims) ids) (known_name dims k are.0.known) ∙ ap (λ ns. escaped_name (name_at dims k) ∷ ns) (known_names dims (before ++ k ∷ []) ids are.1)
-
-pub not_none : (n : ℕ) → (suc n == 0) ≡ false
-not_none n = grind arith
 
 pub shape_is : (dims : List Dim) (ids : List ℕ) → AreDimids dims [] ids → shape_text dims ids ≡ shape_of (map (name_at dims) ids)
 unfolding shape_text shape_of

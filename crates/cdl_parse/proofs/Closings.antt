@@ -2,6 +2,7 @@
 use Rattle.std.proofs.Common.{◌≡◌, ℕ, ◌<◌, true, false, List, [], ◌∷◌, length, map, refl, sym, ap, arith}
 use Rattle.cdl_parse.proofs.Prelude.{after, first_line, first_piece, is_done, next_token, other_pieces, pieces_left, text_of, words, Lexeme, lexeme, pieces_after, Cutter, Token, closing_line, line_of}
 use Rattle.cdl_parse.proofs.StatementWords.{begins}
+use Rattle.cdl_parse.proofs.Runs.{line_is}
 
 -- after two pieces with these lines
 abbrev pub closing_from : ℕ → ℕ → List (List Token) → ℕ
@@ -14,14 +15,10 @@ from_start (p ∷ []) = refl
 from_start (p ∷ q ∷ []) = refl
 from_start (p ∷ q ∷ r ∷ ps) = from_start (q ∷ r ∷ ps)
 
-first_is : (p : List Token) (ps : List (List Token)) → first_line (p ∷ ps) ≡ line_of p
-first_is [] ps = refl
-first_is (t ∷ ts) ps = refl
-
 of_pieces : (text : List ℕ) (before last : ℕ) (all : List (List Token)) (l : Lexeme) (ls : List Lexeme) → map (lexeme text) (first_piece all) ≡ l ∷ ls →
     (closing_from before last all ≡ closing_from last (first_line all) (other_pieces all)) × (length (other_pieces all) < length all)
 of_pieces text before last [] l ls is = cc
-of_pieces text before last (p ∷ ps) l ls is = (ap (λ n. closing_from last n ps) (sym (first_is p ps)), omega arith)
+of_pieces text before last (p ∷ ps) l ls is = (ap (λ n. closing_from last n ps) (sym (line_is p ps)), omega arith)
 
 -- one piece on
 pub closing_on : (before last : ℕ) (c : Cutter) → is_done c ≡ false → closing_from before last (pieces_left c) ≡ closing_from last (first_line (pieces_left c)) (after c)

@@ -19,12 +19,6 @@ said_mark : (parens : Bool) (l : Lexeme) (ls : List Lexeme) → is_mark_kind l.k
 unfolding declaration_said
 said_mark parens l ls on = ap (λ b. if b then declaration_said (is_mark 0x28 l || parens && not (is_mark 0x29 l)) ls else with_name parens (word_value l.bytes) (declaration_said parens ls)) on
 
-pub refused : {A B : Type 0} (after : B → Result A CdlKind) (r : Result B ReadError) (e : ReadError) (read : Result A CdlKind) → r ≡ Err e → FailsRead e read → ContinuesRead after r read
-refused after (Ok b) e read is h = cc
-refused after (Err OutOfMemory) e read is h = tt
-refused after (Err (Fault k)) OutOfMemory read is h = cc
-refused after (Err (Fault k)) (Fault m) read is h = h ∙ ap Err (let same : m ≡ k = cc in same)
-
 -- ---- a new variable
 
 module _ (dims : List Dim) (ty : NcType) (drafts : List Draft) where

@@ -1,6 +1,6 @@
 -- What a text declares is the dataset that it means.
 use Rattle.std.proofs.Common.{◌≡◌, ℕ, ◌-◌, ◌*◌, subst, Bool, true, false, List, [], ◌∷◌, ◌++◌, length, map, refl, sym, ap, ◌∙◌, replicate, ◌&&◌, if◌then◌else◌, nat_le, Option, None, Some, Ok, is_some}
-use Rattle.cdl_parse.proofs.Prelude.{filter, list_all, Att, Dim, Header, Known, Var, Version, fill_value, value_count, bytes_of_number, checked_record_size, has_small_slab, record_limit, record_size, array_limit, is_record_var, array_of, dataset_of, finished, header_of, is_small, is_small_enough, records_in, values_of, AllList, AreShaped, records_kept, fills, whole_array, whole_arrays, Draft, State, dataset_of_declared, or_too_large, Declared}
+use Rattle.cdl_parse.proofs.Prelude.{filter, list_all, Att, Dim, Header, Known, Var, Version, fill_value, value_count, bytes_of_number, checked_record_size, has_small_slab, record_limit, record_size, array_limit, is_record_var, array_of, dataset_of, finished, header_of, is_small, is_small_enough, records_in, values_of, AllList, AreShaped, records_kept, fills, whole_array, whole_arrays, Draft, State, dataset_of_declared, or_too_large, Declared, and_left}
 use Rattle.std.proofs.lemmas.Grind.{flat_map-append}
 use Rattle.cdl_parse.proofs.SizeLimits.{all_are, all_small, has_small, listed_count, listed_of, var_of, widest_in}
 
@@ -18,10 +18,6 @@ kept_all p q (x ∷ xs) h = by (p x) (q x) (kept_all p q xs) refl h
 of_vars : (dims : List Dim) (drafts : List Draft) → list_all (has_small_slab dims) (map var_of drafts) ≡ list_all (has_small dims) drafts
 of_vars dims [] = refl
 of_vars dims (d ∷ drafts) = ap (λ b. has_small dims d && b) (of_vars dims drafts)
-
-and_left : (a b : Bool) → (a && b) ≡ true → a ≡ true
-and_left true b h = refl
-and_left false b h = cc
 
 -- where the arrays keep their limits, the record's limit decides
 pub record_checked : (v : Version) (s : State) → list_all (is_small s.dims (records_in s.dims s.drafts)) s.drafts ≡ true →

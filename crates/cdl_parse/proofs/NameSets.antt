@@ -4,17 +4,10 @@ use Rattle.std.specs.BTreeSet as tree
 use Rattle.std.specs.BTreeSet.{BTreeSet}
 use Rattle.std.specs.Set as set
 use Rattle.std.specs.Map.{IsKeyTest, AreApart}
-use Rattle.cdl_parse.proofs.Prelude.{list_any, is_eq, nat_cmp, bytes_eq, cases_Bool, cond-true, cond-false, Att, contains_name, has_attribute, HasNames}
+use Rattle.cdl_parse.proofs.Prelude.{list_any, is_eq, nat_cmp, bytes_eq, cases_Bool, cond-true, cond-false, Att, contains_name, has_attribute, HasNames, apart, apart_in_order}
 use Rattle.std.specs.Cmp.{eq_by_cmp_equiv}
 use Rattle.std.specs.Cmp.Lexicographic.{slice_cmp, bytes_decides, nat_list_cmp_total, nat_list_eq_equiv}
 use Rattle.std.proofs.lemmas.Map.Text.{is_eq-slice_cmp}
-
--- a key that the new name is not is as before
-apart : (bs cs ks : List ℕ) → bytes_eq bs cs ≡ false → bytes_eq bs ks ≡ true → bytes_eq cs ks ≡ false
-apart bs cs ks n y = nat_list_eq_equiv.symm cs ks ∙ sym (nat_list_eq_equiv.congr bs ks cs y) ∙ n
-
-apart_in_order : (bs cs ks : List ℕ) → bytes_eq bs cs ≡ false → is_eq (slice_cmp nat_cmp bs ks) ≡ true → is_eq (slice_cmp nat_cmp cs ks) ≡ false
-apart_in_order bs cs ks n y = is_eq-slice_cmp cs ks ∙ apart bs cs ks n (sym (is_eq-slice_cmp bs ks) ∙ y)
 
 module _ {K : Type 0} (eq : K → K → Bool) (test : K → Bool) where
   other_keys : (old new : List K) → set.KeepsOthers eq test old new → (other : K → Bool) → IsKeyTest eq other → AreApart test other → list_any other new ≡ list_any other old

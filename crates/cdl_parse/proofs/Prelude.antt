@@ -67,7 +67,7 @@ pub use Rattle.nc_base.specs.declared.header.NumRecs.TheVariants.{Known}
 pub use Rattle.nc_base.specs.declared.header.Var.{Var}
 pub use Rattle.nc_base.specs.declared.nc_type.NcType.{NcType}
 pub use Rattle.nc_base.specs.declared.version.Version.{Version}
-pub use Rattle.std.proofs.lemmas.Bool.{cases_Bool, cond-false, cond-true, false≢true}
+pub use Rattle.std.proofs.lemmas.Bool.{cases_Bool, cond-false, cond-true, false≢true, le-leb}
 pub use Rattle.std.proofs.lemmas.List.{append-nil, get_or_append_left, length-append, length-map, map-append, set-get_or}
 pub use Rattle.std.proofs.lemmas.List.Elements.{All-cons, All-head, All-nil, All-push, All-tail}
 pub use Rattle.std.specs.List.{concat, filter, flat_map, list_all, list_any, position, position_from, position_or_len}
@@ -75,3 +75,8 @@ pub use Rattle.std.specs.Ordering.{int_eq, is_eq, nat_cmp}
 pub use Rattle.std.specs.Str.{bytes_eq}
 pub use Rattle.std.specs.Vec.Iter.{into_iter_items}
 pub use Rattle.std.specs.declared.alloc.AllocError.{AllocError}
+pub use Rattle.nc_base.proofs.Tests.{and_left, none_before}
+pub use Rattle.nc_base.proofs.SoundLaws.{some_count, some_product}
+pub use Rattle.cdl_values.proofs.NamePositions.{apart, apart_in_order}
+pub use Rattle.cdl_values.proofs.AllowedNames.{stopped}
+pub use Rattle.nc_base.proofs.FilePlaces.{length-numbers}

@@ -3,7 +3,7 @@ use Rattle.std.proofs.Common.{◌≡◌, ℕ, true, false, List, [], ◌∷◌, 
 use Rattle.cdl_parse.proofs.Prelude.{Version, after, first_line, first_piece, is_done, other_pieces, next_token, pieces_left, text_of, words, Lexeme, lexeme, pieces_after, Cutter, CdlKind, Token, line_of, piece_read, run, State, FailsRead, ReadError, OutOfMemory, Fault, FailsAt, at_line, run_after}
 use Rattle.cdl_parse.proofs.StatementWords.{begins}
 
-line_is : (p : List Token) (ps : List (List Token)) → first_line (p ∷ ps) ≡ line_of p
+pub line_is : (p : List Token) (ps : List (List Token)) → first_line (p ∷ ps) ≡ line_of p
 line_is [] ps = refl
 line_is (t ∷ ts) ps = refl
 

@@ -1,6 +1,6 @@
 -- The statements of the section of the variables keep the variables' shapes.
 use Rattle.std.proofs.Common.{◌≡◌, ℕ, suc, ◌<◌, Bool, true, false, List, [], ◌∷◌, ◌++◌, length, refl, sym, ap, ◌∙◌, subst, append_assoc, append-nil, arith, IsTrue, Option, None, Some, Result, Ok, Err, IfOk, IfSome, ◌&&◌, nat_lt, if◌then◌else◌}
-use Rattle.cdl_parse.proofs.Prelude.{false≢true, All-cons, All-nil, All-push, position, position_or_len, bytes_eq, AreDimids, IsDimid, is_name, is_record_dim, Att, Dim, NcType, Value, CdlKind, BadName, BadShape, DuplicateName, UnknownDimension, Draft, add_att, add_dimid, add_var, at_named, at_variable, found, in_turn, unless, when, with_att, AreShaped, draft, is_variable_name}
+use Rattle.cdl_parse.proofs.Prelude.{false≢true, All-cons, All-nil, All-push, position, position_or_len, bytes_eq, AreDimids, IsDimid, is_name, is_record_dim, Att, Dim, NcType, Value, CdlKind, BadName, BadShape, DuplicateName, UnknownDimension, Draft, add_att, add_dimid, add_var, at_named, at_variable, found, in_turn, unless, when, with_att, AreShaped, draft, is_variable_name, none_before}
 use Rattle.std.specs.Prelude.{⊤}
 use Rattle.cdl_statements.specs.Shapes.{Variable}
 use Rattle.cdl_meaning.specs.State.{◌>>=◌}
@@ -43,11 +43,6 @@ position_under p xs =
     let k = position_or_len p xs in
     elim (nat_lt k (length xs)) as (λ b. nat_lt k (length xs) ≡ b → IfSome (if b then Some k else None) (λ j. j < length xs)) [ true ↦ (λ e. grind (arith, e)) | false ↦ (λ e. tt) ] refl
 
-first_alone : (ids : List ℕ) (b : Bool) → (nat_lt 0 (length ids) && b) ≡ false → IsTrue b → ids ≡ []
-first_alone [] b h t = refl
-first_alone (i ∷ ids) true h t = absurd (false≢true (sym h ∙ let e : nat_lt 0 (length (i ∷ ids)) ≡ true = grind arith in ap (λ w. w && true) e))
-first_alone (i ∷ ids) false h t = cc
-
 id_step : (dims : List Dim) (ids name : List ℕ) → AreDimids dims [] ids → IfOk (add_dimid dims ids name) (AreDimids dims [])
 unfolding add_dimid
 id_step dims ids name are =
@@ -56,7 +51,7 @@ id_step dims ids name are =
     ok_unless (AreDimids dims []) (is_name name) BadName (λ w. found (position p dims) UnknownDimension >>= last)
     (ok_found (λ k. k < length dims) (AreDimids dims []) (position p dims) UnknownDimension last (position_under p dims) (λ k known.
     ok_when (AreDimids dims []) (nat_lt 0 (length ids) && is_record_dim dims k) BadShape (λ w. Ok (ids ++ k ∷ [])) (λ e.
-    dimids_more dims [] ids k are (record { known = known; record_first = first_alone ids (is_record_dim dims k) e }))))
+    dimids_more dims [] ids k are (record { known = known; record_first = none_before ids (is_record_dim dims k) e }))))
 
 -- ---- declarations
 

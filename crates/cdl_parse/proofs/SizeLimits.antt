@@ -1,52 +1,12 @@
 -- What is listed keeps its limits where its slabs, its records and the header do.
 use Rattle.std.proofs.Common.{◌≡◌, ℕ, zero, suc, ◌+◌, ◌*◌, ◌/◌, ◌<◌, ◌≤◌, ℤ, Bool, true, false, List, [], ◌∷◌, ◌++◌, length, length-append, map, refl, sym, ap, ◌∙◌, arith, subst, All, ◌&&◌, ◌==◌, if◌then◌else◌, max, nat_le, nat_lt, Option, None, Some}
-use Rattle.cdl_parse.proofs.Prelude.{flat_map, list_all, All-cons, All-head, All-nil, All-tail, Dim, Var, NcType, AreDimids, IsDimid, bytes_of_number, is_record_var, is_record_dim, slab_count, slab_lens, slab_size, slab_limit, array_limit, product, dim_len, is_small, records_in, values_of, Draft, AllList, AreShaped, records_for, records_kept, records_within, with_all, Extent}
+use Rattle.cdl_parse.proofs.Prelude.{flat_map, list_all, All-cons, All-head, All-nil, All-tail, Dim, Var, NcType, AreDimids, IsDimid, bytes_of_number, is_record_var, is_record_dim, slab_count, slab_lens, slab_size, slab_limit, array_limit, product, dim_len, is_small, records_in, values_of, Draft, AllList, AreShaped, records_for, records_kept, records_within, with_all, Extent, le-leb, some_count, some_product, length-numbers}
 use Rattle.std.proofs.Math.Nat.{mul-div_cancel, mul-le-mul_left, mul_comm, mul_right_comm}
 use Rattle.nc_base.specs.Types.{size_of}
 use Rattle.nc_base.proofs.FilePlaces.{length-number}
 use Rattle.nc_base.proofs.SoundLaws.{some_size}
 
 -- ---- a slab has a value
-
-fixed_len : (known : Bool) (len : ℕ) → known ≡ true → (known && (len == 0)) ≡ false → 0 < len
-fixed_len true len k h = grind (arith, h)
-fixed_len false len k h = cc
-
-known_true : (m n : ℕ) → m < n → nat_lt m n ≡ true
-known_true m n h = grind (arith, h)
-
-pub times : (a b : ℕ) → 0 < a → 0 < b → 0 < a * b
-times (suc a) (suc b) h k = let e : suc a * suc b ≡ a * suc b + suc b = grind arith in omega (arith, e)
-times zero b h k = absurd (omega (arith, h))
-times (suc a) zero h k = absurd (omega (arith, k))
-
-no_record : (dims : List Dim) (before : List ℕ) (k : ℕ) → IsDimid dims before k → 0 < length before → is_record_dim dims k ≡ false
-no_record dims before k is some =
-    elim (is_record_dim dims k) as (λ b. is_record_dim dims k ≡ b → b ≡ false) [
-      | true ↦ (λ e. absurd (let z : length before ≡ 0 = ap (λ (bs : List ℕ). length bs) (is.record_first e) in omega (arith, z, some)))
-      | false ↦ (λ e. refl)
-    ] refl
-
-later_some : (dims : List Dim) (before ids : List ℕ) → AreDimids dims before ids → 0 < length before → 0 < product (map (dim_len dims) ids)
-later_some dims before [] are some = omega arith
-later_some dims before (k ∷ ids) are some =
-    times (dim_len dims k) (product (map (dim_len dims) ids)) (fixed_len (nat_lt k (length dims)) (dim_len dims k) (known_true k (length dims) are.0.known) (no_record dims before k are.0 some))
-    (later_some dims (before ++ k ∷ []) ids are.1 (more before k))
-  where
-    more : (before : List ℕ) (k : ℕ) → 0 < length (before ++ k ∷ [])
-    more [] k = omega arith
-    more (b ∷ before) k = omega arith
-
-pub slab_some : (dims : List Dim) (var : Var) → AreDimids dims [] var.dimids → 0 < slab_count dims var
-slab_some dims var are = of_ids var.dimids are
-  where
-    of_ids : (ids : List ℕ) → AreDimids dims [] ids → 0 < product (slab_lens dims ids)
-    of_ids [] are = omega arith
-    of_ids (k ∷ ids) are =
-        elim (is_record_dim dims k) as (λ b. is_record_dim dims k ≡ b → 0 < product (map (dim_len dims) (if b then ids else k ∷ ids))) [
-          | true ↦ (λ e. later_some dims (k ∷ []) ids are.1 (omega arith))
-          | false ↦ (λ e. times (dim_len dims k) (product (map (dim_len dims) ids)) (fixed_len (nat_lt k (length dims)) (dim_len dims k) (known_true k (length dims) are.0.known) e) (later_some dims (k ∷ []) ids are.1 (omega arith)))
-        ] refl
 
 -- ---- what is listed, as bytes
 
@@ -76,17 +36,8 @@ one-each dims (var ∷ vars) [] drafts h = absurd h
 one-each dims (var ∷ vars) (array ∷ arrays) [] h = absurd h
 one-each dims (var ∷ vars) (array ∷ arrays) (d ∷ drafts) h = ap suc (one-each dims vars arrays drafts h.1)
 
-pub bytes_length : (ty : NcType) (values : List ℤ) → length (flat_map (bytes_of_number ty) values) ≡ length values * size_of ty
-bytes_length ty [] = let e : 0 ≡ 0 * size_of ty = omega arith in e
-bytes_length ty (x ∷ values) =
-    let here = length-number ty x in
-    let rest = bytes_length ty values in
-    let all = length-append (bytes_of_number ty x) (flat_map (bytes_of_number ty) values) in
-    let e : suc (length values) * size_of ty ≡ size_of ty + length values * size_of ty = grind arith in
-    omega (arith, here, rest, all, e)
-
 pub listed_count : (dims : List Dim) (d : Draft) → length (listed_of dims d) / size_of d.var.ty ≡ length (values_of dims d)
-listed_count dims d = ap (λ n. n / size_of d.var.ty) (bytes_length d.var.ty (values_of dims d)) ∙ mul-div_cancel (length (values_of dims d)) (some_size d.var.ty)
+listed_count dims d = ap (λ n. n / size_of d.var.ty) (length-numbers d.var.ty (values_of dims d)) ∙ mul-div_cancel (length (values_of dims d)) (some_size d.var.ty)
 
 -- ---- over all variables
 
@@ -146,9 +97,6 @@ with_all_is dims (d ∷ drafts) e =
 
 -- ---- the arrays over n records
 
-le_true : (m n : ℕ) → m ≤ n → nat_le m n ≡ true
-le_true m n h = grind (arith, h)
-
 le_both : (a b n : ℕ) → a ≤ b → nat_le b n ≡ (nat_le a n && nat_le b n)
 le_both a b n h = grind (arith, h)
 
@@ -156,7 +104,7 @@ le_either : (a b n : ℕ) → b ≤ a → nat_le a n ≡ (nat_le a n && nat_le b
 le_either a b n h = grind (arith, h)
 
 none_wide : (n : ℕ) → nat_le (n * 0) array_limit ≡ true
-none_wide n = le_true (n * 0) array_limit (omega arith)
+none_wide n = le-leb (n * 0) array_limit (omega arith)
 
 le_max : (n a b m : ℕ) → nat_le (n * max a b) m ≡ (nat_le (n * a) m && nat_le (n * b) m)
 le_max n a b m = by (nat_le a b) refl
@@ -212,7 +160,7 @@ some_wide dims (d ∷ drafts) shaped some =
     by (is_record_var dims d.var) (some_wide dims drafts (All-tail (λ (e : Draft). AreDimids dims [] e.var.dimids) d drafts shaped)) some
   where
     slab : 0 < slab_size dims d.var
-    slab = times (slab_count dims d.var) (size_of d.var.ty) (slab_some dims d.var (All-head (λ (e : Draft). AreDimids dims [] e.var.dimids) d drafts shaped)) (some_size d.var.ty)
+    slab = some_product (slab_count dims d.var) (size_of d.var.ty) (some_count dims d.var.dimids (All-head (λ (e : Draft). AreDimids dims [] e.var.dimids) d drafts shaped)) (some_size d.var.ty)
 
     by : (growing : Bool) → (0 < records_in dims drafts → 0 < widest_in dims drafts) → 0 < max (if growing then records_for (slab_count dims d.var) (length (values_of dims d)) else 0) (records_in dims drafts) →
         0 < max (if growing then slab_size dims d.var else 0) (widest_in dims drafts)
@@ -289,5 +237,5 @@ each_some dims (var ∷ vars) [] drafts lists shaped = absurd lists
 each_some dims (var ∷ vars) (array ∷ arrays) [] lists shaped = absurd lists
 each_some dims (var ∷ vars) (array ∷ arrays) (d ∷ drafts) lists shaped =
     All-cons (λ (w : Var). 0 < slab_count dims w) var vars
-    (subst (λ (w : Var). 0 < slab_count dims w) lists.0.is (slab_some dims d.var (All-head (λ (e : Draft). AreDimids dims [] e.var.dimids) d drafts shaped)))
+    (subst (λ (w : Var). 0 < slab_count dims w) lists.0.is (some_count dims d.var.dimids (All-head (λ (e : Draft). AreDimids dims [] e.var.dimids) d drafts shaped)))
     (each_some dims vars arrays drafts lists.1 (All-tail (λ (e : Draft). AreDimids dims [] e.var.dimids) d drafts shaped))

@@ -1,14 +1,14 @@
 -- Numbers that are printed a few at a time.
 use Rattle.std.proofs.Common.{◌≡◌, ℕ, ℤ, zero, suc, ◌+◌, ◌*◌, ◌/◌, ◌<◌, ◌≤◌, min, ⊎_elim, List, [], ◌∷◌, ◌++◌, length, take, drop, sym, ◌∙◌, ap, arith, length-take, append-nil}
-use Rattle.cdl_print.proofs.Prelude.{take-take, drop-take, drop-drop, take_all, length-drop, div-mul-le_self, le_of_mul-le-mul_right, mul-le-mul_right, mul-div_cancel, cases_lt, number_of, numbers, size_of, NcType}
-use Rattle.cdl_print.proofs.Joined.{numbers-cons, numbers-none, size_some}
+use Rattle.cdl_print.proofs.Prelude.{take-take, drop-take, drop-drop, take_all, length-drop, div-mul-le_self, le_of_mul-le-mul_right, mul-le-mul_right, mul-div_cancel, cases_lt, number_of, numbers, size_of, NcType, some_size}
+use Rattle.cdl_print.proofs.Joined.{numbers-cons, numbers-none}
 use Rattle.cdl_print.proofs.Takes.{length-numbers}
 
 pub numbers-split : (ty : NcType) (k : ℕ) (bytes : List ℕ) → k * size_of ty ≤ length bytes
     → numbers ty bytes ≡ numbers ty (take (k * size_of ty) bytes) ++ numbers ty (drop (k * size_of ty) bytes)
 numbers-split ty zero bytes le =
     let none : 0 * size_of ty ≡ 0 = omega arith in
-    rw none (ap (λ (xs : List ℤ). xs ++ numbers ty bytes) (sym (numbers-none ty [] (size_some ty))))
+    rw none (ap (λ (xs : List ℤ). xs ++ numbers ty bytes) (sym (numbers-none ty [] (some_size ty))))
 numbers-split ty (suc k) bytes le =
     let size = size_of ty in
     let more : suc k * size ≡ size + k * size = omega arith in
@@ -36,7 +36,7 @@ batch_parts ty size n rest prefix others is least f o =
     (λ (h : length rest ≤ 80 * size_of ty).
     let all : n ≡ length rest = omega (arith, is, least) in
     let prefix_is : take n rest ≡ rest = take_all n rest (omega (arith, all)) in
-    let none : numbers ty (drop n rest) ≡ [] = numbers-none ty (drop n rest) (omega (arith, all, length-drop n rest, size_some ty)) in
+    let none : numbers ty (drop n rest) ≡ [] = numbers-none ty (drop n rest) (omega (arith, all, length-drop n rest, some_size ty)) in
     rw (prefix_is, none) (sym (append-nil (numbers ty rest))))
     (cases_lt (80 * size_of ty) (length rest)))
 
@@ -46,7 +46,7 @@ batch_few ty size n rest prefix is least f =
     let short : length prefix ≤ 80 * size_of ty = omega (arith, is, least, ap length f, length-take n rest) in
     let whole = div-mul-le_self (length prefix) (size_of ty) in
     let few : length prefix / size_of ty * size_of ty ≤ 80 * size_of ty = omega (arith, short, whole) in
-    omega (arith, length-numbers ty prefix, le_of_mul-le-mul_right {k = size_of ty} few (size_some ty))
+    omega (arith, length-numbers ty prefix, le_of_mul-le-mul_right {k = size_of ty} few (some_size ty))
 
 -- k whole values of this size have k * size bytes
 pub length_taken : (size k : ℕ) (bytes : List ℕ) → k ≤ length bytes / size → length (take (k * size) bytes) ≡ k * size
@@ -57,7 +57,7 @@ length_taken size k bytes few =
 -- a count of values taken
 pub count_taken : (ty : NcType) (size k : ℕ) (bytes : List ℕ) → size ≡ size_of ty → k ≤ length bytes / size → length (numbers ty (take (k * size) bytes)) ≡ k
 count_taken ty size k bytes is few =
-    let some : 0 < size = omega (arith, is, size_some ty) in
+    let some : 0 < size = omega (arith, is, some_size ty) in
     length-numbers ty (take (k * size) bytes) ∙ ap (λ s. length (take (k * size) bytes) / s) (sym is) ∙ ap (λ n. n / size) (length_taken size k bytes few) ∙ mul-div_cancel k some
 
 -- whole values with at least one byte are at least one value

@@ -1,21 +1,13 @@
 -- The characters of a variable, some after others.
 use Rattle.std.proofs.Common.{◌≡◌, ℕ, zero, suc, ℤ, pos, ◌+◌, ◌-◌, ◌%◌, ◌<◌, ◌≤◌, Bool, true, false, cond, not, ◌&&◌, ◌||◌, List, [], ◌∷◌, ◌++◌, length, map, max, take, drop, replicate, sym, ◌/◌, ◌∙◌, ap, refl, subst, arith, append_assoc, append-nil, length-append, Result, Ok, Err, ◌==◌, OnOk}
-use Rattle.cdl_print.proofs.Prelude.{list_all, prefix_len, false≢true, cond-false, cond-true, nat_tests, flat_map-append, nil_from_length, length-map, length-take-le, map-append, take-append-drop, prefix_len-le-length, escaped_in_string, escaped_text, is_literal, numbers, numbers_from, Look, is_char, begins_row, char_lead, char_text, char_piece, held, piece, pieces, variable_prefix, later_pieces, NcType, Byte, Char, Short, Int, Ubyte, Ushort, Uint, Int64, Uint64, place-add, held_other, held_nul, held_first, held_untrimmed, SinkView, Appended, FailedPartway, Written, IsRun, next_char_lead, run_text, run_bytes, row_index_after_run, IsAfterRun, IsAfter, values_after, IsAfterNext, WrittenNext, Progress}
+use Rattle.cdl_print.proofs.Prelude.{list_all, prefix_len, false≢true, cond-false, cond-true, nat_tests, flat_map-append, nil_from_length, length-map, length-take-le, map-append, take-append-drop, prefix_len-le-length, escaped_in_string, escaped_text, is_literal, numbers, numbers_from, Look, is_char, begins_row, char_lead, char_text, char_piece, held, piece, pieces, variable_prefix, later_pieces, NcType, Byte, Char, Short, Int, Ubyte, Ushort, Uint, Int64, Uint64, place-add, held_other, held_nul, held_first, held_untrimmed, SinkView, Appended, FailedPartway, Written, IsRun, next_char_lead, run_text, run_bytes, row_index_after_run, IsAfterRun, IsAfter, values_after, IsAfterNext, WrittenNext, Progress, and_parts, or_second, escaped-append}
 use Rattle.cdl_print.proofs.Begun.{IsBegun, begun_at_first}
 use Rattle.cdl_print.proofs.Runs.{flat_map_itself, literal_itself, prefix_is_run}
-
-and_parts : (a b : Bool) → (a && b) ≡ true → (a ≡ true) × (b ≡ true)
-and_parts true b h = (refl, h)
-and_parts false b h = absurd (false≢true h)
 
 -- a byte that stands for itself is no NUL
 literal_some : (b : ℕ) → is_literal b ≡ true → (b == 0) ≡ false
 literal_some zero h = absurd (false≢true h)
 literal_some (suc b) h = grind (arith, nat_tests)
-
-escaped-append : (a b : List ℕ) → escaped_text (a ++ b) ≡ escaped_text a ++ escaped_text b
-unfolding escaped_text
-escaped-append a b = flat_map-append escaped_in_string a b
 
 escaped_itself : (run : List ℕ) → list_all is_literal run ≡ true → escaped_text run ≡ run
 unfolding escaped_text
@@ -84,10 +76,6 @@ literal_pieces look before xs (b ∷ run) is all none inside fits =
 
 abbrev IsInRow : Look → List ℤ → List ℕ → Type 0
 IsInRow look xs run = 1 < length run → length xs % look.row + length run ≤ look.row
-
-or_second : (a b : Bool) → (a || b) ≡ true → a ≡ false → b ≡ true
-or_second true b h none = absurd (false≢true (sym none))
-or_second false b h none = h
 
 all_literal : (b c : ℕ) (run : List ℕ) → IsRun is_literal (b ∷ c ∷ run) → list_all is_literal (b ∷ c ∷ run) ≡ true
 all_literal b c run literal =

@@ -1,6 +1,6 @@
 -- Lists with a comma between each two: the numbers of an attribute, and the dimensions of a shape.
 use Rattle.std.proofs.Common.{◌≡◌, ℕ, ℤ, ◌-◌, ◌/◌, ◌<◌, ◌≤◌, ◌==◌, Bool, true, false, List, [], ◌∷◌, ◌++◌, length, take, drop, map, refl, sym, ap, ◌∙◌, arith, suc, if◌then◌else◌, codes, append_assoc, add-one, nat_lt}
-use Rattle.cdl_print.proofs.Prelude.{append-nil, length-drop, length-map, nat_tests, signed_decimal, NcType, Byte, Char, Short, Int, Ubyte, Ushort, Uint, Int64, Uint64, concat_parts, dim_name, joined, number_values, number_suffix, number_of, numbers, numbers_from, size_of, dim_text, div-eq-sub-div, div-eq_of_lt}
+use Rattle.cdl_print.proofs.Prelude.{append-nil, length-drop, length-map, nat_tests, signed_decimal, NcType, Byte, Char, Short, Int, Ubyte, Ushort, Uint, Int64, Uint64, concat_parts, dim_name, joined, number_values, number_suffix, number_of, numbers, numbers_from, size_of, dim_text, div-eq-sub-div, div-eq_of_lt, some_size}
 use Rattle.nc_base.specs.declared.header.Dim.{Dim}
 use Rattle.cdl_print.specs.code.Pieces.{number_text}
 
@@ -19,17 +19,6 @@ unfolding dim_text concat_parts
 joined_names-cons dims id ids rest is_last e last =
     rw e (joined-cons (dim_name dims id) (map (dim_name dims) ids) is_last (rw length-map last) ∙ simp (append_assoc, append-nil))
 
-pub size_some : (ty : NcType) → 0 < size_of ty
-size_some Byte = omega arith
-size_some Char = omega arith
-size_some Short = omega arith
-size_some Int = omega arith
-size_some Ubyte = omega arith
-size_some Ushort = omega arith
-size_some Uint = omega arith
-size_some Int64 = omega arith
-size_some Uint64 = omega arith
-
 count-cons : (size : ℕ) (bytes : List ℕ) → 0 < size → size ≤ length bytes → length bytes / size ≡ suc (length (drop size bytes) / size)
 count-cons size bytes some le = rw (length-drop size bytes) (div-eq-sub-div some le ∙ add-one ((length bytes - size) / size))
 
@@ -38,7 +27,7 @@ numbers_from-cons ty n k bytes e = rw e refl
 
 pub numbers-cons : (ty : NcType) (bytes : List ℕ) → size_of ty ≤ length bytes → numbers ty bytes ≡ number_of ty (take (size_of ty) bytes) ∷ numbers ty (drop (size_of ty) bytes)
 unfolding numbers
-numbers-cons ty bytes le = numbers_from-cons ty (length bytes / size_of ty) (length (drop (size_of ty) bytes) / size_of ty) bytes (count-cons (size_of ty) bytes (size_some ty) le)
+numbers-cons ty bytes le = numbers_from-cons ty (length bytes / size_of ty) (length (drop (size_of ty) bytes) / size_of ty) bytes (count-cons (size_of ty) bytes (some_size ty) le)
 
 pub numbers-none : (ty : NcType) (bytes : List ℕ) → length bytes < size_of ty → numbers ty bytes ≡ []
 unfolding numbers

@@ -11,7 +11,7 @@ pub use Rattle.cdl_print.specs.declared.progress.Progress.{Progress}
 pub use Rattle.devices.proofs.Writes.{IsWritten, append-none, appended_partway, appended_then, partway_next, wrote_next}
 pub use Rattle.devices.specs.Sinks.{Appended, FailedPartway, SinkView, Written}
 unfoldable pub use Rattle.devices.specs.Sinks.{append, is_transparent}
-pub use Rattle.nc_base.proofs.ValueLaws.{column-broken, column-flat, held_first, held_nul, held_other, held_untrimmed, later-append, later_none, later_one, number_flat, place-add, prefix-append, prefix_nil}
+pub use Rattle.nc_base.proofs.ValueLaws.{column-broken, column-flat, held_first, held_nul, held_other, held_untrimmed, later-append, later_none, later_one, number_flat, place-add, prefix-append, prefix_nil, escaped-append, length-numbers_from}
 unfoldable pub use Rattle.nc_base.specs.Bytes.{concat_parts}
 pub use Rattle.nc_base.specs.Escapes.{begins_with_digit_or_mark, escaped_in_name, escaped_in_string, is_literal}
 unfoldable pub use Rattle.nc_base.specs.Escapes.{escaped_name, escaped_text, is_reserved}
@@ -35,3 +35,5 @@ pub use Rattle.std.proofs.lemmas.Result.{err_from_is_err_and}
 pub use Rattle.std.specs.Fmt.{decimal, signed_decimal}
 pub use Rattle.std.specs.Int.{cast_signed, cast_unsigned, w128}
 pub use Rattle.std.specs.List.{flat_map, list_all, position_or_len, prefix_len}
+pub use Rattle.nc_base.proofs.Tests.{and_parts, or_second}
+pub use Rattle.nc_base.proofs.SoundLaws.{some_size}

@@ -1,15 +1,11 @@
 -- How many values n bytes are, and when a printer takes them.
 use Rattle.std.proofs.Common.{◌≡◌, ℕ, ◌+◌, ◌*◌, ◌/◌, ◌%◌, ◌≤◌, List, length, zero, suc, sym, ◌∙◌, ap, refl, subst}
-use Rattle.cdl_print.proofs.Prelude.{numbers, numbers_from, size_of, NcType, look_in, position_of, Takes, ValuePrinter}
+use Rattle.cdl_print.proofs.Prelude.{numbers, numbers_from, size_of, NcType, look_in, position_of, Takes, ValuePrinter, length-numbers_from}
 use Rattle.nc_base.proofs.SoundLaws.{whole_part}
-
-length-from : (ty : NcType) (n : ℕ) (bytes : List ℕ) → length (numbers_from ty n bytes) ≡ n
-length-from ty zero bytes = refl
-length-from ty (suc n) bytes = ap suc (length-from ty n _)
 
 pub length-numbers : (ty : NcType) (bytes : List ℕ) → length (numbers ty bytes) ≡ length bytes / size_of ty
 unfolding numbers
-length-numbers ty bytes = length-from ty (length bytes / size_of ty) bytes
+length-numbers ty bytes = length-numbers_from ty (length bytes / size_of ty) bytes
 
 -- whole values, which the variable still has
 pub takes_iff : (printer : ValuePrinter) (bytes : List ℕ) (size : ℕ) (P : Type 0) → size ≡ size_of (look_in printer).ty → length bytes % size ≡ 0

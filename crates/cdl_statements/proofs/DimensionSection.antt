@@ -4,9 +4,9 @@ use Rattle.cdl_statements.proofs.Prelude.{option_map, option_and_then, Version, 
 use Rattle.cdl_statements.specs.declared.due.Due.TheVariants as dues
 use Rattle.cdl_statements.proofs.Dimensions.{listed_dims, dims_are}
 use Rattle.cdl_statements.proofs.Listing.{never_completes, only_completes, fine_on}
-use Rattle.cdl_statements.proofs.Shaping.{mark_word, mark_name, no_section, no_mark}
+use Rattle.cdl_statements.proofs.Shaping.{mark_word, mark_name, no_section, no_mark, no_brace, nameless}
 use Rattle.cdl_statements.proofs.Options.{either_none, either_only, given_none, none_of}
-use Rattle.cdl_statements.proofs.SectionParts.{alone_completes, mark_completes, global_to, global_completes, no_brace, no_colon, section_no_name, no_name_of}
+use Rattle.cdl_statements.proofs.SectionParts.{alone_completes, mark_completes, global_to, global_completes, no_colon, section_no_name}
 
 abbrev pub body_to : Version → List Lexeme → Option Statement
 body_to v ls = option_and_then (body v Dimensions) (before_mark 0x3b ls)
@@ -70,7 +70,7 @@ dims_complete v l ls good = by (is_mark 0x7d l) (is_mark 0x3a l) (goes_to Dimens
         ap is_some (either_only (alone (is_mark 0x7d) Brace (l ∷ ls)) after none) ∙ alone_completes (is_mark 0x7d) Brace l ls ∙ ap (λ t. completes (only t dues.Nothing) ls) on
     by false true g off on is-g =
         ap is_some (either_none (alone (is_mark 0x7d) Brace (l ∷ ls)) after (no_brace l ls off) ∙
-        either_none (section_mark Dimensions (l ∷ ls)) (body_to v (l ∷ ls)) (no_mark Dimensions l ls (no_section l (mark_word 0x3a l on))) ∙ body_global v l ls (no_name_of l (mark_name 0x3a l on))) ∙
+        either_none (section_mark Dimensions (l ∷ ls)) (body_to v (l ∷ ls)) (no_mark Dimensions l ls (no_section l (mark_word 0x3a l on))) ∙ body_global v l ls (nameless l (mark_name 0x3a l on))) ∙
         global_completes v l ls (fine_on v l ls good) on
     by false false true off other on =
         ap is_some (either_none (alone (is_mark 0x7d) Brace (l ∷ ls)) after (no_brace l ls off) ∙

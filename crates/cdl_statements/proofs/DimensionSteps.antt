@@ -1,6 +1,6 @@
 -- A list of dimensions, one dimension on.
 use Rattle.std.proofs.Common.{◌≡◌, Bool, true, false, List, [], ◌∷◌, refl, sym, ap, ◌∙◌, if◌then◌else◌, ◌&&◌}
-use Rattle.cdl_statements.proofs.Prelude.{false≢true, Version, dimensions_said, dimension_said, completes, is_length, is_name, next, Lexeme, is_mark}
+use Rattle.cdl_statements.proofs.Prelude.{false≢true, Version, dimensions_said, dimension_said, completes, is_length, is_name, next, Lexeme, is_mark, and_right}
 use Rattle.cdl_statements.specs.declared.due.Due.TheVariants.{DimensionName, LengthSeparator}
 use Rattle.cdl_statements.proofs.Dimensions.{completes_one, completes_two, completes_three, four, separator_more}
 
@@ -26,10 +26,6 @@ pub said_on : (v : Version) (n e l c : Lexeme) (ws rest : List Lexeme) (b : Bool
 unfolding dimensions_said
 said_on v n e l c ws rest true is = ap (dimensions_said v) is
 said_on v n e l c ws rest false is = ap (dimensions_said v) is
-
-and_right : (a b : Bool) → (a && b) ≡ true → b ≡ true
-and_right true b h = h
-and_right false b h = cc
 
 pub shaped_on : (n e l c r : Lexeme) (ws rest rs : List Lexeme) (b : Bool) → completes DimensionName ws ≡ true → ws ≡ n ∷ e ∷ l ∷ c ∷ (if b then [] else rest) → b ≡ false → rest ≡ r ∷ rs → completes DimensionName rest ≡ true
 shaped_on n e l c r ws rest rs b h is off more =

@@ -38,3 +38,4 @@ unfoldable pub use Rattle.nc_base.specs.Escapes.{is_reserved}
 pub use Rattle.nc_base.specs.declared.version.Version.{Version}
 pub use Rattle.std.proofs.lemmas.Bool.{false≢true}
 pub use Rattle.std.specs.Option.{option_and_then, option_map}
+pub use Rattle.nc_base.proofs.Tests.{and_right}

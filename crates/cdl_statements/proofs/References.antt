@@ -4,7 +4,8 @@ use Rattle.cdl_statements.proofs.Prelude.{option_map, option_and_then, Declarati
 use Rattle.cdl_statements.specs.declared.due.Due.TheVariants as dues
 use Rattle.cdl_statements.proofs.Listing.{never_completes, kind_of_mark}
 use Rattle.cdl_statements.proofs.Options.{both_some, given_map, given_none, map_if, none_if, same_if}
-use Rattle.cdl_statements.proofs.VariableNames.{Claims, ends_said, given_whole, if_whole, inside, members_at, name_mark, named, nameless, no_dimensions, nothing_after, one_mark, refer, referred, said_mark, said_name, separator_whole}
+use Rattle.cdl_statements.proofs.VariableNames.{Claims, ends_said, given_whole, if_whole, inside, members_at, name_mark, named, no_dimensions, nothing_after, one_mark, refer, referred, said_mark, said_name, separator_whole}
+use Rattle.cdl_statements.proofs.Shaping.{nameless}
 
 -- ---- a dimension's name
 

@@ -87,10 +87,6 @@ global_completes v l (m ∷ ls) good on =
     ap is_some (global_more v l m ls ∙ ap (λ b. given b (assigned_to v false (Attribute None) (m ∷ ls))) on ∙ assigned_is v false (Attribute None) m ls (fine_on v m ls good)) ∙
     some_if (is_name m && completes (dues.Equals false) ls) (Attribute None (word_value m.bytes) (values v (drop 1 ls))) ∙ sym (only_completes (is_name m) (dues.Equals false) ls)
 
-pub no_brace : (l : Lexeme) (ls : List Lexeme) → is_mark 0x7d l ≡ false → alone {A = Statement} (is_mark 0x7d) Brace (l ∷ ls) ≡ None
-no_brace l [] h = rw (h) refl
-no_brace l (m ∷ ls) h = refl
-
 -- no byte is two marks
 pub no_colon : (l : Lexeme) → is_mark 0x7d l ≡ true → is_mark 0x3a l ≡ false
 no_colon l h = by_kind (is_mark_kind l.kind) (slice_index l.bytes 0) h
@@ -119,6 +115,3 @@ section_no_name section l h = by_kind (is_word_kind l.kind) h
         (w && not (is_reserved l.bytes)) ≡ false
     by_kind true k = ap not (by_words (bytes_eq l.bytes (codes "dimensions")) (bytes_eq l.bytes (codes "variables")) (bytes_eq l.bytes (codes "data")) refl refl refl k)
     by_kind false k = refl
-
-pub no_name_of : (l : Lexeme) → is_name l ≡ false → name_of l ≡ None
-no_name_of l h = name_is l ∙ rw (h) refl

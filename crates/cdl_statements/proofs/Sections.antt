@@ -4,9 +4,9 @@ use Rattle.cdl_statements.proofs.Prelude.{Version, only, next, completes, goes_t
 use Rattle.cdl_statements.specs.declared.due.Due.TheVariants as dues
 use Rattle.cdl_statements.specs.declared.section.Section.TheVariants.{Closed}
 use Rattle.cdl_statements.proofs.Listing.{never_completes, fine_on}
-use Rattle.cdl_statements.proofs.Shaping.{data_is, data_said, mark_word, no_section, no_mark}
+use Rattle.cdl_statements.proofs.Shaping.{data_is, data_said, mark_word, no_section, no_mark, no_brace}
 use Rattle.cdl_statements.proofs.Options.{either_none, either_only, some_if}
-use Rattle.cdl_statements.proofs.SectionParts.{alone_completes, mark_completes, global_to, no_global, global_completes, no_brace, no_colon}
+use Rattle.cdl_statements.proofs.SectionParts.{alone_completes, mark_completes, global_to, no_global, global_completes, no_colon}
 use Rattle.cdl_statements.proofs.DimensionSection.{dims_complete}
 use Rattle.cdl_statements.proofs.VariableSection.{variables_complete}
 

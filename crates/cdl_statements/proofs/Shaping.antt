@@ -118,7 +118,7 @@ if_none : {A : Type 0} (b : Bool) (a : A) → b ≡ false → (if b then Some a 
 if_none true a h = cc
 if_none false a h = refl
 
-no_brace : (l : Lexeme) (ls : List Lexeme) → is_mark 0x7d l ≡ false → alone {A = Statement} (is_mark 0x7d) Brace (l ∷ ls) ≡ None
+pub no_brace : (l : Lexeme) (ls : List Lexeme) → is_mark 0x7d l ≡ false → alone {A = Statement} (is_mark 0x7d) Brace (l ∷ ls) ≡ None
 no_brace l [] h = rw (h) refl
 no_brace l (m ∷ ls) h = refl
 
@@ -144,3 +144,6 @@ data_is v l ls h = by (is_mark 0x7d l) refl
     by : (b : Bool) → is_mark 0x7d l ≡ b → shape v Values (l ∷ ls) ≡ (if completes (if b then dues.Nothing else only (is_name l) (dues.Equals true)) ls then Some (if b then Brace else Listed (word_value l.bytes) (values v (drop 1 ls))) else None)
     by true on = data_brace v l ls h on
     by false off = data_other v l ls h off ∙ ap (λ w. if w then Some (Listed (word_value l.bytes) (values v (drop 1 ls))) else None) (sym (only_completes (is_name l) (dues.Equals true) ls))
+
+pub nameless : (n : Lexeme) → is_name n ≡ false → name_of n ≡ None
+nameless n h = name_is n ∙ rw (h) refl

@@ -9,8 +9,8 @@ use Rattle.cdl_statements.proofs.DimensionSection as dimension
 use Rattle.cdl_statements.proofs.Dimensions.{dims_are, listed_dims}
 use Rattle.cdl_statements.proofs.Listing.{fine_on, never_completes}
 use Rattle.cdl_statements.proofs.Options.{either_none, either_only, none_of}
-use Rattle.cdl_statements.proofs.SectionParts.{global_lone, global_more, global_to, mark_completes, no_brace, no_colon, no_global, no_name_of, section_no_name}
-use Rattle.cdl_statements.proofs.Shaping.{assigned_is, assigned_to, data_is, data_said, mark_name, mark_word, no_mark, no_section}
+use Rattle.cdl_statements.proofs.SectionParts.{global_lone, global_more, global_to, mark_completes, no_colon, no_global, section_no_name}
+use Rattle.cdl_statements.proofs.Shaping.{assigned_is, assigned_to, data_is, data_said, mark_name, mark_word, no_mark, no_section, no_brace, nameless}
 use Rattle.cdl_statements.proofs.VariableNames.{one_mark}
 use Rattle.cdl_statements.proofs.VariableSection as variable
 
@@ -106,7 +106,7 @@ dimensions_are v l ls good h = by (is_mark 0x7d l) (is_mark 0x3a l) (goes_to Dim
         let first = either_only lone (either mark body_is) none in
         first ∙ alone_is (is_mark 0x7d) Brace (l ∷ ls) (sym (ap is_some first) ∙ h)
     by false true g off on is-g h =
-        let first = either_none lone (either mark body_is) (no_brace l ls off) ∙ either_none mark body_is (no_mark Dimensions l ls (no_section l (mark_word 0x3a l on))) ∙ dimension.body_global v l ls (no_name_of l (mark_name 0x3a l on)) in
+        let first = either_none lone (either mark body_is) (no_brace l ls off) ∙ either_none mark body_is (no_mark Dimensions l ls (no_section l (mark_word 0x3a l on))) ∙ dimension.body_global v l ls (nameless l (mark_name 0x3a l on)) in
         first ∙ global_is v l ls (fine_on v l ls good) on (sym (ap is_some first) ∙ h)
     by false false true off other on h =
         let first = either_none lone (either mark body_is) (no_brace l ls off) ∙ either_only mark body_is (dimension.body_dims v l ls other ∙ dimension.no_dims v l ls good (section_no_name Dimensions l on)) in

@@ -5,7 +5,7 @@ use Rattle.cdl_statements.specs.declared.due.Due.TheVariants as dues
 use Rattle.cdl_tokens.specs.declared.token.TokenKind.TheVariants as kinds
 use Rattle.cdl_statements.proofs.Listing.{never_completes, nothing_more, kind_of_mark}
 use Rattle.cdl_statements.proofs.Options.{both_some, given_map, given_none, map_if, none_if, same_if}
-use Rattle.cdl_statements.proofs.Shaping.{name_is}
+use Rattle.cdl_statements.proofs.Shaping.{name_is, nameless}
 
 -- ---- names and marks
 
@@ -26,9 +26,6 @@ name_mark b n h = ap (λ k. k && slice_index n.bytes 0 == b) (name_kind n h)
 
 pub named : (n : Lexeme) → is_name n ≡ true → name_of n ≡ Some (word_value n.bytes)
 named n h = name_is n ∙ rw (h) refl
-
-pub nameless : (n : Lexeme) → is_name n ≡ false → name_of n ≡ None
-nameless n h = name_is n ∙ rw (h) refl
 
 -- no byte is two marks
 pub one_mark : (b d : ℕ) (l : Lexeme) → (b == d) ≡ false → is_mark b l ≡ true → is_mark d l ≡ false

@@ -4,11 +4,11 @@ use Rattle.cdl_statements.proofs.Prelude.{option_map, option_and_then, Version, 
 use Rattle.cdl_statements.specs.declared.due.Due.TheVariants as dues
 use Rattle.cdl_tokens.specs.declared.token.TokenKind.TheVariants as kinds
 use Rattle.cdl_statements.proofs.Declarations.{listed_variables, variables_are}
-use Rattle.cdl_statements.proofs.VariableNames.{nameless, named, not_variable, one_mark}
+use Rattle.cdl_statements.proofs.VariableNames.{named, not_variable, one_mark}
 use Rattle.cdl_statements.proofs.Listing.{fine_on, never_completes, nothing_more, only_completes}
 use Rattle.cdl_statements.proofs.Options.{either_none, either_only, given_none, some_if}
-use Rattle.cdl_statements.proofs.SectionParts.{alone_completes, global_completes, global_to, mark_completes, no_brace, no_colon, no_global, section_no_name}
-use Rattle.cdl_statements.proofs.Shaping.{assigned_is, assigned_to, mark_name, mark_word, no_mark, no_section}
+use Rattle.cdl_statements.proofs.SectionParts.{alone_completes, global_completes, global_to, mark_completes, no_colon, no_global, section_no_name}
+use Rattle.cdl_statements.proofs.Shaping.{assigned_is, assigned_to, mark_name, mark_word, no_mark, no_section, no_brace, nameless}
 
 -- a word is no mark
 pub word_kind : (b : ℕ) (l : Lexeme) → is_word_kind l.kind ≡ true → is_mark b l ≡ false

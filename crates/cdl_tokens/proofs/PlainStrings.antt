@@ -67,7 +67,7 @@ taken_within (suc n) [] = ap (take (suc n)) (let e : take {A = ℕ} (1 + suc n) 
 taken_within (suc n) (b ∷ bytes) = ap (take (suc n)) (take_one_more b (suc n) bytes) ∙ ap (λ xs. b ∷ xs) (ap (λ m. take n (take m bytes)) (let e : suc n ≡ 1 + n = omega arith in e) ∙ taken_within n bytes)
 
 -- what stands between the quotes
-inner_of : (b n : ℕ) (bytes : List ℕ) → n < length bytes → inner (take (n + 2) (b ∷ bytes)) ≡ take n bytes
+pub inner_of : (b n : ℕ) (bytes : List ℕ) → n < length bytes → inner (take (n + 2) (b ∷ bytes)) ≡ take n bytes
 inner_of b n bytes within =
     let cut : take (n + 2) (b ∷ bytes) ≡ b ∷ take (1 + n) bytes = ap (λ m. take m (b ∷ bytes)) (let e : n + 2 ≡ suc (1 + n) = omega arith in e) in
     let long : length (b ∷ take (1 + n) bytes) - 2 ≡ n = (let e : length (take (1 + n) bytes) ≡ 1 + n = length-take-le (1 + n) bytes (omega (arith, within)) in omega (arith, e)) in

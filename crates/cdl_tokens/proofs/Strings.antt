@@ -3,6 +3,7 @@ use Rattle.std.proofs.Common.{◌≡◌, ℕ, zero, suc, ◌+◌, ◌-◌, ◌<�
 use Rattle.cdl_tokens.proofs.Prelude.{list_all, prefix_len, append-nil, at_drop_more, at_drop_all, drop-drop, take_all, unescape, unescape_at, character, stands, is_unescaped}
 use Rattle.cdl_tokens.specs.declared.scan.Character.{Character}
 use Rattle.cdl_tokens.proofs.Steps.{drop_some, drop_one_more, take_one_more}
+use Rattle.cdl_tokens.specs.Escapes.{plain_escape}
 
 abbrev pub or_zero : Option ℕ → ℕ
 or_zero b = unwrap_or b 0
@@ -84,3 +85,6 @@ stands_for raw bs is = ap (map or_zero) (is ∙ sym (append-nil (bytes bs))) ∙
 
 pub stands_run : (bs : List ℕ) (n : ℕ) → n ≡ prefix_len is_unescaped bs → stands bs ≡ take n bs ++ stands (drop n bs)
 stands_run bs n is = ap (map or_zero) (unescape_run bs n is) ∙ stands_of (take n bs) (unescape (drop n bs))
+
+pub plain_small : (b : ℕ) → b < 256 → plain_escape b < 256
+plain_small b h = grind (arith, h)

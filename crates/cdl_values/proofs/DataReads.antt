@@ -1,6 +1,6 @@
 -- What a statement of the data section means, case by case.
 use Rattle.std.proofs.Common.{◌≡◌, ℕ, true, false, List, [], ◌∷◌, refl, sym, ap, ◌∙◌, Bool, Option, None, Some, Result, Ok, Err, ◌&&◌, ◌==◌, not, slice_index, if◌then◌else◌}
-use Rattle.cdl_values.proofs.Prelude.{false≢true, Version, word_value, Lexeme, is_mark, is_word_kind, is_mark_kind, first_bad, token_fault, completes, next, only, is_whole, only_completes, values, Due, DataName, Equals, CdlKind, Syntax, good_on, TokenKind, packed, FailsRead, data_read, bytes_assigned, packed_for, target_of, Target, ReadError, OutOfMemory, Fault}
+use Rattle.cdl_values.proofs.Prelude.{false≢true, Version, word_value, Lexeme, is_mark, is_word_kind, is_mark_kind, first_bad, token_fault, completes, next, only, is_whole, only_completes, values, Due, DataName, Equals, CdlKind, Syntax, good_on, TokenKind, packed, FailsRead, data_read, bytes_assigned, packed_for, target_of, Target, ReadError, OutOfMemory, Fault, and_left, and_right}
 use Rattle.cdl_statements.specs.code.DueTokens.{is_name}
 use Rattle.nc_base.specs.Escapes.{is_reserved}
 use Rattle.cdl_statements.specs.declared.due.Due.TheVariants.{Value}
@@ -21,10 +21,6 @@ unshaped_read version names targets ws bad off = rw (bad) (rw (off) refl)
 good_read : (version : Version) (names : List (List ℕ)) (targets : List Target) (ws : List Lexeme) → first_bad version ws ≡ None → completes DataName ws ≡ true → data_read version names targets ws ≡ bytes_assigned version names targets ws
 unfolding data_read
 good_read version names targets ws bad on = rw (bad) (rw (on) refl)
-
-and_right : (a b : Bool) → (a && b) ≡ true → b ≡ true
-and_right true b h = h
-and_right false b h = cc
 
 lone : (b : Bool) (due : Due) → is_whole due ≡ false → completes (only b due) [] ≡ true → ⊥
 unfolding completes
@@ -63,10 +59,6 @@ filled_ok version vs r t is = rw (is) refl
 pub filled_err : (version : Version) (vs : List Lexeme) (r : Result Target CdlKind) (e : ReadError) → FailsRead e r → FailsRead e (packed_for version vs r)
 filled_err version vs r OutOfMemory h = tt
 filled_err version vs r (Fault k) h = rw (h) refl
-
-and_left : (a b : Bool) → (a && b) ≡ true → a ≡ true
-and_left true b h = refl
-and_left false b h = cc
 
 good_word : (version : Version) (l : Lexeme) (k : TokenKind) → is_word_kind k ≡ true → token_fault version k l.bytes ≡ None
 good_word version l kinds.Opening h = cc

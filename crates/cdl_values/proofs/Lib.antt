@@ -2,7 +2,6 @@ pub mod AllowedNames
 pub mod NamePositions
 pub mod PackedTokens
 pub mod Ranges
-pub mod InRange
 pub mod ConstantBytes
 pub mod Turns
 pub mod Counts

@@ -12,11 +12,6 @@ pub joined_none : (r : Result (List ℕ) CdlKind) → joined (Ok []) r ≡ r
 joined_none (Ok bs) = refl
 joined_none (Err e) = refl
 
--- over a mark
-pub past_mark : (version : Version) (l : Lexeme) (ls : List Lexeme) → is_mark_kind l.kind ≡ true → values version (l ∷ ls) ≡ values version ls
-unfolding values
-past_mark version l ls mark = rw (mark) refl
-
 pub over_value : (version : Version) (l : Lexeme) (ls : List Lexeme) → is_mark_kind l.kind ≡ false → values version (l ∷ ls) ≡ value_of version l l.kind ∷ values version ls
 unfolding values
 over_value version l ls other = rw (other) refl

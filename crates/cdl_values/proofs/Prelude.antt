@@ -1,7 +1,7 @@
 -- The names that most proofs of this crate cite, passed on from one place.
 pub use Rattle.cdl_meaning.specs.State.{Capacity, Draft, Listing, State, add_characters, add_constant, add_number, add_row, at_named, filled, in_turn, listed_by, row_count, same_type, type_said, unless, values_in, when, with_values}
 unfoldable pub use Rattle.cdl_meaning.specs.State.{act, at_variable, capacity_of, fits, listing_of}
-pub use Rattle.cdl_statements.proofs.Listing.{fine_on, only_completes}
+pub use Rattle.cdl_statements.proofs.Listing.{fine_on, only_completes, past_mark}
 pub use Rattle.cdl_statements.proofs.NumberLists.{at_same_comma, same_after, same_words}
 pub use Rattle.cdl_statements.proofs.ShapeChecks.{ending, first_word, going, good_end, good_on}
 pub use Rattle.cdl_statements.specs.Lexemes.{Lexeme, is_mark, is_mark_kind, is_word_kind, lexeme}
@@ -20,7 +20,7 @@ pub use Rattle.cdl_statements.specs.declared.due.Due.{Due}
 pub use Rattle.cdl_statements.specs.declared.due.Due.TheVariants.{DataName, Equals, Separator}
 pub use Rattle.cdl_statements.specs.declared.fault.CdlKind.{CdlKind}
 pub use Rattle.cdl_statements.specs.declared.fault.CdlKind.TheVariants.{BadName, BadNumber, DuplicateData, NumberRange, StringTooLong, Syntax, TooManyValues, UnknownVariable, WrongKind}
-pub use Rattle.cdl_tokens.proofs.Strings.{or_zero, stands_run, unescape_more, unescape_past}
+pub use Rattle.cdl_tokens.proofs.Strings.{or_zero, stands_run, unescape_more, unescape_past, plain_small}
 pub use Rattle.cdl_tokens.specs.Bytes.{is_escape, is_hex, is_octal, number_in}
 pub use Rattle.cdl_tokens.specs.Escapes.{byte, escape, inner, number_escape, plain_escape, stands}
 unfoldable pub use Rattle.cdl_tokens.specs.Escapes.{character, unescape_at, word_value}
@@ -64,3 +64,4 @@ pub use Rattle.std.specs.BTreeMap.{BTreeMap, insert_entry}
 pub use Rattle.std.specs.Int.{w128}
 pub use Rattle.std.specs.List.{flat_map, position_from, prefix_len, take_while}
 pub use Rattle.std.specs.Str.{bytes_eq}
+pub use Rattle.nc_base.proofs.Tests.{and_left, and_right}

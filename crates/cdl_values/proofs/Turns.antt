@@ -1,6 +1,6 @@
 -- The values of a statement one by one: their bytes are the bytes of what the state lists.
 use Rattle.std.proofs.Common.{◌≡◌, ℕ, zero, suc, ◌+◌, ◌-◌, ℤ, Bool, true, false, List, [], ◌∷◌, ◌++◌, length, map, refl, sym, ap, ◌∙◌, arith, append-nil, length-append, rules, subst, pos, Option, None, Some, Result, Ok, Err, ◌||◌, not, nat_lt, nat_le, replicate}
-use Rattle.cdl_values.proofs.Prelude.{flat_map, flat_map-append, map-append, NcType, Char, bytes_of_number, is_char, Value, Number, Characters, Underscore, CdlKind, TooManyValues, NumberRange, StringTooLong, WrongKind, Capacity, Listing, add_number, add_characters, add_row, in_turn, listed_by, listing_of, values_in, fits, filled, Fills, positions_in, as_bytes, packed, followed_by, joined, bytes_of, capacity_after, is_full, is_past, less, char_bytes, Fill, Filling}
+use Rattle.cdl_values.proofs.Prelude.{flat_map, flat_map-append, map-append, NcType, Char, bytes_of_number, is_char, Value, Number, Characters, Underscore, CdlKind, TooManyValues, NumberRange, StringTooLong, WrongKind, Capacity, Listing, add_number, add_characters, add_row, in_turn, listed_by, listing_of, values_in, fits, filled, Fills, positions_in, as_bytes, packed, followed_by, joined, bytes_of, capacity_after, is_full, is_past, less, char_bytes, Fill, Filling, length-map}
 use Rattle.cdl_meaning.specs.State.{Numbers, Joined, Rows, ◌>>=◌}
 use Rattle.cdl_values.specs.declared.filling.Filling.TheVariants as fillings
 use Rattle.cdl_values.proofs.PackedTokens.{joined_assoc, joined_none, chars_len}
@@ -120,15 +120,11 @@ padding : (n : ℕ) (x : ℤ) (b : ℕ) → bytes_of_number Char x ≡ b ∷ [] 
 padding zero x b h = refl
 padding (suc n) x b h = ap (λ bs. bs ++ flat_map (bytes_of_number Char) (replicate n x)) h ∙ ap (λ bs. b ∷ bs) (padding n x b h)
 
-length_map : (bs : List ℕ) → length (map pos bs) ≡ length bs
-length_map [] = refl
-length_map (b ∷ bs) = ap suc (length_map bs)
-
 row_bytes_are : (ty : NcType) (len n : ℕ) (x : ℤ) (b : ℕ) (bs : List ℕ) → ty ≡ Char → len ≡ n → bytes_of_number Char x ≡ b ∷ [] →
     char_bytes bs ++ replicate (n - length bs) b ≡ flat_map (bytes_of_number ty) (filled len x (map pos bs))
 row_bytes_are ty len n x b bs is same h =
     rw (is) (rw (same) (ap (λ ys. char_bytes bs ++ ys) (sym (padding (n - length bs) x b h)) ∙
-    ap (λ m. char_bytes bs ++ flat_map (bytes_of_number Char) (replicate (n - m) x)) (sym (length_map bs)) ∙
+    ap (λ m. char_bytes bs ++ flat_map (bytes_of_number Char) (replicate (n - m) x)) (sym (length-map bs pos)) ∙
     sym (flat_map-append (bytes_of_number Char) (map pos bs) (replicate (n - length (map pos bs)) x))))
 
 rows_step : (len fill : ℕ) (r : Capacity) → Fills (fillings.Rows len fill) r → (capacity : Option ℕ) (before : List (List ℕ)) (x : Value) → Left capacity r.is_open r.rows (length before) → Step (fillings.Rows len fill) r (add_row r) Rows r.rows capacity before x

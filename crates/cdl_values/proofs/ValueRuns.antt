@@ -1,13 +1,13 @@
 -- A run of values, one value on.
 use Rattle.std.proofs.Common.{◌≡◌, ◌≤◌, ◌<◌, ℕ, ◌+◌, ◌-◌, Bool, true, false, List, ◌∷◌, length, drop, sym, ap, ◌∙◌, refl, subst, arith, Option, None, Some, Ok, ◌&&◌, ◌==◌, slice_index}
-use Rattle.cdl_values.proofs.Prelude.{Version, inner, stands, TokenKind, value_of, values, is_done, next_token, text_of, version_of, words, completes, is_value_of, next, only, separator, Lexeme, is_mark, is_mark_kind, lexeme, IsAtComma, Passes, PassesNumber, PassesString, Characters, first_bad, token_fault, lexeme_with, Cutter, Due, Separator, at_same_comma, same_after, same_words, good_on, bytes_of, capacity_after, held_bytes, is_full, joined, less, packed, row_bytes, GoesOn, Place, TakesValues, Fill, Filling, Numbers, Rows}
+use Rattle.cdl_values.proofs.Prelude.{Version, inner, stands, TokenKind, value_of, values, is_done, next_token, text_of, version_of, words, completes, is_value_of, next, only, separator, Lexeme, is_mark, is_mark_kind, lexeme, IsAtComma, Passes, PassesNumber, PassesString, Characters, first_bad, token_fault, lexeme_with, Cutter, Due, Separator, at_same_comma, same_after, same_words, good_on, bytes_of, capacity_after, held_bytes, is_full, joined, less, packed, row_bytes, GoesOn, Place, TakesValues, Fill, Filling, Numbers, Rows, past_mark}
 use Rattle.cdl_tokens.specs.code.Scanners as scanners
 use Rattle.cdl_tokens.specs.declared.numeral.Numeral.{Numeral as Held}
 use Rattle.cdl_tokens.specs.declared.token.TokenKind.TheVariants as kinds
 use Rattle.cdl_statements.specs.code.NumberLists as lists
 use Rattle.cdl_statements.specs.declared.due.Due.TheVariants.{Value}
 use Rattle.cdl_statements.specs.declared.number_list.NumberList.{NumberList}
-use Rattle.cdl_values.proofs.PackedTokens.{added, is_after, one_packed, past_mark, over_value}
+use Rattle.cdl_values.proofs.PackedTokens.{added, is_after, one_packed, over_value}
 use Rattle.cdl_values.proofs.Ranges.{good_number, number_added}
 
 comma_good : (v : Version) (l : Lexeme) → is_mark 0x2c l ≡ true → (is_mark_kind l.kind ≡ true) × (token_fault v l.kind l.bytes ≡ None)

@@ -17,7 +17,7 @@ impl Fill {
     ghost use Rattle.nc_base.specs.Numbers.{IsInRange};
 
     /// The number of this type.
-    #[tactic(auto, using(crate::proofs::InRange::is_had))]
+    #[tactic(auto, using(cdl_meaning::proofs::InRange::is_had))]
     pub fn new(ty: NcType, value: i128) -> Fill
         requires { IsInRange ty value }
         ensures ty { result.ty ≡ ty }

@@ -179,7 +179,7 @@ fn put(
 }
 
 /// Adds the bytes of a value of a variable of numbers.
-#[tactic(auto, unfolding(cdl_statements::specs::code::Contents::value_of), using(crate::proofs::Ranges::held_is, crate::proofs::InRange::has_it))]
+#[tactic(auto, unfolding(cdl_statements::specs::code::Contents::value_of), using(crate::proofs::Ranges::held_is, cdl_meaning::proofs::InRange::has_it))]
 fn put_value(
     array: &mut ListedArray,
     version: Version,

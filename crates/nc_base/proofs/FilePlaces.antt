@@ -1,5 +1,5 @@
 -- Each value of a generated file stands where the offsets by index vectors say.
-use Rattle.std.proofs.Common.{◌≡◌, ℕ, zero, suc, ◌+◌, ◌*◌, ◌/◌, ◌<◌, ◌≤◌, Bool, true, false, cond, not, List, [], ◌∷◌, ◌++◌, length, take, drop, replicate, map, refl, sym, ◌∙◌, ap, arith, append_assoc, length-append, length-take, length-drop, None, if◌then◌else◌, All}
+use Rattle.std.proofs.Common.{◌≡◌, ℕ, zero, suc, ◌+◌, ◌*◌, ◌/◌, ◌<◌, ◌≤◌, Bool, true, false, cond, not, List, [], ◌∷◌, ◌++◌, length, take, drop, replicate, map, refl, sym, ◌∙◌, ap, arith, append_assoc, length-append, length-take, length-drop, None, if◌then◌else◌, All, ℤ}
 use Rattle.nc_base.proofs.Prelude.{concat, flat_map, range_with_len, sum_by, mul-le-mul_right, filter-append, All-nil, All-cons, sum-map, sum_by-append, Dim, Var, Header, NcType, Byte, Char, Short, Int, Ubyte, Ushort, Uint, Int64, Uint64, padding_len, size_of, bytes_of_number, fill_value, is_record_var, is_narrow, slab_count, slab_size, padded_size, padded_total, record_size_of, record_vars, record_size, IsArray, AreArrays, stored_bytes, first_missing, header_spelling, fill_bytes, padded_slab, blocks, is_sole_narrow, slab_in, record_of, fixed_vars, begin_after, vars_after}
 use Rattle.nc_base.proofs.SlabBytes.{fixed-bytes, record-bytes, fixed-whole, record-whole}
 use Rattle.nc_base.proofs.IsAt.{IsAt, stands-at, stands-first, stands-second, stands-read, stands-within, runs-all}
@@ -29,7 +29,7 @@ whole-padding Uint c = omega arith
 whole-padding Int64 c = omega arith
 whole-padding Uint64 c = omega arith
 
-length-replicated : (n : ℕ) (xs : List ℕ) → length (concat (replicate n xs)) ≡ n * length xs
+pub length-replicated : (n : ℕ) (xs : List ℕ) → length (concat (replicate n xs)) ≡ n * length xs
 length-replicated zero xs = omega arith
 length-replicated (suc n) xs = omega (arith, length-append xs (concat (replicate n xs)), length-replicated n xs)
 
@@ -354,3 +354,12 @@ agree-whole h bytes n [] (array ∷ arrays) are = absurd are
 agree-whole h bytes n (var ∷ vars) [] are = absurd are
 agree-whole h bytes n (var ∷ vars) (array ∷ arrays) are =
     All-cons (λ (v : Var). first_missing h bytes v n ≡ None) var vars are.0.whole (agree-whole h bytes n vars arrays are.1)
+
+pub length-numbers : (ty : NcType) (values : List ℤ) → length (flat_map (bytes_of_number ty) values) ≡ length values * size_of ty
+length-numbers ty [] = let e : 0 ≡ 0 * size_of ty = omega arith in e
+length-numbers ty (x ∷ values) =
+    let here = length-number ty x in
+    let rest = length-numbers ty values in
+    let all = length-append (bytes_of_number ty x) (flat_map (bytes_of_number ty) values) in
+    let e : suc (length values) * size_of ty ≡ size_of ty + length values * size_of ty = grind arith in
+    omega (arith, here, rest, all, e)

@@ -1,6 +1,6 @@
 -- Listed rows and the same with each row filled up: what is added at their end, where each row stands, and how long all are.
 use Rattle.std.proofs.Common.{◌≡◌, ℕ, zero, suc, ◌+◌, ◌-◌, ◌*◌, ◌/◌, ◌%◌, ◌<◌, ◌≤◌, min, max, List, [], ◌∷◌, ◌++◌, length, get_or, take, drop, refl, sym, ◌∙◌, ap, subst, arith, append_assoc, append-nil, length-append, inl, inr, replicate}
-use Rattle.nc_base.proofs.Prelude.{div-lt_iff_lt-mul, mod-lt, cases_lt, take-append-drop, take-append-le, drop-append-le, length-take-le, length-drop, length-replicate, take_all, drop_all, drop-drop, drop-replicate, drop_at, drop_more, filled_rows, AreRowEnds, StandAt, row_start}
+use Rattle.nc_base.proofs.Prelude.{div-lt_iff_lt-mul, mod-lt, cases_lt, take-append-drop, take-append-le, drop-append-le, length-take-le, length-drop, length-replicate, take_all, drop_all, drop-drop, drop-replicate, drop_at, drop_more, filled_rows, AreRowEnds, StandAt, row_start, some_right}
 
 -- a row with n listed bytes, filled up
 abbrev row : ℕ → ℕ → ℕ → List ℕ → List ℕ
@@ -273,10 +273,6 @@ after_rows len last fill ends bytes skipped are held =
       some = λ inside. omega (arith, inside, long, held, length-drop (last + skipped) bytes);
     }
 
-some-len : (n len at : ℕ) → at < n * len → 0 < len
-some-len n zero at inside = absurd (omega (arith, inside))
-some-len n (suc len) at inside = omega arith
-
 -- the row that a place lies in
 pub record RowOf (len last at : ℕ) (ends : List ℕ) : Type 0 where
   pub column : at % len < len
@@ -285,7 +281,7 @@ pub record RowOf (len last at : ℕ) (ends : List ℕ) : Type 0 where
 
 pub row-of : (len last at n : ℕ) (ends : List ℕ) → AreRowEnds len 0 ends last → n ≡ length ends → at < n * len → RowOf len last at ends
 row-of len last at n ends are all inside =
-    let some : 0 < len = some-len n len at inside in
+    let some : 0 < len = some_right n len at inside in
     let of : at / len < n = (div-lt_iff_lt-mul some).1 inside in
     record { column = mod-lt at some; of = omega (arith, of, all); is = row_is len last 0 ends (at / len) 0 are (omega (arith, of, all)) }
 

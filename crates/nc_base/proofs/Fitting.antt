@@ -1,19 +1,7 @@
 -- Headers whose begins fit their fields.
 use Rattle.std.proofs.Common.{◌≡◌, ℕ, ◌<◌, Bool, true, false, ◌&&◌, List, [], ◌∷◌, length, refl, sym, subst, Ok, Err, All, nat_lt, if◌then◌else◌}
-use Rattle.nc_base.proofs.Prelude.{list_all, lt-ltb, ltb-true, All-nil, All-cons, All-head, All-tail, Var, Header, offset_limit, IsSound, header_spelling, with_begins, Fits, fits}
+use Rattle.nc_base.proofs.Prelude.{list_all, lt-ltb, ltb-true, All-nil, All-cons, All-head, All-tail, Var, Header, offset_limit, IsSound, header_spelling, with_begins, Fits, fits, and_left, and_right, and_both}
 use Rattle.nc_base.proofs.FileHolds.{len-after, sound-after}
-
-and-left : (a b : Bool) → (a && b) ≡ true → a ≡ true
-and-left true b e = refl
-and-left false b e = e
-
-and-right : (a b : Bool) → (a && b) ≡ true → b ≡ true
-and-right true b e = e
-and-right false b e = cc
-
-and-both : (a b : Bool) → a ≡ true → b ≡ true → (a && b) ≡ true
-and-both true b e f = f
-and-both false b e f = e
 
 -- the begin is below the limit
 abbrev pub is_below : ℕ → Var → Bool
@@ -25,13 +13,13 @@ IsBelow limit var = var.begin_at < limit
 pub All-from_list_all : (limit : ℕ) (vars : List Var) → list_all (is_below limit) vars ≡ true → All (IsBelow limit) vars
 All-from_list_all limit [] below = All-nil (IsBelow limit)
 All-from_list_all limit (var ∷ vars) below =
-    All-cons (IsBelow limit) var vars (ltb-true var.begin_at limit (and-left (is_below limit var) (list_all (is_below limit) vars) below))
-    (All-from_list_all limit vars (and-right (is_below limit var) (list_all (is_below limit) vars) below))
+    All-cons (IsBelow limit) var vars (ltb-true var.begin_at limit (and_left (is_below limit var) (list_all (is_below limit) vars) below))
+    (All-from_list_all limit vars (and_right (is_below limit var) (list_all (is_below limit) vars) below))
 
 pub list_all-from_All : (limit : ℕ) (vars : List Var) → All (IsBelow limit) vars → list_all (is_below limit) vars ≡ true
 list_all-from_All limit [] below = refl
 list_all-from_All limit (var ∷ vars) below =
-    and-both (is_below limit var) (list_all (is_below limit) vars) (lt-ltb var.begin_at limit (All-head (IsBelow limit) var vars below))
+    and_both (is_below limit var) (list_all (is_below limit) vars) (lt-ltb var.begin_at limit (All-head (IsBelow limit) var vars below))
     (list_all-from_All limit vars (All-tail (IsBelow limit) var vars below))
 
 -- the test and the property are the same

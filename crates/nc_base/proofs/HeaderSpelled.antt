@@ -1,6 +1,6 @@
 -- The spelling of a sound header with valid names is one by the grammar.
 use Rattle.std.proofs.Common.{◌≡◌, ℕ, suc, ◌+◌, ◌-◌, ◌*◌, ◌/◌, ◌^◌, ◌<◌, ◌≤◌, Bool, true, false, cond, List, [], ◌∷◌, ◌++◌, length, replicate, refl, sym, ◌∙◌, ap, subst, arith, append_assoc, length-append, filter, All, nat_lt, ◌==◌, ◌||◌, IsTrue, if◌then◌else◌}
-use Rattle.nc_base.proofs.Prelude.{Width, w32, to_be_bytes, byte_len, flat_map, sum_by, mul-div_cancel, ltb-true, eq-eqb, append-nil, length-replicate, filter-append, All-head, All-tail, All-filter, All-weaker, sum-map, sum_by-append, Att, Dim, Var, Header, NumRecs, Known, Streaming, NcType, Byte, Char, Short, Int, Ubyte, Ushort, Uint, Int64, Uint64, Version, Cdf1, Cdf2, Cdf5, padding_len, code_of, size_of, version_byte, count_width, offset_width, count_limit, offset_limit, streaming_mark, has_type, IsName, is_record_var, slab_size, padded_size, padded_total, record_size_of, record_vars, slab_limit, record_limit, has_record_dim, IsDimid, AreDimids, IsSoundAtt, IsSoundVar, IsSoundDim, IsSoundNumRecs, IsSound, HasValidNames, dimension_tag, variable_tag, attribute_tag, SpellsNumber, SpellsCount, SpellsPadded, SpellsName, SpellsType, ElementSpelling, SpellsEach, SpellsCounted, SpellsList, absent, present, SpellsDim, SpellsAtt, SpellsAtts, SpellsDimid, IsWithinLimits, SpellsVar, SpellsNumRecs, SpellsHeader, word_spelling, magic_spelling, count_spelling, zero_padded, name_spelling, list_spelling, dim_spelling, att_spelling, atts_spelling, vsize_of, var_spelling, numrecs_spelling, header_spelling}
+use Rattle.nc_base.proofs.Prelude.{Width, w32, to_be_bytes, byte_len, flat_map, sum_by, mul-div_cancel, ltb-true, eq-eqb, append-nil, length-replicate, filter-append, All-head, All-tail, All-filter, All-weaker, sum-map, sum_by-append, Att, Dim, Var, Header, NumRecs, Known, Streaming, NcType, Byte, Char, Short, Int, Ubyte, Ushort, Uint, Int64, Uint64, Version, Cdf1, Cdf2, Cdf5, padding_len, code_of, size_of, version_byte, count_width, offset_width, count_limit, offset_limit, streaming_mark, has_type, IsName, is_record_var, slab_size, padded_size, padded_total, record_size_of, record_vars, slab_limit, record_limit, has_record_dim, IsDimid, AreDimids, IsSoundAtt, IsSoundVar, IsSoundDim, IsSoundNumRecs, IsSound, HasValidNames, dimension_tag, variable_tag, attribute_tag, SpellsNumber, SpellsCount, SpellsPadded, SpellsName, SpellsType, ElementSpelling, SpellsEach, SpellsCounted, SpellsList, absent, present, SpellsDim, SpellsAtt, SpellsAtts, SpellsDimid, IsWithinLimits, SpellsVar, SpellsNumRecs, SpellsHeader, word_spelling, magic_spelling, count_spelling, zero_padded, name_spelling, list_spelling, dim_spelling, att_spelling, atts_spelling, vsize_of, var_spelling, numrecs_spelling, header_spelling, not_none}
 use Rattle.nc_base.proofs.SoundLaws.{some_size}
 
 -- ---- numbers
@@ -25,7 +25,7 @@ offset-fits Cdf5 n lt = omega arith
 count : (v : Version) (n : ℕ) (rest : List ℕ) → n < count_limit v → SpellsCount v (count_spelling v n ++ rest) n rest
 count v n rest lt = record { number = number (count_width v) n rest (count-fits v n lt); non_negative = lt }
 
-some-limit : (v : Version) → 0 < count_limit v
+pub some-limit : (v : Version) → 0 < count_limit v
 some-limit Cdf1 = omega arith
 some-limit Cdf2 = omega arith
 some-limit Cdf5 = omega arith
@@ -89,9 +89,6 @@ counted v Element spelling xs rest lt spelled =
       each = each Element spelling xs [] xs rest spelled refl;
     })
 
-some-first : (n : ℕ) → (suc n == 0) ≡ false
-some-first n = grind arith
-
 list : {A : Type 0} (v : Version) (tag : ℕ) (Element : ElementSpelling A) (spelling : A → List ℕ) (xs : List A) (rest : List ℕ)
     → tag < 256 ^ byte_len w32 → length xs < count_limit v → Spelled Element spelling xs → SpellsList v tag Element (list_spelling v tag spelling xs ++ rest) xs rest
 list v tag Element spelling [] rest fits lt spelled =
@@ -103,7 +100,7 @@ list v tag Element spelling (x ∷ xs) rest fits lt spelled =
     let c = count_spelling v (length (x ∷ xs)) in
     let f = flat_map spelling (x ∷ xs) in
     subst (λ (b : List ℕ). SpellsList v tag Element b (x ∷ xs) rest)
-    (sym (ap (λ (b : Bool). ((word_spelling (if b then 0 else tag) ++ c) ++ f) ++ rest) (some-first (length xs)) ∙ append_assoc (w ++ c) f rest ∙ append_assoc w c (f ++ rest) ∙ ap (λ (b : List ℕ). w ++ b) (sym (append_assoc c f rest))))
+    (sym (ap (λ (b : Bool). ((word_spelling (if b then 0 else tag) ++ c) ++ f) ++ rest) (not_none (length xs)) ∙ append_assoc (w ++ c) f rest ∙ append_assoc w c (f ++ rest) ∙ ap (λ (b : List ℕ). w ++ b) (sym (append_assoc c f rest))))
     (present ((c ++ f) ++ rest) (word tag ((c ++ f) ++ rest) fits) (counted v Element spelling (x ∷ xs) rest lt spelled))
 
 -- what holds of each element holds of one

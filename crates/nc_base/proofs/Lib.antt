@@ -1,3 +1,4 @@
+pub mod Tests
 pub mod FilledRows
 pub mod NameLemmas
 pub mod NumberBytes

@@ -38,7 +38,7 @@ pub use Rattle.std.proofs.Math.Nat.{div-lt_iff_lt-mul, div-mul-le_self, mod-add-
 pub use Rattle.std.proofs.Math.Seq.{take-add, take-append_seam}
 pub use Rattle.std.proofs.lemmas.Bool.{cases_lt, cond-false, cond-true, eq-eqb, eqb-false, eqb-true, false_from_ne_true, le-leb, le-ltb, leb-true, lt-ltb, ltb-false, ltb-true}
 pub use Rattle.std.proofs.lemmas.Bool.Decides.{leb_tells, nat_tests}
-pub use Rattle.std.proofs.lemmas.Grind.{common_steps}
+pub use Rattle.std.proofs.lemmas.Grind.{common_steps, flat_map-append}
 pub use Rattle.std.proofs.lemmas.List.{append-nil, drop-append-le, drop-drop, drop-replicate, drop_all, drop_at, drop_min, drop_more, length-append, length-drop, length-map, length-replicate, length-reverse, length-take, length-take-le, map-append, nil_from_length, reverse-append, take-append-drop, take-append-le, take_all, take_at}
 pub use Rattle.std.proofs.lemmas.List.Elements.{All-append, All-cons, All-filter, All-from_get_or, All-from_recursion, All-get_or, All-head, All-map, All-nil, All-tail, All-weaker, filter-append, filter_more}
 pub use Rattle.std.proofs.lemmas.List.Folds.{concat-append, list_all-append, list_any_at, prefix_len-append}
@@ -50,3 +50,5 @@ pub use Rattle.std.specs.Int.{FitsUnsigned, Width, byte_len, cast_signed, cast_u
 pub use Rattle.std.specs.List.{AllByRecursion, after_last, before_last, concat, count_by, flat_map, last_or, list_all, list_any, position, position_or_len, prefix_len, range_with_len, suffix_len, sum_by}
 pub use Rattle.std.specs.Str.{IsUtf8, bytes_eq}
 unfoldable pub use Rattle.std.specs.Str.{is_utf8}
+pub use Rattle.nc_base.proofs.Tests.{and_left, and_right, and_both, not_none, some_right}
+pub use Rattle.nc_base.specs.Escapes.{escaped_in_string}

@@ -40,7 +40,7 @@ joined-rows size b base stride strides vs k (suc n) =
     ∙ ap (λ (xs : List ℕ). xs ++ joined size b base (stride ∷ strides) (flat_map (λ i. map (λ (index : List ℕ). i ∷ index) vs) (range_with_len (k + 1) n))) (joined-row size b base k stride strides vs)
     ∙ ap (λ (xs : List ℕ). joined size b (base + k * stride) strides vs ++ xs) (joined-rows size b base stride strides vs (k + 1) n)
 
-flat_map-same : (f g : ℕ → List ℕ) (xs : List ℕ) → ((x : ℕ) → f x ≡ g x) → flat_map f xs ≡ flat_map g xs
+pub flat_map-same : (f g : ℕ → List ℕ) (xs : List ℕ) → ((x : ℕ) → f x ≡ g x) → flat_map f xs ≡ flat_map g xs
 flat_map-same f g [] same = refl
 flat_map-same f g (x ∷ xs) same = ap (λ (ys : List ℕ). ys ++ flat_map f xs) (same x) ∙ ap (λ (ys : List ℕ). g x ++ ys) (flat_map-same f g xs same)
 

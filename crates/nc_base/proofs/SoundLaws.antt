@@ -1,14 +1,6 @@
 -- What a sound header keeps.
 use Rattle.std.proofs.Common.{◌≡◌, ℕ, zero, suc, ◌+◌, ◌*◌, ◌/◌, ◌%◌, ◌<◌, ◌≤◌, Bool, true, false, ◌&&◌, ◌||◌, List, [], ◌∷◌, ◌++◌, length, get_or, drop, map, refl, sym, ◌∙◌, ap, subst, arith, Option, Some, None, filter, nat_le, nat_lt, ◌==◌, not, if◌then◌else◌, IsTrue, All, IsSome, SomeIff, is_some, IfSome, ◌-◌}
-use Rattle.nc_base.proofs.Prelude.{list_all, count_by, mul-le-mul_left, mod-eq-sub-div-mul, div-mul-le_self, le-leb, leb-true, ltb-true, lt-ltb, length-map, div-mul-add, nat_tests, All-filter, All-head, All-tail, All-weaker, All-get_or, All-map, sum-map, sum_by-cons, length-filter, size_of, dim_len, product, is_record_dim, is_record_var, is_narrow, slab_lens, slab_size, padded_size, record_size_of, record_vars, record_size, slab_limit, record_limit, has_small_slab, checked_record_size, first_begin, slab_at, is_fixed_dim, has_values, IsSound, IsSoundVar, HasWholeValues, AreDimids, NcType, Byte, Char, Short, Int, Ubyte, Ushort, Uint, Int64, Uint64, Version, count_limit, Att, Dim, Var, Header, NumRecs, Streaming, records_between, least_begin, record_count}
-
-and_first : (a b : Bool) → (a && b) ≡ true → a ≡ true
-and_first true b h = refl
-and_first false b h = cc
-
-and_second : (a b : Bool) → (a && b) ≡ true → b ≡ true
-and_second true b h = h
-and_second false b h = cc
+use Rattle.nc_base.proofs.Prelude.{list_all, count_by, mul-le-mul_left, mod-eq-sub-div-mul, div-mul-le_self, le-leb, leb-true, ltb-true, lt-ltb, length-map, div-mul-add, nat_tests, All-filter, All-head, All-tail, All-weaker, All-get_or, All-map, sum-map, sum_by-cons, length-filter, size_of, dim_len, product, is_record_dim, is_record_var, is_narrow, slab_lens, slab_size, padded_size, record_size_of, record_vars, record_size, slab_limit, record_limit, has_small_slab, checked_record_size, first_begin, slab_at, is_fixed_dim, has_values, IsSound, IsSoundVar, HasWholeValues, AreDimids, NcType, Byte, Char, Short, Int, Ubyte, Ushort, Uint, Int64, Uint64, Version, count_limit, Att, Dim, Var, Header, NumRecs, Streaming, records_between, least_begin, record_count, and_left, and_right}
 
 not_both : (b : Bool) → not b ≡ true → b ≡ true → ⊥
 not_both true p q = cc
@@ -47,7 +39,7 @@ small-checked h some =
 fixed_len : (a b n : ℕ) → a < b → (nat_lt a b && (n == 0)) ≡ false → 0 < n
 fixed_len a b n lt h = grind (arith, nat_tests)
 
-some_product : (a b : ℕ) → 0 < a → 0 < b → 0 < a * b
+pub some_product : (a b : ℕ) → 0 < a → 0 < b → 0 < a * b
 some_product a b p q = omega (arith, mul-le-mul_left a (let h : 1 ≤ b = omega arith in h))
 
 push_is_some : (xs : List ℕ) (x : ℕ) → xs ++ x ∷ [] ≡ [] → ⊥
@@ -122,11 +114,11 @@ IsSome-from_SomeIff (Some x) P n h p = refl
 fixed_shape : (dims : List Dim) (before ids : List ℕ) → list_all (is_fixed_dim dims) ids ≡ true → AreDimids dims before ids
 fixed_shape dims before [] h = tt
 fixed_shape dims before (id ∷ ids) h =
-    let here : is_fixed_dim dims id ≡ true = and_first (is_fixed_dim dims id) _ h in
-    let known : nat_lt id (length dims) ≡ true = and_first (nat_lt id (length dims)) _ here in
-    let fixed : not (is_record_dim dims id) ≡ true = and_second (nat_lt id (length dims)) _ here in (
+    let here : is_fixed_dim dims id ≡ true = and_left (is_fixed_dim dims id) _ h in
+    let known : nat_lt id (length dims) ≡ true = and_left (nat_lt id (length dims)) _ here in
+    let fixed : not (is_record_dim dims id) ≡ true = and_right (nat_lt id (length dims)) _ here in (
       record { known = ltb-true id (length dims) known; record_first = λ is. absurd (not_both (is_record_dim dims id) fixed is) },
-      fixed_shape dims (before ++ id ∷ []) ids (and_second (is_fixed_dim dims id) _ h),
+      fixed_shape dims (before ++ id ∷ []) ids (and_right (is_fixed_dim dims id) _ h),
     )
 
 shape_fixed : (dims : List Dim) (before ids : List ℕ) → (before ≡ [] → ⊥) → AreDimids dims before ids → list_all (is_fixed_dim dims) ids ≡ true

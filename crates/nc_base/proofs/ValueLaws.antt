@@ -1,6 +1,6 @@
 -- The text of a variable's values, cut in pieces.
 use Rattle.std.proofs.Common.{◌≡◌, ℕ, zero, suc, ℤ, pos, negsuc, ◌+◌, ◌-◌, ◌*◌, ◌/◌, ◌%◌, ◌<◌, ◌≤◌, Bool, true, false, cond, eqb, not, nat_lt, List, [], ◌∷◌, ◌++◌, length, drop, reverse, sym, ◌∙◌, ap, refl, arith, append_assoc, length-append, length-drop, append-nil, ⊎_elim, codes, ◌==◌, ◌&&◌}
-use Rattle.nc_base.proofs.Prelude.{decimal, signed_decimal, digit_glyph, digits_onto, digits, suffix_len, prefix_len, mod-add-mod, mod_self, mod-lt, mod-zero, cases_lt, eq-eqb, eqb-true, eqb-false, cond-true, cond-false, reverse-append, length-reverse, drop-append-le, drop_all, prefix_len-append, prefix_len-le-length, mod-mul-add, Look, column, number_text, is_nul, row_so_far, held, piece, pieces, opening, variable_prefix, later_pieces}
+use Rattle.nc_base.proofs.Prelude.{decimal, signed_decimal, digit_glyph, digits_onto, digits, suffix_len, prefix_len, mod-add-mod, mod_self, mod-lt, mod-zero, cases_lt, eq-eqb, eqb-true, eqb-false, cond-true, cond-false, reverse-append, length-reverse, drop-append-le, drop_all, prefix_len-append, prefix_len-le-length, mod-mul-add, Look, column, number_text, is_nul, row_so_far, held, piece, pieces, opening, variable_prefix, later_pieces, flat_map-append, escaped_text, escaped_in_string, look_of, NcType, Header, Var, numbers_from, size_of}
 use Rattle.std.specs.Ordering.{int_eq}
 
 -- ---- cutting the values
@@ -169,3 +169,15 @@ held-le look xs = by look.trimmed
     by : (b : Bool) → cond b (suffix_len is_nul (row_so_far look xs)) 0 ≤ length xs
     by true = omega (arith, prefix_len-le-length is_nul (reverse (row_so_far look xs)), length-reverse (row_so_far look xs), length-drop (length xs - length xs % look.row) xs)
     by false = omega arith
+
+pub escaped-append : (a b : List ℕ) → escaped_text (a ++ b) ≡ escaped_text a ++ escaped_text b
+unfolding escaped_text
+escaped-append a b = flat_map-append escaped_in_string a b
+
+pub look-type : (h : Header) (var : Var) (n width : ℕ) → (look_of h var n width).ty ≡ var.ty
+unfolding look_of
+look-type h var n width = refl
+
+pub length-numbers_from : (ty : NcType) (n : ℕ) (bytes : List ℕ) → length (numbers_from ty n bytes) ≡ n
+length-numbers_from ty zero bytes = refl
+length-numbers_from ty (suc n) bytes = ap suc (length-numbers_from ty n (drop (size_of ty) bytes))

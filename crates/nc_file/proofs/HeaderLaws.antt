@@ -1,18 +1,18 @@
 -- A header is read as the grammar says.
 use Rattle.std.proofs.Common.{◌≡◌, ℕ, suc, true, false, leb, List, [], ◌∷◌, Option, Some, None, refl, sym, ap, subst, ◌∙◌, arith, ◌==◌, ◌&&◌}
-use Rattle.nc_file.proofs.Prelude.{eqb-true, eqb-false, leb-true, leb-false, byte_len, FormatFault, Known, Streaming, Version, Cdf1, Cdf2, Cdf5, AreBytes, version_byte, version_of_byte, count_width, count_limit, streaming_mark, SpellsNumber, SpellsMagic, SpellsNumRecs, SpellsStart, SpellsUpToDims, SpellsUpToGatts, SpellsHeader, StopsInMagic, cut_magic, other_magic, cut_version, bad_version, StopsInNumRecs, cut_numrecs, negative_numrecs, StopsWith, in_magic, in_numrecs, in_dims, in_gatts, in_vars, done, stop, byte_or, version_or, version_at, magic_at, numrecs_at, header_at}
+use Rattle.nc_file.proofs.Prelude.{eqb-true, eqb-false, leb-true, leb-false, byte_len, FormatFault, Known, Streaming, Version, Cdf1, Cdf2, Cdf5, AreBytes, version_byte, version_of_byte, count_width, count_limit, streaming_mark, SpellsNumber, SpellsMagic, SpellsNumRecs, SpellsStart, SpellsUpToDims, SpellsUpToGatts, SpellsHeader, StopsInMagic, cut_magic, other_magic, cut_version, bad_version, StopsInNumRecs, cut_numrecs, negative_numrecs, StopsWith, in_magic, in_numrecs, in_dims, in_gatts, in_vars, done, stop, byte_or, version_or, version_at, magic_at, numrecs_at, header_at, and_parts}
 use Rattle.nc_file.specs.code.Reading.{◌>>=◌}
 use Rattle.nc_file.proofs.Means.{Means, spells, stops, means-next, means-cond, AreBytes-tail}
 use Rattle.nc_file.proofs.FieldLaws.{CutBytes, cut_bytes, count-wide, means-number, found}
-use Rattle.nc_file.proofs.ListLaws.{means-dims, means-atts, and-true}
+use Rattle.nc_file.proofs.ListLaws.{means-dims, means-atts}
 use Rattle.nc_file.proofs.VariableLaws.{means-vars}
 
 -- ---- the magic
 
 pub three-bytes : (a b c : ℕ) → ((a == 67) && (b == 68) && (c == 70)) ≡ true → (a ≡ 67) × (b ≡ 68) × (c ≡ 70)
 three-bytes a b c e =
-    let outer = and-true ((a == 67) && (b == 68)) (c == 70) e in
-    let inner = and-true (a == 67) (b == 68) outer.0 in
+    let outer = and_parts ((a == 67) && (b == 68)) (c == 70) e in
+    let inner = and_parts (a == 67) (b == 68) outer.0 in
     (eqb-true _ _ inner.0, eqb-true _ _ inner.1, eqb-true _ _ outer.1)
 
 other-bytes : (a b c : ℕ) → ((a == 67) && (b == 68) && (c == 70)) ≡ false → ¬ ((a ≡ 67) × (b ≡ 68) × (c ≡ 70))

@@ -1,6 +1,6 @@
 -- Lists, dimensions and attributes are read as the grammar says.
 use Rattle.std.proofs.Common.{◌≡◌, ◌≢◌, ℕ, zero, suc, ◌*◌, ◌<◌, Bool, true, false, cond, List, [], ◌∷◌, ◌++◌, length, inl, inr, refl, sym, ap, subst, ◌∙◌, append_assoc, arith, ◌==◌, ◌&&◌, not}
-use Rattle.nc_file.proofs.Prelude.{eqb-true, eqb-false, eq-eqb, append-nil, w32, FormatFault, HeaderTruncated, BadCount, Att, NcType, Version, AreBytes, padding_len, size_of, has_record_dim, ElementSpelling, dimension_tag, attribute_tag, SpellsNumber, SpellsCount, SpellsPadded, SpellsEach, SpellsCounted, SpellsList, absent, present, SpellsDim, SpellsAttPrefix, SpellsAtt, SpellsAtts, ElementStop, StopsInCount, StopsInEach, in_count, in_element, StopsInList, cut_tag, bad_tag, in_absent_count, absent_elements, in_present, StopsInDim, in_dim_name, in_dim_len, second_record_dim, StopsInAtt, in_att_name, in_att_type, in_att_count, cut_values, cut_value_padding, StopsInAtts, Part, next, done, stop, list_len_at, list_at, padded_at, each_at, dim_at, dim_after, dim_list_at, att_at, att_after, att_list_at}
+use Rattle.nc_file.proofs.Prelude.{eqb-true, eqb-false, eq-eqb, append-nil, w32, FormatFault, HeaderTruncated, BadCount, Att, NcType, Version, AreBytes, padding_len, size_of, has_record_dim, ElementSpelling, dimension_tag, attribute_tag, SpellsNumber, SpellsCount, SpellsPadded, SpellsEach, SpellsCounted, SpellsList, absent, present, SpellsDim, SpellsAttPrefix, SpellsAtt, SpellsAtts, ElementStop, StopsInCount, StopsInEach, in_count, in_element, StopsInList, cut_tag, bad_tag, in_absent_count, absent_elements, in_present, StopsInDim, in_dim_name, in_dim_len, second_record_dim, StopsInAtt, in_att_name, in_att_type, in_att_count, cut_values, cut_value_padding, StopsInAtts, Part, next, done, stop, list_len_at, list_at, padded_at, each_at, dim_at, dim_after, dim_list_at, att_at, att_after, att_list_at, and_parts}
 use Rattle.nc_file.specs.code.Reading.{◌>>=◌}
 use Rattle.nc_file.proofs.Means.{Means, spells, stops, means-next, means-map, means-cond}
 use Rattle.nc_file.proofs.FieldLaws.{CutBytes, cut_bytes, Taken, wide-32, padded-at, means-number, means-count, means-bytes, means-skip, means-name, means-type}
@@ -147,17 +147,13 @@ and-false : (a b : Bool) → (a && b) ≡ false → b ≡ true → a ≡ false
 and-false true b e f = absurd cc
 and-false false b e f = refl
 
-pub and-true : (a b : Bool) → (a && b) ≡ true → (a ≡ true) × (b ≡ true)
-and-true true b e = (refl, e)
-and-true false b e = absurd cc
-
 dim-read : (v : Version) → ReadsElement (SpellsDim v) (StopsInDim v) (dim_after v)
 unfolding dim_at ◌>>=◌ done stop
 dim-read v before bytes fits =
     means-next _ (means-name v bytes fits)
     (λ name after_name named more. means-next _ (means-count v after_name more)
     (λ len rest counted more2. means-cond (has_record_dim before && (len == 0)) _ _ rest
-    (λ second. let h = and-true (has_record_dim before) (len == 0) second in
+    (λ second. let h = and_parts (has_record_dim before) (len == 0) second in
     stops _ _ (second_record_dim name after_name rest named (subst (λ (n : ℕ). SpellsCount v after_name n rest) (eqb-true _ _ h.1) counted) h.0))
     (λ single. spells (record { name = name; len = len }) rest
     (record { after_name = after_name; name = named; len = counted; one_record_dim = λ none. and-false (has_record_dim before) (len == 0) single (eq-eqb len 0 none) }) more2))

@@ -40,3 +40,4 @@ pub use Rattle.std.proofs.lemmas.Result.{err_from_is_err_and}
 pub use Rattle.std.specs.Bool.{OnTrue}
 pub use Rattle.std.specs.Int.{Width, byte_len, from_be_bytes, to_be_bytes, w32, w64}
 pub use Rattle.std.specs.List.{AllByRecursion, flat_map, list_all, sum_by}
+pub use Rattle.nc_base.proofs.Tests.{and_both, is_off, and_parts}

@@ -1,21 +1,17 @@
 -- Variables are read as the grammar says.
 use Rattle.std.proofs.Common.{◌≡◌, ℕ, ◌+◌, ◌≤◌, Bool, true, false, cond, leb, ltb, List, [], ◌∷◌, length, Some, None, refl, sym, ap, subst, arith, ◌==◌, ◌||◌, ◌&&◌, not, sum}
-use Rattle.nc_file.proofs.Prelude.{eqb-true, leb-true, leb-false, ltb-true, byte_len, FormatFault, HeaderTruncated, BadOffset, TooLarge, Att, Dim, Var, NcType, Byte, Version, AreBytes, count_width, offset_width, offset_limit, is_record_dim, slab_of, slab_limit, record_limit, IsDimid, variable_tag, SpellsNumber, SpellsOffset, SpellsType, SpellsCounted, SpellsList, SpellsDimid, SpellsVar, SpellsVarPrefix, SpellsTypedVar, IsWithinLimits, IsCutNumber, StopsInCounted, in_count, in_element, StopsInList, StopsInDimid, cut_dimid, bad_dimid, StopsInVar, in_var_name, in_shape, in_var_atts, in_var_type, too_large, cut_vsize, cut_begin, negative_begin, SizedVar, next, done, stop, number_at, is_dimid, dimid_at, dimid_after, shape_at, offset_at, record_part, total_with, total_or_wrong, var_at, var_after, var_list_at, each_at, list_at}
+use Rattle.nc_file.proofs.Prelude.{eqb-true, leb-true, leb-false, ltb-true, byte_len, FormatFault, HeaderTruncated, BadOffset, TooLarge, Att, Dim, Var, NcType, Byte, Version, AreBytes, count_width, offset_width, offset_limit, is_record_dim, slab_of, slab_limit, record_limit, IsDimid, variable_tag, SpellsNumber, SpellsOffset, SpellsType, SpellsCounted, SpellsList, SpellsDimid, SpellsVar, SpellsVarPrefix, SpellsTypedVar, IsWithinLimits, IsCutNumber, StopsInCounted, in_count, in_element, StopsInList, StopsInDimid, cut_dimid, bad_dimid, StopsInVar, in_var_name, in_shape, in_var_atts, in_var_type, too_large, cut_vsize, cut_begin, negative_begin, SizedVar, next, done, stop, number_at, is_dimid, dimid_at, dimid_after, shape_at, offset_at, record_part, total_with, total_or_wrong, var_at, var_after, var_list_at, each_at, list_at, is_off, and_parts}
 use Rattle.nc_file.specs.code.Reading.{◌>>=◌}
 use Rattle.nc_file.proofs.Totals.{total_of, total_of-append}
 use Rattle.nc_file.proofs.Means.{Means, spells, stops, means-next, means-map, means-cond}
 use Rattle.nc_file.proofs.FieldLaws.{CutBytes, cut_bytes, count-wide, offset-wide, means-number, means-count, means-name, means-type}
-use Rattle.nc_file.proofs.ListLaws.{ReadsElement, means-each, counted, means-list, means-atts, and-true}
+use Rattle.nc_file.proofs.ListLaws.{ReadsElement, means-each, counted, means-list, means-atts}
 
 -- ---- dimension ids
 
 -- there are no elements before
 abbrev pub is_first : List ℕ → Bool
 is_first before = length before == 0
-
-not-true : (b : Bool) → not b ≡ true → b ≡ false
-not-true true e = absurd cc
-not-true false e = refl
 
 first-or-fixed : (first record_dim : Bool) → (first || not record_dim) ≡ true → record_dim ≡ true → first ≡ true
 first-or-fixed true r e f = refl
@@ -28,7 +24,7 @@ length-none (x ∷ xs) e = let none : length (x ∷ xs) ≡ 0 = eqb-true _ _ e i
 
 pub is-dimid : (dims : List Dim) (before : List ℕ) (id : ℕ) → is_dimid dims (is_first before) id ≡ true → IsDimid dims before id
 is-dimid dims before id e =
-    let h = and-true (ltb id (length dims)) (is_first before || not (is_record_dim dims id)) e in
+    let h = and_parts (ltb id (length dims)) (is_first before || not (is_record_dim dims id)) e in
     record { known = ltb-true _ _ h.0; record_first = λ r. length-none before (first-or-fixed (is_first before) (is_record_dim dims id) h.1 r) }
 
 pub known-and-first : (a first r : Bool) → a ≡ true → (r ≡ true → first ≡ true) → (a && (first || not r)) ≡ true

@@ -1,17 +1,12 @@
 -- The other direction: variables that are spelled are read, and reading stops with their first wrong field.
 use Rattle.std.proofs.Common.{◌≡◌, ℕ, ◌+◌, ◌≤◌, Bool, true, cond, leb, ltb, List, [], length, Some, None, Ok, Err, refl, ap, ◌∙◌, arith, ◌==◌, ◌&&◌}
-use Rattle.nc_file.proofs.Prelude.{leb-true, FormatFault, HeaderTruncated, BadOffset, TooLarge, Att, Dim, Var, NcType, Version, count_width, offset_width, offset_limit, is_record_dim, slab_of, slab_limit, record_limit, IsDimid, variable_tag, SpellsNumber, SpellsOffset, SpellsCounted, SpellsList, SpellsDimid, SpellsVar, SpellsVarPrefix, SpellsTypedVar, IsCutNumber, StopsInCounted, in_count, in_element, StopsInList, StopsInDimid, cut_dimid, bad_dimid, StopsInVar, in_var_name, in_shape, in_var_atts, in_var_type, too_large, cut_vsize, cut_begin, negative_begin, Format, SizedVar, Outcome, Part, done, stop, number_at, type_at, is_dimid, dimid_at, dimid_after, shape_at, offset_at, record_part, total_with, total_or_wrong, var_at, var_after, var_list_at, each_at, list_at}
+use Rattle.nc_file.proofs.Prelude.{leb-true, FormatFault, HeaderTruncated, BadOffset, TooLarge, Att, Dim, Var, NcType, Version, count_width, offset_width, offset_limit, is_record_dim, slab_of, slab_limit, record_limit, IsDimid, variable_tag, SpellsNumber, SpellsOffset, SpellsCounted, SpellsList, SpellsDimid, SpellsVar, SpellsVarPrefix, SpellsTypedVar, IsCutNumber, StopsInCounted, in_count, in_element, StopsInList, StopsInDimid, cut_dimid, bad_dimid, StopsInVar, in_var_name, in_shape, in_var_atts, in_var_type, too_large, cut_vsize, cut_begin, negative_begin, Format, SizedVar, Outcome, Part, done, stop, number_at, type_at, is_dimid, dimid_at, dimid_after, shape_at, offset_at, record_part, total_with, total_or_wrong, var_at, var_after, var_list_at, each_at, list_at, and_both, and_parts}
 use Rattle.nc_file.specs.code.Reading.{◌>>=◌}
 use Rattle.nc_file.proofs.FieldLaws.{count-wide, offset-wide}
-use Rattle.nc_file.proofs.ListLaws.{and-true}
 use Rattle.nc_file.proofs.Totals.{total_of}
 use Rattle.nc_file.proofs.VariableLaws.{is_first, is-dimid, known-and-first, Fits, within, fits-within}
 use Rattle.nc_file.proofs.Again.{then-ok, then-err, if-so, if-not, below-test, above-test, not-so, number-again, number-stops-again, count-again, count-stops-again, name-again, name-stops-again, type-again, type-stops-again}
 use Rattle.nc_file.proofs.ListsAgain.{ElementAgain, ElementStopsAgain, each-again, each-stops-again, list-again, list-stops-again, atts-again, atts-stop-again}
-
--- two tests that hold
-both-so : (a b : Bool) → a ≡ true → b ≡ true → (a && b) ≡ true
-both-so a b e f = ap (λ x. x && b) e ∙ f
 
 -- ---- dimension ids
 
@@ -78,7 +73,7 @@ pub total-again : (dims : List Dim) (ids : List ℕ) (ty : NcType) (total : ℕ)
 unfolding total_with done
 total-again dims ids ty total here fits =
     ap (λ b. (total_or_wrong (cond b (Some (total + record_part dims ids ty)) None)).run here)
-    (both-so (leb (slab_of dims ids ty) slab_limit) (leb (total + record_part dims ids ty) record_limit) (above-test _ _ fits.slab) (above-test _ _ fits.records))
+    (and_both (leb (slab_of dims ids ty) slab_limit) (leb (total + record_part dims ids ty) record_limit) (above-test _ _ fits.slab) (above-test _ _ fits.records))
 
 -- where the limits are passed, reading stops
 pub total-stops-again : (dims : List Dim) (ids : List ℕ) (ty : NcType) (total : ℕ) (here : List ℕ) → ¬ Fits dims ids ty total
@@ -87,7 +82,7 @@ unfolding total_with stop
 total-stops-again dims ids ty total here large =
     ap (λ b. (total_or_wrong (cond b (Some (total + record_part dims ids ty)) None)).run here)
     (not-so (leb (slab_of dims ids ty) slab_limit && leb (total + record_part dims ids ty) record_limit)
-    (λ e. let h = and-true (leb (slab_of dims ids ty) slab_limit) (leb (total + record_part dims ids ty) record_limit) e in
+    (λ e. let h = and_parts (leb (slab_of dims ids ty) slab_limit) (leb (total + record_part dims ids ty) record_limit) e in
     large (record { slab = leb-true _ _ h.0; records = leb-true _ _ h.1 })))
 
 -- ---- variables

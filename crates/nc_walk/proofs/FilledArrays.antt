@@ -1,7 +1,7 @@
 -- A slab of an array whose last values are owed: what of it is listed, and fill values.
 use Rattle.std.proofs.Common.{◌≡◌, ℕ, zero, suc, ◌+◌, ◌-◌, ◌*◌, ◌/◌, ◌<◌, ◌≤◌, inl, inr, Bool, true, false, List, [], ◌++◌, length, take, drop, replicate, refl, sym, ◌∙◌, ap, arith, append_assoc, length-append, length-take, length-drop, if◌then◌else◌}
-use Rattle.nc_walk.proofs.Prelude.{concat, mul-div_cancel, mul-le-mul_right, mul-le-mul_left, take-append-add, cases_lt, take-append-le, take_all, append-nil, drop_at, drop-drop, drop_all, drop-append-le, Dim, Var, NcType, Byte, Char, Short, Int, Ubyte, Ushort, Uint, Int64, Uint64, padding_len, fill_value, fill_bytes, padded_slab, slab_in, value_count, bytes_of_number, fills, owed_count, whole_array, IsListed, is_record_var, slab_count, slab_size, size_of, length-number, whole-padding, some_size, array_view, repeated, filled_slab, filled_record, filled_slabs}
-use Rattle.nc_walk.proofs.Repeats.{length-copies, copies-add, repeated-by}
+use Rattle.nc_walk.proofs.Prelude.{concat, mul-div_cancel, mul-le-mul_right, mul-le-mul_left, take-append-add, cases_lt, take-append-le, take_all, append-nil, drop_at, drop-drop, drop_all, drop-append-le, Dim, Var, NcType, Byte, Char, Short, Int, Ubyte, Ushort, Uint, Int64, Uint64, padding_len, fill_value, fill_bytes, padded_slab, slab_in, value_count, bytes_of_number, fills, owed_count, whole_array, IsListed, is_record_var, slab_count, slab_size, size_of, length-number, whole-padding, some_size, array_view, repeated, filled_slab, filled_record, filled_slabs, length-replicated}
+use Rattle.nc_walk.proofs.Repeats.{copies-add, repeated-by}
 
 -- ---- copies of one value
 
@@ -14,7 +14,7 @@ fills-copies var zero = refl
 fills-copies var (suc n) = ap (λ (x : List ℕ). bytes_of_number var.ty (fill_value var) ++ x) (fills-copies var n)
 
 length-values : (var : Var) (n : ℕ) → length (copies var n) ≡ n * size_of var.ty
-length-values var n = length-copies n (bytes_of_number var.ty (fill_value var)) ∙ ap (λ (k : ℕ). n * k) (length-number var.ty (fill_value var))
+length-values var n = length-replicated n (bytes_of_number var.ty (fill_value var)) ∙ ap (λ (k : ℕ). n * k) (length-number var.ty (fill_value var))
 
 -- the first of them
 first-values : (var : Var) (m n : ℕ) → m ≤ n → take (m * size_of var.ty) (copies var n) ≡ copies var m

@@ -1,16 +1,12 @@
 -- The offsets of a variable's values by their index vectors are those by their numbers, in the same order.
 use Rattle.std.proofs.Common.{◌≡◌, ℕ, zero, suc, ◌+◌, ◌*◌, ◌/◌, ◌%◌, ◌<◌, Bool, true, false, List, [], ◌∷◌, ◌++◌, length, map, sym, ◌∙◌, ap, refl, arith, if◌then◌else◌}
-use Rattle.nc_walk.proofs.Prelude.{flat_map, range_with_len, map-append, length-map-range_with_len, div-mul-add, mod-mul-add, mod_below, div-add-mod', Var, Header, size_of, product, is_record_var, slab_lens, record_size, value_count, vectors_below, slab_strides, distance, value_offset, value_offsets, lens_over, Slabs, total, offset, offsets_from, slabs_of, AreSlabsOf, Starts, standing, map-map}
+use Rattle.nc_walk.proofs.Prelude.{flat_map, range_with_len, map-append, length-map-range_with_len, div-mul-add, mod-mul-add, mod_below, div-add-mod', Var, Header, size_of, product, is_record_var, slab_lens, record_size, value_count, vectors_below, slab_strides, distance, value_offset, value_offsets, lens_over, Slabs, total, offset, offsets_from, slabs_of, AreSlabsOf, Starts, standing, map-map, some_right}
 use Rattle.nc_walk.proofs.Runs.{offset_at}
 
 -- the i-th index vector in row-major order
 abbrev pub vector_at : List ℕ → ℕ → List ℕ
 vector_at [] i = []
 vector_at (n ∷ ns) i = i / product ns ∷ vector_at ns (i % product ns)
-
-some_right : (a b i : ℕ) → i < a * b → 0 < b
-some_right a zero i lt = absurd (omega arith)
-some_right a (suc b) i lt = omega arith
 
 -- ---- one offset
 

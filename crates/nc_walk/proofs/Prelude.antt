@@ -3,7 +3,7 @@ pub use Rattle.devices.proofs.UpTo.{UpTo, appended-nothing, up-all, up-next, up-
 unfoldable pub use Rattle.devices.specs.Failures.{HasFailed}
 pub use Rattle.devices.specs.Sinks.{Appended, FailedPartway, Written}
 pub use Rattle.devices.specs.Sources.{BytesRead, Failed, SourceView, after}
-pub use Rattle.nc_base.proofs.FilePlaces.{flat_map-below, length-number, whole-padding}
+pub use Rattle.nc_base.proofs.FilePlaces.{flat_map-below, length-number, whole-padding, length-replicated}
 pub use Rattle.nc_base.proofs.SoundLaws.{some_count, some_size}
 pub use Rattle.nc_base.proofs.WholeValues.{length-whole, map-map, none-found, numbers-concat}
 pub use Rattle.nc_base.specs.Bytes.{padding_len}
@@ -46,3 +46,4 @@ pub use Rattle.std.proofs.lemmas.Nat.{div-add-mod', div-mul-add, div_below, mod-
 pub use Rattle.std.proofs.lemmas.Result.{err_from_is_err_and}
 pub use Rattle.std.specs.Bool.{OnTrue}
 pub use Rattle.std.specs.List.{concat, flat_map, position, position_or_len, range_with_len}
+pub use Rattle.nc_base.proofs.Tests.{some_right}

@@ -1,10 +1,6 @@
 -- A unit of eight bytes that is repeated.
 use Rattle.std.proofs.Common.{◌≡◌, ℕ, zero, suc, ◌+◌, ◌-◌, ◌*◌, ◌<◌, ◌≤◌, inl, inr, List, [], ◌∷◌, ◌++◌, length, take, replicate, refl, sym, ◌∙◌, ap, arith, length-append, append_assoc, min}
-use Rattle.nc_walk.proofs.Prelude.{concat, flat_map, mul-le-mul_left, take-append-add, cases_lt, take-append-le, take_all, append-nil, repeated}
-
-pub length-copies : (n : ℕ) (unit : List ℕ) → length (concat (replicate n unit)) ≡ n * length unit
-length-copies zero unit = omega arith
-length-copies (suc n) unit = omega (arith, length-append unit (concat (replicate n unit)), length-copies n unit)
+use Rattle.nc_walk.proofs.Prelude.{concat, flat_map, mul-le-mul_left, take-append-add, cases_lt, take-append-le, take_all, append-nil, repeated, length-replicated}
 
 pub copies-add : (unit : List ℕ) (m n : ℕ) → concat (replicate (m + n) unit) ≡ concat (replicate m unit) ++ concat (replicate n unit)
 copies-add unit zero n = let e : zero + n ≡ n = omega arith in ap (λ (k : ℕ). concat (replicate k unit)) e
@@ -16,7 +12,7 @@ copies-add unit (suc m) n =
 fewer-copies : (unit : List ℕ) (n k m : ℕ) → n ≤ k * length unit → k ≤ m → take n (concat (replicate k unit)) ≡ take n (concat (replicate m unit))
 fewer-copies unit n k m within le =
     let e : k + (m - k) ≡ m = omega arith in
-    sym (take-append-le n (concat (replicate k unit)) (concat (replicate (m - k) unit)) (omega (arith, within, length-copies k unit)))
+    sym (take-append-le n (concat (replicate k unit)) (concat (replicate (m - k) unit)) (omega (arith, within, length-replicated k unit)))
     ∙ ap (take n) (sym (copies-add unit k (m - k)) ∙ ap (λ (j : ℕ). concat (replicate j unit)) e)
 
 pub same-copies : (unit : List ℕ) (n k m : ℕ) → n ≤ k * length unit → n ≤ m * length unit → take n (concat (replicate k unit)) ≡ take n (concat (replicate m unit))
@@ -51,7 +47,7 @@ pub next-piece : (unit buffer : List ℕ) (k n piece : ℕ) → 0 < length unit 
     → repeated unit n ≡ take piece buffer ++ repeated unit (n - piece)
 next-piece unit buffer k n piece some copies piece_is =
     let is : buffer ≡ concat (replicate k unit) = copies ∙ flat-copies (replicate k unit) in
-    let len : length buffer ≡ k * length unit = ap length is ∙ length-copies k unit in
+    let len : length buffer ≡ k * length unit = ap length is ∙ length-replicated k unit in
     elim (cases_lt n (length buffer)) [
       | inl lt ↦
           let e : piece ≡ n = omega arith in
@@ -63,7 +59,7 @@ next-piece unit buffer k n piece some copies piece_is =
           let e : piece ≡ length buffer = omega arith in
           let whole : take piece buffer ≡ buffer = take_all piece buffer (omega arith) in
           let rest : ℕ = n - piece in
-          let sum : n ≡ length (concat (replicate k unit)) + rest = omega (arith, len, length-copies k unit) in
+          let sum : n ≡ length (concat (replicate k unit)) + rest = omega (arith, len, length-replicated k unit) in
           let up : rest * 1 ≤ rest * length unit = mul-le-mul_left rest some in
           sym (repeated-by unit n (k + rest) some (let f : (k + rest) * length unit ≡ k * length unit + rest * length unit = omega arith in omega (arith, f, len, up)))
           ∙ ap (take n) (copies-add unit k rest)

@@ -1,6 +1,6 @@
 -- Showing one variable: a walk and a printer that go on together.
 use Rattle.std.proofs.Common.{◌≡◌, ℕ, ◌+◌, ◌*◌, ◌≤◌, inl, inr, Bool, List, [], ◌++◌, length, take, refl, sym, ap, ◌∙◌, append_assoc, subst, arith, Option, Some, None, Ok, Err, ℤ, slice_get, unwrap_or, IfSome}
-use Rattle.ncdump.proofs.Prelude.{OnTrue, take-add, append-nil, take_all, length-append, Header, Var, size_of, numbers, value_count, stored_values, first_missing, Look, look_of, opening, closing, variable_prefix, variable_text, later_pieces, no_section, whole, data_truncated, values_before, prefix-append, prefix_nil, SourceView, after, SinkView, Appended, FailedPartway, appended_then, appended_partway, Pass, Walked, HasRead, IsChunk, GivesChunk, GivesEnd, GivesCut, GivesFailure, transparent_any, transparent_map, transparent_both, look_in, HasPrinted, Printed, Stopped, Takes, Dumped, dumped, whole_values, whole_bytes, Holds, IsShown, IsUnread, IsUnwritten}
+use Rattle.ncdump.proofs.Prelude.{OnTrue, take-add, append-nil, take_all, length-append, Header, Var, size_of, numbers, value_count, stored_values, first_missing, Look, look_of, opening, closing, variable_prefix, variable_text, later_pieces, no_section, whole, data_truncated, values_before, prefix-append, prefix_nil, SourceView, after, SinkView, Appended, FailedPartway, appended_then, appended_partway, Pass, Walked, HasRead, IsChunk, GivesChunk, GivesEnd, GivesCut, GivesFailure, transparent_any, transparent_map, transparent_both, look_in, HasPrinted, Printed, Stopped, Takes, Dumped, dumped, whole_values, whole_bytes, Holds, IsShown, IsUnread, IsUnwritten, look-type}
 use Rattle.std.proofs.Math.Nat.{mul-le-mul_right}
 use Rattle.nc_walk.specs.code.Walks.{WalkView, Starts, Steps, Advanced, count}
 use Rattle.nc_walk.specs.declared.fault.WalkFault.TheVariants as walk
@@ -29,10 +29,6 @@ some-at P None x is holds = absurd cc
 
 pub at-some : {X : Type 0} (P : X → Type 0) (o : Option X) (x : X) → o ≡ Some x → P x → IfSome o P
 at-some {X = X} P o x is holds = subst (λ (q : Option X). IfSome q P) (sym is) holds
-
-type-of : (h : Header) (var : Var) (n width : ℕ) → (look_of h var n width).ty ≡ var.ty
-unfolding look_of
-type-of h var n width = refl
 
 total-of : (h : Header) (var : Var) (n width : ℕ) → (look_of h var n width).total ≡ value_count h.dims var n
 unfolding look_of
@@ -66,7 +62,7 @@ module _ (is_transparent : Bool) (h : Header) (v n width buffer_len : ℕ) (w : 
   stored = stored_values h a.bytes s.var n
 
   type-in : (look_in p).ty ≡ s.var.ty
-  type-in = ap (λ (l : Look). l.ty) s.has_printed.same_look ∙ type-of h s.var n width
+  type-in = ap (λ (l : Look). l.ty) s.has_printed.same_look ∙ look-type h s.var n width
 
   module _ (c : SourceView) (chunk : List ℕ) (steps : Steps is_transparent w b c (Ok (Some chunk))) where
     abbrev pub size : ℕ

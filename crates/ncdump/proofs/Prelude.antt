@@ -7,7 +7,7 @@ pub use Rattle.devices.proofs.Writes.{append-++, appended_partway, appended_then
 pub use Rattle.devices.specs.Sinks.{Appended, FailedPartway, IsPrefixIf, SinkView, StoppedShort}
 unfoldable pub use Rattle.devices.specs.Sinks.{IsCut, append, count, is_transparent}
 pub use Rattle.devices.specs.Sources.{SourceView, after}
-pub use Rattle.nc_base.proofs.ValueLaws.{prefix-append, prefix_nil}
+pub use Rattle.nc_base.proofs.ValueLaws.{prefix-append, prefix_nil, look-type}
 pub use Rattle.nc_base.specs.Dump.{Ending, IsDump, IsFirstUnknown, IsFirstUnknownOf, KnowsChosen, Options, Section, content_in, contents, data_truncated, dump_text, has_values, has_variable, no_section, no_such_variable, selection_of, shown, shown_values, stopped, unknown, values_before, values_of, whole, wrong_field}
 unfoldable pub use Rattle.nc_base.specs.Dump.{closing_word, data_word}
 pub use Rattle.nc_base.specs.Grammar.{SpellsHeader}
@@ -42,3 +42,4 @@ pub use Rattle.std.proofs.lemmas.Result.{IfOk-weaker, err_from_is_err_and}
 pub use Rattle.std.specs.Bool.{OnTrue, then_some}
 pub use Rattle.std.specs.List.{list_all, list_any, position_or_len, prefix_len}
 pub use Rattle.std.specs.Str.{bytes_eq}
+pub use Rattle.nc_base.proofs.Tests.{is_off, is_on}

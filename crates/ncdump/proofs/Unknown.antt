@@ -1,19 +1,11 @@
 -- The first name that no variable has.
 use Rattle.std.proofs.Common.{◌≡◌, ℕ, ◌+◌, ◌<◌, Bool, true, false, List, [], ◌∷◌, length, get_or, refl, sym, ap, ◌∙◌, arith, Some, None, not, cond, nat_lt, position}
-use Rattle.ncdump.proofs.Prelude.{list_all, prefix_len, position_or_len, lt-ltb, get_or_from_slice_get, slice_get-get_or, Var, has_variable, IsFirstUnknown}
+use Rattle.ncdump.proofs.Prelude.{list_all, prefix_len, position_or_len, lt-ltb, get_or_from_slice_get, slice_get-get_or, Var, has_variable, IsFirstUnknown, is_off, is_on}
 use Rattle.std.proofs.lemmas.List.Quantifiers.{position-Some}
 
 not-not : (b : Bool) → not (not b) ≡ b
 not-not true = refl
 not-not false = refl
-
-is-false : (b : Bool) → not b ≡ true → b ≡ false
-is-false true e = absurd cc
-is-false false e = refl
-
-is-true : (b : Bool) → not b ≡ false → b ≡ true
-is-true true e = refl
-is-true false e = absurd cc
 
 all-cons : {X : Type 0} (p q : X → Bool) (x : X) (xs : List X) (b : Bool) → p x ≡ b → p x ≡ q x → (cond b (1 + prefix_len p xs) 0 < length (x ∷ xs) → ⊥)
     → ((prefix_len p xs < length xs → ⊥) → list_all q xs ≡ true) → list_all q (x ∷ xs) ≡ true
@@ -47,8 +39,8 @@ first-unknown vars names known index same found =
     record {
       name = get_or names index [];
       at = slice_get-get_or names index [] at.0;
-      unknown = sym (same (get_or names index [])) ∙ is-false (known (get_or names index [])) at.1;
+      unknown = sym (same (get_or names index [])) ∙ is_off (known (get_or names index [])) at.1;
       others = λ k other before there.
           let is : get_or names k [] ≡ other = get_or_from_slice_get names k other [] there in
-          sym (same other) ∙ ap known (sym is) ∙ is-true (known (get_or names k [])) (at.2 k before);
+          sym (same other) ∙ ap known (sym is) ∙ is_on (known (get_or names k [])) (at.2 k before);
     }

@@ -2,7 +2,7 @@
 use Rattle.std.proofs.Common.{◌≡◌, ◌∙◌, ℕ, List, [], ◌∷◌, ◌++◌, Bool, if◌then◌else◌, map, refl, sym, ap}
 use Rattle.std.specs.List.{flat_map, range_with_len}
 use Rattle.nc_base.specs.declared.header.Dim.{Dim}
-use Rattle.ncgen.proofs.Prelude.{Header, blocks, data_of, fill_bytes, is_sole_narrow, known_records, padded_slab, record_of, slab_in, vars_after, with_begins, bare_var, AreListed, whole_array, whole_arrays, listed_data}
+use Rattle.ncgen.proofs.Prelude.{Header, blocks, data_of, fill_bytes, is_sole_narrow, known_records, padded_slab, record_of, slab_in, vars_after, with_begins, bare_var, AreListed, whole_array, whole_arrays, listed_data, flat_map-same}
 use Rattle.nc_base.specs.declared.header.Var.{Var}
 use Rattle.nc_base.specs.Fill.{fill_value}
 use Rattle.nc_base.specs.Sizes.{is_record_var, record_vars}
@@ -50,10 +50,6 @@ sole-after h =
     ∙ sole-records-bare h.dims h.vars
 
 -- ---- all values
-
-flat_map-same : (f g : ℕ → List ℕ) (xs : List ℕ) → ((x : ℕ) → f x ≡ g x) → flat_map f xs ≡ flat_map g xs
-flat_map-same f g [] same = refl
-flat_map-same f g (x ∷ xs) same = ap (λ (bytes : List ℕ). bytes ++ flat_map f xs) (same x) ∙ ap (λ (bytes : List ℕ). g x ++ bytes) (flat_map-same f g xs same)
 
 pub data-after : (h : Header) (listed : List (List ℕ)) → listed_data (with_begins h) listed ≡ listed_data h listed
 unfolding data_of with_begins

@@ -28,3 +28,4 @@ pub use Rattle.ncgen.specs.code.TextReads.{HasGrown, ReadsText}
 pub use Rattle.ncgen.specs.declared.fault.GenFault.{GenFault}
 pub use Rattle.ncgen.specs.declared.fault.GenFault.TheVariants.{Cdl, OffsetTooLarge, WriteFailed}
 pub use Rattle.std.proofs.lemmas.Result.{IfOk-weaker, err_from_is_err_and}
+pub use Rattle.nc_base.proofs.SlabBytes.{flat_map-same}

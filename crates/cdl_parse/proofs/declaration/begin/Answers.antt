@@ -1,12 +1,12 @@
 use Rattle.std.proofs.Common.{rules}
-use Rattle.cdl_parse.proofs.Prelude.{lexeme_of, read_on, PartialVariable}
-use Rattle.cdl_parse.proofs.DeclarationReads.{begin_fails, begins, refused}
+use Rattle.cdl_parse.proofs.Prelude.{lexeme_of, read_on, PartialVariable, stopped}
+use Rattle.cdl_parse.proofs.DeclarationReads.{begin_fails, begins}
 use Rattle.cdl_parse.proofs.declaration.begin.Goals as goal
 
 pub returns-in_err-name : goal.returns-in_err-name
 returns-in_err-name c = λ dims drafts ls.
     let e = c.in_err-name.field-0.0 in
-    refused (λ (b : PartialVariable). read_on dims drafts b ls) c.from_residual.result e _ (search rules) (begin_fails dims c.args.ty drafts (lexeme_of c.args.token) ls e c.requires c.in_err-name.ensures.fault)
+    stopped (λ (b : PartialVariable). read_on dims drafts b ls) c.from_residual.result e _ (search rules) (begin_fails dims c.args.ty drafts (lexeme_of c.args.token) ls e c.requires c.in_err-name.ensures.fault)
 
 pub returns : goal.returns
 returns c = λ dims drafts ls.

@@ -1,7 +1,7 @@
 use Rattle.std.proofs.Common.{rules, sym, subst}
-use Rattle.cdl_parse.proofs.Prelude.{lexeme_of, ContinuesRead, read_on, PartialVariable}
+use Rattle.cdl_parse.proofs.Prelude.{lexeme_of, ContinuesRead, read_on, PartialVariable, stopped}
 use Rattle.cdl_values.proofs.PackedTokens.{no_mark}
-use Rattle.cdl_parse.proofs.DeclarationReads.{dimension_on, next_fails, next_variable, refused}
+use Rattle.cdl_parse.proofs.DeclarationReads.{dimension_on, next_fails, next_variable}
 use Rattle.cdl_parse.proofs.declaration.read_on.Goals as goal
 
 pub returns-in_default : goal.returns-in_default
@@ -23,5 +23,5 @@ returns-in_err-put-in_default-2 c = λ ls.
     let a = c.args in
     let l = lexeme_of a.token in
     let e = c.in_err-put-in_default-2.field-0.0 in
-    refused (λ (b : PartialVariable). read_on a.dims.now c.put.new.variables b ls) c.from_residual.result e _ (search rules)
+    stopped (λ (b : PartialVariable). read_on a.dims.now c.put.new.variables b ls) c.from_residual.result e _ (search rules)
     (next_fails a.dims.now a.variables.now a.begun l ls e (no_mark l.kind c.in_default.not-Mark) c.if-begun.false c.in_err-put-in_default-2.ensures)

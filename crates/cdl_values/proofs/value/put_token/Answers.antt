@@ -1,7 +1,7 @@
 use Rattle.std.proofs.Common.{rules, ◌∷◌, sym, ap, ◌∙◌, Ok, subst, drop, length, length-drop, List, ◌-◌}
-use Rattle.cdl_values.proofs.Prelude.{values, value_of, Value, is_mark_kind, lexeme_of, packed, joined, bytes_of, FailsRead}
+use Rattle.cdl_values.proofs.Prelude.{values, value_of, Value, is_mark_kind, lexeme_of, packed, joined, bytes_of, FailsRead, past_mark}
 use Rattle.cdl_values.proofs.AllowedNames.{stopped}
-use Rattle.cdl_values.proofs.PackedTokens.{past_mark, over_value, one_packed, refused, no_mark, added, is_after}
+use Rattle.cdl_values.proofs.PackedTokens.{over_value, one_packed, refused, no_mark, added, is_after}
 use Rattle.cdl_values.proofs.value.put_token.Goals as goal
 
 pub returns-in-Mark : goal.returns-in-Mark

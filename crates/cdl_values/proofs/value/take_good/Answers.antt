@@ -1,6 +1,5 @@
 use Rattle.std.proofs.Common.{ap, Ok}
-use Rattle.cdl_values.proofs.Prelude.{is_mark_kind, lexeme_of, packed, joined}
-use Rattle.cdl_values.proofs.PackedTokens.{past_mark}
+use Rattle.cdl_values.proofs.Prelude.{is_mark_kind, lexeme_of, packed, joined, past_mark}
 use Rattle.cdl_values.proofs.value.take_good.Goals as goal
 
 pub returns-in-Mark-clause-packs : goal.returns-in-Mark-clause-packs

@@ -1,6 +1,9 @@
 -- A number is in a type's range where the type has it.
 use Rattle.std.proofs.Common.{◌≡◌, ℤ, true, rules}
-use Rattle.cdl_values.proofs.Prelude.{IsInRange, NcType, Byte, Char, Short, Int, Ubyte, Ushort, Uint, Int64, Uint64, fits}
+use Rattle.nc_base.specs.declared.nc_type.NcType.{NcType}
+use Rattle.nc_base.specs.declared.nc_type.NcType.TheVariants.{Byte, Char, Short, Int, Ubyte, Ushort, Uint, Int64, Uint64}
+use Rattle.nc_base.specs.Numbers.{IsInRange}
+use Rattle.cdl_meaning.specs.State.{fits}
 
 pub has_it : (ty : NcType) (n : ℤ) → fits ty n ≡ true → IsInRange ty n
 unfolding fits
