@@ -75,7 +75,7 @@ def results_of(crate, tests, edit=None):
     return {it for it in tests if found.get(it) == "ok"}, {it for it in tests if found.get(it) == "FAILED"}, ran.stdout
 
 
-def told(said):
+def said_of(said):
     """The line that says best why a test did not run."""
     return next((line for line in said.splitlines() if "error" in line), said[-200:])[:300]
 
@@ -89,7 +89,7 @@ def try_edit(edit):
         return False, f"{edit}: BAD EDIT: {why}"
     if failed:
         return True, f"{edit}: its test fails, as it must: {crate} {test}"
-    verdict = "ITS TEST PASSES" if passed else f"BAD EDIT: its test did not run: {told(said)}"
+    verdict = "ITS TEST PASSES" if passed else f"BAD EDIT: its test did not run: {said_of(said)}"
     return False, f"{edit}: {verdict}: {crate} {test}"
 
 
@@ -99,7 +99,7 @@ def try_crate(crate, tests):
         passed, _, said = results_of(crate, tests)
     except OSError as why:
         return [(False, f"{crate}: {why}")]
-    return [(it in passed, f"{crate} {it}: {'passes without an edit' if it in passed else 'DOES NOT PASS: ' + told(said)}") for it in tests]
+    return [(it in passed, f"{crate} {it}: {'passes without an edit' if it in passed else 'DOES NOT PASS: ' + said_of(said)}") for it in tests]
 
 
 def run(edits):

@@ -82,7 +82,7 @@ def comments(n):
     return dataset(atts="// x\n" * n + ":a = 1 ;")
 
 
-def blanks(n):
+def white_spaces(n):
     return dataset(atts=" \n" * n + ":a = 1 ;")
 
 
@@ -145,7 +145,7 @@ KINDS = {
     attributes_of_numbers: (20_000, 6, 2),
     comment: (1_000_000, 1, 1),
     comments: (200_000, 1.5, 1),
-    blanks: (500_000, 1, 1),
+    white_spaces: (500_000, 1, 1),
     opening: (1_000_000, 1, 1),
     named_variables: (5_000, 1, 1),
     record_variables: (20_000, 6, 3),

@@ -1,4 +1,4 @@
--- The names that most proofs of this crate cite, passed on from one place.
+-- The names that proofs of this crate cite from elsewhere, passed on from one place.
 pub use Rattle.cdl_laws.specs.Goods.{IsNearlySayable, LimitIsNeeded, MeaningsAreGood, MeaningsAreNearlySayable, NearlyIsSayable}
 pub use Rattle.cdl_laws.specs.PieceLaws.{AttributeReadsBack, AttributesReadBack, DataReadsBack, DeclarationReadsBack, DeclarationsReadBack, DimensionsReadBack, GlobalAttributesReadBack, IsBeforeData, IsStatement, MarksReadBack, PiecesAreStatements, SaysStatement, brace_piece, declaration, dimensions, end_piece, extent_said, globals, opening_line, opening_piece, said_dim, variables}
 pub use Rattle.cdl_laws.specs.Reading.{cut_lexemes, lexemes, with_lexeme}

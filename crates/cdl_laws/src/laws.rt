@@ -1,4 +1,7 @@
 //! Laws of the definitions, each the contract of a function that does nothing.
+//!
+//! "A text can declare a dataset" stands for `IsSayable`, and "a full dump" for a dump of all values under a valid name. "Within the
+//! limit" is a text of at most 268,435,456 bytes. The NULs at the end of attributes are those of attributes of characters.
 
 ghost use Rattle.nc_base.specs.declared.version.Version.{Version};
 ghost use Rattle.cdl_laws.specs.Goods.{LimitIsNeeded, MeaningsAreGood, MeaningsAreNearlySayable, NearlyIsSayable};
@@ -8,11 +11,15 @@ ghost use Rattle.cdl_laws.specs.RowLaws.{RowsReadBack, EmptyRowsReadBack};
 ghost use Rattle.cdl_laws.specs.TokenLaws.{BlanksAndMarksStop, NamesReadBack, StringsReadBack, ConstantsReadBack, ValuesReadBack, StringsStandForBytes};
 ghost use Rattle.cdl_laws.specs.Trims.{FillValueSurvivesTrim, MeaningsAreSayable, MeaningsComeBack, SecondTripIsSame, TrimmedIsSayable, TrimsOnce};
 
-/// What is printed of names, strings and numbers is read as one token each, of exactly the bytes that were printed, and that
-/// token says what was printed: an escaped name is one word that is not reserved and stands for the name; an escaped string
-/// between quotes is one string that stands for its bytes, whatever follows; and a number of a type that the version has is
-/// one number token of that value, and with the type's suffix of that type. What follows a word or a number must not continue
-/// it. In a dump white space or a mark follows each of them, and neither continues a word or a number.
+/// What a dump prints of a name, a string or a number is read as one token, of exactly the printed bytes, and that token says what was
+/// printed.
+///
+/// If a valid name is escaped, it is one word, which isn't reserved and stands for the name. If bytes are escaped and put between quotes,
+/// they are one string, which stands for the bytes. If the version has the type of a number, the number with the type's suffix is one
+/// number token, of this number and this type. Without the suffix it is one number token of this number.
+///
+/// A string is read back whatever follows it. A word or a number is read back if what follows doesn't continue it. White space and marks
+/// don't, and in a dump one of them follows each word and each number.
 pub fn token_reads_back()
     ensures names { NamesReadBack }
     ensures strings { StringsReadBack }
@@ -21,16 +28,19 @@ pub fn token_reads_back()
     ensures stops { BlanksAndMarksStop }
 {}
 
-/// Each string of a text stands for bytes, character by character: a string with an escape that stands for no byte is no
-/// token of that kind. So the bytes that a string stands for can be taken without asking whether there are any.
+/// If a token of a text is a string, each character between its quotes stands for a byte. So these bytes can be taken without asking if
+/// there are any: a string with an escape that stands for no byte isn't a token of that kind.
 pub fn strings_stand_for_bytes()
     ensures { StringsStandForBytes }
 {}
 
-/// Each part of the dump of a dataset that a text can declare is cut off as one piece, whatever follows, and that piece is the
-/// statement that the part was printed for: the line of a dimension, the declaration of a variable, the line of an attribute
-/// and the text of a variable's values. What stands between them are marks and a comment. The pieces are cut from lexemes,
-/// which are the tokens of a text without their places; so they are the text's statements.
+/// If a text can declare a dataset, then each of these parts of its dump is one piece, whatever follows: the line of a dimension, the
+/// declaration of a variable, the line of an attribute, and the text of a variable's values. This piece is the statement that declares the
+/// dimension or the variable, gives the attribute, or lists the values.
+///
+/// The first line, the section marks and the last line of a dump are pieces, too. The comment before the global attributes is none.
+///
+/// The pieces are the statements of a text. They are cut from lexemes, which are its tokens without their places.
 pub fn piece_reads_back()
     ensures pieces { PiecesAreStatements }
     ensures marks { (v : Version) → MarksReadBack v }
@@ -41,77 +51,82 @@ pub fn piece_reads_back()
     ensures values { DataReadsBack }
 {}
 
-/// The text of a variable's values in the dump of a dataset that a text can declare, at any width, is a statement that lists
-/// values; and these values, added one after the other, with the fill value after them, give the variable's array.
+/// If a text can declare a dataset, then the text of a variable's values in its dump, at any width, is a statement that lists values. If
+/// these values are added one after the other, and filled up with the fill value, they give the variable's array.
+///
+/// If a variable of the dataset has no value, its array is empty.
 pub fn row_reads_back()
     ensures rows { RowsReadBack }
     ensures empty { EmptyRowsReadBack }
 {}
 
-/// The full dump of a dataset that a text can declare, at any width, means that dataset without the NULs at the end of its
-/// attributes.
+/// If a text can declare a dataset, then its full dump, at any width, means this dataset without the NULs at the end of its attributes.
 pub fn text_reads_back()
     ensures { TextReadsBack }
 {}
 
-/// Two datasets of one version that a text can declare, whose full dumps are the same text, whatever their names and widths,
-/// are the same without the NULs at the end of their attributes.
+/// If a text can declare each of two datasets of one version, and their full dumps are the same text, then the two are the same without the
+/// NULs at the end of their attributes. The two dumps may have different names and widths.
 pub fn dumps_tell_datasets_apart()
     ensures { DumpsTellDatasetsApart }
 {}
 
-/// What a text of bytes means, of at most 268,435,456 bytes, is a good dataset, of the version asked for.
+/// If a text of bytes within the limit means a dataset, then this dataset is good, and of the version that was asked for.
 pub fn meanings_are_good()
     ensures { MeaningsAreGood }
 {}
 
-/// With no limit on the length of texts that would be false: a text with an attribute of 2^31 characters or more has a
-/// meaning in the first version that is no good dataset.
+/// Without a limit on the length of texts [`meanings_are_good`] would be false: a text with an attribute of 2^31 characters or more has a
+/// meaning in CDF-1 that isn't a good dataset.
 pub fn limit_is_needed()
     ensures { LimitIsNeeded }
 {}
 
-/// A text can declare what a text of bytes within the limit means, but for the fill values of its variables of characters:
-/// no two names of one list are equal, each attribute of numbers has a value, and where no variable has records there are
-/// none.
+/// If a text of bytes within the limit means a dataset, then this dataset is good, and no two names of one list are equal. Each attribute
+/// of numbers has a value, and if no variable has records, the number of records is 0.
+///
+/// A dataset that a text can declare is all this, and the fill value of each variable of characters stays the same without the NULs at the
+/// end of its attributes.
 pub fn meanings_are_nearly_sayable()
     ensures { MeaningsAreNearlySayable }
 {}
 
-/// Where those fill values stay the same without the NULs at the end of attributes, a text can declare the whole dataset.
+/// If a dataset is all that [`meanings_are_nearly_sayable`] says, and the fill value of each variable of characters stays the same without
+/// the NULs at the end of its attributes, then a text can declare the dataset.
 pub fn nearly_is_sayable()
     ensures { NearlyIsSayable }
 {}
 
-/// Without the NULs at the end of attributes a variable of characters has the same fill value if and only if its first attribute
-/// named `_FillValue`, if it has one, isn't one character and then NULs.
+/// The fill value of a variable of characters stays the same without the NULs at the end of its attributes, except in one case. In that
+/// case its first attribute named `_FillValue` is one character other than NUL, and then one or more NULs.
 pub fn fill_value_survives_trim()
     ensures { FillValueSurvivesTrim }
 {}
 
-/// So a text can declare what a text of bytes within the limit means if and only if no variable of characters has such an
-/// attribute.
+/// If a text of bytes within the limit means a dataset, then a text can declare this dataset (in the sense of `IsSayable`) if and only if
+/// none of its variables of characters is in that case of [`fill_value_survives_trim`].
 pub fn meanings_are_sayable()
     ensures { MeaningsAreSayable }
 {}
 
-/// Taking away the NULs at the end of attributes a second time changes nothing.
+/// If the NULs at the end of attributes are taken away, then taking them away once more changes nothing.
 pub fn trims_once()
     ensures { TrimsOnce }
 {}
 
-/// Without them a text can still declare the dataset.
+/// If a text can declare a dataset, then a text can also declare it without the NULs at the end of its attributes.
 pub fn trimmed_is_sayable()
     ensures { TrimmedIsSayable }
 {}
 
-/// The dump of what a dump means, each at its own width, means the same dataset again.
+/// If a text can declare a dataset, then its full dump means a second dataset. The full dump of the second dataset means the second dataset
+/// again. The two dumps may have different names and widths.
 pub fn second_trip_is_same()
     ensures { SecondTripIsSame }
 {}
 
-/// Where a text can declare what a text of bytes within the limit means, its dump and the dump of what that means mean one
-/// dataset.
+/// If a text of bytes within the limit means a dataset that a text can declare, then the full dump of this dataset means a second dataset.
+/// The full dump of the second dataset means the second dataset again.
 pub fn meanings_come_back()
     ensures { MeaningsComeBack }
 {}

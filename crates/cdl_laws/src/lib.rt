@@ -1,4 +1,4 @@
-//! The laws that join what is printed to what is read, over the definitions alone.
+//! The laws that join the text that a dump prints to what a text means. They are about definitions, and nothing here runs.
 #![tactic(auto)]
 
 pub mod laws;

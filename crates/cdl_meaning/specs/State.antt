@@ -70,7 +70,7 @@ found (Some a) e = Ok a
 abbrev pub between : ℤ → ℤ → ℤ → Bool
 between low high n = int_le low n && int_le n high
 
--- the type has the number
+-- the type has the number (`IsInRange`, as a `Bool`)
 unfoldable pub fits : NcType → ℤ → Bool
 fits ty n =
     if is_signed ty then between (neg_ℤ (pos (2 ^ hbits (width_of ty)))) (pos (2 ^ hbits (width_of ty) - 1)) n
@@ -183,7 +183,7 @@ pub record Capacity : Type 0 where
   pub count : ℕ
   -- the rank is 2 or more
   pub in_rows : Bool
-  -- how many rows hold as many values then
+  -- how many rows a variable of rank 2 or more has, unless it is a record variable
   pub rows : ℕ
   -- how many values a row has
   pub row : ℕ

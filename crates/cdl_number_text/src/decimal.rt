@@ -7,7 +7,7 @@ ghost use Rattle.cdl_number_text.specs.code.NumberTexts.{text_of};
 use crate::put::put_at;
 use itoa::write_digits;
 
-/// Returns how many bytes a number has in decimal.
+/// Returns how many bytes a number has in decimal, with a minus if it is negative.
 #[inline(always)]
 pub fn decimal_len(number: i128) -> usize
     requires { unsigned_abs number < 2 ^ 64 }
@@ -18,7 +18,7 @@ pub fn decimal_len(number: i128) -> usize
     if number < 0 { digits + 1 } else { digits }
 }
 
-/// Returns how many digits a number has.
+/// Returns how many digits a number has in decimal.
 #[inline(always)]
 fn digit_count(n: u64) -> usize
     ensures len { result ≡ length (decimal n) }
@@ -53,7 +53,7 @@ fn few_digit_count(n: u64) -> usize
     }
 }
 
-/// Writes a number in decimal at this offset. It has `len` bytes.
+/// Writes a number in decimal at the offset `at` of `text`. The number has `len` bytes in decimal.
 #[inline(always)]
 pub fn put_decimal(text: &mut [u8], at: usize, len: usize, number: i128)
     requires short { unsigned_abs number < 2 ^ 64 }
@@ -70,7 +70,7 @@ pub fn put_decimal(text: &mut [u8], at: usize, len: usize, number: i128)
     }
 }
 
-/// Returns how many bytes the text of a number has, which is `_` if it prints as that.
+/// Returns how many bytes the text of a number has. If `is_blank`, the text is `_`, otherwise the number in decimal.
 #[inline(always)]
 pub fn text_len(is_blank: bool, number: i128) -> usize
     requires { unsigned_abs number < 2 ^ 64 }
@@ -80,7 +80,8 @@ pub fn text_len(is_blank: bool, number: i128) -> usize
     if is_blank { 1 } else { decimal_len(number) }
 }
 
-/// Writes the text of a number at this offset, which is `_` if it prints as that. It has `len` bytes.
+/// Writes the text of a number at the offset `at` of `text`. If `is_blank`, the text of the number is `_`, otherwise it is the number in
+/// decimal. The text of the number has `len` bytes.
 #[inline(always)]
 pub fn put_text(text: &mut [u8], at: usize, len: usize, is_blank: bool, number: i128)
     requires short { unsigned_abs number < 2 ^ 64 }
@@ -95,7 +96,7 @@ pub fn put_text(text: &mut [u8], at: usize, len: usize, is_blank: bool, number: 
     }
 }
 
-/// Writes a number without a sign at this offset. It has `len` digits.
+/// Writes a number in decimal at the offset `at` of `text`, without a sign. The number has `len` digits.
 #[inline(always)]
 pub fn put_digits(text: &mut [u8], at: usize, len: usize, n: u64)
     requires len { len ≡ length (decimal n) }

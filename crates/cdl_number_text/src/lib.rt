@@ -1,6 +1,6 @@
-//! The text of a number in CDL, put straight into a slice.
+//! The text of a number in CDL, written straight into a slice.
 //!
-//! A caller asks how long a text is, sees whether its line has the columns, and puts it where it goes. Nothing is copied twice.
+//! A caller asks how long a text is, sees whether its line has enough columns left, and writes it in its place. Nothing is copied twice.
 //!
 //! This crate is internal: `cdl_print` alone calls it.
 #![tactic(auto)]

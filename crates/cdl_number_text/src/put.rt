@@ -1,8 +1,8 @@
-//! Bytes put into a slice.
+//! Writing bytes into a slice.
 
 ghost use Rattle.std.specs.Prelude.{◌≡◌, ◌+◌, ◌≤◌, ◌++◌, ◌∷◌, [], codes, length, take};
 
-/// Writes bytes at this offset, and returns where they end.
+/// Writes `bytes` at the offset `at` of `text`, and returns the offset of their end.
 #[inline(always)]
 pub fn put_at(text: &mut [u8], at: usize, bytes: &[u8]) -> usize
     requires { at + length bytes.now ≤ length text.old }
@@ -14,7 +14,7 @@ pub fn put_at(text: &mut [u8], at: usize, bytes: &[u8]) -> usize
     end
 }
 
-/// Writes `, ` at this offset, and returns where it ends.
+/// Writes `, ` at the offset `at` of `text`, and returns the offset of its end.
 #[inline(always)]
 pub fn put_comma(text: &mut [u8], at: usize) -> usize
     requires { at + 2 ≤ length text.old }
@@ -25,7 +25,7 @@ pub fn put_comma(text: &mut [u8], at: usize) -> usize
     put_byte(text, next, b' ')
 }
 
-/// Writes a byte at this offset, and returns where it ends.
+/// Writes a byte at the offset `at` of `text`, and returns the offset of its end.
 #[inline(always)]
 pub fn put_byte(text: &mut [u8], at: usize, byte: u8) -> usize
     requires { at + 1 ≤ length text.old }

@@ -15,16 +15,17 @@ use cdl_values::{ReadError, read_constants, read_name, type_said};
 use nc_base::{Att, ListedArray, NcType, Sequence};
 use std::alloc::Global;
 
-/// Reads an attribute, whose name is next, and adds it to the others of its variable or of the dataset.
+/// Reads an attribute and adds it to `attributes`, the attributes of its variable or of the dataset. `start` is at the attribute's
+/// name.
 ///
-/// After the name come `=` and the constants, joined by commas. All have one type, that of the first; strings are put one
-/// after the other (the CDL chapter of the NetCDF User's Guide, and ncgen(1)).
+/// After the name come `=` and the constants, joined by commas. All have one type, that of the first; strings are put one after the
+/// other (the CDL chapter of the NetCDF User's Guide, and ncgen(1)).
 ///
 /// # Errors
 ///
-/// The first of these, in which case the attributes are what they were: a name that the format doesn't allow (`BadName`);
-/// the name of another attribute in the list (`DuplicateName`); the fault of the first constant that has one
-/// (`MixedConstants`, `NumberRange`). Or an allocation failed.
+/// The first of these faults: a name that the format doesn't allow (`BadName`); the name of another attribute in `attributes`
+/// (`DuplicateName`); the fault of the first constant that has one (`MixedConstants`, `NumberRange`). Or an allocation failed. In
+/// each case `attributes` is what it was.
 pub fn read_attribute(
     alloc: Global,
     attributes: &mut Attributes,
@@ -45,11 +46,11 @@ pub fn read_attribute(
     }
 }
 
-/// Adds the attribute of this name, type and values.
+/// Adds the attribute of this name, type and values to `attributes`.
 ///
 /// # Errors
 ///
-/// The name of another attribute (`DuplicateName`). Or an allocation failed. The attributes are what they were.
+/// Another attribute has the name (`DuplicateName`), or an allocation failed. In both cases `attributes` is what it was.
 fn add(
     alloc: Global,
     attributes: &mut Attributes,

@@ -10,10 +10,11 @@ use std::marker::Model;
 
 /// The attributes of a variable or of the dataset, in the order of the text.
 ///
-/// Whether one of them has a name is found in a time that grows with the logarithm of their number.
+/// A name is looked up in a time that grows with the logarithm of the number of attributes.
 #[derive(Drop)]
 pub struct Attributes {
     list: Vec<Att>,
+    /// The names of the attributes in `list`.
     names: BTreeSet<Vec<u8>>,
 }
 
@@ -30,7 +31,7 @@ impl Model for Attributes {
 }
 
 impl Attributes {
-    /// No attributes. It does not allocate.
+    /// Returns a list without attributes. Does not allocate.
     pub fn new(alloc: Global) -> Attributes
         ensures { result ≡ [] }
     {
@@ -47,7 +48,7 @@ impl Attributes {
         self.names.contains(name)
     }
 
-    /// Adds an attribute at the end, if no other one has its name, and returns true if so.
+    /// Adds the attribute at the end and returns true, if no other one has its name. Otherwise changes nothing and returns false.
     ///
     /// # Errors
     ///
@@ -69,7 +70,7 @@ impl Attributes {
         Ok(added?)
     }
 
-    /// The attributes as a list, without a copy.
+    /// Returns the attributes as a list, without a copy.
     pub fn into_sequence(self) -> Sequence<Att>
         ensures { result ≡ self }
     {

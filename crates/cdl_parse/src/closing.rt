@@ -8,10 +8,10 @@ ghost use Rattle.cdl_meaning.specs.Meaning.{closing_line};
 use cdl_statements::Cutter;
 use nc_base::Version;
 
-/// The line of a text's last statement but one, which is the closing brace if each statement has its shape. Returns 0 if the text
-/// has fewer than two statements.
+/// Returns the line on which the last statement but one of the text begins, or 0 if the text has fewer than two statements. The
+/// last statement is the end of the text. If each statement has its shape, the one before the last is the closing brace.
 ///
-/// It reads the whole text, and does not allocate.
+/// Reads the whole text. Does not allocate.
 pub fn closing_line(text: &[u8], version: Version) -> u64
     ensures { result ≡ closing_line (statements text.now) }
 {
@@ -26,7 +26,7 @@ pub fn closing_line(text: &[u8], version: Version) -> u64
     before
 }
 
-/// The statements after the next one.
+/// Passes over the next statement, and returns the cutter after it.
 fn after_statement(start: Cutter<'_>) -> Cutter<'_>
     requires { is_done start ≡ false }
     ensures { Follows start.entry result }

@@ -14,10 +14,10 @@ use cdl_values::{NameIndex, ReadError, Target, read};
 use nc_base::ListedArray;
 use std::alloc::{AllocError, Global};
 
-/// What the data section lists, and what comes after it.
+/// What the data section lists, and what comes after the section.
 #[derive(Drop)]
 pub struct DataSection<'a> {
-    /// For each variable the listed values.
+    /// For each variable the values that the section lists, or none if no statement names the variable.
     pub arrays: Vec<ListedArray>,
     /// The statements after the section.
     pub rest: Cutter<'a>,
@@ -25,28 +25,31 @@ pub struct DataSection<'a> {
     pub is_closed: bool,
 }
 
-/// What the variables take of the data section, and what it has listed of them so far.
+/// The variables while the data section is read: what each may take, and what has been listed of it.
 #[derive(Drop)]
 struct Listings {
+    /// For each variable what it may take, and whether a statement has given its values.
     targets: Vec<Target>,
-    /// For each variable the listed values.
+    /// For each variable the values that were listed so far.
     arrays: Vec<ListedArray>,
 }
 
-/// A statement of the data section that was read.
+/// What was read of one statement of the data section, but for the values.
 #[derive(Clone, Copy)]
 struct DataStatement<'a> {
-    /// It was the closing brace; otherwise it listed the values of a variable.
+    /// True if the statement was the closing brace. If false, it listed the values of a variable.
     is_brace: bool,
-    /// The statements after it.
+    /// The statements after this one.
     rest: Cutter<'a>,
 }
 
-/// Reads the statements of the data section up to the closing brace, or to the end of the text.
+/// Reads the statements of the data section up to the closing brace, or to the end of the text. Returns what they list, and the
+/// statements after them.
 ///
-/// Each statement lists the values of the variable that it names, and no variable has two (the CDL chapter of the NetCDF
-/// User's Guide, and ncgen(1)). The names are those of the targets, in their order. The end of a text is cut into a
-/// statement too, and has no shape in this section, so a text that ends before the brace has a fault there.
+/// Each statement lists the values of the variable that it names, and no two of them name the same variable (the CDL chapter of the
+/// NetCDF User's Guide, and ncgen(1)). `names` has the names of the variables, and `targets` what each may take, in the same order.
+/// The end of the text counts as a statement that this section doesn't allow. So a text that ends before the closing brace has a
+/// fault at its end.
 ///
 /// # Errors
 ///
@@ -88,7 +91,7 @@ pub fn read_data<'a>(
     }
 }
 
-/// `count` arrays without values.
+/// Returns `count` arrays without values. Errs only if an allocation failed.
 pub fn empty_arrays(alloc: Global, count: usize) -> Result<Vec<ListedArray>, AllocError>
     ensures { IfOk result (λ arrays. arrays.items ≡ replicate count []) }
 {
@@ -99,7 +102,9 @@ pub fn empty_arrays(alloc: Global, count: usize) -> Result<Vec<ListedArray>, All
     Ok(arrays)
 }
 
-/// Reads the next statement of the data section.
+/// Reads the next statement of the data section, and stores the values that it lists in `listings`. Returns whether the statement
+/// is the closing brace, which lists nothing, and the statements after it. Errs with the statement's first fault, or if an
+/// allocation failed.
 fn read_one<'a>(
     alloc: Global,
     names: &NameIndex,
@@ -122,7 +127,7 @@ fn read_one<'a>(
     })
 }
 
-/// Reads the closing brace.
+/// Passes over the closing brace, and returns the statements after it. Errs as [`pass`] does.
 fn close(start: Cutter<'_>) -> Result<DataStatement<'_>, ReadError>
     requires more { is_done start ≡ false }
     requires brace { begins_brace (words start) ≡ true }
@@ -136,7 +141,7 @@ fn close(start: Cutter<'_>) -> Result<DataStatement<'_>, ReadError>
     })
 }
 
-/// Puts a variable's values at its position.
+/// Replaces the array at `position` with `array`. Changes nothing if there is no array at that position.
 fn store(arrays: &mut Vec<ListedArray>, position: u64, array: ListedArray)
     ensures { arrays.new.items ≡ slice_set arrays.old.items position array }
 {
@@ -146,7 +151,7 @@ fn store(arrays: &mut Vec<ListedArray>, position: u64, array: ListedArray)
     }
 }
 
-/// Notes that a statement gave a variable's values.
+/// Notes that a statement gave the values of the variable at `position`. Changes nothing if there is no target at that position.
 fn mark_given(targets: &mut Vec<Target>, position: u64)
     ensures { targets.new.items ≡ given_at position targets.old.items }
 {

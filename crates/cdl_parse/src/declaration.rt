@@ -27,23 +27,25 @@ use std::alloc::{AllocError, Global};
 struct PartialVariable {
     ty: NcType,
     name: Vec<u8>,
-    /// The positions of its dimensions.
+    /// The positions of the dimensions that were read so far, in the list of the dataset's dimensions.
     dimids: Vec<u64>,
-    /// The parenthesis before its dimensions is read, and the one after them isn't.
+    /// True if the parenthesis before its dimensions was read, and the one after them wasn't yet.
     is_open: bool,
 }
 
-/// Reads a declaration, and adds its variables.
+/// Reads a declaration, and adds its variables to `variables`. `dims` are the dimensions of the dataset.
 ///
-/// It is a type word and then, joined by commas, the variables: each a name alone, or a name and the names of the
-/// variable's dimensions in parentheses, joined by commas (the CDL chapter of the NetCDF User's Guide, and ncgen(1)).
+/// A declaration is a type word and variables joined by commas. A variable is a name alone, or a name and then, in parentheses, the
+/// names of the variable's dimensions, joined by commas (the CDL chapter of the NetCDF User's Guide, and ncgen(1)).
 ///
 /// # Errors
 ///
-/// The first of these: the type word's fault, as [`type_of_word`] says; then variable by variable a name that the format
-/// doesn't allow (`BadName`) or that another variable has (`DuplicateName`), and dimension by dimension a name that the
-/// format doesn't allow (`BadName`) or that no dimension has (`UnknownDimension`), and the record dimension in another
-/// place than the first (`BadShape`). Or an allocation failed. In each case some of the variables may have been added.
+/// The first fault in the order of the text. A type word has the faults that [`type_of_word`] names. A variable's name has a fault
+/// if the format doesn't allow it (`BadName`) or another variable has it (`DuplicateName`). A dimension has a fault if the format
+/// doesn't allow its name (`BadName`), if no dimension has that name (`UnknownDimension`), or if it is the record dimension and not
+/// the variable's first (`BadShape`).
+///
+/// Or an allocation failed. In each case some of the variables may have been added.
 pub fn read_declaration(
     alloc: Global,
     dims: &Dimensions,
@@ -59,12 +61,12 @@ pub fn read_declaration(
     read_variables(alloc, dims, variables, ty, names)
 }
 
-/// The type that a type word stands for; `long` is another word for int (the CDL chapter of the NetCDF User's Guide, "CDL
+/// Returns the type that a type word stands for; `long` is another word for int (the CDL chapter of the NetCDF User's Guide, "CDL
 /// Data Types").
 ///
 /// # Errors
 ///
-/// The word of a floating type, `float`, `real` or `double` (`FloatingType`); a word of no type of the version
+/// The word of a floating type, `float`, `real` or `double` (`FloatingType`); a word that stands for no type of the version
 /// (`UnknownType`).
 #[tactic(auto, unfolding(cdl_meaning::specs::State::type_of))]
 pub fn type_of_word(version: Version, word: Lexeme<'_>) -> Result<NcType, CdlKind>
@@ -79,7 +81,7 @@ pub fn type_of_word(version: Version, word: Lexeme<'_>) -> Result<NcType, CdlKin
     first_with_word(&NcType::ALL, version, word).ok_or(CdlKind::UnknownType)
 }
 
-/// The first of the types that the version has and whose word this is.
+/// Returns the first of `types` that the version has and that `word` stands for, or `None` if there is none.
 fn first_with_word(types: &[NcType], version: Version, word: Lexeme<'_>) -> Option<NcType>
     ensures { result ≡ find (is_word_of version (lexeme_of word.entry)) types.now }
 {
@@ -89,7 +91,8 @@ fn first_with_word(types: &[NcType], version: Version, word: Lexeme<'_>) -> Opti
         .find(|ty| version.has_type(*ty) && word.is_word(ty.word()))
 }
 
-/// Reads the variables of a declaration, which have this type; the name of the first one is next.
+/// Reads the variables of a declaration, all of type `ty`, and adds them to `variables`. `start` is at the name of the first one.
+/// Errs as [`read_declaration`] does after the type word.
 fn read_variables(
     alloc: Global,
     dims: &Dimensions,
@@ -113,7 +116,8 @@ fn read_variables(
     }
 }
 
-/// Begins the variable of this type whose name a token is.
+/// Returns a variable of type `ty` without dimensions, whose name is `token`. Errs with `BadName` if the format doesn't allow the
+/// name. Also errs if an allocation failed.
 fn begin(alloc: Global, ty: NcType, token: Lexeme<'_>) -> Result<PartialVariable, ReadError>
     requires { is_mark_kind token.kind ≡ false }
     ensures { BeginsVariable ty (lexeme_of token.entry) result }
@@ -127,7 +131,9 @@ fn begin(alloc: Global, ty: NcType, token: Lexeme<'_>) -> Result<PartialVariable
     })
 }
 
-/// Reads a token after a variable's name: a mark, the name of one of its dimensions, or that of the next variable.
+/// Reads one token after the name of the variable `begun`. If the token is the name of the next variable, adds `begun` to
+/// `variables` and returns the next variable, without dimensions. Otherwise returns `begun` with what the token adds: a dimension,
+/// or a mark that may be a parenthesis. Errs as [`with_dimension`], [`put`] and [`begin`] do.
 fn read_on(
     alloc: Global,
     dims: &Dimensions,
@@ -148,7 +154,7 @@ fn read_on(
     }
 }
 
-/// The variable after a mark, which may open or close a parenthesis.
+/// Returns the variable `begun` after a mark: only its `is_open` may change, if the mark is a parenthesis.
 fn after_mark(begun: PartialVariable, mark: Lexeme<'_>) -> PartialVariable
     requires { is_mark_kind mark.kind ≡ true }
     ensures { PassesMark begun (lexeme_of mark.entry) result }
@@ -167,18 +173,20 @@ fn after_mark(begun: PartialVariable, mark: Lexeme<'_>) -> PartialVariable
     }
 }
 
-/// Returns true if a parenthesis is open after a mark, before which one is open or not.
+/// Returns true if a parenthesis is open after `mark`. `is_open` is true if one is open before the mark.
 fn is_open_after(is_open: bool, mark: Lexeme<'_>) -> bool
     ensures { result ≡ is_open_after is_open (lexeme_of mark.entry) }
 {
     mark.is_mark(b'(') || is_open && !mark.is_mark(b')')
 }
 
-/// The variable with the dimension that a word names, after its others.
+/// Returns `begun` with one dimension more, the one that `word` names.
 ///
 /// # Errors
 ///
-/// The name of another variable (`DuplicateName`), or the fault of the dimension. Or an allocation failed.
+/// If the dimension has a fault, as [`dimid_of_word`] says: `DuplicateName` if one of `variables` has the name of `begun`,
+/// otherwise the fault of the dimension. Or an allocation failed. If the dimension has no fault, the name of `begun` isn't looked
+/// up here.
 fn with_dimension(
     alloc: Global,
     dims: &Dimensions,
@@ -201,7 +209,8 @@ fn with_dimension(
     }
 }
 
-/// The position of the dimension that a word names, for a shape that has these dimensions before it.
+/// Returns the position of the dimension that a word names. `before` has the positions of the same variable's dimensions before it.
+/// Errs with a fault of [`next_dimid`], or if an allocation failed.
 fn dimid_of_word(
     alloc: Global,
     dims: &Dimensions,
@@ -214,7 +223,12 @@ fn dimid_of_word(
     Ok(next_dimid(dims, before, name.as_slice())?)
 }
 
-/// The position of the dimension of this name, for a shape that has these dimensions before it.
+/// Returns the position of the dimension of this name. `before` has the positions of the same variable's dimensions before it.
+///
+/// # Errors
+///
+/// The format doesn't allow the name (`BadName`); no dimension has the name (`UnknownDimension`); or the dimension is the record
+/// dimension, and `before` isn't empty (`BadShape`).
 fn next_dimid(dims: &Dimensions, before: &[u64], name: &[u8]) -> Result<u64, CdlKind>
     ensures { result ≡ next_dimid dims.now before.now name.now }
 {
@@ -230,11 +244,11 @@ fn next_dimid(dims: &Dimensions, before: &[u64], name: &[u8]) -> Result<u64, Cdl
     }
 }
 
-/// Adds a variable whose declaration is read.
+/// Adds the variable `begun`, whose declaration has been read to its end, to `variables`.
 ///
 /// # Errors
 ///
-/// The name of another variable (`DuplicateName`). Or an allocation failed.
+/// Another variable has the name (`DuplicateName`), or an allocation failed.
 fn put(alloc: Global, variables: &mut Variables, begun: PartialVariable) -> Result<(), ReadError>
     ensures { Leaves variables.new result (with_begun variables.old begun) }
 {

@@ -12,21 +12,21 @@ use cdl_values::put_number;
 use nc_base::{Dataset, Dim, Header, ListedArray, Sequence, Var, fill_of, is_record_var, slab_of};
 use std::alloc::{AllocError, Global};
 
-/// What a text declares: the header, and of each variable the values that the data section lists. What a variable lacks is
-/// owed, as its fill value.
+/// What a text declares: the header, and the values that the data section lists of each variable. The values that a variable lacks
+/// at its end aren't stored here; they are its fill value.
 #[derive(Drop)]
 pub struct Declared {
     /// The header, with the number of records.
     pub header: Header,
-    /// For each variable the listed values, big-endian and one after the other.
+    /// For each variable its listed values, big-endian and one after the other.
     pub listed: Sequence<ListedArray>,
 }
 
 impl Declared {
     ghost use Rattle.cdl_parse.specs.code.DeclaredDatasets.{dataset_of_declared};
 
-    /// The dataset: the header, and each variable's values, with its fill value as often as it lacks values (ncgen(1), and
-    /// `_FillValue` in the attribute conventions of the NetCDF User's Guide).
+    /// Returns the dataset. It has the header, and for each variable the listed values, followed by the fill value once for
+    /// each value that the variable lacks (ncgen(1), and `_FillValue` in the attribute conventions of the NetCDF User's Guide).
     ///
     /// # Errors
     ///
@@ -47,7 +47,8 @@ impl Declared {
     }
 }
 
-/// The whole arrays of the variables: the listed values of each, filled up.
+/// Returns the whole array of each variable, as [`whole_array`] does. `listed` has the listed values of each variable, in the order
+/// of `vars`. Errs as [`whole_array`] does.
 fn whole_arrays(
     alloc: Global,
     dims: &[Dim],
@@ -68,7 +69,8 @@ fn whole_arrays(
     Ok(arrays)
 }
 
-/// The whole array of a variable: its listed values, filled up.
+/// Returns all values of a variable over `records` records: the listed ones, followed by its fill value once for each value that it
+/// lacks. Errs if [`owed_count`] returns `None`, or if an allocation failed.
 fn whole_array(
     alloc: Global,
     dims: &[Dim],
@@ -84,7 +86,7 @@ fn whole_array(
     }
 }
 
-/// The listed values of a variable, and `owed` fill values after them.
+/// Returns the bytes of `listed`, followed by the variable's fill value `owed` times. Errs only if an allocation failed.
 fn filled(
     alloc: Global,
     var: &Var,
@@ -99,8 +101,8 @@ fn filled(
     Ok(Sequence::from_vec(bytes))
 }
 
-/// How many values a variable lacks if `len` bytes of it are listed. None if its slab has more than 2^48 bytes, or if 2^64
-/// values or more are lacking.
+/// Returns how many values a variable lacks over `records` records, if `len` bytes of its values are listed. Returns `None` if its
+/// slab has more than 2^48 bytes, or if it lacks 2^64 values or more.
 fn owed_count(dims: &[Dim], var: &Var, records: u64, len: u128) -> Option<u64>
     ensures { CountsOwed dims.now var.now records len result }
 {
@@ -109,7 +111,7 @@ fn owed_count(dims: &[Dim], var: &Var, records: u64, len: u128) -> Option<u64>
     u64::try_from(owed).ok()
 }
 
-/// How many values a variable has over `records` records. `None` if its slab passes 2^48 bytes.
+/// Returns how many values a variable has over `records` records, or `None` if its slab has more than 2^48 bytes.
 fn value_count(dims: &[Dim], var: &Var, records: u64) -> Option<u128>
     ensures { SomeIff result (HasSmallSlab dims.now var.now) (value_count dims.now var.now records) }
 {
@@ -122,7 +124,7 @@ fn value_count(dims: &[Dim], var: &Var, records: u64) -> Option<u128>
     }
 }
 
-/// The bytes of a variable's fill value, the highest first.
+/// Returns the bytes of a variable's fill value, big-endian. Errs only if an allocation failed.
 fn fill_bytes(alloc: Global, var: &Var) -> Result<Vec<u8>, AllocError>
     ensures { IfOk result (λ bytes. bytes.items ≡ bytes_of_number var.now.ty (fill_value var.now)) }
 {
@@ -131,7 +133,7 @@ fn fill_bytes(alloc: Global, var: &Var) -> Result<Vec<u8>, AllocError>
     fill.into_bytes(alloc, 0)
 }
 
-/// Adds `count` copies of these bytes.
+/// Appends `count` copies of `copy` to `bytes`. Errs only if an allocation failed.
 fn add_copies(bytes: &mut Vec<u8>, copy: &[u8], count: u64) -> Result<(), AllocError>
     ensures { OnOk result (bytes.new.items ≡ bytes.old.items ++ concat (replicate count copy.now)) }
 {

@@ -20,7 +20,8 @@ pub struct Defined<'a> {
     pub rest: Cutter<'a>,
 }
 
-/// Reads the statements of a text up to the mark of the data section, to the closing brace, or to the end.
+/// Reads the statements of a text up to and including `data:` or the closing brace, or up to the end of the text. Returns what they
+/// declare, and the statements after them.
 ///
 /// # Errors
 ///

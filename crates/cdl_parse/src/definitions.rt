@@ -34,7 +34,8 @@ impl Definitions {
     ghost use Rattle.cdl_meaning.specs.Meaning.{empty};
     ghost use Rattle.cdl_parse.specs.code.Defined.{Makes, after_mark, after_statement, is_defining, is_early, said_by, state_of};
 
-    /// What stands before the first statement: nothing. It does not allocate.
+    /// Returns definitions without dimensions, attributes and variables, in the section before the first statement. Does not
+    /// allocate.
     pub fn new(alloc: Global) -> Definitions
         ensures { state_of result ≡ empty }
     {
@@ -46,7 +47,8 @@ impl Definitions {
         }
     }
 
-    /// Reads the next statement, which stands before the data section, and gives the statements after it.
+    /// Reads the next statement, which stands before the data section: adds what it declares, or moves on to the section
+    /// that it begins. Returns the statements after it.
     ///
     /// # Errors
     ///
@@ -66,7 +68,8 @@ impl Definitions {
         Ok(rest)
     }
 
-    /// Does what a statement says that has its shape.
+    /// Does what the next statement says, which has its shape: adds what it declares, or goes to another section. Errs with the
+    /// fault of what it says, or if an allocation failed.
     fn apply(&mut self, alloc: Global, start: Cutter<'_>) -> Result<(), ReadError>
         requires more { is_done start ≡ false }
         requires early { is_early self.old.section ≡ true }
@@ -82,7 +85,8 @@ impl Definitions {
         }
     }
 
-    /// Does what a statement says between the opening and the data section.
+    /// Does what the next statement says, which has its shape and stands after the opening and before the data section. Errs with
+    /// the fault of what it says, or if an allocation failed.
     fn define(&mut self, alloc: Global, start: Cutter<'_>) -> Result<(), ReadError>
         requires more { is_done start ≡ false }
         requires defining { is_defining self.old.section ≡ true }
@@ -108,7 +112,7 @@ impl Definitions {
         }
     }
 
-    /// The section whose mark begins with this word is next.
+    /// Moves on to the section that `word` begins, as `dimensions` does in `dimensions:`, or to `Ended` if it begins none.
     fn go_to(&mut self, word: Lexeme<'_>)
         ensures section { self.new.section ≡ after_mark (section_of (lexeme_of word.entry)) }
         ensures dims { self.new.dims ≡ self.old.dims }
@@ -118,7 +122,8 @@ impl Definitions {
         self.section = word.section().unwrap_or(Section::Ended);
     }
 
-    /// Does what a statement says in the section of the dimensions: the mark of a later section, or dimensions.
+    /// Does what the next statement says in the section of the dimensions: goes to a later section, or adds dimensions. Errs with a
+    /// fault of [`read_dimensions`], or if an allocation failed.
     fn define_dimensions(&mut self, alloc: Global, start: Cutter<'_>) -> Result<(), ReadError>
         requires more { is_done start ≡ false }
         requires section { self.old.section ≡ Section.Dimensions }
@@ -135,8 +140,8 @@ impl Definitions {
         read_dimensions(alloc, &mut self.dims, start)
     }
 
-    /// Does what a statement says in the section of the variables: an attribute of a variable, the mark of a later section, or
-    /// declarations.
+    /// Does what the next statement says in the section of the variables: adds an attribute of a variable, goes to a later section,
+    /// or adds variables. Errs with a fault of [`Variables::read_attribute`] or [`read_declaration`], or if an allocation failed.
     fn define_variables(&mut self, alloc: Global, start: Cutter<'_>) -> Result<(), ReadError>
         requires more { is_done start ≡ false }
         requires section { self.old.section ≡ Section.Variables }

@@ -9,11 +9,13 @@ use cdl_statements::CdlKind;
 use cdl_tokens::Numeral;
 use nc_base::Version;
 
-/// The length of a new dimension. `None` declares the record dimension, whose length is 0.
+/// Returns the length of a new dimension. `n` is the number that the text gives as its length. If `n` is `None`, the dimension is
+/// the record dimension, and its length is 0. `has_record` is true if there is a record dimension already.
 ///
 /// # Errors
 ///
-/// A length of 0; one that the version doesn't have; a second record dimension.
+/// A length of 0 (`ZeroDimension`); a length that is negative or that the version doesn't have (`NumberRange`); a second record
+/// dimension (`TwoRecordDims`).
 #[tactic(auto, using(crate::proofs::Lengths::lens))]
 pub fn dim_len(version: Version, has_record: bool, n: Option<Numeral>) -> Result<u64, CdlKind>
     ensures unlimited { n ≡ None → IsLength version has_record None result }
@@ -26,7 +28,8 @@ pub fn dim_len(version: Version, has_record: bool, n: Option<Numeral>) -> Result
     }
 }
 
-/// The length that a number says.
+/// Returns the length that the number `n` stands for. Errs with `ZeroDimension` if it is 0, and with `NumberRange` if it is
+/// negative or the version doesn't have it.
 fn number_len(version: Version, n: Numeral) -> Result<u64, CdlKind>
     ensures { result ≡ number_len version n }
 {

@@ -19,26 +19,27 @@ use cdl_values::{ReadError, number_or_zero, read_name};
 use nc_base::{Dim, Sequence, Version};
 use std::alloc::Global;
 
-/// A dimension of a statement: its tokens that say something, and what stands after its comma or semicolon.
+/// One dimension of a statement: the tokens of its name and its length, and what comes after them.
 #[derive(Clone, Copy)]
 struct NextDimension<'a> {
     name: Lexeme<'a>,
     length: Lexeme<'a>,
     rest: Cutter<'a>,
-    /// It is its statement's last.
+    /// True if the dimension is the last of its statement.
     ends: bool,
 }
 
-/// Reads dimensions joined by commas, from the name of the first one on, and adds them to the others.
+/// Reads the dimensions of a statement, which are joined by commas, and adds them to `dims`. `start` is at the name of the first
+/// one.
 ///
-/// A dimension is a name, `=` and a length, which is `unlimited` for the record dimension (the CDL chapter of the NetCDF
-/// User's Guide, "CDL Syntax", and ncgen(1)).
+/// A dimension is a name, `=` and a length, which is `unlimited` for the record dimension (the CDL chapter of the NetCDF User's
+/// Guide, "CDL Syntax", and ncgen(1)).
 ///
 /// # Errors
 ///
-/// The first of these: a name that the format doesn't allow (`BadName`); the name of another dimension (`DuplicateName`); a
-/// length of 0 (`ZeroDimension`), or one that the version doesn't have (`NumberRange`); a second record dimension
-/// (`TwoRecordDims`). Or an allocation failed. The dimensions before it have been added.
+/// The first of these faults: a name that the format doesn't allow (`BadName`); the name of another dimension (`DuplicateName`); a
+/// length of 0 (`ZeroDimension`), or one that is negative or that the version doesn't have (`NumberRange`); a second record
+/// dimension (`TwoRecordDims`). Or an allocation failed. In each case the dimensions before the failing one have been added.
 pub fn read_dimensions(
     alloc: Global,
     dims: &mut Dimensions,
@@ -60,7 +61,7 @@ pub fn read_dimensions(
     }
 }
 
-/// The first dimension of those that are next.
+/// Returns the next dimension of a statement, and what comes after its comma or semicolon. `start` is at the dimension's name.
 fn next_dimension(start: Cutter<'_>) -> NextDimension<'_>
     requires more { is_done start ≡ false }
     requires shaped { completes DimensionName (words start) ≡ true }
@@ -82,7 +83,8 @@ fn next_dimension(start: Cutter<'_>) -> NextDimension<'_>
     }
 }
 
-/// Adds the dimension whose name and length these tokens say.
+/// Adds a dimension to `dims`. `name` and `length` are the tokens of its name and its length. Errs with a fault of
+/// [`read_dimensions`], or if an allocation failed.
 fn add_dimension(
     alloc: Global,
     dims: &mut Dimensions,
@@ -102,7 +104,8 @@ fn add_dimension(
     }
 }
 
-/// The length that a token says, 0 for the record dimension.
+/// Returns the length that the token `length` says, or 0 for `unlimited`. `has_record` is true if there is a record dimension
+/// already. Errs as [`dim_len`] does.
 fn len_said(version: Version, has_record: bool, length: Lexeme<'_>) -> Result<u64, CdlKind>
     ensures { IsLength version has_record (length_said version (lexeme_of length.entry)) result }
 {
@@ -116,18 +119,18 @@ fn len_said(version: Version, has_record: bool, length: Lexeme<'_>) -> Result<u6
     )
 }
 
-/// Returns true if a length is that of the record dimension.
+/// Returns true if the token is the length of the record dimension: `unlimited` or `UNLIMITED`.
 fn is_unlimited(length: Lexeme<'_>) -> bool
     ensures { result ≡ is_unlimited (lexeme_of length.entry) }
 {
     length.is_word(b"unlimited") || length.is_word(b"UNLIMITED")
 }
 
-/// Adds the dimension of this name and length.
+/// Adds the dimension of this name and length to `dims`.
 ///
 /// # Errors
 ///
-/// The name of another dimension (`DuplicateName`). Or an allocation failed.
+/// Another dimension has the name (`DuplicateName`), or an allocation failed.
 fn push(alloc: Global, dims: &mut Dimensions, name: Vec<u8>, len: u64) -> Result<(), ReadError>
     ensures { Leaves dims.new result (with_new_dim dims.old name.items len) }
 {

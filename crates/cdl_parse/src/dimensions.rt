@@ -14,11 +14,13 @@ use std::marker::Model;
 
 /// The dimensions of a dataset, in the order of the text.
 ///
-/// The one of a name is found in a time that grows with the logarithm of their number.
+/// A dimension is found by its name in a time that grows with the logarithm of their number.
 #[derive(Drop)]
 pub struct Dimensions {
     list: Vec<Dim>,
+    /// Finds the position of a dimension in `list` by its name.
     names: NameIndex,
+    /// True if one of the dimensions is the record dimension.
     has_record: bool,
 }
 
@@ -36,7 +38,7 @@ impl Model for Dimensions {
 }
 
 impl Dimensions {
-    /// No dimensions. It does not allocate.
+    /// Returns a list without dimensions. Does not allocate.
     pub fn new(alloc: Global) -> Dimensions
         ensures { result ≡ [] }
     {
@@ -47,7 +49,7 @@ impl Dimensions {
         }
     }
 
-    /// The dimensions as a slice.
+    /// Returns the dimensions as a slice.
     pub fn as_slice(&self) -> &[Dim]
         ensures { result.now ≡ self.now }
     {
@@ -61,7 +63,7 @@ impl Dimensions {
         self.has_record
     }
 
-    /// The position of the first dimension that has the name; `None` if none has.
+    /// Returns the position of the first dimension that has the name, or `None` if none has it.
     pub fn position(&self, name: &[u8]) -> Option<u64>
         ensures { result ≡ position (λ (d : header.Dim). bytes_eq d.name name.now) self.now }
     {
@@ -75,7 +77,7 @@ impl Dimensions {
         self.position(name).is_some()
     }
 
-    /// Adds a dimension at the end, if no other one has its name, and returns true if so.
+    /// Adds the dimension at the end and returns true, if no other one has its name. Otherwise changes nothing and returns false.
     ///
     /// # Errors
     ///
@@ -98,7 +100,7 @@ impl Dimensions {
         added
     }
 
-    /// The dimensions as a list, without a copy.
+    /// Returns the dimensions as a list, without a copy.
     pub fn into_sequence(self) -> Sequence<Dim>
         ensures { result ≡ self }
     {

@@ -7,11 +7,11 @@ use crate::declared_values::Declared;
 use crate::records::records_of;
 use nc_base::{Att, Dim, Header, ListedArray, NumRecs, Sequence, Var, Version, rec_size};
 
-/// What a text with these dimensions, attributes, variables and listed values declares. The number of records is that of the
-/// record variable that lists the most.
+/// Returns what a text with these dimensions, attributes of the dataset, variables and listed values declares. `listed` has the
+/// listed values of each variable, in the order of `vars`. [`records_of`] gives the number of records.
 ///
-/// Returns `None` if it is too large: a slab or an array of more than 2^48 bytes, or a record of more than 2^62 bytes. Does not
-/// allocate.
+/// Returns `None` if the dataset is too large: a slab or an array of more than 2^48 bytes, or a record of more than 2^62 bytes.
+/// Does not allocate.
 pub fn finish(
     version: Version,
     dims: Sequence<Dim>,

@@ -19,7 +19,7 @@ pub enum ParseError {
 impl ParseError {
     ghost use Rattle.cdl_parse.specs.code.Runs.{at_line};
 
-    /// That of a statement that begins on this line.
+    /// Returns the error of a statement that begins on this line: its fault with the line, or `OutOfMemory`.
     pub fn at_line(line: u64, error: ReadError) -> ParseError
         ensures { result ≡ at_line line error }
     {

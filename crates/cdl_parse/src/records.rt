@@ -6,30 +6,32 @@ ghost use Rattle.cdl_parse.specs.code.Extents.{CountsRecords, HaveValues, extent
 
 use nc_base::{Dim, ListedArray, Var, is_record_var, slab_of};
 
-/// The greatest array, in bytes.
+/// The most bytes that the array of a variable may have, and the most records.
 const ARRAY_LIMIT: u128 = 1 << 48;
 
-/// The number of records: as many as the record variable has that lists the most values. `None` if a slab, or an array over
-/// that many records, passes 2^48 bytes.
+/// Returns the number of records: as many as it takes to hold the listed values of each record variable. A record counts even if
+/// only a part of it is listed. Returns `None` if a slab, or the array of a record variable over that many records, has more than
+/// 2^48 bytes.
 pub fn records_of(dims: &[Dim], vars: &[Var], listed: &[ListedArray]) -> Option<u64>
     ensures { CountsRecords dims.now vars.now listed.now result }
 {
     extent_of(dims, vars, listed)?.records()
 }
 
-/// How far the listed values of the variables reach.
+/// What some record variables need: the records for their listed values, and the bytes of the longest slab.
 #[derive(Clone, Copy)]
 struct Extent {
-    /// How many records hold them.
+    /// How many records it takes to hold the listed values of each record variable.
     records: u128,
-    /// The bytes of the greatest slab of a record variable.
+    /// The bytes of the longest slab of a record variable, or 0 if there is none.
     widest: u64,
 }
 
 impl Extent {
     ghost use Rattle.cdl_parse.specs.code.Extents.{records_within, with_listed};
 
-    /// The same with a variable and its listed values. None if its slab has more than 2^48 bytes.
+    /// Returns this extent with the variable `var` and its listed values counted in. A variable that isn't a record variable
+    /// changes nothing. Returns `None` if the variable's slab has more than 2^48 bytes.
     fn with(self, dims: &[Dim], var: &Var, listed: &ListedArray) -> Option<Extent>
         ensures { 0 < slab_count dims.now var.now → result ≡ with_listed dims.now self var.now listed.now }
     {
@@ -45,7 +47,8 @@ impl Extent {
         })
     }
 
-    /// The number of records; `None` if a record variable's array over that many has more than 2^48 bytes.
+    /// Returns the number of records, or `None` if it is more than 2^48, or if a record variable's array over that many records has
+    /// more than 2^48 bytes.
     fn records(self) -> Option<u64>
         ensures { result ≡ records_within self }
     {
@@ -56,7 +59,7 @@ impl Extent {
     }
 }
 
-/// How many records of `count` values hold `n` values.
+/// Returns how many records of `count` values it takes to hold `n` values, or 0 if `count` is 0.
 fn records_for(count: u64, n: u128) -> u128
     ensures { 0 < count → result ≡ records_for count n }
 {
@@ -66,7 +69,7 @@ fn records_for(count: u64, n: u128) -> u128
     n.div_ceil(count as u128)
 }
 
-/// How far the values of all variables reach; `None` if a slab passes 2^48 bytes.
+/// Returns the extent of all variables and their listed values, or `None` if a slab has more than 2^48 bytes.
 fn extent_of(dims: &[Dim], vars: &[Var], listed: &[ListedArray]) -> Option<Extent>
     ensures { HaveValues dims.now vars.now → result ≡ extent_of dims.now vars.now listed.now }
 {

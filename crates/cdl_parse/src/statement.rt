@@ -9,11 +9,11 @@ ghost use Rattle.cdl_parse.specs.code.Defined.{ActsAsSaid};
 
 use cdl_statements::{CdlKind, Cutter, Section, check_shape};
 
-/// Passes over the next statement, which stands in this section, and gives the statements after it. It does not allocate.
+/// Passes over the next statement, which stands in `section`, and returns the statements after it. Does not allocate.
 ///
 /// # Errors
 ///
-/// The fault of the statement's first bad token or bad number; or `Syntax` if it doesn't have its shape.
+/// The fault of the statement's first bad token or bad number; or `Syntax` if the statement doesn't have its shape.
 pub fn pass(start: Cutter<'_>, section: Section) -> Result<Cutter<'_>, CdlKind>
     requires { is_done start ≡ false }
     ensures passes { (s : State) → s.section ≡ section → ActsAsSaid start.entry s result }

@@ -6,7 +6,8 @@ ghost use Rattle.cdl_parse.specs.code.TakenNames.{after_name};
 use cdl_statements::CdlKind;
 use cdl_values::ReadError;
 
-/// Why a definition isn't read whose name was taken or not, and which has this fault after its name: a taken name comes first.
+/// Returns the error of a definition in which `error` was found after its name. If `error` is a fault and `is_taken` is true (the
+/// name is that of an earlier definition), returns `DuplicateName`, since the name comes first. Otherwise returns `error`.
 pub fn after_name(is_taken: bool, error: ReadError) -> ReadError
     ensures { result ≡ after_name is_taken error }
 {

@@ -21,15 +21,15 @@ use cdl_values::{NameIndex, targets_of};
 use nc_base::{Att, Dataset, Dim, ListedArray, Sequence, Var, Version};
 use std::alloc::Global;
 
-/// The dataset that a CDL text means (the CDL chapter of the NetCDF User's Guide, and ncgen(1)).
+/// Returns the dataset that a CDL text means (the CDL chapter of the NetCDF User's Guide, and ncgen(1)).
 ///
-/// Numbers may have the types and suffixes of this version of the format, and lengths what it can count.
+/// `version` is the version of the format. It decides which types and suffixes numbers may have, and how long a dimension may be.
 ///
 /// # Errors
 ///
-/// The first fault of the text, with the line of the first token of the statement that has it; or
-/// [`TooLarge`](CdlKind::TooLarge), with the line of the closing brace. Or [`OutOfMemory`](CdlKind::OutOfMemory), with line 0,
-/// as soon as an allocation failed.
+/// The first fault of the text, with the line of the first token of the statement that has it; or [`TooLarge`](CdlKind::TooLarge),
+/// with the line of the closing brace. Or [`OutOfMemory`](CdlKind::OutOfMemory), with line 0, as soon as an allocation failed, or
+/// if a variable has more values than memory can hold.
 pub fn parse(alloc: Global, text: &[u8], version: Version) -> Result<Dataset, CdlFault>
     ensures { MeansOrOutOfMemory result (meaning text.now version) }
 {
@@ -40,7 +40,8 @@ pub fn parse(alloc: Global, text: &[u8], version: Version) -> Result<Dataset, Cd
     }
 }
 
-/// What a CDL text declares: the dataset that [`parse`] gives, but with no more of each variable's values than the text lists.
+/// Returns what a CDL text declares: the dataset that [`parse`] returns, but with no more of each variable's values than the text
+/// lists.
 ///
 /// # Errors
 ///
@@ -56,7 +57,7 @@ pub fn declared(alloc: Global, text: &[u8], version: Version) -> Result<Declared
 }
 
 impl ParseError {
-    /// The fault with its line; `OutOfMemory` has line 0.
+    /// Returns the fault with its line; `OutOfMemory` has line 0.
     fn fault(self) -> CdlFault
         ensures { result ≡ fault_of self }
     {
@@ -70,7 +71,8 @@ impl ParseError {
     }
 }
 
-/// What a text declares.
+/// Reads a text, and returns what it declares. Errs with the fault of the first bad statement, with `TooLarge` on the line of the
+/// closing brace, or if an allocation failed.
 fn read_text(alloc: Global, text: &[u8], version: Version) -> Result<Declared, ParseError>
     ensures reads { ReadsOn (λ d. Ok (dataset_of_declared d)) result (meaning text.now version) }
     ensures one_each { IfOk result (λ d. length d.listed ≡ length d.header.vars) }
@@ -101,7 +103,8 @@ struct Contents {
     listed: Vec<ListedArray>,
 }
 
-/// Reads all statements of a text.
+/// Reads all statements of a text, and returns what they declare and list. Errs with the fault of the first bad statement, or if an
+/// allocation failed.
 fn read_contents(alloc: Global, start: Cutter<'_>) -> Result<Contents, ParseError>
     ensures { length (text_of start.entry) < 2 ^ 63 → ReadsAll result (run_from start.entry empty) }
 {
@@ -138,10 +141,13 @@ struct Values<'a> {
     listed: Vec<ListedArray>,
     /// The section that the next statement stands in.
     section: Section,
+    /// The statements that are left.
     rest: Cutter<'a>,
 }
 
-/// Reads the data section, if it is next: what it lists.
+/// Reads the data section if `section` is that section, and returns what it lists and what comes after it. Otherwise returns arrays
+/// without values, and reads nothing. `section` is the section of the next statement, and `names` has the names of the variables.
+/// Errs with the fault of the first bad statement of the data section, or if an allocation failed.
 fn read_values<'a>(
     alloc: Global,
     dims: &[Dim],
@@ -165,7 +171,8 @@ fn read_values<'a>(
     }
 }
 
-/// Reads the data section.
+/// Reads the data section, and returns what it lists and what comes after it. `names` has the names of the variables. Errs with the
+/// fault of the first bad statement of the section, or if an allocation failed.
 fn read_section<'a>(
     alloc: Global,
     dims: &[Dim],
@@ -186,7 +193,8 @@ fn read_section<'a>(
     })
 }
 
-/// The section after the data section, closed or not.
+/// Returns the section of the statement after the data section: `Closed` if `is_closed` is true (the data section ended with the
+/// closing brace), otherwise `Values`.
 fn after_data(is_closed: bool) -> Section
     ensures { result ≡ (if is_closed then Section.Closed else Section.Values) }
 {

@@ -9,11 +9,11 @@ ghost use Rattle.cdl_parse.specs.code.Runs.{run_from};
 use crate::statement::pass;
 use cdl_statements::{CdlFault, Cutter, Section};
 
-/// Reads what comes after the closing brace: nothing but the end of the text. It does not allocate.
+/// Checks that no statement is left but the end of the text. `section` is the section of the next statement. Does not allocate.
 ///
 /// # Errors
 ///
-/// The fault of the first statement there, with its line.
+/// The fault of the first bad statement, with its line.
 pub fn read_end(start: Cutter<'_>, section: Section) -> Result<(), CdlFault>
     requires { is_done start ≡ false → is_over section ≡ true }
     ensures { (s : State) → s.section ≡ section → EndsAs s result (run_from start.entry s) }

@@ -8,7 +8,7 @@ use cdl_statements::CdlKind;
 use cdl_values::{NameIndex, ReadError, read_name};
 use std::alloc::Global;
 
-/// The position of the variable that a word names; these are the names of the variables.
+/// Returns the position of the variable that a word names. `names` are the names of the variables.
 ///
 /// # Errors
 ///

@@ -29,12 +29,13 @@ struct Variable {
     atts: Attributes,
 }
 
-/// The variables of a text, in its order.
+/// The variables of a text, in the order of the text.
 ///
-/// The variable of a name is found in a time that grows with the logarithm of their number.
+/// A variable is found by its name in a time that grows with the logarithm of their number.
 #[derive(Drop)]
 pub struct Variables {
     list: Vec<Variable>,
+    /// Finds the position of a variable in `list` by its name.
     names: NameIndex,
 }
 
@@ -53,7 +54,7 @@ impl Model for Variables {
 }
 
 impl Variables {
-    /// No variables. It does not allocate.
+    /// Returns a list without variables. Does not allocate.
     pub fn new(alloc: Global) -> Variables
         ensures { result ≡ [] }
     {
@@ -70,7 +71,8 @@ impl Variables {
         self.names.find(name).is_some()
     }
 
-    /// Adds a variable without attributes at the end, if no other one has its name, and returns true if so.
+    /// Adds a variable without attributes at the end and returns true, if no other one has its name. Otherwise changes nothing and
+    /// returns false.
     ///
     /// # Errors
     ///
@@ -103,16 +105,16 @@ impl Variables {
         added
     }
 
-    /// Reads an attribute of a variable, whose name is next, and adds it to the variable's others.
+    /// Reads an attribute of a variable, and adds it to the attributes of that variable. `start` is at the variable's name.
     ///
     /// After the name come `:`, the attribute's name, `=` and the constants, joined by commas (the CDL chapter of the NetCDF
     /// User's Guide, and ncgen(1)).
     ///
     /// # Errors
     ///
-    /// The first of these, in which case the variables are what they were: a variable's name that the format doesn't allow
-    /// (`BadName`), or that no variable has (`UnknownVariable`); a fault of [`read_attribute`](crate::read_attribute). Or an
-    /// allocation failed.
+    /// The first of these faults: a variable's name that the format doesn't allow (`BadName`), or that no variable has
+    /// (`UnknownVariable`); a fault of [`read_attribute`](crate::read_attribute). Or an allocation failed. In each case the
+    /// variables are what they were.
     pub fn read_attribute(&mut self, alloc: Global, start: Cutter<'_>) -> Result<(), ReadError>
         requires more { is_done start ≡ false }
         requires shaped { completes AttributeName (drop 2 (words start)) ≡ true }
@@ -126,7 +128,7 @@ impl Variables {
         read_attribute(alloc, &mut variable.atts, name)
     }
 
-    /// The variables as those of a header, and the index of their names. No name, shape or attribute is copied.
+    /// Returns the variables as those of a header, and the index of their names. No name, shape or attribute is copied.
     ///
     /// # Errors
     ///
@@ -141,7 +143,7 @@ impl Variables {
     }
 }
 
-/// The variables as those of a header.
+/// Returns the variables as those of a header. Errs only if an allocation failed.
 ///
 /// The capacity is reserved first: `collect` would try a failed allocation again with less.
 fn vars_of(alloc: Global, list: Vec<Variable>) -> Result<Vec<Var>, AllocError>
@@ -155,7 +157,7 @@ fn vars_of(alloc: Global, list: Vec<Variable>) -> Result<Vec<Var>, AllocError>
     Ok(vars)
 }
 
-/// The variable as one of a header.
+/// Returns the variable as one of a header, with begin 0.
 fn var_of(variable: Variable) -> Var
     ensures { result ≡ var_of variable }
 {

@@ -1,4 +1,4 @@
--- The names that most proofs of this crate cite, passed on from one place.
+-- The names that proofs of this crate cite from elsewhere, passed on from one place.
 pub use Rattle.cdl_print.specs.code.Fills.{IsFillOf, shows_below_100}
 pub use Rattle.cdl_print.specs.code.Leads.{columns_left_after, gap_bytes, gap_in_row, look_at, next_char_lead, next_gap, row_gap}
 pub use Rattle.cdl_print.specs.code.Pieces.{IsRun, line_len, opening_of}

@@ -12,7 +12,8 @@ use crate::string::put_broken_text;
 use devices::{Sink, WriteFailed, put};
 use nc_base::{Att, NcType};
 
-/// Writes a line for each attribute of the variable with this name, or of the dataset if the name is empty.
+/// Writes a line for each attribute in `atts`. `owner` is the name of their variable, or empty if they are the attributes of the
+/// dataset.
 #[tactic(auto, using(devices::proofs::Writes::writes), unfolding(nc_base::specs::HeadText::att_lines))]
 pub fn put_att_lines<W: Sink>(sink: &mut W, owner: &[u8], atts: &[Att]) -> Result<(), WriteFailed>
     ensures { Wrote W.view sink.old sink.new (att_lines (escaped_name owner.now) atts.now) result }
@@ -23,7 +24,8 @@ pub fn put_att_lines<W: Sink>(sink: &mut W, owner: &[u8], atts: &[Att]) -> Resul
     Ok(())
 }
 
-/// Writes the line of an attribute.
+/// Writes the line of an attribute: the name of its variable, its own name and its values. `owner` is the name of the variable, or
+/// empty for an attribute of the dataset.
 #[tactic(auto, using(devices::proofs::Writes::writes), unfolding(nc_base::specs::HeadText::att_line))]
 fn put_att_line<W: Sink>(sink: &mut W, owner: &[u8], att: &Att) -> Result<(), WriteFailed>
     ensures { Wrote W.view sink.old sink.new (att_line (escaped_name owner.now) att.now) result }
@@ -34,7 +36,7 @@ fn put_att_line<W: Sink>(sink: &mut W, owner: &[u8], att: &Att) -> Result<(), Wr
     put(sink, b" ;\n")
 }
 
-/// Writes the name of an attribute after that of its variable.
+/// Writes two tabs, the name of the variable, `:` and the name of the attribute. `owner` is empty for an attribute of the dataset.
 #[tactic(auto, using(devices::proofs::Writes::writes))]
 fn put_att_name<W: Sink>(sink: &mut W, owner: &[u8], name: &[u8]) -> Result<(), WriteFailed>
     ensures { Wrote W.view sink.old sink.new (att_prefix owner.now name.now) result }
@@ -45,7 +47,7 @@ fn put_att_name<W: Sink>(sink: &mut W, owner: &[u8], name: &[u8]) -> Result<(), 
     put_name(sink, name)
 }
 
-/// Writes the values of an attribute.
+/// Writes the values of an attribute: characters as strings, others as numbers joined by commas.
 fn put_values<W: Sink>(sink: &mut W, att: &Att) -> Result<(), WriteFailed>
     ensures { Wrote W.view sink.old sink.new (att_values att.now.ty att.now.vals) result }
 {
@@ -55,7 +57,8 @@ fn put_values<W: Sink>(sink: &mut W, att: &Att) -> Result<(), WriteFailed>
     }
 }
 
-/// Writes the characters of an attribute as strings, without the NULs at their end.
+/// Writes the characters of an attribute as a string, without the NULs at their end. The string is closed and opened again after
+/// each line feed that isn't its last byte.
 #[tactic(auto, using(devices::proofs::Writes::writes), unfolding(nc_base::specs::HeadText::char_values))]
 fn put_char_values<W: Sink>(sink: &mut W, vals: &[u8]) -> Result<(), WriteFailed>
     ensures { Wrote W.view sink.old sink.new (char_values vals.now) result }

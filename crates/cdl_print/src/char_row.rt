@@ -14,7 +14,8 @@ use crate::progress::{Progress, row_index_after};
 use devices::{Sink, WriteFailed, put};
 use nc_base::Quoting;
 
-/// Writes characters of a variable, each with what stands before it.
+/// Writes the next characters of a variable, and moves `progress` past them. Before the first character of a row it writes what
+/// [`Layout::char_lead`] returns.
 pub fn put_char_values<W: Sink>(
     sink: &mut W,
     layout: &Layout<'_>,
@@ -35,7 +36,8 @@ pub fn put_char_values<W: Sink>(
     Ok(())
 }
 
-/// Returns the length of the next run from this index of a row on: of bytes that need no escape, up to the row's end, or of one.
+/// Returns the length of the next run of characters, which begins at `row_index` in its row. `row` is how many characters a row
+/// has. A run is either all bytes up to the first one that needs an escape or to the row's end, or a single byte.
 fn run_len_in_row(row: u128, row_index: u128, bytes: &[u8]) -> usize
     requires { 0 < length bytes.now }
     ensures some { 0 < result }
@@ -47,7 +49,7 @@ fn run_len_in_row(row: u128, row_index: u128, bytes: &[u8]) -> usize
     run_len(Quoting::InString, &bytes[..in_row])
 }
 
-/// Writes the next characters and goes on after them.
+/// Writes the next run of characters with what stands before it, and moves `progress` past it.
 fn put_next_run<W: Sink>(
     sink: &mut W,
     layout: &Layout<'_>,
@@ -65,7 +67,8 @@ fn put_next_run<W: Sink>(
     put_led_run(sink, layout, progress, run)
 }
 
-/// Writes the next characters with what stands before them.
+/// Writes the next run with what stands before it, and moves `progress` past it. If the layout is trimmed, a run that is a single
+/// NUL isn't written: `progress` counts it as held back, unless it ends its row.
 #[tactic(auto, using(devices::proofs::Writes::writes))]
 fn put_led_run<W: Sink>(
     sink: &mut W,
@@ -93,8 +96,9 @@ fn put_led_run<W: Sink>(
     Ok(())
 }
 
-/// Returns how many NULs are held back after a character: `held` were before it, `waits` is true if it is one more, and
-/// `row_index` is the index after it. None are at the start of a row.
+/// Returns how many NULs are held back after a run. `held` is how many were held back before the run, and `waits` is true if the
+/// run is one more such NUL. `row_index` is the index, in its row, of the character after the run. If `row_index` is 0, the row has
+/// ended, and the result is 0.
 fn held_after(held: u128, row_index: u128, waits: bool) -> u128
     requires { held + 1 < 2 ^ 128 }
     ensures held { result ≡ (if (row_index == 0) || not waits then 0 else held + 1) }
@@ -107,7 +111,7 @@ fn held_after(held: u128, row_index: u128, waits: bool) -> u128
     }
 }
 
-/// Writes characters after the NULs that were held back, or nothing if they wait too.
+/// Writes the `held` NULs that were held back, and then the run. Writes nothing if `waits` is true: then the run is held back too.
 #[tactic(auto, using(devices::proofs::Writes::writes), unfolding(crate::specs::code::Printing::run_text, nc_base::specs::Escapes::escaped_text))]
 fn put_run_text<W: Sink>(
     sink: &mut W,
@@ -125,14 +129,14 @@ fn put_run_text<W: Sink>(
     put_run(sink, Quoting::InString, run)
 }
 
-/// Returns true if this is a single NUL.
+/// Returns true if the run is a single NUL.
 fn is_one_nul(run: &[u8]) -> bool
     ensures { result ≡ is_one_nul run.now }
 {
     matches!(run, [0])
 }
 
-/// Writes `count` NULs.
+/// Writes `count` NULs, each as `\000`.
 fn put_nuls<W: Sink>(sink: &mut W, count: u128) -> Result<(), WriteFailed>
     ensures { Wrote W.view sink.old sink.new (escaped_text (replicate count 0)) result }
 {

@@ -9,7 +9,7 @@ ghost use Rattle.cdl_print.specs.code.Pieces.{IsRun};
 use devices::{Sink, WriteFailed, put};
 use nc_base::{Escape, Quoting};
 
-/// Writes bytes of a name or of a string, each with its escape.
+/// Writes bytes of a name or of a string, each with its escape if it needs one. `quoting` says which of the two they are in.
 pub fn put_escaped<W: Sink>(sink: &mut W, quoting: Quoting, bytes: &[u8]) -> Result<(), WriteFailed>
     ensures { Wrote W.view sink.old sink.new (flat_map (escaped_in quoting) bytes.now) result }
 {
@@ -22,7 +22,7 @@ pub fn put_escaped<W: Sink>(sink: &mut W, quoting: Quoting, bytes: &[u8]) -> Res
     Ok(())
 }
 
-/// Writes one byte with its escape, or a run of bytes that stand for themselves.
+/// Writes a run: either one byte, with its escape if it needs one, or bytes that all stand for themselves.
 pub fn put_run<W: Sink>(sink: &mut W, quoting: Quoting, run: &[u8]) -> Result<(), WriteFailed>
     requires { IsRun (stands_for_itself quoting) run.now }
     ensures { Wrote W.view sink.old sink.new (flat_map (escaped_in quoting) run.now) result }
@@ -33,7 +33,7 @@ pub fn put_run<W: Sink>(sink: &mut W, quoting: Quoting, run: &[u8]) -> Result<()
     }
 }
 
-/// Writes one byte with its escape.
+/// Writes one byte, with its escape if it needs one.
 fn put_byte<W: Sink>(sink: &mut W, quoting: Quoting, b: u8) -> Result<(), WriteFailed>
     ensures { Wrote W.view sink.old sink.new (escaped_in quoting b) result }
 {
@@ -47,14 +47,15 @@ fn put_byte<W: Sink>(sink: &mut W, quoting: Quoting, b: u8) -> Result<(), WriteF
     }
 }
 
-/// Returns the length of the next run: of bytes that need no escape, or of one byte.
+/// Returns the length of the next run: how many bytes stand for themselves up to the first one that needs an escape, but at least
+/// 1.
 pub fn run_len(quoting: Quoting, bytes: &[u8]) -> usize
     ensures { result ≡ max 1 (prefix_len (stands_for_itself quoting) bytes.now) }
 {
     plain_len(quoting, bytes).max(1)
 }
 
-/// Returns how many of the first bytes stand for themselves.
+/// Returns how many bytes at the start stand for themselves, up to the first one that needs an escape.
 fn plain_len(quoting: Quoting, bytes: &[u8]) -> usize
     ensures { result ≡ prefix_len (stands_for_itself quoting) bytes.now }
 {

@@ -8,11 +8,11 @@ use cdl_number_text::{put_at, put_comma};
 /// What stands before a number.
 #[derive(Clone, Copy)]
 pub enum Gap {
-    /// Before all values of a variable without rows.
+    /// Before the first number of a variable without rows.
     Space,
-    /// Before the first row.
+    /// Before the first number of the first row.
     FirstRow,
-    /// Before a later row.
+    /// Before the first number of a later row.
     NextRow,
     /// Between two numbers of a row that stand on one line.
     Comma,
@@ -21,7 +21,7 @@ pub enum Gap {
 }
 
 impl Gap {
-    /// Returns how many bytes more a line of this width may have after the gap, if it had these columns left before.
+    /// Returns how many columns are left on a line of this width after the gap, if `columns_left` were left before it.
     #[inline(always)]
     pub fn columns_left_after(self, columns_left: usize, width: usize) -> usize
         ensures { result ≡ columns_left_after self columns_left width }
@@ -35,8 +35,8 @@ impl Gap {
     }
 }
 
-/// Returns what stands before a number of `len` bytes that isn't its row's first: a line begins if `, `, the number and two
-/// bytes after it would pass the width.
+/// Returns what stands before a number that isn't its row's first and has `len` bytes. `columns_left` is how many bytes more the
+/// line may have. A line begins before the number if `, `, the number and two bytes after it would be more than that.
 #[inline(always)]
 pub fn gap_in_row(columns_left: usize, len: usize) -> Gap
     requires { len ≤ 40 }
@@ -49,8 +49,8 @@ pub fn gap_in_row(columns_left: usize, len: usize) -> Gap
     }
 }
 
-/// Writes a gap at this offset, and returns where it ends. Each has a call of its own, since a known number of bytes is copied
-/// without one.
+/// Writes a gap at the offset `at` of `text`, and returns the offset of its end. Each gap has a branch of its own, since a copy of
+/// a known length needs no call.
 #[inline(always)]
 pub fn put_gap(text: &mut [u8], at: usize, gap: Gap) -> usize
     requires { at + length (gap_bytes gap) ≤ length text.old }

@@ -13,7 +13,7 @@ use crate::word::Word;
 use devices::{Sink, WriteFailed, put, put_decimal};
 use nc_base::{Att, Dim, Header};
 
-/// Writes the head of a dump of the dataset with this name, up to `data:`.
+/// Writes the head of a dump of the dataset with this name: all that stands before `data:`.
 ///
 /// The record dimension is shown with this number of records. The layout is that of ncdump(1).
 ///
@@ -79,7 +79,8 @@ fn put_dim_line<W: Sink>(sink: &mut W, dim: &Dim, records: u64) -> Result<(), Wr
     put_extent(sink, dim.len, records)
 }
 
-/// Writes the length of a dimension, which for the record dimension is the number of records.
+/// Writes the length of a dimension and the end of its line. A `len` of 0 is that of the record dimension: for it, `UNLIMITED` and
+/// the number of records in a comment are written.
 #[tactic(auto, unfolding(nc_base::specs::HeadText::dim_extent))]
 fn put_extent<W: Sink>(sink: &mut W, len: u64, records: u64) -> Result<(), WriteFailed>
     ensures { Wrote W.view sink.old sink.new (dim_extent records len) result }
@@ -91,7 +92,7 @@ fn put_extent<W: Sink>(sink: &mut W, len: u64, records: u64) -> Result<(), Write
     }
 }
 
-/// Writes the length of the record dimension.
+/// Writes the length of the record dimension, which is `UNLIMITED`, and the number of records in a comment.
 #[tactic(auto, using(devices::proofs::Writes::writes), unfolding(nc_base::specs::HeadText::dim_extent))]
 fn put_records<W: Sink>(sink: &mut W, records: u64) -> Result<(), WriteFailed>
     ensures { Wrote W.view sink.old sink.new (dim_extent records 0) result }
@@ -101,7 +102,7 @@ fn put_records<W: Sink>(sink: &mut W, records: u64) -> Result<(), WriteFailed>
     put(sink, Word::Currently.bytes())
 }
 
-/// Writes the length of a dimension that is fixed.
+/// Writes the length of a dimension that is fixed, and the end of its line.
 #[tactic(auto, using(devices::proofs::Writes::writes))]
 fn put_length<W: Sink>(sink: &mut W, len: u64) -> Result<(), WriteFailed>
     ensures { Wrote W.view sink.old sink.new (concat_parts (decimal len ∷ codes " ;\n" ∷ [])) result }

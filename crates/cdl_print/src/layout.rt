@@ -20,7 +20,7 @@ pub struct Layout<'a> {
     pub name: &'a [u8],
     /// The type of its values.
     pub ty: NcType,
-    /// The rank is 2 or more.
+    /// True if the values stand in rows: the variable has two dimensions or more.
     pub in_rows: bool,
     /// How many values a row has.
     pub row: u128,
@@ -28,9 +28,9 @@ pub struct Layout<'a> {
     pub total: u128,
     /// The fill value.
     pub fill: i128,
-    /// A value that equals the fill value prints as `_`.
+    /// True if a number that equals the fill value prints as `_`.
     pub prints_fill: bool,
-    /// The NULs at the end of a row of characters aren't printed.
+    /// True if the NULs at the end of a row aren't printed. This matters only for characters.
     pub trimmed: bool,
     /// The width at which lines of numbers are broken.
     pub width: usize,
@@ -66,7 +66,8 @@ fn layout_of_var<'a>(header: &'a Header, var: &'a Var, total: u128, width: usize
     }
 }
 
-/// Returns how many values a row has: all of them at rank 0 and 1, otherwise as many as the last dimension is long.
+/// Returns how many values a row has, if the variable has `total` values: all of them at rank 0 and 1, otherwise as many as the
+/// last dimension is long.
 fn row_len(dims: &[Dim], dimids: &[u64], total: u128) -> u128
     ensures { result ≡ row_len dims.now dimids.now total }
 {
@@ -76,8 +77,8 @@ fn row_len(dims: &[Dim], dimids: &[u64], total: u128) -> u128
     }
 }
 
-/// Returns true if the NULs at the end of a row of characters aren't printed: the fill value is NUL, and the variable isn't a
-/// record variable of rank 1.
+/// Returns true if the variable's fill value is 0, and the variable isn't a record variable of rank 1. If such a variable has
+/// characters, the NULs at the end of a row aren't printed.
 fn is_trimmed(dims: &[Dim], var: &Var) -> bool
     ensures { result ≡ is_trimmed dims.now var.now }
 {
@@ -108,7 +109,8 @@ impl Layout<'_> {
         self.prints_fill && number == self.fill
     }
 
-    /// Returns how many values are left in the row after its first `row_index`, or 0 if the next value is its row's first.
+    /// Returns how many values are left in a row. `row_index` is the index of the next value in its row. Returns 0 if the next
+    /// value is its row's first.
     pub fn left_in_row(&self, row_index: u128) -> u128
         ensures some { 0 < result → 0 < row_index }
         ensures within { 0 < result → row_index + result ≤ self.now.row }
@@ -132,7 +134,7 @@ impl Layout<'_> {
         }
     }
 
-    /// Returns what stands before a number that is its row's first, after `position` values.
+    /// Returns what stands before a number that is its row's first. `position` is how many values the variable has before it.
     fn row_gap(&self, position: u128) -> Gap
         ensures { result ≡ row_gap (look_at self.now) position }
     {
@@ -145,7 +147,8 @@ impl Layout<'_> {
         }
     }
 
-    /// Returns what stands before the next character.
+    /// Returns what stands before the next character: what ends the row before and begins its own if it is its row's first,
+    /// otherwise nothing.
     pub fn char_lead(&self, progress: &Progress) -> &'static [u8]
         ensures { result.now ≡ next_char_lead (look_at self.now) progress.now }
     {

@@ -1,7 +1,7 @@
 //! CDL, the text form of netCDF, as it is printed: names, attributes, the head of a dump and values.
 //!
-//! Each function writes its text to a [`Sink`](devices::Sink) from beginning to end, does not allocate, and stops at the
-//! sink's first failure.
+//! Each function writes its text to a [`Sink`](devices::Sink) from beginning to end, and does not allocate. It errs only if the
+//! sink fails, and writes nothing after that.
 //!
 //! ```
 //! put_head(&mut sink, b"a", &header, records)?;

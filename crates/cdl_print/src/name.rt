@@ -25,7 +25,7 @@ pub fn put_name<W: Sink>(sink: &mut W, name: &[u8]) -> Result<(), WriteFailed>
     put_escaped(sink, Quoting::InName, name)
 }
 
-/// Writes the backslash before a name that could be read as something else.
+/// Writes a backslash if the name could be read as a number or a reserved word, otherwise nothing.
 #[tactic(auto, using(devices::proofs::Writes::writes), unfolding(crate::specs::code::Pieces::prefix_escape))]
 fn put_leading_backslash<W: Sink>(sink: &mut W, name: &[u8]) -> Result<(), WriteFailed>
     ensures { Wrote W.view sink.old sink.new (prefix_escape name.now) result }

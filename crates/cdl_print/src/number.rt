@@ -12,7 +12,8 @@ use crate::decimal::put_integer;
 use devices::{Sink, WriteFailed, put};
 use nc_base::{NcType, number_of};
 
-/// Writes the numbers of an attribute, each with the suffix of its type.
+/// Writes the numbers of an attribute, each with the suffix of its type, joined by commas. Bytes at the end that are no whole
+/// number are left out.
 pub fn put_numbers<W: Sink>(sink: &mut W, ty: NcType, vals: &[u8]) -> Result<(), WriteFailed>
     ensures { Wrote W.view sink.old sink.new (number_values ty vals.now) result }
 {
@@ -26,7 +27,7 @@ pub fn put_numbers<W: Sink>(sink: &mut W, ty: NcType, vals: &[u8]) -> Result<(),
     Ok(())
 }
 
-/// Writes a number, and what stands between it and the next.
+/// Writes a number with the suffix of its type, and then a comma and a space unless `is_last`.
 #[tactic(auto, using(devices::proofs::Writes::writes), unfolding(crate::specs::code::Pieces::number_text))]
 fn put_number<W: Sink>(
     sink: &mut W,
@@ -45,7 +46,7 @@ fn put_number<W: Sink>(
     put(sink, b", ")
 }
 
-/// Writes a number in decimal.
+/// Writes a number in decimal, without a suffix.
 fn put_value<W: Sink>(sink: &mut W, ty: NcType, value: &[u8]) -> Result<(), WriteFailed>
     requires { length value.now ≡ size_of ty }
     ensures { Wrote W.view sink.old sink.new (signed_decimal (number_of ty value.now)) result }

@@ -14,16 +14,17 @@ use crate::printed_fill::PrintedFill;
 use cdl_number_text::{decimal_len, put_byte, put_comma, put_decimal, put_digits};
 use nc_base::{NcType, number_of};
 
-/// How far a line of numbers is gathered.
+/// The last line of the text that is gathered in a buffer.
 #[derive(Clone, Copy)]
 pub struct Line {
-    /// Where it ends in the text.
+    /// The offset in the buffer at which the line ends. The next text is put there.
     pub end: usize,
-    /// How many bytes more it may have.
+    /// How many bytes more the line may have.
     pub columns_left: usize,
 }
 
-/// Puts numbers of one row at the end of the line, but not its row's first. Each type has a loop of its own.
+/// Puts numbers of one row, none of them the row's first, into `text` at the end of `line`, each with what stands before it.
+/// Returns the last line after them. `bytes` has the numbers, big-endian. Each type has a loop of its own.
 pub fn gather_line(text: &mut [u8], line: Line, layout: &Layout<'_>, bytes: &[u8]) -> Line
     requires fits { line.end + 47 * length (values layout.now bytes.now) ≤ length text.old }
     ensures more { PutLine layout.now (values layout.now bytes.now) line text.old result text.new }
@@ -42,7 +43,7 @@ pub fn gather_line(text: &mut [u8], line: Line, layout: &Layout<'_>, bytes: &[u8
     }
 }
 
-/// The loop of [`gather_line`] for one type.
+/// Does what [`gather_line`] does for numbers of the type `ty`.
 #[inline(always)]
 fn gather_typed(ty: NcType, text: &mut [u8], line: Line, layout: &Layout<'_>, bytes: &[u8]) -> Line
     requires fits { line.end + 47 * length (numbers ty bytes.now) ≤ length text.old }
@@ -61,7 +62,8 @@ fn gather_typed(ty: NcType, text: &mut [u8], line: Line, layout: &Layout<'_>, by
     now
 }
 
-/// Reads a number that isn't its row's first, and puts it at the end of the line.
+/// Puts a number that isn't its row's first at the end of the line, with what stands before it, and returns the last line after it.
+/// `value` has the bytes of the number.
 #[inline(always)]
 fn gather_next(
     ty: NcType,
@@ -80,8 +82,9 @@ fn gather_next(
     put_next(text, line, layout, fill, number_of(ty, value))
 }
 
-/// Puts a number that isn't its row's first at the end of the line, with what stands before it. Three comparisons find a number
-/// below 100 that isn't the fill value, on a line with room for `, `, two digits and two bytes more: no line begins before it.
+/// Puts a number that isn't its row's first at the end of the line, with what stands before it, and returns the last line after it.
+/// A number below 100 that isn't the fill value takes fewer steps if the line has room for `, `, two digits and two bytes more: no
+/// line begins before it.
 #[inline(always)]
 fn put_next(
     text: &mut [u8],
@@ -105,7 +108,7 @@ fn put_next(
     }
 }
 
-/// Puts a comma and a number below 100 at the end of the line, which has room for them.
+/// Puts a comma, a space and a number below 100 at the end of the line, which has room for them, and returns the line after them.
 #[inline(always)]
 fn put_below_100(text: &mut [u8], line: Line, n: u64) -> Line
     requires below_100 { n < 100 }
@@ -130,7 +133,7 @@ fn put_below_100(text: &mut [u8], line: Line, n: u64) -> Line
     }
 }
 
-/// Puts a fill value that prints as `_` at the end of the line, with what stands before it.
+/// Puts `_` at the end of the line, with what stands before it, and returns the last line after it.
 #[inline(always)]
 fn put_fill(text: &mut [u8], line: Line, width: usize) -> Line
     requires fits { line.end + 8 ≤ length text.old }
@@ -144,7 +147,7 @@ fn put_fill(text: &mut [u8], line: Line, width: usize) -> Line
     }
 }
 
-/// Puts a number in decimal at the end of the line, with what stands before it.
+/// Puts a number in decimal at the end of the line, with what stands before it, and returns the last line after it.
 #[inline(always)]
 fn put_number(text: &mut [u8], line: Line, width: usize, number: i128) -> Line
     requires magnitude { unsigned_abs number < 2 ^ 64 }
@@ -161,8 +164,8 @@ fn put_number(text: &mut [u8], line: Line, width: usize, number: i128) -> Line
     }
 }
 
-/// Puts what stands before a text of `len` bytes at the end of the line. Returns where the text begins, and how many columns
-/// are left after it.
+/// Puts what stands before a text of `len` bytes at the end of the line, without the text. Returns where the text begins, and how
+/// many columns are left after the text.
 #[inline(always)]
 fn put_gap_in_row(text: &mut [u8], line: Line, width: usize, len: usize) -> Line
     requires short { len ≤ 40 }

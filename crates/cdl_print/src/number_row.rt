@@ -14,13 +14,14 @@ use cdl_number_text::{put_text, text_len};
 use devices::{Sink, WriteFailed, put};
 use nc_base::number_of;
 
-/// How many numbers are written in one piece. Each takes at most 47 bytes: 40 of its own, and 7 that stand before it.
+/// How many numbers are written at once. Each takes at most 47 bytes: 40 of its own, and 7 that stand before it.
 const AT_ONCE: usize = 80;
 
-/// The text of numbers that are written in one piece.
+/// A buffer for the text of numbers that are written at once.
 pub type Gathered = [u8; 4096];
 
-/// Writes numbers of a variable, each with what stands before it. They are gathered in `text`, a few at a time.
+/// Writes the next numbers of a variable, each with what stands before it, and moves `progress` past them. `bytes` has the numbers,
+/// big-endian. `text` is a buffer in which at most 80 of them at a time are gathered.
 pub fn put_number_values<W: Sink>(
     sink: &mut W,
     layout: &Layout<'_>,
@@ -43,7 +44,7 @@ pub fn put_number_values<W: Sink>(
     Ok(())
 }
 
-/// Writes a few numbers in one piece, each with what stands before it.
+/// Writes at most 80 numbers at once, each with what stands before it, and moves `progress` past them. `text` is a buffer for them.
 fn put_few_numbers<W: Sink>(
     sink: &mut W,
     layout: &Layout<'_>,
@@ -61,7 +62,7 @@ fn put_few_numbers<W: Sink>(
     put(sink, &text[..end])
 }
 
-/// Puts numbers at the beginning of the text, each with what stands before it, and returns where they end.
+/// Puts numbers at the start of `text`, each with what stands before it, moves `progress` past them, and returns where they end.
 fn gather_numbers(
     text: &mut [u8],
     layout: &Layout<'_>,
@@ -90,7 +91,7 @@ fn gather_numbers(
     end
 }
 
-/// Returns how many of these bytes are the values that go on in the row, or 0 if a row begins.
+/// Returns how many of these bytes are values of the row that `progress` is in, or 0 if the next value is its row's first.
 fn len_in_row(layout: &Layout<'_>, progress: &Progress, bytes: &[u8]) -> usize
     ensures whole { AreWhole layout.now (take result bytes.now) }
     ensures within { result ≤ length bytes.now }
@@ -102,8 +103,8 @@ fn len_in_row(layout: &Layout<'_>, progress: &Progress, bytes: &[u8]) -> usize
     count * size
 }
 
-/// Puts the next number at this offset of the text, with what stands before it, and moves the progress past it. Returns where
-/// it ends.
+/// Puts the number with the bytes `value` at the offset `at` of `text`, with what stands before it. Moves `progress` past it, and
+/// returns the offset at which it ends.
 fn gather_number(
     text: &mut [u8],
     at: usize,
@@ -134,8 +135,8 @@ fn gather_number(
     start + len
 }
 
-/// Puts numbers of one row at this offset of the text, but not its row's first, and moves the progress past them. Returns where
-/// they end. Each type has a loop of its own.
+/// Puts numbers of one row, none of them the row's first, at the offset `at` of `text`, each with what stands before it. Moves
+/// `progress` past them, and returns the offset at which they end.
 fn gather_in_row(
     text: &mut [u8],
     at: usize,

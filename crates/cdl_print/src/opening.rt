@@ -11,7 +11,8 @@ use crate::name::{needs_prefix_escape, put_name};
 use devices::{Sink, WriteFailed, put};
 use nc_base::Quoting;
 
-/// Writes what stands before the values of the variable with this name.
+/// Writes what stands before the values of the variable with this name: a line feed, a space, the name with its
+/// escapes, and ` =`.
 #[tactic(auto, using(devices::proofs::Writes::writes))]
 pub fn put_opening<W: Sink>(sink: &mut W, name: &[u8]) -> Result<(), WriteFailed>
     ensures { Wrote W.view sink.old sink.new (opening_of name.now) result }
@@ -21,14 +22,14 @@ pub fn put_opening<W: Sink>(sink: &mut W, name: &[u8]) -> Result<(), WriteFailed
     put(sink, b" =")
 }
 
-/// Returns how many bytes more a line of this width may have after the opening.
+/// Returns how many columns are left on a line of this width after the opening.
 pub fn columns_left_after_opening(width: usize, name: &[u8]) -> usize
     ensures { result ≡ width - column (opening_of name.now) }
 {
     columns_left_after_name(width, name).saturating_sub(2)
 }
 
-/// Returns how many bytes more a line of this width may have after a space and a name with its escapes.
+/// Returns how many columns are left on a line of this width after a space and a name with its escapes.
 fn columns_left_after_name(width: usize, name: &[u8]) -> usize
     ensures { result ≡ width - column (codes "\n " ++ escaped_name name.now) }
 {
@@ -40,8 +41,8 @@ fn columns_left_after_name(width: usize, name: &[u8]) -> usize
     columns_left
 }
 
-/// Returns how many bytes more a line of this width may have after this byte of a name with its escape, if it had these columns
-/// left before.
+/// Returns how many columns are left on a line of this width after this byte of a name with its escape, if `columns_left` were left
+/// before it. A line feed begins a line.
 fn columns_left_after_byte(width: usize, columns_left: usize, b: u8) -> usize
     ensures { LeavesColumns width columns_left (escaped_in_name b) result }
 {

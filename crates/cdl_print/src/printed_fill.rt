@@ -7,17 +7,17 @@ ghost use Rattle.cdl_print.specs.code.Leads.{look_at};
 
 use crate::layout::Layout;
 
-/// The fill value of a variable, in the widths in which its numbers are compared with it.
+/// The fill value of a variable, in the forms in which its numbers are compared with it.
 #[derive(Clone, Copy)]
 pub struct PrintedFill {
-    /// The fill value if it prints as `_` and is below 100, otherwise 100.
+    /// The fill value if it prints as `_` and is from 0 to 99, otherwise 100.
     pub below_100: u64,
-    /// The fill value if it prints as `_` and has 64 bits with a sign.
+    /// The fill value if it prints as `_` and an `i64` can hold it, otherwise `None`.
     pub narrow: Option<i64>,
 }
 
 impl PrintedFill {
-    /// Returns the fill value of a layout.
+    /// Returns the fill value of a layout, in each of the forms.
     pub fn of(layout: &Layout<'_>) -> PrintedFill
         ensures { IsFillOf (look_at layout.now) result }
     {
@@ -27,7 +27,7 @@ impl PrintedFill {
         }
     }
 
-    /// Returns true if a number is below 100 and isn't the fill value.
+    /// Returns true if a number is from 0 to 99 and doesn't print as `_`.
     #[inline(always)]
     pub fn shows_below_100(self, number: i128) -> bool
         ensures { result ≡ shows_below_100 self.below_100 number }
@@ -35,7 +35,7 @@ impl PrintedFill {
         number >= 0 && number < 100 && number as u64 != self.below_100
     }
 
-    /// Returns true if a number of the layout prints as `_`.
+    /// Returns true if a number prints as `_`. `self` must have been made of `layout` by [`PrintedFill::of`].
     #[inline(always)]
     pub fn prints(self, layout: &Layout<'_>, number: i128) -> bool
         requires { IsFillOf (look_at layout.now) self }
@@ -47,7 +47,7 @@ impl PrintedFill {
         }
     }
 
-    /// Returns true if a number of 64 bits is the fill value.
+    /// Returns true if a number that an `i64` holds prints as `_`.
     #[inline(always)]
     fn is_narrow(self, number: i64) -> bool
         ensures { result ≡ is_fill self.narrow number }
@@ -59,7 +59,7 @@ impl PrintedFill {
     }
 }
 
-/// Returns the fill value if it prints as `_` and is below 100, otherwise 100.
+/// Returns the fill value if it prints as `_` and is from 0 to 99, otherwise 100.
 fn fill_below_100(layout: &Layout<'_>) -> u64
     ensures { IsFillBelow100 (look_at layout.now) result }
 {
@@ -70,7 +70,7 @@ fn fill_below_100(layout: &Layout<'_>) -> u64
     }
 }
 
-/// Returns the fill value if it prints as `_` and has 64 bits with a sign.
+/// Returns the fill value if it prints as `_` and an `i64` can hold it, otherwise `None`.
 fn narrow_fill(layout: &Layout<'_>) -> Option<i64>
     ensures { IsNarrowFill (look_at layout.now) result }
 {
@@ -81,7 +81,7 @@ fn narrow_fill(layout: &Layout<'_>) -> Option<i64>
     }
 }
 
-/// Returns the number in 64 bits, if it fits in them with its sign.
+/// Returns the number as an `i64`, or `None` if an `i64` can't hold it.
 #[inline(always)]
 fn narrow(number: i128) -> Option<i64>
     ensures fits { IsSome result ↔ FitsSigned w64 number }

@@ -69,7 +69,7 @@ impl<'a> ValuePrinter<'a> {
         self.remember(written)
     }
 
-    /// Returns true if the bytes are whole values, and no more than the variable has beside those printed.
+    /// Returns true if the bytes are whole values, and the variable has at least as many left to print.
     pub fn takes(&self, bytes: &[u8]) -> bool
         ensures { IsTrue result ↔ Takes self.now bytes.now }
     {
@@ -77,7 +77,7 @@ impl<'a> ValuePrinter<'a> {
         bytes.len() % size == 0 && self.has_values_left((bytes.len() / size) as u128)
     }
 
-    /// Returns true if the variable has `count` values beside those printed.
+    /// Returns true if the variable has at least `count` values left to print.
     fn has_values_left(&self, count: u128) -> bool
         ensures { IsTrue result ↔ (position_of self.now + count ≤ (look_in self.now).total) }
     {
@@ -86,9 +86,9 @@ impl<'a> ValuePrinter<'a> {
         position <= total && count <= total - position
     }
 
-    /// Writes these values, which come after those of the calls before: big-endian and one after the other. They are
-    /// whole, and no more than the variable has left. Numbers are gathered in `text`, which may hold anything: one serves all
-    /// variables.
+    /// Writes the next values of the variable. `bytes` has them whole, big-endian and one after the other, and no more of them
+    /// than the variable has left, as [`takes`](ValuePrinter::takes) tests. Numbers are gathered in `text`, which may hold
+    /// anything: one buffer serves all variables.
     ///
     /// # Errors
     ///
@@ -128,7 +128,7 @@ impl<'a> ValuePrinter<'a> {
         self.remember(written)
     }
 
-    /// Remembers whether this write has failed.
+    /// Sets `has_failed` if `written` is an error, and returns `written`.
     fn remember(&mut self, written: Result<(), WriteFailed>) -> Result<(), WriteFailed>
         ensures same { result ≡ written }
         ensures ok { OnOk written (self.new ≡ self.old) }
@@ -141,7 +141,8 @@ impl<'a> ValuePrinter<'a> {
     }
 }
 
-/// Writes values of a variable, each with what stands before it.
+/// Writes the next values of a variable, each with what stands before it, and moves `progress` past them. `text` is a buffer for
+/// numbers.
 fn put_values<W: Sink>(
     sink: &mut W,
     layout: &Layout<'_>,

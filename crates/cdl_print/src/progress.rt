@@ -9,15 +9,16 @@ pub struct Progress {
     pub position: u128,
     /// The next value's index in its row.
     pub row_index: u128,
-    /// How many bytes more the line may have, if the values are numbers.
+    /// How many bytes more the last line may have, if the values are numbers.
     pub columns_left: usize,
-    /// How many NULs stand in its row directly before the next value, and aren't printed yet.
+    /// How many NULs directly before the next value, in the same row, aren't printed yet.
     pub held: u128,
     ghost in_row: { row_index ≤ position },
     ghost waiting: { held ≤ position },
 }
 
-/// Returns the index in a row of this length after `count` values from this index on.
+/// Returns the row index after `count` more values: 0 if `row_index + count` is `row`, otherwise `row_index + count`. `row` is how many
+/// values a row has.
 pub fn row_index_after(row: u128, row_index: u128, count: u128) -> u128
     requires { row_index + count < 2 ^ 128 }
     ensures row_index { result ≡ (if row_index + count == row then 0 else row_index + count) }

@@ -10,7 +10,8 @@ use crate::word::Word;
 use devices::{Sink, WriteFailed, put};
 use nc_base::Quoting;
 
-/// Writes the bytes of a string, which is closed and opened again after each line feed but the last byte.
+/// Writes the bytes of a string with their escapes. The string is closed and opened again after each line feed that isn't its last
+/// byte.
 pub fn put_broken_text<W: Sink>(sink: &mut W, bytes: &[u8]) -> Result<(), WriteFailed>
     ensures { Wrote W.view sink.old sink.new (broken_text bytes.now) result }
 {
@@ -23,7 +24,7 @@ pub fn put_broken_text<W: Sink>(sink: &mut W, bytes: &[u8]) -> Result<(), WriteF
     Ok(())
 }
 
-/// Returns the length of the first line, with its line feed.
+/// Returns the length of the first line with its line feed, or of all bytes if there is no line feed.
 #[tactic(auto, using(crate::proofs::Runs::lines))]
 fn line_len(bytes: &[u8]) -> usize
     ensures { result ≡ line_len bytes.now }
@@ -34,14 +35,15 @@ fn line_len(bytes: &[u8]) -> usize
     }
 }
 
-/// Returns the offset of the first line feed.
+/// Returns the offset of the first line feed, or `None` if there is none.
 fn line_feed(bytes: &[u8]) -> Option<usize>
     ensures { result ≡ position (λ b. b == 10) bytes.now }
 {
     bytes.iter().position(|b| *b == b'\n')
 }
 
-/// Writes a line of a string, and the break after it.
+/// Writes a line of a string with its escapes. Unless `is_last`, then closes the string and opens it again on the next line of the
+/// dump.
 #[tactic(auto, using(devices::proofs::Writes::writes), unfolding(crate::specs::code::Pieces::line_text, nc_base::specs::Escapes::escaped_text))]
 fn put_line<W: Sink>(sink: &mut W, line: &[u8], is_last: bool) -> Result<(), WriteFailed>
     ensures { Wrote W.view sink.old sink.new (line_text line.now is_last) result }

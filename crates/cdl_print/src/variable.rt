@@ -31,7 +31,7 @@ fn put_vars_part<W: Sink>(sink: &mut W, dims: &[Dim], vars: &[Var]) -> Result<()
     put_var_rows(sink, dims, vars)
 }
 
-/// Writes the lines of each variable.
+/// Writes the lines of each variable, one variable after the other.
 #[tactic(auto, using(devices::proofs::Writes::writes), unfolding(crate::specs::code::Pieces::var_rows))]
 fn put_var_rows<W: Sink>(sink: &mut W, dims: &[Dim], vars: &[Var]) -> Result<(), WriteFailed>
     ensures { Wrote W.view sink.old sink.new (var_rows dims.now vars.now) result }
@@ -85,7 +85,7 @@ fn put_dim_list<W: Sink>(sink: &mut W, dims: &[Dim], dimids: &[u64]) -> Result<(
     put(sink, b")")
 }
 
-/// Writes the names of the dimensions.
+/// Writes the names of the dimensions, joined by commas.
 fn put_dim_names<W: Sink>(sink: &mut W, dims: &[Dim], dimids: &[u64]) -> Result<(), WriteFailed>
     ensures { Wrote W.view sink.old sink.new (joined (map (dim_name dims.now) dimids.now)) result }
 {
@@ -97,7 +97,7 @@ fn put_dim_names<W: Sink>(sink: &mut W, dims: &[Dim], dimids: &[u64]) -> Result<
     Ok(())
 }
 
-/// Writes the name of a dimension, and what stands between it and the next.
+/// Writes the name of a dimension, and then a comma and a space unless `is_last`.
 #[tactic(auto, using(devices::proofs::Writes::writes), unfolding(crate::specs::code::Pieces::dim_text))]
 fn put_dim_name<W: Sink>(
     sink: &mut W,
@@ -114,7 +114,7 @@ fn put_dim_name<W: Sink>(
     put(sink, b", ")
 }
 
-/// Writes the name of the dimension at this index of the header's list, or nothing if there is none.
+/// Writes the name of the dimension at the index `dimid` of the header's list, or nothing if there is none.
 #[tactic(auto, using(devices::proofs::Writes::writes))]
 fn put_name_of<W: Sink>(sink: &mut W, dims: &[Dim], dimid: u64) -> Result<(), WriteFailed>
     ensures { Wrote W.view sink.old sink.new (dim_name dims.now dimid) result }

@@ -1,4 +1,4 @@
--- The names that most proofs of this crate cite, passed on from one place.
+-- The names that proofs of this crate cite from elsewhere, passed on from one place.
 pub use Rattle.cdl_statements.specs.Lexemes.{Lexeme, is_end_kind, is_mark, is_mark_kind, is_opening_kind, is_word, is_word_kind, lexeme}
 unfoldable pub use Rattle.cdl_statements.specs.Lexemes.{name_of}
 pub use Rattle.cdl_statements.specs.Shapes.{Attribute, Brace, Declared, Dimension, End, Listed, Mark, Number, Opening, Statement, Typed, Value, Variable, alone, assigned, attribute, before_mark, body, both, constant, constant_of, constants, dimension, dimensions, each, either, first_bad, given, global, into_first, length_of, mark_after, members, members_in, name_alone, numeral_of, section_mark, section_number, section_of, token_fault, typed, variable}

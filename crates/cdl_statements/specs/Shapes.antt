@@ -54,12 +54,13 @@ abbrev pub first_bad : Version → List Lexeme → Option CdlKind
 first_bad v [] = None
 first_bad v (l ∷ ls) = either (token_fault v l.kind l.bytes) (first_bad v ls)
 
--- each member has its shape
+-- f of both, if both are there
 abbrev pub both : {A B C : Type 0} → (A → B → C) → Option A → Option B → Option C
 both f None b = None
 both f (Some a) None = None
 both f (Some a) (Some b) = Some (f a b)
 
+-- f of each member, if it is there for all
 abbrev pub each : {A B : Type 0} → (A → Option B) → List A → Option (List B)
 each f [] = Some []
 each f (x ∷ xs) = both (λ y ys. y ∷ ys) (f x) (each f xs)
@@ -80,7 +81,7 @@ members_in parens (l ∷ ls) =
 abbrev pub members : List Lexeme → List (List Lexeme)
 members ls = members_in false ls
 
--- where b holds
+-- a, if the condition holds
 abbrev pub given : {A : Type 0} → Bool → Option A → Option A
 given true a = a
 given false a = None
@@ -103,7 +104,7 @@ dimensions v (n ∷ e ∷ l ∷ []) = both (λ d ds. d ∷ ds) (dimension v n e 
 dimensions v (n ∷ e ∷ l ∷ c ∷ ls) = given (is_mark 0x2c c) (both (λ d ds. d ∷ ds) (dimension v n e l) (dimensions v ls))
 dimensions v _ = None
 
--- CONST, or where `_` is taken VALUE
+-- a VALUE if `_` is taken, otherwise a CONST
 abbrev pub constant_of : Version → Bool → Lexeme → TokenKind → Option Value
 constant_of v takes_fill l kinds.Number = option_map Number (numeral v l.bytes)
 constant_of v takes_fill l kinds.Text = Some (Characters (stands (inner l.bytes)))
@@ -160,7 +161,7 @@ body v Variables ls = either (global v ls) (either (attribute v ls) (typed ls))
 body v Values ls = assigned v true Listed ls
 body v _ ls = None
 
--- a section mark after the sections before
+-- the order of the sections: a section mark comes only after those of lower number
 abbrev pub section_number : Section → ℕ
 section_number Unopened = 0
 section_number Globals = 1

@@ -17,13 +17,17 @@ use std::alloc::AllocError;
 /// [`next`](Cutter::next) returns a whole statement. [`advance`](Cutter::advance) passes one token and does not allocate.
 #[derive(Clone, Copy)]
 pub struct Cutter<'a> {
-    /// After the next token.
+    /// The scanner, just after the next token.
     scanner: Scanner<'a>,
     /// The version that the text is read for: it decides which suffixes a number may have.
     version: Version,
+    /// The next token.
     next: Token,
+    /// The role of the next token.
     next_role: Role,
+    /// What comes before the next token.
     state: CutState,
+    /// True if no statement is left.
     done: bool,
     ghost known: { next_role ≡ role_in (scanners.text_of scanner) next },
 }
@@ -33,7 +37,7 @@ impl<'a> Cutter<'a> {
     ghost use Rattle.cdl_statements.specs.code.ListedTokens.{EndsAtScanner, IsAtComma, Passes, PassesNumber, PassesString};
     ghost use Rattle.cdl_statements.specs.code.Views.{lexeme_of};
 
-    /// The start of a text.
+    /// Creates a cutter at the start of a text, which is read for this version.
     pub fn new(text: &'a [u8], version: Version) -> Cutter<'a>
         ensures pieces { pieces_left result ≡ statements text.now }
         ensures text { text_of result ≡ text.now }
@@ -52,7 +56,7 @@ impl<'a> Cutter<'a> {
         }
     }
 
-    /// The version that the text is read for.
+    /// Returns the version that the text is read for.
     pub fn version(&self) -> Version
         ensures { result ≡ version_of self.now }
     {
@@ -66,7 +70,7 @@ impl<'a> Cutter<'a> {
         self.done
     }
 
-    /// The next token, without its place.
+    /// Returns the next token, without its place. It doesn't pass the token.
     #[inline]
     pub fn lexeme(&self) -> Lexeme<'a>
         ensures lexeme { lexeme_of result ≡ lexeme (text_of self.now) (next_token self.now) }
@@ -75,14 +79,14 @@ impl<'a> Cutter<'a> {
         Lexeme::of(self.next, self.scanner.text())
     }
 
-    /// The line of the next statement's first token, from 1 on.
+    /// Returns the line of the next token, from 1 on. Between two statements this is the line where the second one begins.
     pub fn line(&self) -> u64
         ensures { is_done self.now ≡ false → result ≡ first_line (pieces_left self.now) }
     {
         self.next.line
     }
 
-    /// Fills `into` with the tokens of the next statement, instead of what it had. After the last statement the answer is
+    /// Replaces what `into` has by the tokens of the next statement, and returns true. After the last statement it returns
     /// false, and `into` is empty.
     ///
     /// # Errors
@@ -140,8 +144,8 @@ impl<'a> Cutter<'a> {
         !self.done && is_inside(self.state) && self.lexeme().is_mark(b',')
     }
 
-    /// Passes the next comma and a plain number, if another comma follows, and returns the number. Otherwise the cutter stays
-    /// where it is. Does not allocate.
+    /// If a plain number and another comma come after the next comma, with only white space between the three, passes the first comma and
+    /// the number, and returns the number. Otherwise returns `None`, and the cutter stays where it is. Does not allocate.
     #[inline(always)]
     pub fn number_and_comma(&mut self) -> Option<Numeral>
         requires { IsAtComma self.old }
@@ -155,7 +159,9 @@ impl<'a> Cutter<'a> {
         Some(listed.numeral)
     }
 
-    /// The same with a string without an escape. Returns its bytes with the quotes.
+    /// If a string without an escape or a line feed and another comma come after the next comma, with only white space between the three,
+    /// passes the first comma and the string. Returns the string's bytes with the quotes. Otherwise returns `None`, and the cutter stays
+    /// where it is. Does not allocate.
     #[inline(always)]
     pub fn string_and_comma(&mut self) -> Option<&'a [u8]>
         requires { IsAtComma self.old }
@@ -169,7 +175,8 @@ impl<'a> Cutter<'a> {
         Some(bytes)
     }
 
-    /// The same with any token that neither begins nor ends a statement.
+    /// Passes the next comma and the token after it, and returns this token, if its role is `Other` and another comma follows it, with only
+    /// white space before that comma. Otherwise returns `None`, and the cutter stays where it is. Does not allocate.
     #[inline(always)]
     pub fn token_and_comma(&mut self) -> Option<Lexeme<'a>>
         requires { IsAtComma self.old }
@@ -186,7 +193,7 @@ impl<'a> Cutter<'a> {
         Some(Lexeme::of(listed.token, text))
     }
 
-    /// The scanner, which stands after the next token.
+    /// Returns the scanner, which stands after the next token.
     #[inline(always)]
     pub(crate) fn scanner(&self) -> Scanner<'a>
         ensures { result ≡ self.now.scanner }
@@ -194,7 +201,7 @@ impl<'a> Cutter<'a> {
         self.scanner
     }
 
-    /// Makes this comma of the same statement the next token. The scanner is just after it.
+    /// Makes `comma` the next token, a comma of the same statement. `scanner` stands just after it.
     #[inline(always)]
     pub(crate) fn go_to(&mut self, comma: Token, scanner: Scanner<'a>)
         requires { role_in (scanners.text_of scanner) comma ≡ Role.Other }
@@ -209,7 +216,7 @@ impl<'a> Cutter<'a> {
         self.next_role = Role::Other;
     }
 
-    /// The cutter one token on, and whether that token was the last of its statement. It does not allocate.
+    /// Returns the cutter after the next token, and true if this token is the last of its statement. Does not allocate.
     pub fn advanced(self) -> (Cutter<'a>, bool)
         requires { is_done self ≡ false }
         ensures same { SameText self.entry result.0 }
@@ -225,21 +232,21 @@ impl<'a> Cutter<'a> {
     }
 }
 
-/// Returns true if the first part of a statement came before.
+/// Returns true if the state is `Inside`.
 fn is_inside(state: CutState) -> bool
     ensures { result ≡ true → state ≡ CutState.Inside }
 {
     matches!(state, CutState::Inside)
 }
 
-/// Returns true if such a token neither begins nor ends a statement.
+/// Returns true if the role is `Other`.
 fn is_other(role: Role) -> bool
     ensures { result ≡ true → role ≡ Role.Other }
 {
     matches!(role, Role::Other)
 }
 
-/// Empties the list that could not grow.
+/// Empties `into`, which could not be extended, and returns `refusal` as the error.
 fn emptied(into: &mut Vec<Token>, refusal: AllocError) -> Result<bool, AllocError>
     ensures empty { into.new.items ≡ [] }
     ensures err { IsErr result }

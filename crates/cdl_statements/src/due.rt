@@ -7,20 +7,20 @@ use crate::lexeme::Lexeme;
 use crate::section::Section;
 use cdl_tokens::TokenKind;
 
-/// Which token comes next in a statement that has its shape so far.
+/// Which token has to come next in a statement, for the statement to have its shape.
 #[derive(Clone, Copy, Debug, PartialEq, Eq)]
 pub enum Due {
-    /// The first, in this section.
+    /// The first token of a statement in this section.
     First(Section),
     /// The name that begins a statement of the data section.
     DataName,
-    /// A section mark's colon.
+    /// The colon of a section mark, such as `data:`.
     Colon,
     /// An attribute's name.
     AttributeName,
-    /// The `=` before constants; `takes_fill`: one of them may be `_`.
+    /// The `=` before constants. `takes_fill` is true if a constant may be `_`.
     Equals { takes_fill: bool },
-    /// A constant.
+    /// A constant: a number, a string or, if `takes_fill`, `_`.
     Value { takes_fill: bool },
     /// The comma or the semicolon after a constant.
     Separator { takes_fill: bool },
@@ -31,7 +31,8 @@ pub enum Due {
     Length,
     /// The comma or the semicolon after a dimension's length.
     LengthSeparator,
-    /// The second in the section of the variables, after a word that may be the name of a variable or the word of a section.
+    /// The second token of a statement in the variables section, after a word. `is_name` is true if this word may be the name of a
+    /// variable, and `is_section` if it is the word of a later section.
     AfterWord { is_name: bool, is_section: bool },
     /// A variable's name.
     VariableName,
@@ -39,13 +40,13 @@ pub enum Due {
     AfterVariable,
     /// The name of one of a variable's dimensions.
     ReferenceName,
-    /// The comma or the closing parenthesis after such a name.
+    /// The comma or the closing parenthesis after the name of a variable's dimension.
     AfterReference,
-    /// The comma or the semicolon after a closing parenthesis.
+    /// The comma or the semicolon after the closing parenthesis of a variable's dimensions.
     AfterShape,
-    /// None: the statement is whole.
+    /// No token: the statement is whole.
     Nothing,
-    /// None: the statement has lost its shape.
+    /// No token: the statement has lost its shape.
     Never,
 }
 
@@ -53,7 +54,8 @@ impl Due {
     ghost use Rattle.cdl_statements.specs.code.DueTokens.{is_whole, next, next_first, only, separator};
     ghost use Rattle.cdl_statements.specs.code.Views.{lexeme_of};
 
-    /// Which token comes after this one (the CDL chapter of the NetCDF User's Guide, "CDL Syntax").
+    /// Returns which token is due after `token`, if `self` was due. Returns `Nothing` if the statement is whole with `token`,
+    /// and `Never` if `token` isn't what was due (the CDL chapter of the NetCDF User's Guide, "CDL Syntax").
     #[inline]
     #[tactic(auto, unfolding(crate::specs::code::DueTokens::next))]
     pub fn after(self, token: Lexeme<'_>) -> Due
@@ -69,7 +71,7 @@ impl Due {
         }
     }
 
-    /// Which token comes after this one, whichever was due.
+    /// Returns which token is due after `token`, as [`after`](Due::after) does, by a table of all tokens that may be due.
     #[inline(never)]
     #[tactic(auto, unfolding(crate::specs::code::DueTokens::next))]
     fn after_in_table(self, token: Lexeme<'_>) -> Due
@@ -102,7 +104,8 @@ impl Due {
         }
     }
 
-    /// Which token comes after the first one.
+    /// Returns which token is due after `token`, the first token of a statement in this section. Returns `Nothing` if the statement is
+    /// whole with `token`, and `Never` if no statement of the section begins with `token`.
     fn after_first(section: Section, token: Lexeme<'_>) -> Due
         ensures { result ≡ next_first section (lexeme_of token.entry) }
     {
@@ -126,7 +129,9 @@ impl Due {
         }
     }
 
-    /// Which token comes after the second one of a statement in the section of the variables that begins with a word.
+    /// Returns which token is due after `token`, the second token of a statement in the variables section, after a word. `is_name` is true
+    /// if this word may be the name of a variable, and `is_section` if it is the word of a later section. Returns `Nothing` after the colon
+    /// of a section mark, and `Never` if no such statement goes on with `token`.
     #[tactic(auto, unfolding(crate::specs::code::DueTokens::next))]
     fn after_second(is_name: bool, is_section: bool, token: Lexeme<'_>) -> Due
         ensures { result ≡ next (Due.AfterWord is_name is_section) (lexeme_of token.entry) }
@@ -140,7 +145,8 @@ impl Due {
         }
     }
 
-    /// Which token comes after the one that follows a variable's name.
+    /// Returns which token is due after `token`, which comes after a variable's name. After an opening parenthesis this is a dimension's
+    /// name, and after a comma the next variable's name. Returns `Nothing` after a semicolon, and `Never` after any other token.
     #[tactic(auto, unfolding(crate::specs::code::DueTokens::next))]
     fn after_variable(token: Lexeme<'_>) -> Due
         ensures { result ≡ next Due.AfterVariable (lexeme_of token.entry) }
@@ -152,7 +158,8 @@ impl Due {
         }
     }
 
-    /// Which token comes after the one that follows the name of one of a variable's dimensions.
+    /// Returns which token is due after `token`, which comes after the name of one of a variable's dimensions. After a comma this is the
+    /// next dimension's name, and after a closing parenthesis a comma or a semicolon. Returns `Never` after any other token.
     #[tactic(auto, unfolding(crate::specs::code::DueTokens::next))]
     fn after_reference(token: Lexeme<'_>) -> Due
         ensures { result ≡ next Due.AfterReference (lexeme_of token.entry) }
@@ -164,7 +171,7 @@ impl Due {
         }
     }
 
-    /// Which token comes after a comma, with which the list goes on, or the semicolon.
+    /// Returns `due` if the token is a comma, since the list goes on; `Nothing` if it is a semicolon; otherwise `Never`.
     fn separator(due: Due, token: Lexeme<'_>) -> Due
         ensures { result ≡ separator due (lexeme_of token.entry) }
     {
@@ -175,7 +182,7 @@ impl Due {
         }
     }
 
-    /// This one where the test holds, and else none ever.
+    /// Returns `due` if the test holds, otherwise `Never`.
     fn only(test: bool, due: Due) -> Due
         ensures { result ≡ only test due }
     {

@@ -27,11 +27,11 @@ pub enum CdlKind {
     ZeroDimension,
     /// A second record dimension.
     TwoRecordDims,
-    /// The record dimension as a later dimension of a variable than the first.
+    /// The record dimension in another place than the first among the dimensions of a variable.
     BadShape,
     /// Constants of different types in one attribute.
     MixedConstants,
-    /// A number that its type, or a length that its version, doesn't have.
+    /// A number that is out of the range of its type, or the length of a dimension that the version doesn't allow.
     NumberRange,
     /// A string for a variable of numbers, or a number or `_` for one of characters.
     WrongKind,
@@ -41,15 +41,15 @@ pub enum CdlKind {
     StringTooLong,
     /// A second list of values of one variable.
     DuplicateData,
-    /// A slab, a record or an array past its limit.
+    /// A slab, a record or an array that is larger than its limit.
     TooLarge,
 }
 
 /// A fault, and where it is.
 #[derive(Clone, Copy, Debug, PartialEq, Eq)]
 pub struct CdlFault {
-    /// The line of the first token of the statement that has it, from 1 on; for `TooLarge` that of the closing brace, and 0
-    /// if an allocation failed.
+    /// The line of the first token of the faulty statement, from 1 on. For `TooLarge` it is the line of the closing brace, and for
+    /// `OutOfMemory` it is 0.
     pub line: u64,
     pub kind: CdlKind,
 }

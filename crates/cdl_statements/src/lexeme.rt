@@ -21,7 +21,7 @@ impl<'a> Lexeme<'a> {
     ghost use Rattle.cdl_statements.specs.Shapes.{section_of};
     ghost use Rattle.cdl_statements.specs.code.Views.{lexeme_of};
 
-    /// A token of this text, without its place.
+    /// Returns a token of this text, without its place.
     #[inline]
     pub fn of(token: Token, text: &'a [u8]) -> Lexeme<'a>
         ensures { lexeme_of result ≡ lexeme text.now token }
@@ -60,7 +60,7 @@ impl<'a> Lexeme<'a> {
         is_word_kind(self.kind) && !is_reserved(self.bytes)
     }
 
-    /// Returns true if the token is a number, a string or, if that is allowed, an unescaped `_`.
+    /// Returns true if the token is a number or a string, or if it is an unescaped `_` and `takes_fill` is true.
     pub fn is_value(self, takes_fill: bool) -> bool
         ensures { result ≡ is_value_of takes_fill (lexeme_of self.entry) self.entry.kind }
     {
@@ -77,7 +77,8 @@ impl<'a> Lexeme<'a> {
         self.is_word(b"unlimited") || self.is_word(b"UNLIMITED") || is_number(self.kind)
     }
 
-    /// The section whose mark begins with the token.
+    /// If the token is the unescaped word `dimensions`, `variables` or `data`, returns the section whose mark begins with this word.
+    /// Otherwise returns `None`.
     pub fn section(self) -> Option<Section>
         ensures { result ≡ section_of (lexeme_of self.entry) }
     {
@@ -92,7 +93,7 @@ impl<'a> Lexeme<'a> {
         }
     }
 
-    /// Returns true if the token is the word of a section that comes after this one.
+    /// Returns true if the token is the unescaped word of a section that comes after the section `before`.
     pub fn goes_to(self, before: Section) -> bool
         ensures { result ≡ goes_to before (lexeme_of self.entry) }
     {

@@ -7,20 +7,21 @@ ghost use Rattle.cdl_statements.specs.code.NumberLists.{SamePlace, reached};
 use crate::cutter::Cutter;
 use cdl_tokens::{Numeral, Scanner};
 
-/// The plain numbers that come next in a list, from a comma on.
+/// Reads the plain numbers that come next in a list, from a comma on.
 ///
-/// Only a scanner moves from number to number. The comma before it is made into a token once, where the list is left: by
+/// Only the scanner moves from number to number. The token of the last comma is made once, when the caller leaves the list by
 /// [`cutter`](NumberList::cutter).
 #[derive(Clone, Copy)]
 pub struct NumberList<'a> {
-    /// At the first comma.
+    /// The cutter at the first comma.
     start: Cutter<'a>,
-    /// After the comma that was read last.
+    /// The scanner after the comma that was read last.
     scanner: Scanner<'a>,
 }
 
 impl<'a> NumberList<'a> {
-    /// The numbers after the comma that comes next, which ends where the cutter's scanner stands.
+    /// Creates the list of the numbers after a comma. This comma is the next token of `start`, and the scanner of `start` stands just after
+    /// it.
     #[inline(always)]
     pub fn new(start: Cutter<'a>) -> NumberList<'a>
         requires { EndsAtScanner start }
@@ -32,8 +33,8 @@ impl<'a> NumberList<'a> {
         }
     }
 
-    /// Passes a plain number, if another comma follows, and returns the number. Otherwise the list stays where it is. Does not
-    /// allocate.
+    /// Passes the next number and the comma after it, and returns the number. If no plain number with a comma after it comes next, returns
+    /// `None`, and the list stays where it is. Does not allocate.
     #[inline(always)]
     pub fn number_and_comma(&mut self) -> Option<Numeral>
         requires { IsAtComma (reached self.old) }
@@ -44,7 +45,7 @@ impl<'a> NumberList<'a> {
         Some(listed.numeral)
     }
 
-    /// The cutter at the comma that was read last.
+    /// Returns the cutter at the comma that was read last, or at the first comma if no number was read.
     #[inline(always)]
     pub fn cutter(self) -> Cutter<'a>
         requires { IsAtComma (reached self) }

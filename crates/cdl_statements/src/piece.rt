@@ -7,7 +7,7 @@ ghost use Rattle.cdl_statements.specs.Pieces.{is_section};
 
 use cdl_tokens::{Token, TokenKind, byte_at};
 
-/// What a token does where the tokens are cut.
+/// The role of a token when tokens are cut into statements.
 #[derive(Clone, Copy, Debug, PartialEq, Eq)]
 pub enum Role {
     Opening,
@@ -15,15 +15,18 @@ pub enum Role {
     Section,
     Colon,
     Semicolon,
+    /// A closing brace.
     Brace,
+    /// The end of the text.
     End,
+    /// Any other token.
     Other,
 }
 
 impl Role {
     ghost use Rattle.cdl_statements.specs.code.Roles.{role_in};
 
-    /// What a token of this text does where the tokens are cut into statements.
+    /// Returns the role of a token of this text.
     #[inline]
     pub fn of(token: Token, text: &[u8]) -> Role
         ensures { result ≡ role_in text.now token }
@@ -38,7 +41,7 @@ impl Role {
     }
 }
 
-/// What a word does.
+/// Returns the role of a word: `Section` for an unescaped `dimensions`, `variables` or `data`, otherwise `Other`.
 #[tactic(auto, unfolding(crate::specs::Pieces::is_section))]
 #[inline(never)]
 fn word_role(word: &[u8]) -> Role
@@ -54,7 +57,7 @@ fn word_role(word: &[u8]) -> Role
     }
 }
 
-/// What a mark does.
+/// Returns the role of a mark: `Colon` for `:`, `Semicolon` for `;`, `Brace` for `}`, otherwise `Other`.
 fn mark_role(mark: u8) -> Role
     ensures { result ≡ mark_role mark }
 {
@@ -69,22 +72,22 @@ fn mark_role(mark: u8) -> Role
 /// What comes before the next token.
 #[derive(Clone, Copy, Debug, PartialEq, Eq)]
 pub enum CutState {
-    /// A whole statement, or nothing: the token begins the next one.
+    /// A whole statement, or nothing: the next token begins a statement.
     Begins,
-    /// The first part of a statement.
+    /// One or more tokens of a statement that isn't whole yet.
     Inside,
-    /// The word of a section: the token is its colon.
+    /// The word of a section: the next token is the colon of its section mark.
     Marked,
-    /// The closing brace.
+    /// The closing brace, and perhaps tokens after it.
     Closed,
 }
 
 /// What a token does to the statement that it stands in.
 #[derive(Clone, Copy, Debug, PartialEq, Eq)]
 pub struct Step {
-    /// It is the statement's last token.
+    /// True if the token is the last of its statement.
     pub ends: bool,
-    /// What comes before the token after it.
+    /// The state before the token that comes next.
     pub state: CutState,
 }
 
@@ -92,7 +95,8 @@ impl CutState {
     ghost use Rattle.cdl_statements.specs.code.Roles.{is_end_role};
     ghost use Rattle.cdl_statements.specs.code.CutSteps.{step};
 
-    /// What a token does to the statement that it stands in, by its role and that of the token after it.
+    /// Returns what a token does to its statement. `self` is the state before the token, `role` is its role, and `next` is the role of the
+    /// token after it.
     pub fn step(self, role: Role, next: Role) -> Step
         ensures step { result ≡ step self role next }
         ensures last { is_end_role role ≡ true → result.ends ≡ true }
@@ -117,21 +121,22 @@ impl CutState {
     }
 }
 
-/// The statement ends with this token.
+/// Returns the step of a token that is the last of its statement. `state` is the state before the token that comes next.
 fn ending(state: CutState) -> Step
     ensures { result ≡ ending state }
 {
     Step { ends: true, state }
 }
 
-/// The statement goes on after this token.
+/// Returns the step of a token after which its statement goes on. `state` is the state before the token that comes next.
 fn going(state: CutState) -> Step
     ensures { result ≡ going state }
 {
     Step { ends: false, state }
 }
 
-/// The statement goes on, unless the text ends.
+/// If `next`, the role of the token that comes next, is the end of the text, returns the step of a statement's last token. Otherwise
+/// returns the step of a token after which its statement goes on, with this state.
 fn unless_end(next: Role, state: CutState) -> Step
     ensures { result ≡ unless_end next state }
 {
@@ -141,7 +146,8 @@ fn unless_end(next: Role, state: CutState) -> Step
     }
 }
 
-/// The word of a section: with the colon after it, it is a section mark.
+/// Returns the step of the word of a section that begins a statement. `next` is the role of the token after the word. If `next` is a colon,
+/// the word and the colon are a section mark.
 fn section_step(next: Role) -> Step
     ensures { result ≡ section_step next }
 {

@@ -2,7 +2,7 @@
 
 ghost use Rattle.std.specs.Prelude.{◌≡◌};
 
-/// The section that a statement stands in, in the order of a text.
+/// The section of a text that a statement stands in. The sections are listed in the order of a text.
 #[derive(Clone, Copy, Debug, PartialEq, Eq)]
 pub enum Section {
     /// Before the opening.
@@ -22,7 +22,7 @@ pub enum Section {
 impl Section {
     ghost use Rattle.cdl_statements.specs.Shapes.{section_number};
 
-    /// The position of the section in a text, from 0 on.
+    /// Returns the position of the section in a text, from 0 on.
     pub fn number(self) -> u8
         ensures { result ≡ section_number self }
     {

@@ -17,15 +17,16 @@ use nc_base::Version;
 /// What the check of a statement finds.
 #[derive(Clone, Copy)]
 pub struct ShapeCheck<'a> {
-    /// The fault of its first bad token or bad number.
+    /// The fault of the first bad token or bad number of the statement, or `None`.
     pub bad: Option<CdlKind>,
-    /// It has the shape that was asked for. Where a token is bad, this says nothing.
+    /// True if the statement has the shape that was asked for. If `bad` is a fault, this says nothing.
     pub shaped: bool,
-    /// The statements after it.
+    /// The cutter after the statement.
     pub rest: Cutter<'a>,
 }
 
-/// Checks the next statement, which stands in this section, and passes over it. It does not allocate.
+/// Checks the next statement of `start`, which stands in this section. Returns the fault of its first bad token or bad number, whether it
+/// has the shape of a statement of this section, and the cutter after it. Does not allocate.
 pub fn check_shape(start: Cutter<'_>, section: Section) -> ShapeCheck<'_>
     requires { is_done start ≡ false }
     ensures bad { result.bad ≡ first_bad (version_of start.entry) (words start.entry) }
@@ -37,7 +38,8 @@ pub fn check_shape(start: Cutter<'_>, section: Section) -> ShapeCheck<'_>
     check_shape_from(start, Due::First(section))
 }
 
-/// Checks the next statement, in which this token is due first, and passes over it. It does not allocate.
+/// Checks the next statement of `start` as [`check_shape`] does, but for the shape in which `first` is due at its first token. Does not
+/// allocate.
 pub fn check_shape_from(start: Cutter<'_>, first: Due) -> ShapeCheck<'_>
     requires { is_done start ≡ false }
     ensures bad { result.bad ≡ first_bad (version_of start.entry) (words start.entry) }
@@ -63,7 +65,8 @@ pub fn check_shape_from(start: Cutter<'_>, first: Due) -> ShapeCheck<'_>
     }
 }
 
-/// The fault of a token by itself: that of a bad token or a bad number.
+/// Returns the fault of a token by itself: `BadToken` for a bad token, `BadNumber` for a number token that is no number of the
+/// version, otherwise `None`.
 pub fn token_fault(version: Version, token: Lexeme<'_>) -> Option<CdlKind>
     ensures { result ≡ token_fault version token.entry.kind token.entry.bytes.now }
 {
@@ -74,7 +77,7 @@ pub fn token_fault(version: Version, token: Lexeme<'_>) -> Option<CdlKind>
     }
 }
 
-/// The fault of a number token.
+/// Returns `BadNumber` if a number token is no number, or if the version lacks its suffix; otherwise `None`.
 fn number_fault(version: Version, bytes: &[u8]) -> Option<CdlKind>
     ensures { result ≡ token_fault version TokenKind.Number bytes.now }
 {
@@ -85,7 +88,7 @@ fn number_fault(version: Version, bytes: &[u8]) -> Option<CdlKind>
     }
 }
 
-/// The first of two faults.
+/// Returns the first of two faults, or the second one if the first is `None`.
 fn either(a: Option<CdlKind>, b: Option<CdlKind>) -> Option<CdlKind>
     ensures { result ≡ either a b }
 {

@@ -3,14 +3,14 @@
 ghost use Rattle.std.specs.Prelude.{◌≡◌, ◌≤◌, length, slice_index, take};
 ghost use Rattle.cdl_tokens.specs.Bytes.{begins_word, goes_on_number, goes_on_word, is_blank, is_digit, is_escape, is_hex, is_letter, is_mark, is_octal, is_sign};
 
-/// The byte at an offset, or 0 past the end.
+/// Returns the byte at an offset, or 0 if there is none.
 pub fn byte_at(bytes: &[u8], at: usize) -> u8
     ensures { result ≡ slice_index bytes.now at }
 {
     if at < bytes.len() { bytes[at] } else { 0 }
 }
 
-/// The first `n` bytes, or all if there are fewer.
+/// Returns the first `n` bytes, or all if there are fewer.
 pub fn first_bytes(bytes: &[u8], n: usize) -> &[u8]
     ensures first { result.now ≡ take n bytes.now }
     ensures len { length result.now ≤ n }
@@ -65,28 +65,28 @@ pub fn is_sign(b: u8) -> bool
     b == b'+' || b == b'-'
 }
 
-/// Returns true if the byte is a token by itself.
+/// Returns true if the byte is a token by itself: one of `: ; = , ( ) }`.
 pub fn is_mark(b: u8) -> bool
     ensures { result ≡ is_mark b }
 {
     matches!(b, b':' | b';' | b'=' | b',' | b'(' | b')' | b'}')
 }
 
-/// Returns true if a word may begin with the byte: a letter, `_` or a byte from 0x80.
+/// Returns true if a word may begin with the byte, unescaped: a letter, `_` or a byte from 0x80.
 pub fn begins_word(b: u8) -> bool
     ensures { result ≡ begins_word b }
 {
     is_letter(b) || b == b'_' || b >= 0x80
 }
 
-/// Returns true if the byte stands for itself in a word that it doesn't begin.
+/// Returns true if the byte may stand unescaped in a word, after its first byte: a letter, a digit, one of `_ . @ + -` or a byte from 0x80.
 pub fn goes_on_word(b: u8) -> bool
     ensures { result ≡ goes_on_word b }
 {
     b.is_ascii_alphanumeric() || matches!(b, b'_' | b'.' | b'@' | b'+' | b'-') || b >= 0x80
 }
 
-/// Returns true if a number token goes on with the byte.
+/// Returns true if a number token goes on with the byte: a letter, a digit, `_` or `.`.
 pub fn goes_on_number(b: u8) -> bool
     ensures { result ≡ goes_on_number b }
 {

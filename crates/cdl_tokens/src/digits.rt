@@ -7,10 +7,10 @@ ghost use Rattle.cdl_tokens.specs.code.Magnitudes.{word};
 
 use crate::bytes::{is_digit, is_hex, is_octal};
 
-/// A number below it has 64 bits at most with one digit more, in every base.
+/// A number below this bound still fits in 64 bits after one more digit is appended, in any base up to 16.
 const SMALL: u64 = 1 << 59;
 
-/// The number of an octal, decimal or hexadecimal digit, in either case.
+/// Returns the value of an octal, decimal or hexadecimal digit, in either case.
 fn digit(b: u8) -> u8
     ensures { result ≡ digit b }
 {
@@ -23,7 +23,7 @@ fn digit(b: u8) -> u8
     }
 }
 
-/// How many of the first bytes are decimal digits.
+/// Returns how many decimal digits the bytes begin with.
 pub fn digit_len(bytes: &[u8]) -> usize
     ensures len { result ≡ prefix_len is_digit bytes.now }
     ensures within { result ≤ length bytes.now }
@@ -31,7 +31,7 @@ pub fn digit_len(bytes: &[u8]) -> usize
     bytes.iter().take_while(|b| is_digit(**b)).count()
 }
 
-/// How many of the first bytes are octal digits.
+/// Returns how many octal digits the bytes begin with.
 pub fn octal_len(bytes: &[u8]) -> usize
     ensures len { result ≡ prefix_len is_octal bytes.now }
     ensures within { result ≤ length bytes.now }
@@ -39,7 +39,7 @@ pub fn octal_len(bytes: &[u8]) -> usize
     bytes.iter().take_while(|b| is_octal(**b)).count()
 }
 
-/// How many of the first bytes are hexadecimal digits.
+/// Returns how many hexadecimal digits the bytes begin with.
 pub fn hex_len(bytes: &[u8]) -> usize
     ensures len { result ≡ prefix_len is_hex bytes.now }
     ensures within { result ≤ length bytes.now }
@@ -47,7 +47,7 @@ pub fn hex_len(bytes: &[u8]) -> usize
     bytes.iter().take_while(|b| is_hex(**b)).count()
 }
 
-/// The number of these digits, if it has 64 bits at most.
+/// Returns the value of `digits` in the base `base`, or `None` if the value takes more than 64 bits.
 pub fn number_in(base: u64, digits: &[u8]) -> Option<u64>
     requires some { 1 ≤ base }
     requires small { base ≤ 16 }
@@ -60,7 +60,7 @@ pub fn number_in(base: u64, digits: &[u8]) -> Option<u64>
     Some(value)
 }
 
-/// The number with one digit more, if it has 64 bits at most.
+/// Returns `base * value` plus the value of the digit `b`, or `None` if that takes more than 64 bits.
 #[tactic(auto, using(crate::proofs::Sizes::small_product))]
 fn one_more(base: u64, value: u64, b: u8) -> Option<u64>
     requires { base ≤ 16 }

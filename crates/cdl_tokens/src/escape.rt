@@ -11,14 +11,15 @@ use crate::digits::{hex_len, number_in, octal_len};
 use crate::scan::Character;
 use crate::search::len_before;
 
-/// The number as a byte, if it is one.
+/// Returns the number as a byte, or `None` if it is greater than 255.
 fn byte(n: u64) -> Option<u8>
     ensures { result ≡ byte n }
 {
     if n > 255 { None } else { Some(n as u8) }
 }
 
-/// The escape of `mark` bytes and then these digits of a base: a byte, if there are any and their number is one.
+/// Returns the escape that has `mark` bytes (a backslash, or a backslash and `x`) before these digits of the base `base`. Its value is
+/// `None` if there are no digits, or if they say more than 255.
 fn number_escape(mark: usize, base: u64, digits: &[u8]) -> Character
     requires some { 0 < mark }
     requires short { mark ≤ 2 }
@@ -37,7 +38,7 @@ fn number_escape(mark: usize, base: u64, digits: &[u8]) -> Character
     }
 }
 
-/// The number of these digits as a byte, if it is one.
+/// Returns the value of these digits, in the base `base`, as a byte. Returns `None` if the value is greater than 255.
 fn byte_in(base: u64, digits: &[u8]) -> Option<u8>
     requires some { 1 ≤ base }
     requires small { base ≤ 16 }
@@ -46,7 +47,7 @@ fn byte_in(base: u64, digits: &[u8]) -> Option<u8>
     byte(number_in(base, digits)?)
 }
 
-/// What the byte after a backslash stands for, if it is neither an octal digit nor `x`.
+/// Returns the byte that a backslash and then `b` stand for. `b` is neither an octal digit nor `x`.
 fn plain_escape(b: u8) -> u8
     ensures { result ≡ plain_escape b }
 {
@@ -62,7 +63,8 @@ fn plain_escape(b: u8) -> u8
     }
 }
 
-/// The escape of a backslash and then these bytes.
+/// Returns the escape that a backslash and the first of these bytes make. After the backslash come up to three octal digits, or `x` and up
+/// to two hexadecimal digits, or one other byte. If `bytes` is empty, a 0 byte counts as the other byte.
 fn escape(bytes: &[u8]) -> Character
     ensures escape { result ≡ escape bytes.now }
     ensures some { 0 < result.len }
@@ -84,7 +86,7 @@ fn escape(bytes: &[u8]) -> Character
     }
 }
 
-/// The first character of these bytes: an escape, or a byte that stands for itself.
+/// Returns the first character of these bytes: an escape, or a byte that stands for itself.
 #[tactic(auto, unfolding(crate::specs::Escapes::character))]
 pub fn character(bytes: &[u8]) -> Character
     requires { 0 < length bytes.now }
@@ -101,7 +103,7 @@ pub fn character(bytes: &[u8]) -> Character
     }
 }
 
-/// How many of the first bytes stand for themselves: those before the first backslash.
+/// Returns how many bytes come before the first backslash. If there is none, returns the number of all bytes.
 #[tactic(auto, using(crate::proofs::Searches::before_one))]
 pub fn unescaped_len(bytes: &[u8]) -> usize
     ensures len { result ≡ prefix_len is_unescaped bytes.now }
@@ -110,7 +112,7 @@ pub fn unescaped_len(bytes: &[u8]) -> usize
     len_before(bytes, b'\\', b'\\', b'\\')
 }
 
-/// Returns true if each character of these bytes, which stand between quotes, stands for a byte.
+/// Returns true if each character in `raw` stands for a byte. `raw` is what a string has between its quotes.
 pub fn is_string(raw: &[u8]) -> bool
     ensures { result ≡ list_all is_some (unescape raw.now) }
 {

@@ -1,4 +1,4 @@
-//! Numbers, of any length.
+//! What number tokens of any length say.
 
 ghost use Rattle.std.specs.Char.{to_ascii_lowercase};
 ghost use Rattle.std.specs.List.{prefix_len};
@@ -11,21 +11,22 @@ use crate::bytes::{byte_at, is_digit, is_sign};
 use crate::digits::{digit_len, hex_len, number_in, octal_len};
 use nc_base::{NcType, Version};
 
-/// A number of a text.
+/// What a number token says: a sign, a magnitude and a type.
 #[derive(Clone, Copy, Debug, PartialEq, Eq)]
 pub struct Numeral {
-    /// A minus stands before it.
+    /// True if a minus stands before the digits.
     pub minus: bool,
-    /// Its digits' number, if that has 64 bits at most.
+    /// The value of the digits, or `None` if it takes more than 64 bits.
     pub magnitude: Option<u64>,
-    /// The type that its suffix says; int, if it has none.
+    /// The type that the suffix says, or int if there is no suffix.
     pub ty: NcType,
 }
 
-/// What a number token says; `None` if it is no number or the version lacks its suffix.
+/// Returns what the number token of these bytes says. Returns `None` if the token is no well-formed integer, such as `1.5` or `08`, or if
+/// the version doesn't have its suffix.
 ///
-/// After a sign, or none, come `0x` or `0X` and hexadecimal digits, or `0` and octal digits, or decimal digits; then a suffix,
-/// or none (the CDL chapter of the NetCDF User's Guide, "CDL Notation for Data Constants").
+/// A number is an optional sign, then digits, then an optional suffix. The digits are `0x` or `0X` and hexadecimal digits, or octal digits
+/// from a `0` on, or decimal digits (the CDL chapter of the NetCDF User's Guide, "CDL Notation for Data Constants").
 #[tactic(auto, unfolding(crate::specs::Numerals::parts))]
 #[inline(always)]
 pub fn number_of_token(version: Version, bytes: &[u8]) -> Option<Numeral>
@@ -40,7 +41,8 @@ pub fn number_of_token(version: Version, bytes: &[u8]) -> Option<Numeral>
     }
 }
 
-/// The number of these bytes, which come after the sign.
+/// Returns what `bytes` say, the bytes of a number after its sign. `minus` is true if the sign is a minus. Returns `None` if they are no
+/// number, or if the version doesn't have their suffix.
 #[inline(always)]
 fn unsigned(version: Version, minus: bool, bytes: &[u8]) -> Option<Numeral>
     ensures { result ≡ option_map held (unsigned version minus bytes.now) }
@@ -52,10 +54,11 @@ fn unsigned(version: Version, minus: bool, bytes: &[u8]) -> Option<Numeral>
     }
 }
 
-/// A number of this many decimal digits has 64 bits at most.
+/// A number of at most this many decimal digits fits in 64 bits.
 const SHORT: usize = 19;
 
-/// The number of decimal digits and a suffix.
+/// Returns what `bytes` say, which are decimal digits and an optional suffix, after the sign. `minus` is true if the sign is a minus.
+/// Returns `None` if there are no digits, or if what comes after them is no suffix of the version.
 #[inline(always)]
 fn decimal(version: Version, minus: bool, bytes: &[u8]) -> Option<Numeral>
     ensures { result ≡ option_map held (in_decimal version minus bytes.now) }
@@ -75,7 +78,8 @@ fn decimal(version: Version, minus: bool, bytes: &[u8]) -> Option<Numeral>
     })
 }
 
-/// How many of the first bytes are decimal digits, and their number. It stops at 19 digits, since one more could pass 64 bits.
+/// Reads the decimal digits at the start of the bytes, at most 19 of them, since the value of 20 may not fit in 64 bits.
+/// Returns how many digits it read, and their value.
 #[inline(always)]
 pub fn first_digits(bytes: &[u8]) -> (usize, u64)
     ensures { ReadsDigits bytes.now result.0 result.1 }
@@ -94,7 +98,8 @@ pub fn first_digits(bytes: &[u8]) -> (usize, u64)
     (at, value)
 }
 
-/// The number of these bytes, which begin with `0`: the mark of another base.
+/// Returns what `bytes` say, the bytes of a number after its sign, which begin with `0`. If `x` or `X` follows, the number is hexadecimal,
+/// otherwise octal. Returns `None` if no hexadecimal digit follows the `x`, or if what comes after the digits is no suffix of the version.
 #[inline(never)]
 fn after_zero(version: Version, minus: bool, bytes: &[u8]) -> Option<Numeral>
     requires { slice_index bytes.now 0 ≡ 0x30 }
@@ -108,7 +113,8 @@ fn after_zero(version: Version, minus: bool, bytes: &[u8]) -> Option<Numeral>
     }
 }
 
-/// The number of `n` digits of a base and a suffix.
+/// Returns what `bytes` say: the first `n` of them are digits of the base `base`, and the others are a suffix, if there are any. Returns
+/// `None` if `n` is 0, or if the version doesn't have the suffix.
 fn in_base(version: Version, minus: bool, base: u64, n: usize, bytes: &[u8]) -> Option<Numeral>
     requires some { 1 ≤ base }
     requires small { base ≤ 16 }
@@ -127,7 +133,8 @@ fn in_base(version: Version, minus: bool, base: u64, n: usize, bytes: &[u8]) -> 
     })
 }
 
-/// The type that a suffix says, each of its letters in either case; `None` if it is no suffix of the version.
+/// Returns the type that the suffix `bytes` stands for, each of its letters in upper or lower case. An empty suffix stands for int. Returns
+/// `None` if the version doesn't have the suffix.
 #[tactic(auto, using(crate::proofs::Suffixes::no_suffix))]
 fn suffix(version: Version, bytes: &[u8]) -> Option<NcType>
     ensures { result ≡ suffix version bytes.now }
@@ -139,7 +146,7 @@ fn suffix(version: Version, bytes: &[u8]) -> Option<NcType>
     find_suffix(version, bytes)
 }
 
-/// The same, looked for among all types.
+/// Returns the type that a suffix stands for, as [`suffix`] does, but searches all types for it.
 #[tactic(auto, unfolding(crate::specs::Numerals::suffix))]
 #[inline(never)]
 fn find_suffix(version: Version, bytes: &[u8]) -> Option<NcType>
@@ -151,7 +158,7 @@ fn find_suffix(version: Version, bytes: &[u8]) -> Option<NcType>
         .find(|ty| has_suffix(bytes, *ty) && version.has_type(*ty))
 }
 
-/// Returns true if a number of the type may have this suffix, each letter in either case.
+/// Returns true if a number of the type may have this suffix, each letter in upper or lower case.
 #[tactic(auto, using(crate::proofs::Suffixes::same_suffix))]
 fn has_suffix(suffix: &[u8], ty: NcType) -> bool
     ensures { result ≡ has_suffix (map to_ascii_lowercase suffix.now) ty }

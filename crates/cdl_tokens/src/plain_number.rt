@@ -1,4 +1,4 @@
-//! Plain numbers, the tokens of long lists: an optional sign and decimal digits, without a suffix.
+//! Plain numbers: an optional sign and at most 19 decimal digits, without a suffix.
 
 ghost use Rattle.std.specs.Prelude.{◌≡◌, ◌==◌, ◌≤◌, IfSome, false, length, slice_index, true};
 ghost use Rattle.cdl_tokens.specs.Bytes.{goes_on_number};
@@ -14,12 +14,12 @@ pub struct PlainNumber {
     pub numeral: Numeral,
     /// The number of its bytes.
     pub len: usize,
-    /// A comma comes right after it.
+    /// True if a comma comes right after it.
     pub at_comma: bool,
 }
 
-/// The plain number that the bytes begin with, if a comma or white space follows it; `None` if they begin otherwise. The number
-/// is the same in every version.
+/// Returns the plain number that the bytes begin with, if a comma or white space follows it. Returns `None` if they begin otherwise, as
+/// with an octal number or more than 19 digits. The number is the same in every version.
 #[inline(always)]
 pub fn plain_number(bytes: &[u8]) -> Option<PlainNumber>
     ensures { IfSome result (λ p. Begins bytes.now p) }
@@ -43,7 +43,7 @@ pub fn plain_number(bytes: &[u8]) -> Option<PlainNumber>
     }
 }
 
-/// A number without a suffix.
+/// Returns the numeral of a number without a suffix: its type is int.
 fn int(minus: bool, value: u64) -> Numeral
     ensures { result ≡ record { minus = minus; magnitude = Some value; ty = NcType.Int } }
 {
@@ -54,7 +54,8 @@ fn int(minus: bool, value: u64) -> Numeral
     }
 }
 
-/// How many digits the bytes begin with, and their number, if it is decimal and a comma or white space follows.
+/// Returns how many decimal digits the bytes begin with, and their value. Returns `None` if there are none or more than 19, if
+/// a zero before other digits makes them octal, or if neither a comma nor white space follows.
 #[inline(always)]
 fn plain_digits(bytes: &[u8]) -> Option<(usize, u64)>
     ensures { IfSome result (λ r. AreDigits bytes.now r.0 r.1) }
@@ -71,7 +72,7 @@ fn plain_digits(bytes: &[u8]) -> Option<(usize, u64)>
     Some((n, value))
 }
 
-/// Returns true if a comma comes after the first `n` bytes.
+/// Returns true if the byte after the first `n` is a comma.
 #[inline(always)]
 fn is_before_comma(bytes: &[u8], n: usize) -> bool
     requires { n ≤ length bytes.now }

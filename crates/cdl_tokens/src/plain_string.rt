@@ -1,4 +1,4 @@
-//! Plain strings, the tokens of long lists: those without an escape or a line feed.
+//! Plain strings: strings without an escape or a line feed.
 
 ghost use Rattle.std.specs.Prelude.{◌≡◌, IfSome};
 ghost use Rattle.cdl_tokens.specs.code.PlainTokens.{BeginsString};
@@ -6,7 +6,7 @@ ghost use Rattle.cdl_tokens.specs.code.PlainTokens.{BeginsString};
 use crate::bytes::byte_at;
 use crate::search::len_before;
 
-/// The number of bytes of the plain string that the bytes begin with, its quotes among them; `None` if they begin otherwise.
+/// If the bytes begin with a plain string, returns its length with both quotes. Otherwise returns `None`.
 #[inline(always)]
 #[tactic(auto, using(crate::proofs::PlainStrings::begins_string))]
 pub fn plain_string_len(bytes: &[u8]) -> Option<usize>

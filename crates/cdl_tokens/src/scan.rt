@@ -17,26 +17,26 @@ use crate::token::TokenKind;
 /// The length of the word that opens a text, `netcdf`.
 const OPENING_LEN: usize = 6;
 
-/// What bytes begin with: a token, or a gap between tokens.
+/// What bytes begin with: a token, or a gap between tokens (white space or a comment).
 #[derive(Clone, Copy, Debug, PartialEq, Eq)]
 pub struct Scanned {
-    /// The token, or None for a gap.
+    /// The token's kind, or `None` for a gap.
     pub kind: Option<TokenKind>,
     /// The number of its bytes.
     pub len: usize,
 }
 
-/// A character of a string, or an escape in it.
+/// A character of a string: a byte that stands for itself, or an escape.
 #[derive(Clone, Copy, Debug, PartialEq, Eq)]
 pub struct Character {
-    /// The byte that it stands for, if any.
+    /// The byte that it stands for, or `None` if it is an escape that stands for no byte.
     pub value: Option<u8>,
     /// The number of its bytes.
     pub len: usize,
 }
 
-/// What the bytes begin with: the longest token, or a gap. Only a text's first token is an opening: `at_start` says that none
-/// came before.
+/// Returns what the bytes begin with: the longest token, or a gap. `at_start` is true if no token comes before the bytes: only the first
+/// token of a text can be an opening.
 #[tactic(auto, unfolding(crate::specs::Scan::scan))]
 pub fn scan(at_start: bool, bytes: &[u8]) -> Scanned
     requires { 0 < length bytes.now }
@@ -66,14 +66,14 @@ pub fn scan(at_start: bool, bytes: &[u8]) -> Scanned
     }
 }
 
-/// A gap of this length.
+/// Returns a gap of this length.
 fn gap(len: usize) -> Scanned
     ensures { result ≡ gap len }
 {
     Scanned { kind: None, len }
 }
 
-/// A token of this length.
+/// Returns a token of this kind and length.
 fn token(kind: TokenKind, len: usize) -> Scanned
     ensures { result ≡ token kind len }
 {
@@ -83,7 +83,8 @@ fn token(kind: TokenKind, len: usize) -> Scanned
     }
 }
 
-/// The opening that is `netcdf` and goes on with these bytes: up to the first `{` that isn't escaped.
+/// Returns the opening that is `netcdf` and then these bytes, up to the first `{` that isn't escaped. If there is no such `{`, returns a
+/// bad token of `netcdf` and all of the bytes.
 fn scan_opening(bytes: &[u8]) -> Scanned
     requires { length bytes.now + 6 < 2 ^ 64 }
     ensures scan { result ≡ scan_opening bytes.now (until 0x7b bytes.now) }
@@ -97,7 +98,8 @@ fn scan_opening(bytes: &[u8]) -> Scanned
     }
 }
 
-/// The string that is a quote and goes on with these bytes: up to the first quote that isn't escaped.
+/// Returns the string that is a quote and then these bytes, up to the first quote that isn't escaped. Returns a bad token if there is no
+/// such quote, or if a character of the string stands for no byte.
 fn scan_text(bytes: &[u8]) -> Scanned
     requires { length bytes.now + 1 < 2 ^ 64 }
     ensures scan { result ≡ scan_text bytes.now (until 0x22 bytes.now) }
@@ -113,7 +115,7 @@ fn scan_text(bytes: &[u8]) -> Scanned
     }
 }
 
-/// Returns true if the bytes begin with a byte or an escape with which a word begins.
+/// Returns true if the bytes begin as a word does: with a letter, `_`, a byte from 0x80 or an escape.
 fn begins_a_word(bytes: &[u8]) -> bool
     ensures { result ≡ begins_a_word bytes.now }
 {
@@ -121,7 +123,7 @@ fn begins_a_word(bytes: &[u8]) -> bool
     begins_word(b) || is_escape(b, byte_at(bytes, 1))
 }
 
-/// Returns true if the bytes begin with a digit, after a sign, a point, both or neither.
+/// Returns true if the bytes begin as a number does: with a digit, which may have a sign, a point, or a sign and then a point before it.
 pub fn begins_number(bytes: &[u8]) -> bool
     ensures { result ≡ begins_number bytes.now }
 {
@@ -149,7 +151,7 @@ fn begins_opening(bytes: &[u8]) -> bool
     bytes.starts_with(b"netcdf") && (is_blank(b) || b == b'{')
 }
 
-/// The length of the number token that the bytes begin with.
+/// Returns the length of the number token that the bytes begin with.
 pub fn number_len(bytes: &[u8]) -> usize
     requires { begins_number bytes.now ≡ true }
     ensures len { result ≡ 1 + prefix_len goes_on_number (drop 1 bytes.now) }
@@ -159,7 +161,7 @@ pub fn number_len(bytes: &[u8]) -> usize
     1 + going_on_len(rest)
 }
 
-/// How many of the first bytes go on with a number token.
+/// Returns how many bytes at the start can continue a number token: letters, digits, `_` and `.`.
 fn going_on_len(bytes: &[u8]) -> usize
     ensures len { result ≡ prefix_len goes_on_number bytes.now }
     ensures within { result ≤ length bytes.now }
@@ -167,7 +169,7 @@ fn going_on_len(bytes: &[u8]) -> usize
     bytes.iter().take_while(|b| goes_on_number(**b)).count()
 }
 
-/// How many bytes stand before the line's end.
+/// Returns how many bytes come before the first line feed. If there is none, returns the number of all bytes.
 #[tactic(auto, using(crate::proofs::Searches::before_one))]
 fn line_len(bytes: &[u8]) -> usize
     ensures len { result ≡ prefix_len (λ b. not (b == 0x0a)) bytes.now }
@@ -176,7 +178,7 @@ fn line_len(bytes: &[u8]) -> usize
     len_before(bytes, b'\n', b'\n', b'\n')
 }
 
-/// How many of the first bytes are a word.
+/// Returns how many bytes at the start belong to a word: escapes, letters, digits, `_`, `.`, `@`, `+`, `-` and bytes from 0x80.
 #[tactic(auto, using(crate::proofs::Words::word_at, crate::proofs::Words::word_past, crate::proofs::Words::escape_inside, crate::proofs::Words::word_some))]
 fn word_len(bytes: &[u8]) -> usize
     ensures len { result ≡ word_len bytes.now }
@@ -196,7 +198,7 @@ fn word_len(bytes: &[u8]) -> usize
     at
 }
 
-/// Returns true if a backslash stands there, with a byte after it.
+/// Returns true if a backslash stands at the offset `at`, and a byte comes after it.
 fn is_escaping(bytes: &[u8], at: usize) -> bool
     requires { at < length bytes.now }
     ensures { result ≡ (slice_index bytes.now at == 0x5c && nat_lt (at + 1) (length bytes.now)) }
@@ -204,7 +206,7 @@ fn is_escaping(bytes: &[u8], at: usize) -> bool
     bytes[at] == b'\\' && at + 1 < bytes.len()
 }
 
-/// How many of the first bytes are neither a backslash nor `close`.
+/// Returns how many bytes come before the first backslash or `close`. If there is none, returns the number of all bytes.
 #[tactic(auto, using(crate::proofs::Searches::before_ordinary))]
 fn ordinary_len(bytes: &[u8], close: u8) -> usize
     ensures len { result ≡ prefix_len (is_ordinary close) bytes.now }
@@ -213,7 +215,7 @@ fn ordinary_len(bytes: &[u8], close: u8) -> usize
     len_before(bytes, b'\\', close, close)
 }
 
-/// How many bytes come before the first `close` that isn't escaped; all if there is none.
+/// Returns how many bytes come before the first `close` that isn't escaped. If there is none, returns the number of all bytes.
 #[tactic(auto, using(crate::proofs::Words::until_at, crate::proofs::Words::until_past, crate::proofs::Words::until_run))]
 fn until(bytes: &[u8], close: u8) -> usize
     ensures len { result ≡ until close bytes.now }

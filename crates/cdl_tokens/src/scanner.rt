@@ -17,9 +17,11 @@ use crate::token::{Token, TokenKind};
 #[derive(Clone, Copy)]
 pub struct Scanner<'a> {
     text: &'a [u8],
+    /// The offset of the next byte to read.
     at: usize,
+    /// The line of the next byte, from 1 on.
     line: u64,
-    /// No token came before.
+    /// True if no token has been read.
     at_start: bool,
     ghost inside: { at ≤ length text.now },
     ghost on_line: { line ≡ line_at text.now at },
@@ -44,7 +46,7 @@ impl<'a> Scanner<'a> {
     ghost use Rattle.std.specs.Prelude.{◌∷◌};
     ghost use Rattle.cdl_tokens.specs.code.Scanners.{comma_before, followed, is_end, is_token, left, offset_of, text_of, token_before};
 
-    /// The start of a text.
+    /// Creates a scanner at the start of a text.
     pub fn new(text: &'a [u8]) -> Scanner<'a>
         ensures left { left result ≡ tokens text.now }
         ensures text { text_of result ≡ text.now }
@@ -57,14 +59,14 @@ impl<'a> Scanner<'a> {
         }
     }
 
-    /// The text.
+    /// Returns the text.
     pub fn text(&self) -> &'a [u8]
         ensures { result.now ≡ text_of self.now }
     {
         self.text
     }
 
-    /// Reads the next token; at the end of the text `End`, each time.
+    /// Reads the next token. At the end of the text it returns a token of the kind `End`, each time.
     ///
     /// White space, marks and numbers, which long lists consist of, are read here; [`scan`] reads every other token.
     #[inline(always)]
@@ -88,7 +90,8 @@ impl<'a> Scanner<'a> {
         }
     }
 
-    /// Reads a plain number and the comma after it, if they come next; otherwise the scanner stays where it is.
+    /// Reads a plain number (an optional sign and decimal digits) and the comma after it, if they come next with only white space before
+    /// each. Otherwise returns `None`, and the scanner stays where it is.
     #[inline(always)]
     pub fn number_and_comma(&mut self) -> Option<ListedNumber>
         ensures tokens { IfSome result (λ l. left self.old ≡ l.number ∷ l.comma ∷ left self.new) }
@@ -112,8 +115,8 @@ impl<'a> Scanner<'a> {
         })
     }
 
-    /// Reads a string without an escape or a line feed and the comma after it, if they come next; otherwise the scanner stays
-    /// where it is.
+    /// Reads a string without an escape or a line feed and the comma after it, if they come next with only white space before
+    /// each. Otherwise returns `None`, and the scanner stays where it is.
     #[inline(always)]
     pub fn string_and_comma(&mut self) -> Option<ListedToken>
         ensures tokens { IfSome result (λ l. left self.old ≡ l.token ∷ l.comma ∷ left self.new) }
@@ -133,7 +136,8 @@ impl<'a> Scanner<'a> {
         Some(ListedToken { token, comma })
     }
 
-    /// Reads a token and the comma after it, if they come next; otherwise the scanner stays where it is.
+    /// Reads the next token and the comma after it, if only white space stands between them. Otherwise, and at the end of the
+    /// text, returns `None`, and the scanner stays where it is.
     #[inline(always)]
     pub fn token_and_comma(&mut self) -> Option<ListedToken>
         ensures tokens { IfSome result (λ l. left self.old ≡ l.token ∷ l.comma ∷ left self.new) }
@@ -152,7 +156,7 @@ impl<'a> Scanner<'a> {
         Some(ListedToken { token, comma })
     }
 
-    /// The comma that ends where the scanner stands, if one does: the token that was read last.
+    /// Returns the token of the comma that ends where the scanner stands. The caller has just read this comma, so the byte isn't checked.
     #[inline(always)]
     pub fn comma_before(&self) -> Token
         ensures { result ≡ comma_before self.now }
@@ -165,7 +169,8 @@ impl<'a> Scanner<'a> {
         }
     }
 
-    /// Reads a comma, if it comes next or after white space alone.
+    /// Skips white space. If a comma comes next, passes it and returns its token. Otherwise returns `None`, and the white space stays
+    /// skipped.
     #[inline(always)]
     fn comma(&mut self) -> Option<Token>
         ensures token { IfSome result (λ c. left self.old ≡ c ∷ left self.new) }
@@ -181,7 +186,8 @@ impl<'a> Scanner<'a> {
         }
     }
 
-    /// The same, for a caller that may know that a comma is here.
+    /// Reads a comma as [`comma`](Scanner::comma) does. If `at_comma`, the caller knows that the next byte is a comma, and no white space
+    /// is skipped.
     #[inline(always)]
     fn comma_after(&mut self, at_comma: bool) -> Option<Token>
         requires { at_comma ≡ true → slice_index (text_of self.old) (offset_of self.old) ≡ 0x2c }
@@ -198,7 +204,7 @@ impl<'a> Scanner<'a> {
         }
     }
 
-    /// Returns the comma that is here, and passes it.
+    /// Passes the next byte, which is a comma, and returns its token.
     #[inline(always)]
     fn take_comma(&mut self) -> Token
         requires { slice_index (text_of self.old) (offset_of self.old) ≡ 0x2c }
@@ -225,7 +231,8 @@ impl<'a> Scanner<'a> {
         }
     }
 
-    /// Skips white space, which before a number is mostly one space or nothing.
+    /// Skips white space as [`skip_blanks`](Scanner::skip_blanks) does. It is made for the white space before a number, which
+    /// is mostly one space or nothing.
     #[inline(always)]
     fn skip_to_number(&mut self)
         ensures left { left self.new ≡ left self.old }
@@ -241,7 +248,8 @@ impl<'a> Scanner<'a> {
         }
     }
 
-    /// Returns true if the byte here is greater than a space, as the first byte of every token is.
+    /// Returns true if the next byte is greater than a space, as the first byte of every good token is. At the end of the text returns
+    /// false.
     #[inline(always)]
     fn stands_at_token(&self) -> bool
         ensures { result ≡ nat_lt 0x20 (slice_index (text_of self.now) (offset_of self.now)) }
@@ -249,7 +257,7 @@ impl<'a> Scanner<'a> {
         self.at < self.text.len() && self.text[self.at] > b' '
     }
 
-    /// Skips one space, if it is here.
+    /// Skips the next byte if it is a space.
     #[inline(always)]
     fn skip_space(&mut self)
         ensures left { left self.new ≡ left self.old }
@@ -261,7 +269,7 @@ impl<'a> Scanner<'a> {
         }
     }
 
-    /// Skips white space, mostly nothing, and returns true if a comma follows.
+    /// Skips white space, though there is mostly none. Returns true if a comma comes next.
     #[inline(always)]
     fn goes_to_comma(&mut self) -> bool
         ensures left { left self.new ≡ left self.old }
@@ -277,7 +285,7 @@ impl<'a> Scanner<'a> {
         self.is_at_comma()
     }
 
-    /// Returns true if a comma is here.
+    /// Returns true if the next byte is a comma.
     #[inline(always)]
     fn is_at_comma(&self) -> bool
         ensures inside { result ≡ true → offset_of self.now < length (text_of self.now) }
@@ -290,7 +298,7 @@ impl<'a> Scanner<'a> {
         }
     }
 
-    /// Returns the token that is here, and passes it. It has no line feed.
+    /// Passes the token of this kind and length that begins at the next byte, and returns it. The token has no line feed.
     #[inline]
     fn take(&mut self, kind: TokenKind, len: usize) -> Token
         requires here { scan self.old.at_start (drop self.old.at self.old.text.now) ≡ token kind len }
@@ -322,7 +330,7 @@ impl<'a> Scanner<'a> {
         }
     }
 
-    /// Reads the next token, whatever it is.
+    /// Reads the next token, of any kind. At the end of the text it returns a token of the kind `End`.
     #[inline(never)]
     fn scanned_token(&mut self) -> Token
         ensures token { left self.old ≡ followed result result.kind (left self.new) }
@@ -355,7 +363,7 @@ impl<'a> Scanner<'a> {
         }
     }
 
-    /// The scanner a byte further on.
+    /// Returns the scanner one byte further on. Its line is one more if the passed byte is a line feed.
     fn after_byte(self) -> Scanner<'a>
         requires { self.at < length self.text.now }
         ensures text { result.text.now ≡ self.entry.text.now }
@@ -371,7 +379,7 @@ impl<'a> Scanner<'a> {
         }
     }
 
-    /// The scanner `len` bytes further on.
+    /// Returns the scanner `len` bytes further on, with this `at_start`. Each line feed among the passed bytes adds one to its line.
     fn after(self, len: usize, at_start: bool) -> Scanner<'a>
         requires { self.at + len ≤ length self.text.now }
         ensures text { result.text.now ≡ self.entry.text.now }

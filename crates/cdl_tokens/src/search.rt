@@ -4,13 +4,14 @@ ghost use Rattle.std.specs.Prelude.{◌≡◌, ◌≤◌, ◌==◌, count_by, le
 ghost use Rattle.std.specs.List.{list_any, prefix_len};
 ghost use Rattle.cdl_tokens.specs.code.Scanners.{is_none_of};
 
-/// How many bytes are looked at at once.
+/// The number of bytes that a search tests at once.
 const BLOCK: usize = 64;
 
-/// How many bytes are looked at one by one before: escapes often follow one another.
+/// The number of bytes that [`len_before`] tests one by one before it tests blocks: escapes often follow one another.
 const NEAR: usize = 8;
 
-/// How many bytes come before the first that is one of these three; all if there is none.
+/// Returns how many bytes come before the first one that equals the argument `a`, `b` or `c`. If there is none, returns the number of all
+/// bytes.
 pub fn len_before(bytes: &[u8], a: u8, b: u8, c: u8) -> usize
     ensures len { result ≡ prefix_len (is_none_of a b c) bytes.now }
     ensures within { result ≤ length bytes.now }
@@ -24,7 +25,7 @@ pub fn len_before(bytes: &[u8], a: u8, b: u8, c: u8) -> usize
     }
 }
 
-/// The same, a block after the other.
+/// Returns what [`len_before`] returns. It looks at one block after the other.
 #[inline(never)]
 fn far_len(bytes: &[u8], a: u8, b: u8, c: u8) -> usize
     ensures len { result ≡ prefix_len (is_none_of a b c) bytes.now }
@@ -43,7 +44,7 @@ fn far_len(bytes: &[u8], a: u8, b: u8, c: u8) -> usize
     at + near_len(rest, a, b, c)
 }
 
-/// The same, a byte after the other.
+/// Returns what [`len_before`] returns. It looks at one byte after the other.
 fn near_len(bytes: &[u8], a: u8, b: u8, c: u8) -> usize
     ensures len { result ≡ prefix_len (is_none_of a b c) bytes.now }
     ensures within { result ≤ length bytes.now }
@@ -54,7 +55,7 @@ fn near_len(bytes: &[u8], a: u8, b: u8, c: u8) -> usize
         .count()
 }
 
-/// Returns true if one of the bytes is one of these three. No byte ends the pass.
+/// Returns true if one of the bytes equals the argument `a`, `b` or `c`. It tests all bytes, even after it has found one.
 fn has_any(bytes: &[u8], a: u8, b: u8, c: u8) -> bool
     ensures { result ≡ list_any (λ x. not (is_none_of a b c x)) bytes.now }
 {
@@ -65,7 +66,7 @@ fn has_any(bytes: &[u8], a: u8, b: u8, c: u8) -> bool
     found
 }
 
-/// How many of the bytes are this one.
+/// Returns how many of the bytes are `byte`.
 pub fn count_of(bytes: &[u8], byte: u8) -> usize
     ensures { result ≡ count_by (λ b. b == byte) bytes.now }
 {
@@ -80,10 +81,10 @@ pub fn count_of(bytes: &[u8], byte: u8) -> usize
     count
 }
 
-/// How many of the bytes are counted at once: as many as a byte can count, in whole steps.
+/// The number of bytes that [`count_of`] counts at once. It is at most 255, the most that a `u8` can count.
 const COUNTED: usize = 240;
 
-/// How many of these bytes are this one.
+/// Returns how many of these bytes, at most 255, are `byte`.
 fn few_of(bytes: &[u8], byte: u8) -> u8
     requires { length bytes.now ≤ 255 }
     ensures count { result ≡ count_by (λ b. b == byte) bytes.now }

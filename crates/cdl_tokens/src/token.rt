@@ -12,7 +12,7 @@ pub enum TokenKind {
     Opening,
     /// A name, a type, the word of a section, `unlimited` or `_`.
     Word,
-    /// A number, good or bad.
+    /// A token that begins as a number does. It may be no well-formed integer, such as `1.5` or `08`.
     Number,
     /// A string with its quotes, each of whose characters stands for a byte.
     Text,
@@ -27,7 +27,7 @@ pub enum TokenKind {
 impl TokenKind {
     ghost use Rattle.cdl_tokens.specs.code.Scanners.{is_end};
 
-    /// Returns true if such a token ends the text.
+    /// Returns true for the kind `End`, that of the token at the end of the text.
     pub fn is_end(self) -> bool
         ensures { result ≡ is_end self }
     {
@@ -48,7 +48,7 @@ pub struct Token {
 }
 
 impl Token {
-    /// The token's bytes, in the text that it is a token of.
+    /// Returns the token's bytes. `text` is the text that the token was read from.
     #[inline(always)]
     pub fn bytes(self, text: &[u8]) -> &[u8]
         ensures { result.now ≡ raw text.now self }
@@ -59,7 +59,7 @@ impl Token {
         self.bytes_outside(text)
     }
 
-    /// The token's bytes, in a text that may have no such token.
+    /// Returns as many of the token's bytes as `text` has, which may be shorter than the text that the token was read from.
     #[inline(never)]
     fn bytes_outside(self, text: &[u8]) -> &[u8]
         ensures { result.now ≡ raw text.now self }

@@ -14,8 +14,9 @@ use cdl_tokens::{Numeral, TokenKind};
 use nc_base::{ListedArray, NcType, Version};
 use std::alloc::Global;
 
-/// The type that a constant says: that of a number's suffix, int for a number without one, and char for a string (the CDL
-/// chapter of the NetCDF User's Guide, "CDL Notation for Data Constants").
+/// Returns the type that a constant says: that of a number's suffix, int for a number without one, and char for a string (the CDL
+/// chapter of the NetCDF User's Guide, "CDL Notation for Data Constants"). A number token that is no number of the version gives
+/// int, and any other token gives char.
 pub fn type_said(version: Version, token: Lexeme<'_>) -> NcType
     ensures { result ≡ type_said (value_said version token.entry) }
 {
@@ -25,12 +26,13 @@ pub fn type_said(version: Version, token: Lexeme<'_>) -> NcType
     }
 }
 
-/// The bytes of the constants up to the end of the statement, big-endian and one after the other; the first constant is next.
+/// Reads the constants from the next token to the end of the statement, and returns their bytes, big-endian and one after the
+/// other.
 ///
 /// # Errors
 ///
-/// The fault of the first constant that has one: another type than this (`MixedConstants`), or a number that the type
-/// doesn't have (`NumberRange`). Or an allocation failed.
+/// The fault of the first constant that has one: `MixedConstants` if its type isn't `ty`, otherwise `NumberRange` if its number is out of
+/// the range of `ty`. Or `OutOfMemory` if an allocation failed.
 pub fn read_constants(
     alloc: Global,
     ty: NcType,
@@ -52,7 +54,8 @@ pub fn read_constants(
     }
 }
 
-/// Adds a token's constant, if it has one: all tokens but the marks are constants.
+/// Appends to `vals` the bytes of the token's constant, or nothing if the token is a mark. Any other token is a constant. Errs as
+/// [`put_constant`] does.
 fn put_token(
     vals: &mut ListedArray,
     version: Version,
@@ -67,7 +70,8 @@ fn put_token(
     }
 }
 
-/// Adds the bytes of a constant.
+/// Appends to `vals` the bytes of a constant. Errs with `MixedConstants` if the token is neither a number nor a string or if its type isn't
+/// `ty`, with `NumberRange` if the number is out of the range of `ty`, and with `OutOfMemory` if an allocation failed.
 #[tactic(auto, unfolding(cdl_statements::specs::code::Contents::value_of))]
 fn put_constant(
     vals: &mut ListedArray,
@@ -84,7 +88,8 @@ fn put_constant(
     }
 }
 
-/// Adds the bytes of a number, if it has the type.
+/// Appends to `vals` the bytes of a number, big-endian. Errs with `MixedConstants` if its type isn't `ty`, with `NumberRange` if it is out
+/// of the range of `ty`, and with `OutOfMemory` if an allocation failed.
 fn put_number(vals: &mut ListedArray, ty: NcType, n: Numeral) -> Result<(), ReadError>
     ensures { AddsNumber ty n vals.old vals.new result }
 {
@@ -94,7 +99,8 @@ fn put_number(vals: &mut ListedArray, ty: NcType, n: Numeral) -> Result<(), Read
     put_numeral(vals, ty, n)
 }
 
-/// Adds the characters that a string stands for, if the type is char.
+/// Appends to `vals` the bytes that a string stands for. `bytes` is the string with its quotes. Errs with `MixedConstants` if `ty` isn't
+/// char, and with `OutOfMemory` if an allocation failed.
 fn put_characters(vals: &mut ListedArray, ty: NcType, bytes: &[u8]) -> Result<(), ReadError>
     ensures { Leaves vals.new result (add_constant ty vals.old (text_said bytes.now)) }
 {

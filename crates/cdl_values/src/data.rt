@@ -18,39 +18,44 @@ use cdl_statements::{CdlKind, Cutter, Due, check_shape_from};
 use nc_base::ListedArray;
 use std::alloc::Global;
 
-/// What a variable takes of the data section.
+/// What a variable takes from the data section.
 #[derive(Clone, Copy)]
 pub struct Target {
+    /// The form in which it takes values.
     pub filling: Filling,
-    /// How many values, bytes or rows; None: any number.
+    /// How many numbers, bytes or rows it takes, as `filling` counts them, or `None` for any number.
     pub capacity: Option<u64>,
-    /// An earlier statement gave its values.
+    /// True if an earlier statement gave its values.
     pub given: bool,
 }
 
 /// The target of a variable, and the variable's position.
 #[derive(Clone, Copy)]
 struct FoundTarget {
+    /// The position of the variable among the names.
     position: u64,
     target: Target,
 }
 
-/// What a statement gives: its variable's values, and the statements after it.
+/// What a statement of the data section gives to its variable.
 #[derive(Drop)]
 pub struct Given<'a> {
     /// The variable's position among the names.
     pub position: u64,
+    /// The bytes of the values that the statement lists.
     pub array: ListedArray,
+    /// The cutter after the statement.
     pub rest: Cutter<'a>,
 }
 
-/// Reads the next statement, which stands in the data section: the values of the variable that it names.
+/// Reads the next statement of `start`, which stands in the data section. Returns the position of the variable that the statement names,
+/// the bytes of the values that the statement lists, and the cutter after the statement.
 ///
-/// The names are those of the targets, in their order.
+/// `names` has the names of the variables, and `targets` has what each variable takes, in the same order.
 ///
 /// # Errors
 ///
-/// The statement's first fault; or an allocation failed.
+/// The statement's first fault, or `OutOfMemory` if an allocation failed.
 pub fn read<'a>(
     alloc: Global,
     names: &NameIndex,
@@ -65,7 +70,8 @@ pub fn read<'a>(
     read_either(alloc, names, targets, start)
 }
 
-/// Reads a statement in one pass, or in two if something is wrong with it.
+/// Reads the next statement by [`read_quickly`]. If this finds some fault in the statement, reads it again by [`read_slowly`]. Errs with
+/// the statement's first fault, or if an allocation failed.
 fn read_either<'a>(
     alloc: Global,
     names: &NameIndex,
@@ -84,7 +90,8 @@ fn read_either<'a>(
     }
 }
 
-/// Reads a good statement in one pass; if something is wrong with it, it doesn't say what.
+/// Reads a statement without faults in one pass. Errs with `Unnamed` if the statement has some fault, and with `OutOfMemory` if an
+/// allocation failed.
 fn read_quickly<'a>(
     alloc: Global,
     names: &NameIndex,
@@ -125,7 +132,8 @@ fn read_quickly<'a>(
     })
 }
 
-/// Reads a statement in two passes: the first says whether it has a bad token or no shape.
+/// Reads a statement in two passes: the first finds a bad token or a wrong shape, and the second reads the values. Errs with the
+/// statement's first fault, or if an allocation failed.
 fn read_slowly<'a>(
     alloc: Global,
     names: &NameIndex,
@@ -156,7 +164,9 @@ fn read_slowly<'a>(
     })
 }
 
-/// The target of the variable that a word names, and the variable's position.
+/// Returns the target of the variable that a word names, and the variable's position. Errs with `BadName` if the format doesn't
+/// allow the name, with `UnknownVariable` if `names` or `targets` doesn't have the variable, with `DuplicateData` if an earlier
+/// statement gave its values, or if an allocation failed.
 fn target_of(
     alloc: Global,
     names: &NameIndex,
@@ -172,7 +182,8 @@ fn target_of(
     Ok(FoundTarget { position, target })
 }
 
-/// The target, if no statement gave its values.
+/// Returns the target. Errs with `DuplicateData` if an earlier statement gave the variable's values, and with `UnknownVariable` if `target`
+/// is `None`.
 fn if_new(target: Option<&Target>) -> Result<Target, CdlKind>
     ensures { result ≡ if_new (option_map (λ t. t.now) target.entry) }
 {

@@ -5,10 +5,12 @@ ghost use Rattle.cdl_meaning.specs.State.{fits};
 
 use nc_base::NcType;
 
-/// The number that `_` stands for in the values of a variable of numbers, which are of the same type.
+/// The fill value of a variable of numbers: the number that `_` stands for in a list of its values.
 #[derive(Clone, Copy)]
 pub struct Fill {
+    /// The type of the variable.
     pub ty: NcType,
+    /// The fill value, which is in the range of the type.
     pub value: i128,
     pub ghost in_range: { fits ty value ≡ true },
 }
@@ -16,7 +18,7 @@ pub struct Fill {
 impl Fill {
     ghost use Rattle.nc_base.specs.Numbers.{IsInRange};
 
-    /// The number of this type.
+    /// Returns the fill value of this type and number. The number is in the type's range.
     #[tactic(auto, using(cdl_meaning::proofs::InRange::is_had))]
     pub fn new(ty: NcType, value: i128) -> Fill
         requires { IsInRange ty value }

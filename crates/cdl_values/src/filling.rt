@@ -1,25 +1,26 @@
-//! How a variable is filled with values, and how many it still takes.
+//! In which form a variable takes the values that a statement lists, and how many more it takes.
 
 ghost use Rattle.std.specs.Prelude.{◌≡◌, ℕ, List, length};
 ghost use Rattle.cdl_values.specs.code.PackedValues.{is_full, is_past, less};
 
 use crate::fill::Fill;
 
-/// How a variable is filled with values.
+/// The form in which a variable takes the values that a statement lists.
 #[derive(Clone, Copy)]
 pub enum Filling {
-    /// By numbers of this one's type; `_` stands for this one.
+    /// Numbers of the type of this fill value. `_` stands for the fill value.
     Numbers(Fill),
-    /// By strings, one after the other: characters of rank 0 or 1.
+    /// Strings, joined one after the other, for characters of rank 0 or 1.
     Joined,
-    /// By one string a row of this length, filled up with this byte: characters of rank 2 and up.
+    /// One string for each row of `len` bytes, filled up with the byte `fill`, for characters of rank 2 and up.
     Rows { len: u64, fill: u8 },
 }
 
 impl Filling {
     ghost use Rattle.cdl_values.specs.code.PackedValues.{capacity_after};
 
-    /// The capacity that is left after a value of `n` bytes.
+    /// Returns the capacity that is left after a value of `n` bytes. A number or a row takes 1, a joined string takes `n`, and the result
+    /// is at least 0. Returns `None` if the capacity is `None`, which is no limit.
     pub fn capacity_after(self, n: u128, capacity: Option<u64>) -> Option<u64>
         ensures { (bytes : List ℕ) → length bytes ≡ n → result ≡ capacity_after self bytes capacity }
     {
@@ -30,7 +31,7 @@ impl Filling {
     }
 }
 
-/// Returns true if nothing more is taken. Without a capacity there is always more.
+/// Returns true if the capacity is 0. Returns false for `None`, which is no limit.
 pub fn is_full(capacity: Option<u64>) -> bool
     ensures { result ≡ is_full capacity }
 {
@@ -40,7 +41,7 @@ pub fn is_full(capacity: Option<u64>) -> bool
     }
 }
 
-/// Returns true if `n` is more than the capacity.
+/// Returns true if `n` is more than the capacity. Returns false for `None`, which is no limit.
 pub fn is_past(n: u128, capacity: Option<u64>) -> bool
     ensures { result ≡ is_past n capacity }
 {
@@ -50,7 +51,7 @@ pub fn is_past(n: u128, capacity: Option<u64>) -> bool
     }
 }
 
-/// The capacity without `n`, or 0.
+/// Returns the capacity minus `n`, or 0 if `n` is greater. Returns `None` if the capacity is `None`, which is no limit.
 pub fn less(n: u128, capacity: Option<u64>) -> Option<u64>
     ensures { result ≡ less n capacity }
 {

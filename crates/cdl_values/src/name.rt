@@ -13,11 +13,11 @@ use cdl_tokens::{byte_at, is_escape};
 use nc_base::check_name;
 use std::alloc::{AllocError, Global};
 
-/// The name that a word stands for, if the format allows it.
+/// Returns the name that a word stands for, if the format allows it.
 ///
 /// # Errors
 ///
-/// A name that the format doesn't allow (`BadName`). Or an allocation failed.
+/// `BadName` if the format doesn't allow the name, or `OutOfMemory` if an allocation failed.
 pub fn read_name(alloc: Global, word: &[u8]) -> Result<Vec<u8>, ReadError>
     ensures name { IfOk result (λ name. name.items ≡ word_value word.now) }
     ensures allowed { OnOk result (is_name (word_value word.now) ≡ true) }
@@ -30,7 +30,7 @@ pub fn read_name(alloc: Global, word: &[u8]) -> Result<Vec<u8>, ReadError>
     Ok(name)
 }
 
-/// The name that a word stands for: its bytes, each escape as the byte that it escapes.
+/// Returns the name that a word stands for: its bytes, with each escape replaced by the byte that it escapes.
 ///
 /// # Errors
 ///

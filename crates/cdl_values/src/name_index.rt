@@ -28,7 +28,7 @@ impl Model for NameIndex {
 }
 
 impl NameIndex {
-    /// Without names. It does not allocate.
+    /// Returns a list without names. Does not allocate.
     pub fn new(alloc: Global) -> NameIndex
         ensures { result ≡ [] }
     {
@@ -37,14 +37,14 @@ impl NameIndex {
         }
     }
 
-    /// The position of the name; `None` if the list doesn't have it.
+    /// Returns the position of the name, or `None` if the list doesn't have it.
     pub fn find(&self, name: &[u8]) -> Option<u64>
         ensures { result ≡ position_of self.now name.now }
     {
         self.positions.get(name).copied()
     }
 
-    /// Adds a name at the end of the list, if the list doesn't have it, and returns true if so.
+    /// If the list doesn't have the name, adds it at the end and returns true. Otherwise changes nothing and returns false.
     ///
     /// # Errors
     ///

@@ -1,4 +1,4 @@
-//! Numbers of the data section.
+//! Numbers of a text, and their bytes in a file.
 
 ghost use Rattle.std.specs.Prelude.{◌≡◌, ◌++◌, OnOk, nat_le};
 ghost use Rattle.nc_base.specs.Numbers.{IsInRange, bytes_of_number};
@@ -14,7 +14,7 @@ use cdl_tokens::{Numeral, number_of_token};
 use nc_base::{ListedArray, NcType, Version};
 use std::alloc::AllocError;
 
-/// What a number token says; 0 for one that is no number.
+/// Returns what a number token says. Returns 0, of the type int, if the bytes are no number or the version lacks their suffix.
 pub fn number_or_zero(version: Version, bytes: &[u8]) -> Numeral
     ensures { result ≡ held (parts_or_zero (parts version bytes.now)) }
 {
@@ -25,7 +25,8 @@ pub fn number_or_zero(version: Version, bytes: &[u8]) -> Numeral
     })
 }
 
-/// Adds the bytes of a number, the highest first, where it is in the range of the type.
+/// Appends to `array` the bytes of a number, big-endian, in the width of `ty`. The type of the number's suffix is ignored. Errs with
+/// `NumberRange` if the number is out of the range of `ty`, and with `OutOfMemory` if an allocation failed.
 #[inline(always)]
 pub fn put_numeral(array: &mut ListedArray, ty: NcType, n: Numeral) -> Result<(), ReadError>
     ensures adds { Adds array.old array.new result (held_bytes ty n.minus n.magnitude) }
@@ -39,7 +40,7 @@ pub fn put_numeral(array: &mut ListedArray, ty: NcType, n: Numeral) -> Result<()
     }
 }
 
-/// The same inside of its caller, for a loop over numbers of one type.
+/// Appends the bytes of a number as [`put_numeral`] does, but inlines [`put_number_here`], for a loop over numbers of one type.
 #[inline(always)]
 pub fn put_numeral_here(array: &mut ListedArray, ty: NcType, n: Numeral) -> Result<(), ReadError>
     ensures adds { Adds array.old array.new result (held_bytes ty n.minus n.magnitude) }
@@ -53,7 +54,7 @@ pub fn put_numeral_here(array: &mut ListedArray, ty: NcType, n: Numeral) -> Resu
     }
 }
 
-/// Adds the bytes of a number, the highest first.
+/// Appends to `array` the number, big-endian, in the width of the type. Errs only if an allocation failed.
 #[inline(never)]
 pub fn put_number(array: &mut ListedArray, ty: NcType, number: i128) -> Result<(), AllocError>
     requires { IsInRange ty number }
@@ -62,7 +63,7 @@ pub fn put_number(array: &mut ListedArray, ty: NcType, number: i128) -> Result<(
     put_number_here(array, ty, number)
 }
 
-/// Adds the bytes of a number, the highest first, inside of its caller.
+/// Appends to `array` the number as [`put_number`] does, but is inlined into its caller.
 #[inline(always)]
 fn put_number_here(array: &mut ListedArray, ty: NcType, number: i128) -> Result<(), AllocError>
     requires { IsInRange ty number }
@@ -81,7 +82,7 @@ fn put_number_here(array: &mut ListedArray, ty: NcType, number: i128) -> Result<
     }
 }
 
-/// Returns true if the type has the number.
+/// Returns true if the number of this sign and magnitude is in the range of the type. `minus` is true if the sign is a minus.
 #[inline(always)]
 fn is_in_range(ty: NcType, minus: bool, magnitude: u64) -> bool
     ensures { result ≡ nat_le magnitude (greatest ty minus) }
@@ -89,7 +90,8 @@ fn is_in_range(ty: NcType, minus: bool, magnitude: u64) -> bool
     magnitude <= greatest(ty, minus)
 }
 
-/// The greatest magnitude of the type's numbers, with a minus or without one.
+/// Returns the greatest magnitude of a number of the type, with a minus if `minus` is true, otherwise without one. With a minus it is 0 for
+/// char and the unsigned types.
 fn greatest(ty: NcType, minus: bool) -> u64
     ensures { result ≡ greatest ty minus }
 {
@@ -109,7 +111,7 @@ fn greatest(ty: NcType, minus: bool) -> u64
     }
 }
 
-/// The number of this sign and magnitude.
+/// Returns the number of this sign and magnitude.
 fn signed(minus: bool, magnitude: u64) -> i128
     ensures { result ≡ signed minus magnitude }
 {

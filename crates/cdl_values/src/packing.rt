@@ -15,18 +15,21 @@ use cdl_statements::{Cutter, Due};
 use nc_base::ListedArray;
 use std::alloc::Global;
 
-/// What a pass over good values leaves: the values, and the statements after theirs.
+/// What [`pack_good`] reads in a statement.
 #[derive(Drop)]
 pub struct Packed<'a> {
+    /// The bytes of the listed values.
     pub array: ListedArray,
+    /// The cutter after the statement.
     pub rest: Cutter<'a>,
 }
 
-/// Packs the values up to the end of the statement; the first one is next.
+/// Packs the values from the next token to the end of the statement, and returns their bytes, big-endian and one after the other. `filling`
+/// is the form in which the variable takes values, and `capacity` is how many it takes, or `None` for any number.
 ///
 /// # Errors
 ///
-/// The fault of the first value that has one; or an allocation failed.
+/// The fault of the first value that has one, or `OutOfMemory` if an allocation failed.
 #[inline(never)]
 pub fn pack(
     alloc: Global,
@@ -51,11 +54,12 @@ pub fn pack(
     }
 }
 
-/// Packs the values up to the end of the statement, in one pass, where nothing is wrong with it; the first one is next.
+/// Packs the values from the next token to the end of the statement as [`pack`] does, and checks the tokens and their shape in the same
+/// pass. Returns the bytes, and the cutter after the statement.
 ///
 /// # Errors
 ///
-/// The statement has some fault; or an allocation failed.
+/// `Unnamed` if a token, a value or the shape has a fault; `OutOfMemory` if an allocation failed.
 #[inline(never)]
 pub fn pack_good<'a>(
     alloc: Global,

@@ -17,7 +17,8 @@ use cdl_tokens::{character, first_bytes, unescaped_len};
 use nc_base::ListedArray;
 use std::alloc::AllocError;
 
-/// Adds a string, where the capacity counts bytes.
+/// Appends to `array` the bytes that a string stands for. `bytes` is the string with its quotes. Errs with `StringTooLong` if the string
+/// stands for more bytes than the capacity (they stay appended), and with `OutOfMemory` if an allocation failed.
 #[tactic(auto, using(crate::proofs::PackedTokens::chars_len))]
 pub fn put_text(
     array: &mut ListedArray,
@@ -34,7 +35,9 @@ pub fn put_text(
     Ok(())
 }
 
-/// Adds a row of `len` bytes: a string, filled up.
+/// Appends to `array` a row of `len` bytes: the bytes that a string stands for, filled up with `fill`. `bytes` is the string with its
+/// quotes, and `full` is true if the variable takes no more rows. Errs with `TooManyValues` if `full`, with `StringTooLong` if the string
+/// stands for more than `len` bytes (they stay appended), and with `OutOfMemory` if an allocation failed.
 #[tactic(auto, using(crate::proofs::PackedTokens::chars_len))]
 pub fn put_row(
     array: &mut ListedArray,
@@ -59,7 +62,9 @@ pub fn put_row(
     Ok(())
 }
 
-/// Adds a row of `len` bytes: a string whose bytes stand for themselves, filled up.
+/// Appends to `array` a row of `len` bytes: those of a string, filled up with `fill`. `bytes` is the string with its quotes, and each byte
+/// between the quotes stands for itself. Errs with `StringTooLong` if the string has more than `len` bytes, and with `OutOfMemory` if an
+/// allocation failed.
 pub fn put_plain_row(
     array: &mut ListedArray,
     len: u64,
@@ -79,7 +84,8 @@ pub fn put_plain_row(
     Ok(())
 }
 
-/// Adds what the string between the quotes stands for.
+/// Appends to `array` the bytes that a string stands for. `raw` is what the string has between its quotes. An escape that stands for no
+/// byte gives a 0 byte. Errs only if an allocation failed.
 fn put_string(array: &mut ListedArray, raw: &[u8]) -> Result<(), AllocError>
     ensures { OnOk result (array.new ≡ array.old ++ char_bytes (stands raw.now)) }
 {
@@ -98,7 +104,8 @@ fn put_string(array: &mut ListedArray, raw: &[u8]) -> Result<(), AllocError>
     Ok(())
 }
 
-/// Adds the bytes before the first backslash, and says how many there are.
+/// Appends to `array` the bytes before the first backslash, or all if there is none, and returns how many it appended. Errs only if an
+/// allocation failed.
 fn put_unescaped(array: &mut ListedArray, bytes: &[u8]) -> Result<usize, AllocError>
     ensures put { IfOk result (λ n. array.new ≡ array.old ++ char_bytes (take n bytes.now)) }
     ensures len { IfOk result (λ n. n ≡ prefix_len is_unescaped bytes.now) }
@@ -110,7 +117,7 @@ fn put_unescaped(array: &mut ListedArray, bytes: &[u8]) -> Result<usize, AllocEr
     Ok(n)
 }
 
-/// The bytes between a string's quotes.
+/// Returns the bytes between a string's quotes, or no bytes if there are fewer than two.
 fn inner(bytes: &[u8]) -> &[u8]
     ensures { result.now ≡ inner bytes.now }
 {

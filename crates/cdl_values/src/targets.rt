@@ -1,4 +1,4 @@
-//! What the variables take of the data section.
+//! What the variables take from the data section.
 
 ghost use Rattle.std.specs.Prelude.{◌≡◌, ◌<◌, ◌-◌, ◌*◌, [], min, map, take, length, IfOk};
 ghost use Rattle.nc_base.specs.Headers.{AreDimids};
@@ -15,11 +15,11 @@ use crate::filling::Filling;
 use nc_base::{Dim, NcType, Var, dim_len, fill_of, is_record_var};
 use std::alloc::{AllocError, Global};
 
-/// What each variable takes before a statement of the data section gives its values, in the order of the variables.
+/// Returns what each variable takes as long as no statement of the data section has given its values, in the order of the variables.
 ///
-/// A record variable takes any number of values, and any other as many as its dimensions have places (the CDL chapter of the
-/// NetCDF User's Guide, "CDL Syntax"). Characters of rank 2 and up are taken by rows, which have the length of the last
-/// dimension. Where there are more places than a `u64` counts, the greatest one stands for their number.
+/// A record variable takes any number of values (the CDL chapter of the NetCDF User's Guide, "CDL Syntax"). Any other variable takes as
+/// many as the product of its dimension lengths, or `u64::MAX` if the product is greater. Characters of rank 2 and up are taken by rows,
+/// each as long as the last dimension; the product is then without that dimension.
 ///
 /// # Errors
 ///
@@ -34,7 +34,7 @@ pub fn targets_of(alloc: Global, dims: &[Dim], vars: &[Var]) -> Result<Vec<Targe
     Ok(targets)
 }
 
-/// What a variable takes.
+/// Returns what a variable takes as long as no statement has given its values.
 fn target(dims: &[Dim], var: &Var) -> Target
     ensures { AreDimids dims.now [] var.now.dimids → Suits dims.now result (unlisted_draft var.now) }
 {
@@ -46,7 +46,8 @@ fn target(dims: &[Dim], var: &Var) -> Target
     }
 }
 
-/// How a variable is filled.
+/// Returns in which form a variable takes the values that the data section lists for it: as strings if its type is char, otherwise as
+/// numbers of its type.
 fn filling(dims: &[Dim], var: &Var) -> Filling
     ensures { AreDimids dims.now [] var.now.dimids → Fills result (capacity_of dims.now var.now) }
 {
@@ -56,7 +57,7 @@ fn filling(dims: &[Dim], var: &Var) -> Filling
     }
 }
 
-/// How a variable of characters is filled.
+/// Returns in which form a variable of characters takes its values: as joined strings at rank 0 and 1, otherwise as rows.
 fn characters(dims: &[Dim], var: &Var) -> Filling
     requires { var.now.ty ≡ Char }
     ensures { AreDimids dims.now [] var.now.dimids → Fills result (capacity_of dims.now var.now) }
@@ -71,7 +72,8 @@ fn characters(dims: &[Dim], var: &Var) -> Filling
     }
 }
 
-/// How many values, bytes or rows fit a variable that is filled so; `None` if there is no limit.
+/// Returns how many numbers, bytes or rows, as `filling` counts them, a variable takes. Returns `None` for a record variable, which has no
+/// limit.
 fn capacity(dims: &[Dim], var: &Var, filling: Filling) -> Option<u64>
     ensures { HasCapacityAsFilled dims.now var.now filling result }
 {
@@ -86,7 +88,7 @@ fn capacity(dims: &[Dim], var: &Var, filling: Filling) -> Option<u64>
     }
 }
 
-/// How many places these dimensions have, or the greatest number if there are more.
+/// Returns the product of the lengths of these dimensions, or `u64::MAX` if the product is greater.
 fn place_count(dims: &[Dim], dimids: &[u64]) -> u64
     ensures { result ≡ min (product (map (dim_len dims.now) dimids.now)) most }
 {
@@ -97,14 +99,14 @@ fn place_count(dims: &[Dim], dimids: &[u64]) -> u64
     count
 }
 
-/// The product, or the greatest number where it is more.
+/// Returns the product of `count` and `len`, or `u64::MAX` if the product is greater.
 fn capped_product(count: u64, len: u64) -> u64
     ensures { result ≡ min (count * len) most }
 {
     count.saturating_mul(len)
 }
 
-/// The length of the only dimension, or 1 if there is none.
+/// Returns the length of the first of these dimensions, or 1 if there is none.
 fn first_len(dims: &[Dim], dimids: &[u64]) -> u64
     ensures { length dimids.now < 2 → result ≡ product (map (dim_len dims.now) dimids.now) }
 {
@@ -114,7 +116,7 @@ fn first_len(dims: &[Dim], dimids: &[u64]) -> u64
     }
 }
 
-/// The dimensions but for the last one.
+/// Returns the dimensions without the last one.
 fn all_but_last(dimids: &[u64]) -> &[u64]
     ensures { result.now ≡ take (length dimids.now - 1) dimids.now }
 {

@@ -1,4 +1,5 @@
-//! Values of the data section.
+//! The values of the data section, one at a time. `filling` is the form in which the variable takes values, and `capacity` is how many more
+//! it takes, or `None` for any number.
 
 ghost use Rattle.std.specs.Prelude.{◌≡◌, None, OnOk, IfOk};
 ghost use Rattle.cdl_statements.specs.code.DueTokens.{next};
@@ -18,9 +19,10 @@ use cdl_statements::{CdlKind, Due, Lexeme};
 use cdl_tokens::{TokenKind, number_of_token};
 use nc_base::{ListedArray, Version};
 
-/// Why a pass that knows no faults stops.
+/// Why the quick pass over a statement stops. It doesn't name the fault of the statement.
 #[derive(Clone, Copy, Debug)]
 pub enum FastPathFault {
+    /// An allocation failed.
     OutOfMemory,
     /// The statement has some fault.
     Unnamed,
@@ -40,7 +42,7 @@ impl From<ReadError> for FastPathFault {
     }
 }
 
-/// Adds a token's value, if it has one, and says what capacity is left.
+/// Appends to `array` the token's value, or nothing if the token is a mark. Returns what capacity is left. Errs as [`put`] does.
 pub fn put_token(
     array: &mut ListedArray,
     version: Version,
@@ -60,7 +62,9 @@ pub fn put_token(
     }
 }
 
-/// Adds a token's value, if it has one and the token is good, and says what capacity is left and which token comes next.
+/// Appends to `array` the token's value, or nothing if the token is a mark. Returns what capacity is left, and which token is due after
+/// `token`, or `Never` if `token` isn't what `due` asks for. Errs with `Unnamed` if the token or its value has a fault, and with
+/// `OutOfMemory` if an allocation failed.
 #[inline]
 pub fn take_good(
     array: &mut ListedArray,
@@ -84,7 +88,8 @@ pub fn take_good(
     }
 }
 
-/// Adds a token's value, if the token is good and no mark, and says what capacity is left.
+/// Appends to `array` the value of a token that is no mark, and returns what capacity is left. Errs with `Unnamed` if the token or its
+/// value has a fault, and with `OutOfMemory` if an allocation failed.
 pub fn put_good_value(
     array: &mut ListedArray,
     version: Version,
@@ -111,7 +116,8 @@ pub fn put_good_value(
     }
 }
 
-/// Adds the bytes of a value that is no number, if its token is good.
+/// Appends to `array` the bytes of a value that is no number. Errs with `Unnamed` if the token is bad or the value has a fault, and with
+/// `OutOfMemory` if an allocation failed.
 #[inline(never)]
 fn put_good(
     array: &mut ListedArray,
@@ -130,7 +136,9 @@ fn put_good(
     }
 }
 
-/// Adds the bytes of a number, if its token is good.
+/// Appends to `array` the bytes of a number. `bytes` is its token. Errs with `Unnamed` if the filling isn't `Numbers`, if the capacity is
+/// 0, if the token is no number of the version, or if the number is out of the type's range. Errs with `OutOfMemory` if an allocation
+/// failed.
 #[tactic(auto, unfolding(cdl_statements::specs::code::Contents::value_of), using(crate::proofs::Ranges::number_added, crate::proofs::Ranges::good_number))]
 fn put_good_number(
     array: &mut ListedArray,
@@ -153,7 +161,8 @@ fn put_good_number(
     Ok(put_numeral(array, fill.ty, n)?)
 }
 
-/// Adds the bytes of a value.
+/// Appends to `array` the bytes of a value, in the form of the filling. Errs with `WrongKind`, `TooManyValues`, `NumberRange` or
+/// `StringTooLong` if the value has that fault, and with `OutOfMemory` if an allocation failed.
 #[tactic(auto, unfolding(cdl_statements::specs::code::Contents::value_of))]
 fn put(
     array: &mut ListedArray,
@@ -178,7 +187,9 @@ fn put(
     }
 }
 
-/// Adds the bytes of a value of a variable of numbers.
+/// Appends to `array` the bytes of a value of a variable of numbers: those of the fill value if the token is neither a string nor a number.
+/// `full` is true if the capacity is 0. Errs with `WrongKind` if the token is a string, with `TooManyValues` if `full`, with `NumberRange`
+/// if the number is out of the type's range, and with `OutOfMemory` if an allocation failed.
 #[tactic(auto, unfolding(cdl_statements::specs::code::Contents::value_of), using(crate::proofs::Ranges::held_is, cdl_meaning::proofs::InRange::has_it))]
 fn put_value(
     array: &mut ListedArray,

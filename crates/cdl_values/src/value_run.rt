@@ -1,4 +1,4 @@
-//! Runs of values of a statement. A comma follows each value.
+//! Runs of values of a statement. A comma stands before and after each value of a run.
 
 ghost use Rattle.std.specs.Prelude.{◌≡◌, ◌<◌, ℕ, false};
 ghost use Rattle.cdl_statements.specs.code.Cutters.{is_done};
@@ -15,19 +15,21 @@ use cdl_statements::{Cutter, Due, Lexeme, NumberList};
 use cdl_tokens::TokenKind;
 use nc_base::{ListedArray, NcType};
 
-/// The values of a statement that are still to be read, and what capacity is left for them.
+/// The values of a statement that are still to be read, and how many more values the variable takes.
 #[derive(Clone, Copy)]
 pub struct UnreadValues<'a> {
+    /// The cutter at the next token.
     pub cutter: Cutter<'a>,
+    /// How many more numbers, bytes or rows the variable takes, or `None` for any number.
     pub capacity: Option<u64>,
 }
 
-/// Adds the values that come next, where a comma stands before and after each, and returns those after them. Anything else is left
-/// to the caller.
+/// Appends to `array` the values that come next, as long as a comma stands before and after each, and returns what is unread after them.
+/// `due` is the token that is due at `start`. If it isn't a separator, or if no comma comes next, appends nothing and returns `start`.
 ///
 /// # Errors
 ///
-/// The statement has some fault; or an allocation failed.
+/// `Unnamed` if the statement has some fault; `OutOfMemory` if an allocation failed.
 #[inline(always)]
 pub fn take_run<'a>(
     array: &mut ListedArray,
@@ -46,7 +48,9 @@ pub fn take_run<'a>(
     }
 }
 
-/// Adds the values that come next after commas, each with another comma after it.
+/// Appends to `array` the values that come next, each with a comma before and after it, and returns what is unread after them. `_` counts
+/// as a value if `takes_fill` is true. Errs with `Unnamed` if a token between two commas is no value or the value has a fault, and with
+/// `OutOfMemory` if an allocation failed.
 #[inline(never)]
 fn take_values<'a>(
     array: &mut ListedArray,
@@ -75,7 +79,8 @@ fn take_values<'a>(
     }
 }
 
-/// Adds the plain numbers or strings that come next.
+/// Appends to `array` the plain numbers or strings that come next, and returns what is unread after them. Returns `start` if the filling is
+/// `Joined`. Errs with `Unnamed` if a value has a fault, and with `OutOfMemory` if an allocation failed.
 fn take_plain<'a>(
     array: &mut ListedArray,
     start: UnreadValues<'a>,
@@ -91,8 +96,8 @@ fn take_plain<'a>(
     }
 }
 
-/// Returns true if the value may be one of a run of plain ones: a string, or a number that neither begins with a zero nor ends with a
-/// letter.
+/// Returns true if this value is a string, a number of one byte, or a longer number that doesn't begin with `0` and ends with a digit. Then
+/// plain values may follow it. This is a guess for speed: a wrong one changes no result.
 fn may_be_plain(token: Lexeme<'_>) -> bool {
     match (token.kind, token.bytes) {
         (TokenKind::Text, _) => true,
@@ -102,7 +107,9 @@ fn may_be_plain(token: Lexeme<'_>) -> bool {
     }
 }
 
-/// Adds the plain numbers that come next.
+/// Appends to `array` the plain numbers that come next, and returns what is unread after them. Returns `start` if the capacity is 0, or if
+/// no plain number with a comma after it comes next. Errs with `Unnamed` if a number is out of the type's range, and with `OutOfMemory` if
+/// an allocation failed.
 #[inline(never)]
 fn take_numbers<'a>(
     array: &mut ListedArray,
@@ -124,7 +131,9 @@ fn take_numbers<'a>(
     Ok(rest)
 }
 
-/// Adds the plain numbers of the list that come next, by a loop over a scanner alone.
+/// Appends to `array` the plain numbers that come next, and returns what is unread after them. It stops before the first value that isn't a
+/// plain number with a comma after it, and when the capacity is used up. The scanner of the cutter in `start` stands just after the next
+/// comma. Errs with `Unnamed` if a number is out of the type's range, and with `OutOfMemory` if an allocation failed.
 #[inline(always)]
 fn take_more_numbers<'a>(
     array: &mut ListedArray,
@@ -149,7 +158,7 @@ fn take_more_numbers<'a>(
     }
 }
 
-/// The same, for numbers of this type, which is that of the filling.
+/// Appends plain numbers as [`take_more_numbers`] does. `ty` is the type of `fill`.
 #[inline(always)]
 fn take_typed<'a>(
     array: &mut ListedArray,
@@ -177,7 +186,9 @@ fn take_typed<'a>(
     Ok(after_values(list.cutter(), room - left, start.capacity))
 }
 
-/// Adds the strings without an escape that come next, as rows.
+/// Appends to `array` the plain strings that come next, each as a row of `len` bytes filled up with `fill`, and returns what is unread
+/// after them. It stops before the first value that isn't a plain string with a comma after it, and when the capacity is used up. Errs with
+/// `Unnamed` if a string has more than `len` bytes, and with `OutOfMemory` if an allocation failed.
 #[inline(never)]
 fn take_rows<'a>(
     array: &mut ListedArray,
@@ -203,7 +214,7 @@ fn take_rows<'a>(
     Ok(after_values(cutter, count, start.capacity))
 }
 
-/// What is unread after `count` values.
+/// Returns what is unread from `cutter` on, after `count` values that each take 1 of `capacity`.
 #[inline(always)]
 fn after_values<'a>(cutter: Cutter<'a>, count: u64, capacity: Option<u64>) -> UnreadValues<'a>
     ensures cutter { result.cutter ≡ cutter.entry }
@@ -215,7 +226,7 @@ fn after_values<'a>(cutter: Cutter<'a>, count: u64, capacity: Option<u64>) -> Un
     }
 }
 
-/// How many values there is capacity for, as far as that has 64 bits.
+/// Returns the capacity, or `u64::MAX` if there is no limit.
 fn room_of(capacity: Option<u64>) -> u64
     ensures { (n : ℕ) → n < result → is_full (less n capacity) ≡ false }
 {

@@ -23,7 +23,7 @@ TellsKind kind fault = (kind ≡ kinds.OutOfMemory → fault ≡ OutOfMemory) ×
 -- the answer to an error of this kind
 pub refusal_answers : {Asked Options : Type 0} (asked_for : Options → Asked) (among : Kinds) (asked : Option Asked) (kind : ErrorKind) (r : Result Options OptFault)
     → IsErrAnd r (TellsKind kind) → (kind ≡ kinds.OutOfMemory) ⊎ IsAmong kind among → AnswersBy asked_for (unless among asked) r
-refusal_answers asked_for among asked kind (Ok options) tells has = absurd tells
-refusal_answers asked_for among asked kind (Err OutOfMemory) tells has = tt
-refusal_answers asked_for among asked kind (Err Usage) tells (inl is) = let bad : Usage ≡ OutOfMemory = tells.0 is in search (rules, bad)
-refusal_answers asked_for among asked kind (Err Usage) tells (inr is) = unless_some among kind asked is
+refusal_answers asked_for among asked kind (Ok options) is_fault has = absurd is_fault
+refusal_answers asked_for among asked kind (Err OutOfMemory) is_fault has = tt
+refusal_answers asked_for among asked kind (Err Usage) is_fault (inl is) = let bad : Usage ≡ OutOfMemory = is_fault.0 is in search (rules, bad)
+refusal_answers asked_for among asked kind (Err Usage) is_fault (inr is) = unless_some among kind asked is

@@ -1,4 +1,4 @@
-//! The arguments of a command, and what its matches say of them.
+//! The options of a command, and the values that its matches have for them.
 
 ghost use Rattle.std.specs.Prelude.{◌≡◌, [], ◌∷◌, false, IfOk};
 ghost use Rattle.clap.specs.Words.{found_of, first_of, rows_of, rule_of};
@@ -8,7 +8,7 @@ use clap::{Arg, ArgAction, ArgMatches};
 use nc_base::Sequence;
 use std::alloc::{AllocError, Global};
 
-/// An option of one letter that takes no value.
+/// Returns an option that is given as `-` and the letter, and takes no value. [`is_given`] finds it by `id`.
 pub fn flag<'a>(alloc: Global, id: &'a str, letter: char) -> Arg<'a>
     ensures rule { rule_of result ≡ flag id.entry.now (letter ∷ []) }
     ensures local { result.global ≡ false }
@@ -16,7 +16,7 @@ pub fn flag<'a>(alloc: Global, id: &'a str, letter: char) -> Arg<'a>
     Arg::new(alloc, id).short(letter).action(ArgAction::SetTrue)
 }
 
-/// An option of one letter that takes a value.
+/// Returns an option that is given as `-` and the letter, with a value after it. [`value_of`] finds the value by `id`.
 pub fn option<'a>(alloc: Global, id: &'a str, letter: char) -> Arg<'a>
     ensures rule { rule_of result ≡ option id.entry.now (letter ∷ []) }
     ensures local { result.global ≡ false }
@@ -31,14 +31,14 @@ pub fn is_given(matches: &ArgMatches, id: &str) -> bool
     matches.get_one(id).unwrap_or(false)
 }
 
-/// The value of the argument with this id, if it is given.
+/// Returns the value of the option or the file argument with this id, or `None` if it isn't given.
 pub fn value_of<'a>(matches: &ArgMatches<'a>, id: &str) -> Option<&'a str>
     ensures { text_of result ≡ first_of id.now (rows_of (found_of matches.now)) }
 {
     matches.get_str(id)
 }
 
-/// The bytes of a text.
+/// Returns a copy of the bytes of a text. Errs only if an allocation failed.
 pub fn bytes_of(alloc: Global, text: &str) -> Result<Sequence<u8>, AllocError>
     ensures { IfOk result (λ bytes. bytes ≡ text.now) }
 {

@@ -14,9 +14,9 @@ use std::io;
 /// Why the command line could not be read.
 #[derive(Clone, Copy, Debug, PartialEq, Eq)]
 pub enum OptFault {
-    /// Memory was refused.
+    /// An allocation failed.
     OutOfMemory,
-    /// The words are not those that the program takes, or one of them isn't UTF-8.
+    /// The words are no command line that the program takes, or one of them isn't UTF-8.
     Usage,
 }
 

@@ -1,4 +1,5 @@
-//! What the programs' command lines have in common: the parts of a command, what its matches say, and its faults.
+//! What the command lines of `ncdump` and `ncgen` have in common: options of one letter, the values that clap's matches have for them,
+//! and the fault of a command line.
 //!
 //! This crate is internal: `ncdump`, `ncgen` and their programs alone call it.
 #![tactic(auto)]

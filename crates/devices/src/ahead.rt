@@ -5,14 +5,14 @@ ghost use Rattle.devices.specs.Sources.{AreFrom, CanCount, CantCount, ReadSome, 
 
 use crate::{Source, SourceFailed};
 
-/// How many bytes are read ahead at most: 64 KiB.
+/// The length of the longest stretch that is read ahead: 64 KiB.
 const MOST_AHEAD: usize = 65536;
 
-/// How many bytes are read ahead after a jump: 4 KiB.
+/// The length of the shortest stretch that is read ahead, as after a jump: 4 KiB.
 const LEAST_AHEAD: usize = 4096;
 
-/// A source of the bytes of another source, which it reads in stretches: a read of few bytes is one from the stretch that was
-/// read last, so that reads which lie near each other take few of the other source's.
+/// A source of the bytes of another source, which it reads in stretches. A read is answered from the stretch that was read last, if the
+/// byte at its offset is in there. So reads that lie near each other take few reads of the other source.
 ///
 /// Stretches grow as long as each begins near the end of the one before. A read that fails is not tried again.
 #[derive(Drop)]
@@ -20,10 +20,13 @@ pub struct ReadAhead<S: Source> {
     source: S,
     /// The stretch that was read last, in the first `len` bytes.
     stretch: [u8; 65536],
-    /// The offset of the stretch.
+    /// The offset of the stretch in the source.
     at: u64,
+    /// The length of the stretch, or 0 if there is none.
     len: usize,
+    /// How often a read has failed, at most `u128::MAX`.
     failures: u128,
+    /// How many bytes were handed to the caller.
     handed: u128,
     ghost within: { len ≤ 65536 },
     ghost stands: { S.is_transparent ≡ true → AreFrom at len (S.view source).bytes stretch },
@@ -32,7 +35,7 @@ pub struct ReadAhead<S: Source> {
 impl<S: Source> ReadAhead<S> {
     ghost use Rattle.devices.specs.code.Ahead.{Answers, ReadsAhead, SameCounts, SourceFails, bytes_of, taken, view_of};
 
-    /// A source of the bytes of this one. It has read none of them yet.
+    /// Creates a source of the bytes of `source`. It has read none of them yet.
     pub fn new(source: S) -> ReadAhead<S>
         ensures { view_of result ≡ unread (S.view source).bytes }
     {
@@ -46,8 +49,8 @@ impl<S: Source> ReadAhead<S> {
         }
     }
 
-    /// Copies the bytes from the offset `at` on to the start of `into`, as many as there are and fit, and gives their
-    /// number: 0 where the byte at this offset wasn't read ahead.
+    /// Copies bytes of the stretch, from the offset `at` of the source on, to the start of `into`: as many as the stretch has and as fit.
+    /// Returns how many, or 0 if the byte at this offset isn't in the stretch.
     fn copy(&self, at: u64, into: &mut [u8]) -> usize
         ensures within { result ≤ length into.old }
         ensures held { result ≤ self.now.len }
@@ -63,7 +66,8 @@ impl<S: Source> ReadAhead<S> {
         n
     }
 
-    /// How many bytes to read ahead from the offset `at` on: twice as many as before, where that is near the end of the stretch.
+    /// Returns how many bytes to read ahead from the offset `at` on. If `at` isn't before the stretch, and lies less than twice the
+    /// stretch's length after its start, the result is twice that length, but at least 4 KiB and at most 64 KiB. Otherwise it is 4 KiB.
     fn next_len(&self, at: u64) -> usize
         ensures some { 0 < result }
         ensures within { result ≤ 65536 }
@@ -76,7 +80,7 @@ impl<S: Source> ReadAhead<S> {
         }
     }
 
-    /// Reads a stretch from the offset `at` on, in place of the one before. Where the source fails, there is none.
+    /// Reads a stretch from the offset `at` on, in place of the one before. If the source fails, it errs, and there is no stretch any more.
     fn refill(&mut self, at: u64) -> Result<(), SourceFailed>
         requires { at < length (bytes_of self.old) }
         ensures bytes { bytes_of self.new ≡ bytes_of self.old }
@@ -93,8 +97,9 @@ impl<S: Source> ReadAhead<S> {
         Ok(())
     }
 
-    /// Reads bytes that weren't read ahead from the offset `at` on, and gives their number. In place of a few bytes a stretch
-    /// is read, and the first of them copied.
+    /// Reads bytes that aren't in the stretch, from the offset `at` on, to the start of `into`, and returns how many. If `into` has fewer
+    /// than 64 KiB, it reads a new stretch, and copies the first bytes of it. Otherwise it reads directly into `into`. Errs if the source
+    /// fails.
     fn read_some(&mut self, at: u64, into: &mut [u8]) -> Result<usize, SourceFailed>
         requires room { 0 < length into.old }
         requires inside { at < length (bytes_of self.old) }
@@ -111,7 +116,8 @@ impl<S: Source> ReadAhead<S> {
         Ok(self.copy(at, into))
     }
 
-    /// Reads bytes that weren't read ahead, and counts.
+    /// Reads bytes that aren't in the stretch, as [`read_some`](ReadAhead::read_some) does, and adds their number to `handed`. If the
+    /// source fails, it errs, and adds 1 to `failures`.
     #[inline(never)]
     #[tactic(auto, unfolding(crate::specs::Failures::HasFailed))]
     fn read_on(&mut self, at: u64, into: &mut [u8]) -> Result<usize, SourceFailed>
@@ -134,7 +140,7 @@ impl<S: Source> ReadAhead<S> {
         }
     }
 
-    /// How often it has failed.
+    /// Returns how often it has failed.
     pub(crate) fn failures(&self) -> u128
         ensures { result ≡ self.now.failures }
     {
@@ -142,7 +148,7 @@ impl<S: Source> ReadAhead<S> {
     }
 }
 
-/// Copies all bytes of a slice over another one.
+/// Copies all bytes of `from` over those of `into`, which has the same length.
 // Most values have four bytes, and values of interleaved variables are read one by one: these bytes are moved by one load and one
 // store, and without a call.
 #[inline(always)]
@@ -157,7 +163,7 @@ fn copy_bytes(into: &mut [u8], from: &[u8])
     }
 }
 
-/// Copies four bytes over four others.
+/// Copies the four bytes of `from` over the four of `into`.
 #[inline(always)]
 fn copy_four(into: &mut [u8], from: &[u8])
     requires into { length into.old ≡ 4 }
@@ -171,7 +177,7 @@ fn copy_four(into: &mut [u8], from: &[u8])
     into[3] = d;
 }
 
-/// Copies any number of bytes over as many others.
+/// Copies all bytes of `from` over those of `into`, which has the same length, by one call.
 // Inside of a caller's loop, the test for slices that overlap would be prepared anew for each read.
 #[inline(never)]
 fn copy_many(into: &mut [u8], from: &[u8])
@@ -181,7 +187,8 @@ fn copy_many(into: &mut [u8], from: &[u8])
     into.copy_from_slice(from);
 }
 
-/// Reads into the first bytes of the slice, as many as are wanted at most.
+/// Reads at most `wanted` bytes of the source `from`, from the offset `at` on, to the start of `to`, and returns how many. Errs if the
+/// source fails.
 fn read_first<S: Source>(
     from: &mut S,
     at: u64,

@@ -12,7 +12,7 @@ pub struct SinkFailed;
 #[derive(Clone, Copy, Debug, PartialEq, Eq)]
 pub struct WriteFailed;
 
-/// A file could not be opened as a source.
+/// A path could not be opened, as a source or as a text.
 #[derive(Clone, Copy, Debug, PartialEq, Eq)]
 pub struct OpenFailed;
 
@@ -20,7 +20,7 @@ pub struct OpenFailed;
 #[derive(Clone, Copy, Debug, PartialEq, Eq)]
 pub struct CreateFailed;
 
-/// What was written to an output could not all be handed on.
+/// An output could not be closed, since not all that was written to it could be handed on.
 #[derive(Clone, Copy, Debug, PartialEq, Eq)]
 pub struct CloseFailed;
 

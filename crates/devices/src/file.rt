@@ -13,8 +13,8 @@ use std::{fs, io};
 
 /// A source over a file of the system, which is opaque.
 ///
-/// Its length is the file's at the time when it was opened. It reads stretches of the file ahead, so that reads which lie
-/// near each other take few calls of the system. A call that fails is not tried again.
+/// The length of the source is that of the file when it was opened. It reads stretches of the file ahead, so that reads which lie near each
+/// other take few calls of the system. A call that fails is not tried again.
 pub type FileSource = ReadAhead<OpenFile>;
 
 impl ReadAhead<OpenFile> {
@@ -22,7 +22,7 @@ impl ReadAhead<OpenFile> {
     ///
     /// # Errors
     ///
-    /// The path names nothing, nothing that may be read, or something other than a regular file.
+    /// The path names no regular file, the file can't be opened for reading, or the system doesn't tell its kind or its length.
     pub fn open(rt: &impl Files<File = File>, path: &str) -> Result<FileSource, OpenFailed>
         ensures failures { IfOk result (λ source. source.failures ≡ 0) }
         ensures handed { IfOk result (λ source. source.handed ≡ 0) }
@@ -44,12 +44,14 @@ impl ReadAhead<OpenFile> {
     }
 }
 
-/// A file of the system that was opened, with its length at that time. Each read is a call of the system.
+/// An open file of the system, with its length at the time when it was opened. Each read is one call of the system.
 #[derive(Drop)]
 pub struct OpenFile {
     file: File,
     len: u64,
+    /// How often a read has failed, at most `u128::MAX`.
     failures: u128,
+    /// How many bytes were read.
     handed: u128,
 }
 
@@ -81,12 +83,13 @@ impl Source for OpenFile {
     }
 }
 
-/// A sink over a writer, which is transparent where the writer is.
+/// A sink over a writer. It is transparent if the writer is.
 ///
-/// An error of the writer, of any kind, is a failure of the sink, and so is a write that takes no byte.
+/// An error of the writer, of any kind, is a failure of the sink. So is a write of at least one byte that takes none.
 #[derive(Drop)]
 pub struct IoSink<W: Write> {
     writer: W,
+    /// True if the last flush succeeded, and no write of bytes was tried after it.
     is_flushed: bool,
     failures: u128,
 }
@@ -94,7 +97,7 @@ pub struct IoSink<W: Write> {
 impl<W: Write> IoSink<W> {
     ghost use Rattle.devices.specs.code.IoSinks.{view_of};
 
-    /// A sink over the writer, which counts what the writer holds already as taken.
+    /// Creates a sink over the writer. What the writer holds already counts as taken by the sink.
     pub fn new(writer: W) -> IoSink<W>
         ensures { view_of W.contents result ≡ unfailed (W.contents writer) }
     {
@@ -105,14 +108,14 @@ impl<W: Write> IoSink<W> {
         }
     }
 
-    /// How often it has failed.
+    /// Returns how often it has failed.
     pub(crate) fn failures(&self) -> u128
         ensures { result ≡ (view_of W.contents self.now).failures }
     {
         self.failures
     }
 
-    /// The writer.
+    /// Returns the writer, without a flush.
     pub fn into_inner(self) -> W
         ensures { W.contents result ≡ (view_of W.contents self).taken }
     {
@@ -150,7 +153,8 @@ impl<W: Write> Flush for IoSink<W> {
     }
 }
 
-/// What a writer's answer is to a sink. An error is counted.
+/// Turns the result of a writer's call into the result of a sink's call. A value stays as it is. An error becomes `SinkFailed`, and adds 1
+/// to `failures`, which stops at `u128::MAX`.
 fn counted<T>(answer: io::Result<T>, failures: &mut u128) -> Result<T, SinkFailed>
     ensures ok { IfOk answer (λ value. (result ≡ Ok value) × (failures.new ≡ failures.old)) }
     ensures err { IsErr answer → IsErr result × (failures.new ≡ min (failures.old + 1) (2 ^ 128 - 1)) }

@@ -10,7 +10,7 @@ use std::alloc::Global;
 
 /// A transparent source of the bytes of a slice.
 ///
-/// It fails only where a count would reach 2^128.
+/// It fails only if a count would reach 2^128.
 #[derive(Drop)]
 pub struct MemSource<'a> {
     bytes: &'a [u8],
@@ -21,7 +21,7 @@ pub struct MemSource<'a> {
 impl<'a> MemSource<'a> {
     ghost use Rattle.devices.specs.code.Memory.{view_of};
 
-    /// A source of these bytes, which has read none of them.
+    /// Creates a source of these bytes. None of them has been read.
     pub fn new(bytes: &'a [u8]) -> MemSource<'a>
         ensures { view_of result ≡ unread bytes.now }
     {
@@ -32,7 +32,7 @@ impl<'a> MemSource<'a> {
         }
     }
 
-    /// How often it has failed.
+    /// Returns how often it has failed.
     pub(crate) fn failures(&self) -> u128
         ensures { result ≡ (view_of self.now).failures }
     {
@@ -70,7 +70,7 @@ impl Source for MemSource<'_> {
     }
 }
 
-/// The number of the bytes. The contract also says that each is below 256.
+/// Returns the number of the bytes. The contract also states that each byte is below 256.
 pub(crate) fn length_of(bytes: &[u8]) -> u64
     ensures length { result ≡ length bytes.now }
     ensures bytes { AreBytes bytes.now }
@@ -80,7 +80,7 @@ pub(crate) fn length_of(bytes: &[u8]) -> u64
 
 /// A transparent sink that keeps all of its bytes in memory.
 ///
-/// It fails where no memory is left to keep more.
+/// It fails only if an allocation fails.
 #[derive(Drop)]
 pub struct MemSink {
     bytes: Vec<u8>,
@@ -90,7 +90,7 @@ pub struct MemSink {
 impl MemSink {
     ghost use Rattle.devices.specs.code.Memory.{sink_view_of};
 
-    /// An empty sink, which takes its memory from `alloc` as it grows.
+    /// Creates an empty sink. It allocates from `alloc` only if it takes bytes.
     pub fn new(alloc: Global) -> MemSink
         ensures { sink_view_of result ≡ unfailed (Some []) }
     {
@@ -100,14 +100,14 @@ impl MemSink {
         }
     }
 
-    /// All the bytes that it took.
+    /// Returns all the bytes that it took.
     pub fn as_slice(&self) -> &[u8]
         ensures { (sink_view_of self.now).taken ≡ Some result.now }
     {
         self.bytes.as_slice()
     }
 
-    /// How often it has failed.
+    /// Returns how often it has failed.
     pub(crate) fn failures(&self) -> u128
         ensures { result ≡ (sink_view_of self.now).failures }
     {

@@ -7,10 +7,10 @@ use crate::{OpenFailed, Source};
 
 /// What opens paths as sources.
 ///
-/// Contracts see how often it was to open a path, and how often the sources have failed that it has back. Where its sources are
-/// transparent, they also know which bytes a path names, and which paths can't be opened.
+/// Contracts see how often the opener was asked to open a path, and how many failures all the sources had that it has taken back. If its
+/// sources are transparent, contracts also know which bytes a path names, and which paths can't be opened.
 pub trait Opener {
-    /// A source that a path is opened as.
+    /// The type of source that a path is opened as.
     type Source: Source + Drop;
 
     // The bytes that a path names, if it can be opened, where the sources are transparent.
@@ -19,7 +19,7 @@ pub trait Opener {
     // The opener as contracts see it.
     ghost view: { Self → OpenerView };
 
-    /// Opens the path.
+    /// Opens the path as a source that has read nothing yet.
     ///
     /// # Errors
     ///
@@ -30,7 +30,7 @@ pub trait Opener {
         ensures handed { IfOk result (λ source. (Self.Source.view source).handed ≡ 0) }
         ensures path { Opens Self.Source.is_transparent Self.Source.view (named self.old path.now) result };
 
-    /// Takes back a source that it opened.
+    /// Takes back a source that it opened, adds the source's failures to its own, and drops the source.
     fn close(&mut self, source: Self::Source)
         ensures { HasBack (view self.old) (view self.new) (Self.Source.view source).failures };
 }

@@ -10,7 +10,7 @@ use std::io;
 use std::io::{BufWriter, ErrorKind, Write};
 use std::rt::Files;
 
-/// The capacity of the buffer before a file, in bytes.
+/// The capacity of the buffer that each output is written through, in bytes.
 const HELD_BACK: usize = 65536;
 
 /// Outputs in the files of the system, which are opaque. Each is written through one buffer.
@@ -18,12 +18,15 @@ const HELD_BACK: usize = 65536;
 pub struct SystemOutputs<'a, R: Files<File = File>> {
     rt: &'a R,
     alloc: Global,
+    /// How many outputs were created.
     creations: u128,
+    /// The failures of `create`, of `close`, and of the outputs that were closed, at most `u128::MAX` together.
     failures: u128,
 }
 
 impl<'a, R: Files<File = File>> SystemOutputs<'a, R> {
-    /// The files of the system that the runtime stands for, with buffers from `alloc`.
+    /// Creates `SystemOutputs` for the files of the system that `rt` stands for. It takes the buffers of its outputs from `alloc`. It has
+    /// created no output yet.
     pub fn new(rt: &'a R, alloc: Global) -> SystemOutputs<'a, R>
         ensures { ⟦<SystemOutputs<'static, R> as Creator>⟧.view result ≡ uncreated }
     {
@@ -35,7 +38,8 @@ impl<'a, R: Files<File = File>> SystemOutputs<'a, R> {
         }
     }
 
-    /// Creates or empties the file at the path. Where its buffer is refused, nothing is touched.
+    /// Creates the file at the path, or empties it, and returns a sink that writes to it through a buffer. Errs if the file can't be
+    /// created. Errs before it touches the file if the buffer can't be allocated.
     fn create_file(&self, path: &str) -> io::Result<IoSink<BufWriter<OutputFile<File>>>>
         ensures { IfOk result (λ sink. sink.failures ≡ 0) }
     {
@@ -82,9 +86,11 @@ impl<R: Files<File = File>> Creator for SystemOutputs<'_, R> {
     }
 }
 
-/// A writer to a file, once it is created. It loses no byte of what the writer takes.
+/// A writer over a file that is set once the file has been created. Before that each write fails, and a flush does nothing. After that it
+/// takes what the file's own writer takes.
 #[derive(Drop)]
 pub struct OutputFile<W: Write> {
+    /// The file's writer, or `None` before the file is created.
     file: Option<W>,
 }
 

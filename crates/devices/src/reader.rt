@@ -8,19 +8,21 @@ use std::io::Read;
 
 /// A reader that counts its reads, the bytes that it has handed over, and its failures.
 ///
-/// An error of the reader, of any kind, is a failure. A read that fails is not tried again. Once a read with room gave none, the
-/// reader is at its end, and is not read again: a terminal would wait for more.
+/// An error of the reader, of any kind, is a failure. A read that fails is not tried again. If a read with room for bytes gives none, the
+/// reader is at its end. It isn't read again after that, since a terminal would wait for more.
 #[derive(Drop)]
 pub struct CountedRead<R: Read> {
     reader: R,
     failures: u128,
     reads: u128,
+    /// How many bytes were handed to the caller.
     handed: u128,
+    /// True if a read with room for bytes gave none.
     is_ended: bool,
 }
 
 impl<R: Read> CountedRead<R> {
-    /// A reader of the bytes that are still to come of this one.
+    /// Creates a reader of the bytes that are still to come of `reader`. It has read none of them yet.
     pub fn new(reader: R) -> CountedRead<R>
         ensures { view_of R.remaining result ≡ unread (R.remaining reader) }
     {
@@ -33,13 +35,13 @@ impl<R: Read> CountedRead<R> {
         }
     }
 
-    /// Reads the next bytes to the start of `into`, and gives their number.
+    /// Reads the next bytes to the start of `into`, and returns how many.
     ///
-    /// It is 0 at the end, and where `into` is empty.
+    /// Returns 0 at the end, and if `into` is empty.
     ///
     /// # Errors
     ///
-    /// The reader failed, or a count would reach 2^128. No byte is handed over, and `into` may hold anything.
+    /// The reader failed, or a count could reach 2^128. No byte is handed over, and `into` may hold anything.
     #[tactic(auto, unfolding(crate::specs::Failures::HasFailed))]
     pub fn read_some(&mut self, into: &mut [u8]) -> Result<usize, SourceFailed>
         ensures read { ReadsNext R.remaining self.old self.new into.old into.new result }
@@ -67,7 +69,7 @@ impl<R: Read> CountedRead<R> {
         }
     }
 
-    /// How often it has failed.
+    /// Returns how often it has failed.
     pub fn failures(&self) -> u128
         ensures { result ≡ (view_of R.remaining self.now).failures }
     {

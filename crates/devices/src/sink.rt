@@ -7,15 +7,14 @@ use crate::{SinkFailed, WriteFailed};
 
 /// A device that takes bytes, one after another.
 ///
-/// Contracts see a sink as the bytes that it took, where it is transparent, and the number of its failures,
-/// which stops below 2^128.
+/// Contracts see a sink as the bytes that it took, if it is transparent, and the number of its failures, which stays below 2^128.
 pub trait Sink {
     // The sink as contracts see it.
     ghost view: { Self → SinkView };
 
-    /// Takes bytes from the start of `bytes`, and gives their number.
+    /// Takes bytes from the start of `bytes`, and returns how many.
     ///
-    /// It is at least 1, unless `bytes` is empty.
+    /// The sink takes at least one byte, unless `bytes` is empty.
     ///
     /// # Errors
     ///
@@ -39,7 +38,7 @@ pub trait Flush: Sink {
         ensures flushed { IfOk result (λ _. is_flushed self.new ≡ true) };
 }
 
-/// Writes all of the bytes to the sink, by as many calls as it takes.
+/// Writes all of the bytes to the sink, in as many calls of `write_some` as it takes.
 ///
 /// # Errors
 ///

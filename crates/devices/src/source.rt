@@ -9,10 +9,11 @@ use crate::SourceFailed;
 
 /// A device that bytes are read from, each read at an offset of its own.
 ///
-/// Contracts see a source as its bytes, the number of its failures and the number of bytes that were
-/// read from it. A transparent source is one whose bytes a contract can name, as memory; of an opaque one,
-/// as a file of the system, contracts know the number of bytes alone. Both counts stop below 2^128: a read
-/// that would pass that is a failure, and changes nothing.
+/// Contracts see a source as its bytes, the number of its failures and the number of bytes that were read from it. A transparent source is
+/// one whose bytes a contract can name, such as memory. Of an opaque one, such as a file of the system, contracts know only the number of
+/// bytes.
+///
+/// The number of failures stops at 2^128 - 1. A read that could bring the number of bytes to 2^128 is a failure, and reads nothing.
 pub trait Source {
     // The source is transparent.
     ghost is_transparent: { Bool };
@@ -20,15 +21,15 @@ pub trait Source {
     // The source as contracts see it.
     ghost view: { Self → SourceView };
 
-    /// The number of its bytes, which never changes.
+    /// Returns the number of the source's bytes, which never changes.
     fn len(&self) -> u64
         ensures length { result ≡ length (view self.now).bytes }
         ensures bytes { OnTrue is_transparent (AreBytes (view self.now).bytes) };
 
-    /// Reads bytes from the offset `at` on, which is before its end, to the start of `into`, which has room, and gives
-    /// their number.
+    /// Reads bytes from the offset `at` on to the start of `into`, and returns how many. `at` is before the source's end, and `into` isn't
+    /// empty.
     ///
-    /// It may be fewer than `into` has room for. A source that is transparent gives at least one.
+    /// It may read fewer bytes than `into` has room for. A transparent source reads at least one.
     ///
     /// # Errors
     ///

@@ -13,12 +13,14 @@ use std::rt::Files;
 #[derive(Drop)]
 pub struct SystemFiles<'a, R: Files<File = File>> {
     rt: &'a R,
+    /// How often it was asked to open a path, at most `u128::MAX`.
     opens: u128,
+    /// How many failures the sources and texts had that were taken back, at most `u128::MAX`.
     failures: u128,
 }
 
 impl<'a, R: Files<File = File>> SystemFiles<'a, R> {
-    /// The files of the system that the runtime stands for. None of them has been opened.
+    /// Creates `SystemFiles` for the files of the system that `rt` stands for. None of them has been opened.
     pub fn new(rt: &'a R) -> SystemFiles<'a, R>
         ensures { view_of result ≡ unopened }
     {
@@ -29,7 +31,8 @@ impl<'a, R: Files<File = File>> SystemFiles<'a, R> {
         }
     }
 
-    /// Opens the file at the path, unless it is a folder, which would be opened, and only fail to be read.
+    /// Opens the file at the path. Errs if it can't be opened, if the system doesn't tell its kind, or if it is a directory: the system
+    /// opens a directory, but fails to read from it.
     fn open_file(&self, path: &str) -> Result<File, OpenFailed> {
         let file = File::open(self.rt, path).map_err(|_| OpenFailed)?;
         let metadata = file.metadata().map_err(|_| OpenFailed)?;

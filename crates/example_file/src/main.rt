@@ -54,6 +54,7 @@ impl From<io::Error> for Failure {
     }
 }
 
+/// Makes the file in memory, and prints its length and its bytes, four on a line.
 fn main(rt: HostRuntime) -> Result<(), Failure> {
     let mut file = MemSink::new(rt.alloc());
     write_file(rt.alloc(), &mut file)?;
@@ -67,7 +68,7 @@ fn main(rt: HostRuntime) -> Result<(), Failure> {
     Ok(())
 }
 
-/// Writes the file to the sink.
+/// Writes the file to the sink. Errs if an allocation or the sink fails, or if a begin doesn't fit its field.
 fn write_file<W: Sink>(alloc: Global, sink: &mut W) -> Result<(), Failure> {
     let header = with_begins(int_header(alloc)?)?;
     let slabs = record_slabs(alloc, &header)?;
@@ -77,7 +78,8 @@ fn write_file<W: Sink>(alloc: Global, sink: &mut W) -> Result<(), Failure> {
     Ok(())
 }
 
-/// The header of a file with `int v(x)`, x = 3, whose begin isn't known yet.
+/// Returns the header of a file with `int v(x)`, x = 3. The begin of `v` is 0 until `with_begins` sets it. Errs only if an allocation
+/// failed.
 fn int_header(alloc: Global) -> Result<Header, AllocError>
     ensures { IfOk result (λ header. header ≡ int_header) }
 {
@@ -101,7 +103,7 @@ fn int_header(alloc: Global) -> Result<Header, AllocError>
     })
 }
 
-/// A sequence of one item.
+/// Returns a sequence of one item. Errs only if an allocation failed.
 fn one<T: Drop>(alloc: Global, item: T) -> Result<Sequence<T>, AllocError>
     ensures { IfOk result (λ items. items ≡ item ∷ []) }
 {
@@ -110,7 +112,7 @@ fn one<T: Drop>(alloc: Global, item: T) -> Result<Sequence<T>, AllocError>
     Ok(items)
 }
 
-/// The values as the file has them: big-endian, and one after the other.
+/// Returns the values as the file has them: big-endian, and one after the other. Errs only if an allocation failed.
 fn listed(alloc: Global, values: &[i32]) -> Result<ListedArray, AllocError>
     ensures { IfOk result (λ bytes. length bytes ≡ length values.now * 4) }
 {

@@ -1,7 +1,7 @@
 //! The program `example_values [file]`: prints the values of the first int variable of a netCDF file, each on a line.
 //!
 //! It shows how a file is read: open a source, read the header, and walk over the values of a variable in chunks that are lent out of one
-//! buffer. Without a path it reads the file that stands below.
+//! buffer. Without a path it reads the bytes in `FILE`.
 #![tactic(auto)]
 
 ghost use Rattle.std.specs.Prelude.{◌<◌, IfSome, length};
@@ -14,7 +14,7 @@ use std::alloc::Global;
 use std::io::{BufWriter, Write};
 use std::{env, io};
 
-/// `int v(x)`, x = 3, with the values 100, 200 and 300.
+/// The bytes of a netCDF file with `int v(x)`, x = 3, which has the values 100, 200 and 300.
 const FILE: &[u8] = &[
     b'C', b'D', b'F', 1, // CDF-1
     0, 0, 0, 0, // no records
@@ -37,7 +37,7 @@ const FILE: &[u8] = &[
 /// Why the values were not printed.
 #[derive(Debug, Drop)]
 enum Failure {
-    /// The words of the command line can't be read, standard output fails, or no memory is left for them.
+    /// The words of the command line can't be read, standard output fails, or no memory is left for either.
     Io(io::Error),
     /// The path can't be opened.
     Open(OpenFailed),
@@ -55,6 +55,7 @@ impl From<io::Error> for Failure {
     }
 }
 
+/// Prints the values of the first int variable of the file at the path on the command line, or of `FILE` if there is no path.
 fn main(rt: HostRuntime) -> Result<(), Failure> {
     let alloc = rt.alloc();
     let mut out = BufWriter::new(alloc, io::writer(&rt))?;
@@ -69,7 +70,8 @@ fn main(rt: HostRuntime) -> Result<(), Failure> {
     Ok(())
 }
 
-/// Writes the values of the first int variable of the file that the source has, each on a line.
+/// Writes the values of the first int variable of the file that the source has, each on a line. Errs if the header or a value can't be
+/// read, if there is no int variable, or if the writer fails.
 fn print_values<S: Source, W: Write>(
     alloc: Global,
     source: &mut S,
@@ -86,7 +88,7 @@ fn print_values<S: Source, W: Write>(
     Ok(())
 }
 
-/// Writes int values that are side by side, as a file has them.
+/// Writes the int values of a chunk, which are big-endian and one after the other, each on a line. Errs if the writer fails.
 fn print_chunk<W: Write>(chunk: &[u8], out: &mut W) -> io::Result<()> {
     for value in chunk.chunks_exact(4) {
         writeln!(out, "{}", number_of(NcType::Int, value))?;
@@ -94,7 +96,7 @@ fn print_chunk<W: Write>(chunk: &[u8], out: &mut W) -> io::Result<()> {
     Ok(())
 }
 
-/// The index of the first variable of the type int.
+/// Returns the index of the first variable of the type int, or `None` if there is none.
 fn first_int_variable(header: &Header) -> Option<usize>
     ensures { IfSome result (λ v. v < length header.now.vars) }
 {

@@ -130,7 +130,7 @@ all-placed d n are known =
     let file = head ++ (prefix ++ back) in
     let data_stands : IsAt (prefix ++ back) (length head + 0) file = stands-after head (prefix ++ back) 0 (prefix ++ back)
     (subst (IsAt (prefix ++ back) 0) (append-nil (prefix ++ back)) (stands-here (prefix ++ back) [])) in
-    let front_len = length-blocks dims n h.vars d.arrays are in
+    let blocks_len = length-blocks dims n h.vars d.arrays are in
     record {
       fixed = stands-at prefix file (length head + 0) (length (header_spelling h) + 0) (omega (arith, head_len)) (stands-first prefix back file (length head + 0) data_stands);
       growing = λ r lt.
@@ -138,7 +138,7 @@ all-placed d n are known =
           subst (λ (m : ℕ). IsAt (f (0 + r)) (r * stride) (flat_map f (range_with_len 0 m))) (sym known)
           (stands-row f stride 0 n r (λ i low high. length-record is_sole dims n i h.vars d.arrays (omega arith) are ∙ stride_is) lt) in
           let same : 0 + r ≡ r = omega arith in
-          stands-at (f r) file (length head + 0 + length prefix + r * stride) (length (header_spelling h) + (fixed_total dims h.vars + (0 + r * stride))) (omega (arith, head_len, front_len))
+          stands-at (f r) file (length head + 0 + length prefix + r * stride) (length (header_spelling h) + (fixed_total dims h.vars + (0 + r * stride))) (omega (arith, head_len, blocks_len))
           (stands-in (f r) back file (r * stride) (length head + 0 + length prefix)
           (subst (λ (i : ℕ). IsAt (f i) (r * stride) back) same rows) (stands-second prefix back file (length head + 0) data_stands));
     }

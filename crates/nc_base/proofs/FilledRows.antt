@@ -60,20 +60,20 @@ ends_end len last start [] end are after within = (omega (arith, are, after), om
 ends_end len last start (next ∷ ends) end are after within = (are.0, are.1, ends_end len last next ends end are.2 after within)
 
 -- rows of this length and fill byte are also rows of another length and fill byte: they end and are filled up alike
-pub record AreToldAs (len fill len' fill' last : ℕ) (ends : List ℕ) : Type 0 where
-  pub told : AreRowEnds len' 0 ends last
+pub record AreSameEnds (len fill len' fill' last : ℕ) (ends : List ℕ) : Type 0 where
+  pub ends_are : AreRowEnds len' 0 ends last
   pub same : (bytes : List ℕ) → filled_rows len fill 0 ends bytes ≡ filled_rows len' fill' 0 ends bytes
 
-pub no-rows : (len fill len' fill' last : ℕ) (ends : List ℕ) → ends ≡ [] → AreRowEnds len 0 ends last → AreToldAs len fill len' fill' last ends
+pub no-rows : (len fill len' fill' last : ℕ) (ends : List ℕ) → ends ≡ [] → AreRowEnds len 0 ends last → AreSameEnds len fill len' fill' last ends
 unfolding filled_rows
-no-rows len fill len' fill' last [] none are = record { told = are; same = λ bytes. refl }
+no-rows len fill len' fill' last [] none are = record { ends_are = are; same = λ bytes. refl }
 no-rows len fill len' fill' last (end ∷ ends) none are =
     let some : length (end ∷ ends) ≡ 0 = ap length none in
     absurd (omega (arith, some))
 
-pub like-rows : (len fill len' fill' last : ℕ) (ends : List ℕ) → len ≡ len' → fill ≡ fill' → AreRowEnds len 0 ends last → AreToldAs len fill len' fill' last ends
+pub like-rows : (len fill len' fill' last : ℕ) (ends : List ℕ) → len ≡ len' → fill ≡ fill' → AreRowEnds len 0 ends last → AreSameEnds len fill len' fill' last ends
 like-rows len fill len' fill' last ends long with are =
-    record { told = subst (λ (k : ℕ). AreRowEnds k 0 ends last) long are; same = λ bytes. ap (λ (k : ℕ). filled_rows k fill 0 ends bytes) long ∙ ap (λ (k : ℕ). filled_rows len' k 0 ends bytes) with }
+    record { ends_are = subst (λ (k : ℕ). AreRowEnds k 0 ends last) long are; same = λ bytes. ap (λ (k : ℕ). filled_rows k fill 0 ends bytes) long ∙ ap (λ (k : ℕ). filled_rows len' k 0 ends bytes) with }
 
 -- ---- where rows stand
 
@@ -286,9 +286,9 @@ row-of len last at n ends are all inside =
     record { column = mod-lt at some; of = omega (arith, of, all); is = row_is len last 0 ends (at / len) 0 are (omega (arith, of, all)) }
 
 -- the same, with each part replaced by an equal one
-pub stands-told : (filled filled' : List ℕ) (at at' : ℕ) (bytes bytes' : List ℕ) (count count' fill fill' : ℕ)
+pub stands-from : (filled filled' : List ℕ) (at at' : ℕ) (bytes bytes' : List ℕ) (count count' fill fill' : ℕ)
     → filled ≡ filled' → at ≡ at' → bytes ≡ bytes' → count ≡ count' → fill ≡ fill' → StandAt filled at bytes count fill → StandAt filled' at' bytes' count' fill'
-stands-told filled filled' at at' bytes bytes' count count' fill fill' same place run padding with is =
+stands-from filled filled' at at' bytes bytes' count count' fill fill' same place run padding with is =
     subst (λ (f : List ℕ). StandAt f at' bytes' count' fill') same
     (subst (λ (k : ℕ). StandAt filled k bytes' count' fill') place
     (subst (λ (b : List ℕ). StandAt filled at b count' fill') run

@@ -1,4 +1,4 @@
--- The names that most proofs of this crate cite, passed on from one place.
+-- The names that proofs of this crate cite from elsewhere, passed on from one place.
 pub use Rattle.nc_base.specs.Bytes.{AreBytes, padding_len}
 unfoldable pub use Rattle.nc_base.specs.Bytes.{concat_parts}
 pub use Rattle.nc_base.specs.Dump.{Content, Ending, IsDump, IsFirstUnknown, IsFirstUnknownOf, IsText, KnowsChosen, Options, Section, content_in, content_of, contents, dump_text, has_values, has_variable, is_selected, selection_of, shown, shown_values, stopped, unknown, values_before, values_of}

@@ -20,10 +20,15 @@ use Rattle.nc_base.specs.ValueText.{Look, look_of, variable_prefix, variable_tex
 
 -- what to show of a dataset, and under which name
 pub record Options : Type 0 where
+  -- the name of the dataset
   pub name : List ℕ
+  -- `-h`: the header alone
   pub head_only : Bool
+  -- `-c`: the values of coordinate variables alone
   pub coords : Bool
+  -- `-v`: the names of the variables whose values are shown, if any are chosen
   pub chosen : Option (List (List ℕ))
+  -- `-l`: the width of the lines of values
   pub width : ℕ
 
 -- how a dump ends: with the whole text, or with a fault
@@ -57,7 +62,7 @@ abbrev pub KnowsChosen : Header → Option (List (List ℕ)) → Type 0
 KnowsChosen h None = Unit {0}
 KnowsChosen h (Some names) = IsTrue (list_all (has_variable h.vars) names)
 
--- some chosen name is that of no variable, this one first
+-- the place of the first chosen name that no variable has; if no names are chosen, there is none
 abbrev pub IsFirstUnknownOf : Header → Option (List (List ℕ)) → ℕ → Type 0
 IsFirstUnknownOf h None index = ⊥
 IsFirstUnknownOf h (Some names) index = IsFirstUnknown h.vars names index
@@ -80,7 +85,7 @@ selection_of h o = map (is_selected h o) h.vars
 abbrev pub has_values : List Dim → ℕ → Var → Bool
 has_values dims n var = nat_lt 0 (value_count dims var n)
 
--- ---- the data section
+-- ---- the data section (here v is a variable's place in the header, from 0, and n is the number of records)
 
 -- a text, and how it ends
 pub record Section : Type 0 where
@@ -96,7 +101,7 @@ pub record Content : Type 0 where
   pub values : List ℤ
   pub missing : Option ℕ
 
--- what a file with these bytes has of a variable over n records
+-- what a file with these bytes has of a variable over n records, whatever its place
 abbrev pub content_in : Header → List ℕ → ℕ → ℕ → Var → Content
 content_in h bytes n v var = record { values = stored_values h bytes var n; missing = first_missing h bytes var n }
 
@@ -104,8 +109,8 @@ content_in h bytes n v var = record { values = stored_values h bytes var n; miss
 abbrev pub content_of : Dataset → ℕ → Var → Content
 content_of d v var = record { values = numbers var.ty (slice_index_or d.arrays v []); missing = None }
 
--- The values of the variable in place v, and the section after them: all values and that section; or those before the first
--- missing one, and nothing after them.
+-- The text of the variable in place v, and the section after it; or, if value k is missing, its opening and the values before,
+-- and nothing after them.
 abbrev pub values_before : Look → List ℤ → Option ℕ → ℕ → Section → Section
 values_before look values None v others = record { text = variable_text look values ++ others.text; ending = others.ending }
 values_before look values (Some k) v others = record { text = variable_prefix look (take k values); ending = data_truncated v k }

@@ -5,7 +5,7 @@ use Rattle.std.specs.List.{flat_map, list_any}
 use Rattle.std.specs.Str.{bytes_eq}
 use Rattle.nc_base.specs.Names.{is_beyond_ascii}
 
--- one of `. @ + -`, which a name may have unescaped, but not before
+-- one of `. @ + -`: a name may have it unescaped, but not as its first byte
 abbrev pub is_name_mark : ℕ → Bool
 is_name_mark b = (b == 46) || (b == 64) || (b == 43) || (b == 45)
 
@@ -24,7 +24,7 @@ reserved_words =
 unfoldable pub is_reserved : List ℕ → Bool
 is_reserved name = list_any (bytes_eq name) reserved_words
 
--- it could be read as a number
+-- the name begins with a digit or one of `. @ + -`: no unescaped word begins so
 abbrev pub begins_with_digit_or_mark : List ℕ → Bool
 begins_with_digit_or_mark [] = false
 begins_with_digit_or_mark (b ∷ bs) = is_ascii_digit b || is_name_mark b
@@ -33,8 +33,8 @@ begins_with_digit_or_mark (b ∷ bs) = is_ascii_digit b || is_name_mark b
 abbrev pub escaped_in_name : ℕ → List ℕ
 escaped_in_name b = if is_plain b then b ∷ [] else 92 ∷ b ∷ []
 
--- A name: a backslash before each byte that isn't plain, and before the first one of a name that could be read as a
--- number or a reserved word.
+-- A name: a backslash comes before each byte that isn't plain. One also comes before the first byte, if that is a digit or
+-- one of `. @ + -`, or if the name is a reserved word.
 unfoldable pub escaped_name : List ℕ → List ℕ
 escaped_name name = (if begins_with_digit_or_mark name || is_reserved name then 92 ∷ [] else []) ++ flat_map escaped_in_name name
 
@@ -54,7 +54,7 @@ escaped_in_string b =
     else (if (b == 34) || (b == 39) || (b == 92) then 92 ∷ b ∷ []
     else (if is_ascii_control b then octal_escape b else b ∷ [])))))))
 
--- a byte that stands for itself in a string
+-- a byte that stands for itself in a string (for contracts)
 abbrev pub is_literal : ℕ → Bool
 is_literal b = not (is_ascii_control b || (b == 34) || (b == 39) || (b == 92))
 

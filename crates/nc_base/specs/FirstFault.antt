@@ -1,5 +1,6 @@
 -- Definition. The first wrong field of a header, from the left: what is wrong with it, and the rest after it. After a field that
--- the file's end cuts short there is no rest.
+-- the file's end cuts short there is no rest. `StopsIn..` says that reading the part stops at a wrong field, and gives its fault
+-- and the rest.
 use Rattle.std.specs.Prelude.{ℕ, zero, suc, ◌≡◌, ◌≢◌, ◌+◌, ◌*◌, ◌<◌, ◌≤◌, true, false, ◌⊎◌, List, [], ◌∷◌, ◌++◌, length, None}
 use Rattle.std.specs.Int.{Width, w32, byte_len}
 use Rattle.nc_base.specs.declared.fault.FormatFault.{FormatFault}
@@ -61,7 +62,7 @@ pub data StopsInType (v : Version) (bytes : List ℕ) : FormatFault → List ℕ
 abbrev pub ElementStop : Type 0 → Type 1
 ElementStop A = List A → List ℕ → FormatFault → List ℕ → Type 0
 
--- one of n elements
+-- in one of n elements: in the first, or, if that is spelled, in one of the others
 abbrev pub StopsInEach : {A : Type 0} → ElementSpelling A → ElementStop A → ℕ → ElementStop A
 StopsInEach Element Stops zero before bytes fault rest = ⊥
 StopsInEach {A = A} Element Stops (suc n) before bytes fault rest =
@@ -75,8 +76,8 @@ pub data StopsInCounted {A : Type 0} (v : Version) (Element : ElementSpelling A)
       → SpellsCount v bytes n body → StopsInEach Element Stops n [] body fault rest
       → StopsInCounted v Element Stops bytes fault rest
 
--- a list: its tag is neither zero nor its own, or its count is wrong, which after a zero tag is any but zero, or an
--- element is wrong
+-- A list: its tag is cut short, or is neither 0 nor the list's own; or its count is wrong; or an element is. After a tag of 0,
+-- any count but 0 is wrong.
 pub data StopsInList {A : Type 0} (v : Version) (tag : ℕ) (Element : ElementSpelling A) (Stops : ElementStop A) (bytes : List ℕ) : FormatFault → List ℕ → Type 0 where
   cut_tag : IsCutNumber w32 bytes → StopsInList v tag Element Stops bytes HeaderTruncated []
   bad_tag : (found : ℕ) (rest : List ℕ)
@@ -133,7 +134,7 @@ pub data StopsInDimid (v : Version) (dims : List Dim) (before : List ℕ) (bytes
       → SpellsNumber (count_width v) bytes id rest → ¬ IsDimid dims before id
       → StopsInDimid v dims before bytes BadShape rest
 
--- a variable: that it is too large shows at its type
+-- a variable: if it is too large, its type is the wrong field
 pub data StopsInVar (v : Version) (dims : List Dim) (before : List Var) (bytes : List ℕ) : FormatFault → List ℕ → Type 0 where
   in_var_name : (fault : FormatFault) (rest : List ℕ) → StopsInName v bytes fault rest → StopsInVar v dims before bytes fault rest
   in_shape : (name after_name : List ℕ) (fault : FormatFault) (rest : List ℕ)
@@ -174,7 +175,7 @@ pub data StopsInMagic (bytes : List ℕ) : FormatFault → List ℕ → Type 0 w
       → bytes ≡ 67 ∷ 68 ∷ 70 ∷ n ∷ rest → version_of_byte n ≡ None
       → StopsInMagic bytes (UnknownVersion n) rest
 
--- the number of records: the mark is no wrong number
+-- the number of records: STREAMING isn't wrong, though its top bit is set
 pub data StopsInNumRecs (v : Version) (bytes : List ℕ) : FormatFault → List ℕ → Type 0 where
   cut_numrecs : IsCutNumber (count_width v) bytes → StopsInNumRecs v bytes HeaderTruncated []
   negative_numrecs : (n : ℕ) (rest : List ℕ)

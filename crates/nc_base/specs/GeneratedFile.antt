@@ -57,7 +57,7 @@ att_spelling v att =
 abbrev pub atts_spelling : Version → List Att → List ℕ
 atts_spelling v atts = list_spelling v attribute_tag (att_spelling v) atts
 
--- vsize: the padded slab, or the greatest number of 32 bits if it doesn't fit into them
+-- vsize: the padded slab; in CDF-1 and CDF-2 the greatest number of 32 bits, if the padded slab doesn't fit into them
 abbrev pub vsize_of : Version → ℕ → ℕ
 vsize_of Cdf5 padded = padded
 vsize_of v padded = if nat_lt padded (2 ^ 32) then padded else (2 ^ 32 - 1)
@@ -109,7 +109,7 @@ record_of is_sole dims r (var ∷ vars) (array ∷ arrays) =
     ++ record_of is_sole dims r vars arrays
 record_of is_sole dims r vars arrays = []
 
--- the number of records in a header
+-- the number of records in a header; that of a dataset is known
 abbrev pub known_records : NumRecs → ℕ
 known_records (Known n) = n
 known_records Streaming = 0

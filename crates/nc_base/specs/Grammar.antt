@@ -1,5 +1,6 @@
 -- Definition. The grammar of a header, as the NetCDF Classic Format Specification has it: for each of its lines a relation between
--- bytes, the value at their start, and the rest after it. Padding and vsize may be any.
+-- bytes, the value at their start, and the rest after it. Padding and vsize may be any. A line that ends with `..` is the
+-- beginning of one, for FirstFault.
 use Rattle.std.specs.Prelude.{ℕ, ◌≡◌, ◌*◌, ◌^◌, ◌<◌, ◌≤◌, true, false, List, [], ◌∷◌, ◌++◌, length}
 use Rattle.std.specs.Int.{Width, w32, to_be_bytes, byte_len}
 use Rattle.nc_base.specs.declared.header.Att.{Att}
@@ -66,7 +67,7 @@ pub record SpellsType (v : Version) (bytes : List ℕ) (ty : NcType) (rest : Lis
 
 -- ---- lists
 
--- How an element is spelled at the start of bytes. Which elements may come there can depend on those before it.
+-- How an element is spelled: by the elements before it, the bytes, the element at their start, and the rest after it.
 abbrev pub ElementSpelling : Type 0 → Type 1
 ElementSpelling A = List A → List ℕ → A → List ℕ → Type 0
 
@@ -126,12 +127,12 @@ pub record SpellsDimid (v : Version) (dims : List Dim) (before : List ℕ) (byte
   pub number : SpellsNumber (count_width v) bytes id rest
   pub known : IsDimid dims before id
 
--- the variable's slab, and a record up to and with it, keep this project's limits
+-- this project's limits: for the variable's slab, and for the padded slabs of all record variables up to and with it, together
 pub record IsWithinLimits (dims : List Dim) (before : List Var) (var : Var) : Type 0 where
   pub slab : slab_size dims var ≤ slab_limit
   pub record_bytes : padded_total dims (record_vars dims (before ++ var ∷ [])) ≤ record_limit
 
--- var = name nelems [dimid ...] vatt_list ..
+-- var = name nelems [dimid ...] vatt_list ..: the type and the begin of var may still be any
 pub record SpellsVarPrefix (v : Version) (dims : List Dim) (bytes : List ℕ) (var : Var) (rest : List ℕ) : Type 0 where
   pub after_name : List ℕ
   pub after_shape : List ℕ

@@ -77,7 +77,7 @@ att_line escaped_owner att = concat_parts (codes "\t\t" ∷ escaped_owner ∷ co
 unfoldable pub att_lines : List ℕ → List Att → List ℕ
 att_lines escaped_owner atts = concat_parts (map (att_line escaped_owner) atts)
 
--- the length of a dimension: a number, or for the record dimension the number of records
+-- the rest of a dimension's line: its length, or for the record dimension `UNLIMITED` with the number of records in a comment
 unfoldable pub dim_extent : ℕ → ℕ → List ℕ
 dim_extent records len =
     if len == 0 then concat_parts (unlimited_word ∷ decimal records ∷ currently_word ∷ [])

@@ -19,7 +19,8 @@ use Rattle.nc_base.specs.Sizes.{is_record_dim, is_record_var, slab_size, slab_co
 abbrev pub has_record_dim : List Dim → Bool
 has_record_dim dims = list_any (λ (dim : Dim). dim.len == 0) dims
 
--- a dimension id in a shape, after those before it: a dimension has this id, and the id of the record dimension comes first
+-- A dimension id may come here in a shape, after the ids before it: a dimension has this id, and the id of the record
+-- dimension comes first of all.
 pub record IsDimid (dims : List Dim) (before : List ℕ) (id : ℕ) : Type 0 where
   pub known : id < length dims
   pub record_first : IsTrue (is_record_dim dims id) → before ≡ []
@@ -58,7 +59,7 @@ abbrev pub IsSoundNumRecs : Version → NumRecs → Type 0
 IsSoundNumRecs v (Known n) = n < count_limit v
 IsSoundNumRecs v Streaming = Unit {0}
 
--- a header whose sizes and counts keep the format's limits and this project's
+-- A header whose counts, types, shapes and sizes keep the format's rules and this project's limits. Names and begins may be any.
 pub record IsSound (h : Header) : Type 0 where
   pub numrecs : IsSoundNumRecs h.version h.numrecs
   pub dim_count : length h.dims < count_limit h.version
@@ -68,6 +69,7 @@ pub record IsSound (h : Header) : Type 0 where
   pub gatts : All (IsSoundAtt h.version) h.gatts
   pub var_count : length h.vars < count_limit h.version
   pub vars : All (IsSoundVar h.version h.dims) h.vars
+  -- the same limit as that of `IsWithinLimits`, as a slab has at most 2^48 bytes
   pub small_records : record_size h ≤ record_limit
 
 -- each name is valid
@@ -101,12 +103,12 @@ AreArrays dims records [] (array ∷ arrays) = ⊥
 AreArrays dims records (var ∷ vars) [] = ⊥
 AreArrays dims records (var ∷ vars) (array ∷ arrays) = IsArray dims records var array × AreArrays dims records vars arrays
 
--- each attribute's values are bytes, as any bytes are values of any type
+-- The values of each attribute are bytes. They need no other rule: any bytes are values of a type.
 pub record HasValidValues (h : Header) : Type 0 where
   pub gatts : All (λ (att : Att). AreBytes att.vals) h.gatts
   pub vars : All (λ (var : Var). All (λ (att : Att). AreBytes att.vals) var.atts) h.vars
 
--- a dataset that a file can hold
+-- A dataset that a file can hold. `is_bare` says that the header has this number of records, and that each begin is 0.
 pub record IsGood (d : Dataset) : Type 0 where
   pub records : ℕ
   pub is_bare : d.header ≡ bare d.header records

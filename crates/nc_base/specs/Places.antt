@@ -28,8 +28,8 @@ index_vectors dims var n = vectors_below (lens_over dims var n)
 
 -- ---- offsets
 
--- The strides of a slab over these lengths: two values whose index in a dimension differs by one are as many values
--- of this size apart as the product of the later lengths.
+-- The strides of a slab over these lengths: for each, how many bytes apart two values are whose index there differs by one. It
+-- is the size of a value times the product of the later lengths.
 abbrev pub slab_strides : ℕ → List ℕ → List ℕ
 slab_strides size [] = []
 slab_strides size (n ∷ ns) = size * product ns ∷ slab_strides size ns
@@ -55,12 +55,12 @@ value_offset h var index = var.begin_at + distance index (strides h var)
 unfoldable pub value_offsets : Header → Var → ℕ → List ℕ
 value_offsets h var n = map (value_offset h var) (index_vectors h.dims var n)
 
--- the first offset after the last value of this size, or this begin if there is no value
+-- the first offset after the last value of this size, or this begin if there is no value (for contracts)
 abbrev pub end_after : ℕ → ℕ → Option ℕ → ℕ
 end_after begin size None = begin
 end_after begin size (Some offset) = offset + size
 
--- the first offset after a variable's last value over n records, or its begin if it has no value
+-- the first offset after a variable's last value over n records, or its begin if it has no value (for contracts)
 abbrev pub extent_end : Header → Var → ℕ → ℕ
 extent_end h var n = end_after var.begin_at (size_of var.ty) (last_or None (value_offsets h var n))
 
@@ -78,11 +78,11 @@ stored_bytes h bytes var n = map (bytes_at (size_of var.ty) bytes) (value_offset
 abbrev pub stored_values : Header → List ℕ → Var → ℕ → List ℤ
 stored_values h bytes var n = map (number_of var.ty) (stored_bytes h bytes var n)
 
--- the value of this size at an offset ends after n bytes
+-- the value of this size at an offset ends after the end of a file of this length
 abbrev pub ends_after : ℕ → ℕ → ℕ → Bool
 ends_after size file_len offset = nat_lt file_len (offset + size)
 
--- the number of the first missing value, if any: a value is missing if not all of its bytes are inside the file
+-- the place, from 0, of the first missing value, if any: a value is missing if not all of its bytes are inside the file
 abbrev pub first_missing : Header → List ℕ → Var → ℕ → Option ℕ
 first_missing h bytes var n = position (ends_after (size_of var.ty) (length bytes)) (value_offsets h var n)
 

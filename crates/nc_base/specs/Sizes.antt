@@ -1,4 +1,5 @@
--- Definition. The sizes of a variable's slab and of a record, and the number of records.
+-- Definition. The sizes of a variable's slab and of a record, and the number of records. A slab is what a record variable has in
+-- one record. Of any other variable it is all that the variable has.
 use Rattle.std.specs.Prelude.{ℕ, ◌+◌, ◌-◌, ◌*◌, ◌/◌, ◌^◌, min, Bool, false, nat_lt, ◌==◌, ◌&&◌, if◌then◌else◌, List, [], ◌∷◌, length, map, filter, drop, slice_index, sum}
 use Rattle.nc_base.specs.declared.header.Dim.{Dim}
 use Rattle.nc_base.specs.declared.header.Var.{Var}
@@ -13,7 +14,7 @@ use Rattle.nc_base.specs.Types.{size_of}
 abbrev pub dim_len : List Dim → ℕ → ℕ
 dim_len dims id = slice_index (map (λ (d : Dim). d.len) dims) id
 
--- the id is that of the record dimension: of one whose length is 0
+-- the id is that of the record dimension, whose length is 0
 abbrev pub is_record_dim : List Dim → ℕ → Bool
 is_record_dim dims id = nat_lt id (length dims) && (dim_len dims id == 0)
 
@@ -33,7 +34,7 @@ abbrev pub product : List ℕ → ℕ
 product [] = 1
 product (n ∷ ns) = n * product ns
 
--- how many values a variable has: in one record for a record variable, and in all for any other
+-- how many values a slab of this variable has
 abbrev pub slab_count : List Dim → Var → ℕ
 slab_count dims var = product (slab_lens dims var.dimids)
 
@@ -41,7 +42,7 @@ slab_count dims var = product (slab_lens dims var.dimids)
 abbrev pub slab_size : List Dim → Var → ℕ
 slab_size dims var = slab_count dims var * size_of var.ty
 
--- with the bytes that fill it up to the next multiple of four
+-- the bytes of a slab, with the padding up to the next multiple of four
 abbrev pub padded_size : List Dim → Var → ℕ
 padded_size dims var = slab_size dims var + padding_len (slab_size dims var)
 
@@ -65,7 +66,7 @@ record_size_of dims vars = padded_total dims vars
 abbrev pub record_size : Header → ℕ
 record_size h = record_size_of h.dims (record_vars h.dims h.vars)
 
--- the greatest slab, the greatest array of a dataset, and the greatest record, in bytes
+-- this project's limits, in bytes: the greatest slab, the greatest array of a dataset, and the greatest record
 abbrev pub slab_limit : ℕ
 slab_limit = 2 ^ 48
 
@@ -81,12 +82,12 @@ least_begin var [] = var.begin_at
 least_begin var (next ∷ others) = min var.begin_at (least_begin next others)
 
 -- How many whole records of this size are between the least begin of these variables and the end of a file of this number of
--- bytes: none if there are no such variables, or if the file ends before.
+-- bytes. There are none if there are no such variables, or if the file ends before (`-` gives 0 then).
 abbrev pub records_between : ℕ → List Var → ℕ → ℕ
 records_between size [] file_len = 0
 records_between size (var ∷ vars) file_len = (file_len - least_begin var vars) / size
 
--- the number of records of a file of n bytes
+-- the number of records of a file of this length in bytes
 abbrev pub record_count : Header → ℕ → ℕ
 record_count h file_len = of_numrecs h.numrecs
   where
@@ -94,6 +95,6 @@ record_count h file_len = of_numrecs h.numrecs
     of_numrecs (Known n) = n
     of_numrecs Streaming = records_between (record_size h) (record_vars h.dims h.vars) file_len
 
--- the bytes of a slab of this shape and type
+-- the bytes of a slab of this shape and type (for contracts)
 abbrev pub slab_of : List Dim → List ℕ → NcType → ℕ
 slab_of dims ids ty = product (slab_lens dims ids) * size_of ty

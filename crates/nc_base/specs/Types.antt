@@ -20,7 +20,7 @@ code_of Uint64 = 11
 abbrev pub all_types : List NcType
 all_types = Byte ∷ Char ∷ Short ∷ Int ∷ Ubyte ∷ Ushort ∷ Uint ∷ Int64 ∷ Uint64 ∷ []
 
--- the type with this code: none for the floating types 5 and 6, and none for any other code
+-- the type with this code: none for the floating types 5 and 6, and none for any other code (for contracts)
 abbrev pub type_of_code : ℕ → Option NcType
 type_of_code code = find (λ ty. code == code_of ty) all_types
 

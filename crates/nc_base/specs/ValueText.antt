@@ -38,7 +38,7 @@ abbrev pub is_char : NcType → Bool
 is_char Char = true
 is_char ty = false
 
--- how many of all values a row has: all at rank 0 and 1, and at rank 2 and up as many as the last dimension is long
+-- how many values a row has: all of them at rank 0 and 1, otherwise as many as the last dimension is long
 abbrev pub row_len : List Dim → List ℕ → ℕ → ℕ
 row_len dims dimids total =
     if nat_lt (length dimids) 2 then total else dim_len dims (slice_index dimids (length dimids - 1))
@@ -102,15 +102,16 @@ char_lead look i = if look.in_rows then (if i == 0 then codes "\n  \"" else code
 abbrev pub is_nul : ℤ → Bool
 is_nul value = unsigned_abs value == 0
 
--- the last of these values: those in the row of the value that comes next
+-- those of the values so far that are in the row of the next value
 abbrev pub row_so_far : Look → List ℤ → List ℤ
 row_so_far look values = drop (length values - length values % look.row) values
 
--- how many NULs in that row come directly before the next value, and aren't printed yet
+-- if rows are trimmed: how many NULs come directly before the next value in its row. They aren't printed yet.
 abbrev pub held : Look → List ℤ → ℕ
 held look values = if look.trimmed then suffix_len is_nul (row_so_far look values) else 0
 
--- a character after n NULs that aren't printed yet: if the row is trimmed, a NUL waits for what follows
+-- A character after n NULs that aren't printed yet. If rows are trimmed, a NUL is printed only if a character other than NUL
+-- follows it in its row.
 abbrev pub char_text : Look → ℕ → ℤ → List ℕ
 char_text look nuls value =
     if look.trimmed && is_nul value then [] else escaped_text (replicate nuls 0 ++ unsigned_abs value ∷ [])
@@ -147,7 +148,7 @@ closing look = if is_char look.ty then codes "\" ;\n" else codes " ;\n"
 unfoldable pub variable_prefix : Look → List ℤ → List ℕ
 variable_prefix look values = opening look ++ pieces look (opening look) [] values
 
--- the pieces of the values ys after those of a variable's first values xs
+-- the pieces of the values ys after those of a variable's first values xs (for contracts)
 abbrev pub later_pieces : Look → List ℤ → List ℤ → List ℕ
 later_pieces look xs ys = pieces look (variable_prefix look xs) xs ys
 

@@ -29,7 +29,7 @@ offset_width Cdf1 = w32
 offset_width Cdf2 = w64
 offset_width Cdf5 = w64
 
--- a NON_NEG is below this: its top bit is 0
+-- a NON_NEG is below this: its top bit is 0 (`bits` is the number of bits of a width, `hbits` is one less)
 abbrev pub count_limit : Version → ℕ
 count_limit v = 2 ^ hbits (count_width v)
 

@@ -6,7 +6,7 @@ ghost use Rattle.std.specs.Str.{bytes_eq};
 ghost use Rattle.nc_base.specs.Escapes.{begins_with_digit_or_mark, escaped_in_name, escaped_in_string, is_literal, is_name_mark, is_plain, is_reserved};
 ghost use Rattle.nc_base.specs.code.Quoted.{written};
 
-/// The words of CDL that name nothing.
+/// The reserved words of CDL. None of them is a name unless it is escaped.
 const RESERVED_WORDS: [&[u8]; 20] = [
     b"netcdf",
     b"dimensions",
@@ -53,7 +53,8 @@ pub enum Escape {
 impl Quoting {
     ghost use Rattle.nc_base.specs.code.Quoted.{escaped_in, stands_for_itself, written};
 
-    /// Returns true if the byte stands for itself here.
+    /// Returns true if the byte needs no escape here. As the first byte of a name it may need one nonetheless
+    /// ([`begins_with_digit_or_mark`]).
     pub fn is_plain(self, b: u8) -> bool
         ensures { result ≡ stands_for_itself self b }
     {
@@ -63,7 +64,8 @@ impl Quoting {
         }
     }
 
-    /// How the byte is written here (ncdump(1), and the chapter on CDL of the NetCDF User's Guide).
+    /// Returns how the byte is written in a name or in a string, whichever this is (ncdump(1), and the chapter on CDL of the NetCDF User's
+    /// Guide).
     pub fn escape(self, b: u8) -> Escape
         ensures { written result b ≡ escaped_in self b }
     {
@@ -74,7 +76,7 @@ impl Quoting {
     }
 }
 
-/// How a byte is written in a name.
+/// Returns how a byte is written in a name: as it is if it stands for itself, otherwise after a backslash.
 fn escape_in_name(b: u8) -> Escape
     ensures { written result b ≡ escaped_in_name b }
 {
@@ -85,7 +87,8 @@ fn escape_in_name(b: u8) -> Escape
     }
 }
 
-/// How a byte is written in a string.
+/// Returns how a byte is written in a string: a quote or a backslash after a backslash, a control character as a backslash with
+/// a letter or three octal digits, and any other byte as it is.
 fn escape_in_string(b: u8) -> Escape
     ensures { written result b ≡ escaped_in_string b }
 {
@@ -116,14 +119,14 @@ fn is_plain_in_string(b: u8) -> bool
     !(b.is_ascii_control() || matches!(b, b'"' | b'\'' | b'\\'))
 }
 
-/// Returns true if the byte is one of the marks that a name has as they are, but not as its first byte.
+/// Returns true if the byte is `.`, `@`, `+` or `-`. A name may have these bytes unescaped, but not as its first byte.
 fn is_name_mark(b: u8) -> bool
     ensures { result ≡ is_name_mark b }
 {
     matches!(b, b'.' | b'@' | b'+' | b'-')
 }
 
-/// Returns true if the name begins as a number does: with a digit, or with one of the marks `.`, `@`, `+` and `-`.
+/// Returns true if the first byte of the name is a digit, `.`, `@`, `+` or `-`. Such a first byte is written after a backslash.
 pub fn begins_with_digit_or_mark(name: &[u8]) -> bool
     ensures { result ≡ begins_with_digit_or_mark name.now }
 {
@@ -141,7 +144,7 @@ pub fn is_reserved(name: &[u8]) -> bool
     is_one_of(name, &RESERVED_WORDS)
 }
 
-/// Returns true if the bytes are one of the words.
+/// Returns true if the bytes equal one of the words.
 fn is_one_of(bytes: &[u8], words: &[&[u8]]) -> bool
     ensures { result ≡ list_any (λ word. bytes_eq bytes.now word.now) words.now }
 {

@@ -9,21 +9,21 @@ pub enum FormatFault {
     UnknownVersion(u8),
     /// The file ends inside a field.
     HeaderTruncated,
-    /// A list's tag is neither its own nor zero.
+    /// The tag of a list is neither that of its kind nor 0.
     BadTag,
-    /// A count, a length or the number of records has its top bit set, or a list without a tag has a count.
+    /// A count, a length or the number of records has its top bit set, or a list with the tag 0 has a count other than 0.
     BadCount,
     /// The bytes of a name are no valid name.
     BadName,
     /// A type is `float` or `double`.
     FloatingType,
-    /// A type code is no type of the file's version.
+    /// A type code isn't that of a type of the file's version.
     BadType,
-    /// A dimension id names no dimension, or names the record dimension in a later place than the first.
+    /// A dimension id in a shape is that of no dimension, or it is that of the record dimension and isn't the first of the shape.
     BadShape,
     /// A second dimension has length 0.
     TwoRecordDims,
-    /// A variable's offset has its top bit set.
+    /// A variable's begin has its top bit set.
     BadOffset,
     /// A variable's slab passes 2^48 bytes, or the record size passes 2^62 bytes.
     TooLarge,

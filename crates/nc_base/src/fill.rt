@@ -8,9 +8,9 @@ use crate::header::{Att, Var};
 use crate::nc_type::NcType;
 use crate::number::number_of;
 
-/// The fill value of a variable: the value of its first attribute named `_FillValue` if that has the variable's type
-/// and one element, otherwise the default fill value of the type (`_FillValue` in the attribute conventions of the NetCDF
-/// User's Guide, and `NC_FILL_BYTE` and its like in `netcdf.h`).
+/// Returns the fill value of a variable, as a number. If the variable's first attribute named `_FillValue` has exactly one value, and of
+/// the variable's type, the result is that value (attribute conventions of the NetCDF User's Guide). Otherwise the result is the default
+/// fill value of the type (`NC_FILL_BYTE` and its like in `netcdf.h`).
 #[tactic(auto, unfolding(crate::specs::Fill::fill_value))]
 pub fn fill_of(var: &Var) -> i128
     ensures fill { result ≡ fill_value var.now }
@@ -22,7 +22,7 @@ pub fn fill_of(var: &Var) -> i128
     }
 }
 
-/// Returns true if a value of the variable that equals its fill value prints as `_`: a character never does, and a number of
+/// Returns true if a value of the variable that equals its fill value prints as `_`. A character never does, and a number of
 /// one byte only if the variable has a fill value of its own (ncdump(1), on `_FillValue`).
 pub fn prints_fill(var: &Var) -> bool
     ensures { result ≡ prints_fill var.now.ty (is_some (own_fill var.now)) }
@@ -35,7 +35,8 @@ pub fn prints_fill(var: &Var) -> bool
     }
 }
 
-/// Returns true if the variable has a fill value of its own.
+/// Returns true if the variable has a fill value of its own: if its first attribute named `_FillValue` has exactly one value, and of the
+/// variable's type.
 fn has_own_fill(var: &Var) -> bool
     ensures { result ≡ is_some (own_fill var.now) }
 {
@@ -45,7 +46,7 @@ fn has_own_fill(var: &Var) -> bool
     }
 }
 
-/// The first attribute named `_FillValue`.
+/// Returns the first attribute named `_FillValue`, or `None` if there is none.
 fn fill_att(atts: &[Att]) -> Option<&Att>
     ensures { option_map (λ att. att.now) result ≡ find is_fill_att atts.now }
 {

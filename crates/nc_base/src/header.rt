@@ -24,27 +24,27 @@ pub struct Att {
     pub vals: Sequence<u8>,
 }
 
-/// A variable (`var` of the specification). Its `vsize` isn't kept: it follows from the shape.
+/// A variable (`var` of the specification). Its `vsize` isn't kept, since it follows from the shape and the type.
 #[derive(Debug, Drop)]
 pub struct Var {
     /// The name, in UTF-8.
     pub name: Sequence<u8>,
-    /// The dimensions, the slowest first, as places in the header's list.
+    /// The ids of the dimensions, the slowest first. An id is an index into the `dims` of the header, counted from 0.
     pub dimids: Sequence<u64>,
     /// The attributes.
     pub atts: Sequence<Att>,
     /// The type of its values.
     pub ty: NcType,
-    /// The offset of the first value, in bytes from the file's start: `begin`.
+    /// The begin (`begin`): the offset of the first value, in bytes from the file's start.
     pub begin_at: u64,
 }
 
 /// The number of records (`numrecs` of the specification).
 #[derive(Clone, Copy, Debug, PartialEq, Eq)]
 pub enum NumRecs {
-    /// This number of records.
+    /// There are this many records.
     Known(u64),
-    /// As many records as the file has room for: `STREAMING`.
+    /// The number is unknown (`STREAMING`): there are as many records as the file has room for.
     Streaming,
 }
 

@@ -2,8 +2,10 @@
 
 ghost use Rattle.nc_base.specs.NumberLaws.{NumbersReadBack, BytesReadBack, NumbersAreInRange};
 
-/// Numbers and their big-endian bytes are two ways to write one thing: a number in a type's range is read back from its
-/// bytes, and as many bytes as the type's size are read as a number in its range, whose bytes they are.
+/// If a number is in the range of a type, its big-endian bytes are read as this number.
+///
+/// If there are as many bytes as the size of a type, they are read as a number in the range of the type, and the bytes of this number are
+/// the same bytes.
 pub fn numbers_read_back()
     ensures numbers { NumbersReadBack }
     ensures bytes { BytesReadBack }

@@ -1,4 +1,4 @@
-//! The bytes that are listed of a variable's array, with each row as long as it is listed.
+//! The bytes of the values that a text lists for a variable, with each row as long as it is listed.
 
 ghost use Rattle.std.specs.Prelude.{◌≡◌, ◌++◌, ◌∷◌, ◌≤◌, ◌<◌, ◌-◌, [], drop, get_or, length, max, min, replicate, take, IfOk, IfSome, OnOk, OnErr};
 ghost use Rattle.nc_base.specs.code.ListedRows.{StandAt, row_of, row_start};
@@ -6,23 +6,25 @@ ghost use Rattle.nc_base.specs.code.ListedRows.{StandAt, row_of, row_start};
 use std::alloc::{AllocError, Global};
 use std::marker::Model;
 
-/// The bytes that are listed of a variable's array, big-endian and one value after the other.
+/// The bytes of the values that a text lists for a variable, big-endian and one value after the other.
 ///
-/// A row may lack bytes at its end. They are a fill byte, and don't stand in memory: a row takes the bytes that are listed of it, and
-/// four bytes more. Contracts see the bytes with each row filled up.
+/// A row of values may lack bytes at its end. Each missing byte is a fill byte, and usually isn't stored: a row takes the memory of its
+/// listed bytes, and four bytes more. Contracts see the bytes with each row filled up.
 #[derive(Drop)]
 pub struct ListedArray {
+    /// The stored bytes: all bytes without those that the rows of `row_ends` lack.
     bytes: Vec<u8>,
-    /// Where each row ends among the bytes.
+    /// For each row with its missing bytes not stored, the offset in `bytes` at which the row ends.
     row_ends: Vec<u32>,
-    /// Where the last row ends.
+    /// The offset in `bytes` at which the last of these rows ends, or 0 if there are none.
     rows_end: usize,
-    /// The length of a row that is filled up.
+    /// The length in bytes of each of these rows, when it is filled up.
     row_len: u64,
+    /// The byte that fills up these rows.
     fill: u8,
 }
 
-/// Bytes that stand one after the other, and how many fill bytes come after them.
+/// Part of the bytes of a [`ListedArray`]: `bytes`, and after them `filling` copies of the byte `fill`.
 #[derive(Clone, Copy, Debug)]
 pub struct Run<'a> {
     pub bytes: &'a [u8],
@@ -42,7 +44,7 @@ impl Model for ListedArray {
 }
 
 impl ListedArray {
-    /// Without bytes. It does not allocate.
+    /// Creates an array without bytes. Does not allocate.
     #[tactic(auto, unfolding(crate::specs::code::ListedRows::filled_rows))]
     pub fn new(alloc: Global) -> ListedArray
         ensures { result ≡ [] }
@@ -56,7 +58,7 @@ impl ListedArray {
         }
     }
 
-    /// Adds bytes.
+    /// Appends the bytes.
     ///
     /// # Errors
     ///
@@ -70,7 +72,7 @@ impl ListedArray {
         Ok(())
     }
 
-    /// Adds a byte.
+    /// Appends the byte.
     ///
     /// # Errors
     ///
@@ -83,10 +85,11 @@ impl ListedArray {
         Ok(())
     }
 
-    /// Ends a row that lacks `lacking` bytes, which are `fill`.
+    /// Ends a row that lacks `lacking` bytes at its end, each of them `fill`: these bytes are appended.
     ///
-    /// They are in memory only if the rows before have another length or another fill byte, or if an offset takes more than
-    /// four bytes.
+    /// They are stored only if the row, filled up, differs from the rows before in its length or its fill byte, if its end among the stored
+    /// bytes is past `u32::MAX`, or if its length is past `u64::MAX`. The row begins at the end of the last row whose missing bytes weren't
+    /// stored.
     ///
     /// # Errors
     ///
@@ -109,7 +112,7 @@ impl ListedArray {
         Ok(())
     }
 
-    /// The number of bytes, with each row filled up.
+    /// Returns the number of bytes, counting each row as filled up.
     #[tactic(auto, using(crate::proofs::FilledRows::length_filled))]
     pub fn len(&self) -> u128
         ensures { result ≡ length self.now }
@@ -118,7 +121,8 @@ impl ListedArray {
         in_rows + (self.bytes.len() - self.rows_end) as u128
     }
 
-    /// What stands at an offset into the bytes with each row filled up: a run, which isn't empty before their end.
+    /// Returns a run that begins at the offset `at` into the bytes with each row filled up. The run is empty if and only if `at` is at
+    /// their end or after it.
     pub fn run_at(&self, at: u128) -> Run<'_>
         ensures { StandAt self.now at result.bytes.now result.filling result.fill }
     {
@@ -128,7 +132,7 @@ impl ListedArray {
         }
     }
 
-    /// The bytes as they are in memory, if no row lacks any.
+    /// Returns the stored bytes if they are all of the bytes, or `None` if some bytes aren't stored.
     #[tactic(auto, using(crate::proofs::FilledRows::filled_full))]
     fn full_bytes(&self) -> Option<&[u8]>
         ensures { IfSome result (λ bytes. bytes.now ≡ self.now) }
@@ -140,7 +144,8 @@ impl ListedArray {
         }
     }
 
-    /// What stands at an offset: what is listed of a row from there on, or what comes after the rows.
+    /// Returns the run at the offset `at`, as [`run_at`](ListedArray::run_at) does. It is the rest of the row that has this offset, or the
+    /// rest of the bytes after the last row.
     fn run_of_rows(&self, at: u128) -> Run<'_>
         ensures { StandAt self.now at result.bytes.now result.filling result.fill }
     {
@@ -163,7 +168,7 @@ impl ListedArray {
         }
     }
 
-    /// The bytes with each row filled up, with capacity for `more` after them.
+    /// Returns the bytes with each row filled up, with capacity for `more` bytes after them.
     ///
     /// # Errors
     ///
@@ -179,6 +184,8 @@ impl ListedArray {
         self.to_bytes(alloc, more)
     }
 
+    /// Copies the bytes with each row filled up to a new `Vec`, with capacity for `more` bytes after them. Errs if an
+    /// allocation failed.
     fn to_bytes(&self, alloc: Global, more: usize) -> Result<Vec<u8>, AllocError>
         ensures { IfOk result (λ bytes. bytes.items ≡ self.now) }
     {
@@ -198,7 +205,7 @@ impl ListedArray {
     }
 }
 
-/// What stands in bytes from an offset on.
+/// Returns the bytes from the offset `at` on as a run without fill bytes. The run is empty if `at` is at their end or after it.
 fn full_run(bytes: &[u8], at: u128) -> Run<'_>
     ensures { StandAt bytes.now at result.bytes.now result.filling result.fill }
 {
@@ -211,7 +218,7 @@ fn full_run(bytes: &[u8], at: u128) -> Run<'_>
     }
 }
 
-/// The bytes that are listed of row `r`, of rows that end at these offsets.
+/// Returns the listed bytes of row `r`, counted from 0. `row_ends` has for each row the offset in `bytes` at which it ends.
 fn row_at<'a>(bytes: &'a [u8], row_ends: &[u32], r: usize) -> &'a [u8]
     requires of { r < length row_ends.now }
     requires after { row_start 0 row_ends.now r ≤ get_or row_ends.now r 0 }
@@ -222,7 +229,8 @@ fn row_at<'a>(bytes: &'a [u8], row_ends: &[u32], r: usize) -> &'a [u8]
     &bytes[start..row_ends[r] as usize]
 }
 
-/// What stands in a row from a column on.
+/// Returns the rest of a row, from its byte `column` on, as a run. It has the listed bytes of `row` from there on, and as many copies of
+/// `fill` as fill the row up to `row_len` bytes.
 fn run_in_row(row: &[u8], column: u64, row_len: u64, fill: u8) -> Run<'_>
     requires listed { length row.now ≤ row_len }
     requires column { column < row_len }
@@ -238,7 +246,7 @@ fn run_in_row(row: &[u8], column: u64, row_len: u64, fill: u8) -> Run<'_>
     }
 }
 
-/// Where row `r` starts, of rows that end at these offsets.
+/// Returns the offset at which row `r` starts: 0 if `r` is 0, otherwise the offset at which the row before it ends.
 #[tactic(auto, using(crate::proofs::FilledRows::row_start_after), unfolding(crate::specs::code::ListedRows::row_start))]
 fn start_of(row_ends: &[u32], r: usize) -> usize
     requires { r ≤ length row_ends.now }
@@ -250,7 +258,7 @@ fn start_of(row_ends: &[u32], r: usize) -> usize
     row_ends[r - 1] as usize
 }
 
-/// Adds `n` copies of a byte.
+/// Appends `n` copies of the byte `fill` to `bytes`. If an allocation fails, it errs, and `bytes` stays as it was.
 #[inline(never)]
 fn fill_up(bytes: &mut Vec<u8>, n: u64, fill: u8) -> Result<(), AllocError>
     ensures ok { OnOk result (bytes.new.items ≡ bytes.old.items ++ replicate n fill) }

@@ -5,17 +5,16 @@ ghost use Rattle.std.specs.List.{list_all};
 ghost use Rattle.std.specs.Str.{is_utf8};
 ghost use Rattle.nc_base.specs.Names.{is_name, has_name_bytes, ends_with_space, may_begin_name, may_follow_in_name};
 
-/// Returns true if the bytes are a name that a dimension, a variable or an attribute may have: not empty, in UTF-8,
-/// beginning with a letter, a digit, `_` or a character beyond ASCII, going on with printing ASCII characters other
-/// than `/` or characters beyond ASCII, and without a space at the end (`name` of the NetCDF Classic Format
-/// Specification).
+/// Returns true if the bytes are a name that a dimension, a variable or an attribute may have (`name` of the NetCDF Classic Format
+/// Specification). Such a name is UTF-8, isn't empty, and doesn't end with a space. It begins with a letter, a digit, `_` or a character
+/// beyond ASCII; after that come printing ASCII characters other than `/`, or characters beyond ASCII.
 pub fn check_name(name: &[u8]) -> bool
     ensures { result ≡ is_name name.now }
 {
     has_name_bytes(name) && !ends_with_space(name) && is_utf8(name)
 }
 
-/// Returns true if a name has bytes, and each is one that its place allows.
+/// Returns true if the name isn't empty, a name may begin with its first byte, and each other byte may stand after the first.
 fn has_name_bytes(name: &[u8]) -> bool
     ensures { result ≡ has_name_bytes name.now }
 {
@@ -25,7 +24,7 @@ fn has_name_bytes(name: &[u8]) -> bool
     }
 }
 
-/// Returns true if each of these bytes may stand after the first one of a name.
+/// Returns true if each of these bytes may stand in a name after its first byte.
 fn may_go_on(others: &[u8]) -> bool
     ensures { result ≡ list_all may_follow_in_name others.now }
 {
@@ -54,7 +53,7 @@ fn may_begin(b: u8) -> bool
     b.is_ascii_alphabetic() || b.is_ascii_digit() || b == b'_' || b >= 0x80
 }
 
-/// Returns true if this byte may stand after the first one of a name.
+/// Returns true if this byte may stand in a name after its first byte.
 fn may_follow(b: u8) -> bool
     ensures { result ≡ may_follow_in_name b }
 {

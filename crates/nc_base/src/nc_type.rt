@@ -41,7 +41,7 @@ impl NcType {
         NcType::Uint64,
     ];
 
-    /// The size of a value in bytes: 1, 2, 4 or 8.
+    /// Returns the size of a value in bytes: 1, 2, 4 or 8.
     pub fn size(self) -> u64
         ensures { result ≡ size_of self }
     {
@@ -53,7 +53,7 @@ impl NcType {
         }
     }
 
-    /// The code of the type in a file.
+    /// Returns the code of the type in a file.
     pub fn code(self) -> u32
         ensures { result ≡ code_of self }
     {
@@ -70,7 +70,7 @@ impl NcType {
         }
     }
 
-    /// The type with this code; none for the floating types 5 and 6 and for a code that is no type's.
+    /// Returns the type with this code in a file. Returns `None` for the floating types 5 and 6, and for any other code without a type.
     pub fn of_code(code: u32) -> Option<NcType>
         ensures { result ≡ type_of_code code }
     {
@@ -88,7 +88,7 @@ impl NcType {
         }
     }
 
-    /// The default fill value of the type (`NC_FILL_BYTE` and its like in Unidata's `netcdf.h`).
+    /// Returns the default fill value of the type (`NC_FILL_BYTE` and its like in Unidata's `netcdf.h`).
     pub fn default_fill(self) -> i128
         ensures { result ≡ default_fill_of self }
     {
@@ -105,7 +105,7 @@ impl NcType {
         }
     }
 
-    /// The word of the type in CDL.
+    /// Returns the name of the type in CDL, such as `int`.
     pub fn word(self) -> &'static [u8]
         ensures { result.now ≡ type_word self }
     {
@@ -122,7 +122,8 @@ impl NcType {
         }
     }
 
-    /// What stands after a number of the type in an attribute in CDL; nothing for characters, which stand in strings.
+    /// Returns the suffix of the type's numbers in an attribute in CDL, such as `LL`. It is empty for int, and for characters, which stand
+    /// in strings.
     pub fn suffix(self) -> &'static [u8]
         ensures { result.now ≡ number_suffix self }
     {

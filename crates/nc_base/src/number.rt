@@ -6,8 +6,8 @@ ghost use Rattle.nc_base.specs.Types.{size_of};
 
 use crate::nc_type::NcType;
 
-/// The number that these bytes are as a value of the type: big-endian, and in two's complement if the type has a sign
-/// (NetCDF Classic Format Specification).
+/// Reads the big-endian bytes of one value of the type, and returns their number. They are in two's complement if the type has a sign
+/// (NetCDF Classic Format Specification). A character is a number from 0 to 255.
 pub fn number_of(ty: NcType, bytes: &[u8]) -> i128
     requires { length bytes.now ≡ size_of ty }
     ensures number { result ≡ number_of ty bytes.now }
@@ -25,7 +25,7 @@ pub fn number_of(ty: NcType, bytes: &[u8]) -> i128
     }
 }
 
-/// Two bytes as an array.
+/// Returns two bytes as an array.
 fn two_bytes(bytes: &[u8]) -> [u8; 2]
     requires { length bytes.now ≡ 2 }
     ensures { result ≡ bytes.now }
@@ -33,7 +33,7 @@ fn two_bytes(bytes: &[u8]) -> [u8; 2]
     [bytes[0], bytes[1]]
 }
 
-/// Four bytes as an array.
+/// Returns four bytes as an array.
 fn four_bytes(bytes: &[u8]) -> [u8; 4]
     requires { length bytes.now ≡ 4 }
     ensures { result ≡ bytes.now }
@@ -41,7 +41,7 @@ fn four_bytes(bytes: &[u8]) -> [u8; 4]
     [bytes[0], bytes[1], bytes[2], bytes[3]]
 }
 
-/// Eight bytes as an array.
+/// Returns eight bytes as an array.
 fn eight_bytes(bytes: &[u8]) -> [u8; 8]
     requires { length bytes.now ≡ 8 }
     ensures { result ≡ bytes.now }

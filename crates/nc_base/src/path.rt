@@ -3,15 +3,15 @@
 ghost use Rattle.std.specs.Prelude.{◌≡◌};
 ghost use Rattle.nc_base.specs.Paths.{file_name_of, without_extension, stem_of};
 
-/// The part of a path after its last `/`, without its extension, which begins at the last `.` after the first byte of
-/// that part: the name that a dump gives the dataset of a file (`-n` in ncdump(1)).
+/// Returns the name that a dump gives the dataset of the file at this path (`-n` in ncdump(1)): the part after the last `/`,
+/// without its extension. The extension begins at the last `.` of that part, unless this is its first byte.
 pub fn stem(path: &str) -> &str
     ensures { result.now ≡ stem_of path.now }
 {
     without_extension(file_name(path))
 }
 
-/// The part of a path after its last `/`.
+/// Returns the part of a path after its last `/`, or the whole path if it has none.
 fn file_name(path: &str) -> &str
     ensures { result.now ≡ file_name_of path.now }
 {
@@ -21,7 +21,7 @@ fn file_name(path: &str) -> &str
     }
 }
 
-/// A name up to its last `.`, if that isn't its first byte.
+/// Returns a name up to its last `.`, or the whole name if no `.` comes after its first byte.
 fn without_extension(name: &str) -> &str
     ensures { result.now ≡ without_extension name.now }
 {

@@ -7,7 +7,7 @@ use std::marker::Model;
 
 /// A growable array that contracts see as the list of its items, without where they lie in memory.
 ///
-/// It is made from a [`Vec`] and gives it back without taking memory.
+/// It is made from a [`Vec`] and gives it back without an allocation.
 #[derive(Debug, Drop)]
 pub struct Sequence<T> {
     items: Vec<T>,
@@ -22,7 +22,7 @@ impl<T> Model for Sequence<T> {
 }
 
 impl<T> Sequence<T> {
-    /// A sequence without items. It does not allocate.
+    /// Creates a sequence without items. Does not allocate.
     pub fn new(alloc: Global) -> Sequence<T>
         ensures { result ≡ [] }
     {
@@ -31,14 +31,14 @@ impl<T> Sequence<T> {
         }
     }
 
-    /// The items of a `Vec`, without a copy.
+    /// Turns a `Vec` into the sequence of its items, without a copy.
     pub fn from_vec(items: Vec<T>) -> Sequence<T>
         ensures { result ≡ items.items }
     {
         Sequence { items }
     }
 
-    /// The items as a `Vec`, without a copy.
+    /// Turns the sequence into a `Vec` of its items, without a copy.
     pub fn into_vec(self) -> Vec<T>
         ensures { result.items ≡ self }
     {
@@ -46,14 +46,14 @@ impl<T> Sequence<T> {
         items
     }
 
-    /// The items as a slice.
+    /// Returns the items as a slice.
     pub fn as_slice(&self) -> &[T]
         ensures { result.now ≡ self.now }
     {
         self.items.as_slice()
     }
 
-    /// The number of items.
+    /// Returns the number of items.
     pub fn len(&self) -> usize
         ensures { result ≡ length self.now }
     {
@@ -67,7 +67,7 @@ impl<T> Sequence<T> {
         self.items.is_empty()
     }
 
-    /// Adds an item at the end. Where memory is refused, the sequence stays as it was.
+    /// Appends an item. If an allocation fails, it errs, and the sequence stays as it was.
     pub fn push(&mut self, item: T) -> Result<(), AllocError>
     where
         T: Drop,
@@ -78,7 +78,7 @@ impl<T> Sequence<T> {
         Ok(())
     }
 
-    /// Adds copies of these items at the end. Where memory is refused, the sequence stays as it was.
+    /// Appends copies of these items. If an allocation fails, it errs, and the sequence stays as it was.
     pub fn extend_from_slice(&mut self, items: &[T]) -> Result<(), AllocError>
     where
         T: Copy,

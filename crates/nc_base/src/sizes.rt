@@ -18,9 +18,9 @@ const SLAB_LIMIT: u64 = 1 << 48;
 /// The greatest record in bytes: 2^62.
 pub const RECORD_LIMIT: u128 = 1 << 62;
 
-/// The bytes of the slab of the variable at index `v`, without padding: of its values in one record for a record
-/// variable, and of all its values for any other (`vsize` of the NetCDF Classic Format Specification before it is
-/// rounded up to a multiple of four). None above 2^48 bytes.
+/// Returns the number of bytes of the slab of the variable at index `v`, without padding: the values in one record for a record
+/// variable, and all values for any other one (`vsize` of the NetCDF Classic Format Specification before it is rounded up to a
+/// multiple of four). Returns `None` above 2^48 bytes.
 pub fn slab_bytes(header: &Header, v: usize) -> Option<u64>
     requires { v < length header.now.vars }
     ensures { SomeIff result (slab_at header.now v ≤ slab_limit) (slab_at header.now v) }
@@ -29,10 +29,10 @@ pub fn slab_bytes(header: &Header, v: usize) -> Option<u64>
     slab_of(header.dims.as_slice(), var.dimids.as_slice(), var.ty)
 }
 
-/// The record size: the bytes from a record variable's values in one record to those in the next. It is the sum of
-/// the slabs of all record variables, each padded to a multiple of four bytes; but a sole record variable of one-byte
-/// or two-byte values isn't padded (`recsize` of the NetCDF Classic Format Specification, with its special case).
-/// `None` if a record variable's slab passes 2^48 bytes, or the record size 2^62 bytes.
+/// Returns the record size: the number of bytes from a record variable's values in one record to those in the next. It is the
+/// sum of the slabs of all record variables, each padded to a multiple of four bytes; but a sole record variable of one-byte or
+/// two-byte values isn't padded (`recsize` of the NetCDF Classic Format Specification, with its special case). Returns `None`
+/// if a record variable's slab passes 2^48 bytes, or if the record size passes 2^62 bytes.
 pub fn rec_size(header: &Header) -> Option<u64>
     ensures { result ≡ checked_record_size header.now }
 {
@@ -57,7 +57,7 @@ pub fn rec_size(header: &Header) -> Option<u64>
 }
 
 impl NumRecs {
-    /// The number of records if it is known, otherwise 0.
+    /// Returns the number of records if it is known, otherwise 0.
     pub fn known(self) -> u64
         ensures { result ≡ known_records self }
     {
@@ -68,10 +68,11 @@ impl NumRecs {
     }
 }
 
-/// The number of records of a file of `len` bytes with this header: the one in the header, otherwise (`STREAMING`)
-/// how many whole records are between the least offset of its record variables and the file's end. It is 0 if there
-/// are no record variables, or if the file ends before (`numrecs` of the NetCDF Classic Format Specification). The
-/// header is to be sound; of another the number says nothing.
+/// Returns the number of records of a file of `len` bytes with this header. If the header has the number, it is that number. If it is
+/// unknown (`STREAMING`), it is the number of whole records between the least begin of the record variables and the file's end, or 0 if
+/// there are no record variables or the file ends before that begin (`numrecs` of the NetCDF Classic Format Specification).
+///
+/// If the header isn't sound, the returned number means nothing.
 pub fn records(header: &Header, len: u64) -> u64
     ensures { IsSound header.now → result ≡ record_count header.now len }
 {
@@ -93,8 +94,8 @@ pub struct RecordLayout {
     pub record_size: u64,
 }
 
-/// How the records of a file of `len` bytes with this header lie. It takes time in proportion to the number of variables and
-/// their dimensions, so a caller that goes over the variables asks for it once.
+/// Returns the number of records of a file of `len` bytes with this header, and the record size. It takes time in proportion to
+/// the number of variables and their dimensions, so a caller that goes over the variables asks for it once.
 pub fn record_layout(header: &Header, len: u64) -> RecordLayout
     requires { IsSound header.now }
     ensures records { result.records ≡ record_count header.now len }
@@ -106,7 +107,7 @@ pub fn record_layout(header: &Header, len: u64) -> RecordLayout
     }
 }
 
-/// How many whole records of this size `bytes` bytes have; none if the size isn't known.
+/// Returns how many whole records of `size` bytes fit into `bytes` bytes, or 0 if `size` is 0 or `None`.
 fn whole_records(bytes: u64, size: Option<u64>) -> u64
     ensures { IfSome size (λ size. result ≡ bytes / size) }
 {
@@ -116,8 +117,8 @@ fn whole_records(bytes: u64, size: Option<u64>) -> u64
     }
 }
 
-/// The first offset after the last value that the variable at index `v` has over `records` records, in bytes from the
-/// file's start; its begin if it has no value, as a record variable over no records.
+/// Returns the first offset after the last value that the variable at index `v` has over `records` records, in bytes from the file's start.
+/// Returns the variable's begin if it has no value, such as a record variable over 0 records.
 pub fn extent_end(header: &Header, v: usize, records: u64) -> u128
     requires sound { IsSound header.now }
     requires there { v < length header.now.vars }
@@ -126,8 +127,8 @@ pub fn extent_end(header: &Header, v: usize, records: u64) -> u128
     end_of(header, v, records)
 }
 
-/// The first offset after the last value, by its parts: the begin and the bytes of the slab, and for a record variable one
-/// record size more for each record after the first.
+/// Returns the offset that [`extent_end`] returns, as a sum: the begin, the bytes of the slab, and for a record variable one record size
+/// more for each record after the first. For a record variable over 0 records it is the begin alone.
 fn end_of(header: &Header, v: usize, records: u64) -> u128
     requires sound { IsSound header.now }
     requires there { v < length header.now.vars }
@@ -145,8 +146,8 @@ fn end_of(header: &Header, v: usize, records: u64) -> u128
     }
 }
 
-/// How many values the variable at index `v` has over `records` records: a record variable has as many as a slab for each
-/// record, and any other those of its one slab.
+/// Returns how many values the variable at index `v` has over `records` records. A record variable has one slab for each
+/// record, and any other variable has one slab.
 pub fn value_count(header: &Header, v: usize, records: u64) -> u128
     requires sound { IsSound header.now }
     requires there { v < length header.now.vars }
@@ -161,7 +162,7 @@ pub fn value_count(header: &Header, v: usize, records: u64) -> u128
     }
 }
 
-/// The record size of a sound header: that of [`rec_size`], which is at most 2^62 bytes.
+/// Returns the record size of a sound header, as [`rec_size`] does. It is at most 2^62 bytes.
 pub fn sound_rec_size(header: &Header) -> u64
     requires { IsSound header.now }
     ensures size { result ≡ record_size header.now }
@@ -170,7 +171,7 @@ pub fn sound_rec_size(header: &Header) -> u64
     rec_size(header).unwrap()
 }
 
-/// The bytes of a slab of a sound header.
+/// Returns the number of bytes of the slab of the variable at index `v` of a sound header, without padding. It is at most 2^48.
 fn sound_slab(header: &Header, v: usize) -> u64
     requires sound { IsSound header.now }
     requires there { v < length header.now.vars }
@@ -180,7 +181,7 @@ fn sound_slab(header: &Header, v: usize) -> u64
     slab_bytes(header, v).unwrap()
 }
 
-/// The least begin of the record variables, if there are any.
+/// Returns the least begin of the record variables, or `None` if there are none.
 fn first_begin(dims: &[Dim], vars: &[Var]) -> Option<u64>
     ensures { result ≡ first_begin (record_vars dims.now vars.now) }
 {
@@ -193,7 +194,7 @@ fn first_begin(dims: &[Dim], vars: &[Var]) -> Option<u64>
     least
 }
 
-/// The lesser of two offsets, or the second one if the first is `None`.
+/// Returns the lesser of two offsets, or `begin` if `least` is `None`.
 fn lesser(least: Option<u64>, begin: u64) -> u64
     ensures { result ≡ lesser least begin }
 {
@@ -203,8 +204,8 @@ fn lesser(least: Option<u64>, begin: u64) -> u64
     }
 }
 
-/// The size of a record that ends with this variable's slab: the slab alone if the variable is the first and
-/// narrow, otherwise all slabs with their padding.
+/// Returns the size of a record that ends with the slab of this variable. It is `slab`, the bytes of that slab, if the variable is the
+/// first record variable (`is_first`) and narrow. Otherwise it is `with_padding`, the padded bytes of all slabs of the record.
 fn record_size_of_bytes(is_first: bool, var: &Var, slab: u64, with_padding: u128) -> u128
     ensures { result ≡ (if is_first && is_narrow var.now then slab else with_padding) }
 {
@@ -215,21 +216,22 @@ fn record_size_of_bytes(is_first: bool, var: &Var, slab: u64, with_padding: u128
     }
 }
 
-/// These bytes, padded to a multiple of four.
+/// Returns the number of bytes of a slab, rounded up to a multiple of four.
 fn padded_bytes(slab: u64) -> u128
     ensures { result ≡ slab + padding_len slab }
 {
     slab as u128 + padding_len(slab as u128) as u128
 }
 
-/// How many bytes fill `n` bytes up to the next multiple of four (`padding` of the NetCDF Classic Format Specification).
+/// Returns how many bytes fill `n` bytes up to the next multiple of four, from 0 to 3 (`padding` of the NetCDF Classic Format
+/// Specification).
 pub fn padding_len(n: u128) -> u64
     ensures { result ≡ padding_len n }
 {
     ((4 - n % 4) % 4) as u64
 }
 
-/// Returns true if a value takes less than four bytes.
+/// Returns true if the variable is narrow: each of its values takes less than four bytes.
 fn is_narrow(var: &Var) -> bool
     ensures { result ≡ is_narrow var.now }
 {
@@ -243,8 +245,8 @@ pub fn is_record_var(dims: &[Dim], var: &Var) -> bool
     has_records(dims, var.dimids.as_slice())
 }
 
-/// The bytes of a slab of this shape and type over these dimensions, without padding. A first dimension of length 0
-/// is the record dimension, over which no slab goes. None above 2^48 bytes.
+/// Returns the number of bytes of a slab of this shape and type, without padding. It is the size of a value times the lengths
+/// of the dimensions, without the first one if that is the record dimension. Returns `None` above 2^48 bytes.
 pub fn slab_of(dims: &[Dim], dimids: &[u64], ty: NcType) -> Option<u64>
     ensures { IsCappedSlab dims.now dimids.now ty result }
 {
@@ -260,7 +262,7 @@ pub fn slab_of(dims: &[Dim], dimids: &[u64], ty: NcType) -> Option<u64>
     }
 }
 
-/// The size of a value times the lengths of these dimensions, or the limit and one more if that is greater.
+/// Returns the size of a value times the lengths of these dimensions, or 2^48 + 1 if the product is greater.
 fn capped_bytes(dims: &[Dim], dimids: &[u64], ty: NcType) -> u64
     ensures { result ≡ min (product (map (dim_len dims.now) dimids.now) * size_of ty) (slab_limit + 1) }
 {
@@ -271,7 +273,7 @@ fn capped_bytes(dims: &[Dim], dimids: &[u64], ty: NcType) -> u64
     bytes
 }
 
-/// The product, or the limit and one more if that is greater.
+/// Returns the product of `bytes` and `len`, or 2^48 + 1 if the product is greater.
 fn capped_product(bytes: u64, len: u64) -> u64
     ensures { result ≡ min (bytes * len) (slab_limit + 1) }
 {
@@ -291,14 +293,14 @@ pub fn has_records(dims: &[Dim], dimids: &[u64]) -> bool
     }
 }
 
-/// Returns true if the id is that of the record dimension.
+/// Returns true if the id is that of the record dimension. It is false if no dimension has the id.
 pub fn is_record_dim(dims: &[Dim], id: u64) -> bool
     ensures { result ≡ is_record_dim dims.now id }
 {
     id < dims.len() as u64 && dim_len(dims, id) == 0
 }
 
-/// The length of the dimension with this id, and 0 if there is none.
+/// Returns the length of the dimension with this id, or 0 if there is none.
 pub fn dim_len(dims: &[Dim], id: u64) -> u64
     ensures { result ≡ dim_len dims.now id }
 {

@@ -16,10 +16,12 @@ use crate::version::Version;
 impl Header {
     ghost use Rattle.nc_base.specs.Headers.{IsSound};
 
-    /// Returns true if the header is sound: each count and length is below the version's limit (2^31, and 2^63 in CDF-5),
-    /// each type is one of the version's, each attribute has whole values, each dimension id names a dimension, at most
-    /// one dimension has length 0 and stands first in each shape, no slab passes 2^48 bytes, and the record size doesn't
-    /// pass 2^62 bytes. These are the limits of the NetCDF Classic Format Specification, but for the last two.
+    /// Returns true if the header is sound.
+    ///
+    /// In a sound header each count and length is below the version's limit (2^31, or 2^63 in CDF-5), each type is one of the version's,
+    /// and each attribute has whole values. Each dimension id names a dimension. At most one dimension has length 0, and a shape has it
+    /// only in its first place. No slab passes 2^48 bytes, and the record size doesn't pass 2^62 bytes. All but the last two are limits of
+    /// the NetCDF Classic Format Specification.
     pub fn sound(&self) -> bool
         ensures { IsTrue result ↔ IsSound self.now }
     {
@@ -33,7 +35,7 @@ impl Header {
     }
 }
 
-/// Returns true if the variables are sound, and so is their record size.
+/// Returns true if the variables are sound, and the record size doesn't pass 2^62 bytes.
 fn has_sound_vars(header: &Header) -> bool
     ensures { IsTrue result ↔ HasSoundVars header.now }
 {
@@ -44,7 +46,7 @@ fn has_sound_vars(header: &Header) -> bool
     ) && rec_size(header).is_some()
 }
 
-/// Returns true if the version can count the records.
+/// Returns true if the number of records is below the version's limit of counts, or unknown.
 fn is_sound_numrecs(version: Version, numrecs: NumRecs) -> bool
     ensures { IsTrue result ↔ IsSoundNumRecs version numrecs }
 {
@@ -54,7 +56,7 @@ fn is_sound_numrecs(version: Version, numrecs: NumRecs) -> bool
     }
 }
 
-/// Returns true if the version can count this number of elements.
+/// Returns true if the version can count this number of elements: if it is below the version's limit of counts.
 fn is_countable(version: Version, count: usize) -> bool
     ensures { IsTrue result ↔ (count < count_limit version) }
 {
@@ -75,14 +77,14 @@ fn is_sound_dim(version: Version, dim: &Dim) -> bool
     is_countable(version, dim.name.len()) && dim.len < version.count_limit()
 }
 
-/// Returns true if at most one dimension is the record dimension.
+/// Returns true if at most one dimension has length 0, as the record dimension has.
 fn has_one_record_dim(dims: &[Dim]) -> bool
     ensures { IsTrue result ↔ (length (filter (λ dim. dim.len == 0) dims.now) ≤ 1) }
 {
     record_dim_count(dims) <= 1
 }
 
-/// The number of dimensions of length 0.
+/// Returns the number of dimensions of length 0.
 fn record_dim_count(dims: &[Dim]) -> usize
     ensures { result ≡ count_by (λ dim. dim.len == 0) dims.now }
 {
@@ -96,7 +98,8 @@ fn are_sound_atts(version: Version, atts: &[Att]) -> bool
     is_countable(version, atts.len()) && atts.iter().all(|att| is_sound_att(version, att))
 }
 
-/// Returns true if the attribute's type is one of the version's, and it has whole values that the version can count.
+/// Returns true if the version can count the name's bytes, the attribute's type is one of the version's, and the attribute has
+/// whole values that the version can count.
 fn is_sound_att(version: Version, att: &Att) -> bool
     ensures { IsTrue result ↔ IsSoundAtt version att.now }
 {
@@ -105,7 +108,7 @@ fn is_sound_att(version: Version, att: &Att) -> bool
         && has_whole_values(version, att)
 }
 
-/// Returns true if the attribute has whole values that the version can count.
+/// Returns true if the attribute's bytes are a whole number of values of its type, and the version can count these values.
 fn has_whole_values(version: Version, att: &Att) -> bool
     ensures { IsTrue result ↔ HasWholeValues version att.now }
 {
@@ -121,8 +124,8 @@ fn are_sound_vars(version: Version, dims: &[Dim], vars: &[Var]) -> bool
     is_countable(version, vars.len()) && vars.iter().all(|var| is_sound_var(version, dims, var))
 }
 
-/// Returns true if the variable's type is one of the version's, its shape and its attributes are sound, and its slab is no
-/// greater than 2^48 bytes.
+/// Returns true if the version can count the name's bytes and the dimension ids, the variable's type is one of the version's,
+/// its shape and its attributes are sound, and its slab is no greater than 2^48 bytes.
 fn is_sound_var(version: Version, dims: &[Dim], var: &Var) -> bool
     ensures { IsTrue result ↔ IsSoundVar version dims.now var.now }
 {
@@ -134,14 +137,14 @@ fn is_sound_var(version: Version, dims: &[Dim], var: &Var) -> bool
         && has_sound_slab(dims, dimids, var.ty)
 }
 
-/// Returns true if a shape is sound, and a slab of it and of this type no greater than 2^48 bytes.
+/// Returns true if the shape is sound, and a slab of this shape and type is no greater than 2^48 bytes.
 fn has_sound_slab(dims: &[Dim], dimids: &[u64], ty: NcType) -> bool
     ensures { IsTrue result ↔ IsSoundShape dims.now dimids.now ty }
 {
     is_sound_shape(dims, dimids) && slab_of(dims, dimids, ty).is_some()
 }
 
-/// Returns true if each id of a shape names a dimension, and only the first may name the record dimension.
+/// Returns true if each id of a shape names a dimension, and none after the first names the record dimension.
 fn is_sound_shape(dims: &[Dim], dimids: &[u64]) -> bool
     ensures { IsTrue result ↔ AreDimids dims.now [] dimids.now }
 {

@@ -18,7 +18,7 @@ pub enum Version {
 impl Version {
     ghost use Rattle.nc_base.specs.Versions.{version_byte, version_of_byte, count_limit, offset_limit, streaming_mark, has_type};
 
-    /// The version with this byte; none for any byte but 1, 2 and 5.
+    /// Returns the version with this byte, or `None` for any byte but 1, 2 and 5.
     pub fn of_byte(b: u8) -> Option<Version>
         ensures { result ≡ version_of_byte b }
     {
@@ -30,7 +30,7 @@ impl Version {
         }
     }
 
-    /// The byte after `CDF`.
+    /// Returns the byte after `CDF`.
     pub fn byte(self) -> u8
         ensures { result ≡ version_byte self }
     {
@@ -41,7 +41,8 @@ impl Version {
         }
     }
 
-    /// The least number that is no count, length or number of records: those have their top bit 0 (`NON_NEG`).
+    /// Returns the least number that is too great for a count, a length or the number of records (`NON_NEG`, whose top bit is 0): 2^31, or
+    /// 2^63 in CDF-5.
     pub fn count_limit(self) -> u64
         ensures { result ≡ count_limit self }
     {
@@ -51,7 +52,7 @@ impl Version {
         }
     }
 
-    /// The least number that is no offset: those have their top bit 0 (`OFFSET`).
+    /// Returns the least number that is too great for an offset (`OFFSET`, whose top bit is 0): 2^31 in CDF-1, otherwise 2^63.
     pub fn offset_limit(self) -> u64
         ensures { result ≡ offset_limit self }
     {
@@ -61,7 +62,7 @@ impl Version {
         }
     }
 
-    /// The mark for an unknown number of records, all of whose bits are 1 (`STREAMING`).
+    /// Returns the number that a file has in place of an unknown number of records (`STREAMING`). All of its bits are 1.
     pub fn streaming_mark(self) -> u64
         ensures { result ≡ streaming_mark self }
     {

@@ -1,4 +1,4 @@
-//! How much a header holds.
+//! The weight of a header: a measure of how much it holds.
 
 ghost use Rattle.std.specs.Prelude.{◌≡◌, ◌+◌, min};
 ghost use Rattle.std.specs.List.{sum_by};
@@ -6,9 +6,9 @@ ghost use Rattle.nc_base.specs.code.Weight.{dim_weight, att_weight, var_weight, 
 
 use crate::header::{Att, Dim, Header, Var};
 
-/// The weight of a header: the bytes of all names and attribute values, plus one for each dimension id, each dimension,
-/// each attribute (of the file and of its variables) and each variable; or the greatest `u128` if that is greater.
-/// Reading, keeping and writing a header takes time and memory in proportion to it.
+/// Returns the weight of a header: the bytes of all names and attribute values, plus one for each dimension id, each dimension,
+/// each attribute (of the file and of its variables) and each variable. Returns `u128::MAX` if the weight is greater. Reading,
+/// keeping and writing a header takes time and memory in proportion to its weight.
 pub fn weight(header: &Header) -> u128
     ensures { result ≡ min (weight_of header.now) u128.MAX }
 {
@@ -17,7 +17,7 @@ pub fn weight(header: &Header) -> u128
         .saturating_add(vars_weight(header.vars.as_slice()))
 }
 
-/// The weight of these dimensions.
+/// Returns the sum of the weights of these dimensions, or `u128::MAX` if the sum is greater.
 fn dims_weight(dims: &[Dim]) -> u128
     ensures { result ≡ min (sum_by dim_weight dims.now) u128.MAX }
 {
@@ -28,7 +28,7 @@ fn dims_weight(dims: &[Dim]) -> u128
     total
 }
 
-/// The weight of these attributes.
+/// Returns the sum of the weights of these attributes, or `u128::MAX` if the sum is greater.
 fn atts_weight(atts: &[Att]) -> u128
     ensures { result ≡ min (sum_by att_weight atts.now) u128.MAX }
 {
@@ -39,7 +39,7 @@ fn atts_weight(atts: &[Att]) -> u128
     total
 }
 
-/// The weight of these variables.
+/// Returns the sum of the weights of these variables, or `u128::MAX` if the sum is greater.
 fn vars_weight(vars: &[Var]) -> u128
     ensures { result ≡ min (sum_by var_weight vars.now) u128.MAX }
 {
@@ -50,21 +50,22 @@ fn vars_weight(vars: &[Var]) -> u128
     total
 }
 
-/// One, and one for each byte of the name.
+/// Returns the weight of a dimension: 1, plus the number of bytes of its name.
 fn dim_weight(dim: &Dim) -> u128
     ensures { result ≡ dim_weight dim.now }
 {
     dim.name.len() as u128 + 1
 }
 
-/// One, and one for each byte of the name and of the values.
+/// Returns the weight of an attribute: 1, plus the number of bytes of its name and of its values.
 fn att_weight(att: &Att) -> u128
     ensures { result ≡ att_weight att.now }
 {
     att.name.len() as u128 + att.vals.len() as u128 + 1
 }
 
-/// One, and one for each byte of the name and each dimension id, and the weights of the attributes.
+/// Returns the weight of a variable: 1, plus the number of bytes of its name, the number of its dimension ids, and the weights
+/// of its attributes. Returns `u128::MAX` if the weight is greater.
 fn var_weight(var: &Var) -> u128
     ensures { result ≡ min (var_weight var.now) u128.MAX }
 {

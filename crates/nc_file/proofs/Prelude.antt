@@ -1,4 +1,4 @@
--- The names that most proofs of this crate cite, passed on from one place.
+-- The names that proofs of this crate cite from elsewhere, passed on from one place.
 pub use Rattle.devices.proofs.UpTo.{UpTo, each-left, up-next, up-partway, up-start}
 pub use Rattle.devices.specs.declared.source.Source.{Ghosts}
 pub use Rattle.nc_base.proofs.HeaderSpelled.{total-append}

@@ -7,10 +7,11 @@ use devices::SourceFailed;
 use nc_base::FormatFault;
 use std::alloc::AllocError;
 
-/// Why a header could not be read: for want of memory, because the source failed, or for what is wrong with its bytes.
+/// Why a header could not be read: because an allocation failed, because the source failed, or for what is wrong with its
+/// bytes.
 #[derive(Clone, Copy, Debug, PartialEq, Eq)]
 pub enum HeadFault {
-    /// Memory was refused.
+    /// An allocation failed.
     OutOfMemory,
     /// The source failed.
     ReadFailed,

@@ -6,22 +6,26 @@ ghost use Rattle.nc_base.specs.FileLaws.{FilesHoldTheirDatasets, FilesHoldOneDat
 ghost use Rattle.nc_file.specs.OneOutcome.{HasOneOutcome};
 ghost use Rattle.nc_file.specs.WrittenHeaders.{WrittenHeadersReadBack};
 
-/// Each list of bytes begins with exactly one header and has one rest after it, or it has exactly one first wrong field,
-/// with one fault and one end, and never both. So the grammar, which says what a header is by relations, and not by how it is
-/// read, leaves no choice.
+/// Each list of bytes begins with a header by the grammar, or has a first wrong field, but never both. If it begins with a header, then
+/// there is only one such header, and only one rest after it. If it has a first wrong field, then there is only one fault of that field,
+/// and only one end.
+///
+/// The grammar consists of relations, and doesn't say how to read. This law says that it leaves no choice.
 pub fn one_header_or_one_fault()
     ensures { (bytes : List ℕ) → AreBytes bytes → HasOneOutcome bytes }
 {}
 
-/// What is written of a sound header with valid names, whose begins fit, is read as that header, whatever follows: the spelling
-/// that a writer appends is one by the grammar.
+/// If a header is sound, its names are valid, and each begin is below the version's limit of offsets, then the bytes that a writer writes
+/// for it are a spelling of this header by the grammar. This holds whatever bytes follow.
 pub fn written_header_reads_back()
     ensures { WrittenHeadersReadBack }
 {}
 
-/// The file of each good dataset that fits holds that dataset, and no other; and the dump of a file that holds a dataset is
-/// the text of that dataset, under all options. Where the values lie is said twice, by offsets for a reader and as one
-/// concatenation for a writer: this law says that both agree.
+/// If a dataset is good, and each begin fits its field, then the file of the dataset holds it. No bytes hold two datasets. If a file holds
+/// a dataset, then its dump under any options is the text of that dataset.
+///
+/// The definitions say twice where values lie: by offsets for a reader, and as one concatenation for a writer. This law says that the two
+/// agree.
 pub fn file_reads_back()
     ensures holds { FilesHoldTheirDatasets }
     ensures one { FilesHoldOneDataset }

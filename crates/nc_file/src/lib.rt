@@ -1,9 +1,9 @@
 //! The header of a netCDF classic file.
 //!
-//! [`read_header`] reads the header of a file from any source, through a caller's buffer, and returns a [`HeadFault`] if there
-//! is none. A header is written in two steps: [`with_begins`] gives each variable the offset of its values, or answers
-//! [`OffsetTooLarge`], and [`write_header`] writes the one spelling of a header to any sink. [`header_len`] is that spelling's
-//! length. The devices of `devices` are named here too, for the crates above.
+//! [`read_header`] reads the header of a file from any source, through a caller's buffer, or errs with a [`HeadFault`]. A header
+//! is written in two steps: [`with_begins`] gives each variable its begin, or errs with [`OffsetTooLarge`], and [`write_header`]
+//! writes the header to any sink. [`header_len`] returns the number of bytes that it writes. Devices of the crate `devices` are
+//! re-exported, for the crates above.
 //!
 //! ```
 //! let mut source = FileSource::open(&rt, "a.nc")?;

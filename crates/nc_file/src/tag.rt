@@ -1,4 +1,4 @@
-//! The numbers that stand for the parts of a header (NetCDF Classic Format Specification, "Format in Detail").
+//! The tags of the lists in a header, and the codes of the floating types (NetCDF Classic Format Specification, "Format in Detail").
 
 /// The tag of a list of dimensions.
 pub(crate) const NC_DIMENSION: u32 = 10;

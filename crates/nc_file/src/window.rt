@@ -11,8 +11,11 @@ use devices::Source;
 use nc_base::{FormatFault, Sequence, Version, padding_len};
 use std::alloc::Global;
 
-/// A caller's buffer with the bytes of a source of length `len` from `base` on. `pos` of them have been used. It reads from the
-/// source, from the next byte on, only when all of them have been used.
+/// A window on a source: a caller's buffer that holds `filled` bytes of the source, from the offset `base` on. The first `pos` of them have
+/// been used. The source has `len` bytes. The window reads on from the source only when all `filled` bytes have been used.
+///
+/// Each function that reads through the window errs with `HeaderTruncated` if the source ends too early, with `ReadFailed` if the source
+/// fails, and with `OutOfMemory` if an allocation fails. Its own comment names its other errors.
 #[derive(Drop)]
 pub(crate) struct Window<'a, S: Source> {
     pub(crate) source: &'a mut S,
@@ -32,7 +35,8 @@ pub(crate) struct Window<'a, S: Source> {
 impl<S: Source> Window<'_, S> {
     ghost use Rattle.nc_file.specs.code.Window.{FailsOnly, Kept, Refilled, Read, ReadNext, Filled, Ready};
 
-    /// Fills an empty window, and returns true if a byte has come.
+    /// Reads bytes of the source into a window whose bytes have all been used, and returns true if at least one came. Returns
+    /// false if the source has no more. Errs with `ReadFailed` if the source fails.
     fn refill(&mut self) -> Result<bool, HeadFault>
         requires empty { self.old.pos ≡ self.old.filled }
         ensures kept { Kept self.old self.new }
@@ -57,7 +61,8 @@ impl<S: Source> Window<'_, S> {
         Ok(0 < n)
     }
 
-    /// Makes sure that there is a next byte.
+    /// Makes sure that the window has the next byte. Errs with `HeaderTruncated` if no byte is left, and with `ReadFailed` if
+    /// the source fails.
     fn fill(&mut self) -> Result<(), HeadFault>
         ensures kept { Kept self.old self.new }
         ensures cause { FailsOnly self.old self.new result }
@@ -69,7 +74,7 @@ impl<S: Source> Window<'_, S> {
         Ok(())
     }
 
-    /// One byte.
+    /// Reads one byte. Errs with `HeaderTruncated` if no byte is left, and with `ReadFailed` if the source fails.
     #[tactic(auto, using(crate::proofs::Parts::byte_shorter), unfolding(crate::specs::code::Reading::byte_or, crate::specs::code::Reading::left_over))]
     pub(crate) fn byte(&mut self) -> Result<u8, HeadFault>
         ensures { Read self.old self.new byte_at result }
@@ -80,7 +85,8 @@ impl<S: Source> Window<'_, S> {
         Ok(b)
     }
 
-    /// The next bytes, as many as the array has.
+    /// Reads as many bytes as the array has. Errs with `HeaderTruncated` if fewer are left, and with `ReadFailed` if the source
+    /// fails.
     fn array<const N: usize>(&mut self) -> Result<[u8; N], HeadFault>
         ensures { Read self.old self.new (bytes_at N []) result }
     {
@@ -92,7 +98,7 @@ impl<S: Source> Window<'_, S> {
         Ok(bytes)
     }
 
-    /// The next bytes. The window holds them all.
+    /// Returns the next `N` bytes, and leaves them unused. The window has all of them.
     fn held<const N: usize>(&self) -> [u8; N]
         requires { self.now.pos + N ≤ self.now.filled }
         ensures { result ≡ take N (drop self.now.pos self.now.buf.now) }
@@ -102,7 +108,7 @@ impl<S: Source> Window<'_, S> {
         bytes
     }
 
-    /// The same, byte for byte: for bytes that the window doesn't hold whole.
+    /// Reads an array as [`array`](Window::array) does, but byte by byte, for an array that the window doesn't hold whole.
     #[tactic(auto, using(crate::proofs::Loops::array))]
     fn array_by_bytes<const N: usize>(&mut self) -> Result<[u8; N], HeadFault>
         ensures { Read self.old self.new (bytes_at N []) result }
@@ -114,7 +120,7 @@ impl<S: Source> Window<'_, S> {
         Ok(bytes)
     }
 
-    /// A big-endian number of four bytes.
+    /// Reads a big-endian number of four bytes. Errs with `HeaderTruncated` if fewer are left.
     #[tactic(auto, using(crate::proofs::Parts::parts), unfolding(crate::specs::code::Reading::number_at))]
     pub(crate) fn read_u32(&mut self) -> Result<u32, HeadFault>
         ensures { Read self.old self.new (number_at w32) result }
@@ -123,7 +129,7 @@ impl<S: Source> Window<'_, S> {
         Ok(u32::from_be_bytes(bytes))
     }
 
-    /// A big-endian number of eight bytes.
+    /// Reads a big-endian number of eight bytes. Errs with `HeaderTruncated` if fewer are left.
     #[tactic(auto, using(crate::proofs::Parts::parts), unfolding(crate::specs::code::Reading::number_at))]
     pub(crate) fn read_u64(&mut self) -> Result<u64, HeadFault>
         ensures { Read self.old self.new (number_at w64) result }
@@ -132,7 +138,8 @@ impl<S: Source> Window<'_, S> {
         Ok(u64::from_be_bytes(bytes))
     }
 
-    /// A number of the width that counts have in the version.
+    /// Reads a big-endian number of the width that counts have in the version, eight bytes in CDF-5 and otherwise four. Any value is
+    /// allowed.
     pub(crate) fn number(&mut self, version: Version) -> Result<u64, HeadFault>
         ensures { Read self.old self.new (number_at (count_width version)) result }
     {
@@ -142,14 +149,14 @@ impl<S: Source> Window<'_, S> {
         }
     }
 
-    /// A number of four bytes, as wide as the others.
+    /// Reads a big-endian number of four bytes, and returns it as a `u64`.
     pub(crate) fn narrow_number(&mut self) -> Result<u64, HeadFault>
         ensures { Read self.old self.new (number_at w32) result }
     {
         Ok(self.read_u32()? as u64)
     }
 
-    /// A count or a length.
+    /// Reads a count or a length of the version. Errs with `BadCount` if its top bit is 1.
     #[tactic(auto, using(crate::proofs::Parts::parts), unfolding(crate::specs::code::Reading::count_at))]
     pub(crate) fn count(&mut self, version: Version) -> Result<u64, HeadFault>
         ensures { Read self.old self.new (count_at version) result }
@@ -161,7 +168,7 @@ impl<S: Source> Window<'_, S> {
         Ok(n)
     }
 
-    /// The next bytes, as many as the window has and no more than `most`.
+    /// Returns the next bytes, as many as the window has and at most `most`, and leaves them unused.
     fn ready(&self, most: u128) -> &[u8]
         requires some { self.now.pos < self.now.filled }
         requires most { 0 < most }
@@ -176,9 +183,10 @@ impl<S: Source> Window<'_, S> {
         &self.buf[self.pos..self.pos + k]
     }
 
-    /// Appends some of the next bytes, at least one and no more than `most`, and gives their number.
+    /// Reads at least one byte and at most `most`, appends them to `out`, and returns how many. Errs with `HeaderTruncated` if
+    /// no byte is left, with `ReadFailed` if the source fails, and with `OutOfMemory` if an allocation fails.
     #[tactic(auto, using(crate::proofs::Chunks::drop_more))]
-    fn some(&mut self, out: &mut Sequence<u8>, most: u128) -> Result<usize, HeadFault>
+    fn read_some(&mut self, out: &mut Sequence<u8>, most: u128) -> Result<usize, HeadFault>
         requires most { 0 < most }
         ensures kept { Kept self.old self.new }
         ensures cause { FailsOnly self.old self.new result }
@@ -193,7 +201,8 @@ impl<S: Source> Window<'_, S> {
         Ok(k)
     }
 
-    /// This number of bytes.
+    /// Reads `n` bytes, and returns them. Errs with `HeaderTruncated` if fewer are left, with `ReadFailed` if the source fails,
+    /// and with `OutOfMemory` if an allocation fails.
     #[tactic(auto, using(crate::proofs::Chunks::chunks))]
     pub(crate) fn bytes(&mut self, alloc: Global, n: u128) -> Result<Sequence<u8>, HeadFault>
         ensures { Read self.old self.new (bytes_at n []) result }
@@ -201,12 +210,12 @@ impl<S: Source> Window<'_, S> {
         let mut bytes = Sequence::new(alloc);
         let mut missing = n;
         while missing > 0 {
-            missing -= self.some(&mut bytes, missing)? as u128;
+            missing -= self.read_some(&mut bytes, missing)? as u128;
         }
         Ok(bytes)
     }
 
-    /// Passes over `n` bytes.
+    /// Passes over `n` bytes. Errs with `HeaderTruncated` if fewer are left, and with `ReadFailed` if the source fails.
     pub(crate) fn skip(&mut self, n: u64) -> Result<(), HeadFault>
         ensures { Read self.old self.new (skip_at n) result }
     {
@@ -217,7 +226,7 @@ impl<S: Source> Window<'_, S> {
         Ok(())
     }
 
-    /// The same, byte for byte: for bytes that the window doesn't hold whole.
+    /// Passes over `n` bytes as [`skip`](Window::skip) does, but byte by byte, for bytes that the window doesn't hold all of.
     #[tactic(auto, using(crate::proofs::Loops::skip))]
     fn skip_by_bytes(&mut self, n: u64) -> Result<(), HeadFault>
         ensures { Read self.old self.new (skip_at n) result }
@@ -228,7 +237,7 @@ impl<S: Source> Window<'_, S> {
         Ok(())
     }
 
-    /// This number of bytes, and past their padding.
+    /// Reads `n` bytes and the padding after them, up to a multiple of four, and returns the bytes without the padding.
     #[tactic(auto, using(crate::proofs::Parts::parts), unfolding(crate::specs::code::Reading::padded_at))]
     pub(crate) fn padded(&mut self, alloc: Global, n: u128) -> Result<Sequence<u8>, HeadFault>
         ensures { Read self.old self.new (padded_at n) result }

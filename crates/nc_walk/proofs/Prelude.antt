@@ -1,4 +1,4 @@
--- The names that most proofs of this crate cite, passed on from one place.
+-- The names that proofs of this crate cite from elsewhere, passed on from one place.
 pub use Rattle.devices.proofs.UpTo.{UpTo, appended-nothing, up-all, up-next, up-partway, up-start, up-then}
 unfoldable pub use Rattle.devices.specs.Failures.{HasFailed}
 pub use Rattle.devices.specs.Sinks.{Appended, FailedPartway, Written}

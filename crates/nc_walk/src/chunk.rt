@@ -15,14 +15,14 @@ use devices::Source;
 /// Values that were read into the start of a slice.
 #[derive(Clone, Copy)]
 pub(crate) struct Chunk {
-    /// How many values.
+    /// The number of values.
     pub(crate) values: u64,
-    /// The cursor after them.
+    /// The cursor after these values.
     pub(crate) next: Cursor,
 }
 
 impl Chunk {
-    /// Whether the last value ends its slab, another slab follows, and the chunk has space for one of its values.
+    /// Returns true if the last value ends its slab, another slab follows, and the chunk has fewer than `capacity` values.
     fn goes_on(self, slabs: Slabs, capacity: u64) -> bool
         requires { IsCursor slabs self.next }
         ensures { IsTrue result ↔ Continues slabs capacity self }
@@ -31,12 +31,12 @@ impl Chunk {
     }
 }
 
-/// Reads `ready` values from this cursor on, which is at the offset `at`, into the start of the slice: fewer if the source has
-/// ended.
+/// Reads `ready` values of one slab into the start of `into`. The first one is at `cursor`, and `at` is its offset in the file.
+/// Returns the chunk of the values that were read, which are fewer if the source has ended.
 ///
 /// # Errors
 ///
-/// The source failed, or it has no whole value at this cursor.
+/// `ReadFailed` if the source failed; `DataTruncated` if it has no whole value at this cursor.
 #[inline(always)]
 fn read_ready<S: Source>(
     slabs: &Slabs,
@@ -57,11 +57,12 @@ fn read_ready<S: Source>(
     Ok(Chunk { values, next })
 }
 
-/// Reads the values from this cursor on into the start of the slice, as many as lie side by side and at most `capacity`.
+/// Reads the values of one slab from this cursor on, at most `capacity`, into the start of `into`. Returns the chunk of the values
+/// that were read, which are fewer if the source has ended.
 ///
 /// # Errors
 ///
-/// The source failed, or it has no whole value at this cursor.
+/// `ReadFailed` if the source failed; `DataTruncated` if it has no whole value at this cursor.
 #[inline(never)]
 fn read_run<S: Source>(
     slabs: &Slabs,
@@ -83,12 +84,12 @@ fn read_run<S: Source>(
     read_ready(slabs, cursor, at, ready, source, into)
 }
 
-/// Reads the values from this cursor on into the start of the slice, of one slab after the other, up to `capacity` values or a
-/// value that isn't whole in the source.
+/// Reads values from this cursor on, of one slab after the other, into the start of `into`. Stops after `capacity` values, after
+/// the variable's last value, and before a value that isn't whole in the source. Returns the chunk of the values that were read.
 ///
 /// # Errors
 ///
-/// The source failed, or it has no whole value at this cursor.
+/// `ReadFailed` if the source failed; `DataTruncated` if it has no whole value at this cursor.
 // The rest of a slab, then whole slabs, and last what fits of one more. Where a slab has few values, calls and tests would take longer
 // than the reads: so the loop over whole slabs has all of a read inside of it, and no more.
 #[inline(never)]

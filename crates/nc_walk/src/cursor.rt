@@ -5,24 +5,24 @@ ghost use Rattle.nc_walk.specs.code.Slabs.{total, number_at, IsCursor};
 
 use crate::slabs::Slabs;
 
-/// The cursor of a value: a walk keeps it, and not the number of the value, so that it needs no division to find the value.
+/// A position among a variable's values. A walk keeps it in place of the value's number, so it needs no division to find the value.
 #[derive(Clone, Copy)]
 pub(crate) struct Cursor {
-    /// The number of the slab that has the value.
+    /// The number of the slab that has the value, from 0 on.
     pub(crate) slab: u64,
-    /// The number of the value in its slab.
+    /// The number of the value in its slab, from 0 on.
     pub(crate) within: u64,
 }
 
 impl Cursor {
-    /// The number of the value among all values.
+    /// Returns the number of the value among all values, from 0 on.
     pub(crate) fn number(self, slabs: Slabs) -> u128
         ensures { result ≡ number_at slabs self }
     {
         self.slab as u128 * slabs.values_per_slab as u128 + self.within as u128
     }
 
-    /// Whether this is the cursor after the last value.
+    /// Returns true if this is the cursor after the last value.
     pub(crate) fn is_end(self, slabs: Slabs) -> bool
         requires { IsCursor slabs self }
         ensures { IsTrue result ↔ (number_at slabs self ≡ total slabs) }
@@ -30,7 +30,7 @@ impl Cursor {
         self.slab == slabs.total_slabs
     }
 
-    /// The cursor `n` values further on: the next one, after values of one slab.
+    /// Returns the cursor `n` values further on. The values that are passed are of one slab.
     pub(crate) fn following(self, slabs: Slabs, n: u64) -> Cursor
         requires cursor { IsCursor slabs self }
         requires in_slab { self.within + n ≤ slabs.values_per_slab }

@@ -2,8 +2,8 @@
 
 ghost use Rattle.nc_walk.specs.code.Walked.{StoredNumbers};
 
-/// The bytes of values that the file has, one value after the other, are read as these values: so whoever has been handed
-/// the chunks of the first values up to the first missing one has been handed these values.
+/// If a file has the first values of a variable whole, then their bytes, one value after the other, are read as these values. A
+/// caller that was handed chunks up to the first missing value has therefore been handed all values before it.
 pub fn values_are_read()
     ensures { StoredNumbers }
 {}

@@ -1,10 +1,10 @@
-//! The values of one variable, out of a file; and those of all, into one.
+//! Reads the values of one variable out of a file, and writes the values of all variables into a file.
 //!
 //! A [`Walk`] hands out the values of a variable in row-major order, as the file has them, in chunks that it lends out of a
 //! caller's buffer. It reads no byte that isn't a byte of a value, and none twice for the same value, and it does not allocate.
 //!
 //! [`write_data`] writes the data part of a file straight from the arrays of its variables, whose last values may be lacking. It does not
-//! allocate either: what it has to know of each record variable is collected before, by [`record_slabs`].
+//! allocate either: [`record_slabs`], called before it, collects what it has to know of each record variable.
 //!
 //! ```
 //! let layout = record_layout(&header, source.len());

@@ -5,8 +5,8 @@ ghost use Rattle.nc_walk.specs.code.FullReads.{ReadsInFull};
 
 use devices::{Source, SourceFailed};
 
-/// Reads the bytes from the offset `at` on until the slice is full, or the source says that it has ended, and gives their
-/// number. A source that is transparent fills the slice.
+/// Reads the bytes from the offset `at` on until the slice is full, or a read gets no byte because the source has ended. Returns how
+/// many bytes were read. A source that is transparent fills the slice.
 ///
 /// # Errors
 ///
@@ -31,7 +31,7 @@ pub(crate) fn read_full<S: Source>(
     Ok(got + more)
 }
 
-/// The same, read by read.
+/// Reads bytes as [`read_full`] does, read by read, into a slice that may be empty.
 ///
 /// # Errors
 ///

@@ -11,12 +11,12 @@ use crate::read_full::read_full;
 use crate::slabs::Slabs;
 use devices::Source;
 
-/// Reads `ready` values from this cursor on, which is at the offset `at`, into the start of the slice, and gives their number, which
-/// isn't 0: fewer if the source has ended.
+/// Reads `ready` values of one slab into the start of `into`. The first one is at `cursor`, and `at` is its offset in the file.
+/// Returns how many whole values were read: at least 1, and fewer than `ready` if the source has ended.
 ///
 /// # Errors
 ///
-/// The source failed, or it has no whole value at this cursor.
+/// `ReadFailed` if the source failed; `DataTruncated` if it has no whole value at this cursor.
 #[inline(always)]
 pub(crate) fn read_values<S: Source>(
     slabs: &Slabs,

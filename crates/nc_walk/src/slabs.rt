@@ -11,9 +11,9 @@ use nc_base::{Dim, Header, RecordLayout, Var, is_record_var, slab_of};
 /// The slabs of a variable: values side by side in each, and one slab after the other at the same distance.
 #[derive(Clone, Copy)]
 pub(crate) struct Slabs {
-    /// The offset of the first value.
+    /// The offset of the first value in the file.
     pub(crate) begin: u64,
-    /// The bytes from one slab to the next.
+    /// The bytes from the start of one slab to the start of the next.
     pub(crate) stride: u64,
     /// The values in a slab.
     pub(crate) values_per_slab: u64,
@@ -24,8 +24,8 @@ pub(crate) struct Slabs {
 }
 
 impl Slabs {
-    /// The slabs of the variable at index `v` over the records of the layout: one for each record, or one in all if the
-    /// variable has no record dimension, or if the records' slabs are side by side.
+    /// Returns the slabs of the variable at index `v` over the records of the layout: one for each record, or one in all if the
+    /// variable has no record dimension. Slabs that are side by side become one, as [`Slabs::joined`] says.
     pub(crate) fn of(header: &Header, v: usize, layout: RecordLayout) -> Slabs
         requires sound { IsSound header.now }
         requires there { v < length header.now.vars }
@@ -44,7 +44,8 @@ impl Slabs {
         slabs.joined()
     }
 
-    /// The same values in one slab if each slab begins at the end of the one before it; otherwise the slabs as they are.
+    /// Returns the same values in one slab, if each slab begins at the end of the one before it. Otherwise, or if there are no
+    /// values or 2^64 or more, returns the slabs as they are.
     fn joined(self) -> Slabs
         requires { IsSized self }
         ensures size { result.size ≡ self.size }
@@ -65,7 +66,7 @@ impl Slabs {
         }
     }
 
-    /// The offset of the value at this cursor.
+    /// Returns the offset of the value at this cursor.
     pub(crate) fn offset(&self, cursor: Cursor) -> u128
         requires sized { IsSized self.now }
         requires within { cursor.within < self.now.values_per_slab }
@@ -76,7 +77,7 @@ impl Slabs {
         slab + cursor.within as u128 * self.size as u128
     }
 
-    /// The offset of the value at this cursor, or 2^64 - 1 if that is less: no file has a byte there.
+    /// Returns the offset of the value at this cursor, but at most 2^64 - 1, where no file has a byte.
     pub(crate) fn offset_or_most(&self, cursor: Cursor) -> u64
         requires sized { IsSized self.now }
         requires within { cursor.within < self.now.values_per_slab }
@@ -85,7 +86,8 @@ impl Slabs {
         self.offset(cursor).min(u64::MAX as u128) as u64
     }
 
-    /// Whether a slab at the offset `at` has no more than `capacity` values and ends inside of `len` bytes.
+    /// Returns true if a slab that begins at the offset `at` has no more than `capacity` values and ends inside of a file of
+    /// `len` bytes.
     #[inline(always)]
     pub(crate) fn is_whole(self, at: u64, capacity: u64, len: u64) -> bool
         requires sized { IsSized self }
@@ -96,7 +98,8 @@ impl Slabs {
             && self.values_per_slab * self.size <= len.saturating_sub(at)
     }
 
-    /// How many values from the one at this cursor on lie side by side, are at most `capacity` and end inside of `len` bytes.
+    /// Returns how many values, from the one at this cursor to the end of its slab, are whole inside of a file of `len` bytes,
+    /// but at most `capacity`.
     pub(crate) fn ready(&self, cursor: Cursor, capacity: u64, len: u64) -> u64
         requires sized { IsSized self.now }
         requires within { cursor.within < self.now.values_per_slab }
@@ -115,14 +118,14 @@ impl Slabs {
     }
 }
 
-/// The number of slabs over `records` records.
+/// Returns the number of slabs over `records` records: `records` for a record variable, and 1 for any other.
 fn slab_number(dims: &[Dim], var: &Var, records: u64) -> u64
     ensures { result ≡ (if is_record_var dims.now var.now then records else 1) }
 {
     if is_record_var(dims, var) { records } else { 1 }
 }
 
-/// The number of values in a slab that keeps the limit.
+/// Returns the number of values in a slab of the variable. The slab has at most 2^48 bytes.
 fn slab_values(dims: &[Dim], var: &Var) -> u64
     requires { slab_size dims.now var.now ≤ slab_limit }
     ensures { result ≡ slab_count dims.now var.now }

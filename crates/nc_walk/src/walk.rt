@@ -18,15 +18,16 @@ use std::marker::Model;
 /// A walk over the values of one variable, through a caller's buffer of at least 16 bytes.
 ///
 /// It hands out the values in row-major order, in chunks of one or more whole values, and each value as the file has it:
-/// big-endian. A chunk goes on from slab to slab, without the padding between them, until the buffer is full or a value
-/// isn't whole in the source. Of a walk that has stopped each call answers the same fault.
+/// big-endian. A chunk goes on from slab to slab, without the padding between them, until the buffer is full or a value isn't whole
+/// in the source. After a call has returned a fault, each later call returns the same fault.
 #[derive(Drop)]
 pub struct Walk<'a> {
     slabs: Slabs,
-    /// The cursor of the next value, or the one after the last.
+    /// The cursor of the next value, or the cursor after the last value.
     cursor: Cursor,
     /// How many values fill the buffer.
     capacity: u64,
+    /// The fault that stopped the walk, if one did.
     fault: Option<WalkFault>,
     buf: &'a mut [u8],
 }
@@ -43,8 +44,8 @@ impl<'a> Model for Walk<'a> {
 }
 
 impl<'a> Walk<'a> {
-    /// A walk at the first value of the variable at index `v` of the header, over `records` records. Where the values lie
-    /// follows from the variable's `begin` and its shape, and not from its `vsize` (NetCDF Classic Format Specification).
+    /// Returns a walk at the first value of the variable at index `v` of the header, over `records` records. The variable's `begin`
+    /// and its shape, and not its `vsize`, say where the values lie (NetCDF Classic Format Specification).
     pub fn new(header: &Header, v: usize, records: u64, buf: &'a mut [u8]) -> Walk<'a>
         requires sound { IsSound header.now }
         requires there { v < length header.now.vars }
@@ -63,8 +64,8 @@ impl<'a> Walk<'a> {
         )
     }
 
-    /// The same over the records of this layout, for a caller that walks over many variables of one file: no other variable
-    /// is looked at, so it takes time in proportion to the variable's rank alone.
+    /// Returns a walk as [`Walk::new`] does, but over the records of this layout, for a caller that walks over many variables of
+    /// one file. It takes time in proportion to the variable's rank alone, whatever the other variables are.
     pub fn with_layout(
         header: &Header,
         v: usize,
@@ -88,7 +89,7 @@ impl<'a> Walk<'a> {
         }
     }
 
-    /// The first bytes of the buffer.
+    /// Returns the first `n` bytes of the buffer.
     fn prefix(&self, n: usize) -> &[u8]
         requires { n ≤ length self.now.buf }
         ensures { result.now ≡ take n self.now.buf }
@@ -96,7 +97,8 @@ impl<'a> Walk<'a> {
         &self.buf[..n]
     }
 
-    /// Reads the next values into the start of the buffer, and gives the number of their bytes: 0 after the last value.
+    /// Reads the next values into the start of the buffer, and returns the number of their bytes, which is 0 after the last value.
+    /// Errs as [`Walk::next`] does.
     fn step<S: Source>(&mut self, source: &mut S) -> Result<usize, WalkFault>
         ensures advanced { Advanced self.old self.new (as_answer self.new.buf result) }
         ensures steps { TakesStep S.is_transparent self.old S.view source.old source.new
@@ -122,16 +124,18 @@ impl<'a> Walk<'a> {
         }
     }
 
-    /// The next values, one or more, of one slab or of several, lent out of the buffer; none after the last value.
+    /// Reads the next values, one or more, of one slab or of several, and returns their bytes, which lie in the buffer. Returns
+    /// `None` after the last value.
     ///
     /// Of a transparent source the bytes of the chunk are read, and no others.
     ///
     /// # Errors
     ///
-    /// [`WalkFault::ReadFailed`] at once if the source fails, and the values that this call has read before are not handed
-    /// out; [`WalkFault::DataTruncated`] if the next value isn't whole in the source, without a read if its length
-    /// says so. An end of the source before its length is the file's end. From then on each call answers the same, and
-    /// touches nothing.
+    /// [`WalkFault::ReadFailed`] if the source fails; the values that this call has read before the failure are not handed out.
+    /// [`WalkFault::DataTruncated`] if the next value isn't whole in the source. If the length of the source already shows
+    /// this, nothing is read. If the source ends before its length, the file is taken to end there.
+    ///
+    /// After an error each call returns the same error, and touches nothing.
     pub fn next<S: Source>(&mut self, source: &mut S) -> Result<Option<&[u8]>, WalkFault>
         ensures steps { TakesStep S.is_transparent self.old S.view source.old source.new (lent result) }
         ensures repeats { Repeats self.old S.view source.old source.new (lent result) }

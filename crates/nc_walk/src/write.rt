@@ -1,4 +1,6 @@
-//! Writing the data part of a file: a file for each of its parts.
+//! Writing the data part of a file: a module for each of its parts.
+//!
+//! Each function that writes errs only if the sink failed.
 
 mod blocks;
 mod data;

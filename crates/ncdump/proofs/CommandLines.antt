@@ -62,4 +62,4 @@ asked_by_taken words rows none is = ap asked_in is ∙ unless_none (fault_of ncd
 pub refused_words : (words : List (List ℕ)) (kind : ErrorKind) (r : Result DumpOptions OptFault) → IsErrAnd r (TellsKind kind)
     → (kind ≡ kinds.OutOfMemory) ⊎ IsAmong kind (fault_of ncdump words) → Answers (asked_by words) r
 unfolding asked_by
-refused_words words kind r tells has = refusal_answers asked_for (fault_of ncdump words) (asked_in (matches_of ncdump words)) kind r tells has
+refused_words words kind r is_fault has = refusal_answers asked_for (fault_of ncdump words) (asked_in (matches_of ncdump words)) kind r is_fault has

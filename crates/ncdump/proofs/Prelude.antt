@@ -1,4 +1,4 @@
--- The names that most proofs of this crate cite, passed on from one place.
+-- The names that proofs of this crate cite from elsewhere, passed on from one place.
 pub use Rattle.cdl_print.proofs.Begun.{appended_none}
 pub use Rattle.cdl_print.specs.code.Printer.{HasPrinted, Printed, Stopped, Takes, look_in}
 pub use Rattle.clap.specs.Words.{App, HasKind, Row, app_of, fault_of, found_of, is_simple, is_simple_and_free, kind_of, matches_of, new_app, new_rule, rows_of, rule_of, with_rule}

@@ -15,13 +15,13 @@ use cli_base::{OptFault, bytes_of, flag, is_given, option, value_of};
 use nc_base::{Sequence, stem};
 use std::alloc::{AllocError, Global};
 
-/// The command `ncdump [-h] [-c] [-v names] [-n name] [-l width] file` of ncdump(1).
+/// Returns the command `ncdump [-h] [-c] [-v names] [-n name] [-l width] file` of ncdump(1).
 ///
-/// It takes each option once, before the file or after it. What the words ask for is said by [`options_of`].
+/// The command takes each option at most once, before the file or after it. [`options_of`] reads the matches of the command.
 ///
 /// # Errors
 ///
-/// Memory was refused.
+/// An allocation failed.
 pub fn command<'a>(alloc: Global) -> Result<Command<'a>, AllocError>
     ensures { IfOk result (λ command. app_of command ≡ ncdump) }
 {
@@ -36,7 +36,7 @@ pub fn command<'a>(alloc: Global) -> Result<Command<'a>, AllocError>
         .arg(Arg::new(alloc, "file"))
 }
 
-/// What the words ask for. The first word is the program's name.
+/// Returns the options that the words of a command line ask for. The first word is the program's name.
 ///
 /// # Errors
 ///
@@ -48,16 +48,15 @@ pub(crate) fn options_by(alloc: Global, words: &[&str]) -> Result<DumpOptions, O
     options_of(alloc, &matches)
 }
 
-/// What the matches of [`command`] ask for.
+/// Returns the options that the matches of [`command`] ask for. [`DumpOptions`] says which field each option gives.
 ///
-/// The file is the path; the name is that of `-n`, otherwise the [`stem`] of the path; the header alone is `-h`, and the values
-/// of coordinate variables `-c`. The chosen names are those of `-v`, between its commas, also empty ones; the width is that
-/// of `-l`, otherwise 80 bytes.
+/// Without `-n` the name is the [`stem`] of the path. The chosen names are the parts of the value of `-v` between its commas, also
+/// empty ones. Without `-l` the width is 80 bytes.
 ///
 /// # Errors
 ///
-/// [`OptFault::Usage`] if there is no file, if both `-c` and `-h` are given, and for a width that is not of decimal
-/// digits alone, or not from 20 to 1000; [`OptFault::OutOfMemory`] only if an allocation failed.
+/// [`OptFault::Usage`] if there is no file, if both `-c` and `-h` are given, or if the value of `-l` isn't of decimal digits alone or
+/// isn't from 20 to 1000. [`OptFault::OutOfMemory`] only if an allocation failed.
 #[tactic(auto, unfolding(crate::specs::CommandLine::asked_in))]
 pub fn options_of(alloc: Global, matches: &ArgMatches) -> Result<DumpOptions, OptFault>
     ensures { Answers (asked_in (rows_of (found_of matches.now))) result }
@@ -88,7 +87,8 @@ const MIN_WIDTH: usize = 20;
 /// The greatest width that `-l` takes, in bytes.
 const MAX_WIDTH: usize = 1000;
 
-/// The width that `-l` asks for, otherwise the default.
+/// Returns the width that `word`, the value of `-l`, asks for, or 80 bytes if there is no word. Returns `None` if the word is no width
+/// that `-l` takes.
 fn width_in(word: Option<&str>) -> Option<usize>
     ensures { result ≡ width_in (text_of word.entry) }
 {
@@ -98,7 +98,7 @@ fn width_in(word: Option<&str>) -> Option<usize>
     }
 }
 
-/// The width that a word writes.
+/// Returns the number that a word stands for, or `None` if the word isn't of decimal digits alone or the number isn't from 20 to 1000.
 fn width_of(word: &str) -> Option<usize>
     ensures { result ≡ width_of word.now }
 {
@@ -109,28 +109,28 @@ fn width_of(word: &str) -> Option<usize>
     is_width(width).then_some(width)
 }
 
-/// Returns true if a line may be `width` bytes wide.
+/// Returns true if `-l` takes `width`, that is, if it is from 20 to 1000.
 fn is_width(width: usize) -> bool
     ensures { result ≡ is_in_range 20 1000 width }
 {
     MIN_WIDTH <= width && width <= MAX_WIDTH
 }
 
-/// Returns true if the word is of decimal digits alone.
+/// Returns true if the word is of decimal digits alone, or empty.
 fn is_of_digits(word: &str) -> bool
     ensures { result ≡ list_all is_ascii_digit word.now }
 {
     word.as_bytes().iter().all(|byte| byte.is_ascii_digit())
 }
 
-/// The name that `-n` asks for, otherwise the stem of the path.
+/// Returns a copy of `word`, the value of `-n`, or of the stem of the path if there is no word. Errs only if an allocation failed.
 fn name_of(alloc: Global, word: Option<&str>, path: &str) -> Result<Sequence<u8>, AllocError>
     ensures { IfOk result (λ name. name ≡ unwrap_or (text_of word.entry) (stem_of path.now)) }
 {
     bytes_of(alloc, word.unwrap_or(stem(path)))
 }
 
-/// The names that `-v` asks for.
+/// Returns the names in `word`, the value of `-v`, or `None` if there is no word. Errs only if an allocation failed.
 fn chosen_in(
     alloc: Global,
     word: Option<&str>,
@@ -143,7 +143,7 @@ fn chosen_in(
     }
 }
 
-/// The names in a word, between its commas.
+/// Returns the parts of a word between its commas, also empty ones. Errs only if an allocation failed.
 fn names_in(alloc: Global, word: &str) -> Result<Sequence<Sequence<u8>>, AllocError>
     ensures { IfOk result (λ names. names ≡ names_in word.now) }
 {

@@ -14,15 +14,17 @@ use crate::showing::show;
 use nc_file::{Sink, Source, read_header};
 use std::alloc::Global;
 
-/// Writes the dump of the file that the source has, through a caller's buffer of at least 16 bytes.
+/// Reads the file that the source has, through `buf`, which has at least 16 bytes, and writes its dump to the sink.
 ///
-/// The text is that of ncdump(1): the header in CDL, and after `data:` the values of the shown variables. It takes memory
-/// for the header and for chosen names, and none for values.
+/// The text is that of ncdump(1): the header in CDL, and after `data:` the values of the variables that the options select
+/// ([`select`]). Allocates for the header and for the selection, and not for values.
 ///
 /// # Errors
 ///
-/// The faults of the header, and then [`DumpFault::NoSuchVariable`] for a chosen name that no variable has, each with nothing
-/// written; then those of [`show`]. A device's fault is returned only if the device failed, and
+/// [`DumpFault::Format`] for the first wrong field of the header, otherwise [`DumpFault::NoSuchVariable`] for the first chosen name
+/// that no variable has, each with nothing written. [`DumpFault::DataTruncated`] as in [`show`].
+///
+/// [`DumpFault::ReadFailed`] only if the source failed, and [`DumpFault::WriteFailed`] only if the sink failed.
 /// [`DumpFault::OutOfMemory`] only if an allocation failed, with nothing written.
 pub fn dump<S: Source, W: Sink>(
     alloc: Global,

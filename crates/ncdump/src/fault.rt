@@ -11,30 +11,29 @@ use nc_base::FormatFault;
 use nc_file::{HeadFault, OpenFailed, SinkFailed, WriteFailed};
 use std::alloc::AllocError;
 
-/// Why a file could not be dumped: for want of memory, because a device failed, for what is wrong with the file, or for
-/// what was asked of it.
+/// Why a file could not be dumped: an allocation, the source or the sink failed, the file is wrong, or a chosen name is no variable's.
 #[derive(Clone, Copy, Debug, PartialEq, Eq)]
 pub enum DumpFault {
-    /// Memory was refused. Nothing was written.
+    /// An allocation failed. Nothing was written.
     OutOfMemory,
-    /// The source failed.
+    /// The source failed. What was written is a prefix of the text.
     ReadFailed,
     /// The sink failed. It has taken a prefix of the text.
     WriteFailed,
-    /// The first wrong field of the header. Nothing was written.
+    /// The header is wrong; the fault is that of its first wrong field. Nothing was written.
     Format(FormatFault),
-    /// This item of the chosen names, counted from 0, is the name of no variable. Nothing was written.
+    /// A chosen name is the name of no variable. This is the index, counted from 0, of the first such name. Nothing was written.
     NoSuchVariable(usize),
-    /// This value, counted from 0, of this variable, counted from 0, isn't in the file. The values before it were written.
+    /// A value of a shown variable isn't in the file. The text before that value was written.
     DataTruncated {
-        /// The variable.
+        /// The index of the variable in the header, counted from 0.
         var: usize,
-        /// The value.
+        /// The number of the variable's first missing value, counted from 0 over all its records.
         value: u128,
     },
 }
 
-/// Why the dump of a file isn't on standard output.
+/// Why a file could not be opened or dumped.
 #[derive(Clone, Copy, Debug, PartialEq, Eq)]
 pub enum FileFault {
     /// The path can't be opened.
@@ -46,11 +45,11 @@ pub enum FileFault {
 /// Why a run failed.
 #[derive(Debug, Drop)]
 pub enum Failure {
-    /// What is wrong with the command line.
+    /// The command line could not be read.
     CommandLine(OptFault),
-    /// What is wrong with the file at this path, or with the writing of its dump.
+    /// The file at this path could not be opened or dumped.
     File(String, FileFault),
-    /// The last of the dump's text, which was held back, was not taken.
+    /// The dump succeeded, but the flush of standard output after it failed.
     Flush,
 }
 

@@ -40,7 +40,7 @@ pub fn opt_fault_line<W: Sink>(sink: &mut W, fault: OptFault) -> Result<(), Writ
     }
 }
 
-/// The line for the last of a text, which was held back and which standard output didn't take at the end.
+/// Returns the line for a flush of standard output that failed.
 #[tactic(auto, unfolding(crate::specs::Faults::flush_fault_line))]
 fn flush_fault_line() -> &'static [u8]
     ensures { result.now ≡ flush_fault_line }
@@ -48,7 +48,7 @@ fn flush_fault_line() -> &'static [u8]
     b"ncdump: write failed\n"
 }
 
-/// The usage line.
+/// Returns the line that says how the program is used.
 #[tactic(auto, unfolding(crate::specs::Faults::usage_line))]
 fn usage_line() -> &'static [u8]
     ensures { result.now ≡ usage_line }
@@ -56,7 +56,7 @@ fn usage_line() -> &'static [u8]
     b"usage: ncdump [-h] [-c] [-v names] [-n name] [-l width] file\n"
 }
 
-/// Writes the line of a fault of the file at this path.
+/// Writes the line that says why the file at this path could not be opened or dumped.
 #[tactic(auto, unfolding(crate::specs::Faults::file_line))]
 fn put_file_fault<W: Sink>(sink: &mut W, path: &[u8], fault: FileFault) -> Result<(), WriteFailed>
     ensures { Wrote W.view sink.old sink.new (file_line path.now fault) result }
@@ -77,7 +77,7 @@ fn put_cannot_open<W: Sink>(sink: &mut W, path: &[u8]) -> Result<(), WriteFailed
     put(sink, cannot_open_words())
 }
 
-/// What stands after a path that can't be opened.
+/// Returns what the line for a path that can't be opened has after the path, with the line feed.
 #[tactic(auto, unfolding(crate::specs::Faults::cannot_open_words))]
 fn cannot_open_words() -> &'static [u8]
     ensures { result.now ≡ cannot_open_words }
@@ -85,7 +85,7 @@ fn cannot_open_words() -> &'static [u8]
     b": cannot open\n"
 }
 
-/// Writes the fault line of a file that could not be dumped: `ncdump: FILE: TEXT`.
+/// Writes the fault line of a file that could not be dumped: `ncdump: FILE: MESSAGE`.
 ///
 /// # Errors
 ///
@@ -101,7 +101,7 @@ pub fn fault_line<W: Sink>(sink: &mut W, file: &[u8], fault: &DumpFault) -> Resu
     put(sink, b"\n")
 }
 
-/// Writes what a fault says.
+/// Writes the message of a fault, with its numbers.
 #[tactic(auto, using(devices::proofs::Writes::writes), unfolding(crate::specs::Faults::fault_text))]
 fn put_fault<W: Sink>(sink: &mut W, fault: &DumpFault) -> Result<(), WriteFailed>
     ensures { Wrote W.view sink.old sink.new (fault_text fault.now) result }
@@ -110,7 +110,7 @@ fn put_fault<W: Sink>(sink: &mut W, fault: &DumpFault) -> Result<(), WriteFailed
     put_numbers(sink, fault)
 }
 
-/// Writes the numbers of a fault.
+/// Writes the message of a fault from its first number on, or nothing if the fault has no number.
 #[tactic(auto, using(devices::proofs::Writes::writes), unfolding(crate::specs::Faults::fault_numbers))]
 fn put_numbers<W: Sink>(sink: &mut W, fault: &DumpFault) -> Result<(), WriteFailed>
     ensures { Wrote W.view sink.old sink.new (fault_numbers fault.now) result }
@@ -123,7 +123,7 @@ fn put_numbers<W: Sink>(sink: &mut W, fault: &DumpFault) -> Result<(), WriteFail
     }
 }
 
-/// Writes the place of a name among the chosen ones.
+/// Writes `N of -v` for the index N of a chosen name, counted from 0.
 #[tactic(auto, using(devices::proofs::Writes::writes))]
 fn put_index<W: Sink>(sink: &mut W, index: usize) -> Result<(), WriteFailed>
     ensures { Wrote W.view sink.old sink.new (index_text index) result }
@@ -132,7 +132,7 @@ fn put_index<W: Sink>(sink: &mut W, index: usize) -> Result<(), WriteFailed>
     put(sink, b" of -v")
 }
 
-/// Writes the place of a value.
+/// Writes `V: data truncated at value K` for the variable with the index V, whose first missing value has the number K.
 #[tactic(auto, using(devices::proofs::Writes::writes))]
 fn put_place<W: Sink>(sink: &mut W, var: usize, value: u128) -> Result<(), WriteFailed>
     ensures { Wrote W.view sink.old sink.new (place_text var value) result }
@@ -142,7 +142,7 @@ fn put_place<W: Sink>(sink: &mut W, var: usize, value: u128) -> Result<(), Write
     put_decimal(sink, value)
 }
 
-/// What a fault says, up to its first number.
+/// Returns the message of a fault up to its first number, or all of the message if it has no number.
 #[tactic(auto, unfolding(crate::specs::Faults::fault_words))]
 fn fault_words(fault: &DumpFault) -> &'static [u8]
     ensures { result.now ≡ fault_words fault.now }
@@ -157,7 +157,7 @@ fn fault_words(fault: &DumpFault) -> &'static [u8]
     }
 }
 
-/// What a wrong field's fault says, but for the number after it.
+/// Returns the message for a wrong field of a header, without the number that follows `unknown version `.
 #[tactic(auto, unfolding(crate::specs::Faults::format_words))]
 fn format_words(fault: FormatFault) -> &'static [u8]
     ensures { result.now ≡ format_words fault }
@@ -178,7 +178,7 @@ fn format_words(fault: FormatFault) -> &'static [u8]
     }
 }
 
-/// What each line of the program begins with.
+/// Returns what each line begins with, except for the usage line.
 #[tactic(auto, unfolding(crate::specs::Faults::program_words))]
 fn program_words() -> &'static [u8]
     ensures { result.now ≡ program_words }
@@ -186,7 +186,7 @@ fn program_words() -> &'static [u8]
     b"ncdump: "
 }
 
-/// The words between the numbers of a variable and of its first missing value.
+/// Returns the words between the index of a variable and the number of its first missing value.
 #[tactic(auto, unfolding(crate::specs::Faults::truncated_words))]
 fn truncated_words() -> &'static [u8]
     ensures { result.now ≡ truncated_words }

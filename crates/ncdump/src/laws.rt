@@ -2,14 +2,15 @@
 
 ghost use Rattle.ncdump.specs.OneDump.{BytesHaveOneDump, DumpsAgree};
 
-/// For each list of bytes and all options there is exactly one text, and one ending: the dump of a file is a relation, which
-/// says what the text is and not how it is made, and it leaves no choice.
+/// A file of any bytes has exactly one dump under given options: one text, and one ending, which is success or a fault.
+///
+/// The definition of a dump is a relation between bytes, options, text and ending. It says what the text is, not how it is made.
 pub fn one_dump()
     ensures { BytesHaveOneDump }
 {}
 
-/// Two calls of [`dump`](crate::dump) for the same bytes and options that meet no failure write the same text and answer
-/// the same, whatever buffers they were lent, and however their reads and writes were cut.
+/// If two calls of [`dump`](crate::dump) have the same bytes and options, and no device or allocation fails in them, then they write
+/// the same text and return the same result. The length of the buffer and the sizes of reads and writes make no difference.
 pub fn dumps_agree()
     ensures { DumpsAgree }
 {}

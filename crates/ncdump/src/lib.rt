@@ -1,8 +1,8 @@
 //! The dump of a netCDF classic file as CDL text, and the command line of the program `ncdump`.
 //!
-//! [`dump`] reads a file and writes its text, and [`fault_line`] writes why it could not. [`DumpOptions`] says what is shown,
-//! and under which name; [`options_of`] reads them from the matches of [`command`]. [`run_with`] is the whole program, except for
-//! what opens its file and for the flush of standard error.
+//! [`dump`] reads a file and writes its text. If `dump` fails, [`fault_line`] writes why. [`DumpOptions`] says what is shown, and under
+//! which name; [`options_of`] makes these options from the matches of [`command`]. [`run_with`] is the whole program, but its caller
+//! gives it the opener of files and the standard streams, and flushes standard error.
 //!
 //! ```
 //! use devices::FileSource;

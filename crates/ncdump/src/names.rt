@@ -7,12 +7,12 @@ use nc_base::{Dim, Sequence, Var};
 use std::alloc::{AllocError, Global};
 use std::collections::BTreeSet;
 
-/// What has a name.
+/// An item that has a name: a dimension, a variable, or a name itself.
 pub trait Named {
     // The bytes of the name.
     ghost name_of: { Self → List ℕ };
 
-    /// The name.
+    /// Returns the bytes of the name.
     fn name(&self) -> &[u8]
         ensures { result.now ≡ name_of self.now };
 }
@@ -41,14 +41,14 @@ impl Named for Sequence<u8> {
     }
 }
 
-/// A set of names, in which one is found by its bytes in a time that grows with the logarithm of their number.
+/// A set of names. The time to find a name grows with the logarithm of the number of names.
 #[derive(Drop)]
 pub struct NameSet<'a> {
     names: BTreeSet<&'a [u8]>,
 }
 
 impl<'a> NameSet<'a> {
-    /// The names of these items.
+    /// Returns the set of the names of these items. Errs only if an allocation failed.
     pub fn of<T: Named>(alloc: Global, items: &'a [T]) -> Result<NameSet<'a>, AllocError>
         ensures { IfOk result (HoldsNames T.name_of items.now) }
     {
@@ -66,7 +66,7 @@ impl<'a> NameSet<'a> {
         self.names.contains(name)
     }
 
-    /// A set without names.
+    /// Returns an empty set.
     fn new(alloc: Global) -> NameSet<'a>
         ensures { (name : List ℕ) → holds result name ≡ false }
     {
@@ -75,7 +75,7 @@ impl<'a> NameSet<'a> {
         }
     }
 
-    /// Adds a name.
+    /// Adds a name to the set. Errs only if an allocation failed.
     fn insert(&mut self, name: &'a [u8]) -> Result<(), AllocError>
         ensures { OnOk result (HasGained self.old self.new name.now) }
     {

@@ -7,13 +7,13 @@ use nc_base::Sequence;
 pub struct DumpOptions {
     /// The path of the file, which fault lines name.
     pub file: String,
-    /// The name of the dataset: `-n`, or the stem of the path.
+    /// The name that the text gives the dataset: `-n`, or the stem of the path.
     pub name: Sequence<u8>,
     /// Whether the header alone is shown: `-h`.
     pub head_only: bool,
     /// Whether the values of coordinate variables alone are shown: `-c`.
     pub coords: bool,
-    /// The names of the variables whose values are shown, if not all: `-v`.
+    /// The names of the variables whose values may be shown: `-v`. `None` allows every name.
     pub chosen: Option<Sequence<Sequence<u8>>>,
     /// The width, in bytes, at which lines of values that aren't characters are broken, from 20 to 1000: `-l`.
     pub width: usize,

@@ -17,12 +17,13 @@ use devices::Flush;
 use nc_file::{Opener, Sink, Source};
 use std::alloc::Global;
 
-/// Runs the program on its words, the first one its name, with the files that the opener opens. Returns its exit status.
+/// Runs the program, and returns its exit status. `words` is the command line, with the program's name first; `opener` opens the file;
+/// `out` is standard output, and `err` is standard error.
 ///
-/// The status is 0 if the dump that the words ask for was written to standard output, and standard output was flushed. Otherwise it
-/// is 1, and a line on standard error says why: the first fault of the command line, of opening the file and of its dump, or the
-/// failure of the flush. A line that standard error doesn't take changes no status. Standard output is flushed before the line is
-/// written. Standard error is not flushed.
+/// The status is 0 if the dump that the words ask for was written to standard output, and standard output was flushed. Otherwise the
+/// status is 1, and a line on standard error names the first failure: of the command line, of opening the file, of its dump, or of the
+/// flush. If standard error fails, the status stays 1. Standard output is flushed before the line is written. Standard error is not
+/// flushed.
 pub fn run_with<P: Opener, O: Flush, E: Sink>(
     opener: &mut P,
     alloc: Global,
@@ -46,7 +47,8 @@ pub fn run_with<P: Opener, O: Flush, E: Sink>(
     }
 }
 
-/// Writes the dump that the words ask for, and hands on what is held back of it.
+/// Writes the dump that the words ask for, and then flushes `out`, also if the dump failed. Errs with the failure of the dump,
+/// otherwise with `Flush` if the flush failed.
 fn dump_and_flush<P: Opener, O: Flush>(
     opener: &mut P,
     alloc: Global,
@@ -65,7 +67,9 @@ fn dump_and_flush<P: Opener, O: Flush>(
     Ok(())
 }
 
-/// Writes the dump that the words ask for.
+/// Opens the file that the words name, writes its dump to `out`, and gives the file back to `opener`. Errs with `CommandLine` if the
+/// words are no valid command line, or if an allocation failed while they were read. Errs with `File` if the file can't be opened, or
+/// if its dump failed.
 fn dump_asked<P: Opener, O: Sink>(
     opener: &mut P,
     alloc: Global,
@@ -83,7 +87,8 @@ fn dump_asked<P: Opener, O: Sink>(
     }
 }
 
-/// Writes the dump of the file that the options name.
+/// Opens the file that the options name, writes its dump, and gives the file back to the opener. Errs with `CannotOpen` if the file
+/// can't be opened, or with the fault of its dump.
 fn dump_path<P: Opener, O: Sink>(
     opener: &mut P,
     alloc: Global,
@@ -104,7 +109,7 @@ fn dump_path<P: Opener, O: Sink>(
 /// The length of the buffer that a file is read through, in bytes.
 const BUFFER_LEN: usize = 4096;
 
-/// Writes the dump of the file that the source has, through a buffer of its own.
+/// Writes the dump of the file that the source has, and lends [`dump`] a buffer of 4096 bytes for it. Errs with the fault of `dump`.
 fn dump_whole<S: Source, W: Sink>(
     alloc: Global,
     source: &mut S,

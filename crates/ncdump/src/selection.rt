@@ -11,15 +11,16 @@ use crate::options::DumpOptions;
 use nc_base::{Header, Sequence, Var};
 use std::alloc::{AllocError, Global};
 
-/// Returns for each variable, in the order of the header, whether it is selected by the options `-v` and `-c` of ncdump(1): it has
-/// one of the chosen names, if names are chosen; and it is named as a dimension, if the values of coordinate variables alone are
-/// shown. The option for the header alone makes no difference.
+/// Returns a `bool` for each variable, in the order of the header: true if the options `-v` and `-c` of ncdump(1) select it.
+///
+/// If names are chosen (`-v`), only variables with one of these names are selected. If the values of coordinate variables alone are
+/// shown (`-c`), only variables with the name of a dimension are selected. The option `-h` makes no difference.
 ///
 /// The time grows with the number of names times its logarithm.
 ///
 /// # Errors
 ///
-/// [`DumpFault::OutOfMemory`] if an allocation failed, and [`DumpFault::NoSuchVariable`] with the place, counted from 0, of
+/// [`DumpFault::OutOfMemory`] if an allocation failed, and [`DumpFault::NoSuchVariable`] with the index, counted from 0, of
 /// the first chosen name that no variable has.
 pub fn select(alloc: Global, header: &Header, options: &DumpOptions) -> Result<Vec<bool>, DumpFault>
     ensures { Selects header.now (options_of options.now) result }
@@ -29,7 +30,8 @@ pub fn select(alloc: Global, header: &Header, options: &DumpOptions) -> Result<V
     Ok(marks(alloc, header.vars.as_slice(), &chosen, &dims)?)
 }
 
-/// The chosen names as a set, if each of them is a variable's; nothing if none are chosen.
+/// Returns the chosen names as a set, or `None` if no names are chosen. Errs with `NoSuchVariable` if one of them is no variable's
+/// name, and with `OutOfMemory` if an allocation failed.
 fn chosen_names<'a>(
     alloc: Global,
     header: &Header,
@@ -46,7 +48,8 @@ fn chosen_names<'a>(
     }
 }
 
-/// The names of the dimensions if the values of coordinate variables alone are shown.
+/// Returns the names of the dimensions as a set if the values of coordinate variables alone are shown, otherwise `None`. Errs only if
+/// an allocation failed.
 fn dim_names<'a>(
     alloc: Global,
     header: &'a Header,
@@ -61,7 +64,8 @@ fn dim_names<'a>(
     Ok(Some(dims))
 }
 
-/// These names as a set, if each of them is a variable's.
+/// Returns `names` as a set, if each of them is the name of a variable. Errs with `NoSuchVariable` and the index of the first name that
+/// no variable has, and with `OutOfMemory` if an allocation failed.
 fn known_names<'a>(
     alloc: Global,
     vars: &[Var],
@@ -76,7 +80,7 @@ fn known_names<'a>(
     Ok(NameSet::of(alloc, names)?)
 }
 
-/// The place of the first name that isn't in the set.
+/// Returns the index, counted from 0, of the first of `names` that isn't in the set `known`, or `None` if all of them are in it.
 fn first_unknown(known: &NameSet<'_>, names: &[Sequence<u8>]) -> Option<usize>
     ensures { result ≡ position (λ (name : List ℕ). not (holds known.now name)) names.now }
 {
@@ -85,7 +89,8 @@ fn first_unknown(known: &NameSet<'_>, names: &[Sequence<u8>]) -> Option<usize>
         .position(|name| !known.contains(name.as_slice()))
 }
 
-/// Says for each variable whether both sets have its name.
+/// Returns a `bool` for each variable: true if both sets have its name. `None` counts as a set that has every name. Errs only if an
+/// allocation failed.
 ///
 /// The capacity is reserved first: `collect` would try a failed allocation again with less.
 fn marks(

@@ -17,17 +17,17 @@ use nc_base::{Header, RecordLayout, is_record_var, record_layout};
 use nc_file::{Sink, Source, put};
 use nc_walk::{Walk, WalkFault};
 
-/// Writes the dump of a file with this header, and reads its values through the caller's buffer of at least 16 bytes: the head,
-/// and after `data:` the values of the variables that are marked in `shown`, none if the options ask for the head alone.
+/// Writes the dump of the file that the source has: the head for `header`, and after `data:` the values of each variable whose item of
+/// `shown` is true. If the options ask for the header alone, no values are shown. The values are read through `buf`, which has at least
+/// 16 bytes.
 ///
-/// It does not allocate. A variable's opening is written before its first value is read, and no value waits for more than one
-/// buffer.
+/// Does not allocate. What stands before a variable's values is written before the first of them is read. Reading is at most one
+/// buffer ahead of writing.
 ///
 /// # Errors
 ///
-/// [`DumpFault::WriteFailed`] if the sink failed, and [`DumpFault::ReadFailed`] if the source failed; and
-/// [`DumpFault::DataTruncated`] at the first value of a shown variable that isn't in the file. What was written by then is a
-/// prefix of the text.
+/// [`DumpFault::WriteFailed`] if the sink failed, [`DumpFault::ReadFailed`] if the source failed, and [`DumpFault::DataTruncated`] at
+/// the first value of a shown variable that isn't in the file. What was written by then is a prefix of the text.
 pub fn show<S: Source, W: Sink>(
     source: &mut S,
     header: &Header,
@@ -54,14 +54,15 @@ pub fn show<S: Source, W: Sink>(
     Ok(())
 }
 
-/// The marks that count: none if the header alone is asked for.
+/// Returns `shown`, or an empty slice if the options ask for the header alone.
 fn marks_in<'a>(options: &DumpOptions, shown: &'a [bool]) -> &'a [bool]
     ensures { result.now ≡ marks_in (options_of options.now) shown.now }
 {
     if options.head_only { &[] } else { shown }
 }
 
-/// What stands before the values.
+/// Returns what stands before the values: `data:` and a line feed, or nothing if the options ask for the header alone or there are
+/// no variables.
 #[tactic(auto, unfolding(nc_base::specs::Dump::data_word))]
 fn data_word(options: &DumpOptions, header: &Header) -> &'static [u8]
     ensures { result.now ≡ data_word header.now (options_of options.now) }
@@ -73,7 +74,8 @@ fn data_word(options: &DumpOptions, header: &Header) -> &'static [u8]
     }
 }
 
-/// Shows the marked variables that have values, one after the other.
+/// Writes each variable whose item of `marks` is true, if it has values, in lines of `width` bytes. A variable beyond the end of `marks`
+/// isn't written. Errs as [`show`] does.
 fn show_marked<S: Source, W: Sink>(
     source: &mut S,
     header: &Header,
@@ -104,8 +106,8 @@ fn show_marked<S: Source, W: Sink>(
     Ok(())
 }
 
-/// Returns true if the variable at index `v` is marked and has a value over `count` records: a slab of a sound header has at
-/// least one.
+/// Returns true if `is_marked`, and the variable at index `v` has a value in a file of `count` records. In a sound header each slab has
+/// a value, so a variable with a slab has one.
 fn is_shown(header: &Header, v: usize, count: u64, is_marked: bool) -> bool
     requires sound { IsSound header.now }
     requires there { v < length header.now.vars }
@@ -114,7 +116,7 @@ fn is_shown(header: &Header, v: usize, count: u64, is_marked: bool) -> bool
     is_marked && has_slabs(header, v, count)
 }
 
-/// Returns true if the variable at index `v` has a slab over `count` records.
+/// Returns true if the variable at index `v` has a slab in a file of `count` records.
 fn has_slabs(header: &Header, v: usize, count: u64) -> bool
     requires { v < length header.now.vars }
     ensures { SaysHasSlabs header.now v count result }
@@ -122,7 +124,8 @@ fn has_slabs(header: &Header, v: usize, count: u64) -> bool
     count > 0 || !is_record_var(header.dims.as_slice(), &header.vars.as_slice()[v])
 }
 
-/// Shows the variable at index `v`: its opening, its values as they are read, and its closing.
+/// Writes the variable at index `v`: what stands before its values, the values as they are read, and what stands after them. Numbers
+/// are gathered in `text`, which may hold anything. Errs as [`show`] does.
 fn show_variable<S: Source, W: Sink>(
     source: &mut S,
     header: &Header,

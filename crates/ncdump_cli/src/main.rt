@@ -1,8 +1,9 @@
 //! The program `ncdump [-h] [-c] [-v names] [-n name] [-l width] file`: a netCDF classic file as CDL text.
 //!
-//! Where it can't write the text to standard output, one line on standard error says why, and the status is 1. All of this
-//! is done by [`ncdump::run_with`]; here are the words, the files of the system and the standard streams. Text and line are
-//! held back, and the text goes out first.
+//! If it can't write the text to standard output, one line on standard error says why, and the exit status is 1.
+//!
+//! [`ncdump::run_with`] does all of this. This crate gives it the words of the command line, the files of the system, and the standard
+//! streams through buffers. The text is flushed before the line is written.
 #![tactic(auto)]
 
 use cli_base::OptFault;
@@ -14,12 +15,13 @@ use std::process::ExitCode;
 use std::rt::{Env, Files};
 use std::{env, io};
 
-/// How many bytes of the text are held back before standard output.
+/// The capacity, in bytes, of the buffer between the text and standard output.
 const TEXT_HELD_BACK: usize = 65536;
 
-/// How many bytes of a line are held back before standard error, so that it goes out in one write.
+/// The capacity, in bytes, of the buffer before standard error. A line that fits in the buffer is passed on in one write.
 const LINE_HELD_BACK: usize = 4096;
 
+/// Runs the program, and returns its exit status: 0, or 1 after a failure.
 fn main(rt: HostRuntime) -> ExitCode {
     match run_words(&rt, rt.stderr()) {
         Ok(status) => ExitCode::from(status),
@@ -31,7 +33,8 @@ fn main(rt: HostRuntime) -> ExitCode {
     }
 }
 
-/// Runs the program on the words that it was called with, and gives its exit status.
+/// Runs the program on the words that it was called with, with `stderr` as standard error, and returns its exit status. Errs with
+/// `Usage` if the words can't be read, and with `OutOfMemory` if an allocation failed before the run.
 fn run_words<R: Env + Files<File = File> + Print + AllocGlobal, E: Write + Drop>(
     rt: &R,
     stderr: E,

@@ -28,4 +28,4 @@ asked_by_taken words rows none is = ap asked_in is ∙ unless_none (fault_of ncg
 pub refused_words : (words : List (List ℕ)) (kind : ErrorKind) (r : Result GenOptions OptFault) → IsErrAnd r (TellsKind kind)
     → (kind ≡ kinds.OutOfMemory) ⊎ IsAmong kind (fault_of ncgen words) → Answers (asked_by words) r
 unfolding asked_by
-refused_words words kind r tells has = refusal_answers asked_for (fault_of ncgen words) (asked_in (matches_of ncgen words)) kind r tells has
+refused_words words kind r is_fault has = refusal_answers asked_for (fault_of ncgen words) (asked_in (matches_of ncgen words)) kind r is_fault has

@@ -1,4 +1,4 @@
--- The names that most proofs of this crate cite, passed on from one place.
+-- The names that proofs of this crate cite from elsewhere, passed on from one place.
 pub use Rattle.cdl_laws.proofs.MeaningsAreGood.{meanings_are_good}
 pub use Rattle.cdl_meaning.specs.Meaning.{meaning, text_limit}
 pub use Rattle.cdl_statements.specs.declared.fault.CdlFault.{CdlFault}

@@ -11,13 +11,13 @@ use cli_base::{OptFault, flag, is_given, option, value_of};
 use nc_base::{Version, stem};
 use std::alloc::{AllocError, Global};
 
-/// The command `ncgen [-b] [-o file] [-k kind] [file]` of ncgen(1).
+/// Returns the command `ncgen [-b] [-o file] [-k kind] [file]` of ncgen(1).
 ///
-/// It takes each option once, before the file or after it. What the words ask for is said by [`options_of`].
+/// The command takes each option at most once, before the file or after it. [`options_of`] reads the matches of the command.
 ///
 /// # Errors
 ///
-/// Memory was refused.
+/// An allocation failed.
 pub fn command<'a>(alloc: Global) -> Result<Command<'a>, AllocError>
     ensures { IfOk result (λ command. app_of command ≡ ncgen) }
 {
@@ -30,7 +30,7 @@ pub fn command<'a>(alloc: Global) -> Result<Command<'a>, AllocError>
         .arg(Arg::new(alloc, "file"))
 }
 
-/// What the words ask for. The first word is the program's name.
+/// Returns the options that the words of a command line ask for. The first word is the program's name.
 ///
 /// # Errors
 ///
@@ -42,15 +42,15 @@ pub(crate) fn options_by(alloc: Global, words: &[&str]) -> Result<GenOptions, Op
     options_of(alloc, &matches)
 }
 
-/// What the matches of [`command`] ask for.
+/// Returns the options that the matches of [`command`] ask for.
 ///
-/// The output is that of `-o`; otherwise, with `-b`, the [`stem`] of the text's path and `.nc`, in the current folder. Without
-/// both options nothing is written.
+/// The output's path is the value of `-o`. With `-b` but not `-o`, the output is in the current folder, and its name is the [`stem`] of the
+/// text's path and `.nc`. Without both options no file is written. Without `-k` the version is CDF-1.
 ///
 /// # Errors
 ///
-/// [`OptFault::Usage`] for a word of `-k` that names no version, and where `-b` without `-o` stands without a path, which could give
-/// the output its name; [`OptFault::OutOfMemory`] only if an allocation failed.
+/// [`OptFault::Usage`] if the value of `-k` names no version, or if `-b` is given without `-o` and without a path of the text.
+/// [`OptFault::OutOfMemory`] only if an allocation failed.
 #[tactic(auto, unfolding(crate::specs::CommandLine::asked_in))]
 pub fn options_of(alloc: Global, matches: &ArgMatches) -> Result<GenOptions, OptFault>
     ensures { Answers (asked_in (rows_of (found_of matches.now))) result }
@@ -69,14 +69,15 @@ pub fn options_of(alloc: Global, matches: &ArgMatches) -> Result<GenOptions, Opt
     })
 }
 
-/// Returns true if an output is asked for that has no name.
+/// Returns true if `-b` is given (`is_binary`), but neither `output`, the value of `-o`, nor `file`, the path of the text.
 fn is_unnamed(is_binary: bool, output: Option<&str>, file: Option<&str>) -> bool
     ensures { result ≡ is_unnamed is_binary (text_of output.entry) (text_of file.entry) }
 {
     is_binary && output.is_none() && file.is_none()
 }
 
-/// The path of the output, if there is one.
+/// Returns the path of the output: `output`, the value of `-o`; otherwise, if `-b` is given (`is_binary`), the name that `file`, the
+/// path of the text, gives the output. Returns `None` if there is no such path. Errs only if an allocation failed.
 fn output_in(
     alloc: Global,
     is_binary: bool,
@@ -92,7 +93,7 @@ fn output_in(
     }
 }
 
-/// The output's name after that of the text: its stem and `.nc`.
+/// Returns the name of the output for the text at this path: the stem of the path and `.nc`. Errs only if an allocation failed.
 fn output_name(alloc: Global, path: &str) -> Result<String, AllocError>
     ensures { IfOk result (λ name. string_bytes name ≡ output_name path.now) }
 {
@@ -101,7 +102,7 @@ fn output_name(alloc: Global, path: &str) -> Result<String, AllocError>
     Ok(name)
 }
 
-/// A copy of the text, if there is one.
+/// Returns a copy of the text, or `None` if there is none. Errs only if an allocation failed.
 fn string_in(alloc: Global, text: Option<&str>) -> Result<Option<String>, AllocError>
     ensures { IfOk result (λ copy. option_map string_bytes copy ≡ text_of text.entry) }
 {
@@ -111,7 +112,7 @@ fn string_in(alloc: Global, text: Option<&str>) -> Result<Option<String>, AllocE
     }
 }
 
-/// The version that `-k` asks for, otherwise the first.
+/// Returns the version that `word`, the value of `-k`, names, or CDF-1 if there is no word. Returns `None` if the word names no version.
 fn version_in(word: Option<&str>) -> Option<Version>
     ensures { result ≡ version_in (text_of word.entry) }
 {
@@ -121,7 +122,7 @@ fn version_in(word: Option<&str>) -> Option<Version>
     }
 }
 
-/// The version that a word names.
+/// Returns the version that a word names, or `None` if it names none.
 fn version_of(word: &str) -> Option<Version>
     ensures { result ≡ version_of word.now }
 {

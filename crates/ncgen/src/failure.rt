@@ -16,7 +16,7 @@ pub enum InputFault {
     CannotOpen,
     /// The text could not be read.
     Text(TextFault),
-    /// The text gives no file.
+    /// The text was read, but no file could be generated from it.
     Generate(GenFault),
 }
 
@@ -25,18 +25,18 @@ pub enum InputFault {
 pub enum OutputFault {
     /// The output can't be created.
     CannotOpen,
-    /// The output could not be written.
+    /// Writing or closing the output failed.
     WriteFailed,
 }
 
 /// Why a run failed.
 #[derive(Debug, Drop)]
 pub enum Failure {
-    /// What is wrong with the command line.
+    /// The command line could not be read.
     CommandLine(OptFault),
-    /// What is wrong with the text at this path, or on standard input.
+    /// No file was made of the text at this path, or of standard input if there is no path.
     Input(Option<String>, InputFault),
-    /// What is wrong with the output at this path.
+    /// The output at this path could not be created or written.
     Output(String, OutputFault),
 }
 

@@ -10,25 +10,25 @@ use devices::SourceFailed;
 use nc_file::{OffsetTooLarge, WriteFailed};
 use std::alloc::AllocError;
 
-/// Why no file was generated from a text: for a fault of the text, because its dataset doesn't fit, or because the sink failed.
+/// Why no file was generated from a text.
 #[derive(Clone, Copy, Debug, PartialEq, Eq)]
 pub enum GenFault {
-    /// The text's first fault; or an allocation failed.
+    /// The first fault of the text; or an allocation failed, if the kind is `OutOfMemory`.
     Cdl(CdlFault),
-    /// The values of some variable would begin at an offset that the version has no room for.
+    /// The values of a variable would begin at an offset that is too large for the version.
     OffsetTooLarge,
-    /// The sink failed.
+    /// The sink failed. It has taken a prefix of the file.
     WriteFailed,
 }
 
-/// Why a text could not be read: for want of memory, because the reader failed, or for its length.
+/// Why a text could not be read.
 #[derive(Clone, Copy, Debug, PartialEq, Eq)]
 pub enum TextFault {
     /// An allocation failed.
     OutOfMemory,
     /// The reader failed.
     ReadFailed,
-    /// The text has more bytes than a text may have.
+    /// The text has more bytes than the caller of `read_text` allows.
     TooLong,
 }
 

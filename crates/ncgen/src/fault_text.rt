@@ -41,7 +41,7 @@ pub fn opt_fault_line<W: Sink>(sink: &mut W, fault: OptFault) -> Result<(), Writ
     }
 }
 
-/// The usage line.
+/// Returns the line that says how the program is used.
 #[tactic(auto, unfolding(crate::specs::Faults::usage_line))]
 fn usage_line() -> &'static [u8]
     ensures { result.now ≡ usage_line }
@@ -49,7 +49,7 @@ fn usage_line() -> &'static [u8]
     b"usage: ncgen [-b] [-o file] [-k kind] [file]\n"
 }
 
-/// What lines call a text: its path, or `-` for standard input.
+/// Returns the name that a fault line gives the text: its path, or `-` for standard input.
 #[tactic(auto, unfolding(crate::specs::Faults::text_name))]
 fn text_name(path: &Option<String>) -> &[u8]
     ensures { result.now ≡ text_name path.now }
@@ -60,7 +60,7 @@ fn text_name(path: &Option<String>) -> &[u8]
     }
 }
 
-/// Writes the line of a fault of the text with this name.
+/// Writes the line that says why no file was made of a text. `name` is the text's path, or `-` for standard input.
 #[tactic(auto, unfolding(crate::specs::Faults::input_line))]
 fn put_input_fault<W: Sink>(
     sink: &mut W,
@@ -76,7 +76,7 @@ fn put_input_fault<W: Sink>(
     }
 }
 
-/// Writes the line with this text about this file: `ncgen: FILE: TEXT`.
+/// Writes the line `ncgen: FILE: MESSAGE` for the path `file` and the message `text`.
 #[tactic(auto, using(devices::proofs::Writes::writes), unfolding(crate::specs::Faults::line_of_text))]
 fn put_line<W: Sink>(sink: &mut W, file: &[u8], text: &[u8]) -> Result<(), WriteFailed>
     ensures { Wrote W.view sink.old sink.new (line_of_text file.now text.now) result }
@@ -88,8 +88,8 @@ fn put_line<W: Sink>(sink: &mut W, file: &[u8], text: &[u8]) -> Result<(), Write
     put(sink, b"\n")
 }
 
-/// Writes the fault line of a text that gave no file: `ncgen: FILE: TEXT`, with `line N: ` before TEXT for a fault of the text
-/// itself.
+/// Writes the fault line of a CDL text that gave no file: `ncgen: FILE: MESSAGE`. For a fault of the CDL text itself, the message begins
+/// with `line N: `.
 ///
 /// # Errors
 ///
@@ -105,7 +105,7 @@ pub fn fault_line<W: Sink>(sink: &mut W, file: &[u8], fault: &GenFault) -> Resul
     put(sink, b"\n")
 }
 
-/// Writes what a fault says.
+/// Writes the message of a fault. For a fault of the CDL text itself, the message begins with `line N: `.
 #[tactic(auto, unfolding(crate::specs::Faults::fault_text))]
 fn put_fault<W: Sink>(sink: &mut W, fault: &GenFault) -> Result<(), WriteFailed>
     ensures { Wrote W.view sink.old sink.new (fault_text fault.now) result }
@@ -117,7 +117,7 @@ fn put_fault<W: Sink>(sink: &mut W, fault: &GenFault) -> Result<(), WriteFailed>
     }
 }
 
-/// Writes what a fault of a text says.
+/// Writes the message of a fault of a CDL text: `line N: `, and the words for the kind of the fault.
 #[tactic(auto, using(devices::proofs::Writes::writes), unfolding(crate::specs::Faults::cdl_fault_text))]
 fn put_cdl_fault<W: Sink>(sink: &mut W, fault: CdlFault) -> Result<(), WriteFailed>
     ensures { Wrote W.view sink.old sink.new (cdl_fault_text fault) result }
@@ -126,7 +126,7 @@ fn put_cdl_fault<W: Sink>(sink: &mut W, fault: CdlFault) -> Result<(), WriteFail
     put(sink, kind_words(fault.kind))
 }
 
-/// Writes which line a fault of this kind is in, if it is in one.
+/// Writes `line N: ` for a fault in this line, or nothing if the kind is `OutOfMemory`.
 #[tactic(auto, using(devices::proofs::Writes::writes), unfolding(crate::specs::Faults::place_text))]
 fn put_place<W: Sink>(sink: &mut W, kind: CdlKind, line: u64) -> Result<(), WriteFailed>
     ensures { Wrote W.view sink.old sink.new (place_text kind line) result }
@@ -137,7 +137,7 @@ fn put_place<W: Sink>(sink: &mut W, kind: CdlKind, line: u64) -> Result<(), Writ
     }
 }
 
-/// Writes the number of a line.
+/// Writes `line N: ` for the line with the number N.
 #[tactic(auto, using(devices::proofs::Writes::writes))]
 fn put_number<W: Sink>(sink: &mut W, line: u64) -> Result<(), WriteFailed>
     ensures { Wrote W.view sink.old sink.new (line_number line) result }
@@ -147,7 +147,7 @@ fn put_number<W: Sink>(sink: &mut W, line: u64) -> Result<(), WriteFailed>
     put(sink, b": ")
 }
 
-/// What is said of a fault of this kind.
+/// Returns the message for a fault of this kind, without `line N: `.
 #[tactic(auto, unfolding(crate::specs::Faults::kind_words))]
 fn kind_words(kind: CdlKind) -> &'static [u8]
     ensures { result.now ≡ kind_words kind }
@@ -176,7 +176,7 @@ fn kind_words(kind: CdlKind) -> &'static [u8]
     }
 }
 
-/// What is said of a text that could not be read.
+/// Returns the message for a text that could not be read.
 #[tactic(auto, unfolding(crate::specs::Faults::input_words))]
 fn input_words(fault: TextFault) -> &'static [u8]
     ensures { result.now ≡ input_words fault }
@@ -188,7 +188,7 @@ fn input_words(fault: TextFault) -> &'static [u8]
     }
 }
 
-/// What is said of an output.
+/// Returns the message for an output that could not be created or written.
 #[tactic(auto, unfolding(crate::specs::Faults::output_words))]
 fn output_words(fault: OutputFault) -> &'static [u8]
     ensures { result.now ≡ output_words fault }
@@ -199,7 +199,7 @@ fn output_words(fault: OutputFault) -> &'static [u8]
     }
 }
 
-/// What each line of the program begins with.
+/// Returns what each line begins with, except for the usage line.
 #[tactic(auto, unfolding(crate::specs::Faults::program_words))]
 fn program_words() -> &'static [u8]
     ensures { result.now ≡ program_words }

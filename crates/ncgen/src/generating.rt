@@ -13,15 +13,17 @@ use nc_file::{Sink, with_begins};
 use nc_walk::record_slabs;
 use std::alloc::Global;
 
-/// Reads a CDL text, and gives the netCDF classic file of the dataset that it declares, ready to be written (ncgen(1)).
+/// Reads a CDL text, and returns the netCDF classic file of the dataset that the text declares in this version, ready to be written
+/// (ncgen(1)).
 ///
-/// The text has at most 268,435,456 bytes. Memory is taken for what the text declares and for the values that it lists, and none
-/// for the file.
+/// The text has at most 268,435,456 bytes. Allocates for what the text declares and for the values that it lists, and not for the
+/// file.
 ///
 /// # Errors
 ///
-/// The first fault of the text, with its line; then [`GenFault::OffsetTooLarge`]. Or out of memory, as soon as an allocation
-/// failed.
+/// [`GenFault::Cdl`] with the first fault of the text. If the text has no fault, [`GenFault::OffsetTooLarge`] if a variable's values
+/// would begin at an offset that is too large for the version. As soon as an allocation fails, [`GenFault::Cdl`] with the kind
+/// `OutOfMemory`.
 pub fn prepare(alloc: Global, text: &[u8], version: Version) -> Result<Prepared, GenFault>
     requires { length text.now ≤ text_limit }
     ensures { Prepares (generated text.now version) result }
@@ -36,14 +38,13 @@ pub fn prepare(alloc: Global, text: &[u8], version: Version) -> Result<Prepared,
     })
 }
 
-/// Writes the netCDF classic file of the dataset that a CDL text declares (ncgen(1)).
+/// Reads a CDL text, and writes to the sink the netCDF classic file of the dataset that the text declares in this version (ncgen(1)).
 ///
-/// The text has at most 268,435,456 bytes. Memory is taken as by [`prepare`], and no more.
+/// The text has at most 268,435,456 bytes. Allocates as [`prepare`] does, and no more.
 ///
 /// # Errors
 ///
-/// Those of [`prepare`], with nothing written; and [`GenFault::WriteFailed`] if the sink failed, which then took some
-/// prefix of the file.
+/// Those of [`prepare`], with nothing written. [`GenFault::WriteFailed`] if the sink failed; it took some prefix of the file.
 pub fn generate<W: Sink>(
     alloc: Global,
     text: &[u8],

@@ -12,7 +12,8 @@ use std::io::Read;
 /// How many bytes a text may have: 256 MiB.
 const TEXT_LIMIT: usize = 1 << 28;
 
-/// Reads the text at the path, or without one that of standard input.
+/// Reads the text at the path `file`, or the text that `input` hands over if there is no path, and returns its bytes. Errs with
+/// `CannotOpen` if the path can't be opened. Errs with `Text` if the text is longer than 256 MiB, or if a read or an allocation fails.
 pub fn read_input<T: TextOpener, R: Read>(
     texts: &mut T,
     alloc: Global,
@@ -32,7 +33,8 @@ pub fn read_input<T: TextOpener, R: Read>(
     }
 }
 
-/// Reads the text at the path.
+/// Reads the text at the path, and returns its bytes. Gives the reader back to the opener `texts`, also if a read failed. Errs as
+/// [`read_input`] does.
 fn read_path<T: TextOpener>(texts: &mut T, alloc: Global, path: &str) -> Result<Vec<u8>, InputFault>
     ensures text { ReadsAt T.is_transparent (T.named texts.old path.now) result }
     ensures opens { OpensText (T.view texts.old) (T.view texts.new) result }

@@ -1,9 +1,10 @@
 //! The netCDF classic file of a CDL text, and the command line of the program `ncgen`.
 //!
-//! [`generate`] reads a text and writes its file; [`prepare`] only reads it, and returns the file ready to be written.
-//! [`read_text`] reads a text from a reader. [`GenOptions`] says which text to read and where to write its file; [`options_of`]
-//! reads them from the matches of [`command`]. [`fault_line`] writes why there is no file. [`run_with`] is the whole program,
-//! except for what opens its text and creates its output, and for its streams.
+//! [`generate`] reads a CDL text and writes its file. [`prepare`] only reads the text, and returns the file ready to be written.
+//! [`read_text`] gets the bytes of a text from a reader. [`GenOptions`] says which text to read and where to write its file;
+//! [`options_of`] makes these options from the matches of [`command`]. If there is no file, [`fault_line`] writes why. [`run_with`] is
+//! the whole program, but its caller gives it the opener of texts, the creator of outputs and the standard streams, and flushes
+//! standard error.
 //!
 //! ```
 //! use devices::MemSink;

@@ -2,13 +2,13 @@
 
 use nc_base::Version;
 
-/// Which text to read, what to make of it, and where to (the options of ncgen(1)).
+/// Which text to read, and which file to write (the options of ncgen(1)).
 #[derive(Debug, Drop)]
 pub struct GenOptions {
     /// The version of the format: `-k`.
     pub kind: Version,
-    /// The path of the file that is written, if one is: `-o`, or what `-b` makes of the text's path.
+    /// The path of the file to write, or `None` if none is written: `-o`, or the name that `-b` makes of the text's path.
     pub out: Option<String>,
-    /// The path of the text; without one it is read from standard input.
+    /// The path of the text, or `None` if the text is read from standard input.
     pub file: Option<String>,
 }

@@ -7,7 +7,8 @@ use crate::failure::OutputFault;
 use crate::prepared::Prepared;
 use devices::Creator;
 
-/// Creates the output at the path, or empties what is there, and writes the file to it.
+/// Creates the output at the path, or empties what is there. Writes the file to the output, and closes the output, also if writing
+/// failed. Errs with `CannotOpen` if the output can't be created, and with `WriteFailed` if writing or closing it failed.
 #[tactic(auto, unfolding(devices::specs::Sinks::append, devices::specs::Sinks::is_transparent))]
 pub fn write_output<C: Creator>(
     creator: &mut C,

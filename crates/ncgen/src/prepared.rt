@@ -9,14 +9,14 @@ use nc_walk::{RecordSlab, write_data};
 
 /// A file that stands ready to be written: its header, and the values that a text lists.
 ///
-/// What a variable lacks is written as its fill value, and never stands in memory.
+/// The values that the text doesn't list are written as fill values, and are never held in memory.
 #[derive(Drop)]
 pub struct Prepared {
     /// The header, with the begin of each variable.
     pub(crate) header: Header,
     /// For each variable the listed values, big-endian and one after the other.
     pub(crate) listed: Sequence<ListedArray>,
-    /// The slabs of a record.
+    /// The slab that each record variable has in a record.
     pub(crate) slabs: Sequence<RecordSlab>,
 }
 

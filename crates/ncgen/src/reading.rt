@@ -12,9 +12,9 @@ use std::io::Read;
 /// How many bytes are asked for at a time.
 const PART: usize = 65536;
 
-/// Reads all bytes of the reader, at most `max`.
+/// Reads all bytes that the reader has left, and returns them if there are at most `max`.
 ///
-/// It reads at most `max + 1` bytes, with at most as many reads. Its memory grows with the text.
+/// Reads at most `max + 1` bytes, in at most `max + 1` reads. The memory grows with the text.
 ///
 /// # Errors
 ///
@@ -39,8 +39,8 @@ pub fn read_text<R: Read>(
     Err(TextFault::TooLong)
 }
 
-/// Reads more of a text, through the buffer, and returns true if there was more. With what it holds the text gets no longer than one
-/// byte more than `max`.
+/// Reads the next bytes of the input through `buf`, and appends them to `text`, which then has at most `max + 1` bytes. Returns false at
+/// the end of the input, otherwise true. Errs with `ReadFailed` if the reader failed, and with `OutOfMemory` if an allocation failed.
 fn read_part<R: Read>(
     input: &mut CountedRead<R>,
     buf: &mut [u8],

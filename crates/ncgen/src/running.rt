@@ -20,13 +20,13 @@ use devices::{CountedRead, Creator, Sink, TextOpener};
 use std::alloc::Global;
 use std::io::Read;
 
-/// Runs the program on its words, the first one its name, with what opens texts, what creates outputs, and standard input. Returns
-/// its exit status.
+/// Runs the program, and returns its exit status. `words` is the command line, with the program's name first; `texts` opens the text;
+/// `creator` creates the output; `input` is standard input, and `err` is standard error.
 ///
-/// The status is 0 if the file that the words ask for was written, or, without an output, if the text gives one. Otherwise it is 1,
-/// and a line on standard error says why: the first fault of the command line, of opening and reading the text, of the text itself,
-/// and of creating and writing the output. The output is created only if the text gives a file. A line that standard error doesn't
-/// take changes no status. Standard error is not flushed.
+/// The status is 0 if the file that the words ask for was written, or, if they ask for no output, if the text gives a file. Otherwise
+/// the status is 1, and a line on standard error names the first failure: of the command line, of opening or reading the text, of the
+/// text itself, or of creating or writing the output. The output is created only if the text gives a file. If standard error fails, the
+/// status stays 1. Standard error is not flushed.
 pub fn run_with<T: TextOpener, C: Creator, R: Read, E: Sink>(
     texts: &mut T,
     creator: &mut C,
@@ -56,7 +56,8 @@ pub fn run_with<T: TextOpener, C: Creator, R: Read, E: Sink>(
     }
 }
 
-/// Makes what the words ask for.
+/// Reads the text that the words ask for, and writes its file if the words ask for an output. Errs with the first failure: of the
+/// command line, of the text, or of the output.
 fn generate_asked<T: TextOpener, C: Creator, R: Read>(
     texts: &mut T,
     creator: &mut C,
@@ -79,7 +80,8 @@ fn generate_asked<T: TextOpener, C: Creator, R: Read>(
     }
 }
 
-/// Reads the text that the options name, and makes the file ready that it gives.
+/// Reads the text that the options name, and returns its file, ready to be written. Errs with `CannotOpen` or `Text` if the text can't
+/// be read, and with `Generate` if the text gives no file or an allocation fails after the text was read.
 fn prepare_input<T: TextOpener, R: Read>(
     texts: &mut T,
     alloc: Global,
@@ -98,7 +100,7 @@ fn prepare_input<T: TextOpener, R: Read>(
     Ok(prepare(alloc, text.as_slice(), options.kind)?)
 }
 
-/// Writes the file at the output's path, if there is one.
+/// Writes the file at the path `out`, or nothing if there is no path. Errs with `Output` if the output can't be created or written.
 fn write_asked<C: Creator>(
     creator: &mut C,
     out: Option<String>,

@@ -1,7 +1,9 @@
 //! The program `ncgen [-b] [-o file] [-k kind] [file]`: the netCDF classic file of a CDL text.
 //!
-//! Where it can't make the file, one line on standard error says why, and the status is 1. All of this is done by
-//! [`ncgen::run_with`]; here are the words, the files of the system, standard input and standard error.
+//! If it can't make the file, one line on standard error says why, and the exit status is 1.
+//!
+//! [`ncgen::run_with`] does all of this. This crate gives it the words of the command line, the files of the system, standard input, and
+//! standard error through a buffer.
 #![tactic(auto)]
 
 use cli_base::OptFault;
@@ -13,9 +15,10 @@ use std::io::{BufWriter, Write};
 use std::process::ExitCode;
 use std::rt::{Env, Files};
 
-/// How many bytes of a line are held back before standard error, so that it goes out in one write.
+/// The capacity, in bytes, of the buffer before standard error. A line that fits in the buffer is passed on in one write.
 const LINE_HELD_BACK: usize = 4096;
 
+/// Runs the program, and returns its exit status: 0, or 1 after a failure.
 fn main(rt: HostRuntime) -> ExitCode {
     match run_words(&rt, rt.stderr()) {
         Ok(status) => ExitCode::from(status),
@@ -27,7 +30,8 @@ fn main(rt: HostRuntime) -> ExitCode {
     }
 }
 
-/// Runs the program on the words that it was called with, and gives its exit status.
+/// Runs the program on the words that it was called with, with `stderr` as standard error, and returns its exit status. Errs with
+/// `Usage` if the words can't be read, and with `OutOfMemory` if an allocation failed before the run.
 fn run_words<R: Env + Files<File = File> + Input + AllocGlobal, E: Write + Drop>(
     rt: &R,
     stderr: E,

@@ -12,8 +12,8 @@ from first n = range_with_len first n
 
 -- ---- classes
 
-blanks : filter is_blank all_bytes ≡ 9 ∷ 10 ∷ 11 ∷ 12 ∷ 13 ∷ 32 ∷ []
-blanks = refl
+white_spaces : filter is_blank all_bytes ≡ 9 ∷ 10 ∷ 11 ∷ 12 ∷ 13 ∷ 32 ∷ []
+white_spaces = refl
 
 decimal_digits : filter is_digit all_bytes ≡ codes "0123456789"
 decimal_digits = refl

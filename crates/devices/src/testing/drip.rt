@@ -20,7 +20,7 @@ pub enum FailWhen {
 impl FailWhen {
     ghost use Rattle.devices.specs.code.Drip.{IsDue};
 
-    /// Returns true if a read at the offset `at`, with `reads` reads before it, is to fail.
+    /// Returns true if a read at the offset `at` is to fail. `reads` is the number of reads before it.
     fn is_due(self, at: u64, reads: u128) -> bool
         ensures { IsTrue result ↔ IsDue self at reads }
     {
@@ -32,9 +32,9 @@ impl FailWhen {
     }
 }
 
-/// A source of the bytes of a slice, which gives at most `step` of them a read.
+/// A source of the bytes of a slice. A read gives at most `step` of them.
 ///
-/// It fails on request, and where a count would reach 2^128.
+/// A read fails if `fail` asks for it, and if the number of bytes that were read would reach 2^128.
 #[derive(Drop)]
 pub struct DripSource<'a> {
     bytes: &'a [u8],
@@ -49,7 +49,7 @@ pub struct DripSource<'a> {
 impl<'a> DripSource<'a> {
     ghost use Rattle.devices.specs.code.Drip.{view_of, step_of, fail_of, reads_of};
 
-    /// A source of these bytes, which has read none of them.
+    /// Creates a source of these bytes. None of them has been read. A read gives at most `step` bytes, and fails if `fail` asks for it.
     pub fn new(bytes: &'a [u8], step: usize, fail: FailWhen) -> DripSource<'a>
         requires { 1 ≤ step }
         ensures view { view_of result ≡ unread bytes.now }
@@ -67,7 +67,7 @@ impl<'a> DripSource<'a> {
         }
     }
 
-    /// How many bytes it has read.
+    /// Returns how many bytes were read from it.
     pub fn handed(&self) -> u128
         ensures { result ≡ (view_of self.now).handed }
     {

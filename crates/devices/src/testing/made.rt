@@ -7,7 +7,7 @@ ghost use Rattle.devices.specs.code.Made.{Gave, given_of, output_of, view_of};
 use crate::{CloseFailed, CreateFailed, Creator, MemSink};
 use std::alloc::{AllocError, Global};
 
-/// A path and what it was given.
+/// A path, and the bytes that it was given when an output was created or closed there.
 #[derive(Drop)]
 pub struct MadeFile {
     path: String,
@@ -15,14 +15,14 @@ pub struct MadeFile {
 }
 
 impl MadeFile {
-    /// The path.
+    /// Returns the path.
     pub fn path(&self) -> &str
         ensures { result.now ≡ (output_of self.now).path }
     {
         self.path.as_str()
     }
 
-    /// The bytes.
+    /// Returns the bytes that the path was given.
     pub fn bytes(&self) -> &[u8]
         ensures { (output_of self.now).bytes ≡ Some result.now }
     {
@@ -30,7 +30,7 @@ impl MadeFile {
     }
 }
 
-/// Outputs in memory. They are transparent.
+/// Outputs in memory, which are transparent.
 #[derive(Drop)]
 pub struct MadeFiles {
     alloc: Global,
@@ -40,7 +40,7 @@ pub struct MadeFiles {
 }
 
 impl MadeFiles {
-    /// No outputs yet.
+    /// Creates `MadeFiles` without outputs. What it is given takes memory from `alloc`.
     pub fn new(alloc: Global) -> MadeFiles
         ensures { view_of result ≡ uncreated }
     {
@@ -52,14 +52,15 @@ impl MadeFiles {
         }
     }
 
-    /// What paths were given, in order.
+    /// Returns what the paths were given, in order. If an output is created, its path is given no bytes. If it is closed, its path is given
+    /// the bytes that were written.
     pub fn given(&self) -> &[MadeFile]
         ensures { given_of result.now ≡ (view_of self.now).given }
     {
         self.made.as_slice()
     }
 
-    /// Gives the path these bytes.
+    /// Appends the path and these bytes to what paths were given. If an allocation fails, it errs, and nothing is appended.
     fn give(&mut self, path: &str, bytes: MemSink) -> Result<(), AllocError>
         ensures { Gave self.old self.new path.now bytes result }
     {

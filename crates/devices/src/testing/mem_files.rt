@@ -16,7 +16,7 @@ pub struct MemFile<'a> {
     pub bytes: &'a [u8],
 }
 
-/// Files in memory. A path names the first of them that has it. They are transparent.
+/// Files in memory, which are transparent. If several of them have the same path, the path names the first of these.
 #[derive(Drop)]
 pub struct MemFiles<'a> {
     files: &'a [MemFile<'a>],
@@ -25,7 +25,7 @@ pub struct MemFiles<'a> {
 }
 
 impl<'a> MemFiles<'a> {
-    /// These files. None of them has been opened.
+    /// Creates `MemFiles` for these files. None of them has been opened.
     pub fn new(files: &'a [MemFile<'a>]) -> MemFiles<'a>
         ensures files { files_of result ≡ files.now }
         ensures view { view_of result ≡ unopened }
@@ -78,7 +78,7 @@ impl<'a> TextOpener for MemFiles<'a> {
     }
 }
 
-/// The bytes of the first file at this path.
+/// Returns the bytes of the first file at this path, or `None` if there is none.
 fn bytes_at<'a>(files: &'a [MemFile<'a>], path: &str) -> Option<&'a [u8]>
     ensures { option_map (λ bytes. bytes.now) result ≡ bytes_named files.now path.now }
 {
@@ -86,7 +86,7 @@ fn bytes_at<'a>(files: &'a [MemFile<'a>], path: &str) -> Option<&'a [u8]>
     Some(file.bytes)
 }
 
-/// The first file at this path.
+/// Returns the first file at this path, or `None` if there is none.
 fn file_at<'a>(files: &'a [MemFile<'a>], path: &str) -> Option<&'a MemFile<'a>>
     ensures { option_map (λ file. file.now) result ≡ file_named files.now path.now }
 {

@@ -13,7 +13,7 @@ abbrev pairs : List ℕ → List ℕ
 pairs (high ∷ low ∷ rest) = (16 * value high + value low) ∷ pairs rest
 pairs _ = []
 
--- the bytes that hexadecimal digits in lower case spell, whatever blanks stand between
+-- the bytes that hexadecimal digits in lower case spell, whatever white space stands between
 abbrev pub hex : List String → List ℕ
 hex texts = pairs (filter (λ c. not (c == 32)) (flat_map codes texts))
 

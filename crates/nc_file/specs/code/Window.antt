@@ -56,10 +56,10 @@ pub record Ready {S : Type 0} {g : Ghosts S} (w : Window S g) (most : ℕ) (byte
   pub same : OnTrue g.is_transparent (bytes ≡ take (length bytes) (left w))
 
 -- The next bytes of those that were left were appended, or there were none.
-abbrev pub Moved : List ℕ → List ℕ → List ℕ → List ℕ → Result ℕ HeadFault → Type 0
-Moved old new before out (Ok k) = (k ≤ length old) × (out ≡ before ++ take k old) × (new ≡ drop k old)
-Moved old new before out (Err e) = MatchBool (is_of_bytes e) ((e ≡ Format HeaderTruncated) × (old ≡ []) × (new ≡ [])) (new ≡ old)
+abbrev pub Transferred : List ℕ → List ℕ → List ℕ → List ℕ → Result ℕ HeadFault → Type 0
+Transferred old new before out (Ok k) = (k ≤ length old) × (out ≡ before ++ take k old) × (new ≡ drop k old)
+Transferred old new before out (Err e) = MatchBool (is_of_bytes e) ((e ≡ Format HeaderTruncated) × (old ≡ []) × (new ≡ [])) (new ≡ old)
 
 -- what reading some bytes through a window to the end of a list has done
 abbrev pub ReadNext : {S : Type 0} {g : Ghosts S} → Window S g → Window S g → List ℕ → List ℕ → Result ℕ HeadFault → Type 0
-ReadNext {g = g} old new before out result = OnTrue g.is_transparent (Moved (left old) (left new) before out result)
+ReadNext {g = g} old new before out result = OnTrue g.is_transparent (Transferred (left old) (left new) before out result)

@@ -12,7 +12,7 @@ use nc_base::{Att, Sequence, Version};
 use std::alloc::Global;
 
 impl<S: Source> Window<'_, S> {
-    /// An attribute.
+    /// Reads an attribute: its name, its type, the number of its values, and its values with their padding.
     #[tactic(auto, using(crate::proofs::Parts::parts), unfolding(crate::specs::code::Reading::att_at))]
     fn att(&mut self, alloc: Global, version: Version) -> Result<Att, HeadFault>
         ensures { Read self.old self.new (att_at version) result }
@@ -24,7 +24,7 @@ impl<S: Source> Window<'_, S> {
         Ok(Att { name, ty, vals })
     }
 
-    /// This number of attributes.
+    /// Reads `n` attributes.
     #[tactic(auto, using(crate::proofs::Loops::each))]
     fn atts(&mut self, alloc: Global, version: Version, n: u64) -> Result<Sequence<Att>, HeadFault>
         ensures { Read self.old self.new (each_at (att_after version) n []) result }
@@ -37,7 +37,7 @@ impl<S: Source> Window<'_, S> {
         Ok(atts)
     }
 
-    /// A list of attributes: its tag, their number and the attributes.
+    /// Reads a list of attributes: its tag, their number and the attributes. Returns the attributes.
     #[tactic(auto, using(crate::proofs::Parts::parts), unfolding(crate::specs::code::Reading::list_at))]
     pub(crate) fn att_list(
         &mut self,

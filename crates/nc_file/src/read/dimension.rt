@@ -12,7 +12,8 @@ use nc_base::{Dim, FormatFault, Sequence, Version};
 use std::alloc::Global;
 
 impl<S: Source> Window<'_, S> {
-    /// A dimension. Only one may have length 0, and `has_record` is true if one had.
+    /// Reads a dimension: its name and its length. `has_record` is true if a dimension before it has length 0. Errs with `TwoRecordDims` if
+    /// `has_record` is true and this dimension has length 0, too.
     #[tactic(auto, using(crate::proofs::Parts::parts), unfolding(crate::specs::code::Reading::dim_at))]
     fn dim(&mut self, alloc: Global, version: Version, has_record: bool) -> Result<Dim, HeadFault>
         ensures { Read self.old self.new (dim_at version has_record) result }
@@ -25,7 +26,7 @@ impl<S: Source> Window<'_, S> {
         Ok(Dim { name, len })
     }
 
-    /// This number of dimensions.
+    /// Reads `n` dimensions. Errs with `TwoRecordDims` at the second one of length 0.
     #[tactic(auto, using(crate::proofs::Loops::each))]
     fn dims(&mut self, alloc: Global, version: Version, n: u64) -> Result<Sequence<Dim>, HeadFault>
         ensures { Read self.old self.new (each_at (dim_after version) n []) result }
@@ -40,7 +41,7 @@ impl<S: Source> Window<'_, S> {
         Ok(dims)
     }
 
-    /// The list of dimensions: its tag, their number and the dimensions.
+    /// Reads the list of dimensions: its tag, their number and the dimensions. Returns the dimensions.
     #[tactic(auto, using(crate::proofs::Parts::parts), unfolding(crate::specs::code::Reading::list_at))]
     pub(crate) fn dim_list(
         &mut self,

@@ -14,18 +14,19 @@ use devices::Source;
 use nc_base::{FormatFault, Header, NumRecs, Version};
 use std::alloc::Global;
 
-/// Reads the header at the start of a source, through a caller's buffer of at least 16 bytes. Whatever source it comes from,
-/// the header is sound, and it weighs no more than its bytes (`nc_base::weight`, [`header_len`](crate::header_len)).
+/// Reads the header at the start of a source, through a caller's buffer of at least 16 bytes. Whatever the source, the returned header is
+/// sound. Its weight (`nc_base::weight`) is at most the number of bytes that it takes in a file ([`header_len`](crate::header_len)).
 ///
-/// It reads from the source only when it lacks a byte of the next field, and from that byte on; so of a transparent
-/// source it reads the header's bytes, or those up to the end of the first wrong field, and at most one buffer more. No
-/// count of the header reserves memory: a list grows as its elements are read. The padding of names and attributes may be
-/// any bytes (NetCDF Classic Format Specification).
+/// It reads from the source only when the next field lacks a byte in the buffer, and from that byte on. So it reads at most one buffer more
+/// of a transparent source than the header, or than the bytes up to the end of the first wrong field. No count of the header reserves
+/// memory: a list grows as its elements are read. The padding of names and attributes may be any bytes (NetCDF Classic Format
+/// Specification).
 ///
 /// # Errors
 ///
-/// [`HeadFault::ReadFailed`] at once if the source fails, [`HeadFault::OutOfMemory`] at once if an allocation fails, and
-/// else what is wrong with the first wrong field from the left. An end of the source before its length is the file's end.
+/// [`HeadFault::ReadFailed`] at once if the source fails, [`HeadFault::OutOfMemory`] at once if an allocation fails, and otherwise what is
+/// wrong with the first wrong field from the left. If the source gives no bytes before its length is reached, the file counts as ended
+/// there.
 #[tactic(auto, using(crate::proofs::Weights::weighs_no_more))]
 pub fn read_header<S: Source>(
     alloc: Global,
@@ -45,8 +46,8 @@ pub fn read_header<S: Source>(
     }
 }
 
-/// Reads the header at the start of the source. It is sound if the source is transparent; of the bytes of another source
-/// nothing is known.
+/// Reads the header at the start of the source, without a check that the header is sound. If the source is transparent, the
+/// header is sound. Otherwise the contract says nothing of the header.
 fn header_at_start<S: Source>(
     alloc: Global,
     source: &mut S,
@@ -70,7 +71,8 @@ fn header_at_start<S: Source>(
 }
 
 impl<S: Source> Window<'_, S> {
-    /// A byte of `CDF`.
+    /// Reads one of the three bytes that should be `CDF`, without checking it. Errs with `NotNetcdf` if no byte is left, and with
+    /// `ReadFailed` if the source fails.
     #[tactic(auto, using(crate::proofs::Parts::byte_shorter), unfolding(crate::specs::code::Reading::byte_or, crate::specs::code::Reading::left_over))]
     fn first(&mut self) -> Result<u8, HeadFault>
         ensures { Read self.old self.new first_at result }
@@ -81,7 +83,7 @@ impl<S: Source> Window<'_, S> {
         }
     }
 
-    /// The version byte.
+    /// Reads the version byte, and returns its version. Errs with `UnknownVersion` if the byte is none of 1, 2 and 5.
     #[tactic(auto, using(crate::proofs::Parts::parts), unfolding(crate::specs::code::Reading::version_at))]
     fn version(&mut self) -> Result<Version, HeadFault>
         ensures { Read self.old self.new version_at result }
@@ -90,7 +92,8 @@ impl<S: Source> Window<'_, S> {
         Ok(Version::of_byte(b).ok_or(FormatFault::UnknownVersion(b))?)
     }
 
-    /// `CDF` and the version byte.
+    /// Reads `CDF` and the version byte, and returns the version. Errs with `NotNetcdf` if other bytes than `CDF` come, or too
+    /// few, and with `UnknownVersion` if the version byte is none of 1, 2 and 5.
     #[tactic(auto, using(crate::proofs::Parts::parts), unfolding(crate::specs::code::Reading::magic_at))]
     fn magic(&mut self) -> Result<Version, HeadFault>
         ensures { Read self.old self.new magic_at result }
@@ -105,7 +108,8 @@ impl<S: Source> Window<'_, S> {
         }
     }
 
-    /// The number of records, or the mark for an unknown one.
+    /// Reads the number of records. Returns `Streaming` if all of its bits are 1. Errs with `BadCount` if its top bit is 1, but not all of
+    /// its bits are.
     #[tactic(auto, using(crate::proofs::Parts::parts), unfolding(crate::specs::code::Reading::numrecs_at))]
     fn numrecs(&mut self, version: Version) -> Result<NumRecs, HeadFault>
         ensures { Read self.old self.new (numrecs_at version) result }
@@ -120,7 +124,8 @@ impl<S: Source> Window<'_, S> {
         Ok(NumRecs::Known(n))
     }
 
-    /// The whole header.
+    /// Reads the whole header. Errs with the fault of the first wrong field, with `ReadFailed` if the source fails, and with
+    /// `OutOfMemory` if an allocation fails.
     #[tactic(auto, using(crate::proofs::Parts::parts), unfolding(crate::specs::code::Reading::header_at))]
     fn header(&mut self, alloc: Global) -> Result<Header, HeadFault>
         ensures { Read self.old self.new header_at result }

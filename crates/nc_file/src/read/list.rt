@@ -12,7 +12,7 @@ use nc_base::{FormatFault, NcType, Sequence, Version, check_name, padding_len};
 use std::alloc::Global;
 
 impl<S: Source> Window<'_, S> {
-    /// A name: its length, its bytes and their padding.
+    /// Reads a name: its length, its bytes and their padding. Returns the bytes. Errs with `BadName` if they aren't a valid name.
     #[tactic(auto, using(crate::proofs::Parts::parts), unfolding(crate::specs::code::Reading::name_at))]
     pub(crate) fn name(
         &mut self,
@@ -30,7 +30,8 @@ impl<S: Source> Window<'_, S> {
         Ok(name)
     }
 
-    /// A type.
+    /// Reads the code of a type, and returns the type. Errs with `FloatingType` if it is float or double, and with `BadType` if the version
+    /// has no type with this code.
     #[tactic(auto, using(crate::proofs::Parts::parts), unfolding(crate::specs::code::Reading::type_at))]
     pub(crate) fn nc_type(&mut self, version: Version) -> Result<NcType, HeadFault>
         ensures { Read self.old self.new (type_at version) result }
@@ -42,7 +43,8 @@ impl<S: Source> Window<'_, S> {
         Ok(type_of(version, code).ok_or(FormatFault::BadType)?)
     }
 
-    /// The number of elements of a list, after its tag.
+    /// Reads the tag of a list and the number of its elements, and returns that number. Errs with `BadTag` if the tag that was read is
+    /// neither `tag` nor 0. Errs with `BadCount` if that tag is 0 and the number isn't, or if the number's top bit is 1.
     #[tactic(auto, using(crate::proofs::Parts::parts), unfolding(crate::specs::code::Reading::list_len_at))]
     pub(crate) fn list_len(&mut self, version: Version, tag: u32) -> Result<u64, HeadFault>
         ensures { Read self.old self.new (list_len_at version tag) result }
@@ -59,7 +61,7 @@ impl<S: Source> Window<'_, S> {
     }
 }
 
-/// The version's type with this code.
+/// Returns the version's type with this code, or `None` if the version has no such type.
 #[tactic(auto, unfolding(crate::specs::code::Reading::type_in))]
 fn type_of(version: Version, code: u32) -> Option<NcType>
     ensures { result ≡ type_in version code }

@@ -19,7 +19,8 @@ use nc_base::{
 use std::alloc::Global;
 
 impl<S: Source> Window<'_, S> {
-    /// A dimension id. That of the record dimension stands in the first place of a shape alone.
+    /// Reads a dimension id of a shape. `first` is true if it is the shape's first id. Errs with `BadShape` if it isn't the id of a
+    /// dimension of `dims`, or if it is the id of the record dimension and `first` is false.
     #[tactic(auto, using(crate::proofs::Parts::parts), unfolding(crate::specs::code::Reading::dimid_at))]
     fn dimid(&mut self, version: Version, dims: &[Dim], first: bool) -> Result<u64, HeadFault>
         ensures { Read self.old self.new (dimid_at version dims.now first) result }
@@ -31,7 +32,8 @@ impl<S: Source> Window<'_, S> {
         Ok(id)
     }
 
-    /// This number of dimension ids.
+    /// Reads the `n` dimension ids of a shape. Errs with `BadShape` if one of them names no dimension of `dims`, or if one after the first
+    /// names the record dimension.
     #[tactic(auto, using(crate::proofs::Loops::each))]
     fn dimids(
         &mut self,
@@ -51,7 +53,7 @@ impl<S: Source> Window<'_, S> {
         Ok(dimids)
     }
 
-    /// The shape of a variable: its rank and its dimension ids.
+    /// Reads the shape of a variable: its rank and its dimension ids. Returns the ids.
     #[tactic(auto, using(crate::proofs::Parts::parts), unfolding(crate::specs::code::Reading::shape_at))]
     fn shape(
         &mut self,
@@ -65,7 +67,8 @@ impl<S: Source> Window<'_, S> {
         self.dimids(alloc, version, dims, n)
     }
 
-    /// A number of the width that offsets have in the version.
+    /// Reads a big-endian number of the width that offsets have in the version, four bytes in CDF-1 and otherwise eight. Any value is
+    /// allowed.
     fn wide(&mut self, version: Version) -> Result<u64, HeadFault>
         ensures { Read self.old self.new (number_at (offset_width version)) result }
     {
@@ -75,7 +78,7 @@ impl<S: Source> Window<'_, S> {
         }
     }
 
-    /// The offset of a variable.
+    /// Reads a variable's begin, the offset of its first value. Errs with `BadOffset` if its top bit is 1.
     #[tactic(auto, using(crate::proofs::Parts::parts), unfolding(crate::specs::code::Reading::offset_at))]
     fn offset(&mut self, version: Version) -> Result<u64, HeadFault>
         ensures { Read self.old self.new (offset_at version) result }
@@ -87,7 +90,9 @@ impl<S: Source> Window<'_, S> {
         Ok(n)
     }
 
-    /// A variable, after others whose records have `total` bytes. Its `vsize` may be any number.
+    /// Reads a variable, and returns it with the bytes of a record so far. These are `total`, the padded slabs of the record variables
+    /// before it, plus its own padded slab if it is a record variable. Errs with `TooLarge` if its slab passes 2^48 bytes, or the sum
+    /// passes 2^62 bytes. Its `vsize` may be any number.
     #[tactic(auto, using(crate::proofs::Parts::parts), unfolding(crate::specs::code::Reading::var_at))]
     fn var(
         &mut self,
@@ -118,7 +123,8 @@ impl<S: Source> Window<'_, S> {
         })
     }
 
-    /// This number of variables.
+    /// Reads `n` variables. Errs with `TooLarge` if a slab passes 2^48 bytes, or if the padded slabs of the record variables
+    /// together pass 2^62 bytes.
     #[tactic(auto, using(crate::proofs::Loops::each))]
     fn vars(
         &mut self,
@@ -139,7 +145,7 @@ impl<S: Source> Window<'_, S> {
         Ok(vars)
     }
 
-    /// The list of variables: its tag, their number and the variables.
+    /// Reads the list of variables: its tag, their number and the variables. Returns the variables.
     #[tactic(auto, using(crate::proofs::Parts::parts), unfolding(crate::specs::code::Reading::list_at))]
     pub(crate) fn var_list(
         &mut self,
@@ -154,15 +160,16 @@ impl<S: Source> Window<'_, S> {
     }
 }
 
-/// Returns true if this is a dimension id, and in its place.
+/// Returns true if a dimension of `dims` has this id, and either it isn't the record dimension or `first` is true: the id is the first of
+/// its shape.
 fn is_dimid(dims: &[Dim], first: bool, id: u64) -> bool
     ensures { result ≡ is_dimid dims.now first id }
 {
     id < dims.len() as u64 && (first || !is_record_dim(dims, id))
 }
 
-/// The padded slabs of the record variables so far, with that of a variable of this shape and type; none if its slab or
-/// the record passes its limit.
+/// Returns `total`, the bytes of a record so far, plus the padded slab of a variable of this shape and type if it is a record variable.
+/// Returns `None` if the slab passes 2^48 bytes, or the sum passes 2^62 bytes.
 #[tactic(auto, unfolding(crate::specs::code::Reading::total_with))]
 fn total_with(dims: &[Dim], dimids: &[u64], ty: NcType, total: u64) -> Option<u64>
     ensures { result ≡ total_with dims.now dimids.now ty total }
@@ -176,7 +183,8 @@ fn total_with(dims: &[Dim], dimids: &[u64], ty: NcType, total: u64) -> Option<u6
     }
 }
 
-/// What a slab of this shape adds to a record: its padded size, and nothing if the shape has no records.
+/// Returns how many bytes a slab of `slab` bytes adds to a record: its padded size if the first dimension of this shape is the record
+/// dimension, otherwise 0.
 fn record_part(dims: &[Dim], dimids: &[u64], slab: u64) -> u64
     requires { slab ≤ slab_limit }
     ensures { result ≡ (if has_records dims.now dimids.now then slab + padding_len slab else 0) }

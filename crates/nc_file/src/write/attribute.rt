@@ -13,7 +13,7 @@ use crate::tag::NC_ATTRIBUTE;
 use devices::{Sink, WriteFailed};
 use nc_base::{Att, Version};
 
-/// Writes a list of attributes.
+/// Writes a list of attributes: its tag, their number and the attributes. Errs if the sink fails.
 #[tactic(auto, using(devices::proofs::Writes::writes))]
 pub(crate) fn put_att_list<W: Sink>(
     sink: &mut W,
@@ -28,7 +28,7 @@ pub(crate) fn put_att_list<W: Sink>(
     put_atts(sink, version, atts)
 }
 
-/// Writes one attribute after another.
+/// Writes the attributes, one after another. Errs if the sink fails.
 fn put_atts<W: Sink>(sink: &mut W, version: Version, atts: &[Att]) -> Result<(), WriteFailed>
     requires { All (IsSoundAtt version) atts.now }
     ensures { Wrote W.view sink.old sink.new (flat_map (att_spelling version) atts.now) result }
@@ -39,7 +39,8 @@ fn put_atts<W: Sink>(sink: &mut W, version: Version, atts: &[Att]) -> Result<(),
     Ok(())
 }
 
-/// Writes an attribute: its name, the type and the number of its values, and the values with their padding.
+/// Writes an attribute: its name, the type and the number of its values, and the values with their padding. Errs if the sink
+/// fails.
 #[tactic(auto, using(devices::proofs::Writes::writes), unfolding(nc_base::specs::GeneratedFile::att_spelling))]
 fn put_att<W: Sink>(sink: &mut W, version: Version, att: &Att) -> Result<(), WriteFailed>
     requires { IsSoundAtt version att.now }

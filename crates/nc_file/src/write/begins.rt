@@ -11,24 +11,24 @@ use super::length::header_len;
 use super::slab::padded_slab_len;
 use nc_base::{Dim, Header, Sequence, Var, is_record_var};
 
-/// An offset that the version has no room for.
+/// The begin of a variable is too large for its field in files of the version.
 #[derive(Clone, Copy, Debug, PartialEq, Eq)]
 pub struct OffsetTooLarge;
 
-/// Where the next values are to stand, in bytes from the file's start.
+/// The begins of the next variables, in bytes from the file's start.
 #[derive(Clone, Copy)]
 pub(crate) struct Offsets {
-    /// All values of the next variable that isn't a record variable.
+    /// The begin of the next variable that isn't a record variable.
     pub(crate) block: u128,
-    /// The values of the next record variable in the first record.
+    /// The begin of the next record variable, which is the offset of its slab in the first record.
     pub(crate) slab: u128,
 }
 
-/// The header with the begin of each variable. After the header stand the slabs of the variables that aren't record variables,
-/// in header order, and after them the slabs of the record variables in the first record; each slab before another is padded to
-/// a multiple of four bytes (`begin` of the NetCDF Classic Format Specification). The header's own begins don't matter.
+/// Gives each variable of the header its begin, and returns the header. The slabs of the variables that aren't record variables come after
+/// the header, in header order. After them come the slabs of the record variables in the first record. Each slab before another is padded
+/// to a multiple of four bytes (`begin` of the NetCDF Classic Format Specification). The begins that the given header has don't matter.
 ///
-/// It does not allocate, and time in proportion to the number of dimension ids, variables and attributes.
+/// It does not allocate, and takes time in proportion to the number of dimensions, dimension ids, variables and attributes.
 ///
 /// # Errors
 ///
@@ -67,7 +67,7 @@ pub fn with_begins(header: Header) -> Result<Header, OffsetTooLarge>
     })
 }
 
-/// The padded slabs of the variables that aren't record variables together, in bytes.
+/// Returns the number of bytes of the padded slabs of all variables that aren't record variables.
 fn fixed_total(dims: &[Dim], vars: &[Var]) -> u128
     requires { All (λ var. slab_size dims.now var ≤ slab_limit) vars.now }
     ensures size { result ≡ padded_total dims.now (fixed_vars dims.now vars.now) }
@@ -82,7 +82,8 @@ fn fixed_total(dims: &[Dim], vars: &[Var]) -> u128
     total
 }
 
-/// Gives each variable its begin, and returns true if all of them are below the limit. It stops at the first that isn't.
+/// Gives each variable its begin, in order: `first` has the begins of the first variables. Returns true if all begins are below `limit`.
+/// Otherwise stops at the first begin that isn't, and returns false.
 fn place_each(dims: &[Dim], vars: &mut [Var], first: Offsets, limit: u64) -> bool
     requires small { All (λ var. slab_size dims.now var ≤ slab_limit) vars.old }
     requires block { first.block < 2 ^ 120 }
@@ -103,7 +104,7 @@ fn place_each(dims: &[Dim], vars: &mut [Var], first: Offsets, limit: u64) -> boo
 }
 
 impl Offsets {
-    /// The begin of the next variable.
+    /// Returns the begin of `var`, which is the next variable.
     fn begin_of(self, dims: &[Dim], var: &Var) -> u128
         ensures { result ≡ offset_of dims.now self var.now }
     {
@@ -114,7 +115,7 @@ impl Offsets {
         }
     }
 
-    /// The offsets after the values of the next variable.
+    /// Returns the offsets after `var`, which is the next variable: the one of its kind is increased by its padded slab.
     fn after(self, dims: &[Dim], var: &Var) -> Offsets
         requires small { slab_size dims.now var.now ≤ slab_limit }
         requires block { self.block < 2 ^ 127 }

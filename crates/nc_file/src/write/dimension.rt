@@ -14,7 +14,7 @@ use crate::tag::NC_DIMENSION;
 use devices::{Sink, WriteFailed};
 use nc_base::{Dim, Version};
 
-/// Writes the list of dimensions.
+/// Writes the list of dimensions: its tag, their number and the dimensions. Errs if the sink fails.
 #[tactic(auto, using(devices::proofs::Writes::writes))]
 pub(crate) fn put_dim_list<W: Sink>(
     sink: &mut W,
@@ -29,7 +29,7 @@ pub(crate) fn put_dim_list<W: Sink>(
     put_dims(sink, version, dims)
 }
 
-/// Writes one dimension after another.
+/// Writes the dimensions, one after another. Errs if the sink fails.
 fn put_dims<W: Sink>(sink: &mut W, version: Version, dims: &[Dim]) -> Result<(), WriteFailed>
     requires { All (IsSoundDim version) dims.now }
     ensures { Wrote W.view sink.old sink.new (flat_map (dim_spelling version) dims.now) result }
@@ -40,7 +40,7 @@ fn put_dims<W: Sink>(sink: &mut W, version: Version, dims: &[Dim]) -> Result<(),
     Ok(())
 }
 
-/// Writes a dimension: its name and its length.
+/// Writes a dimension: its name and its length. Errs if the sink fails.
 #[tactic(auto, using(devices::proofs::Writes::writes), unfolding(nc_base::specs::GeneratedFile::dim_spelling))]
 fn put_dim<W: Sink>(sink: &mut W, version: Version, dim: &Dim) -> Result<(), WriteFailed>
     requires { IsSoundDim version dim.now }

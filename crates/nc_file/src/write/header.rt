@@ -40,7 +40,7 @@ pub fn write_header<W: Sink>(sink: &mut W, header: &Header) -> Result<(), WriteF
     )
 }
 
-/// Writes `CDF` and the version byte.
+/// Writes `CDF` and the version byte. Errs if the sink fails.
 #[tactic(auto, unfolding(nc_base::specs::GeneratedFile::magic_spelling))]
 fn put_magic<W: Sink>(sink: &mut W, version: Version) -> Result<(), WriteFailed>
     ensures { Wrote W.view sink.old sink.new (magic_spelling version) result }
@@ -48,7 +48,7 @@ fn put_magic<W: Sink>(sink: &mut W, version: Version) -> Result<(), WriteFailed>
     put(sink, &[b'C', b'D', b'F', version.byte()])
 }
 
-/// Writes the number of records, or the mark for an unknown one.
+/// Writes the number of records, or if it is unknown (`STREAMING`) a number whose bits are all 1. Errs if the sink fails.
 fn put_numrecs<W: Sink>(sink: &mut W, version: Version, numrecs: NumRecs) -> Result<(), WriteFailed>
     requires { IsSoundNumRecs version numrecs }
     ensures { Wrote W.view sink.old sink.new (numrecs_spelling version numrecs) result }

@@ -1,4 +1,4 @@
-//! The length of a header's spelling. Each sum stops at the greatest `u64`.
+//! The number of bytes that a header takes in a file. Each sum stops at `u64::MAX`.
 
 ghost use Rattle.std.specs.Prelude.{◌≡◌, ◌+◌, ◌-◌, ◌^◌, length, min};
 ghost use Rattle.std.specs.Int.{byte_len};
@@ -9,10 +9,11 @@ ghost use Rattle.nc_file.specs.code.Lengths.{att_len, atts_len, count_len, dim_l
 
 use nc_base::{Att, Dim, Header, Var, Version, padding_len};
 
-/// The bytes of a number of 32 bits: a tag, or the code of a type. `CDF` and the version byte take as many.
+/// The number of bytes of a 32-bit number: a tag, or the code of a type. `CDF` and the version byte take as many together.
 const WORD_LEN: u64 = 4;
 
-/// The number of bytes of a header's spelling, or `u64::MAX` if there are more.
+/// Returns the number of bytes that a header takes in a file, as [`write_header`](crate::write_header) writes it, or `u64::MAX` if there
+/// are more.
 #[tactic(auto, using(crate::proofs::HeaderLen::header_len))]
 pub fn header_len(header: &Header) -> u64
     ensures { result ≡ min (length (header_spelling header.now)) (2 ^ 64 - 1) }
@@ -25,7 +26,7 @@ pub fn header_len(header: &Header) -> u64
         .saturating_add(vars_len(version, header.vars.as_slice()))
 }
 
-/// The bytes of the list of dimensions.
+/// Returns the number of bytes that the list of dimensions, with its tag and count, takes in a file, or `u64::MAX` if there are more.
 fn dims_len(version: Version, dims: &[Dim]) -> u64
     ensures { result ≡ min (list_head_len version + sum_by (dim_len version) dims.now) (2 ^ 64 - 1) }
 {
@@ -36,7 +37,7 @@ fn dims_len(version: Version, dims: &[Dim]) -> u64
     total
 }
 
-/// The bytes of a list of attributes.
+/// Returns the number of bytes that a list of attributes, with its tag and count, takes in a file, or `u64::MAX` if there are more.
 fn atts_len(version: Version, atts: &[Att]) -> u64
     ensures { result ≡ min (atts_len version atts.now) (2 ^ 64 - 1) }
 {
@@ -47,7 +48,7 @@ fn atts_len(version: Version, atts: &[Att]) -> u64
     total
 }
 
-/// The bytes of the list of variables.
+/// Returns the number of bytes that the list of variables, with its tag and count, takes in a file, or `u64::MAX` if there are more.
 fn vars_len(version: Version, vars: &[Var]) -> u64
     ensures { result ≡ min (list_head_len version + sum_by (var_len version) vars.now) (2 ^ 64 - 1) }
 {
@@ -58,14 +59,14 @@ fn vars_len(version: Version, vars: &[Var]) -> u64
     total
 }
 
-/// The bytes of a dimension.
+/// Returns the number of bytes that a dimension takes in a header, or `u64::MAX` if there are more.
 fn dim_len(version: Version, dim: &Dim) -> u64
     ensures { result ≡ min (dim_len version dim.now) (2 ^ 64 - 1) }
 {
     name_len(version, dim.name.as_slice()).saturating_add(count_len(version))
 }
 
-/// The bytes of an attribute.
+/// Returns the number of bytes that an attribute takes in a header, or `u64::MAX` if there are more.
 fn att_len(version: Version, att: &Att) -> u64
     ensures { result ≡ min (att_len version att.now) (2 ^ 64 - 1) }
 {
@@ -75,7 +76,7 @@ fn att_len(version: Version, att: &Att) -> u64
         .saturating_add(padded_len(att.vals.len() as u64))
 }
 
-/// The bytes of a variable.
+/// Returns the number of bytes that a variable takes in a header, or `u64::MAX` if there are more.
 fn var_len(version: Version, var: &Var) -> u64
     ensures { result ≡ min (var_len version var.now) (2 ^ 64 - 1) }
 {
@@ -87,28 +88,28 @@ fn var_len(version: Version, var: &Var) -> u64
         .saturating_add(fields)
 }
 
-/// The bytes of a name.
+/// Returns the number of bytes of a name with its length and its padding, or `u64::MAX` if there are more.
 fn name_len(version: Version, name: &[u8]) -> u64
     ensures { result ≡ min (name_len version name.now) (2 ^ 64 - 1) }
 {
     count_len(version).saturating_add(padded_len(name.len() as u64))
 }
 
-/// The length of `n` bytes with their padding.
+/// Returns `n` rounded up to a multiple of four, or `u64::MAX` if that is greater.
 fn padded_len(n: u64) -> u64
     ensures { result ≡ min (padded_len n) (2 ^ 64 - 1) }
 {
     n.saturating_add(padding_len(n as u128))
 }
 
-/// The bytes of the tag of a list and the number of its elements.
+/// Returns the number of bytes before the elements of a list: those of its tag and of the number of elements.
 fn list_head_len(version: Version) -> u64
     ensures { result ≡ list_head_len version }
 {
     WORD_LEN + count_len(version)
 }
 
-/// The bytes of a count.
+/// Returns the number of bytes that a count takes in the version: 8 in CDF-5, otherwise 4.
 fn count_len(version: Version) -> u64
     ensures { result ≡ count_len version }
 {
@@ -118,7 +119,7 @@ fn count_len(version: Version) -> u64
     }
 }
 
-/// The bytes of an offset.
+/// Returns the number of bytes that an offset takes in the version: 4 in CDF-1, otherwise 8.
 fn offset_len(version: Version) -> u64
     ensures { result ≡ byte_len (offset_width version) }
 {

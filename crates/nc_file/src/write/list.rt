@@ -9,7 +9,7 @@ use super::number::{put_count, put_word};
 use devices::{Sink, WriteFailed, put};
 use nc_base::{Version, padding_len};
 
-/// Writes a name: its length, its bytes and their padding.
+/// Writes a name: its length, its bytes and their padding. Errs if the sink fails.
 #[tactic(auto, using(devices::proofs::Writes::writes))]
 pub(crate) fn put_name<W: Sink>(
     sink: &mut W,
@@ -23,7 +23,7 @@ pub(crate) fn put_name<W: Sink>(
     put_zero_padded(sink, name)
 }
 
-/// Writes bytes, and zeros up to the next multiple of four.
+/// Writes bytes, and zeros up to the next multiple of four. Errs if the sink fails.
 #[tactic(auto, using(devices::proofs::Writes::writes))]
 pub(crate) fn put_zero_padded<W: Sink>(sink: &mut W, bytes: &[u8]) -> Result<(), WriteFailed>
     ensures { Wrote W.view sink.old sink.new (zero_padded bytes.now) result }
@@ -32,7 +32,7 @@ pub(crate) fn put_zero_padded<W: Sink>(sink: &mut W, bytes: &[u8]) -> Result<(),
     put_zeros(sink, padding_len(bytes.len() as u128))
 }
 
-/// Writes at most three zeros.
+/// Writes `n` zeros, at most three. Errs if the sink fails.
 fn put_zeros<W: Sink>(sink: &mut W, n: u64) -> Result<(), WriteFailed>
     requires { n < 4 }
     ensures { Wrote W.view sink.old sink.new (replicate n 0) result }
@@ -41,7 +41,7 @@ fn put_zeros<W: Sink>(sink: &mut W, n: u64) -> Result<(), WriteFailed>
     put(sink, &zeros[..n as usize])
 }
 
-/// Writes what comes before the elements of a list: its tag, which is 0 if there are none, and their number.
+/// Writes what comes before the `n` elements of a list: the list's tag, or 0 if `n` is 0, and then `n`. Errs if the sink fails.
 #[tactic(auto, using(devices::proofs::Writes::writes))]
 pub(crate) fn put_list_head<W: Sink>(
     sink: &mut W,

@@ -9,7 +9,7 @@ ghost use Rattle.devices.specs.Sinks.{Wrote};
 use devices::{Sink, WriteFailed, put};
 use nc_base::Version;
 
-/// Writes a number of 32 bits: a tag, or the code of a type.
+/// Writes a number of 32 bits: a tag, or the code of a type. Errs if the sink fails.
 #[tactic(auto, unfolding(nc_base::specs::GeneratedFile::word_spelling))]
 pub(crate) fn put_word<W: Sink>(sink: &mut W, n: u32) -> Result<(), WriteFailed>
     ensures { Wrote W.view sink.old sink.new (word_spelling n) result }
@@ -17,7 +17,7 @@ pub(crate) fn put_word<W: Sink>(sink: &mut W, n: u32) -> Result<(), WriteFailed>
     put(sink, &n.to_be_bytes())
 }
 
-/// Writes a number of the width of the version's counts, which may have its top bit set.
+/// Writes a number that has the width of the version's counts, and may have its top bit set. Errs if the sink fails.
 pub(crate) fn put_number<W: Sink>(sink: &mut W, version: Version, n: u64) -> Result<(), WriteFailed>
     requires { n < count_limit version + count_limit version }
     ensures { Wrote W.view sink.old sink.new (count_spelling version n) result }
@@ -28,7 +28,7 @@ pub(crate) fn put_number<W: Sink>(sink: &mut W, version: Version, n: u64) -> Res
     }
 }
 
-/// Writes a count, a length or the id of a dimension: `NON_NEG`, whose top bit is 0.
+/// Writes a count, a length or a dimension id (`NON_NEG`), whose top bit is 0. Errs if the sink fails.
 pub(crate) fn put_count<W: Sink>(sink: &mut W, version: Version, n: u64) -> Result<(), WriteFailed>
     requires { n < count_limit version }
     ensures { Wrote W.view sink.old sink.new (count_spelling version n) result }
@@ -36,7 +36,7 @@ pub(crate) fn put_count<W: Sink>(sink: &mut W, version: Version, n: u64) -> Resu
     put_number(sink, version, n)
 }
 
-/// Writes an offset: `OFFSET`, whose top bit is 0.
+/// Writes an offset (`OFFSET`), whose top bit is 0. Errs if the sink fails.
 pub(crate) fn put_offset<W: Sink>(
     sink: &mut W,
     version: Version,

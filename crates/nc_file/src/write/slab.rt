@@ -5,7 +5,7 @@ ghost use Rattle.nc_base.specs.Sizes.{padded_size, slab_limit, slab_size};
 
 use nc_base::{Dim, Var, padding_len, slab_of};
 
-/// The bytes of a variable's slab, with the padding up to the next multiple of four.
+/// Returns the number of bytes of a variable's slab, rounded up to a multiple of four.
 pub(crate) fn padded_slab_len(dims: &[Dim], var: &Var) -> u64
     requires { slab_size dims.now var.now ≤ slab_limit }
     ensures size { result ≡ padded_size dims.now var.now }

@@ -16,7 +16,7 @@ use crate::tag::NC_VARIABLE;
 use devices::{Sink, WriteFailed};
 use nc_base::{Dim, Var, Version};
 
-/// Writes the list of variables.
+/// Writes the list of variables: its tag, their number and the variables. Errs if the sink fails.
 #[tactic(auto, using(devices::proofs::Writes::writes))]
 pub(crate) fn put_var_list<W: Sink>(
     sink: &mut W,
@@ -34,7 +34,7 @@ pub(crate) fn put_var_list<W: Sink>(
     put_vars(sink, version, dims, vars)
 }
 
-/// Writes one variable after another.
+/// Writes the variables, one after another. Errs if the sink fails.
 fn put_vars<W: Sink>(
     sink: &mut W,
     version: Version,
@@ -52,7 +52,7 @@ fn put_vars<W: Sink>(
     Ok(())
 }
 
-/// Writes a variable: its name, its shape, its attributes, its type, its `vsize` and its begin.
+/// Writes a variable: its name, its shape, its attributes, its type, its `vsize` and its begin. Errs if the sink fails.
 #[tactic(auto, using(devices::proofs::Writes::writes), unfolding(nc_base::specs::GeneratedFile::var_spelling))]
 fn put_var<W: Sink>(
     sink: &mut W,
@@ -73,7 +73,7 @@ fn put_var<W: Sink>(
     put_offset(sink, version, var.begin_at)
 }
 
-/// Writes a shape: its rank and the ids of its dimensions.
+/// Writes a shape: its rank and the ids of its dimensions. Errs if the sink fails.
 #[tactic(auto, using(devices::proofs::Writes::writes))]
 fn put_shape<W: Sink>(
     sink: &mut W,
@@ -90,7 +90,7 @@ fn put_shape<W: Sink>(
     put_dimids(sink, version, dims, dimids)
 }
 
-/// Writes one id of a dimension after another.
+/// Writes the ids of dimensions, one after another. Errs if the sink fails.
 fn put_dimids<W: Sink>(
     sink: &mut W,
     version: Version,
@@ -107,7 +107,7 @@ fn put_dimids<W: Sink>(
     Ok(())
 }
 
-/// Writes the `vsize` of a variable.
+/// Writes the `vsize` of a variable. Errs if the sink fails.
 fn put_vsize<W: Sink>(
     sink: &mut W,
     version: Version,
@@ -120,7 +120,8 @@ fn put_vsize<W: Sink>(
     put_number(sink, version, vsize_of(version, padded_slab_len(dims, var)))
 }
 
-/// The padded slab, or the greatest number of 32 bits if it doesn't fit the version's field.
+/// Returns the `vsize` of a variable whose padded slab has `padded` bytes. It is `padded`, but in CDF-1 and CDF-2 the greatest number of 32
+/// bits if `padded` is greater.
 fn vsize_of(version: Version, padded: u64) -> u64
     ensures { result ≡ vsize_of version padded }
 {

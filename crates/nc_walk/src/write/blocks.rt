@@ -10,7 +10,8 @@ use super::slab_writer::SlabWriter;
 use devices::{Sink, WriteFailed};
 use nc_base::{Dim, Header, ListedArray, Var, is_record_var};
 
-/// Writes the blocks of the variables that aren't record variables, each with its padding.
+/// Writes the blocks of the variables that aren't record variables, each with its padding. `arrays` has the listed values of each
+/// variable, in header order.
 pub(super) fn put_blocks<W: Sink>(
     sink: &mut W,
     header: &Header,
@@ -28,7 +29,8 @@ pub(super) fn put_blocks<W: Sink>(
     Ok(())
 }
 
-/// Writes the block of a variable; nothing of a record variable.
+/// Writes the block of a variable with its padding, or nothing if it is a record variable. `listed` has the variable's listed
+/// values.
 fn put_block<W: Sink>(
     sink: &mut W,
     dims: &[Dim],

@@ -12,11 +12,13 @@ use super::records::put_records;
 use devices::{Sink, WriteFailed};
 use nc_base::{Header, ListedArray};
 
-/// Writes the data part of a file: the blocks of the variables that aren't record variables, in header order, and after them
-/// one record after the other (`data` of the NetCDF Classic Format Specification). The slabs are those that
-/// [`record_slabs`](crate::record_slabs) gives for the header. It does not allocate: what is listed is written straight from where it
-/// stands, a slab of numbers in one piece and rows of characters one by one, each filled up. An array may lack values at its end; they
-/// are written as the fill value of the variable, as is padding.
+/// Writes the data part of a file: the blocks of the variables that aren't record variables, in header order, and after them one
+/// record after the other (`data` of the NetCDF Classic Format Specification). `slabs` are those that
+/// [`record_slabs`](crate::record_slabs) returns for the header.
+///
+/// `arrays` has the listed values of each variable, in header order. The values that an array lacks at its end are written as the
+/// fill value of the variable, and so is padding. Does not allocate: listed values are written straight from the arrays, a slab of
+/// numbers at once, and rows of characters one by one, each filled up.
 ///
 /// # Errors
 ///

@@ -8,13 +8,14 @@ ghost use Rattle.nc_walk.specs.code.Filled.{eight_times, four_times, repeated, t
 use devices::{Sink, WriteFailed, put};
 use nc_base::{NcType, Var, fill_of};
 
-/// How many units the buffer of few fill values holds: 256 bytes, since it is made anew for each slab that lacks values.
+/// How many units of eight bytes the buffer of few fill values holds: 256 bytes, since it is made anew for each slab that lacks
+/// values.
 const FEW_UNITS: usize = 32;
 
-/// How many units the buffer of many fill values holds: 8 KiB.
+/// How many units of eight bytes the buffer of many fill values holds: 8 KiB.
 const MANY_UNITS: usize = 1024;
 
-/// Writes the first `n` bytes of the unit, repeated.
+/// Writes `n` bytes: those of `unit`, which are eight bytes of fill values, over and over.
 pub(super) fn put_fills<W: Sink>(sink: &mut W, unit: [u8; 8], n: u128) -> Result<(), WriteFailed>
     ensures { Wrote W.view sink.old sink.new (repeated unit n) result }
 {
@@ -27,7 +28,7 @@ pub(super) fn put_fills<W: Sink>(sink: &mut W, unit: [u8; 8], n: u128) -> Result
     put_many_fills(sink, unit, n)
 }
 
-/// The same at once, of at most 256 bytes: if slabs are short, no record lacks more of one.
+/// Writes `n` bytes as [`put_fills`] does, at most 256, in one piece. A short slab lacks no more than that.
 fn put_few_fills<W: Sink>(sink: &mut W, unit: [u8; 8], n: u128) -> Result<(), WriteFailed>
     requires { n ≤ 256 }
     ensures { Wrote W.view sink.old sink.new (repeated unit n) result }
@@ -37,7 +38,8 @@ fn put_few_fills<W: Sink>(sink: &mut W, unit: [u8; 8], n: u128) -> Result<(), Wr
     put(sink, &buffer[..n as usize])
 }
 
-/// The same in pieces, each but the last as long as a buffer of 8192 bytes, so that many fill values take few calls.
+/// Writes `n` bytes as [`put_fills`] does, in pieces, each but the last as long as a buffer of 8192 bytes, so that many fill values
+/// take few calls.
 fn put_many_fills<W: Sink>(sink: &mut W, unit: [u8; 8], n: u128) -> Result<(), WriteFailed>
     ensures { Wrote W.view sink.old sink.new (repeated unit n) result }
 {
@@ -52,7 +54,7 @@ fn put_many_fills<W: Sink>(sink: &mut W, unit: [u8; 8], n: u128) -> Result<(), W
     Ok(())
 }
 
-/// Eight bytes of a variable's fill values, however many values these are.
+/// Returns eight bytes of a variable's fill value: the value as often as it fits.
 #[tactic(auto, unfolding(nc_base::specs::GeneratedFile::fill_bytes))]
 pub(super) fn fill_unit(var: &Var) -> [u8; 8]
     ensures { result ≡ fill_bytes var.now 8 }
@@ -70,14 +72,14 @@ pub(super) fn fill_unit(var: &Var) -> [u8; 8]
     }
 }
 
-/// A value of one byte, eight times.
+/// Returns a value of one byte, eight times.
 fn eight_times(value: [u8; 1]) -> [u8; 8]
     ensures { result ≡ eight_times value }
 {
     [value[0]; 8]
 }
 
-/// A value of two bytes, four times.
+/// Returns a value of two bytes, four times.
 fn four_times(value: [u8; 2]) -> [u8; 8]
     ensures { result ≡ four_times value }
 {
@@ -85,7 +87,7 @@ fn four_times(value: [u8; 2]) -> [u8; 8]
     [a, b, a, b, a, b, a, b]
 }
 
-/// A value of four bytes, twice.
+/// Returns a value of four bytes, twice.
 fn twice(value: [u8; 4]) -> [u8; 8]
     ensures { result ≡ twice value }
 {

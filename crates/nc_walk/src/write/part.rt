@@ -8,7 +8,7 @@ use super::fills::put_fills;
 use devices::{Sink, WriteFailed, put};
 use nc_base::{ListedArray, Run};
 
-/// Writes `len` bytes of a listed array from a place on, or those up to its end.
+/// Writes `len` bytes of a listed array from the offset `start` on, or those up to its end if there are fewer.
 pub(super) fn put_part<W: Sink>(
     sink: &mut W,
     listed: &ListedArray,
@@ -27,7 +27,7 @@ pub(super) fn put_part<W: Sink>(
     Ok(())
 }
 
-/// Writes the first `n` bytes of a run, or all if it has fewer, and says how many.
+/// Writes the first `n` bytes of a run, or all if it has fewer, and returns how many it has written.
 #[tactic(auto, using(devices::proofs::Writes::writes))]
 fn put_run<W: Sink>(sink: &mut W, run: Run<'_>, n: u128) -> Result<u128, WriteFailed>
     ensures writes { Wrote W.view sink.old sink.new (take n (run_bytes run.entry)) result }

@@ -17,18 +17,18 @@ pub struct RecordSlab {
     var_index: usize,
     /// The bytes of the slab, without padding.
     len: u64,
-    /// Eight bytes of fill values.
+    /// Eight bytes of the variable's fill value: the value as often as it fits.
     unit: [u8; 8],
 }
 
-/// The slabs of a record, one for each record variable, in header order.
+/// Returns the slabs of a record, one for each record variable, in header order.
 ///
 /// With them [`write_data`](crate::write_data) writes a record without a look at the other variables. They take memory in
 /// proportion to the number of record variables.
 ///
 /// # Errors
 ///
-/// Memory was refused.
+/// An allocation failed.
 pub fn record_slabs(alloc: Global, header: &Header) -> Result<Sequence<RecordSlab>, AllocError>
     requires sound { IsSound header.now }
     ensures { IfOk result (λ slabs. slabs ≡ record_slabs 0 header.now.dims header.now.vars) }
@@ -45,7 +45,7 @@ pub fn record_slabs(alloc: Global, header: &Header) -> Result<Sequence<RecordSla
 }
 
 impl RecordSlab {
-    /// The slab of the variable with this index.
+    /// Returns the slab that the variable with this index has in each record.
     fn of(var_index: usize, dims: &[Dim], var: &Var) -> RecordSlab
         requires { slab_size dims.now var.now ≤ slab_limit }
         ensures { result ≡ record_slab var_index dims.now var.now }
@@ -57,7 +57,7 @@ impl RecordSlab {
         }
     }
 
-    /// The array of its variable, among those of all variables.
+    /// Returns a writer of the array of the slab's variable. `arrays` has the listed values of all variables, in header order.
     pub(super) fn array_in<'a>(&self, arrays: &'a [ListedArray]) -> SlabWriter<'a>
         requires { self.now.var_index < length arrays.now }
         ensures { result ≡ array_of arrays.now self.now }

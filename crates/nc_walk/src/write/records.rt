@@ -10,7 +10,7 @@ use super::record_slab::RecordSlab;
 use devices::{Sink, WriteFailed};
 use nc_base::{Header, ListedArray};
 
-/// Writes all records. The array of a sole record variable is written at once, since its slabs stand without padding.
+/// Writes all records. The array of a sole record variable is written in one go, since its slabs stand without padding.
 pub(super) fn put_records<W: Sink>(
     sink: &mut W,
     header: &Header,
@@ -30,7 +30,7 @@ pub(super) fn put_records<W: Sink>(
     }
 }
 
-/// Writes n records, one after the other.
+/// Writes `records` records, one after the other.
 fn put_each_record<W: Sink>(
     sink: &mut W,
     slabs: &[RecordSlab],
@@ -46,7 +46,7 @@ fn put_each_record<W: Sink>(
     Ok(())
 }
 
-/// Writes record `r`: a slab of each record variable.
+/// Writes record `r`: a slab of each record variable, with its padding.
 fn put_record<W: Sink>(
     sink: &mut W,
     slabs: &[RecordSlab],

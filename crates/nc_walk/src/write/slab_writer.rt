@@ -11,14 +11,14 @@ use devices::{Sink, WriteFailed};
 use nc_base::{Dim, ListedArray, Var, padding_len, slab_of};
 use std::marker::Model;
 
-/// The array of a variable, whose last values may be lacking: they are its fill value.
+/// A writer of the array of a variable. The values that the array lacks at its end are written as the fill value.
 #[derive(Drop)]
 pub(super) struct SlabWriter<'a> {
     /// The bytes of the values that are listed.
     pub(super) listed: &'a ListedArray,
-    /// The bytes of a slab.
+    /// The bytes of a slab, without padding.
     pub(super) slab: u64,
-    /// Eight bytes of fill values.
+    /// Eight bytes of the variable's fill value: the value as often as it fits.
     pub(super) unit: [u8; 8],
 }
 
@@ -29,7 +29,7 @@ impl<'a> Model for SlabWriter<'a> {
 }
 
 impl<'a> SlabWriter<'a> {
-    /// A writer for a variable over these dimensions, with its listed bytes.
+    /// Returns a writer for a variable over these dimensions, with its listed bytes.
     pub(super) fn of(dims: &[Dim], var: &Var, listed: &'a ListedArray) -> SlabWriter<'a>
         requires { slab_size dims.now var.now ≤ slab_limit }
         ensures { result ≡ array_view dims.now var.now listed.now }
@@ -41,7 +41,7 @@ impl<'a> SlabWriter<'a> {
         }
     }
 
-    /// Writes the array of a variable without records, and its padding.
+    /// Writes the array of a variable that isn't a record variable, and its padding.
     pub(super) fn put_block<W: Sink>(&self, sink: &mut W) -> Result<(), WriteFailed>
         ensures { Wrote W.view sink.old sink.new (filled_slab self.now self.now.listed) result }
     {
@@ -67,7 +67,8 @@ impl<'a> SlabWriter<'a> {
         put_fills(sink, self.unit, all.saturating_sub(listed))
     }
 
-    /// Writes a slab and its padding: `len` listed bytes from `start` on, or fewer if the list ends, and then fill values.
+    /// Writes a slab and its padding: `len` listed bytes from the offset `start` on, or those up to the end of the listed bytes
+    /// if there are fewer, and then fill values.
     #[tactic(auto, using(devices::proofs::Writes::writes))]
     fn put_slab<W: Sink>(&self, sink: &mut W, start: u128, len: u128) -> Result<(), WriteFailed>
         ensures { Wrote W.view sink.old sink.new (filled_part self.now start len) result }

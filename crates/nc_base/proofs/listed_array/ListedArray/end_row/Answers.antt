@@ -1,11 +1,11 @@
 use Rattle.std.proofs.Common.{ℕ, ◌≡◌, ◌+◌, ◌-◌, ◌∷◌, ◌++◌, List, [], length, ap, sym, ◌∙◌, subst, arith, replicate}
 use Rattle.nc_base.proofs.Prelude.{common_steps, nil_from_length, filled_rows, AreRowEnds}
-use Rattle.nc_base.proofs.FilledRows.{AreToldAs, no-rows, like-rows, filled_end, ends_end}
+use Rattle.nc_base.proofs.FilledRows.{AreSameEnds, no-rows, like-rows, filled_end, ends_end}
 use Rattle.nc_base.proofs.listed_array.ListedArray.end_row.Goals as goal
 use Rattle.nc_base.proofs.listed_array.ListedArray.end_row.Goals.{then-is_empty, else-is_empty+then-row_len-self, else-is_empty+else-row_len-self}
 
-told : (c : goal.After-self-3-1) → AreToldAs c.self.inside.row_len c.self.inside.fill (c.len-end.result - c.self.inside.rows_end + c.args.lacking) c.args.fill c.self.inside.rows_end c.self.inside.row_ends.items
-told c =
+ends_are : (c : goal.After-self-3-1) → AreSameEnds c.self.inside.row_len c.self.inside.fill (c.len-end.result - c.self.inside.rows_end + c.args.lacking) c.args.fill c.self.inside.rows_end c.self.inside.row_ends.items
+ends_are c =
     let l = c.self.inside in
     let len : ℕ = c.len-end.result - l.rows_end + c.args.lacking in
     elim c.if-is_empty.branch [
@@ -21,7 +21,7 @@ invariant_of-self-2 c =
     let end : ℕ = c.len-end.result in
     let whole : end ≡ length l.bytes.items = omega (arith, c.len-end.ensures, l.bytes.ok.0) in
     let added : c.push.new.self.items ≡ l.row_ends.items ++ end ∷ [] = c.in_ok-push.ensures.items in
-    (subst (λ (ends : List ℕ). AreRowEnds len 0 ends end) (sym added) (ends_end len l.rows_end 0 l.row_ends.items end (told c).told (omega (arith, whole, c.self.invariant.1)) (omega (arith, whole, c.self.invariant.1))), omega (arith, whole))
+    (subst (λ (ends : List ℕ). AreRowEnds len 0 ends end) (sym added) (ends_end len l.rows_end 0 l.row_ends.items end (ends_are c).ends_are (omega (arith, whole, c.self.invariant.1)) (omega (arith, whole, c.self.invariant.1))), omega (arith, whole))
 
 pub returns : goal.returns
 returns c =
@@ -31,6 +31,6 @@ returns c =
     let whole : end ≡ length l.bytes.items = omega (arith, c.len-end.ensures, l.bytes.ok.0) in
     let added : c.push.new.self.items ≡ l.row_ends.items ++ end ∷ [] = c.in_ok-push.ensures.items in
     ap (λ (ends : List ℕ). filled_rows len c.args.fill 0 ends l.bytes.items) added
-    ∙ filled_end len l.rows_end c.args.fill 0 l.row_ends.items l.bytes.items end c.args.lacking (told c).told (omega (arith, whole)) (omega (arith, whole, c.self.invariant.1)) (omega (arith, whole, c.self.invariant.1))
-    ∙ ap (λ (b : List ℕ). b ++ replicate c.args.lacking c.args.fill) (sym ((told c).same l.bytes.items))
+    ∙ filled_end len l.rows_end c.args.fill 0 l.row_ends.items l.bytes.items end c.args.lacking (ends_are c).ends_are (omega (arith, whole)) (omega (arith, whole, c.self.invariant.1)) (omega (arith, whole, c.self.invariant.1))
+    ∙ ap (λ (b : List ℕ). b ++ replicate c.args.lacking c.args.fill) (sym ((ends_are c).same l.bytes.items))
     ∙ ap (λ (b : List ℕ). b ++ replicate c.args.lacking c.args.fill) c.self.view_is

@@ -1,6 +1,6 @@
 use Rattle.std.proofs.Common.{ℕ, ◌≡◌, ◌≤◌, ◌+◌, ◌-◌, ◌*◌, ◌/◌, ◌%◌, List, length, get_or, take, drop, min, max, refl, ap, sym, ◌∙◌, subst, arith}
 use Rattle.nc_base.proofs.Prelude.{mod-add-div, take_all, length-drop, length-take, length-take-le, drop-drop, drop_min, row_start}
-use Rattle.nc_base.proofs.FilledRows.{row-of, in_row, after_rows, stands-told}
+use Rattle.nc_base.proofs.FilledRows.{row-of, in_row, after_rows, stands-from}
 use Rattle.nc_base.proofs.listed_array.ListedArray.run_of_rows.Goals as goal
 
 pub row_at-row-requires-clause-after : goal.row_at-row-requires-clause-after
@@ -25,8 +25,8 @@ run_in_row-requires-clause-listed c =
     let row = row-of l.row_len l.rows_end c.args.at c.len.result l.row_ends.items c.self.invariant.0 (omega (arith, c.len.ensures, l.row_ends.ok.0)) c.if-at-in_rows.true in
     let ends : List ℕ = c.as_slice-then-at-in_rows.result.now in
     let n : ℕ = get_or ends r 0 - row_start 0 ends r in
-    let told : n ≡ get_or l.row_ends.items r 0 - row_start 0 l.row_ends.items r = ap (λ (es : List ℕ). get_or es r 0 - row_start 0 es r) c.as_slice-then-at-in_rows.ensures.value in
-    omega (arith, ap length c.row_at-row.ensures, length-take n (drop (row_start 0 ends r) c.as_slice.result.now), told, row.is.within)
+    let ends_are : n ≡ get_or l.row_ends.items r 0 - row_start 0 l.row_ends.items r = ap (λ (es : List ℕ). get_or es r 0 - row_start 0 es r) c.as_slice-then-at-in_rows.ensures.value in
+    omega (arith, ap length c.row_at-row.ensures, length-take n (drop (row_start 0 ends r) c.as_slice.result.now), ends_are, row.is.within)
 
 pub returns-then-at-in_rows : goal.returns-then-at-in_rows
 returns-then-at-in_rows c =
@@ -49,7 +49,7 @@ returns-then-at-in_rows c =
     let bytes : drop (min column n) (take n (drop start l.bytes.items)) ≡ c.run_in_row.result.bytes.now =
     ap (λ (b : List ℕ). drop (min column n) b) (sym listed) ∙ ap (λ (k : ℕ). drop (min column k) c.row_at-row.result.now) (sym long) ∙ sym c.run_in_row.ensures.listed in
     let count : len - max column n ≡ c.run_in_row.result.filling = ap (λ (k : ℕ). len - max column k) (sym long) ∙ sym c.run_in_row.ensures.filling in
-    stands-told _ _ _ _ _ _ _ _ _ _ c.self.view_is here bytes count (sym c.run_in_row.ensures.fill)
+    stands-from _ _ _ _ _ _ _ _ _ _ c.self.view_is here bytes count (sym c.run_in_row.ensures.fill)
     (in_row len l.rows_end l.fill l.row_ends.items l.bytes.items r column 0 c.self.invariant.0 c.self.invariant.1 row.of row.column n refl)
 
 pub returns : goal.returns
@@ -72,5 +72,5 @@ returns c =
     ∙ sym (drop_min skipped after)
     ∙ ap (λ (k : ℕ). drop k after) (sym c.min-skipped.ensures)
     ∙ sym (take_all (length after - c.min-skipped.result) (drop c.min-skipped.result after) (omega (arith, length-drop c.min-skipped.result after))) in
-    stands-told _ _ _ _ _ _ _ _ _ _ c.self.view_is here bytes refl refl
+    stands-from _ _ _ _ _ _ _ _ _ _ c.self.view_is here bytes refl refl
     (after_rows len last l.fill l.row_ends.items l.bytes.items skipped c.self.invariant.0 c.self.invariant.1)
