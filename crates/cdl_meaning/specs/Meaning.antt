@@ -21,7 +21,7 @@ use Rattle.cdl_statements.specs.declared.section.Section.TheVariants.{Unopened}
 use Rattle.cdl_tokens.specs.declared.token.Token.{Token}
 use Rattle.cdl_meaning.specs.State.{State, Draft, act, capacity_of, filled, values_in}
 
--- the longest text, in bytes
+-- the longest text that `ncgen` takes and that the laws speak of, in bytes; `meaning` has no limit
 abbrev pub text_limit : ℕ
 text_limit = 268435456
 

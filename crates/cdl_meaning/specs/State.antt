@@ -38,6 +38,7 @@ pub record Draft : Type 0 where
   pub var : Var
   pub listed : Option Listing
 
+-- the section, and the dimensions, the attributes of the dataset and the variables so far
 pub record State : Type 0 where
   pub section : Section
   pub dims : List Dim
@@ -54,10 +55,12 @@ abbrev pub in_turn : {S A : Type 0} → (S → A → Result S CdlKind) → S →
 in_turn f s [] = Ok s
 in_turn f s (x ∷ xs) = elim (f s x) [ Ok t ↦ in_turn f t xs | Err e ↦ Err e ]
 
+-- the fault, if the condition doesn't hold
 abbrev pub unless : Bool → CdlKind → Result ⊤ CdlKind
 unless true e = Ok tt
 unless false e = Err e
 
+-- the fault, if the condition holds
 abbrev pub when : Bool → CdlKind → Result ⊤ CdlKind
 when true e = Err e
 when false e = Ok tt
@@ -81,6 +84,7 @@ same_type a b = code_of a == code_of b
 
 -- ---- dimensions: the name, then the length
 
+-- the length in the header: 0 for the record dimension (None), otherwise the number, if the version allows it
 abbrev pub dim_len_of : Version → List Dim → Option ℤ → Result ℕ CdlKind
 dim_len_of v dims None = do
   _ ← when (has_record_dim dims) TwoRecordDims
@@ -107,6 +111,7 @@ type_of v word =
     if is_word (codes "float") word || is_word (codes "real") word || is_word (codes "double") word then Err FloatingType
     else (if is_word (codes "long") word then Ok Int else found (find (is_word_of v word) all_types) UnknownType)
 
+-- the ids, and after them the id of the named dimension. Only the first may be that of the record dimension.
 unfoldable pub add_dimid : List Dim → List ℕ → List ℕ → Result (List ℕ) CdlKind
 add_dimid dims ids name = do
   _ ← unless (is_name name) BadName
@@ -114,6 +119,7 @@ add_dimid dims ids name = do
   _ ← when (nat_lt 0 (length ids) && is_record_dim dims k) BadShape
   Ok (ids ++ k ∷ [])
 
+-- the variables, and after them the declared one. Its begin is set by `GeneratedFile.with_begins`.
 unfoldable pub add_var : List Dim → NcType → List Draft → Variable → Result (List Draft) CdlKind
 add_var dims ty drafts v = do
   _ ← unless (is_name v.name) BadName
@@ -121,7 +127,7 @@ add_var dims ty drafts v = do
   ids ← in_turn (add_dimid dims) [] v.dimensions
   Ok (drafts ++ record { var = record { name = v.name; dimids = ids; atts = []; ty = ty; begin_at = 0 }; listed = None } ∷ [])
 
--- the variables, the one of this name changed, if there is one
+-- the variables, with f applied to the one of this name; if there is none, a fault
 abbrev pub at_named : List ℕ → (Draft → Result Draft CdlKind) → List Draft → Result (List Draft) CdlKind
 at_named name f [] = Err UnknownVariable
 at_named name f (d ∷ ds) =
@@ -140,6 +146,7 @@ at_variable name f ds = do
 
 -- ---- attributes: the name, then each constant. Strings are joined.
 
+-- the type of a constant. An attribute has no `_`: `Shapes.constant_of` doesn't take it there.
 abbrev pub type_said : Value → NcType
 type_said (Number n) = n.ty
 type_said (Characters bytes) = Char
@@ -155,6 +162,7 @@ add_constant ty vals (Characters bytes) = do
   Ok (vals ++ bytes)
 add_constant ty vals Underscore = Err MixedConstants
 
+-- the type of the first constant; the shape gives at least one
 abbrev pub first_type : List Value → NcType
 first_type [] = Char
 first_type (c ∷ cs) = type_said c
@@ -177,15 +185,15 @@ with_att name cs d = do
 pub record Capacity : Type 0 where
   pub ty : NcType
   pub fill : ℤ
-  -- a record variable, which has no limit on values
+  -- it is a record variable: its number of values has no limit
   pub is_open : Bool
-  -- how many values a variable that isn't one has
+  -- how many values a slab has: for a variable without records, all of its values
   pub count : ℕ
   -- the rank is 2 or more
   pub in_rows : Bool
-  -- how many rows a variable of rank 2 or more has, unless it is a record variable
+  -- how many rows there are; used only at rank 2 and up, and not for a record variable
   pub rows : ℕ
-  -- how many values a row has
+  -- how many values a row has; used only at rank 2 and up
   pub row : ℕ
 
 -- the product of all dimensions but the last

@@ -171,8 +171,9 @@ fn read_values<'a>(
     }
 }
 
-/// Reads the data section, and returns what it lists and what comes after it. `names` has the names of the variables. Errs with the
-/// fault of the first bad statement of the section, or if an allocation failed.
+/// Reads the data section, and returns what it lists and what comes after it. `names` has the names of the variables. If the text ends
+/// before the closing brace, this call doesn't err: the section returned is then `Values`. Errs with the fault of the first bad
+/// statement of the section, or if an allocation failed.
 fn read_section<'a>(
     alloc: Global,
     dims: &[Dim],

@@ -49,7 +49,8 @@ fn run_len_in_row(row: u128, row_index: u128, bytes: &[u8]) -> usize
     run_len(Quoting::InString, &bytes[..in_row])
 }
 
-/// Writes the next run of characters with what stands before it, and moves `progress` past it.
+/// Writes the next run of characters, with what stands before it, as [`put_led_run`] does: in a trimmed layout, a run that is a single
+/// NUL isn't written. Moves `progress` past the run. The clauses say this for any values printed before. Errs only if the sink failed.
 fn put_next_run<W: Sink>(
     sink: &mut W,
     layout: &Layout<'_>,

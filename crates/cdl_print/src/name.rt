@@ -11,8 +11,8 @@ use nc_base::{Quoting, begins_with_digit_or_mark, is_reserved};
 
 /// Writes a name with its escapes.
 ///
-/// A backslash stands before each byte that a name may not have as it is, and before the first one of a name that
-/// could be read as a number or a reserved word (ncdump(1), and the chapter on CDL of the NetCDF User's Guide).
+/// A backslash stands before each byte that a name may not have as it is. One also stands before the first byte, if that is a
+/// digit, `.`, `@`, `+` or `-`, or if the name is a reserved word (ncdump(1), and the chapter on CDL of the NetCDF User's Guide).
 ///
 /// # Errors
 ///
@@ -25,7 +25,8 @@ pub fn put_name<W: Sink>(sink: &mut W, name: &[u8]) -> Result<(), WriteFailed>
     put_escaped(sink, Quoting::InName, name)
 }
 
-/// Writes a backslash if the name could be read as a number or a reserved word, otherwise nothing.
+/// Writes a backslash if the first byte of the name is a digit, `.`, `@`, `+` or `-`, or if the name is a reserved word. Otherwise
+/// writes nothing.
 #[tactic(auto, using(devices::proofs::Writes::writes), unfolding(crate::specs::code::Pieces::prefix_escape))]
 fn put_leading_backslash<W: Sink>(sink: &mut W, name: &[u8]) -> Result<(), WriteFailed>
     ensures { Wrote W.view sink.old sink.new (prefix_escape name.now) result }
@@ -36,7 +37,8 @@ fn put_leading_backslash<W: Sink>(sink: &mut W, name: &[u8]) -> Result<(), Write
     Ok(())
 }
 
-/// Returns true if the name could be read as a number or a reserved word, so that a backslash stands before it.
+/// Returns true if a backslash stands before the printed name: its first byte is a digit, `.`, `@`, `+` or `-`, or the name is a
+/// reserved word.
 pub fn needs_prefix_escape(name: &[u8]) -> bool
     ensures { result ≡ (begins_with_digit_or_mark name.now || is_reserved name.now) }
 {

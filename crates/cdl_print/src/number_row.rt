@@ -91,7 +91,8 @@ fn gather_numbers(
     end
 }
 
-/// Returns how many of these bytes are values of the row that `progress` is in, or 0 if the next value is its row's first.
+/// Returns how many of the first bytes are whole values of the row that `progress` is in. Returns 0 if the next value is its row's
+/// first.
 fn len_in_row(layout: &Layout<'_>, progress: &Progress, bytes: &[u8]) -> usize
     ensures whole { AreWhole layout.now (take result bytes.now) }
     ensures within { result ≤ length bytes.now }

@@ -50,7 +50,7 @@ impl<'a> ValuePrinter<'a> {
         }
     }
 
-    /// Writes what stands before the values.
+    /// Writes what stands before the variable's values: a line feed, a space, the variable's name with its escapes, and ` =`.
     ///
     /// # Errors
     ///

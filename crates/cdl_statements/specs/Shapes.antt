@@ -29,12 +29,17 @@ pub record Variable : Type 0 where
 
 pub data Statement : Type 0 where
   Opening : Statement
+  -- a section mark
   Mark : (section : Section) → Statement
+  -- dimensions
   Declared : (dimensions : List Dimension) → Statement
+  -- the type word, and the variables that are declared
   Typed : (ty : Lexeme) (variables : List Variable) → Statement
   -- None: a global attribute
   Attribute : (variable : Option (List ℕ)) (name : List ℕ) (constants : List Value) → Statement
+  -- the values that the data section lists of a variable
   Listed : (variable : List ℕ) (values : List Value) → Statement
+  -- the closing brace
   Brace : Statement
   End : Statement
 
@@ -65,11 +70,13 @@ abbrev pub each : {A B : Type 0} → (A → Option B) → List A → Option (Lis
 each f [] = Some []
 each f (x ∷ xs) = both (λ y ys. y ∷ ys) (f x) (each f xs)
 
--- what is joined by commas; commas in parentheses join nothing here
+-- puts the token at the start of the first list; if there is no list, it makes one
 abbrev pub into_first : Lexeme → List (List Lexeme) → List (List Lexeme)
 into_first l [] = (l ∷ []) ∷ []
 into_first l (m ∷ ms) = (l ∷ m) ∷ ms
 
+-- The lists of tokens between the commas. Commas in parentheses separate nothing.
+-- parens: a parenthesis is open before these tokens. No tokens give one empty list.
 abbrev pub members_in : Bool → List Lexeme → List (List Lexeme)
 members_in parens [] = [] ∷ []
 members_in parens (l ∷ ls) =
@@ -86,19 +93,20 @@ abbrev pub given : {A : Type 0} → Bool → Option A → Option A
 given true a = a
 given false a = None
 
--- NUMBER, or an unescaped `unlimited` or `UNLIMITED`
+-- what a number token says; None for any other token
 abbrev pub numeral_of : Version → Lexeme → TokenKind → Option Numeral
 numeral_of v l kinds.Number = numeral v l.bytes
 numeral_of v l _ = None
 
+-- LENGTH: a number, or an unescaped `unlimited` or `UNLIMITED`. None: no LENGTH. Some None: the record dimension.
 abbrev pub length_of : Version → Lexeme → Option (Option ℤ)
 length_of v l = if is_word (codes "unlimited") l || is_word (codes "UNLIMITED") l then Some None else option_map (λ (n : Numeral). Some n.value) (numeral_of v l l.kind)
 
--- NAME = NUMBER
+-- NAME = LENGTH, from the tokens n, e and l
 abbrev pub dimension : Version → Lexeme → Lexeme → Lexeme → Option Dimension
 dimension v n e l = given (is_mark 0x3d e) (both (λ name len. record { name = name; len = len }) (name_of n) (length_of v l))
 
--- joined by commas
+-- NAME = LENGTH, ..
 abbrev pub dimensions : Version → List Lexeme → Option (List Dimension)
 dimensions v (n ∷ e ∷ l ∷ []) = both (λ d ds. d ∷ ds) (dimension v n e l) (Some [])
 dimensions v (n ∷ e ∷ l ∷ c ∷ ls) = given (is_mark 0x2c c) (both (λ d ds. d ∷ ds) (dimension v n e l) (dimensions v ls))
@@ -113,7 +121,7 @@ constant_of v takes_fill l _ = given (takes_fill && is_word (codes "_") l) (Some
 abbrev pub constant : Version → Bool → Lexeme → Option Value
 constant v takes_fill l = constant_of v takes_fill l l.kind
 
--- joined by commas
+-- VALUE, .. if `_` is taken, otherwise CONST, ..; at least one
 abbrev pub constants : Version → Bool → List Lexeme → Option (List Value)
 constants v takes_fill [] = None
 constants v takes_fill (l ∷ []) = both (λ x xs. x ∷ xs) (constant v takes_fill l) (Some [])
@@ -136,19 +144,22 @@ variable (n ∷ []) = option_map (λ name. record { name = name; dimensions = []
 variable (n ∷ p ∷ ls) =
     given (is_mark 0x28 p) (both (λ name ds. record { name = name; dimensions = ds }) (name_of n) (option_and_then (λ inner. each name_alone (members inner)) (before_mark 0x29 ls)))
 
--- NAME = CONST, ..
+-- NAME = VALUE, .. if `_` is taken, otherwise NAME = CONST, ..; f is applied to the name and the list
 abbrev pub assigned : {A : Type 0} → Version → Bool → (List ℕ → List Value → A) → List Lexeme → Option A
 assigned v takes_fill f (n ∷ e ∷ ls) = given (is_mark 0x3d e) (both f (name_of n) (constants v takes_fill ls))
 assigned v takes_fill f _ = None
 
+-- : NAME = CONST, ..
 abbrev pub global : Version → List Lexeme → Option Statement
 global v (c ∷ ls) = given (is_mark 0x3a c) (assigned v false (Attribute None) ls)
 global v _ = None
 
+-- TYPE NAME, ..; each NAME may have (NAME, ..) after it
 abbrev pub typed : List Lexeme → Option Statement
 typed (ty ∷ ls) = given (is_word_kind ty.kind) (option_map (Typed ty) (each variable (members ls)))
 typed _ = None
 
+-- NAME : NAME = CONST, ..
 abbrev pub attribute : Version → List Lexeme → Option Statement
 attribute v (n ∷ c ∷ ls) = given (is_mark 0x3a c) (option_and_then (λ name. assigned v false (Attribute (Some name)) ls) (name_of n))
 attribute v _ = None
@@ -174,6 +185,7 @@ section_number Ended = 6
 abbrev pub section_of : Lexeme → Option Section
 section_of l = if is_word (codes "dimensions") l then Some Dimensions else (if is_word (codes "variables") l then Some Variables else (if is_word (codes "data") l then Some Values else None))
 
+-- the mark of section s, if s comes later than the section that the text is in
 abbrev pub mark_after : Section → Section → Option Statement
 mark_after before s = given (nat_lt (section_number before) (section_number s)) (Some (Mark s))
 
@@ -181,6 +193,7 @@ abbrev pub section_mark : Section → List Lexeme → Option Statement
 section_mark before (l ∷ c ∷ []) = given (is_mark 0x3a c) (option_and_then (mark_after before) (section_of l))
 section_mark before _ = None
 
+-- a, if the piece is one token that passes the test
 abbrev pub alone : {A : Type 0} → (Lexeme → Bool) → A → List Lexeme → Option A
 alone test a (l ∷ []) = given (test l) (Some a)
 alone test a _ = None

@@ -10,11 +10,11 @@ word_value [] = []
 word_value (b ∷ []) = b ∷ []
 word_value (b ∷ c ∷ rest) = if is_escape b c then c ∷ word_value rest else b ∷ word_value (c ∷ rest)
 
--- a number that is a byte
+-- the number, if it is at most 255
 abbrev pub byte : ℕ → Option ℕ
 byte n = if nat_lt 255 n then None else Some n
 
--- digits of a base, one at least, after `mark` bytes
+-- An escape by number. mark: how many bytes come before its digits. Without a digit, or above 255, it stands for no byte.
 abbrev pub number_escape : ℕ → ℕ → List ℕ → Character
 number_escape mark base digits = record { value = if length digits == 0 then None else byte (number_in base 0 digits); len = mark + length digits }
 
@@ -30,7 +30,7 @@ plain_escape b =
     else (if b == 0x76 then 0x0b
     else b))))))
 
--- after a backslash
+-- the escape at the backslash just before these bytes; its length counts that backslash
 abbrev pub escape : List ℕ → Character
 escape bs =
     if is_octal (slice_index bs 0) then number_escape 1 8 (take_while is_octal (take 3 bs))

@@ -26,7 +26,7 @@ has_suffix bs ty = bytes_eq bs (map to_ascii_lowercase (number_suffix ty))
 unfoldable pub suffix : Version → List ℕ → Option NcType
 suffix v bs = find (λ ty. has_suffix (map to_ascii_lowercase bs) ty && has_type v ty) all_types
 
--- a number's sign, its digits' number, which has no limit, and the type that its suffix says
+-- the sign of a number, the value of its digits (which has no limit), and the type that its suffix says
 pub record Parts : Type 0 where
   pub minus : Bool
   pub magnitude : ℕ

@@ -7,7 +7,7 @@ use Rattle.cdl_tokens.specs.declared.scan.Scanned.{Scanned}
 use Rattle.cdl_tokens.specs.declared.token.TokenKind.{TokenKind}
 use Rattle.cdl_tokens.specs.declared.token.TokenKind.TheVariants.{Opening, Word, Number, Text, Mark, Bad}
 
--- the bytes of a word from here on
+-- how many bytes at the start go on a word
 unfoldable pub word_len : List ℕ → ℕ
 word_len [] = 0
 word_len (b ∷ []) = if goes_on_word b then 1 else 0
@@ -15,7 +15,7 @@ word_len (b ∷ c ∷ rest) =
     if is_escape b c then 2 + word_len rest
     else (if goes_on_word b then 1 + word_len (c ∷ rest) else 0)
 
--- the bytes before the first `close` that isn't directly after an escaping backslash; all bytes, where there is none
+-- how many bytes come before the first `close` that no backslash escapes; if there is none, how many there are
 unfoldable pub until : ℕ → List ℕ → ℕ
 until close [] = 0
 until close (b ∷ []) = if b == close then 0 else 1

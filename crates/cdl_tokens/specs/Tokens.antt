@@ -21,7 +21,8 @@ abbrev pub with_token : List ℕ → ℕ → Option TokenKind → ℕ → List T
 with_token text at None n rest = rest
 with_token text at (Some kind) n rest = token_at text at kind n ∷ rest
 
--- The tokens from a place of the text on, where `bytes` stand. at_start: no token stands before. Of the gap or token before, `more` bytes are still to come.
+-- The tokens from the place `at` on. `bytes` is the rest of the text from there. at_start: no token comes before.
+-- more: how many bytes of the gap or token before are still to be skipped
 unfoldable pub tokens_at : List ℕ → Bool → ℕ → ℕ → List ℕ → List Token
 tokens_at text at_start at more [] = token_at text at End 0 ∷ []
 tokens_at text at_start at (suc more) (b ∷ bytes) = tokens_at text at_start (at + 1) more bytes

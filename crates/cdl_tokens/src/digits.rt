@@ -10,7 +10,7 @@ use crate::bytes::{is_digit, is_hex, is_octal};
 /// A number below this bound still fits in 64 bits after one more digit is appended, in any base up to 16.
 const SMALL: u64 = 1 << 59;
 
-/// Returns the value of an octal, decimal or hexadecimal digit, in either case.
+/// Returns the value of an octal, decimal or hexadecimal digit, in either case. For any other byte the result means nothing.
 fn digit(b: u8) -> u8
     ensures { result ≡ digit b }
 {

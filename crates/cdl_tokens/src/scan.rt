@@ -83,8 +83,9 @@ fn token(kind: TokenKind, len: usize) -> Scanned
     }
 }
 
-/// Returns the opening that is `netcdf` and then these bytes, up to the first `{` that isn't escaped. If there is no such `{`, returns a
-/// bad token of `netcdf` and all of the bytes.
+/// Returns the kind and the length of the token that begins with `netcdf`; `bytes` is what comes after `netcdf`. The token is an
+/// opening that ends with the first `{` that isn't escaped. If there is no such `{`, it is a bad token that goes on to the end of the
+/// bytes. The length counts `netcdf`.
 fn scan_opening(bytes: &[u8]) -> Scanned
     requires { length bytes.now + 6 < 2 ^ 64 }
     ensures scan { result ≡ scan_opening bytes.now (until 0x7b bytes.now) }
@@ -98,8 +99,9 @@ fn scan_opening(bytes: &[u8]) -> Scanned
     }
 }
 
-/// Returns the string that is a quote and then these bytes, up to the first quote that isn't escaped. Returns a bad token if there is no
-/// such quote, or if a character of the string stands for no byte.
+/// Returns the kind and the length of the token that begins with a quote; `bytes` is what comes after the quote. The token is a string
+/// that ends with the first quote that isn't escaped. It is a bad token if there is no such quote, or if a character of the string
+/// stands for no byte. The length counts both quotes.
 fn scan_text(bytes: &[u8]) -> Scanned
     requires { length bytes.now + 1 < 2 ^ 64 }
     ensures scan { result ≡ scan_text bytes.now (until 0x22 bytes.now) }

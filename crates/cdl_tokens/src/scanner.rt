@@ -59,7 +59,7 @@ impl<'a> Scanner<'a> {
         }
     }
 
-    /// Returns the text.
+    /// Returns the whole text, also the part that has been read.
     pub fn text(&self) -> &'a [u8]
         ensures { result.now ≡ text_of self.now }
     {
@@ -330,7 +330,8 @@ impl<'a> Scanner<'a> {
         }
     }
 
-    /// Reads the next token, of any kind. At the end of the text it returns a token of the kind `End`.
+    /// Reads the next token, of any kind, by [`scan`], and skips the white space and comments before it. [`token`](Scanner::token)
+    /// calls it for each token that it doesn't read itself. At the end of the text it returns a token of the kind `End`.
     #[inline(never)]
     fn scanned_token(&mut self) -> Token
         ensures token { left self.old ≡ followed result result.kind (left self.new) }

@@ -55,7 +55,8 @@ impl From<io::Error> for Failure {
     }
 }
 
-/// Prints the values of the first int variable of the file at the path on the command line, or of `FILE` if there is no path.
+/// Prints the values of the first int variable of the file at the path on the command line, or of the bytes in
+/// `FILE` if there is no path.
 fn main(rt: HostRuntime) -> Result<(), Failure> {
     let alloc = rt.alloc();
     let mut out = BufWriter::new(alloc, io::writer(&rt))?;

@@ -21,6 +21,7 @@ use Rattle.nc_base.specs.Grammar.{dimension_tag, variable_tag, attribute_tag}
 
 -- ---- the spelling of a header
 
+-- NON_NEG: a count, a length, a dimension id, the number of records; also a vsize
 abbrev pub count_spelling : Version → ℕ → List ℕ
 count_spelling v n = to_be_bytes (count_width v) n
 
@@ -28,7 +29,7 @@ count_spelling v n = to_be_bytes (count_width v) n
 unfoldable pub word_spelling : ℕ → List ℕ
 word_spelling n = to_be_bytes w32 n
 
--- magic
+-- magic: `CDF` and the version byte
 unfoldable pub magic_spelling : Version → List ℕ
 magic_spelling v = 67 ∷ 68 ∷ 70 ∷ version_byte v ∷ []
 
@@ -57,7 +58,7 @@ att_spelling v att =
 abbrev pub atts_spelling : Version → List Att → List ℕ
 atts_spelling v atts = list_spelling v attribute_tag (att_spelling v) atts
 
--- vsize: the padded slab; in CDF-1 and CDF-2 the greatest number of 32 bits, if the padded slab doesn't fit into them
+-- vsize: the padded slab. In CDF-1 and CDF-2 it is 2^32 - 1 if the padded slab has 2^32 bytes or more.
 abbrev pub vsize_of : Version → ℕ → ℕ
 vsize_of Cdf5 padded = padded
 vsize_of v padded = if nat_lt padded (2 ^ 32) then padded else (2 ^ 32 - 1)
@@ -93,7 +94,7 @@ abbrev pub blocks : List Dim → List Var → List (List ℕ) → List ℕ
 blocks dims (var ∷ vars) (array ∷ arrays) = (if is_record_var dims var then [] else padded_slab var array) ++ blocks dims vars arrays
 blocks dims vars arrays = []
 
--- there is only one record variable, and its values take less than four bytes: its slabs have no padding
+-- of the record variables: there is only one, and its values take less than four bytes. Its slabs have no padding.
 abbrev pub is_sole_narrow : List Var → Bool
 is_sole_narrow (var ∷ []) = is_narrow var
 is_sole_narrow vars = false
@@ -125,9 +126,9 @@ data_of h arrays =
 abbrev pub fixed_vars : List Dim → List Var → List Var
 fixed_vars dims vars = filter (λ (var : Var). not (is_record_var dims var)) vars
 
--- How many bytes come before the first value of a variable: the header, and the padded slabs before it. Those
--- are the slabs of the other variables before it, and for a record variable those of all the others and, in the first
--- record, of the record variables before it.
+-- The begin of a variable: the length of the header, and the padded slabs before it. If it is a record variable, these are the
+-- slabs of all variables without records, and of the record variables in `before`. Otherwise they are the slabs of the
+-- variables without records in `before`. The header has the same length whatever begins it has.
 abbrev pub begin_after : Header → List Var → Var → ℕ
 begin_after h before var =
     length (header_spelling h)

@@ -18,7 +18,7 @@ pub enum Version {
 impl Version {
     ghost use Rattle.nc_base.specs.Versions.{version_byte, version_of_byte, count_limit, offset_limit, streaming_mark, has_type};
 
-    /// Returns the version with this byte, or `None` for any byte but 1, 2 and 5.
+    /// Returns the version that the byte after `CDF` names: 1, 2 or 5; or `None` for any other byte.
     pub fn of_byte(b: u8) -> Option<Version>
         ensures { result ≡ version_of_byte b }
     {

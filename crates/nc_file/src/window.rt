@@ -120,7 +120,8 @@ impl<S: Source> Window<'_, S> {
         Ok(bytes)
     }
 
-    /// Reads a big-endian number of four bytes. Errs with `HeaderTruncated` if fewer are left.
+    /// Reads a big-endian number of four bytes. Errs with `HeaderTruncated` if fewer are left, and with `ReadFailed` if the source
+    /// fails.
     #[tactic(auto, using(crate::proofs::Parts::parts), unfolding(crate::specs::code::Reading::number_at))]
     pub(crate) fn read_u32(&mut self) -> Result<u32, HeadFault>
         ensures { Read self.old self.new (number_at w32) result }
@@ -129,7 +130,8 @@ impl<S: Source> Window<'_, S> {
         Ok(u32::from_be_bytes(bytes))
     }
 
-    /// Reads a big-endian number of eight bytes. Errs with `HeaderTruncated` if fewer are left.
+    /// Reads a big-endian number of eight bytes. Errs with `HeaderTruncated` if fewer are left, and with `ReadFailed` if the source
+    /// fails.
     #[tactic(auto, using(crate::proofs::Parts::parts), unfolding(crate::specs::code::Reading::number_at))]
     pub(crate) fn read_u64(&mut self) -> Result<u64, HeadFault>
         ensures { Read self.old self.new (number_at w64) result }
@@ -139,7 +141,7 @@ impl<S: Source> Window<'_, S> {
     }
 
     /// Reads a big-endian number of the width that counts have in the version, eight bytes in CDF-5 and otherwise four. Any value is
-    /// allowed.
+    /// allowed. Errs as [`read_u64`](Window::read_u64) does.
     pub(crate) fn number(&mut self, version: Version) -> Result<u64, HeadFault>
         ensures { Read self.old self.new (number_at (count_width version)) result }
     {
@@ -149,7 +151,7 @@ impl<S: Source> Window<'_, S> {
         }
     }
 
-    /// Reads a big-endian number of four bytes, and returns it as a `u64`.
+    /// Reads a big-endian number of four bytes, and returns it as a `u64`. Errs as [`read_u32`](Window::read_u32) does.
     pub(crate) fn narrow_number(&mut self) -> Result<u64, HeadFault>
         ensures { Read self.old self.new (number_at w32) result }
     {

@@ -125,7 +125,7 @@ fn slab_number(dims: &[Dim], var: &Var, records: u64) -> u64
     if is_record_var(dims, var) { records } else { 1 }
 }
 
-/// Returns the number of values in a slab of the variable. The slab has at most 2^48 bytes.
+/// Returns the number of values in a slab of the variable, which must have at most 2^48 bytes.
 fn slab_values(dims: &[Dim], var: &Var) -> u64
     requires { slab_size dims.now var.now ≤ slab_limit }
     ensures { result ≡ slab_count dims.now var.now }

@@ -19,7 +19,7 @@ file_or_fault (Err fault) = Err (Cdl fault)
 unfoldable pub generated : List ℕ → Version → Result (List ℕ) GenFault
 generated text v = file_or_fault (meaning text v)
 
--- the stated fault, or out of memory, which says nothing of the text
+-- The fault is the stated one, or out of memory (`Cdl refused`), which says nothing of the text.
 abbrev pub Refuses : Result (List ℕ) GenFault → GenFault → Type 0
 Refuses stated fault = (stated ≡ Err fault) ⊎ (fault ≡ Cdl refused)
 

@@ -12,7 +12,7 @@ use Rattle.nc_base.specs.declared.header.Dim.{Dim}
 use Rattle.nc_base.specs.declared.header.Var.{Var}
 use Rattle.nc_base.specs.declared.nc_type.NcType.{NcType}
 
--- the backslash before a name that could be read as a number or a reserved word
+-- the backslash before a name that begins with a digit or one of `. @ + -`, or is a reserved word
 unfoldable pub prefix_escape : List ℕ → List ℕ
 prefix_escape name = if begins_with_digit_or_mark name || is_reserved name then 92 ∷ [] else []
 
