@@ -47,7 +47,7 @@ test:
 	tests/documents.py
 	tests/release.sh
 
-# Installs the programs and their manual pages, and proves and builds the programs first where that isn't done.
+# Installs the programs that bin/ has, and their manual pages. Proves and builds the programs first if bin/ lacks them.
 install:
 	test -x bin/ncdump || $(MAKE) bin/ncdump
 	test -x bin/ncgen || $(MAKE) bin/ncgen

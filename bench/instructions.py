@@ -144,6 +144,10 @@ def main():
     wanted = [row for row in ROWS if any(word in row.name for word in words)]
     if not wanted:
         sys.exit("no line has one of these words")
+    if not THEIR_DUMP.exists():
+        beside = [row for row in wanted if row.unit in (FASTER, FASTER_SECONDS)]
+        wanted = [row for row in wanted if row not in beside]
+        print(f"lines left out, since {THEIR_DUMP} isn't installed: {len(beside)}")
     missed = 0
     with tempfile.TemporaryDirectory() as folder:
         os.chdir(folder)
@@ -151,7 +155,7 @@ def main():
             figure = row.figure()
             missed += not row.is_met(figure)
             verdict = "" if row.is_met(figure) else "  MISSED"
-            print(f"{row.name:40} {figure:8.3f}  goal {row.goal:7.3f}  {row.unit}{verdict}", flush=True)
+            print(f"{row.name:44} {figure:8.3f}  goal {row.goal:7.3f}  {row.unit}{verdict}", flush=True)
     print(f"{len(wanted) - missed} goals met, {missed} missed")
     return 1 if missed else 0
 
