@@ -1,6 +1,13 @@
 //! The values of CDL text, as a file has them: the constants of an attribute, and what a statement of the data section lists.
 //!
 //! What a statement means is defined in `cdl_meaning`. This crate is internal: `cdl_parse` alone calls it.
+//!
+//! ```
+//! // `equals` is a cutter at the `=` of an attribute
+//! let (first, _) = equals.advanced();
+//! let ty = type_said(first.version(), first.lexeme());
+//! let bytes = read_constants(alloc, ty, first)?;
+//! ```
 #![tactic(auto)]
 
 mod constant;

@@ -1,6 +1,16 @@
 //! What the command lines of `ncdump` and `ncgen` have in common: options of one letter, the values that clap's matches have for them,
 //! and the fault of a command line.
 //!
+//! ```
+//! let command = Command::new(alloc, "show")
+//!     .arg(flag(alloc, "header", 'h'))?
+//!     .arg(option(alloc, "width", 'l'))?
+//!     .arg(Arg::new(alloc, "file"))?;
+//! let matches = command.try_get_matches_from(words)?;
+//! let header_only = is_given(&matches, "header");
+//! let width = value_of(&matches, "width");
+//! ```
+//!
 //! This crate is internal: `ncdump`, `ncgen` and their programs alone call it.
 #![tactic(auto)]
 
