@@ -1,6 +1,6 @@
 -- A valid name, escaped, is one word that stands for it.
 use Rattle.std.proofs.Common.{◌≡◌, ℕ, Bool, true, false, List, [], ◌∷◌, ◌++◌, length, get_or, drop, sym, ◌∙◌, ap, refl, subst, arith, nat_le, ◌&&◌, ◌||◌, ◌==◌, if◌then◌else◌, not}
-use Rattle.cdl_laws.proofs.Prelude.{is_ascii_digit, is_in_range, flat_map, list_all, bytes_eq, false≢true, eqb-true, bytes_eq-Decides, is_plain, is_name_mark, escaped_in_name, escaped_name, is_reserved, reserved_words, begins_with_digit_or_mark, may_begin_name, may_follow_in_name, is_beyond_ascii, is_escape, is_escapable, goes_on_word, begins_word, word_len, begins_a_word, word_value, and_left, and_right, word_at_start, and_false}
+use Rattle.cdl_laws.proofs.Prelude.{is_ascii_digit, is_in_range, flat_map, list_all, bytes_eq, false≢true, eqb-true, bytes_eq-Decides, is_plain, is_name_mark, escaped_in_name, escaped_name, is_reserved, reserved_words, begins_with_digit_or_mark, may_begin_name, may_follow_in_name, is_beyond_ascii, is_escape, is_escapable, goes_on_word, begins_word, word_len, begins_a_word, word_value, and_left, and_right, word_at_start, and_false, value_at_start}
 use Rattle.cdl_laws.proofs.Bools.{or_left, or_right, of_any}
 
 -- ---- bytes
@@ -75,11 +75,6 @@ rest_len (b ∷ name) rest h e =
       | false ↦ (λ g. word_at_start 0x5c (b ∷ rest_of name ++ rest) ∙ rw (one) (omega (arith, ih)))
     ] refl
 
-pub value_prefix : (b : ℕ) (rest : List ℕ) → word_value (b ∷ rest) ≡ (if is_escape b (get_or rest 0 0) then get_or rest 0 0 ∷ word_value (drop 1 rest) else b ∷ word_value rest)
-unfolding word_value
-value_prefix b [] = rw (and_false (b == 0x5c)) refl
-value_prefix b (c ∷ rest) = refl
-
 pub rest_value : (name : List ℕ) → list_all may_follow_in_name name ≡ true → word_value (rest_of name) ≡ name
 unfolding word_value
 rest_value [] h = refl
@@ -88,8 +83,8 @@ rest_value (b ∷ name) h =
     let one : is_escapable b ≡ true = escapable b (and_left (may_follow_in_name b) (list_all may_follow_in_name name) h) in
     let ih = rest_value name more in
     elim (is_plain b) as (λ w. is_plain b ≡ w → word_value ((if w then b ∷ [] else 0x5c ∷ b ∷ []) ++ rest_of name) ≡ b ∷ name) [
-      | true ↦ (λ g. value_prefix b (rest_of name) ∙ rw (no_escape b (get_or (rest_of name) 0 0) g) (ap (λ xs. b ∷ xs) ih))
-      | false ↦ (λ g. value_prefix 0x5c (b ∷ rest_of name) ∙ rw (one) (ap (λ xs. b ∷ xs) ih))
+      | true ↦ (λ g. value_at_start b (rest_of name) ∙ rw (no_escape b (get_or (rest_of name) 0 0) g) (ap (λ xs. b ∷ xs) ih))
+      | false ↦ (λ g. value_at_start 0x5c (b ∷ rest_of name) ∙ rw (one) (ap (λ xs. b ∷ xs) ih))
     ] refl
 
 -- ---- the first byte
@@ -142,9 +137,9 @@ name_begins b bs rest (marked one is) = rw (is) one
 name_begins b bs rest (bare one free is) = rw (is) (rw (one) refl)
 
 pub name_value : (b : ℕ) (bs : List ℕ) → Begins b bs → list_all may_follow_in_name bs ≡ true → word_value (escaped_name (b ∷ bs)) ≡ b ∷ bs
-name_value b bs (marked one is) h = rw (is) (value_prefix 0x5c (b ∷ rest_of bs) ∙ rw (one) (ap (λ xs. b ∷ xs) (rest_value bs h)))
+name_value b bs (marked one is) h = rw (is) (value_at_start 0x5c (b ∷ rest_of bs) ∙ rw (one) (ap (λ xs. b ∷ xs) (rest_value bs h)))
 name_value b bs (bare one free is) h =
-    rw (is) (value_prefix b (rest_of bs) ∙ rw (no_escape b (get_or (rest_of bs) 0 0) (begins_goes_on b one)) (ap (λ xs. b ∷ xs) (rest_value bs h)))
+    rw (is) (value_at_start b (rest_of bs) ∙ rw (no_escape b (get_or (rest_of bs) 0 0) (begins_goes_on b one)) (ap (λ xs. b ∷ xs) (rest_value bs h)))
 
 -- a reserved word stands for itself
 stands : List ℕ → Bool

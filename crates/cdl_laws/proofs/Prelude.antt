@@ -93,7 +93,7 @@ pub use Rattle.std.specs.Ordering.{int_eq}
 pub use Rattle.std.specs.Str.{bytes_eq}
 unfoldable pub use Rattle.std.specs.Str.{chars, is_utf8}
 pub use Rattle.nc_base.proofs.Tests.{and_left, and_right, and_both, is_off, none_before, not_none, or_second, is_on}
-pub use Rattle.cdl_tokens.proofs.Words.{word_at_start, until_at_start, and_false}
+pub use Rattle.cdl_tokens.proofs.Words.{word_at_start, until_at_start, and_false, value_at_start}
 pub use Rattle.nc_base.proofs.SoundLaws.{some_product, some_size, some_count}
 pub use Rattle.nc_base.proofs.HeaderSpelled.{some-limit}
 pub use Rattle.nc_base.proofs.Found.{all-at}
