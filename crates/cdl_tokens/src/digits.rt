@@ -66,7 +66,7 @@ fn one_more(base: u64, value: u64, b: u8) -> Option<u64>
     requires { base ≤ 16 }
     ensures { result ≡ word (base * value + digit b) }
 {
-    // Of most numbers neither the product nor the sum can be too large.
+    // For most numbers, neither the product nor the sum can be too large.
     if value < SMALL {
         return Some(base * value + digit(b) as u64);
     }
