@@ -9,6 +9,7 @@ It makes texts and files, runs the programs on them, and prints a line for each:
   that prints those of the file (limit.c);
 - instructions a value, and instructions a byte of the text: those of the whole program, divided by the number of values or of bytes.
   Where there is a known figure of an earlier program, it is the goal, so that nothing gets slower;
+- percent in the heaviest function: its part of all instructions, those of the functions that it calls left out.
 - times as fast as Unidata's (Debian's netcdf-bin): its instructions divided by ours, and its seconds divided by ours, each the least of
   RUNS runs, one program after the other. The seconds alone can be spoilt by a busy machine.
 
@@ -25,13 +26,16 @@ from pathlib import Path
 from typing import Callable, NamedTuple
 
 from generate import listed, text
-from measure import DUMP, GENERATE, THEIR_DUMP, built, instructions, least
+from measure import DUMP, GENERATE, THEIR_DUMP, built, heaviest, instructions, least
 from run import BYTE, INT, SHORT, UBYTE, fixed, records
 
+HEAVIEST = "percent in the heaviest function"
 LOOP, VALUE, TEXT_BYTE = "times the plain loop", "instructions a value", "instructions a byte of text"
 FASTER, FASTER_SECONDS = "times as fast as Unidata's, in instructions", "times as fast as Unidata's, in seconds"
 SIZE = {"byte": 1, "short": 2, "int": 4, "int64": 8}
 MANY = 300_000
+# parts of a header
+PARTS = 20_000
 MB = 1_000_000
 # runs of each program where seconds are taken
 RUNS = 9
@@ -77,6 +81,17 @@ def rows(count, length):
     many = letters(count * length)
     lines = ",\n".join(f'  "{many[at:at + length]}"' for at in range(0, len(many), length))
     return text(f"\tr = {count} ;\n\tx = {length} ;\n", "\tchar c(r, x) ;\n", f" c =\n{lines} ;\n")
+
+
+def in_heaviest(cdl):
+    Path("text.cdl").write_text(cdl)
+    _, part = heaviest(GENERATE, "-o", "made.nc", "text.cdl")
+    return part
+
+
+def parts(form):
+    """A line for each part of a header, with its number in the form."""
+    return "".join(form.format(number) for number in range(PARTS))
 
 
 def print_to_loop(ty, low, high):
@@ -125,6 +140,9 @@ ROWS = [
     Row("ncgen, fill values", VALUE, 700, lambda: a_value(["_"] * MANY)),
     Row("ncgen, a string of escapes", TEXT_BYTE, 101, lambda: a_byte(string(r"\n\t\x41\"\\\101" * 50_000, 300_000))),
     Row("ncgen, a string of letters and escapes", TEXT_BYTE, 90, lambda: a_byte(string(r"a\n" * 300_000, 600_000))),
+    Row("ncgen, 20,000 dimensions", HEAVIEST, 25, lambda: in_heaviest(text(parts("\tdim_{:05} = 1 ;\n"), "", ""))),
+    Row("ncgen, 20,000 variables", HEAVIEST, 25, lambda: in_heaviest(text("", parts("\tint var_{:05} ;\n"), ""))),
+    Row("ncgen, 20,000 attributes", HEAVIEST, 25, lambda: in_heaviest("netcdf t {\n" + parts("\t:att_{:05} = 1 ;\n") + "}\n")),
     Row("ncdump, ints of 6 digits", LOOP, 1, lambda: print_to_loop(INT, 10**5, 10**6 - 1)),
     Row("ncdump, shorts", LOOP, 1, lambda: print_to_loop(SHORT, -(2**15), 2**15 - 1)),
     Row("ncdump, bytes", LOOP, 2 / 3, lambda: print_to_loop(BYTE, -128, 127)),

@@ -2,6 +2,7 @@
 
 import re
 import subprocess
+import tempfile
 import time
 from pathlib import Path
 
@@ -36,6 +37,16 @@ def peak(words):
     """The most memory that the words take, in KiB, by GNU time: a child of Python would count Python's."""
     ran = subprocess.run(["/usr/bin/time", "-f", "%M", *words], stdout=subprocess.DEVNULL, stderr=subprocess.PIPE, text=True)
     return int(ran.stderr.split()[-1])
+
+
+def heaviest(*words):
+    """The function that takes the most instructions of the words, those of the functions that it calls left out, and its part in percent."""
+    with tempfile.NamedTemporaryFile() as counts:
+        valgrind = ["valgrind", "--tool=callgrind", f"--callgrind-out-file={counts.name}", *words]
+        subprocess.run(valgrind, stdout=subprocess.DEVNULL, stderr=subprocess.DEVNULL, check=True)
+        listed = subprocess.run(["callgrind_annotate", counts.name], stdout=subprocess.PIPE, text=True, check=True).stdout
+    part, function = re.findall(r"\( *([\d.]+)%\) +\S*?:([\w:]+)", listed.split("file:function")[1])[0]
+    return function, float(part)
 
 
 def instructions(*words):

@@ -23,6 +23,8 @@ FLOOR = 0.01
 TIMES = 5
 # letters whose names are no words of CDL
 LETTERS = "abcdefghjklmnopqrstuvwxyzABCDEFGHIJKLMNOPQRSTUVWXYZ"
+# three words that have one hash in `NameIndex`, and so have all names that are put together out of as many of them
+SAME_HASH = ["hhiighglkiijhhighghl", "gigggiggogggigkgggiq", "jgghlidkiiknlgfbdejo"]
 
 
 def name(number):
@@ -30,6 +32,11 @@ def name(number):
     more, last = divmod(number, len(LETTERS))
     first, middle = divmod(more, len(LETTERS))
     return LETTERS[first] + LETTERS[middle] + LETTERS[last]
+
+
+def name_of_one_hash(number):
+    """A name of ten words of SAME_HASH, another for each number below 3^10."""
+    return "".join(SAME_HASH[number // 3**place % 3] for place in range(10))
 
 
 def each(form, count, between=""):
@@ -64,6 +71,10 @@ def dimensions(n):
 
 def dimension_statements(n):
     return dataset(dims=each("d{} = 2 ; ", n))
+
+
+def names_of_one_hash(n):
+    return dataset(dims="".join(f"{name_of_one_hash(number)} = 2 ;\n" for number in range(n)))
 
 
 def attributes(n):
@@ -141,6 +152,7 @@ KINDS = {
     numbers_of_an_attribute: (50_000, 1, 1),
     dimensions: (10_000, 1.5, 1),
     dimension_statements: (10_000, 1.5, 1),
+    names_of_one_hash: (10_000, 3, 2),
     attributes: (20_000, 5, 1),
     attributes_of_numbers: (20_000, 6, 2),
     comment: (1_000_000, 1, 1),

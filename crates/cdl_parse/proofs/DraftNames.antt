@@ -1,27 +1,24 @@
 -- The names of variables, and their index.
-use Rattle.std.proofs.Common.{◌≡◌, ℕ, ◌+◌, Bool, true, false, List, [], ◌∷◌, length, map, refl, sym, ap, ◌∙◌, Some, is_some, if◌then◌else◌, ◌||◌, not}
-use Rattle.cdl_parse.proofs.Prelude.{length-map, position_from, bytes_eq, Var, Draft, unlisted_drafts, names_of, is_new, position_of, draft_of, drafts_of, is_variable_name, var_of, Variable}
+use Rattle.std.proofs.Common.{◌≡◌, ℕ, List, [], ◌∷◌, map, refl, sym, ap, ◌∙◌, is_some}
+use Rattle.cdl_parse.proofs.Prelude.{Var, Draft, any_is, unlisted_drafts, names_of, position_of, var_names, draft_of, drafts_of, is_variable_name, var_of, variable_names, Variable}
+
+-- the names of the variables are those of their drafts
+pub names_are : (items : List Variable) → variable_names items ≡ names_of (drafts_of items)
+names_are [] = refl
+names_are (v ∷ items) = ap (λ ns. v.name ∷ ns) (names_are items)
+
+-- and those of the variables of a header
+pub header_names : (items : List Variable) → variable_names items ≡ var_names (map var_of items)
+header_names [] = refl
+header_names (v ∷ items) = ap (λ ns. v.name ∷ ns) (header_names items)
+
+pub unlisted_names : (vars : List Var) → var_names vars ≡ names_of (unlisted_drafts vars)
+unlisted_names [] = refl
+unlisted_names (v ∷ vars) = ap (λ ns. v.name ∷ ns) (unlisted_names vars)
 
 -- a name is among those of the variables where it has a position
-taken_from : (i : ℕ) (drafts : List Draft) (name : List ℕ) → is_variable_name name drafts ≡ is_some (position_from (λ other. bytes_eq other name) i (names_of drafts))
-taken_from i [] name = refl
-taken_from i (d ∷ drafts) name = by (bytes_eq d.var.name name) (taken_from (i + 1) drafts name)
-  where
-    by : (b : Bool) → is_variable_name name drafts ≡ is_some (position_from (λ other. bytes_eq other name) (i + 1) (names_of drafts)) →
-        (b || is_variable_name name drafts) ≡ is_some (if b then Some i else position_from (λ other. bytes_eq other name) (i + 1) (names_of drafts))
-    by true more = refl
-    by false more = more
-
-pub taken_is : (drafts : List Draft) (name : List ℕ) → is_variable_name name drafts ≡ is_some (position_of (names_of drafts) name)
-taken_is drafts name = taken_from 0 drafts name
-
-pub name_count : (items : List Variable) → length (names_of (drafts_of items)) ≡ length items
-name_count items = length-map (drafts_of items) (λ (d : Draft). d.var.name) ∙ length-map items draft_of
-
--- a name is new if no variable has it
-pub new_is : (names : List (List ℕ)) (drafts all : List Draft) (key name : List ℕ) → names ≡ names_of drafts → drafts ≡ all → key ≡ name → is_new names key ≡ not (is_variable_name name all)
-new_is names drafts all key name are view same =
-    ap (λ ns. is_new ns key) are ∙ ap (is_new (names_of drafts)) same ∙ ap not (sym (taken_is drafts name)) ∙ ap (λ ds. not (is_variable_name name ds)) view
+pub taken_is : (items : List Variable) (name : List ℕ) → is_variable_name name (drafts_of items) ≡ is_some (position_of (variable_names items) name)
+taken_is items name = any_is (λ (d : Draft). d.var.name) name (drafts_of items) ∙ ap (λ names. is_some (position_of names name)) (sym (names_are items))
 
 -- the variables of a header are those that are read
 pub fresh_is : (items : List Variable) (vars : List Var) (drafts : List Draft) → vars ≡ map var_of items → drafts_of items ≡ drafts → unlisted_drafts vars ≡ drafts

@@ -1,6 +1,6 @@
 -- The length of a dimension, by a number of any size.
-use Rattle.std.proofs.Common.{◌≡◌, ℕ, zero, suc, ◌≤◌, Bool, ◌+◌, true, false, List, [], ◌∷◌, refl, arith, rules, is_some, pos, None, Some, Ok, Err, int_le, nat_lt, nat_le, ◌-◌, if◌then◌else◌, ◌||◌, ◌==◌}
-use Rattle.cdl_parse.proofs.Prelude.{position_from, bytes_eq, position_of, int_eq, Dim, Version, Parts, number, signed, NumberRange, NcType, dim_len_of, unless, dim_names, is_dimension_name}
+use Rattle.std.proofs.Common.{◌≡◌, ℕ, zero, suc, ◌≤◌, Bool, true, false, List, refl, arith, rules, pos, None, Some, Ok, Err, int_le, nat_lt, nat_le, ◌-◌, if◌then◌else◌, ◌==◌}
+use Rattle.cdl_parse.proofs.Prelude.{int_eq, Dim, Version, Parts, number, signed, NumberRange, NcType, dim_len_of, unless}
 use Rattle.nc_base.specs.Versions.{count_limit}
 use Rattle.nc_base.specs.declared.version.Version.TheVariants.{Cdf1, Cdf2, Cdf5}
 use Rattle.cdl_tokens.specs.code.Magnitudes.{held}
@@ -43,16 +43,3 @@ by_magnitude v dims ty false (suc k) false is =
 
 pub lens : (v : Version) (dims : List Dim) (p : Parts) → dim_len_of v dims (Some (number p).value) ≡ number_len v (held p)
 lens v dims p = by_magnitude v dims p.ty p.minus p.magnitude (nat_lt 18446744073709551615 p.magnitude) refl
-
--- a name is among those of the dimensions where it has a position
-any_from : (i : ℕ) (dims : List Dim) (name : List ℕ) → is_dimension_name name dims ≡ is_some (position_from (λ other. bytes_eq other name) i (dim_names dims))
-any_from i [] name = refl
-any_from i (d ∷ dims) name = by (bytes_eq d.name name) (any_from (i + 1) dims name)
-  where
-    by : (b : Bool) → is_dimension_name name dims ≡ is_some (position_from (λ other. bytes_eq other name) (i + 1) (dim_names dims)) →
-        (b || is_dimension_name name dims) ≡ is_some (if b then Some i else position_from (λ other. bytes_eq other name) (i + 1) (dim_names dims))
-    by true more = refl
-    by false more = more
-
-pub any_is : (dims : List Dim) (name : List ℕ) → is_dimension_name name dims ≡ is_some (position_of (dim_names dims) name)
-any_is dims name = any_from 0 dims name

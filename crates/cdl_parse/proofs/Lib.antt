@@ -1,5 +1,4 @@
 pub mod Lengths
-pub mod NameSets
 pub mod StatementWords
 pub mod AttributeReads
 pub mod VariableNames

@@ -3,14 +3,14 @@ pub use Rattle.cdl_meaning.specs.Meaning.{array_of, checked, closing_line, datas
 unfoldable pub use Rattle.cdl_meaning.specs.Meaning.{finished, is_small_enough, piece_read, run}
 pub use Rattle.cdl_meaning.specs.State.{Draft, Listing, State, add_constant, at_named, dim_len_of, first_type, found, in_turn, is_listed, type_said, unless, values_in, when, with_att, with_values}
 unfoldable pub use Rattle.cdl_meaning.specs.State.{act, add_att, add_dim, add_dimid, add_var, at_variable, capacity_of, listing_of, type_of}
-pub use Rattle.cdl_parse.specs.code.AttributeNames.{HasNames, contains_name, has_attribute}
+pub use Rattle.cdl_parse.specs.code.AttributeNames.{att_names, has_attribute}
 pub use Rattle.cdl_parse.specs.code.AttributeRead.{att_read, att_said, constants_said}
 pub use Rattle.cdl_parse.specs.code.DataSections.{BeginsData, Closes, IsInDataSection, ReadsOne, TakesStatement, given_at}
 pub use Rattle.cdl_parse.specs.code.Declarations.{ReadsDimension, added, continued, declared, is_open_after, next_dimid, read_on, type_first, with_begun}
 pub use Rattle.cdl_parse.specs.code.DeclaredDatasets.{dataset_of_declared, or_too_large}
 pub use Rattle.cdl_parse.specs.code.Defined.{Makes, after_mark, is_defining, is_early, is_over, state_of}
 pub use Rattle.cdl_parse.specs.code.DimensionNames.{dim_names, is_dimension_name, with_new_dim}
-pub use Rattle.cdl_parse.specs.code.Drafts.{draft, draft_of, drafts_of, is_variable_name, var_of, with_new_draft}
+pub use Rattle.cdl_parse.specs.code.Drafts.{draft, draft_of, drafts_of, is_variable_name, var_of, variable_names, with_new_draft}
 pub use Rattle.cdl_parse.specs.code.Extents.{records_for, records_kept, records_within, with_all}
 pub use Rattle.cdl_parse.specs.code.Runs.{FailsAt, ReadsOn, at_line, run_after}
 pub use Rattle.cdl_parse.specs.code.TakenNames.{after_name}
@@ -49,7 +49,7 @@ pub use Rattle.cdl_tokens.specs.declared.token.Token.{Token}
 pub use Rattle.cdl_values.specs.code.Answers.{ContinuesRead, FailsRead, Leaves}
 pub use Rattle.cdl_values.specs.code.Listed.{AllList, AreShaped, Lists, unlisted_drafts}
 pub use Rattle.cdl_values.specs.code.Meant.{AllSuit, Means, Suits, begins_brace, listing_bytes, name_first, names_of, with_listing}
-pub use Rattle.cdl_values.specs.code.NameIndices.{is_new, position_of}
+pub use Rattle.cdl_values.specs.code.NameIndices.{IsIndex, is_new, position_of, var_names}
 pub use Rattle.cdl_values.specs.declared.data.Target.{Target}
 pub use Rattle.cdl_values.specs.declared.read_error.ReadError.{ReadError}
 pub use Rattle.cdl_values.specs.declared.read_error.ReadError.TheVariants.{Fault, OutOfMemory}
@@ -77,6 +77,7 @@ pub use Rattle.std.specs.Vec.Iter.{into_iter_items}
 pub use Rattle.std.specs.declared.alloc.AllocError.{AllocError}
 pub use Rattle.nc_base.proofs.Tests.{and_left, none_before}
 pub use Rattle.nc_base.proofs.SoundLaws.{some_count, some_product}
-pub use Rattle.cdl_values.proofs.NamePositions.{apart, apart_in_order}
+pub use Rattle.cdl_values.proofs.NamePositions.{any_is, new_is}
+pub use Rattle.cdl_values.specs.code.VariableNames.{names_in}
 pub use Rattle.cdl_values.proofs.AllowedNames.{stopped}
 pub use Rattle.nc_base.proofs.FilePlaces.{length-numbers}

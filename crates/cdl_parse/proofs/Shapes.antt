@@ -1,6 +1,6 @@
 -- The statements of the section of the variables keep the variables' shapes.
-use Rattle.std.proofs.Common.{◌≡◌, ℕ, suc, ◌<◌, Bool, true, false, List, [], ◌∷◌, ◌++◌, length, refl, sym, ap, ◌∙◌, subst, append_assoc, append-nil, arith, IsTrue, Option, None, Some, Result, Ok, Err, IfOk, IfSome, ◌&&◌, nat_lt, if◌then◌else◌}
-use Rattle.cdl_parse.proofs.Prelude.{false≢true, All-cons, All-nil, All-push, position, position_or_len, bytes_eq, AreDimids, IsDimid, is_name, is_record_dim, Att, Dim, NcType, Value, CdlKind, BadName, BadShape, DuplicateName, UnknownDimension, Draft, add_att, add_dimid, add_var, at_named, at_variable, found, in_turn, unless, when, with_att, AreShaped, draft, is_variable_name, none_before}
+use Rattle.std.proofs.Common.{◌≡◌, ℕ, suc, ◌<◌, Bool, true, false, List, [], ◌∷◌, ◌++◌, length, refl, sym, subst, append_assoc, append-nil, arith, Option, None, Some, Result, Ok, Err, IfOk, IfSome, ◌&&◌, nat_lt, if◌then◌else◌}
+use Rattle.cdl_parse.proofs.Prelude.{All-cons, All-nil, All-push, position, position_or_len, bytes_eq, AreDimids, IsDimid, is_name, is_record_dim, Att, Dim, NcType, Value, CdlKind, BadName, BadShape, DuplicateName, UnknownDimension, Draft, add_att, add_dimid, add_var, at_named, at_variable, found, in_turn, unless, when, with_att, AreShaped, draft, is_variable_name, none_before}
 use Rattle.std.specs.Prelude.{⊤}
 use Rattle.cdl_statements.specs.Shapes.{Variable}
 use Rattle.cdl_meaning.specs.State.{◌>>=◌}

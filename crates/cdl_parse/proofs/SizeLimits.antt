@@ -1,9 +1,8 @@
 -- What is listed keeps its limits where its slabs, its records and the header do.
-use Rattle.std.proofs.Common.{◌≡◌, ℕ, zero, suc, ◌+◌, ◌*◌, ◌/◌, ◌<◌, ◌≤◌, ℤ, Bool, true, false, List, [], ◌∷◌, ◌++◌, length, length-append, map, refl, sym, ap, ◌∙◌, arith, subst, All, ◌&&◌, ◌==◌, if◌then◌else◌, max, nat_le, nat_lt, Option, None, Some}
-use Rattle.cdl_parse.proofs.Prelude.{flat_map, list_all, All-cons, All-head, All-nil, All-tail, Dim, Var, NcType, AreDimids, IsDimid, bytes_of_number, is_record_var, is_record_dim, slab_count, slab_lens, slab_size, slab_limit, array_limit, product, dim_len, is_small, records_in, values_of, Draft, AllList, AreShaped, records_for, records_kept, records_within, with_all, Extent, le-leb, some_count, some_product, length-numbers}
+use Rattle.std.proofs.Common.{◌≡◌, ℕ, zero, suc, ◌+◌, ◌*◌, ◌/◌, ◌<◌, ◌≤◌, Bool, true, false, List, [], ◌∷◌, length, map, refl, sym, ap, ◌∙◌, arith, subst, All, ◌&&◌, if◌then◌else◌, max, nat_le, Option, None, Some}
+use Rattle.cdl_parse.proofs.Prelude.{flat_map, list_all, All-cons, All-head, All-nil, All-tail, Dim, Var, AreDimids, bytes_of_number, is_record_var, slab_count, slab_size, slab_limit, array_limit, is_small, records_in, values_of, Draft, AllList, AreShaped, records_for, records_kept, records_within, with_all, Extent, le-leb, some_count, some_product, length-numbers}
 use Rattle.std.proofs.Math.Nat.{mul-div_cancel, mul-le-mul_left, mul_comm, mul_right_comm}
 use Rattle.nc_base.specs.Types.{size_of}
-use Rattle.nc_base.proofs.FilePlaces.{length-number}
 use Rattle.nc_base.proofs.SoundLaws.{some_size}
 
 -- ---- a slab has a value

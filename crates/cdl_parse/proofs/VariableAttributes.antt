@@ -1,6 +1,6 @@
 -- A statement that gives a variable an attribute.
 use Rattle.std.proofs.Common.{◌≡◌, ℕ, zero, suc, ◌<◌, Bool, true, false, List, [], ◌∷◌, length, get_or, set, drop, refl, sym, ap, ◌∙◌, arith, Result, Ok, Err, OnErr, if◌then◌else◌}
-use Rattle.cdl_parse.proofs.Prelude.{false≢true, set-get_or, Att, completes, word_value, Lexeme, Value, AttributeName, CdlKind, Draft, add_att, with_att, Leaves, name_first, names_of, ReadError, OutOfMemory, Fault, draft_of, drafts_of, at_position, Variable}
+use Rattle.cdl_parse.proofs.Prelude.{false≢true, set-get_or, Att, completes, word_value, Lexeme, Value, AttributeName, CdlKind, Draft, add_att, with_att, Leaves, name_first, ReadError, OutOfMemory, Fault, draft_of, drafts_of, at_position, Variable, variable_names}
 use Rattle.std.specs.Prelude.{⊤}
 use Rattle.cdl_meaning.specs.State.{◌>>=◌}
 
@@ -37,9 +37,9 @@ abbrev pub with_atts : List Att → Variable → Variable
 with_atts atts v = record v { atts = atts }
 
 -- no other names
-pub names_kept : (items : List Variable) (k : ℕ) (w : Variable) (atts : List Att) → w ≡ get_or items k w → names_of (drafts_of (set items k (with_atts atts w))) ≡ names_of (drafts_of items)
+pub names_kept : (items : List Variable) (k : ℕ) (w : Variable) (atts : List Att) → w ≡ get_or items k w → variable_names (set items k (with_atts atts w)) ≡ variable_names items
 names_kept [] k w atts is = refl
-names_kept (x ∷ items) zero w atts is = ap (λ (v : Variable). v.name ∷ names_of (drafts_of items)) is
+names_kept (x ∷ items) zero w atts is = ap (λ (v : Variable). v.name ∷ variable_names items) is
 names_kept (x ∷ items) (suc k) w atts is = ap (λ ns. x.name ∷ ns) (names_kept items k w atts is)
 
 pub changed_at : (name : List ℕ) (cs : List Value) (items : List Variable) (k : ℕ) (w : Variable) (atts : List Att) (r : Result ⊤ ReadError) → k < length items → w ≡ get_or items k w → Leaves atts r (add_att name cs w.atts) →

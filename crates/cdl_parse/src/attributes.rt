@@ -3,9 +3,9 @@
 ghost use Rattle.std.specs.Prelude.{◌≡◌, [], IfOk, OnErr, not};
 ghost use Rattle.cdl_parse.specs.code.AttributeNames.{has_attribute, with_added_att};
 
+use cdl_values::NameIndex;
 use nc_base::{Att, Sequence};
 use std::alloc::{AllocError, Global};
-use std::collections::BTreeSet;
 use std::marker::Model;
 
 /// The attributes of a variable or of the dataset, in the order of the text.
@@ -14,20 +14,21 @@ use std::marker::Model;
 #[derive(Drop)]
 pub struct Attributes {
     list: Vec<Att>,
-    /// The names of the attributes in `list`.
-    names: BTreeSet<Vec<u8>>,
+    /// Finds the position of an attribute in `list` by its name.
+    names: NameIndex,
 }
 
 impl Model for Attributes {
     ghost use Rattle.std.specs.Prelude.{List};
     ghost use Rattle.nc_base.specs.declared.header.Att.{Att};
-    ghost use Rattle.cdl_parse.specs.code.AttributeNames.{HasNames};
+    ghost use Rattle.cdl_values.specs.code.NameIndices.{IsIndex};
+    ghost use Rattle.cdl_parse.specs.code.AttributeNames.{att_names};
 
     ghost Value = { List Att };
 
     ghost view = { λ attributes. attributes.list.items };
 
-    ghost invariant = { λ attributes. HasNames attributes.names attributes.list.items };
+    ghost invariant = { λ attributes. IsIndex attributes.names (att_names attributes.list.items) };
 }
 
 impl Attributes {
@@ -37,7 +38,7 @@ impl Attributes {
     {
         Attributes {
             list: Vec::new(alloc),
-            names: BTreeSet::new(alloc),
+            names: NameIndex::new(alloc),
         }
     }
 
@@ -45,7 +46,7 @@ impl Attributes {
     pub fn has_name(&self, name: &[u8]) -> bool
         ensures { result ≡ has_attribute name.now self.now }
     {
-        self.names.contains(name)
+        self.names.find(self.list.as_slice(), name).is_some()
     }
 
     /// Adds the attribute at the end and returns true, if no other one has its name. Otherwise changes nothing and returns false.
@@ -58,16 +59,14 @@ impl Attributes {
         ensures atts { IfOk result (λ added. self.new ≡ with_added_att added self.old att) }
         ensures err { OnErr result (self.new ≡ self.old) }
     {
-        let name = Vec::from_slice(alloc, att.name.as_slice())?;
-        self.list.push(att)?;
-        let added = self.names.insert(name);
-        match added {
-            Ok(true) => {}
-            _ => {
-                self.list.pop();
-            }
+        self.list.reserve(1)?;
+        let added = self
+            .names
+            .add(alloc, self.list.as_slice(), att.name.as_slice())?;
+        if added {
+            self.list.push(att)?;
         }
-        Ok(added?)
+        Ok(added)
     }
 
     /// Returns the attributes as a list, without a copy.

@@ -5,12 +5,13 @@ ghost use Rattle.cdl_statements.specs.code.Cutters.{Follows, SameText, is_done, 
 ghost use Rattle.cdl_statements.specs.declared.section.Section.TheVariants.{Values};
 ghost use Rattle.cdl_meaning.specs.State.{State};
 ghost use Rattle.cdl_values.specs.code.Meant.{begins_brace};
+ghost use Rattle.cdl_values.specs.code.VariableNames.{names_in};
 ghost use Rattle.cdl_parse.specs.code.DataSections.{Closes, ReadsDataSection, ReadsNextStatement, given_at};
 
 use crate::parse_error::ParseError;
 use crate::statement::pass;
 use cdl_statements::{Cutter, Section};
-use cdl_values::{NameIndex, ReadError, Target, read};
+use cdl_values::{ReadError, Target, VariableNames, read};
 use nc_base::ListedArray;
 use std::alloc::{AllocError, Global};
 
@@ -47,7 +48,7 @@ struct DataStatement<'a> {
 /// statements after them.
 ///
 /// Each statement lists the values of the variable that it names, and no two of them name the same variable (the CDL chapter of the
-/// NetCDF User's Guide, and ncgen(1)). `names` has the names of the variables, and `targets` what each may take, in the same order.
+/// NetCDF User's Guide, and ncgen(1)). `names` are the names of the variables, and `targets` what each may take, in the same order.
 /// The end of the text counts as a statement that this section doesn't allow. So a text that ends before the closing brace has a
 /// fault at its end.
 ///
@@ -56,11 +57,11 @@ struct DataStatement<'a> {
 /// The fault of the first bad statement, with its line; or an allocation failed.
 pub fn read_data<'a>(
     alloc: Global,
-    names: &NameIndex,
+    names: VariableNames<'_>,
     targets: Vec<Target>,
     start: Cutter<'a>,
 ) -> Result<DataSection<'a>, ParseError>
-    ensures reads { ReadsDataSection start.entry names.now targets.items result }
+    ensures reads { ReadsDataSection start.entry (names_in names.entry) targets.items result }
     ensures ends { IfOk result (λ d. d.is_closed ≡ false → is_done d.rest ≡ true) }
     ensures same { IfOk result (λ d. SameText start.entry d.rest) }
 {
@@ -107,12 +108,12 @@ pub fn empty_arrays(alloc: Global, count: usize) -> Result<Vec<ListedArray>, All
 /// allocation failed.
 fn read_one<'a>(
     alloc: Global,
-    names: &NameIndex,
+    names: VariableNames<'_>,
     listings: &mut Listings,
     start: Cutter<'a>,
 ) -> Result<DataStatement<'a>, ReadError>
     requires { is_done start ≡ false }
-    ensures reads { ReadsNextStatement start.entry names.now listings.old listings.new result }
+    ensures reads { ReadsNextStatement start.entry (names_in names.entry) listings.old listings.new result }
     ensures rest { IfOk result (λ passed. Follows start.entry passed.rest) }
 {
     if start.lexeme().is_mark(b'}') {

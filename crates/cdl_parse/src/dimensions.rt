@@ -28,13 +28,14 @@ impl Model for Dimensions {
     ghost use Rattle.std.specs.Prelude.{List, ◌≡◌};
     ghost use Rattle.nc_base.specs.Headers.{has_record_dim};
     ghost use Rattle.nc_base.specs.declared.header.Dim.{Dim};
+    ghost use Rattle.cdl_values.specs.code.NameIndices.{IsIndex};
     ghost use Rattle.cdl_parse.specs.code.DimensionNames.{dim_names};
 
     ghost Value = { List Dim };
 
     ghost view = { λ dims. dims.list.items };
 
-    ghost invariant = { λ dims. (dims.names ≡ dim_names dims.list.items) × (dims.has_record ≡ has_record_dim dims.list.items) };
+    ghost invariant = { λ dims. IsIndex dims.names (dim_names dims.list.items) × (dims.has_record ≡ has_record_dim dims.list.items) };
 }
 
 impl Dimensions {
@@ -67,7 +68,7 @@ impl Dimensions {
     pub fn position(&self, name: &[u8]) -> Option<u64>
         ensures { result ≡ position (λ (d : header.Dim). bytes_eq d.name name.now) self.now }
     {
-        self.names.find(name)
+        self.names.find(self.list.as_slice(), name)
     }
 
     /// Returns true if one of the dimensions has the name.
@@ -87,17 +88,15 @@ impl Dimensions {
         ensures dims { IfOk result (λ added. self.new ≡ with_dim added self.old dim) }
         ensures err { OnErr result (self.new ≡ self.old) }
     {
-        let name = Vec::from_slice(alloc, dim.name.as_slice())?;
-        let has_record = self.has_record || dim.len == 0;
-        self.list.push(dim)?;
-        let added = self.names.add(name);
-        match added {
-            Ok(true) => self.has_record = has_record,
-            _ => {
-                self.list.pop();
-            }
+        self.list.reserve(1)?;
+        let added = self
+            .names
+            .add(alloc, self.list.as_slice(), dim.name.as_slice())?;
+        if added {
+            self.has_record = self.has_record || dim.len == 0;
+            self.list.push(dim)?;
         }
-        added
+        Ok(added)
     }
 
     /// Returns the dimensions as a list, without a copy.

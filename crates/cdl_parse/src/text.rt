@@ -3,6 +3,7 @@
 ghost use Rattle.std.specs.Prelude.{if◌then◌else◌, ◌≡◌, ◌<◌, ◌^◌, IfOk, Ok, false, length, true};
 ghost use Rattle.cdl_statements.specs.code.Cutters.{SameText, is_done, text_of};
 ghost use Rattle.cdl_meaning.specs.Meaning.{empty, meaning};
+ghost use Rattle.cdl_values.specs.code.VariableNames.{names_in};
 ghost use Rattle.cdl_parse.specs.code.Defined.{is_early, is_over};
 ghost use Rattle.cdl_parse.specs.code.DeclaredDatasets.{dataset_of_declared};
 ghost use Rattle.cdl_parse.specs.code.Parsing.{MeansOrOutOfMemory, ReadsAll, ReadsAsDefined, as_dataset, fault_of};
@@ -17,7 +18,7 @@ use crate::finishing::finish;
 use crate::parse_error::ParseError;
 use crate::text_end::read_end;
 use cdl_statements::{CdlFault, CdlKind, Cutter, Section};
-use cdl_values::{NameIndex, targets_of};
+use cdl_values::{VariableNames, targets_of};
 use nc_base::{Att, Dataset, Dim, ListedArray, Sequence, Var, Version};
 use std::alloc::Global;
 
@@ -121,7 +122,7 @@ fn read_contents(alloc: Global, start: Cutter<'_>) -> Result<Contents, ParseErro
         alloc,
         dims.as_slice(),
         vars.as_slice(),
-        &names,
+        VariableNames::new(vars.as_slice(), &names),
         rest,
         section,
     )?;
@@ -146,18 +147,18 @@ struct Values<'a> {
 }
 
 /// Reads the data section if `section` is that section, and returns what it lists and what comes after it. Otherwise returns arrays
-/// without values, and reads nothing. `section` is the section of the next statement, and `names` has the names of the variables.
+/// without values, and reads nothing. `section` is the section of the next statement, and `names` are the names of the variables.
 /// Errs with the fault of the first bad statement of the data section, or if an allocation failed.
 fn read_values<'a>(
     alloc: Global,
     dims: &[Dim],
     vars: &[Var],
-    names: &NameIndex,
+    names: VariableNames<'_>,
     start: Cutter<'a>,
     section: Section,
 ) -> Result<Values<'a>, ParseError>
     requires { is_done start ≡ false → is_early section ≡ false }
-    ensures reads { ReadsAsDefined start.entry dims.now vars.now names.now section result }
+    ensures reads { ReadsAsDefined start.entry dims.now vars.now (names_in names.entry) section result }
     ensures past { IfOk result (λ values. is_done values.rest ≡ false → is_over values.section ≡ true) }
     ensures same { IfOk result (λ values. SameText start.entry values.rest) }
 {
@@ -171,17 +172,17 @@ fn read_values<'a>(
     }
 }
 
-/// Reads the data section, and returns what it lists and what comes after it. `names` has the names of the variables. If the text ends
+/// Reads the data section, and returns what it lists and what comes after it. `names` are the names of the variables. If the text ends
 /// before the closing brace, this call doesn't err: the section returned is then `Values`. Errs with the fault of the first bad
 /// statement of the section, or if an allocation failed.
 fn read_section<'a>(
     alloc: Global,
     dims: &[Dim],
     vars: &[Var],
-    names: &NameIndex,
+    names: VariableNames<'_>,
     start: Cutter<'a>,
 ) -> Result<Values<'a>, ParseError>
-    ensures reads { ReadsAsDefined start.entry dims.now vars.now names.now Section.Values result }
+    ensures reads { ReadsAsDefined start.entry dims.now vars.now (names_in names.entry) Section.Values result }
     ensures past { IfOk result (λ values. is_done values.rest ≡ false → is_over values.section ≡ true) }
     ensures same { IfOk result (λ values. SameText start.entry values.rest) }
 {

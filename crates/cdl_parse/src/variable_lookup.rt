@@ -1,24 +1,31 @@
 //! The variable that a statement names.
 
-ghost use Rattle.std.specs.Prelude.{◌<◌, IfOk, length};
+ghost use Rattle.std.specs.Prelude.{◌<◌, IfOk, length, map};
 ghost use Rattle.cdl_tokens.specs.Escapes.{word_value};
+ghost use Rattle.cdl_values.specs.code.NameIndices.{IsIndex};
 ghost use Rattle.cdl_parse.specs.code.VariablePositions.{FindsVariable};
 
 use cdl_statements::CdlKind;
-use cdl_values::{NameIndex, ReadError, read_name};
+use cdl_values::{NameIndex, Named, ReadError, read_name};
 use std::alloc::Global;
 
-/// Returns the position of the variable that a word names. `names` are the names of the variables.
+/// Returns the position of the variable that a word names. `names` is the index of `variables`.
 ///
 /// # Errors
 ///
 /// A name that the format doesn't allow (`BadName`), or that no variable has (`UnknownVariable`). Or an allocation failed.
-pub fn variable_position(alloc: Global, names: &NameIndex, word: &[u8]) -> Result<u64, ReadError>
-    ensures finds { FindsVariable (word_value word.now) names.now result }
-    ensures within { IfOk result (λ position. position < length names.now) }
+pub fn variable_position<T: Named>(
+    alloc: Global,
+    variables: &[T],
+    names: &NameIndex,
+    word: &[u8],
+) -> Result<u64, ReadError>
+    requires { IsIndex names.now (map T.name_of variables.now) }
+    ensures finds { FindsVariable (word_value word.now) (map T.name_of variables.now) result }
+    ensures within { IfOk result (λ position. position < length variables.now) }
 {
     let name = read_name(alloc, word)?;
-    match names.find(name.as_slice()) {
+    match names.find(variables, name.as_slice()) {
         Some(position) => Ok(position),
         None => Err(ReadError::Fault(CdlKind::UnknownVariable)),
     }

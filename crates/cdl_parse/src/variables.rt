@@ -6,7 +6,7 @@ ghost use Rattle.cdl_statements.specs.code.DueTokens.{completes};
 ghost use Rattle.cdl_statements.specs.declared.due.Due.TheVariants.{AttributeName};
 ghost use Rattle.cdl_values.specs.code.Answers.{Leaves};
 ghost use Rattle.cdl_values.specs.code.Listed.{unlisted_drafts};
-ghost use Rattle.cdl_values.specs.code.Meant.{names_of};
+ghost use Rattle.cdl_values.specs.code.NameIndices.{IsIndex, var_names};
 ghost use Rattle.cdl_parse.specs.code.AttributeRead.{variable_att_read};
 ghost use Rattle.cdl_parse.specs.code.Drafts.{is_variable_name, var_of, with_draft};
 
@@ -14,7 +14,7 @@ use crate::attribute::read_attribute;
 use crate::attributes::Attributes;
 use crate::variable_lookup::variable_position;
 use cdl_statements::Cutter;
-use cdl_values::{NameIndex, ReadError};
+use cdl_values::{NameIndex, Named, ReadError};
 use nc_base::{NcType, Sequence, Var};
 use std::alloc::{AllocError, Global};
 use std::marker::Model;
@@ -27,6 +27,14 @@ struct Variable {
     dimids: Sequence<u64>,
     ty: NcType,
     atts: Attributes,
+}
+
+impl Named for Variable {
+    ghost name_of = { λ v. v.name };
+
+    fn name(&self) -> &[u8] {
+        self.name.as_slice()
+    }
 }
 
 /// The variables of a text, in the order of the text.
@@ -45,12 +53,12 @@ impl Model for Variables {
 
     ghost Value = { List Draft };
 
-    ghost use Rattle.cdl_values.specs.code.Meant.{names_of};
-    ghost use Rattle.cdl_parse.specs.code.Drafts.{drafts_of};
+    ghost use Rattle.cdl_values.specs.code.NameIndices.{IsIndex};
+    ghost use Rattle.cdl_parse.specs.code.Drafts.{drafts_of, variable_names};
 
     ghost view = { λ variables. drafts_of variables.list.items };
 
-    ghost invariant = { λ variables. variables.names ≡ names_of (drafts_of variables.list.items) };
+    ghost invariant = { λ variables. IsIndex variables.names (variable_names variables.list.items) };
 }
 
 impl Variables {
@@ -68,7 +76,7 @@ impl Variables {
     pub fn has_name(&self, name: &[u8]) -> bool
         ensures { result ≡ is_variable_name name.now self.now }
     {
-        self.names.find(name).is_some()
+        self.names.find(self.list.as_slice(), name).is_some()
     }
 
     /// Adds a variable without attributes at the end and returns true, if no other one has its name. Otherwise changes nothing and
@@ -88,21 +96,19 @@ impl Variables {
         ensures drafts { IfOk result (λ a. self.new ≡ with_draft a self.old name.items dimids.items ty) }
         ensures err { OnErr result (self.new ≡ self.old) }
     {
-        let key = Vec::from_slice(alloc, name.as_slice())?;
-        self.list.push(Variable {
-            name: Sequence::from_vec(name),
-            dimids: Sequence::from_vec(dimids),
-            ty,
-            atts: Attributes::new(alloc),
-        })?;
-        let added = self.names.add(key);
-        match added {
-            Ok(true) => {}
-            _ => {
-                self.list.pop();
-            }
+        self.list.reserve(1)?;
+        let added = self
+            .names
+            .add(alloc, self.list.as_slice(), name.as_slice())?;
+        if added {
+            self.list.push(Variable {
+                name: Sequence::from_vec(name),
+                dimids: Sequence::from_vec(dimids),
+                ty,
+                atts: Attributes::new(alloc),
+            })?;
         }
-        added
+        Ok(added)
     }
 
     /// Reads an attribute of a variable, and adds it to the attributes of that variable. `start` is at the variable's name.
@@ -121,7 +127,12 @@ impl Variables {
         ensures reads { Leaves self.new result (variable_att_read start.entry self.old) }
         ensures unchanged { OnErr result (self.new ≡ self.old) }
     {
-        let position = variable_position(alloc, &self.names, start.lexeme().bytes)?;
+        let position = variable_position(
+            alloc,
+            self.list.as_slice(),
+            &self.names,
+            start.lexeme().bytes,
+        )?;
         let (colon, _) = start.advanced();
         let (name, _) = colon.advanced();
         let variable = &mut self.list[position as usize];
@@ -135,7 +146,7 @@ impl Variables {
     /// An allocation failed.
     pub fn into_parts(self, alloc: Global) -> Result<(Sequence<Var>, NameIndex), AllocError>
         ensures vars { IfOk result (λ parts. unlisted_drafts parts.0 ≡ self) }
-        ensures names { IfOk result (λ parts. parts.1 ≡ names_of self) }
+        ensures names { IfOk result (λ parts. IsIndex parts.1 (var_names parts.0)) }
     {
         let Variables { list, names } = self;
         let vars = vars_of(alloc, list)?;

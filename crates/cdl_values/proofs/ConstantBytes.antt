@@ -1,5 +1,5 @@
 -- The bytes of an attribute's constants.
-use Rattle.std.proofs.Common.{◌≡◌, ℕ, zero, suc, ◌+◌, ◌*◌, ◌-◌, ◌<◌, Bool, true, false, List, [], ◌∷◌, ◌++◌, length, take, drop, refl, sym, ap, ◌∙◌, append_assoc, arith, pos, Option, None, Some, Result, Ok, Err, nat_lt, ◌==◌, slice_index, map, if◌then◌else◌}
+use Rattle.std.proofs.Common.{◌≡◌, ℕ, zero, suc, ◌-◌, ◌<◌, Bool, true, false, List, [], ◌∷◌, ◌++◌, length, take, drop, refl, sym, ap, ◌∙◌, append_assoc, arith, pos, Option, None, Some, Result, Ok, Err, nat_lt, ◌==◌, slice_index, map, if◌then◌else◌}
 use Rattle.std.specs.Prelude.{⊤}
 use Rattle.cdl_values.proofs.Prelude.{bytes_of_number, NcType, Char, Version, value_of, values, Lexeme, TokenKind, take_while, is_octal, is_hex, number_in, byte, character, escape, inner, number_escape, plain_escape, stands, unescape_at, or_zero, word, held, Parts, number, Value, Number, Characters, CdlKind, NumberRange, add_constant, fits, in_turn, same_type, type_said, unless, Adds, ContinuesRead, Leaves, char_bytes, held_bytes, joined, number_bytes, text_bytes, ReadError, OutOfMemory, Fault, plain_small}
 use Rattle.cdl_tokens.specs.declared.token.TokenKind.TheVariants as kinds

@@ -1,5 +1,5 @@
 -- What a statement of the data section means, case by case.
-use Rattle.std.proofs.Common.{◌≡◌, ℕ, true, false, List, [], ◌∷◌, refl, sym, ap, ◌∙◌, Bool, Option, None, Some, Result, Ok, Err, ◌&&◌, ◌==◌, not, slice_index, if◌then◌else◌}
+use Rattle.std.proofs.Common.{◌≡◌, ℕ, true, false, List, [], ◌∷◌, refl, sym, ap, ◌∙◌, Bool, Option, None, Some, Result, Ok, Err, ◌==◌, not, slice_index, if◌then◌else◌}
 use Rattle.cdl_values.proofs.Prelude.{false≢true, Version, word_value, Lexeme, is_mark, is_word_kind, is_mark_kind, first_bad, token_fault, completes, next, only, is_whole, only_completes, values, Due, DataName, Equals, CdlKind, Syntax, good_on, TokenKind, packed, FailsRead, data_read, bytes_assigned, packed_for, target_of, Target, ReadError, OutOfMemory, Fault, and_left, and_right}
 use Rattle.cdl_statements.specs.code.DueTokens.{is_name}
 use Rattle.nc_base.specs.Escapes.{is_reserved}

@@ -1,22 +1,229 @@
--- A name more in an index.
-use Rattle.std.proofs.Common.{◌≡◌, ◌<◌, ◌≤◌, ℕ, zero, suc, ◌+◌, Bool, true, false, cond, List, [], ◌∷◌, ◌++◌, length, refl, sym, ap, ◌∙◌, subst, ⊎_elim, arith, Vec, Global, length-append, Option, None, Some, ◌==◌, if◌then◌else◌}
-use Rattle.std.specs.declared.cmp.Ordering.{Ordering}
-use Rattle.std.specs.declared.cmp.Ordering.TheVariants.{Less, Equal, Greater}
-use Rattle.cdl_values.proofs.Prelude.{position_from, BTreeMap, bytes_eq, cases_Bool, cond-true, cond-false, false≢true, AreBelow, IsIndex, name_of_entry, names_below, names_of_map, position_of}
+-- What an index of names finds, and an index of one name more.
+use Rattle.std.proofs.Common.{◌≡◌, ◌<◌, ℕ, suc, ◌+◌, Bool, true, false, cond, List, [], ◌∷◌, ◌++◌, length, get_or, refl, sym, ap, ◌∙◌, subst, ⊎_elim, arith, Vec, Global, Option, None, Some, ◌==◌, is_some, map, ◌||◌, not}
+use Rattle.cdl_values.proofs.Prelude.{list_any, position_from, BTreeMap, bytes_eq, cases_Bool, cond-true, cond-false, false≢true, get_or-map, length-map, IsIndex, NameIndex, first_with_hash, hash_of, is_new, later_position, position_of, unless_first}
 use Rattle.std.specs.BTreeMap as tree
 use Rattle.std.specs.Map.{lookup, IsKeyTest, AreApart, KeepsOthers}
-use Rattle.std.specs.Cmp.{eq_by_cmp_equiv}
+use Rattle.std.specs.Cmp.{eq_by_cmp_equiv, unsigned_ties}
 use Rattle.std.specs.Cmp.Lexicographic.{slice_cmp, bytes_decides, nat_list_cmp_total, nat_list_eq_equiv}
-use Rattle.std.specs.Ordering.{is_eq, match_ordering, nat_cmp}
+use Rattle.std.specs.Ordering.{is_eq, nat_cmp}
 use Rattle.std.proofs.lemmas.Map.Text.{is_eq-slice_cmp}
 
-Key : Type 0
-Key = Vec ℕ Global
+-- ---- the first item that passes a test, after one item more
 
-pub apart : (bs cs ks : List ℕ) → bytes_eq bs cs ≡ false → bytes_eq bs ks ≡ true → bytes_eq cs ks ≡ false
+some_not_none : {X : Type 0} (x : X) → Some x ≡ None → ⊥
+some_not_none x h = cc
+
+module _ {X : Type 0} (test : X → Bool) (x : X) where
+  kept_from : (i : ℕ) (xs : List X) (p : ℕ) → position_from test i xs ≡ Some p → position_from test i (xs ++ x ∷ []) ≡ Some p
+  kept_from i [] p is = cc
+  kept_from i (y ∷ xs) p is = by (test y) (kept_from (i + 1) xs p) is
+    where
+      by : (b : Bool) → (position_from test (i + 1) xs ≡ Some p → position_from test (i + 1) (xs ++ x ∷ []) ≡ Some p) → cond b (Some i) (position_from test (i + 1) xs) ≡ Some p →
+          cond b (Some i) (position_from test (i + 1) (xs ++ x ∷ [])) ≡ Some p
+      by true more is = is
+      by false more is = more is
+
+  added_from : (i : ℕ) (xs : List X) → position_from test i xs ≡ None → position_from test i (xs ++ x ∷ []) ≡ cond (test x) (Some (i + length xs)) None
+  added_from i [] is = ap (λ n. cond (test x) (Some n) None) (let e : i ≡ i + 0 = omega arith in e)
+  added_from i (y ∷ xs) is = by (test y) (added_from (i + 1) xs) is
+    where
+      by : (b : Bool) → (position_from test (i + 1) xs ≡ None → position_from test (i + 1) (xs ++ x ∷ []) ≡ cond (test x) (Some (i + 1 + length xs)) None) → cond b (Some i) (position_from test (i + 1) xs) ≡ None →
+          cond b (Some i) (position_from test (i + 1) (xs ++ x ∷ [])) ≡ cond (test x) (Some (i + suc (length xs))) None
+      by true more is = cc
+      by false more is = more is ∙ ap (λ n. cond (test x) (Some n) None) (let e : i + 1 + length xs ≡ i + suc (length xs) = omega arith in e)
+
+  pub added : (xs : List X) → position_from test 0 xs ≡ None → position_from test 0 (xs ++ x ∷ []) ≡ cond (test x) (Some (length xs)) None
+  added xs is = added_from 0 xs is ∙ ap (λ n. cond (test x) (Some n) None) (let e : 0 + length xs ≡ length xs = omega arith in e)
+
+-- ---- a name is among those of the items where it has a position
+
+module _ {X : Type 0} (name_of : X → List ℕ) (name : List ℕ) where
+  any_from : (i : ℕ) (xs : List X) → list_any (λ x. bytes_eq (name_of x) name) xs ≡ is_some (position_from (λ other. bytes_eq other name) i (map name_of xs))
+  any_from i [] = refl
+  any_from i (x ∷ xs) = by (bytes_eq (name_of x) name) (any_from (i + 1) xs)
+    where
+      by : (b : Bool) → list_any (λ y. bytes_eq (name_of y) name) xs ≡ is_some (position_from (λ other. bytes_eq other name) (i + 1) (map name_of xs)) →
+          (b || list_any (λ y. bytes_eq (name_of y) name) xs) ≡ is_some (cond b (Some i) (position_from (λ other. bytes_eq other name) (i + 1) (map name_of xs)))
+      by true more = refl
+      by false more = more
+
+  pub any_is : (xs : List X) → list_any (λ x. bytes_eq (name_of x) name) xs ≡ is_some (position_of (map name_of xs) name)
+  any_is xs = any_from 0 xs
+
+  -- and new if no item has it
+  pub new_is : (xs : List X) → is_new (map name_of xs) name ≡ not (list_any (λ x. bytes_eq (name_of x) name) xs)
+  new_is xs = ap not (sym (any_is xs))
+
+-- ---- the first name with a hash
+
+module _ (name : List ℕ) where
+  abbrev has_hash : List ℕ → Bool
+  has_hash other = hash_of other == hash_of name
+
+  abbrev is_same : List ℕ → Bool
+  is_same other = bytes_eq other name
+
+  same_hash : (other : List ℕ) → is_same other ≡ true → has_hash other ≡ true
+  same_hash other e = subst (λ (n : List ℕ). (hash_of other == hash_of n) ≡ true) ((bytes_decides other name).0 e) (let n = hash_of other in grind arith)
+
+  other_hash : (other : List ℕ) → has_hash other ≡ false → is_same other ≡ false
+  other_hash other e = ⊎_elim (λ y. absurd (false≢true (sym e ∙ same_hash other y))) (λ n. n) (cases_Bool (is_same other))
+
+  -- the name stands where the first name with its hash stands, or elsewhere
+  record Hit (i : ℕ) (names : List (List ℕ)) (q : ℕ) : Type 0 where
+    pub j : ℕ
+    pub is : q ≡ i + j
+    pub within : j < length names
+    pub here : (d : List ℕ) → is_same (get_or names j d) ≡ true → position_from is_same i names ≡ Some q
+    pub elsewhere : (d : List ℕ) → is_same (get_or names j d) ≡ false → position_from is_same i names ≡ Some q → ⊥
+
+  later_than : (i : ℕ) (names : List (List ℕ)) (q : ℕ) → position_from is_same i names ≡ Some q → i < suc q
+  later_than i [] q is = cc
+  later_than i (x ∷ names) q is = by (is_same x) (later_than (i + 1) names q) is
+    where
+      by : (b : Bool) → (position_from is_same (i + 1) names ≡ Some q → i + 1 < suc q) → cond b (Some i) (position_from is_same (i + 1) names) ≡ Some q → i < suc q
+      by true more is = let e : i ≡ q = cc in omega (arith, e)
+      by false more is = let e = more is in omega (arith, e)
+
+  no_hash : (i : ℕ) (names : List (List ℕ)) → position_from has_hash i names ≡ None → position_from is_same i names ≡ None
+  no_hash i [] is = refl
+  no_hash i (x ∷ names) is = by (has_hash x) (is_same x) (other_hash x) (no_hash (i + 1) names) is
+    where
+      by : (h s : Bool) → (h ≡ false → s ≡ false) → (position_from has_hash (i + 1) names ≡ None → position_from is_same (i + 1) names ≡ None) →
+          cond h (Some i) (position_from has_hash (i + 1) names) ≡ None → cond s (Some i) (position_from is_same (i + 1) names) ≡ None
+      by true s other more is = cc
+      by false true other more is = absurd (false≢true (sym (other refl)))
+      by false false other more is = more is
+
+  hit_from : (i : ℕ) (names : List (List ℕ)) (q : ℕ) → position_from has_hash i names ≡ Some q → Hit i names q
+  hit_from i [] q is = cc
+  hit_from i (x ∷ names) q is = ⊎_elim first (later (hit_from (i + 1) names)) (cases_Bool (has_hash x))
+    where
+      here_or : Bool → Option ℕ
+      here_or s = cond s (Some i) (position_from is_same (i + 1) names)
+
+      first : has_hash x ≡ true → Hit i (x ∷ names) q
+      first h =
+          let at : i ≡ q = let e = sym (cond-true (has_hash x) (Some i) (position_from has_hash (i + 1) names) h) ∙ is in cc in
+          record {
+            j = 0;
+            is = omega (arith, at);
+            within = omega arith;
+            here = λ d s. ap here_or s ∙ ap Some at;
+            elsewhere = λ d s p. let e = later_than (i + 1) names q (sym (ap here_or s) ∙ p) in omega (arith, e, at);
+          }
+
+      later : ((q : ℕ) → position_from has_hash (i + 1) names ≡ Some q → Hit (i + 1) names q) → has_hash x ≡ false → Hit i (x ∷ names) q
+      later more h =
+          let hit = more q (sym (cond-false (has_hash x) (Some i) (position_from has_hash (i + 1) names) h) ∙ is) in
+          let skip : here_or (is_same x) ≡ position_from is_same (i + 1) names = ap here_or (other_hash x h) in
+          record {
+            j = suc hit.j;
+            is = let e = hit.is in omega (arith, e);
+            within = let e = hit.within in omega (arith, e);
+            here = λ d s. skip ∙ hit.here d s;
+            elsewhere = λ d s p. hit.elsewhere d s (sym skip ∙ p);
+          }
+
+  -- without a name of its hash the name isn't there
+  pub absent : (names : List (List ℕ)) → first_with_hash (hash_of name) names ≡ None → position_of names name ≡ None
+  absent names is = no_hash 0 names is
+
+  pub hit_within : (names : List (List ℕ)) (q : ℕ) → first_with_hash (hash_of name) names ≡ Some q → q < length names
+  hit_within names q is = let hit = hit_from 0 names q is in let e = hit.is in let w = hit.within in omega (arith, e, w)
+
+  pub hit_here : (names : List (List ℕ)) (q : ℕ) (d : List ℕ) → first_with_hash (hash_of name) names ≡ Some q → is_same (get_or names q d) ≡ true → position_of names name ≡ Some q
+  hit_here names q d is same =
+      let hit = hit_from 0 names q is in
+      let at : q ≡ hit.j = let e = hit.is in omega (arith, e) in
+      hit.here d (subst (λ p. is_same (get_or names p d) ≡ true) at same)
+
+  pub hit_elsewhere : (names : List (List ℕ)) (q : ℕ) (d : List ℕ) → first_with_hash (hash_of name) names ≡ Some q → is_same (get_or names q d) ≡ false → later_position names name ≡ position_of names name
+  hit_elsewhere names q d is other =
+      let hit = hit_from 0 names q is in
+      let at : q ≡ hit.j = let e = hit.is in omega (arith, e) in
+      ap (unless_first (position_of names name)) is ∙ by (position_of names name) (hit.elsewhere d (subst (λ p. is_same (get_or names p d) ≡ false) at other))
+    where
+      by : (found : Option ℕ) → (found ≡ Some q → ⊥) → unless_first found (Some q) ≡ found
+      by None apart = refl
+      by (Some p) apart = let off : (p == q) ≡ false = ⊎_elim (λ y. absurd (apart (ap Some (let e : p ≡ q = grind (arith, y) in e)))) (λ n. n) (cases_Bool (p == q)) in rw (off) refl
+
+itself : (name : List ℕ) → bytes_eq name name ≡ true
+itself name = (bytes_decides name name).1 refl
+
+same_number : (n : ℕ) → (n == n) ≡ true
+same_number n = grind arith
+
+-- ---- names that items of a list lend
+
+module _ {X : Type 0} (name_of : X → List ℕ) (xs : List X) (name : List ℕ) (q : ℕ) (found : first_with_hash (hash_of name) (map name_of xs) ≡ Some q) where
+  pub item_within : q < length xs
+  item_within = let within = hit_within name (map name_of xs) q found in let count : length (map name_of xs) ≡ length xs = length-map xs name_of in omega (arith, within, count)
+
+  name_at : (x : X) → x ≡ get_or xs q x → get_or (map name_of xs) q [] ≡ name_of x
+  name_at x is = get_or-map name_of xs q x [] item_within ∙ ap name_of (sym is)
+
+  pub item_here : (x : X) → x ≡ get_or xs q x → bytes_eq (name_of x) name ≡ true → Some q ≡ position_of (map name_of xs) name
+  item_here x is same = sym (hit_here name (map name_of xs) q [] found (ap (λ n. bytes_eq n name) (name_at x is) ∙ same))
+
+  pub item_elsewhere : (x : X) → x ≡ get_or xs q x → bytes_eq (name_of x) name ≡ false → later_position (map name_of xs) name ≡ position_of (map name_of xs) name
+  item_elsewhere x is other = hit_elsewhere name (map name_of xs) q [] found (ap (λ n. bytes_eq n name) (name_at x is) ∙ other)
+
+-- ---- one name more
+
+module _ (names : List (List ℕ)) (name : List ℕ) (new : position_of names name ≡ None) where
+  abbrev more : List (List ℕ)
+  more = names ++ name ∷ []
+
+  firsts_more : (hash : ℕ) → first_with_hash hash names ≡ None → first_with_hash hash more ≡ cond (hash_of name == hash) (Some (length names)) None
+  firsts_more hash is = added (λ (n : List ℕ). hash_of n == hash) name names is
+
+  firsts_kept : (hash q : ℕ) → first_with_hash hash names ≡ Some q → first_with_hash hash more ≡ Some q
+  firsts_kept hash q is = kept_from (λ (n : List ℕ). hash_of n == hash) name 0 names q is
+
+  -- another name stands where it stood, and so does the first with its hash
+  later_kept : (other : List ℕ) → bytes_eq name other ≡ false → later_position more other ≡ later_position names other
+  later_kept other apart = by (position_of names other) refl
+    where
+      first : (found : Option ℕ) (q : ℕ) → first_with_hash (hash_of other) names ≡ found → position_of names other ≡ Some q → first_with_hash (hash_of other) more ≡ first_with_hash (hash_of other) names
+      first None q is at = absurd (some_not_none q (sym at ∙ absent other names is))
+      first (Some f) q is at = firsts_kept (hash_of other) f is ∙ sym is
+
+      by : (found : Option ℕ) → position_of names other ≡ found → later_position more other ≡ later_position names other
+      by None is =
+          let none : position_of more other ≡ None = added (λ (n : List ℕ). bytes_eq n other) name names is ∙ cond-false (bytes_eq name other) (Some (length names)) None apart in
+          ap (λ p. unless_first p (first_with_hash (hash_of other) more)) none ∙ sym (ap (λ p. unless_first p (first_with_hash (hash_of other) names)) is)
+      by (Some q) is =
+          let kept : position_of more other ≡ Some q = kept_from (λ (n : List ℕ). bytes_eq n other) name 0 names q is in
+          ap (λ p. unless_first p (first_with_hash (hash_of other) more)) (kept ∙ sym is) ∙ ap (unless_first (position_of names other)) (first (first_with_hash (hash_of other) names) q refl is)
+
+  -- the name itself stands at the end, and is the first with its hash only if no other has it
+  later_first : first_with_hash (hash_of name) names ≡ None → later_position more name ≡ None
+  later_first is =
+      let here = itself name in
+      let n = length names in
+      ap (λ p. unless_first p (first_with_hash (hash_of name) more)) (added (λ (x : List ℕ). bytes_eq x name) name names new ∙ cond-true (bytes_eq name name) (Some n) None here) ∙
+      ap (unless_first (Some n)) (firsts_more (hash_of name) is ∙ cond-true (hash_of name == hash_of name) (Some n) None (same_number (hash_of name))) ∙
+      cond-true (n == n) None (Some n) (same_number n)
+
+  later_other : (q : ℕ) → first_with_hash (hash_of name) names ≡ Some q → later_position more name ≡ Some (length names)
+  later_other q is =
+      let here = itself name in
+      let n = length names in
+      let before = hit_within name names q is in
+      ap (λ p. unless_first p (first_with_hash (hash_of name) more)) (added (λ (x : List ℕ). bytes_eq x name) name names new ∙ cond-true (bytes_eq name name) (Some n) None here) ∙
+      ap (unless_first (Some n)) (firsts_kept (hash_of name) q is) ∙
+      cond-false (n == q) None (Some n) (grind (arith, before))
+
+-- ---- the maps of an index, as they change
+
+abbrev others_at : BTreeMap (Vec ℕ Global) ℕ → List ℕ → Option ℕ
+others_at m cs = tree.get_by (λ k. slice_cmp nat_cmp cs k.items) m
+
+apart : (bs cs ks : List ℕ) → bytes_eq bs cs ≡ false → bytes_eq bs ks ≡ true → bytes_eq cs ks ≡ false
 apart bs cs ks n y = nat_list_eq_equiv.symm cs ks ∙ sym (nat_list_eq_equiv.congr bs ks cs y) ∙ n
 
-pub apart_in_order : (bs cs ks : List ℕ) → bytes_eq bs cs ≡ false → is_eq (slice_cmp nat_cmp bs ks) ≡ true → is_eq (slice_cmp nat_cmp cs ks) ≡ false
+apart_in_order : (bs cs ks : List ℕ) → bytes_eq bs cs ≡ false → is_eq (slice_cmp nat_cmp bs ks) ≡ true → is_eq (slice_cmp nat_cmp cs ks) ≡ false
 apart_in_order bs cs ks n y = is_eq-slice_cmp cs ks ∙ apart bs cs ks n (sym (is_eq-slice_cmp bs ks) ∙ y)
 
 module _ {K : Type 0} (eq : K → K → Bool) (test : K → Bool) where
@@ -24,173 +231,47 @@ module _ {K : Type 0} (eq : K → K → Bool) (test : K → Bool) where
   unfolding KeepsOthers
   other_entries old new h = h
 
-by_bytes : {W : Type 0} (f g : List ℕ → W) (bs : List ℕ) (w : W) → g bs ≡ w → ((cs : List ℕ) → bytes_eq bs cs ≡ false → g cs ≡ f cs) → (cs : List ℕ) → g cs ≡ cond (bytes_eq bs cs) w (f cs)
-by_bytes f g bs w here other cs =
-    ⊎_elim
-    (λ y. subst (λ l. g l ≡ w) ((bytes_decides bs cs).0 y) here ∙ sym (cond-true (bytes_eq bs cs) w (f cs) y))
-    (λ n. other cs n ∙ sym (cond-false (bytes_eq bs cs) w (f cs) n))
-    (cases_Bool (bytes_eq bs cs))
+other_same : (m n : BTreeMap (Vec ℕ Global) ℕ) (k : Vec ℕ Global) (w : Option ℕ) → tree.Updates (λ x y. slice_cmp nat_cmp x.items y.items) m n k w → (cs : List ℕ) → bytes_eq k.items cs ≡ false → others_at n cs ≡ others_at m cs
+other_same m n k w h cs e = other_entries _ _ _ _ h.3 _ (λ x y. (eq_by_cmp_equiv nat_list_cmp_total).congr cs x.items y.items) (λ q. apart_in_order k.items cs q.items e)
 
-abbrev at : BTreeMap (Vec ℕ Global) ℕ → List ℕ → Option ℕ
-at m cs = tree.get_by (λ k. slice_cmp nat_cmp cs k.items) m
+-- the value of a number's key after it is given to another
+number_test : (a b : ℕ) → is_eq (nat_cmp a b) ≡ (a == b)
+number_test a b = sym (unsigned_ties a b)
 
-pub updated : (m n : BTreeMap (Vec ℕ Global) ℕ) (k : Vec ℕ Global) (w : Option ℕ) → tree.Updates (λ x y. slice_cmp nat_cmp x.items y.items) m n k w →
-    (cs : List ℕ) → at n cs ≡ cond (bytes_eq k.items cs) w (at m cs)
-updated m n k w h = by_bytes (at m) (at n) k.items w h.1 (λ cs e. other_entries _ _ _ _ h.3 _ (λ x y. (eq_by_cmp_equiv nat_list_cmp_total).congr cs x.items y.items) (λ q. apart_in_order k.items cs q.items e))
-
--- the position of a name after the others
-same : (x y z : List ℕ) → bytes_eq x z ≡ true → bytes_eq y z ≡ true → bytes_eq x y ≡ true
-same x y z p q = let e : z ≡ y = sym ((bytes_decides y z).0 q) in subst (λ w. bytes_eq x w ≡ true) e p
-
-after : (a b : Bool) (i n : ℕ) (r : Option ℕ) → (a ≡ true → b ≡ true → ⊥) → cond a (Some i) (cond b (Some n) r) ≡ cond b (Some n) (cond a (Some i) r)
-after true true i n r h = absurd (h refl refl)
-after true false i n r h = refl
-after false true i n r h = refl
-after false false i n r h = refl
-
-first_not : (a : Bool) (i : ℕ) (r : Option ℕ) → cond a (Some i) r ≡ None → a ≡ false
-first_not true i r h = cc
-first_not false i r h = refl
-
-rest_not : (a : Bool) (i : ℕ) (r : Option ℕ) → cond a (Some i) r ≡ None → r ≡ None
-rest_not true i r h = cc
-rest_not false i r h = h
-
-placed_from : (i : ℕ) (names : List (List ℕ)) (name other : List ℕ) → position_from (λ x. bytes_eq x name) i names ≡ None →
-    position_from (λ x. bytes_eq x other) i (names ++ name ∷ []) ≡ cond (bytes_eq name other) (Some (i + length names)) (position_from (λ x. bytes_eq x other) i names)
-placed_from i [] name other new = ap (λ n. cond (bytes_eq name other) (Some n) None) (let e : i ≡ i + 0 = omega arith in e)
-placed_from i (x ∷ names) name other new =
-    let rest = position_from (λ x. bytes_eq x name) (i + 1) names in
-    let not_first = first_not (bytes_eq x name) i rest new in
-    let step = placed_from (i + 1) names name other (rest_not (bytes_eq x name) i rest new) in
-    ap (cond (bytes_eq x other) (Some i)) (step ∙ ap (λ n. cond (bytes_eq name other) (Some n) (position_from (λ x. bytes_eq x other) (i + 1) names)) (let e : i + 1 + length names ≡ i + suc (length names) = omega arith in e)) ∙
-    after (bytes_eq x other) (bytes_eq name other) i (i + suc (length names)) (position_from (λ x. bytes_eq x other) (i + 1) names) (λ p q. false≢true (sym not_first ∙ same x name other p q))
-
-placed : (names : List (List ℕ)) (name other : List ℕ) → position_of names name ≡ None → position_of (names ++ name ∷ []) other ≡ cond (bytes_eq name other) (Some (length names)) (position_of names other)
-placed names name other new = placed_from 0 names name other new ∙ ap (λ n. cond (bytes_eq name other) (Some n) (position_of names other)) (let e : 0 + length names ≡ length names = omega arith in e)
-
-abbrev Entry : Type 0
-Entry = Vec ℕ Global × ℕ
-
-abbrev pub key_order : Vec ℕ Global → Vec ℕ Global → Ordering
-key_order x y = slice_cmp nat_cmp x.items y.items
-
-other_name : (a b : ℕ) (x rest : List ℕ) → (a ≡ b → ⊥) → (if a == b then x else rest) ≡ rest
-other_name a b x rest apart = let off : (a == b) ≡ false = grind (arith, apart) in rw (off) refl
-
-itself : (n : ℕ) (x rest : List ℕ) → (if n == n then x else rest) ≡ x
-itself n x rest = let on : (n == n) ≡ true = grind arith in rw (on) refl
-
--- ---- the entries with one more, whose key is new and whose position is n
-
-module _ (k : Vec ℕ Global) (n : ℕ) where
-  abbrev more : List Entry → List Entry
-  more es = tree.insert_entry key_order es k n
-
-  abbrev IsNew : List Entry → Type 0
-  IsNew es = lookup (tree.is_at (key_order k)) es ≡ None
-
-  -- its place among the others
-  abbrev placed_by : Ordering → Entry → List Entry → List Entry
-  placed_by o e es = match_ordering o ((k, n) ∷ e ∷ es) ((e.0, n) ∷ es) (e ∷ more es)
-
-  abbrev NewBy : Ordering → Entry → List Entry → Type 0
-  NewBy o e es = cond (is_eq o) (Some e.1) (lookup (tree.is_at (key_order k)) es) ≡ None
-
-  pub count_more : (es : List Entry) → IsNew es → length (more es) ≡ suc (length es)
-  count_more [] new = refl
-  count_more (e ∷ es) new = by (key_order k e.0) new (count_more es)
-    where
-      by : (o : Ordering) → NewBy o e es → (IsNew es → length (more es) ≡ suc (length es)) → length (placed_by o e es) ≡ suc (suc (length es))
-      by Less new step = refl
-      by Equal new step = cc
-      by Greater new step = ap suc (step new)
-
-  pub below_more : (m : ℕ) (es : List Entry) → m ≤ n → AreBelow m es → AreBelow (suc n) (more es)
-  below_more m [] up h = (omega arith, tt)
-  below_more m (e ∷ es) up h = by (key_order k e.0) (below_more m es up h.1)
-    where
-      first : e.1 < suc n
-      first = let b = h.0 in omega (arith, up, b)
-
-      wider : (xs : List Entry) → AreBelow m xs → AreBelow (suc n) xs
-      wider [] a = tt
-      wider (x ∷ xs) a = ((let b = a.0 in omega (arith, up, b)), wider xs a.1)
-
-      by : (o : Ordering) → AreBelow (suc n) (more es) → AreBelow (suc n) (placed_by o e es)
-      by Less step = (omega arith, (first, wider es h.1))
-      by Equal step = (omega arith, wider es h.1)
-      by Greater step = (first, step)
-
-  -- the new position has the new name
-  name_there : (es : List Entry) → IsNew es → AreBelow n es → name_of_entry (more es) n ≡ k.items
-  name_there [] new h = itself n k.items []
-  name_there (e ∷ es) new h = by (key_order k e.0) new (name_there es)
-    where
-      by : (o : Ordering) → NewBy o e es → (IsNew es → AreBelow n es → name_of_entry (more es) n ≡ k.items) → name_of_entry (placed_by o e es) n ≡ k.items
-      by Less new step = itself n k.items (name_of_entry (e ∷ es) n)
-      by Equal new step = cc
-      by Greater new step = other_name e.1 n e.0.items (name_of_entry (more es) n) (let b = h.0 in λ same. omega (arith, b, same)) ∙ step new h.1
-
-  -- each position before it has the name that it had
-  name_kept : (i : ℕ) (es : List Entry) → i < n → IsNew es → name_of_entry (more es) i ≡ name_of_entry es i
-  name_kept i [] less new = other_name n i k.items [] (λ same. omega (arith, less, same))
-  name_kept i (e ∷ es) less new = by (key_order k e.0) new (name_kept i es less)
-    where
-      by : (o : Ordering) → NewBy o e es → (IsNew es → name_of_entry (more es) i ≡ name_of_entry es i) → name_of_entry (placed_by o e es) i ≡ name_of_entry (e ∷ es) i
-      by Less new step = other_name n i k.items (name_of_entry (e ∷ es) i) (λ same. omega (arith, less, same))
-      by Equal new step = cc
-      by Greater new step = ap (λ (rest : List ℕ). if e.1 == i then e.0.items else rest) (step new)
-
-  names_kept : (m : ℕ) (es : List Entry) → m ≤ n → IsNew es → names_below m (more es) ≡ names_below m es
-  names_kept zero es less new = refl
-  names_kept (suc m) es less new =
-      ap (λ (names : List (List ℕ)). names ++ name_of_entry (more es) m ∷ []) (names_kept m es (omega (arith, less)) new) ∙ ap (λ (name : List ℕ). names_below m es ++ name ∷ []) (name_kept m es (omega (arith, less)) new)
-
-  pub names_more : (es : List Entry) → IsNew es → AreBelow n es → n ≡ length es → names_below (length (more es)) (more es) ≡ names_below (length es) es ++ k.items ∷ []
-  names_more es new h is =
-      ap (λ m. names_below m (more es)) (count_more es new ∙ ap suc (sym is)) ∙ ap (λ (name : List ℕ). names_below n (more es) ++ name ∷ []) (name_there es new h) ∙
-      ap (λ (names : List (List ℕ)). names ++ k.items ∷ []) (names_kept n es (omega arith) new ∙ ap (λ m. names_below m es) is)
-
--- as many as the entries
-pub names_count : (n : ℕ) (es : List Entry) → length (names_below n es) ≡ n
-names_count zero es = refl
-names_count (suc n) es = length-append (names_below n es) (name_of_entry es n ∷ []) ∙ ap (λ m. m + 1) (names_count n es) ∙ (let e : n + 1 ≡ suc n = omega arith in e)
-
-pub indexed : (m n : BTreeMap (Vec ℕ Global) ℕ) (k : Vec ℕ Global) (position : ℕ) → tree.Updates (λ x y. slice_cmp nat_cmp x.items y.items) m n k (Some position) →
-    (names : List (List ℕ)) → ((name : List ℕ) → at m name ≡ position_of names name) → position ≡ length names → position_of names k.items ≡ None →
-    (name : List ℕ) → at n name ≡ position_of (names ++ k.items ∷ []) name
-indexed m n k position h names was is new name =
-    updated m n k (Some position) h name ∙ ap (cond (bytes_eq k.items name) (Some position)) (was name) ∙ ap (λ p. cond (bytes_eq k.items name) (Some p) (position_of names name)) is ∙ sym (placed names k.items name new)
-
--- ---- the index, as its entries change
-
-abbrev Map : Type 0
-Map = BTreeMap (Vec ℕ Global) ℕ
-
--- with one more entry it has one more name
-pub names_added : (m n : Map) (k : Vec ℕ Global) → IsIndex m (names_of_map m) → lookup (tree.is_at (key_order k)) m.entries ≡ None → n.entries ≡ tree.insert_entry key_order m.entries k (length m.entries) → names_of_map n ≡ names_of_map m ++ k.items ∷ []
-names_added m n k index new is = ap (λ (es : List Entry). names_below (length es) es) is ∙ names_more k (length m.entries) m.entries new index.below refl
-
-pub index_added : (m n : Map) (k : Vec ℕ Global) → IsIndex m (names_of_map m) → lookup (tree.is_at (key_order k)) m.entries ≡ None → n.entries ≡ tree.insert_entry key_order m.entries k (length m.entries) →
-    tree.Updates key_order m n k (Some (length m.entries)) → IsIndex n (names_of_map n)
-index_added m n k index new is h =
-    let es = m.entries in
-    let wider = below_more k (length es) (length es) es (omega arith) index.below in
-    let counted = subst (λ l. AreBelow l (more k (length es) es)) (sym (count_more k (length es) es new)) wider in
-    record {
-      below = subst (λ (all : List Entry). AreBelow (length all) all) (sym is) counted;
-      finds = λ name.
-          indexed m n k (length es) h (names_of_map m) index.finds (sym (names_count (length es) es)) (sym (index.finds k.items) ∙ new) name ∙
-          ap (λ names. position_of names name) (sym (names_added m n k index new is));
-    }
-
--- with the same entries it has the same names
-pub names_same : (m n : Map) → n.entries ≡ m.entries → names_of_map n ≡ names_of_map m
-names_same m n same = ap (λ (es : List Entry). names_below (length es) es) same
-
-pub index_same : (m n : Map) → n.entries ≡ m.entries → IsIndex m (names_of_map m) → IsIndex n (names_of_map n)
-index_same m n same index = record {
-  below = subst (λ (all : List Entry). AreBelow (length all) all) (sym same) index.below;
-  finds = λ name. ap (lookup (tree.is_at (λ (k : Vec ℕ Global). slice_cmp nat_cmp name k.items))) same ∙ index.finds name ∙ ap (λ names. position_of names name) (sym (names_same m n same));
+-- a name whose hash is new
+pub first_added : (m n : NameIndex) (names : List (List ℕ)) (name : List ℕ) → IsIndex m names → position_of names name ≡ None → first_with_hash (hash_of name) names ≡ None → n.others ≡ m.others →
+    tree.Updates nat_cmp m.first_of_hash n.first_of_hash (hash_of name) (Some (length names)) → IsIndex n (names ++ name ∷ [])
+first_added m n names name index new none same h = record {
+  firsts = λ hash. h.0 hash ∙ ap (cond (is_eq (nat_cmp (hash_of name) hash)) (Some (length names))) (index.firsts hash) ∙ ap (λ b. cond b (Some (length names)) (first_with_hash hash names)) (number_test (hash_of name) hash) ∙ at hash (first_with_hash hash names) refl;
+  others = λ other. ap (λ o. others_at o other) same ∙ index.others other ∙ ⊎_elim (here other) (λ apart. sym (later_kept names name new other apart)) (cases_Bool (bytes_eq name other));
 }
+  where
+    at : (hash : ℕ) (found : Option ℕ) → first_with_hash hash names ≡ found → cond (hash_of name == hash) (Some (length names)) (first_with_hash hash names) ≡ first_with_hash hash (names ++ name ∷ [])
+    at hash None is = ap (cond (hash_of name == hash) (Some (length names))) is ∙ sym (firsts_more names name new hash is)
+    at hash (Some q) is = cond-false (hash_of name == hash) (Some (length names)) (first_with_hash hash names) (⊎_elim (λ y. absurd (some_not_none q (sym is ∙ ap (λ h. first_with_hash h names) (let e : hash ≡ hash_of name = grind (arith, y) in e) ∙ none))) (λ n. n) (cases_Bool (hash_of name == hash))) ∙ is ∙ sym (firsts_kept names name new hash q is)
+
+    here : (other : List ℕ) → bytes_eq name other ≡ true → later_position names other ≡ later_position (names ++ name ∷ []) other
+    here other y = subst (λ (n : List ℕ). later_position names n ≡ later_position (names ++ name ∷ []) n) ((bytes_decides name other).0 y) (ap (λ p. unless_first p (first_with_hash (hash_of name) names)) new ∙ sym (later_first names name new none))
+
+-- a name with the hash of an earlier one
+other_added_after : (m n : NameIndex) (names : List (List ℕ)) (key : Vec ℕ Global) (q : ℕ) → IsIndex m names → position_of names key.items ≡ None → first_with_hash (hash_of key.items) names ≡ Some q → n.first_of_hash ≡ m.first_of_hash →
+    tree.Updates (λ x y. slice_cmp nat_cmp x.items y.items) m.others n.others key (Some (length names)) → IsIndex n (names ++ key.items ∷ [])
+other_added_after m n names key q index new some same h = record {
+  firsts = λ hash. ap (λ (f : BTreeMap ℕ ℕ). tree.get nat_cmp f hash) same ∙ index.firsts hash ∙ at hash (first_with_hash hash names) refl;
+  others = λ other. ⊎_elim (here other) (λ apart. other_same m.others n.others key (Some (length names)) h other apart ∙ index.others other ∙ sym (later_kept names key.items new other apart)) (cases_Bool (bytes_eq key.items other));
+}
+  where
+    at : (hash : ℕ) (found : Option ℕ) → first_with_hash hash names ≡ found → first_with_hash hash names ≡ first_with_hash hash (names ++ key.items ∷ [])
+    at hash None is = is ∙ sym (firsts_more names key.items new hash is ∙ cond-false (hash_of key.items == hash) (Some (length names)) None (⊎_elim (λ y. absurd (some_not_none q (sym some ∙ ap (λ h. first_with_hash h names) (let e : hash_of key.items ≡ hash = grind (arith, y) in e) ∙ is))) (λ n. n) (cases_Bool (hash_of key.items == hash))))
+    at hash (Some p) is = is ∙ sym (firsts_kept names key.items new hash p is)
+
+    here : (other : List ℕ) → bytes_eq key.items other ≡ true → others_at n.others other ≡ later_position (names ++ key.items ∷ []) other
+    here other y = subst (λ (n' : List ℕ). others_at n.others n' ≡ later_position (names ++ key.items ∷ []) n') ((bytes_decides key.items other).0 y) (h.1 ∙ sym (later_other names key.items new q some))
+
+pub other_added : (m n : NameIndex) (names : List (List ℕ)) (key : Vec ℕ Global) → IsIndex m names → position_of names key.items ≡ None → is_some (first_with_hash (hash_of key.items) names) ≡ true → n.first_of_hash ≡ m.first_of_hash →
+    tree.Updates (λ x y. slice_cmp nat_cmp x.items y.items) m.others n.others key (Some (length names)) → IsIndex n (names ++ key.items ∷ [])
+other_added m n names key index new some same h = by (first_with_hash (hash_of key.items) names) refl
+  where
+    by : (first : Option ℕ) → first_with_hash (hash_of key.items) names ≡ first → IsIndex n (names ++ key.items ∷ [])
+    by None is = absurd (false≢true (sym (ap is_some is) ∙ some))
+    by (Some q) is = other_added_after m n names key q index new is same h

@@ -36,7 +36,9 @@ pub use Rattle.cdl_values.specs.code.DataRead.{bytes_assigned, if_new, packed_fo
 unfoldable pub use Rattle.cdl_values.specs.code.DataRead.{data_read}
 pub use Rattle.cdl_values.specs.code.Listed.{AreShaped, unlisted_draft, unlisted_drafts}
 pub use Rattle.cdl_values.specs.code.Meant.{AllSuit, HasListed, Means, ReadsStatement, Suits, begins_brace, listing_bytes, names_of, result_array, with_listing}
-pub use Rattle.cdl_values.specs.code.NameIndices.{AreBelow, IsIndex, name_of_entry, names_below, names_of_map, position_of, with_added_name}
+pub use Rattle.cdl_values.specs.code.NameIndices.{IsIndex, first_with_hash, hash_of, is_new, later_position, position_of, unless_first, with_added_name}
+unfoldable pub use Rattle.cdl_values.specs.code.NameIndices.{hash_on}
+pub use Rattle.cdl_values.specs.declared.name_index.NameIndex.{NameIndex}
 pub use Rattle.cdl_values.specs.code.PackedValues.{bytes_of, capacity_after, char_bytes, followed_by, greatest, held_bytes, is_full, is_past, joined, less, number_bytes, row_bytes, text_bytes, value_bytes}
 unfoldable pub use Rattle.cdl_values.specs.code.PackedValues.{packed}
 pub use Rattle.cdl_values.specs.code.ValueRuns.{GoesOn, Place, TakesValues, place}
@@ -62,6 +64,6 @@ pub use Rattle.std.proofs.lemmas.Int.{to_z-of_z}
 pub use Rattle.std.proofs.lemmas.List.{drop-drop, get_or-drop, get_or-map, length-drop, length-map, map-append}
 pub use Rattle.std.specs.BTreeMap.{BTreeMap, insert_entry}
 pub use Rattle.std.specs.Int.{w128}
-pub use Rattle.std.specs.List.{flat_map, position_from, prefix_len, take_while}
+pub use Rattle.std.specs.List.{flat_map, list_any, position_from, prefix_len, take_while}
 pub use Rattle.std.specs.Str.{bytes_eq}
 pub use Rattle.nc_base.proofs.Tests.{and_left, and_right}

@@ -1,4 +1,5 @@
 pub mod NameIndices
+pub mod VariableNames
 pub mod PackedValues
 pub mod Answers
 pub mod Capacities

@@ -7,13 +7,14 @@ ghost use Rattle.cdl_values.specs.code.Answers.{GivesRead};
 ghost use Rattle.cdl_values.specs.code.DataRead.{if_new, statement_read, target_said};
 ghost use Rattle.cdl_values.specs.code.Meant.{MeansWhatIsGiven, name_said};
 ghost use Rattle.cdl_values.specs.code.NameIndices.{IsPosition};
+ghost use Rattle.cdl_values.specs.code.VariableNames.{names_in};
 
 use crate::filling::Filling;
 use crate::name::read_name;
-use crate::name_index::NameIndex;
 use crate::packing::{pack, pack_good};
 use crate::read_error::ReadError;
 use crate::value::FastPathFault;
+use crate::variable_names::VariableNames;
 use cdl_statements::{CdlKind, Cutter, Due, check_shape_from};
 use nc_base::ListedArray;
 use std::alloc::Global;
@@ -51,20 +52,20 @@ pub struct Given<'a> {
 /// Reads the next statement of `start`, which stands in the data section. Returns the position of the variable that the statement names,
 /// the bytes of the values that the statement lists, and the cutter after the statement.
 ///
-/// `names` has the names of the variables, and `targets` has what each variable takes, in the same order.
+/// `names` are the names of the variables, and `targets` has what each variable takes, in the same order.
 ///
 /// # Errors
 ///
 /// The statement's first fault, or `OutOfMemory` if an allocation failed.
 pub fn read<'a>(
     alloc: Global,
-    names: &NameIndex,
+    names: VariableNames<'_>,
     targets: &[Target],
     start: Cutter<'a>,
 ) -> Result<Given<'a>, ReadError>
     requires { is_done start ≡ false }
-    ensures means { MeansWhatIsGiven start.entry names.now targets.now result }
-    ensures position { IfOk result (λ g. IsPosition names.now (name_said start.entry) g.position) }
+    ensures means { MeansWhatIsGiven start.entry (names_in names.entry) targets.now result }
+    ensures position { IfOk result (λ g. IsPosition (names_in names.entry) (name_said start.entry) g.position) }
     ensures rest { IfOk result (λ g. Follows start.entry g.rest) }
 {
     read_either(alloc, names, targets, start)
@@ -74,13 +75,13 @@ pub fn read<'a>(
 /// the statement's first fault, or if an allocation failed.
 fn read_either<'a>(
     alloc: Global,
-    names: &NameIndex,
+    names: VariableNames<'_>,
     targets: &[Target],
     start: Cutter<'a>,
 ) -> Result<Given<'a>, ReadError>
     requires { is_done start ≡ false }
-    ensures read { GivesRead (λ g. g.array) result (statement_read start.entry names.now targets.now) }
-    ensures position { IfOk result (λ g. IsPosition names.now (name_said start.entry) g.position) }
+    ensures read { GivesRead (λ g. g.array) result (statement_read start.entry (names_in names.entry) targets.now) }
+    ensures position { IfOk result (λ g. IsPosition (names_in names.entry) (name_said start.entry) g.position) }
     ensures rest { IfOk result (λ g. Follows start.entry g.rest) }
 {
     match read_quickly(alloc, names, targets, start) {
@@ -94,13 +95,13 @@ fn read_either<'a>(
 /// allocation failed.
 fn read_quickly<'a>(
     alloc: Global,
-    names: &NameIndex,
+    names: VariableNames<'_>,
     targets: &[Target],
     start: Cutter<'a>,
 ) -> Result<Given<'a>, FastPathFault>
     requires { is_done start ≡ false }
-    ensures read { IfOk result (λ g. statement_read start.entry names.now targets.now ≡ Ok g.array) }
-    ensures position { IfOk result (λ g. IsPosition names.now (name_said start.entry) g.position) }
+    ensures read { IfOk result (λ g. statement_read start.entry (names_in names.entry) targets.now ≡ Ok g.array) }
+    ensures position { IfOk result (λ g. IsPosition (names_in names.entry) (name_said start.entry) g.position) }
     ensures rest { IfOk result (λ g. Follows start.entry g.rest) }
 {
     let name = start.lexeme();
@@ -136,13 +137,13 @@ fn read_quickly<'a>(
 /// statement's first fault, or if an allocation failed.
 fn read_slowly<'a>(
     alloc: Global,
-    names: &NameIndex,
+    names: VariableNames<'_>,
     targets: &[Target],
     start: Cutter<'a>,
 ) -> Result<Given<'a>, ReadError>
     requires { is_done start ≡ false }
-    ensures read { GivesRead (λ g. g.array) result (statement_read start.entry names.now targets.now) }
-    ensures position { IfOk result (λ g. IsPosition names.now (name_said start.entry) g.position) }
+    ensures read { GivesRead (λ g. g.array) result (statement_read start.entry (names_in names.entry) targets.now) }
+    ensures position { IfOk result (λ g. IsPosition (names_in names.entry) (name_said start.entry) g.position) }
     ensures rest { IfOk result (λ g. Follows start.entry g.rest) }
 {
     let found = check_shape_from(start, Due::DataName);
@@ -169,12 +170,12 @@ fn read_slowly<'a>(
 /// statement gave its values, or if an allocation failed.
 fn target_of(
     alloc: Global,
-    names: &NameIndex,
+    names: VariableNames<'_>,
     targets: &[Target],
     word: &[u8],
 ) -> Result<FoundTarget, ReadError>
-    ensures target { GivesRead (λ p. p.target) result (target_said names.now targets.now word.now) }
-    ensures position { IfOk result (λ p. IsPosition names.now (word_value word.now) p.position) }
+    ensures target { GivesRead (λ p. p.target) result (target_said (names_in names.entry) targets.now word.now) }
+    ensures position { IfOk result (λ p. IsPosition (names_in names.entry) (word_value word.now) p.position) }
 {
     let name = read_name(alloc, word)?;
     let position = names.find(name.as_slice()).ok_or(CdlKind::UnknownVariable)?;

@@ -1,66 +1,89 @@
 //! The positions of names in their list.
 
-ghost use Rattle.std.specs.Prelude.{◌≡◌, [], IfOk, OnErr};
-ghost use Rattle.cdl_values.specs.code.NameIndices.{is_new, position_of, with_added_name};
+ghost use Rattle.std.specs.Prelude.{◌≡◌, [], IfOk, OnErr, map};
+ghost use Rattle.cdl_values.specs.code.NameIndices.{IsIndex, hash_of, is_new, position_of, with_added_name};
 
+use crate::named::Named;
 use std::alloc::{AllocError, Global};
 use std::collections::BTreeMap;
-use std::collections::btree_map::Entry;
-use std::marker::Model;
 
-/// A list of different names.
+/// An index of a list of items that have different names. The list itself is not in the index, and lends the names.
 ///
-/// A name's position in it is found in a time that grows with the logarithm of the number of names.
+/// A name's position in the list is found in a time that grows with the logarithm of the number of names: by the hash of the name, and
+/// if an earlier name has the same hash, by the name.
 #[derive(Drop)]
 pub struct NameIndex {
-    positions: BTreeMap<Vec<u8>, u64>,
-}
-
-impl Model for NameIndex {
-    ghost use Rattle.std.specs.Prelude.{List, ℕ};
-    ghost use Rattle.cdl_values.specs.code.NameIndices.{IsIndex, names_of_map};
-
-    ghost Value = { List (List ℕ) };
-
-    ghost view = { λ index. names_of_map index.positions };
-
-    ghost invariant = { λ index. IsIndex index.positions (names_of_map index.positions) };
+    /// For each hash the position of the first item whose name has it.
+    first_of_hash: BTreeMap<u64, u64>,
+    /// The positions of the other items, by their names.
+    others: BTreeMap<Vec<u8>, u64>,
 }
 
 impl NameIndex {
-    /// Returns a list without names. Does not allocate.
+    /// Returns the index of a list without items. Does not allocate.
     pub fn new(alloc: Global) -> NameIndex
-        ensures { result ≡ [] }
+        ensures { IsIndex result [] }
     {
         NameIndex {
-            positions: BTreeMap::new(alloc),
+            first_of_hash: BTreeMap::new(alloc),
+            others: BTreeMap::new(alloc),
         }
     }
 
-    /// Returns the position of the name, or `None` if the list doesn't have it.
-    pub fn find(&self, name: &[u8]) -> Option<u64>
-        ensures { result ≡ position_of self.now name.now }
+    /// Returns the position of the item of this name, or `None` if the list doesn't have it. `list` is the list that this is the index of.
+    pub fn find<T: Named>(&self, list: &[T], name: &[u8]) -> Option<u64>
+        requires { IsIndex self.now (map T.name_of list.now) }
+        ensures { result ≡ position_of (map T.name_of list.now) name.now }
     {
-        self.positions.get(name).copied()
+        let first = *self.first_of_hash.get(&hash_of(name))?;
+        if list[first as usize].name() == name {
+            return Some(first);
+        }
+        self.others.get(name).copied()
     }
 
-    /// If the list doesn't have the name, adds it at the end and returns true. Otherwise changes nothing and returns false.
+    /// If no item of the list has the name, makes this the index of the list with an item of this name at its end, and returns true.
+    /// Otherwise changes nothing and returns false. `list` is the list that this is the index of.
     ///
     /// # Errors
     ///
-    /// An allocation failed. Then the names are what they were.
-    pub fn add(&mut self, name: Vec<u8>) -> Result<bool, AllocError>
-        ensures new { IfOk result (λ added. added ≡ is_new self.old name.items) }
-        ensures names { IfOk result (λ added. self.new ≡ with_added_name added self.old name.items) }
-        ensures err { OnErr result (self.new ≡ self.old) }
+    /// An allocation failed. Then nothing is changed.
+    pub fn add<T: Named>(
+        &mut self,
+        alloc: Global,
+        list: &[T],
+        name: &[u8],
+    ) -> Result<bool, AllocError>
+        requires { IsIndex self.old (map T.name_of list.now) }
+        ensures new { IfOk result (λ added. added ≡ is_new (map T.name_of list.now) name.now) }
+        ensures names { IfOk result (λ b. IsIndex self.new (with_added_name b (map T.name_of list.now) name.now)) }
+        ensures err { OnErr result (IsIndex self.new (map T.name_of list.now)) }
     {
-        let position = self.positions.len() as u64;
-        match self.positions.entry(name)? {
-            Entry::Occupied(_) => Ok(false),
-            Entry::Vacant(vacant) => {
-                vacant.insert(position);
-                Ok(true)
-            }
+        if self.find(list, name).is_some() {
+            return Ok(false);
         }
+        let position = list.len() as u64;
+        let hash = hash_of(name);
+        if self.first_of_hash.contains_key(&hash) {
+            self.others.insert(Vec::from_slice(alloc, name)?, position)?;
+        } else {
+            self.first_of_hash.insert(hash, position)?;
+        }
+        Ok(true)
     }
+}
+
+/// The base of hashes, a prime number.
+const BASE: u64 = 0x100_0000_01b3;
+
+/// Returns the hash of a name: its bytes as the digits of a number in [`BASE`], modulo 2^64.
+#[tactic(auto, unfolding(crate::specs::code::NameIndices::hash_on))]
+fn hash_of(name: &[u8]) -> u64
+    ensures { result ≡ hash_of name.now }
+{
+    let mut hash: u64 = 0;
+    for byte in name {
+        hash = hash.wrapping_mul(BASE).wrapping_add(u64::from(*byte));
+    }
+    hash
 }

@@ -1,13 +1,51 @@
-//! Indices of names, for the tests of statements that name variables.
+//! Variables and the index of their names, for the tests of statements that name variables.
 
-use cdl_values::NameIndex;
+ghost use Rattle.cdl_values.specs.code.NameIndices.{IsIndex, var_names};
+
+use cdl_values::{NameIndex, VariableNames};
+use nc_base::{NcType, Sequence, Var};
 use std::alloc::{AllocError, Global};
 
-/// An index of these names.
-pub fn index_of(alloc: Global, names: &[&[u8]]) -> Result<NameIndex, AllocError> {
-    let mut index = NameIndex::new(alloc);
-    for name in names {
-        index.add(Vec::from_slice(alloc, *name)?)?;
+/// Variables without dimensions, and the index of their names.
+#[derive(Drop)]
+pub struct IndexedVars {
+    pub vars: Vec<Var>,
+    pub index: NameIndex,
+    pub ghost indexed: { IsIndex index (var_names vars.items) },
+}
+
+impl IndexedVars {
+    /// Returns variables of these names.
+    pub fn new(alloc: Global, names: &[&[u8]]) -> Result<IndexedVars, AllocError> {
+        let mut indexed = IndexedVars {
+            vars: Vec::new(alloc),
+            index: NameIndex::new(alloc),
+        };
+        for name in names {
+            indexed.add(alloc, *name)?;
+        }
+        Ok(indexed)
     }
-    Ok(index)
+
+    /// Adds a variable of this name and returns true, if no other one has its name. Otherwise returns false.
+    pub fn add(&mut self, alloc: Global, name: &[u8]) -> Result<bool, AllocError> {
+        let bytes = Vec::from_slice(alloc, name)?;
+        self.vars.reserve(1)?;
+        let added = self.index.add(alloc, self.vars.as_slice(), name)?;
+        if added {
+            self.vars.push(Var {
+                name: Sequence::from_vec(bytes),
+                dimids: Sequence::new(alloc),
+                atts: Sequence::new(alloc),
+                ty: NcType::Int,
+                begin_at: 0,
+            })?;
+        }
+        Ok(added)
+    }
+
+    /// Returns the names of the variables.
+    pub fn names(&self) -> VariableNames<'_> {
+        VariableNames::new(self.vars.as_slice(), &self.index)
+    }
 }

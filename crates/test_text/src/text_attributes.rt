@@ -1,6 +1,6 @@
 //! Attributes, as statements of CDL text declare them.
 
-use crate::name_indices::index_of;
+use crate::name_indices::IndexedVars;
 use cdl_parse::{Attributes, read_attribute, variable_position};
 use cdl_statements::{CdlKind, Cutter, Due, check_shape_from};
 use cdl_values::ReadError;
@@ -134,9 +134,9 @@ fn variables_are_found_by_name(rt: HostRuntime) -> Result<(), Fail> {
         (b"w", Err(ReadError::Fault(CdlKind::UnknownVariable))),
         (b"w\\/x", Err(ReadError::Fault(CdlKind::BadName))),
     ];
-    let index = index_of(rt.alloc(), &NAMES)?;
+    let indexed = IndexedVars::new(rt.alloc(), &NAMES)?;
     for (word, want) in ROWS {
-        let found = variable_position(rt.alloc(), &index, word);
+        let found = variable_position(rt.alloc(), indexed.vars.as_slice(), &indexed.index, word);
         assert!(rt; found == want, "{found:?}: {word:?}");
     }
     Ok(())

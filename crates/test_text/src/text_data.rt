@@ -1,6 +1,6 @@
 //! The data section of CDL text.
 
-use crate::name_indices::index_of;
+use crate::name_indices::IndexedVars;
 use cdl_parse::{DataSection, ParseError, read_data};
 use cdl_statements::{CdlFault, CdlKind, Cutter};
 use cdl_tokens::TokenKind;
@@ -31,9 +31,9 @@ fn targets(alloc: Global) -> Result<Vec<Target>, AllocError> {
 
 /// Reads a text that is a data section from its start on.
 fn section(alloc: Global, start: Cutter<'_>) -> Result<DataSection<'_>, ParseError> {
-    let index = index_of(alloc, &NAMES)?;
+    let vars = IndexedVars::new(alloc, &NAMES)?;
     let targets = targets(alloc)?;
-    read_data(alloc, &index, targets, start)
+    read_data(alloc, vars.names(), targets, start)
 }
 
 /// Fails unless the section is closed, its text ends there, and the variables have these bytes.

@@ -1,6 +1,6 @@
 //! The values of statements of the data section, and the lengths and names of dimensions.
 
-use crate::name_indices::index_of;
+use crate::name_indices::IndexedVars;
 use cdl_parse::{Dimensions, dim_len, read_dimensions};
 use cdl_statements::{CdlKind, Cutter, Due, check_shape_from};
 use cdl_tokens::Numeral;
@@ -45,8 +45,13 @@ fn values_of(alloc: Global, text: &[u8]) -> Result<Vec<u8>, ReadError> {
             given: true,
         },
     ];
-    let index = index_of(alloc, &NAMES)?;
-    let given = read(alloc, &index, &targets, Cutter::new(text, Version::Cdf1))?;
+    let vars = IndexedVars::new(alloc, &NAMES)?;
+    let given = read(
+        alloc,
+        vars.names(),
+        &targets,
+        Cutter::new(text, Version::Cdf1),
+    )?;
     Ok(given.array.into_bytes(alloc, 0)?)
 }
 
@@ -155,18 +160,35 @@ fn new_dimensions_have_new_names(rt: HostRuntime) -> Result<(), Fail> {
     for (text, want) in ROWS {
         expect_dimension(&rt, rt.alloc(), text, want);
     }
-    let index = index_of(rt.alloc(), &NAMES)?;
-    assert!(rt; index.find(b"u") == Some(3));
-    assert!(rt; index.find(b"w").is_none());
     Ok(())
 }
 
+/// Three names that have the same hash.
+const SAME_HASH: [&[u8]; 3] = [
+    b"hhiighglkiijhhighghl",
+    b"gigggiggogggigkgggiq",
+    b"jgghlidkiiknlgfbdejo",
+];
+
+// A row has names, how many of them are in the index, a name that is added, whether that is new, and where it is found then.
 #[test]
 fn names_of_an_index_are_different(rt: HostRuntime) -> Result<(), Fail> {
-    let mut index = index_of(rt.alloc(), &NAMES)?;
-    assert_eq!(rt; index.add(Vec::from_slice(rt.alloc(), b"r")?), Ok(false));
-    assert_eq!(rt; index.add(Vec::from_slice(rt.alloc(), b"x")?), Ok(true));
-    assert!(rt; index.find(b"r") == Some(2));
-    assert!(rt; index.find(b"x") == Some(5));
+    let rows: [(&[&[u8]], usize, &[u8], bool, u64); 9] = [
+        (&NAMES, 5, b"r", false, 2),
+        (&NAMES, 5, b"u", false, 3),
+        (&NAMES, 5, b"x", true, 5),
+        (&SAME_HASH, 1, SAME_HASH[1], true, 1),
+        (&SAME_HASH, 2, SAME_HASH[2], true, 2),
+        (&SAME_HASH, 3, SAME_HASH[0], false, 0),
+        (&SAME_HASH, 3, SAME_HASH[1], false, 1),
+        (&SAME_HASH, 3, SAME_HASH[2], false, 2),
+        (&SAME_HASH, 3, b"x", true, 3),
+    ];
+    for (names, count, name, is_new, position) in rows {
+        let mut vars = IndexedVars::new(rt.alloc(), &names[..count])?;
+        assert_eq!(rt; vars.add(rt.alloc(), name), Ok(is_new));
+        assert!(rt; vars.names().find(name) == Some(position), "{name:?}");
+        assert!(rt; vars.names().find(b"w").is_none());
+    }
     Ok(())
 }

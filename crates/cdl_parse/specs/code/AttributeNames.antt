@@ -1,16 +1,15 @@
--- For contracts. The names of attributes, as a set.
-use Rattle.std.specs.Prelude.{ℕ, ◌≡◌, Bool, List, [], ◌∷◌, ◌++◌, if◌then◌else◌, Vec, Result, Ok}
-use Rattle.std.specs.Global.{Global}
-use Rattle.std.specs.BTreeSet.{BTreeSet, contains_by}
-use Rattle.std.specs.Cmp.Lexicographic.{slice_cmp}
+-- For contracts. The names of attributes.
+use Rattle.std.specs.Prelude.{ℕ, Bool, List, [], ◌∷◌, ◌++◌, map, if◌then◌else◌, Result, Ok}
 use Rattle.std.specs.List.{list_any}
-use Rattle.std.specs.Ordering.{nat_cmp}
 use Rattle.std.specs.Str.{bytes_eq}
 use Rattle.nc_base.specs.declared.header.Att.{Att}
 use Rattle.nc_base.specs.declared.nc_type.NcType.{NcType}
 use Rattle.cdl_statements.specs.declared.fault.CdlKind.{CdlKind}
 use Rattle.cdl_statements.specs.declared.fault.CdlKind.TheVariants.{DuplicateName}
 use Rattle.cdl_meaning.specs.State.{when, ◌>>=◌}
+
+abbrev pub att_names : List Att → List (List ℕ)
+att_names atts = map (λ (a : Att). a.name) atts
 
 -- one of them has the name
 abbrev pub has_attribute : List ℕ → List Att → Bool
@@ -25,11 +24,3 @@ abbrev pub with_new_att : List Att → List ℕ → NcType → List ℕ → Resu
 with_new_att atts name ty vals = do
   _ ← when (has_attribute name atts) DuplicateName
   Ok (atts ++ record { name = name; ty = ty; vals = vals } ∷ [])
-
--- the set has the name
-abbrev pub contains_name : BTreeSet (Vec ℕ Global) → List ℕ → Bool
-contains_name names name = contains_by (λ k. slice_cmp nat_cmp name k.items) names
-
--- the set has the names of these attributes, and no other
-abbrev pub HasNames : BTreeSet (Vec ℕ Global) → List Att → Type 0
-HasNames names atts = (name : List ℕ) → contains_name names name ≡ has_attribute name atts

@@ -24,6 +24,9 @@ draft_of v = record { var = var_of v; listed = None }
 abbrev pub drafts_of : List Variable → List Draft
 drafts_of variables = map draft_of variables
 
+abbrev pub variable_names : List Variable → List (List ℕ)
+variable_names variables = map (λ (v : Variable). v.name) variables
+
 -- one of the variables has the name
 abbrev pub is_variable_name : List ℕ → List Draft → Bool
 is_variable_name name drafts = list_any (λ (w : Draft). bytes_eq w.var.name name) drafts

@@ -1,11 +1,12 @@
 -- For contracts. Names in a list, and an index of them.
-use Rattle.std.specs.Prelude.{ℕ, zero, suc, ◌≡◌, ◌<◌, ◌==◌, Bool, List, [], ◌∷◌, ◌++◌, if◌then◌else◌, length, Option, Some, Vec, not, is_some, ⊤}
-use Rattle.std.specs.Global.{Global}
+use Rattle.std.specs.Prelude.{ℕ, ◌≡◌, ◌+◌, ◌*◌, ◌%◌, ◌^◌, ◌==◌, Bool, List, [], ◌∷◌, ◌++◌, if◌then◌else◌, Option, None, Some, not, is_some, map}
 use Rattle.std.specs.List.{position_from}
-use Rattle.std.specs.BTreeMap.{BTreeMap, get_by}
+use Rattle.std.specs.BTreeMap.{get, get_by}
 use Rattle.std.specs.Cmp.Lexicographic.{slice_cmp}
 use Rattle.std.specs.Ordering.{nat_cmp}
 use Rattle.std.specs.Str.{bytes_eq}
+use Rattle.nc_base.specs.declared.header.Var.{Var}
+use Rattle.cdl_values.specs.declared.name_index.NameIndex.{NameIndex}
 
 -- the position of the first of these names that is this one
 abbrev pub position_of : List (List ℕ) → List ℕ → Option ℕ
@@ -23,29 +24,34 @@ is_new names name = not (is_some (position_of names name))
 abbrev pub with_added_name : Bool → List (List ℕ) → List ℕ → List (List ℕ)
 with_added_name added names name = if added then names ++ name ∷ [] else names
 
--- the name of the entry with this position
-abbrev pub name_of_entry : List (Vec ℕ Global × ℕ) → ℕ → List ℕ
-name_of_entry [] position = []
-name_of_entry (e ∷ es) position = if e.1 == position then e.0.items else name_of_entry es position
+-- the hash, taken on over these bytes
+unfoldable pub hash_on : ℕ → List ℕ → ℕ
+hash_on hash [] = hash
+hash_on hash (b ∷ bs) = hash_on ((hash * 1099511628211 % 2 ^ 64 + b) % 2 ^ 64) bs
 
--- the names of the entries with positions below n, by their positions
-abbrev pub names_below : ℕ → List (Vec ℕ Global × ℕ) → List (List ℕ)
-names_below zero es = []
-names_below (suc n) es = names_below n es ++ name_of_entry es n ∷ []
+-- the hash of a name
+abbrev pub hash_of : List ℕ → ℕ
+hash_of name = hash_on 0 name
 
--- the names of a map, by their positions
-abbrev pub names_of_map : BTreeMap (Vec ℕ Global) ℕ → List (List ℕ)
-names_of_map map = names_below (length map.entries) map.entries
+-- the position of the first of these names that has the hash
+abbrev pub first_with_hash : ℕ → List (List ℕ) → Option ℕ
+first_with_hash hash names = position_from (λ name. hash_of name == hash) 0 names
 
-abbrev pub AreBelow : ℕ → List (Vec ℕ Global × ℕ) → Type 0
-AreBelow n [] = ⊤
-AreBelow n (e ∷ es) = (e.1 < n) × AreBelow n es
+-- a position, if it isn't the first one
+abbrev pub unless_first : Option ℕ → Option ℕ → Option ℕ
+unless_first None first = None
+unless_first (Some position) None = Some position
+unless_first (Some position) (Some first) = if position == first then None else Some position
 
--- what the map answers
-abbrev pub position_in_map : BTreeMap (Vec ℕ Global) ℕ → List ℕ → Option ℕ
-position_in_map map name = get_by (λ k. slice_cmp nat_cmp name k.items) map
+-- the position of the name, if an earlier one of these names has its hash
+abbrev pub later_position : List (List ℕ) → List ℕ → Option ℕ
+later_position names name = unless_first (position_of names name) (first_with_hash (hash_of name) names)
 
--- the map has the positions of these names
-pub record IsIndex (map : BTreeMap (Vec ℕ Global) ℕ) (names : List (List ℕ)) : Type 0 where
-  pub below : AreBelow (length map.entries) map.entries
-  pub finds : (name : List ℕ) → position_in_map map name ≡ position_of names name
+-- the index is one of these names
+pub record IsIndex (index : NameIndex) (names : List (List ℕ)) : Type 0 where
+  pub firsts : (hash : ℕ) → get nat_cmp index.first_of_hash hash ≡ first_with_hash hash names
+  pub others : (name : List ℕ) → get_by (λ k. slice_cmp nat_cmp name k.items) index.others ≡ later_position names name
+
+-- the names of these variables
+abbrev pub var_names : List Var → List (List ℕ)
+var_names vars = map (λ (v : Var). v.name) vars

@@ -1,9 +1,9 @@
 use Rattle.std.proofs.Common.{rules, ◌≡◌, ◌<◌, length, refl, ap, sym, ◌∙◌, subst, ◌^◌, Result, Err}
-use Rattle.cdl_parse.proofs.Prelude.{pieces_left, text_of, version_of, empty, run, State, AllList, AreShaped, unlisted_drafts, state_of, ParseError}
+use Rattle.cdl_parse.proofs.Prelude.{FailsAt, pieces_left, text_of, version_of, empty, run, State, AllList, AreShaped, unlisted_drafts, state_of, ParseError}
 use Rattle.cdl_parse.specs.code.Parsing.{ReadsAll}
 use Rattle.cdl_parse.specs.declared.parse_error.ParseError.TheVariants.{Fault}
 use Rattle.cdl_parse.specs.declared.text.Contents.{Contents}
-use Rattle.cdl_parse.proofs.WholeTexts.{listed_shapes, same_end, same_run}
+use Rattle.cdl_parse.proofs.WholeTexts.{listed_shapes, names_known, same_end, same_fault, same_run}
 use Rattle.cdl_parse.proofs.text.read_contents.Goals as goal
 
 pub returns : goal.returns
@@ -17,7 +17,8 @@ returns c = λ small.
     let dims : s.dims ≡ c.as_slice.result.now = search rules in
     let listed_of : c.as_slice-2.result.now ≡ vars = search rules in
     let drafts : s.drafts ≡ unlisted_drafts c.as_slice-2.result.now = sym c.in_ok-vars.ensures.vars ∙ ap unlisted_drafts (sym listed_of) in
-    let read = c.in_ok-values.ensures.reads s refl (record { has_dims = dims; unlisted = drafts; named = c.in_ok-vars.ensures.names; shaped = c.in_ok-definitions.ensures.shaped; short = short }) in
+    let named = names_known c.new.result vars c.as_slice-3.result.now s.drafts (search rules) c.new.ensures c.in_ok-vars.ensures.vars in
+    let read = c.in_ok-values.ensures.reads s refl (record { has_dims = dims; unlisted = drafts; named = named; shaped = c.in_ok-definitions.ensures.shaped; short = short }) in
     let at : State = record s { section = values.section; drafts = read.0 } in
     let so_far : run (text_of start) (version_of start) empty (pieces_left start) ≡ run (text_of start) (version_of start) at (pieces_left values.rest) =
     c.in_ok-definitions.ensures.reads ∙ same_run (text_of start) (text_of rest) (version_of start) (version_of rest) s at (pieces_left rest) (pieces_left values.rest) c.in_ok-definitions.ensures.same.text c.in_ok-definitions.ensures.same.version read.2 in
@@ -47,7 +48,8 @@ returns-in_err-read_end c = λ small.
     let dims : s.dims ≡ c.as_slice.result.now = search rules in
     let listed_of : c.as_slice-2.result.now ≡ vars = search rules in
     let drafts : s.drafts ≡ unlisted_drafts c.as_slice-2.result.now = sym c.in_ok-vars.ensures.vars ∙ ap unlisted_drafts (sym listed_of) in
-    let read = c.in_ok-values.ensures.reads s refl (record { has_dims = dims; unlisted = drafts; named = c.in_ok-vars.ensures.names; shaped = c.in_ok-definitions.ensures.shaped; short = short }) in
+    let named = names_known c.new.result vars c.as_slice-3.result.now s.drafts (search rules) c.new.ensures c.in_ok-vars.ensures.vars in
+    let read = c.in_ok-values.ensures.reads s refl (record { has_dims = dims; unlisted = drafts; named = named; shaped = c.in_ok-definitions.ensures.shaped; short = short }) in
     let at : State = record s { section = values.section; drafts = read.0 } in
     let so_far : run (text_of start) (version_of start) empty (pieces_left start) ≡ run (text_of start) (version_of start) at (pieces_left values.rest) =
     c.in_ok-definitions.ensures.reads ∙ same_run (text_of start) (text_of rest) (version_of start) (version_of rest) s at (pieces_left rest) (pieces_left values.rest) c.in_ok-definitions.ensures.same.text c.in_ok-definitions.ensures.same.version read.2 in
@@ -57,3 +59,20 @@ returns-in_err-read_end c = λ small.
     let is : c.from_residual-in_err-read_end.result ≡ Err (Fault fault) = search rules in
     subst (λ (r : Result Contents ParseError). ReadsAll r (run (text_of start) (version_of start) empty (pieces_left start))) (sym is)
     (so_far ∙ same_end (text_of start) (text_of values.rest) (version_of start) (version_of values.rest) at (pieces_left values.rest) _ text version (c.in_err-read_end.ensures at refl))
+
+pub returns-in_err-values : goal.returns-in_err-values
+returns-in_err-values c = λ small.
+    let start = c.args.start in
+    let rest = c.in_ok-definitions.field-0.rest in
+    let s = state_of c.in_ok-definitions.field-0.definitions in
+    let vars = c.in_ok-vars.vars in
+    let short : length (text_of rest) < 2 ^ 63 = subst (λ text. length text < 2 ^ 63) (sym c.in_ok-definitions.ensures.same.text) small in
+    let dims : s.dims ≡ c.as_slice.result.now = search rules in
+    let listed_of : c.as_slice-2.result.now ≡ vars = search rules in
+    let drafts : s.drafts ≡ unlisted_drafts c.as_slice-2.result.now = sym c.in_ok-vars.ensures.vars ∙ ap unlisted_drafts (sym listed_of) in
+    let named = names_known c.new.result vars c.as_slice-3.result.now s.drafts (search rules) c.new.ensures c.in_ok-vars.ensures.vars in
+    let e = c.in_err-values.field-0.0 in
+    let fails = c.in_err-values.ensures.reads s refl (record { has_dims = dims; unlisted = drafts; named = named; shaped = c.in_ok-definitions.ensures.shaped; short = short }) in
+    let is : c.from_residual-in_err-values.result ≡ Err e = search rules in
+    subst (λ (r : Result Contents ParseError). ReadsAll r (run (text_of start) (version_of start) empty (pieces_left start))) (sym is)
+    (subst (FailsAt e) (sym c.in_ok-definitions.ensures.reads) (same_fault (text_of start) (text_of rest) (version_of start) (version_of rest) s (pieces_left rest) e c.in_ok-definitions.ensures.same.text c.in_ok-definitions.ensures.same.version fails))

@@ -1,9 +1,13 @@
-use Rattle.std.proofs.Common.{rules, ◌≡◌, ◌++◌, ◌∷◌, []}
-use Rattle.cdl_parse.proofs.NameSets.{one_more}
+use Rattle.std.proofs.Common.{rules, ◌≡◌, ◌∙◌, ap, not}
+use Rattle.cdl_parse.proofs.Prelude.{Att, att_names, has_attribute, is_new, new_is}
 use Rattle.cdl_parse.proofs.attributes.Attributes.add.Goals as goal
 
-pub invariant_of-self-then-added : goal.invariant_of-self-then-added
-invariant_of-self-then-added c =
-    let named : c.in_ok-name.name.items ≡ c.args.att.name = search rules in
-    let listed : c.push.new.self.items ≡ c.self.inside.list.items ++ c.args.att ∷ [] = search rules in
-    one_more c.self.inside.names c.insert-added.new.self c.in_ok-name.name c.self.inside.list.items c.push.new.self.items c.args.att c.in-Ok-true.ensures.updates c.self.invariant named listed
+pub returns-in_ok-push-clause-new : goal.returns-in_ok-push-clause-new
+returns-in_ok-push-clause-new c =
+    let new : c.in_ok-added.added ≡ is_new (att_names c.self.inside.list.items) c.args.att.name = search rules in
+    new ∙ new_is (λ (a : Att). a.name) c.args.att.name c.self.inside.list.items ∙ ap (λ atts. not (has_attribute c.args.att.name atts)) c.self.view_is
+
+pub returns-else-added-clause-new : goal.returns-else-added-clause-new
+returns-else-added-clause-new c =
+    let new : c.in_ok-added.added ≡ is_new (att_names c.self.inside.list.items) c.args.att.name = search rules in
+    new ∙ new_is (λ (a : Att). a.name) c.args.att.name c.self.inside.list.items ∙ ap (λ atts. not (has_attribute c.args.att.name atts)) c.self.view_is

@@ -1,31 +1,34 @@
-use Rattle.std.proofs.Common.{rules, ◌≡◌, ◌++◌, ◌∷◌, [], List, ℕ, ap, sym, subst, ◌∙◌, Bool, IfOk, Result, length}
-use Rattle.std.specs.declared.alloc.AllocError.{AllocError}
-use Rattle.cdl_values.proofs.Prelude.{names_of_map, with_added_name, insert_entry}
-use Rattle.std.specs.BTreeMap.Entry.{map_with_value}
-use Rattle.cdl_values.proofs.NamePositions.{key_order, index_added, index_same, names_added, names_same}
+use Rattle.std.proofs.Common.{rules, ◌≡◌, ◌∙◌, refl, sym, ap, length, map, None, Some, true, is_some, subst, ◌++◌, ◌∷◌, []}
+use Rattle.cdl_values.proofs.Prelude.{length-map, IsIndex, first_with_hash, hash_of, position_of}
+use Rattle.std.specs.BTreeMap.{Updates}
+use Rattle.std.specs.Cmp.Lexicographic.{slice_cmp}
+use Rattle.std.specs.Ordering.{nat_cmp}
+use Rattle.cdl_values.proofs.NamePositions.{first_added, other_added}
 use Rattle.cdl_values.proofs.name_index.NameIndex.add.Goals as goal
-use Rattle.cdl_values.proofs.name_index.NameIndex.add.Goals.{in-Occupied, in-Vacant}
 
-pub invariant_of-self-2 : goal.invariant_of-self-2
-invariant_of-self-2 c =
-    let m = c.self.inside.positions in
-    let n = c.match-branch-2.self-inside.positions in
-    let entry = c.in_ok-self-inside.field-0 in
-    let put = map_with_value entry (length m.entries) in
-    let update = c.in_ok-self-inside.ensures.update in
-    elim c.match-branch-2.branch [
-      | in-Occupied w ↦ index_same m n (search rules) c.self.invariant
-      | in-Vacant w ↦
-          let listed : n.entries ≡ insert_entry key_order m.entries c.args.name (length m.entries) = search rules in
-          index_same put n (listed ∙ sym (update.1 (length m.entries))) (index_added m put c.args.name c.self.invariant (search rules) (update.1 (length m.entries)) (update.0 (length m.entries)))
-    ]
+pub returns-in_ok-insert-clause-names : goal.returns-in_ok-insert-clause-names
+returns-in_ok-insert-clause-names g c =
+    let names = map g.T.Named.name_of c.args.list.now in
+    let name = c.args.name.now in
+    let m = c.args.self.now in
+    let n = record m { others = c.insert.new.self } in
+    let key = c.in_ok-from_slice.field-0 in
+    let new : position_of names name ≡ None = search rules in
+    let some : is_some (first_with_hash (hash_of name) names) ≡ true = search rules in
+    let same : key.items ≡ name = search rules in
+    let count : length names ≡ length c.args.list.now = length-map c.args.list.now g.T.Named.name_of in
+    let update : Updates (λ x y. slice_cmp nat_cmp x.items y.items) m.others n.others key (Some (length c.args.list.now)) = search rules in
+    subst (λ k. IsIndex n (names ++ k ∷ [])) same
+    (other_added m n names key c.requires (ap (position_of names) same ∙ new) (ap (λ k. is_some (first_with_hash (hash_of k) names)) same ∙ some) refl (subst (λ l. Updates (λ x y. slice_cmp nat_cmp x.items y.items) m.others n.others key (Some l)) (sym count) update))
 
-pub returns-clause-names : goal.returns-clause-names
-returns-clause-names c =
-    let m = c.self.inside.positions in
-    let n = c.match-branch-2.self-inside.positions in
-    elim c.match-branch-2.branch [
-      | in-Occupied w ↦ subst (λ (r : Result Bool AllocError). IfOk r (λ added. names_of_map n ≡ with_added_name added c.args.self.now c.args.name.items)) (sym w.result-is) (names_same m n (search rules) ∙ c.self.view_is)
-      | in-Vacant w ↦ subst (λ (r : Result Bool AllocError). IfOk r (λ added. names_of_map n ≡ with_added_name added c.args.self.now c.args.name.items)) (sym w.result-is)
-          (names_added m n c.args.name c.self.invariant (search rules) (search rules) ∙ ap (λ (names : List (List ℕ)). names ++ c.args.name.items ∷ []) c.self.view_is)
-    ]
+pub returns-in_ok-insert-2-clause-names : goal.returns-in_ok-insert-2-clause-names
+returns-in_ok-insert-2-clause-names g c =
+    let names = map g.T.Named.name_of c.args.list.now in
+    let name = c.args.name.now in
+    let m = c.args.self.now in
+    let n = record m { first_of_hash = c.insert-else-contains_key.new.self } in
+    let new : position_of names name ≡ None = search rules in
+    let none : first_with_hash (hash_of name) names ≡ None = search rules in
+    let count : length names ≡ length c.args.list.now = length-map c.args.list.now g.T.Named.name_of in
+    let update : Updates nat_cmp m.first_of_hash n.first_of_hash (hash_of name) (Some (length c.args.list.now)) = search rules in
+    first_added m n names name c.requires new none refl (subst (λ l. Updates nat_cmp m.first_of_hash n.first_of_hash (hash_of name) (Some l)) (sym count) update)
