@@ -78,6 +78,5 @@ pub use Rattle.std.specs.declared.alloc.AllocError.{AllocError}
 pub use Rattle.nc_base.proofs.Tests.{and_left, none_before}
 pub use Rattle.nc_base.proofs.SoundLaws.{some_count, some_product}
 pub use Rattle.cdl_values.proofs.NamePositions.{any_is, new_is}
-pub use Rattle.cdl_values.specs.code.VariableNames.{names_in}
 pub use Rattle.cdl_values.proofs.AllowedNames.{stopped}
 pub use Rattle.nc_base.proofs.FilePlaces.{length-numbers}

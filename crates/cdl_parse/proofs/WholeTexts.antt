@@ -1,7 +1,6 @@
 -- A whole text: its sections one after the other.
 use Rattle.std.proofs.Common.{◌≡◌, ℕ, suc, true, false, List, [], ◌∷◌, length, refl, sym, ap, ◌∙◌, subst, arith, Result, replicate}
-use Rattle.cdl_parse.proofs.Prelude.{All-cons, AreDimids, Dim, Var, Version, Section, Unopened, Globals, Dimensions, Variables, Values, Closed, Ended, Token, finished, run, State, Draft, AllList, AreShaped, unlisted_drafts, is_early, is_over, FailsAt, ParseError, names_in, names_of, var_names}
-use Rattle.cdl_values.specs.declared.variable_names.VariableNames.{VariableNames}
+use Rattle.cdl_parse.proofs.Prelude.{All-cons, AreDimids, Dim, Var, Version, Section, Unopened, Globals, Dimensions, Variables, Values, Closed, Ended, Token, finished, run, State, Draft, AllList, AreShaped, unlisted_drafts, is_early, is_over, FailsAt, ParseError, names_of, var_names}
 use Rattle.cdl_parse.proofs.DraftNames.{unlisted_names}
 use Rattle.cdl_statements.specs.declared.fault.CdlFault.{CdlFault}
 use Rattle.cdl_parse.specs.declared.parse_error.ParseError.TheVariants as stops
@@ -50,5 +49,5 @@ pub same_fault : (T U : List ℕ) (v w : Version) (s : State) (ps : List (List T
 same_fault T U v w s ps e text version h = subst (λ x. FailsAt e (run T x s ps)) version (subst (λ x. FailsAt e (run x w s ps)) text h)
 
 -- the names of the variables of a header are those of the drafts
-pub names_known : (names : VariableNames) (vars all : List Var) (drafts : List Draft) → all ≡ vars → names_in names ≡ var_names all → unlisted_drafts vars ≡ drafts → names_in names ≡ names_of drafts
+pub names_known : (names : List (List ℕ)) (vars all : List Var) (drafts : List Draft) → all ≡ vars → names ≡ var_names all → unlisted_drafts vars ≡ drafts → names ≡ names_of drafts
 names_known names vars all drafts same are view = are ∙ ap var_names same ∙ unlisted_names vars ∙ ap names_of view

@@ -5,7 +5,6 @@ ghost use Rattle.cdl_statements.specs.code.Cutters.{Follows, SameText, is_done, 
 ghost use Rattle.cdl_statements.specs.declared.section.Section.TheVariants.{Values};
 ghost use Rattle.cdl_meaning.specs.State.{State};
 ghost use Rattle.cdl_values.specs.code.Meant.{begins_brace};
-ghost use Rattle.cdl_values.specs.code.VariableNames.{names_in};
 ghost use Rattle.cdl_parse.specs.code.DataSections.{Closes, ReadsDataSection, ReadsNextStatement, given_at};
 
 use crate::parse_error::ParseError;
@@ -57,11 +56,11 @@ struct DataStatement<'a> {
 /// The fault of the first bad statement, with its line; or an allocation failed.
 pub fn read_data<'a>(
     alloc: Global,
-    names: VariableNames<'_>,
+    names: &VariableNames<'_>,
     targets: Vec<Target>,
     start: Cutter<'a>,
 ) -> Result<DataSection<'a>, ParseError>
-    ensures reads { ReadsDataSection start.entry (names_in names.entry) targets.items result }
+    ensures reads { ReadsDataSection start.entry names.now targets.items result }
     ensures ends { IfOk result (λ d. d.is_closed ≡ false → is_done d.rest ≡ true) }
     ensures same { IfOk result (λ d. SameText start.entry d.rest) }
 {
@@ -108,12 +107,12 @@ pub fn empty_arrays(alloc: Global, count: usize) -> Result<Vec<ListedArray>, All
 /// allocation failed.
 fn read_one<'a>(
     alloc: Global,
-    names: VariableNames<'_>,
+    names: &VariableNames<'_>,
     listings: &mut Listings,
     start: Cutter<'a>,
 ) -> Result<DataStatement<'a>, ReadError>
     requires { is_done start ≡ false }
-    ensures reads { ReadsNextStatement start.entry (names_in names.entry) listings.old listings.new result }
+    ensures reads { ReadsNextStatement start.entry names.now listings.old listings.new result }
     ensures rest { IfOk result (λ passed. Follows start.entry passed.rest) }
 {
     if start.lexeme().is_mark(b'}') {

@@ -3,7 +3,6 @@
 ghost use Rattle.std.specs.Prelude.{if◌then◌else◌, ◌≡◌, ◌<◌, ◌^◌, IfOk, Ok, false, length, true};
 ghost use Rattle.cdl_statements.specs.code.Cutters.{SameText, is_done, text_of};
 ghost use Rattle.cdl_meaning.specs.Meaning.{empty, meaning};
-ghost use Rattle.cdl_values.specs.code.VariableNames.{names_in};
 ghost use Rattle.cdl_parse.specs.code.Defined.{is_early, is_over};
 ghost use Rattle.cdl_parse.specs.code.DeclaredDatasets.{dataset_of_declared};
 ghost use Rattle.cdl_parse.specs.code.Parsing.{MeansOrOutOfMemory, ReadsAll, ReadsAsDefined, as_dataset, fault_of};
@@ -122,7 +121,7 @@ fn read_contents(alloc: Global, start: Cutter<'_>) -> Result<Contents, ParseErro
         alloc,
         dims.as_slice(),
         vars.as_slice(),
-        VariableNames::new(vars.as_slice(), &names),
+        &VariableNames::new(vars.as_slice(), &names),
         rest,
         section,
     )?;
@@ -153,12 +152,12 @@ fn read_values<'a>(
     alloc: Global,
     dims: &[Dim],
     vars: &[Var],
-    names: VariableNames<'_>,
+    names: &VariableNames<'_>,
     start: Cutter<'a>,
     section: Section,
 ) -> Result<Values<'a>, ParseError>
     requires { is_done start ≡ false → is_early section ≡ false }
-    ensures reads { ReadsAsDefined start.entry dims.now vars.now (names_in names.entry) section result }
+    ensures reads { ReadsAsDefined start.entry dims.now vars.now names.now section result }
     ensures past { IfOk result (λ values. is_done values.rest ≡ false → is_over values.section ≡ true) }
     ensures same { IfOk result (λ values. SameText start.entry values.rest) }
 {
@@ -179,10 +178,10 @@ fn read_section<'a>(
     alloc: Global,
     dims: &[Dim],
     vars: &[Var],
-    names: VariableNames<'_>,
+    names: &VariableNames<'_>,
     start: Cutter<'a>,
 ) -> Result<Values<'a>, ParseError>
-    ensures reads { ReadsAsDefined start.entry dims.now vars.now (names_in names.entry) Section.Values result }
+    ensures reads { ReadsAsDefined start.entry dims.now vars.now names.now Section.Values result }
     ensures past { IfOk result (λ values. is_done values.rest ≡ false → is_over values.section ≡ true) }
     ensures same { IfOk result (λ values. SameText start.entry values.rest) }
 {

@@ -148,9 +148,6 @@ module _ (name : List ℕ) where
       by None apart = refl
       by (Some p) apart = let off : (p == q) ≡ false = ⊎_elim (λ y. absurd (apart (ap Some (let e : p ≡ q = grind (arith, y) in e)))) (λ n. n) (cases_Bool (p == q)) in rw (off) refl
 
-itself : (name : List ℕ) → bytes_eq name name ≡ true
-itself name = (bytes_decides name name).1 refl
-
 same_number : (n : ℕ) → (n == n) ≡ true
 same_number n = grind arith
 
@@ -200,7 +197,7 @@ module _ (names : List (List ℕ)) (name : List ℕ) (new : position_of names na
   -- the name itself stands at the end, and is the first with its hash only if no other has it
   later_first : first_with_hash (hash_of name) names ≡ None → later_position more name ≡ None
   later_first is =
-      let here = itself name in
+      let here = nat_list_eq_equiv.refl name in
       let n = length names in
       ap (λ p. unless_first p (first_with_hash (hash_of name) more)) (added (λ (x : List ℕ). bytes_eq x name) name names new ∙ cond-true (bytes_eq name name) (Some n) None here) ∙
       ap (unless_first (Some n)) (firsts_more (hash_of name) is ∙ cond-true (hash_of name == hash_of name) (Some n) None (same_number (hash_of name))) ∙
@@ -208,7 +205,7 @@ module _ (names : List (List ℕ)) (name : List ℕ) (new : position_of names na
 
   later_other : (q : ℕ) → first_with_hash (hash_of name) names ≡ Some q → later_position more name ≡ Some (length names)
   later_other q is =
-      let here = itself name in
+      let here = nat_list_eq_equiv.refl name in
       let n = length names in
       let before = hit_within name names q is in
       ap (λ p. unless_first p (first_with_hash (hash_of name) more)) (added (λ (x : List ℕ). bytes_eq x name) name names new ∙ cond-true (bytes_eq name name) (Some n) None here) ∙

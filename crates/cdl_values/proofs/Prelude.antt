@@ -36,7 +36,7 @@ pub use Rattle.cdl_values.specs.code.DataRead.{bytes_assigned, if_new, packed_fo
 unfoldable pub use Rattle.cdl_values.specs.code.DataRead.{data_read}
 pub use Rattle.cdl_values.specs.code.Listed.{AreShaped, unlisted_draft, unlisted_drafts}
 pub use Rattle.cdl_values.specs.code.Meant.{AllSuit, HasListed, Means, ReadsStatement, Suits, begins_brace, listing_bytes, names_of, result_array, with_listing}
-pub use Rattle.cdl_values.specs.code.NameIndices.{IsIndex, first_with_hash, hash_of, is_new, later_position, position_of, unless_first, with_added_name}
+pub use Rattle.cdl_values.specs.code.NameIndices.{IsIndex, first_with_hash, hash_of, is_new, later_position, position_of, unless_first}
 unfoldable pub use Rattle.cdl_values.specs.code.NameIndices.{hash_on}
 pub use Rattle.cdl_values.specs.declared.name_index.NameIndex.{NameIndex}
 pub use Rattle.cdl_values.specs.code.PackedValues.{bytes_of, capacity_after, char_bytes, followed_by, greatest, held_bytes, is_full, is_past, joined, less, number_bytes, row_bytes, text_bytes, value_bytes}

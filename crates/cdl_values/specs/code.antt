@@ -1,5 +1,4 @@
 pub mod NameIndices
-pub mod VariableNames
 pub mod PackedValues
 pub mod Answers
 pub mod Capacities

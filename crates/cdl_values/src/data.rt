@@ -7,7 +7,6 @@ ghost use Rattle.cdl_values.specs.code.Answers.{GivesRead};
 ghost use Rattle.cdl_values.specs.code.DataRead.{if_new, statement_read, target_said};
 ghost use Rattle.cdl_values.specs.code.Meant.{MeansWhatIsGiven, name_said};
 ghost use Rattle.cdl_values.specs.code.NameIndices.{IsPosition};
-ghost use Rattle.cdl_values.specs.code.VariableNames.{names_in};
 
 use crate::filling::Filling;
 use crate::name::read_name;
@@ -59,13 +58,13 @@ pub struct Given<'a> {
 /// The statement's first fault, or `OutOfMemory` if an allocation failed.
 pub fn read<'a>(
     alloc: Global,
-    names: VariableNames<'_>,
+    names: &VariableNames<'_>,
     targets: &[Target],
     start: Cutter<'a>,
 ) -> Result<Given<'a>, ReadError>
     requires { is_done start ≡ false }
-    ensures means { MeansWhatIsGiven start.entry (names_in names.entry) targets.now result }
-    ensures position { IfOk result (λ g. IsPosition (names_in names.entry) (name_said start.entry) g.position) }
+    ensures means { MeansWhatIsGiven start.entry names.now targets.now result }
+    ensures position { IfOk result (λ g. IsPosition names.now (name_said start.entry) g.position) }
     ensures rest { IfOk result (λ g. Follows start.entry g.rest) }
 {
     read_either(alloc, names, targets, start)
@@ -75,13 +74,13 @@ pub fn read<'a>(
 /// the statement's first fault, or if an allocation failed.
 fn read_either<'a>(
     alloc: Global,
-    names: VariableNames<'_>,
+    names: &VariableNames<'_>,
     targets: &[Target],
     start: Cutter<'a>,
 ) -> Result<Given<'a>, ReadError>
     requires { is_done start ≡ false }
-    ensures read { GivesRead (λ g. g.array) result (statement_read start.entry (names_in names.entry) targets.now) }
-    ensures position { IfOk result (λ g. IsPosition (names_in names.entry) (name_said start.entry) g.position) }
+    ensures read { GivesRead (λ g. g.array) result (statement_read start.entry names.now targets.now) }
+    ensures position { IfOk result (λ g. IsPosition names.now (name_said start.entry) g.position) }
     ensures rest { IfOk result (λ g. Follows start.entry g.rest) }
 {
     match read_quickly(alloc, names, targets, start) {
@@ -95,13 +94,13 @@ fn read_either<'a>(
 /// allocation failed.
 fn read_quickly<'a>(
     alloc: Global,
-    names: VariableNames<'_>,
+    names: &VariableNames<'_>,
     targets: &[Target],
     start: Cutter<'a>,
 ) -> Result<Given<'a>, FastPathFault>
     requires { is_done start ≡ false }
-    ensures read { IfOk result (λ g. statement_read start.entry (names_in names.entry) targets.now ≡ Ok g.array) }
-    ensures position { IfOk result (λ g. IsPosition (names_in names.entry) (name_said start.entry) g.position) }
+    ensures read { IfOk result (λ g. statement_read start.entry names.now targets.now ≡ Ok g.array) }
+    ensures position { IfOk result (λ g. IsPosition names.now (name_said start.entry) g.position) }
     ensures rest { IfOk result (λ g. Follows start.entry g.rest) }
 {
     let name = start.lexeme();
@@ -137,13 +136,13 @@ fn read_quickly<'a>(
 /// statement's first fault, or if an allocation failed.
 fn read_slowly<'a>(
     alloc: Global,
-    names: VariableNames<'_>,
+    names: &VariableNames<'_>,
     targets: &[Target],
     start: Cutter<'a>,
 ) -> Result<Given<'a>, ReadError>
     requires { is_done start ≡ false }
-    ensures read { GivesRead (λ g. g.array) result (statement_read start.entry (names_in names.entry) targets.now) }
-    ensures position { IfOk result (λ g. IsPosition (names_in names.entry) (name_said start.entry) g.position) }
+    ensures read { GivesRead (λ g. g.array) result (statement_read start.entry names.now targets.now) }
+    ensures position { IfOk result (λ g. IsPosition names.now (name_said start.entry) g.position) }
     ensures rest { IfOk result (λ g. Follows start.entry g.rest) }
 {
     let found = check_shape_from(start, Due::DataName);
@@ -170,12 +169,12 @@ fn read_slowly<'a>(
 /// statement gave its values, or if an allocation failed.
 fn target_of(
     alloc: Global,
-    names: VariableNames<'_>,
+    names: &VariableNames<'_>,
     targets: &[Target],
     word: &[u8],
 ) -> Result<FoundTarget, ReadError>
-    ensures target { GivesRead (λ p. p.target) result (target_said (names_in names.entry) targets.now word.now) }
-    ensures position { IfOk result (λ p. IsPosition (names_in names.entry) (word_value word.now) p.position) }
+    ensures target { GivesRead (λ p. p.target) result (target_said names.now targets.now word.now) }
+    ensures position { IfOk result (λ p. IsPosition names.now (word_value word.now) p.position) }
 {
     let name = read_name(alloc, word)?;
     let position = names.find(name.as_slice()).ok_or(CdlKind::UnknownVariable)?;

@@ -1,7 +1,7 @@
 //! The positions of names in their list.
 
 ghost use Rattle.std.specs.Prelude.{◌≡◌, [], IfOk, OnErr, map};
-ghost use Rattle.cdl_values.specs.code.NameIndices.{IsIndex, hash_of, is_new, position_of, with_added_name};
+ghost use Rattle.cdl_values.specs.code.NameIndices.{IsIndex, IsIndexWith, hash_of, is_new, position_of};
 
 use crate::named::Named;
 use std::alloc::{AllocError, Global};
@@ -56,7 +56,7 @@ impl NameIndex {
     ) -> Result<bool, AllocError>
         requires { IsIndex self.old (map T.name_of list.now) }
         ensures new { IfOk result (λ added. added ≡ is_new (map T.name_of list.now) name.now) }
-        ensures names { IfOk result (λ b. IsIndex self.new (with_added_name b (map T.name_of list.now) name.now)) }
+        ensures names { IfOk result (IsIndexWith self.new (map T.name_of list.now) name.now) }
         ensures err { OnErr result (IsIndex self.new (map T.name_of list.now)) }
     {
         if self.find(list, name).is_some() {

@@ -5,29 +5,38 @@ ghost use Rattle.cdl_values.specs.code.NameIndices.{IsIndex, position_of, var_na
 
 use crate::name_index::NameIndex;
 use nc_base::Var;
+use std::marker::Model;
 
 /// The names of the variables of a header, with an index of them.
-#[derive(Clone, Copy)]
+#[derive(Drop)]
 pub struct VariableNames<'a> {
     vars: &'a [Var],
     index: &'a NameIndex,
-    ghost indexed: { IsIndex index.now (var_names vars.now) },
+}
+
+impl<'a> Model for VariableNames<'a> {
+    ghost use Rattle.std.specs.Prelude.{List, ℕ};
+    ghost use Rattle.cdl_values.specs.code.NameIndices.{IsIndex, var_names};
+
+    ghost Value = { List (List ℕ) };
+
+    ghost view = { λ names. var_names names.vars.now };
+
+    ghost invariant = { λ names. IsIndex names.index.now (var_names names.vars.now) };
 }
 
 impl<'a> VariableNames<'a> {
-    ghost use Rattle.cdl_values.specs.code.VariableNames.{names_in};
-
     /// Returns the names of the variables. `index` is the index of `vars`.
     pub fn new(vars: &'a [Var], index: &'a NameIndex) -> VariableNames<'a>
         requires { IsIndex index.now (var_names vars.now) }
-        ensures { names_in result ≡ var_names vars.now }
+        ensures { result ≡ var_names vars.now }
     {
         VariableNames { vars, index }
     }
 
     /// Returns the position of the variable of this name, or `None` if there is none.
     pub fn find(&self, name: &[u8]) -> Option<u64>
-        ensures { result ≡ position_of (names_in self.now) name.now }
+        ensures { result ≡ position_of self.now name.now }
     {
         self.index.find(self.vars, name)
     }

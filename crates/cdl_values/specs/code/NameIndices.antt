@@ -20,10 +20,6 @@ IsPosition names name position = position_of names name ≡ Some position
 abbrev pub is_new : List (List ℕ) → List ℕ → Bool
 is_new names name = not (is_some (position_of names name))
 
--- the names, with this one at their end if it was added
-abbrev pub with_added_name : Bool → List (List ℕ) → List ℕ → List (List ℕ)
-with_added_name added names name = if added then names ++ name ∷ [] else names
-
 -- the hash, taken on over these bytes
 unfoldable pub hash_on : ℕ → List ℕ → ℕ
 hash_on hash [] = hash
@@ -51,6 +47,10 @@ later_position names name = unless_first (position_of names name) (first_with_ha
 pub record IsIndex (index : NameIndex) (names : List (List ℕ)) : Type 0 where
   pub firsts : (hash : ℕ) → get nat_cmp index.first_of_hash hash ≡ first_with_hash hash names
   pub others : (name : List ℕ) → get_by (λ k. slice_cmp nat_cmp name k.items) index.others ≡ later_position names name
+
+-- the index is one of these names, with this one at their end if it was added
+abbrev pub IsIndexWith : NameIndex → List (List ℕ) → List ℕ → Bool → Type 0
+IsIndexWith index names name added = IsIndex index (if added then names ++ name ∷ [] else names)
 
 -- the names of these variables
 abbrev pub var_names : List Var → List (List ℕ)

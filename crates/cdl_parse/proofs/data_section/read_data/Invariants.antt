@@ -1,5 +1,5 @@
 use Rattle.std.proofs.Common.{◌≡◌, List, length}
-use Rattle.cdl_parse.proofs.Prelude.{names_in, Var, pieces_left, text_of, version_of, State, BeginsData}
+use Rattle.cdl_parse.proofs.Prelude.{Var, pieces_left, text_of, version_of, State, BeginsData}
 use Rattle.cdl_parse.proofs.DataRuns.{SoFar}
 use Rattle.cdl_parse.proofs.data_section.read_data.Given as goal
 
@@ -7,7 +7,7 @@ abbrev pub invariant-statements : goal.invariant-statements
 invariant-statements l = record {
   text : text_of l.cutter ≡ text_of l.fn.start;
   version : version_of l.cutter ≡ version_of l.fn.start;
-  reads : (vars : List Var) (s : State) → BeginsData l.fn.start (names_in l.fn.names) l.fn.targets.items vars s → SoFar vars s l.fn.start l.listings.targets.items l.listings.arrays.items l.cutter;
+  reads : (vars : List Var) (s : State) → BeginsData l.fn.start l.fn.names l.fn.targets.items vars s → SoFar vars s l.fn.start l.listings.targets.items l.listings.arrays.items l.cutter;
 }
 
 abbrev pub decreases-statements : goal.decreases-statements

@@ -1,5 +1,4 @@
 use Rattle.std.proofs.Common.{rules, ◌≡◌, sym, ap, ◌∙◌, true}
-use Rattle.cdl_values.specs.code.VariableNames.{names_in}
 use Rattle.cdl_values.proofs.Prelude.{word_value, Lexeme, lexeme, completes, DataName, next_token, text_of, version_of, words, lexeme_of, values, first_bad, going, target_of, packed}
 use Rattle.cdl_statements.specs.declared.due.Due.TheVariants as dues
 use Rattle.cdl_values.proofs.DataReads.{read_on, filled_ok, quick_good}
@@ -8,7 +7,7 @@ use Rattle.cdl_values.proofs.data.read_quickly.Goals as goal
 pub returns-clause-read : goal.returns-clause-read
 unfolding completes
 returns-clause-read c =
-    let names = (names_in c.args.names) in
+    let names = c.args.names.now in
     let version = (version_of c.args.start) in
     let start = c.args.start in
     let equals = c.advanced-name_ends.result.0 in

@@ -1,16 +1,15 @@
 use Rattle.std.proofs.Common.{rules, ◌≡◌, sym, ap, ◌∙◌, true, false, subst, Result, List, ℕ}
-use Rattle.cdl_values.specs.code.VariableNames.{names_in}
 use Rattle.cdl_values.proofs.Prelude.{values, word_value, Lexeme, lexeme, completes, DataName, next_token, text_of, version_of, words, CdlKind, FailsRead, packed, data_read, packed_for, target_of, Given}
 use Rattle.cdl_values.proofs.AllowedNames.{refused}
 use Rattle.cdl_values.proofs.DataReads.{bad_read, no_fault, unshaped_read, read_on, name_goes, name_on, equals_goes, filled_ok, filled_err}
 use Rattle.cdl_values.proofs.data.read_slowly.Goals as goal
 
 pub returns-in-Some-clause-read : goal.returns-in-Some-clause-read
-returns-in-Some-clause-read c = bad_read (version_of c.args.start) (names_in c.args.names) c.args.targets.now (words c.args.start) c.in-Some.kind (sym c.check_shape_from-found.ensures.bad ∙ c.in-Some.is)
+returns-in-Some-clause-read c = bad_read (version_of c.args.start) c.args.names.now c.args.targets.now (words c.args.start) c.in-Some.kind (sym c.check_shape_from-found.ensures.bad ∙ c.in-Some.is)
 
 pub returns-then-not-found-clause-read : goal.returns-then-not-found-clause-read
 returns-then-not-found-clause-read c =
-    let names = (names_in c.args.names) in
+    let names = c.args.names.now in
     let off : completes DataName (words c.args.start) ≡ false = search rules in
     unshaped_read (version_of c.args.start) names c.args.targets.now (words c.args.start) (sym c.check_shape_from-found.ensures.bad ∙ no_fault c.check_shape_from-found.result.bad c.in_default.not-Some) off
 
@@ -28,7 +27,7 @@ pack-requires c =
 
 pub returns-clause-read : goal.returns-clause-read
 returns-clause-read c =
-    let names = (names_in c.args.names) in
+    let names = c.args.names.now in
     let on : completes DataName (words c.args.start) ≡ true = search rules in
     let equals = c.advanced.result.0 in
     let version = (version_of c.args.start) in
@@ -41,7 +40,7 @@ returns-clause-read c =
 
 pub returns-in_err-array-clause-read : goal.returns-in_err-array-clause-read
 returns-in_err-array-clause-read c =
-    let names = (names_in c.args.names) in
+    let names = c.args.names.now in
     let on : completes DataName (words c.args.start) ≡ true = search rules in
     let equals = c.advanced.result.0 in
     let version = (version_of c.args.start) in
@@ -57,7 +56,7 @@ returns-in_err-array-clause-read c =
 
 pub returns-in_err-position-clause-read : goal.returns-in_err-position-clause-read
 returns-in_err-position-clause-read c =
-    let names = (names_in c.args.names) in
+    let names = c.args.names.now in
     let on : completes DataName (words c.args.start) ≡ true = search rules in
     let equals = c.advanced.result.0 in
     let version = (version_of c.args.start) in
