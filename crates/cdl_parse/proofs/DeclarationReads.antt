@@ -1,6 +1,6 @@
 -- A declaration, token by token.
 use Rattle.std.proofs.Common.{◌≡◌, ℕ, Bool, true, false, List, [], ◌∷◌, ◌++◌, length, drop, refl, sym, ap, ◌∙◌, subst, Option, None, Some, Result, Ok, Err, IfOk, ◌&&◌, ◌||◌, not, nat_lt, if◌then◌else◌}
-use Rattle.cdl_parse.proofs.Prelude.{false≢true, position, bytes_eq, is_name, is_record_dim, Dim, NcType, Version, Declaration, declaration_said, with_name, completes, is_whole, next, word_value, Lexeme, is_mark, is_mark_kind, Due, AfterVariable, VariableName, CdlKind, BadName, BadShape, DuplicateName, UnknownDimension, Draft, add_dimid, add_var, found, in_turn, type_of, unless, when, ContinuesRead, FailsRead, Leaves, ReadError, OutOfMemory, Fault, added, continued, declared, is_open_after, next_dimid, read_on, type_first, with_begun, ReadsDimension, draft, is_variable_name, with_new_draft, after_name, PartialVariable}
+use Rattle.cdl_parse.proofs.Prelude.{false≢true, position, bytes_eq, is_name, is_record_dim, Dim, NcType, Version, Declaration, declaration_said, with_name, completes, is_whole, next, word_value, Lexeme, is_mark, is_mark_kind, Due, AfterVariable, VariableName, CdlKind, BadName, BadShape, DuplicateName, UnknownDimension, Draft, add_dimid, add_var, found, in_turn, type_of, unless, when, ContinuesRead, FailsRead, Leaves, ReadError, OutOfMemory, Fault, added, continued, declared, is_open_after, next_dimid, read_on, type_first, with_begun, ReadsDimension, draft, is_variable_name, with_new_draft, duplicate_name_or, PartialVariable}
 use Rattle.std.specs.Prelude.{⊤}
 use Rattle.cdl_statements.specs.code.DueTokens.{is_name as is_name_token}
 use Rattle.cdl_statements.proofs.VariableNames.{name_kind}
@@ -85,9 +85,9 @@ module _ (dims : List Dim) (ty : NcType) (drafts : List Draft) where
   dimension_ok name ids more word k rest is e =
       dimension_first name ids word rest ∙ ap (λ (r : Result ℕ CdlKind). checked name rest (r >>= (λ m. Ok (ids ++ m ∷ [])))) is ∙ ap (λ all. continued dims ty drafts name all rest) (sym e)
 
-  pub dimension_fails : (name ids word : List ℕ) (e : ReadError) (rest : Declaration) → FailsRead e (next_dimid dims ids word) → FailsRead (after_name (is_variable_name name drafts) e) (continued dims ty drafts name ids (with_name true word rest))
+  pub dimension_fails : (name ids word : List ℕ) (e : ReadError) (rest : Declaration) → FailsRead e (next_dimid dims ids word) → FailsRead (duplicate_name_or (is_variable_name name drafts) e) (continued dims ty drafts name ids (with_name true word rest))
   dimension_fails name ids word e rest h =
-      subst (FailsRead (after_name (is_variable_name name drafts) e)) (sym (dimension_first name ids word rest)) (fails_after (is_variable_name name drafts) e (with_more name rest (next_dimid dims ids word >>= (λ k. Ok (ids ++ k ∷ [])))) (by e h))
+      subst (FailsRead (duplicate_name_or (is_variable_name name drafts) e)) (sym (dimension_first name ids word rest)) (fails_after (is_variable_name name drafts) e (with_more name rest (next_dimid dims ids word >>= (λ k. Ok (ids ++ k ∷ [])))) (by e h))
     where
       by : (e : ReadError) → FailsRead e (next_dimid dims ids word) → FailsRead e (with_more name rest (next_dimid dims ids word >>= (λ k. Ok (ids ++ k ∷ []))))
       by OutOfMemory h = tt

@@ -13,7 +13,7 @@ pub use Rattle.cdl_parse.specs.code.DimensionNames.{dim_names, is_dimension_name
 pub use Rattle.cdl_parse.specs.code.Drafts.{draft, draft_of, drafts_of, is_variable_name, var_of, variable_names, with_new_draft}
 pub use Rattle.cdl_parse.specs.code.Extents.{records_for, records_kept, records_within, with_all}
 pub use Rattle.cdl_parse.specs.code.Runs.{FailsAt, ReadsOn, at_line, run_after}
-pub use Rattle.cdl_parse.specs.code.TakenNames.{after_name}
+pub use Rattle.cdl_parse.specs.code.TakenNames.{duplicate_name_or}
 pub use Rattle.cdl_parse.specs.code.VariablePositions.{at_position}
 pub use Rattle.cdl_parse.specs.declared.declaration.PartialVariable.{PartialVariable}
 pub use Rattle.cdl_parse.specs.declared.declared_values.Declared.{Declared}

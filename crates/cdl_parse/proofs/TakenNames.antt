@@ -1,16 +1,16 @@
 -- A taken name comes before the faults after it.
 use Rattle.std.proofs.Common.{◌≡◌, Bool, true, false, refl, ◌∙◌, Result, Ok, Err, IfOk}
-use Rattle.cdl_parse.proofs.Prelude.{CdlKind, BadName, DuplicateName, unless, when, FailsRead, ReadError, OutOfMemory, Fault, after_name}
+use Rattle.cdl_parse.proofs.Prelude.{CdlKind, BadName, DuplicateName, unless, when, FailsRead, ReadError, OutOfMemory, Fault, duplicate_name_or}
 use Rattle.cdl_meaning.specs.State.{◌>>=◌}
 
-pub fails_after : {A : Type 0} (taken : Bool) (e : ReadError) (read : Result A CdlKind) → FailsRead e read → FailsRead (after_name taken e) (when taken DuplicateName >>= (λ u. read))
+pub fails_after : {A : Type 0} (taken : Bool) (e : ReadError) (read : Result A CdlKind) → FailsRead e read → FailsRead (duplicate_name_or taken e) (when taken DuplicateName >>= (λ u. read))
 fails_after taken OutOfMemory read h = tt
 fails_after true (Fault k) read h = refl
 fails_after false (Fault k) read h = h
 
 -- the same of what is read after a name that the format allows
 pub fails_named : {A : Type 0} (named taken : Bool) (e : ReadError) (read : Result A CdlKind) → named ≡ true → FailsRead e read →
-    FailsRead (after_name taken e) (unless named BadName >>= (λ u. when taken DuplicateName >>= (λ w. read)))
+    FailsRead (duplicate_name_or taken e) (unless named BadName >>= (λ u. when taken DuplicateName >>= (λ w. read)))
 fails_named true taken e read is h = fails_after taken e read h
 fails_named false taken e read is h = cc
 

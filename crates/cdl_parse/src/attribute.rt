@@ -9,7 +9,7 @@ ghost use Rattle.cdl_parse.specs.code.AttributeNames.{with_new_att};
 ghost use Rattle.cdl_parse.specs.code.AttributeRead.{att_read};
 
 use crate::attributes::Attributes;
-use crate::taken_name::after_name;
+use crate::taken_name::duplicate_name_or;
 use cdl_statements::{CdlKind, Cutter};
 use cdl_values::{ReadError, read_constants, read_name, type_said};
 use nc_base::{Att, ListedArray, NcType, Sequence};
@@ -41,8 +41,8 @@ pub fn read_attribute(
     let (first, _) = equals.advanced();
     let ty = type_said(first.version(), first.lexeme());
     match read_constants(alloc, ty, first) {
-        Ok(vals) => add(alloc, attributes, name, ty, vals),
-        Err(e) => Err(after_name(attributes.has_name(name.as_slice()), e)),
+        Ok(vals) => add_attribute(alloc, attributes, name, ty, vals),
+        Err(e) => Err(duplicate_name_or(attributes.has_name(name.as_slice()), e)),
     }
 }
 
@@ -51,7 +51,7 @@ pub fn read_attribute(
 /// # Errors
 ///
 /// Another attribute has the name (`DuplicateName`), or an allocation failed. In both cases `attributes` is what it was.
-fn add(
+fn add_attribute(
     alloc: Global,
     attributes: &mut Attributes,
     name: Vec<u8>,

@@ -8,9 +8,9 @@ ghost use Rattle.cdl_values.specs.code.Meant.{begins_brace};
 ghost use Rattle.cdl_parse.specs.code.DataSections.{Closes, ReadsDataSection, ReadsNextStatement, given_at};
 
 use crate::parse_error::ParseError;
-use crate::statement::pass;
+use crate::statement::check_statement;
 use cdl_statements::{Cutter, Section};
-use cdl_values::{ReadError, Target, VariableNames, read};
+use cdl_values::{ReadError, Target, VariableNames, read_data_statement};
 use nc_base::ListedArray;
 use std::alloc::{AllocError, Global};
 
@@ -118,7 +118,7 @@ fn read_one<'a>(
     if start.lexeme().is_mark(b'}') {
         return close(start);
     }
-    let given = read(alloc, names, &listings.targets, start)?;
+    let given = read_data_statement(alloc, names, &listings.targets, start)?;
     store(&mut listings.arrays, given.position, given.array);
     mark_given(&mut listings.targets, given.position);
     Ok(DataStatement {
@@ -127,14 +127,14 @@ fn read_one<'a>(
     })
 }
 
-/// Passes over the closing brace, and returns the statements after it. Errs as [`pass`] does.
+/// Passes over the closing brace, and returns the statements after it. Errs as [`check_statement`] does.
 fn close(start: Cutter<'_>) -> Result<DataStatement<'_>, ReadError>
     requires more { is_done start ≡ false }
     requires brace { begins_brace (words start) ≡ true }
     ensures reads { (s : State) → s.section ≡ Values → Closes start.entry s result }
     ensures rest { IfOk result (λ passed. Follows start.entry passed.rest) }
 {
-    let rest = pass(start, Section::Values)?;
+    let rest = check_statement(start, Section::Values)?;
     Ok(DataStatement {
         is_brace: true,
         rest,

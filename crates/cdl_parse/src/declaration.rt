@@ -14,7 +14,7 @@ ghost use Rattle.cdl_parse.specs.code.Declarations.{added, declared_by, is_open_
 ghost use Rattle.cdl_parse.specs.code.Declarations.{BeginsVariable, PassesMark, ReadsDimension, ReadsToken};
 
 use crate::dimensions::Dimensions;
-use crate::taken_name::after_name;
+use crate::taken_name::duplicate_name_or;
 use crate::variables::Variables;
 use cdl_statements::{CdlKind, Cutter, Lexeme};
 use cdl_tokens::TokenKind;
@@ -104,21 +104,21 @@ fn read_variables(
     requires shaped { completes VariableName (words start) ≡ true }
     ensures { Leaves variables.new result (added dims.now ty variables.old (words start.entry)) }
 {
-    let mut begun = begin(alloc, ty, start.lexeme())?;
+    let mut begun = new_variable(alloc, ty, start.lexeme())?;
     let (mut cutter, _) = start.advanced();
     'tokens: loop {
         let token = cutter.lexeme();
         let ends = cutter.advance();
         begun = read_on(alloc, dims, variables, begun, token)?;
         if ends {
-            return put(alloc, variables, begun);
+            return add_variable(alloc, variables, begun);
         }
     }
 }
 
 /// Returns a variable of type `ty` without dimensions, whose name is `token`. Errs with `BadName` if the format doesn't allow the
 /// name. Also errs if an allocation failed.
-fn begin(alloc: Global, ty: NcType, token: Lexeme<'_>) -> Result<PartialVariable, ReadError>
+fn new_variable(alloc: Global, ty: NcType, token: Lexeme<'_>) -> Result<PartialVariable, ReadError>
     requires { is_mark_kind token.kind ≡ false }
     ensures { BeginsVariable ty (lexeme_of token.entry) result }
 {
@@ -133,7 +133,7 @@ fn begin(alloc: Global, ty: NcType, token: Lexeme<'_>) -> Result<PartialVariable
 
 /// Reads one token after the name of the variable `begun`. If the token is the name of the next variable, adds `begun` to
 /// `variables` and returns the next variable, without dimensions. Otherwise returns `begun` with what the token adds: a dimension,
-/// or a mark that may be a parenthesis. Errs as [`with_dimension`], [`put`] and [`begin`] do.
+/// or a mark that may be a parenthesis. Errs as [`with_dimension`], [`add_variable`] and [`new_variable`] do.
 fn read_on(
     alloc: Global,
     dims: &Dimensions,
@@ -148,8 +148,8 @@ fn read_on(
         _ if begun.is_open => with_dimension(alloc, dims, variables, begun, token.bytes),
         _ => {
             let ty = begun.ty;
-            put(alloc, variables, begun)?;
-            begin(alloc, ty, token)
+            add_variable(alloc, variables, begun)?;
+            new_variable(alloc, ty, token)
         }
     }
 }
@@ -205,7 +205,7 @@ fn with_dimension(
             }
             Ok(begun)
         }
-        Err(e) => Err(after_name(variables.has_name(begun.name.as_slice()), e)),
+        Err(e) => Err(duplicate_name_or(variables.has_name(begun.name.as_slice()), e)),
     }
 }
 
@@ -249,7 +249,11 @@ fn next_dimid(dims: &Dimensions, before: &[u64], name: &[u8]) -> Result<u64, Cdl
 /// # Errors
 ///
 /// Another variable has the name (`DuplicateName`), or an allocation failed.
-fn put(alloc: Global, variables: &mut Variables, begun: PartialVariable) -> Result<(), ReadError>
+fn add_variable(
+    alloc: Global,
+    variables: &mut Variables,
+    begun: PartialVariable,
+) -> Result<(), ReadError>
     ensures { Leaves variables.new result (with_begun variables.old begun) }
 {
     let PartialVariable {

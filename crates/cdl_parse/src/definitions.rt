@@ -13,7 +13,7 @@ use crate::attributes::Attributes;
 use crate::declaration::read_declaration;
 use crate::dimension_list::read_dimensions;
 use crate::dimensions::Dimensions;
-use crate::statement::pass;
+use crate::statement::check_statement;
 use crate::variables::Variables;
 use cdl_statements::{Cutter, Lexeme, Section};
 use cdl_values::ReadError;
@@ -63,7 +63,7 @@ impl Definitions {
         ensures makes { Makes (state_of self.new) result (after_statement start.entry (state_of self.old)) }
         ensures rest { IfOk result (λ c. Follows start.entry c) }
     {
-        let rest = pass(start, self.section)?;
+        let rest = check_statement(start, self.section)?;
         self.apply(alloc, start)?;
         Ok(rest)
     }

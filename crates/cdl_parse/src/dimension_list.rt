@@ -13,7 +13,7 @@ ghost use Rattle.cdl_parse.specs.code.DimensionStatements.{BeginsWith, dim_read,
 
 use crate::dimension::dim_len;
 use crate::dimensions::Dimensions;
-use crate::taken_name::after_name;
+use crate::taken_name::duplicate_name_or;
 use cdl_statements::{CdlKind, Cutter, Lexeme};
 use cdl_values::{ReadError, number_or_zero, read_name};
 use nc_base::{Dim, Sequence, Version};
@@ -96,10 +96,10 @@ fn add_dimension(
 {
     let name = read_name(alloc, name.bytes)?;
     match len_said(version, dims.has_record(), length) {
-        Ok(len) => push(alloc, dims, name, len),
+        Ok(len) => add_named_dimension(alloc, dims, name, len),
         Err(kind) => {
             let is_taken = dims.has_name(name.as_slice());
-            Err(after_name(is_taken, ReadError::Fault(kind)))
+            Err(duplicate_name_or(is_taken, ReadError::Fault(kind)))
         }
     }
 }
@@ -131,7 +131,12 @@ fn is_unlimited(length: Lexeme<'_>) -> bool
 /// # Errors
 ///
 /// Another dimension has the name (`DuplicateName`), or an allocation failed.
-fn push(alloc: Global, dims: &mut Dimensions, name: Vec<u8>, len: u64) -> Result<(), ReadError>
+fn add_named_dimension(
+    alloc: Global,
+    dims: &mut Dimensions,
+    name: Vec<u8>,
+    len: u64,
+) -> Result<(), ReadError>
     ensures { Leaves dims.new result (with_new_dim dims.old name.items len) }
 {
     let dim = Dim {

@@ -14,7 +14,7 @@ use cdl_statements::{CdlKind, Cutter, Section, check_shape};
 /// # Errors
 ///
 /// The fault of the statement's first bad token or bad number; or `Syntax` if the statement doesn't have its shape.
-pub fn pass(start: Cutter<'_>, section: Section) -> Result<Cutter<'_>, CdlKind>
+pub fn check_statement(start: Cutter<'_>, section: Section) -> Result<Cutter<'_>, CdlKind>
     requires { is_done start ≡ false }
     ensures passes { (s : State) → s.section ≡ section → ActsAsSaid start.entry s result }
     ensures whole { IfOk result (λ c. completes (First section) (words start.entry) ≡ true) }

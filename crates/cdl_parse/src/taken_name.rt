@@ -1,15 +1,15 @@
 //! Names that are taken, and the order of faults.
 
 ghost use Rattle.std.specs.Prelude.{◌≡◌};
-ghost use Rattle.cdl_parse.specs.code.TakenNames.{after_name};
+ghost use Rattle.cdl_parse.specs.code.TakenNames.{duplicate_name_or};
 
 use cdl_statements::CdlKind;
 use cdl_values::ReadError;
 
 /// Returns the error of a definition in which `error` was found after its name. If `error` is a fault and `is_taken` is true (the
 /// name is that of an earlier definition), returns `DuplicateName`, since the name comes first. Otherwise returns `error`.
-pub fn after_name(is_taken: bool, error: ReadError) -> ReadError
-    ensures { result ≡ after_name is_taken error }
+pub fn duplicate_name_or(is_taken: bool, error: ReadError) -> ReadError
+    ensures { result ≡ duplicate_name_or is_taken error }
 {
     match error {
         ReadError::Fault(_) if is_taken => ReadError::Fault(CdlKind::DuplicateName),

@@ -162,7 +162,7 @@ fn read_values<'a>(
     ensures same { IfOk result (λ values. SameText start.entry values.rest) }
 {
     match section {
-        Section::Values => read_section(alloc, dims, vars, names, start),
+        Section::Values => read_data_section(alloc, dims, vars, names, start),
         _ => Ok(Values {
             listed: empty_arrays(alloc, vars.len())?,
             section,
@@ -174,7 +174,7 @@ fn read_values<'a>(
 /// Reads the data section, and returns what it lists and what comes after it. `names` are the names of the variables. If the text ends
 /// before the closing brace, this call doesn't err: the section returned is then `Values`. Errs with the fault of the first bad
 /// statement of the section, or if an allocation failed.
-fn read_section<'a>(
+fn read_data_section<'a>(
     alloc: Global,
     dims: &[Dim],
     vars: &[Var],

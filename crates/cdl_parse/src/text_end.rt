@@ -6,7 +6,7 @@ ghost use Rattle.cdl_meaning.specs.State.{State};
 ghost use Rattle.cdl_parse.specs.code.Defined.{EndsAs, is_over};
 ghost use Rattle.cdl_parse.specs.code.Runs.{run_from};
 
-use crate::statement::pass;
+use crate::statement::check_statement;
 use cdl_statements::{CdlFault, Cutter, Section};
 
 /// Checks that no statement is left but the end of the text. `section` is the section of the next statement. Does not allocate.
@@ -24,7 +24,7 @@ pub fn read_end(start: Cutter<'_>, section: Section) -> Result<(), CdlFault>
         if cutter.is_done() {
             return Ok(());
         }
-        match pass(cutter, here) {
+        match check_statement(cutter, here) {
             Ok(rest) => {
                 cutter = rest;
                 here = Section::Ended;

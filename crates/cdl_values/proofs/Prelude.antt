@@ -39,7 +39,7 @@ pub use Rattle.cdl_values.specs.code.Meant.{AllSuit, HasListed, Means, ReadsStat
 pub use Rattle.cdl_values.specs.code.NameIndices.{IsIndex, first_with_hash, hash_of, is_new, later_position, position_of, unless_first}
 unfoldable pub use Rattle.cdl_values.specs.code.NameIndices.{hash_on}
 pub use Rattle.cdl_values.specs.declared.name_index.NameIndex.{NameIndex}
-pub use Rattle.cdl_values.specs.code.PackedValues.{bytes_of, capacity_after, char_bytes, followed_by, greatest, held_bytes, is_full, is_past, joined, less, number_bytes, row_bytes, text_bytes, value_bytes}
+pub use Rattle.cdl_values.specs.code.PackedValues.{bytes_of, capacity_after, char_bytes, followed_by, greatest, held_bytes, is_full, is_past, joined, capacity_minus, number_bytes, row_bytes, text_bytes, value_bytes}
 unfoldable pub use Rattle.cdl_values.specs.code.PackedValues.{packed}
 pub use Rattle.cdl_values.specs.code.ValueRuns.{GoesOn, Place, TakesValues, place}
 pub use Rattle.cdl_values.specs.declared.data.Given.{Given}

@@ -1,6 +1,6 @@
 -- The values of a statement one by one: their bytes are the bytes of what the state lists.
 use Rattle.std.proofs.Common.{◌≡◌, ℕ, zero, suc, ◌+◌, ◌-◌, ℤ, Bool, true, false, List, [], ◌∷◌, ◌++◌, length, map, refl, sym, ap, ◌∙◌, arith, append-nil, length-append, rules, subst, pos, Option, None, Some, Result, Ok, Err, ◌||◌, not, nat_lt, nat_le, replicate}
-use Rattle.cdl_values.proofs.Prelude.{flat_map, flat_map-append, map-append, NcType, Char, bytes_of_number, is_char, Value, Number, Characters, Underscore, CdlKind, TooManyValues, NumberRange, StringTooLong, WrongKind, Capacity, Listing, add_number, add_characters, add_row, in_turn, listed_by, listing_of, values_in, fits, filled, Fills, positions_in, as_bytes, packed, followed_by, joined, bytes_of, capacity_after, is_full, is_past, less, char_bytes, Fill, Filling, length-map}
+use Rattle.cdl_values.proofs.Prelude.{flat_map, flat_map-append, map-append, NcType, Char, bytes_of_number, is_char, Value, Number, Characters, Underscore, CdlKind, TooManyValues, NumberRange, StringTooLong, WrongKind, Capacity, Listing, add_number, add_characters, add_row, in_turn, listed_by, listing_of, values_in, fits, filled, Fills, positions_in, as_bytes, packed, followed_by, joined, bytes_of, capacity_after, is_full, is_past, capacity_minus, char_bytes, Fill, Filling, length-map}
 use Rattle.cdl_meaning.specs.State.{Numbers, Joined, Rows, ◌>>=◌}
 use Rattle.cdl_values.specs.declared.filling.Filling.TheVariants as fillings
 use Rattle.cdl_values.proofs.PackedTokens.{joined_assoc, joined_none, chars_len}
@@ -38,7 +38,7 @@ capacity_is (Some (suc left)) is_open count n h =
     rw (h.0) (rw (on) (ap not (sym some)))
 
 -- one position less
-left_less : {A : Type 0} (capacity : Option ℕ) (is_open : Bool) (count : ℕ) (before : List A) (y : A) → is_full capacity ≡ false → Left capacity is_open count (length before) → Left (less 1 capacity) is_open count (length (before ++ y ∷ []))
+left_less : {A : Type 0} (capacity : Option ℕ) (is_open : Bool) (count : ℕ) (before : List A) (y : A) → is_full capacity ≡ false → Left capacity is_open count (length before) → Left (capacity_minus 1 capacity) is_open count (length (before ++ y ∷ []))
 left_less None is_open count before y some h = h
 left_less (Some zero) is_open count before y some h = cc
 left_less (Some (suc left)) is_open count before y some h =
@@ -86,7 +86,7 @@ past_is n (Some left) is_open count m h =
     let e : count ≡ m + left = h.1 in
     rw (h.0) (let g : nat_le (m + n) count ≡ not (nat_lt left n) = grind (arith, e) in g)
 
-left_chars : (capacity : Option ℕ) (is_open : Bool) (count : ℕ) (before bs : List ℕ) → is_past (length bs) capacity ≡ false → Left capacity is_open count (length before) → Left (less (length bs) capacity) is_open count (length (before ++ bs))
+left_chars : (capacity : Option ℕ) (is_open : Bool) (count : ℕ) (before bs : List ℕ) → is_past (length bs) capacity ≡ false → Left capacity is_open count (length before) → Left (capacity_minus (length bs) capacity) is_open count (length (before ++ bs))
 left_chars None is_open count before bs some h = h
 left_chars (Some left) is_open count before bs some h =
     let e : count ≡ length before + left = h.1 in
@@ -107,7 +107,7 @@ joined_step r h capacity before (Characters bs) left = by (is_past (length bs) c
     by false off =
         let is = past_is (length bs) capacity r.is_open r.count (length before) left ∙ ap not off in
         puts bs (rw (is) refl) (rw (off) (ap Ok (chars_are r.ty bs h.0)))
-        (subst (λ (n : ℕ). Left (less n capacity) r.is_open r.count (length (before ++ bs))) (sym (chars_len bs) ∙ ap (λ (xs : List ℕ). length xs) (chars_are r.ty bs h.0)) (left_chars capacity r.is_open r.count before bs off left))
+        (subst (λ (n : ℕ). Left (capacity_minus n capacity) r.is_open r.count (length (before ++ bs))) (sym (chars_len bs) ∙ ap (λ (xs : List ℕ). length xs) (chars_are r.ty bs h.0)) (left_chars capacity r.is_open r.count before bs off left))
 joined_step r h capacity before Underscore left = wrong WrongKind refl refl
 joined_step r h capacity before (Number n) left = wrong WrongKind refl refl
 

@@ -1,6 +1,6 @@
 -- A run of values, one value on.
 use Rattle.std.proofs.Common.{◌≡◌, ◌≤◌, ◌<◌, ℕ, ◌+◌, ◌-◌, Bool, true, false, List, ◌∷◌, length, drop, sym, ap, ◌∙◌, refl, subst, arith, Option, None, Some, Ok, ◌&&◌, ◌==◌, slice_index}
-use Rattle.cdl_values.proofs.Prelude.{Version, inner, stands, TokenKind, value_of, values, is_done, next_token, text_of, version_of, words, completes, is_value_of, next, only, separator, Lexeme, is_mark, is_mark_kind, lexeme, IsAtComma, Passes, PassesNumber, PassesString, Characters, first_bad, token_fault, lexeme_with, Cutter, Due, Separator, at_same_comma, same_after, same_words, good_on, bytes_of, capacity_after, held_bytes, is_full, joined, less, packed, row_bytes, GoesOn, Place, TakesValues, Fill, Filling, Numbers, Rows, past_mark}
+use Rattle.cdl_values.proofs.Prelude.{Version, inner, stands, TokenKind, value_of, values, is_done, next_token, text_of, version_of, words, completes, is_value_of, next, only, separator, Lexeme, is_mark, is_mark_kind, lexeme, IsAtComma, Passes, PassesNumber, PassesString, Characters, first_bad, token_fault, lexeme_with, Cutter, Due, Separator, at_same_comma, same_after, same_words, good_on, bytes_of, capacity_after, held_bytes, is_full, joined, capacity_minus, packed, row_bytes, GoesOn, Place, TakesValues, Fill, Filling, Numbers, Rows, past_mark}
 use Rattle.cdl_tokens.specs.code.Scanners as scanners
 use Rattle.cdl_tokens.specs.declared.numeral.Numeral.{Numeral as Held}
 use Rattle.cdl_tokens.specs.declared.token.TokenKind.TheVariants as kinds
@@ -99,7 +99,7 @@ packs_one v filling start rest l other adds counts ls =
 
 -- a number more
 pub number_on : (takes_fill : Bool) (fill : Fill) (start rest : Place) (n : Held) → IsAtComma start.cutter → PassesNumber start.cutter rest.cutter n → is_full start.left ≡ false →
-    joined (Ok start.bytes) (held_bytes fill.ty n.minus n.magnitude) ≡ Ok rest.bytes → rest.left ≡ less 1 start.left → TakesValues takes_fill (Numbers fill) start rest
+    joined (Ok start.bytes) (held_bytes fill.ty n.minus n.magnitude) ≡ Ok rest.bytes → rest.left ≡ capacity_minus 1 start.left → TakesValues takes_fill (Numbers fill) start rest
 unfolding value_of
 number_on takes_fill fill start rest n at passes full adds left =
     let v = version_of start.cutter in
@@ -109,7 +109,7 @@ number_on takes_fill fill start rest n at passes full adds left =
 
 -- a row more
 pub row_on : (takes_fill : Bool) (len fill : ℕ) (start rest : Place) (bytes : List ℕ) → IsAtComma start.cutter → PassesString start.cutter rest.cutter bytes → is_full start.left ≡ false →
-    joined (Ok start.bytes) (row_bytes len fill false (Characters (stands (inner bytes)))) ≡ Ok rest.bytes → rest.left ≡ less 1 start.left → TakesValues takes_fill (Rows len fill) start rest
+    joined (Ok start.bytes) (row_bytes len fill false (Characters (stands (inner bytes)))) ≡ Ok rest.bytes → rest.left ≡ capacity_minus 1 start.left → TakesValues takes_fill (Rows len fill) start rest
 unfolding value_of
 row_on takes_fill len fill start rest bytes at passes full adds left =
     let v = version_of start.cutter in
@@ -119,19 +119,19 @@ row_on takes_fill len fill start rest bytes at passes full adds left =
     value_on takes_fill (Rows len fill) start rest l at passes.passes refl refl (packs_one v (Rows len fill) start rest l refl sum (λ _. sym left))
 
 -- what capacity is left
-pub none_counted : (capacity : Option ℕ) → capacity ≡ less 0 capacity
+pub none_counted : (capacity : Option ℕ) → capacity ≡ capacity_minus 0 capacity
 none_counted None = refl
 none_counted (Some m) = ap Some (omega arith)
 
-pub counted : (n : ℕ) (capacity : Option ℕ) → less (n + 1) capacity ≡ less 1 (less n capacity)
+pub counted : (n : ℕ) (capacity : Option ℕ) → capacity_minus (n + 1) capacity ≡ capacity_minus 1 (capacity_minus n capacity)
 counted n None = refl
 counted n (Some m) = ap Some (omega arith)
 
-pub all_counted : (n : ℕ) (capacity : Option ℕ) → capacity ≡ less (n - n) capacity
-all_counted n capacity = none_counted capacity ∙ ap (λ m. less m capacity) (let e : 0 ≡ n - n = omega arith in e)
+pub all_counted : (n : ℕ) (capacity : Option ℕ) → capacity ≡ capacity_minus (n - n) capacity
+all_counted n capacity = none_counted capacity ∙ ap (λ m. capacity_minus m capacity) (let e : 0 ≡ n - n = omega arith in e)
 
-pub counted_down : (n left : ℕ) (capacity : Option ℕ) → left ≤ n → 0 < left → less (n - (left - 1)) capacity ≡ less 1 (less (n - left) capacity)
-counted_down n left capacity within some = ap (λ m. less m capacity) (let e : n - (left - 1) ≡ n - left + 1 = omega (arith, within, some) in e) ∙ counted (n - left) capacity
+pub counted_down : (n left : ℕ) (capacity : Option ℕ) → left ≤ n → 0 < left → capacity_minus (n - (left - 1)) capacity ≡ capacity_minus 1 (capacity_minus (n - left) capacity)
+counted_down n left capacity within some = ap (λ m. capacity_minus m capacity) (let e : n - (left - 1) ≡ n - left + 1 = omega (arith, within, some) in e) ∙ counted (n - left) capacity
 
 -- the same place
 pub ended : (takes_fill : Bool) (filling : Filling) (start there : Place) (cutter : Cutter) (left : Option ℕ) → cutter ≡ there.cutter → left ≡ there.left → TakesValues takes_fill filling start there →

@@ -56,7 +56,7 @@ pub struct Given<'a> {
 /// # Errors
 ///
 /// The statement's first fault, or `OutOfMemory` if an allocation failed.
-pub fn read<'a>(
+pub fn read_data_statement<'a>(
     alloc: Global,
     names: &VariableNames<'_>,
     targets: &[Target],

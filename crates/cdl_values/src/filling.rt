@@ -1,7 +1,7 @@
 //! In which form a variable takes the values that a statement lists, and how many more it takes.
 
 ghost use Rattle.std.specs.Prelude.{◌≡◌, ℕ, List, length};
-ghost use Rattle.cdl_values.specs.code.PackedValues.{is_full, is_past, less};
+ghost use Rattle.cdl_values.specs.code.PackedValues.{is_full, is_past, capacity_minus};
 
 use crate::fill::Fill;
 
@@ -25,8 +25,8 @@ impl Filling {
         ensures { (bytes : List ℕ) → length bytes ≡ n → result ≡ capacity_after self bytes capacity }
     {
         match self {
-            Filling::Numbers(_) | Filling::Rows { .. } => less(1, capacity),
-            Filling::Joined => less(n, capacity),
+            Filling::Numbers(_) | Filling::Rows { .. } => capacity_minus(1, capacity),
+            Filling::Joined => capacity_minus(n, capacity),
         }
     }
 }
@@ -52,8 +52,8 @@ pub fn is_past(n: u128, capacity: Option<u64>) -> bool
 }
 
 /// Returns the capacity minus `n`, or 0 if `n` is greater. Returns `None` if the capacity is `None`, which is no limit.
-pub fn less(n: u128, capacity: Option<u64>) -> Option<u64>
-    ensures { result ≡ less n capacity }
+pub fn capacity_minus(n: u128, capacity: Option<u64>) -> Option<u64>
+    ensures { result ≡ capacity_minus n capacity }
 {
     match capacity {
         Some(left) => {

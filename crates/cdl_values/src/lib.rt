@@ -27,7 +27,7 @@ mod value_run;
 mod variable_names;
 
 pub use constant::{read_constants, type_said};
-pub use data::{Given, Target, read};
+pub use data::{Given, Target, read_data_statement};
 pub use fill::Fill;
 pub use filling::Filling;
 pub use name::{name_of_word, read_name};

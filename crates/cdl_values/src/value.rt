@@ -11,7 +11,7 @@ ghost use Rattle.cdl_values.specs.code.TokenValues.{Appends, AppendsNumber, Coun
 ghost use Rattle.cdl_values.specs.code.TokenValues.{at, number_token_bytes, token_bytes};
 
 use crate::fill::Fill;
-use crate::filling::{Filling, is_full, less};
+use crate::filling::{Filling, capacity_minus, is_full};
 use crate::number::{number_or_zero, put_number, put_numeral};
 use crate::read_error::ReadError;
 use crate::string::{put_row, put_text};
@@ -105,7 +105,7 @@ pub fn put_good_value(
         // A number is one value, so that its bytes needn't be counted.
         TokenKind::Number => {
             put_good_number(array, version, *filling, capacity, token.bytes)?;
-            Ok(less(1, capacity))
+            Ok(capacity_minus(1, capacity))
         }
         _ => {
             let before = array.len();

@@ -3,11 +3,11 @@
 ghost use Rattle.std.specs.Prelude.{◌≡◌, ◌<◌, ℕ, false};
 ghost use Rattle.cdl_statements.specs.code.Cutters.{is_done};
 ghost use Rattle.cdl_statements.specs.code.ListedTokens.{EndsAtScanner, IsAtComma};
-ghost use Rattle.cdl_values.specs.code.PackedValues.{is_full, less};
+ghost use Rattle.cdl_values.specs.code.PackedValues.{is_full, capacity_minus};
 ghost use Rattle.cdl_values.specs.code.ValueRuns.{GoesTo, TakesPlain, TakesTo, place};
 
 use crate::fill::Fill;
-use crate::filling::{Filling, is_full, less};
+use crate::filling::{Filling, capacity_minus, is_full};
 use crate::number::{put_numeral, put_numeral_here};
 use crate::string::put_plain_row;
 use crate::value::{FastPathFault, put_good_value};
@@ -218,17 +218,17 @@ fn take_rows<'a>(
 #[inline(always)]
 fn after_values<'a>(cutter: Cutter<'a>, count: u64, capacity: Option<u64>) -> UnreadValues<'a>
     ensures cutter { result.cutter ≡ cutter.entry }
-    ensures capacity { result.capacity ≡ less count capacity }
+    ensures capacity { result.capacity ≡ capacity_minus count capacity }
 {
     UnreadValues {
         cutter,
-        capacity: less(count as u128, capacity),
+        capacity: capacity_minus(count as u128, capacity),
     }
 }
 
 /// Returns the capacity, or `u64::MAX` if there is no limit.
 fn room_of(capacity: Option<u64>) -> u64
-    ensures { (n : ℕ) → n < result → is_full (less n capacity) ≡ false }
+    ensures { (n : ℕ) → n < result → is_full (capacity_minus n capacity) ≡ false }
 {
     capacity.unwrap_or(u64::MAX)
 }

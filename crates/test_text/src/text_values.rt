@@ -4,7 +4,7 @@ use crate::name_indices::IndexedVars;
 use cdl_parse::{Dimensions, dim_len, read_dimensions};
 use cdl_statements::{CdlKind, Cutter, Due, check_shape_from};
 use cdl_tokens::Numeral;
-use cdl_values::{Fill, Filling, ReadError, Target, read};
+use cdl_values::{Fill, Filling, ReadError, Target, read_data_statement};
 use nc_base::{NcType, Version};
 use std::alloc::Global;
 use std::process::Abort;
@@ -46,7 +46,7 @@ fn values_of(alloc: Global, text: &[u8]) -> Result<Vec<u8>, ReadError> {
         },
     ];
     let vars = IndexedVars::new(alloc, &NAMES)?;
-    let given = read(
+    let given = read_data_statement(
         alloc,
         vars.names(),
         &targets,

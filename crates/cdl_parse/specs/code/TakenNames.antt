@@ -5,6 +5,6 @@ use Rattle.cdl_values.specs.declared.read_error.ReadError.{ReadError}
 use Rattle.cdl_values.specs.declared.read_error.ReadError.TheVariants.{OutOfMemory, Fault}
 
 -- a taken name comes before a fault after the name
-abbrev pub after_name : Bool → ReadError → ReadError
-after_name taken OutOfMemory = OutOfMemory
-after_name taken (Fault kind) = Fault (if taken then DuplicateName else kind)
+abbrev pub duplicate_name_or : Bool → ReadError → ReadError
+duplicate_name_or taken OutOfMemory = OutOfMemory
+duplicate_name_or taken (Fault kind) = Fault (if taken then DuplicateName else kind)

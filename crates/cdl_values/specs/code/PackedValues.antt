@@ -42,9 +42,9 @@ abbrev pub is_full : Option ℕ → Bool
 is_full None = false
 is_full (Some n) = n == 0
 
-abbrev pub less : ℕ → Option ℕ → Option ℕ
-less n None = None
-less n (Some m) = Some (m - n)
+abbrev pub capacity_minus : ℕ → Option ℕ → Option ℕ
+capacity_minus n None = None
+capacity_minus n (Some m) = Some (m - n)
 
 abbrev pub is_past : ℕ → Option ℕ → Bool
 is_past n None = false
@@ -73,9 +73,9 @@ bytes_of (Rows len fill) capacity v = row_bytes len fill (is_full capacity) v
 
 -- the capacity that is left after a value with these bytes: in values, in bytes or in rows
 abbrev pub capacity_after : Filling → List ℕ → Option ℕ → Option ℕ
-capacity_after (Numbers fill) bytes capacity = less 1 capacity
-capacity_after Joined bytes capacity = less (length bytes) capacity
-capacity_after (Rows len fill) bytes capacity = less 1 capacity
+capacity_after (Numbers fill) bytes capacity = capacity_minus 1 capacity
+capacity_after Joined bytes capacity = capacity_minus (length bytes) capacity
+capacity_after (Rows len fill) bytes capacity = capacity_minus 1 capacity
 
 -- one list of bytes after the other; the first fault decides
 abbrev pub joined : Result (List ℕ) CdlKind → Result (List ℕ) CdlKind → Result (List ℕ) CdlKind

@@ -18,7 +18,7 @@ use Rattle.cdl_statements.specs.declared.fault.CdlKind.{CdlKind}
 use Rattle.cdl_statements.specs.declared.lexeme.Lexeme.{Lexeme}
 use Rattle.cdl_meaning.specs.State.{add_constant, in_turn}
 use Rattle.cdl_values.specs.code.Answers.{ContinuesRead, Leaves}
-use Rattle.cdl_values.specs.code.PackedValues.{bytes_of, capacity_after, joined, less, packed, value_bytes}
+use Rattle.cdl_values.specs.code.PackedValues.{bytes_of, capacity_after, joined, capacity_minus, packed, value_bytes}
 use Rattle.cdl_values.specs.declared.fill.Fill.{Fill}
 use Rattle.cdl_values.specs.declared.filling.Filling.{Filling}
 use Rattle.cdl_values.specs.declared.read_error.ReadError.{ReadError}
@@ -48,7 +48,7 @@ number_token_bytes fill full version token = value_bytes fill.ty fill.value full
 
 -- a value takes one of the capacity, whatever its bytes
 abbrev pub CountsOne : Filling → Option ℕ → Type 0
-CountsOne filling capacity = (added : List ℕ) → capacity_after filling added capacity ≡ less 1 capacity
+CountsOne filling capacity = (added : List ℕ) → capacity_after filling added capacity ≡ capacity_minus 1 capacity
 
 -- ---- one token after the other
 

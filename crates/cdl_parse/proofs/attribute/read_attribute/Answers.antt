@@ -1,5 +1,5 @@
 use Rattle.std.proofs.Common.{rules, ◌≡◌, ◌∷◌, ◌++◌, [], List, ℕ, ap, sym, subst, ◌∙◌, Ok, false, Result}
-use Rattle.cdl_parse.proofs.Prelude.{values, is_done, next_token, text_of, version_of, words, lexeme, lexeme_of, CdlKind, DuplicateName, add_constant, in_turn, when, FailsRead, Leaves, has_attribute, att_read, after_name}
+use Rattle.cdl_parse.proofs.Prelude.{values, is_done, next_token, text_of, version_of, words, lexeme, lexeme_of, CdlKind, DuplicateName, add_constant, in_turn, when, FailsRead, Leaves, has_attribute, att_read, duplicate_name_or}
 use Rattle.cdl_meaning.specs.State.{◌>>=◌}
 use Rattle.cdl_parse.proofs.AttributeReads.{fails_then, goes_equals, goes_name, name_fails, read_as, refused, with_values}
 use Rattle.cdl_parse.proofs.StatementWords.{begins}
@@ -42,7 +42,7 @@ returns-in-Ok-clause-reads c =
     read_as start equals first c.advanced.result.1 c.advanced-2.result.1 (lexeme_of c.lexeme.result) (lexeme_of c.lexeme-2.result) ty c.version.result atts name
     c.advanced.ensures.words c.advanced-2.ensures.words more c.requires.shaped named valued c.version.ensures (c.advanced-2.ensures.same.version ∙ c.advanced.ensures.same.version) c.type_said-ty.ensures c.in_ok-name.ensures.name c.in_ok-name.ensures.allowed in
     let given = read ∙ ap (λ (r : Result (List ℕ) CdlKind). when (has_attribute name atts) DuplicateName >>= (λ w. with_values atts name ty r)) c.in-Ok.ensures in
-    subst (Leaves c.add.new.attributes c.add.result) (sym given) c.add.ensures.adds
+    subst (Leaves c.add_attribute.new.attributes c.add_attribute.result) (sym given) c.add_attribute.ensures.adds
 
 pub returns-in-Err-clause-reads : goal.returns-in-Err-clause-reads
 returns-in-Err-clause-reads c =
@@ -62,7 +62,7 @@ returns-in-Err-clause-reads c =
     let e = c.in-Err.e in
     let constants = in_turn (add_constant ty) [] (values (version_of first) (words first)) in
     let taken : c.has_name.result ≡ has_attribute name atts = c.has_name.ensures ∙ ap (λ n. has_attribute n atts) c.as_slice.ensures.value in
-    let error : c.after_name.result ≡ after_name (has_attribute name atts) e = c.after_name.ensures ∙ ap (λ b. after_name b e) taken in
+    let error : c.duplicate_name_or.result ≡ duplicate_name_or (has_attribute name atts) e = c.duplicate_name_or.ensures ∙ ap (λ b. duplicate_name_or b e) taken in
     subst (λ x. FailsRead x (att_read start atts)) (sym error)
-    (subst (FailsRead (after_name (has_attribute name atts) e)) (sym read)
+    (subst (FailsRead (duplicate_name_or (has_attribute name atts) e)) (sym read)
     (fails_after (has_attribute name atts) e (with_values atts name ty constants) (fails_then e constants (λ vals. Ok (atts ++ record { name = name; ty = ty; vals = vals } ∷ [])) c.in-Err.ensures)))

@@ -10,18 +10,18 @@ returns-in_default c = λ ls.
     let l = lexeme_of a.token in
     dimension_on a.dims.now a.variables.now a.begun l ls c.with_dimension.result (no_mark l.kind c.in_default.not-Mark) c.if-begun.true c.with_dimension.ensures.is_open c.with_dimension.ensures.reads
 
-pub returns-in_ok-put-in_default-2 : goal.returns-in_ok-put-in_default-2
-returns-in_ok-put-in_default-2 c = λ ls.
+pub returns-in_ok-add_variable-in_default-2 : goal.returns-in_ok-add_variable-in_default-2
+returns-in_ok-add_variable-in_default-2 c = λ ls.
     let a = c.args in
     let l = lexeme_of a.token in
-    let after = c.put.new.variables in
-    subst (ContinuesRead (λ (b : PartialVariable). read_on a.dims.now after b ls) c.begin.result) (sym (next_variable a.dims.now a.variables.now a.begun after l ls (no_mark l.kind c.in_default.not-Mark) c.if-begun.false c.in_ok-put-in_default-2.ensures))
-    (c.begin.ensures a.dims.now after ls)
+    let after = c.add_variable.new.variables in
+    subst (ContinuesRead (λ (b : PartialVariable). read_on a.dims.now after b ls) c.new_variable.result) (sym (next_variable a.dims.now a.variables.now a.begun after l ls (no_mark l.kind c.in_default.not-Mark) c.if-begun.false c.in_ok-add_variable-in_default-2.ensures))
+    (c.new_variable.ensures a.dims.now after ls)
 
-pub returns-in_err-put-in_default-2 : goal.returns-in_err-put-in_default-2
-returns-in_err-put-in_default-2 c = λ ls.
+pub returns-in_err-add_variable-in_default-2 : goal.returns-in_err-add_variable-in_default-2
+returns-in_err-add_variable-in_default-2 c = λ ls.
     let a = c.args in
     let l = lexeme_of a.token in
-    let e = c.in_err-put-in_default-2.field-0.0 in
-    stopped (λ (b : PartialVariable). read_on a.dims.now c.put.new.variables b ls) c.from_residual.result e _ (search rules)
-    (next_fails a.dims.now a.variables.now a.begun l ls e (no_mark l.kind c.in_default.not-Mark) c.if-begun.false c.in_err-put-in_default-2.ensures)
+    let e = c.in_err-add_variable-in_default-2.field-0.0 in
+    stopped (λ (b : PartialVariable). read_on a.dims.now c.add_variable.new.variables b ls) c.from_residual.result e _ (search rules)
+    (next_fails a.dims.now a.variables.now a.begun l ls e (no_mark l.kind c.in_default.not-Mark) c.if-begun.false c.in_err-add_variable-in_default-2.ensures)

@@ -4,8 +4,8 @@ use Rattle.cdl_statements.proofs.ShapeChecks.{first_word, going}
 use Rattle.cdl_parse.proofs.DeclarationReads.{all_read, begins_name, goes_name}
 use Rattle.cdl_parse.proofs.declaration.read_variables.Goals as goal
 
-pub begin-requires : goal.begin-requires
-begin-requires c = begins_name (lexeme_of c.lexeme.result) _ (words c.args.start) (c.lexeme.ensures.first c.requires.more) c.requires.shaped
+pub new_variable-requires : goal.new_variable-requires
+new_variable-requires c = begins_name (lexeme_of c.lexeme.result) _ (words c.args.start) (c.lexeme.ensures.first c.requires.more) c.requires.shaped
 
 pub tokens-init : goal.tokens-init
 tokens-init c =
@@ -29,6 +29,6 @@ returns-then-ends c =
     let l = lexeme (text_of t.cutter) (next_token t.cutter) in
     let token = lexeme_of c.lexeme-token.result in
     let rest = words c.advance-ends.new.self in
-    subst (Leaves c.put.new.variables c.put.result) (sym t.invariant.rest)
-    (all_read a.dims.now c.read_on.new.variables (words t.cutter) t.variables c.put.new.variables token t.begun c.in_ok-begun-2.begun c.advance-ends.result rest
-    (first_word (words t.cutter) rest l token c.advance-ends.result c.advance-ends.ensures.words (sym c.lexeme-token.ensures.lexeme)) c.if-ends.true (c.in_ok-begun-2.ensures _) c.put.result c.put.ensures)
+    subst (Leaves c.add_variable.new.variables c.add_variable.result) (sym t.invariant.rest)
+    (all_read a.dims.now c.read_on.new.variables (words t.cutter) t.variables c.add_variable.new.variables token t.begun c.in_ok-begun-2.begun c.advance-ends.result rest
+    (first_word (words t.cutter) rest l token c.advance-ends.result c.advance-ends.ensures.words (sym c.lexeme-token.ensures.lexeme)) c.if-ends.true (c.in_ok-begun-2.ensures _) c.add_variable.result c.add_variable.ensures)

@@ -1,5 +1,5 @@
 use Rattle.std.proofs.Common.{rules, ◌≡◌, ◌++◌, ◌∷◌, [], true, ap, sym, subst, ◌∙◌}
-use Rattle.cdl_parse.proofs.Prelude.{word_value, with_name, FailsRead, continued, next_dimid, is_variable_name, after_name}
+use Rattle.cdl_parse.proofs.Prelude.{word_value, with_name, FailsRead, continued, next_dimid, is_variable_name, duplicate_name_or}
 use Rattle.cdl_parse.proofs.DeclarationReads.{dimension_fails, dimension_ok}
 use Rattle.cdl_parse.proofs.declaration.with_dimension.Goals as goal
 
@@ -11,8 +11,8 @@ returns-in-Err-clause-reads c = λ rest.
     let word = word_value c.args.word.now in
     let e = c.in-Err.e in
     let fails : FailsRead e (next_dimid dims begun.dimids.items word) = subst (λ ids. FailsRead e (next_dimid dims ids word)) c.as_slice.ensures.value c.in-Err.ensures in
-    let error : c.after_name.result ≡ after_name (is_variable_name begun.name.items drafts) e =
-    c.after_name.ensures ∙ ap (λ b. after_name b e) (c.has_name.ensures ∙ ap (λ n. is_variable_name n drafts) c.as_slice-in-Err.ensures.value) in
+    let error : c.duplicate_name_or.result ≡ duplicate_name_or (is_variable_name begun.name.items drafts) e =
+    c.duplicate_name_or.ensures ∙ ap (λ b. duplicate_name_or b e) (c.has_name.ensures ∙ ap (λ n. is_variable_name n drafts) c.as_slice-in-Err.ensures.value) in
     subst (λ x. FailsRead x (continued dims begun.ty drafts begun.name.items begun.dimids.items (with_name true word rest))) (sym error)
     (dimension_fails dims begun.ty drafts begun.name.items begun.dimids.items word e rest fails)
 

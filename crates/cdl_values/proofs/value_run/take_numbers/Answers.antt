@@ -1,5 +1,5 @@
 use Rattle.std.proofs.Common.{rules, ◌≡◌, false, refl, sym, ◌∙◌, Ok}
-use Rattle.cdl_values.proofs.Prelude.{held_bytes, is_full, joined, less, place, Numbers}
+use Rattle.cdl_values.proofs.Prelude.{held_bytes, is_full, joined, capacity_minus, place, Numbers}
 use Rattle.cdl_values.proofs.ValueRuns.{ended, number_on, reached, takes_further}
 use Rattle.cdl_values.proofs.value_run.take_numbers.Goals as goal
 
@@ -11,7 +11,7 @@ returns c = λ takes_fill.
     let room : is_full a.start.capacity ≡ false = sym c.is_full.ensures ∙ c.if-is_full.false in
     let adds : joined (Ok a.array.now) (held_bytes a.fill.ty n.minus n.magnitude) ≡ Ok new = search rules in
     let start = place a.start a.array.now in
-    let first = reached c.number_and_comma.new.self new (less 1 a.start.capacity) in
+    let first = reached c.number_and_comma.new.self new (capacity_minus 1 a.start.capacity) in
     let then = place c.after_values.result new in
     let there = place c.in_ok-rest.rest c.take_more_numbers.new.array in
     let one = number_on takes_fill a.fill start first n c.requires c.in-Some.ensures.passes room adds refl in

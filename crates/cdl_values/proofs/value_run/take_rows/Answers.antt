@@ -1,5 +1,5 @@
 use Rattle.std.proofs.Common.{rules, ◌≡◌, ◌+◌, false, ◌∙◌, subst, Ok, Option, ℕ}
-use Rattle.cdl_values.proofs.Prelude.{inner, stands, Characters, is_full, joined, less, row_bytes, TakesValues, place, Rows}
+use Rattle.cdl_values.proofs.Prelude.{inner, stands, Characters, is_full, joined, capacity_minus, row_bytes, TakesValues, place, Rows}
 use Rattle.cdl_values.proofs.ValueRuns.{counted, ended, none_counted, reached, row_on, stays, takes_further}
 use Rattle.cdl_values.proofs.value_run.take_rows.Goals as goal
 
@@ -21,11 +21,11 @@ rows-preserved c =
     let n = c.in-Some.bytes.now in
     let new = c.put_plain_row.new.array in
     let left = a.start.capacity in
-    let room : is_full (less l.count left) ≡ false = c.room_of-room.ensures l.count c.rows-test.true in
+    let room : is_full (capacity_minus l.count left) ≡ false = c.room_of-room.ensures l.count c.rows-test.true in
     let adds : joined (Ok l.array) (row_bytes a.len a.fill false (Characters (stands (inner n)))) ≡ Ok new = search rules in
     let start = place a.start a.array.now in
-    let here = reached l.cutter l.array (less l.count left) in
-    let there = reached c.string_and_comma.new.self new (less (l.count + 1) left) in
+    let here = reached l.cutter l.array (capacity_minus l.count left) in
+    let there = reached c.string_and_comma.new.self new (capacity_minus (l.count + 1) left) in
     record {
       at = e.passes.passes.at;
       so = λ takes_fill. takes_further takes_fill (Rows a.len a.fill) start here there (l.invariant.so takes_fill) (row_on takes_fill a.len a.fill here there n l.invariant.at e.passes room adds (counted l.count left));
@@ -36,11 +36,11 @@ returns-in-None c = λ takes_fill.
     let a = c.args in
     let l = c.rows in
     let r = c.after_values in
-    ended takes_fill (Rows a.len a.fill) (place a.start a.array.now) (reached l.cutter l.array (less l.count a.start.capacity)) r.result.cutter r.result.capacity (r.ensures.cutter ∙ c.string_and_comma.ensures.stays c.in-None.is) r.ensures.capacity (l.invariant.so takes_fill)
+    ended takes_fill (Rows a.len a.fill) (place a.start a.array.now) (reached l.cutter l.array (capacity_minus l.count a.start.capacity)) r.result.cutter r.result.capacity (r.ensures.cutter ∙ c.string_and_comma.ensures.stays c.in-None.is) r.ensures.capacity (l.invariant.so takes_fill)
 
 pub returns : goal.returns
 returns c = λ takes_fill.
     let a = c.args in
     let l = c.rows in
     let r = c.after_values-2 in
-    ended takes_fill (Rows a.len a.fill) (place a.start a.array.now) (reached l.cutter l.array (less l.count a.start.capacity)) r.result.cutter r.result.capacity r.ensures.cutter r.ensures.capacity (l.invariant.so takes_fill)
+    ended takes_fill (Rows a.len a.fill) (place a.start a.array.now) (reached l.cutter l.array (capacity_minus l.count a.start.capacity)) r.result.cutter r.result.capacity r.ensures.cutter r.ensures.capacity (l.invariant.so takes_fill)

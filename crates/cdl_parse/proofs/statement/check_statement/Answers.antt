@@ -1,7 +1,7 @@
 use Rattle.std.proofs.Common.{ap, sym, ◌∙◌, Some, is_some}
 use Rattle.cdl_parse.proofs.Prelude.{statement_said, version_of, words, shape}
 use Rattle.cdl_parse.proofs.Defining.{reads_bad, reads_shapeless, reads_statement}
-use Rattle.cdl_parse.proofs.statement.pass.Goals as goal
+use Rattle.cdl_parse.proofs.statement.check_statement.Goals as goal
 
 pub returns-in-Some-clause-passes : goal.returns-in-Some-clause-passes
 returns-in-Some-clause-passes c = λ s here. reads_bad (version_of c.args.start) s (words c.args.start) c.in-Some.kind (sym c.check_shape-found.ensures.bad ∙ c.in-Some.is)

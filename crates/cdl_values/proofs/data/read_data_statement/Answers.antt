@@ -2,7 +2,7 @@ use Rattle.std.proofs.Common.{arith, ◌≤◌, length, subst, List, ℕ}
 use Rattle.cdl_values.proofs.Prelude.{version_of, words, GivesRead, most, data_read, Given}
 use Rattle.cdl_values.proofs.Counts.{words_len}
 use Rattle.cdl_values.proofs.Joins.{reads_statement}
-use Rattle.cdl_values.proofs.data.read.Goals as goal
+use Rattle.cdl_values.proofs.data.read_data_statement.Goals as goal
 
 pub returns-clause-means : goal.returns-clause-means
 returns-clause-means c = λ s at.

@@ -1,7 +1,7 @@
 use Rattle.std.proofs.Common.{rules}
 use Rattle.cdl_parse.proofs.Prelude.{lexeme_of, read_on, PartialVariable, stopped}
 use Rattle.cdl_parse.proofs.DeclarationReads.{begin_fails, begins}
-use Rattle.cdl_parse.proofs.declaration.begin.Goals as goal
+use Rattle.cdl_parse.proofs.declaration.new_variable.Goals as goal
 
 pub returns-in_err-name : goal.returns-in_err-name
 returns-in_err-name c = λ dims drafts ls.
