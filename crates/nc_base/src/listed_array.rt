@@ -17,7 +17,7 @@ pub struct ListedArray {
     /// For each row with its missing bytes not stored, the offset in `bytes` at which the row ends.
     row_ends: Vec<u32>,
     /// The offset in `bytes` at which the last of these rows ends, or 0 if there are none.
-    rows_end: usize,
+    last_row_end: usize,
     /// The length in bytes of each of these rows, when it is filled up.
     row_len: u64,
     /// The byte that fills up these rows.
@@ -40,7 +40,7 @@ impl Model for ListedArray {
 
     ghost view = { λ l. filled_rows l.row_len l.fill 0 l.row_ends.items l.bytes.items };
 
-    ghost invariant = { λ l. AreRowEnds l.row_len 0 l.row_ends.items l.rows_end × (l.rows_end ≤ length l.bytes.items) };
+    ghost invariant = { λ l. AreRowEnds l.row_len 0 l.row_ends.items l.last_row_end × (l.last_row_end ≤ length l.bytes.items) };
 }
 
 impl ListedArray {
@@ -52,7 +52,7 @@ impl ListedArray {
         ListedArray {
             bytes: Vec::new(alloc),
             row_ends: Vec::new(alloc),
-            rows_end: 0,
+            last_row_end: 0,
             row_len: 0,
             fill: 0,
         }
@@ -99,14 +99,14 @@ impl ListedArray {
         ensures { OnOk result (self.new ≡ self.old ++ replicate lacking fill) }
     {
         let end = self.bytes.len();
-        let row_len = (end - self.rows_end) as u128 + lacking as u128;
+        let row_len = (end - self.last_row_end) as u128 + lacking as u128;
         let is_like_others = self.row_ends.is_empty()
             || (row_len == self.row_len as u128 && fill == self.fill);
         if !is_like_others || end > u32::MAX as usize || row_len > u64::MAX as u128 {
             return fill_up(&mut self.bytes, lacking, fill);
         }
         self.row_ends.push(end as u32)?;
-        self.rows_end = end;
+        self.last_row_end = end;
         self.row_len = row_len as u64;
         self.fill = fill;
         Ok(())
@@ -118,7 +118,7 @@ impl ListedArray {
         ensures { result ≡ length self.now }
     {
         let in_rows = self.row_ends.len() as u128 * self.row_len as u128;
-        in_rows + (self.bytes.len() - self.rows_end) as u128
+        in_rows + (self.bytes.len() - self.last_row_end) as u128
     }
 
     /// Returns a run that begins at the offset `at` into the bytes with each row filled up. The run is empty if and only if `at` is at
@@ -159,7 +159,7 @@ impl ListedArray {
             );
             return run_in_row(row, (at % row_len) as u64, self.row_len, self.fill);
         }
-        let after = &self.bytes[self.rows_end..];
+        let after = &self.bytes[self.last_row_end..];
         let skipped = (at - in_rows).min(after.len() as u128) as usize;
         Run {
             bytes: &after[skipped..],

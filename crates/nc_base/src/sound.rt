@@ -29,7 +29,7 @@ impl Header {
         let dims = self.dims.as_slice();
         is_sound_numrecs(version, self.numrecs)
             && are_sound_dims(version, dims)
-            && has_one_record_dim(dims)
+            && has_at_most_one_record_dim(dims)
             && are_sound_atts(version, self.gatts.as_slice())
             && has_sound_vars(self)
     }
@@ -78,7 +78,7 @@ fn is_sound_dim(version: Version, dim: &Dim) -> bool
 }
 
 /// Returns true if at most one dimension has length 0, as the record dimension has.
-fn has_one_record_dim(dims: &[Dim]) -> bool
+fn has_at_most_one_record_dim(dims: &[Dim]) -> bool
     ensures { IsTrue result ↔ (length (filter (λ dim. dim.len == 0) dims.now) ≤ 1) }
 {
     record_dim_count(dims) <= 1

@@ -6,14 +6,14 @@ use Rattle.nc_base.proofs.listed_array.ListedArray.run_of_rows.Goals as goal
 pub row_at-row-requires-clause-after : goal.row_at-row-requires-clause-after
 row_at-row-requires-clause-after c =
     let l = c.self.inside in
-    let row = row-of l.row_len l.rows_end c.args.at c.len.result l.row_ends.items c.self.invariant.0 (omega (arith, c.len.ensures, l.row_ends.ok.0)) c.if-at-in_rows.true in
+    let row = row-of l.row_len l.last_row_end c.args.at c.len.result l.row_ends.items c.self.invariant.0 (omega (arith, c.len.ensures, l.row_ends.ok.0)) c.if-at-in_rows.true in
     subst (λ (ends : List ℕ). row_start 0 ends (c.args.at / l.row_len) ≤ get_or ends (c.args.at / l.row_len) 0) (sym c.as_slice-then-at-in_rows.ensures.value) row.is.after
 
 pub row_at-row-requires-clause-inside : goal.row_at-row-requires-clause-inside
 row_at-row-requires-clause-inside c =
     let l = c.self.inside in
     let r : ℕ = c.args.at / l.row_len in
-    let row = row-of l.row_len l.rows_end c.args.at c.len.result l.row_ends.items c.self.invariant.0 (omega (arith, c.len.ensures, l.row_ends.ok.0)) c.if-at-in_rows.true in
+    let row = row-of l.row_len l.last_row_end c.args.at c.len.result l.row_ends.items c.self.invariant.0 (omega (arith, c.len.ensures, l.row_ends.ok.0)) c.if-at-in_rows.true in
     let end : get_or c.as_slice-then-at-in_rows.result.now r 0 ≡ get_or l.row_ends.items r 0 = ap (λ (ends : List ℕ). get_or ends r 0) c.as_slice-then-at-in_rows.ensures.value in
     let long : length c.as_slice.result.now ≡ length l.bytes.items = ap length c.as_slice.ensures.value in
     omega (arith, end, long, row.is.inside, c.self.invariant.1)
@@ -22,7 +22,7 @@ pub run_in_row-requires-clause-listed : goal.run_in_row-requires-clause-listed
 run_in_row-requires-clause-listed c =
     let l = c.self.inside in
     let r : ℕ = c.args.at / l.row_len in
-    let row = row-of l.row_len l.rows_end c.args.at c.len.result l.row_ends.items c.self.invariant.0 (omega (arith, c.len.ensures, l.row_ends.ok.0)) c.if-at-in_rows.true in
+    let row = row-of l.row_len l.last_row_end c.args.at c.len.result l.row_ends.items c.self.invariant.0 (omega (arith, c.len.ensures, l.row_ends.ok.0)) c.if-at-in_rows.true in
     let ends : List ℕ = c.as_slice-then-at-in_rows.result.now in
     let n : ℕ = get_or ends r 0 - row_start 0 ends r in
     let ends_are : n ≡ get_or l.row_ends.items r 0 - row_start 0 l.row_ends.items r = ap (λ (es : List ℕ). get_or es r 0 - row_start 0 es r) c.as_slice-then-at-in_rows.ensures.value in
@@ -36,7 +36,7 @@ returns-then-at-in_rows c =
     let r : ℕ = at / len in
     let column : ℕ = at % len in
     let all : c.len.result ≡ length l.row_ends.items = omega (arith, c.len.ensures, l.row_ends.ok.0) in
-    let row = row-of len l.rows_end at c.len.result l.row_ends.items c.self.invariant.0 all c.if-at-in_rows.true in
+    let row = row-of len l.last_row_end at c.len.result l.row_ends.items c.self.invariant.0 all c.if-at-in_rows.true in
     let start : ℕ = row_start 0 l.row_ends.items r in
     let n : ℕ = get_or l.row_ends.items r 0 - start in
     let listed : c.row_at-row.result.now ≡ take n (drop start l.bytes.items) =
@@ -50,14 +50,14 @@ returns-then-at-in_rows c =
     ap (λ (b : List ℕ). drop (min column n) b) (sym listed) ∙ ap (λ (k : ℕ). drop (min column k) c.row_at-row.result.now) (sym long) ∙ sym c.run_in_row.ensures.listed in
     let count : len - max column n ≡ c.run_in_row.result.filling = ap (λ (k : ℕ). len - max column k) (sym long) ∙ sym c.run_in_row.ensures.filling in
     stands-from _ _ _ _ _ _ _ _ _ _ c.self.view_is here bytes count (sym c.run_in_row.ensures.fill)
-    (in_row len l.rows_end l.fill l.row_ends.items l.bytes.items r column 0 c.self.invariant.0 c.self.invariant.1 row.of row.column n refl)
+    (in_row len l.last_row_end l.fill l.row_ends.items l.bytes.items r column 0 c.self.invariant.0 c.self.invariant.1 row.of row.column n refl)
 
 pub returns : goal.returns
 returns c =
     let l = c.self.inside in
     let at : ℕ = c.args.at in
     let len : ℕ = l.row_len in
-    let last : ℕ = l.rows_end in
+    let last : ℕ = l.last_row_end in
     let all : c.len.result ≡ length l.row_ends.items = omega (arith, c.len.ensures, l.row_ends.ok.0) in
     let in_rows : c.len.result * len ≡ length l.row_ends.items * len = ap (λ (k : ℕ). k * len) all in
     let skipped : ℕ = at - c.len.result * len in
