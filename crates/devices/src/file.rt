@@ -138,7 +138,7 @@ impl<W: Write> Sink for IoSink<W> {
             Ok(0) => Err(ErrorKind::WriteZero.into()),
             answer => answer,
         };
-        counted(answer, &mut self.failures)
+        count_failure(answer, &mut self.failures)
     }
 }
 
@@ -149,13 +149,13 @@ impl<W: Write> Flush for IoSink<W> {
     fn flush(&mut self) -> Result<(), SinkFailed> {
         let answer = self.writer.flush();
         self.is_flushed = answer.is_ok();
-        counted(answer, &mut self.failures)
+        count_failure(answer, &mut self.failures)
     }
 }
 
 /// Turns the result of a writer's call into the result of a sink's call. A value stays as it is. An error becomes `SinkFailed`, and adds 1
 /// to `failures`, which stops at `u128::MAX`.
-fn counted<T>(answer: io::Result<T>, failures: &mut u128) -> Result<T, SinkFailed>
+fn count_failure<T>(answer: io::Result<T>, failures: &mut u128) -> Result<T, SinkFailed>
     ensures ok { IfOk answer (λ value. (result ≡ Ok value) × (failures.new ≡ failures.old)) }
     ensures err { IsErr answer → IsErr result × (failures.new ≡ min (failures.old + 1) (2 ^ 128 - 1)) }
 {
