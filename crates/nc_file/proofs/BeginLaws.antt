@@ -3,19 +3,19 @@ use Rattle.std.proofs.Common.{◌≡◌, ℕ, ◌+◌, ◌-◌, ◌^◌, ◌≤�
 use Rattle.nc_file.proofs.Prelude.{list_all, cases_lt, le-ltb, Dim, Var, Header, Version, Cdf1, Cdf2, Cdf5, is_record_var, padded_size, padded_total, record_vars, offset_limit, header_spelling, fixed_vars, begin_after, vars_after, with_begins, fits, after, is_below, offset_of, placed}
 use Rattle.nc_base.proofs.FilePlaces.{fixed_total, fixed-push}
 use Rattle.nc_file.proofs.Totals.{total_of-append}
-use Rattle.nc_file.specs.declared.write.begins.Offsets.{Offsets}
+use Rattle.nc_file.specs.declared.write.begins.NextBegins.{NextBegins}
 
 -- ---- the offsets after these variables, where the header has this number of bytes
 
-abbrev pub offsets_after : Header → ℕ → List Var → Offsets
+abbrev pub offsets_after : Header → ℕ → List Var → NextBegins
 offsets_after h head before = record {
-  block = head + fixed_total h.dims before;
-  slab = head + (fixed_total h.dims h.vars + padded_total h.dims (record_vars h.dims before));
+  fixed_begin = head + fixed_total h.dims before;
+  record_begin = head + (fixed_total h.dims h.vars + padded_total h.dims (record_vars h.dims before));
 }
 
-same-offsets : (a b c d : ℕ) → a ≡ c → b ≡ d → let left : Offsets = record { block = a; slab = b } in let right : Offsets = record { block = c; slab = d } in left ≡ right
+same-offsets : (a b c d : ℕ) → a ≡ c → b ≡ d → let left : NextBegins = record { fixed_begin = a; record_begin = b } in let right : NextBegins = record { fixed_begin = c; record_begin = d } in left ≡ right
 same-offsets a b c d e f =
-    ap (λ (n : ℕ). let next : Offsets = record { block = n; slab = b } in next) e ∙ ap (λ (n : ℕ). let next : Offsets = record { block = c; slab = n } in next) f
+    ap (λ (n : ℕ). let next : NextBegins = record { fixed_begin = n; record_begin = b } in next) e ∙ ap (λ (n : ℕ). let next : NextBegins = record { fixed_begin = c; record_begin = n } in next) f
 
 -- one variable more
 after-push : (h : Header) (head : ℕ) (before : List Var) (var : Var) → after h.dims (offsets_after h head before) var ≡ offsets_after h head (before ++ var ∷ [])
@@ -23,8 +23,8 @@ after-push h head before var = choose (is_record_var h.dims var) _ _ (fixed-push
   where
     choose : (b : Bool) (f g : ℕ) → f ≡ fixed_total h.dims before + (if b then 0 else padded_size h.dims var)
         → g ≡ padded_total h.dims (record_vars h.dims before) + (if b then padded_size h.dims var else 0)
-        → let next = offsets_after h head before in let last : Offsets = record { block = head + f; slab = head + (fixed_total h.dims h.vars + g) } in
-        (if b then record next { slab = next.slab + padded_size h.dims var } else record next { block = next.block + padded_size h.dims var }) ≡ last
+        → let next = offsets_after h head before in let last : NextBegins = record { fixed_begin = head + f; record_begin = head + (fixed_total h.dims h.vars + g) } in
+        (if b then record next { record_begin = next.record_begin + padded_size h.dims var } else record next { fixed_begin = next.fixed_begin + padded_size h.dims var }) ≡ last
     choose true f g e k = same-offsets _ _ _ _ (omega (arith, e)) (omega (arith, k))
     choose false f g e k = same-offsets _ _ _ _ (omega (arith, e)) (omega (arith, k))
 
@@ -40,21 +40,21 @@ placed-after h before [] = refl
 placed-after h before (var ∷ vars) =
     let head : ℕ = length (header_spelling h) in
     ap (λ (n : ℕ). record var { begin_at = n } ∷ placed h.dims (after h.dims (offsets_after h head before) var) vars) (offset-begin h before var)
-    ∙ ap (λ (next : Offsets). record var { begin_at = begin_after h before var } ∷ placed h.dims next vars) (after-push h head before var)
+    ∙ ap (λ (next : NextBegins). record var { begin_at = begin_after h before var } ∷ placed h.dims next vars) (after-push h head before var)
     ∙ ap (λ (vs : List Var). record var { begin_at = begin_after h before var } ∷ vs) (placed-after h (before ++ var ∷ []) vars)
 
 -- ---- from the first variable on
 
 -- the first offsets, where the header has this number of bytes
-abbrev pub first_offsets : Header → ℕ → Offsets
-first_offsets h head = record { block = head; slab = head + fixed_total h.dims h.vars }
+abbrev pub first_offsets : Header → ℕ → NextBegins
+first_offsets h head = record { fixed_begin = head; record_begin = head + fixed_total h.dims h.vars }
 
 first-after : (h : Header) (head : ℕ) → first_offsets h head ≡ offsets_after h head []
 first-after h head = same-offsets _ _ _ _ (omega arith) (omega arith)
 
 placed-whole : (h : Header) → placed h.dims (first_offsets h (length (header_spelling h))) h.vars ≡ (with_begins h).vars
 unfolding with_begins
-placed-whole h = ap (λ (next : Offsets). placed h.dims next h.vars) (first-after h (length (header_spelling h))) ∙ placed-after h [] h.vars
+placed-whole h = ap (λ (next : NextBegins). placed h.dims next h.vars) (first-after h (length (header_spelling h))) ∙ placed-after h [] h.vars
 
 -- ---- headers longer than the greatest u64
 
@@ -124,15 +124,15 @@ placed-capped h start e =
 pub placed-as-seen : (h : Header) (dims dims' : List Dim) (vars vars' : List Var) (start total limit : ℕ)
     → dims ≡ h.dims → dims' ≡ h.dims → vars ≡ h.vars → vars' ≡ h.vars
     → start ≡ min (length (header_spelling h)) (2 ^ 64 - 1) → total ≡ padded_total dims (fixed_vars dims vars) → limit ≡ offset_limit h.version
-    → (let first : Offsets = record { block = start; slab = start + total } in
+    → (let first : NextBegins = record { fixed_begin = start; record_begin = start + total } in
     (list_all (is_below limit) (placed dims' first vars') ≡ fits h) × (fits h ≡ true → placed dims' first vars' ≡ (with_begins h).vars))
 placed-as-seen h dims dims' vars vars' start total limit d d' v v' head size bound =
     let total_is : total ≡ fixed_total h.dims h.vars =
     size ∙ ap (λ (ds : List Dim). padded_total ds (fixed_vars ds vars)) d ∙ ap (λ (vs : List Var). padded_total h.dims (fixed_vars h.dims vs)) v in
-    let first : Offsets = record { block = start; slab = start + total } in
+    let first : NextBegins = record { fixed_begin = start; record_begin = start + total } in
     let first_is : first ≡ first_offsets h start = same-offsets _ _ _ _ refl (ap (λ (n : ℕ). start + n) total_is) in
     let same : placed dims' first vars' ≡ placed h.dims (first_offsets h start) h.vars =
-    ap (λ (ds : List Dim). placed ds first vars') d' ∙ ap (placed h.dims first) v' ∙ ap (λ (next : Offsets). placed h.dims next h.vars) first_is in
+    ap (λ (ds : List Dim). placed ds first vars') d' ∙ ap (placed h.dims first) v' ∙ ap (λ (next : NextBegins). placed h.dims next h.vars) first_is in
     let are = placed-capped h start head in (
       ap (list_all (is_below limit)) same ∙ ap (λ (n : ℕ). list_all (is_below n) (placed h.dims (first_offsets h start) h.vars)) bound ∙ are.answer,
       λ e. same ∙ are.begins e,

@@ -93,13 +93,13 @@ impl<S: Source> Window<'_, S> {
         if self.filled - self.pos < N {
             return self.array_by_bytes();
         }
-        let bytes = self.held();
+        let bytes = self.peek_array();
         self.pos += N;
         Ok(bytes)
     }
 
     /// Returns the next `N` bytes, and leaves them unused. The window has all of them.
-    fn held<const N: usize>(&self) -> [u8; N]
+    fn peek_array<const N: usize>(&self) -> [u8; N]
         requires { self.now.pos + N ≤ self.now.filled }
         ensures { result ≡ take N (drop self.now.pos self.now.buf.now) }
     {
@@ -146,13 +146,13 @@ impl<S: Source> Window<'_, S> {
         ensures { Read self.old self.new (number_at (count_width version)) result }
     {
         match version {
-            Version::Cdf1 | Version::Cdf2 => self.narrow_number(),
+            Version::Cdf1 | Version::Cdf2 => self.read_u32_as_u64(),
             Version::Cdf5 => self.read_u64(),
         }
     }
 
     /// Reads a big-endian number of four bytes, and returns it as a `u64`. Errs as [`read_u32`](Window::read_u32) does.
-    pub(crate) fn narrow_number(&mut self) -> Result<u64, HeadFault>
+    pub(crate) fn read_u32_as_u64(&mut self) -> Result<u64, HeadFault>
         ensures { Read self.old self.new (number_at w32) result }
     {
         Ok(self.read_u32()? as u64)

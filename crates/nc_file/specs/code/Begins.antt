@@ -4,19 +4,19 @@ use Rattle.nc_base.specs.declared.header.Dim.{Dim}
 use Rattle.nc_base.specs.declared.header.Var.{Var}
 use Rattle.nc_base.specs.Sizes.{is_record_var, padded_size}
 use Rattle.nc_file.specs.declared.write.begins.OffsetTooLarge.{OffsetTooLarge}
-use Rattle.nc_file.specs.declared.write.begins.Offsets.{Offsets}
+use Rattle.nc_file.specs.declared.write.begins.NextBegins.{NextBegins}
 
 -- where this variable begins, if it is the next one
-abbrev pub offset_of : List Dim → Offsets → Var → ℕ
-offset_of dims next var = if is_record_var dims var then next.slab else next.block
+abbrev pub offset_of : List Dim → NextBegins → Var → ℕ
+offset_of dims next var = if is_record_var dims var then next.record_begin else next.fixed_begin
 
 -- where those after it begin
-abbrev pub after : List Dim → Offsets → Var → Offsets
+abbrev pub after : List Dim → NextBegins → Var → NextBegins
 after dims next var =
-    if is_record_var dims var then record next { slab = next.slab + padded_size dims var } else record next { block = next.block + padded_size dims var }
+    if is_record_var dims var then record next { record_begin = next.record_begin + padded_size dims var } else record next { fixed_begin = next.fixed_begin + padded_size dims var }
 
 -- these variables, each with its begin
-abbrev pub placed : List Dim → Offsets → List Var → List Var
+abbrev pub placed : List Dim → NextBegins → List Var → List Var
 placed dims next [] = []
 placed dims next (var ∷ vars) = record var { begin_at = offset_of dims next var } ∷ placed dims (after dims next var) vars
 

@@ -285,14 +285,14 @@ version_at = do
   version_or b (version_of_byte b)
 
 -- a byte of `CDF`
-abbrev pub first_at : Part ℕ
-first_at = byte_or NotNetcdf
+abbrev pub magic_byte_at : Part ℕ
+magic_byte_at = byte_or NotNetcdf
 
 unfoldable pub magic_at : Part Version
 magic_at = do
-  a ← first_at
-  b ← first_at
-  c ← first_at
+  a ← magic_byte_at
+  b ← magic_byte_at
+  c ← magic_byte_at
   if (a == 67) && (b == 68) && (c == 70) then version_at else wrong NotNetcdf
 
 unfoldable pub numrecs_at : Version → Part NumRecs

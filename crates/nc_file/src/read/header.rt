@@ -5,7 +5,7 @@ ghost use Rattle.nc_base.specs.GeneratedFile.{header_spelling};
 ghost use Rattle.nc_base.specs.Headers.{IsSound};
 ghost use Rattle.nc_base.specs.code.Weight.{weight_of};
 ghost use Rattle.nc_file.specs.code.Answers.{AnswersIn};
-ghost use Rattle.nc_file.specs.code.Reading.{Caused, first_at, version_at, magic_at, numrecs_at, header_at};
+ghost use Rattle.nc_file.specs.code.Reading.{Caused, magic_byte_at, version_at, magic_at, numrecs_at, header_at};
 ghost use Rattle.nc_file.specs.code.Window.{Read};
 
 use crate::head_fault::HeadFault;
@@ -74,8 +74,8 @@ impl<S: Source> Window<'_, S> {
     /// Reads one of the three bytes that should be `CDF`, without checking it. Errs with `NotNetcdf` if no byte is left, and with
     /// `ReadFailed` if the source fails.
     #[tactic(auto, using(crate::proofs::Parts::byte_shorter), unfolding(crate::specs::code::Reading::byte_or, crate::specs::code::Reading::left_over))]
-    fn first(&mut self) -> Result<u8, HeadFault>
-        ensures { Read self.old self.new first_at result }
+    fn magic_byte(&mut self) -> Result<u8, HeadFault>
+        ensures { Read self.old self.new magic_byte_at result }
     {
         match self.byte() {
             Err(HeadFault::Format(_)) => Err(HeadFault::Format(FormatFault::NotNetcdf)),
@@ -98,9 +98,9 @@ impl<S: Source> Window<'_, S> {
     fn magic(&mut self) -> Result<Version, HeadFault>
         ensures { Read self.old self.new magic_at result }
     {
-        let a = self.first()?;
-        let b = self.first()?;
-        let c = self.first()?;
+        let a = self.magic_byte()?;
+        let b = self.magic_byte()?;
+        let c = self.magic_byte()?;
         if a == b'C' && b == b'D' && c == b'F' {
             self.version()
         } else {

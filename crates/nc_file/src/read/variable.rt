@@ -69,11 +69,11 @@ impl<S: Source> Window<'_, S> {
 
     /// Reads a big-endian number of the width that offsets have in the version, four bytes in CDF-1 and otherwise eight. Any value is
     /// allowed.
-    fn wide(&mut self, version: Version) -> Result<u64, HeadFault>
+    fn unchecked_offset(&mut self, version: Version) -> Result<u64, HeadFault>
         ensures { Read self.old self.new (number_at (offset_width version)) result }
     {
         match version {
-            Version::Cdf1 => self.narrow_number(),
+            Version::Cdf1 => self.read_u32_as_u64(),
             Version::Cdf2 | Version::Cdf5 => self.read_u64(),
         }
     }
@@ -83,7 +83,7 @@ impl<S: Source> Window<'_, S> {
     fn offset(&mut self, version: Version) -> Result<u64, HeadFault>
         ensures { Read self.old self.new (offset_at version) result }
     {
-        let n = self.wide(version)?;
+        let n = self.unchecked_offset(version)?;
         if version.offset_limit() <= n {
             return Err(HeadFault::Format(FormatFault::BadOffset));
         }

@@ -17,11 +17,11 @@ pub struct OffsetTooLarge;
 
 /// The begins of the next variables, in bytes from the file's start.
 #[derive(Clone, Copy)]
-pub(crate) struct Offsets {
+pub(crate) struct NextBegins {
     /// The begin of the next variable that isn't a record variable.
-    pub(crate) block: u128,
+    pub(crate) fixed_begin: u128,
     /// The begin of the next record variable, which is the offset of its slab in the first record.
-    pub(crate) slab: u128,
+    pub(crate) record_begin: u128,
 }
 
 /// Gives each variable of the header its begin, and returns the header. The slabs of the variables that aren't record variables come after
@@ -46,9 +46,9 @@ pub fn with_begins(header: Header) -> Result<Header, OffsetTooLarge>
         vars,
     } = header;
     let mut vars = vars.into_vec();
-    let first = Offsets {
-        block: start,
-        slab: start + fixed_total(dims.as_slice(), vars.as_slice()),
+    let first = NextBegins {
+        fixed_begin: start,
+        record_begin: start + fixed_total(dims.as_slice(), vars.as_slice()),
     };
     if !place_each(
         dims.as_slice(),
@@ -84,10 +84,10 @@ fn fixed_total(dims: &[Dim], vars: &[Var]) -> u128
 
 /// Gives each variable its begin, in order: `first` has the begins of the first variables. Returns true if all begins are below `limit`.
 /// Otherwise stops at the first begin that isn't, and returns false.
-fn place_each(dims: &[Dim], vars: &mut [Var], first: Offsets, limit: u64) -> bool
+fn place_each(dims: &[Dim], vars: &mut [Var], first: NextBegins, limit: u64) -> bool
     requires small { All (λ var. slab_size dims.now var ≤ slab_limit) vars.old }
-    requires block { first.block < 2 ^ 120 }
-    requires slab { first.slab < 2 ^ 120 }
+    requires fixed_begin { first.fixed_begin < 2 ^ 120 }
+    requires record_begin { first.record_begin < 2 ^ 120 }
     ensures placed { result ≡ true → vars.new ≡ placed dims.now first vars.old }
     ensures fits { result ≡ list_all (is_below limit) (placed dims.now first vars.old) }
 {
@@ -103,37 +103,37 @@ fn place_each(dims: &[Dim], vars: &mut [Var], first: Offsets, limit: u64) -> boo
     true
 }
 
-impl Offsets {
+impl NextBegins {
     /// Returns the begin of `var`, which is the next variable.
     fn begin_of(self, dims: &[Dim], var: &Var) -> u128
         ensures { result ≡ offset_of dims.now self var.now }
     {
         if is_record_var(dims, var) {
-            self.slab
+            self.record_begin
         } else {
-            self.block
+            self.fixed_begin
         }
     }
 
-    /// Returns the offsets after `var`, which is the next variable: the one of its kind is increased by its padded slab.
-    fn after(self, dims: &[Dim], var: &Var) -> Offsets
+    /// Returns the begins after `var`, which is the next variable: the one of its kind is increased by its padded slab.
+    fn after(self, dims: &[Dim], var: &Var) -> NextBegins
         requires small { slab_size dims.now var.now ≤ slab_limit }
-        requires block { self.block < 2 ^ 127 }
-        requires slab { self.slab < 2 ^ 127 }
+        requires fixed_begin { self.fixed_begin < 2 ^ 127 }
+        requires record_begin { self.record_begin < 2 ^ 127 }
         ensures next { result ≡ after dims.now self var.now }
-        ensures block { result.block < self.block + 2 ^ 49 }
-        ensures slab { result.slab < self.slab + 2 ^ 49 }
+        ensures fixed_begin { result.fixed_begin < self.fixed_begin + 2 ^ 49 }
+        ensures record_begin { result.record_begin < self.record_begin + 2 ^ 49 }
     {
         let bytes = padded_slab_len(dims, var) as u128;
         if is_record_var(dims, var) {
-            Offsets {
-                block: self.block,
-                slab: self.slab + bytes,
+            NextBegins {
+                fixed_begin: self.fixed_begin,
+                record_begin: self.record_begin + bytes,
             }
         } else {
-            Offsets {
-                block: self.block + bytes,
-                slab: self.slab,
+            NextBegins {
+                fixed_begin: self.fixed_begin + bytes,
+                record_begin: self.record_begin,
             }
         }
     }

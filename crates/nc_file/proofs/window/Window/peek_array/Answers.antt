@@ -1,5 +1,5 @@
 use Rattle.std.proofs.Common.{◌≡◌, ℕ, ◌+◌, ◌-◌, take, drop, ap, ◌∙◌, arith}
-use Rattle.nc_file.proofs.window.Window.held.Goals as goal
+use Rattle.nc_file.proofs.window.Window.peek_array.Goals as goal
 
 pub returns : goal.returns
 returns g c =

@@ -6,7 +6,7 @@ abbrev pub invariant-loop-v : goal.invariant-loop-v
 invariant-loop-v l = record {
   so_far : placed l.dims l.fn.first l.fn.vars ≡ take l.v l.vars ++ placed l.dims l.next (drop l.v l.vars);
   small : All (λ (var : Var). slab_size l.dims var ≤ slab_limit) l.vars;
-  block : l.next.block < 2 ^ 120 + l.v * 2 ^ 49;
-  slab : l.next.slab < 2 ^ 120 + l.v * 2 ^ 49;
+  fixed_begin : l.next.fixed_begin < 2 ^ 120 + l.v * 2 ^ 49;
+  record_begin : l.next.record_begin < 2 ^ 120 + l.v * 2 ^ 49;
   below : list_all (is_below l.limit) (take l.v l.vars) ≡ true;
 }
