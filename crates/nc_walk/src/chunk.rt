@@ -23,7 +23,7 @@ pub(crate) struct Chunk {
 
 impl Chunk {
     /// Returns true if the last value ends its slab, another slab follows, and the chunk has fewer than `capacity` values.
-    fn goes_on(self, slabs: Slabs, capacity: u64) -> bool
+    fn continues_in_next_slab(self, slabs: Slabs, capacity: u64) -> bool
         requires { IsCursor slabs self.next }
         ensures { IsTrue result ↔ Continues slabs capacity self }
     {
@@ -108,7 +108,9 @@ pub(crate) fn read_chunk<S: Source>(
     let len = source.len();
     let mut chunk = read_run(&slabs, cursor, capacity, source, into)?;
     let mut at = slabs.offset_or_most(chunk.next);
-    while chunk.goes_on(slabs, capacity) && slabs.is_whole(at, capacity - chunk.values, len) {
+    while chunk.continues_in_next_slab(slabs, capacity)
+        && slabs.has_whole_slab(at, capacity - chunk.values, len)
+    {
         let bytes_so_far = (chunk.values * slabs.size) as usize;
         let rest = &mut into[bytes_so_far..];
         match read_ready(&slabs, chunk.next, at, slabs.values_per_slab, source, rest) {
@@ -123,7 +125,7 @@ pub(crate) fn read_chunk<S: Source>(
             Err(WalkFault::ReadFailed) => return Err(WalkFault::ReadFailed),
         }
     }
-    if !chunk.goes_on(slabs, capacity) {
+    if !chunk.continues_in_next_slab(slabs, capacity) {
         return Ok(chunk);
     }
     let bytes_so_far = (chunk.values * slabs.size) as usize;

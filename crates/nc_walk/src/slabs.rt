@@ -37,8 +37,8 @@ impl Slabs {
         let slabs = Slabs {
             begin: var.begin_at,
             stride: layout.record_size,
-            values_per_slab: slab_values(dims, var),
-            total_slabs: slab_number(dims, var, layout.records),
+            values_per_slab: values_per_slab(dims, var),
+            total_slabs: total_slabs(dims, var, layout.records),
             size: var.ty.size(),
         };
         slabs.joined()
@@ -89,7 +89,7 @@ impl Slabs {
     /// Returns true if a slab that begins at the offset `at` has no more than `capacity` values and ends inside of a file of
     /// `len` bytes.
     #[inline(always)]
-    pub(crate) fn is_whole(self, at: u64, capacity: u64, len: u64) -> bool
+    pub(crate) fn has_whole_slab(self, at: u64, capacity: u64, len: u64) -> bool
         requires sized { IsSized self }
         requires capacity { capacity * self.size < 2 ^ 64 }
         ensures { IsTrue result ↔ HasWholeSlab self at capacity len }
@@ -119,14 +119,14 @@ impl Slabs {
 }
 
 /// Returns the number of slabs over `records` records: `records` for a record variable, and 1 for any other.
-fn slab_number(dims: &[Dim], var: &Var, records: u64) -> u64
+fn total_slabs(dims: &[Dim], var: &Var, records: u64) -> u64
     ensures { result ≡ (if is_record_var dims.now var.now then records else 1) }
 {
     if is_record_var(dims, var) { records } else { 1 }
 }
 
 /// Returns the number of values in a slab of the variable, which must have at most 2^48 bytes.
-fn slab_values(dims: &[Dim], var: &Var) -> u64
+fn values_per_slab(dims: &[Dim], var: &Var) -> u64
     requires { slab_size dims.now var.now ≤ slab_limit }
     ensures { result ≡ slab_count dims.now var.now }
 {

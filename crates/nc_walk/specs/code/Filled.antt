@@ -31,11 +31,11 @@ run_bytes run = run.bytes.now ++ replicate run.filling run.fill
 pub record ArrayView : Type 0 where
   pub listed : List ℕ
   pub slab : ℕ
-  pub unit : List ℕ
+  pub fill_unit : List ℕ
 
 -- the listed bytes of a slab, and fill values up to the slab's end and on to the next multiple of four
 abbrev pub filled_slab : ArrayView → List ℕ → List ℕ
-filled_slab array part = part ++ repeated array.unit (array.slab - length part + padding_len array.slab)
+filled_slab array part = part ++ repeated array.fill_unit (array.slab - length part + padding_len array.slab)
 
 -- the slab with the listed bytes from `start` on: n bytes, or fewer if the list ends
 abbrev pub filled_part : ArrayView → ℕ → ℕ → List ℕ
@@ -47,11 +47,11 @@ filled_record r array = filled_part array (r * array.slab) array.slab
 
 -- the slabs of n records, none of them padded
 abbrev pub filled_slabs : ℕ → ArrayView → List ℕ
-filled_slabs n array = array.listed ++ repeated array.unit (n * array.slab - length array.listed)
+filled_slabs n array = array.listed ++ repeated array.fill_unit (n * array.slab - length array.listed)
 
 -- the array of a variable with these listed bytes
 abbrev pub array_view : List Dim → Var → List ℕ → ArrayView
-array_view dims var listed = record { listed = listed; slab = slab_size dims var; unit = fill_bytes var 8 }
+array_view dims var listed = record { listed = listed; slab = slab_size dims var; fill_unit = fill_bytes var 8 }
 
 -- the block of a variable; nothing of a record variable
 abbrev pub block_of : List Dim → Var → List ℕ → List ℕ

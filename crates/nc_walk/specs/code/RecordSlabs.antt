@@ -10,7 +10,7 @@ use Rattle.nc_walk.specs.code.Filled.{ArrayView, filled_records}
 
 -- the slab of the variable with index v
 abbrev pub record_slab : ℕ → List Dim → Var → RecordSlab
-record_slab v dims var = record { var_index = v; len = slab_size dims var; unit = fill_bytes var 8 }
+record_slab v dims var = record { var_index = v; len = slab_size dims var; fill_unit = fill_bytes var 8 }
 
 -- those of the record variables among these; the first variable has index v
 abbrev pub record_slabs : ℕ → List Dim → List Var → List RecordSlab
@@ -19,7 +19,7 @@ record_slabs v dims [] = []
 
 -- the array of a slab's variable, among those of all variables
 abbrev pub array_of : List (List ℕ) → RecordSlab → ArrayView
-array_of arrays slab = record { listed = get_or arrays slab.var_index []; slab = slab.len; unit = slab.unit }
+array_of arrays slab = record { listed = get_or arrays slab.var_index []; slab = slab.len; fill_unit = slab.fill_unit }
 
 -- record r of these slabs
 abbrev pub record_in : List RecordSlab → List (List ℕ) → ℕ → List ℕ

@@ -18,7 +18,7 @@ pub struct RecordSlab {
     /// The bytes of the slab, without padding.
     len: u64,
     /// Eight bytes of the variable's fill value: the value as often as it fits.
-    unit: [u8; 8],
+    fill_unit: [u8; 8],
 }
 
 /// Returns the slabs of a record, one for each record variable, in header order.
@@ -53,19 +53,19 @@ impl RecordSlab {
         RecordSlab {
             var_index,
             len: slab_of(dims, var.dimids.as_slice(), var.ty).unwrap(),
-            unit: fill_unit(var),
+            fill_unit: fill_unit(var),
         }
     }
 
     /// Returns a writer of the array of the slab's variable. `arrays` has the listed values of all variables, in header order.
-    pub(super) fn array_in<'a>(&self, arrays: &'a [ListedArray]) -> SlabWriter<'a>
+    pub(super) fn writer_in<'a>(&self, arrays: &'a [ListedArray]) -> SlabWriter<'a>
         requires { self.now.var_index < length arrays.now }
         ensures { result ≡ array_of arrays.now self.now }
     {
         SlabWriter {
             listed: &arrays[self.var_index],
             slab: self.len,
-            unit: self.unit,
+            fill_unit: self.fill_unit,
         }
     }
 }

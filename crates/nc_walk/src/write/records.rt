@@ -25,7 +25,7 @@ pub(super) fn put_records<W: Sink>(
     let records = header.numrecs.known();
     match slabs {
         [] => Ok(()),
-        [slab] => slab.array_in(arrays).put_records(sink, records),
+        [slab] => slab.writer_in(arrays).put_records(sink, records),
         _ => put_each_record(sink, slabs, arrays, records),
     }
 }
@@ -57,7 +57,7 @@ fn put_record<W: Sink>(
     ensures { Wrote W.view sink.old sink.new (record_in slabs.now arrays.now r) result }
 {
     for slab in slabs {
-        slab.array_in(arrays).put_record(sink, r)?;
+        slab.writer_in(arrays).put_record(sink, r)?;
     }
     Ok(())
 }

@@ -19,13 +19,13 @@ pub(super) struct SlabWriter<'a> {
     /// The bytes of a slab, without padding.
     pub(super) slab: u64,
     /// Eight bytes of the variable's fill value: the value as often as it fits.
-    pub(super) unit: [u8; 8],
+    pub(super) fill_unit: [u8; 8],
 }
 
 impl<'a> Model for SlabWriter<'a> {
     ghost Value = { ArrayView };
 
-    ghost view = { λ array. record { listed = array.listed.now; slab = array.slab; unit = array.unit } };
+    ghost view = { λ array. record { listed = array.listed.now; slab = array.slab; fill_unit = array.fill_unit } };
 }
 
 impl<'a> SlabWriter<'a> {
@@ -37,7 +37,7 @@ impl<'a> SlabWriter<'a> {
         SlabWriter {
             listed,
             slab: slab_of(dims, var.dimids.as_slice(), var.ty).unwrap(),
-            unit: fill_unit(var),
+            fill_unit: fill_unit(var),
         }
     }
 
@@ -64,7 +64,7 @@ impl<'a> SlabWriter<'a> {
         let listed = self.listed.len();
         put_part(sink, self.listed, 0, listed)?;
         let all = records as u128 * self.slab as u128;
-        put_fills(sink, self.unit, all.saturating_sub(listed))
+        put_fills(sink, self.fill_unit, all.saturating_sub(listed))
     }
 
     /// Writes a slab and its padding: `len` listed bytes from the offset `start` on, or those up to the end of the listed bytes
@@ -75,8 +75,8 @@ impl<'a> SlabWriter<'a> {
     {
         put_part(sink, self.listed, start, len)?;
         let listed = self.listed.len().saturating_sub(start).min(len);
-        let owed = (self.slab as u128).saturating_sub(listed);
+        let lacking = (self.slab as u128).saturating_sub(listed);
         let padding = padding_len(self.slab as u128);
-        put_fills(sink, self.unit, owed + padding as u128)
+        put_fills(sink, self.fill_unit, lacking + padding as u128)
     }
 }

@@ -35,7 +35,7 @@ pub read_ready-requires : goal.read_ready-requires
 read_ready-requires g c =
     let test = c.loop-slabs-test.ensures.0 refl in
     let next = follows c.args.slabs.now c.loop-slabs.chunk.next c.loop-slabs.chunk.values c.args.capacity c.len-len.result c.loop-slabs.at c.loop-slabs.into c.args.into.now (g.S.Source.view c.args.source.now) (g.S.Source.view c.loop-slabs.source) _
-    c.requires.sized test.slab (c.loop-slabs.invariant.at test.slab) (c.if-is_whole.ensures.0 refl) c.len-len.type_inv
+    c.requires.sized test.slab (c.loop-slabs.invariant.at test.slab) (c.if-has_whole_slab.ensures.0 refl) c.len-len.type_inv
     c.len-len.ensures.length (c.loop-slabs.invariant.going.slab_read test.slab).handed
     test.fits c.loop-slabs.invariant.going.collected.fits c.requires.capacity (c.loop-slabs.auto.into ∙ c.read_run.auto.into) in
     record { sized = search rules; is_cursor = search rules; more = test.more; at = next.0; some = c.requires.sized.values_per_slab; ready = next.1; len = search rules }
@@ -62,7 +62,7 @@ returns-in-Err-ReadFailed g c =
 
 pub read_run-requires-2 : goal.read_run-requires-2
 read_run-requires-2 g c =
-    let test = c.if-not-goes_on.ensures.0 refl in
+    let test = c.if-not-continues_in_next_slab.ensures.0 refl in
     let capacity = capacity_left c.loop-slabs.chunk.values c.args.capacity c.args.slabs.now.size c.loop-slabs.into c.args.into.now
     (let below = test.fits in omega arith) c.loop-slabs.invariant.going.collected.fits c.requires.capacity (c.loop-slabs.auto.into ∙ c.read_run.auto.into) in
     record { sized = search rules; is_cursor = search rules; more = test.more; some = (let below = test.fits in omega arith); capacity = capacity }
@@ -75,12 +75,12 @@ overflow_add-result g c =
 
 pub returns-in-Ok-read_run : goal.returns-in-Ok-read_run
 returns-in-Ok-read_run g c =
-    (goes_on g.S.Source.is_transparent _ _ _ _ _ _ _ _ _ _ _ c.loop-slabs.invariant.going (c.if-not-goes_on.ensures.0 refl).slab
+    (goes_on g.S.Source.is_transparent _ _ _ _ _ _ _ _ _ _ _ c.loop-slabs.invariant.going (c.if-not-continues_in_next_slab.ensures.0 refl).slab
     (omega (arith, rest (c.loop-slabs.chunk.values * c.args.slabs.now.size) c.loop-slabs.into c.loop-slabs.invariant.going.collected.fits, c.loop-slabs.auto.into, c.read_run.auto.into))
     _ c.in-Ok-read_run.ensures.collects c.in-Ok-read_run.ensures.slab_read).collected
 
 pub returns-in-Err-ReadFailed-read_run : goal.returns-in-Err-ReadFailed-read_run
 returns-in-Err-ReadFailed-read_run g c =
-    fails g.S.Source.is_transparent _ _ _ _ _ c.read_run-2.new.into _ _ _ _ 0 c.loop-slabs.invariant.going (c.if-not-goes_on.ensures.0 refl).slab
+    fails g.S.Source.is_transparent _ _ _ _ _ c.read_run-2.new.into _ _ _ _ 0 c.loop-slabs.invariant.going (c.if-not-continues_in_next_slab.ensures.0 refl).slab
     (omega (arith, rest (c.loop-slabs.chunk.values * c.args.slabs.now.size) c.loop-slabs.into c.loop-slabs.invariant.going.collected.fits, c.loop-slabs.auto.into, c.read_run.auto.into))
     _ (rw c.in-Err-ReadFailed-read_run.field-0-is at c.in-Err-ReadFailed-read_run.ensures.collects).1

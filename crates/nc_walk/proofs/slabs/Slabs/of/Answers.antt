@@ -3,8 +3,8 @@ use Rattle.nc_walk.proofs.Prelude.{Dim, Var, slab_count, is_record_var}
 use Rattle.nc_walk.proofs.SlabSteps.{sound_var, are_slabs, sized_slabs, same_slabs}
 use Rattle.nc_walk.proofs.slabs.Slabs.of.Goals as goal
 
-pub slab_values-requires : goal.slab_values-requires
-slab_values-requires c =
+pub values_per_slab-requires : goal.values_per_slab-requires
+values_per_slab-requires c =
     let at = c.index-as_slice-v.is ∙ ap (λ (vars : List Var). get_or vars c.args.v c.index-as_slice-v.result) c.as_slice.ensures in
     rw c.as_slice-dims.ensures (sound_var c.args.header.now c.args.v c.index-as_slice-v.result c.requires.sound c.requires.there at).slab
 
@@ -14,8 +14,8 @@ joined-requires c =
     sized_slabs c.args.header.now c.args.v c.args.layout.records var _ c.requires.sound c.requires.there
     (c.index-as_slice-v.is ∙ ap (λ (vars : List Var). get_or vars c.args.v var) c.as_slice.ensures)
     (same_slabs c.args.header.now c.args.layout.records var _ _ _ _ c.requires.record_size
-    (c.slab_values.ensures ∙ ap (λ (dims : List Dim). slab_count dims var) c.as_slice-dims.ensures)
-    (c.slab_number.ensures ∙ ap (λ (dims : List Dim). if is_record_var dims var then c.args.layout.records else 1) c.as_slice-dims.ensures)
+    (c.values_per_slab.ensures ∙ ap (λ (dims : List Dim). slab_count dims var) c.as_slice-dims.ensures)
+    (c.total_slabs.ensures ∙ ap (λ (dims : List Dim). if is_record_var dims var then c.args.layout.records else 1) c.as_slice-dims.ensures)
     c.size.ensures)
 
 pub returns : goal.returns
@@ -24,7 +24,7 @@ returns c =
     are_slabs c.args.header.now c.args.v c.args.layout.records var _ _ c.requires.there
     (c.index-as_slice-v.is ∙ ap (λ (vars : List Var). get_or vars c.args.v var) c.as_slice.ensures)
     (same_slabs c.args.header.now c.args.layout.records var _ _ _ _ c.requires.record_size
-    (c.slab_values.ensures ∙ ap (λ (dims : List Dim). slab_count dims var) c.as_slice-dims.ensures)
-    (c.slab_number.ensures ∙ ap (λ (dims : List Dim). if is_record_var dims var then c.args.layout.records else 1) c.as_slice-dims.ensures)
+    (c.values_per_slab.ensures ∙ ap (λ (dims : List Dim). slab_count dims var) c.as_slice-dims.ensures)
+    (c.total_slabs.ensures ∙ ap (λ (dims : List Dim). if is_record_var dims var then c.args.layout.records else 1) c.as_slice-dims.ensures)
     c.size.ensures)
     c.joined.ensures.size c.joined.ensures.offsets c.joined.ensures.sized

@@ -4,8 +4,8 @@ use Rattle.nc_walk.proofs.DataFilled.{records-filled, no-records, sole-filled}
 use Rattle.nc_walk.proofs.SlabArrays.{arrays-of-slabs, one-array, slabs-within}
 use Rattle.nc_walk.proofs.write.records.put_records.Goals as goal
 
-pub array_in-requires : goal.array_in-requires
-array_in-requires g c =
+pub writer_in-requires : goal.writer_in-requires
+writer_in-requires g c =
     let h = c.args.header.now in
     All-get_or (λ (slab : RecordSlab). slab.var_index < length c.args.arrays.now) c.args.slabs.now 0 _ (omega arith)
     (slabs-within h.dims (known_records h.numrecs) h.vars c.args.arrays.now c.args.slabs.now c.requires.slabs c.requires.listed)
@@ -37,10 +37,10 @@ returns-in-len1 g c =
     let n : ℕ = known_records h.numrecs in
     let arrays = c.args.arrays.now in
     let all = arrays-of-slabs h.dims n h.vars arrays c.args.slabs.now c.requires.slabs c.requires.listed in
-    let one = one-array arrays c.args.slabs.now _ c.array_in.result c.in-len1.len_at_least c.in-len1.len_below c.array_in.ensures in
+    let one = one-array arrays c.args.slabs.now _ c.writer_in.result c.in-len1.len_at_least c.in-len1.len_below c.writer_in.ensures in
     subst (λ (text : List ℕ). Written (g.W.Sink.view c.args.sink.now) (g.W.Sink.view c.put_records.new.sink) text c.put_records.result)
-    (ap (λ (k : ℕ). filled_slabs k c.array_in.result) c.known-records.ensures
-    ∙ sole-filled h.dims n h.vars arrays c.array_in.result c.requires.listed (sym all ∙ one))
+    (ap (λ (k : ℕ). filled_slabs k c.writer_in.result) c.known-records.ensures
+    ∙ sole-filled h.dims n h.vars arrays c.writer_in.result c.requires.listed (sym all ∙ one))
     c.put_records.ensures
 
 pub returns-in_default : goal.returns-in_default

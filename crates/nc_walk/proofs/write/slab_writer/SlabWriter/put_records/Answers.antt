@@ -9,7 +9,7 @@ returns-in_err-put_part g c =
     let held : List ℕ = array.listed.now in
     let p = err_from_is_err_and c.from_residual.result c.from_residual.ensures.1 in
     let all : held ≡ take c.len-listed.result held = sym (take_all c.len-listed.result held (omega (arith, c.len-listed.ensures))) in
-    let whole = ap (filled_slabs n) (sym c.self.view_is) ∙ ap (λ (b : List ℕ). b ++ repeated array.unit (n * array.slab - length held)) all in
+    let whole = ap (filled_slabs n) (sym c.self.view_is) ∙ ap (λ (b : List ℕ). b ++ repeated array.fill_unit (n * array.slab - length held)) all in
     rw p.1 (up-partway _ _ _ _ _ _ _ whole (up-start _ _) c.in_err-put_part.ensures)
 
 pub returns : goal.returns
@@ -21,6 +21,6 @@ returns g c =
     let lacks : n * array.slab - length held ≡ c.saturating_sub.result = omega (arith, c.saturating_sub.ensures, c.len-listed.ensures) in
     let whole =
     ap (filled_slabs n) (sym c.self.view_is)
-    ∙ ap (λ (b : List ℕ). b ++ repeated array.unit (n * array.slab - length held)) all
-    ∙ ap (λ (k : ℕ). take c.len-listed.result held ++ repeated array.unit k) lacks in
+    ∙ ap (λ (b : List ℕ). b ++ repeated array.fill_unit (n * array.slab - length held)) all
+    ∙ ap (λ (k : ℕ). take c.len-listed.result held ++ repeated array.fill_unit k) lacks in
     up-then _ _ _ _ _ _ whole c.in_ok-put_part.ensures _ c.put_fills.ensures

@@ -11,7 +11,7 @@ returns g c =
     let part : List ℕ = take len (drop start held) in
     let long : length part ≡ c.min-listed.result =
     omega (arith, length-take len (drop start held), length-drop start held, c.min-listed.ensures, c.saturating_sub.ensures, c.len.ensures) in
-    let lacks : array.slab - length part + padding_len array.slab ≡ c.saturating_sub-owed.result + c.padding_len-padding.result =
-    omega (arith, long, c.saturating_sub-owed.ensures, c.padding_len-padding.ensures) in
-    let whole = ap (λ (view : ArrayView). filled_slab view (take len (drop start view.listed))) (sym c.self.view_is) ∙ ap (λ (k : ℕ). part ++ repeated array.unit k) lacks in
+    let lacks : array.slab - length part + padding_len array.slab ≡ c.saturating_sub-lacking.result + c.padding_len-padding.result =
+    omega (arith, long, c.saturating_sub-lacking.ensures, c.padding_len-padding.ensures) in
+    let whole = ap (λ (view : ArrayView). filled_slab view (take len (drop start view.listed))) (sym c.self.view_is) ∙ ap (λ (k : ℕ). part ++ repeated array.fill_unit k) lacks in
     up-then _ _ _ _ _ _ whole c.in_ok-put_part.ensures _ c.put_fills.ensures
