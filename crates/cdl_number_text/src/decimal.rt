@@ -70,26 +70,26 @@ pub fn put_decimal(text: &mut [u8], at: usize, len: usize, number: i128)
     }
 }
 
-/// Returns how many bytes the text of a number has. If `is_blank`, the text is `_`, otherwise the number in decimal.
+/// Returns how many bytes the text of a number has. If `is_fill`, the text is `_`, otherwise the number in decimal.
 #[inline(always)]
-pub fn text_len(is_blank: bool, number: i128) -> usize
+pub fn text_len(is_fill: bool, number: i128) -> usize
     requires { unsigned_abs number < 2 ^ 64 }
-    ensures len { result ≡ length (text_of is_blank number) }
+    ensures len { result ≡ length (text_of is_fill number) }
     ensures short { result ≤ 21 }
 {
-    if is_blank { 1 } else { decimal_len(number) }
+    if is_fill { 1 } else { decimal_len(number) }
 }
 
-/// Writes the text of a number at the offset `at` of `text`. If `is_blank`, the text of the number is `_`, otherwise it is the number in
+/// Writes the text of a number at the offset `at` of `text`. If `is_fill`, the text of the number is `_`, otherwise it is the number in
 /// decimal. The text of the number has `len` bytes.
 #[inline(always)]
-pub fn put_text(text: &mut [u8], at: usize, len: usize, is_blank: bool, number: i128)
+pub fn put_text(text: &mut [u8], at: usize, len: usize, is_fill: bool, number: i128)
     requires short { unsigned_abs number < 2 ^ 64 }
-    requires len { len ≡ length (text_of is_blank number) }
+    requires len { len ≡ length (text_of is_fill number) }
     requires fits { at + len ≤ length text.old }
-    ensures { take (at + len) text.new ≡ take at text.old ++ text_of is_blank number }
+    ensures { take (at + len) text.new ≡ take at text.old ++ text_of is_fill number }
 {
-    if is_blank {
+    if is_fill {
         text[at] = b'_';
     } else {
         put_decimal(text, at, len, number);

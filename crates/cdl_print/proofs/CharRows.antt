@@ -118,8 +118,8 @@ unfolding pieces
 bytes_are look xs p [] is some literal fits following = absurd (omega arith)
 bytes_are look xs p (b ∷ []) is some literal fits following =
     let first = piece_is look (variable_prefix look xs) xs (pos b) is in
-    ap (λ (t : List ℕ). t ++ run_text (look.trimmed && (b == 0)) p.held (b ∷ [])) (lead_is look xs p following)
-    ∙ ap (λ (t : List ℕ). cond (begins_row look (length xs)) (char_lead look (length xs)) [] ++ t) (one_text look p.held b ∙ ap (λ n. char_text look n (pos b)) (following.held is))
+    ap (λ (t : List ℕ). t ++ run_text (look.trimmed && (b == 0)) p.held_nuls (b ∷ [])) (lead_is look xs p following)
+    ∙ ap (λ (t : List ℕ). cond (begins_row look (length xs)) (char_lead look (length xs)) [] ++ t) (one_text look p.held_nuls b ∙ ap (λ n. char_text look n (pos b)) (following.held is))
     ∙ sym first ∙ sym (append-nil (piece look (variable_prefix look xs) xs (pos b)))
 bytes_are look xs p (b ∷ c ∷ run) is some literal fits following =
     let all = all_literal b c run literal in
@@ -127,8 +127,8 @@ bytes_are look xs p (b ∷ c ∷ run) is some literal fits following =
     let first = piece_is look prefix xs (pos b) is in
     let others = (others_are look (prefix ++ piece look prefix xs (pos b)) xs b c run is all fits).0 in
     let lead = cond (begins_row look (length xs)) (char_lead look (length xs)) [] in
-    ap (λ (t : List ℕ). t ++ run_text (look.trimmed && false) p.held (b ∷ c ∷ run)) (lead_is look xs p following)
-    ∙ ap (λ (t : List ℕ). lead ++ t) (some_text look p.held b c run all ∙ ap (λ n. char_text look n (pos b) ++ (c ∷ run)) (following.held is))
+    ap (λ (t : List ℕ). t ++ run_text (look.trimmed && false) p.held_nuls (b ∷ c ∷ run)) (lead_is look xs p following)
+    ∙ ap (λ (t : List ℕ). lead ++ t) (some_text look p.held_nuls b c run all ∙ ap (λ n. char_text look n (pos b) ++ (c ∷ run)) (following.held is))
     ∙ sym (append_assoc lead (char_text look (held look xs) (pos b)) (c ∷ run))
     ∙ ap (λ (t : List ℕ). t ++ (c ∷ run)) (sym first)
     ∙ ap (λ (t : List ℕ). piece look prefix xs (pos b) ++ t) (sym others)
@@ -160,10 +160,10 @@ or_true false true = refl
 or_true false false = refl
 
 held_next : (look : Look) (xs : List ℤ) (p q : Progress) (run : List ℕ) → is_char look.ty ≡ true → 0 < length run → IsRun is_literal run → IsInRow look xs run → IsAfter look xs p → IsAfterRun look p run q
-    → q.held ≡ held look (xs ++ map pos run)
+    → q.held_nuls ≡ held look (xs ++ map pos run)
 held_next look xs p q [] is some literal fits following next = absurd (omega arith)
 held_next look xs p q (b ∷ []) is some literal fits following next =
-    next.held ∙ held_one look xs p.held b (row_index_after_run look p (b ∷ [])) (following.held is) (ap (λ n. cond (n + 1 == look.row) 0 (n + 1)) following.row_index)
+    next.held ∙ held_one look xs p.held_nuls b (row_index_after_run look p (b ∷ [])) (following.held is) (ap (λ n. cond (n + 1 == look.row) 0 (n + 1)) following.row_index)
 held_next look xs p q (b ∷ c ∷ run) is some literal fits following next =
     next.held ∙ cond-true _ 0 _ (or_true (row_index_after_run look p (b ∷ c ∷ run) == 0) look.trimmed)
     ∙ sym (ap (held look) (sym (append_assoc xs (pos b ∷ []) (map pos (c ∷ run)))) ∙ (others_are look [] xs b c run is (all_literal b c run literal) fits).1)

@@ -4,7 +4,7 @@ use Rattle.cdl_print.proofs.Prelude.{decimal, OnTrue_at, OnTrue_from, false≢tr
 use Rattle.cdl_print.proofs.PrintingLaws.{after_then, next_appended, none_appended}
 use Rattle.cdl_print.specs.declared.gap.Gap.{Gap}
 use Rattle.cdl_print.specs.declared.gap.Gap.TheVariants.{Space, FirstRow, NextRow, Comma, NewLine}
-use Rattle.cdl_print.specs.declared.number_line.Line.{Line}
+use Rattle.cdl_print.specs.declared.number_line.LastLine.{LastLine}
 use Rattle.cdl_print.specs.declared.printed_fill.PrintedFill.{PrintedFill}
 
 -- a gap is short
@@ -164,7 +164,7 @@ shown_digits look fill (pos n) is shown =
 shown_digits look fill (negsuc n) is shown = absurd (false≢true shown)
 
 -- a text of one or two bytes is put after a comma
-pub put_after_comma : (width : ℕ) (line : Line) (old now new : List ℕ) (start len : ℕ) (text : List ℕ) → length text ≡ len → len ≤ 2 → 6 ≤ line.columns_left
+pub put_after_comma : (width : ℕ) (line : LastLine) (old now new : List ℕ) (start len : ℕ) (text : List ℕ) → length text ≡ len → len ≤ 2 → 6 ≤ line.columns_left
     → PutAt line.end old start now (codes ", ") → PutAt start now (start + len) new text → PutInRow width text line old (record { end = start + len; columns_left = line.columns_left - (2 + len) }) new
 put_after_comma width line old now new start len text long short enough comma written = record {
   text = text_after_comma line.columns_left (take line.end old) (take start now) (take (start + len) new) text (omega (arith, long, short)) enough comma written;
@@ -196,7 +196,7 @@ within_row p n columns_left = record {
   position = p.position + n;
   row_index = p.row_index + n;
   columns_left = columns_left;
-  held = 0;
+  held_nuls = 0;
   in_row = omega (arith, p.in_row);
   waiting = omega arith;
 }

@@ -3,7 +3,7 @@ use Rattle.std.proofs.Common.{◌≡◌, ℕ, ◌-◌, false, List, [], sym, ◌
 use Rattle.cdl_print.proofs.Prelude.{zero-mod, Look, column, opening, prefix_nil, held_first, opening_of, IsAfter, look_in, HasPrinted, Progress, ValuePrinter}
 
 -- before the first value
-after_none : (look : Look) (p : Progress) → p.position ≡ 0 → p.row_index ≡ 0 → p.held ≡ 0 → p.columns_left ≡ look.width - column (opening look) → IsAfter look [] p
+after_none : (look : Look) (p : Progress) → p.position ≡ 0 → p.row_index ≡ 0 → p.held_nuls ≡ 0 → p.columns_left ≡ look.width - column (opening look) → IsAfter look [] p
 after_none look p position row_index held columns_left = record {
   position = position;
   row_index = row_index ∙ sym (zero-mod look.row);
@@ -12,7 +12,7 @@ after_none look p position row_index held columns_left = record {
 }
 
 -- a new printer
-pub stands_first : (look : Look) (printer : ValuePrinter) → printer.progress.position ≡ 0 → printer.progress.row_index ≡ 0 → printer.progress.held ≡ 0
+pub stands_first : (look : Look) (printer : ValuePrinter) → printer.progress.position ≡ 0 → printer.progress.row_index ≡ 0 → printer.progress.held_nuls ≡ 0
     → printer.progress.columns_left ≡ printer.layout.width - column (opening_of printer.layout.name.now)
     → printer.has_failed ≡ false → look_in printer ≡ look → HasPrinted look [] printer
 unfolding opening

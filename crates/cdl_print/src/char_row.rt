@@ -83,50 +83,51 @@ fn put_led_run<W: Sink>(
     ensures wrote { Wrote W.view sink.old sink.new (next_run layout.now progress.old run.now) result }
     ensures after { OnOk result (IsAfterRun (look_at layout.now) progress.old run.now progress.new) }
 {
-    let waits = layout.trimmed && is_one_nul(run);
+    let is_held_back = layout.trimmed && is_one_nul(run);
     put(sink, layout.char_lead(progress))?;
-    put_run_text(sink, waits, progress.held, run)?;
+    put_run_text(sink, is_held_back, progress.held_nuls, run)?;
     let count = run.len() as u128;
     let row_index = row_index_after(layout.row, progress.row_index, count);
     *progress = Progress {
         position: progress.position + count,
         row_index,
         columns_left: progress.columns_left,
-        held: held_after(progress.held, row_index, waits),
+        held_nuls: held_nuls_after(progress.held_nuls, row_index, is_held_back),
     };
     Ok(())
 }
 
-/// Returns how many NULs are held back after a run. `held` is how many were held back before the run, and `waits` is true if the
-/// run is one more such NUL. `row_index` is the index, in its row, of the character after the run. If `row_index` is 0, the row has
+/// Returns how many NULs are held back after a run. `held_nuls` is how many were held back before the run, and `is_held_back` is true
+/// if the run is one more such NUL. `row_index` is the index, in its row, of the character after the run. If `row_index` is 0, the row has
 /// ended, and the result is 0.
-fn held_after(held: u128, row_index: u128, waits: bool) -> u128
-    requires { held + 1 < 2 ^ 128 }
-    ensures held { result ≡ (if (row_index == 0) || not waits then 0 else held + 1) }
-    ensures few { result ≤ held + 1 }
+fn held_nuls_after(held_nuls: u128, row_index: u128, is_held_back: bool) -> u128
+    requires { held_nuls + 1 < 2 ^ 128 }
+    ensures held_nuls { result ≡ (if (row_index == 0) || not is_held_back then 0 else held_nuls + 1) }
+    ensures few { result ≤ held_nuls + 1 }
 {
-    if row_index == 0 || !waits {
+    if row_index == 0 || !is_held_back {
         0
     } else {
-        held + 1
+        held_nuls + 1
     }
 }
 
-/// Writes the `held` NULs that were held back, and then the run. Writes nothing if `waits` is true: then the run is held back too.
+/// Writes the `held_nuls` NULs that were held back, and then the run. Writes nothing if `is_held_back` is true: then the run is held
+/// back too.
 #[tactic(auto, using(devices::proofs::Writes::writes), unfolding(crate::specs::code::Printing::run_text, nc_base::specs::Escapes::escaped_text))]
 fn put_run_text<W: Sink>(
     sink: &mut W,
-    waits: bool,
-    held: u128,
+    is_held_back: bool,
+    held_nuls: u128,
     run: &[u8],
 ) -> Result<(), WriteFailed>
     requires { IsRun is_literal run.now }
-    ensures { Wrote W.view sink.old sink.new (run_text waits held run.now) result }
+    ensures { Wrote W.view sink.old sink.new (run_text is_held_back held_nuls run.now) result }
 {
-    if waits {
+    if is_held_back {
         return Ok(());
     }
-    put_nuls(sink, held)?;
+    put_nuls(sink, held_nuls)?;
     put_run(sink, Quoting::InString, run)
 }
 

@@ -103,7 +103,7 @@ impl Layout<'_> {
 
     /// Returns true if a number prints as `_`.
     #[inline(always)]
-    pub fn is_blank(&self, number: i128) -> bool
+    pub fn prints_as_fill(&self, number: i128) -> bool
         ensures { result ≡ self.now.prints_fill && int_eq number self.now.fill }
     {
         self.prints_fill && number == self.fill

@@ -16,7 +16,7 @@ use nc_base::{NcType, number_of};
 
 /// The last line of the text that is gathered in a buffer.
 #[derive(Clone, Copy)]
-pub struct Line {
+pub struct LastLine {
     /// The offset in the buffer at which the line ends. The next text is put there.
     pub end: usize,
     /// How many bytes more the line may have.
@@ -25,7 +25,7 @@ pub struct Line {
 
 /// Puts numbers of one row, none of them the row's first, into `text` at the end of `line`, each with what stands before it.
 /// Returns the last line after them. `bytes` has the numbers, big-endian. Each type has a loop of its own.
-pub fn gather_line(text: &mut [u8], line: Line, layout: &Layout<'_>, bytes: &[u8]) -> Line
+pub fn gather_line(text: &mut [u8], line: LastLine, layout: &Layout<'_>, bytes: &[u8]) -> LastLine
     requires fits { line.end + 47 * length (values layout.now bytes.now) ≤ length text.old }
     ensures more { PutLine layout.now (values layout.now bytes.now) line text.old result text.new }
     ensures short { result.end ≤ line.end + 47 * length (values layout.now bytes.now) }
@@ -45,7 +45,13 @@ pub fn gather_line(text: &mut [u8], line: Line, layout: &Layout<'_>, bytes: &[u8
 
 /// Does what [`gather_line`] does for numbers of the type `ty`.
 #[inline(always)]
-fn gather_typed(ty: NcType, text: &mut [u8], line: Line, layout: &Layout<'_>, bytes: &[u8]) -> Line
+fn gather_typed(
+    ty: NcType,
+    text: &mut [u8],
+    line: LastLine,
+    layout: &Layout<'_>,
+    bytes: &[u8],
+) -> LastLine
     requires fits { line.end + 47 * length (numbers ty bytes.now) ≤ length text.old }
     ensures more { PutLine layout.now (numbers ty bytes.now) line text.old result text.new }
     ensures short { result.end ≤ line.end + 47 * length (numbers ty bytes.now) }
@@ -68,11 +74,11 @@ fn gather_typed(ty: NcType, text: &mut [u8], line: Line, layout: &Layout<'_>, by
 fn gather_next(
     ty: NcType,
     text: &mut [u8],
-    line: Line,
+    line: LastLine,
     layout: &Layout<'_>,
     fill: PrintedFill,
     value: &[u8],
-) -> Line
+) -> LastLine
     requires whole { length value.now ≡ size_of ty }
     requires fill { IsFillOf (look_at layout.now) fill }
     requires fits { line.end + 47 ≤ length text.old }
@@ -88,11 +94,11 @@ fn gather_next(
 #[inline(always)]
 fn put_next(
     text: &mut [u8],
-    line: Line,
+    line: LastLine,
     layout: &Layout<'_>,
     fill: PrintedFill,
     number: i128,
-) -> Line
+) -> LastLine
     requires magnitude { unsigned_abs number < 2 ^ 64 }
     requires fill { IsFillOf (look_at layout.now) fill }
     requires fits { line.end + 47 ≤ length text.old }
@@ -110,7 +116,7 @@ fn put_next(
 
 /// Puts a comma, a space and a number below 100 at the end of the line, which has room for them, and returns the line after them.
 #[inline(always)]
-fn put_below_100(text: &mut [u8], line: Line, n: u64) -> Line
+fn put_below_100(text: &mut [u8], line: LastLine, n: u64) -> LastLine
     requires below_100 { n < 100 }
     requires on_line { 6 ≤ line.columns_left }
     requires fits { line.end + 4 ≤ length text.old }
@@ -120,13 +126,13 @@ fn put_below_100(text: &mut [u8], line: Line, n: u64) -> Line
     let start = put_comma(text, line.end);
     if n < 10 {
         put_digits(text, start, 1, n);
-        Line {
+        LastLine {
             end: start + 1,
             columns_left: line.columns_left - 3,
         }
     } else {
         put_digits(text, start, 2, n);
-        Line {
+        LastLine {
             end: start + 2,
             columns_left: line.columns_left - 4,
         }
@@ -135,13 +141,13 @@ fn put_below_100(text: &mut [u8], line: Line, n: u64) -> Line
 
 /// Puts `_` at the end of the line, with what stands before it, and returns the last line after it.
 #[inline(always)]
-fn put_fill(text: &mut [u8], line: Line, width: usize) -> Line
+fn put_fill(text: &mut [u8], line: LastLine, width: usize) -> LastLine
     requires fits { line.end + 8 ≤ length text.old }
     ensures put { PutInRow width (codes "_") line text.old result text.new }
     ensures short { result.end ≤ line.end + 8 }
 {
     let start = put_gap_in_row(text, line, width, 1);
-    Line {
+    LastLine {
         end: put_byte(text, start.end, b'_'),
         columns_left: start.columns_left,
     }
@@ -149,7 +155,7 @@ fn put_fill(text: &mut [u8], line: Line, width: usize) -> Line
 
 /// Puts a number in decimal at the end of the line, with what stands before it, and returns the last line after it.
 #[inline(always)]
-fn put_number(text: &mut [u8], line: Line, width: usize, number: i128) -> Line
+fn put_number(text: &mut [u8], line: LastLine, width: usize, number: i128) -> LastLine
     requires magnitude { unsigned_abs number < 2 ^ 64 }
     requires fits { line.end + 28 ≤ length text.old }
     ensures put { PutInRow width (signed_decimal number) line text.old result text.new }
@@ -158,7 +164,7 @@ fn put_number(text: &mut [u8], line: Line, width: usize, number: i128) -> Line
     let len = decimal_len(number);
     let start = put_gap_in_row(text, line, width, len);
     put_decimal(text, start.end, len, number);
-    Line {
+    LastLine {
         end: start.end + len,
         columns_left: start.columns_left,
     }
@@ -167,7 +173,7 @@ fn put_number(text: &mut [u8], line: Line, width: usize, number: i128) -> Line
 /// Puts what stands before a text of `len` bytes at the end of the line, without the text. Returns where the text begins, and how
 /// many columns are left after the text.
 #[inline(always)]
-fn put_gap_in_row(text: &mut [u8], line: Line, width: usize, len: usize) -> Line
+fn put_gap_in_row(text: &mut [u8], line: LastLine, width: usize, len: usize) -> LastLine
     requires short { len ≤ 40 }
     requires fits { line.end + 7 ≤ length text.old }
     ensures text { PutAt line.end text.old result.end text.new (gap_bytes (gap_at_end line len)) }
@@ -176,7 +182,7 @@ fn put_gap_in_row(text: &mut [u8], line: Line, width: usize, len: usize) -> Line
 {
     let gap = gap_in_row(line.columns_left, len);
     let columns_left = gap.columns_left_after(line.columns_left, width);
-    Line {
+    LastLine {
         end: put_gap(text, line.end, gap),
         columns_left: columns_left.saturating_sub(len),
     }

@@ -8,7 +8,7 @@ ghost use Rattle.cdl_print.specs.code.Printing.{next, next_number, AreLeft, AreI
 
 use crate::gap::put_gap;
 use crate::layout::Layout;
-use crate::number_line::{Line, gather_line};
+use crate::number_line::{LastLine, gather_line};
 use crate::progress::{Progress, row_index_after};
 use cdl_number_text::{put_text, text_len};
 use devices::{Sink, WriteFailed, put};
@@ -121,17 +121,17 @@ fn gather_number(
     ensures after { IsAfterNextNumber layout.now progress.old value.now progress.new }
 {
     let number = number_of(layout.ty, value);
-    let is_blank = layout.is_blank(number);
-    let len = text_len(is_blank, number);
+    let is_fill = layout.prints_as_fill(number);
+    let len = text_len(is_fill, number);
     let gap = layout.number_gap(progress, len);
     let start = put_gap(text, at, gap);
-    put_text(text, start, len, is_blank, number);
+    put_text(text, start, len, is_fill, number);
     let columns_left = gap.columns_left_after(progress.columns_left, layout.width);
     *progress = Progress {
         position: progress.position + 1,
         row_index: row_index_after(layout.row, progress.row_index, 1),
         columns_left: columns_left.saturating_sub(len),
-        held: progress.held,
+        held_nuls: progress.held_nuls,
     };
     start + len
 }
@@ -157,7 +157,7 @@ fn gather_in_row(
     if bytes.is_empty() {
         return at;
     }
-    let line = Line {
+    let line = LastLine {
         end: at,
         columns_left: progress.columns_left,
     };
@@ -167,7 +167,7 @@ fn gather_in_row(
         position: progress.position + count,
         row_index: row_index_after(layout.row, progress.row_index, count),
         columns_left: line.columns_left,
-        held: progress.held,
+        held_nuls: progress.held_nuls,
     };
     line.end
 }

@@ -43,7 +43,7 @@ impl PrintedFill {
     {
         match narrow(number) {
             Some(n) => self.is_narrow(n),
-            None => layout.is_blank(number),
+            None => layout.prints_as_fill(number),
         }
     }
 

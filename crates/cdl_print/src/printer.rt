@@ -44,7 +44,7 @@ impl<'a> ValuePrinter<'a> {
                 position: 0,
                 row_index: 0,
                 columns_left,
-                held: 0,
+                held_nuls: 0,
             },
             has_failed: false,
         }

@@ -12,9 +12,9 @@ pub struct Progress {
     /// How many bytes more the last line may have, if the values are numbers.
     pub columns_left: usize,
     /// How many NULs directly before the next value, in the same row, aren't printed yet.
-    pub held: u128,
+    pub held_nuls: u128,
     ghost in_row: { row_index ≤ position },
-    ghost waiting: { held ≤ position },
+    ghost waiting: { held_nuls ≤ position },
 }
 
 /// Returns the row index after `count` more values: 0 if `row_index + count` is `row`, otherwise `row_index + count`. `row` is how many

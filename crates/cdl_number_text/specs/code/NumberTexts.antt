@@ -4,4 +4,4 @@ use Rattle.std.specs.Fmt.{signed_decimal}
 
 -- a number, or `_` if it prints as that
 abbrev pub text_of : Bool → ℤ → List ℕ
-text_of is_blank number = if is_blank then codes "_" else signed_decimal number
+text_of is_fill number = if is_fill then codes "_" else signed_decimal number

@@ -8,7 +8,7 @@ use Rattle.devices.specs.Sinks.{SinkView, Appended, FailedPartway}
 use Rattle.cdl_print.specs.code.Leads.{look_at, values, gap_bytes, gap_in_row, next_gap, next_char_lead, columns_left_after}
 use Rattle.cdl_print.specs.declared.gap.Gap.{Gap}
 use Rattle.cdl_print.specs.declared.layout.Layout.{Layout}
-use Rattle.cdl_print.specs.declared.number_line.Line.{Line}
+use Rattle.cdl_print.specs.declared.number_line.LastLine.{LastLine}
 use Rattle.cdl_print.specs.declared.progress.Progress.{Progress}
 
 -- ---- texts that are gathered
@@ -60,20 +60,20 @@ abbrev pub columns_left_in_row : Look → ℕ → ℤ → ℕ
 columns_left_in_row look columns_left value = columns_left_after_text look.width columns_left (number_text look value)
 
 -- what stands before a text of this length at the end of the line
-abbrev pub gap_at_end : Line → ℕ → Gap
+abbrev pub gap_at_end : LastLine → ℕ → Gap
 gap_at_end line len = gap_in_row line.columns_left len
 
 -- the columns left after a text of this length at the end of the line, in lines of this width
-abbrev pub columns_left_at_end : ℕ → Line → ℕ → ℕ
+abbrev pub columns_left_at_end : ℕ → LastLine → ℕ → ℕ
 columns_left_at_end width line len = columns_left_after (gap_at_end line len) line.columns_left width - len
 
 -- these bytes are put at the end of the line with what stands before them, in lines of this width
-pub record PutInRow (width : ℕ) (bytes : List ℕ) (before : Line) (old : List ℕ) (after : Line) (new : List ℕ) : Type 0 where
+pub record PutInRow (width : ℕ) (bytes : List ℕ) (before : LastLine) (old : List ℕ) (after : LastLine) (new : List ℕ) : Type 0 where
   pub text : PutAt before.end old after.end new (text_in_row before.columns_left bytes)
   pub columns_left : after.columns_left ≡ columns_left_after_text width before.columns_left bytes
 
 -- the text of a number is put at the end of the line with what stands before it
-abbrev pub PutNumber : Layout → ℤ → Line → List ℕ → Line → List ℕ → Type 0
+abbrev pub PutNumber : Layout → ℤ → LastLine → List ℕ → LastLine → List ℕ → Type 0
 PutNumber layout number before old after new = PutInRow layout.width (number_text (look_at layout) number) before old after new
 
 -- ---- characters of one row: one, or some that stand for themselves
@@ -85,11 +85,11 @@ is_one_nul (b ∷ c ∷ bytes) = false
 
 -- characters after n NULs that aren't printed yet, or nothing if they wait too
 unfoldable pub run_text : Bool → ℕ → List ℕ → List ℕ
-run_text waits nuls run = if waits then [] else escaped_text (replicate nuls 0) ++ escaped_text run
+run_text is_held_back nuls run = if is_held_back then [] else escaped_text (replicate nuls 0) ++ escaped_text run
 
 -- the next characters with what stands before them
 abbrev pub run_bytes : Look → Progress → List ℕ → List ℕ
-run_bytes look p run = next_char_lead look p ++ run_text (look.trimmed && is_one_nul run) p.held run
+run_bytes look p run = next_char_lead look p ++ run_text (look.trimmed && is_one_nul run) p.held_nuls run
 
 -- the next characters by a layout, with what stands before them
 abbrev pub next_run : Layout → Progress → List ℕ → List ℕ
@@ -103,7 +103,7 @@ row_index_after_run look p run = if p.row_index + length run == look.row then 0 
 pub record IsAfterRun (look : Look) (p : Progress) (run : List ℕ) (q : Progress) : Type 0 where
   pub position : q.position ≡ p.position + length run
   pub row_index : q.row_index ≡ row_index_after_run look p run
-  pub held : q.held ≡ (if (row_index_after_run look p run == 0) || not (look.trimmed && is_one_nul run) then 0 else p.held + 1)
+  pub held : q.held_nuls ≡ (if (row_index_after_run look p run == 0) || not (look.trimmed && is_one_nul run) then 0 else p.held_nuls + 1)
 
 -- ---- values
 
@@ -112,7 +112,7 @@ pub record IsAfter (look : Look) (xs : List ℤ) (p : Progress) : Type 0 where
   pub position : p.position ≡ length xs
   pub row_index : p.row_index ≡ length xs % look.row
   pub columns_left : is_char look.ty ≡ false → p.columns_left ≡ look.width - column (variable_prefix look xs)
-  pub held : is_char look.ty ≡ true → p.held ≡ held look xs
+  pub held : is_char look.ty ≡ true → p.held_nuls ≡ held look xs
 
 -- the next values of a variable, and how far those before them are printed
 pub record NextValues : Type 0 where
@@ -172,5 +172,5 @@ PrintedInRow look ys columns_before columns_after old new =
     → q.position ≡ p.position + length ys → q.row_index ≡ (if p.row_index + length ys == look.row then 0 else p.row_index + length ys) → IsAfterNext (values_after look p ys) q)
 
 -- the values ys are put at the end of the line, and none is its row's first
-abbrev pub PutLine : Layout → List ℤ → Line → List ℕ → Line → List ℕ → Type 0
+abbrev pub PutLine : Layout → List ℤ → LastLine → List ℕ → LastLine → List ℕ → Type 0
 PutLine layout ys before old after new = PrintedInRow (look_at layout) ys before.columns_left after.columns_left (take before.end old) (take after.end new)

@@ -9,7 +9,7 @@ returns-clause-text c =
     let before = take c.args.at c.args.text.now in
     let text = number_text look c.number_of-number.result in
     let back = to_z-of_z {w = w128} (record { sfits = c.number_of-number.type_inv }) in
-    let shown = ap (λ b. text_of b (cast_signed w128 (cast_unsigned w128 c.number_of-number.result))) c.is_blank-is_blank.ensures ∙ ap (λ z. number_text look z) back in
+    let shown = ap (λ b. text_of b (cast_signed w128 (cast_unsigned w128 c.number_of-number.result))) c.prints_as_fill-is_fill.ensures ∙ ap (λ z. number_text look z) back in
     c.put_text.ensures
     ∙ ap (λ (t : List ℕ). take c.put_gap-start.result c.put_gap-start.new.text ++ t) shown
     ∙ ap (λ (t : List ℕ). t ++ text) c.put_gap-start.ensures.written
