@@ -39,7 +39,7 @@ pub fn value_of<'a>(matches: &ArgMatches<'a>, id: &str) -> Option<&'a str>
 }
 
 /// Returns a copy of the bytes of a text. Errs only if an allocation failed.
-pub fn bytes_of(alloc: Global, text: &str) -> Result<Sequence<u8>, AllocError>
+pub fn copy_bytes(alloc: Global, text: &str) -> Result<Sequence<u8>, AllocError>
     ensures { IfOk result (λ bytes. bytes ≡ text.now) }
 {
     let bytes = Vec::from_slice(alloc, text.as_bytes())?;

@@ -17,5 +17,5 @@
 mod arguments;
 mod fault;
 
-pub use arguments::{bytes_of, flag, is_given, option, value_of};
+pub use arguments::{copy_bytes, flag, is_given, option, value_of};
 pub use fault::OptFault;

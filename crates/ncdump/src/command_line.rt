@@ -11,7 +11,7 @@ ghost use Rattle.ncdump.specs.CommandLine.{ncdump, asked_by, asked_in, names_in,
 
 use crate::options::DumpOptions;
 use clap::{Arg, ArgMatches, Command};
-use cli_base::{OptFault, bytes_of, flag, is_given, option, value_of};
+use cli_base::{OptFault, copy_bytes, flag, is_given, option, value_of};
 use nc_base::{Sequence, stem};
 use std::alloc::{AllocError, Global};
 
@@ -127,7 +127,7 @@ fn is_of_digits(word: &str) -> bool
 fn name_of(alloc: Global, word: Option<&str>, path: &str) -> Result<Sequence<u8>, AllocError>
     ensures { IfOk result (λ name. name ≡ unwrap_or (text_of word.entry) (stem_of path.now)) }
 {
-    bytes_of(alloc, word.unwrap_or(stem(path)))
+    copy_bytes(alloc, word.unwrap_or(stem(path)))
 }
 
 /// Returns the names in `word`, the value of `-v`, or `None` if there is no word. Errs only if an allocation failed.
@@ -149,7 +149,7 @@ fn names_in(alloc: Global, word: &str) -> Result<Sequence<Sequence<u8>>, AllocEr
 {
     let mut names = Sequence::new(alloc);
     for name in word.split(',') {
-        names.push(bytes_of(alloc, name)?)?;
+        names.push(copy_bytes(alloc, name)?)?;
     }
     Ok(names)
 }

@@ -19,7 +19,7 @@ pub(crate) fn put_failure<W: Sink>(sink: &mut W, failure: &Failure) -> Result<()
     ensures { Wrote W.view sink.old sink.new (line_of_failure failure.now) result }
 {
     match failure {
-        Failure::CommandLine(fault) => opt_fault_line(sink, *fault),
+        Failure::CommandLine(fault) => put_command_line_fault(sink, *fault),
         Failure::File(path, fault) => put_file_fault(sink, path.as_bytes(), *fault),
         Failure::Flush => put(sink, flush_fault_line()),
     }
@@ -31,7 +31,7 @@ pub(crate) fn put_failure<W: Sink>(sink: &mut W, failure: &Failure) -> Result<()
 ///
 /// The sink failed. It took some prefix of the line.
 #[tactic(auto, unfolding(crate::specs::Faults::opt_fault_line))]
-pub fn opt_fault_line<W: Sink>(sink: &mut W, fault: OptFault) -> Result<(), WriteFailed>
+pub fn put_command_line_fault<W: Sink>(sink: &mut W, fault: OptFault) -> Result<(), WriteFailed>
     ensures { Wrote W.view sink.old sink.new (opt_fault_line fault) result }
 {
     match fault {

@@ -39,7 +39,7 @@ pub use cli_base::OptFault;
 pub use command_line::{command, options_of};
 pub use dumping::dump;
 pub use fault::DumpFault;
-pub use fault_text::{fault_line, opt_fault_line};
+pub use fault_text::{fault_line, put_command_line_fault};
 pub use options::DumpOptions;
 pub use running::run_with;
 pub use selection::select;

@@ -101,7 +101,7 @@ fn dump_path<P: Opener, O: Sink>(
         (sink_of O.view out.old out.new) result) }
 {
     let mut source = opener.open(options.file.as_str())?;
-    let answer = dump_whole(alloc, &mut source, options, out);
+    let answer = dump_buffered(alloc, &mut source, options, out);
     opener.close(source);
     answer
 }
@@ -111,7 +111,7 @@ const BUFFER_LEN: usize = 4096;
 
 /// Writes the dump that the options ask for of the file that the source has, through a buffer of 4096 bytes. Errs with the fault of
 /// [`dump`], as `FileFault::Dump`, and never with `CannotOpen`. `OfDump` says that a clause holds of the result of `dump`.
-fn dump_whole<S: Source, W: Sink>(
+fn dump_buffered<S: Source, W: Sink>(
     alloc: Global,
     source: &mut S,
     options: &DumpOptions,

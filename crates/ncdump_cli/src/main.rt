@@ -8,7 +8,7 @@
 
 use cli_base::OptFault;
 use devices::{Flush, IoSink, SystemFiles};
-use ncdump::{opt_fault_line, run_with};
+use ncdump::{put_command_line_fault, run_with};
 use std::fs::File;
 use std::io::{BufWriter, Write};
 use std::process::ExitCode;
@@ -27,7 +27,7 @@ fn main(rt: HostRuntime) -> ExitCode {
         Ok(status) => ExitCode::from(status),
         Err(fault) => {
             // A line that standard error doesn't take changes no status.
-            let _ = opt_fault_line(&mut IoSink::new(rt.stderr()), fault);
+            let _ = put_command_line_fault(&mut IoSink::new(rt.stderr()), fault);
             ExitCode::FAILURE
         }
     }

@@ -65,7 +65,7 @@ pub fn options_of(alloc: Global, matches: &ArgMatches) -> Result<GenOptions, Opt
     Ok(GenOptions {
         kind,
         out: output_in(alloc, is_binary, output, file)?,
-        file: string_in(alloc, file)?,
+        file: copy_string(alloc, file)?,
     })
 }
 
@@ -103,7 +103,7 @@ fn output_name(alloc: Global, path: &str) -> Result<String, AllocError>
 }
 
 /// Returns a copy of the text, or `None` if there is none. Errs only if an allocation failed.
-fn string_in(alloc: Global, text: Option<&str>) -> Result<Option<String>, AllocError>
+fn copy_string(alloc: Global, text: Option<&str>) -> Result<Option<String>, AllocError>
     ensures { IfOk result (λ copy. option_map string_bytes copy ≡ text_of text.entry) }
 {
     match text {

@@ -20,7 +20,7 @@ pub(crate) fn put_failure<W: Sink>(sink: &mut W, failure: &Failure) -> Result<()
     ensures { Wrote W.view sink.old sink.new (line_of_failure failure.now) result }
 {
     match failure {
-        Failure::CommandLine(fault) => opt_fault_line(sink, *fault),
+        Failure::CommandLine(fault) => put_command_line_fault(sink, *fault),
         Failure::Input(path, fault) => put_input_fault(sink, text_name(path), fault),
         Failure::Output(path, fault) => put_line(sink, path.as_bytes(), output_words(*fault)),
     }
@@ -32,7 +32,7 @@ pub(crate) fn put_failure<W: Sink>(sink: &mut W, failure: &Failure) -> Result<()
 ///
 /// The sink failed. It took some prefix of the line.
 #[tactic(auto, unfolding(crate::specs::Faults::opt_fault_line))]
-pub fn opt_fault_line<W: Sink>(sink: &mut W, fault: OptFault) -> Result<(), WriteFailed>
+pub fn put_command_line_fault<W: Sink>(sink: &mut W, fault: OptFault) -> Result<(), WriteFailed>
     ensures { Wrote W.view sink.old sink.new (opt_fault_line fault) result }
 {
     match fault {

@@ -35,7 +35,7 @@ mod running;
 pub use cli_base::OptFault;
 pub use command_line::{command, options_of};
 pub use fault::{GenFault, TextFault};
-pub use fault_text::{fault_line, opt_fault_line};
+pub use fault_text::{fault_line, put_command_line_fault};
 pub use generating::{generate, prepare};
 pub use options::GenOptions;
 pub use prepared::Prepared;

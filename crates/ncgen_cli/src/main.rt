@@ -8,7 +8,7 @@
 
 use cli_base::OptFault;
 use devices::{CountedRead, Flush, IoSink, SystemFiles, SystemOutputs};
-use ncgen::{opt_fault_line, run_with};
+use ncgen::{put_command_line_fault, run_with};
 use std::env;
 use std::fs::File;
 use std::io::{BufWriter, Write};
@@ -24,7 +24,7 @@ fn main(rt: HostRuntime) -> ExitCode {
         Ok(status) => ExitCode::from(status),
         Err(fault) => {
             // A line that standard error doesn't take changes no status.
-            let _ = opt_fault_line(&mut IoSink::new(rt.stderr()), fault);
+            let _ = put_command_line_fault(&mut IoSink::new(rt.stderr()), fault);
             ExitCode::FAILURE
         }
     }
