@@ -1,6 +1,6 @@
 -- A dump from reading the header, selecting variables and showing them.
 use Rattle.std.proofs.Common.{◌≡◌, ℕ, ◌+◌, inl, inr, Bool, true, List, ◌++◌, length, Result, Ok, Err, refl, sym, ap, subst, ◌∙◌, append_assoc, ◌&&◌}
-use Rattle.ncdump.proofs.Prelude.{OnTrue, Header, SpellsHeader, record_count, Options, Section, closing_word, KnowsChosen, selection_of, dump_text, has_values, IsDump, stopped, unknown, shown, SourceView, SinkView, transparent_map, transparent_both, DumpFault, OutOfMemory, ReadFailed, WriteFailed, Format, NoSuchVariable, DataTruncated, Dumped, dumped, prefix_text, marked_values, values_from, marks_in, text_before, KeepsUpIn, Shows, Dumps, ReadsForward, IsAfterHeader, in_header, after_header, between}
+use Rattle.ncdump.proofs.Prelude.{OnTrue, Header, SpellsHeader, record_count, Options, Section, closing_word, KnowsChosen, selection_of, dump_text, has_values, IsDump, stopped, unknown, shown, SourceView, SinkView, transparent_map, transparent_both, DumpFault, OutOfMemory, ReadFailed, WriteFailed, Format, NoSuchVariable, DataTruncated, Dumped, dumped, prefix_text, selected_values, values_from, unless_head_only, text_before, KeepsUpIn, Shows, Dumps, ReadsForward, IsAfterHeader, in_header, after_header, between}
 use Rattle.nc_file.specs.code.Answers.{IsRead, Answers, HasAnswered, header_end, fault_end}
 use Rattle.nc_file.specs.declared.head_fault.HeadFault.{HeadFault}
 use Rattle.nc_file.specs.declared.head_fault.HeadFault.TheVariants as head
@@ -8,7 +8,7 @@ use Rattle.ncdump.specs.Faults.{fault_of_head}
 use Rattle.ncdump.specs.code.Selections.{Selects}
 use Rattle.ncdump.proofs.Calls.{call}
 use Rattle.ncdump.proofs.Prefixes.{prefix-in-text}
-use Rattle.ncdump.proofs.Marked.{values-at, more-and}
+use Rattle.ncdump.proofs.Selected.{values-at, more-and}
 use Rattle.ncdump.proofs.WholeText.{parts}
 
 -- ---- a header that isn't read
@@ -44,12 +44,12 @@ transparent-unselected is_transparent o a b buffer_len sink h fault answered sel
 -- ---- variables that are shown
 
 -- what stands up to and with a variable's first values is a prefix of the text of all
-prefix-of-all : (d : Dumped) (marks : List Bool) (buffer_len : ℕ) (a b : SourceView) (Taken : List ℕ → Type 0) (k : KeepsUpIn d marks buffer_len (between a b) Taken)
-    → (rest : List ℕ) × ((marked_values d marks).text ≡ (k.prefix ++ prefix_text d k.var k.keeps_up.k) ++ rest)
-prefix-of-all d marks buffer_len a b Taken k =
+prefix-of-all : (d : Dumped) (selection : List Bool) (buffer_len : ℕ) (a b : SourceView) (Taken : List ℕ → Type 0) (k : KeepsUpIn d selection buffer_len (between a b) Taken)
+    → (rest : List ℕ) × ((selected_values d selection).text ≡ (k.prefix ++ prefix_text d k.var k.keeps_up.k) ++ rest)
+prefix-of-all d selection buffer_len a b Taken k =
     let yes : true ≡ (true && has_values d.header.dims d.records k.var) = sym k.some in
-    let here = values-at d marks k.v k.var true true k.at k.marked yes in
-    let more = more-and _ _ _ k.v (values_from d marks (k.v + 1)) in
+    let here = values-at d selection k.v k.var true true k.at k.selected yes in
+    let more = more-and _ _ _ k.v (values_from d selection (k.v + 1)) in
     let prefix = prefix-in-text d k.v k.var k.keeps_up.k k.keeps_up.few in (
       prefix.0 ++ more.0,
       k.is_before.text_is ∙ ap (λ (s : Section). k.prefix ++ s.text) here ∙ ap (λ (t : List ℕ). k.prefix ++ t) more.1
@@ -61,11 +61,11 @@ prefix-of-all d marks buffer_len a b Taken k =
 module _ (o : Options) (bytes : List ℕ) (h : Header) (rest : List ℕ) (buffer_len : ℕ) (b c : SourceView) (old new : SinkView)
     (spelled : SpellsHeader bytes h rest) (knows : KnowsChosen h o.chosen) (same : b.bytes ≡ bytes) where
   abbrev pub section : Section
-  section = marked_values (dumped h b (record_count h (length bytes)) o.width) (marks_in o (selection_of h o))
+  section = selected_values (dumped h b (record_count h (length bytes)) o.width) (unless_head_only o (selection_of h o))
 
   is-dump : IsDump bytes o (dump_text h o (record_count h (length bytes)) section) section.ending
   is-dump = shown h rest (record_count h (length bytes)) section spelled knows refl
-      (ap (λ (bs : List ℕ). marked_values (record { header = h; bytes = bs; records = record_count h (length bytes); width = o.width }) (marks_in o (selection_of h o))) same)
+      (ap (λ (bs : List ℕ). selected_values (record { header = h; bytes = bs; records = record_count h (length bytes); width = o.width }) (unless_head_only o (selection_of h o))) same)
 
   written : {A : Type 0} (result : Result A DumpFault) → Shows o h (record_count h (length bytes)) (selection_of h o) (call buffer_len b c old new) result → Dumps bytes o old new result
   written (Ok done) s = record {
@@ -114,11 +114,11 @@ forward o buffer_len a c old new (Err OutOfMemory) x = absurd x.shows
 forward o buffer_len a c old new (Err (Format fault)) x = absurd x.shows
 forward o buffer_len a c old new (Err (NoSuchVariable i)) x = absurd x.shows
 
-pub transparent-shown : (is_transparent : Bool) (o : Options) (a b c : SourceView) (buffer_len buf : ℕ) (old new : SinkView) (h : Header) (marks : List Bool) (result : Result (Unit {0}) DumpFault)
-    → OnTrue is_transparent (HasAnswered a.bytes a.handed b.handed buffer_len (Ok h)) → KnowsChosen h o.chosen → marks ≡ selection_of h o → b.bytes ≡ a.bytes → buf ≡ buffer_len
-    → OnTrue is_transparent (Shows o h (record_count h (length b.bytes)) marks (call buf b c old new) result)
+pub transparent-shown : (is_transparent : Bool) (o : Options) (a b c : SourceView) (buffer_len buf : ℕ) (old new : SinkView) (h : Header) (selection : List Bool) (result : Result (Unit {0}) DumpFault)
+    → OnTrue is_transparent (HasAnswered a.bytes a.handed b.handed buffer_len (Ok h)) → KnowsChosen h o.chosen → selection ≡ selection_of h o → b.bytes ≡ a.bytes → buf ≡ buffer_len
+    → OnTrue is_transparent (Shows o h (record_count h (length b.bytes)) selection (call buf b c old new) result)
     → OnTrue is_transparent (Dumps a.bytes o old new result × ReadsForward o (call buffer_len a c old new) result)
-transparent-shown is_transparent o a b c buffer_len buf old new h marks result answered knows is same wide shows = transparent_both is_transparent (λ x s0.
+transparent-shown is_transparent o a b c buffer_len buf old new h selection result answered knows is same wide shows = transparent_both is_transparent (λ x s0.
     let read = x.answer in
     let s1 = subst (λ (ms : List Bool). Shows o h (record_count h (length b.bytes)) ms (call buf b c old new) result) is s0 in
     let s2 = subst (λ (n : ℕ). Shows o h (record_count h (length b.bytes)) (selection_of h o) (call n b c old new) result) wide s1 in

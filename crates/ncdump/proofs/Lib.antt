@@ -5,7 +5,7 @@ pub mod Unknown
 pub mod Prefixes
 pub mod Held
 pub mod OneVariable
-pub mod Marked
+pub mod Selected
 pub mod Blame
 pub mod WholeText
 pub mod DumpLaws

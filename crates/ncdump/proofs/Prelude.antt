@@ -30,7 +30,7 @@ pub use Rattle.ncdump.specs.CommandLine.{Answers, Asked, asked_for, width_of}
 unfoldable pub use Rattle.ncdump.specs.CommandLine.{asked_by, asked_in, ncdump}
 pub use Rattle.ncdump.specs.Dumps.{Dumps, IsAfterHeader, ReadsForward, after_header, in_header, options_of}
 pub use Rattle.ncdump.specs.code.Names.{holds, holds_if}
-pub use Rattle.ncdump.specs.code.Shows.{AreShown, AreUnread, AreUnwritten, Dumped, Holds, IsBefore, IsShown, IsUnread, IsUnwritten, IsUpToDate, KeepsUp, KeepsUpIn, ReadFailsOnly, Shows, ShowsAt, ShowsMarked, ShowsOne, ShowsOrFails, bytes_of, dumped, marked_values, marks_in, prefix_text, text_before, values_alone, values_and, values_from, whole_bytes, whole_values}
+pub use Rattle.ncdump.specs.code.Shows.{AreShown, AreUnread, AreUnwritten, Dumped, Holds, IsBefore, IsShown, IsUnread, IsUnwritten, IsUpToDate, KeepsUp, KeepsUpIn, ReadFailsOnly, Shows, ShowsAt, ShowsOne, ShowsOrFails, ShowsSelected, bytes_of, dumped, prefix_text, selected_values, text_before, unless_head_only, values_alone, values_and, values_from, whole_bytes, whole_values}
 pub use Rattle.ncdump.specs.declared.fault.DumpFault.{DumpFault}
 pub use Rattle.ncdump.specs.declared.fault.DumpFault.TheVariants.{DataTruncated, Format, NoSuchVariable, OutOfMemory, ReadFailed, WriteFailed}
 pub use Rattle.std.proofs.Math.Seq.{drop-cons, take-add}

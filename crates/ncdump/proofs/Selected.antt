@@ -1,6 +1,6 @@
--- Showing one marked variable after the other.
+-- Showing one selected variable after the other.
 use Rattle.std.proofs.Common.{◌≡◌, ℕ, suc, ◌+◌, ◌<◌, ◌≤◌, ◌⊎◌, inl, inr, Bool, true, false, List, [], ◌∷◌, ◌++◌, length, drop, get_or, refl, sym, ap, ◌∙◌, append_assoc, subst, arith, Option, Some, None, Result, Ok, Err, ℤ, slice_get, ◌&&◌, if◌then◌else◌, IfSome}
-use Rattle.ncdump.proofs.Prelude.{OnTrue, drop-cons, append-nil, drop_all, get_or_from_slice_get, slice_get_within, slice_get-get_or, Var, Look, look_of, Section, no_section, whole, data_truncated, content_in, has_values, values_before, values_of, contents, SourceView, after, SinkView, Appended, FailedPartway, appended_then, appended_partway, after_after, transparent_both, DumpFault, OutOfMemory, ReadFailed, WriteFailed, Format, NoSuchVariable, DataTruncated, Dumped, dumped, prefix_text, ShowsOne, ShowsAt, ShowsMarked, values_and, values_alone, values_from, whole_values, whole_bytes, bytes_of, Holds, KeepsUp, KeepsUpIn, IsBefore, IsShown, IsUnread, IsUnwritten, IsUpToDate, AreShown, AreUnread, AreUnwritten, between}
+use Rattle.ncdump.proofs.Prelude.{OnTrue, drop-cons, append-nil, drop_all, get_or_from_slice_get, slice_get_within, slice_get-get_or, Var, Look, look_of, Section, no_section, whole, data_truncated, content_in, has_values, values_before, values_of, contents, SourceView, after, SinkView, Appended, FailedPartway, appended_then, appended_partway, after_after, transparent_both, DumpFault, OutOfMemory, ReadFailed, WriteFailed, Format, NoSuchVariable, DataTruncated, Dumped, dumped, prefix_text, ShowsOne, ShowsAt, ShowsSelected, values_and, values_alone, values_from, whole_values, whole_bytes, bytes_of, Holds, KeepsUp, KeepsUpIn, IsBefore, IsShown, IsUnread, IsUnwritten, IsUpToDate, AreShown, AreUnread, AreUnwritten, between}
 use Rattle.ncdump.proofs.OneVariable.{some-at}
 use Rattle.nc_base.specs.declared.nc_type.NcType.TheVariants.{Byte}
 use Rattle.ncdump.proofs.Calls.{call}
@@ -16,25 +16,25 @@ from-place xs v x is =
     ∙ ap (λ y. y ∷ drop (suc v) xs) (get_or_from_slice_get xs v x x is) ∙ ap (λ i. x ∷ drop i xs) (sym e)
 
 -- the values of the variables from index v on, and their bytes, by whether the first of them is shown
-pub values-at : (d : Dumped) (marks : List Bool) (v : ℕ) (var : Var) (mark shown : Bool) → slice_get d.header.vars v ≡ Some var → slice_get marks v ≡ Some mark
-    → shown ≡ (mark && has_values d.header.dims d.records var)
-    → values_from d marks v ≡ (if shown then values_and d v var (values_from d marks (v + 1)) else values_from d marks (v + 1))
-values-at d marks v var mark shown at marked is =
-    ap (λ (vars : List Var). values_of (contents d.header (content_in d.header d.bytes d.records) d.records d.width) v vars (drop v marks)) (from-place d.header.vars v var at)
-    ∙ ap (λ (ms : List Bool). values_of (contents d.header (content_in d.header d.bytes d.records) d.records d.width) v (var ∷ drop (v + 1) d.header.vars) ms) (from-place marks v mark marked)
-    ∙ ap (λ (b : Bool). if b then values_and d v var (values_from d marks (v + 1)) else values_from d marks (v + 1)) (sym is)
+pub values-at : (d : Dumped) (selection : List Bool) (v : ℕ) (var : Var) (is_selected shown : Bool) → slice_get d.header.vars v ≡ Some var → slice_get selection v ≡ Some is_selected
+    → shown ≡ (is_selected && has_values d.header.dims d.records var)
+    → values_from d selection v ≡ (if shown then values_and d v var (values_from d selection (v + 1)) else values_from d selection (v + 1))
+values-at d selection v var is_selected shown at selected is =
+    ap (λ (vars : List Var). values_of (contents d.header (content_in d.header d.bytes d.records) d.records d.width) v vars (drop v selection)) (from-place d.header.vars v var at)
+    ∙ ap (λ (ms : List Bool). values_of (contents d.header (content_in d.header d.bytes d.records) d.records d.width) v (var ∷ drop (v + 1) d.header.vars) ms) (from-place selection v is_selected selected)
+    ∙ ap (λ (b : Bool). if b then values_and d v var (values_from d selection (v + 1)) else values_from d selection (v + 1)) (sym is)
 
-bytes-at : (d : Dumped) (marks : List Bool) (v : ℕ) (var : Var) (mark shown : Bool) → slice_get d.header.vars v ≡ Some var → slice_get marks v ≡ Some mark
-    → shown ≡ (mark && has_values d.header.dims d.records var)
-    → bytes_of d (drop v d.header.vars) (drop v marks) ≡ (if shown then whole_bytes d var else 0) + bytes_of d (drop (v + 1) d.header.vars) (drop (v + 1) marks)
-bytes-at d marks v var mark shown at marked is =
-    ap (λ (vars : List Var). bytes_of d vars (drop v marks)) (from-place d.header.vars v var at)
-    ∙ ap (λ (ms : List Bool). bytes_of d (var ∷ drop (v + 1) d.header.vars) ms) (from-place marks v mark marked)
-    ∙ ap (λ (b : Bool). (if b then whole_bytes d var else 0) + bytes_of d (drop (v + 1) d.header.vars) (drop (v + 1) marks)) (sym is)
+bytes-at : (d : Dumped) (selection : List Bool) (v : ℕ) (var : Var) (is_selected shown : Bool) → slice_get d.header.vars v ≡ Some var → slice_get selection v ≡ Some is_selected
+    → shown ≡ (is_selected && has_values d.header.dims d.records var)
+    → bytes_of d (drop v d.header.vars) (drop v selection) ≡ (if shown then whole_bytes d var else 0) + bytes_of d (drop (v + 1) d.header.vars) (drop (v + 1) selection)
+bytes-at d selection v var is_selected shown at selected is =
+    ap (λ (vars : List Var). bytes_of d vars (drop v selection)) (from-place d.header.vars v var at)
+    ∙ ap (λ (ms : List Bool). bytes_of d (var ∷ drop (v + 1) d.header.vars) ms) (from-place selection v is_selected selected)
+    ∙ ap (λ (b : Bool). (if b then whole_bytes d var else 0) + bytes_of d (drop (v + 1) d.header.vars) (drop (v + 1) selection)) (sym is)
 
-no-marks : (d : Dumped) (v : ℕ) (vars : List Var) → values_of (contents d.header (content_in d.header d.bytes d.records) d.records d.width) v vars [] ≡ no_section
-no-marks d v [] = refl
-no-marks d v (var ∷ vars) = refl
+no-selection : (d : Dumped) (v : ℕ) (vars : List Var) → values_of (contents d.header (content_in d.header d.bytes d.records) d.records d.width) v vars [] ≡ no_section
+no-selection d v [] = refl
+no-selection d v (var ∷ vars) = refl
 
 no-bytes : (d : Dumped) (vars : List Var) → bytes_of d vars [] ≡ 0
 no-bytes d [] = refl
@@ -61,17 +61,17 @@ more-and look values (Some k) v others = ([], sym (append-nil _))
 
 -- ---- from place to place
 
--- the values of the marked variables before place v are shown
-pub record Marked (d : Dumped) (marks : List Bool) (buffer_len v : ℕ) (a b : SourceView) (old new : SinkView) : Type 0 where
+-- the values of the selected variables before place v are shown
+pub record Selected (d : Dumped) (selection : List Bool) (buffer_len v : ℕ) (a b : SourceView) (old new : SinkView) : Type 0 where
   pub prefix : List ℕ
   pub spent : ℕ
-  pub is_before : IsBefore d marks v prefix spent
+  pub is_before : IsBefore d selection v prefix spent
   pub appended : Appended old new prefix
   pub handed : b ≡ after a spent
-  pub keeps_up : (b ≡ a) ⊎ KeepsUpIn d marks buffer_len (between a b) (Holds old new)
+  pub keeps_up : (b ≡ a) ⊎ KeepsUpIn d selection buffer_len (between a b) (Holds old new)
 
-pub marked-begins : (d : Dumped) (marks : List Bool) (buffer_len : ℕ) (a : SourceView) (old : SinkView) → Appended old old [] → Marked d marks buffer_len 0 a a old old
-marked-begins d marks buffer_len a old none = record {
+pub selected-begins : (d : Dumped) (selection : List Bool) (buffer_len : ℕ) (a : SourceView) (old : SinkView) → Appended old old [] → Selected d selection buffer_len 0 a a old old
+selected-begins d selection buffer_len a old none = record {
   prefix = [];
   spent = 0;
   is_before = record { text_is = refl; ending_is = refl; spent_is = omega arith };
@@ -80,61 +80,61 @@ marked-begins d marks buffer_len a old none = record {
   keeps_up = inl refl;
 }
 
-module _ (d : Dumped) (marks : List Bool) (buffer_len v : ℕ) (a b : SourceView) (old new : SinkView) (m : Marked d marks buffer_len v a b old new)
-    (var : Var) (mark : Bool) (at : slice_get d.header.vars v ≡ Some var) (marked : slice_get marks v ≡ Some mark) where
+module _ (d : Dumped) (selection : List Bool) (buffer_len v : ℕ) (a b : SourceView) (old new : SinkView) (m : Selected d selection buffer_len v a b old new)
+    (var : Var) (is_selected : Bool) (at : slice_get d.header.vars v ≡ Some var) (selected : slice_get selection v ≡ Some is_selected) where
   -- a variable isn't shown
-  pub marked-skips : false ≡ (mark && has_values d.header.dims d.records var) → Marked d marks buffer_len (v + 1) a b old new
-  marked-skips is = record {
+  pub selected-skips : false ≡ (is_selected && has_values d.header.dims d.records var) → Selected d selection buffer_len (v + 1) a b old new
+  selected-skips is = record {
     prefix = m.prefix;
     spent = m.spent;
     is_before = record {
-      text_is = m.is_before.text_is ∙ ap (λ (s : Section). m.prefix ++ s.text) (values-at d marks v var mark false at marked is);
-      ending_is = m.is_before.ending_is ∙ ap (λ (s : Section). s.ending) (values-at d marks v var mark false at marked is);
-      spent_is = omega (arith, m.is_before.spent_is, bytes-at d marks v var mark false at marked is);
+      text_is = m.is_before.text_is ∙ ap (λ (s : Section). m.prefix ++ s.text) (values-at d selection v var is_selected false at selected is);
+      ending_is = m.is_before.ending_is ∙ ap (λ (s : Section). s.ending) (values-at d selection v var is_selected false at selected is);
+      spent_is = omega (arith, m.is_before.spent_is, bytes-at d selection v var is_selected false at selected is);
     };
     appended = m.appended;
     handed = m.handed;
     keeps_up = m.keeps_up;
   }
 
-  module _ (c : SourceView) (newer : SinkView) (shown : true ≡ (mark && has_values d.header.dims d.records var)) where
+  module _ (c : SourceView) (newer : SinkView) (shown : true ≡ (is_selected && has_values d.header.dims d.records var)) where
     look : Look
     look = look_of d.header var d.records d.width
 
     -- the values from this place on
-    values-here : values_from d marks v ≡ values_and d v var (values_from d marks (v + 1))
-    values-here = values-at d marks v var mark true at marked shown
+    values-here : values_from d selection v ≡ values_and d v var (values_from d selection (v + 1))
+    values-here = values-at d selection v var is_selected true at selected shown
 
-    bytes-here : bytes_of d (drop v d.header.vars) (drop v marks) ≡ whole_bytes d var + bytes_of d (drop (v + 1) d.header.vars) (drop (v + 1) marks)
-    bytes-here = bytes-at d marks v var mark true at marked shown
+    bytes-here : bytes_of d (drop v d.header.vars) (drop v selection) ≡ whole_bytes d var + bytes_of d (drop (v + 1) d.header.vars) (drop (v + 1) selection)
+    bytes-here = bytes-at d selection v var is_selected true at selected shown
 
-    is-marked : (x y : Bool) → true ≡ (x && y) → x ≡ true
-    is-marked true y e = refl
-    is-marked false y e = absurd cc
+    is-selected : (x y : Bool) → true ≡ (x && y) → x ≡ true
+    is-selected true y e = refl
+    is-selected false y e = absurd cc
 
     has-some : (x y : Bool) → true ≡ (x && y) → y ≡ true
     has-some true y e = sym e
     has-some false y e = absurd cc
 
     -- the text of the variable's first values stands after what was shown before
-    keeps-up-in : (Taken : List ℕ → Type 0) (k : KeepsUp d var buffer_len (between (after a m.spent) c) (λ (values : List ℕ). Taken (m.prefix ++ values))) → KeepsUpIn d marks buffer_len (between a c) Taken
+    keeps-up-in : (Taken : List ℕ → Type 0) (k : KeepsUp d var buffer_len (between (after a m.spent) c) (λ (values : List ℕ). Taken (m.prefix ++ values))) → KeepsUpIn d selection buffer_len (between a c) Taken
     keeps-up-in Taken k = record {
       v = v;
       var = var;
       prefix = m.prefix;
       spent = m.spent;
       at = at;
-      marked = marked ∙ ap Some (is-marked mark _ shown);
-      some = has-some mark _ shown;
+      selected = selected ∙ ap Some (is-selected is_selected _ shown);
+      some = has-some is_selected _ shown;
       is_before = m.is_before;
       keeps_up = k;
     }
 
     -- all its values are shown
-    pub marked-on : IsShown d v var whole (call buffer_len (after a m.spent) c new newer) → Marked d marks buffer_len (v + 1) a c old newer
-    marked-on s =
+    pub selected-on : IsShown d v var whole (call buffer_len (after a m.spent) c new newer) → Selected d selection buffer_len (v + 1) a c old newer
+    selected-on s =
         let alone = values_alone d v var in
-        let split = whole-and _ _ _ v (values_from d marks (v + 1)) s.ends in
+        let split = whole-and _ _ _ v (values_from d selection (v + 1)) s.ends in
         let prefix = prefix-in-text d v var (whole_values d var) (omega arith) in
         let handed : c ≡ after a (m.spent + whole_bytes d var) = s.handed ∙ after_after a m.spent (whole_bytes d var) in
         record {
@@ -158,10 +158,10 @@ module _ (d : Dumped) (marks : List Bool) (buffer_len v : ℕ) (a b : SourceView
         }
 
     -- a value is missing
-    pub marked-cut : (w k : ℕ) → IsShown d v var (data_truncated w k) (call buffer_len (after a m.spent) c new newer)
-        → AreShown d marks (data_truncated w k) (between a c) (λ (section : Section). Appended old newer section.text)
-    marked-cut w k s =
-        let split = cut-and _ _ _ v w k (values_from d marks (v + 1)) s.ends in
+    pub selected-cut : (w k : ℕ) → IsShown d v var (data_truncated w k) (call buffer_len (after a m.spent) c new newer)
+        → AreShown d selection (data_truncated w k) (between a c) (λ (section : Section). Appended old newer section.text)
+    selected-cut w k s =
+        let split = cut-and _ _ _ v w k (values_from d selection (v + 1)) s.ends in
         let handed : c ≡ after a (m.spent + whole_bytes d var) = s.handed ∙ after_after a m.spent (whole_bytes d var) in
         record {
           ends = m.is_before.ending_is ∙ ap (λ (x : Section). x.ending) values-here ∙ split.1;
@@ -172,8 +172,8 @@ module _ (d : Dumped) (marks : List Bool) (buffer_len v : ℕ) (a b : SourceView
         }
 
     -- a read failed
-    pub marked-unread : IsUnread d var (call buffer_len (after a m.spent) c new newer) → AreUnread d marks buffer_len (between a c) (Appended old newer)
-    marked-unread s = record {
+    pub selected-unread : IsUnread d var (call buffer_len (after a m.spent) c new newer) → AreUnread d selection buffer_len (between a c) (Appended old newer)
+    selected-unread s = record {
       bytes = s.bytes;
       most = omega (arith, s.most, m.is_before.spent_is, bytes-here);
       keeps_up = keeps-up-in (Appended old newer) (record {
@@ -185,10 +185,10 @@ module _ (d : Dumped) (marks : List Bool) (buffer_len v : ℕ) (a b : SourceView
     }
 
     -- a write failed
-    pub marked-unwritten : IsUnwritten d v var (call buffer_len (after a m.spent) c new newer)
-        → AreUnwritten d marks buffer_len (between a c) (λ (section : Section). FailedPartway old newer section.text) (Holds old newer)
-    marked-unwritten s =
-        let more = more-and _ _ _ v (values_from d marks (v + 1)) in
+    pub selected-unwritten : IsUnwritten d v var (call buffer_len (after a m.spent) c new newer)
+        → AreUnwritten d selection buffer_len (between a c) (λ (section : Section). FailedPartway old newer section.text) (Holds old newer)
+    selected-unwritten s =
+        let more = more-and _ _ _ v (values_from d selection (v + 1)) in
         let text = m.is_before.text_is ∙ ap (λ (x : Section). m.prefix ++ x.text) values-here ∙ ap (λ (t : List ℕ). m.prefix ++ t) more.1 in
         record {
           bytes = s.bytes;
@@ -205,14 +205,14 @@ module _ (d : Dumped) (marks : List Bool) (buffer_len v : ℕ) (a b : SourceView
           ];
         }
       where
-        advanced : SourceView → IsUnwritten d v var (call buffer_len (after a m.spent) c new newer) → c ≡ after a m.spent → KeepsUpIn d marks buffer_len (between a b) (Holds old new) → KeepsUpIn d marks buffer_len (between a c) (Holds old newer)
+        advanced : SourceView → IsUnwritten d v var (call buffer_len (after a m.spent) c new newer) → c ≡ after a m.spent → KeepsUpIn d selection buffer_len (between a b) (Holds old new) → KeepsUpIn d selection buffer_len (between a c) (Holds old newer)
         advanced x s same k = record {
           v = k.v;
           var = k.var;
           prefix = k.prefix;
           spent = k.spent;
           at = k.at;
-          marked = k.marked;
+          selected = k.selected;
           some = k.some;
           is_before = k.is_before;
           keeps_up = record {
@@ -223,17 +223,17 @@ module _ (d : Dumped) (marks : List Bool) (buffer_len v : ℕ) (a b : SourceView
           };
         }
 
-        still : IsUnwritten d v var (call buffer_len (after a m.spent) c new newer) → c ≡ after a m.spent → (c ≡ a) ⊎ KeepsUpIn d marks buffer_len (between a c) (Holds old newer)
+        still : IsUnwritten d v var (call buffer_len (after a m.spent) c new newer) → c ≡ after a m.spent → (c ≡ a) ⊎ KeepsUpIn d selection buffer_len (between a c) (Holds old newer)
         still s same = elim m.keeps_up [ inl first ↦ inl (same ∙ sym m.handed ∙ first) | inr k ↦ inr (advanced c s same k) ]
 
--- all marked variables are shown
-pub marked-all : (d : Dumped) (marks : List Bool) (buffer_len v : ℕ) (a b : SourceView) (old new : SinkView) → length marks ≤ v → Marked d marks buffer_len v a b old new
-    → AreShown d marks whole (between a b) (λ (section : Section). Appended old new section.text) × IsUpToDate d marks buffer_len (between a b) (Holds old new)
-marked-all d marks buffer_len v a b old new all m =
-    let none : drop v marks ≡ [] = drop_all v marks all in
-    let nothing : values_from d marks v ≡ no_section =
-    ap (λ (ms : List Bool). values_of (contents d.header (content_in d.header d.bytes d.records) d.records d.width) v (drop v d.header.vars) ms) none ∙ no-marks d v (drop v d.header.vars) in
-    let no-more : bytes_of d (drop v d.header.vars) (drop v marks) ≡ 0 = ap (bytes_of d (drop v d.header.vars)) none ∙ no-bytes d (drop v d.header.vars) in (
+-- all selected variables are shown
+pub selected-all : (d : Dumped) (selection : List Bool) (buffer_len v : ℕ) (a b : SourceView) (old new : SinkView) → length selection ≤ v → Selected d selection buffer_len v a b old new
+    → AreShown d selection whole (between a b) (λ (section : Section). Appended old new section.text) × IsUpToDate d selection buffer_len (between a b) (Holds old new)
+selected-all d selection buffer_len v a b old new all m =
+    let none : drop v selection ≡ [] = drop_all v selection all in
+    let nothing : values_from d selection v ≡ no_section =
+    ap (λ (ms : List Bool). values_of (contents d.header (content_in d.header d.bytes d.records) d.records d.width) v (drop v d.header.vars) ms) none ∙ no-selection d v (drop v d.header.vars) in
+    let no-more : bytes_of d (drop v d.header.vars) (drop v selection) ≡ 0 = ap (bytes_of d (drop v d.header.vars)) none ∙ no-bytes d (drop v d.header.vars) in (
       record {
         ends = m.is_before.ending_is ∙ ap (λ (x : Section). x.ending) nothing;
         taken = subst (Appended old new) (sym (m.is_before.text_is ∙ ap (λ (x : Section). m.prefix ++ x.text) nothing ∙ append-nil m.prefix)) m.appended;
@@ -245,33 +245,33 @@ marked-all d marks buffer_len v a b old new all m =
 
 -- ---- a turn of the loop
 
--- what is known of the variable in a place, and of its mark
-module _ (d : Dumped) (marks : List Bool) (v : ℕ) (shown : Bool) (there : v < length d.header.vars) (in-marks : v < length marks)
-    (tested : IfSome (slice_get d.header.vars v) (λ var. shown ≡ (get_or marks v false && has_values d.header.dims d.records var))) where
+-- what is known of the variable in a place, and of whether it is selected
+module _ (d : Dumped) (selection : List Bool) (v : ℕ) (shown : Bool) (there : v < length d.header.vars) (in-selection : v < length selection)
+    (tested : IfSome (slice_get d.header.vars v) (λ var. shown ≡ (get_or selection v false && has_values d.header.dims d.records var))) where
   abbrev pub var-here : Var
   var-here = get_or d.header.vars v (record { name = []; dimids = []; atts = []; ty = Byte; begin_at = 0 })
 
   at-here : slice_get d.header.vars v ≡ Some var-here
   at-here = slice_get-get_or d.header.vars v _ there
 
-  marked-here : slice_get marks v ≡ Some (get_or marks v false)
-  marked-here = slice_get-get_or marks v false in-marks
+  selected-here : slice_get selection v ≡ Some (get_or selection v false)
+  selected-here = slice_get-get_or selection v false in-selection
 
-  shown-here : shown ≡ (get_or marks v false && has_values d.header.dims d.records var-here)
-  shown-here = some-at (λ (var : Var). shown ≡ (get_or marks v false && has_values d.header.dims d.records var)) (slice_get d.header.vars v) var-here at-here tested
+  shown-here : shown ≡ (get_or selection v false && has_values d.header.dims d.records var-here)
+  shown-here = some-at (λ (var : Var). shown ≡ (get_or selection v false && has_values d.header.dims d.records var)) (slice_get d.header.vars v) var-here at-here tested
 
-  pub place-skips : (buffer_len : ℕ) (a b : SourceView) (old new : SinkView) → shown ≡ false → Marked d marks buffer_len v a b old new → Marked d marks buffer_len (v + 1) a b old new
-  place-skips buffer_len a b old new not m = marked-skips d marks buffer_len v a b old new m var-here (get_or marks v false) at-here marked-here (sym not ∙ shown-here)
+  pub place-skips : (buffer_len : ℕ) (a b : SourceView) (old new : SinkView) → shown ≡ false → Selected d selection buffer_len v a b old new → Selected d selection buffer_len (v + 1) a b old new
+  place-skips buffer_len a b old new not m = selected-skips d selection buffer_len v a b old new m var-here (get_or selection v false) at-here selected-here (sym not ∙ shown-here)
 
   module _ (is_transparent : Bool) (buffer_len buf : ℕ) (a b c : SourceView) (old new newer : SinkView) (width : buf ≡ buffer_len) (yes : shown ≡ true)
-      (m : OnTrue is_transparent (Marked d marks buffer_len v a b old new)) where
-    is-shown : true ≡ (get_or marks v false && has_values d.header.dims d.records var-here)
+      (m : OnTrue is_transparent (Selected d selection buffer_len v a b old new)) where
+    is-shown : true ≡ (get_or selection v false && has_values d.header.dims d.records var-here)
     is-shown = sym yes ∙ shown-here
 
     -- what showing the variable has done, as it follows on what was done before
-    done : {A : Type 0} (result : Result A DumpFault) → Marked d marks buffer_len v a b old new → d ≡ dumped d.header a d.records d.width
+    done : {A : Type 0} (result : Result A DumpFault) → Selected d selection buffer_len v a b old new → d ≡ dumped d.header a d.records d.width
         → ShowsAt (dumped d.header b d.records d.width) v (call buf b c new newer) result
-        → (k : Marked d marks buffer_len v a b old new) × ShowsOne d v (call buffer_len (after a k.spent) c new newer) result var-here
+        → (k : Selected d selection buffer_len v a b old new) × ShowsOne d v (call buffer_len (after a k.spent) c new newer) result var-here
     done result k is shows =
         let here = some-at (ShowsOne (dumped d.header b d.records d.width) v (call buf b c new newer) result) (slice_get d.header.vars v) var-here at-here shows in
         let wide = subst (λ (n : ℕ). ShowsOne (dumped d.header b d.records d.width) v (call n b c new newer) result var-here) width here in
@@ -280,21 +280,21 @@ module _ (d : Dumped) (marks : List Bool) (v : ℕ) (shown : Bool) (there : v < 
 
     pub place-shown : d ≡ dumped d.header a d.records d.width
         → OnTrue is_transparent (ShowsAt {A = Unit {0}} (dumped d.header b d.records d.width) v (call buf b c new newer) (Ok tt))
-        → OnTrue is_transparent (Marked d marks buffer_len (v + 1) a c old newer)
+        → OnTrue is_transparent (Selected d selection buffer_len (v + 1) a c old newer)
     place-shown is shows = transparent_both is_transparent (λ k s.
         let p = done {A = Unit {0}} (Ok tt) k is s in
-        marked-on d marks buffer_len v a b old new p.0 var-here (get_or marks v false) at-here marked-here c newer is-shown p.1) m shows
+        selected-on d selection buffer_len v a b old new p.0 var-here (get_or selection v false) at-here selected-here c newer is-shown p.1) m shows
 
-    failed : (fault : DumpFault) (k : Marked d marks buffer_len v a b old new) → ShowsOne {A = Unit {0}} d v (call buffer_len (after a k.spent) c new newer) (Err fault) var-here
-        → ShowsMarked {A = Unit {0}} d marks (call buffer_len a c old newer) (Err fault)
-    failed (DataTruncated w n) k s = marked-cut d marks buffer_len v a b old new k var-here (get_or marks v false) at-here marked-here c newer is-shown w n s
-    failed ReadFailed k s = marked-unread d marks buffer_len v a b old new k var-here (get_or marks v false) at-here marked-here c newer is-shown s
-    failed WriteFailed k s = marked-unwritten d marks buffer_len v a b old new k var-here (get_or marks v false) at-here marked-here c newer is-shown s
+    failed : (fault : DumpFault) (k : Selected d selection buffer_len v a b old new) → ShowsOne {A = Unit {0}} d v (call buffer_len (after a k.spent) c new newer) (Err fault) var-here
+        → ShowsSelected {A = Unit {0}} d selection (call buffer_len a c old newer) (Err fault)
+    failed (DataTruncated w n) k s = selected-cut d selection buffer_len v a b old new k var-here (get_or selection v false) at-here selected-here c newer is-shown w n s
+    failed ReadFailed k s = selected-unread d selection buffer_len v a b old new k var-here (get_or selection v false) at-here selected-here c newer is-shown s
+    failed WriteFailed k s = selected-unwritten d selection buffer_len v a b old new k var-here (get_or selection v false) at-here selected-here c newer is-shown s
     failed OutOfMemory k s = absurd s
     failed (Format wrong) k s = absurd s
     failed (NoSuchVariable i) k s = absurd s
 
     pub place-failed : (fault : DumpFault) → d ≡ dumped d.header a d.records d.width
         → OnTrue is_transparent (ShowsAt {A = Unit {0}} (dumped d.header b d.records d.width) v (call buf b c new newer) (Err fault))
-        → OnTrue is_transparent (ShowsMarked {A = Unit {0}} d marks (call buffer_len a c old newer) (Err fault))
+        → OnTrue is_transparent (ShowsSelected {A = Unit {0}} d selection (call buffer_len a c old newer) (Err fault))
     place-failed fault is shows = transparent_both is_transparent (λ k s. let p = done {A = Unit {0}} (Err fault) k is s in failed fault p.0 p.1) m shows

@@ -1,6 +1,6 @@
 -- The text of a dump from its parts.
 use Rattle.std.proofs.Common.{◌≡◌, ℕ, inl, inr, Bool, List, [], ◌++◌, refl, sym, ap, ◌∙◌, append_assoc, subst, arith, Ok, Err}
-use Rattle.ncdump.proofs.Prelude.{append-nil, Header, head_text, Options, Section, Ending, whole, data_truncated, data_word, closing_word, dump_text, SourceView, SinkView, Appended, FailedPartway, appended_then, appended_partway, DumpFault, OutOfMemory, ReadFailed, WriteFailed, Format, NoSuchVariable, DataTruncated, Dumped, dumped, prefix_text, marked_values, text_before, marks_in, KeepsUpIn, IsUpToDate, Holds, ShowsMarked, Shows, between}
+use Rattle.ncdump.proofs.Prelude.{append-nil, Header, head_text, Options, Section, Ending, whole, data_truncated, data_word, closing_word, dump_text, SourceView, SinkView, Appended, FailedPartway, appended_then, appended_partway, DumpFault, OutOfMemory, ReadFailed, WriteFailed, Format, NoSuchVariable, DataTruncated, Dumped, dumped, prefix_text, selected_values, text_before, unless_head_only, KeepsUpIn, IsUpToDate, Holds, ShowsSelected, Shows, between}
 use Rattle.nc_base.specs.Bytes.{concat_parts}
 use Rattle.cdl_print.specs.code.Words.{word_text}
 use Rattle.cdl_print.specs.declared.word.Word.TheVariants.{End}
@@ -14,31 +14,31 @@ parts h o n section =
     ap (λ (t : List ℕ). head_text o.name h n ++ (data_word h o ++ (section.text ++ t))) (append-nil (closing_word section.ending))
     ∙ sym (append_assoc (head_text o.name h n) (data_word h o) (section.text ++ closing_word section.ending))
 
-keeps-map : (d : Dumped) (marks : List Bool) (buffer_len : ℕ) (a b : SourceView) (T U : List ℕ → Type 0) → ((t : List ℕ) → T t → U t) → KeepsUpIn d marks buffer_len (between a b) T → KeepsUpIn d marks buffer_len (between a b) U
-keeps-map d marks buffer_len a b T U f k = record {
+keeps-map : (d : Dumped) (selection : List Bool) (buffer_len : ℕ) (a b : SourceView) (T U : List ℕ → Type 0) → ((t : List ℕ) → T t → U t) → KeepsUpIn d selection buffer_len (between a b) T → KeepsUpIn d selection buffer_len (between a b) U
+keeps-map d selection buffer_len a b T U f k = record {
   v = k.v;
   var = k.var;
   prefix = k.prefix;
   spent = k.spent;
   at = k.at;
-  marked = k.marked;
+  selected = k.selected;
   some = k.some;
   is_before = k.is_before;
   keeps_up = record { k = k.keeps_up.k; few = k.keeps_up.few; taken = f (k.prefix ++ prefix_text d k.var k.keeps_up.k) k.keeps_up.taken; handed = k.keeps_up.handed };
 }
 
-date-map : (d : Dumped) (marks : List Bool) (buffer_len : ℕ) (a b : SourceView) (T U : List ℕ → Type 0) → ((t : List ℕ) → T t → U t) → IsUpToDate d marks buffer_len (between a b) T → IsUpToDate d marks buffer_len (between a b) U
-date-map d marks buffer_len a b T U f up = elim up [ inl same ↦ inl same | inr k ↦ inr (keeps-map d marks buffer_len a b T U f k) ]
+date-map : (d : Dumped) (selection : List Bool) (buffer_len : ℕ) (a b : SourceView) (T U : List ℕ → Type 0) → ((t : List ℕ) → T t → U t) → IsUpToDate d selection buffer_len (between a b) T → IsUpToDate d selection buffer_len (between a b) U
+date-map d selection buffer_len a b T U f up = elim up [ inl same ↦ inl same | inr k ↦ inr (keeps-map d selection buffer_len a b T U f k) ]
 
 module _ (o : Options) (h : Header) (n : ℕ) (shown : List Bool) (buffer_len : ℕ) (a : SourceView) (old : SinkView) where
   abbrev pub d : Dumped
   d = dumped h a n o.width
 
-  abbrev pub marks : List Bool
-  marks = marks_in o shown
+  abbrev pub selection : List Bool
+  selection = unless_head_only o shown
 
   abbrev pub section : Section
-  section = marked_values d marks
+  section = selected_values d selection
 
   -- the head isn't written
   pub no-head : (new : SinkView) → FailedPartway old new (head_text o.name h n) → Shows {A = Unit {0}} o h n shown (call buffer_len a a old new) (Err WriteFailed)
@@ -66,7 +66,7 @@ module _ (o : Options) (h : Header) (n : ℕ) (shown : List Bool) (buffer_len : 
         ap (λ (t : List ℕ). text_before o h n ++ t) (sym (append-nil section.text) ∙ ap (λ (e : Ending). section.text ++ closing_word e) (sym ends)) ∙ sym (parts h o n section)
 
     -- the values aren't all shown
-    pub no-values : (c : SourceView) (new : SinkView) (fault : DumpFault) → ShowsMarked {A = Unit {0}} d marks (call buffer_len a c mid new) (Err fault) → Shows {A = Unit {0}} o h n shown (call buffer_len a c old new) (Err fault)
+    pub no-values : (c : SourceView) (new : SinkView) (fault : DumpFault) → ShowsSelected {A = Unit {0}} d selection (call buffer_len a c mid new) (Err fault) → Shows {A = Unit {0}} o h n shown (call buffer_len a c old new) (Err fault)
     no-values c new (DataTruncated v k) s = record {
       ends = s.ends;
       taken = subst (Appended old new) (cut-text v k s.ends) (appended_then old mid new (text_before o h n) section.text before s.taken);
@@ -76,19 +76,19 @@ module _ (o : Options) (h : Header) (n : ℕ) (shown : List Bool) (buffer_len : 
     no-values c new ReadFailed s = record {
       bytes = s.bytes;
       most = s.most;
-      keeps_up = keeps-map d marks buffer_len a c (Appended mid new) (λ (t : List ℕ). Appended old new (text_before o h n ++ t)) (λ t g. appended_then old mid new (text_before o h n) t before g) s.keeps_up;
+      keeps_up = keeps-map d selection buffer_len a c (Appended mid new) (λ (t : List ℕ). Appended old new (text_before o h n ++ t)) (λ t g. appended_then old mid new (text_before o h n) t before g) s.keeps_up;
     }
     no-values c new WriteFailed s = record {
       bytes = s.bytes;
       most = s.most;
       partway = subst (FailedPartway old new) (sym (parts h o n section)) (appended_partway old mid new (text_before o h n) section.text (closing_word section.ending) before s.partway);
-      keeps_up = date-map d marks buffer_len a c (Holds mid new) (λ (t : List ℕ). Holds old new (text_before o h n ++ t)) (λ t g. holds-after old mid new (text_before o h n) t before g) s.keeps_up;
+      keeps_up = date-map d selection buffer_len a c (Holds mid new) (λ (t : List ℕ). Holds old new (text_before o h n ++ t)) (λ t g. holds-after old mid new (text_before o h n) t before g) s.keeps_up;
     }
     no-values c new OutOfMemory s = absurd s
     no-values c new (Format wrong) s = absurd s
     no-values c new (NoSuchVariable i) s = absurd s
 
-    module _ (c : SourceView) (last : SinkView) (s : ShowsMarked {A = Unit {0}} d marks (call buffer_len a c mid last) (Ok tt)) where
+    module _ (c : SourceView) (last : SinkView) (s : ShowsSelected {A = Unit {0}} d selection (call buffer_len a c mid last) (Ok tt)) where
       -- the closing brace isn't written
       pub no-brace : (new : SinkView) → FailedPartway last new (closing_word whole) → Shows {A = Unit {0}} o h n shown (call buffer_len a c old new) (Err WriteFailed)
       no-brace new partway = record {
@@ -96,7 +96,7 @@ module _ (o : Options) (h : Header) (n : ℕ) (shown : List Bool) (buffer_len : 
         most = s.0.most;
         partway = subst (FailedPartway old new) (ap (λ (t : List ℕ). (text_before o h n ++ section.text) ++ t) (append-nil (closing_word whole)) ∙ whole-text)
             (appended_partway old last new (text_before o h n ++ section.text) (closing_word whole) [] (appended_then old mid last (text_before o h n) section.text before s.0.taken) partway);
-        keeps_up = date-map d marks buffer_len a c (Holds mid last) (λ (t : List ℕ). Holds old new (text_before o h n ++ t))
+        keeps_up = date-map d selection buffer_len a c (Holds mid last) (λ (t : List ℕ). Holds old new (text_before o h n ++ t))
             (λ t g. holds-partway old last new (text_before o h n ++ t) (closing_word whole) (holds-after old mid last (text_before o h n) t before g) partway) s.1;
       }
         where

@@ -43,6 +43,6 @@ pub fn dump<S: Source, W: Sink>(
         result) }
 {
     let header = read_header(alloc, source, buf)?;
-    let shown = select(alloc, &header, options)?;
-    show(source, &header, shown.as_slice(), options, buf, sink)
+    let selection = select(alloc, &header, options)?;
+    show(source, &header, selection.as_slice(), options, buf, sink)
 }

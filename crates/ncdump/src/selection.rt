@@ -27,7 +27,7 @@ pub fn select(alloc: Global, header: &Header, options: &DumpOptions) -> Result<V
 {
     let chosen = chosen_names(alloc, header, options)?;
     let dims = dim_names(alloc, header, options)?;
-    Ok(marks(alloc, header.vars.as_slice(), &chosen, &dims)?)
+    Ok(are_in_both(alloc, header.vars.as_slice(), &chosen, &dims)?)
 }
 
 /// Returns the chosen names as a set, or `None` if no names are chosen. Errs with `NoSuchVariable` if one of them is no variable's
@@ -41,7 +41,7 @@ fn chosen_names<'a>(
 {
     match &options.chosen {
         Some(names) => {
-            let known = known_names(alloc, header.vars.as_slice(), names.as_slice())?;
+            let known = checked_names(alloc, header.vars.as_slice(), names.as_slice())?;
             Ok(Some(known))
         }
         None => Ok(None),
@@ -66,7 +66,7 @@ fn dim_names<'a>(
 
 /// Returns `names` as a set, if each of them is the name of a variable. Errs with `NoSuchVariable` and the index of the first name that
 /// no variable has, and with `OutOfMemory` if an allocation failed.
-fn known_names<'a>(
+fn checked_names<'a>(
     alloc: Global,
     vars: &[Var],
     names: &'a [Sequence<u8>],
@@ -93,20 +93,20 @@ fn first_unknown(known: &NameSet<'_>, names: &[Sequence<u8>]) -> Option<usize>
 /// allocation failed.
 ///
 /// The capacity is reserved first: `collect` would try a failed allocation again with less.
-fn marks(
+fn are_in_both(
     alloc: Global,
     vars: &[Var],
     chosen: &Option<NameSet<'_>>,
     dims: &Option<NameSet<'_>>,
 ) -> Result<Vec<bool>, AllocError>
-    ensures { IfOk result (λ marks. marks.items ≡ map (is_in_both chosen.now dims.now) vars.now) }
+    ensures { IfOk result (λ selection. selection.items ≡ map (is_in_both chosen.now dims.now) vars.now) }
 {
-    let mut marks = Vec::with_capacity(alloc, vars.len())?;
-    marks.extend(
+    let mut selection = Vec::with_capacity(alloc, vars.len())?;
+    selection.extend(
         vars.iter()
             .map(|var| has_name_of(chosen, var) && has_name_of(dims, var)),
     )?;
-    Ok(marks)
+    Ok(selection)
 }
 
 /// Returns true if the set has the variable's name, or if there is no set.

@@ -8,7 +8,7 @@ ghost use Rattle.nc_base.specs.Dump.{data_word};
 ghost use Rattle.nc_walk.specs.code.SourceUses.{source_of};
 ghost use Rattle.ncdump.specs.Calls.{call_of, sink_of};
 ghost use Rattle.ncdump.specs.Dumps.{options_of};
-ghost use Rattle.ncdump.specs.code.Shows.{dumped, marks_in, ReadFailsOnly, SaysHasSlabs, SaysIsShown, ShowsAt, ShowsFile, ShowsMarked, ShowsOrFails};
+ghost use Rattle.ncdump.specs.code.Shows.{dumped, ReadFailsOnly, SaysHasSlabs, SaysIsShown, ShowsAt, ShowsFile, ShowsOrFails, ShowsSelected, unless_head_only};
 
 use crate::fault::DumpFault;
 use crate::options::DumpOptions;
@@ -18,7 +18,7 @@ use nc_file::{Sink, Source, put};
 use nc_walk::{Walk, WalkFault};
 
 /// Writes the dump of the file that the source has: the head for `header`, and after `data:` the values of each variable whose item of
-/// `shown` is true. If the options ask for the header alone, no values are shown. The values are read through `buf`, which has at least
+/// `selection` is true. If the options ask for the header alone, no values are shown. The values are read through `buf`, which has at least
 /// 16 bytes.
 ///
 /// Does not allocate. What stands before a variable's values is written before the first of them is read. Reading is at most one
@@ -31,34 +31,34 @@ use nc_walk::{Walk, WalkFault};
 pub fn show<S: Source, W: Sink>(
     source: &mut S,
     header: &Header,
-    shown: &[bool],
+    selection: &[bool],
     options: &DumpOptions,
     buf: &mut [u8],
     sink: &mut W,
 ) -> Result<(), DumpFault>
     requires sound { IsSound header.now }
-    requires marks { length shown.now ≡ length header.now.vars }
+    requires selection { length selection.now ≡ length header.now.vars }
     requires buffer_len { 16 ≤ length buf.old }
     ensures source { ReadFailsOnly (S.view source.old) (S.view source.new) result }
     ensures sink { ShowsOrFails (W.view sink.old) (W.view sink.new) result }
-    ensures shows { OnTrue S.is_transparent (ShowsFile (options_of options.now) header.now shown.now
+    ensures shows { OnTrue S.is_transparent (ShowsFile (options_of options.now) header.now selection.now
         (call_of buf.old (source_of S.view source.old source.new) (sink_of W.view sink.old sink.new))
         result) }
 {
     let layout = record_layout(header, source.len());
     put_head(sink, options.name.as_slice(), header, layout.records)?;
     put(sink, data_word(options, header))?;
-    let marks = marks_in(options, shown);
-    show_marked(source, header, layout, marks, options.width, buf, sink)?;
+    let shown = unless_head_only(options, selection);
+    show_selected(source, header, layout, shown, options.width, buf, sink)?;
     put(sink, Word::End.bytes())?;
     Ok(())
 }
 
-/// Returns `shown`, or an empty slice if the options ask for the header alone.
-fn marks_in<'a>(options: &DumpOptions, shown: &'a [bool]) -> &'a [bool]
-    ensures { result.now ≡ marks_in (options_of options.now) shown.now }
+/// Returns `selection`, or an empty slice if the options ask for the header alone.
+fn unless_head_only<'a>(options: &DumpOptions, selection: &'a [bool]) -> &'a [bool]
+    ensures { result.now ≡ unless_head_only (options_of options.now) selection.now }
 {
-    if options.head_only { &[] } else { shown }
+    if options.head_only { &[] } else { selection }
 }
 
 /// Returns what stands before the values: `data:` and a line feed, or nothing if the options ask for the header alone or there are
@@ -74,31 +74,31 @@ fn data_word(options: &DumpOptions, header: &Header) -> &'static [u8]
     }
 }
 
-/// Writes each variable whose item of `marks` is true, if it has values, in lines of `width` bytes. A variable beyond the end of `marks`
-/// isn't written. Errs as [`show`] does.
-fn show_marked<S: Source, W: Sink>(
+/// Writes each variable whose item of `selection` is true, if it has values, in lines of `width` bytes. A variable beyond the end of
+/// `selection` isn't written. Errs as [`show`] does.
+fn show_selected<S: Source, W: Sink>(
     source: &mut S,
     header: &Header,
     layout: RecordLayout,
-    marks: &[bool],
+    selection: &[bool],
     width: usize,
     buf: &mut [u8],
     sink: &mut W,
 ) -> Result<(), DumpFault>
     requires sound { IsSound header.now }
-    requires marks { length marks.now ≤ length header.now.vars }
+    requires selection { length selection.now ≤ length header.now.vars }
     requires record_size { layout.record_size ≡ record_size header.now }
     requires buffer_len { 16 ≤ length buf.old }
     ensures source { ReadFailsOnly (S.view source.old) (S.view source.new) result }
     ensures sink { ShowsOrFails (W.view sink.old) (W.view sink.new) result }
-    ensures shows { OnTrue S.is_transparent (ShowsMarked
-        (dumped header.now (S.view source.old) layout.records width) marks.now
+    ensures shows { OnTrue S.is_transparent (ShowsSelected
+        (dumped header.now (S.view source.old) layout.records width) selection.now
         (call_of buf.old (source_of S.view source.old source.new) (sink_of W.view sink.old sink.new))
         result) }
 {
     let mut text = [0; 4096];
-    for v in 0..marks.len() {
-        if !is_shown(header, v, layout.records, marks[v]) {
+    for v in 0..selection.len() {
+        if !is_shown(header, v, layout.records, selection[v]) {
             continue;
         }
         show_variable(source, header, v, layout, width, buf, &mut text, sink)?;
@@ -106,14 +106,14 @@ fn show_marked<S: Source, W: Sink>(
     Ok(())
 }
 
-/// Returns true if `is_marked`, and the variable at index `v` has a value in a file of `count` records. In a sound header each slab has
+/// Returns true if `is_selected`, and the variable at index `v` has a value in a file of `count` records. In a sound header each slab has
 /// a value, so a variable with a slab has one.
-fn is_shown(header: &Header, v: usize, count: u64, is_marked: bool) -> bool
+fn is_shown(header: &Header, v: usize, count: u64, is_selected: bool) -> bool
     requires sound { IsSound header.now }
     requires there { v < length header.now.vars }
-    ensures { SaysIsShown header.now v count is_marked result }
+    ensures { SaysIsShown header.now v count is_selected result }
 {
-    is_marked && has_slabs(header, v, count)
+    is_selected && has_slabs(header, v, count)
 }
 
 /// Returns true if the variable at index `v` has a slab in a file of `count` records.

@@ -77,15 +77,15 @@ fn unknown_name(rt: HostRuntime) -> Result<(), Fail> {
     Ok(())
 }
 
-/// Which of the variables x and y are marked with the options of a row.
-fn marks(alloc: Global, row: &DumpRow<'_>) -> Result<Vec<bool>, DumpFault> {
+/// Which of the variables x and y the options of a row select.
+fn selection(alloc: Global, row: &DumpRow<'_>) -> Result<Vec<bool>, DumpFault> {
     let mut source = MemSource::new(test_files::COORDINATES);
     let header = nc_file::read_header(alloc, &mut source, &mut [0; 16])?;
     select(alloc, &header, &options_of(alloc, row)?)
 }
 
 #[test]
-fn marks_of_variables(rt: HostRuntime) -> Result<(), Fail> {
+fn selected_variables(rt: HostRuntime) -> Result<(), Fail> {
     const ROWS: [(bool, bool, Option<&[&[u8]]>, [bool; 2]); 4] = [
         (true, false, None, [true, true]),
         (true, true, None, [true, false]),
@@ -103,10 +103,10 @@ fn marks_of_variables(rt: HostRuntime) -> Result<(), Fail> {
             chosen,
             ..WHOLE
         };
-        let found = marks(rt.alloc(), &row)?;
+        let found = selection(rt.alloc(), &row)?;
         assert!(rt; found.as_slice() == want.as_slice(), "{want:?}");
     }
-    let answer = marks(rt.alloc(), &UNKNOWN);
+    let answer = selection(rt.alloc(), &UNKNOWN);
     assert!(rt; matches!(answer, Err(DumpFault::NoSuchVariable(1))));
     Ok(())
 }

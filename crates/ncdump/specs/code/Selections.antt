@@ -10,9 +10,9 @@ use Rattle.ncdump.specs.declared.fault.DumpFault.TheVariants.{OutOfMemory, NoSuc
 use Rattle.ncdump.specs.declared.names.NameSet.{NameSet}
 use Rattle.ncdump.specs.code.Names.{holds, holds_if}
 
--- a mark for each variable, or the first chosen name that no variable has
+-- a bool for each variable, or the first chosen name that no variable has
 abbrev pub Selects : Header → Options → Result (Vec Bool Global) DumpFault → Type 0
-Selects h o (Ok shown) = KnowsChosen h o.chosen × (shown.items ≡ map (is_selected h o) h.vars)
+Selects h o (Ok selection) = KnowsChosen h o.chosen × (selection.items ≡ map (is_selected h o) h.vars)
 Selects h o (Err OutOfMemory) = Unit {0}
 Selects h o (Err (NoSuchVariable index)) = IsFirstUnknownOf h o.chosen index
 Selects h o (Err _) = ⊥

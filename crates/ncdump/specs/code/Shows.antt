@@ -52,9 +52,9 @@ ShowsOrFails old new (Err _) = ⊥
 abbrev pub SaysHasSlabs : Header → ℕ → ℕ → Bool → Type 0
 SaysHasSlabs h v n answer = IfSome (slice_get h.vars v) (λ var. answer ≡ (nat_lt 0 n || not (is_record_var h.dims var)))
 
--- it says whether the variable is shown, that is, is marked and has a value over n records
+-- it says whether the variable is shown, that is, is selected and has a value over n records
 abbrev pub SaysIsShown : Header → ℕ → ℕ → Bool → Bool → Type 0
-SaysIsShown h v n is_marked answer = IfSome (slice_get h.vars v) (λ var. answer ≡ (is_marked && has_values h.dims n var))
+SaysIsShown h v n is_selected answer = IfSome (slice_get h.vars v) (λ var. answer ≡ (is_selected && has_values h.dims n var))
 
 -- the opening of a variable and its first k values
 abbrev pub prefix_text : Dumped → Var → ℕ → List ℕ
@@ -116,76 +116,76 @@ ShowsOne d v call (Err _) var = ⊥
 abbrev pub ShowsAt : {A : Type 0} → Dumped → ℕ → Call → Result A DumpFault → Type 0
 ShowsAt d v call result = IfSome (slice_get d.header.vars v) (ShowsOne d v call result)
 
--- ---- the marked variables
+-- ---- the selected variables
 
--- the values of the marked variables from index v on
+-- the values of the selected variables from index v on
 abbrev pub values_from : Dumped → List Bool → ℕ → Section
-values_from d marks v =
-    values_of (contents d.header (content_in d.header d.bytes d.records) d.records d.width) v (drop v d.header.vars) (drop v marks)
+values_from d selection v =
+    values_of (contents d.header (content_in d.header d.bytes d.records) d.records d.width) v (drop v d.header.vars) (drop v selection)
 
 -- of all of them
-abbrev pub marked_values : Dumped → List Bool → Section
-marked_values d marks = values_of (contents d.header (content_in d.header d.bytes d.records) d.records d.width) 0 d.header.vars marks
+abbrev pub selected_values : Dumped → List Bool → Section
+selected_values d selection = values_of (contents d.header (content_in d.header d.bytes d.records) d.records d.width) 0 d.header.vars selection
 
--- the bytes of the values before the first missing one, of each of these variables that is marked and has values
+-- the bytes of the values before the first missing one, of each of these variables that is selected and has values
 abbrev pub bytes_of : Dumped → List Var → List Bool → ℕ
-bytes_of d (var ∷ vars) (mark ∷ marks) = (if mark && has_values d.header.dims d.records var then whole_bytes d var else 0) + bytes_of d vars marks
-bytes_of d vars marks = 0
+bytes_of d (var ∷ vars) (is_selected ∷ selection) = (if is_selected && has_values d.header.dims d.records var then whole_bytes d var else 0) + bytes_of d vars selection
+bytes_of d vars selection = 0
 
 -- what stands before the values of the variables from index v on, and n bytes of values stand for it in the file
-pub record IsBefore (d : Dumped) (marks : List Bool) (v : ℕ) (prefix : List ℕ) (spent : ℕ) : Type 0 where
-  pub text_is : (marked_values d marks).text ≡ prefix ++ (values_from d marks v).text
-  pub ending_is : (marked_values d marks).ending ≡ (values_from d marks v).ending
-  pub spent_is : bytes_of d d.header.vars marks ≡ spent + bytes_of d (drop v d.header.vars) (drop v marks)
+pub record IsBefore (d : Dumped) (selection : List Bool) (v : ℕ) (prefix : List ℕ) (spent : ℕ) : Type 0 where
+  pub text_is : (selected_values d selection).text ≡ prefix ++ (values_from d selection v).text
+  pub ending_is : (selected_values d selection).ending ≡ (values_from d selection v).ending
+  pub spent_is : bytes_of d d.header.vars selection ≡ spent + bytes_of d (drop v d.header.vars) (drop v selection)
 
--- The text up to and with the first k values of a marked variable was taken, as Taken says it, and no more was read
+-- The text up to and with the first k values of a selected variable was taken, as Taken says it, and no more was read
 -- than the bytes of the values before it, of these k values, and one buffer.
-pub record KeepsUpIn (d : Dumped) (marks : List Bool) (buffer_len : ℕ) (source : SourceUse) (Taken : List ℕ → Type 0) : Type 0 where
+pub record KeepsUpIn (d : Dumped) (selection : List Bool) (buffer_len : ℕ) (source : SourceUse) (Taken : List ℕ → Type 0) : Type 0 where
   pub v : ℕ
   pub var : Var
   pub prefix : List ℕ
   pub spent : ℕ
   pub at : slice_get d.header.vars v ≡ Some var
-  pub marked : slice_get marks v ≡ Some true
+  pub selected : slice_get selection v ≡ Some true
   pub some : has_values d.header.dims d.records var ≡ true
-  pub is_before : IsBefore d marks v prefix spent
+  pub is_before : IsBefore d selection v prefix spent
   pub keeps_up : KeepsUp d var buffer_len (between (after source.before spent) source.now) (λ (values : List ℕ). Taken (prefix ++ values))
 
--- all marked variables are shown, or all values before the first missing one
-pub record AreShown (d : Dumped) (marks : List Bool) (ending : Ending) (source : SourceUse) (Taken : Section → Type 0) : Type 0 where
-  pub ends : (marked_values d marks).ending ≡ ending
-  pub taken : Taken (marked_values d marks)
+-- all selected variables are shown, or all values before the first missing one
+pub record AreShown (d : Dumped) (selection : List Bool) (ending : Ending) (source : SourceUse) (Taken : Section → Type 0) : Type 0 where
+  pub ends : (selected_values d selection).ending ≡ ending
+  pub taken : Taken (selected_values d selection)
   pub bytes : source.now.bytes ≡ source.before.bytes
-  pub most : source.now.handed ≤ source.before.handed + bytes_of d d.header.vars marks
+  pub most : source.now.handed ≤ source.before.handed + bytes_of d d.header.vars selection
 
 -- a read failed after some values
-pub record AreUnread (d : Dumped) (marks : List Bool) (buffer_len : ℕ) (source : SourceUse) (Taken : List ℕ → Type 0) : Type 0 where
+pub record AreUnread (d : Dumped) (selection : List Bool) (buffer_len : ℕ) (source : SourceUse) (Taken : List ℕ → Type 0) : Type 0 where
   pub bytes : source.now.bytes ≡ source.before.bytes
-  pub most : source.now.handed ≤ source.before.handed + bytes_of d d.header.vars marks
-  pub keeps_up : KeepsUpIn d marks buffer_len source Taken
+  pub most : source.now.handed ≤ source.before.handed + bytes_of d d.header.vars selection
+  pub keeps_up : KeepsUpIn d selection buffer_len source Taken
 
 -- no value waits: no value was read, or what was read is written but for a buffer
 abbrev pub IsUpToDate : Dumped → List Bool → ℕ → SourceUse → (List ℕ → Type 0) → Type 0
-IsUpToDate d marks buffer_len source Taken = (source.now ≡ source.before) ⊎ KeepsUpIn d marks buffer_len source Taken
+IsUpToDate d selection buffer_len source Taken = (source.now ≡ source.before) ⊎ KeepsUpIn d selection buffer_len source Taken
 
 -- a write failed, before a value was read or after some values
-pub record AreUnwritten (d : Dumped) (marks : List Bool) (buffer_len : ℕ) (source : SourceUse) (Cut : Section → Type 0) (Taken : List ℕ → Type 0) : Type 0 where
+pub record AreUnwritten (d : Dumped) (selection : List Bool) (buffer_len : ℕ) (source : SourceUse) (Cut : Section → Type 0) (Taken : List ℕ → Type 0) : Type 0 where
   pub bytes : source.now.bytes ≡ source.before.bytes
-  pub most : source.now.handed ≤ source.before.handed + bytes_of d d.header.vars marks
-  pub partway : Cut (marked_values d marks)
-  pub keeps_up : IsUpToDate d marks buffer_len source Taken
+  pub most : source.now.handed ≤ source.before.handed + bytes_of d d.header.vars selection
+  pub partway : Cut (selected_values d selection)
+  pub keeps_up : IsUpToDate d selection buffer_len source Taken
 
--- what showing the marked variables has done
-abbrev pub ShowsMarked : {A : Type 0} → Dumped → List Bool → Call → Result A DumpFault → Type 0
-ShowsMarked d marks call (Ok done) =
-    AreShown d marks whole call.source (λ (section : Section). Appended call.sink.old call.sink.new section.text)
-    × IsUpToDate d marks call.buffer_len call.source (Holds call.sink.old call.sink.new)
-ShowsMarked d marks call (Err (DataTruncated v k)) =
-    AreShown d marks (data_truncated v k) call.source (λ (section : Section). Appended call.sink.old call.sink.new section.text)
-ShowsMarked d marks call (Err ReadFailed) = AreUnread d marks call.buffer_len call.source (Appended call.sink.old call.sink.new)
-ShowsMarked d marks call (Err WriteFailed) =
-    AreUnwritten d marks call.buffer_len call.source (λ (section : Section). FailedPartway call.sink.old call.sink.new section.text) (Holds call.sink.old call.sink.new)
-ShowsMarked d marks call (Err _) = ⊥
+-- what showing the selected variables has done
+abbrev pub ShowsSelected : {A : Type 0} → Dumped → List Bool → Call → Result A DumpFault → Type 0
+ShowsSelected d selection call (Ok done) =
+    AreShown d selection whole call.source (λ (section : Section). Appended call.sink.old call.sink.new section.text)
+    × IsUpToDate d selection call.buffer_len call.source (Holds call.sink.old call.sink.new)
+ShowsSelected d selection call (Err (DataTruncated v k)) =
+    AreShown d selection (data_truncated v k) call.source (λ (section : Section). Appended call.sink.old call.sink.new section.text)
+ShowsSelected d selection call (Err ReadFailed) = AreUnread d selection call.buffer_len call.source (Appended call.sink.old call.sink.new)
+ShowsSelected d selection call (Err WriteFailed) =
+    AreUnwritten d selection call.buffer_len call.source (λ (section : Section). FailedPartway call.sink.old call.sink.new section.text) (Holds call.sink.old call.sink.new)
+ShowsSelected d selection call (Err _) = ⊥
 
 -- ---- the whole text
 
@@ -193,21 +193,21 @@ ShowsMarked d marks call (Err _) = ⊥
 abbrev pub text_before : Options → Header → ℕ → List ℕ
 text_before o h n = head_text o.name h n ++ data_word h o
 
--- the marks that count: none where the header alone is asked for
-abbrev pub marks_in : Options → List Bool → List Bool
-marks_in o marks = if o.head_only then [] else marks
+-- the selection that counts: nothing where the header alone is asked for
+abbrev pub unless_head_only : Options → List Bool → List Bool
+unless_head_only o selection = if o.head_only then [] else selection
 
--- What showing a file with this header, over n records, has done: the head, the values of the marked variables and the closing
+-- What showing a file with this header, over n records, has done: the head, the values of the selected variables and the closing
 -- brace; or what of that was written before the first missing value, or before a device failed.
 abbrev pub Shows : {A : Type 0} → Options → Header → ℕ → List Bool → Call → Result A DumpFault → Type 0
 Shows o h n shown call (Ok done) =
-    AreShown (dumped h call.source.before n o.width) (marks_in o shown) whole call.source (λ (section : Section). Appended call.sink.old call.sink.new (dump_text h o n section))
+    AreShown (dumped h call.source.before n o.width) (unless_head_only o shown) whole call.source (λ (section : Section). Appended call.sink.old call.sink.new (dump_text h o n section))
 Shows o h n shown call (Err (DataTruncated v k)) =
-    AreShown (dumped h call.source.before n o.width) (marks_in o shown) (data_truncated v k) call.source (λ (section : Section). Appended call.sink.old call.sink.new (dump_text h o n section))
+    AreShown (dumped h call.source.before n o.width) (unless_head_only o shown) (data_truncated v k) call.source (λ (section : Section). Appended call.sink.old call.sink.new (dump_text h o n section))
 Shows o h n shown call (Err ReadFailed) =
-    AreUnread (dumped h call.source.before n o.width) (marks_in o shown) call.buffer_len call.source (λ (values : List ℕ). Appended call.sink.old call.sink.new (text_before o h n ++ values))
+    AreUnread (dumped h call.source.before n o.width) (unless_head_only o shown) call.buffer_len call.source (λ (values : List ℕ). Appended call.sink.old call.sink.new (text_before o h n ++ values))
 Shows o h n shown call (Err WriteFailed) =
-    AreUnwritten (dumped h call.source.before n o.width) (marks_in o shown) call.buffer_len call.source
+    AreUnwritten (dumped h call.source.before n o.width) (unless_head_only o shown) call.buffer_len call.source
     (λ (section : Section). FailedPartway call.sink.old call.sink.new (dump_text h o n section))
     (λ (values : List ℕ). Holds call.sink.old call.sink.new (text_before o h n ++ values))
 Shows o h n shown call (Err _) = ⊥

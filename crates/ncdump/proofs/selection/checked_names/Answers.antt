@@ -1,7 +1,7 @@
 use Rattle.std.proofs.Common.{sym, ◌∙◌}
 use Rattle.ncdump.specs.code.Names.{holds}
 use Rattle.ncdump.proofs.Unknown.{all-known, first-unknown}
-use Rattle.ncdump.proofs.selection.known_names.Goals as goal
+use Rattle.ncdump.proofs.selection.checked_names.Goals as goal
 
 pub returns-in-Some : goal.returns-in-Some
 returns-in-Some c =

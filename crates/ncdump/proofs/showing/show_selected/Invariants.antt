@@ -1,13 +1,13 @@
 use Rattle.std.proofs.Common.{◌≡◌, length}
 use Rattle.ncdump.proofs.Prelude.{OnTrue, dumped}
-use Rattle.ncdump.proofs.Marked.{Marked}
-use Rattle.ncdump.proofs.showing.show_marked.Given as goal
+use Rattle.ncdump.proofs.Selected.{Selected}
+use Rattle.ncdump.proofs.showing.show_selected.Given as goal
 
--- no device has failed, and the marked variables before this place are shown
+-- no device has failed, and the selected variables before this place are shown
 abbrev pub invariant-loop-v : goal.invariant-loop-v
 invariant-loop-v g l = record {
   source : (g.S.Source.view l.source).failures ≡ (g.S.Source.view l.fn.source).failures;
   sink : (g.W.Sink.view l.sink).failures ≡ (g.W.Sink.view l.fn.sink).failures;
   buffer_len : length l.buf ≡ length l.fn.buf;
-  marked : OnTrue g.S.Source.is_transparent (Marked (dumped l.header (g.S.Source.view l.fn.source) l.layout.records l.width) l.marks (length l.fn.buf) l.v (g.S.Source.view l.fn.source) (g.S.Source.view l.source) (g.W.Sink.view l.fn.sink) (g.W.Sink.view l.sink));
+  selected : OnTrue g.S.Source.is_transparent (Selected (dumped l.header (g.S.Source.view l.fn.source) l.layout.records l.width) l.selection (length l.fn.buf) l.v (g.S.Source.view l.fn.source) (g.S.Source.view l.source) (g.W.Sink.view l.fn.sink) (g.W.Sink.view l.sink));
 }
