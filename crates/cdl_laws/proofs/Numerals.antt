@@ -1,6 +1,6 @@
 -- A decimal number is read again.
 use Rattle.std.proofs.Common.{◌≡◌, ℕ, zero, suc, ◌+◌, ◌*◌, ◌/◌, ◌%◌, ◌^◌, ◌<◌, ◌≤◌, Bool, true, false, List, [], ◌∷◌, ◌++◌, length, get_or, drop, sym, ◌∙◌, ap, refl, arith, append-nil, ℤ, pos, negsuc, unsigned_abs, decimal, ◌==◌, not, if◌then◌else◌, Some, nat_lt, Option}
-use Rattle.cdl_laws.proofs.Prelude.{signed_decimal, digits_onto, digits, digit_glyph, prefix_len, list_all, eqb-true, first_decimal, decimal_nonempty, drop-append_seam, take-append_seam, NcType, Byte, Char, Short, Int, Ubyte, Ushort, Uint, Int64, Uint64, Version, Cdf1, Cdf2, Cdf5, number_suffix, is_char, has_type, digit, is_digit, is_sign, goes_on_number, number_in, suffix, in_base, unsigned, numeral, parts, Parts, option_map, list_all-append, and_left, and_right, and_both, is_off, not_none}
+use Rattle.cdl_laws.proofs.Prelude.{signed_decimal, digits_onto, digits, digit_glyph, prefix_len, list_all, eqb-true, first_decimal, decimal_nonempty, drop-append_seam, take-append_seam, NcType, Byte, Char, Short, Int, Ubyte, Ushort, Uint, Int64, Uint64, Version, Cdf1, Cdf2, Cdf5, number_suffix, is_char, has_type, digit_value, is_digit, is_sign, goes_on_number, number_in, suffix, in_base, unsigned, numeral, parts, Parts, option_map, list_all-append, and_left, and_right, and_both, is_off, not_none}
 use native.Mathlib.Numerals.{unary_clauses}
 use Rattle.cdl_tokens.specs.Numerals.{number as number_of}
 use Rattle.cdl_laws.proofs.Texts.{Reads, number, digits_read, minus_reads}
@@ -13,7 +13,7 @@ glyph n = let e : nat_lt (n % 10) 10 ≡ true = grind arith in rw (e) refl
 glyph_digit : (n : ℕ) → is_digit (digit_glyph false (n % 10)) ≡ true
 glyph_digit n = rw (glyph n) (grind arith)
 
-glyph_value : (n : ℕ) → digit (digit_glyph false (n % 10)) ≡ n % 10
+glyph_value : (n : ℕ) → digit_value (digit_glyph false (n % 10)) ≡ n % 10
 glyph_value n = rw (glyph n) (let e : is_digit (48 + n % 10) ≡ true = grind arith in rw (e) (omega arith))
 
 onto_digits : (k n : ℕ) (acc : List ℕ) → list_all is_digit acc ≡ true → list_all is_digit (digits_onto k 10 false n acc) ≡ true

@@ -1,6 +1,6 @@
 -- An escaped string between quotes is one token that stands for it.
 use Rattle.std.proofs.Common.{◌≡◌, ℕ, suc, ◌+◌, ◌*◌, ◌-◌, ◌/◌, ◌%◌, ◌<◌, true, false, List, [], ◌∷◌, ◌++◌, length, drop, take, sym, ◌∙◌, ap, refl, subst, arith, append_assoc, length-append, ◌==◌, nat_lt, map, Some, is_some}
-use Rattle.cdl_laws.proofs.Prelude.{is_ascii_control, flat_map, list_all, false≢true, eqb-true, take-append_seam, escaped_in_string, octal_escape, digit, is_octal, is_digit, number_in, until, scan, scan_text, character, byte, plain_escape, unescape, unescape_at, Lexeme, until_at_start}
+use Rattle.cdl_laws.proofs.Prelude.{is_ascii_control, flat_map, list_all, false≢true, eqb-true, take-append_seam, escaped_in_string, octal_escape, digit_value, is_octal, is_digit, number_in, until, scan, scan_text, character, byte, plain_escape, unescape, unescape_at, Lexeme, until_at_start}
 use Rattle.cdl_tokens.specs.declared.token.TokenKind.TheVariants as kinds
 use Rattle.cdl_laws.proofs.Texts.{Closed, prefix_again}
 
@@ -68,7 +68,7 @@ middle_octal b = grind arith
 low_octal : (b : ℕ) → is_octal (48 + b % 8) ≡ true
 low_octal b = grind arith
 
-digit_octal : (n : ℕ) → n < 8 → digit (48 + n) ≡ n
+digit_octal : (n : ℕ) → n < 8 → digit_value (48 + n) ≡ n
 digit_octal n h = let e : is_digit (48 + n) ≡ true = grind arith in rw (e) (omega arith)
 
 octal_value : (b : ℕ) → b < 256 → byte (number_in 8 0 ((48 + b / 64) ∷ (48 + b / 8 % 8) ∷ (48 + b % 8) ∷ [])) ≡ Some b

@@ -1,6 +1,6 @@
 -- Decimal numbers, digit by digit.
 use Rattle.std.proofs.Common.{◌≡◌, ℕ, true, false, ◌+◌, ◌*◌, ◌-◌, ◌<◌, List, [], ◌∷◌, get_or, length, take, drop, refl, sym, ap, ◌∙◌, arith, Bool, Some, ◌==◌, nat_lt, option_map, slice_index}
-use Rattle.cdl_tokens.proofs.Prelude.{common_steps, prefix_len, take_while, Version, digit, is_digit, number_in, ReadsDigits, held, in_decimal, suffix}
+use Rattle.cdl_tokens.proofs.Prelude.{common_steps, prefix_len, take_while, Version, digit_value, is_digit, number_in, ReadsDigits, held, in_decimal, suffix}
 use Rattle.nc_base.specs.declared.nc_type.NcType.{NcType}
 use Rattle.cdl_tokens.proofs.Steps.{take_one_more}
 
@@ -19,7 +19,7 @@ one_digit bs i value h is read =
     let cons = there bs i h in
     let more = one_more (get_or bs i 0) (drop (i + 1) bs) is in
     let n : prefix_len is_digit (drop i bs) ≡ 1 + prefix_len is_digit (drop (i + 1) bs) = ap (prefix_len is_digit) cons ∙ more.0 in
-    let worth : digit (get_or bs i 0) ≡ get_or bs i 0 - 0x30 = rw (is) refl in
+    let worth : digit_value (get_or bs i 0) ≡ get_or bs i 0 - 0x30 = rw (is) refl in
     record {
       within = omega (arith, h);
       count = omega (arith, n, read.count);

@@ -1,7 +1,7 @@
 -- Numbers of any length.
 use Rattle.std.proofs.Common.{◌≡◌, ℕ, ◌+◌, ◌-◌, ◌*◌, ◌^◌, ◌<◌, ◌≤◌, true, List, [], ◌∷◌, length, get_or, drop, ◌∙◌, ap, arith, rules, None}
 use Rattle.std.proofs.Math.Nat.{mul-le-mul_right}
-use Rattle.cdl_tokens.proofs.Prelude.{pow_more, at_drop_more, digit, is_digit, number_in, word}
+use Rattle.cdl_tokens.proofs.Prelude.{pow_more, at_drop_more, digit_value, is_digit, number_in, word}
 use Rattle.std.proofs.Math.Nat.{pow-le-pow_right}
 
 grows : (base s : ℕ) → 1 ≤ base → s ≤ base * s
@@ -9,19 +9,19 @@ grows base s h = grind arith
 
 above : (s base : ℕ) (bs : List ℕ) → 1 ≤ base → s ≤ number_in base s bs
 above s base [] h = search rules
-above s base (b ∷ bs) h = let g = grows base s h in let a = above (base * s + digit b) base bs h in omega (arith, g, a)
+above s base (b ∷ bs) h = let g = grows base s h in let a = above (base * s + digit_value b) base bs h in omega (arith, g, a)
 
 past : (n m : ℕ) → n ≤ m → word n ≡ None → word m ≡ None
 past n m h k = grind (arith, h, k)
 
-pub past_limit : (base value b : ℕ) (bs : List ℕ) → 1 ≤ base → word (base * value + digit b) ≡ None → word (number_in base value (b ∷ bs)) ≡ None
-past_limit base value b bs h k = past (base * value + digit b) (number_in base (base * value + digit b) bs) (above (base * value + digit b) base bs h) k
+pub past_limit : (base value b : ℕ) (bs : List ℕ) → 1 ≤ base → word (base * value + digit_value b) ≡ None → word (number_in base value (b ∷ bs)) ≡ None
+past_limit base value b bs h k = past (base * value + digit_value b) (number_in base (base * value + digit_value b) bs) (above (base * value + digit_value b) base bs h) k
 
 pub one_digit : (base value : ℕ) (digits : List ℕ) (i : ℕ) → i < length digits →
-    number_in base value (drop i digits) ≡ number_in base (base * value + digit (get_or digits i 0)) (drop (i + 1) digits)
+    number_in base value (drop i digits) ≡ number_in base (base * value + digit_value (get_or digits i 0)) (drop (i + 1) digits)
 one_digit base value digits i k = at_drop_more (λ bs. number_in base value bs) digits i 0 k
 
-pub past_word : (base value : ℕ) (digits : List ℕ) (i : ℕ) → 1 ≤ base → i < length digits → word (base * value + digit (get_or digits i 0)) ≡ None → word (number_in base value (drop i digits)) ≡ None
+pub past_word : (base value : ℕ) (digits : List ℕ) (i : ℕ) → 1 ≤ base → i < length digits → word (base * value + digit_value (get_or digits i 0)) ≡ None → word (number_in base value (drop i digits)) ≡ None
 past_word base value digits i h k none = ap word (at_drop_more (λ bs. number_in base value bs) digits i 0 k) ∙ past_limit base value (get_or digits i 0) (drop (i + 1) digits) h none
 
 -- a short number's product with a base

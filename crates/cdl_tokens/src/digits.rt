@@ -2,7 +2,7 @@
 
 ghost use Rattle.std.specs.Prelude.{◌≡◌, ◌≤◌, ◌+◌, ◌*◌, length};
 ghost use Rattle.std.specs.List.{prefix_len};
-ghost use Rattle.cdl_tokens.specs.Bytes.{digit, is_digit, is_hex, is_octal, number_in};
+ghost use Rattle.cdl_tokens.specs.Bytes.{digit_value, is_digit, is_hex, is_octal, number_in};
 ghost use Rattle.cdl_tokens.specs.code.Magnitudes.{word};
 
 use crate::bytes::{is_digit, is_hex, is_octal};
@@ -11,8 +11,8 @@ use crate::bytes::{is_digit, is_hex, is_octal};
 const SMALL: u64 = 1 << 59;
 
 /// Returns the value of an octal, decimal or hexadecimal digit, in either case. For any other byte the result means nothing.
-fn digit(b: u8) -> u8
-    ensures { result ≡ digit b }
+fn digit_value(b: u8) -> u8
+    ensures { result ≡ digit_value b }
 {
     if is_digit(b) {
         b - b'0'
@@ -64,11 +64,11 @@ pub fn number_in(base: u64, digits: &[u8]) -> Option<u64>
 #[tactic(auto, using(crate::proofs::Sizes::small_product))]
 fn one_more(base: u64, value: u64, b: u8) -> Option<u64>
     requires { base ≤ 16 }
-    ensures { result ≡ word (base * value + digit b) }
+    ensures { result ≡ word (base * value + digit_value b) }
 {
     // For most numbers, neither the product nor the sum can be too large.
     if value < SMALL {
-        return Some(base * value + digit(b) as u64);
+        return Some(base * value + digit_value(b) as u64);
     }
-    base.checked_mul(value)?.checked_add(digit(b) as u64)
+    base.checked_mul(value)?.checked_add(digit_value(b) as u64)
 }

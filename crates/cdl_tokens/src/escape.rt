@@ -105,7 +105,7 @@ pub fn character(bytes: &[u8]) -> Character
 
 /// Returns how many bytes come before the first backslash. If there is none, returns the number of all bytes.
 #[tactic(auto, using(crate::proofs::Searches::before_one))]
-pub fn unescaped_len(bytes: &[u8]) -> usize
+pub fn len_before_escape(bytes: &[u8]) -> usize
     ensures len { result ≡ prefix_len is_unescaped bytes.now }
     ensures within { result ≤ length bytes.now }
 {
@@ -116,7 +116,7 @@ pub fn unescaped_len(bytes: &[u8]) -> usize
 pub fn is_string(raw: &[u8]) -> bool
     ensures { result ≡ list_all is_some (unescape raw.now) }
 {
-    let mut at = unescaped_len(raw);
+    let mut at = len_before_escape(raw);
     while at < raw.len() {
         let (_, escape) = raw.split_at(at);
         let found = character(escape);
@@ -128,7 +128,7 @@ pub fn is_string(raw: &[u8]) -> bool
         }
         at += found.len;
         let (_, rest) = raw.split_at(at);
-        at += unescaped_len(rest);
+        at += len_before_escape(rest);
     }
     true
 }

@@ -25,7 +25,7 @@ mod search;
 mod token;
 
 pub use bytes::{byte_at, first_bytes, is_escape};
-pub use escape::{character, unescaped_len};
+pub use escape::{character, len_before_escape};
 pub use numeral::{Numeral, number_of_token};
 pub use scan::{Character, Scanned};
 pub use scanner::{ListedNumber, ListedToken, Scanner};

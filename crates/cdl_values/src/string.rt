@@ -13,7 +13,7 @@ ghost use Rattle.cdl_values.specs.declared.read_error.ReadError.TheVariants.{Fau
 use crate::filling::is_past;
 use crate::read_error::ReadError;
 use cdl_statements::CdlKind;
-use cdl_tokens::{character, first_bytes, unescaped_len};
+use cdl_tokens::{character, first_bytes, len_before_escape};
 use nc_base::ListedArray;
 use std::alloc::AllocError;
 
@@ -111,7 +111,7 @@ fn put_unescaped(array: &mut ListedArray, bytes: &[u8]) -> Result<usize, AllocEr
     ensures len { IfOk result (λ n. n ≡ prefix_len is_unescaped bytes.now) }
     ensures within { IfOk result (λ n. n ≤ length bytes.now) }
 {
-    let n = unescaped_len(bytes);
+    let n = len_before_escape(bytes);
     let (first, _) = bytes.split_at(n);
     array.add(first)?;
     Ok(n)

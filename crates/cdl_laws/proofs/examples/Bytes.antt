@@ -1,6 +1,6 @@
 -- Which bytes belong to each class, and what each escape of a string stands for, over all bytes, by computation.
 use Rattle.std.proofs.Common.{◌≡◌, ℕ, List, [], ◌∷◌, ◌++◌, refl, codes, filter, map, not, ◌==◌, if◌then◌else◌, None, Some, Option, is_some}
-use Rattle.cdl_laws.proofs.Prelude.{to_ascii_lowercase, list_all, range_with_len, digit, is_blank, is_digit, is_octal, is_hex, begins_word, goes_on_word, goes_on_number, is_sign, is_escape, plain_escape, unescape, unescape_at, stands, character}
+use Rattle.cdl_laws.proofs.Prelude.{to_ascii_lowercase, list_all, range_with_len, digit_value, is_blank, is_digit, is_octal, is_hex, begins_word, goes_on_word, goes_on_number, is_sign, is_escape, plain_escape, unescape, unescape_at, stands, character}
 use Rattle.cdl_tokens.specs.Bytes.{is_mark}
 
 abbrev all_bytes : List ℕ
@@ -49,7 +49,7 @@ backslash = refl
 
 -- ---- digits and letters
 
-digits_of_base_16 : map digit (codes "0123456789ABCDEFabcdef") ≡ from 0 16 ++ from 10 6
+digits_of_base_16 : map digit_value (codes "0123456789ABCDEFabcdef") ≡ from 0 16 ++ from 10 6
 digits_of_base_16 = refl
 
 upper_case : filter (λ b. not (to_ascii_lowercase b == b)) all_bytes ≡ codes "ABCDEFGHIJKLMNOPQRSTUVWXYZ"

@@ -4,7 +4,7 @@ use Rattle.cdl_tokens.proofs.Strings.{string_run, unescape_more, unescape_past}
 use Rattle.cdl_tokens.proofs.escape.is_string.Goals as goal
 
 pub loop-at-init : goal.loop-at-init
-loop-at-init c = record { within = c.unescaped_len-at.ensures.within; rest = sym (string_run c.args.raw.now c.unescaped_len-at.result c.unescaped_len-at.ensures.len) }
+loop-at-init c = record { within = c.len_before_escape-at.ensures.within; rest = sym (string_run c.args.raw.now c.len_before_escape-at.result c.len_before_escape-at.ensures.len) }
 
 pub returns-then-is_none : goal.returns-then-is_none
 returns-then-is_none c =
@@ -25,7 +25,7 @@ loop-at-preserved c =
     let at = c.loop-at.at + c.character-found.result.len in
     let step = unescape_more raw c.loop-at.at c.character-found.result c.loop-at-test.true (c.character-found.ensures.character ∙ ap character c.split_at.ensures.back) c.character-found.ensures.some in
     let h : is_some c.character-found.result.value ≡ true = search rules in
-    let run = c.unescaped_len-at-in-loop-at in
+    let run = c.len_before_escape-at-in-loop-at in
     let unescaped = string_run (drop at raw) run.result (run.ensures.len ∙ ap (λ bs. prefix_len is_unescaped bs) c.split_at-in-loop-at.ensures.back) in
     record {
       within = omega (arith, run.ensures.within, c.if-found-escape.false, c.split_at.ensures.back_len, c.split_at-in-loop-at.ensures.back_len);
