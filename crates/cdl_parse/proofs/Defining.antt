@@ -1,7 +1,7 @@
 -- What the statements before the data section make of the state.
 use Rattle.std.proofs.Common.{◌≡◌, Bool, true, false, List, [], ◌∷◌, drop, refl, sym, ap, ◌∙◌, subst, Option, None, Some, is_some, Result, Ok, Err, if◌then◌else◌}
 use Rattle.std.specs.Prelude.{⊤}
-use Rattle.cdl_parse.proofs.Prelude.{false≢true, Att, Dim, Version, attribute_said, declaration_said, dimensions_said, mark_said, other_said, statement_said, variable_said, is_done, next_token, text_of, words, Cutter, completes, goes_to, is_whole, next, only, word_value, Lexeme, lexeme, is_mark, is_word_kind, Brace, End, Statement, Typed, first_bad, section_of, shape, Due, CdlKind, Syntax, Section, Unopened, Globals, Dimensions, Variables, Values, Closed, Ended, piece_read, State, Draft, act, add_att, add_dim, add_var, at_variable, in_turn, type_of, with_att, FailsRead, Leaves, name_first, ReadError, OutOfMemory, Fault, constants_said, declared, Makes, after_mark, is_defining, is_over, state_of}
+use Rattle.cdl_parse.proofs.Prelude.{false≢true, Att, Dim, Version, attribute_said, declaration_said, dimensions_said, mark_said, other_said, statement_said, variable_said, is_done, next_token, text_of, words, Cutter, completes, opens_section_after, is_whole, next, only, word_value, Lexeme, lexeme, is_mark, is_word_kind, Brace, End, Statement, Typed, first_bad, section_of, shape, Due, CdlKind, Syntax, Section, Unopened, Globals, Dimensions, Variables, Values, Closed, Ended, piece_read, State, Draft, act, add_att, add_dim, add_var, at_variable, in_turn, type_of, with_att, FailsRead, Leaves, name_first, ReadError, OutOfMemory, Fault, constants_said, declared, Makes, after_mark, is_defining, is_over, state_of}
 use Rattle.cdl_statements.specs.code.DueTokens.{is_name}
 use Rattle.cdl_statements.specs.Shapes.{Declared}
 use Rattle.cdl_statements.specs.declared.due.Due.TheVariants as dues
@@ -106,22 +106,22 @@ makes_first_mark v s l ls ws section off other is =
 
 -- ---- the section of the dimensions
 
-said_dimension : (v : Version) (l : Lexeme) (ls : List Lexeme) (b : Bool) → goes_to Dimensions l ≡ b → other_said v Dimensions l ls ≡ (if b then mark_said (section_of l) else Declared (dimensions_said v (l ∷ ls)))
+said_dimension : (v : Version) (l : Lexeme) (ls : List Lexeme) (b : Bool) → opens_section_after Dimensions l ≡ b → other_said v Dimensions l ls ≡ (if b then mark_said (section_of l) else Declared (dimensions_said v (l ∷ ls)))
 said_dimension v l ls b is = rw (is) refl
 
-pub makes_dimension_mark : (v : Version) (s : State) (l : Lexeme) (ls ws : List Lexeme) → is_mark 0x7d l ≡ false → is_mark 0x3a l ≡ false → goes_to Dimensions l ≡ true → ws ≡ l ∷ ls →
+pub makes_dimension_mark : (v : Version) (s : State) (l : Lexeme) (ls ws : List Lexeme) → is_mark 0x7d l ≡ false → is_mark 0x3a l ≡ false → opens_section_after Dimensions l ≡ true → ws ≡ l ∷ ls →
     act v s (statement_said v Dimensions ws) ≡ Ok (record s { section = after_mark (section_of l) })
 makes_dimension_mark v s l ls ws off other on is =
     ap (λ all. act v s (statement_said v Dimensions all)) is ∙ ap (act v s) (said_other v Dimensions l ls refl off other ∙ said_dimension v l ls true on) ∙ mark_acts v s (section_of l)
 
-pub goes_dimensions : (l : Lexeme) (ls ws : List Lexeme) → is_mark 0x7d l ≡ false → is_mark 0x3a l ≡ false → goes_to Dimensions l ≡ false → ws ≡ l ∷ ls → completes (dues.First Dimensions) ws ≡ true → completes dues.DimensionName ws ≡ true
+pub goes_dimensions : (l : Lexeme) (ls ws : List Lexeme) → is_mark 0x7d l ≡ false → is_mark 0x3a l ≡ false → opens_section_after Dimensions l ≡ false → ws ≡ l ∷ ls → completes (dues.First Dimensions) ws ≡ true → completes dues.DimensionName ws ≡ true
 unfolding completes next
 goes_dimensions l ls ws off other no-mark is whole =
     ap (completes dues.DimensionName) is ∙
     ap (λ d. completes d ls) (rw (off) (rw (other) (rw (no-mark) (let e : only (is_name l) dues.LengthEquals ≡ only (is_name l) dues.LengthEquals = refl in e)))) ∙
     sym (ap (completes (dues.First Dimensions)) is) ∙ whole
 
-pub makes_dimensions : (v : Version) (s : State) (l : Lexeme) (ls ws : List Lexeme) (dims : List Dim) (r : Result ⊤ ReadError) → is_mark 0x7d l ≡ false → is_mark 0x3a l ≡ false → goes_to Dimensions l ≡ false → ws ≡ l ∷ ls →
+pub makes_dimensions : (v : Version) (s : State) (l : Lexeme) (ls ws : List Lexeme) (dims : List Dim) (r : Result ⊤ ReadError) → is_mark 0x7d l ≡ false → is_mark 0x3a l ≡ false → opens_section_after Dimensions l ≡ false → ws ≡ l ∷ ls →
     Leaves dims r (in_turn (add_dim v) s.dims (dimensions_said v ws)) → Makes (record s { dims = dims }) r (act v s (statement_said v Dimensions ws))
 unfolding act
 makes_dimensions v s l ls ws dims r off other no-mark is h =
@@ -131,14 +131,14 @@ makes_dimensions v s l ls ws dims r off other no-mark is h =
 
 -- ---- the section of the variables
 
-next_variables : (l : Lexeme) → is_mark 0x7d l ≡ false → is_mark 0x3a l ≡ false → next (dues.First Variables) l ≡ only (is_word_kind l.kind) (dues.AfterWord (is_name l) (goes_to Variables l))
+next_variables : (l : Lexeme) → is_mark 0x7d l ≡ false → is_mark 0x3a l ≡ false → next (dues.First Variables) l ≡ only (is_word_kind l.kind) (dues.AfterWord (is_name l) (opens_section_after Variables l))
 unfolding next
 next_variables l off other = rw (off) (rw (other) refl)
 
 pub goes_word : (l : Lexeme) (ends : Bool) (ls ws : List Lexeme) → is_mark 0x7d l ≡ false → is_mark 0x3a l ≡ false → ws ≡ l ∷ (if ends then [] else ls) → completes (dues.First Variables) ws ≡ true →
-    (ends ≡ false) × (is_word_kind l.kind ≡ true) × (completes (dues.AfterWord (is_name l) (goes_to Variables l)) ls ≡ true)
+    (ends ≡ false) × (is_word_kind l.kind ≡ true) × (completes (dues.AfterWord (is_name l) (opens_section_after Variables l)) ls ≡ true)
 goes_word l ends ls ws off other first whole =
-    goes_past (dues.First Variables) (dues.AfterWord (is_name l) (goes_to Variables l)) l (is_word_kind l.kind) ends ls ws (next_variables l off other) refl first whole
+    goes_past (dues.First Variables) (dues.AfterWord (is_name l) (opens_section_after Variables l)) l (is_word_kind l.kind) ends ls ws (next_variables l off other) refl first whole
 
 said_variable : (v : Version) (l c : Lexeme) (ls : List Lexeme) → is_mark 0x7d l ≡ false → is_mark 0x3a l ≡ false → statement_said v Variables (l ∷ c ∷ ls) ≡ variable_said v l (c ∷ ls)
 said_variable v l c ls off other = said_other v Variables l (c ∷ ls) refl off other
@@ -180,12 +180,12 @@ unfolding act completes
 said_attribute v s l c [] on named whole = cc
 said_attribute v s l c (n ∷ ls) on named whole = rw (on) (rw (named) refl)
 
-pub goes_attribute : (l c : Lexeme) (ls rest : List Lexeme) → is_mark 0x3a c ≡ true → is_name l ≡ true → ls ≡ c ∷ rest → completes (dues.AfterWord (is_name l) (goes_to Variables l)) ls ≡ true → completes dues.AttributeName rest ≡ true
+pub goes_attribute : (l c : Lexeme) (ls rest : List Lexeme) → is_mark 0x3a c ≡ true → is_name l ≡ true → ls ≡ c ∷ rest → completes (dues.AfterWord (is_name l) (opens_section_after Variables l)) ls ≡ true → completes dues.AttributeName rest ≡ true
 unfolding completes
-goes_attribute l c ls rest on named second whole = ap (λ d. completes d rest) (sym (next_colon (is_name l) (goes_to Variables l) c on named)) ∙ sym (ap (completes (dues.AfterWord (is_name l) (goes_to Variables l))) second) ∙ whole
+goes_attribute l c ls rest on named second whole = ap (λ d. completes d rest) (sym (next_colon (is_name l) (opens_section_after Variables l) c on named)) ∙ sym (ap (completes (dues.AfterWord (is_name l) (opens_section_after Variables l))) second) ∙ whole
 
 pub makes_attribute : (v : Version) (s : State) (l c : Lexeme) (rest ls ws : List Lexeme) (drafts : List Draft) (r : Result ⊤ ReadError) →
-    is_mark 0x7d l ≡ false → is_mark 0x3a l ≡ false → is_mark 0x3a c ≡ true → is_name l ≡ true → ls ≡ c ∷ rest → ws ≡ l ∷ ls → completes (dues.AfterWord (is_name l) (goes_to Variables l)) ls ≡ true →
+    is_mark 0x7d l ≡ false → is_mark 0x3a l ≡ false → is_mark 0x3a c ≡ true → is_name l ≡ true → ls ≡ c ∷ rest → ws ≡ l ∷ ls → completes (dues.AfterWord (is_name l) (opens_section_after Variables l)) ls ≡ true →
     Leaves drafts r (at_variable (name_first ws) (with_att (name_first (drop 2 ws)) (constants_said v (drop 2 ws))) s.drafts) → Makes (record s { drafts = drafts }) r (act v s (statement_said v Variables ws))
 makes_attribute v s l c rest ls ws drafts r off other on named second first whole h =
     let here : ws ≡ l ∷ c ∷ rest = first ∙ ap (λ all. l ∷ all) second in
@@ -213,7 +213,7 @@ pub record SecondOn (start next : Cutter) : Type 0 where
   pub rest : List Lexeme
   pub first : words start ≡ lexeme (text_of start) (next_token start) ∷ words next
   pub second : words next ≡ lexeme (text_of next) (next_token next) ∷ rest
-  pub due : completes (dues.AfterWord (is_name (lexeme (text_of start) (next_token start))) (goes_to Variables (lexeme (text_of start) (next_token start)))) (words next) ≡ true
+  pub due : completes (dues.AfterWord (is_name (lexeme (text_of start) (next_token start))) (opens_section_after Variables (lexeme (text_of start) (next_token start)))) (words next) ≡ true
 
 pub second_on : (start second : Cutter) (ends : Bool) → is_mark 0x7d (lexeme (text_of start) (next_token start)) ≡ false → is_mark 0x3a (lexeme (text_of start) (next_token start)) ≡ false →
     completes (dues.First Variables) (words start) ≡ true → words start ≡ lexeme (text_of start) (next_token start) ∷ (if ends then [] else words second) → (ends ≡ false → is_done second ≡ false) → SecondOn start second

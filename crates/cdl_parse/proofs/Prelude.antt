@@ -32,7 +32,7 @@ pub use Rattle.cdl_statements.specs.code.CutSteps.{step}
 unfoldable pub use Rattle.cdl_statements.specs.code.CutSteps.{pieces_after}
 pub use Rattle.cdl_statements.specs.code.Cutters.{first_line, first_piece, is_done, next_token, offset_of, other_pieces, text_of, tokens_left, version_of}
 unfoldable pub use Rattle.cdl_statements.specs.code.Cutters.{after, pieces_left, words}
-pub use Rattle.cdl_statements.specs.code.DueTokens.{goes_to, is_value_of, is_whole, only}
+pub use Rattle.cdl_statements.specs.code.DueTokens.{opens_section_after, is_value_of, is_whole, only}
 unfoldable pub use Rattle.cdl_statements.specs.code.DueTokens.{completes, next}
 pub use Rattle.cdl_statements.specs.code.Views.{lexeme_of}
 pub use Rattle.cdl_statements.specs.declared.cutter.Cutter.{Cutter}

@@ -133,7 +133,7 @@ impl Definitions {
         ensures { Makes (state_of self.new) result (said_by start.entry Section.Dimensions self.old) }
     {
         let word = start.lexeme();
-        if word.goes_to(Section::Dimensions) {
+        if word.opens_section_after(Section::Dimensions) {
             self.go_to(word);
             return Ok(());
         }

@@ -1,6 +1,6 @@
 -- The table of due tokens says whether a piece has its shape, in the section of the dimensions.
 use Rattle.std.proofs.Common.{◌≡◌, Bool, true, false, List, [], ◌∷◌, refl, ap, ◌∙◌, Option, None, Some, if◌then◌else◌, is_some}
-use Rattle.cdl_statements.proofs.Prelude.{option_map, option_and_then, Version, dimensions_said, only, next, completes, is_name, goes_to, Lexeme, is_mark, name_of, Dimension, Statement, Declared, Brace, Attribute, first_bad, assigned, dimensions, given, before_mark, either, alone, section_mark, body, shape, global, Dimensions}
+use Rattle.cdl_statements.proofs.Prelude.{option_map, option_and_then, Version, dimensions_said, only, next, completes, is_name, opens_section_after, Lexeme, is_mark, name_of, Dimension, Statement, Declared, Brace, Attribute, first_bad, assigned, dimensions, given, before_mark, either, alone, section_mark, body, shape, global, Dimensions}
 use Rattle.cdl_statements.specs.declared.due.Due.TheVariants as dues
 use Rattle.cdl_statements.proofs.Dimensions.{listed_dims, dims_are}
 use Rattle.cdl_statements.proofs.Listing.{never_completes, only_completes, fine_on}
@@ -57,12 +57,12 @@ mapped false a = refl
 
 pub dims_complete : (v : Version) (l : Lexeme) (ls : List Lexeme) → first_bad v (l ∷ ls) ≡ None → is_some (shape v Dimensions (l ∷ ls)) ≡ completes (dues.First Dimensions) (l ∷ ls)
 unfolding shape completes next
-dims_complete v l ls good = by (is_mark 0x7d l) (is_mark 0x3a l) (goes_to Dimensions l) refl refl refl
+dims_complete v l ls good = by (is_mark 0x7d l) (is_mark 0x3a l) (opens_section_after Dimensions l) refl refl refl
   where
     after : Option Statement
     after = either (section_mark Dimensions (l ∷ ls)) (body_to v (l ∷ ls))
 
-    by : (b c g : Bool) → is_mark 0x7d l ≡ b → is_mark 0x3a l ≡ c → goes_to Dimensions l ≡ g →
+    by : (b c g : Bool) → is_mark 0x7d l ≡ b → is_mark 0x3a l ≡ c → opens_section_after Dimensions l ≡ g →
         is_some (either (alone (is_mark 0x7d) Brace (l ∷ ls)) after) ≡
         completes (if b then dues.Nothing else (if c then dues.AttributeName else (if g then dues.Colon else only (is_name l) dues.LengthEquals))) ls
     by true c g on is-c is-g =

@@ -9,7 +9,7 @@ pub use Rattle.cdl_statements.specs.code.CutSteps.{ending, section_step, step, u
 unfoldable pub use Rattle.cdl_statements.specs.code.CutSteps.{pieces_after}
 pub use Rattle.cdl_statements.specs.code.Cutters.{first_line, first_piece, is_done, next_token, offset_of, other_pieces, text_of, tokens_left, version_of}
 unfoldable pub use Rattle.cdl_statements.specs.code.Cutters.{after, pieces_left, words}
-pub use Rattle.cdl_statements.specs.code.DueTokens.{goes_to, is_after, is_length, is_name, is_number, is_value_of, is_whole, only, separator}
+pub use Rattle.cdl_statements.specs.code.DueTokens.{is_after, is_length, is_name, is_number, is_value_of, is_whole, only, opens_section_after, separator}
 unfoldable pub use Rattle.cdl_statements.specs.code.DueTokens.{completes, next}
 pub use Rattle.cdl_statements.specs.code.ListedTokens.{IsAtComma, Passes, PassesString}
 pub use Rattle.cdl_statements.specs.code.NumberLists.{SamePlace, reached}

@@ -44,24 +44,24 @@ not_reference d xs h = by (is_mark 0x2c d) refl
     by true on = ap inside (members_at true true (is_mark 0x28 d) (is_mark 0x29 d) d xs on refl refl) ∙ no_reference d (members_in (is_mark 0x28 d || not (is_mark 0x29 d)) xs) h
     by false off = ap inside (members_at true false (is_mark 0x28 d) (is_mark 0x29 d) d xs off refl refl) ∙ no_reference d (members_in (is_mark 0x28 d || not (is_mark 0x29 d)) xs) h
 
-pub reference_end : (s : Lexeme) → given (is_mark 0x3b s) (inside (members_in true [])) ≡ if_whole dues.ReferenceName (s ∷ []) (declaration_said true (s ∷ []))
+pub reference_end : (s : Lexeme) → given (is_mark 0x3b s) (inside (members_in true [])) ≡ if_whole dues.VariableDimension (s ∷ []) (declaration_said true (s ∷ []))
 unfolding completes next
 reference_end s = given_none (is_mark 0x3b s) ∙ by (is_name s)
   where
-    by : (w : Bool) → None ≡ (if is_whole (only w dues.AfterReference) then Some (declaration_said true (s ∷ [])) else None)
+    by : (w : Bool) → None ≡ (if is_whole (only w dues.AfterVariableDimension) then Some (declaration_said true (s ∷ [])) else None)
     by true = refl
     by false = refl
 
 pub reference_more : (s d : Lexeme) (xs : List Lexeme) → Claims s xs →
-    given (is_mark 0x3b s) (inside (members_in true (d ∷ xs))) ≡ if_whole dues.ReferenceName (d ∷ xs ++ s ∷ []) (declaration_said true (d ∷ xs ++ s ∷ []))
+    given (is_mark 0x3b s) (inside (members_in true (d ∷ xs))) ≡ if_whole dues.VariableDimension (d ∷ xs ++ s ∷ []) (declaration_said true (d ∷ xs ++ s ∷ []))
 unfolding completes next
 reference_more s d xs k = by (is_name d) refl
   where
     by : (w : Bool) → is_name d ≡ w →
-        given (is_mark 0x3b s) (inside (members_in true (d ∷ xs))) ≡ (if completes (only w dues.AfterReference) (xs ++ s ∷ []) then Some (declaration_said true (d ∷ xs ++ s ∷ [])) else None)
+        given (is_mark 0x3b s) (inside (members_in true (d ∷ xs))) ≡ (if completes (only w dues.AfterVariableDimension) (xs ++ s ∷ []) then Some (declaration_said true (d ∷ xs ++ s ∷ [])) else None)
     by true on =
         ap (λ ms. given (is_mark 0x3b s) (inside ms)) (members_at true false false false d xs (name_mark 0x2c d on) (name_mark 0x28 d on) (name_mark 0x29 d on)) ∙
-        k.after_reference d on ∙ ap (λ r. if_whole dues.AfterReference (xs ++ s ∷ []) r) (sym (said_name true d (xs ++ s ∷ []) on))
+        k.after_reference d on ∙ ap (λ r. if_whole dues.AfterVariableDimension (xs ++ s ∷ []) r) (sym (said_name true d (xs ++ s ∷ []) on))
     by false off = none_if _ _ _ (ap (given (is_mark 0x3b s)) (not_reference d xs (nameless d off)) ∙ given_none (is_mark 0x3b s)) (never_completes (xs ++ s ∷ []))
 
 -- ---- after a dimension's name
@@ -120,32 +120,32 @@ next_refers d t (m ∷ ms) on comma = ap (λ o. both (λ ds vs. record { dimensi
     by (Some ds) None = refl
     by (Some ds) (Some vs) = refl
 
-pub referred_end : (s d : Lexeme) → is_name d ≡ true → given (is_mark 0x3b s) (inside (into_first d (members_in true []))) ≡ if_whole dues.AfterReference (s ∷ []) (refer d (declaration_said true (s ∷ [])))
+pub referred_end : (s d : Lexeme) → is_name d ≡ true → given (is_mark 0x3b s) (inside (into_first d (members_in true []))) ≡ if_whole dues.AfterVariableDimension (s ∷ []) (refer d (declaration_said true (s ∷ [])))
 unfolding completes next
 referred_end s d on =
     ap (λ b. given (is_mark 0x3b s) (both (λ ds vs. record { dimensions = ds; variables = vs }) (option_and_then (λ inner. each name_alone (members inner)) (given b (Some []))) (Some []))) (name_mark 0x29 d on) ∙
     given_none (is_mark 0x3b s) ∙ by (is_mark 0x2c s) (is_mark 0x29 s)
   where
-    by : (a c : Bool) → None ≡ (if is_whole (if a then dues.ReferenceName else only c dues.AfterShape) then Some (refer d (declaration_said true (s ∷ []))) else None)
+    by : (a c : Bool) → None ≡ (if is_whole (if a then dues.VariableDimension else only c dues.AfterShape) then Some (refer d (declaration_said true (s ∷ []))) else None)
     by true c = refl
     by false true = refl
     by false false = refl
 
 pub referred_on : (s d t : Lexeme) (xs : List Lexeme) → is_name d ≡ true → Claims s xs →
-    given (is_mark 0x3b s) (inside (into_first d (members_in true (t ∷ xs)))) ≡ if_whole dues.AfterReference (t ∷ xs ++ s ∷ []) (refer d (declaration_said true (t ∷ xs ++ s ∷ [])))
+    given (is_mark 0x3b s) (inside (into_first d (members_in true (t ∷ xs)))) ≡ if_whole dues.AfterVariableDimension (t ∷ xs ++ s ∷ []) (refer d (declaration_said true (t ∷ xs ++ s ∷ [])))
 unfolding completes next
 referred_on s d t xs on k = by (is_mark 0x2c t) (is_mark 0x29 t) refl refl
   where
     by : (a c : Bool) → is_mark 0x2c t ≡ a → is_mark 0x29 t ≡ c →
         given (is_mark 0x3b s) (inside (into_first d (members_in true (t ∷ xs)))) ≡
-        (if completes (if a then dues.ReferenceName else only c dues.AfterShape) (xs ++ s ∷ []) then Some (refer d (declaration_said true (t ∷ xs ++ s ∷ []))) else None)
+        (if completes (if a then dues.VariableDimension else only c dues.AfterShape) (xs ++ s ∷ []) then Some (refer d (declaration_said true (t ∷ xs ++ s ∷ []))) else None)
     by true c ha hc =
         let opening = one_mark 0x2c 0x28 t refl ha in
         let closing = one_mark 0x2c 0x29 t refl ha in
         ap (λ ms. given (is_mark 0x3b s) (inside (into_first d ms))) (members_at true true false false t xs ha opening closing) ∙
         ap (given (is_mark 0x3b s)) (next_refers d t (members_in true xs) on ha) ∙ given_map (refer d) (is_mark 0x3b s) (inside (members_in true xs)) ∙
-        map_if (refer d) (given (is_mark 0x3b s) (inside (members_in true xs))) (completes dues.ReferenceName (xs ++ s ∷ [])) (declaration_said true (xs ++ s ∷ [])) k.at_reference ∙
-        ap (λ r. if_whole dues.ReferenceName (xs ++ s ∷ []) (refer d r)) (sym (said_mark true false false t (xs ++ s ∷ []) (kind_of_mark 0x2c t ha) opening closing))
+        map_if (refer d) (given (is_mark 0x3b s) (inside (members_in true xs))) (completes dues.VariableDimension (xs ++ s ∷ [])) (declaration_said true (xs ++ s ∷ [])) k.at_reference ∙
+        ap (λ r. if_whole dues.VariableDimension (xs ++ s ∷ []) (refer d r)) (sym (said_mark true false false t (xs ++ s ∷ []) (kind_of_mark 0x2c t ha) opening closing))
     by false true ha hc =
         let opening = one_mark 0x29 0x28 t refl hc in
         ap (λ ms. given (is_mark 0x3b s) (inside (into_first d ms))) (members_at true false false true t xs ha opening hc) ∙ k.after_shape d t on hc ∙

@@ -1,6 +1,6 @@
 -- What statements of several sections share: a lone mark, a section mark, an attribute of the dataset.
 use Rattle.std.proofs.Common.{◌≡◌, ℕ, Bool, true, false, List, [], ◌∷◌, drop, refl, sym, ap, ◌∙◌, subst, arith, Option, None, Some, if◌then◌else◌, ◌&&◌, ◌==◌, not, is_some, slice_index, codes, nat_lt}
-use Rattle.cdl_statements.proofs.Prelude.{option_map, option_and_then, is_reserved, Version, values, only, next, is_whole, completes, is_name, goes_to, is_after, word_value, Lexeme, is_mark, is_mark_kind, is_word_kind, name_of, Statement, Mark, Brace, Attribute, first_bad, assigned, given, before_mark, alone, section_mark, section_of, section_number, mark_after, global, Section, Dimensions, Variables, Values}
+use Rattle.cdl_statements.proofs.Prelude.{option_map, option_and_then, is_reserved, Version, values, only, next, is_whole, completes, is_name, opens_section_after, is_after, word_value, Lexeme, is_mark, is_mark_kind, is_word_kind, name_of, Statement, Mark, Brace, Attribute, first_bad, assigned, given, before_mark, alone, section_mark, section_of, section_number, mark_after, global, Section, Dimensions, Variables, Values}
 use Rattle.std.specs.Str.{bytes_eq}
 use Rattle.std.specs.Cmp.Lexicographic.{bytes_decides}
 use Rattle.cdl_statements.specs.declared.due.Due.TheVariants as dues
@@ -21,9 +21,9 @@ alone_completes test a l (m ∷ ls) = sym (by (test l))
     by true = nothing_more m ls
     by false = never_completes (m ∷ ls)
 
-pub mark_completes : (section : Section) (l : Lexeme) (ls : List Lexeme) → is_some (section_mark section (l ∷ ls)) ≡ completes (only (goes_to section l) dues.Colon) ls
+pub mark_completes : (section : Section) (l : Lexeme) (ls : List Lexeme) → is_some (section_mark section (l ∷ ls)) ≡ completes (only (opens_section_after section l) dues.Colon) ls
 unfolding completes next
-mark_completes section l [] = by (goes_to section l)
+mark_completes section l [] = by (opens_section_after section l)
   where
     by : (t : Bool) → false ≡ is_whole (only t dues.Colon)
     by true = refl
@@ -47,7 +47,7 @@ mark_completes section l (c ∷ []) = by (section_of l)
     by : (o : Option Section) → is_some (given (is_mark 0x3a c) (option_and_then (mark_after section) o)) ≡ is_whole (next (only (is_after section o) dues.Colon) c)
     by None = none (is_mark 0x3a c)
     by (Some s) = by_two s (is_mark 0x3a c) (nat_lt (section_number section) (section_number s)) ∙ ap is_whole (sym (pushed (nat_lt (section_number section) (section_number s))))
-mark_completes section l (c ∷ d ∷ ls) = sym (by (goes_to section l) (is_mark 0x3a c))
+mark_completes section l (c ∷ d ∷ ls) = sym (by (opens_section_after section l) (is_mark 0x3a c))
   where
     after : (b : Bool) → completes (only b dues.Nothing) (d ∷ ls) ≡ false
     after true = nothing_more d ls
@@ -100,7 +100,7 @@ no_colon l h = by_kind (is_mark_kind l.kind) (slice_index l.bytes 0) h
 reserved_by : (word bytes : List ℕ) → bytes_eq bytes word ≡ true → is_reserved word ≡ true → is_reserved bytes ≡ true
 reserved_by word bytes same h = subst (λ (w : List ℕ). is_reserved w ≡ true) (sym ((bytes_decides bytes word).0 same)) h
 
-pub section_no_name : (section : Section) (l : Lexeme) → goes_to section l ≡ true → is_name l ≡ false
+pub section_no_name : (section : Section) (l : Lexeme) → opens_section_after section l ≡ true → is_name l ≡ false
 unfolding is_reserved
 section_no_name section l h = by_kind (is_word_kind l.kind) h
   where

@@ -1,6 +1,6 @@
 -- What a whole statement says stands in its tokens, section by section.
 use Rattle.std.proofs.Common.{◌≡◌, Bool, true, false, List, [], ◌∷◌, drop, refl, sym, ap, ◌∙◌, Option, None, Some, if◌then◌else◌, ◌&&◌, is_some, nat_lt}
-use Rattle.cdl_statements.proofs.Prelude.{option_map, option_and_then, false≢true, Version, attribute_said, declaration_said, dimensions_said, mark_said, statement_said, values, variable_said, completes, goes_to, is_name, next, only, word_value, Lexeme, is_mark, is_word_kind, is_opening_kind, is_end_kind, Statement, Listed, Attribute, Brace, Declared, Mark, Typed, Opening, End, alone, body, either, first_bad, given, mark_after, section_mark, section_number, section_of, shape, Section, Unopened, Globals, Dimensions, Variables, Values, Ended}
+use Rattle.cdl_statements.proofs.Prelude.{option_map, option_and_then, false≢true, Version, attribute_said, declaration_said, dimensions_said, mark_said, statement_said, values, variable_said, completes, opens_section_after, is_name, next, only, word_value, Lexeme, is_mark, is_word_kind, is_opening_kind, is_end_kind, Statement, Listed, Attribute, Brace, Declared, Mark, Typed, Opening, End, alone, body, either, first_bad, given, mark_after, section_mark, section_number, section_of, shape, Section, Unopened, Globals, Dimensions, Variables, Values, Ended}
 use Rattle.cdl_statements.specs.Shapes as Shapes
 use Rattle.cdl_statements.specs.declared.due.Due.TheVariants as dues
 use Rattle.cdl_statements.specs.declared.section.Section.TheVariants.{Closed}
@@ -87,7 +87,7 @@ mapped_dims o false ds is = ap (option_map Declared) is
 
 dimensions_are : (v : Version) (l : Lexeme) (ls : List Lexeme) → first_bad v (l ∷ ls) ≡ None → is_some (shape v Dimensions (l ∷ ls)) ≡ true → shape v Dimensions (l ∷ ls) ≡ Some (statement_said v Dimensions (l ∷ ls))
 unfolding shape statement_said
-dimensions_are v l ls good h = by (is_mark 0x7d l) (is_mark 0x3a l) (goes_to Dimensions l) refl refl refl h
+dimensions_are v l ls good h = by (is_mark 0x7d l) (is_mark 0x3a l) (opens_section_after Dimensions l) refl refl refl h
   where
     lone : Option Statement
     lone = alone (is_mark 0x7d) Brace (l ∷ ls)
@@ -98,7 +98,7 @@ dimensions_are v l ls good h = by (is_mark 0x7d l) (is_mark 0x3a l) (goes_to Dim
     body_is : Option Statement
     body_is = dimension.body_to v (l ∷ ls)
 
-    by : (b c g : Bool) → is_mark 0x7d l ≡ b → is_mark 0x3a l ≡ c → goes_to Dimensions l ≡ g → is_some (either lone (either mark body_is)) ≡ true →
+    by : (b c g : Bool) → is_mark 0x7d l ≡ b → is_mark 0x3a l ≡ c → opens_section_after Dimensions l ≡ g → is_some (either lone (either mark body_is)) ≡ true →
         either lone (either mark body_is) ≡
         Some (if b then Brace else (if c then attribute_said v None ls else (if g then mark_said (section_of l) else Declared (dimensions_said v (l ∷ ls)))))
     by true c g on is-c is-g h =
@@ -127,12 +127,12 @@ mapped_variables l o false vs is = ap (option_map (Typed l)) is
 -- a word and a colon alone
 mark_alone : (v : Version) (l c : Lexeme) → is_mark 0x3a c ≡ true → is_some (variable.others v (l ∷ c ∷ [])) ≡ true → variable.others v (l ∷ c ∷ []) ≡ Some (if is_name l then End else mark_said (section_of l))
 mark_alone v l c colon h =
-    by (is_name l) (goes_to Variables l) refl refl
+    by (is_name l) (opens_section_after Variables l) refl refl
   where
     first : variable.others v (l ∷ c ∷ []) ≡ section_mark Variables (l ∷ c ∷ [])
     first = either_only (section_mark Variables (l ∷ c ∷ [])) (variable.body_to v (l ∷ c ∷ [])) (ap (λ b. option_and_then (body v Variables) (option_map (λ xs. l ∷ xs) (given b (Some [])))) (one_mark 0x3a 0x3b c refl colon))
 
-    by : (n g : Bool) → is_name l ≡ n → goes_to Variables l ≡ g → variable.others v (l ∷ c ∷ []) ≡ Some (if n then End else mark_said (section_of l))
+    by : (n g : Bool) → is_name l ≡ n → opens_section_after Variables l ≡ g → variable.others v (l ∷ c ∷ []) ≡ Some (if n then End else mark_said (section_of l))
     by false g named goes = first ∙ mark_is Variables l (c ∷ []) (sym (ap is_some first) ∙ h)
     by true true named goes = absurd (false≢true (sym (section_no_name Variables l goes) ∙ named))
     by true false named goes = absurd (false≢true (sym (ap is_some first ∙ mark_completes Variables l (c ∷ []) ∙ ap (λ t. completes (only t dues.Colon) (c ∷ [])) goes ∙ never_completes (c ∷ [])) ∙ h))

@@ -98,9 +98,9 @@ pub record Claims (s : Lexeme) (xs : List Lexeme) : Type 0 where
   pub at_name : given (is_mark 0x3b s) (each variable (members xs)) ≡ if_whole dues.VariableName (xs ++ s ∷ []) (declaration_said false (xs ++ s ∷ [])).variables
   pub after_name : (n : Lexeme) → is_name n ≡ true →
       given (is_mark 0x3b s) (each variable (into_first n (members xs))) ≡ if_whole dues.AfterVariable (xs ++ s ∷ []) (begin n (declaration_said false (xs ++ s ∷ [])))
-  pub at_reference : given (is_mark 0x3b s) (inside (members_in true xs)) ≡ if_whole dues.ReferenceName (xs ++ s ∷ []) (declaration_said true (xs ++ s ∷ []))
+  pub at_reference : given (is_mark 0x3b s) (inside (members_in true xs)) ≡ if_whole dues.VariableDimension (xs ++ s ∷ []) (declaration_said true (xs ++ s ∷ []))
   pub after_reference : (d : Lexeme) → is_name d ≡ true →
-      given (is_mark 0x3b s) (inside (into_first d (members_in true xs))) ≡ if_whole dues.AfterReference (xs ++ s ∷ []) (refer d (declaration_said true (xs ++ s ∷ [])))
+      given (is_mark 0x3b s) (inside (into_first d (members_in true xs))) ≡ if_whole dues.AfterVariableDimension (xs ++ s ∷ []) (refer d (declaration_said true (xs ++ s ∷ [])))
   pub after_shape : (d e : Lexeme) → is_name d ≡ true → is_mark 0x29 e ≡ true →
       given (is_mark 0x3b s) (inside (into_first d (into_first e (members xs)))) ≡ if_whole dues.AfterShape (xs ++ s ∷ []) (refer d (declaration_said false (xs ++ s ∷ [])))
 
@@ -177,7 +177,7 @@ pub variable_whole : (s : Lexeme) → is_whole (next dues.AfterVariable s) ≡ i
 unfolding next
 variable_whole s = by (is_mark 0x28 s) (is_mark 0x3b s) (one_mark 0x3b 0x28 s refl) (separator_whole dues.VariableName s refl)
   where
-    by : (b e : Bool) → (e ≡ true → b ≡ false) → is_whole (separator dues.VariableName s) ≡ e → is_whole (if b then dues.ReferenceName else separator dues.VariableName s) ≡ e
+    by : (b e : Bool) → (e ≡ true → b ≡ false) → is_whole (separator dues.VariableName s) ≡ e → is_whole (if b then dues.VariableDimension else separator dues.VariableName s) ≡ e
     by true true h k = sym (h refl)
     by true false h k = refl
     by false e h k = k
@@ -204,12 +204,12 @@ variable_more s n c xs on k = by (is_mark 0x28 c) (is_mark 0x2c c) refl refl
   where
     by : (b a : Bool) → is_mark 0x28 c ≡ b → is_mark 0x2c c ≡ a →
         given (is_mark 0x3b s) (each variable (into_first n (members (c ∷ xs)))) ≡
-        (if completes (if b then dues.ReferenceName else (if a then dues.VariableName else only (is_mark 0x3b c) dues.Nothing)) (xs ++ s ∷ []) then Some (begin n (declaration_said false (c ∷ xs ++ s ∷ []))) else None)
+        (if completes (if b then dues.VariableDimension else (if a then dues.VariableName else only (is_mark 0x3b c) dues.Nothing)) (xs ++ s ∷ []) then Some (begin n (declaration_said false (c ∷ xs ++ s ∷ []))) else None)
     by true a hb ha =
         ap (λ ms. given (is_mark 0x3b s) (each variable (into_first n ms))) (members_at false false true (is_mark 0x29 c) c xs (one_mark 0x28 0x2c c refl hb) hb refl) ∙
         ap (given (is_mark 0x3b s)) (opens n c (members_in true xs) on hb) ∙ given_map (begin n) (is_mark 0x3b s) (inside (members_in true xs)) ∙
-        map_if (begin n) (given (is_mark 0x3b s) (inside (members_in true xs))) (completes dues.ReferenceName (xs ++ s ∷ [])) (declaration_said true (xs ++ s ∷ [])) k.at_reference ∙
-        ap (λ r. if_whole dues.ReferenceName (xs ++ s ∷ []) (begin n r)) (sym (said_mark false true (is_mark 0x29 c) c (xs ++ s ∷ []) (kind_of_mark 0x28 c hb) hb refl))
+        map_if (begin n) (given (is_mark 0x3b s) (inside (members_in true xs))) (completes dues.VariableDimension (xs ++ s ∷ [])) (declaration_said true (xs ++ s ∷ [])) k.at_reference ∙
+        ap (λ r. if_whole dues.VariableDimension (xs ++ s ∷ []) (begin n r)) (sym (said_mark false true (is_mark 0x29 c) c (xs ++ s ∷ []) (kind_of_mark 0x28 c hb) hb refl))
     by false true hb ha =
         let v : Variable = record { name = word_value n.bytes; dimensions = [] } in
         let rest = declaration_said false (xs ++ s ∷ []) in

@@ -1,6 +1,6 @@
 -- The table of due tokens says whether a piece has its shape, in the section of the variables.
 use Rattle.std.proofs.Common.{◌≡◌, ℕ, Bool, true, false, List, [], ◌∷◌, drop, refl, sym, ap, ◌∙◌, Option, None, Some, if◌then◌else◌, ◌&&◌, ◌==◌, is_some, slice_index}
-use Rattle.cdl_statements.proofs.Prelude.{option_map, option_and_then, Version, declaration_said, values, only, next, is_whole, completes, is_name, goes_to, word_value, Lexeme, is_mark, is_mark_kind, is_word_kind, name_of, Statement, Attribute, Brace, Typed, Variable, first_bad, alone, assigned, attribute, before_mark, body, each, either, given, global, members, section_mark, shape, typed, variable, Variables, TokenKind}
+use Rattle.cdl_statements.proofs.Prelude.{option_map, option_and_then, Version, declaration_said, values, only, next, is_whole, completes, is_name, opens_section_after, word_value, Lexeme, is_mark, is_mark_kind, is_word_kind, name_of, Statement, Attribute, Brace, Typed, Variable, first_bad, alone, assigned, attribute, before_mark, body, each, either, given, global, members, section_mark, shape, typed, variable, Variables, TokenKind}
 use Rattle.cdl_statements.specs.declared.due.Due.TheVariants as dues
 use Rattle.cdl_tokens.specs.declared.token.TokenKind.TheVariants as kinds
 use Rattle.cdl_statements.proofs.Declarations.{listed_variables, variables_are}
@@ -85,15 +85,15 @@ attribute_nameless v l c r rs word colon off = by (before_mark 0x3b (r ∷ rs))
     by (Some ys) = body_word v l (c ∷ ys) word ∙ either_none (attribute v (l ∷ c ∷ ys)) (typed (l ∷ c ∷ ys)) (no_attribute v l (c ∷ ys) (nameless l off)) ∙ no_list l c ys colon
 
 -- a name is the word of no section
-goes_nowhere : (l : Lexeme) → goes_to Variables l ≡ true → is_name l ≡ false
+goes_nowhere : (l : Lexeme) → opens_section_after Variables l ≡ true → is_name l ≡ false
 goes_nowhere l h = section_no_name Variables l h
 
 mark_alone : (v : Version) (l c : Lexeme) → is_mark 0x3a c ≡ true →
-    is_some (others v (l ∷ c ∷ [])) ≡ is_whole (if is_name l then dues.AttributeName else only (goes_to Variables l) dues.Nothing)
+    is_some (others v (l ∷ c ∷ [])) ≡ is_whole (if is_name l then dues.AttributeName else only (opens_section_after Variables l) dues.Nothing)
 unfolding completes next
 mark_alone v l c colon =
     ap is_some (either_only (section_mark Variables (l ∷ c ∷ [])) (body_to v (l ∷ c ∷ [])) (ap (λ b. option_and_then (body v Variables) (option_map (λ xs. l ∷ xs) (given b (Some [])))) (one_mark 0x3a 0x3b c refl colon))) ∙
-    mark_completes Variables l (c ∷ []) ∙ by (goes_to Variables l) (is_name l) (goes_nowhere l)
+    mark_completes Variables l (c ∷ []) ∙ by (opens_section_after Variables l) (is_name l) (goes_nowhere l)
   where
     by : (g n : Bool) → (g ≡ true → n ≡ false) → is_whole (next (only g dues.Colon) c) ≡ is_whole (if n then dues.AttributeName else only g dues.Nothing)
     by true true h = let e = h refl in cc
@@ -102,7 +102,7 @@ mark_alone v l c colon =
     by false false h = refl
 
 pub colon_more : (v : Version) (l c r : Lexeme) (rs : List Lexeme) → first_bad v rs ≡ None → is_word_kind l.kind ≡ true → is_mark 0x3a c ≡ true →
-    is_some (others v (l ∷ c ∷ r ∷ rs)) ≡ completes (if is_name l then dues.AttributeName else only (goes_to Variables l) dues.Nothing) (r ∷ rs)
+    is_some (others v (l ∷ c ∷ r ∷ rs)) ≡ completes (if is_name l then dues.AttributeName else only (opens_section_after Variables l) dues.Nothing) (r ∷ rs)
 unfolding completes next
 colon_more v l c r rs good word colon = by (is_name l) refl
   where
@@ -110,11 +110,11 @@ colon_more v l c r rs good word colon = by (is_name l) refl
     never true = nothing_more r rs
     never false = never_completes (r ∷ rs)
 
-    by : (n : Bool) → is_name l ≡ n → is_some (body_to v (l ∷ c ∷ r ∷ rs)) ≡ completes (if n then dues.AttributeName else only (goes_to Variables l) dues.Nothing) (r ∷ rs)
+    by : (n : Bool) → is_name l ≡ n → is_some (body_to v (l ∷ c ∷ r ∷ rs)) ≡ completes (if n then dues.AttributeName else only (opens_section_after Variables l) dues.Nothing) (r ∷ rs)
     by true on =
         ap is_some (attribute_named v l c r rs word colon on ∙ assigned_is v false (Attribute (Some (word_value l.bytes))) r rs good) ∙
         some_if (is_name r && completes (dues.Equals false) rs) (Attribute (Some (word_value l.bytes)) (word_value r.bytes) (values v (drop 1 rs))) ∙ sym (only_completes (is_name r) (dues.Equals false) rs)
-    by false off = ap is_some (attribute_nameless v l c r rs word colon off) ∙ sym (never (goes_to Variables l))
+    by false off = ap is_some (attribute_nameless v l c r rs word colon off) ∙ sym (never (opens_section_after Variables l))
 
 -- ---- a word and no colon
 
@@ -151,18 +151,18 @@ typed_complete v l c ls word off =
 -- ---- a word
 
 colon_complete : (v : Version) (l c : Lexeme) (ls : List Lexeme) → first_bad v (c ∷ ls) ≡ None → is_word_kind l.kind ≡ true → is_mark 0x3a c ≡ true →
-    is_some (others v (l ∷ c ∷ ls)) ≡ completes (if is_name l then dues.AttributeName else only (goes_to Variables l) dues.Nothing) ls
+    is_some (others v (l ∷ c ∷ ls)) ≡ completes (if is_name l then dues.AttributeName else only (opens_section_after Variables l) dues.Nothing) ls
 unfolding completes
 colon_complete v l c [] good word colon = mark_alone v l c colon
 colon_complete v l c (r ∷ rs) good word colon = colon_more v l c r rs (fine_on v r rs (fine_on v c (r ∷ rs) good)) word colon
 
-word_complete : (v : Version) (l : Lexeme) (ls : List Lexeme) → first_bad v ls ≡ None → is_word_kind l.kind ≡ true → is_some (others v (l ∷ ls)) ≡ completes (dues.AfterWord (is_name l) (goes_to Variables l)) ls
+word_complete : (v : Version) (l : Lexeme) (ls : List Lexeme) → first_bad v ls ≡ None → is_word_kind l.kind ≡ true → is_some (others v (l ∷ ls)) ≡ completes (dues.AfterWord (is_name l) (opens_section_after Variables l)) ls
 unfolding completes next
 word_complete v l [] good word = ap (λ b. is_some (option_and_then (body v Variables) (given b (Some [])))) (word_kind 0x3b l word)
 word_complete v l (c ∷ ls) good word = by (is_mark 0x3a c) refl
   where
     by : (b : Bool) → is_mark 0x3a c ≡ b →
-        is_some (others v (l ∷ c ∷ ls)) ≡ completes (if b then (if is_name l then dues.AttributeName else only (goes_to Variables l) dues.Nothing) else only (is_name c) dues.AfterVariable) ls
+        is_some (others v (l ∷ c ∷ ls)) ≡ completes (if b then (if is_name l then dues.AttributeName else only (opens_section_after Variables l) dues.Nothing) else only (is_name c) dues.AfterVariable) ls
     by true on = colon_complete v l c ls good word on
     by false off = typed_complete v l c ls word off
 
@@ -177,7 +177,7 @@ variables_complete v l ls good = by (is_mark 0x7d l) (is_mark 0x3a l) (is_word_k
 
     by : (b c w : Bool) → is_mark 0x7d l ≡ b → is_mark 0x3a l ≡ c → is_word_kind l.kind ≡ w →
         is_some (either lone (others v (l ∷ ls))) ≡
-        completes (if b then dues.Nothing else (if c then dues.AttributeName else only w (dues.AfterWord (is_name l) (goes_to Variables l)))) ls
+        completes (if b then dues.Nothing else (if c then dues.AttributeName else only w (dues.AfterWord (is_name l) (opens_section_after Variables l)))) ls
     by true c w on is-c is-w =
         ap is_some (either_only lone (others v (l ∷ ls)) (others_global v l ls (mark_word 0x7d l on) ∙ no_global v l ls (no_colon l on))) ∙
         alone_completes (is_mark 0x7d) Brace l ls ∙ ap (λ t. completes (only t dues.Nothing) ls) on

@@ -39,9 +39,9 @@ pub enum Due {
     /// A parenthesis, comma or semicolon after a variable's name.
     AfterVariable,
     /// The name of one of a variable's dimensions.
-    ReferenceName,
+    VariableDimension,
     /// The comma or the closing parenthesis after the name of a variable's dimension.
-    AfterReference,
+    AfterVariableDimension,
     /// The comma or the semicolon after the closing parenthesis of a variable's dimensions.
     AfterShape,
     /// No token: the statement is whole.
@@ -97,8 +97,8 @@ impl Due {
             } => Due::after_second(is_name, is_section, token),
             Due::VariableName => Due::only(token.is_name(), Due::AfterVariable),
             Due::AfterVariable => Due::after_variable(token),
-            Due::ReferenceName => Due::only(token.is_name(), Due::AfterReference),
-            Due::AfterReference => Due::after_reference(token),
+            Due::VariableDimension => Due::only(token.is_name(), Due::AfterVariableDimension),
+            Due::AfterVariableDimension => Due::after_variable_dimension(token),
             Due::AfterShape => Due::separator(Due::VariableName, token),
             Due::Nothing | Due::Never => Due::Never,
         }
@@ -116,14 +116,14 @@ impl Due {
             _ if token.is_mark(b'}') => Due::Nothing,
             Section::Values => Due::only(token.is_name(), Due::Equals { takes_fill: true }),
             _ if token.is_mark(b':') => Due::AttributeName,
-            Section::Globals => Due::only(token.goes_to(section), Due::Colon),
-            Section::Dimensions if token.goes_to(section) => Due::Colon,
+            Section::Globals => Due::only(token.opens_section_after(section), Due::Colon),
+            Section::Dimensions if token.opens_section_after(section) => Due::Colon,
             Section::Dimensions => Due::only(token.is_name(), Due::LengthEquals),
             Section::Variables => Due::only(
                 token.is_any_word(),
                 Due::AfterWord {
                     is_name: token.is_name(),
-                    is_section: token.goes_to(section),
+                    is_section: token.opens_section_after(section),
                 },
             ),
         }
@@ -152,7 +152,7 @@ impl Due {
         ensures { result ≡ next Due.AfterVariable (lexeme_of token.entry) }
     {
         if token.is_mark(b'(') {
-            Due::ReferenceName
+            Due::VariableDimension
         } else {
             Due::separator(Due::VariableName, token)
         }
@@ -161,11 +161,11 @@ impl Due {
     /// Returns which token is due after `token`, which comes after the name of one of a variable's dimensions. After a comma this is the
     /// next dimension's name, and after a closing parenthesis a comma or a semicolon. Returns `Never` after any other token.
     #[tactic(auto, unfolding(crate::specs::code::DueTokens::next))]
-    fn after_reference(token: Lexeme<'_>) -> Due
-        ensures { result ≡ next Due.AfterReference (lexeme_of token.entry) }
+    fn after_variable_dimension(token: Lexeme<'_>) -> Due
+        ensures { result ≡ next Due.AfterVariableDimension (lexeme_of token.entry) }
     {
         if token.is_mark(b',') {
-            Due::ReferenceName
+            Due::VariableDimension
         } else {
             Due::only(token.is_mark(b')'), Due::AfterShape)
         }

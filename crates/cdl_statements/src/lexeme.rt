@@ -16,7 +16,7 @@ pub struct Lexeme<'a> {
 }
 
 impl<'a> Lexeme<'a> {
-    ghost use Rattle.cdl_statements.specs.code.DueTokens.{goes_to, is_length, is_name, is_value_of};
+    ghost use Rattle.cdl_statements.specs.code.DueTokens.{is_length, is_name, is_value_of, opens_section_after};
     ghost use Rattle.cdl_statements.specs.Lexemes.{is_mark, is_word, lexeme};
     ghost use Rattle.cdl_statements.specs.Shapes.{section_of};
     ghost use Rattle.cdl_statements.specs.code.Views.{lexeme_of};
@@ -94,8 +94,8 @@ impl<'a> Lexeme<'a> {
     }
 
     /// Returns true if the token is the unescaped word of a section that comes after the section `before`.
-    pub fn goes_to(self, before: Section) -> bool
-        ensures { result ≡ goes_to before (lexeme_of self.entry) }
+    pub fn opens_section_after(self, before: Section) -> bool
+        ensures { result ≡ opens_section_after before (lexeme_of self.entry) }
     {
         match self.section() {
             Some(section) => before.number() < section.number(),

@@ -2,7 +2,7 @@
 use Rattle.std.specs.Prelude.{ℕ, ℤ, Bool, true, false, List, [], ◌∷◌, ◌&&◌, ◌||◌, not, codes, drop, if◌then◌else◌, Option, None, Some}
 use Rattle.nc_base.specs.declared.nc_type.NcType.TheVariants.{Int}
 use Rattle.nc_base.specs.declared.version.Version.{Version}
-use Rattle.cdl_statements.specs.code.DueTokens.{goes_to, is_name}
+use Rattle.cdl_statements.specs.code.DueTokens.{is_name, opens_section_after}
 use Rattle.cdl_tokens.specs.Escapes.{inner, stands, word_value}
 use Rattle.cdl_statements.specs.Lexemes.{Lexeme, is_mark, is_mark_kind, is_word}
 use Rattle.cdl_tokens.specs.Numerals.{Parts, parts, number}
@@ -80,7 +80,7 @@ variable_said v word (c ∷ ls) =
 -- neither a closing brace nor an attribute of the dataset
 abbrev pub other_said : Version → Section → Lexeme → List Lexeme → Statement
 other_said v Globals l ls = mark_said (section_of l)
-other_said v Dimensions l ls = if goes_to Dimensions l then mark_said (section_of l) else Declared (dimensions_said v (l ∷ ls))
+other_said v Dimensions l ls = if opens_section_after Dimensions l then mark_said (section_of l) else Declared (dimensions_said v (l ∷ ls))
 other_said v Variables l ls = variable_said v l ls
 other_said v Values l ls = Listed (word_value l.bytes) (values v (drop 1 ls))
 other_said v _ l ls = End

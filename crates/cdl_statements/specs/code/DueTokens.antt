@@ -4,7 +4,7 @@ use Rattle.nc_base.specs.Escapes.{is_reserved}
 use Rattle.cdl_statements.specs.Lexemes.{Lexeme, is_mark, is_word, is_word_kind, is_opening_kind, is_end_kind}
 use Rattle.cdl_statements.specs.Shapes.{section_of, section_number}
 use Rattle.cdl_statements.specs.declared.due.Due.{Due}
-use Rattle.cdl_statements.specs.declared.due.Due.TheVariants.{First, DataName, Colon, AttributeName, Equals, Value, Separator, DimensionName, LengthEquals, Length, LengthSeparator, AfterWord, VariableName, AfterVariable, ReferenceName, AfterReference, AfterShape, Nothing, Never}
+use Rattle.cdl_statements.specs.declared.due.Due.TheVariants.{First, DataName, Colon, AttributeName, Equals, Value, Separator, DimensionName, LengthEquals, Length, LengthSeparator, AfterWord, VariableName, AfterVariable, VariableDimension, AfterVariableDimension, AfterShape, Nothing, Never}
 use Rattle.cdl_statements.specs.declared.section.Section.{Section}
 use Rattle.cdl_statements.specs.declared.section.Section.TheVariants.{Unopened, Globals, Dimensions, Variables, Values, Closed, Ended}
 use Rattle.cdl_tokens.specs.declared.token.TokenKind.{TokenKind}
@@ -32,8 +32,8 @@ abbrev pub is_after : Section → Option Section → Bool
 is_after before None = false
 is_after before (Some s) = nat_lt (section_number before) (section_number s)
 
-abbrev pub goes_to : Section → Lexeme → Bool
-goes_to before l = is_after before (section_of l)
+abbrev pub opens_section_after : Section → Lexeme → Bool
+opens_section_after before l = is_after before (section_of l)
 
 abbrev pub only : Bool → Due → Due
 only test due = if test then due else Never
@@ -45,9 +45,9 @@ separator due l = if is_mark 0x2c l then due else only (is_mark 0x3b l) Nothing
 -- after the first token of a piece
 abbrev pub next_first : Section → Lexeme → Due
 next_first Unopened l = only (is_opening_kind l.kind) Nothing
-next_first Globals l = if is_mark 0x7d l then Nothing else (if is_mark 0x3a l then AttributeName else only (goes_to Globals l) Colon)
-next_first Dimensions l = if is_mark 0x7d l then Nothing else (if is_mark 0x3a l then AttributeName else (if goes_to Dimensions l then Colon else only (is_name l) LengthEquals))
-next_first Variables l = if is_mark 0x7d l then Nothing else (if is_mark 0x3a l then AttributeName else only (is_word_kind l.kind) (AfterWord (is_name l) (goes_to Variables l)))
+next_first Globals l = if is_mark 0x7d l then Nothing else (if is_mark 0x3a l then AttributeName else only (opens_section_after Globals l) Colon)
+next_first Dimensions l = if is_mark 0x7d l then Nothing else (if is_mark 0x3a l then AttributeName else (if opens_section_after Dimensions l then Colon else only (is_name l) LengthEquals))
+next_first Variables l = if is_mark 0x7d l then Nothing else (if is_mark 0x3a l then AttributeName else only (is_word_kind l.kind) (AfterWord (is_name l) (opens_section_after Variables l)))
 next_first Values l = if is_mark 0x7d l then Nothing else only (is_name l) (Equals true)
 next_first Closed l = only (is_end_kind l.kind) Nothing
 next_first Ended l = Never
@@ -67,9 +67,9 @@ next Length l = only (is_length l) LengthSeparator
 next LengthSeparator l = separator DimensionName l
 next (AfterWord named section) l = if is_mark 0x3a l then (if named then AttributeName else only section Nothing) else only (is_name l) AfterVariable
 next VariableName l = only (is_name l) AfterVariable
-next AfterVariable l = if is_mark 0x28 l then ReferenceName else separator VariableName l
-next ReferenceName l = only (is_name l) AfterReference
-next AfterReference l = if is_mark 0x2c l then ReferenceName else only (is_mark 0x29 l) AfterShape
+next AfterVariable l = if is_mark 0x28 l then VariableDimension else separator VariableName l
+next VariableDimension l = only (is_name l) AfterVariableDimension
+next AfterVariableDimension l = if is_mark 0x2c l then VariableDimension else only (is_mark 0x29 l) AfterShape
 next AfterShape l = separator VariableName l
 next Nothing l = Never
 next Never l = Never

@@ -1,16 +1,16 @@
 use Rattle.std.proofs.Common.{◌≡◌, true, false, Ok, ap, sym, ◌∙◌}
-use Rattle.cdl_parse.proofs.Prelude.{next_token, text_of, version_of, words, goes_to, lexeme, section_of, Dimensions, after_mark, state_of}
+use Rattle.cdl_parse.proofs.Prelude.{next_token, text_of, version_of, words, opens_section_after, lexeme, section_of, Dimensions, after_mark, state_of}
 use Rattle.cdl_parse.proofs.Defining.{goes_dimensions, gone, makes_dimension_mark, makes_dimensions}
 use Rattle.cdl_parse.proofs.StatementWords.{begins}
 use Rattle.cdl_parse.proofs.definitions.Definitions.define_dimensions.Goals as goal
 
-pub returns-then-goes_to : goal.returns-then-goes_to
-returns-then-goes_to c =
+pub returns-then-opens_section_after : goal.returns-then-opens_section_after
+returns-then-opens_section_after c =
     let start = c.args.start in
     let begun = begins start c.requires.more in
     let l = lexeme (text_of start) (next_token start) in
     let named = c.lexeme-word.ensures.lexeme in
-    let on : goes_to Dimensions l ≡ true = ap (goes_to Dimensions) (sym named) ∙ sym c.goes_to.ensures ∙ c.if-goes_to.true in
+    let on : opens_section_after Dimensions l ≡ true = ap (opens_section_after Dimensions) (sym named) ∙ sym c.opens_section_after.ensures ∙ c.if-opens_section_after.true in
     makes_dimension_mark (version_of start) (state_of c.args.self.now) l begun.0 (words start) c.requires.brace c.requires.colon on begun.1 ∙
     ap Ok (gone c.args.self.now c.go_to.new.self (section_of l) (c.go_to.ensures.section ∙ ap (λ w. after_mark (section_of w)) named) c.go_to.ensures.dims c.go_to.ensures.gatts c.go_to.ensures.variables)
 
@@ -19,7 +19,7 @@ read_dimensions-requires-clause-shaped c =
     let start = c.args.start in
     let begun = begins start c.requires.more in
     let l = lexeme (text_of start) (next_token start) in
-    let off : goes_to Dimensions l ≡ false = ap (goes_to Dimensions) (sym c.lexeme-word.ensures.lexeme) ∙ sym c.goes_to.ensures ∙ c.if-goes_to.false in
+    let off : opens_section_after Dimensions l ≡ false = ap (opens_section_after Dimensions) (sym c.lexeme-word.ensures.lexeme) ∙ sym c.opens_section_after.ensures ∙ c.if-opens_section_after.false in
     goes_dimensions l begun.0 (words start) c.requires.brace c.requires.colon off begun.1 c.requires.whole
 
 pub returns : goal.returns
@@ -27,5 +27,5 @@ returns c =
     let start = c.args.start in
     let begun = begins start c.requires.more in
     let l = lexeme (text_of start) (next_token start) in
-    let off : goes_to Dimensions l ≡ false = ap (goes_to Dimensions) (sym c.lexeme-word.ensures.lexeme) ∙ sym c.goes_to.ensures ∙ c.if-goes_to.false in
+    let off : opens_section_after Dimensions l ≡ false = ap (opens_section_after Dimensions) (sym c.lexeme-word.ensures.lexeme) ∙ sym c.opens_section_after.ensures ∙ c.if-opens_section_after.false in
     makes_dimensions (version_of start) (state_of c.args.self.now) l begun.0 (words start) c.read_dimensions.new.dims c.read_dimensions.result c.requires.brace c.requires.colon off begun.1 c.read_dimensions.ensures

@@ -1,5 +1,5 @@
 use Rattle.std.proofs.Common.{◌≡◌, true, false, Ok, drop, ap, sym, ◌∙◌}
-use Rattle.cdl_parse.proofs.Prelude.{next_token, text_of, version_of, words, completes, goes_to, is_mark, lexeme, section_of, AttributeName, VariableName, Variables, after_mark, state_of}
+use Rattle.cdl_parse.proofs.Prelude.{next_token, text_of, version_of, words, completes, opens_section_after, is_mark, lexeme, section_of, AttributeName, VariableName, Variables, after_mark, state_of}
 use Rattle.cdl_statements.specs.code.DueTokens.{is_name}
 use Rattle.cdl_parse.proofs.Defining.{goes_attribute, goes_declaration, gone, makes_attribute, makes_declaration, makes_variable_mark, second_on}
 use Rattle.cdl_parse.proofs.definitions.Definitions.define_variables.Goals as goal
@@ -11,7 +11,7 @@ read_declaration-requires-clause-shaped c =
     let on = second_on start next c.advanced.result.1 c.requires.brace c.requires.colon c.requires.whole c.advanced.ensures.words c.advanced.ensures.goes in
     let off : is_mark 0x3a (lexeme (text_of next) (next_token next)) ≡ false = ap (is_mark 0x3a) (sym c.lexeme.ensures.lexeme) ∙ sym c.is_mark.ensures ∙ c.if-not-is_mark.true in
     ap (λ ws. completes VariableName (drop 1 ws)) on.first ∙
-    goes_declaration (is_name (lexeme (text_of start) (next_token start))) (goes_to Variables (lexeme (text_of start) (next_token start))) (lexeme (text_of next) (next_token next)) on.rest (words next) off on.second on.due
+    goes_declaration (is_name (lexeme (text_of start) (next_token start))) (opens_section_after Variables (lexeme (text_of start) (next_token start))) (lexeme (text_of next) (next_token next)) on.rest (words next) off on.second on.due
 
 pub returns-then-not-is_mark : goal.returns-then-not-is_mark
 returns-then-not-is_mark c =
