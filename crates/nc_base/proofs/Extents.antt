@@ -1,7 +1,7 @@
 -- Where a variable ends: its last value is the one whose index is the greatest in each dimension.
 use Rattle.std.proofs.Common.{◌≡◌, ℕ, zero, suc, ◌+◌, ◌-◌, ◌*◌, ◌<◌, ◌==◌, Bool, true, false, List, [], ◌∷◌, ◌++◌, map, refl, sym, ◌∙◌, ap, arith, Option, Some, None, if◌then◌else◌, slice_get, IfSome}
 use Rattle.std.specs.Option.{option_map}
-use Rattle.nc_base.proofs.Prelude.{nat_tests, flat_map, range_with_len, last_or, Header, Var, size_of, product, is_record_var, slab_lens, slab_size, record_size, extent_end_as_sum, AreDimids, IsSound, IsSoundVar, vectors_below, slab_strides, distance, value_offsets, end_after, extent_end}
+use Rattle.nc_base.proofs.Prelude.{nat_tests, flat_map, range_with_len, last_or, Header, Var, size_of, product, is_record_var, slab_lens, slab_size, record_size, extent_sum, AreDimids, IsSound, IsSoundVar, vectors_below, slab_strides, distance, value_offsets, end_after, extent_end}
 use Rattle.nc_base.proofs.Found.{if-some, all-at}
 use Rattle.nc_base.proofs.SoundLaws.{some_count}
 
@@ -122,11 +122,11 @@ end-at-kind h var n some = by_kind (is_record_var h.dims var)
         ∙ (let e : var.begin_at + distance (greatest lens) (slab_strides size lens) + size ≡ var.begin_at + product lens * size = omega (arith, greatest-distance size lens some) in e)
 
 -- the end that the body computes
-ends : (h : Header) (var : Var) (n : ℕ) → AreDimids h.dims [] var.dimids → extent_end_as_sum h n var ≡ extent_end h var n
+ends : (h : Header) (var : Var) (n : ℕ) → AreDimids h.dims [] var.dimids → extent_sum h n var ≡ extent_end h var n
 ends h var n shape = sym (end-at-kind h var n (some_count h.dims var.dimids shape))
 
-pub extent-found : (h : Header) (v n end : ℕ) → IsSound h → IfSome (slice_get h.vars v) (λ var. end ≡ extent_end_as_sum h n var)
+pub extent-found : (h : Header) (v n end : ℕ) → IsSound h → IfSome (slice_get h.vars v) (λ var. end ≡ extent_sum h n var)
     → IfSome (slice_get h.vars v) (λ var. end ≡ extent_end h var n)
 extent-found h v n end sound =
-    if-some (λ var. end ≡ extent_end_as_sum h n var) (λ var. end ≡ extent_end h var n) (slice_get h.vars v)
+    if-some (λ var. end ≡ extent_sum h n var) (λ var. end ≡ extent_end h var n) (slice_get h.vars v)
     (λ var at is. is ∙ ends h var n (all-at (IsSoundVar h.version h.dims) h.vars v var sound.vars at).shape)

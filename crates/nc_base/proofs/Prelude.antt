@@ -21,7 +21,7 @@ unfoldable pub use Rattle.nc_base.specs.ValueText.{char_piece, closing, look_of,
 pub use Rattle.nc_base.specs.Versions.{count_limit, count_width, has_type, offset_limit, offset_width, streaming_mark, version_byte}
 pub use Rattle.nc_base.specs.code.ListedRows.{AreRowEnds, StandAt}
 unfoldable pub use Rattle.nc_base.specs.code.ListedRows.{filled_rows, row_start}
-pub use Rattle.nc_base.specs.code.SizeParts.{checked_record_size, extent_end_as_sum, first_begin, has_small_slab, is_fixed_dim, lesser, slab_at}
+pub use Rattle.nc_base.specs.code.SizeParts.{checked_record_size, extent_sum, first_begin, has_small_slab, is_fixed_dim, lesser, slab_at}
 pub use Rattle.nc_base.specs.code.Weight.{att_weight, dim_weight, var_weight}
 pub use Rattle.nc_base.specs.declared.dataset.Dataset.{Dataset}
 pub use Rattle.nc_base.specs.declared.header.Att.{Att}

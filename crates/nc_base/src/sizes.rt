@@ -4,7 +4,7 @@ ghost use Rattle.std.specs.Prelude.{◌≡◌, ◌+◌, ◌*◌, ◌/◌, ◌<�
 ghost use Rattle.nc_base.specs.Types.{size_of};
 ghost use Rattle.nc_base.specs.Bytes.{padding_len};
 ghost use Rattle.nc_base.specs.Sizes.{dim_len, is_record_dim, has_records, is_record_var, is_narrow, product, slab_of, slab_size, padded_size, slab_limit, record_size, record_limit, record_vars, record_count};
-ghost use Rattle.nc_base.specs.code.SizeParts.{slab_at, checked_record_size, extent_end_as_sum, first_begin, lesser, CountsValues, IsCappedSlab};
+ghost use Rattle.nc_base.specs.code.SizeParts.{slab_at, checked_record_size, extent_sum, first_begin, lesser, CountsValues, IsCappedSlab};
 ghost use Rattle.nc_base.specs.GeneratedFile.{known_records};
 ghost use Rattle.nc_base.specs.Places.{extent_end};
 ghost use Rattle.nc_base.specs.Headers.{IsSound, value_count};
@@ -124,15 +124,15 @@ pub fn extent_end(header: &Header, v: usize, records: u64) -> u128
     requires there { v < length header.now.vars }
     ensures { IfSome (slice_get header.now.vars v) (λ var. result ≡ extent_end header.now var records) }
 {
-    extent_end_as_sum(header, v, records)
+    extent_sum(header, v, records)
 }
 
 /// Returns the offset that [`extent_end`] returns, as a sum: the begin, the bytes of the slab, and for a record variable one record size
 /// more for each record after the first. For a record variable over 0 records it is the begin alone.
-fn extent_end_as_sum(header: &Header, v: usize, records: u64) -> u128
+fn extent_sum(header: &Header, v: usize, records: u64) -> u128
     requires sound { IsSound header.now }
     requires there { v < length header.now.vars }
-    ensures { IfSome (slice_get header.now.vars v) (λ var. result ≡ extent_end_as_sum header.now records var) }
+    ensures { IfSome (slice_get header.now.vars v) (λ var. result ≡ extent_sum header.now records var) }
 {
     let var = &header.vars.as_slice()[v];
     let begin = var.begin_at as u128;

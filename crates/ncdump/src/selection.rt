@@ -99,7 +99,7 @@ fn are_in_both(
     chosen: &Option<NameSet<'_>>,
     dims: &Option<NameSet<'_>>,
 ) -> Result<Vec<bool>, AllocError>
-    ensures { IfOk result (λ selection. selection.items ≡ map (is_in_both chosen.now dims.now) vars.now) }
+    ensures { IfOk result (λ s. s.items ≡ map (is_in_both chosen.now dims.now) vars.now) }
 {
     let mut selection = Vec::with_capacity(alloc, vars.len())?;
     selection.extend(

@@ -37,8 +37,8 @@ lesser None begin = begin
 lesser (Some offset) begin = min offset begin
 
 -- the first offset after the last value that a variable has over n records: its begin, where it has none
-abbrev pub extent_end_as_sum : Header → ℕ → Var → ℕ
-extent_end_as_sum h records var =
+abbrev pub extent_sum : Header → ℕ → Var → ℕ
+extent_sum h records var =
     if is_record_var h.dims var
     then (if records == 0 then var.begin_at else var.begin_at + (records - 1) * record_size h + slab_size h.dims var)
     else var.begin_at + slab_size h.dims var
