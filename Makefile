@@ -23,19 +23,25 @@ bin/ncgen: FORCE
 	cd crates/ncgen_cli && rt run -- ../../$(sample).cdl
 	$(call keep,ncgen)
 
-# The merge gate: every proof from nothing, the tests and the programs' stored runs; then wrong bodies, which the prover or a test
-# has to refuse (of those tests a few are run, drawn by the date); places where out of memory is made of anything but a failed allocation;
-# wrong definitions, which the laws have to refuse; the tests and the programs that the gate has built, with each allocation failing in
-# turn; the programs from end to end, with their calls of the system counted, on texts and files of many parts, whose time may not grow
-# with a square, on random datasets, and on mangled files and texts; the documents; and a release, unpacked and run.
+# The merge gate: every proof from nothing, the tests and the programs' stored runs; then, side by side, what stands on its results.
 test:
 	rt ci
 	$(call keep,ncdump)
 	$(call keep,ncgen)
+	$(MAKE) -j 2 test-edits test-programs
+
+# Wrong bodies, which the prover or a test has to refuse (of those tests a few are run, drawn by the date), and wrong definitions, which
+# the laws have to refuse.
+test-edits:
 	tests/wrong_bodies.py
 	tests/wrong_bodies.py --tests 4
-	tests/refusals.py
 	tests/definitions.py
+
+# Places where out of memory is made of anything but a failed allocation; the tests and the programs that the gate has built, with each
+# allocation failing in turn; the programs from end to end, with their calls of the system counted, on texts and files of many parts, whose
+# time may not grow with a square, on random datasets, and on mangled files and texts; the documents; and a release, unpacked and run.
+test-programs:
+	tests/refusals.py
 	tests/allocation_failures.sh
 	tests/ncdump.sh
 	tests/ncgen.sh
@@ -46,6 +52,9 @@ test:
 	tests/hostile.py
 	tests/documents.py
 	tests/release.sh
+
+# The scripts run make of their own, which knows nothing of this one.
+unexport MAKEFLAGS
 
 # Installs the programs that bin/ has, and their manual pages. Proves and builds the programs first if bin/ lacks them.
 install:
@@ -81,4 +90,4 @@ clean:
 
 FORCE:
 
-.PHONY: all test install dist check clean FORCE
+.PHONY: all test test-edits test-programs install dist check clean FORCE
