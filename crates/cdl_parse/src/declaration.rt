@@ -91,8 +91,9 @@ fn first_with_word(types: &[NcType], version: Version, word: Lexeme<'_>) -> Opti
         .find(|ty| version.has_type(*ty) && word.is_word(ty.word()))
 }
 
-/// Reads the variables of a declaration, all of type `ty`, and adds them to `variables`. `start` is at the name of the first one.
-/// Errs as [`read_declaration`] does after the type word.
+/// Reads the variables of a declaration, all of type `ty`, and adds them to `variables`. `start` is at the name of the first one, and
+/// `dims` are the dimensions of the dataset. Errs as [`read_declaration`] does after the type word; then the variables before the
+/// failing one have been added.
 fn read_variables(
     alloc: Global,
     dims: &Dimensions,

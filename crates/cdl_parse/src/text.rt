@@ -45,7 +45,7 @@ pub fn parse(alloc: Global, text: &[u8], version: Version) -> Result<Dataset, Cd
 ///
 /// # Errors
 ///
-/// Those of [`parse`].
+/// Those of [`parse`], but `OutOfMemory` only if an allocation failed.
 pub fn declared(alloc: Global, text: &[u8], version: Version) -> Result<Declared, CdlFault>
     ensures declares { MeansOrOutOfMemory (as_dataset result) (meaning text.now version) }
     ensures one_each { IfOk result (λ d. length d.listed ≡ length d.header.vars) }

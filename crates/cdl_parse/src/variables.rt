@@ -168,7 +168,7 @@ fn vars_of(alloc: Global, list: Vec<Variable>) -> Result<Vec<Var>, AllocError>
     Ok(vars)
 }
 
-/// Returns the variable as one of a header, with begin 0.
+/// Turns the variable into one of a header, with begin 0.
 fn var_of(variable: Variable) -> Var
     ensures { result ≡ var_of variable }
 {

@@ -41,8 +41,8 @@ fn columns_left_after_name(width: usize, name: &[u8]) -> usize
     columns_left
 }
 
-/// Returns how many columns are left on a line of this width after this byte of a name with its escape, if `columns_left` were left
-/// before it. A line feed begins a line.
+/// Returns how many columns are left on a line of this width after `b`, a byte of a name, was written with the backslash that it may need,
+/// if `columns_left` were left before it: none if the line is full, and the whole width after a line feed.
 fn columns_left_after_byte(width: usize, columns_left: usize, b: u8) -> usize
     ensures { LeavesColumns width columns_left (escaped_in_name b) result }
 {

@@ -64,7 +64,8 @@ fn put_declared<W: Sink>(sink: &mut W, ty: NcType, name: &[u8]) -> Result<(), Wr
     put_name(sink, name)
 }
 
-/// Writes the shape of a variable, if it has dimensions.
+/// Writes the names of a variable's dimensions in parentheses and joined by commas, or nothing if it has no dimension. `dims` are the
+/// header's dimensions, and `dimids` the positions of the variable's in them.
 #[tactic(auto, using(devices::proofs::Writes::writes), unfolding(nc_base::specs::HeadText::shape_text))]
 fn put_shape<W: Sink>(sink: &mut W, dims: &[Dim], dimids: &[u64]) -> Result<(), WriteFailed>
     ensures { Wrote W.view sink.old sink.new (shape_text dims.now dimids.now) result }
@@ -75,7 +76,7 @@ fn put_shape<W: Sink>(sink: &mut W, dims: &[Dim], dimids: &[u64]) -> Result<(), 
     put_dim_list(sink, dims, dimids)
 }
 
-/// Writes the dimensions of a shape in parentheses.
+/// Writes the names of these dimensions in parentheses, joined by commas.
 #[tactic(auto, using(devices::proofs::Writes::writes))]
 fn put_dim_list<W: Sink>(sink: &mut W, dims: &[Dim], dimids: &[u64]) -> Result<(), WriteFailed>
     ensures { Wrote W.view sink.old sink.new (dim_list dims.now dimids.now) result }

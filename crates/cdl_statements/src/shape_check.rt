@@ -1,4 +1,4 @@
-//! The check of a statement's shape: where it ends, its first bad token, and whether it has its shape.
+//! The check of a statement's shape: where it ends, its first bad token, and whether it has a shape that its section allows.
 
 ghost use Rattle.std.specs.Prelude.{◌≡◌, false, true, is_none, None, Some};
 ghost use Rattle.cdl_statements.specs.code.Cutters.{Follows, is_done, version_of, words};
@@ -25,7 +25,7 @@ pub struct ShapeCheck<'a> {
     pub rest: Cutter<'a>,
 }
 
-/// Checks the next statement of `start`, which stands in this section. Returns the fault of its first bad token or bad number, whether it
+/// Checks the next statement of `start`, one of the section `section`. Returns the fault of its first bad token or bad number, whether it
 /// has the shape of a statement of this section, and the cutter after it. Does not allocate.
 pub fn check_shape(start: Cutter<'_>, section: Section) -> ShapeCheck<'_>
     requires { is_done start ≡ false }

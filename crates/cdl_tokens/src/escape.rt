@@ -38,7 +38,7 @@ fn number_escape(mark: usize, base: u64, digits: &[u8]) -> Character
     }
 }
 
-/// Returns the value of these digits, in the base `base`, as a byte. Returns `None` if the value is greater than 255.
+/// Returns the value of these octal (`base` 8) or hexadecimal (`base` 16) digits as a byte, or `None` if it is greater than 255.
 fn byte_in(base: u64, digits: &[u8]) -> Option<u8>
     requires some { 1 ≤ base }
     requires small { base ≤ 16 }

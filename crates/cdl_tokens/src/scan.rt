@@ -100,8 +100,8 @@ fn scan_opening(bytes: &[u8]) -> Scanned
 }
 
 /// Returns the kind and the length of the token that begins with a quote; `bytes` is what comes after the quote. The token is a string
-/// that ends with the first quote that isn't escaped. It is a bad token if there is no such quote, or if a character of the string
-/// stands for no byte. The length counts both quotes.
+/// that ends with the first quote that isn't escaped. It is a bad token if there is no such quote, or if an escape of the string
+/// stands for no byte (`\400`, for example, is above 255). The length counts both quotes.
 fn scan_text(bytes: &[u8]) -> Scanned
     requires { length bytes.now + 1 < 2 ^ 64 }
     ensures scan { result ≡ scan_text bytes.now (until 0x22 bytes.now) }

@@ -42,7 +42,7 @@ impl From<ReadError> for FastPathFault {
     }
 }
 
-/// Appends to `array` the token's value, or nothing if the token is a mark. Returns what capacity is left. Errs as [`put`] does.
+/// Appends to `array` the token's value, or nothing if the token is a mark. Returns what capacity is left. Errs as [`put_token_value`] does.
 pub fn put_token(
     array: &mut ListedArray,
     version: Version,
@@ -56,7 +56,7 @@ pub fn put_token(
         TokenKind::Mark => Ok(capacity),
         _ => {
             let before = array.len();
-            put(array, version, filling, capacity, token)?;
+            put_token_value(array, version, filling, capacity, token)?;
             Ok(filling.capacity_after(array.len().saturating_sub(before), capacity))
         }
     }
@@ -132,7 +132,7 @@ fn put_good(
 {
     match token.kind {
         TokenKind::Bad => Err(FastPathFault::Unnamed),
-        _ => Ok(put(array, version, *filling, capacity, token)?),
+        _ => Ok(put_token_value(array, version, *filling, capacity, token)?),
     }
 }
 
@@ -161,10 +161,11 @@ fn put_good_number(
     Ok(put_numeral(array, fill.ty, n)?)
 }
 
-/// Appends to `array` the bytes of a value, in the form of the filling. Errs with `WrongKind`, `TooManyValues`, `NumberRange` or
-/// `StringTooLong` if the value has that fault, and with `OutOfMemory` if an allocation failed.
+/// Appends to `array` the bytes of the value that `token`, which is no mark, says, in the form that `filling` takes. `version` decides
+/// which suffixes a number may have. Errs with `WrongKind`, `TooManyValues`, `NumberRange` or `StringTooLong` if the value has that fault,
+/// and with `OutOfMemory` if an allocation failed.
 #[tactic(auto, unfolding(cdl_statements::specs::code::Contents::value_of))]
-fn put(
+fn put_token_value(
     array: &mut ListedArray,
     version: Version,
     filling: Filling,
@@ -175,7 +176,7 @@ fn put(
 {
     let full = is_full(capacity);
     match filling {
-        Filling::Numbers(fill) => put_value(array, version, fill, full, token),
+        Filling::Numbers(fill) => put_number_or_fill(array, version, fill, full, token),
         Filling::Joined => match token.kind {
             TokenKind::Text => put_text(array, capacity, token.bytes),
             _ => Err(ReadError::Fault(CdlKind::WrongKind)),
@@ -187,11 +188,11 @@ fn put(
     }
 }
 
-/// Appends to `array` the bytes of a value of a variable of numbers: those of the fill value if the token is neither a string nor a number.
-/// `full` is true if the capacity is 0. Errs with `WrongKind` if the token is a string, with `TooManyValues` if `full`, with `NumberRange`
+/// Appends to `array` the bytes of the number that `token` says, or those of the fill value if the token is neither a string nor a number.
+/// `version` decides which suffixes a number may have. `full` is true if the capacity is 0. Errs with `WrongKind` if the token is a string, with `TooManyValues` if `full`, with `NumberRange`
 /// if the number is out of the type's range, and with `OutOfMemory` if an allocation failed.
 #[tactic(auto, unfolding(cdl_statements::specs::code::Contents::value_of), using(crate::proofs::Ranges::held_is, cdl_meaning::proofs::InRange::has_it))]
-fn put_value(
+fn put_number_or_fill(
     array: &mut ListedArray,
     version: Version,
     fill: Fill,

@@ -78,6 +78,7 @@ impl<R: Files<File = File>> TextOpener for SystemFiles<'_, R> {
     fn close_text(&mut self, text: CountedRead<File>)
         ensures { HasBack (view_of self.old) (view_of self.new) text.failures }
     {
+        // `text` is dropped, which closes the file
         self.failures = self.failures.saturating_add(text.failures());
     }
 }

@@ -85,7 +85,8 @@ fn read_run<S: Source>(
 }
 
 /// Reads values from this cursor on, of one slab after the other, into the start of `into`. Stops after `capacity` values, after
-/// the variable's last value, and before a value that isn't whole in the source. Returns the chunk of the values that were read.
+/// the variable's last value, and before a value that isn't whole in the source. Returns the chunk of the values that were read. There is
+/// a value at the cursor, and `into` has room for `capacity` values, at least one.
 ///
 /// # Errors
 ///

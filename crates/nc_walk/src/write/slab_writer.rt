@@ -56,7 +56,7 @@ impl<'a> SlabWriter<'a> {
         self.put_slab(sink, r as u128 * len, len)
     }
 
-    /// Writes the slabs of all records, one after the other and without padding.
+    /// Writes this variable's slabs of the first `records` records, one after the other and without padding.
     #[tactic(auto, using(devices::proofs::Writes::writes))]
     pub(super) fn put_records<W: Sink>(&self, sink: &mut W, records: u64) -> Result<(), WriteFailed>
         ensures { Wrote W.view sink.old sink.new (filled_slabs records self.now) result }
