@@ -1,6 +1,6 @@
 -- A dump from reading the header, selecting variables and showing them.
-use Rattle.std.proofs.Common.{◌≡◌, ℕ, ◌+◌, inl, inr, Bool, true, List, ◌++◌, length, Result, Ok, Err, refl, sym, ap, subst, ◌∙◌, append_assoc, ◌&&◌}
-use Rattle.ncdump.proofs.Prelude.{OnTrue, Header, SpellsHeader, record_count, Options, Section, closing_word, KnowsChosen, selection_of, dump_text, has_values, IsDump, stopped, unknown, shown, SourceView, SinkView, transparent_map, transparent_both, DumpFault, OutOfMemory, ReadFailed, WriteFailed, Format, NoSuchVariable, DataTruncated, Dumped, dumped, prefix_text, selected_values, values_from, unless_head_only, text_before, KeepsUpIn, Shows, Dumps, ReadsForward, IsAfterHeader, in_header, after_header, between}
+use Rattle.std.proofs.Common.{◌≡◌, ℕ, ◌+◌, inl, inr, Bool, true, List, [], ◌++◌, length, Result, Ok, Err, refl, sym, ap, subst, ◌∙◌, append_assoc, ◌&&◌}
+use Rattle.ncdump.proofs.Prelude.{OnTrue, appended_none, Header, SpellsHeader, record_count, Options, Section, closing_word, KnowsChosen, selection_of, dump_text, has_values, IsDump, stopped, unknown, shown, SourceView, SinkView, transparent_map, transparent_both, DumpFault, OutOfMemory, ReadFailed, WriteFailed, Format, NoSuchVariable, DataTruncated, Dumped, dumped, prefix_text, selected_values, values_from, unless_head_only, text_before, KeepsUpIn, Shows, Dumps, ReadsForward, IsAfterHeader, in_header, after_header, between}
 use Rattle.nc_file.specs.code.Answers.{IsRead, Answers, HasAnswered, header_end, fault_end}
 use Rattle.nc_file.specs.declared.head_fault.HeadFault.{HeadFault}
 use Rattle.nc_file.specs.declared.head_fault.HeadFault.TheVariants as head
@@ -18,7 +18,7 @@ refused : (o : Options) (a b : SourceView) (buffer_len : ℕ) (sink : SinkView) 
 refused o a b buffer_len sink head.OutOfMemory answer = (refl, record { end = answer.end; ends = answer.ends; handed = answer.handed })
 refused o a b buffer_len sink head.ReadFailed answer = (inl refl, in_header (record { end = answer.end; ends = answer.ends; handed = answer.handed }) refl)
 refused o a b buffer_len sink (head.Format fault) answer =
-    (stopped fault answer.end answer.stops, record { end = answer.end; ends = fault_end fault answer.stops; handed = answer.handed })
+    (record { text = []; is_dump = stopped fault answer.end answer.stops; appended = appended_none sink }, record { end = answer.end; ends = fault_end fault answer.stops; handed = answer.handed })
 
 pub transparent-refused : (is_transparent : Bool) (o : Options) (a b : SourceView) (buffer_len : ℕ) (sink : SinkView) (e : HeadFault) → OnTrue is_transparent (HasAnswered a.bytes a.handed b.handed buffer_len (Err e))
     → OnTrue is_transparent (Dumps {A = Unit {0}} a.bytes o sink sink (Err (fault_of_head e)) × ReadsForward {A = Unit {0}} o (call buffer_len a b sink sink) (Err (fault_of_head e)))
@@ -30,7 +30,7 @@ unselected : (o : Options) (a b : SourceView) (buffer_len : ℕ) (sink : SinkVie
     → Dumps {A = Unit {0}} a.bytes o sink sink (Err fault) × ReadsForward {A = Unit {0}} o (call buffer_len a b sink sink) (Err fault)
 unselected o a b buffer_len sink h OutOfMemory read selects = (refl, record { end = read.end; ends = header_end h read.rest read.spelled read.ends; handed = read.handed })
 unselected o a b buffer_len sink h (NoSuchVariable index) read selects =
-    (unknown h read.rest index read.spelled selects, record { end = read.end; ends = header_end h read.rest read.spelled read.ends; handed = read.handed })
+    (record { text = []; is_dump = unknown h read.rest index read.spelled selects; appended = appended_none sink }, record { end = read.end; ends = header_end h read.rest read.spelled read.ends; handed = read.handed })
 unselected o a b buffer_len sink h ReadFailed read selects = absurd selects
 unselected o a b buffer_len sink h WriteFailed read selects = absurd selects
 unselected o a b buffer_len sink h (Format fault) read selects = absurd selects

@@ -113,14 +113,11 @@ record Ends (bytes : List ℕ) (o : Options) (old new : SinkView) (answer : Resu
   appended : Appended old new text
   answers : answer ≡ answer_of ending
 
-nothing-written : (old new : SinkView) → new ≡ old → Appended old new []
-nothing-written old new same = subst (λ (s : SinkView). Appended old s []) (sym same) (appended_none old)
-
 ended : (bytes : List ℕ) (o : Options) (old new : SinkView) (answer : Result (Unit {0}) DumpFault) → HasDumped bytes o old new answer → Ends bytes o old new answer
 ended bytes o old new (Ok done) has = record { text = has.dumps.text; ending = whole; is_dump = has.dumps.is_dump; appended = has.dumps.appended; answers = refl }
 ended bytes o old new (Err (DataTruncated v k)) has = record { text = has.dumps.text; ending = data_truncated v k; is_dump = has.dumps.is_dump; appended = has.dumps.appended; answers = refl }
-ended bytes o old new (Err (Format fault)) has = record { text = []; ending = wrong_field fault; is_dump = has.dumps; appended = nothing-written old new has.sink; answers = refl }
-ended bytes o old new (Err (NoSuchVariable index)) has = record { text = []; ending = no_such_variable index; is_dump = has.dumps; appended = nothing-written old new has.sink; answers = refl }
+ended bytes o old new (Err (Format fault)) has = record { text = has.dumps.text; ending = wrong_field fault; is_dump = has.dumps.is_dump; appended = has.dumps.appended; answers = refl }
+ended bytes o old new (Err (NoSuchVariable index)) has = record { text = has.dumps.text; ending = no_such_variable index; is_dump = has.dumps.is_dump; appended = has.dumps.appended; answers = refl }
 ended bytes o old new (Err OutOfMemory) has = absurd has.met_none
 ended bytes o old new (Err ReadFailed) has = absurd has.met_none
 ended bytes o old new (Err WriteFailed) has = absurd has.met_none

@@ -52,12 +52,13 @@ pub record IsLeftOff (bytes : List ℕ) (o : Options) (old new : SinkView) : Typ
   pub appended : Appended old new prefix
 
 -- The dump of a file with these bytes: the text that the definition gives, with success; that of a file in which a value is
--- missing, with the value; nothing, and the definition's fault; or, where a device failed, nothing or a prefix of the text.
+-- missing, with the value; that of a wrong field or an unknown name, which is no text, with this fault; or, where a device or an
+-- allocation failed, nothing or a prefix of the text.
 abbrev pub Dumps : {A : Type 0} → List ℕ → Options → SinkView → SinkView → Result A DumpFault → Type 0
 Dumps bytes o old new (Ok done) = IsWritten bytes o whole old new
 Dumps bytes o old new (Err (DataTruncated v k)) = IsWritten bytes o (data_truncated v k) old new
-Dumps bytes o old new (Err (Format fault)) = IsDump bytes o [] (wrong_field fault)
-Dumps bytes o old new (Err (NoSuchVariable index)) = IsDump bytes o [] (no_such_variable index)
+Dumps bytes o old new (Err (Format fault)) = IsWritten bytes o (wrong_field fault) old new
+Dumps bytes o old new (Err (NoSuchVariable index)) = IsWritten bytes o (no_such_variable index) old new
 Dumps bytes o old new (Err OutOfMemory) = new ≡ old
 Dumps bytes o old new (Err ReadFailed) = (new ≡ old) ⊎ IsLeftOff bytes o old new
 Dumps bytes o old new (Err WriteFailed) = IsCutShort bytes o old new

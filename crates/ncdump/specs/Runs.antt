@@ -155,10 +155,9 @@ pub record Failed (run : Run) (err : SinkUse) : Type 0 where
   pub fails : Fails run failure
   pub error : Appended err.old err.new (line_of_failure failure) ⊎ FailedPartway err.old err.new (line_of_failure failure)
 
--- with status 0 the run has succeeded, and with status 1 it has failed
-pub record Ends (run : Run) (err : SinkUse) (status : ℕ) : Type 0 where
-  pub success : status ≡ 0 → Succeeded run err
-  pub failure : status ≡ 1 → Failed run err
+-- the status is 0 where the run has succeeded, and 1 where it has failed
+abbrev pub Ends : Run → SinkUse → ℕ → Type 0
+Ends run err status = (status ≡ 0) × Succeeded run err ⊎ (status ≡ 1) × Failed run err
 
 -- ---- of the words
 

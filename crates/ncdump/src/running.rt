@@ -31,7 +31,6 @@ pub fn run_with<P: Opener, O: Flush, E: Sink>(
     out: &mut O,
     err: &mut E,
 ) -> u8
-    ensures status { (result ≡ 0) ⊎ (result ≡ 1) }
     ensures ends { EndsWords words.now
         (files_of P.Source.is_transparent P.named P.view opener.old opener.new)
         (sink_of O.Sink.view out.old out.new)
