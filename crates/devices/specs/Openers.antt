@@ -3,25 +3,25 @@ use Rattle.std.specs.Bool.{OnTrue}
 use Rattle.std.specs.Prelude.{Bool, ℕ, ◌≡◌, ◌+◌, ◌-◌, ◌^◌, min, List, Option, Some, None, Result, Ok, Err}
 use Rattle.devices.specs.Sources.{SourceView}
 
--- how often it was to open a path, and how often what it opened and has back has failed
+-- how often it was asked to open a path, and how often the sources that it took back have failed
 pub record OpenerView : Type 0 where
   pub opens : ℕ
   pub failures : ℕ
 
--- what was to open no path yet
+-- it was asked to open no path yet
 abbrev pub unopened : OpenerView
 unopened = record { opens = 0; failures = 0 }
 
--- how often it was to open a path after one time more, as far as a count goes
+-- how often it was asked to open a path, after one time more; the count stops at 2^128 - 1
 abbrev pub opens_after : OpenerView → ℕ
 opens_after old = min (old.opens + 1) (2 ^ 128 - 1)
 
--- it was to open a path once more
+-- it was asked to open a path once more
 pub record OpensOnce (old new : OpenerView) : Type 0 where
   pub opens : new.opens ≡ opens_after old
   pub failures : new.failures ≡ old.failures
 
--- it has back what has failed so often
+-- it took back a source that has failed this often: its own count stops at 2^128 - 1, and stays where the source hasn't failed
 pub record HasBack (old new : OpenerView) (failures : ℕ) : Type 0 where
   pub opens : new.opens ≡ old.opens
   pub unfailed : failures ≡ 0 → new.failures ≡ old.failures

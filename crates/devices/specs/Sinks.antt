@@ -31,11 +31,11 @@ IsPrefixIf None None = Unit {0}
 IsPrefixIf (Some prefix) None = ⊥
 IsPrefixIf None (Some whole) = ⊥
 
--- now it is what it was to be, cut short
+-- what it has taken is a prefix of what it was to take
 unfoldable pub IsCut : SinkView → SinkView → Type 0
 IsCut now wanted = IsPrefixIf now.taken wanted.taken
 
--- it broke off on the way from old to this
+-- it stopped on the way from old to wanted: it has taken a prefix of what it was to take, and no less than before
 pub record StoppedShort (old new wanted : SinkView) : Type 0 where
   pub cut : IsCut new wanted
   pub no_less : count old ≤ count new

@@ -66,7 +66,7 @@ abbrev pub DumpsAsked : {A : Type 0} → (List ℕ → Option (List ℕ)) → Op
 DumpsAsked named (Some a) old new result = DumpsFile (named a.file) a.options old new result
 DumpsAsked named None old new result = ⊥
 
--- the same, or a fault of the command line
+-- the dump of the file that is asked for; or a fault of the command line, with which there is no dump
 abbrev pub DumpsOrNot : {A : Type 0} → (List ℕ → Option (List ℕ)) → Option Asked → SinkView → SinkView → Result A Failure → Type 0
 DumpsOrNot named asked old new (Ok done) = DumpsAsked named asked old new (Ok done)
 DumpsOrNot {A} named asked old new (Err (File path fault)) = DumpsAsked {A = A} named asked old new (Err fault)
@@ -83,7 +83,7 @@ pub record OpensFile {A : Type 0} (old new : OpenerView) (result : Result A File
   pub opens : new.opens ≡ opens_after old
   pub reads : ReadFailsOnly old new result
 
--- the same, or nothing was opened for want of a command line without fault
+-- a path was opened once, as `OpensFile` says; or none was, since the command line has a fault
 abbrev pub OpensAsked : {A : Type 0} → OpenerView → OpenerView → Result A Failure → Type 0
 OpensAsked old new (Ok done) = OpensFile old new (Ok done)
 OpensAsked {A} old new (Err (File path fault)) = OpensFile {A = A} old new (Err fault)
@@ -97,7 +97,7 @@ pub record FilesUse : Type 0 where
   pub old : OpenerView
   pub new : OpenerView
 
--- the same of an opener, by the bytes that paths name, and by its view
+-- an opener before and after a run, by the bytes that paths name and by its view
 abbrev pub files_of : {P : Type 0} → Bool → (P → List ℕ → Option (List ℕ)) → (P → OpenerView) → P → P → FilesUse
 files_of is_transparent named view old new = record { is_transparent = is_transparent; named = named old; old = view old; new = view new }
 
@@ -110,26 +110,26 @@ pub record Run : Type 0 where
 abbrev pub run_of : List (Bor (List ℕ)) → FilesUse → SinkUse → Run
 run_of words files out = record { asked = asked_by (texts_of words); files = files; out = out }
 
--- With this answer, where standard output was this afterwards: the dump that is asked for was written, or the answer is the fault
--- of the command line, of opening the file, or of its dump.
+-- The dump that is asked for was written, or the answer is the fault of the command line, of opening the file, or of its dump. `out` is
+-- standard output after that.
 pub record HasDumped {A : Type 0} (run : Run) (out : SinkView) (answer : Result A Failure) : Type 0 where
   pub ends : WritesAsked run.asked run.out.old out answer
   pub opens : OpensAsked run.files.old run.files.new answer
   pub dump : OnTrue run.files.is_transparent (DumpsOrNot run.files.named run.asked run.out.old out answer)
 
--- and then standard output was flushed
+-- the dump was written, and then standard output was flushed
 pub record HasFlushed (run : Run) : Type 0 where
   pub out : SinkView
   pub dumped : HasDumped {A = Unit {0}} run out (Ok tt)
   pub flushed : Appended out run.out.new []
 
--- the same, where the flush failed
+-- the dump was written, and then the flush of standard output failed
 pub record FailsToFlush (run : Run) : Type 0 where
   pub out : SinkView
   pub dumped : HasDumped {A = Unit {0}} run out (Ok tt)
   pub flushed : FailedPartway out run.out.new []
 
--- the dump failed, and standard output was to be flushed too
+-- the dump failed, and then standard output was flushed, or the flush failed too
 pub record FailsToDump (run : Run) (failure : Failure) : Type 0 where
   pub out : SinkView
   pub dumped : HasDumped {A = Unit {0}} run out (Err failure)
@@ -139,7 +139,7 @@ abbrev pub Fails : Run → Failure → Type 0
 Fails run Flush = FailsToFlush run
 Fails run failure = FailsToDump run failure
 
--- what is asked for was done, or this failed
+-- what is asked for was done, or the run has failed so
 abbrev pub Runs : {A : Type 0} → Run → Result A Failure → Type 0
 Runs run (Ok done) = HasFlushed run
 Runs run (Err failure) = Fails run failure
@@ -161,14 +161,14 @@ Ends run err status = (status ≡ 0) × Succeeded run err ⊎ (status ≡ 1) × 
 
 -- ---- of the words
 
--- the dump that the words ask for was written, or the answer is the failure
+-- the dump that the words of a command line ask for was written, or the answer is the failure
 abbrev pub DumpsWords : {A : Type 0} → List (Bor (List ℕ)) → FilesUse → SinkUse → Result A Failure → Type 0
 DumpsWords words files out result = HasDumped (run_of words files out) out.new result
 
--- the same, and standard output was flushed
+-- that dump was written, and standard output was flushed, or the answer is the failure
 abbrev pub RunsWords : {A : Type 0} → List (Bor (List ℕ)) → FilesUse → SinkUse → Result A Failure → Type 0
 RunsWords words files out result = Runs (run_of words files out) result
 
--- the same, and the status and standard error tell the failure
+-- the run that the words ask for has ended with this status
 abbrev pub EndsWords : List (Bor (List ℕ)) → FilesUse → SinkUse → SinkUse → ℕ → Type 0
 EndsWords words files out err status = Ends (run_of words files out) err status
