@@ -28,7 +28,7 @@ test:
 	rt ci
 	$(call keep,ncdump)
 	$(call keep,ncgen)
-	$(MAKE) -j 2 test-edits test-programs
+	$(MAKE) --no-print-directory -j 2 test-edits test-programs
 
 # Wrong bodies, which the prover or a test has to refuse (of those tests a few are run, drawn by the date), and wrong definitions, which
 # the laws have to refuse.
