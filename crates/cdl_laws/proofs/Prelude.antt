@@ -20,12 +20,8 @@ pub use Rattle.cdl_statements.specs.Statements.{statements}
 pub use Rattle.cdl_statements.specs.code.CutSteps.{going, step, unless_end, with_first}
 unfoldable pub use Rattle.cdl_statements.specs.code.CutSteps.{pieces_after}
 pub use Rattle.cdl_statements.specs.code.Roles.{first_role, role}
-pub use Rattle.cdl_statements.specs.declared.fault.CdlFault.{CdlFault}
-pub use Rattle.cdl_statements.specs.declared.fault.CdlKind.{CdlKind}
+pub use Rattle.cdl_statements.specs.declared.{fault.CdlFault.CdlFault, fault.CdlKind.CdlKind, piece.CutState.CutState, piece.Role.Role, section.Section.Section}
 pub use Rattle.cdl_statements.specs.declared.fault.CdlKind.TheVariants.{BadName, BadNumber, BadShape, BadToken, DuplicateData, DuplicateName, FloatingType, MixedConstants, NumberRange, StringTooLong, Syntax, TooLarge, TooManyValues, TwoRecordDims, UnknownDimension, UnknownType, UnknownVariable, WrongKind, ZeroDimension}
-pub use Rattle.cdl_statements.specs.declared.piece.CutState.{CutState}
-pub use Rattle.cdl_statements.specs.declared.piece.Role.{Role}
-pub use Rattle.cdl_statements.specs.declared.section.Section.{Section}
 pub use Rattle.cdl_statements.specs.declared.section.Section.TheVariants.{Closed, Dimensions, Ended, Globals, Unopened, Values, Variables}
 pub use Rattle.cdl_tokens.proofs.Strings.{or_zero, stands_for, plain_small}
 pub use Rattle.cdl_tokens.specs.Bytes.{begins_word, digit_value, goes_on_number, goes_on_word, is_blank, is_digit, is_escapable, is_escape, is_hex, is_octal, is_sign, number_in, within}
@@ -37,9 +33,7 @@ pub use Rattle.cdl_tokens.specs.Scan.{begins_a_word, begins_comment, begins_numb
 unfoldable pub use Rattle.cdl_tokens.specs.Scan.{scan, until, word_len}
 pub use Rattle.cdl_tokens.specs.Tokens.{raw, token_at, tokens, with_token}
 unfoldable pub use Rattle.cdl_tokens.specs.Tokens.{tokens_at}
-pub use Rattle.cdl_tokens.specs.declared.scan.Scanned.{Scanned}
-pub use Rattle.cdl_tokens.specs.declared.token.Token.{Token}
-pub use Rattle.cdl_tokens.specs.declared.token.TokenKind.{TokenKind}
+pub use Rattle.cdl_tokens.specs.declared.{scan.Scanned.Scanned, token.Token.Token, token.TokenKind.TokenKind}
 pub use Rattle.cdl_tokens.specs.declared.token.TokenKind.TheVariants.{Bad, Text, Word}
 pub use Rattle.nc_base.specs.Bytes.{AreBytes}
 unfoldable pub use Rattle.nc_base.specs.Bytes.{concat_parts}
@@ -62,15 +56,9 @@ pub use Rattle.nc_base.specs.Types.{all_types, code_of, number_suffix, size_of, 
 pub use Rattle.nc_base.specs.ValueText.{Look, begins_row, char_lead, char_text, column, held, is_char, is_nul, line_break, number_lead, number_text, row_len, row_so_far}
 unfoldable pub use Rattle.nc_base.specs.ValueText.{char_piece, closing, look_of, number_piece, opening, piece, pieces, variable_prefix, variable_text}
 pub use Rattle.nc_base.specs.Versions.{count_limit, has_type, offset_limit}
-pub use Rattle.nc_base.specs.declared.dataset.Dataset.{Dataset}
-pub use Rattle.nc_base.specs.declared.header.Att.{Att}
-pub use Rattle.nc_base.specs.declared.header.Dim.{Dim}
-pub use Rattle.nc_base.specs.declared.header.Header.{Header}
+pub use Rattle.nc_base.specs.declared.{dataset.Dataset.Dataset, header.Att.Att, header.Dim.Dim, header.Header.Header, header.Var.Var, nc_type.NcType.NcType, version.Version.Version}
 pub use Rattle.nc_base.specs.declared.header.NumRecs.TheVariants.{Known, Streaming}
-pub use Rattle.nc_base.specs.declared.header.Var.{Var}
-pub use Rattle.nc_base.specs.declared.nc_type.NcType.{NcType}
 pub use Rattle.nc_base.specs.declared.nc_type.NcType.TheVariants.{Byte, Char, Int, Int64, Short, Ubyte, Uint, Uint64, Ushort}
-pub use Rattle.nc_base.specs.declared.version.Version.{Version}
 pub use Rattle.nc_base.specs.declared.version.Version.TheVariants.{Cdf1, Cdf2, Cdf5}
 pub use Rattle.std.proofs.Math.Nat.{div-eq_of_lt, div-lt_iff_lt-mul, lt-div-mul-add, lt_of_mul-lt-mul_right, mod-eq_of_lt, mul-add-div, mul-div_cancel, mul-le-mul, mul-le-mul_left, mul-le-mul_right, mul-mod_left, mul_comm, zero-mod}
 pub use Rattle.std.proofs.Math.Seq.{drop-append_seam, take-append_seam, take-length}

@@ -1,12 +1,7 @@
 -- Law. What a text means is a good dataset, and a text can declare it but for the fill values of characters.
 use Rattle.std.specs.Prelude.{◌≡◌, ℕ, ◌^◌, ◌≤◌, true, List, [], length, map, All, Ok}
 use Rattle.nc_base.specs.Bytes.{AreBytes}
-use Rattle.nc_base.specs.declared.dataset.Dataset.{Dataset}
-use Rattle.nc_base.specs.declared.header.Dim.{Dim}
-use Rattle.nc_base.specs.declared.header.Var.{Var}
-use Rattle.nc_base.specs.declared.header.NumRecs.TheVariants.{Known}
-use Rattle.nc_base.specs.declared.version.Version.{Version}
-use Rattle.nc_base.specs.declared.version.Version.TheVariants.{Cdf1}
+use Rattle.nc_base.specs.declared.{dataset.Dataset.Dataset, header.Dim.Dim, header.Var.Var, header.NumRecs.TheVariants.Known, version.Version.Version, version.Version.TheVariants.Cdf1}
 use Rattle.nc_base.specs.Fill.{fill_value}
 use Rattle.nc_base.specs.Headers.{IsGood}
 use Rattle.nc_base.specs.Sayable.{AreDistinct, AreSayableAtts, IsSayable, trimmed_var}

@@ -3,8 +3,7 @@ use Rattle.std.specs.Prelude.{ℕ, zero, suc, Bool, true, false, List, [], ◌�
 use Rattle.cdl_tokens.specs.Scan.{scan}
 use Rattle.cdl_statements.specs.Lexemes.{Lexeme}
 use Rattle.cdl_statements.specs.Pieces.{pieces_at}
-use Rattle.cdl_tokens.specs.declared.token.TokenKind.{TokenKind}
-use Rattle.cdl_tokens.specs.declared.token.TokenKind.TheVariants.{End}
+use Rattle.cdl_tokens.specs.declared.{token.TokenKind.TokenKind, token.TokenKind.TheVariants.End}
 
 abbrev pub with_lexeme : Option TokenKind → List ℕ → List Lexeme → List Lexeme
 with_lexeme None bytes rest = rest

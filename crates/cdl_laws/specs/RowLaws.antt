@@ -1,8 +1,6 @@
 -- Law. The values that the text of a variable lists give its array.
 use Rattle.std.specs.Prelude.{◌≡◌, ℕ, true, false, List, [], length, slice_get, slice_index_or, Some, Ok}
-use Rattle.nc_base.specs.declared.dataset.Dataset.{Dataset}
-use Rattle.nc_base.specs.declared.header.NumRecs.TheVariants.{Known}
-use Rattle.nc_base.specs.declared.header.Var.{Var}
+use Rattle.nc_base.specs.declared.{dataset.Dataset.Dataset, header.NumRecs.TheVariants.Known, header.Var.Var}
 use Rattle.nc_base.specs.Dump.{content_of, has_values}
 use Rattle.nc_base.specs.Headers.{value_count}
 use Rattle.nc_base.specs.Sayable.{IsSayable}

@@ -1,9 +1,7 @@
 -- Law. Names, strings and numbers are read back, each as one token; and the strings of a text stand for bytes.
 use Rattle.std.specs.Prelude.{◌≡◌, ◌||◌, true, ◌∷◌, ℕ, ℤ, Bool, true, false, List, ◌++◌, length, All, slice_index, codes, map, Some}
 use Rattle.std.specs.Fmt.{signed_decimal}
-use Rattle.nc_base.specs.declared.nc_type.NcType.{NcType}
-use Rattle.nc_base.specs.declared.nc_type.NcType.TheVariants.{Int}
-use Rattle.nc_base.specs.declared.version.Version.{Version}
+use Rattle.nc_base.specs.declared.{nc_type.NcType.NcType, nc_type.NcType.TheVariants.Int, version.Version.Version}
 use Rattle.nc_base.specs.Escapes.{escaped_name, escaped_text, is_reserved}
 use Rattle.nc_base.specs.Names.{IsName}
 use Rattle.nc_base.specs.Numbers.{IsInRange}
@@ -17,8 +15,7 @@ use Rattle.cdl_statements.specs.Lexemes.{name_of}
 use Rattle.cdl_tokens.specs.Numerals.{numeral}
 use Rattle.cdl_tokens.specs.Tokens.{raw, tokens}
 use Rattle.cdl_statements.specs.Pieces.{is_section}
-use Rattle.cdl_tokens.specs.declared.token.Token.{Token}
-use Rattle.cdl_tokens.specs.declared.token.TokenKind.{TokenKind}
+use Rattle.cdl_tokens.specs.declared.{token.Token.Token, token.TokenKind.TokenKind}
 use Rattle.cdl_tokens.specs.declared.token.TokenKind.TheVariants.{Word, Number, Text}
 
 -- if this rest follows, exactly these bytes are one token of this kind, whether or not a token comes before

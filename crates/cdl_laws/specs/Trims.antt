@@ -1,10 +1,7 @@
 -- Law. Datasets without the NULs at the end of their attributes: what of them a second text keeps, and when their fill values change.
 use Rattle.std.specs.Prelude.{◌≡◌, ◌↔◌, ℕ, ◌≤◌, Bool, true, false, ◌&&◌, ◌==◌, nat_lt, List, length, find, All, None, Some, Ok}
 use Rattle.nc_base.specs.Bytes.{AreBytes}
-use Rattle.nc_base.specs.declared.dataset.Dataset.{Dataset}
-use Rattle.nc_base.specs.declared.header.Att.{Att}
-use Rattle.nc_base.specs.declared.header.Var.{Var}
-use Rattle.nc_base.specs.declared.version.Version.{Version}
+use Rattle.nc_base.specs.declared.{dataset.Dataset.Dataset, header.Att.Att, header.Var.Var, version.Version.Version}
 use Rattle.nc_base.specs.Dump.{Options, whole, IsText}
 use Rattle.nc_base.specs.Fill.{fill_value, is_fill_att}
 use Rattle.nc_base.specs.HeadText.{without_trailing_nuls}

@@ -1,11 +1,7 @@
 -- Definition. What a text means: a dataset, or its first fault with its line.
 use Rattle.std.specs.Prelude.{ℕ, ◌+◌, ◌-◌, ◌*◌, ◌/◌, nat_le, max, Bool, ◌&&◌, if◌then◌else◌, ℤ, List, [], ◌∷◌, length, map, Option, None, Some, Result, Ok, Err}
 use Rattle.std.specs.List.{flat_map, list_all}
-use Rattle.nc_base.specs.declared.dataset.Dataset.{Dataset}
-use Rattle.nc_base.specs.declared.header.Dim.{Dim}
-use Rattle.nc_base.specs.declared.header.Header.{Header}
-use Rattle.nc_base.specs.declared.header.NumRecs.TheVariants.{Known}
-use Rattle.nc_base.specs.declared.version.Version.{Version}
+use Rattle.nc_base.specs.declared.{dataset.Dataset.Dataset, header.Dim.Dim, header.Header.Header, header.NumRecs.TheVariants.Known, version.Version.Version}
 use Rattle.nc_base.specs.Fill.{fill_value}
 use Rattle.nc_base.specs.Headers.{value_count}
 use Rattle.nc_base.specs.Numbers.{bytes_of_number}
@@ -14,10 +10,8 @@ use Rattle.nc_base.specs.Types.{size_of}
 use Rattle.cdl_statements.specs.Lexemes.{Lexeme, lexeme}
 use Rattle.cdl_statements.specs.Shapes.{Statement, shape, first_bad}
 use Rattle.cdl_statements.specs.Statements.{statements}
-use Rattle.cdl_statements.specs.declared.fault.CdlFault.{CdlFault}
-use Rattle.cdl_statements.specs.declared.fault.CdlKind.{CdlKind}
+use Rattle.cdl_statements.specs.declared.{fault.CdlFault.CdlFault, fault.CdlKind.CdlKind, section.Section.TheVariants.Unopened}
 use Rattle.cdl_statements.specs.declared.fault.CdlKind.TheVariants.{Syntax, TooLarge}
-use Rattle.cdl_statements.specs.declared.section.Section.TheVariants.{Unopened}
 use Rattle.cdl_tokens.specs.declared.token.Token.{Token}
 use Rattle.cdl_meaning.specs.State.{State, Draft, act, capacity_of, filled, values_in}
 

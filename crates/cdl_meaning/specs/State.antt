@@ -4,12 +4,8 @@ use Rattle.std.specs.List.{flat_map, list_any, position}
 use Rattle.std.specs.Ordering.{int_eq}
 use Rattle.std.specs.Str.{bytes_eq}
 use mir.Val.{bits, hbits}
-use Rattle.nc_base.specs.declared.header.Att.{Att}
-use Rattle.nc_base.specs.declared.header.Dim.{Dim}
-use Rattle.nc_base.specs.declared.header.Var.{Var}
-use Rattle.nc_base.specs.declared.nc_type.NcType.{NcType}
+use Rattle.nc_base.specs.declared.{header.Att.Att, header.Dim.Dim, header.Var.Var, nc_type.NcType.NcType, version.Version.Version}
 use Rattle.nc_base.specs.declared.nc_type.NcType.TheVariants.{Char, Int}
-use Rattle.nc_base.specs.declared.version.Version.{Version}
 use Rattle.nc_base.specs.Fill.{fill_value}
 use Rattle.nc_base.specs.Headers.{has_record_dim}
 use Rattle.nc_base.specs.Names.{is_name}
@@ -20,9 +16,8 @@ use Rattle.nc_base.specs.ValueText.{row_len, is_char}
 use Rattle.nc_base.specs.Versions.{count_limit, has_type}
 use Rattle.cdl_statements.specs.Lexemes.{Lexeme, is_word}
 use Rattle.cdl_statements.specs.Shapes.{Value, Number, Characters, Underscore, Dimension, Variable, Statement, Opening, Mark, Declared, Typed, Attribute, Listed, Brace, End}
-use Rattle.cdl_statements.specs.declared.fault.CdlKind.{CdlKind}
+use Rattle.cdl_statements.specs.declared.{fault.CdlKind.CdlKind, section.Section.Section}
 use Rattle.cdl_statements.specs.declared.fault.CdlKind.TheVariants.{BadName, DuplicateName, UnknownDimension, UnknownVariable, FloatingType, UnknownType, ZeroDimension, TwoRecordDims, BadShape, MixedConstants, NumberRange, WrongKind, TooManyValues, StringTooLong, DuplicateData}
-use Rattle.cdl_statements.specs.declared.section.Section.{Section}
 use Rattle.cdl_statements.specs.declared.section.Section.TheVariants.{Globals, Closed, Ended}
 
 -- what is listed of a variable

@@ -15,11 +15,7 @@ pub use Rattle.cdl_parse.specs.code.Extents.{records_for, records_kept, records_
 pub use Rattle.cdl_parse.specs.code.Runs.{FailsAt, ReadsOn, at_line, run_after}
 pub use Rattle.cdl_parse.specs.code.TakenNames.{duplicate_name_or}
 pub use Rattle.cdl_parse.specs.code.VariablePositions.{at_position}
-pub use Rattle.cdl_parse.specs.declared.declaration.PartialVariable.{PartialVariable}
-pub use Rattle.cdl_parse.specs.declared.declared_values.Declared.{Declared}
-pub use Rattle.cdl_parse.specs.declared.parse_error.ParseError.{ParseError}
-pub use Rattle.cdl_parse.specs.declared.records.Extent.{Extent}
-pub use Rattle.cdl_parse.specs.declared.variables.Variable.{Variable}
+pub use Rattle.cdl_parse.specs.declared.{declaration.PartialVariable.PartialVariable, declared_values.Declared.Declared, parse_error.ParseError.ParseError, records.Extent.Extent, variables.Variable.Variable}
 pub use Rattle.cdl_statements.proofs.DimensionSteps.{first_goes, on, said_on, second_goes, shaped_on, third_goes}
 pub use Rattle.cdl_statements.proofs.Listing.{only_completes, value_first}
 pub use Rattle.cdl_statements.specs.Lexemes.{Lexeme, is_mark, is_mark_kind, is_word_kind, lexeme}
@@ -35,12 +31,9 @@ unfoldable pub use Rattle.cdl_statements.specs.code.Cutters.{after, pieces_left,
 pub use Rattle.cdl_statements.specs.code.DueTokens.{opens_section_after, is_value_of, is_whole, only}
 unfoldable pub use Rattle.cdl_statements.specs.code.DueTokens.{completes, next}
 pub use Rattle.cdl_statements.specs.code.Views.{lexeme_of}
-pub use Rattle.cdl_statements.specs.declared.cutter.Cutter.{Cutter}
-pub use Rattle.cdl_statements.specs.declared.due.Due.{Due}
+pub use Rattle.cdl_statements.specs.declared.{cutter.Cutter.Cutter, due.Due.Due, fault.CdlKind.CdlKind, section.Section.Section}
 pub use Rattle.cdl_statements.specs.declared.due.Due.TheVariants.{AfterVariable, AttributeName, DimensionName, Equals, Separator, VariableName}
-pub use Rattle.cdl_statements.specs.declared.fault.CdlKind.{CdlKind}
 pub use Rattle.cdl_statements.specs.declared.fault.CdlKind.TheVariants.{BadName, BadShape, DuplicateData, DuplicateName, NumberRange, Syntax, UnknownDimension, UnknownVariable}
-pub use Rattle.cdl_statements.specs.declared.section.Section.{Section}
 pub use Rattle.cdl_statements.specs.declared.section.Section.TheVariants.{Closed, Dimensions, Ended, Globals, Unopened, Values, Variables}
 unfoldable pub use Rattle.cdl_tokens.specs.Escapes.{word_value}
 pub use Rattle.cdl_tokens.specs.Numerals.{Parts, number, signed}
@@ -50,8 +43,7 @@ pub use Rattle.cdl_values.specs.code.Answers.{ContinuesRead, FailsRead, Leaves}
 pub use Rattle.cdl_values.specs.code.Listed.{AllList, AreShaped, Lists, unlisted_drafts}
 pub use Rattle.cdl_values.specs.code.Meant.{AllSuit, Means, Suits, begins_brace, listing_bytes, name_first, names_of, with_listing}
 pub use Rattle.cdl_values.specs.code.NameIndices.{IsIndex, is_new, position_of, var_names}
-pub use Rattle.cdl_values.specs.declared.data.Target.{Target}
-pub use Rattle.cdl_values.specs.declared.read_error.ReadError.{ReadError}
+pub use Rattle.cdl_values.specs.declared.{data.Target.Target, read_error.ReadError.ReadError}
 pub use Rattle.cdl_values.specs.declared.read_error.ReadError.TheVariants.{Fault, OutOfMemory}
 unfoldable pub use Rattle.nc_base.specs.Fill.{fill_value}
 pub use Rattle.nc_base.specs.Headers.{AreDimids, IsDimid, value_count}
@@ -60,13 +52,7 @@ pub use Rattle.nc_base.specs.Numbers.{bytes_of_number}
 pub use Rattle.nc_base.specs.Sizes.{array_limit, dim_len, is_record_dim, is_record_var, product, record_limit, record_size, slab_count, slab_lens, slab_limit, slab_size}
 pub use Rattle.nc_base.specs.code.OwedValues.{fills, whole_array, whole_arrays}
 pub use Rattle.nc_base.specs.code.SizeParts.{checked_record_size, has_small_slab}
-pub use Rattle.nc_base.specs.declared.header.Att.{Att}
-pub use Rattle.nc_base.specs.declared.header.Dim.{Dim}
-pub use Rattle.nc_base.specs.declared.header.Header.{Header}
-pub use Rattle.nc_base.specs.declared.header.NumRecs.TheVariants.{Known}
-pub use Rattle.nc_base.specs.declared.header.Var.{Var}
-pub use Rattle.nc_base.specs.declared.nc_type.NcType.{NcType}
-pub use Rattle.nc_base.specs.declared.version.Version.{Version}
+pub use Rattle.nc_base.specs.declared.{header.Att.Att, header.Dim.Dim, header.Header.Header, header.NumRecs.TheVariants.Known, header.Var.Var, nc_type.NcType.NcType, version.Version.Version}
 pub use Rattle.std.proofs.lemmas.Bool.{cases_Bool, cond-false, cond-true, false≢true, le-leb}
 pub use Rattle.std.proofs.lemmas.List.{append-nil, get_or_append_left, length-append, length-map, map-append, set-get_or}
 pub use Rattle.std.proofs.lemmas.List.Elements.{All-cons, All-head, All-nil, All-push, All-tail}

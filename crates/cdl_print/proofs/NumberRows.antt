@@ -2,10 +2,8 @@
 use Rattle.std.proofs.Common.{◌≡◌, ℕ, ℤ, pos, negsuc, unsigned_abs, ◌+◌, ◌-◌, ◌%◌, ◌<◌, ◌≤◌, Bool, true, false, cond, not, List, [], ◌∷◌, ◌++◌, length, take, sym, ◌∙◌, ap, refl, subst, arith, append_assoc, append-nil, length-append, ⊎_elim, nat_lt, Result, Ok, Err, codes, ◌==◌, ◌&&◌, unwrap_or}
 use Rattle.cdl_print.proofs.Prelude.{decimal, OnTrue_at, OnTrue_from, false≢true, cases_lt, cond-false, lt-ltb, nat_tests, Look, is_char, begins_row, column, number_text, number_lead, line_break, number_piece, piece, variable_prefix, later_pieces, prefix-append, later_one, column-flat, column-broken, number_flat, place-add, SinkView, append, is_transparent, Appended, FailedPartway, Written, IsFillOf, shows_below_100, gap_bytes, row_gap, gap_in_row, next_gap, columns_left_after, gathered, number_bytes, bytes_in_row, columns_left_in_row, text_in_row, columns_left_after_text, IsAfterNumber, IsAfter, values_after, NextValues, IsAfterNext, AppendedNext, WrittenNext, PrintedInRow, PutAt, PutInRow, Progress}
 use Rattle.cdl_print.proofs.PrintingLaws.{after_then, next_appended, none_appended}
-use Rattle.cdl_print.specs.declared.gap.Gap.{Gap}
+use Rattle.cdl_print.specs.declared.{gap.Gap.Gap, number_line.LastLine.LastLine, printed_fill.PrintedFill.PrintedFill}
 use Rattle.cdl_print.specs.declared.gap.Gap.TheVariants.{Space, FirstRow, NextRow, Comma, NewLine}
-use Rattle.cdl_print.specs.declared.number_line.LastLine.{LastLine}
-use Rattle.cdl_print.specs.declared.printed_fill.PrintedFill.{PrintedFill}
 
 -- a gap is short
 pub gap_short : (gap : Gap) → length (gap_bytes gap) ≤ 7

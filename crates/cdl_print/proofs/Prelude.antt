@@ -6,8 +6,7 @@ unfoldable pub use Rattle.cdl_print.specs.code.Pieces.{dim_text, line_text, pref
 pub use Rattle.cdl_print.specs.code.Printer.{HasPrinted, Takes, look_in, position_of}
 pub use Rattle.cdl_print.specs.code.Printing.{AppendedNext, FailedInNext, IsAfter, IsAfterNext, IsAfterNumber, IsAfterRun, NextValues, PrintedInRow, PutAt, PutInRow, PutLine, PutNumber, WrittenNext, bytes_in_row, columns_left_after_text, columns_left_in_row, gathered, number_bytes, row_index_after_run, run_bytes, text_in_row, values_after}
 unfoldable pub use Rattle.cdl_print.specs.code.Printing.{run_text}
-pub use Rattle.cdl_print.specs.declared.printer.ValuePrinter.{ValuePrinter}
-pub use Rattle.cdl_print.specs.declared.progress.Progress.{Progress}
+pub use Rattle.cdl_print.specs.declared.{printer.ValuePrinter.ValuePrinter, progress.Progress.Progress}
 pub use Rattle.devices.proofs.Writes.{IsWritten, append-none, appended_partway, appended_then, partway_next, wrote_next}
 pub use Rattle.devices.specs.Sinks.{Appended, FailedPartway, SinkView, Written}
 unfoldable pub use Rattle.devices.specs.Sinks.{append, is_transparent}

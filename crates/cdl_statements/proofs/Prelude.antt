@@ -15,16 +15,9 @@ pub use Rattle.cdl_statements.specs.code.ListedTokens.{IsAtComma, Passes, Passes
 pub use Rattle.cdl_statements.specs.code.NumberLists.{SamePlace, reached}
 pub use Rattle.cdl_statements.specs.code.Roles.{first_role, is_end_role, mark_role, role, role_in, role_of}
 pub use Rattle.cdl_statements.specs.code.Views.{lexeme_of, lexeme_with}
-pub use Rattle.cdl_statements.specs.declared.cutter.Cutter.{Cutter}
-pub use Rattle.cdl_statements.specs.declared.due.Due.{Due}
-pub use Rattle.cdl_statements.specs.declared.fault.CdlKind.{CdlKind}
-pub use Rattle.cdl_statements.specs.declared.fault.CdlKind.TheVariants.{BadNumber}
-pub use Rattle.cdl_statements.specs.declared.piece.CutState.{CutState}
+pub use Rattle.cdl_statements.specs.declared.{cutter.Cutter.Cutter, due.Due.Due, fault.CdlKind.CdlKind, fault.CdlKind.TheVariants.BadNumber, piece.CutState.CutState, piece.Role.Role, piece.Step.Step, section.Section.Section}
 pub use Rattle.cdl_statements.specs.declared.piece.CutState.TheVariants.{Begins, Closed, Inside, Marked}
-pub use Rattle.cdl_statements.specs.declared.piece.Role.{Role}
 pub use Rattle.cdl_statements.specs.declared.piece.Role.TheVariants.{Colon, Other, Semicolon}
-pub use Rattle.cdl_statements.specs.declared.piece.Step.{Step}
-pub use Rattle.cdl_statements.specs.declared.section.Section.{Section}
 pub use Rattle.cdl_statements.specs.declared.section.Section.TheVariants.{Dimensions, Ended, Globals, Unopened, Values, Variables}
 pub use Rattle.cdl_tokens.proofs.Words.{and_false}
 unfoldable pub use Rattle.cdl_tokens.specs.Escapes.{word_value}
@@ -32,8 +25,7 @@ pub use Rattle.cdl_tokens.specs.Numerals.{Numeral, Parts, number}
 unfoldable pub use Rattle.cdl_tokens.specs.Numerals.{numeral, parts}
 pub use Rattle.cdl_tokens.specs.Tokens.{raw, tokens}
 pub use Rattle.cdl_tokens.specs.code.Scanners.{followed, is_end, left}
-pub use Rattle.cdl_tokens.specs.declared.token.Token.{Token}
-pub use Rattle.cdl_tokens.specs.declared.token.TokenKind.{TokenKind}
+pub use Rattle.cdl_tokens.specs.declared.{token.Token.Token, token.TokenKind.TokenKind}
 unfoldable pub use Rattle.nc_base.specs.Escapes.{is_reserved}
 pub use Rattle.nc_base.specs.declared.version.Version.{Version}
 pub use Rattle.std.proofs.lemmas.Bool.{false≢true}

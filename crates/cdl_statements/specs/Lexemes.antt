@@ -3,8 +3,7 @@ use Rattle.std.specs.Prelude.{ℕ, Bool, true, false, List, ◌&&◌, ◌==◌, 
 use Rattle.std.specs.Str.{bytes_eq}
 use Rattle.cdl_tokens.specs.Escapes.{word_value}
 use Rattle.cdl_tokens.specs.Tokens.{raw}
-use Rattle.cdl_tokens.specs.declared.token.Token.{Token}
-use Rattle.cdl_tokens.specs.declared.token.TokenKind.{TokenKind}
+use Rattle.cdl_tokens.specs.declared.{token.Token.Token, token.TokenKind.TokenKind}
 use Rattle.cdl_tokens.specs.declared.token.TokenKind.TheVariants as kinds
 use Rattle.nc_base.specs.Escapes.{is_reserved}
 

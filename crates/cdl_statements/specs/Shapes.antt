@@ -6,10 +6,9 @@ use Rattle.cdl_statements.specs.Lexemes.{Lexeme, is_mark, is_word, is_word_kind,
 use Rattle.cdl_tokens.specs.Numerals.{Numeral, numeral}
 use Rattle.cdl_tokens.specs.declared.token.TokenKind.{TokenKind}
 use Rattle.cdl_tokens.specs.declared.token.TokenKind.TheVariants as kinds
-use Rattle.cdl_statements.specs.declared.fault.CdlKind.{CdlKind}
+use Rattle.cdl_statements.specs.declared.{fault.CdlKind.CdlKind, section.Section.Section}
 use Rattle.cdl_statements.specs.declared.fault.CdlKind.TheVariants.{BadToken, BadNumber}
 use Rattle.nc_base.specs.declared.version.Version.{Version}
-use Rattle.cdl_statements.specs.declared.section.Section.{Section}
 use Rattle.cdl_statements.specs.declared.section.Section.TheVariants.{Unopened, Globals, Dimensions, Variables, Values, Closed, Ended}
 
 -- a listed constant or value

@@ -5,9 +5,8 @@ use Rattle.std.specs.List.{prefix_len}
 use Rattle.std.specs.Option.{option_map}
 use Rattle.std.specs.Str.{bytes_eq}
 use Rattle.cdl_tokens.specs.Bytes.{is_digit, is_octal, is_hex, is_sign, number_in}
-use Rattle.nc_base.specs.declared.nc_type.NcType.{NcType}
+use Rattle.nc_base.specs.declared.{nc_type.NcType.NcType, version.Version.Version}
 use Rattle.nc_base.specs.declared.nc_type.NcType.TheVariants.{Char, Int}
-use Rattle.nc_base.specs.declared.version.Version.{Version}
 use Rattle.nc_base.specs.Types.{all_types, number_suffix}
 use Rattle.nc_base.specs.Versions.{has_type}
 

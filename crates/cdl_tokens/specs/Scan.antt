@@ -3,8 +3,7 @@ use Rattle.std.specs.Prelude.{ℕ, Bool, List, [], ◌∷◌, ◌+◌, ◌&&◌,
 use Rattle.std.specs.List.{list_all, prefix_len, starts_with}
 use Rattle.cdl_tokens.specs.Bytes.{is_blank, is_digit, begins_word, goes_on_word, goes_on_number, is_sign, is_mark, is_escape}
 use Rattle.cdl_tokens.specs.Escapes.{unescape}
-use Rattle.cdl_tokens.specs.declared.scan.Scanned.{Scanned}
-use Rattle.cdl_tokens.specs.declared.token.TokenKind.{TokenKind}
+use Rattle.cdl_tokens.specs.declared.{scan.Scanned.Scanned, token.TokenKind.TokenKind}
 use Rattle.cdl_tokens.specs.declared.token.TokenKind.TheVariants.{Opening, Word, Number, Text, Mark, Bad}
 
 -- how many bytes at the start go on a word

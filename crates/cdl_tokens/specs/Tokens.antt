@@ -1,9 +1,7 @@
 -- Definition. The tokens of a text.
 use Rattle.std.specs.Prelude.{ℕ, zero, suc, Bool, true, List, [], ◌∷◌, ◌+◌, ◌-◌, ◌&&◌, ◌==◌, take, drop, count_by, Option, None, Some, is_none}
 use Rattle.cdl_tokens.specs.Scan.{scan}
-use Rattle.cdl_tokens.specs.declared.token.Token.{Token}
-use Rattle.cdl_tokens.specs.declared.token.TokenKind.{TokenKind}
-use Rattle.cdl_tokens.specs.declared.token.TokenKind.TheVariants.{End}
+use Rattle.cdl_tokens.specs.declared.{token.Token.Token, token.TokenKind.TokenKind, token.TokenKind.TheVariants.End}
 
 -- a token's bytes
 abbrev pub raw : List ℕ → Token → List ℕ

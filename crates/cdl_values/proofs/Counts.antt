@@ -5,8 +5,7 @@ use Rattle.cdl_statements.specs.code.Roles.{first_role, role_in}
 use Rattle.cdl_statements.specs.code.CutSteps.{pieces_after, step, with_first}
 use Rattle.cdl_tokens.specs.Scan.{scan}
 use Rattle.cdl_tokens.specs.Tokens.{tokens_at, with_token}
-use Rattle.cdl_statements.specs.declared.piece.CutState.{CutState}
-use Rattle.cdl_statements.specs.declared.piece.Role.{Role}
+use Rattle.cdl_statements.specs.declared.{piece.CutState.CutState, piece.Role.Role}
 use Rattle.cdl_tokens.specs.declared.token.Token.{Token}
 use Rattle.cdl_tokens.specs.declared.token.TokenKind.TheVariants as kinds
 use Rattle.cdl_values.proofs.Turns.{all_turns}

@@ -15,10 +15,8 @@ pub use Rattle.cdl_statements.specs.code.DueTokens.{is_value_of, is_whole, only,
 unfoldable pub use Rattle.cdl_statements.specs.code.DueTokens.{completes, next}
 pub use Rattle.cdl_statements.specs.code.ListedTokens.{IsAtComma, Passes, PassesNumber, PassesString}
 pub use Rattle.cdl_statements.specs.code.Views.{lexeme_of, lexeme_with}
-pub use Rattle.cdl_statements.specs.declared.cutter.Cutter.{Cutter}
-pub use Rattle.cdl_statements.specs.declared.due.Due.{Due}
+pub use Rattle.cdl_statements.specs.declared.{cutter.Cutter.Cutter, due.Due.Due, fault.CdlKind.CdlKind}
 pub use Rattle.cdl_statements.specs.declared.due.Due.TheVariants.{DataName, Equals, Separator}
-pub use Rattle.cdl_statements.specs.declared.fault.CdlKind.{CdlKind}
 pub use Rattle.cdl_statements.specs.declared.fault.CdlKind.TheVariants.{BadName, BadNumber, DuplicateData, NumberRange, StringTooLong, Syntax, TooManyValues, UnknownVariable, WrongKind}
 pub use Rattle.cdl_tokens.proofs.Strings.{or_zero, stands_run, unescape_more, unescape_past, plain_small}
 pub use Rattle.cdl_tokens.specs.Bytes.{is_escape, is_hex, is_octal, number_in}
@@ -28,8 +26,7 @@ pub use Rattle.cdl_tokens.specs.Numerals.{Parts, number, signed}
 unfoldable pub use Rattle.cdl_tokens.specs.Numerals.{numeral, parts}
 pub use Rattle.cdl_tokens.specs.code.Magnitudes.{held, word}
 pub use Rattle.cdl_tokens.specs.code.Scanners.{followed, is_unescaped, left}
-pub use Rattle.cdl_tokens.specs.declared.numeral.Numeral.{Numeral}
-pub use Rattle.cdl_tokens.specs.declared.token.TokenKind.{TokenKind}
+pub use Rattle.cdl_tokens.specs.declared.{numeral.Numeral.Numeral, token.TokenKind.TokenKind}
 pub use Rattle.cdl_values.specs.code.Answers.{Adds, ContinuesRead, FailsRead, GivesRead, Leaves}
 pub use Rattle.cdl_values.specs.code.Capacities.{Fills, HasCapacity, as_bytes, capacity_for, most, positions_in}
 pub use Rattle.cdl_values.specs.code.DataRead.{bytes_assigned, if_new, packed_for, target_at, target_of, unless_bad}
@@ -38,25 +35,18 @@ pub use Rattle.cdl_values.specs.code.Listed.{AreShaped, unlisted_draft, unlisted
 pub use Rattle.cdl_values.specs.code.Meant.{AllSuit, HasListed, Means, ReadsStatement, Suits, begins_brace, listing_bytes, names_of, result_array, with_listing}
 pub use Rattle.cdl_values.specs.code.NameIndices.{IsIndex, first_with_hash, hash_of, is_new, later_position, position_of, unless_first}
 unfoldable pub use Rattle.cdl_values.specs.code.NameIndices.{hash_on}
-pub use Rattle.cdl_values.specs.declared.name_index.NameIndex.{NameIndex}
+pub use Rattle.cdl_values.specs.declared.{name_index.NameIndex.NameIndex, data.Given.Given, data.Target.Target, fill.Fill.Fill, filling.Filling.Filling, read_error.ReadError.ReadError}
 pub use Rattle.cdl_values.specs.code.PackedValues.{bytes_of, capacity_after, char_bytes, followed_by, greatest, held_bytes, is_full, is_past, joined, capacity_minus, number_bytes, row_bytes, text_bytes, value_bytes}
 unfoldable pub use Rattle.cdl_values.specs.code.PackedValues.{packed}
 pub use Rattle.cdl_values.specs.code.ValueRuns.{GoesOn, Place, TakesValues, place}
-pub use Rattle.cdl_values.specs.declared.data.Given.{Given}
-pub use Rattle.cdl_values.specs.declared.data.Target.{Target}
-pub use Rattle.cdl_values.specs.declared.fill.Fill.{Fill}
-pub use Rattle.cdl_values.specs.declared.filling.Filling.{Filling}
 pub use Rattle.cdl_values.specs.declared.filling.Filling.TheVariants.{Joined, Numbers, Rows}
-pub use Rattle.cdl_values.specs.declared.read_error.ReadError.{ReadError}
 pub use Rattle.cdl_values.specs.declared.read_error.ReadError.TheVariants.{Fault, OutOfMemory}
 pub use Rattle.nc_base.specs.Names.{is_name}
 pub use Rattle.nc_base.specs.Numbers.{IsInRange, bytes_of_number}
 pub use Rattle.nc_base.specs.Sizes.{dim_len, is_record_var, product, slab_count}
 pub use Rattle.nc_base.specs.ValueText.{is_char}
-pub use Rattle.nc_base.specs.declared.header.Dim.{Dim}
-pub use Rattle.nc_base.specs.declared.nc_type.NcType.{NcType}
+pub use Rattle.nc_base.specs.declared.{header.Dim.Dim, nc_type.NcType.NcType, version.Version.Version}
 pub use Rattle.nc_base.specs.declared.nc_type.NcType.TheVariants.{Byte, Char, Int, Int64, Short, Ubyte, Uint, Uint64, Ushort}
-pub use Rattle.nc_base.specs.declared.version.Version.{Version}
 pub use Rattle.std.proofs.Math.Seq.{drop-append_seam, take-suc}
 pub use Rattle.std.proofs.lemmas.Bool.{cases_Bool, cond-false, cond-true, false≢true}
 pub use Rattle.std.proofs.lemmas.Grind.{common_steps, flat_map-append}

@@ -5,8 +5,7 @@ use Rattle.cdl_tokens.specs.code.Scanners as scanners
 use Rattle.cdl_tokens.specs.declared.numeral.Numeral.{Numeral as Held}
 use Rattle.cdl_tokens.specs.declared.token.TokenKind.TheVariants as kinds
 use Rattle.cdl_statements.specs.code.NumberLists as lists
-use Rattle.cdl_statements.specs.declared.due.Due.TheVariants.{Value}
-use Rattle.cdl_statements.specs.declared.number_list.NumberList.{NumberList}
+use Rattle.cdl_statements.specs.declared.{due.Due.TheVariants.Value, number_list.NumberList.NumberList}
 use Rattle.cdl_values.proofs.PackedTokens.{added, is_after, one_packed, over_value}
 use Rattle.cdl_values.proofs.Ranges.{good_number, number_added}
 

@@ -1,11 +1,6 @@
 -- Definition. The header of the file.
 use Rattle.std.specs.Prelude.{[], ◌∷◌}
-use Rattle.nc_base.specs.declared.header.Dim.{Dim}
-use Rattle.nc_base.specs.declared.header.Header.{Header}
-use Rattle.nc_base.specs.declared.header.NumRecs.TheVariants.{Known}
-use Rattle.nc_base.specs.declared.header.Var.{Var}
-use Rattle.nc_base.specs.declared.nc_type.NcType.TheVariants.{Int}
-use Rattle.nc_base.specs.declared.version.Version.TheVariants.{Cdf1}
+use Rattle.nc_base.specs.declared.{header.Dim.Dim, header.Header.Header, header.NumRecs.TheVariants.Known, header.Var.Var, nc_type.NcType.TheVariants.Int, version.Version.TheVariants.Cdf1}
 
 -- `x`, of length 3
 abbrev pub x_dim : Dim

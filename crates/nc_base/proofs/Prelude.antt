@@ -23,16 +23,9 @@ pub use Rattle.nc_base.specs.code.ListedRows.{AreRowEnds, StandAt}
 unfoldable pub use Rattle.nc_base.specs.code.ListedRows.{filled_rows, row_start}
 pub use Rattle.nc_base.specs.code.SizeParts.{checked_record_size, extent_sum, first_begin, has_small_slab, is_fixed_dim, lesser, slab_at}
 pub use Rattle.nc_base.specs.code.Weight.{att_weight, dim_weight, var_weight}
-pub use Rattle.nc_base.specs.declared.dataset.Dataset.{Dataset}
-pub use Rattle.nc_base.specs.declared.header.Att.{Att}
-pub use Rattle.nc_base.specs.declared.header.Dim.{Dim}
-pub use Rattle.nc_base.specs.declared.header.Header.{Header}
-pub use Rattle.nc_base.specs.declared.header.NumRecs.{NumRecs}
+pub use Rattle.nc_base.specs.declared.{dataset.Dataset.Dataset, header.Att.Att, header.Dim.Dim, header.Header.Header, header.NumRecs.NumRecs, header.Var.Var, nc_type.NcType.NcType, version.Version.Version}
 pub use Rattle.nc_base.specs.declared.header.NumRecs.TheVariants.{Known, Streaming}
-pub use Rattle.nc_base.specs.declared.header.Var.{Var}
-pub use Rattle.nc_base.specs.declared.nc_type.NcType.{NcType}
 pub use Rattle.nc_base.specs.declared.nc_type.NcType.TheVariants.{Byte, Char, Int, Int64, Short, Ubyte, Uint, Uint64, Ushort}
-pub use Rattle.nc_base.specs.declared.version.Version.{Version}
 pub use Rattle.nc_base.specs.declared.version.Version.TheVariants.{Cdf1, Cdf2, Cdf5}
 pub use Rattle.std.proofs.Math.Nat.{div-lt_iff_lt-mul, div-mul-le_self, mod-add-div, mod-add-mod, mod-eq-sub-div-mul, mod-lt, mod-zero, mod_self, mul-div_cancel, mul-le-mul_left, mul-le-mul_right}
 pub use Rattle.std.proofs.Math.Seq.{take-add, take-append_seam}

@@ -3,14 +3,8 @@
 -- and the rest.
 use Rattle.std.specs.Prelude.{ℕ, zero, suc, ◌≡◌, ◌≢◌, ◌+◌, ◌*◌, ◌<◌, ◌≤◌, true, false, ◌⊎◌, List, [], ◌∷◌, ◌++◌, length, None}
 use Rattle.std.specs.Int.{Width, w32, byte_len}
-use Rattle.nc_base.specs.declared.fault.FormatFault.{FormatFault}
+use Rattle.nc_base.specs.declared.{fault.FormatFault.FormatFault, header.Att.Att, header.Dim.Dim, header.Var.Var, header.NumRecs.NumRecs, nc_type.NcType.NcType, version.Version.Version}
 use Rattle.nc_base.specs.declared.fault.FormatFault.TheVariants.{NotNetcdf, UnknownVersion, HeaderTruncated, BadTag, BadCount, BadName, FloatingType, BadType, BadShape, TwoRecordDims, BadOffset, TooLarge}
-use Rattle.nc_base.specs.declared.header.Att.{Att}
-use Rattle.nc_base.specs.declared.header.Dim.{Dim}
-use Rattle.nc_base.specs.declared.header.Var.{Var}
-use Rattle.nc_base.specs.declared.header.NumRecs.{NumRecs}
-use Rattle.nc_base.specs.declared.nc_type.NcType.{NcType}
-use Rattle.nc_base.specs.declared.version.Version.{Version}
 use Rattle.nc_base.specs.Bytes.{padding_len}
 use Rattle.nc_base.specs.Types.{code_of, size_of}
 use Rattle.nc_base.specs.Versions.{count_width, offset_width, count_limit, offset_limit, version_of_byte, streaming_mark, has_type}

@@ -1,14 +1,8 @@
 -- Definition. Sound headers, bare headers and good datasets.
 use Rattle.std.specs.Prelude.{ℕ, ◌≡◌, ◌*◌, ◌<◌, ◌≤◌, Bool, IsTrue, ◌==◌, if◌then◌else◌, List, [], ◌∷◌, ◌++◌, length, map, filter, All}
 use Rattle.std.specs.List.{list_any}
-use Rattle.nc_base.specs.declared.header.Att.{Att}
-use Rattle.nc_base.specs.declared.header.Dim.{Dim}
-use Rattle.nc_base.specs.declared.header.Var.{Var}
-use Rattle.nc_base.specs.declared.header.Header.{Header}
-use Rattle.nc_base.specs.declared.header.NumRecs.{NumRecs}
+use Rattle.nc_base.specs.declared.{header.Att.Att, header.Dim.Dim, header.Var.Var, header.Header.Header, header.NumRecs.NumRecs, dataset.Dataset.Dataset, version.Version.Version}
 use Rattle.nc_base.specs.declared.header.NumRecs.TheVariants.{Known, Streaming}
-use Rattle.nc_base.specs.declared.dataset.Dataset.{Dataset}
-use Rattle.nc_base.specs.declared.version.Version.{Version}
 use Rattle.nc_base.specs.Bytes.{AreBytes}
 use Rattle.nc_base.specs.Types.{size_of}
 use Rattle.nc_base.specs.Versions.{count_limit, has_type}

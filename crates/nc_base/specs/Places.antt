@@ -1,10 +1,7 @@
 -- Definition. Where the values of a variable lie in a file, which of them the file has, and the dataset that it holds.
 use Rattle.std.specs.Prelude.{ℕ, ◌≡◌, ◌+◌, ◌*◌, nat_lt, Bool, ℤ, if◌then◌else◌, List, [], ◌∷◌, length, map, take, drop, All, Option, Some, None}
 use Rattle.std.specs.List.{concat, flat_map, last_or, position, range_with_len}
-use Rattle.nc_base.specs.declared.header.Dim.{Dim}
-use Rattle.nc_base.specs.declared.header.Var.{Var}
-use Rattle.nc_base.specs.declared.header.Header.{Header}
-use Rattle.nc_base.specs.declared.dataset.Dataset.{Dataset}
+use Rattle.nc_base.specs.declared.{header.Dim.Dim, header.Var.Var, header.Header.Header, dataset.Dataset.Dataset}
 use Rattle.nc_base.specs.Types.{size_of}
 use Rattle.nc_base.specs.Numbers.{number_of}
 use Rattle.nc_base.specs.Sizes.{is_record_var, slab_lens, product, record_size, record_count}

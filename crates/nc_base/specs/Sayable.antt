@@ -1,11 +1,6 @@
 -- Definition. The dataset whose text is read back, and the one that it is read back as.
 use Rattle.std.specs.Prelude.{◌≡◌, ℕ, ◌<◌, true, false, List, [], ◌∷◌, length, map, All, if◌then◌else◌}
-use Rattle.nc_base.specs.declared.dataset.Dataset.{Dataset}
-use Rattle.nc_base.specs.declared.header.Att.{Att}
-use Rattle.nc_base.specs.declared.header.Dim.{Dim}
-use Rattle.nc_base.specs.declared.header.Header.{Header}
-use Rattle.nc_base.specs.declared.header.NumRecs.TheVariants.{Known}
-use Rattle.nc_base.specs.declared.header.Var.{Var}
+use Rattle.nc_base.specs.declared.{dataset.Dataset.Dataset, header.Att.Att, header.Dim.Dim, header.Header.Header, header.NumRecs.TheVariants.Known, header.Var.Var}
 use Rattle.nc_base.specs.Dump.{has_name}
 use Rattle.nc_base.specs.Fill.{fill_value}
 use Rattle.nc_base.specs.Headers.{IsGood}

@@ -11,27 +11,18 @@ pub use Rattle.nc_base.specs.Headers.{AreDimids, IsDimid, has_record_dim}
 pub use Rattle.nc_base.specs.Sizes.{is_record_dim, is_record_var, padded_size, padded_total, record_limit, record_vars, slab_limit, slab_of, slab_size}
 pub use Rattle.nc_base.specs.Types.{all_types, code_of, size_of, type_of_code}
 pub use Rattle.nc_base.specs.Versions.{count_limit, count_width, has_type, offset_limit, offset_width, streaming_mark, version_byte, version_of_byte}
-pub use Rattle.nc_base.specs.declared.fault.FormatFault.{FormatFault}
+pub use Rattle.nc_base.specs.declared.{fault.FormatFault.FormatFault, header.Att.Att, header.Dim.Dim, header.Header.Header, header.NumRecs.NumRecs, header.Var.Var, nc_type.NcType.NcType, version.Version.Version}
 pub use Rattle.nc_base.specs.declared.fault.FormatFault.TheVariants.{BadCount, BadOffset, BadTag, HeaderTruncated, NotNetcdf, TooLarge}
-pub use Rattle.nc_base.specs.declared.header.Att.{Att}
-pub use Rattle.nc_base.specs.declared.header.Dim.{Dim}
-pub use Rattle.nc_base.specs.declared.header.Header.{Header}
-pub use Rattle.nc_base.specs.declared.header.NumRecs.{NumRecs}
 pub use Rattle.nc_base.specs.declared.header.NumRecs.TheVariants.{Known, Streaming}
-pub use Rattle.nc_base.specs.declared.header.Var.{Var}
-pub use Rattle.nc_base.specs.declared.nc_type.NcType.{NcType}
 pub use Rattle.nc_base.specs.declared.nc_type.NcType.TheVariants.{Byte, Char, Int, Int64, Short, Ubyte, Uint, Uint64, Ushort}
-pub use Rattle.nc_base.specs.declared.version.Version.{Version}
 pub use Rattle.nc_base.specs.declared.version.Version.TheVariants.{Cdf1, Cdf2, Cdf5}
 pub use Rattle.nc_file.specs.code.Begins.{after, is_below, offset_of, offset_too_large, placed}
 pub use Rattle.nc_file.specs.code.Lengths.{att_len, dim_len, list_head_len, var_len}
 pub use Rattle.nc_file.specs.code.Reading.{Outcome, Part, Reads, att_after, att_list_at, byte_at, byte_run, dim_after, dim_list_at, dimid_after, is_dimid, known_type, next, next-shorter, record_part, total_or_wrong, type_or_wrong, var_after, var_list_at, version_or}
 unfoldable pub use Rattle.nc_file.specs.code.Reading.{att_at, byte_or, bytes_at, count_at, dim_at, dimid_at, done, each_at, header_at, left_over, list_at, list_len_at, magic_at, name_at, number_at, numrecs_at, offset_at, padded_at, shape_at, skip_at, stop, total_with, type_at, type_in, var_at, version_at}
 pub use Rattle.nc_file.specs.code.Window.{Kept, Read, Ready, left, source_of}
-pub use Rattle.nc_file.specs.declared.head_fault.HeadFault.{HeadFault}
+pub use Rattle.nc_file.specs.declared.{head_fault.HeadFault.HeadFault, sized_var.SizedVar.SizedVar, window.Window.Window}
 pub use Rattle.nc_file.specs.declared.head_fault.HeadFault.TheVariants.{Format, OutOfMemory, ReadFailed}
-pub use Rattle.nc_file.specs.declared.sized_var.SizedVar.{SizedVar}
-pub use Rattle.nc_file.specs.declared.window.Window.{Window}
 pub use Rattle.std.proofs.Math.Nat.{sub-zero}
 pub use Rattle.std.proofs.lemmas.Bool.{OnTrue_at, OnTrue_from, cases_lt, eq-eqb, eqb-false, eqb-true, le-ltb, leb-false, leb-true, ltb-true}
 pub use Rattle.std.proofs.lemmas.List.{append-nil, drop-drop, drop-take, get_or-take, get_or_default, get_or_past, length-drop, length-replicate, length-take, take-take, take_all, take_at}

@@ -1,7 +1,6 @@
 -- Law. What holds of a header that is written.
 use Rattle.std.specs.Prelude.{ℕ, ◌<◌, ◌++◌, List, All}
-use Rattle.nc_base.specs.declared.header.Header.{Header}
-use Rattle.nc_base.specs.declared.header.Var.{Var}
+use Rattle.nc_base.specs.declared.{header.Header.Header, header.Var.Var}
 use Rattle.nc_base.specs.Headers.{HasValidNames, IsSound}
 use Rattle.nc_base.specs.GeneratedFile.{header_spelling}
 use Rattle.nc_base.specs.Grammar.{SpellsHeader}

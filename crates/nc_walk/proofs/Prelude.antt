@@ -18,10 +18,7 @@ unfoldable pub use Rattle.nc_base.specs.Places.{value_offsets}
 pub use Rattle.nc_base.specs.Sizes.{is_narrow, is_record_var, product, record_size, record_vars, slab_count, slab_lens, slab_size}
 pub use Rattle.nc_base.specs.Types.{size_of}
 pub use Rattle.nc_base.specs.code.OwedValues.{AreListed, IsListed, fills, owed_count, whole_array, whole_arrays}
-pub use Rattle.nc_base.specs.declared.header.Dim.{Dim}
-pub use Rattle.nc_base.specs.declared.header.Header.{Header}
-pub use Rattle.nc_base.specs.declared.header.Var.{Var}
-pub use Rattle.nc_base.specs.declared.nc_type.NcType.{NcType}
+pub use Rattle.nc_base.specs.declared.{header.Dim.Dim, header.Header.Header, header.Var.Var, nc_type.NcType.NcType}
 pub use Rattle.nc_base.specs.declared.nc_type.NcType.TheVariants.{Byte, Char, Int, Int64, Short, Ubyte, Uint, Uint64, Ushort}
 pub use Rattle.nc_walk.specs.code.Filled.{ArrayView, array_view, filled_blocks, filled_record, filled_records, filled_slab, filled_slabs, record_arrays}
 unfoldable pub use Rattle.nc_walk.specs.code.Filled.{repeated}
@@ -32,9 +29,7 @@ unfoldable pub use Rattle.nc_walk.specs.code.Slabs.{offsets_from}
 pub use Rattle.nc_walk.specs.code.SourceUses.{SourceUse, between, source_of}
 pub use Rattle.nc_walk.specs.code.Walked.{Gives, GivesChunk, GivesCut, GivesEnd, GivesFailure, HasRead, IsChunk, Pass, StoredNumbers, Walked, going_on, offsets_in, stored_in, total_in, whole_count, whole_in}
 pub use Rattle.nc_walk.specs.code.Walks.{Advanced, Answer, Exactly, Failing, IsWhole, ReadValues, Reading, ReturnsValues, Starts, Steps, Truncated, WalkView, as_answer, count, reading, standing, stopped}
-pub use Rattle.nc_walk.specs.declared.cursor.Cursor.{Cursor}
-pub use Rattle.nc_walk.specs.declared.slabs.Slabs.{Slabs}
-pub use Rattle.nc_walk.specs.declared.write.record_slab.RecordSlab.{RecordSlab}
+pub use Rattle.nc_walk.specs.declared.{cursor.Cursor.Cursor, slabs.Slabs.Slabs, write.record_slab.RecordSlab.RecordSlab}
 pub use Rattle.std.proofs.Math.Nat.{div-mul-le_self, le_of_mul-le-mul_right, lt_of_mul-lt-mul_right, mul-div_cancel, mul-le-mul_left, mul-le-mul_right}
 pub use Rattle.std.proofs.Math.Seq.{take-add, take-append-add, take-append_seam}
 pub use Rattle.std.proofs.lemmas.Bool.{cases_lt, le-ltb, lt-ltb, ltb-false}

@@ -21,8 +21,7 @@ pub use Rattle.nc_base.specs.Sizes.{is_record_var, record_count}
 pub use Rattle.nc_base.specs.Types.{size_of}
 pub use Rattle.nc_base.specs.ValueText.{Look, later_pieces}
 unfoldable pub use Rattle.nc_base.specs.ValueText.{closing, look_of, opening, variable_prefix, variable_text}
-pub use Rattle.nc_base.specs.declared.header.Header.{Header}
-pub use Rattle.nc_base.specs.declared.header.Var.{Var}
+pub use Rattle.nc_base.specs.declared.{header.Header.Header, header.Var.Var}
 pub use Rattle.nc_walk.proofs.FullReadSteps.{after_after, transparent_any, transparent_both, transparent_map}
 pub use Rattle.nc_walk.specs.code.SourceUses.{between}
 pub use Rattle.nc_walk.specs.code.Walked.{GivesChunk, GivesCut, GivesEnd, GivesFailure, HasRead, IsChunk, Pass, Walked}

@@ -11,9 +11,8 @@ use Rattle.devices.specs.Sinks.{SinkView, Appended, FailedPartway}
 use Rattle.nc_walk.specs.code.SourceUses.{between}
 use Rattle.ncdump.specs.Calls.{Call}
 use Rattle.ncdump.specs.code.Shows.{Shows}
-use Rattle.ncdump.specs.declared.fault.DumpFault.{DumpFault}
+use Rattle.ncdump.specs.declared.{fault.DumpFault.DumpFault, options.DumpOptions.DumpOptions}
 use Rattle.ncdump.specs.declared.fault.DumpFault.TheVariants.{OutOfMemory, ReadFailed, WriteFailed, Format, NoSuchVariable, DataTruncated}
-use Rattle.ncdump.specs.declared.options.DumpOptions.{DumpOptions}
 
 -- the options, without the path
 abbrev pub options_of : DumpOptions → Options

@@ -12,13 +12,9 @@ use Rattle.ncdump.specs.Dumps as dumps
 use Rattle.ncdump.specs.Faults.{line_of_failure}
 use Rattle.cli_base.specs.Arguments.{texts_of}
 use Rattle.cli_base.specs.declared.fault.OptFault.TheVariants.{OutOfMemory, Usage}
-use Rattle.ncdump.specs.declared.options.DumpOptions.{DumpOptions}
-use Rattle.ncdump.specs.declared.fault.Failure.{Failure}
+use Rattle.ncdump.specs.declared.{options.DumpOptions.DumpOptions, fault.Failure.Failure, fault.FileFault.FileFault, fault.DumpFault.DumpFault, fault.DumpFault.TheVariants.ReadFailed}
 use Rattle.ncdump.specs.declared.fault.Failure.TheVariants.{CommandLine, File, Flush}
-use Rattle.ncdump.specs.declared.fault.FileFault.{FileFault}
 use Rattle.ncdump.specs.declared.fault.FileFault.TheVariants.{CannotOpen, Dump}
-use Rattle.ncdump.specs.declared.fault.DumpFault.{DumpFault}
-use Rattle.ncdump.specs.declared.fault.DumpFault.TheVariants.{ReadFailed}
 
 -- this holds of the dump's answer, and the file could be opened
 abbrev pub OfDump : {A : Type 0} → (Result A DumpFault → Type 0) → Result A FileFault → Type 0

@@ -4,9 +4,8 @@ use Rattle.devices.proofs.Openings.{one_failure, no_failure}
 use Rattle.ncgen.proofs.Prelude.{HasFailed, ReaderView, ReadsText}
 use Rattle.devices.specs.Openers.{OpenerView, OpensOnce, HasBack}
 use Rattle.ncgen.specs.Inputs.{OpensText}
-use Rattle.ncgen.specs.declared.fault.TextFault.{TextFault}
+use Rattle.ncgen.specs.declared.{fault.TextFault.TextFault, failure.InputFault.TheVariants.Text}
 use Rattle.ncgen.specs.declared.fault.TextFault.TheVariants.{OutOfMemory, ReadFailed, TooLong}
-use Rattle.ncgen.specs.declared.failure.InputFault.TheVariants.{Text}
 
 -- the text's failure is the opener's, once it has the text back
 pub opens_text : {A : Type 0} (old mid new : OpenerView) (start text : ReaderView) (max : ℕ) (fault : TextFault) → OpensOnce old mid → start.failures ≡ 0

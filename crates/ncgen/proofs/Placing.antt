@@ -1,9 +1,8 @@
 -- The begins of a header change nothing of its values.
 use Rattle.std.proofs.Common.{◌≡◌, ◌∙◌, ℕ, List, [], ◌∷◌, ◌++◌, Bool, if◌then◌else◌, map, refl, sym, ap}
 use Rattle.std.specs.List.{flat_map, range_with_len}
-use Rattle.nc_base.specs.declared.header.Dim.{Dim}
+use Rattle.nc_base.specs.declared.{header.Dim.Dim, header.Var.Var}
 use Rattle.ncgen.proofs.Prelude.{Header, blocks, data_of, fill_bytes, is_sole_narrow, known_records, padded_slab, record_of, slab_in, vars_after, with_begins, bare_var, AreListed, whole_array, whole_arrays, listed_data, flat_map-same}
-use Rattle.nc_base.specs.declared.header.Var.{Var}
 use Rattle.nc_base.specs.Fill.{fill_value}
 use Rattle.nc_base.specs.Sizes.{is_record_var, record_vars}
 use Rattle.nc_base.proofs.FileHolds.{bare-after, records-bare}

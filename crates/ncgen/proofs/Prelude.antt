@@ -14,9 +14,7 @@ pub use Rattle.nc_base.specs.GeneratedFile.{blocks, fits, is_sole_narrow, known_
 unfoldable pub use Rattle.nc_base.specs.GeneratedFile.{data_of, file_of, fill_bytes, header_spelling, padded_slab, with_begins}
 pub use Rattle.nc_base.specs.Headers.{AreArrays, IsGood, IsSound, bare_var}
 pub use Rattle.nc_base.specs.code.OwedValues.{AreListed, whole_array, whole_arrays}
-pub use Rattle.nc_base.specs.declared.dataset.Dataset.{Dataset}
-pub use Rattle.nc_base.specs.declared.header.Header.{Header}
-pub use Rattle.nc_base.specs.declared.version.Version.{Version}
+pub use Rattle.nc_base.specs.declared.{dataset.Dataset.Dataset, header.Header.Header, version.Version.Version}
 pub use Rattle.nc_walk.specs.code.RecordSlabs.{record_slabs}
 pub use Rattle.ncgen.specs.CommandLine.{Answers, Asked, asked_for}
 unfoldable pub use Rattle.ncgen.specs.CommandLine.{asked_by, asked_in, ncgen}

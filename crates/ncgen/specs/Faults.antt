@@ -2,20 +2,15 @@
 use Rattle.std.specs.Global.{Global}
 use Rattle.std.specs.Prelude.{ℕ, List, [], ◌∷◌, Option, Some, None, String, codes, decimal, string_bytes}
 use Rattle.nc_base.specs.Bytes.{concat_parts}
-use Rattle.cdl_statements.specs.declared.fault.CdlFault.{CdlFault}
-use Rattle.cdl_statements.specs.declared.fault.CdlKind.{CdlKind}
+use Rattle.cdl_statements.specs.declared.{fault.CdlFault.CdlFault, fault.CdlKind.CdlKind}
 use Rattle.cdl_statements.specs.declared.fault.CdlKind.TheVariants as cdl
 use Rattle.cli_base.specs.declared.fault.OptFault.{OptFault}
 use Rattle.cli_base.specs.declared.fault.OptFault.TheVariants as opt
-use Rattle.ncgen.specs.declared.fault.GenFault.{GenFault}
+use Rattle.ncgen.specs.declared.{fault.GenFault.GenFault, fault.TextFault.TextFault, failure.InputFault.InputFault, failure.OutputFault.OutputFault, failure.Failure.Failure}
 use Rattle.ncgen.specs.declared.fault.GenFault.TheVariants.{Cdl, OffsetTooLarge, WriteFailed}
-use Rattle.ncgen.specs.declared.fault.TextFault.{TextFault}
 use Rattle.ncgen.specs.declared.fault.TextFault.TheVariants as text
-use Rattle.ncgen.specs.declared.failure.InputFault.{InputFault}
 use Rattle.ncgen.specs.declared.failure.InputFault.TheVariants as input
-use Rattle.ncgen.specs.declared.failure.OutputFault.{OutputFault}
 use Rattle.ncgen.specs.declared.failure.OutputFault.TheVariants as output
-use Rattle.ncgen.specs.declared.failure.Failure.{Failure}
 use Rattle.ncgen.specs.declared.failure.Failure.TheVariants.{CommandLine, Input, Output}
 
 -- what is said of a fault of this kind

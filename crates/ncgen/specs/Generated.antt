@@ -1,7 +1,6 @@
 -- Definition. What is generated from a CDL text: a file, or a fault.
 use Rattle.std.specs.Prelude.{◌≡◌, ◌⊎◌, ℕ, List, if◌then◌else◌, Result, Ok, Err}
-use Rattle.nc_base.specs.declared.dataset.Dataset.{Dataset}
-use Rattle.nc_base.specs.declared.version.Version.{Version}
+use Rattle.nc_base.specs.declared.{dataset.Dataset.Dataset, version.Version.Version}
 use Rattle.nc_base.specs.GeneratedFile.{file_of, fits}
 use Rattle.devices.specs.Sinks.{SinkView, Appended, FailedPartway}
 use Rattle.cdl_statements.specs.declared.fault.CdlFault.{CdlFault}

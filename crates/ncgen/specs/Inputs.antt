@@ -11,11 +11,9 @@ use Rattle.cdl_meaning.specs.Meaning.{text_limit}
 use Rattle.ncgen.specs.Generated.{generated, Refuses}
 use Rattle.ncgen.specs.code.Prepared.{IsReady, file_of_prepared}
 use Rattle.ncgen.specs.code.TextReads.{ReadsText}
-use Rattle.ncgen.specs.declared.fault.GenFault.{GenFault}
+use Rattle.ncgen.specs.declared.{fault.GenFault.GenFault, failure.InputFault.InputFault, prepared.Prepared.Prepared}
 use Rattle.ncgen.specs.declared.fault.TextFault.TheVariants.{ReadFailed, TooLong}
-use Rattle.ncgen.specs.declared.failure.InputFault.{InputFault}
 use Rattle.ncgen.specs.declared.failure.InputFault.TheVariants.{CannotOpen, Text, Generate}
-use Rattle.ncgen.specs.declared.prepared.Prepared.{Prepared}
 
 -- The texts that paths name, if they are transparent, what opens them before a call and after it, and standard input before and
 -- after.

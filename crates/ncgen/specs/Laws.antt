@@ -1,8 +1,7 @@
 -- Law. What holds of the file of a text.
 use Rattle.std.specs.Prelude.{◌≡◌, ◌≤◌, ◌↔◌, ℕ, List, length, Ok}
 use Rattle.nc_base.specs.Bytes.{AreBytes}
-use Rattle.nc_base.specs.declared.dataset.Dataset.{Dataset}
-use Rattle.nc_base.specs.declared.version.Version.{Version}
+use Rattle.nc_base.specs.declared.{dataset.Dataset.Dataset, version.Version.Version}
 use Rattle.nc_base.specs.Dump.{Ending, IsDump, IsText, Options, whole}
 use Rattle.nc_base.specs.GeneratedFile.{file_of}
 use Rattle.nc_base.specs.Sayable.{IsSayable, trimmed}

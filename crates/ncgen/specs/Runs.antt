@@ -7,9 +7,7 @@ use Rattle.ncgen.specs.CommandLine.{Asked}
 use Rattle.ncgen.specs.Faults.{line_of_failure}
 use Rattle.ncgen.specs.Inputs.{Inputs, Gives, InputFails}
 use Rattle.ncgen.specs.Outputs.{Outputs, IsMade, OutputFails}
-use Rattle.ncgen.specs.declared.failure.InputFault.{InputFault}
-use Rattle.ncgen.specs.declared.failure.OutputFault.{OutputFault}
-use Rattle.ncgen.specs.declared.failure.Failure.{Failure}
+use Rattle.ncgen.specs.declared.{failure.InputFault.InputFault, failure.OutputFault.OutputFault, failure.Failure.Failure}
 use Rattle.ncgen.specs.declared.failure.Failure.TheVariants.{CommandLine, Input, Output}
 
 -- what is asked for was made: the file that the text gives in the version, at the output's path, if there is one

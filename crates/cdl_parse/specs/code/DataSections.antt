@@ -9,13 +9,9 @@ use Rattle.cdl_meaning.specs.State.{State, Draft}
 use Rattle.cdl_values.specs.code.Answers.{FailsRead}
 use Rattle.cdl_values.specs.code.Listed.{AllList, unlisted_drafts}
 use Rattle.cdl_values.specs.code.Meant.{AllSuit, names_of}
-use Rattle.cdl_values.specs.declared.data.Target.{Target}
-use Rattle.cdl_values.specs.declared.read_error.ReadError.{ReadError}
+use Rattle.cdl_values.specs.declared.{data.Target.Target, read_error.ReadError.ReadError}
 use Rattle.cdl_parse.specs.code.Runs.{FailsAt}
-use Rattle.cdl_parse.specs.declared.data_section.DataSection.{DataSection}
-use Rattle.cdl_parse.specs.declared.data_section.Listings.{Listings}
-use Rattle.cdl_parse.specs.declared.data_section.DataStatement.{DataStatement}
-use Rattle.cdl_parse.specs.declared.parse_error.ParseError.{ParseError}
+use Rattle.cdl_parse.specs.declared.{data_section.DataSection.DataSection, data_section.Listings.Listings, data_section.DataStatement.DataStatement, parse_error.ParseError.ParseError}
 
 -- the targets, the one at this position with its values given
 abbrev pub given_at : ℕ → List Target → List Target

@@ -4,15 +4,12 @@ use Rattle.std.specs.List.{position}
 use Rattle.std.specs.Str.{bytes_eq}
 use Rattle.nc_base.specs.Names.{is_name}
 use Rattle.nc_base.specs.Sizes.{is_record_dim}
-use Rattle.nc_base.specs.declared.header.Dim.{Dim}
-use Rattle.nc_base.specs.declared.nc_type.NcType.{NcType}
-use Rattle.nc_base.specs.declared.version.Version.{Version}
+use Rattle.nc_base.specs.declared.{header.Dim.Dim, nc_type.NcType.NcType, version.Version.Version}
 use Rattle.cdl_statements.specs.code.Contents.{Declaration, declaration_said, with_name}
 use Rattle.cdl_statements.specs.code.Cutters.{version_of, words}
-use Rattle.cdl_statements.specs.declared.cutter.Cutter.{Cutter}
+use Rattle.cdl_statements.specs.declared.{cutter.Cutter.Cutter, fault.CdlKind.CdlKind}
 use Rattle.cdl_statements.specs.Lexemes.{Lexeme, is_mark}
 use Rattle.cdl_tokens.specs.Escapes.{word_value}
-use Rattle.cdl_statements.specs.declared.fault.CdlKind.{CdlKind}
 use Rattle.cdl_statements.specs.declared.fault.CdlKind.TheVariants.{BadName, BadShape, DuplicateName, UnknownDimension, UnknownType}
 use Rattle.cdl_meaning.specs.State.{Draft, add_dimid, add_var, found, in_turn, type_of, unless, when, ◌>>=◌}
 use Rattle.cdl_values.specs.code.Answers.{ContinuesRead}

@@ -1,14 +1,9 @@
 -- For contracts. What a text declares, as a dataset: each variable's listed values, and the fill value where it has none.
 use Rattle.std.specs.Prelude.{ℕ, ◌≡◌, List, Option, None, Some, Result, Ok, Err}
-use Rattle.nc_base.specs.declared.dataset.Dataset.{Dataset}
-use Rattle.nc_base.specs.declared.header.Att.{Att}
-use Rattle.nc_base.specs.declared.header.Dim.{Dim}
-use Rattle.nc_base.specs.declared.header.Var.{Var}
-use Rattle.nc_base.specs.declared.version.Version.{Version}
+use Rattle.nc_base.specs.declared.{dataset.Dataset.Dataset, header.Att.Att, header.Dim.Dim, header.Var.Var, version.Version.Version}
 use Rattle.nc_base.specs.GeneratedFile.{known_records}
 use Rattle.nc_base.specs.code.OwedValues.{whole_arrays}
-use Rattle.cdl_statements.specs.declared.fault.CdlFault.{CdlFault}
-use Rattle.cdl_statements.specs.declared.fault.CdlKind.TheVariants.{TooLarge}
+use Rattle.cdl_statements.specs.declared.{fault.CdlFault.CdlFault, fault.CdlKind.TheVariants.TooLarge}
 use Rattle.cdl_meaning.specs.Meaning.{finished}
 use Rattle.cdl_meaning.specs.State.{State}
 use Rattle.cdl_values.specs.code.Listed.{AllList, AreShaped}

@@ -1,18 +1,14 @@
 -- For contracts. The state that the statements before the data section make.
 use Rattle.std.specs.Prelude.{◌≡◌, Bool, true, false, None, Some, Option, Result, Ok, Err, ⊤}
 use Rattle.cdl_statements.specs.code.Cutters.{pieces_left, text_of, version_of, words}
-use Rattle.cdl_statements.specs.declared.cutter.Cutter.{Cutter}
-use Rattle.cdl_statements.specs.declared.fault.CdlFault.{CdlFault}
-use Rattle.cdl_statements.specs.declared.fault.CdlKind.{CdlKind}
-use Rattle.cdl_statements.specs.declared.section.Section.{Section}
+use Rattle.cdl_statements.specs.declared.{cutter.Cutter.Cutter, fault.CdlFault.CdlFault, fault.CdlKind.CdlKind, section.Section.Section}
 use Rattle.cdl_statements.specs.declared.section.Section.TheVariants.{Unopened, Globals, Dimensions, Variables, Closed, Ended}
 use Rattle.cdl_statements.specs.code.Contents.{statement_said}
 use Rattle.cdl_meaning.specs.Meaning.{piece_read, run}
 use Rattle.cdl_meaning.specs.State.{State, act}
 use Rattle.cdl_values.specs.code.Answers.{FailsRead}
 use Rattle.cdl_values.specs.declared.read_error.ReadError.{ReadError}
-use Rattle.cdl_parse.specs.declared.definition_sections.Defined.{Defined}
-use Rattle.cdl_parse.specs.declared.definitions.Definitions.{Definitions}
+use Rattle.cdl_parse.specs.declared.{definition_sections.Defined.Defined, definitions.Definitions.Definitions}
 
 abbrev pub state_of : Definitions → State
 state_of d = record { section = d.section; dims = d.dims; gatts = d.gatts; drafts = d.variables }

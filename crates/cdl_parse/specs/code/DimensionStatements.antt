@@ -1,13 +1,10 @@
 -- For contracts. What a statement of dimensions makes of the dimensions.
 use Rattle.std.specs.Prelude.{◌≡◌, List, [], ◌∷◌, if◌then◌else◌, Result}
-use Rattle.nc_base.specs.declared.header.Dim.{Dim}
-use Rattle.nc_base.specs.declared.version.Version.{Version}
+use Rattle.nc_base.specs.declared.{header.Dim.Dim, version.Version.Version}
 use Rattle.cdl_statements.specs.code.Contents.{dimension_said, dimensions_said}
 use Rattle.cdl_statements.specs.code.Cutters.{version_of, words}
 use Rattle.cdl_statements.specs.code.Views.{lexeme_of}
-use Rattle.cdl_statements.specs.declared.cutter.Cutter.{Cutter}
-use Rattle.cdl_statements.specs.declared.fault.CdlKind.{CdlKind}
-use Rattle.cdl_statements.specs.declared.lexeme.Lexeme.{Lexeme}
+use Rattle.cdl_statements.specs.declared.{cutter.Cutter.Cutter, fault.CdlKind.CdlKind, lexeme.Lexeme.Lexeme}
 use Rattle.cdl_meaning.specs.State.{add_dim, in_turn}
 use Rattle.cdl_parse.specs.declared.dimension_list.NextDimension.{NextDimension}
 

@@ -1,8 +1,7 @@
 -- For contracts. How far what is listed reaches.
 use Rattle.std.specs.Prelude.{ℕ, ◌≡◌, ◌<◌, ◌+◌, ◌-◌, ◌*◌, ◌/◌, ◌&&◌, All, nat_le, max, if◌then◌else◌, List, ◌∷◌, length, Option, None, Some}
 use Rattle.std.specs.List.{list_all}
-use Rattle.nc_base.specs.declared.header.Dim.{Dim}
-use Rattle.nc_base.specs.declared.header.Var.{Var}
+use Rattle.nc_base.specs.declared.{header.Dim.Dim, header.Var.Var}
 use Rattle.nc_base.specs.Sizes.{is_record_var, slab_count, slab_size, slab_limit, array_limit}
 use Rattle.nc_base.specs.Types.{size_of}
 use Rattle.cdl_meaning.specs.Meaning.{is_small, records_in}

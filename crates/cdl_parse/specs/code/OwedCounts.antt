@@ -2,8 +2,7 @@
 use Rattle.std.specs.Prelude.{ℕ, ◌≡◌, ◌<◌, ◌≤◌, ◌^◌, List, Option, SomeIff, length}
 use Rattle.nc_base.specs.code.OwedValues.{owed_count}
 use Rattle.nc_base.specs.Sizes.{slab_limit, slab_of}
-use Rattle.nc_base.specs.declared.header.Dim.{Dim}
-use Rattle.nc_base.specs.declared.header.Var.{Var}
+use Rattle.nc_base.specs.declared.{header.Dim.Dim, header.Var.Var}
 
 -- a slab of the variable is within its limit
 abbrev pub HasSmallSlab : List Dim → Var → Type 0

@@ -1,23 +1,15 @@
 -- For contracts. What the calls that read a whole text answer.
 use Rattle.std.specs.Prelude.{ℕ, ◌≡◌, ◌⊎◌, ◌<◌, ◌^◌, length, List, Result, Ok, Err}
-use Rattle.nc_base.specs.declared.dataset.Dataset.{Dataset}
-use Rattle.nc_base.specs.declared.header.Dim.{Dim}
-use Rattle.nc_base.specs.declared.header.Var.{Var}
-use Rattle.cdl_statements.specs.declared.fault.CdlFault.{CdlFault}
-use Rattle.cdl_statements.specs.declared.fault.CdlKind.TheVariants.{OutOfMemory}
+use Rattle.nc_base.specs.declared.{dataset.Dataset.Dataset, header.Dim.Dim, header.Var.Var}
+use Rattle.cdl_statements.specs.declared.{fault.CdlFault.CdlFault, fault.CdlKind.TheVariants.OutOfMemory, cutter.Cutter.Cutter, section.Section.Section}
 use Rattle.cdl_statements.specs.code.Cutters.{pieces_left, text_of, version_of}
-use Rattle.cdl_statements.specs.declared.cutter.Cutter.{Cutter}
-use Rattle.cdl_statements.specs.declared.section.Section.{Section}
 use Rattle.cdl_meaning.specs.Meaning.{run}
 use Rattle.cdl_meaning.specs.State.{State, Draft}
 use Rattle.cdl_values.specs.code.Listed.{AllList, AreShaped, unlisted_drafts}
 use Rattle.cdl_values.specs.code.Meant.{names_of}
 use Rattle.cdl_parse.specs.code.DeclaredDatasets.{dataset_of_declared}
 use Rattle.cdl_parse.specs.code.Runs.{FailsAt}
-use Rattle.cdl_parse.specs.declared.declared_values.Declared.{Declared}
-use Rattle.cdl_parse.specs.declared.text.Contents.{Contents}
-use Rattle.cdl_parse.specs.declared.text.Values.{Values}
-use Rattle.cdl_parse.specs.declared.parse_error.ParseError.{ParseError}
+use Rattle.cdl_parse.specs.declared.{declared_values.Declared.Declared, text.Contents.Contents, text.Values.Values, parse_error.ParseError.ParseError}
 use Rattle.cdl_parse.specs.declared.parse_error.ParseError.TheVariants as stops
 
 -- an allocation failed

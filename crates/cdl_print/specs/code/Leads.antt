@@ -4,12 +4,9 @@ use Rattle.nc_base.specs.Headers.{value_count}
 use Rattle.nc_base.specs.Numbers.{numbers}
 use Rattle.nc_base.specs.Types.{size_of}
 use Rattle.nc_base.specs.ValueText.{Look, char_lead, column, look_of}
-use Rattle.nc_base.specs.declared.header.Header.{Header}
-use Rattle.nc_base.specs.declared.header.Var.{Var}
-use Rattle.cdl_print.specs.declared.gap.Gap.{Gap}
+use Rattle.nc_base.specs.declared.{header.Header.Header, header.Var.Var}
+use Rattle.cdl_print.specs.declared.{gap.Gap.Gap, layout.Layout.Layout, progress.Progress.Progress}
 use Rattle.cdl_print.specs.declared.gap.Gap.TheVariants.{Space, FirstRow, NextRow, Comma, NewLine}
-use Rattle.cdl_print.specs.declared.layout.Layout.{Layout}
-use Rattle.cdl_print.specs.declared.progress.Progress.{Progress}
 
 -- ---- the layout
 

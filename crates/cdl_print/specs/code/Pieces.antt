@@ -6,11 +6,8 @@ use Rattle.nc_base.specs.Bytes.{concat_parts}
 use Rattle.nc_base.specs.Escapes.{begins_with_digit_or_mark, is_reserved, escaped_name, escaped_text}
 use Rattle.nc_base.specs.HeadText.{att_lines, dim_lines, dim_name, dimensions_word, global_word, joined, string_break, var_lines, variables_word}
 use Rattle.nc_base.specs.Types.{number_suffix, type_word}
-use Rattle.nc_base.specs.declared.header.Att.{Att}
+use Rattle.nc_base.specs.declared.{header.Att.Att, header.Dim.Dim, header.Var.Var, nc_type.NcType.NcType}
 use Rattle.nc_base.specs.Numbers.{number_of}
-use Rattle.nc_base.specs.declared.header.Dim.{Dim}
-use Rattle.nc_base.specs.declared.header.Var.{Var}
-use Rattle.nc_base.specs.declared.nc_type.NcType.{NcType}
 
 -- the backslash before a name that begins with a digit or one of `. @ + -`, or is a reserved word
 unfoldable pub prefix_escape : List ℕ → List ℕ

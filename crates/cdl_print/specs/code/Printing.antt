@@ -6,10 +6,7 @@ use Rattle.nc_base.specs.ValueText.{Look, is_char, column, held, number_text, va
 use Rattle.devices.specs.Failures.{HasFailed}
 use Rattle.devices.specs.Sinks.{SinkView, Appended, FailedPartway}
 use Rattle.cdl_print.specs.code.Leads.{look_at, values, gap_bytes, gap_in_row, next_gap, next_char_lead, columns_left_after}
-use Rattle.cdl_print.specs.declared.gap.Gap.{Gap}
-use Rattle.cdl_print.specs.declared.layout.Layout.{Layout}
-use Rattle.cdl_print.specs.declared.number_line.LastLine.{LastLine}
-use Rattle.cdl_print.specs.declared.progress.Progress.{Progress}
+use Rattle.cdl_print.specs.declared.{gap.Gap.Gap, layout.Layout.Layout, number_line.LastLine.LastLine, progress.Progress.Progress}
 
 -- ---- texts that are gathered
 

@@ -1,11 +1,9 @@
 -- For contracts. The cut of the tokens into pieces, token by token.
 use Rattle.std.specs.Prelude.{Bool, true, false, List, [], ◌∷◌}
 use Rattle.cdl_statements.specs.code.Roles.{first_role}
-use Rattle.cdl_statements.specs.declared.piece.Role.{Role}
+use Rattle.cdl_statements.specs.declared.{piece.Role.Role, piece.CutState.CutState, piece.Step.Step}
 use Rattle.cdl_statements.specs.declared.piece.Role.TheVariants.{Opening, Section, Colon, Semicolon, Brace, End}
-use Rattle.cdl_statements.specs.declared.piece.CutState.{CutState}
 use Rattle.cdl_statements.specs.declared.piece.CutState.TheVariants.{Begins, Inside, Marked, Closed}
-use Rattle.cdl_statements.specs.declared.piece.Step.{Step}
 
 abbrev pub ending : CutState → Step
 ending state = record { ends = true; state = state }

@@ -10,8 +10,7 @@ use Rattle.cdl_tokens.specs.declared.token.TokenKind.TheVariants as kinds
 use Rattle.cdl_statements.specs.code.Cutters.{SameText, after, is_done, next_token, offset_of, text_of, words}
 use Rattle.cdl_statements.specs.Lexemes.{Lexeme, is_mark, lexeme}
 use Rattle.cdl_statements.specs.code.Views.{lexeme_with}
-use Rattle.cdl_statements.specs.declared.cutter.Cutter.{Cutter}
-use Rattle.cdl_statements.specs.declared.piece.CutState.TheVariants.{Inside}
+use Rattle.cdl_statements.specs.declared.{cutter.Cutter.Cutter, piece.CutState.TheVariants.Inside}
 
 -- a comma comes next, inside of a statement
 pub record IsAtComma (c : Cutter) : Type 0 where

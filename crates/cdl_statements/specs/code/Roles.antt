@@ -4,8 +4,7 @@ use Rattle.cdl_statements.specs.Lexemes.{Lexeme, lexeme}
 use Rattle.cdl_statements.specs.Pieces.{is_section}
 use Rattle.cdl_statements.specs.declared.piece.Role.{Role}
 use Rattle.cdl_statements.specs.declared.piece.Role.TheVariants.{Opening, Section, Colon, Semicolon, Brace, End, Other}
-use Rattle.cdl_tokens.specs.declared.token.Token.{Token}
-use Rattle.cdl_tokens.specs.declared.token.TokenKind.{TokenKind}
+use Rattle.cdl_tokens.specs.declared.{token.Token.Token, token.TokenKind.TokenKind}
 use Rattle.cdl_tokens.specs.declared.token.TokenKind.TheVariants as kinds
 
 abbrev pub mark_role : ℕ → Role

@@ -3,8 +3,7 @@ use Rattle.std.specs.Prelude.{Bool, ◌≡◌, is_some, Some}
 use Rattle.cdl_statements.specs.code.Contents.{statement_said}
 use Rattle.cdl_statements.specs.code.Cutters.{version_of, words}
 use Rattle.cdl_statements.specs.Shapes.{shape}
-use Rattle.cdl_statements.specs.declared.cutter.Cutter.{Cutter}
-use Rattle.cdl_statements.specs.declared.section.Section.{Section}
+use Rattle.cdl_statements.specs.declared.{cutter.Cutter.Cutter, section.Section.Section}
 
 -- whether the next statement has a shape of this section
 abbrev pub HasShape : Cutter → Section → Bool → Type 0

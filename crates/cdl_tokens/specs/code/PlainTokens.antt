@@ -9,9 +9,7 @@ use Rattle.cdl_tokens.specs.code.Magnitudes.{held}
 use Rattle.cdl_tokens.specs.Numerals.{parts}
 use Rattle.cdl_tokens.specs.Scan.{begins_number, scan, token}
 use Rattle.cdl_tokens.specs.Tokens.{raw}
-use Rattle.cdl_tokens.specs.declared.plain_number.PlainNumber.{PlainNumber}
-use Rattle.cdl_tokens.specs.declared.scanner.ListedNumber.{ListedNumber}
-use Rattle.cdl_tokens.specs.declared.token.Token.{Token}
+use Rattle.cdl_tokens.specs.declared.{plain_number.PlainNumber.PlainNumber, scanner.ListedNumber.ListedNumber, token.Token.Token}
 use Rattle.cdl_tokens.specs.declared.token.TokenKind.TheVariants.{Number, Mark, Text}
 
 -- the first n bytes are decimal digits of this number, and no number token goes on after them

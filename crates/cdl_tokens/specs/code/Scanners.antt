@@ -1,10 +1,8 @@
 -- For contracts. What a scanner has before it.
 use Rattle.std.specs.Prelude.{ℕ, ◌-◌, Bool, not, ◌&&◌, ◌==◌, true, false, List, ◌∷◌, [], drop, Option, Some}
 use Rattle.cdl_tokens.specs.Tokens.{tokens_at}
-use Rattle.cdl_tokens.specs.declared.token.Token.{Token}
-use Rattle.cdl_tokens.specs.declared.token.TokenKind.{TokenKind}
+use Rattle.cdl_tokens.specs.declared.{token.Token.Token, token.TokenKind.TokenKind, scanner.Scanner.Scanner}
 use Rattle.cdl_tokens.specs.declared.token.TokenKind.TheVariants.{End, Mark}
-use Rattle.cdl_tokens.specs.declared.scanner.Scanner.{Scanner}
 
 abbrev pub text_of : Scanner → List ℕ
 text_of s = s.text.now

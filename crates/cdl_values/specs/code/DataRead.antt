@@ -4,13 +4,11 @@ use Rattle.nc_base.specs.declared.version.Version.{Version}
 use Rattle.nc_base.specs.Names.{is_name}
 use Rattle.cdl_tokens.specs.Escapes.{word_value}
 use Rattle.cdl_statements.specs.code.Cutters.{version_of, words}
-use Rattle.cdl_statements.specs.declared.cutter.Cutter.{Cutter}
+use Rattle.cdl_statements.specs.declared.{cutter.Cutter.Cutter, due.Due.TheVariants.DataName, fault.CdlKind.CdlKind}
 use Rattle.cdl_statements.specs.Lexemes.{Lexeme}
 use Rattle.cdl_statements.specs.code.DueTokens.{completes}
-use Rattle.cdl_statements.specs.declared.due.Due.TheVariants.{DataName}
 use Rattle.cdl_statements.specs.code.Contents.{values}
 use Rattle.cdl_statements.specs.Shapes.{first_bad}
-use Rattle.cdl_statements.specs.declared.fault.CdlKind.{CdlKind}
 use Rattle.cdl_statements.specs.declared.fault.CdlKind.TheVariants.{Syntax, BadName, UnknownVariable, DuplicateData}
 use Rattle.cdl_values.specs.code.NameIndices.{position_of}
 use Rattle.cdl_values.specs.code.PackedValues.{packed}

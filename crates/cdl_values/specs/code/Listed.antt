@@ -3,8 +3,7 @@ use Rattle.std.specs.Prelude.{ℕ, ◌≡◌, List, [], ◌∷◌, map, None, �
 use Rattle.std.specs.List.{flat_map}
 use Rattle.nc_base.specs.Headers.{AreDimids}
 use Rattle.nc_base.specs.Numbers.{bytes_of_number}
-use Rattle.nc_base.specs.declared.header.Dim.{Dim}
-use Rattle.nc_base.specs.declared.header.Var.{Var}
+use Rattle.nc_base.specs.declared.{header.Dim.Dim, header.Var.Var}
 use Rattle.cdl_meaning.specs.Meaning.{values_of}
 use Rattle.cdl_meaning.specs.State.{Draft}
 

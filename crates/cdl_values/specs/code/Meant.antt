@@ -3,23 +3,17 @@ use Rattle.std.specs.Prelude.{ℕ, ◌≡◌, ◌<◌, ◌^◌, length, Bool, fa
 use Rattle.std.specs.List.{flat_map}
 use Rattle.std.specs.Str.{bytes_eq}
 use Rattle.nc_base.specs.Numbers.{bytes_of_number}
-use Rattle.nc_base.specs.declared.header.Dim.{Dim}
-use Rattle.nc_base.specs.declared.header.Var.{Var}
-use Rattle.nc_base.specs.declared.version.Version.{Version}
+use Rattle.nc_base.specs.declared.{header.Dim.Dim, header.Var.Var, version.Version.Version}
 use Rattle.cdl_tokens.specs.Escapes.{word_value}
 use Rattle.cdl_statements.specs.code.Cutters.{text_of, version_of, words}
-use Rattle.cdl_statements.specs.declared.cutter.Cutter.{Cutter}
-use Rattle.cdl_statements.specs.declared.section.Section.TheVariants.{Values}
+use Rattle.cdl_statements.specs.declared.{cutter.Cutter.Cutter, section.Section.TheVariants.Values, fault.CdlKind.CdlKind}
 use Rattle.cdl_statements.specs.Lexemes.{Lexeme, is_mark}
-use Rattle.cdl_statements.specs.declared.fault.CdlKind.{CdlKind}
 use Rattle.cdl_meaning.specs.Meaning.{piece_read}
 use Rattle.cdl_meaning.specs.State.{State, Draft, Listing, capacity_of, is_listed, values_in}
-use Rattle.cdl_values.specs.declared.read_error.ReadError.{ReadError}
+use Rattle.cdl_values.specs.declared.{read_error.ReadError.ReadError, data.Given.Given, data.Target.Target}
 use Rattle.cdl_values.specs.declared.read_error.ReadError.TheVariants.{OutOfMemory, Fault}
 use Rattle.cdl_values.specs.code.Capacities.{Fills, HasCapacity}
 use Rattle.cdl_values.specs.code.Listed.{AreShaped, unlisted_drafts}
-use Rattle.cdl_values.specs.declared.data.Given.{Given}
-use Rattle.cdl_values.specs.declared.data.Target.{Target}
 
 -- a target is what a draft takes
 pub record Suits (dims : List Dim) (t : Target) (d : Draft) : Type 0 where

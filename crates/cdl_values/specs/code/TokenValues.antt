@@ -1,7 +1,6 @@
 -- For contracts. The values of tokens, packed one after the other.
 use Rattle.std.specs.Prelude.{ℕ, ◌≡◌, Bool, List, [], ◌∷◌, Option, Result, Ok, ⊤, OnOk, IfOk}
-use Rattle.nc_base.specs.declared.nc_type.NcType.{NcType}
-use Rattle.nc_base.specs.declared.version.Version.{Version}
+use Rattle.nc_base.specs.declared.{nc_type.NcType.NcType, version.Version.Version}
 use Rattle.cdl_tokens.specs.Escapes.{inner, stands}
 use Rattle.cdl_tokens.specs.code.Magnitudes.{held}
 use Rattle.cdl_tokens.specs.Numerals.{Parts, number}
@@ -12,17 +11,11 @@ use Rattle.cdl_statements.specs.code.Cutters.{version_of, words}
 use Rattle.cdl_statements.specs.Lexemes as lexemes
 use Rattle.cdl_statements.specs.Shapes.{Value, Number, Characters}
 use Rattle.cdl_statements.specs.code.Views.{lexeme_of, lexeme_with}
-use Rattle.cdl_statements.specs.declared.cutter.Cutter.{Cutter}
-use Rattle.cdl_statements.specs.declared.due.Due.{Due}
-use Rattle.cdl_statements.specs.declared.fault.CdlKind.{CdlKind}
-use Rattle.cdl_statements.specs.declared.lexeme.Lexeme.{Lexeme}
+use Rattle.cdl_statements.specs.declared.{cutter.Cutter.Cutter, due.Due.Due, fault.CdlKind.CdlKind, lexeme.Lexeme.Lexeme}
 use Rattle.cdl_meaning.specs.State.{add_constant, in_turn}
 use Rattle.cdl_values.specs.code.Answers.{ContinuesRead, Leaves}
 use Rattle.cdl_values.specs.code.PackedValues.{bytes_of, capacity_after, joined, capacity_minus, packed, value_bytes}
-use Rattle.cdl_values.specs.declared.fill.Fill.{Fill}
-use Rattle.cdl_values.specs.declared.filling.Filling.{Filling}
-use Rattle.cdl_values.specs.declared.read_error.ReadError.{ReadError}
-use Rattle.cdl_values.specs.declared.value.FastPathFault.{FastPathFault}
+use Rattle.cdl_values.specs.declared.{fill.Fill.Fill, filling.Filling.Filling, read_error.ReadError.ReadError, value.FastPathFault.FastPathFault}
 
 -- ---- one token
 

@@ -5,13 +5,9 @@ use Rattle.cdl_statements.specs.code.Cutters.{SameText, after, is_done, offset_o
 use Rattle.cdl_statements.specs.code.DueTokens.{completes}
 use Rattle.cdl_statements.specs.code.ListedTokens.{IsAtComma}
 use Rattle.cdl_statements.specs.Shapes.{first_bad}
-use Rattle.cdl_statements.specs.declared.cutter.Cutter.{Cutter}
-use Rattle.cdl_statements.specs.declared.due.Due.{Due}
-use Rattle.cdl_statements.specs.declared.due.Due.TheVariants.{Separator}
+use Rattle.cdl_statements.specs.declared.{cutter.Cutter.Cutter, due.Due.Due, due.Due.TheVariants.Separator}
 use Rattle.cdl_values.specs.code.PackedValues.{joined, packed}
-use Rattle.cdl_values.specs.declared.filling.Filling.{Filling}
-use Rattle.cdl_values.specs.declared.value.FastPathFault.{FastPathFault}
-use Rattle.cdl_values.specs.declared.value_run.UnreadValues.{UnreadValues}
+use Rattle.cdl_values.specs.declared.{filling.Filling.Filling, value.FastPathFault.FastPathFault, value_run.UnreadValues.UnreadValues}
 
 -- A place among the values of a statement: the bytes of those before it, and what capacity is left.
 pub record Place : Type 0 where

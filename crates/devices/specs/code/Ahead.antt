@@ -2,8 +2,7 @@
 use Rattle.std.specs.Prelude.{◌≡◌, ℕ, ◌<◌, ◌≤◌, Bool, true, List, length, Result}
 use Rattle.devices.specs.Failures.{HasFailed}
 use Rattle.devices.specs.Sources.{AreFrom, ReadSome, SourceView}
-use Rattle.devices.specs.declared.ahead.ReadAhead.{ReadAhead}
-use Rattle.devices.specs.declared.source.Source.{Ghosts}
+use Rattle.devices.specs.declared.{ahead.ReadAhead.ReadAhead, source.Source.Ghosts}
 
 -- n bytes of the file from this offset on are at the start, and at least one, where the file is known
 pub record Answers (is_transparent : Bool) (file : List ℕ) (at : ℕ) (following : List ℕ) (n : ℕ) : Type 0 where

@@ -1,8 +1,7 @@
 -- For contracts. When a source that fails on request does so.
 use Rattle.std.specs.Prelude.{◌≡◌, ◌≤◌, ◌+◌, ◌-◌, ◌^◌, ℕ, min}
 use Rattle.devices.specs.Sources.{SourceView}
-use Rattle.devices.specs.declared.testing.drip.DripSource.{DripSource}
-use Rattle.devices.specs.declared.testing.drip.FailWhen.{FailWhen}
+use Rattle.devices.specs.declared.{testing.drip.DripSource.DripSource, testing.drip.FailWhen.FailWhen}
 use Rattle.devices.specs.declared.testing.drip.FailWhen.TheVariants.{Never, From, Read}
 
 -- a read at this offset, with this number of reads before it, is to fail

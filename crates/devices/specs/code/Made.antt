@@ -1,9 +1,7 @@
 -- For contracts. What outputs in memory were given.
 use Rattle.std.specs.Prelude.{ℕ, ◌≡◌, List, map, Some, Result, Ok, Err, string_bytes}
 use Rattle.devices.specs.Creators.{CreatorView, Output, give}
-use Rattle.devices.specs.declared.testing.made.MadeFile.{MadeFile}
-use Rattle.devices.specs.declared.testing.made.MadeFiles.{MadeFiles}
-use Rattle.devices.specs.declared.memory.MemSink.{MemSink}
+use Rattle.devices.specs.declared.{testing.made.MadeFile.MadeFile, testing.made.MadeFiles.MadeFiles, memory.MemSink.MemSink}
 
 -- a path and what it was given
 abbrev pub output_of : MadeFile → Output

@@ -2,8 +2,7 @@
 use Rattle.std.specs.Prelude.{ℕ, Bool, List, Option, option_map, find}
 use Rattle.std.specs.Str.{bytes_eq}
 use Rattle.devices.specs.Openers.{OpenerView}
-use Rattle.devices.specs.declared.testing.mem_files.MemFiles.{MemFiles}
-use Rattle.devices.specs.declared.testing.mem_files.MemFile.{MemFile}
+use Rattle.devices.specs.declared.{testing.mem_files.MemFiles.MemFiles, testing.mem_files.MemFile.MemFile}
 
 -- the file has this path
 abbrev pub is_at : MemFile → List ℕ → Bool

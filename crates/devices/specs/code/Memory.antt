@@ -2,8 +2,7 @@
 use Rattle.std.specs.Prelude.{Some}
 use Rattle.devices.specs.Sinks.{SinkView}
 use Rattle.devices.specs.Sources.{SourceView}
-use Rattle.devices.specs.declared.memory.MemSink.{MemSink}
-use Rattle.devices.specs.declared.memory.MemSource.{MemSource}
+use Rattle.devices.specs.declared.{memory.MemSink.MemSink, memory.MemSource.MemSource}
 
 -- a source in memory as the contracts of all sources see it
 abbrev pub view_of : MemSource → SourceView

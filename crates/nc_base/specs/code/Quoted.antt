@@ -1,9 +1,8 @@
 -- For contracts. How one byte is written where it stands, in words for the code that prints and the code that reads.
 use Rattle.std.specs.Prelude.{ℕ, Bool, List, [], ◌∷◌}
 use Rattle.nc_base.specs.Escapes.{escaped_in_name, escaped_in_string, is_literal, is_plain, octal_escape}
-use Rattle.nc_base.specs.declared.escape.Escape.{Escape}
+use Rattle.nc_base.specs.declared.{escape.Escape.Escape, escape.Quoting.Quoting}
 use Rattle.nc_base.specs.declared.escape.Escape.TheVariants.{Plain, Backslash, Octal}
-use Rattle.nc_base.specs.declared.escape.Quoting.{Quoting}
 use Rattle.nc_base.specs.declared.escape.Quoting.TheVariants.{InName, InString}
 
 -- a byte that is written so

@@ -1,8 +1,7 @@
 -- For contracts. What reading a header answers, for the bytes of a source that is transparent.
 use Rattle.std.specs.Bool.{OnTrue}
 use Rattle.std.specs.Prelude.{◌≡◌, Bool, ℕ, ◌+◌, ◌≤◌, List, length, Result, Ok, Err}
-use Rattle.nc_base.specs.declared.fault.FormatFault.{FormatFault}
-use Rattle.nc_base.specs.declared.header.Header.{Header}
+use Rattle.nc_base.specs.declared.{fault.FormatFault.FormatFault, header.Header.Header}
 use Rattle.nc_base.specs.Headers.{IsSound, HasValidNames}
 use Rattle.nc_base.specs.Grammar.{SpellsHeader}
 use Rattle.nc_base.specs.FirstFault.{StopsAt}

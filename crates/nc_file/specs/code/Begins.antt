@@ -1,10 +1,8 @@
 -- For contracts. The begins of variables, one after the other.
 use Rattle.std.specs.Prelude.{ℕ, ◌+◌, Bool, if◌then◌else◌, List, [], ◌∷◌, nat_lt}
-use Rattle.nc_base.specs.declared.header.Dim.{Dim}
-use Rattle.nc_base.specs.declared.header.Var.{Var}
+use Rattle.nc_base.specs.declared.{header.Dim.Dim, header.Var.Var}
 use Rattle.nc_base.specs.Sizes.{is_record_var, padded_size}
-use Rattle.nc_file.specs.declared.write.begins.OffsetTooLarge.{OffsetTooLarge}
-use Rattle.nc_file.specs.declared.write.begins.NextBegins.{NextBegins}
+use Rattle.nc_file.specs.declared.{write.begins.OffsetTooLarge.OffsetTooLarge, write.begins.NextBegins.NextBegins}
 
 -- where this variable begins, if it is the next one
 abbrev pub offset_of : List Dim → NextBegins → Var → ℕ

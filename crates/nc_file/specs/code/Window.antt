@@ -4,10 +4,9 @@ use Rattle.std.specs.Bool.{OnTrue}
 use Rattle.nc_base.specs.declared.fault.FormatFault.TheVariants.{HeaderTruncated}
 use Rattle.devices.specs.Sources.{SourceView}
 use Rattle.devices.specs.declared.source.Source.{Ghosts}
-use Rattle.nc_file.specs.declared.head_fault.HeadFault.{HeadFault}
+use Rattle.nc_file.specs.declared.{head_fault.HeadFault.HeadFault, window.Window.Window}
 use Rattle.nc_file.specs.declared.head_fault.HeadFault.TheVariants.{ReadFailed, Format}
 use Rattle.nc_file.specs.code.Reading.{Part, Reads, Caused, is_of_bytes}
-use Rattle.nc_file.specs.declared.window.Window.{Window}
 
 -- the source as contracts see it
 abbrev pub source_of : {S : Type 0} {g : Ghosts S} → Window S g → SourceView

@@ -1,9 +1,7 @@
 -- For contracts. The parts of a header that calls write.
 use Rattle.std.specs.Prelude.{ℕ, List, ◌++◌, length}
 use Rattle.std.specs.List.{flat_map}
-use Rattle.nc_base.specs.declared.header.Dim.{Dim}
-use Rattle.nc_base.specs.declared.header.Var.{Var}
-use Rattle.nc_base.specs.declared.version.Version.{Version}
+use Rattle.nc_base.specs.declared.{header.Dim.Dim, header.Var.Var, version.Version.Version}
 use Rattle.nc_base.specs.GeneratedFile.{count_spelling, dim_spelling, list_spelling, var_spelling, vsize_of}
 use Rattle.nc_base.specs.Grammar.{dimension_tag, variable_tag}
 use Rattle.nc_base.specs.Sizes.{padded_size}

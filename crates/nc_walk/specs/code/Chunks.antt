@@ -1,11 +1,8 @@
 -- For contracts. What collecting the values of one slab after the other has done.
 use Rattle.std.specs.Prelude.{◌≡◌, ℕ, ◌+◌, ◌*◌, ◌<◌, ◌≤◌, Bool, length, Result, Ok, Err}
 use Rattle.devices.specs.Sources.{SourceView}
-use Rattle.nc_walk.specs.declared.fault.WalkFault.{WalkFault}
+use Rattle.nc_walk.specs.declared.{fault.WalkFault.WalkFault, slabs.Slabs.Slabs, cursor.Cursor.Cursor, chunk.Chunk.Chunk}
 use Rattle.nc_walk.specs.declared.fault.WalkFault.TheVariants.{ReadFailed, DataTruncated}
-use Rattle.nc_walk.specs.declared.slabs.Slabs.{Slabs}
-use Rattle.nc_walk.specs.declared.cursor.Cursor.{Cursor}
-use Rattle.nc_walk.specs.declared.chunk.Chunk.{Chunk}
 use Rattle.nc_walk.specs.code.Slabs.{total, number_at, IsCursor}
 use Rattle.nc_walk.specs.code.SourceUses.{SourceUse}
 use Rattle.nc_walk.specs.code.Walks.{ReturnsValues, Failing, Truncated, ReadValues, Reading, walk_of, values_in}

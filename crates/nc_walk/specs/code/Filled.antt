@@ -1,10 +1,7 @@
 -- For contracts. What is written of a variable's array: the bytes that are listed, and fill values in place of those that are not.
 use Rattle.std.specs.Prelude.{ℕ, ◌+◌, ◌-◌, ◌*◌, List, [], ◌∷◌, ◌++◌, length, take, drop, replicate, if◌then◌else◌}
 use Rattle.std.specs.List.{concat, flat_map}
-use Rattle.nc_base.specs.declared.header.Dim.{Dim}
-use Rattle.nc_base.specs.declared.header.Header.{Header}
-use Rattle.nc_base.specs.declared.header.Var.{Var}
-use Rattle.nc_base.specs.declared.listed_array.Run.{Run}
+use Rattle.nc_base.specs.declared.{header.Dim.Dim, header.Header.Header, header.Var.Var, listed_array.Run.Run}
 use Rattle.nc_base.specs.Bytes.{padding_len}
 use Rattle.nc_base.specs.GeneratedFile.{fill_bytes}
 use Rattle.nc_base.specs.Sizes.{is_record_var, slab_size}

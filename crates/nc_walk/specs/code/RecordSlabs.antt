@@ -1,8 +1,7 @@
 -- For contracts. The slabs of a record, and the arrays that they are of.
 use Rattle.std.specs.Prelude.{ℕ, ◌+◌, List, [], ◌∷◌, ◌++◌, get_or, map, if◌then◌else◌}
 use Rattle.std.specs.List.{flat_map, range_with_len}
-use Rattle.nc_base.specs.declared.header.Dim.{Dim}
-use Rattle.nc_base.specs.declared.header.Var.{Var}
+use Rattle.nc_base.specs.declared.{header.Dim.Dim, header.Var.Var}
 use Rattle.nc_base.specs.GeneratedFile.{fill_bytes}
 use Rattle.nc_base.specs.Sizes.{is_record_var, slab_size}
 use Rattle.nc_walk.specs.declared.write.record_slab.RecordSlab.{RecordSlab}

@@ -1,14 +1,12 @@
 -- For contracts. The values of a variable by their number, counted from 0 in row-major order.
 use Rattle.std.specs.Prelude.{◌≡◌, ℕ, ◌+◌, ◌-◌, ◌*◌, ◌/◌, ◌%◌, ◌^◌, ◌<◌, ◌≤◌, min, if◌then◌else◌, List, length, map, Some}
 use Rattle.std.specs.List.{range_with_len, slice_get}
-use Rattle.nc_base.specs.declared.header.Var.{Var}
-use Rattle.nc_base.specs.declared.header.Header.{Header}
+use Rattle.nc_base.specs.declared.{header.Var.Var, header.Header.Header}
 use Rattle.nc_base.specs.Types.{size_of}
 use Rattle.nc_base.specs.Sizes.{is_record_var, slab_count, record_size}
 use Rattle.nc_base.specs.Places.{value_offsets}
 use Rattle.devices.specs.Sources.{SourceView}
-use Rattle.nc_walk.specs.declared.slabs.Slabs.{Slabs}
-use Rattle.nc_walk.specs.declared.cursor.Cursor.{Cursor}
+use Rattle.nc_walk.specs.declared.{slabs.Slabs.Slabs, cursor.Cursor.Cursor}
 
 -- the number of values
 abbrev pub total : Slabs → ℕ

@@ -4,16 +4,13 @@ use Rattle.std.specs.Bool.{OnTrue}
 use Rattle.std.specs.List.{concat, slice_get}
 use Rattle.std.specs.Borrow.{Bor, MutBor, RattleType, Fml, follows_so}
 use mathlib.Core.Option.{none}
-use Rattle.nc_base.specs.declared.header.Header.{Header}
-use Rattle.nc_base.specs.declared.header.Var.{Var}
+use Rattle.nc_base.specs.declared.{header.Header.Header, header.Var.Var}
 use Rattle.nc_base.specs.Types.{size_of}
 use Rattle.nc_base.specs.Headers.{value_count}
 use Rattle.nc_base.specs.Places.{bytes_at, value_offsets}
 use Rattle.devices.specs.Sources.{SourceView, after}
-use Rattle.nc_walk.specs.declared.fault.WalkFault.{WalkFault}
+use Rattle.nc_walk.specs.declared.{fault.WalkFault.WalkFault, slabs.Slabs.Slabs, cursor.Cursor.Cursor}
 use Rattle.nc_walk.specs.declared.fault.WalkFault.TheVariants.{ReadFailed, DataTruncated}
-use Rattle.nc_walk.specs.declared.slabs.Slabs.{Slabs}
-use Rattle.nc_walk.specs.declared.cursor.Cursor.{Cursor}
 use Rattle.nc_walk.specs.code.Slabs.{offsets_after, number_at, IsSized, IsCursor}
 use Rattle.nc_walk.specs.code.SourceUses.{SourceUse}
 use Rattle.nc_walk.specs.code.FullReads.{FailedReadInFull}

@@ -2,12 +2,10 @@
 use Rattle.std.specs.Prelude.{◌≡◌, ◌&&◌, ◌||◌, ℕ, Bool, not, IsTrue, List, map, Option, Some, None, Vec, Result, Ok, Err}
 use Rattle.std.specs.Global.{Global}
 use Rattle.std.specs.List.{list_all}
-use Rattle.nc_base.specs.declared.header.Header.{Header}
-use Rattle.nc_base.specs.declared.header.Var.{Var}
+use Rattle.nc_base.specs.declared.{header.Header.Header, header.Var.Var}
 use Rattle.nc_base.specs.Dump.{Options, has_dimension, has_name, has_variable, KnowsChosen, IsFirstUnknown, IsFirstUnknownOf, is_selected}
-use Rattle.ncdump.specs.declared.fault.DumpFault.{DumpFault}
+use Rattle.ncdump.specs.declared.{fault.DumpFault.DumpFault, names.NameSet.NameSet}
 use Rattle.ncdump.specs.declared.fault.DumpFault.TheVariants.{OutOfMemory, NoSuchVariable}
-use Rattle.ncdump.specs.declared.names.NameSet.{NameSet}
 use Rattle.ncdump.specs.code.Names.{holds, holds_if}
 
 -- a bool for each variable, or the first chosen name that no variable has

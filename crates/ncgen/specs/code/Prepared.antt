@@ -1,15 +1,13 @@
 -- For contracts. A file that stands ready to be written.
 use Rattle.std.specs.Prelude.{◌≡◌, ◌<◌, ℕ, List, ◌++◌, All, Result, Ok, Err}
-use Rattle.nc_base.specs.declared.header.Header.{Header}
-use Rattle.nc_base.specs.declared.header.Var.{Var}
+use Rattle.nc_base.specs.declared.{header.Header.Header, header.Var.Var}
 use Rattle.nc_base.specs.GeneratedFile.{data_of, header_spelling, known_records}
 use Rattle.nc_base.specs.Headers.{IsSound}
 use Rattle.nc_base.specs.code.OwedValues.{AreListed, whole_arrays}
 use Rattle.nc_base.specs.Versions.{offset_limit}
 use Rattle.nc_walk.specs.code.RecordSlabs.{record_slabs}
 use Rattle.ncgen.specs.Generated.{Refuses}
-use Rattle.ncgen.specs.declared.fault.GenFault.{GenFault}
-use Rattle.ncgen.specs.declared.prepared.Prepared.{Prepared}
+use Rattle.ncgen.specs.declared.{fault.GenFault.GenFault, prepared.Prepared.Prepared}
 
 -- the data part of a file: the listed values of the header's variables, filled up
 abbrev pub listed_data : Header → List (List ℕ) → List ℕ
