@@ -1,7 +1,7 @@
 //! Attributes, as statements of CDL text declare them.
 
 use crate::name_indices::IndexedVars;
-use cdl_parse::{Attributes, read_attribute, variable_position};
+use cdl_parse::{Attributes, read_attribute};
 use cdl_statements::{CdlKind, Cutter, Due, check_shape_from};
 use cdl_values::ReadError;
 use nc_base::{Att, NcType, Version};
@@ -136,7 +136,7 @@ fn variables_are_found_by_name(rt: HostRuntime) -> Result<(), Fail> {
     ];
     let indexed = IndexedVars::new(rt.alloc(), &NAMES)?;
     for (word, want) in ROWS {
-        let found = variable_position(rt.alloc(), indexed.vars.as_slice(), &indexed.index, word);
+        let found = indexed.position(rt.alloc(), word);
         assert!(rt; found == want, "{found:?}: {word:?}");
     }
     Ok(())

@@ -33,7 +33,7 @@ fn targets(alloc: Global) -> Result<Vec<Target>, AllocError> {
 fn section(alloc: Global, start: Cutter<'_>) -> Result<DataSection<'_>, ParseError> {
     let vars = IndexedVars::new(alloc, &NAMES)?;
     let targets = targets(alloc)?;
-    read_data(alloc, vars.names(), targets, start)
+    read_data(alloc, &vars.names(), targets, start)
 }
 
 /// Fails unless the section is closed, its text ends there, and the variables have these bytes.

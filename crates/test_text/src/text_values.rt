@@ -48,7 +48,7 @@ fn values_of(alloc: Global, text: &[u8]) -> Result<Vec<u8>, ReadError> {
     let vars = IndexedVars::new(alloc, &NAMES)?;
     let given = read_data_statement(
         alloc,
-        vars.names(),
+        &vars.names(),
         &targets,
         Cutter::new(text, Version::Cdf1),
     )?;
