@@ -146,13 +146,13 @@ for row in one_variable=7 one_variable_of_version_5=7 a_rank_three_selection=16 
     allocates "dumps::header_and_selection_of_${row%=*}" "${row#*=}"
 done
 allocates dumps::header_of_names_and_strings 17
-for row in text_of_three_shorts=17 text_of_forty_shorts=21 text_of_names_and_attributes=34 text_of_rows_of_characters=56 \
-    declarations_of_rows_of_characters=48 text_of_numbers_of_cdf5=52 text_with_a_fault_in_its_last_statement=36 \
-    text_with_an_array_too_large=18; do
+for row in text_of_three_shorts=15 text_of_forty_shorts=19 text_of_names_and_attributes=28 text_of_rows_of_characters=48 \
+    declarations_of_rows_of_characters=40 text_of_numbers_of_cdf5=44 text_with_a_fault_in_its_last_statement=30 \
+    text_with_an_array_too_large=15; do
     allocates "parsed::${row%=*}" "${row#*=}"
 done
-for row in one_variable=15 forty_shorts=19 rank_three=34 padded_records=22 three_padded_records=34 records_of_version_5=16 \
-    names_and_strings=42; do
+for row in one_variable=13 forty_shorts=17 rank_three=28 padded_records=19 three_padded_records=29 records_of_version_5=14 \
+    names_and_strings=35; do
     allocates "generated::${row%=*}_generated" "${row#*=}"
     allocates "generated::${row%=*}_prepared" "${row#*=}"
 done
