@@ -1,6 +1,6 @@
 -- There is one dump of a file.
 use Rattle.std.proofs.Common.{◌≡◌, ℕ, ◌<◌, false, List, [], length, get_or, refl, sym, ap, ◌∙◌, subst, arith, inl, inr, Option, Some, None, Result, Ok, Err, ◌⊎◌, IsTrue, not, position}
-use Rattle.ncdump.proofs.Prelude.{list_all, false≢true, slice_get_within, get_or_from_slice_get, Header, Var, record_count, SpellsHeader, Options, Ending, whole, wrong_field, no_such_variable, data_truncated, has_variable, KnowsChosen, IsFirstUnknown, IsFirstUnknownOf, Section, content_in, shown_values, selection_of, dump_text, IsDump, stopped, unknown, shown, SinkView, Appended, appended_none, DumpFault, OutOfMemory, ReadFailed, WriteFailed, Format, NoSuchVariable, DataTruncated}
+use Rattle.ncdump.proofs.Prelude.{list_all, false≢true, slice_get_within, get_or_from_slice_get, Header, Var, record_count, SpellsHeader, Options, Ending, whole, wrong_field, no_such_variable, data_truncated, has_variable, KnowsChosen, IsFirstUnknown, IsFirstUnknownOf, Section, content_in, shown_values, selection_of, dump_text, IsDump, stopped, unknown, shown, SinkView, Appended, DumpFault, OutOfMemory, ReadFailed, WriteFailed, Format, NoSuchVariable, DataTruncated}
 use Rattle.std.proofs.lemmas.List.Folds.{list_all_at}
 use Rattle.nc_file.specs.OneOutcome.{BeginsWithHeader, HasFirstFault, HasOneOutcome}
 use Rattle.nc_file.proofs.Outcomes.{one-outcome}

@@ -1,6 +1,6 @@
 //! A run of the program.
 
-ghost use Rattle.std.specs.Prelude.{◌≡◌, ◌⊎◌, IfOk, true};
+ghost use Rattle.std.specs.Prelude.{◌≡◌, IfOk, true};
 ghost use Rattle.std.specs.Bool.{OnTrue};
 ghost use Rattle.ncdump.specs.Calls.{sink_of};
 ghost use Rattle.ncdump.specs.Dumps.{options_of, Dumps};
