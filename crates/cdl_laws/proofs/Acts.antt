@@ -1,6 +1,6 @@
 -- What the statements of a dump make of a state.
 use Rattle.std.proofs.Common.{◌≡◌, ℕ, zero, suc, ◌-◌, ◌<◌, ◌≤◌, true, false, List, [], ◌∷◌, ◌++◌, length, map, sym, ◌∙◌, ap, refl, arith, append_assoc, append-nil, ℤ, pos, unsigned_abs, IsTrue, ◌&&◌, ◌==◌, if◌then◌else◌, nat_lt, nat_le, None, Some, Result, Ok}
-use Rattle.cdl_laws.proofs.Prelude.{flat_map, list_any, position, position_or_len, int_eq, bytes_eq, false≢true, eqb-true, Decides-int_eq, bytes_eq-Decides, Att, Dim, NcType, Byte, Char, Short, Int, Ubyte, Ushort, Uint, Int64, Uint64, Version, Cdf1, Cdf2, Cdf5, has_name, has_record_dim, IsDimid, AreDimids, IsName, is_name, is_record_dim, type_word, count_limit, has_type, CdlKind, UnknownDimension, BadShape, Value, Number, Characters, Draft, add_dim, dim_len_of, add_dimid, add_var, type_of, add_att, add_constant, first_type, same_type, at_named, at_variable, in_turn, when, found, between, fits, extent_said, said_dim, AreDistinct, bytes_of_number, and_both, and_false}
+use Rattle.cdl_laws.proofs.Prelude.{flat_map, list_any, position, position_or_len, int_eq, bytes_eq, false≢true, eqb-true, Decides-int_eq, bytes_eq-Decides, Att, Dim, NcType, Byte, Char, Short, Int, Ubyte, Ushort, Uint, Int64, Uint64, Version, Cdf1, Cdf2, Cdf5, has_name, has_record_dim, IsDimid, AreDimids, IsName, is_name, is_record_dim, type_word, count_limit, has_type, CdlKind, UnknownDimension, BadShape, Value, Number, Characters, Draft, add_dim, dim_len_of, add_dimid, add_var, type_of, add_att, add_constant, first_type, same_type, at_named, at_variable, in_turn, when, found, between, has_number, extent_said, said_dim, AreDistinct, bytes_of_number, and_both, and_false}
 use Rattle.cdl_meaning.specs.State.{◌>>=◌}
 use Rattle.cdl_laws.proofs.Bools.{or_left, or_right}
 use Rattle.cdl_laws.proofs.Lists.{Each}
@@ -65,10 +65,10 @@ same_self Uint = refl
 same_self Int64 = refl
 same_self Uint64 = refl
 
-number_added : (ty : NcType) (before : List ℕ) (x : ℤ) → fits ty x ≡ true → add_constant ty before (Number (record { value = x; ty = ty })) ≡ Ok (before ++ bytes_of_number ty x)
+number_added : (ty : NcType) (before : List ℕ) (x : ℤ) → has_number ty x ≡ true → add_constant ty before (Number (record { value = x; ty = ty })) ≡ Ok (before ++ bytes_of_number ty x)
 number_added ty before x fit = rw (same_self ty) (rw (fit) refl)
 
-pub numbers_added : (ty : NcType) (before : List ℕ) (xs : List ℤ) → Each (λ x. fits ty x ≡ true) xs → in_turn (add_constant ty) before (numbers_said ty xs) ≡ Ok (before ++ numbers_bytes ty xs)
+pub numbers_added : (ty : NcType) (before : List ℕ) (xs : List ℤ) → Each (λ x. has_number ty x ≡ true) xs → in_turn (add_constant ty) before (numbers_said ty xs) ≡ Ok (before ++ numbers_bytes ty xs)
 numbers_added ty before [] fit = ap (λ bs. Ok bs) (sym (append-nil before))
 numbers_added ty before (x ∷ xs) fit =
     turn (add_constant ty) before (before ++ bytes_of_number ty x) (Number (record { value = x; ty = ty })) (numbers_said ty xs) (number_added ty before x fit.0) ∙

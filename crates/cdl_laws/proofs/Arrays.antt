@@ -1,6 +1,6 @@
 -- The array of each variable of a dataset is given back.
 use Rattle.std.proofs.Common.{◌≡◌, ℕ, zero, suc, ◌*◌, ◌<◌, Bool, true, false, List, [], ◌∷◌, length, sym, ◌∙◌, ap, refl, subst, arith, ℤ, pos, ◌&&◌, ◌==◌, not, if◌then◌else◌, nat_lt, Option, None, Some}
-use Rattle.cdl_laws.proofs.Prelude.{int_eq, false≢true, Dim, Header, Var, Version, has_values, fill_value, value_count, IsArray, IsName, numbers, is_record_var, has_records, slab_lens, product, look_of, is_char, row_len, trimmed_var, array_of, values_of, Listing, is_off, and_false, is_on}
+use Rattle.cdl_laws.proofs.Prelude.{int_eq, false≢true, Dim, Header, Var, Version, has_values, fill_value, value_count, IsArray, IsName, numbers, is_record_var, has_records, slab_lens, product, look_of, is_char, row_len, trimmed_var, array_of, listed_values, Listing, is_off, and_false, is_on}
 use Rattle.cdl_laws.proofs.DataTexts.{Gives, IsGivenBy, given_draft}
 use Rattle.cdl_laws.proofs.Given.{slab_rows, number_row_reads_back, line_reads_back, table_reads_back, array_none, array_len}
 
@@ -47,7 +47,7 @@ pub record IsBack (v : Version) (h : Header) (n width : ℕ) (var : Var) (array 
   pub o : Option Listing
   pub given : IsGivenBy (has_values h.dims n var) v h.dims (look_of h var n width) var (numbers var.ty array) o
   pub back : array_of h.dims n (given_draft var o) ≡ array
-  pub exact : is_record_var h.dims var ≡ true → length (values_of h.dims (given_draft var o)) ≡ value_count h.dims var n
+  pub exact : is_record_var h.dims var ≡ true → length (listed_values h.dims (given_draft var o)) ≡ value_count h.dims var n
 
 gives_back : (v : Version) (h : Header) (n width : ℕ) (var : Var) (array : List ℕ) → IsArray h.dims n var array → has_values h.dims n var ≡ true →
     (g : Gives v h.dims (look_of h var n width) var (numbers var.ty array)) × (array_of h.dims n (given_draft var (Some g.listing)) ≡ array) → IsBack v h n width var array

@@ -1,6 +1,6 @@
 -- The values of an attribute are read back.
 use Rattle.std.proofs.Common.{◌≡◌, ℕ, zero, suc, ◌+◌, ◌*◌, ◌/◌, ◌^◌, ◌<◌, ◌≤◌, true, false, List, [], ◌∷◌, ◌++◌, length, drop, take, map, sym, ◌∙◌, ap, refl, subst, arith, length-take, length-drop, ℤ, pos, negsuc, unsigned_abs, if◌then◌else◌, nat_le, Ok}
-use Rattle.cdl_laws.proofs.Prelude.{flat_map, mul-div_cancel, ints, take-append-drop, get_or-drop, AreBytes, Att, NcType, Byte, Char, Short, Int, Ubyte, Ushort, Uint, Int64, Uint64, Version, numbers, numbers_from, number_of, bytes_of_number, IsInRange, size_of, IsSoundAtt, att_values, number_values, joined, without_trailing_nuls, IsName, is_char, has_type, trimmed_att, HasSomeNumber, Characters, fits, in_turn, add_constant, and_both, le-leb, some_size, is_had}
+use Rattle.cdl_laws.proofs.Prelude.{flat_map, mul-div_cancel, ints, take-append-drop, get_or-drop, AreBytes, Att, NcType, Byte, Char, Short, Int, Ubyte, Ushort, Uint, Int64, Uint64, Version, numbers, numbers_from, number_of, bytes_of_number, IsInRange, size_of, IsSoundAtt, att_values, number_values, joined, without_trailing_nuls, IsName, is_char, has_type, trimmed_att, HasSomeNumber, Characters, has_number, in_turn, add_constant, and_both, le-leb, some_size, is_had}
 use Rattle.nc_base.proofs.NumberBytes.{bytes_read_back, numbers_in_range}
 use Rattle.cdl_laws.proofs.Acts.{numbers_added, chars_added}
 use Rattle.cdl_laws.proofs.Declarations.{IsListOf, chars_list, numbers_list, numbers_said, suffixed, first, others, all_bytes}
@@ -57,8 +57,8 @@ numbers_range ty zero bytes small h = tt
 numbers_range ty (suc n) bytes small h =
     (numbers_in_range ty (take (size_of ty) bytes) (take_bytes (size_of ty) bytes small) (len_take ty n bytes h), numbers_range ty n (drop (size_of ty) bytes) (drop_bytes (size_of ty) bytes small) (len_drop ty n bytes h))
 
-pub all_fit : (ty : NcType) (xs : List ℤ) → Each (IsInRange ty) xs → Each (λ x. fits ty x ≡ true) xs
-all_fit ty xs h = each_map (IsInRange ty) (λ x. fits ty x ≡ true) xs (is_had ty) h
+pub all_fit : (ty : NcType) (xs : List ℤ) → Each (IsInRange ty) xs → Each (λ x. has_number ty x ≡ true) xs
+all_fit ty xs h = each_map (IsInRange ty) (λ x. has_number ty x ≡ true) xs (is_had ty) h
 
 pub all_small : (ty : NcType) (xs : List ℤ) → Each (IsInRange ty) xs → Each (λ x. unsigned_abs x < 2 ^ 64) xs
 all_small ty xs h = each_map (IsInRange ty) (λ x. unsigned_abs x < 2 ^ 64) xs (small_is ty) h

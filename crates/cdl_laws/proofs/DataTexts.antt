@@ -1,7 +1,7 @@
 -- The data section of a dump, variable after variable.
 use Rattle.std.proofs.Common.{◌≡◌, ℕ, ◌+◌, ◌<◌, ◌≤◌, Bool, true, false, List, [], ◌∷◌, ◌++◌, length, map, sym, ◌∙◌, ap, refl, subst, append_assoc, ℤ, pos, if◌then◌else◌, Option, None, Some, Ok}
-use Rattle.cdl_laws.proofs.Prelude.{Att, Dim, Header, Var, Version, Content, whole, contents, values_before, has_values, fill_value, IsName, is_record_var, Look, look_of, is_char, variable_text, Values, trimmed_var, Value, Characters, Listed, State, Draft, Listing, Numbers, Joined, Rows, Capacity, capacity_of, act, listing_of, values_in, with_values, filled, fits}
-use Rattle.nc_base.specs.Dump.{Section, values_of}
+use Rattle.cdl_laws.proofs.Prelude.{Att, Dim, Header, Var, Version, VariableValues, whole, shown_data, with_variable, has_values, fill_value, IsName, is_record_var, Look, look_of, is_char, variable_text, Values, trimmed_var, Value, Characters, Listed, State, Draft, Listing, Numbers, Joined, Rows, Capacity, capacity_of, act, listing_of, values_in, with_values, filled, has_number}
+use Rattle.nc_base.specs.Dump.{Section, variables_section}
 use Rattle.cdl_meaning.specs.State.{◌>>=◌}
 use Rattle.cdl_laws.proofs.Lists.{Each}
 use Rattle.cdl_laws.proofs.ValueTexts.{AreSmall, value_said, numbers_listed}
@@ -34,7 +34,7 @@ pub record IsRoomFor (look : Look) (capacity : Capacity) (var : Var) (count : �
   pub wide : capacity.is_open ≡ false → count ≤ capacity.count
 
 pub gives_numbers : (v : Version) (dims : List Dim) (look : Look) (var : Var) (x : ℤ) (xs : List ℤ) → IsRoomFor look (capacity_of dims (trimmed_var var)) var (length (x ∷ xs)) → is_char look.ty ≡ false →
-    (look.in_rows ≡ false → length (x ∷ xs) ≤ look.row) → AreSmall (x ∷ xs) → Each (λ y. fits (capacity_of dims (trimmed_var var)).ty y ≡ true) (x ∷ xs) → Gives v dims look var (x ∷ xs)
+    (look.in_rows ≡ false → length (x ∷ xs) ≤ look.row) → AreSmall (x ∷ xs) → Each (λ y. has_number (capacity_of dims (trimmed_var var)).ty y ≡ true) (x ∷ xs) → Gives v dims look var (x ∷ xs)
 gives_numbers v dims look var x xs capacity ty small fit range = record {
   said = map (value_said look) (x ∷ xs);
   says = subst (λ n. Says v Values (variable_text look (x ∷ xs)) (Listed n (map (value_said look) (x ∷ xs)))) capacity.name (numbers_say v look x xs capacity.valid ty small fit);
@@ -91,13 +91,13 @@ abbrev pub IsGivenBy : Bool → Version → List Dim → Look → Var → List �
 IsGivenBy true v dims look var values o = (g : Gives v dims look var values) × (o ≡ Some g.listing)
 IsGivenBy false v dims look var values o = o ≡ None
 
-pub record IsGiven (v : Version) (h : Header) (content : ℕ → Var → Content) (n width place : ℕ) (before : List Draft) (var : Var) (o : Option Listing) : Type 0 where
+pub record IsGiven (v : Version) (h : Header) (content : ℕ → Var → VariableValues) (n width place : ℕ) (before : List Draft) (var : Var) (o : Option Listing) : Type 0 where
   pub name : IsName var.name
   pub new : no_draft var.name before
   pub all : (content place var).missing ≡ None
   pub given : IsGivenBy (has_values h.dims n var) v h.dims (look_of h var n width) var (content place var).values o
 
-abbrev pub AreGiven : Version → Header → (ℕ → Var → Content) → ℕ → ℕ → ℕ → List Draft → List Var → List (Option Listing) → Type 0
+abbrev pub AreGiven : Version → Header → (ℕ → Var → VariableValues) → ℕ → ℕ → ℕ → List Draft → List Var → List (Option Listing) → Type 0
 AreGiven v h content n width place before [] [] = Unit {0}
 AreGiven v h content n width place before [] (o ∷ os) = ⊥
 AreGiven v h content n width place before (var ∷ vars) [] = ⊥
@@ -115,10 +115,10 @@ listed_act v dims gatts before after look var values g valid new =
     (ap (λ r. r >>= (λ listing. Ok (given_draft var (Some listing)))) g.added))
 
 -- one variable before others
-one_taken : (v : Version) (h : Header) (gatts : List Att) (before after : List Draft) (look : Look) (var : Var) (c : Content) (o : Option Listing) (place : ℕ) (others : Section) (t : State) (b : Bool) →
+one_taken : (v : Version) (h : Header) (gatts : List Att) (before after : List Draft) (look : Look) (var : Var) (c : VariableValues) (o : Option Listing) (place : ℕ) (others : Section) (t : State) (b : Bool) →
     IsName var.name → no_draft var.name before → c.missing ≡ None → IsGivenBy b v h.dims look var c.values o →
     Takes v others.text (state Values h.dims gatts (before ++ given_draft var o ∷ after)) t →
-    Takes v (if b then values_before look c.values c.missing place others else others).text (state Values h.dims gatts (before ++ draft_of var ∷ after)) t
+    Takes v (if b then with_variable look c.values c.missing place others else others).text (state Values h.dims gatts (before ++ draft_of var ∷ after)) t
 one_taken v h gatts before after look var c o place others t true valid new all given more =
     rw (all) (takes_both v (variable_text look c.values) others.text (state Values h.dims gatts (before ++ draft_of var ∷ after)) (state Values h.dims gatts (before ++ given_draft var o ∷ after)) t
     (says_takes v (variable_text look c.values) (Listed var.name given.0.said) (state Values h.dims gatts (before ++ draft_of var ∷ after)) (state Values h.dims gatts (before ++ given_draft var o ∷ after)) given.0.says
@@ -127,26 +127,26 @@ one_taken v h gatts before after look var c o place others t true valid new all 
 one_taken v h gatts before after look var c o place others t false valid new all given more =
     subst (λ p. Takes v others.text (state Values h.dims gatts (before ++ given_draft var p ∷ after)) t) given more
 
-pub data_taken : (v : Version) (h : Header) (content : ℕ → Var → Content) (n width place : ℕ) (gatts : List Att) (before : List Draft) (vars : List Var) (os : List (Option Listing)) → AreGiven v h content n width place before vars os →
-    Takes v (values_of (contents h content n width) place vars (all_marked vars)).text (state Values h.dims gatts (before ++ map draft_of vars)) (state Values h.dims gatts (before ++ given_drafts vars os))
+pub data_taken : (v : Version) (h : Header) (content : ℕ → Var → VariableValues) (n width place : ℕ) (gatts : List Att) (before : List Draft) (vars : List Var) (os : List (Option Listing)) → AreGiven v h content n width place before vars os →
+    Takes v (variables_section (shown_data h content n width) place vars (all_marked vars)).text (state Values h.dims gatts (before ++ map draft_of vars)) (state Values h.dims gatts (before ++ given_drafts vars os))
 data_taken v h content n width place gatts before [] [] given = takes_nothing v (state Values h.dims gatts (before ++ []))
 data_taken v h content n width place gatts before [] (o ∷ os) given = absurd given
 data_taken v h content n width place gatts before (var ∷ vars) [] given = absurd given
 data_taken v h content n width place gatts before (var ∷ vars) (o ∷ os) given =
     let g = given.0 in
     let ih = data_taken v h content n width (place + 1) gatts (before ++ given_draft var o ∷ []) vars os given.1 in
-    let others = values_of (contents h content n width) (place + 1) vars (all_marked vars) in
+    let others = variables_section (shown_data h content n width) (place + 1) vars (all_marked vars) in
     let goal = state Values h.dims gatts (before ++ given_drafts (var ∷ vars) (o ∷ os)) in
     one_taken v h gatts before (map draft_of vars) (look_of h var n width) var (content place var) o place others goal (has_values h.dims n var) g.name g.new g.all g.given
     (subst (λ ds. Takes v others.text (state Values h.dims gatts ds) goal) (append_assoc before (given_draft var o ∷ []) (map draft_of vars))
     (subst (λ ds. Takes v others.text (state Values h.dims gatts ((before ++ given_draft var o ∷ []) ++ map draft_of vars)) (state Values h.dims gatts ds)) (append_assoc before (given_draft var o ∷ []) (given_drafts vars os)) ih))
 
 -- and the section is whole
-pub data_whole : (v : Version) (h : Header) (content : ℕ → Var → Content) (n width place : ℕ) (before : List Draft) (vars : List Var) (os : List (Option Listing)) → AreGiven v h content n width place before vars os →
-    (values_of (contents h content n width) place vars (all_marked vars)).ending ≡ whole
+pub data_whole : (v : Version) (h : Header) (content : ℕ → Var → VariableValues) (n width place : ℕ) (before : List Draft) (vars : List Var) (os : List (Option Listing)) → AreGiven v h content n width place before vars os →
+    (variables_section (shown_data h content n width) place vars (all_marked vars)).ending ≡ whole
 data_whole v h content n width place before [] os given = refl
 data_whole v h content n width place before (var ∷ vars) [] given = absurd given
 data_whole v h content n width place before (var ∷ vars) (o ∷ os) given =
-    let others = values_of (contents h content n width) (place + 1) vars (all_marked vars) in
+    let others = variables_section (shown_data h content n width) (place + 1) vars (all_marked vars) in
     let ih = data_whole v h content n width (place + 1) (before ++ given_draft var o ∷ []) vars os given.1 in
-    rw (given.0.all) (elim (has_values h.dims n var) as (λ b. (if b then values_before (look_of h var n width) (content place var).values None place others else others).ending ≡ whole) [ true ↦ ih | false ↦ ih ])
+    rw (given.0.all) (elim (has_values h.dims n var) as (λ b. (if b then with_variable (look_of h var n width) (content place var).values None place others else others).ending ≡ whole) [ true ↦ ih | false ↦ ih ])

@@ -1,6 +1,6 @@
 -- A dataset that a text can declare is read back from its full dump.
 use Rattle.std.proofs.Common.{◌≡◌, ℕ, ◌+◌, ◌*◌, ◌-◌, ◌/◌, ◌<◌, max, true, false, List, [], ◌∷◌, ◌++◌, length, map, sym, ◌∙◌, ap, refl, subst, arith, append_assoc, length-append, if◌then◌else◌, Option, slice_index_or}
-use Rattle.cdl_laws.proofs.Prelude.{mul-add-div, div-eq_of_lt, Dataset, Dim, Header, Var, Version, content_of, has_values, fill_value, value_count, AreArrays, IsName, numbers, is_record_var, slab_count, record_vars, is_char, look_of, trimmed_var, array_of, values_of, records_of, records_in, Draft, Listing}
+use Rattle.cdl_laws.proofs.Prelude.{mul-add-div, div-eq_of_lt, Dataset, Dim, Header, Var, Version, values_in_dataset, has_values, fill_value, value_count, AreArrays, IsName, numbers, is_record_var, slab_count, record_vars, is_char, look_of, trimmed_var, array_of, listed_values, records_of, records_in, Draft, Listing}
 use Rattle.cdl_laws.proofs.Arrays.{IsBack, is_back}
 use Rattle.cdl_laws.proofs.Acts.{no_draft}
 use Rattle.cdl_laws.proofs.DataTexts.{IsGivenBy, AreGiven, given_draft, given_drafts}
@@ -54,7 +54,7 @@ AreNewVars before (var ∷ vars) [] = Unit {0}
 AreNewVars before (var ∷ vars) (o ∷ os) = IsName var.name × no_draft var.name before × AreNewVars (before ++ given_draft var o ∷ []) vars os
 
 pub all_given : (v : Version) (d : Dataset) (n width place : ℕ) (before : List Draft) (vars : List Var) (arrays : List (List ℕ)) (backs : AreBack v d.header n width vars arrays) → StandAt d.arrays place arrays →
-    AreNewVars before vars (listings v d.header n width vars arrays backs) → AreGiven v d.header (content_of d) n width place before vars (listings v d.header n width vars arrays backs)
+    AreNewVars before vars (listings v d.header n width vars arrays backs) → AreGiven v d.header (values_in_dataset d) n width place before vars (listings v d.header n width vars arrays backs)
 all_given v d n width place before [] [] backs stand new = tt
 all_given v d n width place before [] (a ∷ arrays) backs stand new = absurd backs
 all_given v d n width place before (var ∷ vars) [] backs stand new = absurd backs
@@ -94,11 +94,11 @@ one_count : (v : Version) (h : Header) (n width : ℕ) (var : Var) (a : List ℕ
 one_count v h n width var a b some is =
     let len = b.exact is in
     let total : value_count h.dims var n ≡ slab_count h.dims var * n = ap (λ w. slab_count h.dims var * (if w then n else 1)) is in
-    ap (λ w. if w then (length (values_of h.dims (given_draft var b.o)) + slab_count h.dims var - 1) / slab_count h.dims var else 0) is ∙
+    ap (λ w. if w then (length (listed_values h.dims (given_draft var b.o)) + slab_count h.dims var - 1) / slab_count h.dims var else 0) is ∙
     ap (λ m. (m + slab_count h.dims var - 1) / slab_count h.dims var) (len ∙ total) ∙ counted (slab_count h.dims var) n some
 
 no_count : (h : Header) (var : Var) (o : Option Listing) → is_record_var h.dims var ≡ false → records_of h.dims (given_draft var o) ≡ 0
-no_count h var o is = ap (λ w. if w then (length (values_of h.dims (given_draft var o)) + slab_count h.dims var - 1) / slab_count h.dims var else 0) is
+no_count h var o is = ap (λ w. if w then (length (listed_values h.dims (given_draft var o)) + slab_count h.dims var - 1) / slab_count h.dims var else 0) is
 
 -- it is the dataset's, where some variable is a record variable, and 0 where none is
 data Counts (dims : List Dim) (vars : List Var) (n r : ℕ) : Type 0 where

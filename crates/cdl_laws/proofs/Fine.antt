@@ -1,6 +1,6 @@
 -- What holds of the dataset so far, of its attributes, dimensions and declarations.
 use Rattle.std.proofs.Common.{◌≡◌, ℕ, ◌+◌, ◌-◌, ◌*◌, ◌≤◌, ◌<◌, Bool, true, false, List, [], ◌∷◌, ◌++◌, length, map, sym, ◌∙◌, ap, refl, subst, arith, zero, suc, append_assoc, append-nil, ℤ, pos, negsuc, IsTrue, if◌then◌else◌, Option, None, Some, Result, Ok, Err, ◌&&◌, ◌||◌, ◌==◌, filter, nat_lt, nat_le, unsigned_abs}
-use Rattle.cdl_laws.proofs.Prelude.{false≢true, eqb-true, length-append, map-append, list_any-append, w8, w16, w32, w64, to_be_bytes, cast_unsigned, list_any, position, position_or_len, int_eq, bytes_eq, Att, Dim, NcType, Byte, Char, Short, Int, Ubyte, Ushort, Uint, Int64, Uint64, Version, Cdf1, Cdf2, Cdf5, has_name, has_record_dim, IsDimid, AreDimids, value_count, IsName, is_name, bytes_of_number, is_record_dim, size_of, is_char, count_limit, has_type, AreDistinct, Value, Number, Characters, Underscore, Dimension, Variable, Draft, in_turn, unless, when, found, between, fits, same_type, dim_len_of, add_dim, add_dimid, add_var, at_named, at_variable, add_constant, first_type, add_att, with_att, values_of, CdlKind, BadName, DuplicateName, UnknownDimension, ZeroDimension, TwoRecordDims, BadShape, MixedConstants, NumberRange, and_left, and_right, some_product, some_size, some-limit, none_before}
+use Rattle.cdl_laws.proofs.Prelude.{false≢true, eqb-true, length-append, map-append, list_any-append, w8, w16, w32, w64, to_be_bytes, cast_unsigned, list_any, position, position_or_len, int_eq, bytes_eq, Att, Dim, NcType, Byte, Char, Short, Int, Ubyte, Ushort, Uint, Int64, Uint64, Version, Cdf1, Cdf2, Cdf5, has_name, has_record_dim, IsDimid, AreDimids, value_count, IsName, is_name, bytes_of_number, is_record_dim, size_of, is_char, count_limit, has_type, AreDistinct, Value, Number, Characters, Underscore, Dimension, Variable, Draft, in_turn, unless, when, found, between, has_number, same_type, dim_len_of, add_dim, add_dimid, add_var, at_named, at_variable, add_constant, first_type, add_att, with_att, listed_values, CdlKind, BadName, DuplicateName, UnknownDimension, ZeroDimension, TwoRecordDims, BadShape, MixedConstants, NumberRange, and_left, and_right, some_product, some_size, some-limit, none_before}
 use Rattle.cdl_meaning.specs.State.{◌>>=◌}
 use Rattle.cdl_laws.proofs.Bools.{or_left, or_right}
 use Rattle.cdl_laws.proofs.Lists.{Each, each_map}
@@ -102,8 +102,8 @@ one_times n m = grind arith
 constant_step : (v : Version) (ty : NcType) (k : ℕ) (vals : List ℕ) (x : Value) → IsPart ty k vals → IsFineValue v x → OkIs (IsPart ty (k + cost x)) (add_constant ty vals x)
 constant_step v ty k vals Underscore part fine = tt
 constant_step v ty k vals (Number n) part fine =
-    ok_unless (IsPart ty (k + 1)) (same_type n.ty ty) MixedConstants (λ u. unless (fits ty n.value) NumberRange >>= (λ w. Ok (vals ++ bytes_of_number ty n.value))) (λ same.
-    ok_unless (IsPart ty (k + 1)) (fits ty n.value) NumberRange (λ w. Ok (vals ++ bytes_of_number ty n.value)) (λ fit.
+    ok_unless (IsPart ty (k + 1)) (same_type n.ty ty) MixedConstants (λ u. unless (has_number ty n.value) NumberRange >>= (λ w. Ok (vals ++ bytes_of_number ty n.value))) (λ same.
+    ok_unless (IsPart ty (k + 1)) (has_number ty n.value) NumberRange (λ w. Ok (vals ++ bytes_of_number ty n.value)) (λ fit.
     record {
       count = suc part.count;
       few = (let a = part.few in omega (arith, a));
@@ -290,7 +290,7 @@ pub record IsFineDraft (v : Version) (N n : ℕ) (dims : List Dim) (d : Draft) :
   pub atts : AreFineAtts v N n d.var.atts
   pub bare : d.var.begin_at ≡ 0
   -- no more than over N records, whatever rows are filled with
-  pub listed : (atts : List Att) → length (values_of dims (record d { var = record d.var { atts = atts } })) ≤ value_count dims d.var N
+  pub listed : (atts : List Att) → length (listed_values dims (record d { var = record d.var { atts = atts } })) ≤ value_count dims d.var N
 
 pub record AreFineDrafts (v : Version) (N n : ℕ) (dims : List Dim) (drafts : List Draft) : Type 0 where
   pub count : length drafts ≤ n

@@ -1,6 +1,6 @@
 -- The array of a variable is given back by the text of its values.
 use Rattle.std.proofs.Common.{◌≡◌, ℕ, zero, suc, ◌+◌, ◌*◌, ◌-◌, ◌<◌, ◌≤◌, Bool, true, false, List, [], ◌∷◌, ◌++◌, length, drop, take, map, sym, ◌∙◌, ap, refl, subst, arith, length-take, length-drop, ℤ, pos, negsuc, ◌&&◌, ◌==◌, not, if◌then◌else◌, nat_lt, slice_index, find, None, Some}
-use Rattle.cdl_laws.proofs.Prelude.{flat_map, int_eq, lt_of_mul-lt-mul_right, false≢true, Decides-int_eq, ints, take-append-drop, Att, Dim, Header, Var, NcType, Byte, Char, Short, Int, Ubyte, Ushort, Uint, Int64, Uint64, Version, fill_value, fill_of_att, fill_or_default, is_fill_att, value_count, IsArray, IsName, numbers, bytes_of_number, IsInRange, dim_len, has_records, is_record_var, product, slab_count, slab_lens, Look, look_of, is_char, row_len, trimmed_att, trimmed_var, capacity_of, filled, fits, values_in, array_of, and_left, is_off, is_on, look-type, length-numbers_from}
+use Rattle.cdl_laws.proofs.Prelude.{flat_map, int_eq, lt_of_mul-lt-mul_right, false≢true, Decides-int_eq, ints, take-append-drop, Att, Dim, Header, Var, NcType, Byte, Char, Short, Int, Ubyte, Ushort, Uint, Int64, Uint64, Version, fill_value, fill_of_att, fill_or_default, is_fill_att, value_count, IsArray, IsName, numbers, bytes_of_number, IsInRange, dim_len, has_records, is_record_var, product, slab_count, slab_lens, Look, look_of, is_char, row_len, trimmed_att, trimmed_var, capacity_of, filled, has_number, values_in, array_of, and_left, is_off, is_on, look-type, length-numbers_from}
 use Rattle.cdl_laws.proofs.Attributes.{numbers_back, numbers_range, all_fit, all_small, count_is}
 use Rattle.cdl_laws.proofs.Characters.{flat}
 use Rattle.cdl_laws.proofs.DataTexts.{Gives, IsRoomFor, gives_numbers, gives_table, gives_line, given_draft}
@@ -71,7 +71,7 @@ listed_numbers v h var n width [] some len range other name = absurd (omega (ari
 listed_numbers v h var n width (x ∷ xs) some len range other name =
     gives_numbers v h.dims (look_of h var n width) var x xs (room_is h var n width (length (x ∷ xs)) len name (same_fill var other)) (ap is_char (look-type h var n width) ∙ other)
     (λ e. let r = row_all h var n width e in omega (arith, r, len)) (all_small var.ty (x ∷ xs) range)
-    (subst (λ ty. Each (λ y. fits ty y ≡ true) (x ∷ xs)) (sym (room_type h.dims var)) (all_fit var.ty (x ∷ xs) range))
+    (subst (λ ty. Each (λ y. has_number ty y ≡ true) (x ∷ xs)) (sym (room_type h.dims var)) (all_fit var.ty (x ∷ xs) range))
 
 -- ---- characters at rank 0 and 1
 

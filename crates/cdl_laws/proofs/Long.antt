@@ -1,6 +1,6 @@
 -- The limit is needed: a text with an attribute of 2^31 characters has a meaning in the first version, which no file can hold.
 use Rattle.std.proofs.Common.{◌≡◌, ℕ, ◌-◌, ◌*◌, ◌^◌, ◌≤◌, ◌<◌, false, List, [], ◌∷◌, ◌++◌, length, sym, ◌∙◌, ap, refl, subst, arith, zero, suc, take, get_or, replicate, codes, None, Ok, ◌==◌, nat_lt, true}
-use Rattle.cdl_laws.proofs.Prelude.{take-length, length-replicate, get_or-replicate, suffix_len-take_no, list_all, suffix_len, is_utf8, chars, Dataset, Att, Known, Char, Cdf1, Options, shown_values, content_of, selection_of, dump_text, IsGood, without_trailing_nuls, IsName, meaning, is_small_enough, IsFull, trimmed, concat_parts, is_reserved, escaped_name, netcdf_word, global_word, number_values, char_values, att_line, att_lines, dim_lines, dims_text, vars_text, gatts_text, head_text, broken_text, data_word, closing_word, LimitIsNeeded, and_left, and_right}
+use Rattle.cdl_laws.proofs.Prelude.{take-length, length-replicate, get_or-replicate, suffix_len-take_no, list_all, suffix_len, is_utf8, chars, Dataset, Att, Known, Char, Cdf1, Options, shown_section, values_in_dataset, selection_of, dump_text, IsGood, without_trailing_nuls, IsName, meaning, is_small_enough, IsFull, trimmed, concat_parts, is_reserved, escaped_name, netcdf_word, global_word, number_values, char_values, att_line, att_lines, dim_lines, dims_text, vars_text, gatts_text, head_text, broken_text, data_word, closing_word, LimitIsNeeded, and_left, and_right}
 use lib.Utf8.{encode}
 use Rattle.nc_base.specs.Dump.{Section}
 use Rattle.cdl_laws.proofs.MeaningsAreGood.{are_bytes}
@@ -27,7 +27,7 @@ full : IsFull options
 full = record { name = a_name; values = refl; coords = refl; chosen = refl }
 
 abbrev section : ℕ → Section
-section n = shown_values (long n).header options (content_of (long n)) 0 (selection_of (long n).header options)
+section n = shown_section (long n).header options (values_in_dataset (long n)) 0 (selection_of (long n).header options)
 
 -- the text of it
 abbrev long_text : ℕ → List ℕ

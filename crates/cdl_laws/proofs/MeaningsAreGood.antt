@@ -1,6 +1,6 @@
 -- What a text means is good.
 use Rattle.std.proofs.Common.{◌≡◌, ℕ, ◌+◌, ◌-◌, ◌*◌, ◌/◌, ◌≤◌, ◌<◌, Bool, true, false, List, [], ◌∷◌, length, map, max, sym, ◌∙◌, ap, refl, subst, arith, zero, suc, ℤ, if◌then◌else◌, Option, None, Some, Result, Ok, Err, ◌||◌, find, nat_le, codes, All}
-use Rattle.cdl_laws.proofs.Prelude.{length-append, length-map, div-lt_iff_lt-mul, lt-div-mul-add, mul_comm, mul-le-mul_left, flat_map, list_all, AreBytes, Dataset, Att, Dim, Known, Var, NcType, Int, Version, Cdf1, Cdf2, Cdf5, fill_value, IsGood, IsSound, IsSoundAtt, IsSoundVar, IsSoundDim, IsArray, AreArrays, bare_var, value_count, IsName, bytes_of_number, is_record_var, record_vars, slab_count, slab_size, record_size, slab_limit, array_limit, record_limit, size_of, all_types, type_word, count_limit, has_type, MeaningsAreGood, MeaningsAreNearlySayable, IsNearlySayable, NearlyIsSayable, text_limit, Lexeme, lexeme, is_word, statements, shaped, checked, piece_read, line_of, run, empty, values_of, records_of, records_in, array_of, header_of, dataset_of, is_small, is_small_enough, closing_line, finished, meaning, AreDistinct, AreSayableAtts, HasSomeNumber, Statement, Opening, Mark, Declared, Typed, Attribute, Listed, Brace, End, shape, first_bad, State, Draft, act, add_dim, add_var, add_att, at_variable, with_att, with_values, type_of, is_word_of, found, in_turn, filled, CdlFault, CdlKind, FloatingType, UnknownType, TooLarge, Section, Token, and_left, and_right, some_count, length-numbers}
+use Rattle.cdl_laws.proofs.Prelude.{length-append, length-map, div-lt_iff_lt-mul, lt-div-mul-add, mul_comm, mul-le-mul_left, flat_map, list_all, AreBytes, Dataset, Att, Dim, Known, Var, NcType, Int, Version, Cdf1, Cdf2, Cdf5, fill_value, IsGood, IsSound, IsSoundAtt, IsSoundVar, IsSoundDim, IsArray, AreArrays, bare_var, value_count, IsName, bytes_of_number, is_record_var, record_vars, slab_count, slab_size, record_size, slab_limit, array_limit, record_limit, size_of, all_types, type_word, count_limit, has_type, MeaningsAreGood, MeaningsAreNearlySayable, IsNearlySayable, NearlyIsSayable, text_limit, Lexeme, lexeme, is_word, statements, shaped, checked, piece_read, starting_line, run, empty, listed_values, records_of, records_in, array_of, header_of, dataset_of, is_small, is_small_enough, closing_line, finished, meaning, AreDistinct, AreSayableAtts, HasSomeNumber, Statement, Opening, Mark, Declared, Typed, Attribute, Listed, Brace, End, shape, first_bad, State, Draft, act, add_dim, add_var, add_att, at_variable, with_att, with_values, type_of, is_word_of, found, in_turn, filled, CdlFault, CdlKind, FloatingType, UnknownType, TooLarge, Section, Token, and_left, and_right, some_count, length-numbers}
 use Rattle.cdl_meaning.specs.State.{◌>>=◌}
 use Rattle.cdl_laws.proofs.Lists.{Each, each_map}
 use Rattle.cdl_laws.proofs.Outcomes.{SomeIs, OkIs, ok_then, in_if, total, each_more, all_of}
@@ -118,7 +118,7 @@ run_keeps text v N n s (p ∷ ps) bytes small f =
     let e : n + m + rest ≡ n + (m + rest) = omega arith in
     let is = mass_is text p in
     elim (piece_read v s (map (lexeme text) p)) as (λ r. OkIs (IsFineState v N (n + m)) r →
-    OkIs (IsFineState v N (n + (m + rest))) (elim r as (λ x. Result State CdlFault) [ Ok u ↦ run text v u ps | Err kind ↦ Err (record { line = line_of p; kind = kind }) ])) [
+    OkIs (IsFineState v N (n + (m + rest))) (elim r as (λ x. Result State CdlFault) [ Ok u ↦ run text v u ps | Err kind ↦ Err (record { line = starting_line p; kind = kind }) ])) [
       | Ok u ↦ (λ h. subst (λ k. OkIs (IsFineState v N k) (run text v u ps)) e (run_keeps text v N (n + m) u ps bytes (omega (arith, small)) h))
       | Err kind ↦ (λ h. tt)
     ] (subst (λ k. OkIs (IsFineState v N (n + k)) (piece_read v s (map (lexeme text) p))) is
@@ -130,11 +130,11 @@ records_small : (v : Version) (N n : ℕ) (dims : List Dim) (d : Draft) → IsFi
 records_small v N n dims d f =
     let slab = slab_count dims d.var in
     let some = some_count dims d.var.dimids f.shape in
-    elim (is_record_var dims d.var) as (λ b. length (values_of dims d) ≤ slab * (if b then N else 1) → (if b then (length (values_of dims d) + slab - 1) / slab else 0) ≤ N) [
+    elim (is_record_var dims d.var) as (λ b. length (listed_values dims d) ≤ slab * (if b then N else 1) → (if b then (length (listed_values dims d) + slab - 1) / slab else 0) ≤ N) [
       | true ↦ (λ h.
           let a = one_times N slab in
           let c = mul_comm slab N in
-          let e = (div-lt_iff_lt-mul {k = slab} {x = length (values_of dims d) + slab - 1} {y = suc N} some).1 (omega (arith, a, c, h, some)) in
+          let e = (div-lt_iff_lt-mul {k = slab} {x = length (listed_values dims d) + slab - 1} {y = suc N} some).1 (omega (arith, a, c, h, some)) in
           omega (arith, e))
       | false ↦ (λ h. omega arith)
     ] (f.listed d.var.atts)
@@ -144,14 +144,14 @@ all_records_small v N n dims [] f = omega arith
 all_records_small v N n dims (d ∷ ds) f = let a = records_small v N n dims d f.0 in let b = all_records_small v N n dims ds f.1 in omega (arith, a, b)
 
 -- what is listed has capacity over the records
-listed_fits : (v : Version) (N n : ℕ) (dims : List Dim) (r : ℕ) (d : Draft) → IsFineDraft v N n dims d → records_of dims d ≤ r → length (values_of dims d) ≤ value_count dims d.var r
+listed_fits : (v : Version) (N n : ℕ) (dims : List Dim) (r : ℕ) (d : Draft) → IsFineDraft v N n dims d → records_of dims d ≤ r → length (listed_values dims d) ≤ value_count dims d.var r
 listed_fits v N n dims r d f h =
     let slab = slab_count dims d.var in
     let some = some_count dims d.var.dimids f.shape in
-    elim (is_record_var dims d.var) as (λ b. length (values_of dims d) ≤ slab * (if b then N else 1) → (if b then (length (values_of dims d) + slab - 1) / slab else 0) ≤ r → length (values_of dims d) ≤ slab * (if b then r else 1)) [
+    elim (is_record_var dims d.var) as (λ b. length (listed_values dims d) ≤ slab * (if b then N else 1) → (if b then (length (listed_values dims d) + slab - 1) / slab else 0) ≤ r → length (listed_values dims d) ≤ slab * (if b then r else 1)) [
       | true ↦ (λ l k.
-          let q = (length (values_of dims d) + slab - 1) / slab in
-          let a = lt-div-mul-add {a = length (values_of dims d) + slab - 1} {b = slab} some in
+          let q = (length (listed_values dims d) + slab - 1) / slab in
+          let a = lt-div-mul-add {a = length (listed_values dims d) + slab - 1} {b = slab} some in
           let b = mul-le-mul_left slab k in
           let c = mul_comm slab q in
           omega (arith, a, b, c, some))
@@ -188,9 +188,9 @@ each_small dims r (d ∷ ds) h =
 array_is : (v : Version) (N n : ℕ) (dims : List Dim) (r : ℕ) (d : Draft) → IsFineDraft v N n dims d → IsSmall dims r d → records_of dims d ≤ r → IsArray dims r d.var (array_of dims r d)
 array_is v N n dims r d f small h =
     let count = value_count dims d.var r in
-    let all = filled count (fill_value d.var) (values_of dims d) in
+    let all = filled count (fill_value d.var) (listed_values dims d) in
     let len : length (array_of dims r d) ≡ count * size_of d.var.ty =
-    length-numbers d.var.ty all ∙ ap (λ m. m * size_of d.var.ty) (filled_len count (fill_value d.var) (values_of dims d) (listed_fits v N n dims r d f h)) in
+    length-numbers d.var.ty all ∙ ap (λ m. m * size_of d.var.ty) (filled_len count (fill_value d.var) (listed_values dims d) (listed_fits v N n dims r d f h)) in
     record {
       bytes = are_bytes (array_of dims r d) (numbers_bytes d.var.ty all);
       whole = len;
@@ -297,7 +297,7 @@ no_records : (dims : List Dim) (ds : List Draft) → record_vars dims (map (λ (
 no_records dims [] h = refl
 no_records dims (d ∷ ds) h =
     elim (is_record_var dims d.var) as (λ b. (if b then d.var ∷ record_vars dims (map (λ (e : Draft). e.var) ds) else record_vars dims (map (λ (e : Draft). e.var) ds)) ≡ [] →
-    max (if b then (length (values_of dims d) + slab_count dims d.var - 1) / slab_count dims d.var else 0) (records_in dims ds) ≡ 0) [
+    max (if b then (length (listed_values dims d) + slab_count dims d.var - 1) / slab_count dims d.var else 0) (records_in dims ds) ≡ 0) [
       | true ↦ (λ e. absurd (let a = ap (λ (xs : List Var). length xs) e in omega (arith, a)))
       | false ↦ (λ e. let a = no_records dims ds e in omega (arith, a))
     ] h

@@ -1,6 +1,6 @@
 -- No more is listed of a variable than it has values, over as many records as the text has bytes.
 use Rattle.std.proofs.Common.{◌≡◌, ℕ, ◌+◌, ◌-◌, ◌*◌, ◌≤◌, ◌<◌, Bool, true, false, List, [], ◌∷◌, ◌++◌, length, map, replicate, sym, ◌∙◌, ap, refl, arith, zero, suc, ℤ, pos, if◌then◌else◌, Some, Result, Ok, ◌||◌, not, nat_lt, nat_le}
-use Rattle.cdl_laws.proofs.Prelude.{length-append, length-replicate, length-map, flat_map-append, mul-le-mul_right, mul_comm, mul-le-mul, Dim, Var, Version, fill_value, is_char, Value, Number, Characters, Underscore, Draft, Listing, Numbers, Joined, Rows, Capacity, capacity_of, in_turn, unless, fits, filled, add_number, add_characters, add_row, listed_by, listing_of, values_in, is_listed, with_values, CdlKind, TooManyValues, StringTooLong, DuplicateData, NumberRange, is_off, or_second, some_count}
+use Rattle.cdl_laws.proofs.Prelude.{length-append, length-replicate, length-map, flat_map-append, mul-le-mul_right, mul_comm, mul-le-mul, Dim, Var, Version, fill_value, is_char, Value, Number, Characters, Underscore, Draft, Listing, Numbers, Joined, Rows, Capacity, capacity_of, in_turn, unless, has_number, filled, add_number, add_characters, add_row, listed_by, listing_of, values_in, is_listed, with_values, CdlKind, TooManyValues, StringTooLong, DuplicateData, NumberRange, is_off, or_second, some_count}
 use Rattle.cdl_meaning.specs.State.{◌>>=◌}
 use Rattle.cdl_laws.proofs.Given.{slab_rows}
 use Rattle.cdl_laws.proofs.Outcomes.{OkIs, ok_then, ok_unless, ok_when, total, turns}
@@ -55,8 +55,8 @@ number_step capacity k before (Characters bytes) is u = tt
 number_step capacity k before Underscore is u =
     ok_unless (AreNumbers capacity (k + 1)) (capacity.is_open || nat_lt (length before) capacity.count) TooManyValues (λ u. Ok (before ++ capacity.fill ∷ [])) (λ t. single capacity k before capacity.fill is t)
 number_step capacity k before (Number n) is u =
-    ok_unless (AreNumbers capacity (k + 1)) (capacity.is_open || nat_lt (length before) capacity.count) TooManyValues (λ u. unless (fits capacity.ty n.value) NumberRange >>= (λ w. Ok (before ++ n.value ∷ []))) (λ t.
-    ok_unless (AreNumbers capacity (k + 1)) (fits capacity.ty n.value) NumberRange (λ w. Ok (before ++ n.value ∷ [])) (λ fit. single capacity k before n.value is t))
+    ok_unless (AreNumbers capacity (k + 1)) (capacity.is_open || nat_lt (length before) capacity.count) TooManyValues (λ u. unless (has_number capacity.ty n.value) NumberRange >>= (λ w. Ok (before ++ n.value ∷ []))) (λ t.
+    ok_unless (AreNumbers capacity (k + 1)) (has_number capacity.ty n.value) NumberRange (λ w. Ok (before ++ n.value ∷ [])) (λ fit. single capacity k before n.value is t))
 
 abbrev AreJoined : Capacity → ℕ → List ℕ → Type 0
 AreJoined capacity k bytes = IsRoomy capacity capacity.count 1 k (length bytes) (Joined bytes)

@@ -1,7 +1,7 @@
 -- The strings of a text stand for bytes.
 use Rattle.std.proofs.Common.{◌≡◌, ℕ, zero, suc, ◌+◌, ◌-◌, ◌<◌, Bool, true, false, List, [], ◌∷◌, length, get_or, take, drop, sym, ◌∙◌, ap, refl, subst, arith, length-take, ◌&&◌, ◌==◌, nat_lt, not, if◌then◌else◌, map, Option, None, Some, is_none, is_some}
 use Rattle.cdl_laws.proofs.Prelude.{list_all, prefix_len, is_blank, goes_on_number, inner, stands, unescape, or_zero, scan, gap, token, scan_text, scan_opening, until, word_len, begins_opening, begins_a_word, begins_number, begins_comment, raw, tokens_at, tokens, with_token, token_at, Scanned, Token, TokenKind, StandsForBytes, StringsStandForBytes, inner_of}
-use Rattle.cdl_tokens.specs.Bytes.{is_mark}
+use Rattle.cdl_tokens.specs.Bytes.{is_mark_byte}
 use Rattle.cdl_tokens.specs.declared.token.TokenKind.TheVariants as kinds
 use Rattle.cdl_laws.proofs.Lines.{tail_at}
 use Rattle.cdl_laws.proofs.Lists.{Each, all_of}
@@ -43,7 +43,7 @@ prefix_says : (fresh : Bool) (bs : List ℕ) → SaysString (drop 1 bs) (scan fr
 unfolding scan
 prefix_says fresh bs =
     let bytes = drop 1 bs in
-    let marks = if is_mark (get_or bs 0 0) then token kinds.Mark 1 else token kinds.Bad 1 in
+    let marks = if is_mark_byte (get_or bs 0 0) then token kinds.Mark 1 else token kinds.Bad 1 in
     let strings = if get_or bs 0 0 == 0x22 then scan_text bytes (until 0x22 bytes) else marks in
     let comments = if begins_comment bs then gap (prefix_len (λ b. not (b == 0x0a)) bs) else strings in
     let takes_fill = if is_blank (get_or bs 0 0) then gap 1 else comments in
@@ -55,7 +55,7 @@ prefix_says fresh bs =
     (either bytes (is_blank (get_or bs 0 0)) (gap 1) comments (λ e. cc)
     (either bytes (begins_comment bs) (gap (prefix_len (λ b. not (b == 0x0a)) bs)) strings (λ e. cc)
     (either bytes (get_or bs 0 0 == 0x22) (scan_text bytes (until 0x22 bytes)) marks (text_says bytes (until 0x22 bytes))
-    (either bytes (is_mark (get_or bs 0 0)) (token kinds.Mark 1) (token kinds.Bad 1) (λ e. cc) (λ e. cc)))))))
+    (either bytes (is_mark_byte (get_or bs 0 0)) (token kinds.Mark 1) (token kinds.Bad 1) (λ e. cc) (λ e. cc)))))))
 
 -- ---- what it stands for
 

@@ -1,7 +1,7 @@
 -- Names, strings and numbers are read back, each as one token.
 use Rattle.std.proofs.Common.{◌≡◌, ℕ, suc, ◌+◌, ◌^◌, ◌<◌, Bool, true, false, List, [], ◌∷◌, ◌++◌, length, get_or, take, drop, sym, ◌∙◌, ap, refl, subst, arith, append_assoc, length-append, append-nil, ℤ, pos, negsuc, unsigned_abs, decimal, ◌||◌, ◌==◌, nat_eq, codes, is_some}
 use Rattle.cdl_laws.proofs.Prelude.{signed_decimal, prefix_len, list_all, starts_with, flat_map, false≢true, eqb-true, decimal_nonempty, take-append-drop, get_or-drop, list_all-append, bytes_eq-Decides, take-append_seam, NcType, escaped_name, escaped_text, escaped_in_string, is_reserved, IsName, may_begin_name, may_follow_in_name, IsInRange, number_suffix, within, is_digit, is_blank, goes_on_word, goes_on_number, inner, unescape, word_len, until, scan, token, begins_opening, begins_a_word, begins_number, Word, Text, stands_for, AreToken, BlanksAndMarksStop, StopsWord, NameReadsBack, NamesReadBack, quoted, StringsReadBack, StopsNumber, ConstantsReadBack, ValuesReadBack, and_left, and_right, and_both, word_at_start, and_false}
-use Rattle.cdl_tokens.specs.Bytes.{is_mark}
+use Rattle.cdl_tokens.specs.Bytes.{is_mark_byte}
 use Rattle.cdl_tokens.specs.declared.token.TokenKind.TheVariants.{Number}
 use Rattle.cdl_laws.proofs.Attributes.{all_small, small_is}
 use Rattle.cdl_laws.proofs.Heads.{no_section}
@@ -59,7 +59,7 @@ low_stop b h = record { word = grind (arith, h); slash = grind (arith, h); numbe
 blank_stop : (b : ℕ) → is_blank b ≡ true → IsStop b
 blank_stop b h = one_of (within 0x09 0x0d b) (b == 0x20) (low_stop b) (literal b 0x20 (record { word = refl; slash = refl; number = refl })) h
 
-mark_stop : (b : ℕ) → is_mark b ≡ true → IsStop b
+mark_stop : (b : ℕ) → is_mark_byte b ≡ true → IsStop b
 mark_stop b h =
     one_of (b == 0x3a || b == 0x3b || b == 0x3d || b == 0x2c || b == 0x28 || b == 0x29) (b == 0x7d)
     (one_of (b == 0x3a || b == 0x3b || b == 0x3d || b == 0x2c || b == 0x28) (b == 0x29)
@@ -81,7 +81,7 @@ opens_stop b h = one_of (is_blank b) (b == 0x7b) (blank_stop b) (literal b 0x7b 
 
 pub blanks_and_marks_stop : BlanksAndMarksStop
 blanks_and_marks_stop b rest h =
-    let stop = one_of (is_blank b) (is_mark b) (blank_stop b) (mark_stop b) h in
+    let stop = one_of (is_blank b) (is_mark_byte b) (blank_stop b) (mark_stop b) h in
     (record { byte = stop.word; escape = rw (stop.slash) refl }, stop.number)
 
 -- ---- names

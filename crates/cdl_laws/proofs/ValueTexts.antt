@@ -1,6 +1,6 @@
 -- The listed numbers of a variable are read back, wherever the breaks are.
 use Rattle.std.proofs.Common.{◌≡◌, ℕ, ◌+◌, ◌^◌, ◌<◌, ◌≤◌, Bool, true, false, List, [], ◌∷◌, ◌++◌, length, map, sym, ◌∙◌, ap, refl, subst, arith, append_assoc, append-nil, length-append, ℤ, unsigned_abs, ◌&&◌, ◌||◌, ◌==◌, not, if◌then◌else◌, nat_lt, Some, Result, Ok, codes}
-use Rattle.cdl_laws.proofs.Prelude.{signed_decimal, flat_map, list_all, int_eq, mod-eq_of_lt, zero-mod, false≢true, Decides-int_eq, concat_parts, escaped_name, Int, Version, IsName, Look, is_char, number_text, number_lead, line_break, begins_row, column, number_piece, piece, pieces, opening, closing, variable_prefix, variable_text, CdlKind, Lexeme, is_mark, lexemes_at, scan, Value, Number, Underscore, members_in, members, each, both, constant, constants, Capacity, Numbers, add_number, fits, in_turn, listing_of, and_left, and_right, and_both, is_off, word_at_start, lt-ltb}
+use Rattle.cdl_laws.proofs.Prelude.{signed_decimal, flat_map, list_all, int_eq, mod-eq_of_lt, zero-mod, false≢true, Decides-int_eq, concat_parts, escaped_name, Int, Version, IsName, Look, is_char, number_text, number_lead, line_break, begins_row, column, number_piece, piece, pieces, opening, closing, variable_prefix, variable_text, CdlKind, Lexeme, is_mark, lexemes_at, scan, Value, Number, Underscore, members_in, members, each, both, constant, constants, Capacity, Numbers, add_number, has_number, in_turn, listing_of, and_left, and_right, and_both, is_off, word_at_start, lt-ltb}
 use Rattle.cdl_meaning.specs.State.{◌>>=◌}
 use Rattle.cdl_laws.proofs.Lists.{Each}
 use Rattle.cdl_laws.proofs.Texts.{Closed, Reads, Stops, closed_both, then_reads, closed_by, reads_both, closed_nothing, mark, word, number, name_word, word_reads, stop_word}
@@ -257,7 +257,7 @@ pub room_for : (is_open : Bool) (m n : ℕ) → (is_open ≡ false → m < n) �
 room_for true m n h = refl
 room_for false m n h = lt-ltb m n (h refl)
 
-one_added : (look : Look) (capacity : Capacity) (before : List ℤ) (x : ℤ) → capacity.fill ≡ look.fill → (capacity.is_open ≡ false → length before < capacity.count) → fits capacity.ty x ≡ true →
+one_added : (look : Look) (capacity : Capacity) (before : List ℤ) (x : ℤ) → capacity.fill ≡ look.fill → (capacity.is_open ≡ false → length before < capacity.count) → has_number capacity.ty x ≡ true →
     add_number capacity before (value_said look x) ≡ Ok (before ++ x ∷ [])
 one_added look capacity before x same wide fit =
     elim (is_fill_value look x) as (λ b. is_fill_value look x ≡ b → add_number capacity before (if b then Underscore else Number (record { value = x; ty = Int })) ≡ Ok (before ++ x ∷ [])) [
@@ -265,7 +265,7 @@ one_added look capacity before x same wide fit =
       | false ↦ (λ e. rw (room_for capacity.is_open (length before) capacity.count wide) (rw (fit) refl))
     ] refl
 
-all_added : (look : Look) (capacity : Capacity) (before xs : List ℤ) → capacity.fill ≡ look.fill → (capacity.is_open ≡ false → length before + length xs ≤ capacity.count) → Each (λ x. fits capacity.ty x ≡ true) xs →
+all_added : (look : Look) (capacity : Capacity) (before xs : List ℤ) → capacity.fill ≡ look.fill → (capacity.is_open ≡ false → length before + length xs ≤ capacity.count) → Each (λ x. has_number capacity.ty x ≡ true) xs →
     in_turn (add_number capacity) before (map (value_said look) xs) ≡ Ok (before ++ xs)
 all_added look capacity before [] same wide fit = ap Ok (sym (append-nil before))
 all_added look capacity before (x ∷ xs) same wide fit =
@@ -273,7 +273,7 @@ all_added look capacity before (x ∷ xs) same wide fit =
     turn (add_number capacity) before (before ++ x ∷ []) (value_said look x) (map (value_said look) xs) (one_added look capacity before x same (λ e. let f = wide e in omega (arith, f)) fit.0) ∙
     (all_added look capacity (before ++ x ∷ []) xs same (λ e. let f = wide e in omega (arith, f, len)) fit.1 ∙ ap Ok (append_assoc before (x ∷ []) xs))
 
-pub numbers_listed : (look : Look) (capacity : Capacity) (xs : List ℤ) → is_char capacity.ty ≡ false → capacity.fill ≡ look.fill → (capacity.is_open ≡ false → length xs ≤ capacity.count) → Each (λ x. fits capacity.ty x ≡ true) xs →
+pub numbers_listed : (look : Look) (capacity : Capacity) (xs : List ℤ) → is_char capacity.ty ≡ false → capacity.fill ≡ look.fill → (capacity.is_open ≡ false → length xs ≤ capacity.count) → Each (λ x. has_number capacity.ty x ≡ true) xs →
     listing_of capacity (map (value_said look) xs) ≡ Ok (Numbers xs)
 unfolding listing_of
 numbers_listed look capacity xs h same wide fit = rw (h) (ap (λ values. values >>= (λ ys. Ok (Numbers ys))) (all_added look capacity [] xs same (λ e. let f = wide e in omega (arith, f)) fit))

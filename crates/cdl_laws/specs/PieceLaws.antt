@@ -2,7 +2,7 @@
 use Rattle.std.specs.Prelude.{◌≡◌, ℕ, ℤ, pos, ◌==◌, if◌then◌else◌, true, List, [], ◌∷◌, ◌++◌, All, map, codes, slice_get, Option, None, Some, Ok}
 use Rattle.nc_base.specs.Bytes.{concat_parts}
 use Rattle.nc_base.specs.declared.{dataset.Dataset.Dataset, header.Att.Att, header.Dim.Dim, header.NumRecs.TheVariants.Known, header.Var.Var, version.Version.Version}
-use Rattle.nc_base.specs.Dump.{content_of, has_values}
+use Rattle.nc_base.specs.Dump.{values_in_dataset, has_values}
 use Rattle.nc_base.specs.Escapes.{escaped_name}
 use Rattle.nc_base.specs.HeadText.{netcdf_word, dimensions_word, variables_word, global_word, dim_line, shape_text, var_lines, att_line, att_lines}
 use Rattle.nc_base.specs.Names.{IsName}
@@ -133,4 +133,4 @@ GlobalAttributesReadBack = (d : Dataset) (section : Section) → IsSayable d →
 abbrev pub DataReadsBack : Type 0
 DataReadsBack = (d : Dataset) (records width place : ℕ) (var : Var) → IsSayable d
     → d.header.numrecs ≡ Known records → slice_get d.header.vars place ≡ Some var → has_values d.header.dims records var ≡ true
-    → (values : List Value) × IsStatement d.header.version Values (variable_text (look_of d.header var records width) (content_of d place var).values) (Listed var.name values)
+    → (values : List Value) × IsStatement d.header.version Values (variable_text (look_of d.header var records width) (values_in_dataset d place var).values) (Listed var.name values)

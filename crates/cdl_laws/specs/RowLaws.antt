@@ -1,7 +1,7 @@
 -- Law. The values that the text of a variable lists give its array.
 use Rattle.std.specs.Prelude.{◌≡◌, ℕ, true, false, List, [], length, slice_get, slice_index_or, Some, Ok}
 use Rattle.nc_base.specs.declared.{dataset.Dataset.Dataset, header.NumRecs.TheVariants.Known, header.Var.Var}
-use Rattle.nc_base.specs.Dump.{content_of, has_values}
+use Rattle.nc_base.specs.Dump.{values_in_dataset, has_values}
 use Rattle.nc_base.specs.Headers.{value_count}
 use Rattle.nc_base.specs.Sayable.{IsSayable}
 use Rattle.nc_base.specs.Sizes.{is_record_var}
@@ -17,7 +17,7 @@ use Rattle.cdl_laws.specs.PieceLaws.{IsStatement}
 -- its records, so that their number gives the number of records.
 pub record RowReadsBack (d : Dataset) (records width place : ℕ) (var : Var) : Type 0 where
   pub values : List Value
-  pub statement : IsStatement d.header.version Values (variable_text (look_of d.header var records width) (content_of d place var).values) (Listed var.name values)
+  pub statement : IsStatement d.header.version Values (variable_text (look_of d.header var records width) (values_in_dataset d place var).values) (Listed var.name values)
   pub listing : Listing
   pub added : listing_of (capacity_of d.header.dims var) values ≡ Ok listing
   pub array : array_of d.header.dims records (record { var = var; listed = Some listing }) ≡ slice_index_or d.arrays place []

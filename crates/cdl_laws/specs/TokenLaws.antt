@@ -8,7 +8,7 @@ use Rattle.nc_base.specs.Numbers.{IsInRange}
 use Rattle.nc_base.specs.Types.{number_suffix}
 use Rattle.nc_base.specs.ValueText.{is_char}
 use Rattle.nc_base.specs.Versions.{has_type}
-use Rattle.cdl_tokens.specs.Bytes.{is_blank, is_mark, goes_on_word, goes_on_number, is_escape}
+use Rattle.cdl_tokens.specs.Bytes.{is_blank, is_mark_byte, goes_on_word, goes_on_number, is_escape}
 use Rattle.cdl_tokens.specs.Escapes.{inner, stands, unescape, word_value}
 use Rattle.cdl_tokens.specs.Scan.{scan, token}
 use Rattle.cdl_statements.specs.Lexemes.{name_of}
@@ -65,7 +65,7 @@ StopsNumber rest = goes_on_number (slice_index rest 0) ≡ false
 
 -- White space and a mark end a word and a number. After each name and each number of a dump comes one of the two.
 abbrev pub BlanksAndMarksStop : Type 0
-BlanksAndMarksStop = (b : ℕ) (rest : List ℕ) → (is_blank b || is_mark b) ≡ true → StopsWord (b ∷ rest) × StopsNumber (b ∷ rest)
+BlanksAndMarksStop = (b : ℕ) (rest : List ℕ) → (is_blank b || is_mark_byte b) ≡ true → StopsWord (b ∷ rest) × StopsNumber (b ∷ rest)
 
 -- these bytes are one number token, which says this number of this type
 pub record ReadsAsNumber (version : Version) (bytes : List ℕ) (number : ℤ) (ty : NcType) : Type 0 where

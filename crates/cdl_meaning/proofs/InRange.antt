@@ -3,10 +3,10 @@ use Rattle.std.proofs.Common.{◌≡◌, ℤ, true, rules}
 use Rattle.nc_base.specs.declared.nc_type.NcType.{NcType}
 use Rattle.nc_base.specs.declared.nc_type.NcType.TheVariants.{Byte, Char, Short, Int, Ubyte, Ushort, Uint, Int64, Uint64}
 use Rattle.nc_base.specs.Numbers.{IsInRange}
-use Rattle.cdl_meaning.specs.State.{fits}
+use Rattle.cdl_meaning.specs.State.{has_number}
 
-pub has_it : (ty : NcType) (n : ℤ) → fits ty n ≡ true → IsInRange ty n
-unfolding fits
+pub has_it : (ty : NcType) (n : ℤ) → has_number ty n ≡ true → IsInRange ty n
+unfolding has_number
 has_it Byte n h = search rules
 has_it Char n h = search rules
 has_it Short n h = search rules
@@ -17,8 +17,8 @@ has_it Uint n h = search rules
 has_it Int64 n h = search rules
 has_it Uint64 n h = search rules
 
-pub is_had : (ty : NcType) (n : ℤ) → IsInRange ty n → fits ty n ≡ true
-unfolding fits
+pub is_had : (ty : NcType) (n : ℤ) → IsInRange ty n → has_number ty n ≡ true
+unfolding has_number
 is_had Byte n h = search rules
 is_had Char n h = search rules
 is_had Short n h = search rules

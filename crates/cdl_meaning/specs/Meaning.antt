@@ -36,9 +36,9 @@ unfoldable pub piece_read : Version → State → List Lexeme → Result State C
 piece_read v s piece = checked v s (first_bad v piece) piece
 
 -- the line of its first token
-abbrev pub line_of : List Token → ℕ
-line_of [] = 0
-line_of (t ∷ ts) = t.line
+abbrev pub starting_line : List Token → ℕ
+starting_line [] = 0
+starting_line (t ∷ ts) = t.line
 
 -- the first bad statement decides
 unfoldable pub run : List ℕ → Version → State → List (List Token) → Result State CdlFault
@@ -46,7 +46,7 @@ run text v s [] = Ok s
 run text v s (p ∷ ps) =
     elim (piece_read v s (map (lexeme text) p)) [
       | Ok t ↦ run text v t ps
-      | Err kind ↦ Err (record { line = line_of p; kind = kind })
+      | Err kind ↦ Err (record { line = starting_line p; kind = kind })
     ]
 
 abbrev pub empty : State
@@ -55,13 +55,13 @@ empty = record { section = Unopened; dims = []; gatts = []; drafts = [] }
 -- ---- arrays
 
 -- the numbers that are listed of a variable
-abbrev pub values_of : List Dim → Draft → List ℤ
-values_of dims d = elim d.listed [ None ↦ [] | Some listing ↦ values_in (capacity_of dims d.var) listing ]
+abbrev pub listed_values : List Dim → Draft → List ℤ
+listed_values dims d = elim d.listed [ None ↦ [] | Some listing ↦ values_in (capacity_of dims d.var) listing ]
 
 -- how many records hold the values of a variable
 abbrev pub records_of : List Dim → Draft → ℕ
 records_of dims d =
-    if is_record_var dims d.var then (length (values_of dims d) + slab_count dims d.var - 1) / slab_count dims d.var else 0
+    if is_record_var dims d.var then (length (listed_values dims d) + slab_count dims d.var - 1) / slab_count dims d.var else 0
 
 -- how many hold those of all
 abbrev pub records_in : List Dim → List Draft → ℕ
@@ -70,7 +70,7 @@ records_in dims (d ∷ ds) = max (records_of dims d) (records_in dims ds)
 
 -- the array of a variable over n records: its values, filled up with the fill value
 abbrev pub array_of : List Dim → ℕ → Draft → List ℕ
-array_of dims n d = flat_map (bytes_of_number d.var.ty) (filled (value_count dims d.var n) (fill_value d.var) (values_of dims d))
+array_of dims n d = flat_map (bytes_of_number d.var.ty) (filled (value_count dims d.var n) (fill_value d.var) (listed_values dims d))
 
 abbrev pub header_of : Version → State → Header
 header_of v s = record {
@@ -96,7 +96,7 @@ is_small_enough v s = list_all (is_small s.dims (records_in s.dims s.drafts)) s.
 abbrev pub closing_line : List (List Token) → ℕ
 closing_line [] = 0
 closing_line (p ∷ []) = 0
-closing_line (p ∷ q ∷ []) = line_of p
+closing_line (p ∷ q ∷ []) = starting_line p
 closing_line (p ∷ q ∷ r ∷ ps) = closing_line (q ∷ r ∷ ps)
 
 unfoldable pub finished : Version → ℕ → Result State CdlFault → Result Dataset CdlFault

@@ -69,8 +69,8 @@ abbrev pub between : ℤ → ℤ → ℤ → Bool
 between low high n = int_le low n && int_le n high
 
 -- the type has the number (`IsInRange`, as a `Bool`)
-unfoldable pub fits : NcType → ℤ → Bool
-fits ty n =
+unfoldable pub has_number : NcType → ℤ → Bool
+has_number ty n =
     if is_signed ty then between (neg_ℤ (pos (2 ^ hbits (width_of ty)))) (pos (2 ^ hbits (width_of ty) - 1)) n
     else between (pos 0) (pos (2 ^ bits (width_of ty) - 1)) n
 
@@ -150,7 +150,7 @@ type_said Underscore = Char
 abbrev pub add_constant : NcType → List ℕ → Value → Result (List ℕ) CdlKind
 add_constant ty vals (Number n) = do
   _ ← unless (same_type n.ty ty) MixedConstants
-  _ ← unless (fits ty n.value) NumberRange
+  _ ← unless (has_number ty n.value) NumberRange
   Ok (vals ++ bytes_of_number ty n.value)
 add_constant ty vals (Characters bytes) = do
   _ ← unless (same_type Char ty) MixedConstants
@@ -213,7 +213,7 @@ add_number capacity before Underscore = do
   Ok (before ++ capacity.fill ∷ [])
 add_number capacity before (Number n) = do
   _ ← unless (capacity.is_open || nat_lt (length before) capacity.count) TooManyValues
-  _ ← unless (fits capacity.ty n.value) NumberRange
+  _ ← unless (has_number capacity.ty n.value) NumberRange
   Ok (before ++ n.value ∷ [])
 
 abbrev pub add_characters : Capacity → List ℕ → Value → Result (List ℕ) CdlKind

@@ -1,13 +1,13 @@
 -- The line of the last statement but one, a statement at a time.
 use Rattle.std.proofs.Common.{◌≡◌, ℕ, ◌<◌, true, false, List, [], ◌∷◌, length, map, refl, sym, ap, arith}
-use Rattle.cdl_parse.proofs.Prelude.{after, first_line, first_piece, is_done, next_token, other_pieces, pieces_left, text_of, words, Lexeme, lexeme, pieces_after, Cutter, Token, closing_line, line_of}
+use Rattle.cdl_parse.proofs.Prelude.{after, first_line, first_piece, is_done, next_token, other_pieces, pieces_left, text_of, words, Lexeme, lexeme, pieces_after, Cutter, Token, closing_line, starting_line}
 use Rattle.cdl_parse.proofs.StatementWords.{begins}
 use Rattle.cdl_parse.proofs.Runs.{line_is}
 
 -- after two pieces with these lines
 abbrev pub closing_from : ℕ → ℕ → List (List Token) → ℕ
 closing_from before last [] = before
-closing_from before last (p ∷ ps) = closing_from last (line_of p) ps
+closing_from before last (p ∷ ps) = closing_from last (starting_line p) ps
 
 pub from_start : (ps : List (List Token)) → closing_from 0 0 ps ≡ closing_line ps
 from_start [] = refl

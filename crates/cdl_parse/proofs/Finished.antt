@@ -1,6 +1,6 @@
 -- What a text declares is the dataset that it means.
 use Rattle.std.proofs.Common.{◌≡◌, ℕ, ◌-◌, ◌*◌, subst, Bool, true, false, List, [], ◌∷◌, ◌++◌, length, map, refl, sym, ap, ◌∙◌, replicate, ◌&&◌, if◌then◌else◌, nat_le, Option, None, Some, Ok, is_some}
-use Rattle.cdl_parse.proofs.Prelude.{filter, list_all, Att, Dim, Header, Known, Var, Version, fill_value, value_count, bytes_of_number, checked_record_size, has_small_slab, record_limit, record_size, array_limit, is_record_var, array_of, dataset_of, finished, header_of, is_small, is_small_enough, records_in, values_of, AllList, AreShaped, records_kept, fills, whole_array, whole_arrays, Draft, State, dataset_of_declared, or_too_large, Declared, and_left}
+use Rattle.cdl_parse.proofs.Prelude.{filter, list_all, Att, Dim, Header, Known, Var, Version, fill_value, value_count, bytes_of_number, checked_record_size, has_small_slab, record_limit, record_size, array_limit, is_record_var, array_of, dataset_of, finished, header_of, is_small, is_small_enough, records_in, listed_values, AllList, AreShaped, records_kept, fills, whole_array, whole_arrays, Draft, State, dataset_of_declared, or_too_large, Declared, and_left}
 use Rattle.std.proofs.lemmas.Grind.{flat_map-append}
 use Rattle.cdl_parse.proofs.SizeLimits.{all_are, all_small, has_small, listed_count, listed_of, var_of, widest_in}
 
@@ -31,7 +31,7 @@ record_checked v s small =
 
 whole_is : (dims : List Dim) (n : ℕ) (d : Draft) → array_of dims n d ≡ whole_array dims n d.var (listed_of dims d)
 whole_is dims n d =
-    flat_map-append (bytes_of_number d.var.ty) (values_of dims d) (replicate (value_count dims d.var n - length (values_of dims d)) (fill_value d.var)) ∙
+    flat_map-append (bytes_of_number d.var.ty) (listed_values dims d) (replicate (value_count dims d.var n - length (listed_values dims d)) (fill_value d.var)) ∙
     ap (λ k. listed_of dims d ++ fills d.var (value_count dims d.var n - k)) (sym (listed_count dims d))
 
 all_whole : (dims : List Dim) (n : ℕ) (drafts : List Draft) → map (array_of dims n) drafts ≡ whole_arrays dims n (map var_of drafts) (map (listed_of dims) drafts)

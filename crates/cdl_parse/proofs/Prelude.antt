@@ -1,5 +1,5 @@
 -- The names that proofs of this crate cite from elsewhere, passed on from one place.
-pub use Rattle.cdl_meaning.specs.Meaning.{array_of, checked, closing_line, dataset_of, empty, header_of, is_small, line_of, meaning, records_in, shaped, values_of}
+pub use Rattle.cdl_meaning.specs.Meaning.{array_of, checked, closing_line, dataset_of, empty, header_of, is_small, starting_line, meaning, records_in, shaped, listed_values}
 unfoldable pub use Rattle.cdl_meaning.specs.Meaning.{finished, is_small_enough, piece_read, run}
 pub use Rattle.cdl_meaning.specs.State.{Draft, Listing, State, add_constant, at_named, dim_len_of, first_type, found, in_turn, is_listed, type_said, unless, values_in, when, with_att, with_values}
 unfoldable pub use Rattle.cdl_meaning.specs.State.{act, add_att, add_dim, add_dimid, add_var, at_variable, capacity_of, listing_of, type_of}

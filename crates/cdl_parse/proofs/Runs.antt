@@ -1,9 +1,9 @@
 -- A run over statements, one statement on.
 use Rattle.std.proofs.Common.{◌≡◌, ℕ, true, false, List, [], ◌∷◌, refl, sym, ap, Result, Ok, Err, map}
-use Rattle.cdl_parse.proofs.Prelude.{Version, after, first_line, first_piece, is_done, other_pieces, next_token, pieces_left, text_of, words, Lexeme, lexeme, pieces_after, Cutter, CdlKind, Token, line_of, piece_read, run, State, FailsRead, ReadError, OutOfMemory, Fault, FailsAt, at_line, run_after}
+use Rattle.cdl_parse.proofs.Prelude.{Version, after, first_line, first_piece, is_done, other_pieces, next_token, pieces_left, text_of, words, Lexeme, lexeme, pieces_after, Cutter, CdlKind, Token, starting_line, piece_read, run, State, FailsRead, ReadError, OutOfMemory, Fault, FailsAt, at_line, run_after}
 use Rattle.cdl_parse.proofs.StatementWords.{begins}
 
-pub line_is : (p : List Token) (ps : List (List Token)) → first_line (p ∷ ps) ≡ line_of p
+pub line_is : (p : List Token) (ps : List (List Token)) → first_line (p ∷ ps) ≡ starting_line p
 line_is [] ps = refl
 line_is (t ∷ ts) ps = refl
 
@@ -16,7 +16,7 @@ run_pieces : (text : List ℕ) (v : Version) (s : State) (all : List (List Token
     run text v s all ≡ run_after text v (first_line all) (other_pieces all) (piece_read v s (map (lexeme text) (first_piece all)))
 unfolding run
 run_pieces text v s [] l ls is = cc
-run_pieces text v s (p ∷ ps) l ls is = with_line text v ps (piece_read v s (map (lexeme text) p)) (line_of p) (first_line (p ∷ ps)) (sym (line_is p ps))
+run_pieces text v s (p ∷ ps) l ls is = with_line text v ps (piece_read v s (map (lexeme text) p)) (starting_line p) (first_line (p ∷ ps)) (sym (line_is p ps))
 
 -- the first statement decides, or the others after it
 pub run_first : (v : Version) (s : State) (c : Cutter) → is_done c ≡ false → run (text_of c) v s (pieces_left c) ≡ run_after (text_of c) v (first_line (pieces_left c)) (after c) (piece_read v s (words c))

@@ -1,6 +1,6 @@
 -- What is listed keeps its limits where its slabs, its records and the header do.
 use Rattle.std.proofs.Common.{◌≡◌, ℕ, zero, suc, ◌+◌, ◌*◌, ◌/◌, ◌<◌, ◌≤◌, Bool, true, false, List, [], ◌∷◌, length, map, refl, sym, ap, ◌∙◌, arith, subst, All, ◌&&◌, if◌then◌else◌, max, nat_le, Option, None, Some}
-use Rattle.cdl_parse.proofs.Prelude.{flat_map, list_all, All-cons, All-head, All-nil, All-tail, Dim, Var, AreDimids, bytes_of_number, is_record_var, slab_count, slab_size, slab_limit, array_limit, is_small, records_in, values_of, Draft, AllList, AreShaped, records_for, records_kept, records_within, with_all, Extent, le-leb, some_count, some_product, length-numbers}
+use Rattle.cdl_parse.proofs.Prelude.{flat_map, list_all, All-cons, All-head, All-nil, All-tail, Dim, Var, AreDimids, bytes_of_number, is_record_var, slab_count, slab_size, slab_limit, array_limit, is_small, records_in, listed_values, Draft, AllList, AreShaped, records_for, records_kept, records_within, with_all, Extent, le-leb, some_count, some_product, length-numbers}
 use Rattle.std.proofs.Math.Nat.{mul-div_cancel, mul-le-mul_left, mul_comm, mul_right_comm}
 use Rattle.nc_base.specs.Types.{size_of}
 use Rattle.nc_base.proofs.SoundLaws.{some_size}
@@ -13,7 +13,7 @@ abbrev pub var_of : Draft → Var
 var_of d = d.var
 
 abbrev pub listed_of : List Dim → Draft → List ℕ
-listed_of dims d = flat_map (bytes_of_number d.var.ty) (values_of dims d)
+listed_of dims d = flat_map (bytes_of_number d.var.ty) (listed_values dims d)
 
 pub all_are : (dims : List Dim) (vars : List Var) (arrays : List (List ℕ)) (drafts : List Draft) → AllList dims vars arrays drafts → (vars ≡ map var_of drafts) × (arrays ≡ map (listed_of dims) drafts)
 all_are dims [] [] [] h = (refl, refl)
@@ -24,7 +24,7 @@ all_are dims (var ∷ vars) (array ∷ arrays) [] h = absurd h
 all_are dims (var ∷ vars) (array ∷ arrays) (d ∷ drafts) h =
     let others = all_are dims vars arrays drafts h.1 in (
       ap (λ v. v ∷ vars) (sym h.0.is) ∙ ap (λ vs. d.var ∷ vs) others.0,
-      ap (λ a. a ∷ arrays) (h.0.bytes ∙ ap (λ (v : Var). flat_map (bytes_of_number v.ty) (values_of dims d)) (sym h.0.is)) ∙ ap (λ rest. listed_of dims d ∷ rest) others.1,
+      ap (λ a. a ∷ arrays) (h.0.bytes ∙ ap (λ (v : Var). flat_map (bytes_of_number v.ty) (listed_values dims d)) (sym h.0.is)) ∙ ap (λ rest. listed_of dims d ∷ rest) others.1,
     )
 
 pub one-each : (dims : List Dim) (vars : List Var) (arrays : List (List ℕ)) (drafts : List Draft) → AllList dims vars arrays drafts → length arrays ≡ length vars
@@ -35,8 +35,8 @@ one-each dims (var ∷ vars) [] drafts h = absurd h
 one-each dims (var ∷ vars) (array ∷ arrays) [] h = absurd h
 one-each dims (var ∷ vars) (array ∷ arrays) (d ∷ drafts) h = ap suc (one-each dims vars arrays drafts h.1)
 
-pub listed_count : (dims : List Dim) (d : Draft) → length (listed_of dims d) / size_of d.var.ty ≡ length (values_of dims d)
-listed_count dims d = ap (λ n. n / size_of d.var.ty) (length-numbers d.var.ty (values_of dims d)) ∙ mul-div_cancel (length (values_of dims d)) (some_size d.var.ty)
+pub listed_count : (dims : List Dim) (d : Draft) → length (listed_of dims d) / size_of d.var.ty ≡ length (listed_values dims d)
+listed_count dims d = ap (λ n. n / size_of d.var.ty) (length-numbers d.var.ty (listed_values dims d)) ∙ mul-div_cancel (length (listed_values dims d)) (some_size d.var.ty)
 
 -- ---- over all variables
 
@@ -74,7 +74,7 @@ with_all_is dims (d ∷ drafts) e =
     by (has_small dims d) (is_record_var dims d.var) (with_all_is dims drafts)
   where
     n : ℕ
-    n = records_for (slab_count dims d.var) (length (values_of dims d))
+    n = records_for (slab_count dims d.var) (length (listed_values dims d))
 
     w : ℕ
     w = slab_size dims d.var
@@ -161,7 +161,7 @@ some_wide dims (d ∷ drafts) shaped some =
     slab : 0 < slab_size dims d.var
     slab = some_product (slab_count dims d.var) (size_of d.var.ty) (some_count dims d.var.dimids (All-head (λ (e : Draft). AreDimids dims [] e.var.dimids) d drafts shaped)) (some_size d.var.ty)
 
-    by : (growing : Bool) → (0 < records_in dims drafts → 0 < widest_in dims drafts) → 0 < max (if growing then records_for (slab_count dims d.var) (length (values_of dims d)) else 0) (records_in dims drafts) →
+    by : (growing : Bool) → (0 < records_in dims drafts → 0 < widest_in dims drafts) → 0 < max (if growing then records_for (slab_count dims d.var) (length (listed_values dims d)) else 0) (records_in dims drafts) →
         0 < max (if growing then slab_size dims d.var else 0) (widest_in dims drafts)
     by true more h = omega (arith, slab)
     by false more h =

@@ -1,6 +1,6 @@
 -- Marks and numbers at the start of bytes: they are no other token, and have no line feed.
 use Rattle.std.proofs.Common.{◌≡◌, ℕ, zero, suc, ◌+◌, ◌<◌, ◌≤◌, Bool, true, false, cond, List, [], ◌∷◌, length, get_or, drop, take, sym, ◌∙◌, ap, refl, arith, subst, ◌==◌, ◌&&◌, ◌||◌, count_by, Some, length-drop}
-use Rattle.cdl_tokens.proofs.Prelude.{prefix_len, Number, Mark, begins_word, goes_on_number, is_mark, is_blank, is_digit, is_sign, scan, token, gap, begins_number, begins_opening, get_or-drop, sum_by-append, false≢true, TokenKind, is_token, followed, tokens_at, line_at}
+use Rattle.cdl_tokens.proofs.Prelude.{prefix_len, Number, Mark, begins_word, goes_on_number, is_mark_byte, is_blank, is_digit, is_sign, scan, token, gap, begins_number, begins_opening, get_or-drop, sum_by-append, false≢true, TokenKind, is_token, followed, tokens_at, line_at}
 use Rattle.cdl_tokens.proofs.Scans.{step_gap, step_token, line_more}
 use Rattle.cdl_tokens.proofs.Words.{and_false}
 
@@ -16,7 +16,7 @@ at_byte : (P : ℕ → Type 0) (k b : ℕ) → P k → (b == k) ≡ true → P b
 at_byte P k b p h = subst P (let e : k ≡ b = grind (arith, h) in e) p
 
 -- what each mark has
-each_mark : (P : ℕ → Type 0) (b : ℕ) → P 0x3a → P 0x3b → P 0x3d → P 0x2c → P 0x28 → P 0x29 → P 0x7d → is_mark b ≡ true → P b
+each_mark : (P : ℕ → Type 0) (b : ℕ) → P 0x3a → P 0x3b → P 0x3d → P 0x2c → P 0x28 → P 0x29 → P 0x7d → is_mark_byte b ≡ true → P b
 each_mark P b colon semicolon equals comma left right brace h =
     or_split (b == 0x3a || b == 0x3b || b == 0x3d || b == 0x2c || b == 0x28 || b == 0x29) (b == 0x7d) h (λ h.
     or_split (b == 0x3a || b == 0x3b || b == 0x3d || b == 0x2c || b == 0x28) (b == 0x29) h (λ h.
@@ -29,7 +29,7 @@ each_mark P b colon semicolon equals comma left right brace h =
 abbrev MarkClasses : ℕ → Type 0
 MarkClasses b = ((b == 0x6e) ≡ false) × (begins_word b ≡ false) × ((b == 0x5c) ≡ false) × (is_digit b ≡ false) × ((b == 0x2e) ≡ false) × (is_sign b ≡ false) × (is_blank b ≡ false) × ((b == 0x2f) ≡ false) × ((b == 0x22) ≡ false) × ((b == 0x0a) ≡ false)
 
-mark_classes : (b : ℕ) → is_mark b ≡ true → MarkClasses b
+mark_classes : (b : ℕ) → is_mark_byte b ≡ true → MarkClasses b
 mark_classes b h = each_mark MarkClasses b
     (refl, refl, refl, refl, refl, refl, refl, refl, refl, refl)
     (refl, refl, refl, refl, refl, refl, refl, refl, refl, refl)
@@ -41,7 +41,7 @@ mark_classes b h = each_mark MarkClasses b
     h
 
 -- a mark
-pub scan_mark : (at_start : Bool) (bs : List ℕ) → is_mark (get_or bs 0 0) ≡ true → scan at_start bs ≡ token Mark 1
+pub scan_mark : (at_start : Bool) (bs : List ℕ) → is_mark_byte (get_or bs 0 0) ≡ true → scan at_start bs ≡ token Mark 1
 unfolding scan
 scan_mark at_start bs h =
     let (netcdf, word, escape, digit, point, sign, blank, slash, quote, feed) = mark_classes (get_or bs 0 0) h in
@@ -103,7 +103,7 @@ number_flat (b ∷ bs) h =
     let n = prefix_len goes_on_number bs in
     ap (λ m. count_by (λ b. b == 0x0a) (take m (b ∷ bs))) (let e : 1 + n ≡ suc n = omega arith in e) ∙ feeds_on b (take n bs) other ∙ digits_flat bs
 
-pub mark_flat : (bs : List ℕ) → is_mark (get_or bs 0 0) ≡ true → count_by (λ b. b == 0x0a) (take 1 bs) ≡ 0
+pub mark_flat : (bs : List ℕ) → is_mark_byte (get_or bs 0 0) ≡ true → count_by (λ b. b == 0x0a) (take 1 bs) ≡ 0
 mark_flat [] h = refl
 mark_flat (b ∷ bs) h =
     let (netcdf, word, escape, digit, point, sign, blank, slash, quote, feed) = mark_classes b h in
@@ -125,10 +125,10 @@ inside_at (b ∷ bs) zero h = omega arith
 inside_at (b ∷ bs) (suc at) h = let e = inside_at bs at h in omega (arith, e)
 
 pub comma_at : (text : List ℕ) (at_start : Bool) (at : ℕ) → get_or text at 0 ≡ 0x2c → scan at_start (drop at text) ≡ token Mark 1
-comma_at text at_start at h = scan_mark at_start (drop at text) (ap is_mark (here_dropped text at ∙ h))
+comma_at text at_start at h = scan_mark at_start (drop at text) (ap is_mark_byte (here_dropped text at ∙ h))
 
 pub comma_flat : (text : List ℕ) (at : ℕ) → get_or text at 0 ≡ 0x2c → count_by (λ b. b == 0x0a) (take 1 (drop at text)) ≡ 0
-comma_flat text at h = mark_flat (drop at text) (ap is_mark (here_dropped text at ∙ h))
+comma_flat text at h = mark_flat (drop at text) (ap is_mark_byte (here_dropped text at ∙ h))
 
 pub past_blank : (text : List ℕ) (at_start : Bool) (at : ℕ) → at < length text → is_blank (get_or text at 0) ≡ true → tokens_at text at_start at 0 (drop at text) ≡ tokens_at text at_start (at + 1) 0 (drop (at + 1) text)
 past_blank text at_start at inside h =

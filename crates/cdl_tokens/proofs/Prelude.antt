@@ -1,5 +1,5 @@
 -- The names that proofs of this crate cite from elsewhere, passed on from one place.
-pub use Rattle.cdl_tokens.specs.Bytes.{begins_word, digit_value, goes_on_number, goes_on_word, is_blank, is_digit, is_escape, is_mark, is_sign, number_in}
+pub use Rattle.cdl_tokens.specs.Bytes.{begins_word, digit_value, goes_on_number, goes_on_word, is_blank, is_digit, is_escape, is_mark_byte, is_sign, number_in}
 pub use Rattle.cdl_tokens.specs.Escapes.{inner, stands, unescape}
 unfoldable pub use Rattle.cdl_tokens.specs.Escapes.{character, unescape_at, word_value}
 pub use Rattle.cdl_tokens.specs.Numerals.{unsigned}

@@ -1,7 +1,7 @@
 -- Definition. What stands at the start of bytes: a gap or a token, and how many bytes it has. A place past the end counts as a 0 byte.
 use Rattle.std.specs.Prelude.{ℕ, Bool, List, [], ◌∷◌, ◌+◌, ◌&&◌, ◌||◌, ◌==◌, nat_lt, nat_eq, not, if◌then◌else◌, slice_index, take, drop, length, codes, None, Some, is_some}
 use Rattle.std.specs.List.{list_all, prefix_len, starts_with}
-use Rattle.cdl_tokens.specs.Bytes.{is_blank, is_digit, begins_word, goes_on_word, goes_on_number, is_sign, is_mark, is_escape}
+use Rattle.cdl_tokens.specs.Bytes.{is_blank, is_digit, begins_word, goes_on_word, goes_on_number, is_sign, is_mark_byte, is_escape}
 use Rattle.cdl_tokens.specs.Escapes.{unescape}
 use Rattle.cdl_tokens.specs.declared.{scan.Scanned.Scanned, token.TokenKind.TokenKind}
 use Rattle.cdl_tokens.specs.declared.token.TokenKind.TheVariants.{Opening, Word, Number, Text, Mark, Bad}
@@ -64,5 +64,5 @@ scan at_start bs =
     else (if is_blank (slice_index bs 0) then gap 1
     else (if begins_comment bs then gap (prefix_len (λ b. not (b == 0x0a)) bs)
     else (if slice_index bs 0 == 0x22 then scan_text (drop 1 bs) (until 0x22 (drop 1 bs))
-    else (if is_mark (slice_index bs 0) then token Mark 1
+    else (if is_mark_byte (slice_index bs 0) then token Mark 1
     else token Bad 1))))))

@@ -1,7 +1,7 @@
 //! The classes of bytes.
 
 ghost use Rattle.std.specs.Prelude.{◌≡◌, ◌≤◌, length, slice_index, take};
-ghost use Rattle.cdl_tokens.specs.Bytes.{begins_word, goes_on_number, goes_on_word, is_blank, is_digit, is_escape, is_hex, is_letter, is_mark, is_octal, is_sign};
+ghost use Rattle.cdl_tokens.specs.Bytes.{begins_word, goes_on_number, goes_on_word, is_blank, is_digit, is_escape, is_hex, is_letter, is_mark_byte, is_octal, is_sign};
 
 /// Returns the byte at an offset, or 0 if there is none.
 pub fn byte_at(bytes: &[u8], at: usize) -> u8
@@ -67,7 +67,7 @@ pub fn is_sign(b: u8) -> bool
 
 /// Returns true if the byte is a token by itself: one of `: ; = , ( ) }`.
 pub fn is_mark(b: u8) -> bool
-    ensures { result ≡ is_mark b }
+    ensures { result ≡ is_mark_byte b }
 {
     matches!(b, b':' | b';' | b'=' | b',' | b'(' | b')' | b'}')
 }

@@ -1,7 +1,7 @@
 -- The bytes of an attribute's constants.
 use Rattle.std.proofs.Common.{◌≡◌, ℕ, zero, suc, ◌-◌, ◌<◌, Bool, true, false, List, [], ◌∷◌, ◌++◌, length, take, drop, refl, sym, ap, ◌∙◌, append_assoc, arith, pos, Option, None, Some, Result, Ok, Err, nat_lt, ◌==◌, slice_index, map, if◌then◌else◌}
 use Rattle.std.specs.Prelude.{⊤}
-use Rattle.cdl_values.proofs.Prelude.{bytes_of_number, NcType, Char, Version, value_of, values, Lexeme, TokenKind, take_while, is_octal, is_hex, number_in, byte, character, escape, inner, number_escape, plain_escape, stands, unescape_at, or_zero, word, held, Parts, number, Value, Number, Characters, CdlKind, NumberRange, add_constant, fits, in_turn, same_type, type_said, unless, Adds, ContinuesRead, Leaves, char_bytes, held_bytes, joined, number_bytes, text_bytes, ReadError, OutOfMemory, Fault, plain_small}
+use Rattle.cdl_values.proofs.Prelude.{bytes_of_number, NcType, Char, Version, value_of, values, Lexeme, TokenKind, take_while, is_octal, is_hex, number_in, byte, character, escape, inner, number_escape, plain_escape, stands, unescape_at, or_zero, word, held, Parts, number, Value, Number, Characters, CdlKind, NumberRange, add_constant, has_number, in_turn, same_type, type_said, unless, Adds, ContinuesRead, Leaves, char_bytes, held_bytes, joined, number_bytes, text_bytes, ReadError, OutOfMemory, Fault, plain_small}
 use Rattle.cdl_tokens.specs.declared.token.TokenKind.TheVariants as kinds
 use Rattle.cdl_tokens.specs.declared.scan.Character.{Character}
 use Rattle.cdl_tokens.specs.declared.numeral.Numeral.{Numeral as Held}
@@ -23,8 +23,8 @@ none_left f bytes v = refl
 -- ---- numbers
 
 range_first : (ty : NcType) (before : List ℕ) (p : Parts) →
-    (unless (fits ty (number p).value) NumberRange >>= (λ u. Ok (before ++ bytes_of_number ty (number p).value))) ≡ joined (Ok before) (number_bytes ty (number p).value)
-range_first ty before p = by (fits ty (number p).value)
+    (unless (has_number ty (number p).value) NumberRange >>= (λ u. Ok (before ++ bytes_of_number ty (number p).value))) ≡ joined (Ok before) (number_bytes ty (number p).value)
+range_first ty before p = by (has_number ty (number p).value)
   where
     by : (b : Bool) → (unless b NumberRange >>= (λ u. Ok (before ++ bytes_of_number ty (number p).value))) ≡ joined (Ok before) (if b then Ok (bytes_of_number ty (number p).value) else Err NumberRange)
     by true = refl

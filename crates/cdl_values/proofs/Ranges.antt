@@ -1,6 +1,6 @@
 -- A number as it is held is in a type's range where the number is.
 use Rattle.std.proofs.Common.{◌≡◌, ℕ, zero, suc, ◌≤◌, ℤ, Bool, true, false, refl, sym, ap, ◌∙◌, arith, rules, Option, None, Some, Ok, Err, nat_lt, nat_le, if◌then◌else◌, option_map, List, is_none}
-use Rattle.cdl_values.proofs.Prelude.{NcType, Byte, Char, Short, Int, Ubyte, Ushort, Uint, Int64, Uint64, parts_or_zero, Parts, parts, numeral, signed, number, Version, word, held, Number, token_fault, NumberRange, BadNumber, bytes_of_number, fits, greatest, number_bytes, held_bytes, joined, value_bytes}
+use Rattle.cdl_values.proofs.Prelude.{NcType, Byte, Char, Short, Int, Ubyte, Ushort, Uint, Int64, Uint64, parts_or_zero, Parts, parts, numeral, signed, number, Version, word, held, Number, token_fault, NumberRange, BadNumber, bytes_of_number, has_number, greatest, number_bytes, held_bytes, joined, value_bytes}
 use Rattle.cdl_tokens.specs.declared.token.TokenKind.TheVariants as kinds
 use Rattle.cdl_tokens.specs.declared.numeral.Numeral.{Numeral as Held}
 
@@ -24,8 +24,8 @@ greatest_word Int64 false = search rules
 greatest_word Uint64 true = search rules
 greatest_word Uint64 false = search rules
 
-in_range : (ty : NcType) (minus : Bool) (m : ℕ) → fits ty (signed minus m) ≡ nat_le m (greatest ty minus)
-unfolding fits
+in_range : (ty : NcType) (minus : Bool) (m : ℕ) → has_number ty (signed minus m) ≡ nat_le m (greatest ty minus)
+unfolding has_number
 in_range Byte false m = refl
 in_range Byte true zero = refl
 in_range Byte true (suc n) = grind arith

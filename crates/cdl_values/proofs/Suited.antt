@@ -1,7 +1,7 @@
 -- Targets that suit a state's drafts: the premises of the data section's reader can be met.
 use Rattle.std.proofs.Common.{List, [], ◌∷◌, refl, false, rules, ◌^◌, ◌-◌, codes, Some, None, pos, neg_ℤ}
 use Rattle.nc_base.specs.Fill.{fill_value}
-use Rattle.cdl_values.proofs.Prelude.{Dim, Int, Char, Draft, capacity_of, fits, AllSuit, Target, Fill, Numbers, Joined, Rows}
+use Rattle.cdl_values.proofs.Prelude.{Dim, Int, Char, Draft, capacity_of, has_number, AllSuit, Target, Fill, Numbers, Joined, Rows}
 
 dims : List Dim
 dims = record { name = codes "n"; len = 2 } ∷ record { name = codes "k"; len = 3 } ∷ record { name = codes "w"; len = 2 ^ 40 } ∷ []
@@ -15,7 +15,7 @@ drafts =
 
 -- the default fill value
 int_fill : Fill
-unfolding fits
+unfolding has_number
 int_fill = record { ty = Int; value = neg_ℤ (pos 2147483647); in_range = search rules }
 
 targets : List Target

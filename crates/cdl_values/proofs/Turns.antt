@@ -1,6 +1,6 @@
 -- The values of a statement one by one: their bytes are the bytes of what the state lists.
 use Rattle.std.proofs.Common.{◌≡◌, ℕ, zero, suc, ◌+◌, ◌-◌, ℤ, Bool, true, false, List, [], ◌∷◌, ◌++◌, length, map, refl, sym, ap, ◌∙◌, arith, append-nil, length-append, rules, subst, pos, Option, None, Some, Result, Ok, Err, ◌||◌, not, nat_lt, nat_le, replicate}
-use Rattle.cdl_values.proofs.Prelude.{flat_map, flat_map-append, map-append, NcType, Char, bytes_of_number, is_char, Value, Number, Characters, Underscore, CdlKind, TooManyValues, NumberRange, StringTooLong, WrongKind, Capacity, Listing, add_number, add_characters, add_row, in_turn, listed_by, listing_of, values_in, fits, filled, Fills, positions_in, as_bytes, packed, followed_by, joined, bytes_of, capacity_after, is_full, is_past, capacity_minus, char_bytes, Fill, Filling, length-map}
+use Rattle.cdl_values.proofs.Prelude.{flat_map, flat_map-append, map-append, NcType, Char, bytes_of_number, is_char, Value, Number, Characters, Underscore, CdlKind, TooManyValues, NumberRange, StringTooLong, WrongKind, Capacity, Listing, add_number, add_characters, add_row, in_turn, listed_by, listing_of, values_in, has_number, filled, Fills, positions_in, as_bytes, packed, followed_by, joined, bytes_of, capacity_after, is_full, is_past, capacity_minus, char_bytes, Fill, Filling, length-map}
 use Rattle.cdl_meaning.specs.State.{Numbers, Joined, Rows, ◌>>=◌}
 use Rattle.cdl_values.specs.declared.filling.Filling.TheVariants as fillings
 use Rattle.cdl_values.proofs.PackedTokens.{joined_assoc, joined_none, chars_len}
@@ -60,19 +60,19 @@ number_step fill r h capacity before Underscore left = by (is_full capacity) ref
         let is = capacity_is capacity r.is_open r.count (length before) left ∙ ap not off in
         puts (r.fill ∷ []) (rw (is) refl) (rw (off) (ap Ok (ap (bytes_of_number fill.ty) (sym h.2) ∙ ap (λ t. bytes_of_number t r.fill) (sym h.0) ∙ sym (append-nil (bytes_of_number r.ty r.fill)))))
         (left_less capacity r.is_open r.count before r.fill off left)
-number_step fill r h capacity before (Number n) left = by (is_full capacity) (fits r.ty n.value) refl refl
+number_step fill r h capacity before (Number n) left = by (is_full capacity) (has_number r.ty n.value) refl refl
   where
-    by : (full fit : Bool) → is_full capacity ≡ full → fits r.ty n.value ≡ fit → Step (fillings.Numbers fill) r (add_number r) Numbers r.count capacity before (Number n)
+    by : (full fit : Bool) → is_full capacity ≡ full → has_number r.ty n.value ≡ fit → Step (fillings.Numbers fill) r (add_number r) Numbers r.count capacity before (Number n)
     by true fit on is-fit =
         let is = capacity_is capacity r.is_open r.count (length before) left ∙ ap not on in
         wrong TooManyValues (rw (is) refl) (rw (on) refl)
     by false false off is-fit =
         let is = capacity_is capacity r.is_open r.count (length before) left ∙ ap not off in
-        wrong NumberRange (rw (is) (rw (is-fit) refl)) (rw (off) (rw (sym (ap (λ t. fits t n.value) h.0) ∙ is-fit) refl))
+        wrong NumberRange (rw (is) (rw (is-fit) refl)) (rw (off) (rw (sym (ap (λ t. has_number t n.value) h.0) ∙ is-fit) refl))
     by false true off is-fit =
         let is = capacity_is capacity r.is_open r.count (length before) left ∙ ap not off in
         puts (n.value ∷ []) (rw (is) (rw (is-fit) refl))
-        (rw (off) (rw (sym (ap (λ t. fits t n.value) h.0) ∙ is-fit) (ap Ok (ap (λ t. bytes_of_number t n.value) (sym h.0) ∙ sym (append-nil (bytes_of_number r.ty n.value))))))
+        (rw (off) (rw (sym (ap (λ t. has_number t n.value) h.0) ∙ is-fit) (ap Ok (ap (λ t. bytes_of_number t n.value) (sym h.0) ∙ sym (append-nil (bytes_of_number r.ty n.value))))))
         (left_less capacity r.is_open r.count before n.value off left)
 
 number_steps : (fill : Fill) (r : Capacity) → Fills (fillings.Numbers fill) r → Steps (fillings.Numbers fill) r (add_number r) Numbers r.count

@@ -1,7 +1,7 @@
 //! The number that `_` stands for.
 
 ghost use Rattle.std.specs.Prelude.{◌≡◌, true};
-ghost use Rattle.cdl_meaning.specs.State.{fits};
+ghost use Rattle.cdl_meaning.specs.State.{has_number};
 
 use nc_base::NcType;
 
@@ -12,7 +12,7 @@ pub struct Fill {
     pub ty: NcType,
     /// The fill value, which is in the range of the type.
     pub value: i128,
-    pub ghost in_range: { fits ty value ≡ true },
+    pub ghost in_range: { has_number ty value ≡ true },
 }
 
 impl Fill {

@@ -5,9 +5,9 @@ use Rattle.cli_base.specs.declared.fault.OptFault.{OptFault}
 use Rattle.cli_base.specs.declared.fault.OptFault.TheVariants.{OutOfMemory, Usage}
 
 -- what is asked for, if the words have no fault
-abbrev pub unless : {A : Type 0} → Kinds → Option A → Option A
-unless [] asked = asked
-unless (kind ∷ kinds) asked = None
+abbrev pub if_faultless : {A : Type 0} → Kinds → Option A → Option A
+if_faultless [] asked = asked
+if_faultless (kind ∷ kinds) asked = None
 
 -- The options are those that the words ask for, or the fault is usage because they ask for nothing. Out of memory says nothing.
 -- `asked_for`: what a program's options ask for.

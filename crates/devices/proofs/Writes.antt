@@ -4,7 +4,7 @@ use Rattle.std.proofs.lemmas.List.{append-nil, take-append-drop, length-take, le
 use Rattle.std.proofs.lemmas.Bool.{OnTrue_at, OnTrue_from}
 use Rattle.nc_base.specs.Bytes.{concat_parts}
 use Rattle.devices.specs.Failures.{HasFailed}
-use Rattle.devices.specs.Sinks.{SinkView, append, count, IsPrefix, IsPrefixIf, IsCut, StoppedShort, AcceptedSome, is_transparent, Appended, FailedPartway}
+use Rattle.devices.specs.Sinks.{SinkView, append, taken_len, IsPrefix, IsPrefixIf, IsCut, StoppedShort, AcceptedSome, is_transparent, Appended, FailedPartway}
 
 pub append-++ : (s : SinkView) (a b : List ℕ) → append s (a ++ b) ≡ append (append s a) b
 unfolding append
@@ -33,8 +33,8 @@ pub cut-append : (u s : SinkView) (a : List ℕ) → IsCut u s → IsCut u (appe
 unfolding append IsCut
 cut-append u s a cut = prefix_append u.taken s.taken a cut
 
-pub count-append : (s : SinkView) (a : List ℕ) → count s ≤ count (append s a)
-unfolding append count
+pub count-append : (s : SinkView) (a : List ℕ) → taken_len s ≤ taken_len (append s a)
+unfolding append taken_len
 count-append s a = elim s.taken as (λ t. length (unwrap_or t []) ≤ length (unwrap_or (option_map (λ prefix. prefix ++ a) t) [])) [ None ↦ omega arith | Some bytes ↦ omega (arith, length-append bytes a) ]
 
 pub transparent-append : (s : SinkView) (a : List ℕ) → is_transparent (append s a) ≡ is_transparent s
@@ -63,7 +63,7 @@ appended_partway s t u a b c first partway = record {
       let whole : append (append t b) c ≡ append s (a ++ (b ++ c)) = ap (λ (v : SinkView). append (append v b) c) e ∙ sym (append-++ (append s a) b c) ∙ sym (append-++ s a (b ++ c)) in
       record {
         cut = subst (IsCut u) whole (cut-append u (append t b) c f.cut);
-        no_less = omega (arith, f.no_less, count-append s a, ap (λ (v : SinkView). count v) e);
+        no_less = omega (arith, f.no_less, count-append s a, ap (λ (v : SinkView). taken_len v) e);
       });
 }
 

@@ -39,7 +39,7 @@ pub record HandedOver (old new : ReaderView) (before following : List ℕ) (n : 
   pub ended : n ≡ 0 → 0 < length before → new.is_ended ≡ true
 
 -- it has failed, and handed over nothing
-pub record Failed (old new : ReaderView) : Type 0 where
+pub record NoneHandedOver (old new : ReaderView) : Type 0 where
   pub failures : HasFailed old.failures new.failures
   pub no_fewer_reads : old.reads ≤ new.reads
   pub reads : new.reads ≤ old.reads + 1
@@ -49,7 +49,7 @@ pub record Failed (old new : ReaderView) : Type 0 where
 -- what a read has done
 abbrev pub Reads : {E : Type 0} → ReaderView → ReaderView → List ℕ → List ℕ → Result ℕ E → Type 0
 Reads old new before following (Ok n) = HandedOver old new before following n
-Reads old new before following (Err failure) = Failed old new
+Reads old new before following (Err failure) = NoneHandedOver old new
 
 -- what a read of a reader has done, given what is still to come of readers of its type
 abbrev pub ReadsNext : {R E : Type 0} → (R → Option (List ℕ)) → CountedRead R → CountedRead R → List ℕ → List ℕ → Result ℕ E → Type 0

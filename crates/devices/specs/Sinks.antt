@@ -17,8 +17,8 @@ unfoldable pub append : SinkView → List ℕ → SinkView
 append v bytes = record { taken = option_map (λ prefix. prefix ++ bytes) v.taken; failures = v.failures }
 
 -- the number of bytes that it has taken, where it is transparent
-unfoldable pub count : SinkView → ℕ
-count v = length (unwrap_or v.taken [])
+unfoldable pub taken_len : SinkView → ℕ
+taken_len v = length (unwrap_or v.taken [])
 
 -- the list begins with the prefix
 pub record IsPrefix (prefix whole : List ℕ) : Type 0 where
@@ -38,7 +38,7 @@ IsCut now wanted = IsPrefixIf now.taken wanted.taken
 -- it stopped on the way from old to wanted: it has taken a prefix of what it was to take, and no less than before
 pub record StoppedShort (old new wanted : SinkView) : Type 0 where
   pub cut : IsCut new wanted
-  pub no_less : count old ≤ count new
+  pub no_less : taken_len old ≤ taken_len new
 
 -- it is transparent
 unfoldable pub is_transparent : SinkView → Bool

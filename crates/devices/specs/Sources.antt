@@ -27,18 +27,18 @@ abbrev pub AreFrom : ℕ → ℕ → List ℕ → List ℕ → Type 0
 AreFrom at n file bytes = take n bytes ≡ take n (drop at file)
 
 -- n bytes more are read
-abbrev pub after : SourceView → ℕ → SourceView
-after s n = record s { handed = s.handed + n }
+abbrev pub having_read : SourceView → ℕ → SourceView
+having_read s n = record s { handed = s.handed + n }
 
 -- it has read n bytes from this offset on, which stand at the start now, and at least one where it is transparent
 pub record BytesRead (is_transparent : Bool) (old new : SourceView) (at : ℕ) (into : List ℕ) (n : ℕ) : Type 0 where
   pub within : n ≤ length into
-  pub same : new ≡ after old n
+  pub same : new ≡ having_read old n
   pub bytes : OnTrue is_transparent (take n into ≡ take n (drop at old.bytes))
   pub some : OnTrue is_transparent (0 < n)
 
 -- it has failed, and nothing was read
-pub record Failed (old new : SourceView) : Type 0 where
+pub record NoneRead (old new : SourceView) : Type 0 where
   pub bytes : new.bytes ≡ old.bytes
   pub handed : new.handed ≡ old.handed
   pub failures : HasFailed old.failures new.failures
@@ -46,4 +46,4 @@ pub record Failed (old new : SourceView) : Type 0 where
 -- what a read has done
 abbrev pub ReadSome : {E : Type 0} → Bool → SourceView → SourceView → ℕ → List ℕ → Result ℕ E → Type 0
 ReadSome is_transparent old new at into (Ok n) = BytesRead is_transparent old new at into n
-ReadSome is_transparent old new at into (Err failure) = Failed old new
+ReadSome is_transparent old new at into (Err failure) = NoneRead old new

@@ -1,7 +1,7 @@
 -- The names that proofs of this crate cite from elsewhere, passed on from one place.
 pub use Rattle.nc_base.specs.Bytes.{AreBytes, padding_len}
 unfoldable pub use Rattle.nc_base.specs.Bytes.{concat_parts}
-pub use Rattle.nc_base.specs.Dump.{Content, Ending, IsDump, IsFirstUnknown, IsFirstUnknownOf, IsText, KnowsChosen, Options, Section, content_in, content_of, contents, dump_text, has_values, has_variable, is_selected, selection_of, shown, shown_values, stopped, unknown, values_before, values_of}
+pub use Rattle.nc_base.specs.Dump.{VariableValues, Ending, IsDump, IsFirstUnknown, IsFirstUnknownOf, IsText, KnowsChosen, Options, Section, values_in_file, values_in_dataset, shown_data, dump_text, has_values, has_variable, is_selected, selection_of, shown, shown_section, stopped, unknown, with_variable, variables_section}
 unfoldable pub use Rattle.nc_base.specs.Dump.{closing_word, data_word}
 unfoldable pub use Rattle.nc_base.specs.Escapes.{escaped_name, escaped_text, is_reserved}
 unfoldable pub use Rattle.nc_base.specs.Fill.{fill_value}

@@ -92,45 +92,45 @@ abbrev pub no_section : Section
 no_section = record { text = []; ending = whole }
 
 -- the values of a variable, and the number of the first one that is missing
-pub record Content : Type 0 where
+pub record VariableValues : Type 0 where
   pub values : List ℤ
   pub missing : Option ℕ
 
 -- what a file with these bytes has of a variable over n records, whatever its place
-abbrev pub content_in : Header → List ℕ → ℕ → ℕ → Var → Content
-content_in h bytes n v var = record { values = stored_values h bytes var n; missing = first_missing h bytes var n }
+abbrev pub values_in_file : Header → List ℕ → ℕ → ℕ → Var → VariableValues
+values_in_file h bytes n v var = record { values = stored_values h bytes var n; missing = first_missing h bytes var n }
 
 -- what a dataset has of the variable in place v
-abbrev pub content_of : Dataset → ℕ → Var → Content
-content_of d v var = record { values = numbers var.ty (slice_index_or d.arrays v []); missing = None }
+abbrev pub values_in_dataset : Dataset → ℕ → Var → VariableValues
+values_in_dataset d v var = record { values = numbers var.ty (slice_index_or d.arrays v []); missing = None }
 
 -- The text of the variable in place v, and the section after it; or, if value k is missing, its opening and the values before,
 -- and nothing after them.
-abbrev pub values_before : Look → List ℤ → Option ℕ → ℕ → Section → Section
-values_before look values None v others = record { text = variable_text look values ++ others.text; ending = others.ending }
-values_before look values (Some k) v others = record { text = variable_prefix look (take k values); ending = data_truncated v k }
+abbrev pub with_variable : Look → List ℤ → Option ℕ → ℕ → Section → Section
+with_variable look values None v others = record { text = variable_text look values ++ others.text; ending = others.ending }
+with_variable look values (Some k) v others = record { text = variable_prefix look (take k values); ending = data_truncated v k }
 
 -- what the variables of a header have, over n records, and the width of the lines that show it
-pub record Contents : Type 0 where
+pub record ShownData : Type 0 where
   pub header : Header
-  pub content : ℕ → Var → Content
+  pub content : ℕ → Var → VariableValues
   pub records : ℕ
   pub width : ℕ
 
-abbrev pub contents : Header → (ℕ → Var → Content) → ℕ → ℕ → Contents
-contents h content n width = record { header = h; content = content; records = n; width = width }
+abbrev pub shown_data : Header → (ℕ → Var → VariableValues) → ℕ → ℕ → ShownData
+shown_data h content n width = record { header = h; content = content; records = n; width = width }
 
 -- The values of the marked ones of these variables. The first variable has index v. A variable that has no values has no text.
-abbrev pub values_of : Contents → ℕ → List Var → List Bool → Section
-values_of c v (var ∷ vars) (mark ∷ marks) =
+abbrev pub variables_section : ShownData → ℕ → List Var → List Bool → Section
+variables_section c v (var ∷ vars) (mark ∷ marks) =
     if mark && has_values c.header.dims c.records var
-    then values_before (look_of c.header var c.records c.width) (c.content v var).values (c.content v var).missing v (values_of c (v + 1) vars marks)
-    else values_of c (v + 1) vars marks
-values_of c v vars marks = no_section
+    then with_variable (look_of c.header var c.records c.width) (c.content v var).values (c.content v var).missing v (variables_section c (v + 1) vars marks)
+    else variables_section c (v + 1) vars marks
+variables_section c v vars marks = no_section
 
 -- the same of all variables, or of none if the header alone is shown
-abbrev pub shown_values : Header → Options → (ℕ → Var → Content) → ℕ → List Bool → Section
-shown_values h o content n marks = values_of (contents h content n o.width) 0 h.vars (if o.head_only then [] else marks)
+abbrev pub shown_section : Header → Options → (ℕ → Var → VariableValues) → ℕ → List Bool → Section
+shown_section h o content n marks = variables_section (shown_data h content n o.width) 0 h.vars (if o.head_only then [] else marks)
 
 -- what comes before the values: nothing if there are no variables, or if the header alone is shown
 unfoldable pub data_word : Header → Options → List ℕ
@@ -155,7 +155,7 @@ pub data IsDump (bytes : List ℕ) (o : Options) : List ℕ → Ending → Type 
       → SpellsHeader bytes h rest → IsFirstUnknownOf h o.chosen index → IsDump bytes o [] (no_such_variable index)
   shown : (h : Header) (rest : List ℕ) (n : ℕ) (section : Section)
       → SpellsHeader bytes h rest → KnowsChosen h o.chosen
-      → n ≡ record_count h (length bytes) → section ≡ shown_values h o (content_in h bytes n) n (selection_of h o)
+      → n ≡ record_count h (length bytes) → section ≡ shown_section h o (values_in_file h bytes n) n (selection_of h o)
       → IsDump bytes o (dump_text h o n section) section.ending
 
 -- The text of a dataset: nothing, and the place of the first chosen name that no variable has; or the head and the values.
@@ -163,5 +163,5 @@ pub data IsText (d : Dataset) (o : Options) : List ℕ → Ending → Type 0 whe
   unknown : (index : ℕ) → IsFirstUnknownOf d.header o.chosen index → IsText d o [] (no_such_variable index)
   shown : (n : ℕ) (section : Section)
       → KnowsChosen d.header o.chosen → d.header.numrecs ≡ Known n
-      → section ≡ shown_values d.header o (content_of d) n (selection_of d.header o)
+      → section ≡ shown_section d.header o (values_in_dataset d) n (selection_of d.header o)
       → IsText d o (dump_text d.header o n section) section.ending

@@ -1,6 +1,6 @@
 -- Values of one slab, and then more of the next ones.
 use Rattle.std.proofs.Common.{◌≡◌, ℕ, ◌+◌, ◌-◌, ◌*◌, ◌^◌, ◌<◌, ◌≤◌, min, Bool, List, ◌++◌, length, take, map, sym, ◌∙◌, ap, subst, arith, length-append, length-take, All}
-use Rattle.nc_walk.proofs.Prelude.{concat, map-append, All-append, concat-append, mod-mul-add, mul-le-mul_right, lt_of_mul-lt-mul_right, take-add, bytes_at, HasFailed, SourceView, after, Slabs, Cursor, total, number_at, offset, offsets_after, offsets_from, IsSized, IsOffset, Ready, SourceUse, between, WalkView, IsWhole, Exactly, ReturnsValues, Failing, Truncated, ReadValues, Reading, reading, standing}
+use Rattle.nc_walk.proofs.Prelude.{concat, map-append, All-append, concat-append, mod-mul-add, mul-le-mul_right, lt_of_mul-lt-mul_right, take-add, bytes_at, HasFailed, SourceView, having_read, Slabs, Cursor, total, number_at, offset, offsets_after, offsets_from, IsSized, IsOffset, Ready, SourceUse, between, WalkView, IsWhole, Exactly, ReturnsValues, Failing, Truncated, ReadValues, Reading, reading, standing}
 use borrow.Rule.Slice.PartMut.{put_mid}
 use Rattle.nc_walk.specs.declared.chunk.Chunk.{Chunk}
 use Rattle.nc_walk.specs.code.Chunks.{Collected}
@@ -36,8 +36,8 @@ module _ (is_transparent : Bool) (l : Slabs) (i n : ℕ) (had part : List ℕ) (
       (All-append (IsWhole l.size before.bytes) (take n (offsets_after l i)) (take m (offsets_after l (i + n))) first
       (subst (λ (bytes : List ℕ). All (IsWhole l.size bytes) (take m (offsets_after l (i + n)))) same more))
 
-  handed_then : (a b : ℕ) → mid ≡ after before a → now ≡ after mid b → now ≡ after before (a + b)
-  handed_then a b e f = f ∙ ap (λ (s : SourceView). after s b) e ∙ after_after before a b
+  handed_then : (a b : ℕ) → mid ≡ having_read before a → now ≡ having_read mid b → now ≡ having_read before (a + b)
+  handed_then a b e f = f ∙ ap (λ (s : SourceView). having_read s b) e ∙ after_after before a b
 
   exactly_then : (xs ys : List ℕ) (m : ℕ) → Exactly w before mid xs n → Exactly next mid now ys m → Exactly w before now (xs ++ ys) (n + m)
   exactly_then xs ys m e f =
@@ -51,7 +51,7 @@ module _ (is_transparent : Bool) (l : Slabs) (i n : ℕ) (had part : List ℕ) (
             ∙ sym (concat-append (map read first) (map read more))
             ∙ ap concat (sym (map-append read first more))
             ∙ ap (λ (offsets : List ℕ). concat (map read offsets)) (sym (left_then m));
-        handed = handed_then (length xs) (length ys) e.handed f.handed ∙ ap (after before) (sym (length-append xs ys));
+        handed = handed_then (length xs) (length ys) e.handed f.handed ∙ ap (having_read before) (sym (length-append xs ys));
       }
 
   pub hands_then : (xs ys : List ℕ) (m : ℕ) → ReturnsValues is_transparent w before mid xs n → ReturnsValues is_transparent next mid now ys m → ReturnsValues is_transparent w before now (xs ++ ys) (n + m)
@@ -68,7 +68,7 @@ module _ (is_transparent : Bool) (l : Slabs) (i n : ℕ) (had part : List ℕ) (
   ran_then m r s =
       let e : n * l.size + m * l.size ≡ (n + m) * l.size = omega arith in record {
         whole = whole_then m (ap (λ (s : SourceView). s.bytes) r.handed) r.whole s.whole;
-        handed = handed_then (n * l.size) (m * l.size) r.handed s.handed ∙ ap (after before) e;
+        handed = handed_then (n * l.size) (m * l.size) r.handed s.handed ∙ ap (having_read before) e;
       }
 
   pub failing_then : (m : ℕ) → ReadValues l i before mid n → Failing next mid now m → Failing w before now (n + m)

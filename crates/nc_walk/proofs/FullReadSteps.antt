@@ -1,12 +1,12 @@
 -- Bytes that one read after another has brought.
 use Rattle.std.proofs.Common.{◌≡◌, ℕ, ◌+◌, ◌-◌, ◌<◌, ◌≤◌, Bool, true, false, List, ◌++◌, length, take, drop, refl, sym, ◌∙◌, ap, subst, arith, length-append, length-take, length-drop}
-use Rattle.nc_walk.proofs.Prelude.{OnTrue, drop-drop, take-append-le, take-add, take-append-add, take-append_seam, SourceView, after, BytesRead, Failed, ReadInFull, FailedReadInFull}
+use Rattle.nc_walk.proofs.Prelude.{OnTrue, drop-drop, take-append-le, take-add, take-append-add, take-append_seam, SourceView, having_read, BytesRead, NoneRead, ReadInFull, FailedReadInFull}
 use borrow.Rule.Slice.PartMut.{put_mid, post_of, same_len_mid}
 
 -- n bytes from this cursor on stand at the start of the slice
 pub record Filling (is_transparent : Bool) (old new : SourceView) (at got : ℕ) (xs : List ℕ) : Type 0 where
   pub within : got ≤ length xs
-  pub same : new ≡ after old got
+  pub same : new ≡ having_read old got
   pub bytes : OnTrue is_transparent (take got xs ≡ take got (drop at old.bytes))
 
 -- ---- facts of a source that is transparent
@@ -25,7 +25,7 @@ transparent_both false f p q = tt
 
 -- ---- one more read
 
-pub after_after : (s : SourceView) (m n : ℕ) → after (after s m) n ≡ after s (m + n)
+pub after_after : (s : SourceView) (m n : ℕ) → having_read (having_read s m) n ≡ having_read s (m + n)
 after_after s m n = let e : s.handed + m + n ≡ s.handed + (m + n) = omega arith in ap (λ (k : ℕ). record s { handed = k }) e
 
 -- what was put after the first bytes stands after them
@@ -57,7 +57,7 @@ pub more : (is_transparent : Bool) (old mid new : SourceView) (at got k n : ℕ)
     → Filling is_transparent old mid at got xs → BytesRead is_transparent mid new (at + got) ys n → Filling is_transparent old new at (got + n) (put_mid got k xs ys)
 more is_transparent old mid new at got k n xs ys len rest f h = record {
   within = omega (arith, length-append (take got xs) (ys ++ post_of got k xs), length-append ys (post_of got k xs), length-take got xs, f.within, h.within);
-  same = h.same ∙ ap (λ (s : SourceView). after s n) f.same ∙ after_after old got n;
+  same = h.same ∙ ap (λ (s : SourceView). having_read s n) f.same ∙ after_after old got n;
   bytes = transparent_both is_transparent (more_bytes old.bytes xs ys at got k n f.within (omega (arith, h.within))) f.bytes (transparent_map is_transparent (λ e. e ∙ ap (λ (s : SourceView). take n (drop (at + got) s.bytes)) f.same) h.bytes);
 }
 
@@ -94,5 +94,5 @@ module _ (is_transparent : Bool) (old mid : SourceView) (at got : ℕ) (xs ys : 
   fails_on new f = record {
     n = got + f.n;
     within = omega (arith, whole, len, f.within);
-    failed = subst (λ (s : SourceView). Failed s new) (ap (λ (s : SourceView). after s f.n) h.same ∙ after_after old got f.n) f.failed;
+    failed = subst (λ (s : SourceView). NoneRead s new) (ap (λ (s : SourceView). having_read s f.n) h.same ∙ after_after old got f.n) f.failed;
   }

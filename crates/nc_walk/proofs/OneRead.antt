@@ -1,6 +1,6 @@
 -- One read of a walk, and what the walk is afterwards.
 use Rattle.std.proofs.Common.{◌≡◌, ℕ, zero, suc, ◌+◌, ◌-◌, ◌*◌, ◌/◌, ◌<◌, ◌≤◌, Bool, List, ◌++◌, length, take, drop, map, sym, ◌∙◌, ap, refl, subst, arith, length-append, length-take, Option, None, Some, Ok, All}
-use Rattle.nc_walk.proofs.Prelude.{concat, take-append-le, mul-div_cancel, mul-le-mul_right, le_of_mul-le-mul_right, div-mul-le_self, bytes_at, SourceView, after, Slabs, ReadInFull, FailedReadInFull, total, offset, offsets_from, offsets_after, Ready, IsSized, IsWhole, Exactly, ReturnsValues, Failing, Truncated, ReadValues, Steps, Advanced, standing, stopped, as_answer, count}
+use Rattle.nc_walk.proofs.Prelude.{concat, take-append-le, mul-div_cancel, mul-le-mul_right, le_of_mul-le-mul_right, div-mul-le_self, bytes_at, SourceView, having_read, Slabs, ReadInFull, FailedReadInFull, total, offset, offsets_from, offsets_after, Ready, IsSized, IsWhole, Exactly, ReturnsValues, Failing, Truncated, ReadValues, Steps, Advanced, standing, stopped, as_answer, count}
 use Rattle.nc_walk.specs.declared.fault.WalkFault.{WalkFault}
 use Rattle.nc_walk.proofs.FullReadSteps.{transparent_any, transparent_map, transparent_both}
 use Rattle.nc_walk.proofs.Runs.{length-offsets, take-offsets, drop-offsets, first_offset, run_bytes, run_within, ready_whole}
@@ -41,7 +41,7 @@ module _ (is_transparent : Bool) (l : Slabs) (done capacity : ℕ) (buf : List �
   whole : All (IsWhole l.size before.bytes) (take n (offsets_after l done))
   whole = subst (All (IsWhole l.size before.bytes)) (sym next) (ready_whole l before.bytes done capacity n ready)
 
-  all_of : got ≡ length ys → take got ys ≡ take got (drop (offset l done) before.bytes) → now ≡ after before got
+  all_of : got ≡ length ys → take got ys ≡ take got (drop (offset l done) before.bytes) → now ≡ having_read before got
       → Exactly (standing l done buf) before now (take (got / l.size * l.size) (ys ++ rest)) (got / l.size)
   all_of full same left =
       let w = n * l.size in
@@ -54,7 +54,7 @@ module _ (is_transparent : Bool) (l : Slabs) (done capacity : ℕ) (buf : List �
         bytes = prefix ∙ subst (λ (m : ℕ). take m ys ≡ take m (drop (offset l done) before.bytes)) e same
             ∙ sym (run_bytes l before.bytes done n ready.in_slab)
             ∙ ap (λ (xs : List ℕ). concat (map (bytes_at l.size before.bytes) xs)) (sym next);
-        handed = left ∙ ap (after before) (e ∙ sym long);
+        handed = left ∙ ap (having_read before) (e ∙ sym long);
       })
 
   pub came : ReadInFull is_transparent before now (offset l done) ys got → 0 < got / l.size
@@ -84,7 +84,7 @@ module _ (is_transparent : Bool) (l : Slabs) (done capacity : ℕ) (buf : List �
 
   -- and where all came, these bytes alone were read
   pub ran_all : ReadInFull is_transparent before now (offset l done) ys got → got ≡ n * l.size → ReadValues l done before now n
-  ran_all f all = record { whole = whole; handed = f.same ∙ ap (after before) all }
+  ran_all f all = record { whole = whole; handed = f.same ∙ ap (having_read before) all }
 
   pub values_read : ReadInFull is_transparent before now (offset l done) ys got → n ≤ got / l.size → ReadValues l done before now (got / l.size)
   values_read f all =

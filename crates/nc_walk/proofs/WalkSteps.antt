@@ -1,13 +1,13 @@
 -- A walk from call to call, as its caller sees it.
 use Rattle.std.proofs.Common.{◌≡◌, ℕ, ◌+◌, ◌-◌, ◌*◌, ◌<◌, ◌≤◌, Bool, List, ◌++◌, length, get_or, take, drop, sym, ◌∙◌, ap, subst, arith, length-drop, None, Some, Ok, Err, All}
-use Rattle.nc_walk.proofs.Prelude.{OnTrue, concat, mul-le-mul_right, take-add, drop-drop, get_or-drop, All-nil, All-append, Header, Var, size_of, numbers, value_count, value_offsets, HasFailed, SourceView, after, WalkView, Answer, IsWhole, Starts, Exactly, ReturnsValues, Failing, Truncated, Steps, Advanced, count, Pass, offsets_in, stored_in, total_in, whole_in, going_on, Walked, HasRead, IsChunk, GivesChunk, GivesEnd, GivesCut, GivesFailure, Gives}
+use Rattle.nc_walk.proofs.Prelude.{OnTrue, concat, mul-le-mul_right, take-add, drop-drop, get_or-drop, All-nil, All-append, Header, Var, size_of, numbers, value_count, value_offsets, HasFailed, SourceView, having_read, WalkView, Answer, IsWhole, Starts, Exactly, ReturnsValues, Failing, Truncated, Steps, Advanced, count, Pass, offsets_in, stored_in, total_in, whole_in, going_on, Walked, HasRead, IsChunk, GivesChunk, GivesEnd, GivesCut, GivesFailure, Gives}
 use Rattle.nc_walk.specs.declared.fault.WalkFault.TheVariants.{ReadFailed, DataTruncated}
 use Rattle.nc_walk.proofs.FullReadSteps.{transparent_any, transparent_map, transparent_both, after_after}
 use Rattle.nc_walk.proofs.Missing.{missing_at, none_missing, whole_count-ge}
 use Rattle.nc_walk.proofs.Orders.{count_of_offsets}
 use Rattle.nc_walk.proofs.Stored.{numbers-whole, chunk_bytes, chunk_values, joined_bytes}
 
-after_none : (v : SourceView) (size : ℕ) → v ≡ after v (0 * size)
+after_none : (v : SourceView) (size : ℕ) → v ≡ having_read v (0 * size)
 after_none v size = let e : v.handed ≡ v.handed + 0 * size = omega arith in ap (λ (k : ℕ). record v { handed = k }) e
 
 -- a walk that starts has walked past no value
@@ -64,7 +64,7 @@ module _ (p : Pass) (w : WalkView) (c : SourceView) (k : ℕ) (s : Walked p w k)
         whole = subst (All (IsWhole size a.bytes)) (sym all)
             (All-append (IsWhole size a.bytes) (take k xs) (take j (drop k xs)) r.whole
             (subst (λ (v : SourceView). All (IsWhole size v.bytes) (take j (drop k xs))) r.handed e.whole));
-        handed = e.handed ∙ ap (λ (v : SourceView). after v (length chunk)) r.handed ∙ after_after a (k * size) (length chunk) ∙ ap (after a) sum;
+        handed = e.handed ∙ ap (λ (v : SourceView). having_read v (length chunk)) r.handed ∙ after_after a (k * size) (length chunk) ∙ ap (having_read a) sum;
       }
 
   is_chunk : (chunk : List ℕ) (j : ℕ) → HasRead p k → Exactly (there p w k) b c chunk j → IsChunk (going_on p c) k chunk j

@@ -1,6 +1,6 @@
 -- What a sink goes on to hold.
 use Rattle.std.proofs.Common.{◌≡◌, ℕ, ◌≤◌, true, List, [], ◌++◌, length, refl, sym, ap, ◌∙◌, append_assoc, subst, Option, Some, None, is_some, option_map, unwrap_or}
-use Rattle.ncdump.proofs.Prelude.{OnTrue_at, OnTrue_from, append-nil, SinkView, append, count, is_transparent, IsPrefixIf, IsCut, StoppedShort, Appended, FailedPartway, append-++, cut-append, split_prefix, transparent-append, Holds}
+use Rattle.ncdump.proofs.Prelude.{OnTrue_at, OnTrue_from, append-nil, SinkView, append, taken_len, is_transparent, IsPrefixIf, IsCut, StoppedShort, Appended, FailedPartway, append-++, cut-append, split_prefix, transparent-append, Holds}
 
 prefix-trans : (a b c : Option (List ℕ)) → IsPrefixIf a b → IsPrefixIf b c → IsPrefixIf a c
 prefix-trans (Some x) (Some y) (Some z) f g = record { rest = f.rest ++ g.rest; joined = sym (append_assoc x f.rest g.rest) ∙ ap (λ (t : List ℕ). t ++ g.rest) f.joined ∙ g.joined }
@@ -50,7 +50,7 @@ prefix-kept None (Some y) bytes transparent f le = absurd f
 prefix-kept now None bytes transparent f le = cc
 
 partway-keeps : (s t : SinkView) (bytes : List ℕ) → is_transparent s ≡ true → FailedPartway s t bytes → IsCut s t
-unfolding is_transparent IsCut append count
+unfolding is_transparent IsCut append taken_len
 partway-keeps s t bytes transparent partway =
     let b = OnTrue_at {P = StoppedShort s t (append s bytes)} transparent partway.taken in
     prefix-kept t.taken s.taken bytes transparent b.cut b.no_less

@@ -5,10 +5,10 @@ pub use Rattle.clap.specs.Words.{App, HasKind, Row, app_of, fault_of, found_of, 
 pub use Rattle.cli_base.specs.Arguments.{flag, option, quiet, texts_of}
 pub use Rattle.devices.proofs.Writes.{append-++, appended_partway, appended_then, cut-append, split_prefix, transparent-append}
 pub use Rattle.devices.specs.Sinks.{Appended, FailedPartway, IsPrefixIf, SinkView, StoppedShort}
-unfoldable pub use Rattle.devices.specs.Sinks.{IsCut, append, count, is_transparent}
-pub use Rattle.devices.specs.Sources.{SourceView, after}
+unfoldable pub use Rattle.devices.specs.Sinks.{IsCut, append, taken_len, is_transparent}
+pub use Rattle.devices.specs.Sources.{SourceView, having_read}
 pub use Rattle.nc_base.proofs.ValueLaws.{prefix-append, prefix_nil, look-type}
-pub use Rattle.nc_base.specs.Dump.{Ending, IsDump, IsFirstUnknown, IsFirstUnknownOf, KnowsChosen, Options, Section, content_in, contents, data_truncated, dump_text, has_values, has_variable, no_section, no_such_variable, selection_of, shown, shown_values, stopped, unknown, values_before, values_of, whole, wrong_field}
+pub use Rattle.nc_base.specs.Dump.{Ending, IsDump, IsFirstUnknown, IsFirstUnknownOf, KnowsChosen, Options, Section, values_in_file, shown_data, data_truncated, dump_text, has_values, has_variable, no_section, no_such_variable, selection_of, shown, shown_section, stopped, unknown, with_variable, variables_section, whole, wrong_field}
 unfoldable pub use Rattle.nc_base.specs.Dump.{closing_word, data_word}
 pub use Rattle.nc_base.specs.Grammar.{SpellsHeader}
 unfoldable pub use Rattle.nc_base.specs.HeadText.{head_text}
@@ -25,7 +25,7 @@ pub use Rattle.nc_base.specs.declared.{header.Header.Header, header.Var.Var}
 pub use Rattle.nc_walk.proofs.FullReadSteps.{after_after, transparent_any, transparent_both, transparent_map}
 pub use Rattle.nc_walk.specs.code.SourceUses.{between}
 pub use Rattle.nc_walk.specs.code.Walked.{GivesChunk, GivesCut, GivesEnd, GivesFailure, HasRead, IsChunk, Pass, Walked}
-pub use Rattle.ncdump.specs.CommandLine.{Answers, Asked, asked_for, width_of}
+pub use Rattle.ncdump.specs.CommandLine.{Answers, Asked, asked_for, width_said}
 unfoldable pub use Rattle.ncdump.specs.CommandLine.{asked_by, asked_in, ncdump}
 pub use Rattle.ncdump.specs.Dumps.{Dumps, IsAfterHeader, ReadsForward, after_header, in_header, options_of}
 pub use Rattle.ncdump.specs.code.Names.{holds, holds_if}

@@ -1,6 +1,6 @@
 -- Showing one selected variable after the other.
 use Rattle.std.proofs.Common.{◌≡◌, ℕ, suc, ◌+◌, ◌<◌, ◌≤◌, ◌⊎◌, inl, inr, Bool, true, false, List, [], ◌∷◌, ◌++◌, length, drop, get_or, refl, sym, ap, ◌∙◌, append_assoc, subst, arith, Option, Some, None, Result, Ok, Err, ℤ, slice_get, ◌&&◌, if◌then◌else◌, IfSome}
-use Rattle.ncdump.proofs.Prelude.{OnTrue, drop-cons, append-nil, drop_all, get_or_from_slice_get, slice_get_within, slice_get-get_or, Var, Look, look_of, Section, no_section, whole, data_truncated, content_in, has_values, values_before, values_of, contents, SourceView, after, SinkView, Appended, FailedPartway, appended_then, appended_partway, after_after, transparent_both, DumpFault, OutOfMemory, ReadFailed, WriteFailed, Format, NoSuchVariable, DataTruncated, Dumped, dumped, prefix_text, ShowsOne, ShowsAt, ShowsSelected, values_and, values_alone, values_from, whole_values, whole_bytes, bytes_of, Holds, KeepsUp, KeepsUpIn, IsBefore, IsShown, IsUnread, IsUnwritten, IsUpToDate, AreShown, AreUnread, AreUnwritten, between}
+use Rattle.ncdump.proofs.Prelude.{OnTrue, drop-cons, append-nil, drop_all, get_or_from_slice_get, slice_get_within, slice_get-get_or, Var, Look, look_of, Section, no_section, whole, data_truncated, values_in_file, has_values, with_variable, variables_section, shown_data, SourceView, having_read, SinkView, Appended, FailedPartway, appended_then, appended_partway, after_after, transparent_both, DumpFault, OutOfMemory, ReadFailed, WriteFailed, Format, NoSuchVariable, DataTruncated, Dumped, dumped, prefix_text, ShowsOne, ShowsAt, ShowsSelected, values_and, values_alone, values_from, whole_values, whole_bytes, bytes_of, Holds, KeepsUp, KeepsUpIn, IsBefore, IsShown, IsUnread, IsUnwritten, IsUpToDate, AreShown, AreUnread, AreUnwritten, between}
 use Rattle.ncdump.proofs.OneVariable.{some-at}
 use Rattle.nc_base.specs.declared.nc_type.NcType.TheVariants.{Byte}
 use Rattle.ncdump.proofs.Calls.{call}
@@ -20,8 +20,8 @@ pub values-at : (d : Dumped) (selection : List Bool) (v : ℕ) (var : Var) (is_s
     → shown ≡ (is_selected && has_values d.header.dims d.records var)
     → values_from d selection v ≡ (if shown then values_and d v var (values_from d selection (v + 1)) else values_from d selection (v + 1))
 values-at d selection v var is_selected shown at selected is =
-    ap (λ (vars : List Var). values_of (contents d.header (content_in d.header d.bytes d.records) d.records d.width) v vars (drop v selection)) (from-place d.header.vars v var at)
-    ∙ ap (λ (ms : List Bool). values_of (contents d.header (content_in d.header d.bytes d.records) d.records d.width) v (var ∷ drop (v + 1) d.header.vars) ms) (from-place selection v is_selected selected)
+    ap (λ (vars : List Var). variables_section (shown_data d.header (values_in_file d.header d.bytes d.records) d.records d.width) v vars (drop v selection)) (from-place d.header.vars v var at)
+    ∙ ap (λ (ms : List Bool). variables_section (shown_data d.header (values_in_file d.header d.bytes d.records) d.records d.width) v (var ∷ drop (v + 1) d.header.vars) ms) (from-place selection v is_selected selected)
     ∙ ap (λ (b : Bool). if b then values_and d v var (values_from d selection (v + 1)) else values_from d selection (v + 1)) (sym is)
 
 bytes-at : (d : Dumped) (selection : List Bool) (v : ℕ) (var : Var) (is_selected shown : Bool) → slice_get d.header.vars v ≡ Some var → slice_get selection v ≡ Some is_selected
@@ -32,7 +32,7 @@ bytes-at d selection v var is_selected shown at selected is =
     ∙ ap (λ (ms : List Bool). bytes_of d (var ∷ drop (v + 1) d.header.vars) ms) (from-place selection v is_selected selected)
     ∙ ap (λ (b : Bool). (if b then whole_bytes d var else 0) + bytes_of d (drop (v + 1) d.header.vars) (drop (v + 1) selection)) (sym is)
 
-no-selection : (d : Dumped) (v : ℕ) (vars : List Var) → values_of (contents d.header (content_in d.header d.bytes d.records) d.records d.width) v vars [] ≡ no_section
+no-selection : (d : Dumped) (v : ℕ) (vars : List Var) → variables_section (shown_data d.header (values_in_file d.header d.bytes d.records) d.records d.width) v vars [] ≡ no_section
 no-selection d v [] = refl
 no-selection d v (var ∷ vars) = refl
 
@@ -42,20 +42,20 @@ no-bytes d (var ∷ vars) = refl
 
 -- ---- a variable's values before a section
 
-whole-and : (look : Look) (values : List ℤ) (missing : Option ℕ) (v : ℕ) (others : Section) → (values_before look values missing v no_section).ending ≡ whole
-    → ((values_before look values missing v others).text ≡ (values_before look values missing v no_section).text ++ others.text)
-    × ((values_before look values missing v others).ending ≡ others.ending)
+whole-and : (look : Look) (values : List ℤ) (missing : Option ℕ) (v : ℕ) (others : Section) → (with_variable look values missing v no_section).ending ≡ whole
+    → ((with_variable look values missing v others).text ≡ (with_variable look values missing v no_section).text ++ others.text)
+    × ((with_variable look values missing v others).ending ≡ others.ending)
 whole-and look values None v others ends = (ap (λ (t : List ℕ). t ++ others.text) (sym (append-nil _)), refl)
 whole-and look values (Some k) v others ends = absurd cc
 
-cut-and : (look : Look) (values : List ℤ) (missing : Option ℕ) (v w k : ℕ) (others : Section) → (values_before look values missing v no_section).ending ≡ data_truncated w k
-    → ((values_before look values missing v others).text ≡ (values_before look values missing v no_section).text)
-    × ((values_before look values missing v others).ending ≡ data_truncated w k)
+cut-and : (look : Look) (values : List ℤ) (missing : Option ℕ) (v w k : ℕ) (others : Section) → (with_variable look values missing v no_section).ending ≡ data_truncated w k
+    → ((with_variable look values missing v others).text ≡ (with_variable look values missing v no_section).text)
+    × ((with_variable look values missing v others).ending ≡ data_truncated w k)
 cut-and look values None v w k others ends = absurd cc
 cut-and look values (Some m) v w k others ends = (refl, ends)
 
 pub more-and : (look : Look) (values : List ℤ) (missing : Option ℕ) (v : ℕ) (others : Section)
-    → (more : List ℕ) × ((values_before look values missing v others).text ≡ (values_before look values missing v no_section).text ++ more)
+    → (more : List ℕ) × ((with_variable look values missing v others).text ≡ (with_variable look values missing v no_section).text ++ more)
 more-and look values None v others = (others.text, ap (λ (t : List ℕ). t ++ others.text) (sym (append-nil _)))
 more-and look values (Some k) v others = ([], sym (append-nil _))
 
@@ -67,7 +67,7 @@ pub record Selected (d : Dumped) (selection : List Bool) (buffer_len v : ℕ) (a
   pub spent : ℕ
   pub is_before : IsBefore d selection v prefix spent
   pub appended : Appended old new prefix
-  pub handed : b ≡ after a spent
+  pub handed : b ≡ having_read a spent
   pub keeps_up : (b ≡ a) ⊎ KeepsUpIn d selection buffer_len (between a b) (Holds old new)
 
 pub selected-begins : (d : Dumped) (selection : List Bool) (buffer_len : ℕ) (a : SourceView) (old : SinkView) → Appended old old [] → Selected d selection buffer_len 0 a a old old
@@ -117,7 +117,7 @@ module _ (d : Dumped) (selection : List Bool) (buffer_len v : ℕ) (a b : Source
     has-some false y e = absurd cc
 
     -- the text of the variable's first values stands after what was shown before
-    keeps-up-in : (Taken : List ℕ → Type 0) (k : KeepsUp d var buffer_len (between (after a m.spent) c) (λ (values : List ℕ). Taken (m.prefix ++ values))) → KeepsUpIn d selection buffer_len (between a c) Taken
+    keeps-up-in : (Taken : List ℕ → Type 0) (k : KeepsUp d var buffer_len (between (having_read a m.spent) c) (λ (values : List ℕ). Taken (m.prefix ++ values))) → KeepsUpIn d selection buffer_len (between a c) Taken
     keeps-up-in Taken k = record {
       v = v;
       var = var;
@@ -131,12 +131,12 @@ module _ (d : Dumped) (selection : List Bool) (buffer_len v : ℕ) (a b : Source
     }
 
     -- all its values are shown
-    pub selected-on : IsShown d v var whole (call buffer_len (after a m.spent) c new newer) → Selected d selection buffer_len (v + 1) a c old newer
+    pub selected-on : IsShown d v var whole (call buffer_len (having_read a m.spent) c new newer) → Selected d selection buffer_len (v + 1) a c old newer
     selected-on s =
         let alone = values_alone d v var in
         let split = whole-and _ _ _ v (values_from d selection (v + 1)) s.ends in
         let prefix = prefix-in-text d v var (whole_values d var) (omega arith) in
-        let handed : c ≡ after a (m.spent + whole_bytes d var) = s.handed ∙ after_after a m.spent (whole_bytes d var) in
+        let handed : c ≡ having_read a (m.spent + whole_bytes d var) = s.handed ∙ after_after a m.spent (whole_bytes d var) in
         record {
           prefix = m.prefix ++ alone.text;
           spent = m.spent + whole_bytes d var;
@@ -158,11 +158,11 @@ module _ (d : Dumped) (selection : List Bool) (buffer_len v : ℕ) (a b : Source
         }
 
     -- a value is missing
-    pub selected-cut : (w k : ℕ) → IsShown d v var (data_truncated w k) (call buffer_len (after a m.spent) c new newer)
+    pub selected-cut : (w k : ℕ) → IsShown d v var (data_truncated w k) (call buffer_len (having_read a m.spent) c new newer)
         → AreShown d selection (data_truncated w k) (between a c) (λ (section : Section). Appended old newer section.text)
     selected-cut w k s =
         let split = cut-and _ _ _ v w k (values_from d selection (v + 1)) s.ends in
-        let handed : c ≡ after a (m.spent + whole_bytes d var) = s.handed ∙ after_after a m.spent (whole_bytes d var) in
+        let handed : c ≡ having_read a (m.spent + whole_bytes d var) = s.handed ∙ after_after a m.spent (whole_bytes d var) in
         record {
           ends = m.is_before.ending_is ∙ ap (λ (x : Section). x.ending) values-here ∙ split.1;
           taken = subst (Appended old newer) (sym (m.is_before.text_is ∙ ap (λ (x : Section). m.prefix ++ x.text) values-here ∙ ap (λ (t : List ℕ). m.prefix ++ t) split.0))
@@ -172,7 +172,7 @@ module _ (d : Dumped) (selection : List Bool) (buffer_len v : ℕ) (a b : Source
         }
 
     -- a read failed
-    pub selected-unread : IsUnread d var (call buffer_len (after a m.spent) c new newer) → AreUnread d selection buffer_len (between a c) (Appended old newer)
+    pub selected-unread : IsUnread d var (call buffer_len (having_read a m.spent) c new newer) → AreUnread d selection buffer_len (between a c) (Appended old newer)
     selected-unread s = record {
       bytes = s.bytes;
       most = omega (arith, s.most, m.is_before.spent_is, bytes-here);
@@ -185,7 +185,7 @@ module _ (d : Dumped) (selection : List Bool) (buffer_len v : ℕ) (a b : Source
     }
 
     -- a write failed
-    pub selected-unwritten : IsUnwritten d v var (call buffer_len (after a m.spent) c new newer)
+    pub selected-unwritten : IsUnwritten d v var (call buffer_len (having_read a m.spent) c new newer)
         → AreUnwritten d selection buffer_len (between a c) (λ (section : Section). FailedPartway old newer section.text) (Holds old newer)
     selected-unwritten s =
         let more = more-and _ _ _ v (values_from d selection (v + 1)) in
@@ -205,7 +205,7 @@ module _ (d : Dumped) (selection : List Bool) (buffer_len v : ℕ) (a b : Source
           ];
         }
       where
-        advanced : SourceView → IsUnwritten d v var (call buffer_len (after a m.spent) c new newer) → c ≡ after a m.spent → KeepsUpIn d selection buffer_len (between a b) (Holds old new) → KeepsUpIn d selection buffer_len (between a c) (Holds old newer)
+        advanced : SourceView → IsUnwritten d v var (call buffer_len (having_read a m.spent) c new newer) → c ≡ having_read a m.spent → KeepsUpIn d selection buffer_len (between a b) (Holds old new) → KeepsUpIn d selection buffer_len (between a c) (Holds old newer)
         advanced x s same k = record {
           v = k.v;
           var = k.var;
@@ -223,7 +223,7 @@ module _ (d : Dumped) (selection : List Bool) (buffer_len v : ℕ) (a b : Source
           };
         }
 
-        still : IsUnwritten d v var (call buffer_len (after a m.spent) c new newer) → c ≡ after a m.spent → (c ≡ a) ⊎ KeepsUpIn d selection buffer_len (between a c) (Holds old newer)
+        still : IsUnwritten d v var (call buffer_len (having_read a m.spent) c new newer) → c ≡ having_read a m.spent → (c ≡ a) ⊎ KeepsUpIn d selection buffer_len (between a c) (Holds old newer)
         still s same = elim m.keeps_up [ inl first ↦ inl (same ∙ sym m.handed ∙ first) | inr k ↦ inr (advanced c s same k) ]
 
 -- all selected variables are shown
@@ -232,7 +232,7 @@ pub selected-all : (d : Dumped) (selection : List Bool) (buffer_len v : ℕ) (a 
 selected-all d selection buffer_len v a b old new all m =
     let none : drop v selection ≡ [] = drop_all v selection all in
     let nothing : values_from d selection v ≡ no_section =
-    ap (λ (ms : List Bool). values_of (contents d.header (content_in d.header d.bytes d.records) d.records d.width) v (drop v d.header.vars) ms) none ∙ no-selection d v (drop v d.header.vars) in
+    ap (λ (ms : List Bool). variables_section (shown_data d.header (values_in_file d.header d.bytes d.records) d.records d.width) v (drop v d.header.vars) ms) none ∙ no-selection d v (drop v d.header.vars) in
     let no-more : bytes_of d (drop v d.header.vars) (drop v selection) ≡ 0 = ap (bytes_of d (drop v d.header.vars)) none ∙ no-bytes d (drop v d.header.vars) in (
       record {
         ends = m.is_before.ending_is ∙ ap (λ (x : Section). x.ending) nothing;
@@ -271,12 +271,12 @@ module _ (d : Dumped) (selection : List Bool) (v : ℕ) (shown : Bool) (there : 
     -- what showing the variable has done, as it follows on what was done before
     done : {A : Type 0} (result : Result A DumpFault) → Selected d selection buffer_len v a b old new → d ≡ dumped d.header a d.records d.width
         → ShowsAt (dumped d.header b d.records d.width) v (call buf b c new newer) result
-        → (k : Selected d selection buffer_len v a b old new) × ShowsOne d v (call buffer_len (after a k.spent) c new newer) result var-here
+        → (k : Selected d selection buffer_len v a b old new) × ShowsOne d v (call buffer_len (having_read a k.spent) c new newer) result var-here
     done result k is shows =
         let here = some-at (ShowsOne (dumped d.header b d.records d.width) v (call buf b c new newer) result) (slice_get d.header.vars v) var-here at-here shows in
         let wide = subst (λ (n : ℕ). ShowsOne (dumped d.header b d.records d.width) v (call n b c new newer) result var-here) width here in
         let from = subst (λ (x : SourceView). ShowsOne (dumped d.header x d.records d.width) v (call buffer_len x c new newer) result var-here) k.handed wide in
-        (k, subst (λ (e : Dumped). ShowsOne e v (call buffer_len (after a k.spent) c new newer) result var-here) (sym is) from)
+        (k, subst (λ (e : Dumped). ShowsOne e v (call buffer_len (having_read a k.spent) c new newer) result var-here) (sym is) from)
 
     pub place-shown : d ≡ dumped d.header a d.records d.width
         → OnTrue is_transparent (ShowsAt {A = Unit {0}} (dumped d.header b d.records d.width) v (call buf b c new newer) (Ok tt))
@@ -285,7 +285,7 @@ module _ (d : Dumped) (selection : List Bool) (v : ℕ) (shown : Bool) (there : 
         let p = done {A = Unit {0}} (Ok tt) k is s in
         selected-on d selection buffer_len v a b old new p.0 var-here (get_or selection v false) at-here selected-here c newer is-shown p.1) m shows
 
-    failed : (fault : DumpFault) (k : Selected d selection buffer_len v a b old new) → ShowsOne {A = Unit {0}} d v (call buffer_len (after a k.spent) c new newer) (Err fault) var-here
+    failed : (fault : DumpFault) (k : Selected d selection buffer_len v a b old new) → ShowsOne {A = Unit {0}} d v (call buffer_len (having_read a k.spent) c new newer) (Err fault) var-here
         → ShowsSelected {A = Unit {0}} d selection (call buffer_len a c old newer) (Err fault)
     failed (DataTruncated w n) k s = selected-cut d selection buffer_len v a b old new k var-here (get_or selection v false) at-here selected-here c newer is-shown w n s
     failed ReadFailed k s = selected-unread d selection buffer_len v a b old new k var-here (get_or selection v false) at-here selected-here c newer is-shown s

@@ -6,7 +6,7 @@ use Rattle.std.specs.List.{list_all, slice_split}
 use Rattle.std.specs.Str.Parse.{digits_value}
 use Rattle.clap.specs.Words.{App, Row, fault_of, first_of, matches_of, new_app, new_rule, with_rule}
 use Rattle.cli_base.specs.Arguments.{flag, is_given, option, quiet}
-use Rattle.cli_base.specs.CommandLines.{AnswersBy, unless}
+use Rattle.cli_base.specs.CommandLines.{AnswersBy, if_faultless}
 use Rattle.cli_base.specs.declared.fault.OptFault.{OptFault}
 use Rattle.nc_base.specs.Dump.{Options}
 use Rattle.nc_base.specs.Paths.{stem_of}
@@ -28,14 +28,14 @@ ncdump = fold with_rule (quiet (new_app (codes "ncdump"))) (
 -- ---- what its entries ask for
 
 -- the width that a word of decimal digits writes, from 20 to 1000
-abbrev pub width_of : List ℕ → Option ℕ
-width_of word =
+abbrev pub width_said : List ℕ → Option ℕ
+width_said word =
     if list_all is_ascii_digit word && is_in_range 20 1000 (digits_value 10 word) then Some (digits_value 10 word) else None
 
 -- the width: that of `-l`, otherwise 80
 abbrev pub width_in : Option (List ℕ) → Option ℕ
 width_in None = Some 80
-width_in (Some word) = width_of word
+width_in (Some word) = width_said word
 
 -- the names in a word, between its commas
 abbrev pub names_in : List ℕ → List (List ℕ)
@@ -71,7 +71,7 @@ asked_in rows = if is_given rows (codes "head") && is_given rows (codes "coords"
 
 -- what the words ask for; the first word is the program's name
 unfoldable pub asked_by : List (List ℕ) → Option Asked
-asked_by words = unless (fault_of ncdump words) (asked_in (matches_of ncdump words))
+asked_by words = if_faultless (fault_of ncdump words) (asked_in (matches_of ncdump words))
 
 -- ---- what the words give
 

@@ -7,7 +7,7 @@ ghost use Rattle.std.specs.List.{list_all};
 ghost use Rattle.clap.specs.Words.{app_of, found_of, rows_of};
 ghost use Rattle.nc_base.specs.Paths.{stem_of};
 ghost use Rattle.cli_base.specs.Arguments.{text_of, texts_of};
-ghost use Rattle.ncdump.specs.CommandLine.{ncdump, asked_by, asked_in, names_in, width_in, width_of, Answers};
+ghost use Rattle.ncdump.specs.CommandLine.{ncdump, asked_by, asked_in, names_in, width_in, width_said, Answers};
 
 use crate::options::DumpOptions;
 use clap::{Arg, ArgMatches, Command};
@@ -100,7 +100,7 @@ fn width_in(word: Option<&str>) -> Option<usize>
 
 /// Returns the number that a word stands for, or `None` if the word isn't of decimal digits alone or the number isn't from 20 to 1000.
 fn width_of(word: &str) -> Option<usize>
-    ensures { result ≡ width_of word.now }
+    ensures { result ≡ width_said word.now }
 {
     if !is_of_digits(word) {
         return None;

@@ -3,7 +3,7 @@ use Rattle.std.specs.Prelude.{◌≡◌, ℕ, String, Bool, true, false, ◌&&�
 use Rattle.std.specs.Str.{bytes_eq}
 use Rattle.clap.specs.Words.{App, Row, fault_of, first_of, matches_of, new_app, new_rule, with_rule}
 use Rattle.cli_base.specs.Arguments.{flag, is_given, option, quiet}
-use Rattle.cli_base.specs.CommandLines.{AnswersBy, unless}
+use Rattle.cli_base.specs.CommandLines.{AnswersBy, if_faultless}
 use Rattle.cli_base.specs.declared.fault.OptFault.{OptFault}
 use Rattle.nc_base.specs.Paths.{stem_of}
 use Rattle.nc_base.specs.declared.version.Version.{Version}
@@ -75,7 +75,7 @@ asked_in rows = if is_unnamed (is_given rows (codes "binary")) (first_of (codes 
 
 -- what the words ask for; the first word is the program's name
 unfoldable pub asked_by : List (List ℕ) → Option Asked
-asked_by words = unless (fault_of ncgen words) (asked_in (matches_of ncgen words))
+asked_by words = if_faultless (fault_of ncgen words) (asked_in (matches_of ncgen words))
 
 -- ---- what the words give
 

@@ -1,7 +1,7 @@
 -- Which bytes belong to each class, and what each escape of a string stands for, over all bytes, by computation.
 use Rattle.std.proofs.Common.{◌≡◌, ℕ, List, [], ◌∷◌, ◌++◌, refl, codes, filter, map, not, ◌==◌, if◌then◌else◌, None, Some, Option, is_some}
 use Rattle.cdl_laws.proofs.Prelude.{to_ascii_lowercase, list_all, range_with_len, digit_value, is_blank, is_digit, is_octal, is_hex, begins_word, goes_on_word, goes_on_number, is_sign, is_escape, plain_escape, unescape, unescape_at, stands, character}
-use Rattle.cdl_tokens.specs.Bytes.{is_mark}
+use Rattle.cdl_tokens.specs.Bytes.{is_mark_byte}
 
 abbrev all_bytes : List ℕ
 all_bytes = range_with_len 0 256
@@ -36,7 +36,7 @@ later_in_numbers = refl
 signs : filter is_sign all_bytes ≡ codes "+-"
 signs = refl
 
-marks : filter is_mark all_bytes ≡ codes "(),:;=}"
+marks : filter is_mark_byte all_bytes ≡ codes "(),:;=}"
 marks = refl
 
 -- in a word, after a backslash

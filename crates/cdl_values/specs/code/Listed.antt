@@ -4,7 +4,7 @@ use Rattle.std.specs.List.{flat_map}
 use Rattle.nc_base.specs.Headers.{AreDimids}
 use Rattle.nc_base.specs.Numbers.{bytes_of_number}
 use Rattle.nc_base.specs.declared.{header.Dim.Dim, header.Var.Var}
-use Rattle.cdl_meaning.specs.Meaning.{values_of}
+use Rattle.cdl_meaning.specs.Meaning.{listed_values}
 use Rattle.cdl_meaning.specs.State.{Draft}
 
 -- a variable before the data section
@@ -21,7 +21,7 @@ AreShaped dims drafts = All (λ (d : Draft). AreDimids dims [] d.var.dimids) dra
 -- of this variable these bytes are listed
 pub record Lists (dims : List Dim) (var : Var) (array : List ℕ) (d : Draft) : Type 0 where
   pub is : d.var ≡ var
-  pub bytes : array ≡ flat_map (bytes_of_number var.ty) (values_of dims d)
+  pub bytes : array ≡ flat_map (bytes_of_number var.ty) (listed_values dims d)
 
 -- of each variable the bytes at its place
 abbrev pub AllList : List Dim → List Var → List (List ℕ) → List Draft → Type 0

@@ -8,7 +8,7 @@ use Rattle.cdl_tokens.specs.Numerals.{signed}
 use Rattle.cdl_statements.specs.Shapes.{Value, Number, Characters, Underscore}
 use Rattle.cdl_statements.specs.declared.fault.CdlKind.{CdlKind}
 use Rattle.cdl_statements.specs.declared.fault.CdlKind.TheVariants.{NumberRange, WrongKind, TooManyValues, StringTooLong}
-use Rattle.cdl_meaning.specs.State.{fits}
+use Rattle.cdl_meaning.specs.State.{has_number}
 use Rattle.cdl_values.specs.declared.filling.Filling.{Filling}
 use Rattle.cdl_values.specs.declared.filling.Filling.TheVariants.{Numbers, Joined, Rows}
 
@@ -26,7 +26,7 @@ greatest Uint64 minus = if minus then 0 else 18446744073709551615
 
 -- a number's bytes, where the type has it
 abbrev pub number_bytes : NcType → ℤ → Result (List ℕ) CdlKind
-number_bytes ty n = if fits ty n then Ok (bytes_of_number ty n) else Err NumberRange
+number_bytes ty n = if has_number ty n then Ok (bytes_of_number ty n) else Err NumberRange
 
 -- the bytes of a number, as held
 abbrev pub held_bytes : NcType → Bool → Option ℕ → Result (List ℕ) CdlKind

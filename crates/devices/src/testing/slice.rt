@@ -49,7 +49,7 @@ impl Sink for SliceSink<'_> {
 
     ghost view = { view_of };
 
-    #[tactic(auto, using(crate::proofs::Writes::devices), unfolding(crate::specs::Sinks::append, crate::specs::Sinks::count, crate::specs::Sinks::IsCut, crate::specs::Sinks::is_transparent, crate::specs::Failures::HasFailed))]
+    #[tactic(auto, using(crate::proofs::Writes::devices), unfolding(crate::specs::Sinks::append, crate::specs::Sinks::taken_len, crate::specs::Sinks::IsCut, crate::specs::Sinks::is_transparent, crate::specs::Failures::HasFailed))]
     fn write_some(&mut self, bytes: &[u8]) -> Result<usize, SinkFailed>
         ensures wrote { WroteSome (view_of self.old) (view_of self.new) bytes.now result }
         ensures few { IfOk result (λ n. n ≤ step_of self.old) }

@@ -1,12 +1,12 @@
 -- For contracts. What reading on until a slice is full has done.
 use Rattle.std.specs.Prelude.{◌≡◌, ℕ, ◌≤◌, Bool, List, length, take, drop, Result, Ok, Err}
 use Rattle.std.specs.Bool.{OnTrue}
-use Rattle.devices.specs.Sources.{SourceView, after, Failed}
+use Rattle.devices.specs.Sources.{SourceView, having_read, NoneRead}
 
 -- n bytes from this cursor on stand at the start of the slice; where the source is transparent, they fill it
 pub record ReadInFull (is_transparent : Bool) (old new : SourceView) (at : ℕ) (following : List ℕ) (n : ℕ) : Type 0 where
   pub within : n ≤ length following
-  pub same : new ≡ after old n
+  pub same : new ≡ having_read old n
   pub all : OnTrue is_transparent (n ≡ length following)
   pub bytes : OnTrue is_transparent (take n following ≡ take n (drop at old.bytes))
 
@@ -14,7 +14,7 @@ pub record ReadInFull (is_transparent : Bool) (old new : SourceView) (at : ℕ) 
 pub record FailedReadInFull (old new : SourceView) (most : ℕ) : Type 0 where
   pub n : ℕ
   pub within : n ≤ most
-  pub failed : Failed (after old n) new
+  pub failed : NoneRead (having_read old n) new
 
 -- what filling a slice has done
 abbrev pub ReadsInFull : {E : Type 0} → Bool → SourceView → SourceView → ℕ → List ℕ → Result ℕ E → Type 0

@@ -9,7 +9,7 @@ use Rattle.nc_base.specs.Numbers.{numbers}
 use Rattle.nc_base.specs.Headers.{value_count}
 use Rattle.nc_base.specs.Places.{value_offsets, stored_bytes, stored_values, first_missing}
 use Rattle.devices.specs.Failures.{HasFailed}
-use Rattle.devices.specs.Sources.{SourceView, after}
+use Rattle.devices.specs.Sources.{SourceView, having_read}
 use Rattle.nc_walk.specs.declared.fault.WalkFault.TheVariants.{ReadFailed, DataTruncated}
 use Rattle.nc_walk.specs.code.SourceUses.{SourceUse}
 use Rattle.nc_walk.specs.code.Walks.{WalkView, Answer, IsWhole, count}
@@ -50,7 +50,7 @@ whole_in p = whole_count p.header p.source.before.bytes p.var p.records
 -- the first k values are whole, and their bytes, and no others, were read
 pub record HasRead (p : Pass) (k : ℕ) : Type 0 where
   pub whole : All (IsWhole (size_of p.var.ty) p.source.before.bytes) (take k (offsets_in p))
-  pub handed : p.source.now ≡ after p.source.before (k * size_of p.var.ty)
+  pub handed : p.source.now ≡ having_read p.source.before (k * size_of p.var.ty)
 
 -- the walk stands after the first k values
 pub record Walked (p : Pass) (w : WalkView) (k : ℕ) : Type 0 where

@@ -8,7 +8,7 @@ use Rattle.nc_base.specs.declared.{header.Header.Header, header.Var.Var}
 use Rattle.nc_base.specs.Types.{size_of}
 use Rattle.nc_base.specs.Headers.{value_count}
 use Rattle.nc_base.specs.Places.{bytes_at, value_offsets}
-use Rattle.devices.specs.Sources.{SourceView, after}
+use Rattle.devices.specs.Sources.{SourceView, having_read}
 use Rattle.nc_walk.specs.declared.{fault.WalkFault.WalkFault, slabs.Slabs.Slabs, cursor.Cursor.Cursor}
 use Rattle.nc_walk.specs.declared.fault.WalkFault.TheVariants.{ReadFailed, DataTruncated}
 use Rattle.nc_walk.specs.code.Slabs.{offsets_after, number_at, IsSized, IsCursor}
@@ -72,7 +72,7 @@ IsWhole size bytes offset = offset + size ≤ length bytes
 pub record Exactly (w : WalkView) (before now : SourceView) (chunk : List ℕ) (n : ℕ) : Type 0 where
   pub whole : All (IsWhole w.size before.bytes) (take n w.left)
   pub bytes : chunk ≡ concat (map (bytes_at w.size before.bytes) (take n w.left))
-  pub handed : now ≡ after before (length chunk)
+  pub handed : now ≡ having_read before (length chunk)
 
 -- the chunk has n values, one at least, in no more bytes than the buffer's
 pub record ReturnsValues (is_transparent : Bool) (w : WalkView) (before now : SourceView) (chunk : List ℕ) (n : ℕ) : Type 0 where
@@ -146,7 +146,7 @@ pub record IsInOrder (l : Slabs) (cursor : Cursor) (capacity : ℕ) (buf : List 
 -- n values from number i on are whole in the source, and as many bytes as they have were read from it
 pub record ReadValues (l : Slabs) (i : ℕ) (before now : SourceView) (n : ℕ) : Type 0 where
   pub whole : All (IsWhole l.size before.bytes) (take n (offsets_after l i))
-  pub handed : now ≡ after before (n * l.size)
+  pub handed : now ≡ having_read before (n * l.size)
 
 -- if n values from this cursor on end their slab, all bytes came that the source was asked for: also from an opaque source
 abbrev pub ReadsSlabToEnd : {S : Type 0} → Slabs → Cursor → (S → SourceView) → S → S → ℕ → Type 0

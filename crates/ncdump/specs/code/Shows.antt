@@ -7,9 +7,9 @@ use Rattle.nc_base.specs.Types.{size_of}
 use Rattle.nc_base.specs.HeadText.{head_text}
 use Rattle.nc_base.specs.Places.{stored_values, first_missing}
 use Rattle.nc_base.specs.ValueText.{look_of, variable_prefix}
-use Rattle.nc_base.specs.Dump.{Options, Ending, whole, data_truncated, Section, no_section, content_in, has_values, values_before, values_of, data_word, dump_text, contents}
+use Rattle.nc_base.specs.Dump.{Options, Ending, whole, data_truncated, Section, no_section, values_in_file, has_values, with_variable, variables_section, data_word, dump_text, shown_data}
 use Rattle.devices.specs.Failures.{HasFailed}
-use Rattle.devices.specs.Sources.{SourceView, after}
+use Rattle.devices.specs.Sources.{SourceView, having_read}
 use Rattle.devices.specs.Sinks.{SinkView, append, is_transparent, Appended, FailedPartway, IsCut}
 use Rattle.nc_walk.specs.code.SourceUses.{SourceUse, between}
 use Rattle.nc_walk.specs.code.Walked.{whole_count}
@@ -62,7 +62,7 @@ prefix_text d var k = variable_prefix (look_of d.header var d.records d.width) (
 -- the values of the variable at index v, with a section after them
 abbrev pub values_and : Dumped → ℕ → Var → Section → Section
 values_and d v var others =
-    values_before (look_of d.header var d.records d.width) (stored_values d.header d.bytes var d.records) (first_missing d.header d.bytes var d.records) v others
+    with_variable (look_of d.header var d.records d.width) (stored_values d.header d.bytes var d.records) (first_missing d.header d.bytes var d.records) v others
 
 -- with nothing after them
 abbrev pub values_alone : Dumped → ℕ → Var → Section
@@ -88,7 +88,7 @@ pub record KeepsUp (d : Dumped) (var : Var) (buffer_len : ℕ) (source : SourceU
 pub record IsShown (d : Dumped) (v : ℕ) (var : Var) (ending : Ending) (call : Call) : Type 0 where
   pub ends : (values_alone d v var).ending ≡ ending
   pub appended : Appended call.sink.old call.sink.new (values_alone d v var).text
-  pub handed : call.source.now ≡ after call.source.before (whole_bytes d var)
+  pub handed : call.source.now ≡ having_read call.source.before (whole_bytes d var)
 
 -- a read failed after some values
 pub record IsUnread (d : Dumped) (var : Var) (call : Call) : Type 0 where
@@ -120,11 +120,11 @@ ShowsAt d v call result = IfSome (slice_get d.header.vars v) (ShowsOne d v call 
 -- the values of the selected variables from index v on
 abbrev pub values_from : Dumped → List Bool → ℕ → Section
 values_from d selection v =
-    values_of (contents d.header (content_in d.header d.bytes d.records) d.records d.width) v (drop v d.header.vars) (drop v selection)
+    variables_section (shown_data d.header (values_in_file d.header d.bytes d.records) d.records d.width) v (drop v d.header.vars) (drop v selection)
 
 -- of all of them
 abbrev pub selected_values : Dumped → List Bool → Section
-selected_values d selection = values_of (contents d.header (content_in d.header d.bytes d.records) d.records d.width) 0 d.header.vars selection
+selected_values d selection = variables_section (shown_data d.header (values_in_file d.header d.bytes d.records) d.records d.width) 0 d.header.vars selection
 
 -- the bytes of the values before the first missing one, of each of these variables that is selected and has values
 abbrev pub bytes_of : Dumped → List Var → List Bool → ℕ
@@ -148,7 +148,7 @@ pub record KeepsUpIn (d : Dumped) (selection : List Bool) (buffer_len : ℕ) (so
   pub selected : slice_get selection v ≡ Some true
   pub some : has_values d.header.dims d.records var ≡ true
   pub is_before : IsBefore d selection v prefix spent
-  pub keeps_up : KeepsUp d var buffer_len (between (after source.before spent) source.now) (λ (values : List ℕ). Taken (prefix ++ values))
+  pub keeps_up : KeepsUp d var buffer_len (between (having_read source.before spent) source.now) (λ (values : List ℕ). Taken (prefix ++ values))
 
 -- all selected variables are shown, or all values before the first missing one
 pub record AreShown (d : Dumped) (selection : List Bool) (ending : Ending) (source : SourceUse) (Taken : Section → Type 0) : Type 0 where

@@ -1,5 +1,5 @@
 use Rattle.std.proofs.Common.{rules, ◌≡◌, ℕ, ◌+◌, ◌-◌, ◌*◌, ◌^◌, ◌<◌, ◌≤◌, List, length, take, drop, arith, ap, sym, subst, ◌∙◌, length-drop, length-take, refl}
-use Rattle.nc_walk.proofs.Prelude.{mul-le-mul_left, mul-le-mul_right, Slabs, Cursor, number_at, offset, IsSized, IsOffset, Ready, SourceView, after}
+use Rattle.nc_walk.proofs.Prelude.{mul-le-mul_left, mul-le-mul_right, Slabs, Cursor, number_at, offset, IsSized, IsOffset, Ready, SourceView, having_read}
 use Rattle.nc_walk.proofs.ChunkSteps.{whole_ready, next_offset, goes_on, fails}
 use Rattle.nc_walk.proofs.chunk.read_chunk.Goals as goal
 
@@ -21,7 +21,7 @@ both_fit n m size xs some fits more =
 
 -- the slab that follows is ready
 follows : (l : Slabs) (cursor : Cursor) (values capacity len at : ℕ) (into had : List ℕ) (before now : SourceView) (n : ℕ) → IsSized l → cursor.within ≡ 0 → IsOffset l (number_at l cursor) at
-    → (l.values_per_slab ≤ capacity - values) × (at + l.values_per_slab * l.size ≤ len) → len < 2 ^ 64 → len ≡ length before.bytes → now ≡ after before n
+    → (l.values_per_slab ≤ capacity - values) × (at + l.values_per_slab * l.size ≤ len) → len < 2 ^ 64 → len ≡ length before.bytes → now ≡ having_read before n
     → values < capacity → values * l.size ≤ length into → capacity * l.size ≤ length had → length into ≡ length had
     → (at ≡ offset l (number_at l cursor)) × Ready l (number_at l cursor) (length (take (length into - values * l.size) (drop (values * l.size) into))) (length now.bytes) l.values_per_slab
 follows l cursor values capacity len at into had before now n sized first is fits small known handed below stands most same =

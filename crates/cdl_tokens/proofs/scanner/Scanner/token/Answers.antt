@@ -1,5 +1,5 @@
 use Rattle.std.proofs.Common.{◌≡◌, sym, ap, ◌∙◌, true, count_by, take, ◌==◌}
-use Rattle.cdl_tokens.proofs.Prelude.{is_mark, is_digit, scan, token, begins_number, Number}
+use Rattle.cdl_tokens.proofs.Prelude.{is_mark_byte, is_digit, scan, token, begins_number, Number}
 use Rattle.cdl_tokens.proofs.PlainTokens.{scan_mark, scan_number, digit_number, number_flat}
 use Rattle.cdl_tokens.proofs.scanner.Scanner.token.Goals as goal
 
@@ -21,7 +21,7 @@ take-requires-clause-flat c =
 pub take-requires-then-is_mark-clause-here : goal.take-requires-then-is_mark-clause-here
 take-requires-then-is_mark-clause-here c =
     let s = c.skip_blanks.new.self in
-    ap (scan s.at_start) (sym c.split_at.ensures.back) ∙ scan_mark s.at_start _ (ap is_mark (sym c.byte_at-b.ensures) ∙ sym c.is_mark.ensures ∙ c.if-is_mark.true)
+    ap (scan s.at_start) (sym c.split_at.ensures.back) ∙ scan_mark s.at_start _ (ap is_mark_byte (sym c.byte_at-b.ensures) ∙ sym c.is_mark.ensures ∙ c.if-is_mark.true)
 
 -- a sign or a point before the digit
 pub take-requires-then-begins_number-clause-here : goal.take-requires-then-begins_number-clause-here
