@@ -1,7 +1,8 @@
 //! The characters of a variable as CDL writes them.
 
 ghost use Rattle.std.specs.Prelude.{◌≡◌, ◌+◌, ◌<◌, ◌≤◌, ◌==◌, ◌||◌, ◌&&◌, ◌^◌, true, not, length, take, replicate, if◌then◌else◌, OnOk};
-ghost use Rattle.nc_base.specs.Escapes.{escaped_text, is_literal};
+ghost use Rattle.nc_base.specs.Escapes.{escaped_text};
+ghost use Rattle.nc_base.specs.code.Quoted.{is_literal};
 ghost use Rattle.nc_base.specs.ValueText.{is_char};
 ghost use Rattle.devices.specs.Sinks.{Wrote};
 ghost use Rattle.cdl_print.specs.code.Leads.{look_at};

@@ -1,7 +1,8 @@
 -- What an opener counts of what it opened once and has back.
 use Rattle.std.proofs.Common.{◌≡◌, ℕ, ◌+◌, ◌-◌, ◌^◌, ap, ◌∙◌, min}
 use Rattle.devices.specs.Failures.{HasFailed}
-use Rattle.devices.specs.Openers.{OpenerView, OpensOnce, HasBack}
+use Rattle.devices.specs.Openers.{OpenerView}
+use Rattle.devices.specs.code.PathOpens.{HasBack, OpensOnce}
 
 pub one_failure : (old mid new : OpenerView) (failures : ℕ) → OpensOnce old mid → failures ≡ min (0 + 1) (2 ^ 128 - 1) → HasBack mid new failures → HasFailed old.failures new.failures
 unfolding HasFailed

@@ -4,7 +4,8 @@ use Rattle.std.proofs.lemmas.List.{append-nil, take-append-drop, length-take, le
 use Rattle.std.proofs.lemmas.Bool.{OnTrue_at, OnTrue_from}
 use Rattle.nc_base.specs.Bytes.{concat_parts}
 use Rattle.devices.specs.Failures.{HasFailed}
-use Rattle.devices.specs.Sinks.{SinkView, append, taken_len, IsPrefix, IsPrefixIf, IsCut, StoppedShort, AcceptedSome, is_transparent, Appended, FailedPartway}
+use Rattle.devices.specs.Sinks.{SinkView, append, taken_len, IsPrefix, IsPrefixIf, IsCut, StoppedShort, is_transparent, Appended, FailedPartway}
+use Rattle.devices.specs.code.SinkWrites.{AcceptedSome}
 
 pub append-++ : (s : SinkView) (a b : List ℕ) → append s (a ++ b) ≡ append (append s a) b
 unfolding append

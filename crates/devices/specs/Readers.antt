@@ -1,8 +1,6 @@
 -- Definition. A reader as its contracts see it, and what a read has done.
-use Rattle.std.specs.Prelude.{◌≡◌, ℕ, ◌+◌, ◌-◌, ◌^◌, ◌<◌, ◌≤◌, min, Bool, true, false, List, [], length, take, Option, Some, Result, Ok, Err}
-use Rattle.std.specs.Io.KnownBytes.{Consumes, IsAtEnd, Keeps}
+use Rattle.std.specs.Prelude.{ℕ, Bool, true, false, List, [], Option, Some}
 use Rattle.devices.specs.declared.reader.CountedRead.{CountedRead}
-use Rattle.devices.specs.Failures.{HasFailed}
 
 -- The bytes that are still to come, where the reader is transparent, how often it has failed and has been read, how many
 -- bytes it has handed over, and if a read with room gave none, so that it is at its end.
@@ -18,43 +16,6 @@ abbrev pub left : Option (List ℕ) → Bool → Option (List ℕ)
 left remaining true = Some []
 left remaining false = remaining
 
--- a reader that has handed over nothing yet of what is still to come
-abbrev pub unread : Option (List ℕ) → ReaderView
-unread remaining = record { remaining = remaining; failures = 0; reads = 0; handed = 0; is_ended = false }
-
 -- a reader as contracts see it, given what is still to come of readers of its type
 abbrev pub view_of : {R : Type 0} → (R → Option (List ℕ)) → CountedRead R → ReaderView
 view_of remaining r = record { remaining = left (remaining r.reader) r.is_ended; failures = r.failures; reads = r.reads; handed = r.handed; is_ended = r.is_ended }
-
--- It has handed over n bytes, which stand at the start now: the next ones, where it is transparent. There are none only at its end, or
--- where there was no room.
-pub record HandedOver (old new : ReaderView) (before following : List ℕ) (n : ℕ) : Type 0 where
-  pub within : n ≤ length before
-  pub failures : new.failures ≡ old.failures
-  pub reads : new.reads ≤ old.reads + 1
-  pub counted : old.is_ended ≡ false → new.reads ≡ old.reads + 1
-  pub handed : new.handed ≡ old.handed + n
-  pub bytes : Consumes old.remaining new.remaining (take n following)
-  pub some : n ≡ 0 → 0 < length before → IsAtEnd new.remaining
-  pub ended : n ≡ 0 → 0 < length before → new.is_ended ≡ true
-
--- it has failed, and handed over nothing
-pub record NoneHandedOver (old new : ReaderView) : Type 0 where
-  pub failures : HasFailed old.failures new.failures
-  pub no_fewer_reads : old.reads ≤ new.reads
-  pub reads : new.reads ≤ old.reads + 1
-  pub handed : new.handed ≡ old.handed
-  pub bytes : Keeps old.remaining new.remaining
-
--- what a read has done
-abbrev pub Reads : {E : Type 0} → ReaderView → ReaderView → List ℕ → List ℕ → Result ℕ E → Type 0
-Reads old new before following (Ok n) = HandedOver old new before following n
-Reads old new before following (Err failure) = NoneHandedOver old new
-
--- what a read of a reader has done, given what is still to come of readers of its type
-abbrev pub ReadsNext : {R E : Type 0} → (R → Option (List ℕ)) → CountedRead R → CountedRead R → List ℕ → List ℕ → Result ℕ E → Type 0
-ReadsNext remaining old new before following result = Reads (view_of remaining old) (view_of remaining new) before following result
-
--- once it has ended, it stays what it is
-abbrev pub StaysEnded : {R : Type 0} → (R → Option (List ℕ)) → CountedRead R → CountedRead R → Type 0
-StaysEnded remaining old new = (view_of remaining old).is_ended ≡ true → view_of remaining new ≡ view_of remaining old

@@ -1,16 +1,12 @@
 -- Definition. What a sink has taken, and what a call has written to it.
 use Rattle.std.specs.Bool.{OnTrue}
-use Rattle.std.specs.Prelude.{Bool, is_some, ◌≡◌, ℕ, ◌+◌, ◌-◌, ◌^◌, ◌<◌, ◌≤◌, min, List, [], ◌++◌, length, take, Option, Some, None, option_map, unwrap_or, Result, Ok, Err}
+use Rattle.std.specs.Prelude.{Bool, is_some, ◌≡◌, ℕ, ◌+◌, ◌≤◌, List, [], ◌++◌, length, Option, Some, None, option_map, unwrap_or, Result, Ok, Err}
 use Rattle.devices.specs.Failures.{HasFailed}
 
 -- a sink as its contracts see it: the bytes that it took, where it is transparent, and how often it has failed
 pub record SinkView : Type 0 where
   pub taken : Option (List ℕ)
   pub failures : ℕ
-
--- a sink that has taken this text, where it is transparent, and has never failed
-abbrev pub unfailed : Option (List ℕ) → SinkView
-unfailed text = record { taken = text; failures = 0 }
 
 -- with a text after what it took
 unfoldable pub append : SinkView → List ℕ → SinkView
@@ -62,19 +58,3 @@ Written old new text (Err failure) = FailedPartway old new text
 -- what a call that writes a text to a sink has done
 abbrev pub Wrote : {S X E : Type 0} → (S → SinkView) → S → S → List ℕ → Result X E → Type 0
 Wrote view old new text result = Written (view old) (view new) text result
-
--- it has taken the first n of the bytes, at least one if there is one
-pub record AcceptedSome (old new : SinkView) (bytes : List ℕ) (n : ℕ) : Type 0 where
-  pub within : n ≤ length bytes
-  pub some : 0 < length bytes → 0 < n
-  pub appended : Appended old new (take n bytes)
-
--- it has failed, and taken none of the bytes, at least one
-pub record AcceptedNone (old new : SinkView) (bytes : List ℕ) : Type 0 where
-  pub some : 0 < length bytes
-  pub partway : FailedPartway old new []
-
--- what a call that writes from the start of the bytes has done
-abbrev pub WroteSome : {E : Type 0} → SinkView → SinkView → List ℕ → Result ℕ E → Type 0
-WroteSome old new bytes (Ok n) = AcceptedSome old new bytes n
-WroteSome old new bytes (Err failure) = AcceptedNone old new bytes

@@ -6,3 +6,8 @@ pub mod MemFiles
 pub mod Ahead
 pub mod System
 pub mod Made
+pub mod SourceReads
+pub mod SinkWrites
+pub mod ReaderReads
+pub mod PathOpens
+pub mod Creations

@@ -1,7 +1,7 @@
 //! Reading ahead.
 
 ghost use Rattle.std.specs.Prelude.{◌≡◌, ◌<◌, ◌≤◌, ◌⊎◌, ◌+◌, IfOk, OnErr, true, length};
-ghost use Rattle.devices.specs.Sources.{AreFrom, CanCount, CantCount, ReadSome, unread};
+ghost use Rattle.devices.specs.code.SourceReads.{ReadSome, AreFrom, CantCount, CanCount, unread};
 
 use crate::{Source, SourceFailed};
 

@@ -1,7 +1,8 @@
 //! What creates outputs.
 
 ghost use Rattle.std.specs.Prelude.{Bool};
-ghost use Rattle.devices.specs.Creators.{Closed, Created, CreatorView};
+ghost use Rattle.devices.specs.Creators.{CreatorView};
+ghost use Rattle.devices.specs.code.Creations.{Closed, Created};
 
 use crate::{CloseFailed, CreateFailed, Sink};
 

@@ -1,7 +1,7 @@
 //! Devices over the files and writers of the standard library.
 
 ghost use Rattle.std.specs.Prelude.{◌≡◌, ◌+◌, ◌^◌, ◌-◌, ◌<◌, false, length, min, replicate, IfOk, IsErr};
-ghost use Rattle.devices.specs.Sinks.{unfailed};
+ghost use Rattle.devices.specs.code.SinkWrites.{unfailed};
 
 use crate::ahead::ReadAhead;
 use crate::{Flush, OpenFailed, Sink, SinkFailed, Source, SourceFailed};

@@ -2,8 +2,8 @@
 
 ghost use Rattle.std.specs.Prelude.{◌≡◌, ◌<◌, [], IsErr, Some, true, length};
 ghost use Rattle.nc_base.specs.Bytes.{AreBytes};
-ghost use Rattle.devices.specs.Sinks.{unfailed};
-ghost use Rattle.devices.specs.Sources.{CantCount, ReadSome, unread};
+ghost use Rattle.devices.specs.code.SinkWrites.{unfailed};
+ghost use Rattle.devices.specs.code.SourceReads.{ReadSome, CantCount, unread};
 
 use crate::{Sink, SinkFailed, Source, SourceFailed};
 use std::alloc::Global;

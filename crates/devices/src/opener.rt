@@ -1,7 +1,8 @@
 //! What opens paths.
 
 ghost use Rattle.std.specs.Prelude.{◌≡◌, List, ℕ, Option, IfOk};
-ghost use Rattle.devices.specs.Openers.{HasBack, OpenerView, Opens, OpensOnce};
+ghost use Rattle.devices.specs.Openers.{OpenerView};
+ghost use Rattle.devices.specs.code.PathOpens.{Opens, HasBack, OpensOnce};
 
 use crate::{OpenFailed, Source};
 

@@ -1,7 +1,7 @@
 //! Outputs in the files of the system.
 
 ghost use Rattle.std.specs.Prelude.{◌≡◌, [], IfOk, false, option_and_then};
-ghost use Rattle.devices.specs.Creators.{uncreated};
+ghost use Rattle.devices.specs.code.Creations.{uncreated};
 
 use crate::{CloseFailed, CreateFailed, Creator, Flush, IoSink, Sink};
 use std::alloc::Global;

@@ -1,7 +1,8 @@
 //! A reader that counts.
 
 ghost use Rattle.std.specs.Prelude.{◌≡◌};
-ghost use Rattle.devices.specs.Readers.{ReadsNext, StaysEnded, unread, view_of};
+ghost use Rattle.devices.specs.Readers.{view_of};
+ghost use Rattle.devices.specs.code.ReaderReads.{StaysEnded, ReadsNext, unread};
 
 use crate::SourceFailed;
 use std::io::Read;

@@ -1,7 +1,7 @@
 //! The files of the system.
 
 ghost use Rattle.std.specs.Prelude.{◌≡◌, None, false};
-ghost use Rattle.devices.specs.Openers.{HasBack, unopened};
+ghost use Rattle.devices.specs.code.PathOpens.{HasBack, unopened};
 ghost use Rattle.devices.specs.code.System.{view_of};
 
 use crate::{CountedRead, FileSource, OpenFailed, Opener, TextOpener};

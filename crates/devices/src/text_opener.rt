@@ -1,7 +1,8 @@
 //! What opens paths as texts.
 
 ghost use Rattle.std.specs.Prelude.{◌≡◌, Bool, List, ℕ, Option, IfOk};
-ghost use Rattle.devices.specs.Openers.{HasBack, OpenerView, OpensOnce};
+ghost use Rattle.devices.specs.Openers.{OpenerView};
+ghost use Rattle.devices.specs.code.PathOpens.{HasBack, OpensOnce};
 ghost use Rattle.devices.specs.Readers.{view_of};
 ghost use Rattle.devices.specs.TextOpeners.{OpensText};
 

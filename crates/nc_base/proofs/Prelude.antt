@@ -12,16 +12,18 @@ pub use Rattle.nc_base.specs.Headers.{AreArrays, AreDimids, HasValidNames, HasWh
 pub use Rattle.nc_base.specs.Names.{IsName}
 pub use Rattle.nc_base.specs.Numbers.{bytes_of_number, number_of, numbers_from}
 unfoldable pub use Rattle.nc_base.specs.Numbers.{numbers}
-pub use Rattle.nc_base.specs.Places.{HoldsDataset, bytes_at, distance, end_after, ends_after, extent_end, first_missing, slab_strides, stored_bytes, stored_values, vectors_below}
+pub use Rattle.nc_base.specs.Places.{HoldsDataset, bytes_at, distance, ends_after, first_missing, slab_strides, stored_bytes, stored_values, vectors_below}
+pub use Rattle.nc_base.specs.code.Extents.{extent_end, end_after}
 unfoldable pub use Rattle.nc_base.specs.Places.{value_offsets}
-pub use Rattle.nc_base.specs.Sizes.{dim_len, is_narrow, is_record_dim, is_record_var, least_begin, padded_size, padded_total, product, record_count, record_limit, record_size, record_size_of, record_vars, records_between, slab_count, slab_lens, slab_limit, slab_of, slab_size}
+pub use Rattle.nc_base.specs.Sizes.{dim_len, is_narrow, is_record_dim, is_record_var, least_begin, padded_size, padded_total, product, record_count, record_limit, record_size, record_size_of, record_vars, records_between, slab_count, slab_lens, slab_limit, slab_size}
+pub use Rattle.nc_base.specs.code.SizeParts.{slab_of, checked_record_size, extent_sum, first_begin, has_small_slab, is_fixed_dim, lesser, slab_at}
 pub use Rattle.nc_base.specs.Types.{code_of, size_of}
-pub use Rattle.nc_base.specs.ValueText.{Look, column, held, is_nul, later_pieces, number_text, row_so_far}
+pub use Rattle.nc_base.specs.ValueText.{Look, column, held, is_nul, number_text, row_so_far}
+pub use Rattle.nc_base.specs.code.LaterPieces.{later_pieces}
 unfoldable pub use Rattle.nc_base.specs.ValueText.{char_piece, closing, look_of, number_piece, opening, piece, pieces, variable_prefix, variable_text}
 pub use Rattle.nc_base.specs.Versions.{count_limit, count_width, has_type, offset_limit, offset_width, streaming_mark, version_byte}
 pub use Rattle.nc_base.specs.code.ListedRows.{AreRowEnds, StandAt}
 unfoldable pub use Rattle.nc_base.specs.code.ListedRows.{filled_rows, row_start}
-pub use Rattle.nc_base.specs.code.SizeParts.{checked_record_size, extent_sum, first_begin, has_small_slab, is_fixed_dim, lesser, slab_at}
 pub use Rattle.nc_base.specs.code.Weight.{att_weight, dim_weight, var_weight}
 pub use Rattle.nc_base.specs.declared.{dataset.Dataset.Dataset, header.Att.Att, header.Dim.Dim, header.Header.Header, header.NumRecs.NumRecs, header.Var.Var, nc_type.NcType.NcType, version.Version.Version}
 pub use Rattle.nc_base.specs.declared.header.NumRecs.TheVariants.{Known, Streaming}

@@ -1,5 +1,5 @@
 -- Definition. How names and strings are written in CDL.
-use Rattle.std.specs.Prelude.{ℕ, ◌+◌, ◌/◌, ◌%◌, Bool, false, ◌==◌, ◌||◌, not, if◌then◌else◌, List, [], ◌∷◌, ◌++◌, codes}
+use Rattle.std.specs.Prelude.{ℕ, ◌+◌, ◌/◌, ◌%◌, Bool, false, ◌==◌, ◌||◌, if◌then◌else◌, List, [], ◌∷◌, ◌++◌, codes}
 use Rattle.std.specs.Char.{is_ascii_alphanumeric, is_ascii_control, is_ascii_digit}
 use Rattle.std.specs.List.{flat_map, list_any}
 use Rattle.std.specs.Str.{bytes_eq}
@@ -53,10 +53,6 @@ escaped_in_string b =
     else (if b == 13 then codes "\\r"
     else (if (b == 34) || (b == 39) || (b == 92) then 92 ∷ b ∷ []
     else (if is_ascii_control b then octal_escape b else b ∷ [])))))))
-
--- a byte that stands for itself in a string (for contracts)
-abbrev pub is_literal : ℕ → Bool
-is_literal b = not (is_ascii_control b || (b == 34) || (b == 39) || (b == 92))
 
 -- the bytes of a string, between its quotes
 unfoldable pub escaped_text : List ℕ → List ℕ

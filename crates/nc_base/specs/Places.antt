@@ -1,6 +1,6 @@
 -- Definition. Where the values of a variable lie in a file, which of them the file has, and the dataset that it holds.
-use Rattle.std.specs.Prelude.{ℕ, ◌≡◌, ◌+◌, ◌*◌, nat_lt, Bool, ℤ, if◌then◌else◌, List, [], ◌∷◌, length, map, take, drop, All, Option, Some, None}
-use Rattle.std.specs.List.{concat, flat_map, last_or, position, range_with_len}
+use Rattle.std.specs.Prelude.{ℕ, ◌≡◌, ◌+◌, ◌*◌, nat_lt, Bool, ℤ, if◌then◌else◌, List, [], ◌∷◌, length, map, take, drop, All, Option, None}
+use Rattle.std.specs.List.{concat, flat_map, position, range_with_len}
 use Rattle.nc_base.specs.declared.{header.Dim.Dim, header.Var.Var, header.Header.Header, dataset.Dataset.Dataset}
 use Rattle.nc_base.specs.Types.{size_of}
 use Rattle.nc_base.specs.Numbers.{number_of}
@@ -51,15 +51,6 @@ value_offset h var index = var.begin_at + distance index (strides h var)
 -- the offsets of all values of a variable over n records, in row-major order
 unfoldable pub value_offsets : Header → Var → ℕ → List ℕ
 value_offsets h var n = map (value_offset h var) (index_vectors h.dims var n)
-
--- the first offset after the last value of this size, or this begin if there is no value (for contracts)
-abbrev pub end_after : ℕ → ℕ → Option ℕ → ℕ
-end_after begin size None = begin
-end_after begin size (Some offset) = offset + size
-
--- the first offset after a variable's last value over n records, or its begin if it has no value (for contracts)
-abbrev pub extent_end : Header → Var → ℕ → ℕ
-extent_end h var n = end_after var.begin_at (size_of var.ty) (last_or None (value_offsets h var n))
 
 -- ---- values
 

@@ -1,7 +1,7 @@
 -- Definition. The sizes of a variable's slab and of a record, and the number of records. A slab is what a record variable has in
 -- one record. Of any other variable it is all that the variable has.
 use Rattle.std.specs.Prelude.{ℕ, ◌+◌, ◌-◌, ◌*◌, ◌/◌, ◌^◌, min, Bool, false, nat_lt, ◌==◌, ◌&&◌, if◌then◌else◌, List, [], ◌∷◌, length, map, filter, drop, slice_index, sum}
-use Rattle.nc_base.specs.declared.{header.Dim.Dim, header.Var.Var, header.Header.Header, header.NumRecs.NumRecs, nc_type.NcType.NcType}
+use Rattle.nc_base.specs.declared.{header.Dim.Dim, header.Var.Var, header.Header.Header, header.NumRecs.NumRecs}
 use Rattle.nc_base.specs.declared.header.NumRecs.TheVariants.{Known, Streaming}
 use Rattle.nc_base.specs.Bytes.{padding_len}
 use Rattle.nc_base.specs.Types.{size_of}
@@ -90,7 +90,3 @@ record_count h file_len = of_numrecs h.numrecs
     of_numrecs : NumRecs → ℕ
     of_numrecs (Known n) = n
     of_numrecs Streaming = records_between (record_size h) (record_vars h.dims h.vars) file_len
-
--- the bytes of a slab of this shape and type (for contracts)
-abbrev pub slab_of : List Dim → List ℕ → NcType → ℕ
-slab_of dims ids ty = product (slab_lens dims ids) * size_of ty

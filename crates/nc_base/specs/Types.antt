@@ -1,5 +1,5 @@
 -- Definition. The type table.
-use Rattle.std.specs.Prelude.{ℕ, ◌==◌, Bool, true, false, ℤ, pos, neg_ℤ, List, [], ◌∷◌, Option, find, codes}
+use Rattle.std.specs.Prelude.{ℕ, Bool, true, false, ℤ, pos, neg_ℤ, List, [], ◌∷◌, codes}
 use Rattle.std.specs.Int.{Width, w8, w16, w32, w64, byte_len}
 use Rattle.nc_base.specs.declared.nc_type.NcType.{NcType}
 use Rattle.nc_base.specs.declared.nc_type.NcType.TheVariants.{Byte, Char, Short, Int, Ubyte, Ushort, Uint, Int64, Uint64}
@@ -19,10 +19,6 @@ code_of Uint64 = 11
 -- all types
 abbrev pub all_types : List NcType
 all_types = Byte ∷ Char ∷ Short ∷ Int ∷ Ubyte ∷ Ushort ∷ Uint ∷ Int64 ∷ Uint64 ∷ []
-
--- the type with this code: none for the floating types 5 and 6, and none for any other code (for contracts)
-abbrev pub type_of_code : ℕ → Option NcType
-type_of_code code = find (λ ty. code == code_of ty) all_types
 
 -- the width of a value
 abbrev pub width_of : NcType → Width

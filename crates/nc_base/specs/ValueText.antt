@@ -144,10 +144,6 @@ closing look = if is_char look.ty then codes "\" ;\n" else codes " ;\n"
 unfoldable pub variable_prefix : Look → List ℤ → List ℕ
 variable_prefix look values = opening look ++ pieces look (opening look) [] values
 
--- the pieces of the values ys after those of a variable's first values xs (for contracts)
-abbrev pub later_pieces : Look → List ℤ → List ℤ → List ℕ
-later_pieces look xs ys = pieces look (variable_prefix look xs) xs ys
-
 -- a variable's values, from its opening to its closing
 unfoldable pub variable_text : Look → List ℤ → List ℕ
 variable_text look values = variable_prefix look values ++ closing look

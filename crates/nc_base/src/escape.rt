@@ -3,8 +3,8 @@
 ghost use Rattle.std.specs.Prelude.{◌≡◌};
 ghost use Rattle.std.specs.List.{list_any};
 ghost use Rattle.std.specs.Str.{bytes_eq};
-ghost use Rattle.nc_base.specs.Escapes.{begins_with_digit_or_mark, escaped_in_name, escaped_in_string, is_literal, is_name_mark, is_plain, is_reserved};
-ghost use Rattle.nc_base.specs.code.Quoted.{written};
+ghost use Rattle.nc_base.specs.Escapes.{begins_with_digit_or_mark, escaped_in_name, escaped_in_string, is_name_mark, is_plain, is_reserved};
+ghost use Rattle.nc_base.specs.code.Quoted.{is_literal, written};
 
 /// The reserved words of CDL. None of them is a name unless it is escaped.
 const RESERVED_WORDS: [&[u8]; 20] = [

@@ -26,7 +26,8 @@ pub enum NcType {
 }
 
 impl NcType {
-    ghost use Rattle.nc_base.specs.Types.{size_of, code_of, type_of_code, default_fill_of, type_word, number_suffix};
+    ghost use Rattle.nc_base.specs.Types.{size_of, code_of, default_fill_of, type_word, number_suffix};
+    ghost use Rattle.nc_base.specs.code.TypeCodes.{type_of_code};
 
     /// All types, in the order of their codes.
     pub const ALL: [NcType; 9] = [

@@ -3,10 +3,10 @@
 ghost use Rattle.std.specs.Prelude.{◌≡◌, ◌+◌, ◌*◌, ◌/◌, ◌<◌, ◌≤◌, ◌^◌, ◌&&◌, IfSome, if◌then◌else◌, length, map, min, slice_get, SomeIff};
 ghost use Rattle.nc_base.specs.Types.{size_of};
 ghost use Rattle.nc_base.specs.Bytes.{padding_len};
-ghost use Rattle.nc_base.specs.Sizes.{dim_len, is_record_dim, has_records, is_record_var, is_narrow, product, slab_of, slab_size, padded_size, slab_limit, record_size, record_limit, record_vars, record_count};
-ghost use Rattle.nc_base.specs.code.SizeParts.{slab_at, checked_record_size, extent_sum, first_begin, lesser, CountsValues, IsCappedSlab};
+ghost use Rattle.nc_base.specs.Sizes.{dim_len, is_record_dim, has_records, is_record_var, is_narrow, product, slab_size, padded_size, slab_limit, record_size, record_limit, record_vars, record_count};
+ghost use Rattle.nc_base.specs.code.SizeParts.{slab_of, slab_at, checked_record_size, extent_sum, first_begin, lesser, CountsValues, IsCappedSlab};
 ghost use Rattle.nc_base.specs.GeneratedFile.{known_records};
-ghost use Rattle.nc_base.specs.Places.{extent_end};
+ghost use Rattle.nc_base.specs.code.Extents.{extent_end};
 ghost use Rattle.nc_base.specs.Headers.{IsSound, value_count};
 
 use crate::header::{Dim, Header, NumRecs, Var};

@@ -8,8 +8,10 @@ pub use Rattle.nc_base.specs.GeneratedFile.{atts_spelling, begin_after, count_sp
 unfoldable pub use Rattle.nc_base.specs.GeneratedFile.{att_spelling, dim_spelling, file_of, header_spelling, magic_spelling, var_spelling, with_begins, word_spelling}
 pub use Rattle.nc_base.specs.Grammar.{ElementSpelling, IsWithinLimits, SpellsAtt, SpellsAttPrefix, SpellsAtts, SpellsCount, SpellsCounted, SpellsDim, SpellsDimid, SpellsEach, SpellsHeader, SpellsList, SpellsMagic, SpellsName, SpellsNumRecs, SpellsNumber, SpellsOffset, SpellsPadded, SpellsStart, SpellsType, SpellsTypedVar, SpellsUpToDims, SpellsUpToGatts, SpellsVar, SpellsVarPrefix, absent, attribute_tag, dimension_tag, present, variable_tag}
 pub use Rattle.nc_base.specs.Headers.{AreDimids, IsDimid, has_record_dim}
-pub use Rattle.nc_base.specs.Sizes.{is_record_dim, is_record_var, padded_size, padded_total, record_limit, record_vars, slab_limit, slab_of, slab_size}
-pub use Rattle.nc_base.specs.Types.{all_types, code_of, size_of, type_of_code}
+pub use Rattle.nc_base.specs.Sizes.{is_record_dim, is_record_var, padded_size, padded_total, record_limit, record_vars, slab_limit, slab_size}
+pub use Rattle.nc_base.specs.code.SizeParts.{slab_of}
+pub use Rattle.nc_base.specs.Types.{all_types, code_of, size_of}
+pub use Rattle.nc_base.specs.code.TypeCodes.{type_of_code}
 pub use Rattle.nc_base.specs.Versions.{count_limit, count_width, has_type, offset_limit, offset_width, streaming_mark, version_byte, version_of_byte}
 pub use Rattle.nc_base.specs.declared.{fault.FormatFault.FormatFault, header.Att.Att, header.Dim.Dim, header.Header.Header, header.NumRecs.NumRecs, header.Var.Var, nc_type.NcType.NcType, version.Version.Version}
 pub use Rattle.nc_base.specs.declared.fault.FormatFault.TheVariants.{BadCount, BadOffset, BadTag, HeaderTruncated, NotNetcdf, TooLarge}

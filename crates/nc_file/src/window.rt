@@ -3,7 +3,7 @@
 ghost use Rattle.std.specs.Prelude.{◌≡◌, ◌+◌, ◌<◌, ◌≤◌, [], true, length, take, drop, IfOk};
 ghost use Rattle.std.specs.Int.{w32, w64};
 ghost use Rattle.nc_base.specs.Versions.{count_width};
-ghost use Rattle.devices.specs.Sources.{AreFrom};
+ghost use Rattle.devices.specs.code.SourceReads.{AreFrom};
 ghost use Rattle.nc_file.specs.code.Reading.{byte_at, number_at, count_at, bytes_at, skip_at, padded_at};
 
 use crate::head_fault::HeadFault;

@@ -2,7 +2,8 @@
 pub use Rattle.devices.proofs.UpTo.{UpTo, appended-nothing, up-all, up-next, up-partway, up-start, up-then}
 unfoldable pub use Rattle.devices.specs.Failures.{HasFailed}
 pub use Rattle.devices.specs.Sinks.{Appended, FailedPartway, Written}
-pub use Rattle.devices.specs.Sources.{BytesRead, NoneRead, SourceView, having_read}
+pub use Rattle.devices.specs.Sources.{SourceView, having_read}
+pub use Rattle.devices.specs.code.SourceReads.{NoneRead, BytesRead}
 pub use Rattle.nc_base.proofs.FilePlaces.{flat_map-below, length-number, whole-padding, length-replicated}
 pub use Rattle.nc_base.proofs.SoundLaws.{some_count, some_size}
 pub use Rattle.nc_base.proofs.WholeValues.{length-whole, map-map, none-found, numbers-concat}

@@ -1,7 +1,8 @@
 -- Whose failure it was, where one call follows another.
 use Rattle.std.proofs.Common.{◌≡◌, subst, ◌∙◌, Result, Ok, Err}
 use Rattle.devices.specs.Failures.{HasFailed}
-use Rattle.devices.specs.Openers.{OpenerView, OpensOnce, HasBack}
+use Rattle.devices.specs.Openers.{OpenerView}
+use Rattle.devices.specs.code.PathOpens.{HasBack, OpensOnce}
 use Rattle.devices.proofs.Openings.{one_failure, no_failure}
 use Rattle.ncdump.proofs.Prelude.{SourceView, SinkView, DumpFault, OutOfMemory, ReadFailed, WriteFailed, Format, NoSuchVariable, DataTruncated, ReadFailsOnly, ShowsOrFails}
 use Rattle.ncdump.specs.declared.fault.FileFault.{FileFault}

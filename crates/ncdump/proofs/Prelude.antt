@@ -19,7 +19,8 @@ pub use Rattle.nc_base.specs.Places.{bytes_at, first_missing, stored_bytes, stor
 unfoldable pub use Rattle.nc_base.specs.Places.{value_offsets}
 pub use Rattle.nc_base.specs.Sizes.{is_record_var, record_count}
 pub use Rattle.nc_base.specs.Types.{size_of}
-pub use Rattle.nc_base.specs.ValueText.{Look, later_pieces}
+pub use Rattle.nc_base.specs.ValueText.{Look}
+pub use Rattle.nc_base.specs.code.LaterPieces.{later_pieces}
 unfoldable pub use Rattle.nc_base.specs.ValueText.{closing, look_of, opening, variable_prefix, variable_text}
 pub use Rattle.nc_base.specs.declared.{header.Header.Header, header.Var.Var}
 pub use Rattle.nc_walk.proofs.FullReadSteps.{after_after, transparent_any, transparent_both, transparent_map}

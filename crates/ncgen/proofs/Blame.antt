@@ -2,7 +2,8 @@
 use Rattle.std.proofs.Common.{◌≡◌, ℕ, subst, ◌∙◌, Err}
 use Rattle.devices.proofs.Openings.{one_failure, no_failure}
 use Rattle.ncgen.proofs.Prelude.{HasFailed, ReaderView, ReadsText}
-use Rattle.devices.specs.Openers.{OpenerView, OpensOnce, HasBack}
+use Rattle.devices.specs.Openers.{OpenerView}
+use Rattle.devices.specs.code.PathOpens.{HasBack, OpensOnce}
 use Rattle.ncgen.specs.Inputs.{OpensText}
 use Rattle.ncgen.specs.declared.{fault.TextFault.TextFault, failure.InputFault.TheVariants.Text}
 use Rattle.ncgen.specs.declared.fault.TextFault.TheVariants.{OutOfMemory, ReadFailed, TooLong}

@@ -1,7 +1,7 @@
 //! Readers that fail on request.
 
 ghost use Rattle.std.specs.Prelude.{None, false, true};
-ghost use Rattle.devices.specs.Openers.{HasBack};
+ghost use Rattle.devices.specs.code.PathOpens.{HasBack};
 ghost use Rattle.test_generate.specs.code.TextDevices.{view_of_failing, view_of_watched};
 
 use devices::{CountedRead, MemFiles, OpenFailed, TextOpener};

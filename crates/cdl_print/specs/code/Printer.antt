@@ -1,6 +1,7 @@
 -- For contracts. What the printer of a variable's values has done, in words for its callers.
 use Rattle.std.specs.Prelude.{ℕ, ◌≡◌, ◌+◌, ℤ, Bool, true, false, List, ◌++◌, length, Result, Ok, Err}
-use Rattle.nc_base.specs.ValueText.{Look, later_pieces}
+use Rattle.nc_base.specs.ValueText.{Look}
+use Rattle.nc_base.specs.code.LaterPieces.{later_pieces}
 use Rattle.devices.specs.Failures.{HasFailed}
 use Rattle.devices.specs.Sinks.{SinkView, Appended, FailedPartway, Wrote}
 use Rattle.cdl_print.specs.code.Leads.{look_at, values, AreWhole}

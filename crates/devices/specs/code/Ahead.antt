@@ -1,7 +1,8 @@
 -- For contracts. What is read ahead of a source, and what is copied from there.
 use Rattle.std.specs.Prelude.{◌≡◌, ℕ, ◌<◌, ◌≤◌, Bool, true, List, length, Result}
 use Rattle.devices.specs.Failures.{HasFailed}
-use Rattle.devices.specs.Sources.{AreFrom, ReadSome, SourceView}
+use Rattle.devices.specs.Sources.{SourceView}
+use Rattle.devices.specs.code.SourceReads.{ReadSome, AreFrom}
 use Rattle.devices.specs.declared.{ahead.ReadAhead.ReadAhead, source.Source.Ghosts}
 
 -- n bytes of the file from this offset on are at the start, and at least one, where the file is known

@@ -1,7 +1,7 @@
 //! A source that gives few bytes a read, and fails on request.
 
 ghost use Rattle.std.specs.Prelude.{◌≡◌, ◌↔◌, ◌≤◌, ◌<◌, ◌⊎◌, IfOk, IsErr, IsTrue, true, length};
-ghost use Rattle.devices.specs.Sources.{CanCount, CantCount, ReadSome, unread};
+ghost use Rattle.devices.specs.code.SourceReads.{ReadSome, CantCount, CanCount, unread};
 
 use crate::memory::length_of;
 use crate::{Source, SourceFailed};

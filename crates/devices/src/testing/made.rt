@@ -1,7 +1,7 @@
 //! Outputs in memory.
 
 ghost use Rattle.std.specs.Prelude.{◌≡◌, Some, true};
-ghost use Rattle.devices.specs.Creators.{uncreated};
+ghost use Rattle.devices.specs.code.Creations.{uncreated};
 ghost use Rattle.devices.specs.code.Made.{Gave, given_of, output_of, view_of};
 
 use crate::{CloseFailed, CreateFailed, Creator, MemSink};

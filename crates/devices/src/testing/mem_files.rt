@@ -2,7 +2,7 @@
 
 ghost use Rattle.std.specs.Prelude.{◌≡◌, option_map, true};
 ghost use Rattle.devices.specs.code.MemFiles.{bytes_named, file_named, files_of, is_at, view_of};
-ghost use Rattle.devices.specs.Openers.{HasBack, unopened};
+ghost use Rattle.devices.specs.code.PathOpens.{HasBack, unopened};
 
 use crate::{CountedRead, MemSource, OpenFailed, Opener, TextOpener};
 use std::io::Read;

@@ -1,7 +1,7 @@
 //! A sink over a slice.
 
 ghost use Rattle.std.specs.Prelude.{◌≡◌, ◌↔◌, ◌<◌, ◌≤◌, ◌+◌, ◌-◌, [], Some, length, take, true, IsErr, IfOk, OnErr};
-ghost use Rattle.devices.specs.Sinks.{WroteSome, unfailed};
+ghost use Rattle.devices.specs.code.SinkWrites.{WroteSome, unfailed};
 
 use crate::{Flush, Sink, SinkFailed};
 

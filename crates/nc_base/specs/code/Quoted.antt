@@ -1,9 +1,14 @@
 -- For contracts. How one byte is written where it stands, in words for the code that prints and the code that reads.
-use Rattle.std.specs.Prelude.{ℕ, Bool, List, [], ◌∷◌}
-use Rattle.nc_base.specs.Escapes.{escaped_in_name, escaped_in_string, is_literal, is_plain, octal_escape}
+use Rattle.std.specs.Prelude.{ℕ, Bool, List, [], ◌∷◌, ◌==◌, ◌||◌, not}
+use Rattle.nc_base.specs.Escapes.{escaped_in_name, escaped_in_string, is_plain, octal_escape}
 use Rattle.nc_base.specs.declared.{escape.Escape.Escape, escape.Quoting.Quoting}
 use Rattle.nc_base.specs.declared.escape.Escape.TheVariants.{Plain, Backslash, Octal}
 use Rattle.nc_base.specs.declared.escape.Quoting.TheVariants.{InName, InString}
+use Rattle.std.specs.Char.{is_ascii_control}
+
+-- a byte that stands for itself in a string
+abbrev pub is_literal : ℕ → Bool
+is_literal b = not (is_ascii_control b || (b == 34) || (b == 39) || (b == 92))
 
 -- a byte that is written so
 abbrev pub written : Escape → ℕ → List ℕ

@@ -3,7 +3,12 @@ use Rattle.std.specs.Prelude.{◌≡◌, ◌≤◌, ℕ, ◌+◌, ◌-◌, ◌*�
 use Rattle.std.specs.List.{list_all}
 use Rattle.nc_base.specs.declared.{header.Dim.Dim, header.Var.Var, header.Header.Header, nc_type.NcType.NcType}
 use Rattle.nc_base.specs.Headers.{value_count}
-use Rattle.nc_base.specs.Sizes.{is_record_dim, is_record_var, slab_of, slab_size, record_vars, record_size, slab_limit, record_limit, least_begin}
+use Rattle.nc_base.specs.Sizes.{is_record_dim, is_record_var, slab_size, record_vars, record_size, slab_limit, record_limit, least_begin, slab_lens, product}
+use Rattle.nc_base.specs.Types.{size_of}
+
+-- the bytes of a slab of this shape and type
+abbrev pub slab_of : List Dim → List ℕ → NcType → ℕ
+slab_of dims ids ty = product (slab_lens dims ids) * size_of ty
 
 -- the id is that of a dimension other than the record dimension
 abbrev pub is_fixed_dim : List Dim → ℕ → Bool

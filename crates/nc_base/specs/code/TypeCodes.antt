@@ -1,0 +1,8 @@
+-- For contracts. The type with a code.
+use Rattle.std.specs.Prelude.{ℕ, ◌==◌, Option, find}
+use Rattle.nc_base.specs.declared.nc_type.NcType.{NcType}
+use Rattle.nc_base.specs.Types.{code_of, all_types}
+
+-- the type with this code: none for the floating types 5 and 6, and none for any other code
+abbrev pub type_of_code : ℕ → Option NcType
+type_of_code code = find (λ ty. code == code_of ty) all_types
