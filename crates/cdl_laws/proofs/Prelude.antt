@@ -25,7 +25,7 @@ pub use Rattle.cdl_statements.specs.declared.fault.CdlKind.TheVariants.{BadName,
 pub use Rattle.cdl_statements.specs.declared.section.Section.TheVariants.{Closed, Dimensions, Ended, Globals, Unopened, Values, Variables}
 pub use Rattle.cdl_tokens.proofs.Strings.{or_zero, stands_for, plain_small}
 pub use Rattle.cdl_tokens.specs.Bytes.{begins_word, digit_value, goes_on_number, goes_on_word, is_blank, is_digit, is_escapable, is_escape, is_hex, is_octal, is_sign, number_in, within}
-pub use Rattle.cdl_tokens.specs.Escapes.{byte, escape, inner, number_escape, plain_escape, stands, unescape}
+pub use Rattle.cdl_tokens.specs.Escapes.{up_to_255, escape, inner, number_escape, plain_escape, stands, unescape}
 unfoldable pub use Rattle.cdl_tokens.specs.Escapes.{character, unescape_at, word_value}
 pub use Rattle.cdl_tokens.specs.Numerals.{Numeral, Parts, has_suffix, in_base, number, unsigned}
 unfoldable pub use Rattle.cdl_tokens.specs.Numerals.{numeral, parts, suffix}

@@ -1,6 +1,6 @@
 -- What the shapes give: names, counts and types of what a statement says, against the bytes of its tokens.
 use Rattle.std.proofs.Common.{◌≡◌, ℕ, ◌+◌, ◌-◌, ◌*◌, ◌≤◌, ◌<◌, Bool, true, false, List, [], ◌∷◌, length, refl, arith, zero, suc, find, if◌then◌else◌, Option, None, Some, take, drop, ◌&&◌, ◌||◌, not, ◌==◌, slice_index, codes, ℤ, map, nat_lt}
-use Rattle.cdl_laws.proofs.Prelude.{length-take, length-drop, option_map, option_and_then, prefix_len, take_while, is_reserved, NcType, Version, all_types, has_type, to_ascii_lowercase, is_digit, is_octal, is_hex, is_escape, is_sign, number_in, byte, character, escape, inner, number_escape, plain_escape, unescape_at, word_value, or_zero, Lexeme, is_word_kind, is_mark, is_word, name_of, Parts, parts, number, Numeral, numeral, suffix, has_suffix, in_base, unsigned, Value, Number, Characters, Underscore, Dimension, Variable, both, each, given, into_first, members_in, members, length_of, dimension, constant_of, constant, constants, name_alone, before_mark, variable, TokenKind, and_right, plain_small}
+use Rattle.cdl_laws.proofs.Prelude.{length-take, length-drop, option_map, option_and_then, prefix_len, take_while, is_reserved, NcType, Version, all_types, has_type, to_ascii_lowercase, is_digit, is_octal, is_hex, is_escape, is_sign, number_in, up_to_255, character, escape, inner, number_escape, plain_escape, unescape_at, word_value, or_zero, Lexeme, is_word_kind, is_mark, is_word, name_of, Parts, parts, number, Numeral, numeral, suffix, has_suffix, in_base, unsigned, Value, Number, Characters, Underscore, Dimension, Variable, both, each, given, into_first, members_in, members, length_of, dimension, constant_of, constant, constants, name_alone, before_mark, variable, TokenKind, and_right, plain_small}
 use Rattle.cdl_statements.specs.Shapes.{dimensions}
 use Rattle.cdl_tokens.specs.declared.token.TokenKind.TheVariants as kinds
 use Rattle.cdl_tokens.specs.declared.scan.Character.{Character}
@@ -110,7 +110,7 @@ numeral_has v bs = some_map (HasTypeOf v) number (parts v bs) (parts_have v bs)
 abbrev ByteOrNone : Option ℕ → Type 0
 ByteOrNone o = SomeIs IsByte o
 
-byte_is : (n : ℕ) → ByteOrNone (byte n)
+byte_is : (n : ℕ) → ByteOrNone (up_to_255 n)
 byte_is n =
     elim (nat_lt 255 n) as (λ b. nat_lt 255 n ≡ b → ByteOrNone (if b then None else Some n)) [ true ↦ (λ e. tt) | false ↦ (λ e. grind (arith, e)) ] refl
 
@@ -122,7 +122,7 @@ abbrev IsFine : Character → Type 0
 IsFine c = ByteOrNone c.value
 
 number_fine : (mark base : ℕ) (digits : List ℕ) → IsFine (number_escape mark base digits)
-number_fine mark base digits = in_if ByteOrNone (length digits == 0) None (byte (number_in base 0 digits)) tt (byte_is (number_in base 0 digits))
+number_fine mark base digits = in_if ByteOrNone (length digits == 0) None (up_to_255 (number_in base 0 digits)) tt (byte_is (number_in base 0 digits))
 
 escape_fine : (bs : List ℕ) → Each IsByte bs → IsFine (escape bs)
 escape_fine bs h =

@@ -1,6 +1,6 @@
 -- An escaped string between quotes is one token that stands for it.
 use Rattle.std.proofs.Common.{◌≡◌, ℕ, suc, ◌+◌, ◌*◌, ◌-◌, ◌/◌, ◌%◌, ◌<◌, true, false, List, [], ◌∷◌, ◌++◌, length, drop, take, sym, ◌∙◌, ap, refl, subst, arith, append_assoc, length-append, ◌==◌, nat_lt, map, Some, is_some}
-use Rattle.cdl_laws.proofs.Prelude.{is_ascii_control, flat_map, list_all, false≢true, eqb-true, take-append_seam, escaped_in_string, octal_escape, digit_value, is_octal, is_digit, number_in, until, scan, scan_text, character, byte, plain_escape, unescape, unescape_at, Lexeme, until_at_start}
+use Rattle.cdl_laws.proofs.Prelude.{is_ascii_control, flat_map, list_all, false≢true, eqb-true, take-append_seam, escaped_in_string, octal_escape, digit_value, is_octal, is_digit, number_in, until, scan, scan_text, character, up_to_255, plain_escape, unescape, unescape_at, Lexeme, until_at_start}
 use Rattle.cdl_tokens.specs.declared.token.TokenKind.TheVariants as kinds
 use Rattle.cdl_laws.proofs.Texts.{Closed, prefix_again}
 
@@ -18,11 +18,11 @@ until_octal d e f rest h k =
     ap (λ n. 2 + n) (until_plain 0x22 e (f ∷ rest) (not_octal e 0x5c refl h) (not_octal e 0x22 refl h) ∙ ap (λ n. 1 + n) (until_plain 0x22 f rest (not_octal f 0x5c refl k) (not_octal f 0x22 refl k))) ∙ (omega arith)
 
 character_octal : (d e f : ℕ) (rest : List ℕ) → is_octal d ≡ true → is_octal e ≡ true → is_octal f ≡ true →
-    character (0x5c ∷ d ∷ e ∷ f ∷ rest) ≡ record { value = byte (number_in 8 0 (d ∷ e ∷ f ∷ [])); len = 4 }
+    character (0x5c ∷ d ∷ e ∷ f ∷ rest) ≡ record { value = up_to_255 (number_in 8 0 (d ∷ e ∷ f ∷ [])); len = 4 }
 unfolding character
 character_octal d e f rest h k l = rw (h) (rw (k) (rw (l) refl))
 
-unescape_octal : (d e f n : ℕ) (rest : List ℕ) → is_octal d ≡ true → is_octal e ≡ true → is_octal f ≡ true → byte (number_in 8 0 (d ∷ e ∷ f ∷ [])) ≡ Some n →
+unescape_octal : (d e f n : ℕ) (rest : List ℕ) → is_octal d ≡ true → is_octal e ≡ true → is_octal f ≡ true → up_to_255 (number_in 8 0 (d ∷ e ∷ f ∷ [])) ≡ Some n →
     unescape (0x5c ∷ d ∷ e ∷ f ∷ rest) ≡ Some n ∷ unescape rest
 unfolding unescape_at
 unescape_octal d e f n rest h k l is = rw (character_octal d e f rest h k l) (rw (is) refl)
@@ -71,7 +71,7 @@ low_octal b = grind arith
 digit_octal : (n : ℕ) → n < 8 → digit_value (48 + n) ≡ n
 digit_octal n h = let e : is_digit (48 + n) ≡ true = grind arith in rw (e) (omega arith)
 
-octal_value : (b : ℕ) → b < 256 → byte (number_in 8 0 ((48 + b / 64) ∷ (48 + b / 8 % 8) ∷ (48 + b % 8) ∷ [])) ≡ Some b
+octal_value : (b : ℕ) → b < 256 → up_to_255 (number_in 8 0 ((48 + b / 64) ∷ (48 + b / 8 % 8) ∷ (48 + b % 8) ∷ [])) ≡ Some b
 octal_value b h =
     rw (digit_octal (b / 64) (omega arith)) (rw (digit_octal (b / 8 % 8) (omega arith)) (rw (digit_octal (b % 8) (omega arith))
     (let e : 8 * (8 * (8 * 0 + b / 64) + b / 8 % 8) + b % 8 ≡ b = omega arith in rw (e) (let f : nat_lt 255 b ≡ false = grind arith in rw (f) refl))))

@@ -1,6 +1,6 @@
 -- Definition. The tokens cut into pieces.
 use Rattle.std.specs.Prelude.{ℕ, zero, suc, Bool, true, false, List, [], ◌∷◌, ◌-◌, ◌&&◌, ◌||◌, if◌then◌else◌, take, codes}
-use Rattle.std.specs.Str.{bytes_eq}
+use Rattle.std.specs.Str.{byte, bytes_eq}
 use Rattle.cdl_statements.specs.Lexemes.{Lexeme, is_mark, is_word_kind, is_opening_kind, is_end_kind}
 
 -- an unescaped `dimensions`, `variables` or `data`
@@ -10,11 +10,11 @@ is_section word = bytes_eq word (codes "dimensions") || bytes_eq word (codes "va
 -- such a word, and a colon after it. look: gives the kind and the bytes of a token.
 abbrev pub is_section_mark : {X : Type 0} → (X → Lexeme) → X → List X → Bool
 is_section_mark look t [] = false
-is_section_mark look t (u ∷ ts) = is_word_kind (look t).kind && is_section (look t).bytes && is_mark 0x3a (look u)
+is_section_mark look t (u ∷ ts) = is_word_kind (look t).kind && is_section (look t).bytes && is_mark (byte ":") (look u)
 
 -- an Opening, a `}` or End
 abbrev pub is_alone : Lexeme → Bool
-is_alone l = is_opening_kind l.kind || is_end_kind l.kind || is_mark 0x7d l
+is_alone l = is_opening_kind l.kind || is_end_kind l.kind || is_mark (byte "}") l
 
 -- how many tokens come before End
 abbrev pub len_before_end : {X : Type 0} → (X → Lexeme) → List X → ℕ
@@ -24,7 +24,7 @@ len_before_end look (t ∷ ts) = elim (is_end_kind (look t).kind) [ true ↦ 0 |
 -- how many come up to the first `;`, which counts, or before End
 abbrev pub statement_len : {X : Type 0} → (X → Lexeme) → List X → ℕ
 statement_len look [] = 0
-statement_len look (t ∷ ts) = elim (is_end_kind (look t).kind) [ true ↦ 0 | false ↦ elim (is_mark 0x3b (look t)) [ true ↦ 1 | false ↦ suc (statement_len look ts) ] ]
+statement_len look (t ∷ ts) = elim (is_end_kind (look t).kind) [ true ↦ 0 | false ↦ elim (is_mark (byte ";") (look t)) [ true ↦ 1 | false ↦ suc (statement_len look ts) ] ]
 
 -- how many tokens the piece has that begins with t and goes on in ts. The Bool: the piece before began with `}`.
 abbrev pub piece_len : {X : Type 0} → (X → Lexeme) → Bool → X → List X → ℕ
@@ -36,4 +36,4 @@ piece_len look false t ts = if is_alone (look t) then 1 else (if is_section_mark
 unfoldable pub pieces_at : {X : Type 0} → (X → Lexeme) → Bool → ℕ → List X → List (List X)
 pieces_at look closed more [] = []
 pieces_at look closed (suc more) (t ∷ ts) = pieces_at look closed more ts
-pieces_at look closed zero (t ∷ ts) = take (piece_len look closed t ts) (t ∷ ts) ∷ pieces_at look (is_mark 0x7d (look t)) (piece_len look closed t ts - 1) ts
+pieces_at look closed zero (t ∷ ts) = take (piece_len look closed t ts) (t ∷ ts) ∷ pieces_at look (is_mark (byte "}") (look t)) (piece_len look closed t ts - 1) ts

@@ -1,5 +1,6 @@
 -- Definition. The shapes of statements.
 use Rattle.std.specs.Prelude.{ℕ, ℤ, Bool, true, false, List, [], ◌∷◌, ◌&&◌, ◌||◌, not, if◌then◌else◌, codes, Option, None, Some, is_none, nat_lt}
+use Rattle.std.specs.Str.{byte}
 use Rattle.std.specs.Option.{option_map, option_and_then}
 use Rattle.cdl_tokens.specs.Escapes.{inner, stands}
 use Rattle.cdl_statements.specs.Lexemes.{Lexeme, is_mark, is_word, is_word_kind, is_opening_kind, is_end_kind, name_of}
@@ -79,9 +80,9 @@ into_first l (m ∷ ms) = (l ∷ m) ∷ ms
 abbrev pub members_in : Bool → List Lexeme → List (List Lexeme)
 members_in parens [] = [] ∷ []
 members_in parens (l ∷ ls) =
-    elim (is_mark 0x2c l && not parens) [
+    elim (is_mark (byte ",") l && not parens) [
       | true ↦ [] ∷ members_in parens ls
-      | false ↦ into_first l (members_in (is_mark 0x28 l || parens && not (is_mark 0x29 l)) ls)
+      | false ↦ into_first l (members_in (is_mark (byte "(") l || parens && not (is_mark (byte ")") l)) ls)
     ]
 
 abbrev pub members : List Lexeme → List (List Lexeme)
@@ -103,12 +104,12 @@ length_of v l = if is_word (codes "unlimited") l || is_word (codes "UNLIMITED") 
 
 -- NAME = LENGTH, from the tokens n, e and l
 abbrev pub dimension : Version → Lexeme → Lexeme → Lexeme → Option Dimension
-dimension v n e l = given (is_mark 0x3d e) (both (λ name len. record { name = name; len = len }) (name_of n) (length_of v l))
+dimension v n e l = given (is_mark (byte "=") e) (both (λ name len. record { name = name; len = len }) (name_of n) (length_of v l))
 
 -- NAME = LENGTH, ..
 abbrev pub dimensions : Version → List Lexeme → Option (List Dimension)
 dimensions v (n ∷ e ∷ l ∷ []) = both (λ d ds. d ∷ ds) (dimension v n e l) (Some [])
-dimensions v (n ∷ e ∷ l ∷ c ∷ ls) = given (is_mark 0x2c c) (both (λ d ds. d ∷ ds) (dimension v n e l) (dimensions v ls))
+dimensions v (n ∷ e ∷ l ∷ c ∷ ls) = given (is_mark (byte ",") c) (both (λ d ds. d ∷ ds) (dimension v n e l) (dimensions v ls))
 dimensions v _ = None
 
 -- a VALUE if `_` is taken, otherwise a CONST
@@ -124,7 +125,7 @@ constant v takes_fill l = constant_of v takes_fill l l.kind
 abbrev pub constants : Version → Bool → List Lexeme → Option (List Value)
 constants v takes_fill [] = None
 constants v takes_fill (l ∷ []) = both (λ x xs. x ∷ xs) (constant v takes_fill l) (Some [])
-constants v takes_fill (l ∷ c ∷ ls) = given (is_mark 0x2c c) (both (λ x xs. x ∷ xs) (constant v takes_fill l) (constants v takes_fill ls))
+constants v takes_fill (l ∷ c ∷ ls) = given (is_mark (byte ",") c) (both (λ x xs. x ∷ xs) (constant v takes_fill l) (constants v takes_fill ls))
 
 abbrev pub name_alone : List Lexeme → Option (List ℕ)
 name_alone (l ∷ []) = name_of l
@@ -141,16 +142,16 @@ abbrev pub variable : List Lexeme → Option Variable
 variable [] = None
 variable (n ∷ []) = option_map (λ name. record { name = name; dimensions = [] }) (name_of n)
 variable (n ∷ p ∷ ls) =
-    given (is_mark 0x28 p) (both (λ name ds. record { name = name; dimensions = ds }) (name_of n) (option_and_then (λ inner. each name_alone (members inner)) (before_mark 0x29 ls)))
+    given (is_mark (byte "(") p) (both (λ name ds. record { name = name; dimensions = ds }) (name_of n) (option_and_then (λ inner. each name_alone (members inner)) (before_mark (byte ")") ls)))
 
 -- NAME = VALUE, .. if `_` is taken, otherwise NAME = CONST, ..; f is applied to the name and the list
 abbrev pub assigned : {A : Type 0} → Version → Bool → (List ℕ → List Value → A) → List Lexeme → Option A
-assigned v takes_fill f (n ∷ e ∷ ls) = given (is_mark 0x3d e) (both f (name_of n) (constants v takes_fill ls))
+assigned v takes_fill f (n ∷ e ∷ ls) = given (is_mark (byte "=") e) (both f (name_of n) (constants v takes_fill ls))
 assigned v takes_fill f _ = None
 
 -- : NAME = CONST, ..
 abbrev pub global : Version → List Lexeme → Option Statement
-global v (c ∷ ls) = given (is_mark 0x3a c) (assigned v false (Attribute None) ls)
+global v (c ∷ ls) = given (is_mark (byte ":") c) (assigned v false (Attribute None) ls)
 global v _ = None
 
 -- TYPE NAME, ..; each NAME may have (NAME, ..) after it
@@ -160,7 +161,7 @@ typed _ = None
 
 -- NAME : NAME = CONST, ..
 abbrev pub attribute : Version → List Lexeme → Option Statement
-attribute v (n ∷ c ∷ ls) = given (is_mark 0x3a c) (option_and_then (λ name. assigned v false (Attribute (Some name)) ls) (name_of n))
+attribute v (n ∷ c ∷ ls) = given (is_mark (byte ":") c) (option_and_then (λ name. assigned v false (Attribute (Some name)) ls) (name_of n))
 attribute v _ = None
 
 -- a statement without its `;`, by the section
@@ -189,7 +190,7 @@ abbrev pub mark_after : Section → Section → Option Statement
 mark_after before s = given (nat_lt (section_number before) (section_number s)) (Some (Mark s))
 
 abbrev pub section_mark : Section → List Lexeme → Option Statement
-section_mark before (l ∷ c ∷ []) = given (is_mark 0x3a c) (option_and_then (mark_after before) (section_of l))
+section_mark before (l ∷ c ∷ []) = given (is_mark (byte ":") c) (option_and_then (mark_after before) (section_of l))
 section_mark before _ = None
 
 -- a, if the piece is one token that passes the test
@@ -202,4 +203,4 @@ unfoldable pub shape : Version → Section → List Lexeme → Option Statement
 shape v Unopened ls = alone (λ l. is_opening_kind l.kind) Opening ls
 shape v Closed ls = alone (λ l. is_end_kind l.kind) End ls
 shape v Ended ls = None
-shape v section ls = either (alone (is_mark 0x7d) Brace ls) (either (section_mark section ls) (option_and_then (body v section) (before_mark 0x3b ls)))
+shape v section ls = either (alone (is_mark (byte "}")) Brace ls) (either (section_mark section ls) (option_and_then (body v section) (before_mark (byte ";") ls)))

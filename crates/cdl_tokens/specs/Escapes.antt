@@ -1,5 +1,6 @@
 -- Definition. The escapes of words and of strings.
 use Rattle.std.specs.Prelude.{ℕ, zero, suc, List, [], ◌∷◌, ◌+◌, ◌-◌, ◌==◌, nat_lt, if◌then◌else◌, slice_index, take, drop, length, map, Option, None, Some, unwrap_or}
+use Rattle.std.specs.Str.{byte}
 use Rattle.std.specs.List.{take_while}
 use Rattle.cdl_tokens.specs.declared.scan.Character.{Character}
 use Rattle.cdl_tokens.specs.Bytes.{is_escape, is_octal, is_hex, number_in}
@@ -11,34 +12,34 @@ word_value (b ∷ []) = b ∷ []
 word_value (b ∷ c ∷ rest) = if is_escape b c then c ∷ word_value rest else b ∷ word_value (c ∷ rest)
 
 -- the number, if it is at most 255
-abbrev pub byte : ℕ → Option ℕ
-byte n = if nat_lt 255 n then None else Some n
+abbrev pub up_to_255 : ℕ → Option ℕ
+up_to_255 n = if nat_lt 255 n then None else Some n
 
 -- An escape by number. mark: how many bytes come before its digits. Without a digit, or above 255, it stands for no byte.
 abbrev pub number_escape : ℕ → ℕ → List ℕ → Character
-number_escape mark base digits = record { value = if length digits == 0 then None else byte (number_in base 0 digits); len = mark + length digits }
+number_escape mark base digits = record { value = if length digits == 0 then None else up_to_255 (number_in base 0 digits); len = mark + length digits }
 
 -- what the byte after a backslash stands for
 abbrev pub plain_escape : ℕ → ℕ
 plain_escape b =
-    if b == 0x61 then 0x07
-    else (if b == 0x62 then 0x08
-    else (if b == 0x66 then 0x0c
-    else (if b == 0x6e then 0x0a
-    else (if b == 0x72 then 0x0d
-    else (if b == 0x74 then 0x09
-    else (if b == 0x76 then 0x0b
+    if b == byte "a" then 0x07
+    else (if b == byte "b" then 0x08
+    else (if b == byte "f" then 0x0c
+    else (if b == byte "n" then 0x0a
+    else (if b == byte "r" then 0x0d
+    else (if b == byte "t" then 0x09
+    else (if b == byte "v" then 0x0b
     else b))))))
 
 -- the escape at the backslash just before these bytes; its length counts that backslash
 abbrev pub escape : List ℕ → Character
 escape bs =
     if is_octal (slice_index bs 0) then number_escape 1 8 (take_while is_octal (take 3 bs))
-    else (if slice_index bs 0 == 0x78 then number_escape 2 16 (take_while is_hex (take 2 (drop 1 bs)))
+    else (if slice_index bs 0 == byte "x" then number_escape 2 16 (take_while is_hex (take 2 (drop 1 bs)))
     else record { value = Some (plain_escape (slice_index bs 0)); len = 2 })
 
 unfoldable pub character : List ℕ → Character
-character bs = if slice_index bs 0 == 0x5c then escape (drop 1 bs) else record { value = Some (slice_index bs 0); len = 1 }
+character bs = if slice_index bs 0 == byte "\\" then escape (drop 1 bs) else record { value = Some (slice_index bs 0); len = 1 }
 
 -- the byte of each character from here on, if it stands for one; of the character before, `more` bytes are still to come
 unfoldable pub unescape_at : ℕ → List ℕ → List (Option ℕ)

@@ -3,7 +3,7 @@ use Rattle.std.specs.Prelude.{find, ℕ, ℤ, pos, neg_ℤ, Bool, false, List, [
 use Rattle.std.specs.Char.{to_ascii_lowercase}
 use Rattle.std.specs.List.{prefix_len}
 use Rattle.std.specs.Option.{option_map}
-use Rattle.std.specs.Str.{bytes_eq}
+use Rattle.std.specs.Str.{byte, bytes_eq}
 use Rattle.cdl_tokens.specs.Bytes.{is_digit, is_octal, is_hex, is_sign, number_in}
 use Rattle.nc_base.specs.declared.{nc_type.NcType.NcType, version.Version.Version}
 use Rattle.nc_base.specs.declared.nc_type.NcType.TheVariants.{Char, Int}
@@ -39,12 +39,12 @@ in_base v minus base n bs =
 -- hexadecimal digits after `0x` or `0X`; or octal digits, if `0` is the first of them or alone; or decimal digits
 abbrev pub unsigned : Version → Bool → List ℕ → Option Parts
 unsigned v minus bs =
-    if slice_index bs 0 == 0x30 && to_ascii_lowercase (slice_index bs 1) == 0x78 then in_base v minus 16 (prefix_len is_hex (drop 2 bs)) (drop 2 bs)
-    else (if slice_index bs 0 == 0x30 then in_base v minus 8 (prefix_len is_octal bs) bs
+    if slice_index bs 0 == byte "0" && to_ascii_lowercase (slice_index bs 1) == byte "x" then in_base v minus 16 (prefix_len is_hex (drop 2 bs)) (drop 2 bs)
+    else (if slice_index bs 0 == byte "0" then in_base v minus 8 (prefix_len is_octal bs) bs
     else in_base v minus 10 (prefix_len is_digit bs) bs)
 
 unfoldable pub parts : Version → List ℕ → Option Parts
-parts v bs = if is_sign (slice_index bs 0) then unsigned v (slice_index bs 0 == 0x2d) (drop 1 bs) else unsigned v false bs
+parts v bs = if is_sign (slice_index bs 0) then unsigned v (slice_index bs 0 == byte "-") (drop 1 bs) else unsigned v false bs
 
 abbrev pub signed : Bool → ℕ → ℤ
 signed minus n = if minus then neg_ℤ (pos n) else pos n

@@ -1,5 +1,6 @@
 -- Definition. What stands at the start of bytes: a gap or a token, and how many bytes it has. A place past the end counts as a 0 byte.
 use Rattle.std.specs.Prelude.{ℕ, Bool, List, [], ◌∷◌, ◌+◌, ◌&&◌, ◌||◌, ◌==◌, nat_lt, nat_eq, not, if◌then◌else◌, slice_index, take, drop, length, codes, None, Some, is_some}
+use Rattle.std.specs.Str.{byte}
 use Rattle.std.specs.List.{list_all, prefix_len, starts_with}
 use Rattle.cdl_tokens.specs.Bytes.{is_blank, is_digit, begins_word, goes_on_word, goes_on_number, is_sign, is_mark_byte, is_escape}
 use Rattle.cdl_tokens.specs.Escapes.{unescape}
@@ -19,7 +20,7 @@ unfoldable pub until : ℕ → List ℕ → ℕ
 until close [] = 0
 until close (b ∷ []) = if b == close then 0 else 1
 until close (b ∷ c ∷ rest) =
-    if b == 0x5c then 2 + until close rest
+    if b == byte "\\" then 2 + until close rest
     else (if b == close then 0 else 1 + until close (c ∷ rest))
 
 -- a letter, `_`, a byte from 0x80 or an escape
@@ -29,17 +30,17 @@ begins_a_word bs = begins_word (slice_index bs 0) || is_escape (slice_index bs 0
 -- a digit, `.` and a digit, a sign and a digit, or a sign, `.` and a digit
 abbrev pub begins_number : List ℕ → Bool
 begins_number bs =
-    is_digit (slice_index bs 0) || slice_index bs 0 == 0x2e && is_digit (slice_index bs 1)
+    is_digit (slice_index bs 0) || slice_index bs 0 == byte "." && is_digit (slice_index bs 1)
     || is_sign (slice_index bs 0) && is_digit (slice_index bs 1)
-    || is_sign (slice_index bs 0) && slice_index bs 1 == 0x2e && is_digit (slice_index bs 2)
+    || is_sign (slice_index bs 0) && slice_index bs 1 == byte "." && is_digit (slice_index bs 2)
 
 -- `netcdf`, then white space or `{`
 abbrev pub begins_opening : List ℕ → Bool
-begins_opening bs = starts_with nat_eq bs (codes "netcdf") && (is_blank (slice_index bs 6) || slice_index bs 6 == 0x7b)
+begins_opening bs = starts_with nat_eq bs (codes "netcdf") && (is_blank (slice_index bs 6) || slice_index bs 6 == byte "{")
 
 -- two slashes
 abbrev pub begins_comment : List ℕ → Bool
-begins_comment bs = slice_index bs 0 == 0x2f && slice_index bs 1 == 0x2f
+begins_comment bs = slice_index bs 0 == byte "/" && slice_index bs 1 == byte "/"
 
 abbrev pub gap : ℕ → Scanned
 gap n = record { kind = None; len = n }
@@ -58,11 +59,11 @@ scan_text bs n = if nat_lt n (length bs) then token (if list_all is_some (unesca
 -- the token or gap at the start of these bytes, one byte at least; at_start: no token comes before them
 unfoldable pub scan : Bool → List ℕ → Scanned
 scan at_start bs =
-    if at_start && begins_opening bs then scan_opening (drop 6 bs) (until 0x7b (drop 6 bs))
+    if at_start && begins_opening bs then scan_opening (drop 6 bs) (until (byte "{") (drop 6 bs))
     else (if begins_a_word bs then token Word (word_len bs)
     else (if begins_number bs then token Number (1 + prefix_len goes_on_number (drop 1 bs))
     else (if is_blank (slice_index bs 0) then gap 1
-    else (if begins_comment bs then gap (prefix_len (λ b. not (b == 0x0a)) bs)
-    else (if slice_index bs 0 == 0x22 then scan_text (drop 1 bs) (until 0x22 (drop 1 bs))
+    else (if begins_comment bs then gap (prefix_len (λ b. not (b == byte "\n")) bs)
+    else (if slice_index bs 0 == byte "\"" then scan_text (drop 1 bs) (until (byte "\"") (drop 1 bs))
     else (if is_mark_byte (slice_index bs 0) then token Mark 1
     else token Bad 1))))))

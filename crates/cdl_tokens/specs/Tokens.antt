@@ -1,5 +1,6 @@
 -- Definition. The tokens of a text.
 use Rattle.std.specs.Prelude.{ℕ, zero, suc, Bool, true, List, [], ◌∷◌, ◌+◌, ◌-◌, ◌&&◌, ◌==◌, take, drop, count_by, Option, None, Some, is_none}
+use Rattle.std.specs.Str.{byte}
 use Rattle.cdl_tokens.specs.Scan.{scan}
 use Rattle.cdl_tokens.specs.declared.{token.Token.Token, token.TokenKind.TokenKind, token.TokenKind.TheVariants.End}
 
@@ -9,7 +10,7 @@ raw text t = take (t.past - t.first) (drop t.first text)
 
 -- 1 plus the line feeds before this place
 abbrev pub line_at : List ℕ → ℕ → ℕ
-line_at text at = 1 + count_by (λ b. b == 0x0a) (take at text)
+line_at text at = 1 + count_by (λ b. b == byte "\n") (take at text)
 
 abbrev pub token_at : List ℕ → ℕ → TokenKind → ℕ → Token
 token_at text at kind n = record { kind = kind; line = line_at text at; first = at; past = at + n }

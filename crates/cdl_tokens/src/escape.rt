@@ -3,7 +3,7 @@
 ghost use Rattle.std.specs.Prelude.{◌≡◌, ◌≤◌, ◌<◌, is_some, length};
 ghost use Rattle.std.specs.List.{list_all, prefix_len};
 ghost use Rattle.cdl_tokens.specs.Bytes.{number_in};
-ghost use Rattle.cdl_tokens.specs.Escapes.{byte, character, escape, number_escape, plain_escape, unescape};
+ghost use Rattle.cdl_tokens.specs.Escapes.{up_to_255, character, escape, number_escape, plain_escape, unescape};
 ghost use Rattle.cdl_tokens.specs.code.Scanners.{is_unescaped};
 
 use crate::bytes::{byte_at, first_bytes, is_octal};
@@ -13,7 +13,7 @@ use crate::search::len_before;
 
 /// Returns the number as a byte, or `None` if it is greater than 255.
 fn byte(n: u64) -> Option<u8>
-    ensures { result ≡ byte n }
+    ensures { result ≡ up_to_255 n }
 {
     if n > 255 { None } else { Some(n as u8) }
 }
@@ -42,7 +42,7 @@ fn number_escape(mark: usize, base: u64, digits: &[u8]) -> Character
 fn byte_in(base: u64, digits: &[u8]) -> Option<u8>
     requires some { 1 ≤ base }
     requires small { base ≤ 16 }
-    ensures { result ≡ byte (number_in base 0 digits.now) }
+    ensures { result ≡ up_to_255 (number_in base 0 digits.now) }
 {
     byte(number_in(base, digits)?)
 }

@@ -1,7 +1,7 @@
 -- The bytes of an attribute's constants.
 use Rattle.std.proofs.Common.{◌≡◌, ℕ, zero, suc, ◌-◌, ◌<◌, Bool, true, false, List, [], ◌∷◌, ◌++◌, length, take, drop, refl, sym, ap, ◌∙◌, append_assoc, arith, pos, Option, None, Some, Result, Ok, Err, nat_lt, ◌==◌, slice_index, map, if◌then◌else◌}
 use Rattle.std.specs.Prelude.{⊤}
-use Rattle.cdl_values.proofs.Prelude.{bytes_of_number, NcType, Char, Version, value_of, values, Lexeme, TokenKind, take_while, is_octal, is_hex, number_in, byte, character, escape, inner, number_escape, plain_escape, stands, unescape_at, or_zero, word, held, Parts, number, Value, Number, Characters, CdlKind, NumberRange, add_constant, has_number, in_turn, same_type, type_said, unless, Adds, ContinuesRead, Leaves, char_bytes, held_bytes, joined, number_bytes, text_bytes, ReadError, OutOfMemory, Fault, plain_small}
+use Rattle.cdl_values.proofs.Prelude.{bytes_of_number, NcType, Char, Version, value_of, values, Lexeme, TokenKind, take_while, is_octal, is_hex, number_in, up_to_255, character, escape, inner, number_escape, plain_escape, stands, unescape_at, or_zero, word, held, Parts, number, Value, Number, Characters, CdlKind, NumberRange, add_constant, has_number, in_turn, same_type, type_said, unless, Adds, ContinuesRead, Leaves, char_bytes, held_bytes, joined, number_bytes, text_bytes, ReadError, OutOfMemory, Fault, plain_small}
 use Rattle.cdl_tokens.specs.declared.token.TokenKind.TheVariants as kinds
 use Rattle.cdl_tokens.specs.declared.scan.Character.{Character}
 use Rattle.cdl_tokens.specs.declared.numeral.Numeral.{Numeral as Held}
@@ -57,7 +57,7 @@ no_number v l kinds.End h = refl
 
 -- ---- the characters of a string are bytes
 
-small_byte : (n : ℕ) → or_zero (byte n) < 256
+small_byte : (n : ℕ) → or_zero (up_to_255 n) < 256
 small_byte n = by (nat_lt 255 n) refl
   where
     by : (b : Bool) → b ≡ nat_lt 255 n → or_zero (if b then None else Some n) < 256
@@ -107,7 +107,7 @@ put_on before after first rest whole is cut =
 number_small : (mark base : ℕ) (digits : List ℕ) → or_zero (number_escape mark base digits).value < 256
 number_small mark base digits = by (length digits == 0)
   where
-    by : (none : Bool) → or_zero (if none then None else byte (number_in base 0 digits)) < 256
+    by : (none : Bool) → or_zero (if none then None else up_to_255 (number_in base 0 digits)) < 256
     by true = omega arith
     by false = small_byte (number_in base 0 digits)
 

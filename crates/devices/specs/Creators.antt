@@ -1,4 +1,4 @@
--- Definition. What creating and closing an output has done.
+-- Definition. What creates outputs, as contracts see it.
 use Rattle.std.specs.Prelude.{ℕ, ◌≡◌, ◌+◌, List, [], ◌∷◌, ◌++◌, Option}
 use Rattle.devices.specs.Failures.{HasFailed}
 
@@ -7,8 +7,8 @@ pub record Output : Type 0 where
   pub path : List ℕ
   pub bytes : Option (List ℕ)
 
--- What paths were given, in order, where the creator is transparent, and how many outputs were created, and how often
--- creating or writing one failed. A path holds the last that it was given.
+-- What paths were given, in order (if the creator is transparent), how many outputs were created, and how often creating or writing one
+-- failed. A path holds what it was given last.
 pub record CreatorView : Type 0 where
   pub given : List Output
   pub creations : ℕ

@@ -1,7 +1,7 @@
--- Definition. What opens paths as its contracts see it, and what opening and closing has done.
-use Rattle.std.specs.Prelude.{ℕ, ◌+◌, ◌-◌, ◌^◌, min}
+-- Definition. What opens paths, as its contracts see it.
+use Rattle.std.specs.Prelude.{ℕ, ◌+◌, ◌-◌, ◌^◌, min, Bool, List, Option}
 
--- how often it was asked to open a path, and how often the sources that it took back have failed
+-- how often it was asked to open a path, and how often the devices that it took back have failed
 pub record OpenerView : Type 0 where
   pub opens : ℕ
   pub failures : ℕ
@@ -9,3 +9,14 @@ pub record OpenerView : Type 0 where
 -- how often it was asked to open a path, after one time more; the count stops at 2^128 - 1
 abbrev pub opens_after : OpenerView → ℕ
 opens_after old = min (old.opens + 1) (2 ^ 128 - 1)
+
+-- What opens paths, before a call and after it. If it opens transparent devices, contracts know which bytes each path names, if any.
+pub record Opening : Type 0 where
+  pub is_transparent : Bool
+  pub named : List ℕ → Option (List ℕ)
+  pub before : OpenerView
+  pub after : OpenerView
+
+-- the same of an opener, old and new, that contracts see by the bytes that paths name and by this view
+abbrev pub opening : {Opener : Type 0} → Bool → (Opener → List ℕ → Option (List ℕ)) → (Opener → OpenerView) → Opener → Opener → Opening
+opening is_transparent named view old new = record { is_transparent = is_transparent; named = named old; before = view old; after = view new }

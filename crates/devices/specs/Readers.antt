@@ -1,9 +1,9 @@
--- Definition. A reader as its contracts see it, and what a read has done.
+-- Definition. A reader, as contracts see it.
 use Rattle.std.specs.Prelude.{ℕ, Bool, true, false, List, [], Option, Some}
 use Rattle.devices.specs.declared.reader.CountedRead.{CountedRead}
 
--- The bytes that are still to come, where the reader is transparent, how often it has failed and has been read, how many
--- bytes it has handed over, and if a read with room gave none, so that it is at its end.
+-- The bytes that are still to come (if the reader is transparent), how often it has failed, how often it was read, how many bytes it has
+-- handed over, and whether it has ended: a read into a buffer that isn't empty has given none.
 pub record ReaderView : Type 0 where
   pub remaining : Option (List ℕ)
   pub failures : ℕ

@@ -3,7 +3,7 @@ use Rattle.std.specs.Bool.{OnTrue}
 use Rattle.std.specs.Prelude.{Bool, is_some, ◌≡◌, ℕ, ◌+◌, ◌≤◌, List, [], ◌++◌, length, Option, Some, None, option_map, unwrap_or, Result, Ok, Err}
 use Rattle.devices.specs.Failures.{HasFailed}
 
--- a sink as its contracts see it: the bytes that it took, where it is transparent, and how often it has failed
+-- a sink, as contracts see it: the bytes that it has taken (if it is transparent), and how often it has failed
 pub record SinkView : Type 0 where
   pub taken : Option (List ℕ)
   pub failures : ℕ
@@ -12,7 +12,7 @@ pub record SinkView : Type 0 where
 unfoldable pub append : SinkView → List ℕ → SinkView
 append v bytes = record { taken = option_map (λ prefix. prefix ++ bytes) v.taken; failures = v.failures }
 
--- the number of bytes that it has taken, where it is transparent
+-- how many bytes it has taken, if it is transparent
 unfoldable pub taken_len : SinkView → ℕ
 taken_len v = length (unwrap_or v.taken [])
 

@@ -2,7 +2,7 @@
 
 ghost use Rattle.std.specs.Prelude.{◌≡◌, List, ℕ, Option, IfOk};
 ghost use Rattle.devices.specs.Openers.{OpenerView};
-ghost use Rattle.devices.specs.code.PathOpens.{Opens, HasBack, OpensOnce};
+ghost use Rattle.devices.specs.code.PathOpens.{OpensSource, HasBack, OpensOnce};
 
 use crate::{OpenFailed, Source};
 
@@ -20,7 +20,7 @@ pub trait Opener {
     // The opener as contracts see it.
     ghost view: { Self → OpenerView };
 
-    /// Opens the path as a source that has read nothing yet.
+    /// OpensSource the path as a source that has read nothing yet.
     ///
     /// # Errors
     ///
@@ -29,7 +29,7 @@ pub trait Opener {
         ensures once { OpensOnce (view self.old) (view self.new) }
         ensures failures { IfOk result (λ source. (Self.Source.view source).failures ≡ 0) }
         ensures handed { IfOk result (λ source. (Self.Source.view source).handed ≡ 0) }
-        ensures path { Opens Self.Source.is_transparent Self.Source.view (named self.old path.now) result };
+        ensures path { OpensSource Self.Source.is_transparent Self.Source.view (named self.old path.now) result };
 
     /// Takes back a source that it opened, adds the source's failures to its own, and drops the source.
     fn close(&mut self, source: Self::Source)

@@ -2,9 +2,8 @@
 
 ghost use Rattle.std.specs.Prelude.{◌≡◌, Bool, List, ℕ, Option, IfOk};
 ghost use Rattle.devices.specs.Openers.{OpenerView};
-ghost use Rattle.devices.specs.code.PathOpens.{HasBack, OpensOnce};
+ghost use Rattle.devices.specs.code.PathOpens.{HasBack, OpensOnce, OpensText};
 ghost use Rattle.devices.specs.Readers.{view_of};
-ghost use Rattle.devices.specs.TextOpeners.{OpensText};
 
 use crate::{CountedRead, OpenFailed};
 use std::io::Read;

@@ -110,27 +110,27 @@ abbrev pub with_variable : Look → List ℤ → Option ℕ → ℕ → Section 
 with_variable look values None v others = record { text = variable_text look values ++ others.text; ending = others.ending }
 with_variable look values (Some k) v others = record { text = variable_prefix look (take k values); ending = data_truncated v k }
 
--- what the variables of a header have, over n records, and the width of the lines that show it
+-- what is shown: a header over n records, the values of the variable in each place, and the width of the lines that show them
 pub record ShownData : Type 0 where
   pub header : Header
-  pub content : ℕ → Var → VariableValues
+  pub values_of : ℕ → Var → VariableValues
   pub records : ℕ
   pub width : ℕ
 
 abbrev pub shown_data : Header → (ℕ → Var → VariableValues) → ℕ → ℕ → ShownData
-shown_data h content n width = record { header = h; content = content; records = n; width = width }
+shown_data h values_of n width = record { header = h; values_of = values_of; records = n; width = width }
 
 -- The values of the marked ones of these variables. The first variable has index v. A variable that has no values has no text.
 abbrev pub variables_section : ShownData → ℕ → List Var → List Bool → Section
-variables_section c v (var ∷ vars) (mark ∷ marks) =
-    if mark && has_values c.header.dims c.records var
-    then with_variable (look_of c.header var c.records c.width) (c.content v var).values (c.content v var).missing v (variables_section c (v + 1) vars marks)
-    else variables_section c (v + 1) vars marks
-variables_section c v vars marks = no_section
+variables_section d v (var ∷ vars) (mark ∷ marks) =
+    if mark && has_values d.header.dims d.records var
+    then with_variable (look_of d.header var d.records d.width) (d.values_of v var).values (d.values_of v var).missing v (variables_section d (v + 1) vars marks)
+    else variables_section d (v + 1) vars marks
+variables_section d v vars marks = no_section
 
 -- the same of all variables, or of none if the header alone is shown
 abbrev pub shown_section : Header → Options → (ℕ → Var → VariableValues) → ℕ → List Bool → Section
-shown_section h o content n marks = variables_section (shown_data h content n o.width) 0 h.vars (if o.head_only then [] else marks)
+shown_section h o values_of n marks = variables_section (shown_data h values_of n o.width) 0 h.vars (if o.head_only then [] else marks)
 
 -- what comes before the values: nothing if there are no variables, or if the header alone is shown
 unfoldable pub data_word : Header → Options → List ℕ

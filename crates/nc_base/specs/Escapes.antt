@@ -2,16 +2,16 @@
 use Rattle.std.specs.Prelude.{ℕ, ◌+◌, ◌/◌, ◌%◌, Bool, false, ◌==◌, ◌||◌, if◌then◌else◌, List, [], ◌∷◌, ◌++◌, codes}
 use Rattle.std.specs.Char.{is_ascii_alphanumeric, is_ascii_control, is_ascii_digit}
 use Rattle.std.specs.List.{flat_map, list_any}
-use Rattle.std.specs.Str.{bytes_eq}
+use Rattle.std.specs.Str.{byte, bytes_eq}
 use Rattle.nc_base.specs.Names.{is_beyond_ascii}
 
 -- one of `. @ + -`: a name may have it unescaped, but not as its first byte
 abbrev pub is_name_mark : ℕ → Bool
-is_name_mark b = (b == 46) || (b == 64) || (b == 43) || (b == 45)
+is_name_mark b = (b == byte ".") || (b == byte "@") || (b == byte "+") || (b == byte "-")
 
 -- a byte that stands for itself in a name
 abbrev pub is_plain : ℕ → Bool
-is_plain b = is_ascii_alphanumeric b || (b == 95) || is_name_mark b || is_beyond_ascii b
+is_plain b = is_ascii_alphanumeric b || (b == byte "_") || is_name_mark b || is_beyond_ascii b
 
 -- the reserved words of CDL
 abbrev pub reserved_words : List (List ℕ)
@@ -31,27 +31,27 @@ begins_with_digit_or_mark (b ∷ bs) = is_ascii_digit b || is_name_mark b
 
 -- one byte of a name
 abbrev pub escaped_in_name : ℕ → List ℕ
-escaped_in_name b = if is_plain b then b ∷ [] else 92 ∷ b ∷ []
+escaped_in_name b = if is_plain b then b ∷ [] else byte "\\" ∷ b ∷ []
 
 -- A name: a backslash comes before each byte that isn't plain. One also comes before the first byte, if that is a digit or
 -- one of `. @ + -`, or if the name is a reserved word.
 unfoldable pub escaped_name : List ℕ → List ℕ
-escaped_name name = (if begins_with_digit_or_mark name || is_reserved name then 92 ∷ [] else []) ++ flat_map escaped_in_name name
+escaped_name name = (if begins_with_digit_or_mark name || is_reserved name then byte "\\" ∷ [] else []) ++ flat_map escaped_in_name name
 
 -- a backslash and three octal digits
 abbrev pub octal_escape : ℕ → List ℕ
-octal_escape b = 92 ∷ (48 + b / 64) ∷ (48 + b / 8 % 8) ∷ (48 + b % 8) ∷ []
+octal_escape b = byte "\\" ∷ (byte "0" + b / 64) ∷ (byte "0" + b / 8 % 8) ∷ (byte "0" + b % 8) ∷ []
 
 -- one byte of a string: \b \t \n \v \f \r \" \' \\, the other control characters in octal, and all others as they are
 abbrev pub escaped_in_string : ℕ → List ℕ
 escaped_in_string b =
     if b == 8 then codes "\\b"
     else (if b == 9 then codes "\\t"
-    else (if b == 10 then codes "\\n"
+    else (if b == byte "\n" then codes "\\n"
     else (if b == 11 then codes "\\v"
     else (if b == 12 then codes "\\f"
     else (if b == 13 then codes "\\r"
-    else (if (b == 34) || (b == 39) || (b == 92) then 92 ∷ b ∷ []
+    else (if (b == byte "\"") || (b == byte "'") || (b == byte "\\") then byte "\\" ∷ b ∷ []
     else (if is_ascii_control b then octal_escape b else b ∷ [])))))))
 
 -- the bytes of a string, between its quotes

@@ -1,7 +1,8 @@
 -- Definition. The first wrong field of a header, from the left: what is wrong with it, and the rest after it. After a field that
 -- the file's end cuts short there is no rest. `StopsIn..` says that reading the part stops at a wrong field, and gives its fault
 -- and the rest.
-use Rattle.std.specs.Prelude.{ℕ, zero, suc, ◌≡◌, ◌≢◌, ◌+◌, ◌*◌, ◌<◌, ◌≤◌, true, false, ◌⊎◌, List, [], ◌∷◌, ◌++◌, length, None}
+use Rattle.std.specs.Prelude.{ℕ, zero, suc, ◌≡◌, ◌≢◌, ◌+◌, ◌*◌, ◌<◌, ◌≤◌, true, false, ◌⊎◌, List, [], ◌∷◌, ◌++◌, length, None, codes}
+use Rattle.std.specs.Str.{byte}
 use Rattle.std.specs.Int.{Width, w32, byte_len}
 use Rattle.nc_base.specs.declared.{fault.FormatFault.FormatFault, header.Att.Att, header.Dim.Dim, header.Var.Var, header.NumRecs.NumRecs, nc_type.NcType.NcType, version.Version.Version}
 use Rattle.nc_base.specs.declared.fault.FormatFault.TheVariants.{NotNetcdf, UnknownVersion, HeaderTruncated, BadTag, BadCount, BadName, FloatingType, BadType, BadShape, TwoRecordDims, BadOffset, TooLarge}
@@ -162,11 +163,11 @@ pub data StopsInVar (v : Version) (dims : List Dim) (before : List Var) (bytes :
 pub data StopsInMagic (bytes : List ℕ) : FormatFault → List ℕ → Type 0 where
   cut_magic : length bytes < 3 → StopsInMagic bytes NotNetcdf []
   other_magic : (a b c : ℕ) (rest : List ℕ)
-      → bytes ≡ a ∷ b ∷ c ∷ rest → ¬ ((a ≡ 67) × (b ≡ 68) × (c ≡ 70))
+      → bytes ≡ a ∷ b ∷ c ∷ rest → ¬ ((a ≡ byte "C") × (b ≡ byte "D") × (c ≡ byte "F"))
       → StopsInMagic bytes NotNetcdf rest
-  cut_version : bytes ≡ 67 ∷ 68 ∷ 70 ∷ [] → StopsInMagic bytes HeaderTruncated []
+  cut_version : bytes ≡ codes "CDF" → StopsInMagic bytes HeaderTruncated []
   bad_version : (n : ℕ) (rest : List ℕ)
-      → bytes ≡ 67 ∷ 68 ∷ 70 ∷ n ∷ rest → version_of_byte n ≡ None
+      → bytes ≡ codes "CDF" ++ n ∷ rest → version_of_byte n ≡ None
       → StopsInMagic bytes (UnknownVersion n) rest
 
 -- the number of records: STREAMING isn't wrong, though its top bit is set

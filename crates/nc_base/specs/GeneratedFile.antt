@@ -1,5 +1,5 @@
 -- Definition. The file of a dataset: the one spelling of its header, and its values as one concatenation.
-use Rattle.std.specs.Prelude.{ℕ, ◌+◌, ◌-◌, ◌*◌, ◌/◌, ◌^◌, ◌<◌, ◌==◌, Bool, false, nat_lt, not, if◌then◌else◌, List, [], ◌∷◌, ◌++◌, length, filter, take, drop, replicate, All}
+use Rattle.std.specs.Prelude.{ℕ, ◌+◌, ◌-◌, ◌*◌, ◌/◌, ◌^◌, ◌<◌, ◌==◌, Bool, false, nat_lt, not, if◌then◌else◌, List, [], ◌∷◌, ◌++◌, length, filter, take, drop, replicate, All, codes}
 use Rattle.std.specs.Int.{w32, to_be_bytes}
 use Rattle.std.specs.List.{concat, flat_map, list_all, range_with_len}
 use Rattle.nc_base.specs.declared.{header.Att.Att, header.Dim.Dim, header.Var.Var, header.Header.Header, header.NumRecs.NumRecs, dataset.Dataset.Dataset, version.Version.Version, version.Version.TheVariants.Cdf5}
@@ -24,7 +24,7 @@ word_spelling n = to_be_bytes w32 n
 
 -- magic: `CDF` and the version byte
 unfoldable pub magic_spelling : Version → List ℕ
-magic_spelling v = 67 ∷ 68 ∷ 70 ∷ version_byte v ∷ []
+magic_spelling v = codes "CDF" ++ version_byte v ∷ []
 
 -- bytes, and zeros up to the next multiple of four
 abbrev pub zero_padded : List ℕ → List ℕ

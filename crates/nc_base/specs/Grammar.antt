@@ -1,7 +1,7 @@
 -- Definition. The grammar of a header, as the NetCDF Classic Format Specification has it: for each of its lines a relation between
 -- bytes, the value at their start, and the rest after it. Padding and vsize may be any. A line that ends with `..` is the
 -- beginning of one, for FirstFault.
-use Rattle.std.specs.Prelude.{ℕ, ◌≡◌, ◌*◌, ◌^◌, ◌<◌, ◌≤◌, true, false, List, [], ◌∷◌, ◌++◌, length}
+use Rattle.std.specs.Prelude.{ℕ, ◌≡◌, ◌*◌, ◌^◌, ◌<◌, ◌≤◌, true, false, List, [], ◌∷◌, ◌++◌, length, codes}
 use Rattle.std.specs.Int.{Width, w32, to_be_bytes, byte_len}
 use Rattle.nc_base.specs.declared.{header.Att.Att, header.Dim.Dim, header.Var.Var, header.Header.Header, header.NumRecs.NumRecs, nc_type.NcType.NcType, version.Version.Version}
 use Rattle.nc_base.specs.declared.header.NumRecs.TheVariants.{Known, Streaming}
@@ -154,7 +154,7 @@ pub record SpellsVar (v : Version) (dims : List Dim) (before : List Var) (bytes 
 
 -- magic = 'C' 'D' 'F' VERSION
 abbrev pub SpellsMagic : List ℕ → Version → List ℕ → Type 0
-SpellsMagic bytes v rest = bytes ≡ 67 ∷ 68 ∷ 70 ∷ version_byte v ∷ rest
+SpellsMagic bytes v rest = bytes ≡ codes "CDF" ++ version_byte v ∷ rest
 
 -- numrecs = NON_NEG | STREAMING
 abbrev pub SpellsNumRecs : Version → List ℕ → NumRecs → List ℕ → Type 0

@@ -1,6 +1,7 @@
 -- Definition. The text of a header in CDL, up to `data:`. Each line ends with a line feed. The line of a dimension or a
 -- declaration begins with a tab, and that of an attribute with two.
 use Rattle.std.specs.Prelude.{ℕ, ◌-◌, ◌==◌, ℤ, if◌then◌else◌, List, [], ◌∷◌, ◌++◌, length, map, take, codes, decimal, slice_get, Option, Some, None}
+use Rattle.std.specs.Str.{byte}
 use Rattle.std.specs.Fmt.{signed_decimal}
 use Rattle.std.specs.List.{suffix_len}
 use Rattle.nc_base.specs.declared.{header.Att.Att, header.Dim.Dim, header.Var.Var, header.Header.Header, nc_type.NcType.NcType, nc_type.NcType.TheVariants.Char}
@@ -53,7 +54,7 @@ without_trailing_nuls bytes = take (length bytes - suffix_len (λ b. b == 0) byt
 abbrev pub broken_text : List ℕ → List ℕ
 broken_text [] = []
 broken_text (b ∷ []) = escaped_in_string b
-broken_text (b ∷ c ∷ bytes) = escaped_in_string b ++ ((if b == 10 then string_break else []) ++ broken_text (c ∷ bytes))
+broken_text (b ∷ c ∷ bytes) = escaped_in_string b ++ ((if b == byte "\n" then string_break else []) ++ broken_text (c ∷ bytes))
 
 -- the characters of an attribute
 unfoldable pub char_values : List ℕ → List ℕ

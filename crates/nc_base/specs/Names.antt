@@ -2,7 +2,7 @@
 use Rattle.std.specs.Prelude.{ℕ, Bool, false, IsTrue, nat_le, ◌==◌, ◌&&◌, ◌||◌, not, List, [], ◌∷◌, slice_index, length, ◌-◌}
 use Rattle.std.specs.Char.{is_ascii_alphabetic, is_ascii_digit}
 use Rattle.std.specs.List.{list_all}
-use Rattle.std.specs.Str.{is_utf8}
+use Rattle.std.specs.Str.{byte, is_utf8}
 
 -- part of a character beyond ASCII
 abbrev pub is_beyond_ascii : ℕ → Bool
@@ -10,18 +10,18 @@ is_beyond_ascii b = nat_le 128 b
 
 -- a letter, a digit, `_` or a character beyond ASCII
 abbrev pub may_begin_name : ℕ → Bool
-may_begin_name b = is_ascii_alphabetic b || is_ascii_digit b || (b == 95) || is_beyond_ascii b
+may_begin_name b = is_ascii_alphabetic b || is_ascii_digit b || (b == byte "_") || is_beyond_ascii b
 
 -- any printing ASCII character but `/`, or a character beyond ASCII
 abbrev pub may_follow_in_name : ℕ → Bool
-may_follow_in_name b = (nat_le 32 b && nat_le b 126 && not (b == 47)) || is_beyond_ascii b
+may_follow_in_name b = (nat_le 32 b && nat_le b 126 && not (b == byte "/")) || is_beyond_ascii b
 
 abbrev pub has_name_bytes : List ℕ → Bool
 has_name_bytes [] = false
 has_name_bytes (first ∷ others) = may_begin_name first && list_all may_follow_in_name others
 
 abbrev pub ends_with_space : List ℕ → Bool
-ends_with_space name = slice_index name (length name - 1) == 32
+ends_with_space name = slice_index name (length name - 1) == byte " "
 
 -- a name of a dimension, a variable or an attribute: not empty, in UTF-8, of the bytes that names have, and without a
 -- space at its end

@@ -1,12 +1,13 @@
 -- Definition. The stem of a path: the name of its file without the extension.
 use Rattle.std.specs.Prelude.{ℕ, Bool, ◌==◌, List, drop, if◌then◌else◌}
+use Rattle.std.specs.Str.{byte}
 use Rattle.std.specs.List.{list_any, before_last, after_last}
 
 abbrev pub is_slash : ℕ → Bool
-is_slash b = b == 47
+is_slash b = b == byte "/"
 
 abbrev pub is_dot : ℕ → Bool
-is_dot b = b == 46
+is_dot b = b == byte "."
 
 -- what comes after the last slash of a path, or all of it if it has none
 abbrev pub file_name_of : List ℕ → List ℕ

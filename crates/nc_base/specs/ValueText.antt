@@ -1,5 +1,6 @@
 -- Definition. The text of a variable's values, as the data section of a dump shows them.
 use Rattle.std.specs.Prelude.{ℕ, ◌+◌, ◌-◌, ◌%◌, ◌==◌, ◌&&◌, ℤ, pos, unsigned_abs, Bool, true, false, not, nat_lt, if◌then◌else◌, List, [], ◌∷◌, ◌++◌, length, drop, replicate, slice_index, is_some, codes}
+use Rattle.std.specs.Str.{byte}
 use Rattle.std.specs.Fmt.{signed_decimal}
 use Rattle.std.specs.List.{suffix_len}
 use Rattle.std.specs.Ordering.{int_eq}
@@ -65,7 +66,7 @@ begins_row look i = i % look.row == 0
 
 -- how many bytes come after the last line feed
 abbrev pub column : List ℕ → ℕ
-column before = suffix_len (λ b. not (b == 10)) before
+column before = suffix_len (λ b. not (b == byte "\n")) before
 
 -- a number in decimal, or `_` for a fill value that prints so
 abbrev pub number_text : Look → ℤ → List ℕ

@@ -1,6 +1,6 @@
 -- Values of one slab, and then more of the next ones.
 use Rattle.std.proofs.Common.{◌≡◌, ℕ, ◌+◌, ◌-◌, ◌*◌, ◌^◌, ◌<◌, ◌≤◌, min, Bool, List, ◌++◌, length, take, map, sym, ◌∙◌, ap, subst, arith, length-append, length-take, All}
-use Rattle.nc_walk.proofs.Prelude.{concat, map-append, All-append, concat-append, mod-mul-add, mul-le-mul_right, lt_of_mul-lt-mul_right, take-add, bytes_at, HasFailed, SourceView, having_read, Slabs, Cursor, total, number_at, offset, offsets_after, offsets_from, IsSized, IsOffset, Ready, SourceUse, between, WalkView, IsWhole, Exactly, ReturnsValues, Failing, Truncated, ReadValues, Reading, reading, standing}
+use Rattle.nc_walk.proofs.Prelude.{concat, map-append, All-append, concat-append, mod-mul-add, mul-le-mul_right, lt_of_mul-lt-mul_right, take-add, bytes_at, HasFailed, SourceView, having_read, Slabs, Cursor, total, number_at, offset, offsets_after, offsets_from, IsSized, IsOffset, Ready, Use, between, WalkView, IsWhole, Exactly, ReturnsValues, Failing, Truncated, ReadValues, Reading, reading, standing}
 use borrow.Rule.Slice.PartMut.{put_mid}
 use Rattle.nc_walk.specs.declared.chunk.Chunk.{Chunk}
 use Rattle.nc_walk.specs.code.Chunks.{Collected}
@@ -143,9 +143,9 @@ next_offset l cursor next n at sized first second some le number is =
 -- ---- a chunk, and a run after it
 
 -- the chunk may go on
-pub record Going (is_transparent : Bool) (r : Reading) (s : SourceUse) (chunk : Chunk) : Type 0 where
+pub record Going (is_transparent : Bool) (r : Reading) (s : Use SourceView) (chunk : Chunk) : Type 0 where
   pub collected : Collected is_transparent r s chunk
-  pub slab_read : chunk.next.within ≡ 0 → ReadValues r.slabs (number_at r.slabs r.cursor) s.before s.now chunk.values
+  pub slab_read : chunk.next.within ≡ 0 → ReadValues r.slabs (number_at r.slabs r.cursor) s.before s.after chunk.values
 
 -- it ends with its slab, and the part of the buffer after it is asked for
 module _ (is_transparent : Bool) (l : Slabs) (cursor : Cursor) (had buf part following : List ℕ) (before mid now : SourceView) (chunk : Chunk) (k : ℕ)

@@ -27,7 +27,7 @@ pub use Rattle.nc_walk.specs.code.FullReads.{FailedReadInFull, ReadInFull}
 pub use Rattle.nc_walk.specs.code.RecordSlabs.{array_of, record_slab, record_slabs}
 pub use Rattle.nc_walk.specs.code.Slabs.{AreSlabsOf, IsCursor, IsOffset, IsSized, Ready, number_at, offset, offsets_after, slabs_of, total}
 unfoldable pub use Rattle.nc_walk.specs.code.Slabs.{offsets_from}
-pub use Rattle.nc_walk.specs.code.SourceUses.{SourceUse, between, source_of}
+pub use Rattle.devices.specs.Uses.{Use, between, use_of}
 pub use Rattle.nc_walk.specs.code.Walked.{Gives, GivesChunk, GivesCut, GivesEnd, GivesFailure, HasRead, IsChunk, Pass, StoredNumbers, Walked, going_on, offsets_in, stored_in, total_in, whole_count, whole_in}
 pub use Rattle.nc_walk.specs.code.Walks.{Advanced, Answer, Exactly, Failing, IsWhole, ReadValues, Reading, ReturnsValues, Starts, Steps, Truncated, WalkView, as_answer, count, reading, standing, stopped}
 pub use Rattle.nc_walk.specs.declared.{cursor.Cursor.Cursor, slabs.Slabs.Slabs, write.record_slab.RecordSlab.RecordSlab}

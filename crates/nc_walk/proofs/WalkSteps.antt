@@ -11,7 +11,7 @@ after_none : (v : SourceView) (size : ℕ) → v ≡ having_read v (0 * size)
 after_none v size = let e : v.handed ≡ v.handed + 0 * size = omega arith in ap (λ (k : ℕ). record v { handed = k }) e
 
 -- a walk that starts has walked past no value
-pub begun : (p : Pass) (v : ℕ) (w : WalkView) (s : Starts p.header v p.records p.buffer_len w) → s.var ≡ p.var → p.source.now ≡ p.source.before → Walked p w 0
+pub begun : (p : Pass) (v : ℕ) (w : WalkView) (s : Starts p.header v p.records p.buffer_len w) → s.var ≡ p.var → p.source.after ≡ p.source.before → Walked p w 0
 begun p v w s var first = record {
   size = s.size ∙ ap (λ (x : Var). size_of x.ty) var;
   left = s.left ∙ ap (λ (x : Var). value_offsets p.header x p.records) var;
@@ -45,7 +45,7 @@ module _ (p : Pass) (w : WalkView) (c : SourceView) (k : ℕ) (s : Walked p w k)
   a = p.source.before
 
   abbrev b : SourceView
-  b = p.source.now
+  b = p.source.after
 
   abbrev size : ℕ
   size = size_of p.var.ty

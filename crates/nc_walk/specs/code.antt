@@ -1,5 +1,4 @@
 pub mod Slabs
-pub mod SourceUses
 pub mod FullReads
 pub mod Walks
 pub mod Lends

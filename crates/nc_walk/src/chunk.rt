@@ -2,7 +2,7 @@
 
 ghost use Rattle.std.specs.Prelude.{◌+◌, ◌≤◌, ◌↔◌, IsTrue, IfOk};
 ghost use Rattle.nc_walk.specs.code.Slabs.{IsCursor, AreReady, HasCapacity};
-ghost use Rattle.nc_walk.specs.code.SourceUses.{source_of};
+ghost use Rattle.devices.specs.Uses.{use_of};
 ghost use Rattle.nc_walk.specs.code.Walks.{reading};
 ghost use Rattle.nc_walk.specs.code.Chunks.{Collects, Continues, ReadToSlabEnd};
 
@@ -48,7 +48,7 @@ fn read_ready<S: Source>(
 ) -> Result<Chunk, WalkFault>
     requires { AreReady slabs.now cursor at ready into.old (S.view source.old) }
     ensures collects { Collects S.is_transparent (reading slabs.now cursor into.old into.new)
-        (source_of S.view source.old source.new) result }
+        (use_of S.view source.old source.new) result }
     ensures in_slab { IfOk result (λ chunk. cursor.within + chunk.values ≤ slabs.now.values_per_slab) }
     ensures slab_read { IfOk result (ReadToSlabEnd slabs.now cursor S.view source.old source.new) }
 {
@@ -73,7 +73,7 @@ fn read_run<S: Source>(
 ) -> Result<Chunk, WalkFault>
     requires { HasCapacity slabs.now cursor capacity into.old }
     ensures collects { Collects S.is_transparent (reading slabs.now cursor into.old into.new)
-        (source_of S.view source.old source.new) result }
+        (use_of S.view source.old source.new) result }
     ensures slab_read { IfOk result (ReadToSlabEnd slabs.now cursor S.view source.old source.new) }
 {
     let ready = slabs.ready(cursor, capacity, source.len());
@@ -103,7 +103,7 @@ pub(crate) fn read_chunk<S: Source>(
 ) -> Result<Chunk, WalkFault>
     requires { HasCapacity slabs.now cursor capacity into.old }
     ensures { Collects S.is_transparent (reading slabs.now cursor into.old into.new)
-        (source_of S.view source.old source.new) result }
+        (use_of S.view source.old source.new) result }
 {
     let slabs = *slabs;
     let len = source.len();

@@ -2,7 +2,7 @@
 
 ghost use Rattle.std.specs.Prelude.{◌+◌, ◌≤◌, IfOk};
 ghost use Rattle.nc_walk.specs.code.Slabs.{AreReady};
-ghost use Rattle.nc_walk.specs.code.SourceUses.{source_of};
+ghost use Rattle.devices.specs.Uses.{use_of};
 ghost use Rattle.nc_walk.specs.code.Walks.{reading, Reads, ReadsSlabToEnd};
 
 use crate::cursor::Cursor;
@@ -28,7 +28,7 @@ pub(crate) fn read_values<S: Source>(
 ) -> Result<u64, WalkFault>
     requires { AreReady slabs.now cursor at ready into.old (S.view source.old) }
     ensures reads { Reads S.is_transparent (reading slabs.now cursor into.old into.new)
-        (source_of S.view source.old source.new) result }
+        (use_of S.view source.old source.new) result }
     ensures in_slab { IfOk result (λ n. cursor.within + n ≤ slabs.now.values_per_slab) }
     ensures values_read { IfOk result (ReadsSlabToEnd slabs.now cursor S.view source.old source.new) }
 {

@@ -19,7 +19,7 @@ fails-after old mid new (NoSuchVariable i) same blame = absurd blame
 
 -- the source's failure is the opener's, once it has the source back
 pub opens_file : {A : Type 0} (old mid new : OpenerView) (start source : SourceView) (result : Result A FileFault) → OpensOnce old mid → start.failures ≡ 0
-    → OfDump (ReadFailsOnly start source) result → HasBack mid new source.failures → OpensFile old new result
+    → OfDump (ReadFailsOnly start source) ⊥ result → HasBack mid new source.failures → OpensFile old new result
 unfolding HasFailed
 opens_file old mid new start source (Ok done) opened fresh blame back = record { opens = back.opens ∙ opened.opens; reads = no_failure old mid new source.failures opened (blame ∙ fresh) back }
 opens_file old mid new start source (Err CannotOpen) opened fresh blame back = absurd blame

@@ -8,4 +8,4 @@ pass is_transparent h var n buffer_len a b =
     record { is_transparent = is_transparent; header = h; var = var; records = n; buffer_len = buffer_len; source = between a b }
 
 abbrev pub call : ℕ → SourceView → SourceView → SinkView → SinkView → Call
-call buffer_len a b old new = record { buffer_len = buffer_len; source = between a b; sink = record { old = old; new = new } }
+call buffer_len a b old new = record { buffer_len = buffer_len; source = between a b; sink = between old new }

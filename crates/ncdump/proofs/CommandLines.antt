@@ -1,6 +1,6 @@
 -- What a width and the whole command line read.
 use Rattle.std.proofs.Common.{ℕ, Bool, true, false, List, [], ◌∷◌, Option, Some, None, Result, Ok, Err, ◌≡◌, ◌<◌, ◌^◌, ◌∙◌, refl, ap, rules, tests, arith, length, ◌⊎◌, IsErrAnd, if◌then◌else◌, option_and_then}
-use Rattle.ncdump.proofs.Prelude.{then_some, list_all, Row, fault_of, is_simple, is_simple_and_free, matches_of, Answers, asked_by, asked_for, asked_in, ncdump, width_said}
+use Rattle.ncdump.proofs.Prelude.{then_some, list_all, Row, fault_of, is_simple, is_simple_and_free, matches_of, AnswersBy, asked_by, asked_for, asked_in, ncdump, width_said}
 use Rattle.std.specs.Char.{is_ascii_digit}
 use Rattle.std.specs.Int.{is_in_range}
 use Rattle.std.specs.Str.Parse.{ParsesUnsigned, digits_value}
@@ -60,6 +60,6 @@ asked_by_taken words rows none is = ap asked_in is ∙ unless_none (fault_of ncd
 
 -- the answer to words that the command doesn't take
 pub refused_words : (words : List (List ℕ)) (kind : ErrorKind) (r : Result DumpOptions OptFault) → IsErrAnd r (TellsKind kind)
-    → (kind ≡ kinds.OutOfMemory) ⊎ IsAmong kind (fault_of ncdump words) → Answers (asked_by words) r
+    → (kind ≡ kinds.OutOfMemory) ⊎ IsAmong kind (fault_of ncdump words) → AnswersBy asked_for (asked_by words) r
 unfolding asked_by
 refused_words words kind r is_fault has = refusal_answers asked_for (fault_of ncdump words) (asked_in (matches_of ncdump words)) kind r is_fault has

@@ -24,9 +24,10 @@ pub use Rattle.nc_base.specs.code.LaterPieces.{later_pieces}
 unfoldable pub use Rattle.nc_base.specs.ValueText.{closing, look_of, opening, variable_prefix, variable_text}
 pub use Rattle.nc_base.specs.declared.{header.Header.Header, header.Var.Var}
 pub use Rattle.nc_walk.proofs.FullReadSteps.{after_after, transparent_any, transparent_both, transparent_map}
-pub use Rattle.nc_walk.specs.code.SourceUses.{between}
+pub use Rattle.devices.specs.Uses.{between}
 pub use Rattle.nc_walk.specs.code.Walked.{GivesChunk, GivesCut, GivesEnd, GivesFailure, HasRead, IsChunk, Pass, Walked}
-pub use Rattle.ncdump.specs.CommandLine.{Answers, Asked, asked_for, width_said}
+pub use Rattle.cli_base.specs.CommandLines.{AnswersBy}
+pub use Rattle.ncdump.specs.CommandLine.{Asked, asked_for, width_said}
 unfoldable pub use Rattle.ncdump.specs.CommandLine.{asked_by, asked_in, ncdump}
 pub use Rattle.ncdump.specs.Dumps.{Dumps, IsAfterHeader, ReadsForward, after_header, in_header, options_of}
 pub use Rattle.ncdump.specs.code.Names.{holds, holds_if}

@@ -1,13 +1,13 @@
 -- Definition. What the words of the command line ask for.
-use Rattle.std.specs.Prelude.{ℕ, ◌==◌, ◌&&◌, List, [], ◌∷◌, codes, Option, Some, None, option_map, unwrap_or, fold, Result, string_bytes, if◌then◌else◌}
+use Rattle.std.specs.Prelude.{ℕ, ◌==◌, ◌&&◌, List, [], ◌∷◌, codes, Option, Some, None, option_map, unwrap_or, fold, string_bytes, if◌then◌else◌}
+use Rattle.std.specs.Str.{byte}
 use Rattle.std.specs.Int.{is_in_range}
 use Rattle.std.specs.Char.{is_ascii_digit}
 use Rattle.std.specs.List.{list_all, slice_split}
 use Rattle.std.specs.Str.Parse.{digits_value}
 use Rattle.clap.specs.Words.{App, Row, fault_of, first_of, matches_of, new_app, new_rule, with_rule}
 use Rattle.cli_base.specs.Arguments.{flag, is_given, option, quiet}
-use Rattle.cli_base.specs.CommandLines.{AnswersBy, if_faultless}
-use Rattle.cli_base.specs.declared.fault.OptFault.{OptFault}
+use Rattle.cli_base.specs.CommandLines.{if_faultless}
 use Rattle.nc_base.specs.Dump.{Options}
 use Rattle.nc_base.specs.Paths.{stem_of}
 use Rattle.ncdump.specs.Dumps.{options_of}
@@ -39,7 +39,7 @@ width_in (Some word) = width_said word
 
 -- the names in a word, between its commas
 abbrev pub names_in : List ℕ → List (List ℕ)
-names_in word = slice_split (λ (b : ℕ). b == 44) word
+names_in word = slice_split (λ (b : ℕ). b == byte ",") word
 
 -- the path of a file, and what to show of it
 pub record Asked : Type 0 where
@@ -78,7 +78,3 @@ asked_by words = if_faultless (fault_of ncdump words) (asked_in (matches_of ncdu
 -- what the options are
 abbrev pub asked_for : DumpOptions → Asked
 asked_for o = record { file = string_bytes o.file; options = options_of o }
-
--- the options are those that are asked for, or a usage fault means that nothing is; out of memory says nothing
-abbrev pub Answers : Option Asked → Result DumpOptions OptFault → Type 0
-Answers asked result = AnswersBy asked_for asked result

@@ -8,7 +8,7 @@ use Rattle.devices.specs.Failures.{HasFailed}
 use Rattle.devices.specs.Sources.{SourceView}
 use Rattle.nc_file.specs.code.Answers.{EndsAt, ReadUpTo}
 use Rattle.devices.specs.Sinks.{SinkView, Appended, FailedPartway}
-use Rattle.nc_walk.specs.code.SourceUses.{between}
+use Rattle.devices.specs.Uses.{between}
 use Rattle.ncdump.specs.Calls.{Call}
 use Rattle.ncdump.specs.code.Shows.{Shows}
 use Rattle.ncdump.specs.declared.{fault.DumpFault.DumpFault, options.DumpOptions.DumpOptions}
@@ -66,7 +66,7 @@ Dumps bytes o old new (Err WriteFailed) = IsCutShort bytes o old new
 
 -- what is left of a call once its source is this
 abbrev pub rest_of : SourceView → Call → Call
-rest_of here call = record call { source = between here call.source.now }
+rest_of here call = record call { source = between here call.source.after }
 
 -- The header was read, and no more was read than its bytes and one buffer; and then the selected variables were shown.
 pub record IsAfterHeader {A : Type 0} (o : Options) (call : Call) (result : Result A DumpFault) : Type 0 where
@@ -85,11 +85,11 @@ pub record IsAfterHeader {A : Type 0} (o : Options) (call : Call) (result : Resu
 pub record IsInHeader (call : Call) : Type 0 where
   pub end : ℕ
   pub ends : EndsAt call.source.before.bytes end
-  pub handed : ReadUpTo call.source.before.handed call.source.now.handed end call.buffer_len
+  pub handed : ReadUpTo call.source.before.handed call.source.after.handed end call.buffer_len
 
 -- reading broke off in the header, with nothing written, or after it
 pub data IsUnread {A : Type 0} (o : Options) (call : Call) (result : Result A DumpFault) : Type 0 where
-  in_header : IsInHeader call → call.sink.new ≡ call.sink.old → IsUnread o call result
+  in_header : IsInHeader call → call.sink.after ≡ call.sink.before → IsUnread o call result
   after_header : IsAfterHeader o call result → IsUnread o call result
 
 -- The bytes that were read: those up to the header's end, or to that of its first wrong field, and one buffer; and after

@@ -6,8 +6,9 @@ ghost use Rattle.std.specs.Int.{is_in_range};
 ghost use Rattle.std.specs.List.{list_all};
 ghost use Rattle.clap.specs.Words.{app_of, found_of, rows_of};
 ghost use Rattle.nc_base.specs.Paths.{stem_of};
+ghost use Rattle.cli_base.specs.CommandLines.{AnswersBy};
 ghost use Rattle.cli_base.specs.Arguments.{text_of, texts_of};
-ghost use Rattle.ncdump.specs.CommandLine.{ncdump, asked_by, asked_in, names_in, width_in, width_said, Answers};
+ghost use Rattle.ncdump.specs.CommandLine.{ncdump, asked_for, asked_by, asked_in, names_in, width_in, width_said};
 
 use crate::options::DumpOptions;
 use clap::{Arg, ArgMatches, Command};
@@ -42,7 +43,7 @@ pub fn command<'a>(alloc: Global) -> Result<Command<'a>, AllocError>
 ///
 /// Those of [`options_of`], and [`OptFault::Usage`] for words that the command doesn't take.
 pub(crate) fn options_by(alloc: Global, words: &[&str]) -> Result<DumpOptions, OptFault>
-    ensures { Answers (asked_by (texts_of words.now)) result }
+    ensures { AnswersBy asked_for (asked_by (texts_of words.now)) result }
 {
     let matches = command(alloc)?.try_get_matches_from(words)?;
     options_of(alloc, &matches)
@@ -59,7 +60,7 @@ pub(crate) fn options_by(alloc: Global, words: &[&str]) -> Result<DumpOptions, O
 /// isn't from 20 to 1000. [`OptFault::OutOfMemory`] only if an allocation failed.
 #[tactic(auto, unfolding(crate::specs::CommandLine::asked_in))]
 pub fn options_of(alloc: Global, matches: &ArgMatches) -> Result<DumpOptions, OptFault>
-    ensures { Answers (asked_in (rows_of (found_of matches.now))) result }
+    ensures { AnswersBy asked_for (asked_in (rows_of (found_of matches.now))) result }
 {
     let head_only = is_given(matches, "head");
     let coords = is_given(matches, "coords");

@@ -2,8 +2,8 @@
 
 ghost use Rattle.std.specs.Prelude.{◌≤◌, length};
 ghost use Rattle.std.specs.Bool.{OnTrue};
-ghost use Rattle.nc_walk.specs.code.SourceUses.{source_of};
-ghost use Rattle.ncdump.specs.Calls.{call_of, sink_of};
+ghost use Rattle.devices.specs.Uses.{use_of};
+ghost use Rattle.ncdump.specs.Calls.{call_of};
 ghost use Rattle.ncdump.specs.Dumps.{options_of, Dumps, ReadsForward, WriteFailsOnly};
 ghost use Rattle.ncdump.specs.code.Shows.{ReadFailsOnly};
 
@@ -11,7 +11,8 @@ use crate::fault::DumpFault;
 use crate::options::DumpOptions;
 use crate::selection::select;
 use crate::showing::show;
-use nc_file::{Sink, Source, read_header};
+use devices::{Sink, Source};
+use nc_file::read_header;
 use std::alloc::Global;
 
 /// Reads the file that the source has, through `buf`, which has at least 16 bytes, and writes its dump to the sink.
@@ -39,7 +40,7 @@ pub fn dump<S: Source, W: Sink>(
     ensures answer { OnTrue S.is_transparent (Dumps (S.view source.old).bytes
         (options_of options.now) (W.view sink.old) (W.view sink.new) result) }
     ensures forward { OnTrue S.is_transparent (ReadsForward (options_of options.now)
-        (call_of buf.old (source_of S.view source.old source.new) (sink_of W.view sink.old sink.new))
+        (call_of buf.old (use_of S.view source.old source.new) (use_of W.view sink.old sink.new))
         result) }
 {
     let header = read_header(alloc, source, buf)?;

@@ -7,8 +7,9 @@ ghost use Rattle.ncdump.specs.declared.fault.Failure.TheVariants.{CommandLine as
 ghost use Rattle.ncdump.specs.declared.fault.FileFault.TheVariants.{CannotOpen, Dump};
 
 use cli_base::OptFault;
+use devices::{OpenFailed, SinkFailed, WriteFailed};
 use nc_base::FormatFault;
-use nc_file::{HeadFault, OpenFailed, SinkFailed, WriteFailed};
+use nc_file::HeadFault;
 use std::alloc::AllocError;
 
 /// Why a file could not be dumped: an allocation, the source or the sink failed, the file is wrong, or a chosen name is no variable's.

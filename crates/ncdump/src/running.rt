@@ -1,11 +1,12 @@
 //! A run of the program.
 
-ghost use Rattle.std.specs.Prelude.{◌≡◌, IfOk, true};
+ghost use Rattle.std.specs.Prelude.{◌≡◌, IfOk, string_bytes, true};
 ghost use Rattle.std.specs.Bool.{OnTrue};
-ghost use Rattle.ncdump.specs.Calls.{sink_of};
+ghost use Rattle.devices.specs.Openers.{opening};
+ghost use Rattle.devices.specs.Uses.{use_of};
 ghost use Rattle.ncdump.specs.Dumps.{options_of, Dumps};
 ghost use Rattle.ncdump.specs.Dumps as dumps;
-ghost use Rattle.ncdump.specs.Runs.{files_of, OfDump, OpensFile, WriteFailsOnly, DumpsNamed, DumpsWords, RunsWords, EndsWords};
+ghost use Rattle.ncdump.specs.Runs.{run_of, DumpsAsked, DumpsFile, Ends, OfDump, OpensFile, Runs, WriteFailsOnly};
 ghost use Rattle.ncdump.specs.code.Shows.{ReadFailsOnly};
 
 use crate::command_line::options_by;
@@ -13,8 +14,7 @@ use crate::dumping::dump;
 use crate::fault::{Failure, FileFault};
 use crate::fault_text::put_failure;
 use crate::options::DumpOptions;
-use devices::Flush;
-use nc_file::{Opener, Sink, Source};
+use devices::{Flush, Opener, Sink, Source};
 use std::alloc::Global;
 
 /// Runs the program, and returns its exit status. `words` is the command line, with the program's name first; `opener` opens the file;
@@ -31,10 +31,11 @@ pub fn run_with<P: Opener, O: Flush, E: Sink>(
     out: &mut O,
     err: &mut E,
 ) -> u8
-    ensures ends { EndsWords words.now
-        (files_of P.Source.is_transparent P.named P.view opener.old opener.new)
-        (sink_of O.Sink.view out.old out.new)
-        (sink_of E.view err.old err.new) result }
+    ensures ends { Ends
+        (run_of words.now
+        (opening P.Source.is_transparent P.named P.view opener.old opener.new)
+        (use_of O.Sink.view out.old out.new))
+        (use_of E.view err.old err.new) result }
     ensures flushed { result ≡ 0 → O.is_flushed out.new ≡ true }
 {
     match dump_and_flush(opener, alloc, words, out) {
@@ -54,9 +55,10 @@ fn dump_and_flush<P: Opener, O: Flush>(
     words: &[&str],
     out: &mut O,
 ) -> Result<(), Failure>
-    ensures runs { RunsWords words.now
-        (files_of P.Source.is_transparent P.named P.view opener.old opener.new)
-        (sink_of O.Sink.view out.old out.new) result }
+    ensures runs { Runs
+        (run_of words.now
+        (opening P.Source.is_transparent P.named P.view opener.old opener.new)
+        (use_of O.Sink.view out.old out.new)) result }
     ensures flushed { IfOk result (λ _. O.is_flushed out.new ≡ true) }
 {
     let dumped = dump_asked(opener, alloc, words, out);
@@ -75,9 +77,11 @@ fn dump_asked<P: Opener, O: Sink>(
     words: &[&str],
     out: &mut O,
 ) -> Result<(), Failure>
-    ensures { DumpsWords words.now
-        (files_of P.Source.is_transparent P.named P.view opener.old opener.new)
-        (sink_of O.view out.old out.new) result }
+    ensures { DumpsAsked
+        (run_of words.now
+        (opening P.Source.is_transparent P.named P.view opener.old opener.new)
+        (use_of O.view out.old out.new))
+        (O.view out.new) result }
 {
     let options = options_by(alloc, words)?;
     match dump_path(opener, alloc, &options, out) {
@@ -96,8 +100,9 @@ fn dump_path<P: Opener, O: Sink>(
 ) -> Result<(), FileFault>
     ensures opens { OpensFile (P.view opener.old) (P.view opener.new) result }
     ensures writes { WriteFailsOnly (O.view out.old) (O.view out.new) result }
-    ensures dump { OnTrue P.Source.is_transparent (DumpsNamed (P.named opener.old) options.now
-        (sink_of O.view out.old out.new) result) }
+    ensures dump { OnTrue P.Source.is_transparent (DumpsFile
+        (P.named opener.old (string_bytes options.now.file)) (options_of options.now)
+        (O.view out.old) (O.view out.new) result) }
 {
     let mut source = opener.open(options.file.as_str())?;
     let answer = dump_buffered(alloc, &mut source, options, out);
@@ -109,17 +114,18 @@ fn dump_path<P: Opener, O: Sink>(
 const BUFFER_LEN: usize = 4096;
 
 /// Writes the dump that the options ask for of the file that the source has, through a buffer of 4096 bytes. Errs with the fault of
-/// [`dump`], as `FileFault::Dump`, and never with `CannotOpen`. `OfDump` says that a clause holds of the result of `dump`.
+/// [`dump`], as `FileFault::Dump`, and never with `CannotOpen`. `OfDump` says that a clause
+/// holds of the result of `dump`.
 fn dump_buffered<S: Source, W: Sink>(
     alloc: Global,
     source: &mut S,
     options: &DumpOptions,
     sink: &mut W,
 ) -> Result<(), FileFault>
-    ensures reads { OfDump (ReadFailsOnly (S.view source.old) (S.view source.new)) result }
-    ensures writes { OfDump (dumps.WriteFailsOnly (W.view sink.old) (W.view sink.new)) result }
+    ensures reads { OfDump (ReadFailsOnly (S.view source.old) (S.view source.new)) ⊥ result }
+    ensures writes { OfDump (dumps.WriteFailsOnly (W.view sink.old) (W.view sink.new)) ⊥ result }
     ensures shows { OnTrue S.is_transparent (OfDump (Dumps (S.view source.old).bytes
-        (options_of options.now) (W.view sink.old) (W.view sink.new)) result) }
+        (options_of options.now) (W.view sink.old) (W.view sink.new)) ⊥ result) }
 {
     let mut buf = [0u8; BUFFER_LEN];
     dump(alloc, source, options, &mut buf, sink)?;

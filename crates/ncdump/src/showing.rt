@@ -5,16 +5,16 @@ ghost use Rattle.std.specs.Bool.{OnTrue};
 ghost use Rattle.nc_base.specs.Headers.{IsSound};
 ghost use Rattle.nc_base.specs.Sizes.{record_size};
 ghost use Rattle.nc_base.specs.Dump.{data_word};
-ghost use Rattle.nc_walk.specs.code.SourceUses.{source_of};
-ghost use Rattle.ncdump.specs.Calls.{call_of, sink_of};
+ghost use Rattle.devices.specs.Uses.{use_of};
+ghost use Rattle.ncdump.specs.Calls.{call_of};
 ghost use Rattle.ncdump.specs.Dumps.{options_of};
 ghost use Rattle.ncdump.specs.code.Shows.{dumped, ReadFailsOnly, SaysHasSlabs, SaysIsShown, ShowsAt, ShowsFile, ShowsOrFails, ShowsSelected, unless_head_only};
 
 use crate::fault::DumpFault;
 use crate::options::DumpOptions;
 use cdl_print::{Gathered, ValuePrinter, Word, put_head};
+use devices::{Sink, Source, put};
 use nc_base::{Header, RecordLayout, is_record_var, record_layout};
-use nc_file::{Sink, Source, put};
 use nc_walk::{Walk, WalkFault};
 
 /// Writes the dump of the file that the source has: the head for `header`, and after `data:` the values of each variable whose item of
@@ -42,7 +42,7 @@ pub fn show<S: Source, W: Sink>(
     ensures source { ReadFailsOnly (S.view source.old) (S.view source.new) result }
     ensures sink { ShowsOrFails (W.view sink.old) (W.view sink.new) result }
     ensures shows { OnTrue S.is_transparent (ShowsFile (options_of options.now) header.now selection.now
-        (call_of buf.old (source_of S.view source.old source.new) (sink_of W.view sink.old sink.new))
+        (call_of buf.old (use_of S.view source.old source.new) (use_of W.view sink.old sink.new))
         result) }
 {
     let layout = record_layout(header, source.len());
@@ -93,7 +93,7 @@ fn show_selected<S: Source, W: Sink>(
     ensures sink { ShowsOrFails (W.view sink.old) (W.view sink.new) result }
     ensures shows { OnTrue S.is_transparent (ShowsSelected
         (dumped header.now (S.view source.old) layout.records width) selection.now
-        (call_of buf.old (source_of S.view source.old source.new) (sink_of W.view sink.old sink.new))
+        (call_of buf.old (use_of S.view source.old source.new) (use_of W.view sink.old sink.new))
         result) }
 {
     let mut text = [0; 4096];
@@ -144,7 +144,7 @@ fn show_variable<S: Source, W: Sink>(
     ensures sink { ShowsOrFails (W.view sink.old) (W.view sink.new) result }
     ensures shows { OnTrue S.is_transparent (ShowsAt
         (dumped header.now (S.view source.old) layout.records width) v
-        (call_of buf.old (source_of S.view source.old source.new) (sink_of W.view sink.old sink.new))
+        (call_of buf.old (use_of S.view source.old source.new) (use_of W.view sink.old sink.new))
         result) }
 {
     let mut walk = Walk::with_layout(header, v, layout, buf);

@@ -4,13 +4,13 @@ use Rattle.devices.proofs.Openings.{one_failure, no_failure}
 use Rattle.ncgen.proofs.Prelude.{HasFailed, ReaderView, ReadsText}
 use Rattle.devices.specs.Openers.{OpenerView}
 use Rattle.devices.specs.code.PathOpens.{HasBack, OpensOnce}
-use Rattle.ncgen.specs.Inputs.{OpensText}
+use Rattle.ncgen.specs.Inputs.{OpensPath}
 use Rattle.ncgen.specs.declared.{fault.TextFault.TextFault, failure.InputFault.TheVariants.Text}
 use Rattle.ncgen.specs.declared.fault.TextFault.TheVariants.{OutOfMemory, ReadFailed, TooLong}
 
 -- the text's failure is the opener's, once it has the text back
 pub opens_text : {A : Type 0} (old mid new : OpenerView) (start text : ReaderView) (max : ℕ) (fault : TextFault) → OpensOnce old mid → start.failures ≡ 0
-    → ReadsText max start text (Err fault) → HasBack mid new text.failures → OpensText {A = A} old new (Err (Text fault))
+    → ReadsText max start text (Err fault) → HasBack mid new text.failures → OpensPath {A = A} old new (Err (Text fault))
 unfolding HasFailed
 opens_text old mid new start text max ReadFailed opened fresh failed back =
     record { opens = back.opens ∙ opened.opens; reads = one_failure old mid new text.failures opened (subst (λ n. HasFailed n text.failures) fresh failed) back }

@@ -1,7 +1,7 @@
 -- What the whole command line reads.
 use Rattle.std.proofs.Common.{ℕ, true, List, [], Result, ◌≡◌, ◌∙◌, refl, ap, ◌⊎◌, IsErrAnd}
 use Rattle.clap.specs.Kinds.{IsAmong}
-use Rattle.ncgen.proofs.Prelude.{Row, fault_of, is_simple, is_simple_and_free, matches_of, Answers, asked_by, asked_for, asked_in, ncgen}
+use Rattle.ncgen.proofs.Prelude.{Row, fault_of, is_simple, is_simple_and_free, matches_of, AnswersBy, asked_by, asked_for, asked_in, ncgen}
 use Rattle.clap.specs.declared.error.kind.ErrorKind.{ErrorKind}
 use Rattle.clap.specs.declared.error.kind.ErrorKind.TheVariants as kinds
 use Rattle.clap.proofs.OnLiterals.{clap_on_literals}
@@ -26,6 +26,6 @@ asked_by_taken words rows none is = ap asked_in is ∙ unless_none (fault_of ncg
 
 -- the answer to words that the command doesn't take
 pub refused_words : (words : List (List ℕ)) (kind : ErrorKind) (r : Result GenOptions OptFault) → IsErrAnd r (TellsKind kind)
-    → (kind ≡ kinds.OutOfMemory) ⊎ IsAmong kind (fault_of ncgen words) → Answers (asked_by words) r
+    → (kind ≡ kinds.OutOfMemory) ⊎ IsAmong kind (fault_of ncgen words) → AnswersBy asked_for (asked_by words) r
 unfolding asked_by
 refused_words words kind r is_fault has = refusal_answers asked_for (fault_of ncgen words) (asked_in (matches_of ncgen words)) kind r is_fault has

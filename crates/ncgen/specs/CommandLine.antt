@@ -1,10 +1,9 @@
 -- Definition. What the words of the command line ask for.
-use Rattle.std.specs.Prelude.{◌≡◌, ℕ, String, Bool, true, false, ◌&&◌, ◌||◌, List, [], ◌∷◌, ◌++◌, codes, Option, Some, None, option_map, is_none, fold, Result, string_bytes, if◌then◌else◌}
+use Rattle.std.specs.Prelude.{◌≡◌, ℕ, String, Bool, true, false, ◌&&◌, ◌||◌, List, [], ◌∷◌, ◌++◌, codes, Option, Some, None, option_map, is_none, fold, string_bytes, if◌then◌else◌}
 use Rattle.std.specs.Str.{bytes_eq}
 use Rattle.clap.specs.Words.{App, Row, fault_of, first_of, matches_of, new_app, new_rule, with_rule}
 use Rattle.cli_base.specs.Arguments.{flag, is_given, option, quiet}
-use Rattle.cli_base.specs.CommandLines.{AnswersBy, if_faultless}
-use Rattle.cli_base.specs.declared.fault.OptFault.{OptFault}
+use Rattle.cli_base.specs.CommandLines.{if_faultless}
 use Rattle.nc_base.specs.Paths.{stem_of}
 use Rattle.nc_base.specs.declared.version.Version.{Version}
 use Rattle.nc_base.specs.declared.version.Version.TheVariants.{Cdf1, Cdf2, Cdf5}
@@ -82,7 +81,3 @@ asked_by words = if_faultless (fault_of ncgen words) (asked_in (matches_of ncgen
 -- what the options are
 abbrev pub asked_for : GenOptions → Asked
 asked_for o = record { version = o.kind; output = option_map string_bytes o.out; file = option_map string_bytes o.file }
-
--- the options are those that are asked for, or a usage fault means that nothing is; out of memory says nothing
-abbrev pub Answers : Option Asked → Result GenOptions OptFault → Type 0
-Answers asked result = AnswersBy asked_for asked result

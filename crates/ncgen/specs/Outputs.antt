@@ -1,5 +1,5 @@
 -- Definition. What writing a file to an output has done.
-use Rattle.std.specs.Prelude.{◌≡◌, ℕ, ◌+◌, ◌⊎◌, Bool, List, [], Option, Some, None, Result, Ok, Err}
+use Rattle.std.specs.Prelude.{◌≡◌, ℕ, ◌+◌, ◌⊎◌, Bool, List, [], Option, Some, None}
 use Rattle.std.specs.Bool.{OnTrue}
 use Rattle.devices.specs.Failures.{HasFailed}
 use Rattle.devices.specs.Creators.{CreatorView, Output, Unmade, give}
@@ -42,11 +42,6 @@ pub record IsCutShortAt (o : Outputs) (path bytes : List ℕ) : Type 0 where
 abbrev pub OutputFails : Outputs → List ℕ → List ℕ → OutputFault → Type 0
 OutputFails o path bytes CannotOpen = Unmade o.before o.after
 OutputFails o path bytes WriteFailed = IsCutShortAt o path bytes
-
--- what writing these bytes at the path has done
-abbrev pub WritesAt : {A : Type 0} → Outputs → List ℕ → List ℕ → Result A OutputFault → Type 0
-WritesAt o path bytes (Ok done) = IsWrittenAt o path bytes
-WritesAt o path bytes (Err fault) = OutputFails o path bytes fault
 
 -- the bytes are at the path, if there is one; and without one nothing was created
 abbrev pub IsMade : Outputs → Option (List ℕ) → List ℕ → Type 0

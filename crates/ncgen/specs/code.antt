@@ -1,2 +1,3 @@
 pub mod Prepared
 pub mod TextReads
+pub mod RunSteps

@@ -1,9 +1,10 @@
 //! The words of the command line.
 
 ghost use Rattle.std.specs.Prelude.{◌≡◌, IfOk, option_map, string_bytes};
+ghost use Rattle.cli_base.specs.CommandLines.{AnswersBy};
 ghost use Rattle.cli_base.specs.Arguments.{text_of, texts_of};
 ghost use Rattle.clap.specs.Words.{app_of, found_of, rows_of};
-ghost use Rattle.ncgen.specs.CommandLine.{asked_by, asked_in, is_unnamed, ncgen, output_name, version_in, version_of, Answers, IsOutputIn};
+ghost use Rattle.ncgen.specs.CommandLine.{asked_by, asked_for, asked_in, is_unnamed, ncgen, output_name, version_in, version_of, IsOutputIn};
 
 use crate::options::GenOptions;
 use clap::{Arg, ArgMatches, Command};
@@ -36,7 +37,7 @@ pub fn command<'a>(alloc: Global) -> Result<Command<'a>, AllocError>
 ///
 /// Those of [`options_of`], and [`OptFault::Usage`] for words that the command doesn't take.
 pub(crate) fn options_by(alloc: Global, words: &[&str]) -> Result<GenOptions, OptFault>
-    ensures { Answers (asked_by (texts_of words.now)) result }
+    ensures { AnswersBy asked_for (asked_by (texts_of words.now)) result }
 {
     let matches = command(alloc)?.try_get_matches_from(words)?;
     options_of(alloc, &matches)
@@ -53,7 +54,7 @@ pub(crate) fn options_by(alloc: Global, words: &[&str]) -> Result<GenOptions, Op
 /// [`OptFault::OutOfMemory`] only if an allocation failed.
 #[tactic(auto, unfolding(crate::specs::CommandLine::asked_in))]
 pub fn options_of(alloc: Global, matches: &ArgMatches) -> Result<GenOptions, OptFault>
-    ensures { Answers (asked_in (rows_of (found_of matches.now))) result }
+    ensures { AnswersBy asked_for (asked_in (rows_of (found_of matches.now))) result }
 {
     let is_binary = is_given(matches, "binary");
     let output = value_of(matches, "output");

@@ -6,8 +6,8 @@ ghost use Rattle.ncgen.specs.declared.fault.GenFault.TheVariants as gen;
 ghost use Rattle.ncgen.specs.declared.fault.TextFault.TheVariants as text;
 
 use cdl_parse::{CdlFault, CdlKind};
-use devices::SourceFailed;
-use nc_file::{OffsetTooLarge, WriteFailed};
+use devices::{SourceFailed, WriteFailed};
+use nc_file::OffsetTooLarge;
 use std::alloc::AllocError;
 
 /// Why no file was generated from a text.

@@ -8,8 +8,9 @@ ghost use Rattle.ncgen.specs.code.Prepared.{Prepares};
 use crate::fault::GenFault;
 use crate::prepared::Prepared;
 use cdl_parse::{Declared, declared};
+use devices::Sink;
 use nc_base::Version;
-use nc_file::{Sink, with_begins};
+use nc_file::with_begins;
 use nc_walk::record_slabs;
 use std::alloc::Global;
 

@@ -1,7 +1,10 @@
 //! The text that is asked for.
 
 ghost use Rattle.std.specs.Prelude.{option_map, string_bytes};
-ghost use Rattle.ncgen.specs.Inputs.{inputs, opening, reading, OpensText, ReadsAt, ReadsInput};
+ghost use Rattle.devices.specs.Openers.{opening};
+ghost use Rattle.devices.specs.Readers.{view_of};
+ghost use Rattle.devices.specs.Uses.{use_of};
+ghost use Rattle.ncgen.specs.Inputs.{inputs, OpensPath, ReadsAt, ReadsInput};
 
 use crate::failure::InputFault;
 use crate::reading::read_text;
@@ -23,7 +26,7 @@ pub fn read_input<T: TextOpener, R: Read>(
     ensures { ReadsInput
         (inputs
         (opening T.is_transparent T.named T.view texts.old texts.new)
-        (reading R.remaining input.old input.new))
+        (use_of (view_of R.remaining) input.old input.new))
         (option_map string_bytes file.now)
         result }
 {
@@ -37,7 +40,7 @@ pub fn read_input<T: TextOpener, R: Read>(
 /// [`read_input`] does.
 fn read_path<T: TextOpener>(texts: &mut T, alloc: Global, path: &str) -> Result<Vec<u8>, InputFault>
     ensures text { ReadsAt T.is_transparent (T.named texts.old path.now) result }
-    ensures opens { OpensText (T.view texts.old) (T.view texts.new) result }
+    ensures opens { OpensPath (T.view texts.old) (T.view texts.new) result }
 {
     let mut reader = texts.open_text(path)?;
     let text = read_text(alloc, &mut reader, TEXT_LIMIT);

@@ -1,7 +1,8 @@
 //! The file that is written.
 
-ghost use Rattle.ncgen.specs.Outputs.{outputs, WritesAt};
+ghost use Rattle.ncgen.specs.Outputs.{outputs};
 ghost use Rattle.ncgen.specs.code.Prepared.{file_of_prepared, IsReady};
+ghost use Rattle.ncgen.specs.code.RunSteps.{WritesAt};
 
 use crate::failure::OutputFault;
 use crate::prepared::Prepared;

@@ -3,8 +3,9 @@
 ghost use Rattle.ncgen.specs.code.Prepared.{IsReady, file_of_prepared};
 ghost use Rattle.devices.specs.Sinks.{Wrote};
 
+use devices::{Sink, WriteFailed};
 use nc_base::{Header, ListedArray, Sequence};
-use nc_file::{Sink, WriteFailed, write_header};
+use nc_file::write_header;
 use nc_walk::{RecordSlab, write_data};
 
 /// A file that stands ready to be written: its header, and the values that a text lists.

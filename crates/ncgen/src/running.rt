@@ -3,10 +3,14 @@
 ghost use Rattle.std.specs.Prelude.{option_map, string_bytes};
 ghost use Rattle.cli_base.specs.Arguments.{texts_of};
 ghost use Rattle.ncgen.specs.CommandLine.{asked_by};
-ghost use Rattle.ncgen.specs.Inputs.{inputs, opening, reading, PreparesInput};
+ghost use Rattle.devices.specs.Openers.{opening};
+ghost use Rattle.devices.specs.Readers.{view_of};
+ghost use Rattle.devices.specs.Uses.{use_of};
+ghost use Rattle.ncgen.specs.Inputs.{inputs};
 ghost use Rattle.ncgen.specs.Outputs.{outputs};
+ghost use Rattle.ncgen.specs.Runs.{Ends};
 ghost use Rattle.ncgen.specs.code.Prepared.{file_of_prepared, IsReady};
-ghost use Rattle.ncgen.specs.Runs.{GeneratesAsked, Runs, WritesAsked};
+ghost use Rattle.ncgen.specs.code.RunSteps.{GeneratesAsked, PreparesInput, WritesAsked};
 
 use crate::command_line::options_by;
 use crate::failure::{Failure, InputFault};
@@ -35,15 +39,14 @@ pub fn run_with<T: TextOpener, C: Creator, R: Read, E: Sink>(
     input: &mut CountedRead<R>,
     err: &mut E,
 ) -> u8
-    ensures { Runs
+    ensures { Ends
         (record {
           asked = asked_by (texts_of words.now);
           inputs = inputs
               (opening T.is_transparent T.named T.view texts.old texts.new)
-              (reading R.remaining input.old input.new);
+              (use_of (view_of R.remaining) input.old input.new);
           outputs = outputs C.is_transparent C.view creator.old creator.new;
-          error = E.view err.old;
-          error_after = E.view err.new;
+          err = use_of E.view err.old err.new;
         })
         result }
 {
@@ -68,7 +71,7 @@ fn generate_asked<T: TextOpener, C: Creator, R: Read>(
     ensures { GeneratesAsked
         (inputs
         (opening T.is_transparent T.named T.view texts.old texts.new)
-        (reading R.remaining input.old input.new))
+        (use_of (view_of R.remaining) input.old input.new))
         (outputs C.is_transparent C.view creator.old creator.new)
         (asked_by (texts_of words.now))
         result }
@@ -91,7 +94,7 @@ fn prepare_input<T: TextOpener, R: Read>(
     ensures { PreparesInput
         (inputs
         (opening T.is_transparent T.named T.view texts.old texts.new)
-        (reading R.remaining input.old input.new))
+        (use_of (view_of R.remaining) input.old input.new))
         (option_map string_bytes options.now.file)
         options.now.kind
         result }

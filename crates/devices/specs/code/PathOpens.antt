@@ -2,7 +2,9 @@
 use Rattle.std.specs.Bool.{OnTrue}
 use Rattle.std.specs.Prelude.{Bool, ℕ, ◌≡◌, ◌+◌, ◌-◌, ◌^◌, min, List, Option, Some, None, Result, Ok, Err}
 use Rattle.devices.specs.Sources.{SourceView}
+use Rattle.devices.specs.Readers.{view_of}
 use Rattle.devices.specs.Openers.{OpenerView, opens_after}
+use Rattle.devices.specs.declared.reader.CountedRead.{CountedRead}
 
 -- it was asked to open no path yet
 abbrev pub unopened : OpenerView
@@ -19,13 +21,17 @@ pub record HasBack (old new : OpenerView) (failures : ℕ) : Type 0 where
   pub unfailed : failures ≡ 0 → new.failures ≡ old.failures
   pub failed : new.failures ≡ min (old.failures + failures) (2 ^ 128 - 1)
 
--- a source of the bytes that the path names, if it names any, and else a failure
-abbrev pub Opened : {S E : Type 0} → (S → SourceView) → Option (List ℕ) → Result S E → Type 0
-Opened view (Some bytes) (Ok source) = (view source).bytes ≡ bytes
-Opened view None (Err failure) = Unit {0}
-Opened view (Some bytes) (Err failure) = ⊥
-Opened view None (Ok source) = ⊥
+-- what was opened has the bytes that the path names, if it names any, and otherwise it is a failure
+abbrev pub Opened : {Device E : Type 0} → (Device → List ℕ → Type 0) → Option (List ℕ) → Result Device E → Type 0
+Opened Has (Some bytes) (Ok device) = Has device bytes
+Opened Has None (Err failure) = Unit {0}
+Opened Has (Some bytes) (Err failure) = ⊥
+Opened Has None (Ok device) = ⊥
 
--- what a path is opened as, where the sources are transparent
-abbrev pub Opens : {S E : Type 0} → Bool → (S → SourceView) → Option (List ℕ) → Result S E → Type 0
-Opens is_transparent view bytes result = OnTrue is_transparent (Opened view bytes result)
+-- a path that names these bytes is opened as a source of them, if sources are transparent
+abbrev pub OpensSource : {S E : Type 0} → Bool → (S → SourceView) → Option (List ℕ) → Result S E → Type 0
+OpensSource is_transparent view bytes result = OnTrue is_transparent (Opened (λ source file. (view source).bytes ≡ file) bytes result)
+
+-- a path that names these bytes is opened as a text of them, if texts are transparent
+abbrev pub OpensText : {R E : Type 0} → Bool → (R → Option (List ℕ)) → Option (List ℕ) → Result (CountedRead R) E → Type 0
+OpensText is_transparent remaining bytes result = OnTrue is_transparent (Opened (λ text all. (view_of remaining text).remaining ≡ Some all) bytes result)

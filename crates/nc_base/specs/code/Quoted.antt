@@ -1,5 +1,6 @@
 -- For contracts. How one byte is written where it stands, in words for the code that prints and the code that reads.
 use Rattle.std.specs.Prelude.{ℕ, Bool, List, [], ◌∷◌, ◌==◌, ◌||◌, not}
+use Rattle.std.specs.Str.{byte}
 use Rattle.nc_base.specs.Escapes.{escaped_in_name, escaped_in_string, is_plain, octal_escape}
 use Rattle.nc_base.specs.declared.{escape.Escape.Escape, escape.Quoting.Quoting}
 use Rattle.nc_base.specs.declared.escape.Escape.TheVariants.{Plain, Backslash, Octal}
@@ -8,12 +9,12 @@ use Rattle.std.specs.Char.{is_ascii_control}
 
 -- a byte that stands for itself in a string
 abbrev pub is_literal : ℕ → Bool
-is_literal b = not (is_ascii_control b || (b == 34) || (b == 39) || (b == 92))
+is_literal b = not (is_ascii_control b || (b == byte "\"") || (b == byte "'") || (b == byte "\\"))
 
 -- a byte that is written so
 abbrev pub written : Escape → ℕ → List ℕ
 written Plain b = b ∷ []
-written (Backslash c) b = 92 ∷ c ∷ []
+written (Backslash c) b = byte "\\" ∷ c ∷ []
 written Octal b = octal_escape b
 
 -- one byte of a name or of a string, with its escape

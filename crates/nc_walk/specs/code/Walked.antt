@@ -11,7 +11,7 @@ use Rattle.nc_base.specs.Places.{value_offsets, stored_bytes, stored_values, fir
 use Rattle.devices.specs.Failures.{HasFailed}
 use Rattle.devices.specs.Sources.{SourceView, having_read}
 use Rattle.nc_walk.specs.declared.fault.WalkFault.TheVariants.{ReadFailed, DataTruncated}
-use Rattle.nc_walk.specs.code.SourceUses.{SourceUse}
+use Rattle.devices.specs.Uses.{Use}
 use Rattle.nc_walk.specs.code.Walks.{WalkView, Answer, IsWhole, count}
 
 -- how many values stand before the first missing one: all of them, where none is missing
@@ -25,7 +25,7 @@ pub record Pass : Type 0 where
   pub var : Var
   pub records : ℕ
   pub buffer_len : ℕ
-  pub source : SourceUse
+  pub source : Use SourceView
 
 -- the offsets of its values
 abbrev pub offsets_in : Pass → List ℕ
@@ -50,7 +50,7 @@ whole_in p = whole_count p.header p.source.before.bytes p.var p.records
 -- the first k values are whole, and their bytes, and no others, were read
 pub record HasRead (p : Pass) (k : ℕ) : Type 0 where
   pub whole : All (IsWhole (size_of p.var.ty) p.source.before.bytes) (take k (offsets_in p))
-  pub handed : p.source.now ≡ having_read p.source.before (k * size_of p.var.ty)
+  pub handed : p.source.after ≡ having_read p.source.before (k * size_of p.var.ty)
 
 -- the walk stands after the first k values
 pub record Walked (p : Pass) (w : WalkView) (k : ℕ) : Type 0 where
@@ -60,14 +60,14 @@ pub record Walked (p : Pass) (w : WalkView) (k : ℕ) : Type 0 where
   pub within : k ≤ total_in p
   pub fault : w.fault ≡ None
   pub buf : length w.buf ≡ p.buffer_len
-  pub failures : p.source.now.failures ≡ p.source.before.failures
+  pub failures : p.source.after.failures ≡ p.source.before.failures
   pub read : OnTrue p.is_transparent (HasRead p k)
 
 -- ---- what the next call gives
 
 -- the same walk after a call that left the source as it is now
 abbrev pub going_on : Pass → SourceView → Pass
-going_on p now = record p { source = record p.source { now = now } }
+going_on p now = record p { source = record p.source { after = now } }
 
 -- the chunk has the bytes of the j values after the first k, and these are its numbers
 pub record IsChunk (p : Pass) (k : ℕ) (chunk : List ℕ) (j : ℕ) : Type 0 where
@@ -81,14 +81,14 @@ pub record GivesChunk (p : Pass) (k : ℕ) (chunk : List ℕ) (j : ℕ) : Type 0
   pub within : k + j ≤ total_in p
   pub length_is : length chunk ≡ j * size_of p.var.ty
   pub capacity : length chunk ≤ p.buffer_len
-  pub failures : p.source.now.failures ≡ p.source.before.failures
+  pub failures : p.source.after.failures ≡ p.source.before.failures
   pub chunk_is : OnTrue p.is_transparent (IsChunk p k chunk j)
   pub read : OnTrue p.is_transparent (HasRead p (k + j))
 
 -- no value is left, and none was missing
 pub record GivesEnd (p : Pass) (k : ℕ) : Type 0 where
   pub all : k ≡ total_in p
-  pub failures : p.source.now.failures ≡ p.source.before.failures
+  pub failures : p.source.after.failures ≡ p.source.before.failures
   pub none_missing : OnTrue p.is_transparent (missing_in p ≡ None)
   pub read : OnTrue p.is_transparent (HasRead p k)
 
@@ -96,7 +96,7 @@ pub record GivesEnd (p : Pass) (k : ℕ) : Type 0 where
 pub record GivesCut (p : Pass) (k value : ℕ) : Type 0 where
   pub value_is : value ≡ k
   pub within : k < total_in p
-  pub failures : p.source.now.failures ≡ p.source.before.failures
+  pub failures : p.source.after.failures ≡ p.source.before.failures
   pub missing : OnTrue p.is_transparent (missing_in p ≡ Some k)
   pub read : OnTrue p.is_transparent (HasRead p k)
 
@@ -104,10 +104,10 @@ pub record GivesCut (p : Pass) (k value : ℕ) : Type 0 where
 -- buffer.
 pub record GivesFailure (p : Pass) (k : ℕ) : Type 0 where
   pub within : k < total_in p
-  pub failed : HasFailed p.source.before.failures p.source.now.failures
-  pub bytes : OnTrue p.is_transparent (p.source.now.bytes ≡ p.source.before.bytes)
-  pub whole : OnTrue p.is_transparent (p.source.now.handed ≤ p.source.before.handed + whole_in p * size_of p.var.ty)
-  pub capacity : OnTrue p.is_transparent (p.source.now.handed ≤ p.source.before.handed + k * size_of p.var.ty + p.buffer_len)
+  pub failed : HasFailed p.source.before.failures p.source.after.failures
+  pub bytes : OnTrue p.is_transparent (p.source.after.bytes ≡ p.source.before.bytes)
+  pub whole : OnTrue p.is_transparent (p.source.after.handed ≤ p.source.before.handed + whole_in p * size_of p.var.ty)
+  pub capacity : OnTrue p.is_transparent (p.source.after.handed ≤ p.source.before.handed + k * size_of p.var.ty + p.buffer_len)
 
 -- what the next call, after which the source is what it is now, gives a caller that has walked past the first k values
 abbrev pub Gives : Pass → ℕ → Answer → Type 0

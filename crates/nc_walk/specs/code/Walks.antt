@@ -12,7 +12,7 @@ use Rattle.devices.specs.Sources.{SourceView, having_read}
 use Rattle.nc_walk.specs.declared.{fault.WalkFault.WalkFault, slabs.Slabs.Slabs, cursor.Cursor.Cursor}
 use Rattle.nc_walk.specs.declared.fault.WalkFault.TheVariants.{ReadFailed, DataTruncated}
 use Rattle.nc_walk.specs.code.Slabs.{offsets_after, number_at, IsSized, IsCursor}
-use Rattle.nc_walk.specs.code.SourceUses.{SourceUse}
+use Rattle.devices.specs.Uses.{Use}
 use Rattle.nc_walk.specs.code.FullReads.{FailedReadInFull}
 
 -- the bytes of a value, the offsets of the values that it has still to hand out, how many it has handed out, the fault
@@ -171,10 +171,10 @@ abbrev pub values_in : Reading → ℕ → List ℕ
 values_in r n = take (n * r.slabs.size) r.buf
 
 -- the next n values stand at the start of the slice
-abbrev pub Reads : Bool → Reading → SourceUse → Result ℕ WalkFault → Type 0
-Reads is_transparent r s (Ok n) = (n * r.slabs.size ≤ length r.buf) × ReturnsValues is_transparent (walk_of r) s.before s.now (values_in r n) n
-Reads is_transparent r s (Err ReadFailed) = (n : ℕ) × Failing (walk_of r) s.before s.now n
-Reads is_transparent r s (Err (DataTruncated k)) = Truncated is_transparent (walk_of r) s.before s.now k
+abbrev pub Reads : Bool → Reading → Use SourceView → Result ℕ WalkFault → Type 0
+Reads is_transparent r s (Ok n) = (n * r.slabs.size ≤ length r.buf) × ReturnsValues is_transparent (walk_of r) s.before s.after (values_in r n) n
+Reads is_transparent r s (Err ReadFailed) = (n : ℕ) × Failing (walk_of r) s.before s.after n
+Reads is_transparent r s (Err (DataTruncated k)) = Truncated is_transparent (walk_of r) s.before s.after k
 
 -- n bytes at the start of the buffer, as an answer
 abbrev pub as_answer : List ℕ → Result ℕ WalkFault → Answer

@@ -11,7 +11,7 @@ use Rattle.nc_base.specs.Dump.{Options, Ending, whole, data_truncated, Section, 
 use Rattle.devices.specs.Failures.{HasFailed}
 use Rattle.devices.specs.Sources.{SourceView, having_read}
 use Rattle.devices.specs.Sinks.{SinkView, append, is_transparent, Appended, FailedPartway, IsCut}
-use Rattle.nc_walk.specs.code.SourceUses.{SourceUse, between}
+use Rattle.devices.specs.Uses.{Use, between}
 use Rattle.nc_walk.specs.code.Walked.{whole_count}
 use Rattle.ncdump.specs.Calls.{Call}
 use Rattle.ncdump.specs.declared.fault.DumpFault.{DumpFault}
@@ -78,30 +78,30 @@ whole_bytes d var = whole_values d var * size_of var.ty
 
 -- The text of the variable's first k values was taken, as Taken says it, and no more was read than the bytes of these
 -- values and one buffer: no value waits for more.
-pub record KeepsUp (d : Dumped) (var : Var) (buffer_len : ℕ) (source : SourceUse) (Taken : List ℕ → Type 0) : Type 0 where
+pub record KeepsUp (d : Dumped) (var : Var) (buffer_len : ℕ) (source : Use SourceView) (Taken : List ℕ → Type 0) : Type 0 where
   pub k : ℕ
   pub few : k ≤ whole_values d var
   pub taken : Taken (prefix_text d var k)
-  pub handed : source.now.handed ≤ source.before.handed + k * size_of var.ty + buffer_len
+  pub handed : source.after.handed ≤ source.before.handed + k * size_of var.ty + buffer_len
 
 -- all values are shown, or those before the first missing one
 pub record IsShown (d : Dumped) (v : ℕ) (var : Var) (ending : Ending) (call : Call) : Type 0 where
   pub ends : (values_alone d v var).ending ≡ ending
-  pub appended : Appended call.sink.old call.sink.new (values_alone d v var).text
-  pub handed : call.source.now ≡ having_read call.source.before (whole_bytes d var)
+  pub appended : Appended call.sink.before call.sink.after (values_alone d v var).text
+  pub handed : call.source.after ≡ having_read call.source.before (whole_bytes d var)
 
 -- a read failed after some values
 pub record IsUnread (d : Dumped) (var : Var) (call : Call) : Type 0 where
-  pub bytes : call.source.now.bytes ≡ call.source.before.bytes
-  pub most : call.source.now.handed ≤ call.source.before.handed + whole_bytes d var
-  pub keeps_up : KeepsUp d var call.buffer_len call.source (Appended call.sink.old call.sink.new)
+  pub bytes : call.source.after.bytes ≡ call.source.before.bytes
+  pub most : call.source.after.handed ≤ call.source.before.handed + whole_bytes d var
+  pub keeps_up : KeepsUp d var call.buffer_len call.source (Appended call.sink.before call.sink.after)
 
 -- a write failed, before a value was read or after some values
 pub record IsUnwritten (d : Dumped) (v : ℕ) (var : Var) (call : Call) : Type 0 where
-  pub bytes : call.source.now.bytes ≡ call.source.before.bytes
-  pub most : call.source.now.handed ≤ call.source.before.handed + whole_bytes d var
-  pub partway : FailedPartway call.sink.old call.sink.new (values_alone d v var).text
-  pub keeps_up : (call.source.now ≡ call.source.before) ⊎ KeepsUp d var call.buffer_len call.source (Holds call.sink.old call.sink.new)
+  pub bytes : call.source.after.bytes ≡ call.source.before.bytes
+  pub most : call.source.after.handed ≤ call.source.before.handed + whole_bytes d var
+  pub partway : FailedPartway call.sink.before call.sink.after (values_alone d v var).text
+  pub keeps_up : (call.source.after ≡ call.source.before) ⊎ KeepsUp d var call.buffer_len call.source (Holds call.sink.before call.sink.after)
 
 -- what showing the variable at index v has done
 abbrev pub ShowsOne : {A : Type 0} → Dumped → ℕ → Call → Result A DumpFault → Var → Type 0
@@ -139,7 +139,7 @@ pub record IsBefore (d : Dumped) (selection : List Bool) (v : ℕ) (prefix : Lis
 
 -- The text up to and with the first k values of a selected variable was taken, as Taken says it, and no more was read
 -- than the bytes of the values before it, of these k values, and one buffer.
-pub record KeepsUpIn (d : Dumped) (selection : List Bool) (buffer_len : ℕ) (source : SourceUse) (Taken : List ℕ → Type 0) : Type 0 where
+pub record KeepsUpIn (d : Dumped) (selection : List Bool) (buffer_len : ℕ) (source : Use SourceView) (Taken : List ℕ → Type 0) : Type 0 where
   pub v : ℕ
   pub var : Var
   pub prefix : List ℕ
@@ -148,42 +148,42 @@ pub record KeepsUpIn (d : Dumped) (selection : List Bool) (buffer_len : ℕ) (so
   pub selected : slice_get selection v ≡ Some true
   pub some : has_values d.header.dims d.records var ≡ true
   pub is_before : IsBefore d selection v prefix spent
-  pub keeps_up : KeepsUp d var buffer_len (between (having_read source.before spent) source.now) (λ (values : List ℕ). Taken (prefix ++ values))
+  pub keeps_up : KeepsUp d var buffer_len (between (having_read source.before spent) source.after) (λ (values : List ℕ). Taken (prefix ++ values))
 
 -- all selected variables are shown, or all values before the first missing one
-pub record AreShown (d : Dumped) (selection : List Bool) (ending : Ending) (source : SourceUse) (Taken : Section → Type 0) : Type 0 where
+pub record AreShown (d : Dumped) (selection : List Bool) (ending : Ending) (source : Use SourceView) (Taken : Section → Type 0) : Type 0 where
   pub ends : (selected_values d selection).ending ≡ ending
   pub taken : Taken (selected_values d selection)
-  pub bytes : source.now.bytes ≡ source.before.bytes
-  pub most : source.now.handed ≤ source.before.handed + bytes_of d d.header.vars selection
+  pub bytes : source.after.bytes ≡ source.before.bytes
+  pub most : source.after.handed ≤ source.before.handed + bytes_of d d.header.vars selection
 
 -- a read failed after some values
-pub record AreUnread (d : Dumped) (selection : List Bool) (buffer_len : ℕ) (source : SourceUse) (Taken : List ℕ → Type 0) : Type 0 where
-  pub bytes : source.now.bytes ≡ source.before.bytes
-  pub most : source.now.handed ≤ source.before.handed + bytes_of d d.header.vars selection
+pub record AreUnread (d : Dumped) (selection : List Bool) (buffer_len : ℕ) (source : Use SourceView) (Taken : List ℕ → Type 0) : Type 0 where
+  pub bytes : source.after.bytes ≡ source.before.bytes
+  pub most : source.after.handed ≤ source.before.handed + bytes_of d d.header.vars selection
   pub keeps_up : KeepsUpIn d selection buffer_len source Taken
 
 -- no value waits: no value was read, or what was read is written but for a buffer
-abbrev pub IsUpToDate : Dumped → List Bool → ℕ → SourceUse → (List ℕ → Type 0) → Type 0
-IsUpToDate d selection buffer_len source Taken = (source.now ≡ source.before) ⊎ KeepsUpIn d selection buffer_len source Taken
+abbrev pub IsUpToDate : Dumped → List Bool → ℕ → Use SourceView → (List ℕ → Type 0) → Type 0
+IsUpToDate d selection buffer_len source Taken = (source.after ≡ source.before) ⊎ KeepsUpIn d selection buffer_len source Taken
 
 -- a write failed, before a value was read or after some values
-pub record AreUnwritten (d : Dumped) (selection : List Bool) (buffer_len : ℕ) (source : SourceUse) (Cut : Section → Type 0) (Taken : List ℕ → Type 0) : Type 0 where
-  pub bytes : source.now.bytes ≡ source.before.bytes
-  pub most : source.now.handed ≤ source.before.handed + bytes_of d d.header.vars selection
+pub record AreUnwritten (d : Dumped) (selection : List Bool) (buffer_len : ℕ) (source : Use SourceView) (Cut : Section → Type 0) (Taken : List ℕ → Type 0) : Type 0 where
+  pub bytes : source.after.bytes ≡ source.before.bytes
+  pub most : source.after.handed ≤ source.before.handed + bytes_of d d.header.vars selection
   pub partway : Cut (selected_values d selection)
   pub keeps_up : IsUpToDate d selection buffer_len source Taken
 
 -- what showing the selected variables has done
 abbrev pub ShowsSelected : {A : Type 0} → Dumped → List Bool → Call → Result A DumpFault → Type 0
 ShowsSelected d selection call (Ok done) =
-    AreShown d selection whole call.source (λ (section : Section). Appended call.sink.old call.sink.new section.text)
-    × IsUpToDate d selection call.buffer_len call.source (Holds call.sink.old call.sink.new)
+    AreShown d selection whole call.source (λ (section : Section). Appended call.sink.before call.sink.after section.text)
+    × IsUpToDate d selection call.buffer_len call.source (Holds call.sink.before call.sink.after)
 ShowsSelected d selection call (Err (DataTruncated v k)) =
-    AreShown d selection (data_truncated v k) call.source (λ (section : Section). Appended call.sink.old call.sink.new section.text)
-ShowsSelected d selection call (Err ReadFailed) = AreUnread d selection call.buffer_len call.source (Appended call.sink.old call.sink.new)
+    AreShown d selection (data_truncated v k) call.source (λ (section : Section). Appended call.sink.before call.sink.after section.text)
+ShowsSelected d selection call (Err ReadFailed) = AreUnread d selection call.buffer_len call.source (Appended call.sink.before call.sink.after)
 ShowsSelected d selection call (Err WriteFailed) =
-    AreUnwritten d selection call.buffer_len call.source (λ (section : Section). FailedPartway call.sink.old call.sink.new section.text) (Holds call.sink.old call.sink.new)
+    AreUnwritten d selection call.buffer_len call.source (λ (section : Section). FailedPartway call.sink.before call.sink.after section.text) (Holds call.sink.before call.sink.after)
 ShowsSelected d selection call (Err _) = ⊥
 
 -- ---- the whole text
@@ -200,15 +200,15 @@ unless_head_only o selection = if o.head_only then [] else selection
 -- brace; or what of that was written before the first missing value, or before a device failed.
 abbrev pub Shows : {A : Type 0} → Options → Header → ℕ → List Bool → Call → Result A DumpFault → Type 0
 Shows o h n shown call (Ok done) =
-    AreShown (dumped h call.source.before n o.width) (unless_head_only o shown) whole call.source (λ (section : Section). Appended call.sink.old call.sink.new (dump_text h o n section))
+    AreShown (dumped h call.source.before n o.width) (unless_head_only o shown) whole call.source (λ (section : Section). Appended call.sink.before call.sink.after (dump_text h o n section))
 Shows o h n shown call (Err (DataTruncated v k)) =
-    AreShown (dumped h call.source.before n o.width) (unless_head_only o shown) (data_truncated v k) call.source (λ (section : Section). Appended call.sink.old call.sink.new (dump_text h o n section))
+    AreShown (dumped h call.source.before n o.width) (unless_head_only o shown) (data_truncated v k) call.source (λ (section : Section). Appended call.sink.before call.sink.after (dump_text h o n section))
 Shows o h n shown call (Err ReadFailed) =
-    AreUnread (dumped h call.source.before n o.width) (unless_head_only o shown) call.buffer_len call.source (λ (values : List ℕ). Appended call.sink.old call.sink.new (text_before o h n ++ values))
+    AreUnread (dumped h call.source.before n o.width) (unless_head_only o shown) call.buffer_len call.source (λ (values : List ℕ). Appended call.sink.before call.sink.after (text_before o h n ++ values))
 Shows o h n shown call (Err WriteFailed) =
     AreUnwritten (dumped h call.source.before n o.width) (unless_head_only o shown) call.buffer_len call.source
-    (λ (section : Section). FailedPartway call.sink.old call.sink.new (dump_text h o n section))
-    (λ (values : List ℕ). Holds call.sink.old call.sink.new (text_before o h n ++ values))
+    (λ (section : Section). FailedPartway call.sink.before call.sink.after (dump_text h o n section))
+    (λ (values : List ℕ). Holds call.sink.before call.sink.after (text_before o h n ++ values))
 Shows o h n shown call (Err _) = ⊥
 
 -- the same over the records that the file has by its length

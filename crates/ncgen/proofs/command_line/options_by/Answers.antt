@@ -1,5 +1,5 @@
 use Rattle.std.proofs.Common.{◌∙◌, ap, subst, sym, Option}
-use Rattle.ncgen.proofs.Prelude.{texts_of, App, HasKind, fault_of, kind_of, found_of, is_simple, is_simple_and_free, matches_of, rows_of, Answers, Asked}
+use Rattle.ncgen.proofs.Prelude.{texts_of, App, HasKind, fault_of, kind_of, found_of, is_simple, is_simple_and_free, matches_of, rows_of, AnswersBy, Asked, asked_for}
 use Rattle.ncgen.proofs.CommandLines.{asked_by_taken, is_exact, is_plain, refused_words}
 use Rattle.ncgen.proofs.command_line.options_by.Goals as goal
 
@@ -16,5 +16,5 @@ returns c =
     let is = c.in_ok-command.ensures in
     let none = ap (λ (app : App). fault_of app words) (sym is) ∙ c.in_ok-matches.ensures.kinds (ap is_simple_and_free is ∙ is_plain) in
     let rows = (c.in_ok-matches.ensures.matches (ap is_simple is ∙ is_exact)).0 ∙ ap (λ (app : App). matches_of app words) is in
-    subst (λ (asked : Option Asked). Answers asked c.options_of.result)
+    subst (λ (asked : Option Asked). AnswersBy asked_for asked c.options_of.result)
     (asked_by_taken words (rows_of (found_of c.in_ok-matches.matches)) none rows) c.options_of.ensures
