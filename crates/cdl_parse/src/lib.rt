@@ -38,14 +38,6 @@ mod text_end;
 mod variable_lookup;
 mod variables;
 
-pub use attribute::read_attribute;
-pub use attributes::Attributes;
 pub use cdl_statements::{CdlFault, CdlKind};
-pub use data_section::{DataSection, read_data};
 pub use declared_values::Declared;
-pub use dimension::dim_len;
-pub use dimension_list::read_dimensions;
-pub use dimensions::Dimensions;
-pub use parse_error::ParseError;
 pub use text::{declared, parse};
-pub use variable_lookup::variable_position;

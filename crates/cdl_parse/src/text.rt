@@ -25,6 +25,8 @@ use std::alloc::Global;
 ///
 /// `version` is the version of the format. It decides which types and suffixes numbers may have, and how long a dimension may be.
 ///
+/// For callers of the library: `ncgen` itself calls [`declared`].
+///
 /// # Errors
 ///
 /// The first fault of the text, with the line of the first token of the statement that has it; or [`TooLarge`](CdlKind::TooLarge),

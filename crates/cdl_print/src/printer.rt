@@ -70,6 +70,8 @@ impl<'a> ValuePrinter<'a> {
     }
 
     /// Returns true if the bytes are whole values, and the variable has at least as many left to print.
+    ///
+    /// For callers of the library, to test what [`values`](ValuePrinter::values) asks for: the chunks that `ncdump` prints are known to be so.
     pub fn takes(&self, bytes: &[u8]) -> bool
         ensures { IsTrue result ↔ Takes self.now bytes.now }
     {

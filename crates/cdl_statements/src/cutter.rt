@@ -89,6 +89,8 @@ impl<'a> Cutter<'a> {
     /// Replaces what `into` has by the tokens of the next statement, and returns true. After the last statement it returns
     /// false, and `into` is empty.
     ///
+    /// For callers of the library: `ncgen` itself goes on token by token, by [`advance`](Cutter::advance).
+    ///
     /// # Errors
     ///
     /// An allocation failed. Then `into` is empty, and the cutter is where it was.

@@ -114,13 +114,6 @@ impl<W: Write> IoSink<W> {
     {
         self.failures
     }
-
-    /// Returns the writer, without a flush.
-    pub fn into_inner(self) -> W
-        ensures { W.contents result ≡ (view_of W.contents self).taken }
-    {
-        self.writer
-    }
 }
 
 impl<W: Write> Sink for IoSink<W> {

@@ -119,6 +119,8 @@ fn whole_records(bytes: u64, size: Option<u64>) -> u64
 
 /// Returns the first offset after the last value that the variable at index `v` has over `records` records, in bytes from the file's start.
 /// Returns the variable's begin if it has no value, such as a record variable over 0 records.
+///
+/// For callers of the library: the programs themselves never ask for it.
 pub fn extent_end(header: &Header, v: usize, records: u64) -> u128
     requires sound { IsSound header.now }
     requires there { v < length header.now.vars }

@@ -9,6 +9,8 @@ use crate::header::{Att, Dim, Header, Var};
 /// Returns the weight of a header: the bytes of all names and attribute values, plus one for each dimension id, each dimension,
 /// each attribute (of the file and of its variables) and each variable. Returns `u128::MAX` if the weight is greater. Reading,
 /// keeping and writing a header takes time and memory in proportion to its weight.
+///
+/// For callers of the library, such as those that bound what they keep: the programs themselves never ask for it.
 pub fn weight(header: &Header) -> u128
     ensures { result ≡ min (weight_of header.now) u128.MAX }
 {

@@ -46,6 +46,8 @@ impl<'a> Model for Walk<'a> {
 impl<'a> Walk<'a> {
     /// Returns a walk at the first value of the variable at index `v` of the header, over `records` records. The variable's `begin`
     /// and its shape, and not its `vsize`, say where the values lie (NetCDF Classic Format Specification).
+    ///
+    /// For callers of the library: `ncdump` itself calls [`with_layout`](Walk::with_layout), for many variables of one header.
     pub fn new(header: &Header, v: usize, records: u64, buf: &'a mut [u8]) -> Walk<'a>
         requires sound { IsSound header.now }
         requires there { v < length header.now.vars }

@@ -43,6 +43,8 @@ pub fn prepare(alloc: Global, text: &[u8], version: Version) -> Result<Prepared,
 ///
 /// The text has at most 268,435,456 bytes. Allocates as [`prepare`] does, and no more.
 ///
+/// For callers of the library: the program itself calls [`prepare`] and [`Prepared::write`], and creates its output in between.
+///
 /// # Errors
 ///
 /// Those of [`prepare`], with nothing written. [`GenFault::WriteFailed`] if the sink failed; it took some prefix of the file.

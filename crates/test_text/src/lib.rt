@@ -1,4 +1,4 @@
-//! Tests of the crates under `cdl_parse`, each by itself: the statements of a CDL text, and what their values are.
+//! Tests of the parts of a CDL text: its tokens and statements, its attributes and dimensions, and its values.
 #![tactic(auto)]
 
 #[cfg(test)]
@@ -11,3 +11,5 @@ mod text_data;
 mod text_statements;
 #[cfg(test)]
 mod text_values;
+#[cfg(test)]
+mod whole_texts;

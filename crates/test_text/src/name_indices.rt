@@ -2,8 +2,7 @@
 
 ghost use Rattle.cdl_values.specs.code.NameIndices.{IsIndex, var_names};
 
-use cdl_parse::variable_position;
-use cdl_values::{NameIndex, ReadError, VariableNames};
+use cdl_values::{NameIndex, VariableNames};
 use nc_base::{NcType, Sequence, Var};
 use std::alloc::{AllocError, Global};
 
@@ -43,11 +42,6 @@ impl IndexedVars {
             })?;
         }
         Ok(added)
-    }
-
-    /// Returns the position of the variable that a word names, or the error of [`variable_position`].
-    pub fn position(&self, alloc: Global, word: &[u8]) -> Result<u64, ReadError> {
-        variable_position(alloc, self.vars.as_slice(), &self.index, word)
     }
 
     /// Returns the names of the variables.

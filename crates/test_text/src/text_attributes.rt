@@ -1,55 +1,12 @@
 //! Attributes, as statements of CDL text declare them.
 
-use crate::name_indices::IndexedVars;
-use cdl_parse::{Attributes, read_attribute};
-use cdl_statements::{CdlKind, Cutter, Due, check_shape_from};
-use cdl_values::ReadError;
-use nc_base::{Att, NcType, Version};
-use std::alloc::Global;
-use std::process::Abort;
+use crate::whole_texts::{fault_of, header_of};
+use cdl_parse::{CdlFault, CdlKind};
+use nc_base::{NcType, Version};
 use std::test::*;
 
-/// Adds the attribute of a statement `NAME = CONST, .. ;`.
-fn add(
-    alloc: Global,
-    attributes: &mut Attributes,
-    version: Version,
-    text: &[u8],
-) -> Result<(), ReadError> {
-    let start = Cutter::new(text, version);
-    let found = check_shape_from(start, Due::AttributeName);
-    match found.bad {
-        Some(kind) => return Err(ReadError::Fault(kind)),
-        None => {}
-    }
-    if !found.shaped {
-        return Err(ReadError::Fault(CdlKind::Syntax));
-    }
-    read_attribute(alloc, attributes, start)
-}
-
-/// Fails unless the text declares one attribute `a` of this type, with values of these bytes.
-fn declares(
-    rt: &impl Abort,
-    alloc: Global,
-    text: &[u8],
-    ty: NcType,
-    vals: &[u8],
-) -> Result<(), ReadError> {
-    let mut attributes = Attributes::new(alloc);
-    add(alloc, &mut attributes, Version::Cdf5, text)?;
-    let list = attributes.into_sequence();
-    assert!(rt; list.len() == 1, "{text:?}");
-    for att in list.as_slice() {
-        assert!(rt; att.name.as_slice() == b"a".as_slice(), "{text:?}");
-        assert!(rt; att.ty == ty, "{text:?}");
-        assert!(rt; att.vals.as_slice() == vals, "{text:?}");
-    }
-    Ok(())
-}
-
 #[test]
-fn constants_are_packed(rt: HostRuntime) {
+fn constants_are_packed(rt: HostRuntime) -> Result<(), Fail> {
     const ROWS: [(&[u8], NcType, &[u8]); 7] = [
         (
             b"a = 1, -2 ;",
@@ -68,26 +25,23 @@ fn constants_are_packed(rt: HostRuntime) {
         ),
     ];
     for (text, ty, vals) in ROWS {
-        let declared = declares(&rt, rt.alloc(), text, ty, vals);
-        assert!(rt; declared == Ok(()), "{text:?}");
+        match header_of(rt.alloc(), Version::Cdf5, &[b":", text, b"}"])? {
+            Ok(header) => {
+                assert!(rt; header.gatts.len() == 1, "{text:?}");
+                for att in header.gatts.as_slice() {
+                    assert!(rt; att.name.as_slice() == b"a".as_slice(), "{text:?}");
+                    assert!(rt; att.ty == ty, "{text:?}");
+                    assert!(rt; att.vals.as_slice() == vals, "{text:?}");
+                }
+            }
+            Err(fault) => assert!(rt; false, "{fault:?}: {text:?}"),
+        }
     }
-}
-
-/// Fails unless the text has this fault after an attribute `t`, and no attribute is added.
-fn refuses(rt: &impl Abort, alloc: Global, text: &[u8], kind: CdlKind) {
-    let mut attributes = Attributes::new(alloc);
-    let first = add(alloc, &mut attributes, Version::Cdf1, b"t = 1 ;");
-    assert_eq!(rt; first, Ok(()));
-    let second = add(alloc, &mut attributes, Version::Cdf1, text);
-    assert!(rt;
-        second == Err(ReadError::Fault(kind)),
-        "{second:?}: {text:?}"
-    );
-    assert_eq!(rt; attributes.into_sequence().len(), 1);
+    Ok(())
 }
 
 #[test]
-fn first_fault_of_an_attribute_wins(rt: HostRuntime) {
+fn first_fault_of_an_attribute_wins(rt: HostRuntime) -> Result<(), Fail> {
     const ROWS: [(&[u8], CdlKind); 13] = [
         (b"t = 1, %, 08 ;", CdlKind::BadToken),
         (b"t = 1 08 ;", CdlKind::BadNumber),
@@ -104,40 +58,23 @@ fn first_fault_of_an_attribute_wins(rt: HostRuntime) {
         (b"a = 2147483648 ;", CdlKind::NumberRange),
     ];
     for (text, kind) in ROWS {
-        refuses(&rt, rt.alloc(), text, kind);
+        let fault = fault_of(rt.alloc(), Version::Cdf1, &[b":t = 1 ;\n:", text, b"}"])?;
+        assert!(rt; fault == Some(CdlFault { line: 2, kind }), "{fault:?}: {text:?}");
     }
+    Ok(())
 }
 
 #[test]
-fn attributes_stand_in_the_order_of_the_text(rt: HostRuntime) {
-    const TEXTS: [&[u8]; 3] = [b"z = 1 ;", b"a = \"x\" ;", b"m = 2b ;"];
+fn attributes_stand_in_the_order_of_the_text(rt: HostRuntime) -> Result<(), Fail> {
     const NAMES: [&[u8]; 3] = [b"z", b"a", b"m"];
-    let mut attributes = Attributes::new(rt.alloc());
-    for text in TEXTS {
-        let added = add(rt.alloc(), &mut attributes, Version::Cdf1, text);
-        assert!(rt; added == Ok(()), "{text:?}");
-    }
-    assert!(rt; !attributes.has_name(b"b"));
-    let list = attributes.into_sequence();
-    assert_eq!(rt; list.len(), 3);
-    for (att, name) in list.as_slice().iter().zip(NAMES) {
-        assert!(rt; att.name.as_slice() == name, "{name:?}");
-    }
-}
-
-#[test]
-fn variables_are_found_by_name(rt: HostRuntime) -> Result<(), Fail> {
-    const NAMES: [&[u8]; 2] = [b"v", b"w x"];
-    const ROWS: [(&[u8], Result<u64, ReadError>); 4] = [
-        (b"v", Ok(0)),
-        (b"w\\ x", Ok(1)),
-        (b"w", Err(ReadError::Fault(CdlKind::UnknownVariable))),
-        (b"w\\/x", Err(ReadError::Fault(CdlKind::BadName))),
-    ];
-    let indexed = IndexedVars::new(rt.alloc(), &NAMES)?;
-    for (word, want) in ROWS {
-        let found = indexed.position(rt.alloc(), word);
-        assert!(rt; found == want, "{found:?}: {word:?}");
+    match header_of(rt.alloc(), Version::Cdf1, &[b":z = 1 ; :a = \"x\" ; :m = 2b ; }"])? {
+        Ok(header) => {
+            assert_eq!(rt; header.gatts.len(), 3);
+            for (att, name) in header.gatts.as_slice().iter().zip(NAMES) {
+                assert!(rt; att.name.as_slice() == name, "{name:?}");
+            }
+        }
+        Err(fault) => assert!(rt; false, "{fault:?}"),
     }
     Ok(())
 }

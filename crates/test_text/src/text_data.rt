@@ -1,78 +1,39 @@
 //! The data section of CDL text.
 
-use crate::name_indices::IndexedVars;
-use cdl_parse::{DataSection, ParseError, read_data};
-use cdl_statements::{CdlFault, CdlKind, Cutter};
-use cdl_tokens::TokenKind;
-use cdl_values::{Fill, Filling, Target};
-use nc_base::{NcType, Version};
-use std::alloc::{AllocError, Global};
-use std::process::Abort;
+use crate::whole_texts::{fault_of, kind_of, text_of};
+use cdl_parse::{CdlFault, CdlKind, parse};
+use nc_base::Version;
 use std::test::*;
 
-/// The names of the variables.
-const NAMES: [&[u8]; 2] = [b"v", b"c"];
-
-/// What `v` and `c` take: three shorts, and four characters.
-fn targets(alloc: Global) -> Result<Vec<Target>, AllocError> {
-    let mut targets = Vec::new(alloc);
-    targets.push(Target {
-        filling: Filling::Numbers(Fill::new(NcType::Short, -32767)),
-        capacity: Some(3),
-        given: false,
-    })?;
-    targets.push(Target {
-        filling: Filling::Joined,
-        capacity: Some(4),
-        given: false,
-    })?;
-    Ok(targets)
-}
-
-/// Reads a text that is a data section from its start on.
-fn section(alloc: Global, start: Cutter<'_>) -> Result<DataSection<'_>, ParseError> {
-    let vars = IndexedVars::new(alloc, &NAMES)?;
-    let targets = targets(alloc)?;
-    read_data(alloc, &vars.names(), targets, start)
-}
-
-/// Fails unless the section is closed, its text ends there, and the variables have these bytes.
-fn expect_arrays(
-    rt: &impl Abort,
-    alloc: Global,
-    found: DataSection<'_>,
-    want: [&[u8]; 2],
-) -> Result<(), Fail> {
-    assert!(rt; found.is_closed);
-    assert!(rt; !found.rest.is_done());
-    assert!(rt; found.rest.lexeme().kind == TokenKind::End);
-    assert!(rt; found.arrays.len() == 2);
-    for (array, bytes) in found.arrays.into_iter().zip(want) {
-        assert_eq!(rt; array.into_bytes(alloc, 0)?.as_slice(), bytes);
-    }
-    Ok(())
-}
+/// What comes before the statements of the data section: `v` has three shorts, and `c` four characters.
+const BEFORE: &[u8] = b"dimensions: x = 3, n = 4 ; variables: short v(x) ; char c(n) ; data: ";
 
 #[test]
 fn values_go_to_their_variables(rt: HostRuntime) -> Result<(), Fail> {
     const ROWS: [(&[u8], &[u8], &[u8]); 5] = [
-        (b"c = \"ab\" ; v = 1, 2 ; }", b"\x00\x01\x00\x02", b"ab"),
-        (b"v = 1, 2 ;\nc = \"ab\" ;\n}", b"\x00\x01\x00\x02", b"ab"),
-        (b"c = \"ab\" ; }", b"", b"ab"),
-        (b"\\v = _ ; }", b"\x80\x01", b""),
-        (b"}", b"", b""),
+        (b"c = \"ab\" ; v = 1, 2 ; }", b"\x00\x01\x00\x02\x80\x01", b"ab\0\0"),
+        (b"v = 1, 2 ;\nc = \"ab\" ;\n}", b"\x00\x01\x00\x02\x80\x01", b"ab\0\0"),
+        (b"c = \"ab\" ; }", b"\x80\x01\x80\x01\x80\x01", b"ab\0\0"),
+        (b"\\v = _ ; }", b"\x80\x01\x80\x01\x80\x01", b"\0\0\0\0"),
+        (b"}", b"\x80\x01\x80\x01\x80\x01", b"\0\0\0\0"),
     ];
-    for (text, v, c) in ROWS {
-        match section(rt.alloc(), Cutter::new(text, Version::Cdf1)) {
-            Ok(found) => expect_arrays(&rt, rt.alloc(), found, [v, c])?,
-            Err(e) => assert!(rt; false, "{e:?}: {text:?}"),
+    for (statements, v, c) in ROWS {
+        let text = text_of(rt.alloc(), &[BEFORE, statements])?;
+        match parse(rt.alloc(), text.as_slice(), Version::Cdf1) {
+            Ok(dataset) => {
+                assert!(rt; dataset.arrays.len() == 2);
+                for (array, bytes) in dataset.arrays.as_slice().iter().zip([v, c]) {
+                    assert!(rt; array.as_slice() == bytes, "{statements:?}");
+                }
+            }
+            Err(fault) => assert!(rt; false, "{fault:?}: {statements:?}"),
         }
     }
     Ok(())
 }
 
 #[test]
-fn first_bad_statement_has_its_line(rt: HostRuntime) {
+fn first_bad_statement_has_its_line(rt: HostRuntime) -> Result<(), Fail> {
     const ROWS: [(&[u8], u64, CdlKind); 9] = [
         (
             b"v = 1 ;\nc = \"a\" ;\nv = 2 ;\n}",
@@ -92,25 +53,25 @@ fn first_bad_statement_has_its_line(rt: HostRuntime) {
         (b"v = 1 ;\ndata:\nc = \"a\" ; }", 2, CdlKind::Syntax),
         (b"", 1, CdlKind::Syntax),
     ];
-    for (text, line, kind) in ROWS {
-        let want = ParseError::Fault(CdlFault { line, kind });
-        match section(rt.alloc(), Cutter::new(text, Version::Cdf1)) {
-            Ok(_) => assert!(rt; false, "{text:?}"),
-            Err(e) => assert!(rt; e == want, "{e:?}: {text:?}"),
-        }
+    for (statements, line, kind) in ROWS {
+        let fault = fault_of(rt.alloc(), Version::Cdf1, &[BEFORE, statements])?;
+        assert!(rt; fault == Some(CdlFault { line, kind }), "{fault:?}: {statements:?}");
     }
+    Ok(())
 }
 
 #[test]
-fn after_the_last_statement_nothing_is_read(rt: HostRuntime) {
-    let (end, _) = Cutter::new(b"", Version::Cdf1).advanced();
-    assert!(rt; end.is_done());
-    match section(rt.alloc(), end) {
-        Ok(found) => {
-            assert!(rt; !found.is_closed);
-            assert!(rt; found.rest.is_done());
-            assert!(rt; found.arrays.len() == 2);
-        }
-        Err(e) => assert!(rt; false, "{e:?}"),
+fn variables_are_found_by_name(rt: HostRuntime) -> Result<(), Fail> {
+    const ROWS: [(&[u8], Option<CdlKind>); 4] = [
+        (b"v = 1 ;", None),
+        (b"w\\ x = 1 ;", None),
+        (b"w = 1 ;", Some(CdlKind::UnknownVariable)),
+        (b"w\\/x = 1 ;", Some(CdlKind::BadName)),
+    ];
+    for (statement, want) in ROWS {
+        let parts = [b"variables: int v, w\\ x ; data: ".as_slice(), statement, b"}"];
+        let kind = kind_of(rt.alloc(), Version::Cdf1, &parts)?;
+        assert!(rt; kind == want, "{kind:?}: {statement:?}");
     }
+    Ok(())
 }

@@ -1,9 +1,8 @@
 //! The values of statements of the data section, and the lengths and names of dimensions.
 
 use crate::name_indices::IndexedVars;
-use cdl_parse::{Dimensions, dim_len, read_dimensions};
-use cdl_statements::{CdlKind, Cutter, Due, check_shape_from};
-use cdl_tokens::Numeral;
+use crate::whole_texts::{header_of, kind_of};
+use cdl_statements::{CdlKind, Cutter};
 use cdl_values::{Fill, Filling, ReadError, Target, read_data_statement};
 use nc_base::{NcType, Version};
 use std::alloc::Global;
@@ -103,62 +102,48 @@ fn values_are_packed_up_to_their_first_fault(rt: HostRuntime) {
 }
 
 #[test]
-fn dimensions_have_lengths(rt: HostRuntime) {
-    const ROWS: [(Version, Option<u64>, Result<u64, CdlKind>); 5] = [
-        (Version::Cdf1, Some(0), Err(CdlKind::ZeroDimension)),
-        (Version::Cdf1, Some(2147483647), Ok(2147483647)),
-        (Version::Cdf1, Some(2147483648), Err(CdlKind::NumberRange)),
-        (Version::Cdf5, Some(2147483648), Ok(2147483648)),
-        (Version::Cdf5, None, Err(CdlKind::NumberRange)),
+fn dimensions_have_lengths(rt: HostRuntime) -> Result<(), Fail> {
+    const ROWS: [(Version, &[u8], Result<u64, CdlKind>); 8] = [
+        (Version::Cdf1, b"t = UNLIMITED, x = 0 ;", Err(CdlKind::ZeroDimension)),
+        (Version::Cdf1, b"t = UNLIMITED, x = 2147483647 ;", Ok(2147483647)),
+        (Version::Cdf1, b"t = UNLIMITED, x = 2147483648 ;", Err(CdlKind::NumberRange)),
+        (Version::Cdf5, b"t = UNLIMITED, x = 2147483648 ;", Ok(2147483648)),
+        (
+            Version::Cdf5,
+            b"t = UNLIMITED, x = 100000000000000000000000000000000000000000 ;",
+            Err(CdlKind::NumberRange),
+        ),
+        (Version::Cdf5, b"t = UNLIMITED, x = UNLIMITED ;", Err(CdlKind::TwoRecordDims)),
+        (Version::Cdf1, b"x = UNLIMITED ;", Ok(0)),
+        (Version::Cdf1, b"t = UNLIMITED, x = 1 ;", Ok(1)),
     ];
-    for (version, magnitude, want) in ROWS {
-        let number = Numeral {
-            minus: false,
-            magnitude,
-            ty: NcType::Int,
+    for (version, statement, want) in ROWS {
+        let found = match header_of(rt.alloc(), version, &[b"dimensions: ", statement, b"}"])? {
+            Ok(header) => match header.dims.as_slice().last() {
+                Some(dim) => Ok(dim.len),
+                None => Ok(0),
+            },
+            Err(fault) => Err(fault.kind),
         };
-        assert_eq!(rt; dim_len(version, true, Some(number)), want);
+        assert!(rt; found == want, "{found:?}: {statement:?}");
     }
-    // one dimension is unlimited
-    assert!(rt; dim_len(Version::Cdf5, true, None) == Err(CdlKind::TwoRecordDims));
-    assert!(rt; dim_len(Version::Cdf1, false, None) == Ok(0));
-}
-
-/// Reads the dimensions of a statement `NAME = LENGTH, .. ;`.
-fn add_dimensions(alloc: Global, dims: &mut Dimensions, text: &[u8]) -> Result<(), ReadError> {
-    let start = Cutter::new(text, Version::Cdf1);
-    let found = check_shape_from(start, Due::DimensionName);
-    match found.bad {
-        Some(kind) => return Err(ReadError::Fault(kind)),
-        None => {}
-    }
-    if !found.shaped {
-        return Err(ReadError::Fault(CdlKind::Syntax));
-    }
-    read_dimensions(alloc, dims, start)
-}
-
-/// Fails unless the statement, after dimensions of these names, has this outcome.
-fn expect_dimension(rt: &impl Abort, alloc: Global, text: &[u8], want: Result<(), ReadError>) {
-    let mut dims = Dimensions::new(alloc);
-    let first = add_dimensions(alloc, &mut dims, b"v = 1, c = 2, r = 3, u = 4, g = 5 ;");
-    assert_eq!(rt; first, Ok(()));
-    let second = add_dimensions(alloc, &mut dims, text);
-    assert!(rt; second == want, "{second:?}: {text:?}");
+    Ok(())
 }
 
 #[test]
 fn new_dimensions_have_new_names(rt: HostRuntime) -> Result<(), Fail> {
-    const ROWS: [(&[u8], Result<(), ReadError>); 6] = [
-        (b"w = 1 ;", Ok(())),
-        (b"g = 1 ;", Err(ReadError::Fault(CdlKind::DuplicateName))),
-        (b"\\g = 0 ;", Err(ReadError::Fault(CdlKind::DuplicateName))),
-        (b"a\\/b = 1 ;", Err(ReadError::Fault(CdlKind::BadName))),
-        (b"a\\/b = 0 ;", Err(ReadError::Fault(CdlKind::BadName))),
-        (b"w = 0 ;", Err(ReadError::Fault(CdlKind::ZeroDimension))),
+    const ROWS: [(&[u8], Option<CdlKind>); 6] = [
+        (b"w = 1 ;", None),
+        (b"g = 1 ;", Some(CdlKind::DuplicateName)),
+        (b"\\g = 0 ;", Some(CdlKind::DuplicateName)),
+        (b"a\\/b = 1 ;", Some(CdlKind::BadName)),
+        (b"a\\/b = 0 ;", Some(CdlKind::BadName)),
+        (b"w = 0 ;", Some(CdlKind::ZeroDimension)),
     ];
-    for (text, want) in ROWS {
-        expect_dimension(&rt, rt.alloc(), text, want);
+    const BEFORE: &[u8] = b"dimensions: v = 1, c = 2, r = 3, u = 4, g = 5 ; ";
+    for (statement, want) in ROWS {
+        let kind = kind_of(rt.alloc(), Version::Cdf1, &[BEFORE, statement, b"}"])?;
+        assert!(rt; kind == want, "{kind:?}: {statement:?}");
     }
     Ok(())
 }
