@@ -203,6 +203,7 @@ capacity_of dims var = record {
   count = slab_count dims var;
   in_rows = not (nat_lt (length var.dimids) 2);
   rows = row_count dims var;
+  -- (the 0 is never used: it would be the length of a row below rank 2)
   row = row_len dims var.dimids 0;
 }
 

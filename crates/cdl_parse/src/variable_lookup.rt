@@ -6,7 +6,8 @@ ghost use Rattle.cdl_values.specs.code.NameIndices.{IsIndex};
 ghost use Rattle.cdl_parse.specs.code.VariablePositions.{FindsVariable};
 
 use cdl_statements::CdlKind;
-use cdl_values::{NameIndex, Named, ReadError, read_name};
+use cdl_values::{NameIndex, ReadError, read_name};
+use nc_base::Named;
 use std::alloc::Global;
 
 /// Returns the position of the variable that a word names. `names` is the index of `variables`.

@@ -14,8 +14,8 @@ use crate::attribute::read_attribute;
 use crate::attributes::Attributes;
 use crate::variable_lookup::variable_position;
 use cdl_statements::Cutter;
-use cdl_values::{NameIndex, Named, ReadError};
-use nc_base::{NcType, Sequence, Var};
+use cdl_values::{NameIndex, ReadError};
+use nc_base::{Named, NcType, Sequence, Var};
 use std::alloc::{AllocError, Global};
 use std::marker::Model;
 

@@ -1,4 +1,4 @@
--- Definition. The shapes of statements.
+-- Definition. The shapes of statements, in which NAME, LENGTH, CONST, VALUE and TYPE are tokens, and `..` means any number of members more.
 use Rattle.std.specs.Prelude.{ℕ, ℤ, Bool, true, false, List, [], ◌∷◌, ◌&&◌, ◌||◌, not, if◌then◌else◌, codes, Option, None, Some, is_none, nat_lt}
 use Rattle.std.specs.Str.{byte}
 use Rattle.std.specs.Option.{option_map, option_and_then}
@@ -49,7 +49,7 @@ token_fault v kinds.Bad bytes = Some BadToken
 token_fault v kinds.Number bytes = if is_none (numeral v bytes) then Some BadNumber else None
 token_fault v _ bytes = None
 
--- the first, or else the second
+-- the first if it is there, otherwise the second
 abbrev pub either : {A : Type 0} → Option A → Option A → Option A
 either None b = b
 either (Some a) b = Some a

@@ -48,7 +48,7 @@ gap n = record { kind = None; len = n }
 abbrev pub token : TokenKind → ℕ → Scanned
 token kind n = record { kind = Some kind; len = n }
 
--- `netcdf` and then these bytes; n of them come before the first `{`
+-- `netcdf` and then these bytes; n of them come before the first `{` that no backslash escapes
 abbrev pub scan_opening : List ℕ → ℕ → Scanned
 scan_opening bs n = if nat_lt n (length bs) then token Opening (6 + n + 1) else token Bad (6 + length bs)
 

@@ -3,7 +3,7 @@
 ghost use Rattle.std.specs.Prelude.{◌≡◌, [], IfOk, OnErr, map};
 ghost use Rattle.cdl_values.specs.code.NameIndices.{IsIndex, IsIndexWith, hash_of, is_new, position_of};
 
-use crate::named::Named;
+use nc_base::Named;
 use std::alloc::{AllocError, Global};
 use std::collections::BTreeMap;
 

@@ -9,7 +9,7 @@ abbrev pub if_faultless : {A : Type 0} → Kinds → Option A → Option A
 if_faultless [] asked = asked
 if_faultless (kind ∷ kinds) asked = None
 
--- The options are those that the words ask for, or the fault is usage because they ask for nothing. Out of memory says nothing.
+-- The options are those that the words ask for. If the fault is usage, the words ask for nothing. Out of memory says nothing of the words.
 -- `asked_for`: what a program's options ask for.
 abbrev pub AnswersBy : {Asked Options : Type 0} → (Options → Asked) → Option Asked → Result Options OptFault → Type 0
 AnswersBy asked_for asked (Ok options) = asked ≡ Some (asked_for options)

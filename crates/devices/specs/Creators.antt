@@ -2,7 +2,7 @@
 use Rattle.std.specs.Prelude.{ℕ, ◌≡◌, ◌+◌, List, [], ◌∷◌, ◌++◌, Option}
 use Rattle.devices.specs.Failures.{HasFailed}
 
--- a path and the bytes that it was given
+-- a path and the bytes that it was given; None if these came from an opaque sink
 pub record Output : Type 0 where
   pub path : List ℕ
   pub bytes : Option (List ℕ)
@@ -14,7 +14,7 @@ pub record CreatorView : Type 0 where
   pub creations : ℕ
   pub failures : ℕ
 
--- and then the path was given these bytes
+-- what paths were given, with these bytes for this path added
 abbrev pub give : List Output → List ℕ → Option (List ℕ) → List Output
 give given path bytes = given ++ (record { path = path; bytes = bytes } ∷ [])
 

@@ -6,7 +6,7 @@ pub record OpenerView : Type 0 where
   pub opens : ℕ
   pub failures : ℕ
 
--- how often it was asked to open a path, after one time more; the count stops at 2^128 - 1
+-- the number of opens after one more; the count stops at 2^128 - 1
 abbrev pub opens_after : OpenerView → ℕ
 opens_after old = min (old.opens + 1) (2 ^ 128 - 1)
 
@@ -17,6 +17,6 @@ pub record Opening : Type 0 where
   pub before : OpenerView
   pub after : OpenerView
 
--- the same of an opener, old and new, that contracts see by the bytes that paths name and by this view
+-- the record of an opener, from what it was and what it is
 abbrev pub opening : {Opener : Type 0} → Bool → (Opener → List ℕ → Option (List ℕ)) → (Opener → OpenerView) → Opener → Opener → Opening
 opening is_transparent named view old new = record { is_transparent = is_transparent; named = named old; before = view old; after = view new }

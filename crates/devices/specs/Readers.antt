@@ -11,7 +11,7 @@ pub record ReaderView : Type 0 where
   pub handed : ℕ
   pub is_ended : Bool
 
--- what is still to come of a reader that is read no more once it has ended
+-- what is still to come: nothing after the end
 abbrev pub left : Option (List ℕ) → Bool → Option (List ℕ)
 left remaining true = Some []
 left remaining false = remaining

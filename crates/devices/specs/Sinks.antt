@@ -3,12 +3,13 @@ use Rattle.std.specs.Bool.{OnTrue}
 use Rattle.std.specs.Prelude.{Bool, is_some, ◌≡◌, ℕ, ◌+◌, ◌≤◌, List, [], ◌++◌, length, Option, Some, None, option_map, unwrap_or, Result, Ok, Err}
 use Rattle.devices.specs.Failures.{HasFailed}
 
--- a sink, as contracts see it: the bytes that it has taken (if it is transparent), and how often it has failed
+-- A sink, as contracts see it: the bytes that it has taken, if it is transparent, and how often it has failed. A device is transparent if a
+-- contract can name its bytes, such as memory, and otherwise opaque.
 pub record SinkView : Type 0 where
   pub taken : Option (List ℕ)
   pub failures : ℕ
 
--- with a text after what it took
+-- with a text added to what it has taken
 unfoldable pub append : SinkView → List ℕ → SinkView
 append v bytes = record { taken = option_map (λ prefix. prefix ++ bytes) v.taken; failures = v.failures }
 
@@ -31,7 +32,7 @@ IsPrefixIf None (Some whole) = ⊥
 unfoldable pub IsCut : SinkView → SinkView → Type 0
 IsCut now wanted = IsPrefixIf now.taken wanted.taken
 
--- it stopped on the way from old to wanted: it has taken a prefix of what it was to take, and no less than before
+-- it has taken a prefix of what it was to take, and keeps what it had
 pub record StoppedShort (old new wanted : SinkView) : Type 0 where
   pub cut : IsCut new wanted
   pub no_less : taken_len old ≤ taken_len new
@@ -40,21 +41,21 @@ pub record StoppedShort (old new wanted : SinkView) : Type 0 where
 unfoldable pub is_transparent : SinkView → Bool
 is_transparent v = is_some v.taken
 
--- it has taken the text
+-- it has not failed, and if it is transparent, it has taken the text
 pub record Appended (old new : SinkView) (text : List ℕ) : Type 0 where
   pub failures : new.failures ≡ old.failures
   pub taken : OnTrue (is_transparent old) (new ≡ append old text)
 
--- it has failed, and taken a prefix of the text
+-- it has failed, and if it is transparent, it has taken a prefix of the text
 pub record FailedPartway (old new : SinkView) (text : List ℕ) : Type 0 where
   pub failures : HasFailed old.failures new.failures
   pub taken : OnTrue (is_transparent old) (StoppedShort old new (append old text))
 
--- what has been done between two views: the text is written, or the sink has failed
+-- what a write did: with `Ok` the text was written, and with `Err` the sink failed partway
 abbrev pub Written : {X E : Type 0} → SinkView → SinkView → List ℕ → Result X E → Type 0
 Written old new text (Ok done) = Appended old new text
 Written old new text (Err failure) = FailedPartway old new text
 
--- what a call that writes a text to a sink has done
+-- the same of a sink, from what it was and what it is
 abbrev pub Wrote : {S X E : Type 0} → (S → SinkView) → S → S → List ℕ → Result X E → Type 0
 Wrote view old new text result = Written (view old) (view new) text result

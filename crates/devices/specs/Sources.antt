@@ -1,7 +1,7 @@
 -- Definition. A source, as contracts see it.
 use Rattle.std.specs.Prelude.{ℕ, ◌+◌, List}
 
--- its bytes (if it is opaque, any list of its length), how often it has failed, and how many bytes were read from it
+-- its bytes (if it is opaque, any list of its length), how often it has failed, and how many bytes it has handed over
 pub record SourceView : Type 0 where
   pub bytes : List ℕ
   pub failures : ℕ

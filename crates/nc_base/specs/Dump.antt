@@ -87,7 +87,7 @@ pub record Section : Type 0 where
   pub text : List ℕ
   pub ending : Ending
 
--- nothing, which is whole
+-- the empty text, with nothing missing
 abbrev pub no_section : Section
 no_section = record { text = []; ending = whole }
 
@@ -120,7 +120,7 @@ pub record ShownData : Type 0 where
 abbrev pub shown_data : Header → (ℕ → Var → VariableValues) → ℕ → ℕ → ShownData
 shown_data h values_of n width = record { header = h; values_of = values_of; records = n; width = width }
 
--- The values of the marked ones of these variables. The first variable has index v. A variable that has no values has no text.
+-- The values of the marked ones of these variables. The first variable is in place v. A variable that has no values has no text.
 abbrev pub variables_section : ShownData → ℕ → List Var → List Bool → Section
 variables_section d v (var ∷ vars) (mark ∷ marks) =
     if mark && has_values d.header.dims d.records var
@@ -147,8 +147,9 @@ closing_word other = []
 abbrev pub dump_text : Header → Options → ℕ → Section → List ℕ
 dump_text h o n section = concat_parts (head_text o.name h n ∷ data_word h o ∷ section.text ∷ closing_word section.ending ∷ [])
 
--- The dump of a file with these bytes: nothing, and the fault of the first wrong field; nothing, and the place of the
--- first chosen name that no variable has; or the head and the values, up to the first missing one.
+-- The dump of a file with these bytes. If the header is wrong, the text is empty, and the ending is the fault of the first wrong field. If
+-- a chosen name is unknown, the text is empty, and the ending is the place of the first such name. Otherwise the text is the head and the
+-- values, up to the first missing one.
 pub data IsDump (bytes : List ℕ) (o : Options) : List ℕ → Ending → Type 0 where
   stopped : (fault : FormatFault) (end : ℕ) → StopsAt bytes fault end → IsDump bytes o [] (wrong_field fault)
   unknown : (h : Header) (rest : List ℕ) (index : ℕ)
@@ -158,7 +159,8 @@ pub data IsDump (bytes : List ℕ) (o : Options) : List ℕ → Ending → Type 
       → n ≡ record_count h (length bytes) → section ≡ shown_section h o (values_in_file h bytes n) n (selection_of h o)
       → IsDump bytes o (dump_text h o n section) section.ending
 
--- The text of a dataset: nothing, and the place of the first chosen name that no variable has; or the head and the values.
+-- The text of a dataset. If a chosen name is unknown, it is empty, and the ending is the place of the first such name. Otherwise it is the
+-- head and the values.
 pub data IsText (d : Dataset) (o : Options) : List ℕ → Ending → Type 0 where
   unknown : (index : ℕ) → IsFirstUnknownOf d.header o.chosen index → IsText d o [] (no_such_variable index)
   shown : (n : ℕ) (section : Section)

@@ -71,8 +71,8 @@ pub data StopsInCounted {A : Type 0} (v : Version) (Element : ElementSpelling A)
       → SpellsCount v bytes n body → StopsInEach Element Stops n [] body fault rest
       → StopsInCounted v Element Stops bytes fault rest
 
--- A list: its tag is cut short, or is neither 0 nor the list's own; or its count is wrong; or an element is. After a tag of 0,
--- any count but 0 is wrong.
+-- A list. Its tag is wrong if it is cut short, or is neither 0 nor the list's own. Otherwise its count or an element is wrong. After a tag
+-- of 0, any count but 0 is wrong.
 pub data StopsInList {A : Type 0} (v : Version) (tag : ℕ) (Element : ElementSpelling A) (Stops : ElementStop A) (bytes : List ℕ) : FormatFault → List ℕ → Type 0 where
   cut_tag : IsCutNumber w32 bytes → StopsInList v tag Element Stops bytes HeaderTruncated []
   bad_tag : (found : ℕ) (rest : List ℕ)

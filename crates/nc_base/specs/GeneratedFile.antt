@@ -87,7 +87,7 @@ abbrev pub blocks : List Dim → List Var → List (List ℕ) → List ℕ
 blocks dims (var ∷ vars) (array ∷ arrays) = (if is_record_var dims var then [] else padded_slab var array) ++ blocks dims vars arrays
 blocks dims vars arrays = []
 
--- of the record variables: there is only one, and its values take less than four bytes. Its slabs have no padding.
+-- there is one record variable, and its values take less than four bytes; its slabs then have no padding
 abbrev pub is_sole_narrow : List Var → Bool
 is_sole_narrow (var ∷ []) = is_narrow var
 is_sole_narrow vars = false

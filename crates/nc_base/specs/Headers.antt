@@ -13,8 +13,7 @@ use Rattle.nc_base.specs.Sizes.{is_record_dim, is_record_var, slab_size, slab_co
 abbrev pub has_record_dim : List Dim → Bool
 has_record_dim dims = list_any (λ (dim : Dim). dim.len == 0) dims
 
--- A dimension id may come here in a shape, after the ids before it: a dimension has this id, and the id of the record
--- dimension comes first of all.
+-- The id may follow these ids in a shape: a dimension has it, and the record dimension comes first, if at all.
 pub record IsDimid (dims : List Dim) (before : List ℕ) (id : ℕ) : Type 0 where
   pub known : id < length dims
   pub record_first : IsTrue (is_record_dim dims id) → before ≡ []
@@ -63,7 +62,7 @@ pub record IsSound (h : Header) : Type 0 where
   pub gatts : All (IsSoundAtt h.version) h.gatts
   pub var_count : length h.vars < count_limit h.version
   pub vars : All (IsSoundVar h.version h.dims) h.vars
-  -- the same limit as that of `IsWithinLimits`, as a slab has at most 2^48 bytes
+  -- `Grammar.IsWithinLimits` bounds the padded slabs; a record differs from these only if it has one narrow slab, which is far smaller
   pub small_records : record_size h ≤ record_limit
 
 -- each name is valid

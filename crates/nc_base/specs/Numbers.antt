@@ -4,7 +4,7 @@ use Rattle.std.specs.Int.{FitsUnsigned, to_be_bytes, from_be_bytes, cast_signed,
 use Rattle.nc_base.specs.declared.nc_type.NcType.{NcType}
 use Rattle.nc_base.specs.Types.{width_of, size_of, is_signed}
 
--- the number that these bytes are: as many bytes as a value of the type has
+-- the number that these bytes spell; there are as many of them as a value of the type has
 abbrev pub number_of : NcType → List ℕ → ℤ
 number_of ty bytes =
     let magnitude = from_be_bytes (width_of ty) bytes in

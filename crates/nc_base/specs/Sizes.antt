@@ -53,7 +53,8 @@ is_narrow var = nat_lt (size_of var.ty) 4
 abbrev pub padded_total : List Dim → List Var → ℕ
 padded_total dims vars = sum (map (padded_size dims) vars)
 
--- the bytes of a record of these variables: their padded slabs, but for a sole narrow one the slab without padding
+-- The bytes of a record of these variables: their padded slabs together. If there is only one variable and it is narrow, its slab has no
+-- padding.
 abbrev pub record_size_of : List Dim → List Var → ℕ
 record_size_of dims (var ∷ []) = if is_narrow var then slab_size dims var else padded_size dims var
 record_size_of dims vars = padded_total dims vars
@@ -78,7 +79,7 @@ least_begin var [] = var.begin_at
 least_begin var (next ∷ others) = min var.begin_at (least_begin next others)
 
 -- How many whole records of this size are between the least begin of these variables and the end of a file of this number of
--- bytes. There are none if there are no such variables, or if the file ends before (`-` gives 0 then).
+-- bytes. There are none if there are no such variables, or if the file ends before the least begin, as `-` is 0 then.
 abbrev pub records_between : ℕ → List Var → ℕ → ℕ
 records_between size [] file_len = 0
 records_between size (var ∷ vars) file_len = (file_len - least_begin var vars) / size

@@ -13,7 +13,7 @@ use Rattle.nc_base.specs.Sizes.{dim_len, is_record_var}
 
 -- ---- what the text depends on
 
--- all that the text of a variable's values depends on, but for the values
+-- how the values of a variable are laid out
 pub record Look : Type 0 where
   pub name : List ℕ
   pub ty : NcType
@@ -78,8 +78,8 @@ number_lead look i =
     if begins_row look i then (if look.in_rows then (if i == 0 then codes "\n  " else codes ",\n  ") else codes " ")
     else codes ", "
 
--- What comes between a lead and value i, a number of this length, by the text up to there: a new line begins if the number and
--- two bytes after it would pass the width. No line is broken before a row's first number.
+-- What comes between a lead and value i, a number of this length, after the text `before`: a new line, if the number and two bytes after it
+-- would pass the width. No line is broken before a row's first number.
 abbrev pub line_break : Look → List ℕ → ℕ → ℕ → List ℕ
 line_break look before i len =
     if not (begins_row look i) && nat_lt look.width (column before + len + 2) then codes "\n    " else []

@@ -16,7 +16,7 @@ version_byte Cdf5 = 5
 abbrev pub version_of_byte : ℕ → Option Version
 version_of_byte b = find (λ v. b == version_byte v) (Cdf1 ∷ Cdf2 ∷ Cdf5 ∷ [])
 
--- the width of NON_NEG: a count, a length, a dimension id, the number of records, and of a vsize
+-- the width of a NON_NEG (a count, a length, the number of records), of a dimension id and of a vsize
 abbrev pub count_width : Version → Width
 count_width Cdf1 = w32
 count_width Cdf2 = w32

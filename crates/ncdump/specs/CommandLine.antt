@@ -59,7 +59,7 @@ asked_of rows path width = record {
   };
 }
 
--- what the entries ask for, if they have a file and a width that is one
+-- what the entries ask for, if they name a file and the width is valid
 abbrev pub asked_with : List Row → Option (List ℕ) → Option ℕ → Option Asked
 asked_with rows (Some path) (Some width) = Some (asked_of rows path width)
 asked_with rows path width = None

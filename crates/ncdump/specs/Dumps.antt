@@ -18,8 +18,8 @@ use Rattle.ncdump.specs.declared.fault.DumpFault.TheVariants.{OutOfMemory, ReadF
 abbrev pub options_of : DumpOptions → Options
 options_of o = record { name = o.name; head_only = o.head_only; coords = o.coords; chosen = o.chosen; width = o.width }
 
--- the sink has failed exactly where the answer says so; and nothing was written for want of memory, or with a fault of the
--- header or of a chosen name
+-- The sink has failed exactly if the answer says so. Nothing was written if memory ran out, if the header is wrong, or if a chosen name is
+-- unknown.
 abbrev pub WriteFailsOnly : {A : Type 0} → SinkView → SinkView → Result A DumpFault → Type 0
 WriteFailsOnly old new (Ok done) = new.failures ≡ old.failures
 WriteFailsOnly old new (Err WriteFailed) = HasFailed old.failures new.failures
@@ -50,9 +50,8 @@ pub record IsLeftOff (bytes : List ℕ) (o : Options) (old new : SinkView) : Typ
   pub is_dump : IsDump bytes o (prefix ++ rest) ending
   pub appended : Appended old new prefix
 
--- The dump of a file with these bytes: the text that the definition gives, with success; that of a file in which a value is
--- missing, with the value; that of a wrong field or an unknown name, which is no text, with this fault; or, where a device or an
--- allocation failed, nothing or a prefix of the text.
+-- With success the whole dump was written. If a value is missing, the dump ends before it. If the header is wrong or a name is unknown, the
+-- dump has no text. If a device or an allocation failed, nothing or a prefix of the dump was written.
 abbrev pub Dumps : {A : Type 0} → List ℕ → Options → SinkView → SinkView → Result A DumpFault → Type 0
 Dumps bytes o old new (Ok done) = IsWritten bytes o whole old new
 Dumps bytes o old new (Err (DataTruncated v k)) = IsWritten bytes o (data_truncated v k) old new
@@ -64,11 +63,11 @@ Dumps bytes o old new (Err WriteFailed) = IsCutShort bytes o old new
 
 -- ---- one forward pass
 
--- what is left of a call once its source is this
+-- the rest of a call, from this state of its source on
 abbrev pub rest_of : SourceView → Call → Call
 rest_of here call = record call { source = between here call.source.after }
 
--- The header was read, and no more was read than its bytes and one buffer; and then the selected variables were shown.
+-- The header was read, and at most one buffer more. Then the selected variables were shown.
 pub record IsAfterHeader {A : Type 0} (o : Options) (call : Call) (result : Result A DumpFault) : Type 0 where
   pub h : Header
   pub rest : List ℕ
@@ -92,8 +91,8 @@ pub data IsUnread {A : Type 0} (o : Options) (call : Call) (result : Result A Du
   in_header : IsInHeader call → call.sink.after ≡ call.sink.before → IsUnread o call result
   after_header : IsAfterHeader o call result → IsUnread o call result
 
--- The bytes that were read: those up to the header's end, or to that of its first wrong field, and one buffer; and after
--- the header those of the values that are shown.
+-- Up to the header's end, or to that of its first wrong field, at most one buffer more was read. After the header, only values that are
+-- shown were read.
 abbrev pub ReadsForward : {A : Type 0} → Options → Call → Result A DumpFault → Type 0
 ReadsForward o call (Ok done) = IsAfterHeader o call (Ok done)
 ReadsForward o call (Err (DataTruncated v k)) = IsAfterHeader {A = Unit {0}} o call (Err (DataTruncated v k))

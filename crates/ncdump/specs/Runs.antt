@@ -18,7 +18,7 @@ use Rattle.ncdump.specs.declared.fault.FileFault.TheVariants.{CannotOpen, Dump}
 
 -- ---- the dump of a file
 
--- this holds of the dump's answer; or the file could not be opened, and that holds
+-- `Holds` is true of the dump's answer. If the file could not be opened, `Unopened` is true.
 abbrev pub OfDump : {A : Type 0} → (Result A DumpFault → Type 0) → Type 0 → Result A FileFault → Type 0
 OfDump Holds Unopened (Ok done) = Holds (Ok done)
 OfDump Holds Unopened (Err (Dump fault)) = Holds (Err fault)
@@ -65,8 +65,8 @@ pub record IsUntouched (run : Run) (out : SinkView) : Type 0 where
   pub files : run.files.after ≡ run.files.before
   pub same : out ≡ run.out.before
 
--- The dump that is asked for was written, or the answer is why not: the file's fault, or one of the command line, which asks for nothing or
--- is read out of memory. `out` is standard output after that.
+-- The dump that is asked for was written, or the answer is why not: the file has a fault, or the command line asks for nothing, or memory ran
+-- out while it was read. `out` is standard output after that.
 abbrev pub DumpsAsked : {A : Type 0} → Run → SinkView → Result A Failure → Type 0
 DumpsAsked run out (Ok done) = IsSomeAnd run.asked (λ a. DumpsPath a.file a.options run.files (between run.out.before out) (Ok done))
 DumpsAsked {A} run out (Err (File path fault)) =
@@ -77,14 +77,14 @@ DumpsAsked run out (Err Flush) = ⊥
 
 -- ---- the run
 
--- the dump has come to this answer, and then standard output was flushed, as `Flushed` says
+-- The dump gave this answer. Then standard output was flushed, as `Flushed` says.
 pub record DumpsThenFlushes {A : Type 0} (run : Run) (answer : Result A Failure) (Flushed : SinkView → Type 0) : Type 0 where
   pub out : SinkView
   pub dumped : DumpsAsked run out answer
   pub flushed : Flushed out
 
--- The dump was written, and standard output flushed; or the dump was written, and the flush failed; or the dump failed, and standard output was
--- flushed, or the flush failed too.
+-- With success, the dump was written and standard output flushed. With `Flush`, only the flush failed. With any other failure the dump failed,
+-- whatever the flush did.
 abbrev pub Runs : {A : Type 0} → Run → Result A Failure → Type 0
 Runs run (Ok done) = DumpsThenFlushes run (Ok done) (λ out. Appended out run.out.after [])
 Runs run (Err Flush) = DumpsThenFlushes {A = Unit {0}} run (Ok tt) (λ out. FailedPartway out run.out.after [])
@@ -96,6 +96,6 @@ pub record Fails (run : Run) (err : Use SinkView) : Type 0 where
   pub fails : Runs {A = Unit {0}} run (Err failure)
   pub line : Appended err.before err.after (line_of_failure failure) ⊎ FailedPartway err.before err.after (line_of_failure failure)
 
--- the status is 0 after a run that did what is asked for, and wrote nothing to standard error, and otherwise 1
+-- The status is 0 if the run did what is asked for, and wrote nothing to standard error. Otherwise it is 1.
 abbrev pub Ends : Run → Use SinkView → ℕ → Type 0
-Ends run err status = (status ≡ 0) × Runs {A = Unit {0}} run (Ok tt) × (err.after ≡ err.before) ⊎ (status ≡ 1) × Fails run err
+Ends run err status = ((status ≡ 0) × Runs {A = Unit {0}} run (Ok tt) × (err.after ≡ err.before)) ⊎ ((status ≡ 1) × Fails run err)

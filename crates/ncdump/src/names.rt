@@ -3,43 +3,9 @@
 ghost use Rattle.std.specs.Prelude.{◌≡◌, ℕ, List, IfOk, OnOk, false};
 ghost use Rattle.ncdump.specs.code.Names.{holds, HasGained, HoldsNames};
 
-use nc_base::{Dim, Sequence, Var};
+use nc_base::Named;
 use std::alloc::{AllocError, Global};
 use std::collections::BTreeSet;
-
-/// An item that has a name: a dimension, a variable, or a name itself.
-pub trait Named {
-    // The bytes of the name.
-    ghost name_of: { Self → List ℕ };
-
-    /// Returns the bytes of the name.
-    fn name(&self) -> &[u8]
-        ensures { result.now ≡ name_of self.now };
-}
-
-impl Named for Dim {
-    ghost name_of = { λ dim. dim.name };
-
-    fn name(&self) -> &[u8] {
-        self.name.as_slice()
-    }
-}
-
-impl Named for Var {
-    ghost name_of = { λ var. var.name };
-
-    fn name(&self) -> &[u8] {
-        self.name.as_slice()
-    }
-}
-
-impl Named for Sequence<u8> {
-    ghost name_of = { λ name. name };
-
-    fn name(&self) -> &[u8] {
-        self.as_slice()
-    }
-}
 
 /// A set of names. The time to find a name grows with the logarithm of the number of names.
 #[derive(Drop)]

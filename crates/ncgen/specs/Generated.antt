@@ -34,8 +34,8 @@ pub record IsCutShort (stated : Result (List ℕ) GenFault) (old new : SinkView)
   pub is_stated : stated ≡ Ok file
   pub partway : FailedPartway old new file
 
--- With success, the stated file was written; if the sink failed, a prefix of it; otherwise nothing, with the stated fault or out
--- of memory.
+-- With success the stated file was written. If the sink failed, a prefix of it was written. Otherwise nothing was written, and the fault is
+-- the stated one or out of memory.
 abbrev pub Generates : {A : Type 0} → Result (List ℕ) GenFault → SinkView → SinkView → Result A GenFault → Type 0
 Generates stated old new (Ok done) = IsWritten stated old new
 Generates stated old new (Err WriteFailed) = IsCutShort stated old new

@@ -7,7 +7,7 @@ use Rattle.devices.specs.Sinks.{IsPrefix}
 use Rattle.ncgen.specs.declared.failure.OutputFault.{OutputFault}
 use Rattle.ncgen.specs.declared.failure.OutputFault.TheVariants.{CannotOpen, WriteFailed}
 
--- the outputs before a call and after it, and if they are transparent
+-- what creates outputs, before a call and after it, and whether it is transparent
 pub record Outputs : Type 0 where
   pub is_transparent : Bool
   pub before : CreatorView
@@ -16,11 +16,11 @@ pub record Outputs : Type 0 where
 abbrev pub outputs : {C : Type 0} → Bool → (C → CreatorView) → C → C → Outputs
 outputs is_transparent view old new = record { is_transparent = is_transparent; before = view old; after = view new }
 
--- what paths were given, where an output was created at this one
+-- What paths were given after an output was created at this path. Creating it gives the path no bytes; writing then gives it all bytes at once.
 abbrev pub created_at : CreatorView → List ℕ → List Output
 created_at old path = give old.given path (Some [])
 
--- the path was given exactly these bytes, and no other path anything
+-- the path was given exactly these bytes, and no other path was given any
 pub record IsWrittenAt (o : Outputs) (path bytes : List ℕ) : Type 0 where
   pub creations : o.after.creations ≡ o.before.creations + 1
   pub failures : o.after.failures ≡ o.before.failures

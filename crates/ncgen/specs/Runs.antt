@@ -36,7 +36,7 @@ pub record GivesNothing (i : Inputs) (o : Outputs) (asked : Option Asked) (path 
   pub is_asked : asked ≡ Some a
   pub is_path : path ≡ a.file
   pub fails : InputFails i a.file a.version fault
-  pub unmade : o.after ≡ o.before
+  pub untouched : o.after ≡ o.before
 
 -- the text that is asked for gives a file, which is not, or not all, at the output's path
 pub record IsUnwritten (i : Inputs) (o : Outputs) (asked : Option Asked) (path : List ℕ) (fault : OutputFault) : Type 0 where
@@ -66,7 +66,7 @@ pub record Fails (run : Run) : Type 0 where
   pub fails : FailsWith run.inputs run.outputs run.asked failure
   pub line : Appended run.err.before run.err.after (line_of_failure failure) ⊎ FailedPartway run.err.before run.err.after (line_of_failure failure)
 
--- the status is 0 after a run that made what is asked for, and wrote nothing to standard error, and otherwise 1
+-- The status is 0 if the run made what is asked for, and wrote nothing to standard error. Otherwise it is 1.
 abbrev pub Ends : Run → ℕ → Type 0
 Ends run status =
-    (status ≡ 0) × IsGenerated run.inputs run.outputs run.asked × (run.err.after ≡ run.err.before) ⊎ (status ≡ 1) × Fails run
+    ((status ≡ 0) × IsGenerated run.inputs run.outputs run.asked × (run.err.after ≡ run.err.before)) ⊎ ((status ≡ 1) × Fails run)

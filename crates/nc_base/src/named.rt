@@ -2,9 +2,10 @@
 
 ghost use Rattle.std.specs.Prelude.{◌≡◌, List, ℕ};
 
-use nc_base::{Att, Dim, Var};
+use crate::header::{Att, Dim, Var};
+use crate::sequence::Sequence;
 
-/// An item that a [`NameIndex`](crate::NameIndex) finds by its name.
+/// An item that has a name: a dimension, an attribute, a variable, or a name itself.
 pub trait Named {
     // The name as contracts see it.
     ghost name_of: { Self → List ℕ };
@@ -35,5 +36,13 @@ impl Named for Var {
 
     fn name(&self) -> &[u8] {
         self.name.as_slice()
+    }
+}
+
+impl Named for Sequence<u8> {
+    ghost name_of = { λ name. name };
+
+    fn name(&self) -> &[u8] {
+        self.as_slice()
     }
 }
