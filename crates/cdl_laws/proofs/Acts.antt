@@ -1,6 +1,6 @@
 -- What the statements of a dump make of a state.
 use Rattle.std.proofs.Common.{◌≡◌, ℕ, zero, suc, ◌-◌, ◌<◌, ◌≤◌, true, false, List, [], ◌∷◌, ◌++◌, length, map, sym, ◌∙◌, ap, refl, arith, append_assoc, append-nil, ℤ, pos, unsigned_abs, IsTrue, ◌&&◌, ◌==◌, if◌then◌else◌, nat_lt, nat_le, None, Some, Result, Ok}
-use Rattle.cdl_laws.proofs.Prelude.{flat_map, list_any, position, position_or_len, int_eq, bytes_eq, false≢true, eqb-true, Decides-int_eq, bytes_eq-Decides, Att, Dim, NcType, Byte, Char, Short, Int, Ubyte, Ushort, Uint, Int64, Uint64, Version, Cdf1, Cdf2, Cdf5, has_name, has_record_dim, IsDimid, AreDimids, IsName, is_name, is_record_dim, type_word, count_limit, has_type, CdlKind, UnknownDimension, BadShape, Value, Number, Characters, Draft, add_dim, dim_len_of, add_dimid, add_var, type_of, add_att, add_constant, first_type, same_type, at_named, at_variable, in_turn, when, found, between, has_number, extent_said, said_dim, AreDistinct, bytes_of_number, and_both, and_false}
+use Rattle.cdl_laws.proofs.Prelude.{flat_map, list_any, position, position_or_len, int_eq, bytes_eq, false≢true, eqb-true, Decides-int_eq, bytes_eq-Decides, Att, Dim, NcType, Byte, Char, Short, Int, Ubyte, Ushort, Uint, Int64, Uint64, Version, Cdf1, Cdf2, Cdf5, has_name, has_record_dim, IsDimid, AreDimids, IsName, is_name, is_record_dim, type_word, count_limit, has_type, CdlKind, UnknownDimension, BadShape, Value, Number, Characters, Draft, add_dim, dim_len_of, add_dimid, add_var, type_of, add_att, add_constant, first_type, same_type, at_named, at_variable, in_turn, when, some_or, int_within, has_number, extent_said, said_dim, AreDistinct, bytes_of_number, and_both, and_false}
 use Rattle.cdl_meaning.specs.State.{◌>>=◌}
 use Rattle.cdl_laws.proofs.Bools.{or_left, or_right}
 use Rattle.cdl_laws.proofs.Lists.{Each}
@@ -18,7 +18,7 @@ dim_names dims = map (λ (d : Dim). d.name) dims
 abbrev pub record_once : List Dim → ℕ → Type 0
 record_once dims len = len ≡ 0 → has_record_dim dims ≡ false
 
-between_is : (m n : ℕ) → 0 < n → n ≤ m → between (pos 1) (pos m) (pos n) ≡ true
+between_is : (m n : ℕ) → 0 < n → n ≤ m → int_within (pos 1) (pos m) (pos n) ≡ true
 between_is m n some small = and_both (nat_le 1 n) (nat_le n m) (grind (arith, some)) (grind (arith, small))
 
 not_zero : (n : ℕ) → (n == 0) ≡ false → int_eq (pos n) (pos 0) ≡ false
@@ -187,7 +187,7 @@ unfolding add_dimid
 id_added dims before k distinct names is =
     let named : is_name (name_at dims k) ≡ true = name_valid dims k names is.known in
     rw (named) (
-    ap (λ o. found o UnknownDimension >>= (λ j. when (nat_lt 0 (length before) && is_record_dim dims j) BadShape >>= (λ u. Ok (before ++ j ∷ [])))) (position_is dims k distinct is.known) ∙
+    ap (λ o. some_or o UnknownDimension >>= (λ j. when (nat_lt 0 (length before) && is_record_dim dims j) BadShape >>= (λ u. Ok (before ++ j ∷ [])))) (position_is dims k distinct is.known) ∙
     rw (later_fixed dims before k is.record_first) refl)
 
 pub ids_added : (dims : List Dim) (before ids : List ℕ) → AreDistinctDims dims → HaveNames dims → AreDimids dims before ids → in_turn (add_dimid dims) before (map (name_at dims) ids) ≡ Ok (before ++ ids)

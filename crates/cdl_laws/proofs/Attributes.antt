@@ -1,6 +1,6 @@
 -- The values of an attribute are read back.
 use Rattle.std.proofs.Common.{◌≡◌, ℕ, zero, suc, ◌+◌, ◌*◌, ◌/◌, ◌^◌, ◌<◌, ◌≤◌, true, false, List, [], ◌∷◌, ◌++◌, length, drop, take, map, sym, ◌∙◌, ap, refl, subst, arith, length-take, length-drop, ℤ, pos, negsuc, unsigned_abs, if◌then◌else◌, nat_le, Ok}
-use Rattle.cdl_laws.proofs.Prelude.{flat_map, mul-div_cancel, ints, take-append-drop, get_or-drop, AreBytes, Att, NcType, Byte, Char, Short, Int, Ubyte, Ushort, Uint, Int64, Uint64, Version, numbers, numbers_from, number_of, bytes_of_number, IsInRange, size_of, IsSoundAtt, att_values, number_values, joined, without_trailing_nuls, IsName, is_char, has_type, trimmed_att, HasSomeNumber, Characters, has_number, in_turn, add_constant, and_both, le-leb, some_size, is_had}
+use Rattle.cdl_laws.proofs.Prelude.{flat_map, mul-div_cancel, ints, take-append-drop, get_or-drop, AreBytes, Att, NcType, Byte, Char, Short, Int, Ubyte, Ushort, Uint, Int64, Uint64, Version, numbers, numbers_from, number_of, bytes_of_number, IsInRange, size_of, IsSoundAtt, att_text, numbers_text, joined, without_trailing_nuls, IsName, is_char, has_type, trimmed_att, HasSomeNumber, Characters, has_number, in_turn, add_constant, and_both, le-leb, some_size, is_had}
 use Rattle.nc_base.proofs.NumberBytes.{bytes_read_back, numbers_in_range}
 use Rattle.cdl_laws.proofs.Acts.{numbers_added, chars_added}
 use Rattle.cdl_laws.proofs.Declarations.{IsListOf, chars_list, numbers_list, numbers_said, suffixed, first, others, all_bytes}
@@ -74,14 +74,14 @@ pub char_speaks : (v : Version) (att : Att) → att.ty ≡ Char → IsName att.n
 char_speaks v att e name = record {
   name = name;
   said = map Characters (first (without_trailing_nuls att.vals) ∷ others (without_trailing_nuls att.vals));
-  list = subst (λ ty. IsListOf v (att_values ty att.vals) (map Characters (first (without_trailing_nuls att.vals) ∷ others (without_trailing_nuls att.vals)))) (sym e) (chars_list v att.vals);
+  list = subst (λ ty. IsListOf v (att_text ty att.vals) (map Characters (first (without_trailing_nuls att.vals) ∷ others (without_trailing_nuls att.vals)))) (sym e) (chars_list v att.vals);
   type = sym e;
   are = subst (λ ty. in_turn (add_constant ty) [] (map Characters (first (without_trailing_nuls att.vals) ∷ others (without_trailing_nuls att.vals))) ≡ Ok (if is_char ty then without_trailing_nuls att.vals else att.vals)) (sym e)
       (chars_added [] (first (without_trailing_nuls att.vals) ∷ others (without_trailing_nuls att.vals)) ∙ ap (λ bs. Ok bs) (all_bytes (without_trailing_nuls att.vals)));
 }
 
-values_text : (ty : NcType) (vals : List ℕ) → is_char ty ≡ false → att_values ty vals ≡ joined (map (suffixed ty) (numbers ty vals))
-unfolding number_values
+values_text : (ty : NcType) (vals : List ℕ) → is_char ty ≡ false → att_text ty vals ≡ joined (map (suffixed ty) (numbers ty vals))
+unfolding numbers_text
 values_text Byte vals h = refl
 values_text Char vals h = cc
 values_text Short vals h = refl

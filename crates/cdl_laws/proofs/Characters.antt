@@ -1,6 +1,6 @@
 -- The strings of a variable of characters are read back.
 use Rattle.std.proofs.Common.{◌≡◌, ℕ, suc, ◌+◌, ◌*◌, ◌-◌, ◌%◌, ◌<◌, ◌≤◌, Bool, true, false, List, [], ◌∷◌, ◌++◌, length, drop, map, sym, ◌∙◌, ap, refl, subst, arith, append_assoc, append-nil, length-append, ℤ, unsigned_abs, ◌&&◌, ◌==◌, if◌then◌else◌, replicate, codes}
-use Rattle.cdl_laws.proofs.Prelude.{flat_map, suffix_len, prefix_len, reverse-append, drop_all, flat_map-append, mul-mod_left, drop-append_seam, escaped_name, escaped_in_string, escaped_text, IsName, Look, is_char, begins_row, char_lead, char_text, char_piece, held, row_so_far, is_nul, piece, pieces, opening, closing, variable_prefix, variable_text, Lexeme, lexemes_at, scan, and_left, and_right, escaped-append}
+use Rattle.cdl_laws.proofs.Prelude.{flat_map, suffix_len, prefix_len, reverse-append, drop_all, flat_map-append, mul-mod_left, drop-append_seam, escaped_name, escaped_in_string, escaped_text, IsName, Look, is_char, begins_row, char_lead, char_text, char_piece, held, row_so_far, is_nul, piece, pieces, variable_opening, variable_closing, variable_prefix, variable_text, Lexeme, lexemes_at, scan, and_left, and_right, escaped-append}
 use Rattle.std.proofs.lemmas.Nat.{mod-mul-add}
 use Rattle.cdl_laws.proofs.Lists.{Each}
 use Rattle.cdl_laws.proofs.Texts.{Closed, closed_both, mark, word}
@@ -194,16 +194,16 @@ rows_closed look done k r ((x ∷ xs) ∷ rows) h len some wide all =
 
 -- ---- a variable's characters
 
-char_closing : (look : Look) → is_char look.ty ≡ true → closing look ≡ closing_bytes
-unfolding closing
+char_closing : (look : Look) → is_char look.ty ≡ true → variable_closing look ≡ closing_bytes
+unfolding variable_closing
 char_closing look h = rw (h) refl
 
-char_variable : (look : Look) (values : List ℤ) → is_char look.ty ≡ true → variable_text look values ≡ opening look ++ (chars look [] values ++ closing_bytes)
+char_variable : (look : Look) (values : List ℤ) → is_char look.ty ≡ true → variable_text look values ≡ variable_opening look ++ (chars look [] values ++ closing_bytes)
 unfolding variable_text variable_prefix
 char_variable look values h =
-    append_assoc (opening look) (pieces look (opening look) [] values) (closing look) ∙
-    ap (λ p. opening look ++ (p ++ closing look)) (pieces_are look (opening look) [] values h) ∙
-    ap (λ q. opening look ++ (chars look [] values ++ q)) (char_closing look h)
+    append_assoc (variable_opening look) (pieces look (variable_opening look) [] values) (variable_closing look) ∙
+    ap (λ p. variable_opening look ++ (p ++ variable_closing look)) (pieces_are look (variable_opening look) [] values h) ∙
+    ap (λ q. variable_opening look ++ (chars look [] values ++ q)) (char_closing look h)
 
 -- the lexemes of its strings
 abbrev pub strings : Look → List ℤ → List (List ℤ) → List Lexeme
@@ -219,10 +219,10 @@ table_closed look (x ∷ xs) rows name ty h wide all =
     let c = chars look r (flat rows) in
     let row_len : length r ≡ look.row = all.0 in
     subst (λ bs. Closed bs (word (escaped_name look.name) ∷ mark 61 ∷ (strings look r rows ++ mark 59 ∷ [])))
-    (ap (λ bs. opening look ++ bs) (sym (append_assoc (codes "\n  \"") (f ++ c) closing_bytes ∙ ap (λ bs. codes "\n  \"" ++ bs) (append_assoc f c closing_bytes)) ∙ ap (λ bs. bs ++ closing_bytes)
+    (ap (λ bs. variable_opening look ++ bs) (sym (append_assoc (codes "\n  \"") (f ++ c) closing_bytes ∙ ap (λ bs. codes "\n  \"" ++ bs) (append_assoc f c closing_bytes)) ∙ ap (λ bs. bs ++ closing_bytes)
     (ap (λ l. l ++ (f ++ c)) (sym (first_lead look h)) ∙ sym (a_row look [] x xs (flat rows) 0 (let z : 0 ≡ 0 * look.row = omega arith in z) (omega (arith, row_len))))) ∙
     sym (char_variable look (flat (r ∷ rows)) ty))
-    (closed_both (opening look) (codes "\n  " ++ 34 ∷ (f ++ (c ++ closing_bytes))) (word (escaped_name look.name) ∷ mark 61 ∷ []) (strings look r rows ++ mark 59 ∷ []) (opening_closed look name)
+    (closed_both (variable_opening look) (codes "\n  " ++ 34 ∷ (f ++ (c ++ closing_bytes))) (word (escaped_name look.name) ∷ mark 61 ∷ []) (strings look r rows ++ mark 59 ∷ []) (opening_closed look name)
     (closed_both (codes "\n  ") (34 ∷ (f ++ (c ++ closing_bytes))) [] (strings look r rows ++ mark 59 ∷ []) row_blank_closed
     (rows_closed look r 1 (shown look.trimmed 0 r) rows h (row_len ∙ (let z : look.row ≡ 1 * look.row = omega arith in z)) (omega arith) wide all.1)))
 
@@ -234,8 +234,8 @@ line_closed look x xs name ty h small =
     let r = x ∷ xs in
     let f = escaped_text (shown look.trimmed 0 r) in
     subst (λ bs. Closed bs (word (escaped_name look.name) ∷ mark 61 ∷ row_string look r ∷ mark 59 ∷ []))
-    (ap (λ bs. opening look ++ bs) (ap (λ g. codes " \"" ++ (g ++ closing_bytes)) (sym (append-nil f)) ∙ ap (λ bs. bs ++ closing_bytes)
+    (ap (λ bs. variable_opening look ++ bs) (ap (λ g. codes " \"" ++ (g ++ closing_bytes)) (sym (append-nil f)) ∙ ap (λ bs. bs ++ closing_bytes)
     (ap (λ l. l ++ (f ++ [])) (sym (alone_lead look h)) ∙ sym (a_row look [] x xs [] 0 (let z : 0 ≡ 0 * look.row = omega arith in z) small) ∙ ap (chars look []) (append-nil r))) ∙
     sym (char_variable look r ty))
-    (closed_both (opening look) (codes " " ++ 34 ∷ (f ++ closing_bytes)) (word (escaped_name look.name) ∷ mark 61 ∷ []) (row_string look r ∷ mark 59 ∷ []) (opening_closed look name)
+    (closed_both (variable_opening look) (codes " " ++ 34 ∷ (f ++ closing_bytes)) (word (escaped_name look.name) ∷ mark 61 ∷ []) (row_string look r ∷ mark 59 ∷ []) (opening_closed look name)
     (closed_both (codes " ") (34 ∷ (f ++ closing_bytes)) [] (row_string look r ∷ mark 59 ∷ []) space_closed (last_closed (shown look.trimmed 0 r))))

@@ -1,6 +1,6 @@
 -- The statements of a head, and what they say.
 use Rattle.std.proofs.Common.{◌≡◌, ℕ, ◌^◌, ◌<◌, true, false, List, [], ◌∷◌, ◌++◌, map, sym, ◌∙◌, ap, refl, subst, arith, append_assoc, append-nil, ℤ, pos, unsigned_abs, decimal, ◌==◌, not, if◌then◌else◌, None, Some, codes}
-use Rattle.cdl_laws.proofs.Prelude.{signed_decimal, flat_map, list_all, option_map, flat_map-append, list_all-append, concat_parts, Att, Dim, NcType, Version, escaped_name, escaped_in_string, joined, dim_extent, dim_line, unlimited_word, currently_word, att_line, att_values, char_values, broken_text, string_break, without_trailing_nuls, IsName, number_suffix, is_char, has_type, Section, Globals, Dimensions, Variables, is_digit, scan, Lexeme, extent_said, said_dim, IsBeforeData, globals, dimensions, variables, lexemes_at, Value, Number, Characters, Statement, Declared, Attribute, each, both, constant, constants, length_of, typed, attribute, global, assigned, body, either, and_left, and_right, and_both}
+use Rattle.cdl_laws.proofs.Prelude.{signed_decimal, flat_map, list_all, option_map, flat_map-append, list_all-append, concat_parts, Att, Dim, NcType, Version, escaped_name, escaped_in_string, joined, dim_len_text, dim_line, unlimited_word, currently_word, att_line, att_text, chars_text, broken_text, string_break, without_trailing_nuls, IsName, number_suffix, is_char, has_type, Section, Globals, Dimensions, Variables, is_digit, scan, Lexeme, extent_said, said_dim, IsBeforeData, globals, dimensions, variables, lexemes_at, Value, Number, Characters, Statement, Declared, Attribute, each, both, constant, constants, length_of, typed, attribute, global, assigned, body, either, and_left, and_right, and_both}
 use Rattle.cdl_statements.specs.Shapes.{dimensions as dimensions_of}
 use Rattle.cdl_laws.proofs.Lists.{Each}
 use Rattle.cdl_laws.proofs.Texts.{Closed, Reads, closed_both, closed_by, mark, word, number, name_word}
@@ -33,8 +33,8 @@ unlimited_rest n =
 abbrev pub extent_lexeme : ℕ → Lexeme
 extent_lexeme len = if len == 0 then word (codes "UNLIMITED") else number (decimal len)
 
-extent_closed : (n len : ℕ) → len < 2 ^ 64 → Closed (dim_extent n len ++ []) (extent_lexeme len ∷ semicolon ∷ [])
-unfolding dim_extent concat_parts unlimited_word currently_word
+extent_closed : (n len : ℕ) → len < 2 ^ 64 → Closed (dim_len_text n len ++ []) (extent_lexeme len ∷ semicolon ∷ [])
+unfolding dim_len_text concat_parts unlimited_word currently_word
 extent_closed n len h =
     elim (len == 0) as (λ w. Closed ((if w then codes "UNLIMITED ; // (" ++ (decimal n ++ (codes " currently)\n" ++ [])) else decimal len ++ (codes " ;\n" ++ [])) ++ []) ((if w then word (codes "UNLIMITED") else number (decimal len)) ∷ semicolon ∷ [])) [
       | true ↦ subst (λ bs. Closed bs (word (codes "UNLIMITED") ∷ semicolon ∷ [])) (sym (append-nil (codes "UNLIMITED ; // (" ++ (decimal n ++ (codes " currently)\n" ++ [])))))
@@ -48,9 +48,9 @@ extent_closed n len h =
 dim_closed : (n : ℕ) (dim : Dim) → IsName dim.name → dim.len < 2 ^ 64 → Closed (dim_line n dim) (word (escaped_name dim.name) ∷ mark 61 ∷ extent_lexeme dim.len ∷ semicolon ∷ [])
 unfolding dim_line concat_parts
 dim_closed n dim name h =
-    closed_both (codes "\t") (escaped_name dim.name ++ (codes " = " ++ (dim_extent n dim.len ++ []))) [] (word (escaped_name dim.name) ∷ mark 61 ∷ extent_lexeme dim.len ∷ semicolon ∷ []) tab_closed
-    (closed_by (escaped_name dim.name) (codes " = " ++ (dim_extent n dim.len ++ [])) (word (escaped_name dim.name) ∷ []) (mark 61 ∷ extent_lexeme dim.len ∷ semicolon ∷ []) (name_word dim.name name).reads (λ rest. refl)
-    (closed_both (codes " = ") (dim_extent n dim.len ++ []) (mark 61 ∷ []) (extent_lexeme dim.len ∷ semicolon ∷ []) is_closed (extent_closed n dim.len h)))
+    closed_both (codes "\t") (escaped_name dim.name ++ (codes " = " ++ (dim_len_text n dim.len ++ []))) [] (word (escaped_name dim.name) ∷ mark 61 ∷ extent_lexeme dim.len ∷ semicolon ∷ []) tab_closed
+    (closed_by (escaped_name dim.name) (codes " = " ++ (dim_len_text n dim.len ++ [])) (word (escaped_name dim.name) ∷ []) (mark 61 ∷ extent_lexeme dim.len ∷ semicolon ∷ []) (name_word dim.name name).reads (λ rest. refl)
+    (closed_both (codes " = ") (dim_len_text n dim.len ++ []) (mark 61 ∷ []) (extent_lexeme dim.len ∷ semicolon ∷ []) is_closed (extent_closed n dim.len h)))
 
 extent_fine : (v : Version) (len : ℕ) → len < 2 ^ 64 → is_fine v (extent_lexeme len) ≡ true
 extent_fine v len h =
@@ -188,8 +188,8 @@ pub record IsListOf (v : Version) (bytes : List ℕ) (said : List Value) : Type 
   pub fine : list_all (is_fine v) (l ∷ ls) ≡ true
   pub are : constants v false (l ∷ commas ls) ≡ Some said
 
-pub chars_list : (v : Version) (vals : List ℕ) → IsListOf v (char_values vals) (map Characters (first (without_trailing_nuls vals) ∷ others (without_trailing_nuls vals)))
-unfolding char_values concat_parts
+pub chars_list : (v : Version) (vals : List ℕ) → IsListOf v (chars_text vals) (map Characters (first (without_trailing_nuls vals) ∷ others (without_trailing_nuls vals)))
+unfolding chars_text concat_parts
 chars_list v vals =
     let bytes = without_trailing_nuls vals in
     record {
@@ -211,23 +211,23 @@ numbers_list v ty x xs fit h k = record {
 
 -- after the owner
 abbrev rest_of_att : Att → List ℕ
-rest_of_att att = codes ":" ++ (escaped_name att.name ++ (codes " = " ++ (att_values att.ty att.vals ++ (codes " ;\n" ++ []))))
+rest_of_att att = codes ":" ++ (escaped_name att.name ++ (codes " = " ++ (att_text att.ty att.vals ++ (codes " ;\n" ++ []))))
 
-att_closed : (v : Version) (att : Att) (said : List Value) (list : IsListOf v (att_values att.ty att.vals) said) → IsName att.name →
+att_closed : (v : Version) (att : Att) (said : List Value) (list : IsListOf v (att_text att.ty att.vals) said) → IsName att.name →
     Closed (rest_of_att att) (mark 58 ∷ word (escaped_name att.name) ∷ mark 61 ∷ (list.l ∷ commas list.ls ++ semicolon ∷ []))
 att_closed v att said list name =
     let tail = list.l ∷ commas list.ls ++ semicolon ∷ [] in
-    closed_both (codes ":") (escaped_name att.name ++ (codes " = " ++ (att_values att.ty att.vals ++ (codes " ;\n" ++ [])))) (mark 58 ∷ []) (word (escaped_name att.name) ∷ mark 61 ∷ tail) colon_closed
-    (closed_by (escaped_name att.name) (codes " = " ++ (att_values att.ty att.vals ++ (codes " ;\n" ++ []))) (word (escaped_name att.name) ∷ []) (mark 61 ∷ tail) (name_word att.name name).reads (λ rest. refl)
-    (closed_both (codes " = ") (att_values att.ty att.vals ++ (codes " ;\n" ++ [])) (mark 61 ∷ []) tail is_closed
-    (closed_by (att_values att.ty att.vals) (codes " ;\n" ++ []) (list.l ∷ commas list.ls) (semicolon ∷ []) list.reads (λ rest. refl) semicolon_closed)))
+    closed_both (codes ":") (escaped_name att.name ++ (codes " = " ++ (att_text att.ty att.vals ++ (codes " ;\n" ++ [])))) (mark 58 ∷ []) (word (escaped_name att.name) ∷ mark 61 ∷ tail) colon_closed
+    (closed_by (escaped_name att.name) (codes " = " ++ (att_text att.ty att.vals ++ (codes " ;\n" ++ []))) (word (escaped_name att.name) ∷ []) (mark 61 ∷ tail) (name_word att.name name).reads (λ rest. refl)
+    (closed_both (codes " = ") (att_text att.ty att.vals ++ (codes " ;\n" ++ [])) (mark 61 ∷ []) tail is_closed
+    (closed_by (att_text att.ty att.vals) (codes " ;\n" ++ []) (list.l ∷ commas list.ls) (semicolon ∷ []) list.reads (λ rest. refl) semicolon_closed)))
 
-att_fine : (v : Version) (att : Att) (said : List Value) (list : IsListOf v (att_values att.ty att.vals) said) → list_all (is_fine v) (mark 58 ∷ word (escaped_name att.name) ∷ mark 61 ∷ list.l ∷ commas list.ls) ≡ true
+att_fine : (v : Version) (att : Att) (said : List Value) (list : IsListOf v (att_text att.ty att.vals) said) → list_all (is_fine v) (mark 58 ∷ word (escaped_name att.name) ∷ mark 61 ∷ list.l ∷ commas list.ls) ≡ true
 att_fine v att said list =
     and_both (is_fine v (word (escaped_name att.name))) (list_all (is_fine v) (mark 61 ∷ list.l ∷ commas list.ls)) (word_fine v (escaped_name att.name))
     (and_both (is_fine v list.l) (list_all (is_fine v) (commas list.ls)) (and_left (is_fine v list.l) (list_all (is_fine v) list.ls) list.fine) (fine_commas v list.ls (and_right (is_fine v list.l) (list_all (is_fine v) list.ls) list.fine)))
 
-assigned_is : {A : Type 0} (v : Version) (f : List ℕ → List Value → A) (att : Att) (said : List Value) (list : IsListOf v (att_values att.ty att.vals) said) → IsName att.name →
+assigned_is : {A : Type 0} (v : Version) (f : List ℕ → List Value → A) (att : Att) (said : List Value) (list : IsListOf v (att_text att.ty att.vals) said) → IsName att.name →
     assigned v false f (word (escaped_name att.name) ∷ mark 61 ∷ list.l ∷ commas list.ls) ≡ Some (f att.name said)
 assigned_is v f att said list name = ap (λ o. both f o (constants v false (list.l ∷ commas list.ls))) (name_word att.name name).stands ∙ ap (both f (Some att.name)) list.are
 
@@ -254,7 +254,7 @@ open_in section globals = refl
 open_in section dimensions = refl
 open_in section variables = refl
 
-pub global_says : (v : Version) (section : Section) (att : Att) (said : List Value) → IsBeforeData section → IsListOf v (att_values att.ty att.vals) said → IsName att.name → Says v section (att_line [] att) (Attribute None att.name said)
+pub global_says : (v : Version) (section : Section) (att : Att) (said : List Value) → IsBeforeData section → IsListOf v (att_text att.ty att.vals) said → IsName att.name → Says v section (att_line [] att) (Attribute None att.name said)
 unfolding att_line concat_parts
 global_says v section att said before list name =
     statement_says v section (codes "\t\t" ++ rest_of_att att) (mark 58) (word (escaped_name att.name)) (mark 61 ∷ list.l ∷ commas list.ls) (Attribute None att.name said) (open_in section before)
@@ -263,7 +263,7 @@ global_says v section att said before list name =
     (global_in section before v (mark 58 ∷ word (escaped_name att.name) ∷ mark 61 ∷ list.l ∷ commas list.ls) (Attribute None att.name said) (assigned_is v (Attribute None) att said list name))
 
 -- of a variable
-pub owned_says : (v : Version) (owner : List ℕ) (att : Att) (said : List Value) → IsListOf v (att_values att.ty att.vals) said → IsName owner → IsName att.name → Says v Variables (att_line (escaped_name owner) att) (Attribute (Some owner) att.name said)
+pub owned_says : (v : Version) (owner : List ℕ) (att : Att) (said : List Value) → IsListOf v (att_text att.ty att.vals) said → IsName owner → IsName att.name → Says v Variables (att_line (escaped_name owner) att) (Attribute (Some owner) att.name said)
 unfolding att_line concat_parts
 owned_says v owner att said list own name =
     statement_says v Variables (codes "\t\t" ++ (escaped_name owner ++ rest_of_att att)) (word (escaped_name owner)) (mark 58) (word (escaped_name att.name) ∷ mark 61 ∷ list.l ∷ commas list.ls) (Attribute (Some owner) att.name said) refl

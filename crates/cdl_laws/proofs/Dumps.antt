@@ -1,7 +1,7 @@
 -- A full dump is read back.
 use Rattle.std.proofs.Common.{◌≡◌, ℕ, true, false, List, [], ◌∷◌, ◌++◌, length, map, sym, ◌∙◌, ap, refl, append_assoc, append-nil, ◌&&◌, ◌||◌, ◌==◌, not, if◌then◌else◌, Option, None, Ok, codes}
-use Rattle.cdl_laws.proofs.Prelude.{concat_parts, Dataset, Att, Dim, Header, Var, Version, Options, VariableValues, dump_text, shown_section, values_in_dataset, shown_data, selection_of, is_selected, is_chosen, data_word, closing_word, has_dimension, escaped_name, head_text, netcdf_word, dims_text, vars_text, gatts_text, Globals, Variables, Values, Ended, meaning, run, piece_read, empty, finished, is_small_enough, dataset_of, closing_line, statements, cut_lexemes, lexemes, pieces_of, IsFull, trimmed, trimmed_att, Listing, in_turn, not_none}
-use Rattle.nc_base.specs.Dump.{Section, variables_section}
+use Rattle.cdl_laws.proofs.Prelude.{concat_parts, Dataset, Att, Dim, Header, Var, Version, Options, VariableValues, dump_text, shown_data_text, values_in_dataset, shown_data, selection_of, is_selected, is_chosen, data_word, closing_word, has_dimension, escaped_name, head_text, netcdf_word, dims_text, vars_text, gatts_text, Globals, Variables, Values, Ended, meaning, run, piece_read, empty, finished, is_small_enough, dataset_of, closing_line, statements, cut_lexemes, lexemes, pieces_of, IsFull, trimmed, trimmed_att, Listing, in_turn, not_none}
+use Rattle.nc_base.specs.Dump.{DataText, data_text}
 use Rattle.cdl_laws.proofs.Lists.{Each}
 use Rattle.cdl_laws.proofs.Takes.{is_open}
 use Rattle.cdl_laws.proofs.Acts.{AreDistinctDims, HaveNames}
@@ -20,7 +20,7 @@ regroup e d w g m s c =
     ap (λ bs. e ++ (codes " {\n" ++ bs)) (append_assoc d (w ++ (g ++ [])) x ∙ ap (λ bs. d ++ bs) (append_assoc w (g ++ []) x ∙ ap (λ bs. w ++ (bs ++ x)) (append-nil g) ∙ ap (λ bs. w ++ (g ++ (m ++ (s ++ bs)))) (append-nil c))) ∙
     sym (append_assoc e (codes " {") (10 ∷ (d ++ (w ++ (g ++ (m ++ (s ++ c))))))))
 
-dump_is : (h : Header) (o : Options) (n : ℕ) (section : Section) →
+dump_is : (h : Header) (o : Options) (n : ℕ) (section : DataText) →
     dump_text h o n section ≡ opening_bytes o.name ++ 10 ∷ (dims_text n h.dims ++ (vars_text h.dims h.vars ++ (gatts_text h.gatts ++ (data_word h o ++ (section.text ++ closing_word section.ending)))))
 unfolding concat_parts head_text netcdf_word
 dump_is h o n section = regroup (escaped_name o.name) (dims_text n h.dims) (vars_text h.dims h.vars) (gatts_text h.gatts) (data_word h o) section.text (closing_word section.ending)
@@ -32,14 +32,14 @@ selected h o (var ∷ vars) c d =
     ap (λ b. b ∷ map (is_selected h o) vars) (ap (λ ch. is_chosen ch var.name && (not o.coords || has_dimension h.dims var.name)) c ∙ ap (λ co. not co || has_dimension h.dims var.name) d) ∙
     ap (λ bs. true ∷ bs) (selected h o vars c d)
 
-shown_is : (h : Header) (o : Options) (content : ℕ → Var → VariableValues) (n : ℕ) → IsFull o → shown_section h o content n (selection_of h o) ≡ variables_section (shown_data h content n o.width) 0 h.vars (all_marked h.vars)
+shown_is : (h : Header) (o : Options) (content : ℕ → Var → VariableValues) (n : ℕ) → IsFull o → shown_data_text h o content n (selection_of h o) ≡ data_text (shown_data h content n o.width) 0 h.vars (all_marked h.vars)
 shown_is h o content n full =
-    ap (λ b. variables_section (shown_data h content n o.width) 0 h.vars (if b then [] else selection_of h o)) full.values ∙
-    ap (variables_section (shown_data h content n o.width) 0 h.vars) (selected h o h.vars full.chosen full.coords)
+    ap (λ b. data_text (shown_data h content n o.width) 0 h.vars (if b then [] else selection_of h o)) full.values ∙
+    ap (data_text (shown_data h content n o.width) 0 h.vars) (selected h o h.vars full.chosen full.coords)
 
 -- after the head
 data_read : (v : Version) (h : Header) (o : Options) (content : ℕ → Var → VariableValues) (n : ℕ) (gatts : List Att) (os : List (Option Listing)) → IsFull o → (vars : List Var) → h.vars ≡ vars → AreGiven v h content n o.width 0 [] vars os →
-    in_turn (piece_read v) (state (after_vars (after_dims h.dims) vars) h.dims gatts (map draft_of vars)) (pieces_of (data_word h o ++ ((variables_section (shown_data h content n o.width) 0 vars (all_marked vars)).text ++ codes "}\n"))) ≡ Ok (state Ended h.dims gatts (given_drafts vars os))
+    in_turn (piece_read v) (state (after_vars (after_dims h.dims) vars) h.dims gatts (map draft_of vars)) (pieces_of (data_word h o ++ ((data_text (shown_data h content n o.width) 0 vars (all_marked vars)).text ++ codes "}\n"))) ≡ Ok (state Ended h.dims gatts (given_drafts vars os))
 unfolding data_word
 data_read v h o content n gatts os full [] none given =
     rw (none) (ap (λ b. in_turn (piece_read v) (state (after_dims h.dims) h.dims gatts []) (pieces_of ((if b || true then [] else codes "data:\n") ++ codes "}\n"))) full.values ∙
@@ -49,7 +49,7 @@ data_read v h o content n gatts os full [] none given =
     opens [] = refl
     opens (d ∷ dims) = refl
 data_read v h o content n gatts os full (var ∷ vars) some given =
-    let values = (variables_section (shown_data h content n o.width) 0 (var ∷ vars) (all_marked (var ∷ vars))).text in
+    let values = (data_text (shown_data h content n o.width) 0 (var ∷ vars) (all_marked (var ∷ vars))).text in
     let word : data_word h o ≡ codes "data:\n" = ap (λ b. if b || (length h.vars == 0) then [] else codes "data:\n") full.values ∙ ap (λ (ws : List Var). if length ws == 0 then [] else codes "data:\n") some ∙ ap (λ b. if b then [] else codes "data:\n") (not_none (length vars)) in
     ap (λ w. in_turn (piece_read v) (state Variables h.dims gatts (map draft_of (var ∷ vars))) (pieces_of (w ++ (values ++ codes "}\n")))) word ∙
     data_mark v h.dims gatts (map draft_of (var ∷ vars)) (values ++ codes "}\n") ∙
@@ -71,22 +71,22 @@ pub record IsReadable (d : Dataset) (n width : ℕ) (os : List (Option Listing))
   pub back : dataset_of d.header.version (state Ended d.header.dims (map trimmed_att d.header.gatts) (given_drafts d.header.vars os)) ≡ trimmed d
 
 -- the state at the end
-pub state_read : (d : Dataset) (o : Options) (n : ℕ) (os : List (Option Listing)) → IsFull o → IsReadable d n o.width os → (section : Section) → section ≡ shown_section d.header o (values_in_dataset d) n (selection_of d.header o) →
+pub state_read : (d : Dataset) (o : Options) (n : ℕ) (os : List (Option Listing)) → IsFull o → IsReadable d n o.width os → (section : DataText) → section ≡ shown_data_text d.header o (values_in_dataset d) n (selection_of d.header o) →
     in_turn (piece_read d.header.version) empty (cut_lexemes (lexemes (dump_text d.header o n section))) ≡ Ok (state Ended d.header.dims (map trimmed_att d.header.gatts) (given_drafts d.header.vars os))
 unfolding closing_word
 state_read d o n os full ready section is =
     let h = d.header in
     let v = h.version in
-    let section_is : section ≡ variables_section (shown_data h (values_in_dataset d) n o.width) 0 h.vars (all_marked h.vars) = is ∙ shown_is h o (values_in_dataset d) n full in
-    let values = (variables_section (shown_data h (values_in_dataset d) n o.width) 0 h.vars (all_marked h.vars)).text in
+    let section_is : section ≡ data_text (shown_data h (values_in_dataset d) n o.width) 0 h.vars (all_marked h.vars) = is ∙ shown_is h o (values_in_dataset d) n full in
+    let values = (data_text (shown_data h (values_in_dataset d) n o.width) 0 h.vars (all_marked h.vars)).text in
     let tail = data_word h o ++ (values ++ codes "}\n") in
-    let closes : closing_word section.ending ≡ codes "}\n" = ap (λ (s : Section). closing_word s.ending) section_is ∙ ap closing_word (data_whole v h (values_in_dataset d) n o.width 0 [] h.vars os ready.given) in
+    let closes : closing_word section.ending ≡ codes "}\n" = ap (λ (s : DataText). closing_word s.ending) section_is ∙ ap closing_word (data_whole v h (values_in_dataset d) n o.width 0 [] h.vars os ready.given) in
     let dims = dims_text n h.dims in
     let vars = vars_text h.dims h.vars in
     let gatts = gatts_text h.gatts in
     ap (λ bs. in_turn (piece_read v) empty (cut_lexemes (lexemes bs))) (dump_is h o n section) ∙
     opened v o.name (dims ++ (vars ++ (gatts ++ (data_word h o ++ (section.text ++ closing_word section.ending))))) full.name ∙
-    ap (λ (s : Section). in_turn (piece_read v) (state Globals [] [] []) (pieces_of (dims ++ (vars ++ (gatts ++ (data_word h o ++ (s.text ++ closing_word section.ending))))))) section_is ∙
+    ap (λ (s : DataText). in_turn (piece_read v) (state Globals [] [] []) (pieces_of (dims ++ (vars ++ (gatts ++ (data_word h o ++ (s.text ++ closing_word section.ending))))))) section_is ∙
     ap (λ c. in_turn (piece_read v) (state Globals [] [] []) (pieces_of (dims ++ (vars ++ (gatts ++ (data_word h o ++ (values ++ c))))))) closes ∙
     dims_part v n h.dims [] [] ready.dims (vars ++ (gatts ++ tail)) ∙
     vars_part v h.dims h.vars [] ready.distinct ready.names ready.vars (gatts ++ tail) ∙
@@ -94,7 +94,7 @@ state_read d o n os full ready section is =
     data_read v h o (values_in_dataset d) n (map trimmed_att h.gatts) os full h.vars refl ready.given
 
 -- and what it means
-pub text_back : (d : Dataset) (o : Options) (n : ℕ) (os : List (Option Listing)) → IsFull o → IsReadable d n o.width os → (section : Section) → section ≡ shown_section d.header o (values_in_dataset d) n (selection_of d.header o) →
+pub text_back : (d : Dataset) (o : Options) (n : ℕ) (os : List (Option Listing)) → IsFull o → IsReadable d n o.width os → (section : DataText) → section ≡ shown_data_text d.header o (values_in_dataset d) n (selection_of d.header o) →
     meaning (dump_text d.header o n section) d.header.version ≡ Ok (trimmed d)
 unfolding finished
 text_back d o n os full ready section is =

@@ -1,6 +1,6 @@
 -- The opening, the section marks and the closing brace of a dump.
 use Rattle.std.proofs.Common.{◌≡◌, ℕ, ◌+◌, ◌<◌, true, false, List, [], ◌∷◌, ◌++◌, length, map, sym, ◌∙◌, ap, refl, subst, arith, append_assoc, append-nil, length-append, ◌==◌, if◌then◌else◌, nat_lt, Some, Ok, codes}
-use Rattle.cdl_laws.proofs.Prelude.{list_all, false≢true, eqb-true, concat_parts, Att, Dim, Var, Version, escaped_name, is_plain, dim_line, dim_lines, dims_text, att_line, att_lines, var_lines, vars_text, gatts_text, dimensions_word, variables_word, global_word, IsName, may_follow_in_name, may_begin_name, Section, Globals, Dimensions, Variables, Values, Ended, scan, word_len, until, scan_opening, token, Lexeme, piece_read, empty, pieces_at, is_section, cut_lexemes, lexemes_at, lexemes, pieces_of, trimmed_att, Mark, shape, State, Draft, act, in_turn, IsBeforeData, globals, dimensions, variables, and_left, until_at_start, lt-ltb, not_none}
+use Rattle.cdl_laws.proofs.Prelude.{list_all, false≢true, eqb-true, concat_parts, Att, Dim, Var, Version, escaped_name, is_plain, dim_line, dim_lines, dims_text, att_line, att_lines, var_lines, vars_text, gatts_text, dimensions_word, variables_word, global_word, IsName, may_follow_in_name, may_begin_name, Section, Globals, Dimensions, Variables, Values, Ended, scan, word_len, len_until, scan_opening, token, Lexeme, piece_read, empty, pieces_at, is_section, cut_lexemes, lexemes_at, lexemes, pieces_of, trimmed_att, Mark, shape, State, Draft, act, in_turn, IsBeforeData, globals, dimensions, variables, and_left, until_at_start, lt-ltb, not_none}
 use Rattle.cdl_statements.specs.declared.section.Section.TheVariants as sections
 use Rattle.cdl_tokens.specs.declared.token.TokenKind.TheVariants as kinds
 use Rattle.cdl_laws.proofs.Lists.{Each}
@@ -120,27 +120,27 @@ no_brace b h = elim (b == 0x7b) as (λ w. (b == 0x7b) ≡ w → w ≡ false) [ t
 no_backslash : (b : ℕ) → is_plain b ≡ true → (b == 0x5c) ≡ false
 no_backslash b h = elim (b == 0x5c) as (λ w. (b == 0x5c) ≡ w → w ≡ false) [ true ↦ (λ e. absurd (false≢true (subst (λ n. is_plain n ≡ true) (eqb-true b 0x5c e) h))) | false ↦ (λ e. refl) ] refl
 
-until_plainly : (b : ℕ) (rest : List ℕ) → is_plain b ≡ true → until 0x7b (b ∷ rest) ≡ 1 + until 0x7b rest
+until_plainly : (b : ℕ) (rest : List ℕ) → is_plain b ≡ true → len_until 0x7b (b ∷ rest) ≡ 1 + len_until 0x7b rest
 until_plainly b rest h = until_plain 0x7b b rest (no_backslash b h) (no_brace b h)
 
-until_escape : (b : ℕ) (rest : List ℕ) → until 0x7b (0x5c ∷ b ∷ rest) ≡ 2 + until 0x7b rest
-unfolding until
+until_escape : (b : ℕ) (rest : List ℕ) → len_until 0x7b (0x5c ∷ b ∷ rest) ≡ 2 + len_until 0x7b rest
+unfolding len_until
 until_escape b rest = refl
 
-until_rest : (bs rest : List ℕ) → until 0x7b (rest_of bs ++ 32 ∷ 123 ∷ rest) ≡ length (rest_of bs) + 1
+until_rest : (bs rest : List ℕ) → len_until 0x7b (rest_of bs ++ 32 ∷ 123 ∷ rest) ≡ length (rest_of bs) + 1
 until_rest [] rest = until_plain 0x7b 32 (123 ∷ rest) refl refl ∙ ap (λ n. 1 + n) (until_at_start 0x7b 123 rest)
 until_rest (b ∷ bs) rest =
     let ih = until_rest bs rest in
-    elim (is_plain b) as (λ w. is_plain b ≡ w → until 0x7b (((if w then b ∷ [] else 0x5c ∷ b ∷ []) ++ rest_of bs) ++ 32 ∷ 123 ∷ rest) ≡ length ((if w then b ∷ [] else 0x5c ∷ b ∷ []) ++ rest_of bs) + 1) [
+    elim (is_plain b) as (λ w. is_plain b ≡ w → len_until 0x7b (((if w then b ∷ [] else 0x5c ∷ b ∷ []) ++ rest_of bs) ++ 32 ∷ 123 ∷ rest) ≡ length ((if w then b ∷ [] else 0x5c ∷ b ∷ []) ++ rest_of bs) + 1) [
       | true ↦ (λ g. until_plainly b (rest_of bs ++ 32 ∷ 123 ∷ rest) g ∙ omega (arith, ih))
       | false ↦ (λ g. until_escape b (rest_of bs ++ 32 ∷ 123 ∷ rest) ∙ omega (arith, ih))
     ] refl
 
-until_name : (b : ℕ) (bs rest : List ℕ) → Begins b bs → until 0x7b (escaped_name (b ∷ bs) ++ 32 ∷ 123 ∷ rest) ≡ length (escaped_name (b ∷ bs)) + 1
+until_name : (b : ℕ) (bs rest : List ℕ) → Begins b bs → len_until 0x7b (escaped_name (b ∷ bs) ++ 32 ∷ 123 ∷ rest) ≡ length (escaped_name (b ∷ bs)) + 1
 until_name b bs rest (marked one is) = let ih = until_rest bs rest in rw (is) (until_escape b (rest_of bs ++ 32 ∷ 123 ∷ rest) ∙ omega (arith, ih))
 until_name b bs rest (bare one free is) = let ih = until_rest bs rest in rw (is) (until_plainly b (rest_of bs ++ 32 ∷ 123 ∷ rest) (begins_goes_on b one) ∙ omega (arith, ih))
 
-until_valid : (name rest : List ℕ) → IsName name → until 0x7b (escaped_name name ++ 32 ∷ 123 ∷ rest) ≡ length (escaped_name name) + 1
+until_valid : (name rest : List ℕ) → IsName name → len_until 0x7b (escaped_name name ++ 32 ∷ 123 ∷ rest) ≡ length (escaped_name name) + 1
 until_valid [] rest h = absurd (false≢true (some_name [] h))
 until_valid (b ∷ bs) rest h = until_name b bs rest (begins b bs (and_left (may_begin_name b) (list_all may_follow_in_name bs) (some_name (b ∷ bs) h)))
 
@@ -148,12 +148,12 @@ until_valid (b ∷ bs) rest h = until_name b bs rest (begins b bs (and_left (may
 abbrev pub opening_bytes : List ℕ → List ℕ
 opening_bytes name = codes "netcdf " ++ (escaped_name name ++ codes " {")
 
-opening_is : (e rest : List ℕ) → until 0x7b (e ++ 32 ∷ 123 ∷ 10 ∷ rest) ≡ length e + 1 →
-    scan_opening (32 ∷ (e ++ 32 ∷ 123 ∷ 10 ∷ rest)) (until 0x7b (32 ∷ (e ++ 32 ∷ 123 ∷ 10 ∷ rest))) ≡ record { kind = Some kinds.Opening; len = length (codes "netcdf " ++ (e ++ codes " {")) }
+opening_is : (e rest : List ℕ) → len_until 0x7b (e ++ 32 ∷ 123 ∷ 10 ∷ rest) ≡ length e + 1 →
+    scan_opening (32 ∷ (e ++ 32 ∷ 123 ∷ 10 ∷ rest)) (len_until 0x7b (32 ∷ (e ++ 32 ∷ 123 ∷ 10 ∷ rest))) ≡ record { kind = Some kinds.Opening; len = length (codes "netcdf " ++ (e ++ codes " {")) }
 opening_is e rest h =
     let all = length-append e (32 ∷ 123 ∷ 10 ∷ rest) in
     let some = length-append e (codes " {") in
-    let n : until 0x7b (32 ∷ (e ++ 32 ∷ 123 ∷ 10 ∷ rest)) ≡ 1 + (length e + 1) = until_plain 0x7b 32 (e ++ 32 ∷ 123 ∷ 10 ∷ rest) refl refl ∙ ap (λ m. 1 + m) h in
+    let n : len_until 0x7b (32 ∷ (e ++ 32 ∷ 123 ∷ 10 ∷ rest)) ≡ 1 + (length e + 1) = until_plain 0x7b 32 (e ++ 32 ∷ 123 ∷ 10 ∷ rest) refl refl ∙ ap (λ m. 1 + m) h in
     ap (scan_opening (32 ∷ (e ++ 32 ∷ 123 ∷ 10 ∷ rest))) n ∙
     rw (lt-ltb (1 + (length e + 1)) (length (32 ∷ (e ++ 32 ∷ 123 ∷ 10 ∷ rest))) (omega (arith, all)))
     (ap (token kinds.Opening) (let f : 6 + (1 + (length e + 1)) + 1 ≡ length (codes "netcdf " ++ (e ++ codes " {")) = omega (arith, some) in f))
@@ -161,7 +161,7 @@ opening_is e rest h =
 opening_prefix_is : (name rest : List ℕ) → IsName name → scan true (opening_bytes name ++ 10 ∷ rest) ≡ record { kind = Some kinds.Opening; len = length (opening_bytes name) }
 unfolding scan
 opening_prefix_is name rest h =
-    ap (λ bs. scan_opening (32 ∷ bs) (until 0x7b (32 ∷ bs))) (append_assoc (escaped_name name) (codes " {") (10 ∷ rest)) ∙ opening_is (escaped_name name) rest (until_valid name (10 ∷ rest) h)
+    ap (λ bs. scan_opening (32 ∷ bs) (len_until 0x7b (32 ∷ bs))) (append_assoc (escaped_name name) (codes " {") (10 ∷ rest)) ∙ opening_is (escaped_name name) rest (until_valid name (10 ∷ rest) h)
 
 pub opening_lexemes : (name rest : List ℕ) → IsName name → lexemes (opening_bytes name ++ 10 ∷ rest) ≡ record { kind = kinds.Opening; bytes = opening_bytes name } ∷ lexemes_at false 0 rest
 opening_lexemes name rest h =

@@ -1,6 +1,6 @@
 -- What a row shows, filled up, is the row.
 use Rattle.std.proofs.Common.{◌≡◌, ℕ, zero, suc, ◌+◌, ◌-◌, ◌<◌, ◌≤◌, Bool, true, false, List, [], ◌∷◌, ◌++◌, length, map, sym, ◌∙◌, ap, refl, arith, append_assoc, append-nil, length-append, ℤ, pos, unsigned_abs, ◌&&◌, ◌||◌, if◌then◌else◌, nat_le, replicate, Some, Ok}
-use Rattle.cdl_laws.proofs.Prelude.{flat_map, eqb-true, map-append, length-replicate, replicate_more, Version, escaped_in_string, is_nul, is_char, stands, stands_for, Characters, each, both, constant, constants, Capacity, Joined, Rows, add_characters, add_row, filled, in_turn, listing_of, values_in, le-leb, length-map}
+use Rattle.cdl_laws.proofs.Prelude.{flat_map, eqb-true, map-append, length-replicate, replicate_more, Version, escaped_in_string, is_nul, is_char, string_value, stands_for, Characters, each, both, constant, constants, Capacity, Joined, Rows, add_characters, add_row, filled, in_turn, listing_of, values_in, le-leb, length-map}
 use Rattle.cdl_meaning.specs.State.{◌>>=◌}
 use Rattle.cdl_laws.proofs.Lists.{Each}
 use Rattle.cdl_laws.proofs.Characters.{shown, flat}
@@ -81,7 +81,7 @@ row_back false n fill xs h len all = ap (filled n fill) (back_whole xs all) ∙ 
 -- ---- what the strings say
 
 pub string_said : (v : Version) (takes_fill : Bool) (bytes : List ℕ) → constant v takes_fill (string bytes) ≡ Some (Characters bytes)
-string_said v takes_fill bytes = ap (λ (bs : List ℕ). Some (Characters (stands bs))) (between_quotes (flat_map escaped_in_string bytes)) ∙ ap (λ (bs : List ℕ). Some (Characters bs)) (stands_for (flat_map escaped_in_string bytes) bytes (unescape_all bytes))
+string_said v takes_fill bytes = ap (λ (bs : List ℕ). Some (Characters (string_value bs))) (between_quotes (flat_map escaped_in_string bytes)) ∙ ap (λ (bs : List ℕ). Some (Characters bs)) (stands_for (flat_map escaped_in_string bytes) bytes (unescape_all bytes))
 
 strings_each : (v : Version) (takes_fill : Bool) (all : List (List ℕ)) → each (constant v takes_fill) (map string all) ≡ Some (map Characters all)
 strings_each v takes_fill [] = refl

@@ -1,6 +1,6 @@
 -- What holds of the dataset so far, of its attributes, dimensions and declarations.
 use Rattle.std.proofs.Common.{◌≡◌, ℕ, ◌+◌, ◌-◌, ◌*◌, ◌≤◌, ◌<◌, Bool, true, false, List, [], ◌∷◌, ◌++◌, length, map, sym, ◌∙◌, ap, refl, subst, arith, zero, suc, append_assoc, append-nil, ℤ, pos, negsuc, IsTrue, if◌then◌else◌, Option, None, Some, Result, Ok, Err, ◌&&◌, ◌||◌, ◌==◌, filter, nat_lt, nat_le, unsigned_abs}
-use Rattle.cdl_laws.proofs.Prelude.{false≢true, eqb-true, length-append, map-append, list_any-append, w8, w16, w32, w64, to_be_bytes, cast_unsigned, list_any, position, position_or_len, int_eq, bytes_eq, Att, Dim, NcType, Byte, Char, Short, Int, Ubyte, Ushort, Uint, Int64, Uint64, Version, Cdf1, Cdf2, Cdf5, has_name, has_record_dim, IsDimid, AreDimids, value_count, IsName, is_name, bytes_of_number, is_record_dim, size_of, is_char, count_limit, has_type, AreDistinct, Value, Number, Characters, Underscore, Dimension, Variable, Draft, in_turn, unless, when, found, between, has_number, same_type, dim_len_of, add_dim, add_dimid, add_var, at_named, at_variable, add_constant, first_type, add_att, with_att, listed_values, CdlKind, BadName, DuplicateName, UnknownDimension, ZeroDimension, TwoRecordDims, BadShape, MixedConstants, NumberRange, and_left, and_right, some_product, some_size, some-limit, none_before}
+use Rattle.cdl_laws.proofs.Prelude.{false≢true, eqb-true, length-append, map-append, list_any-append, w8, w16, w32, w64, to_be_bytes, cast_unsigned, list_any, position, position_or_len, int_eq, bytes_eq, Att, Dim, NcType, Byte, Char, Short, Int, Ubyte, Ushort, Uint, Int64, Uint64, Version, Cdf1, Cdf2, Cdf5, has_name, has_record_dim, IsDimid, AreDimids, value_count, IsName, is_name, bytes_of_number, is_record_dim, size_of, is_char, count_limit, has_type, AreDistinct, Value, Number, Characters, Underscore, Dimension, Variable, Draft, in_turn, unless, when, some_or, int_within, has_number, same_type, dim_len_of, add_dim, add_dimid, add_var, at_named, at_variable, add_constant, first_type, add_att, with_att, listed_values, CdlKind, BadName, DuplicateName, UnknownDimension, ZeroDimension, TwoRecordDims, BadShape, MixedConstants, NumberRange, and_left, and_right, some_product, some_size, some-limit, none_before}
 use Rattle.cdl_meaning.specs.State.{◌>>=◌}
 use Rattle.cdl_laws.proofs.Bools.{or_left, or_right}
 use Rattle.cdl_laws.proofs.Lists.{Each, each_map}
@@ -198,7 +198,7 @@ record IsFineLen (v : Version) (dims : List Dim) (len : ℕ) : Type 0 where
   small : len < count_limit v
   once : len ≡ 0 → has_record_dim dims ≡ false
 
-extent_fine : (v : Version) (dims : List Dim) (n : ℤ) → between (pos 1) (pos (count_limit v - 1)) n ≡ true → IsFineLen v dims (unsigned_abs n)
+extent_fine : (v : Version) (dims : List Dim) (n : ℤ) → int_within (pos 1) (pos (count_limit v - 1)) n ≡ true → IsFineLen v dims (unsigned_abs n)
 extent_fine v dims (pos n) h =
     let a : 1 ≤ n = grind (arith, and_left (nat_le 1 n) (nat_le n (count_limit v - 1)) h) in
     let b : n ≤ count_limit v - 1 = grind (arith, and_right (nat_le 1 n) (nat_le n (count_limit v - 1)) h) in
@@ -209,8 +209,8 @@ extent_fine v dims (negsuc n) h = cc
 len_fine : (v : Version) (dims : List Dim) (o : Option ℤ) → OkIs (IsFineLen v dims) (dim_len_of v dims o)
 len_fine v dims None = ok_when (IsFineLen v dims) (has_record_dim dims) TwoRecordDims (λ u. Ok 0) (λ e. record { small = some-limit v; once = (λ z. e) })
 len_fine v dims (Some n) =
-    ok_when (IsFineLen v dims) (int_eq n (pos 0)) ZeroDimension (λ u. unless (between (pos 1) (pos (count_limit v - 1)) n) NumberRange >>= (λ w. Ok (unsigned_abs n))) (λ e.
-    ok_unless (IsFineLen v dims) (between (pos 1) (pos (count_limit v - 1)) n) NumberRange (λ w. Ok (unsigned_abs n)) (λ h. extent_fine v dims n h))
+    ok_when (IsFineLen v dims) (int_eq n (pos 0)) ZeroDimension (λ u. unless (int_within (pos 1) (pos (count_limit v - 1)) n) NumberRange >>= (λ w. Ok (unsigned_abs n))) (λ e.
+    ok_unless (IsFineLen v dims) (int_within (pos 1) (pos (count_limit v - 1)) n) NumberRange (λ w. Ok (unsigned_abs n)) (λ h. extent_fine v dims n h))
 
 once_more : (v : Version) (dims : List Dim) (d : Dim) → length (filter is_record dims) ≤ 1 → IsFineLen v dims d.len → length (filter is_record (dims ++ d ∷ [])) ≤ 1
 once_more v dims d once fine =
@@ -265,7 +265,7 @@ id_step dims n ids name shape u =
     let Q : List ℕ → Type 0 = IsShape dims (n + name_cost name) in
     let last : ℕ → Result (List ℕ) CdlKind = λ k. when (nat_lt 0 (length ids) && is_record_dim dims k) BadShape >>= (λ w. Ok (ids ++ k ∷ [])) in
     let p : Dim → Bool = λ d. bytes_eq d.name name in
-    ok_unless Q (is_name name) BadName (λ w. found (position p dims) UnknownDimension >>= last) (λ named.
+    ok_unless Q (is_name name) BadName (λ w. some_or (position p dims) UnknownDimension >>= last) (λ named.
     ok_found (λ k. k < length dims) Q (position p dims) UnknownDimension last (position_under p dims) (λ k known.
     ok_when Q (nat_lt 0 (length ids) && is_record_dim dims k) BadShape (λ w. Ok (ids ++ k ∷ [])) (λ e. (
       dimids_more dims [] ids k shape.0 (record { known = known; record_first = none_before ids (is_record_dim dims k) e }),

@@ -1,6 +1,6 @@
 -- The statements of a dump, and what they say.
 use Rattle.std.proofs.Common.{◌≡◌, ℕ, suc, ◌+◌, ◌^◌, ◌<◌, ◌≤◌, Bool, true, false, List, [], ◌∷◌, ◌++◌, length, get_or, map, sym, ◌∙◌, ap, refl, subst, arith, append_assoc, ℤ, unsigned_abs, ◌==◌, not, if◌then◌else◌, None, Some, codes}
-use Rattle.cdl_laws.proofs.Prelude.{signed_decimal, list_all, list_any, prefix_len, bytes_eq, false≢true, bytes_eq-Decides, NcType, Byte, Char, Short, Int, Ubyte, Ushort, Uint, Int64, Uint64, Version, escaped_name, is_plain, is_reserved, reserved_words, joined, IsName, type_word, Look, is_char, variable_text, Values, begins_word, goes_on_word, scan, word_len, Lexeme, role, is_section, lexemes_at, Value, Characters, Listed, both, constants, body, and_left, and_right, and_both, word_at_start}
+use Rattle.cdl_laws.proofs.Prelude.{signed_decimal, list_all, list_any, prefix_len, bytes_eq, false≢true, bytes_eq-Decides, NcType, Byte, Char, Short, Int, Ubyte, Ushort, Uint, Int64, Uint64, Version, escaped_name, is_plain, is_reserved, reserved_words, joined, IsName, type_word, Look, is_char, variable_text, Values, may_begin_word, goes_on_word, scan, word_len, Lexeme, role, is_section, lexemes_at, Value, Characters, Listed, both, constants, body, and_left, and_right, and_both, word_at_start}
 use Rattle.cdl_laws.proofs.Lists.{Each}
 use Rattle.cdl_laws.proofs.NameTexts.{no_escape}
 use Rattle.cdl_laws.proofs.Texts.{Closed, Reads, stops, then_reads, reads_both, mark, word, number, name_word, word_reads, stop_word, prefix_again}
@@ -37,7 +37,7 @@ plain_len (b ∷ w) rest h k =
     word_at_start b (w ++ rest) ∙ rw (no_escape b (get_or (w ++ rest) 0 0) one) (rw (one) (omega (arith, ih)))
 
 -- a word without escapes
-pub bare_word : (b : ℕ) (w : List ℕ) → begins_word b ≡ true → list_all is_plain (b ∷ w) ≡ true → Reads (b ∷ w) (word (b ∷ w) ∷ [])
+pub bare_word : (b : ℕ) (w : List ℕ) → may_begin_word b ≡ true → list_all is_plain (b ∷ w) ≡ true → Reads (b ∷ w) (word (b ∷ w) ∷ [])
 bare_word b w h all = word_reads b w (λ rest. rw (h) refl) (λ rest stop. plain_len (b ∷ w) rest all stop)
 
 pub type_reads : (ty : NcType) → Reads (type_word ty) (word (type_word ty) ∷ [])

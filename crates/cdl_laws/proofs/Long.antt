@@ -1,8 +1,8 @@
 -- The limit is needed: a text with an attribute of 2^31 characters has a meaning in the first version, which no file can hold.
 use Rattle.std.proofs.Common.{◌≡◌, ℕ, ◌-◌, ◌*◌, ◌^◌, ◌≤◌, ◌<◌, false, List, [], ◌∷◌, ◌++◌, length, sym, ◌∙◌, ap, refl, subst, arith, zero, suc, take, get_or, replicate, codes, None, Ok, ◌==◌, nat_lt, true}
-use Rattle.cdl_laws.proofs.Prelude.{take-length, length-replicate, get_or-replicate, suffix_len-take_no, list_all, suffix_len, is_utf8, chars, Dataset, Att, Known, Char, Cdf1, Options, shown_section, values_in_dataset, selection_of, dump_text, IsGood, without_trailing_nuls, IsName, meaning, is_small_enough, IsFull, trimmed, concat_parts, is_reserved, escaped_name, netcdf_word, global_word, number_values, char_values, att_line, att_lines, dim_lines, dims_text, vars_text, gatts_text, head_text, broken_text, data_word, closing_word, LimitIsNeeded, and_left, and_right}
+use Rattle.cdl_laws.proofs.Prelude.{take-length, length-replicate, get_or-replicate, suffix_len-take_no, list_all, suffix_len, is_utf8, chars, Dataset, Att, Known, Char, Cdf1, Options, shown_data_text, values_in_dataset, selection_of, dump_text, IsGood, without_trailing_nuls, IsName, meaning, is_small_enough, IsFull, trimmed, concat_parts, is_reserved, escaped_name, netcdf_word, global_word, numbers_text, chars_text, att_line, att_lines, dim_lines, dims_text, vars_text, gatts_text, head_text, broken_text, data_word, closing_word, LimitIsNeeded, and_left, and_right}
 use lib.Utf8.{encode}
-use Rattle.nc_base.specs.Dump.{Section}
+use Rattle.nc_base.specs.Dump.{DataText}
 use Rattle.cdl_laws.proofs.MeaningsAreGood.{are_bytes}
 use Rattle.cdl_laws.proofs.Lists.{Each}
 use Rattle.cdl_laws.proofs.Outcomes.{each_more}
@@ -26,8 +26,8 @@ a_name = refl
 full : IsFull options
 full = record { name = a_name; values = refl; coords = refl; chosen = refl }
 
-abbrev section : ℕ → Section
-section n = shown_section (long n).header options (values_in_dataset (long n)) 0 (selection_of (long n).header options)
+abbrev section : ℕ → DataText
+section n = shown_data_text (long n).header options (values_in_dataset (long n)) 0 (selection_of (long n).header options)
 
 -- the text of it
 abbrev long_text : ℕ → List ℕ
@@ -93,7 +93,7 @@ following bytes h =
 
 -- though it is a text of bytes
 long_bytes : (n : ℕ) → 0 < n → Each IsByte (long_text n)
-unfolding concat_parts number_values char_values att_line att_lines dim_lines dims_text vars_text gatts_text head_text global_word netcdf_word data_word closing_word escaped_name is_reserved
+unfolding concat_parts numbers_text chars_text att_line att_lines dim_lines dims_text vars_text gatts_text head_text global_word netcdf_word data_word closing_word escaped_name is_reserved
 long_bytes n some =
     let xs = without_trailing_nuls (replicate n 97) in
     let h : Each IsByte (broken_text xs) = subst (λ (ys : List ℕ). Each IsByte (broken_text ys)) (sym (no_nuls n some)) (broken_bytes n) in

@@ -1,6 +1,6 @@
 -- What a text means is good.
 use Rattle.std.proofs.Common.{◌≡◌, ℕ, ◌+◌, ◌-◌, ◌*◌, ◌/◌, ◌≤◌, ◌<◌, Bool, true, false, List, [], ◌∷◌, length, map, max, sym, ◌∙◌, ap, refl, subst, arith, zero, suc, ℤ, if◌then◌else◌, Option, None, Some, Result, Ok, Err, ◌||◌, find, nat_le, codes, All}
-use Rattle.cdl_laws.proofs.Prelude.{length-append, length-map, div-lt_iff_lt-mul, lt-div-mul-add, mul_comm, mul-le-mul_left, flat_map, list_all, AreBytes, Dataset, Att, Dim, Known, Var, NcType, Int, Version, Cdf1, Cdf2, Cdf5, fill_value, IsGood, IsSound, IsSoundAtt, IsSoundVar, IsSoundDim, IsArray, AreArrays, bare_var, value_count, IsName, bytes_of_number, is_record_var, record_vars, slab_count, slab_size, record_size, slab_limit, array_limit, record_limit, size_of, all_types, type_word, count_limit, has_type, MeaningsAreGood, MeaningsAreNearlySayable, IsNearlySayable, NearlyIsSayable, text_limit, Lexeme, lexeme, is_word, statements, shaped, checked, piece_read, starting_line, run, empty, listed_values, records_of, records_in, array_of, header_of, dataset_of, is_small, is_small_enough, closing_line, finished, meaning, AreDistinct, AreSayableAtts, HasSomeNumber, Statement, Opening, Mark, Declared, Typed, Attribute, Listed, Brace, End, shape, first_bad, State, Draft, act, add_dim, add_var, add_att, at_variable, with_att, with_values, type_of, is_word_of, found, in_turn, filled, CdlFault, CdlKind, FloatingType, UnknownType, TooLarge, Section, Token, and_left, and_right, some_count, length-numbers}
+use Rattle.cdl_laws.proofs.Prelude.{length-append, length-map, div-lt_iff_lt-mul, lt-div-mul-add, mul_comm, mul-le-mul_left, flat_map, list_all, AreBytes, Dataset, Att, Dim, Known, Var, NcType, Int, Version, Cdf1, Cdf2, Cdf5, fill_value, IsGood, IsSound, IsSoundAtt, IsSoundVar, IsSoundDim, IsArray, AreArrays, bare_var, value_count, IsName, bytes_of_number, is_record_var, record_vars, slab_count, slab_size, record_size, slab_limit, array_limit, record_limit, size_of, all_types, type_word, count_limit, has_type, MeaningsAreGood, MeaningsAreNearlySayable, IsNearlySayable, NearlyIsSayable, text_limit, Lexeme, lexeme, is_word, statements, shaped, checked, piece_read, starting_line, run, empty, listed_values, records_of, records_in, array_of, header_of, dataset_of, is_small, is_small_enough, closing_line, finished, meaning, AreDistinct, AreSayableAtts, HasSomeNumber, Statement, Opening, Mark, Declared, Typed, Attribute, Listed, Brace, End, shape, first_bad, State, Draft, act, add_dim, add_var, add_att, at_variable, with_att, with_values, type_of, is_word_of, some_or, in_turn, filled, CdlFault, CdlKind, FloatingType, UnknownType, TooLarge, Section, Token, and_left, and_right, some_count, length-numbers}
 use Rattle.cdl_meaning.specs.State.{◌>>=◌}
 use Rattle.cdl_laws.proofs.Lists.{Each, each_map}
 use Rattle.cdl_laws.proofs.Outcomes.{SomeIs, OkIs, ok_then, in_if, total, each_more, all_of}
@@ -47,10 +47,10 @@ type_has : (v : Version) (word : Lexeme) → OkIs (λ ty. has_type v ty ≡ true
 unfolding type_of
 type_has v word =
     in_if (OkIs (λ ty. has_type v ty ≡ true)) (is_word (codes "float") word || is_word (codes "real") word || is_word (codes "double") word) (Err FloatingType)
-    (if is_word (codes "long") word then Ok Int else found (find (is_word_of v word) all_types) UnknownType) tt
-    (in_if (OkIs (λ ty. has_type v ty ≡ true)) (is_word (codes "long") word) (Ok Int) (found (find (is_word_of v word) all_types) UnknownType) (int_known v) (of_find (find (is_word_of v word) all_types) (found_passes (is_word_of v word) all_types)))
+    (if is_word (codes "long") word then Ok Int else some_or (find (is_word_of v word) all_types) UnknownType) tt
+    (in_if (OkIs (λ ty. has_type v ty ≡ true)) (is_word (codes "long") word) (Ok Int) (some_or (find (is_word_of v word) all_types) UnknownType) (int_known v) (of_find (find (is_word_of v word) all_types) (found_passes (is_word_of v word) all_types)))
   where
-    of_find : (o : Option NcType) → SomeIs (λ ty. is_word_of v word ty ≡ true) o → OkIs (λ ty. has_type v ty ≡ true) (found o UnknownType)
+    of_find : (o : Option NcType) → SomeIs (λ ty. is_word_of v word ty ≡ true) o → OkIs (λ ty. has_type v ty ≡ true) (some_or o UnknownType)
     of_find None h = tt
     of_find (Some ty) h = and_left (has_type v ty) (is_word (type_word ty) word) h
 

@@ -1,6 +1,6 @@
 -- A valid name, escaped, is one word that stands for it.
 use Rattle.std.proofs.Common.{◌≡◌, ℕ, Bool, true, false, List, [], ◌∷◌, ◌++◌, length, get_or, drop, sym, ◌∙◌, ap, refl, subst, arith, nat_le, ◌&&◌, ◌||◌, ◌==◌, if◌then◌else◌, not}
-use Rattle.cdl_laws.proofs.Prelude.{is_ascii_digit, is_in_range, flat_map, list_all, bytes_eq, false≢true, eqb-true, bytes_eq-Decides, is_plain, is_name_mark, escaped_in_name, escaped_name, is_reserved, reserved_words, begins_with_digit_or_mark, may_begin_name, may_follow_in_name, is_beyond_ascii, is_escape, is_escapable, goes_on_word, begins_word, word_len, begins_a_word, word_value, and_left, and_right, word_at_start, and_false, value_at_start}
+use Rattle.cdl_laws.proofs.Prelude.{is_ascii_digit, is_in_range, flat_map, list_all, bytes_eq, false≢true, eqb-true, bytes_eq-Decides, is_plain, is_name_mark, escaped_in_name, escaped_name, is_reserved, reserved_words, begins_with_digit_or_mark, may_begin_name, may_follow_in_name, is_beyond_ascii, is_escape, is_escapable, goes_on_word, may_begin_word, word_len, begins_a_word, word_value, and_left, and_right, word_at_start, and_false, value_at_start}
 use Rattle.cdl_laws.proofs.Bools.{or_left, or_right, of_any}
 
 -- ---- bytes
@@ -31,7 +31,7 @@ plain false false true s false x e f = refl
 plain false false false true false x e f = refl
 plain false false false false false x e f = e
 
-pub bare_begins : (b : ℕ) → is_plain b ≡ true → (is_ascii_digit b || is_name_mark b) ≡ false → begins_word b ≡ true
+pub bare_begins : (b : ℕ) → is_plain b ≡ true → (is_ascii_digit b || is_name_mark b) ≡ false → may_begin_word b ≡ true
 bare_begins b h k = plain (is_ascii_digit b) (is_in_range 65 90 b) (is_in_range 97 122 b) (b == 95) (is_name_mark b) (is_beyond_ascii b) h k
 
 plainly : (d u l s m x : Bool) → (d || m) ≡ true → (((d || u) || l) || s || m || x) ≡ true
@@ -53,7 +53,7 @@ begins_plainly false false false true m x e = refl
 begins_plainly false false false false true x e = refl
 begins_plainly false false false false false x e = e
 
-pub begins_goes_on : (b : ℕ) → begins_word b ≡ true → goes_on_word b ≡ true
+pub begins_goes_on : (b : ℕ) → may_begin_word b ≡ true → goes_on_word b ≡ true
 begins_goes_on b h = begins_plainly (is_ascii_digit b) (is_in_range 65 90 b) (is_in_range 97 122 b) (b == 95) (is_name_mark b) (is_beyond_ascii b) h
 
 first_may_follow : (b : ℕ) → may_begin_name b ≡ true → may_follow_in_name b ≡ true
@@ -92,7 +92,7 @@ rest_value (b ∷ name) h =
 -- how the escaped name begins: with a backslash, or with a byte that begins a word
 pub data Begins (b : ℕ) (bs : List ℕ) : Type 0 where
   marked : is_escapable b ≡ true → escaped_name (b ∷ bs) ≡ 0x5c ∷ b ∷ rest_of bs → Begins b bs
-  bare : begins_word b ≡ true → is_reserved (b ∷ bs) ≡ false → escaped_name (b ∷ bs) ≡ b ∷ rest_of bs → Begins b bs
+  bare : may_begin_word b ≡ true → is_reserved (b ∷ bs) ≡ false → escaped_name (b ∷ bs) ≡ b ∷ rest_of bs → Begins b bs
 
 first_plain : List ℕ → Bool
 first_plain [] = false

@@ -1,6 +1,6 @@
 -- A decimal number is read again.
 use Rattle.std.proofs.Common.{◌≡◌, ℕ, zero, suc, ◌+◌, ◌*◌, ◌/◌, ◌%◌, ◌^◌, ◌<◌, ◌≤◌, Bool, true, false, List, [], ◌∷◌, ◌++◌, length, get_or, drop, sym, ◌∙◌, ap, refl, arith, append-nil, ℤ, pos, negsuc, unsigned_abs, decimal, ◌==◌, not, if◌then◌else◌, Some, nat_lt, Option}
-use Rattle.cdl_laws.proofs.Prelude.{signed_decimal, digits_onto, digits, digit_glyph, prefix_len, list_all, eqb-true, first_decimal, decimal_nonempty, drop-append_seam, take-append_seam, NcType, Byte, Char, Short, Int, Ubyte, Ushort, Uint, Int64, Uint64, Version, Cdf1, Cdf2, Cdf5, number_suffix, is_char, has_type, digit_value, is_digit, is_sign, goes_on_number, number_in, suffix, in_base, unsigned, numeral, parts, Parts, option_map, list_all-append, and_left, and_right, and_both, is_off, not_none}
+use Rattle.cdl_laws.proofs.Prelude.{signed_decimal, digits_onto, digits, digit_glyph, prefix_len, list_all, eqb-true, first_decimal, decimal_nonempty, drop-append_seam, take-append_seam, NcType, Byte, Char, Short, Int, Ubyte, Ushort, Uint, Int64, Uint64, Version, Cdf1, Cdf2, Cdf5, number_suffix, is_char, has_type, digit_value, is_digit, is_sign, goes_on_number, number_in, type_of_suffix, in_base, with_sign, numeral, parts, Parts, option_map, list_all-append, and_left, and_right, and_both, is_off, not_none}
 use native.Mathlib.Numerals.{unary_clauses}
 use Rattle.cdl_tokens.specs.Numerals.{number as number_of}
 use Rattle.cdl_laws.proofs.Texts.{Reads, number, digits_read, minus_reads}
@@ -67,17 +67,17 @@ abbrev with_suffix : Bool → ℕ → Option NcType → Option Parts
 with_suffix minus n suf = option_map (λ ty. record { minus = minus; magnitude = n; ty = ty }) suf
 
 based : (v : Version) (minus : Bool) (d : ℕ) (ds suf : List ℕ) (n : ℕ) → n ≡ length (d ∷ ds) →
-    in_base v minus 10 n ((d ∷ ds) ++ suf) ≡ with_suffix minus (number_in 10 0 (d ∷ ds)) (suffix v suf)
+    in_base v minus 10 n ((d ∷ ds) ++ suf) ≡ with_suffix minus (number_in 10 0 (d ∷ ds)) (type_of_suffix v suf)
 based v minus d ds suf n e =
-    rw (e) (rw (not_none (length ds)) (ap (λ xs. with_suffix minus (number_in 10 0 xs) (suffix v (drop (length (d ∷ ds)) ((d ∷ ds) ++ suf)))) (take-append_seam (d ∷ ds) suf) ∙
-    ap (λ xs. with_suffix minus (number_in 10 0 (d ∷ ds)) (suffix v xs)) (drop-append_seam (d ∷ ds) suf)))
+    rw (e) (rw (not_none (length ds)) (ap (λ xs. with_suffix minus (number_in 10 0 xs) (type_of_suffix v (drop (length (d ∷ ds)) ((d ∷ ds) ++ suf)))) (take-append_seam (d ∷ ds) suf) ∙
+    ap (λ xs. with_suffix minus (number_in 10 0 (d ∷ ds)) (type_of_suffix v xs)) (drop-append_seam (d ∷ ds) suf)))
 
 big_back : (v : Version) (minus : Bool) (ds suf : List ℕ) → list_all is_digit ds ≡ true → 48 < get_or ds 0 0 → no_digit suf ≡ true →
-    unsigned v minus (ds ++ suf) ≡ with_suffix minus (number_in 10 0 ds) (suffix v suf)
+    with_sign v minus (ds ++ suf) ≡ with_suffix minus (number_in 10 0 ds) (type_of_suffix v suf)
 big_back v minus [] suf h big k = absurd (omega (arith, big))
 big_back v minus (d ∷ ds) suf h big k = rw (not_zero d big) (based v minus d ds suf (prefix_len is_digit ((d ∷ ds) ++ suf)) (digits_then (d ∷ ds) suf h k))
 
-zero_back : (v : Version) (minus : Bool) (ty : NcType) → unsigned v minus (48 ∷ number_suffix ty) ≡ with_suffix minus 0 (suffix v (number_suffix ty))
+zero_back : (v : Version) (minus : Bool) (ty : NcType) → with_sign v minus (48 ∷ number_suffix ty) ≡ with_suffix minus 0 (type_of_suffix v (number_suffix ty))
 zero_back v minus Byte = refl
 zero_back v minus Char = refl
 zero_back v minus Short = refl
@@ -88,8 +88,8 @@ zero_back v minus Uint = refl
 zero_back v minus Int64 = refl
 zero_back v minus Uint64 = refl
 
-suffix_back : (v : Version) (ty : NcType) → has_type v ty ≡ true → is_char ty ≡ false → suffix v (number_suffix ty) ≡ Some ty
-unfolding suffix
+suffix_back : (v : Version) (ty : NcType) → has_type v ty ≡ true → is_char ty ≡ false → type_of_suffix v (number_suffix ty) ≡ Some ty
+unfolding type_of_suffix
 suffix_back v Byte h k = rw (h) refl
 suffix_back v Char h k = cc
 suffix_back v Short h k = rw (h) refl
@@ -123,15 +123,15 @@ on_suffix Int64 = refl
 on_suffix Uint64 = refl
 
 unsigned_some : (v : Version) (minus : Bool) (ty : NcType) (n : ℕ) → n < 2 ^ 64 →
-    unsigned v minus (decimal n ++ number_suffix ty) ≡ with_suffix minus n (suffix v (number_suffix ty))
+    with_sign v minus (decimal n ++ number_suffix ty) ≡ with_suffix minus n (type_of_suffix v (number_suffix ty))
 unfolding digits
 unsigned_some v minus ty zero h = zero_back v minus ty
 unsigned_some v minus ty (suc n) h =
     big_back v minus (decimal (suc n)) (number_suffix ty) (decimal_digits (suc n)) (first_decimal (suc n) (omega arith) h) (no_digit_suffix ty) ∙
-    ap (λ m. with_suffix minus m (suffix v (number_suffix ty))) (decimal_value (suc n) h)
+    ap (λ m. with_suffix minus m (type_of_suffix v (number_suffix ty))) (decimal_value (suc n) h)
 
 unsigned_again : (v : Version) (minus : Bool) (ty : NcType) (n : ℕ) → n < 2 ^ 64 → has_type v ty ≡ true → is_char ty ≡ false →
-    unsigned v minus (decimal n ++ number_suffix ty) ≡ Some (record { minus = minus; magnitude = n; ty = ty })
+    with_sign v minus (decimal n ++ number_suffix ty) ≡ Some (record { minus = minus; magnitude = n; ty = ty })
 unsigned_again v minus ty n h k l = unsigned_some v minus ty n h ∙ ap (with_suffix minus n) (suffix_back v ty k l)
 
 first_sign : (ds suf : List ℕ) → list_all is_digit ds ≡ true → 0 < length ds → is_sign (get_or (ds ++ suf) 0 0) ≡ false

@@ -1,7 +1,7 @@
 -- What holds of what an option or a result has, and of lists by totals.
 use Rattle.std.proofs.Common.{◌≡◌, ℕ, ◌+◌, ◌≤◌, Bool, true, false, List, [], ◌∷◌, ◌++◌, refl, subst, arith, zero, suc, All, if◌then◌else◌, Option, None, Some, Result, Ok, Err, take, drop}
 use Rattle.std.specs.Prelude.{⊤}
-use Rattle.cdl_laws.proofs.Prelude.{option_map, option_and_then, in_turn, unless, when, found, both, each, either, given, CdlKind}
+use Rattle.cdl_laws.proofs.Prelude.{option_map, option_and_then, in_turn, unless, when, some_or, both, each, either, if_so, CdlKind}
 use Rattle.cdl_meaning.specs.State.{◌>>=◌}
 use Rattle.cdl_laws.proofs.Lists.{Each}
 
@@ -32,7 +32,7 @@ pub some_first : {A : Type 0} (P : A → Type 0) (a b : Option A) → SomeIs P a
 some_first P None b p q = q
 some_first P (Some a) b p q = p
 
-pub some_given : {A : Type 0} (P : A → Type 0) (b : Bool) (o : Option A) → (b ≡ true → SomeIs P o) → SomeIs P (given b o)
+pub some_given : {A : Type 0} (P : A → Type 0) (b : Bool) (o : Option A) → (b ≡ true → SomeIs P o) → SomeIs P (if_so b o)
 some_given P true o h = h refl
 some_given P false o h = tt
 
@@ -62,7 +62,7 @@ pub ok_when : {B : Type 0} (Q : B → Type 0) (b : Bool) (e : CdlKind) (f : ⊤ 
 ok_when Q true e f g = tt
 ok_when Q false e f g = g refl
 
-pub ok_found : {A B : Type 0} (P : A → Type 0) (Q : B → Type 0) (o : Option A) (e : CdlKind) (f : A → Result B CdlKind) → SomeIs P o → ((a : A) → P a → OkIs Q (f a)) → OkIs Q (found o e >>= f)
+pub ok_found : {A B : Type 0} (P : A → Type 0) (Q : B → Type 0) (o : Option A) (e : CdlKind) (f : A → Result B CdlKind) → SomeIs P o → ((a : A) → P a → OkIs Q (f a)) → OkIs Q (some_or o e >>= f)
 ok_found P Q None e f p g = tt
 ok_found P Q (Some a) e f p g = g a p
 

@@ -8,13 +8,13 @@ pub use Rattle.cdl_laws.specs.TokenLaws.{AreToken, BlanksAndMarksStop, Constants
 pub use Rattle.cdl_laws.specs.Trims.{FillValueSurvivesTrim, MeaningsAreSayable, MeaningsComeBack, SecondTripIsSame, TrimmedIsSayable, TrimsOnce, has_cut_fill, is_cut}
 pub use Rattle.cdl_meaning.specs.Meaning.{array_of, checked, closing_line, dataset_of, empty, header_of, is_small, starting_line, meaning, records_in, records_of, shaped, text_limit, listed_values}
 unfoldable pub use Rattle.cdl_meaning.specs.Meaning.{finished, is_small_enough, piece_read, run}
-pub use Rattle.cdl_meaning.specs.State.{Capacity, Draft, Joined, Listing, Numbers, Rows, State, add_characters, add_constant, add_number, add_row, at_named, between, dim_len_of, filled, first_type, found, in_turn, is_listed, is_word_of, listed_by, same_type, unless, values_in, when, with_att, with_values}
+pub use Rattle.cdl_meaning.specs.State.{Capacity, Draft, Joined, Listing, Numbers, Rows, State, add_characters, add_constant, add_number, add_row, at_named, int_within, dim_len_of, filled, first_type, some_or, in_turn, is_listed, is_word_of, listed_by, same_type, unless, values_in, when, with_att, with_values}
 unfoldable pub use Rattle.cdl_meaning.specs.State.{act, add_att, add_dim, add_dimid, add_var, at_variable, capacity_of, has_number, listing_of, type_of}
 pub use Rattle.cdl_statements.proofs.PieceLengths.{pieces_by_steps}
 pub use Rattle.cdl_statements.specs.Lexemes.{Lexeme, is_end_kind, is_mark, is_opening_kind, is_word, is_word_kind, lexeme}
 unfoldable pub use Rattle.cdl_statements.specs.Lexemes.{name_of}
 unfoldable pub use Rattle.cdl_statements.specs.Pieces.{is_section, pieces_at}
-pub use Rattle.cdl_statements.specs.Shapes.{Attribute, Brace, Characters, Declared, Dimension, End, Listed, Mark, Number, Opening, Statement, Typed, Underscore, Value, Variable, alone, assigned, attribute, before_mark, body, both, constant, constant_of, constants, dimension, each, either, first_bad, given, global, into_first, length_of, mark_after, members, members_in, name_alone, section_mark, section_number, section_of, token_fault, typed, variable}
+pub use Rattle.cdl_statements.specs.Shapes.{Attribute, Brace, Characters, Declared, Dimension, End, Listed, Mark, Number, Opening, Statement, Typed, Underscore, Value, Variable, alone, assigned, attribute, before_mark, body, both, constant, constant_of, constants, dimension, each, either, first_bad, if_so, global, into_first, length_of, mark_after, members, members_in, name_alone, section_mark, section_number, section_of, token_fault, typed, variable}
 unfoldable pub use Rattle.cdl_statements.specs.Shapes.{shape}
 pub use Rattle.cdl_statements.specs.Statements.{statements}
 pub use Rattle.cdl_statements.specs.code.CutSteps.{going, step, unless_end, with_first}
@@ -24,28 +24,28 @@ pub use Rattle.cdl_statements.specs.declared.{fault.CdlFault.CdlFault, fault.Cdl
 pub use Rattle.cdl_statements.specs.declared.fault.CdlKind.TheVariants.{BadName, BadNumber, BadShape, BadToken, DuplicateData, DuplicateName, FloatingType, MixedConstants, NumberRange, StringTooLong, Syntax, TooLarge, TooManyValues, TwoRecordDims, UnknownDimension, UnknownType, UnknownVariable, WrongKind, ZeroDimension}
 pub use Rattle.cdl_statements.specs.declared.section.Section.TheVariants.{Closed, Dimensions, Ended, Globals, Unopened, Values, Variables}
 pub use Rattle.cdl_tokens.proofs.Strings.{or_zero, stands_for, plain_small}
-pub use Rattle.cdl_tokens.specs.Bytes.{begins_word, digit_value, goes_on_number, goes_on_word, is_blank, is_digit, is_escapable, is_escape, is_hex, is_octal, is_sign, number_in, within}
-pub use Rattle.cdl_tokens.specs.Escapes.{up_to_255, escape, inner, number_escape, plain_escape, stands, unescape}
+pub use Rattle.cdl_tokens.specs.Bytes.{may_begin_word, digit_value, goes_on_number, goes_on_word, is_blank, is_digit, is_escapable, is_escape, is_hex, is_octal, is_sign, number_in, within}
+pub use Rattle.cdl_tokens.specs.Escapes.{up_to_255, escaped_character, inner, number_escape, plain_escape, string_value, unescape}
 unfoldable pub use Rattle.cdl_tokens.specs.Escapes.{character, unescape_at, word_value}
-pub use Rattle.cdl_tokens.specs.Numerals.{Numeral, Parts, has_suffix, in_base, number, unsigned}
-unfoldable pub use Rattle.cdl_tokens.specs.Numerals.{numeral, parts, suffix}
+pub use Rattle.cdl_tokens.specs.Numerals.{Numeral, Parts, has_suffix, in_base, number, with_sign}
+unfoldable pub use Rattle.cdl_tokens.specs.Numerals.{numeral, parts, type_of_suffix}
 pub use Rattle.cdl_tokens.specs.Scan.{begins_a_word, begins_comment, begins_number, begins_opening, gap, scan_opening, scan_text, token}
-unfoldable pub use Rattle.cdl_tokens.specs.Scan.{scan, until, word_len}
+unfoldable pub use Rattle.cdl_tokens.specs.Scan.{scan, len_until, word_len}
 pub use Rattle.cdl_tokens.specs.Tokens.{raw, token_at, tokens, with_token}
 unfoldable pub use Rattle.cdl_tokens.specs.Tokens.{tokens_at}
 pub use Rattle.cdl_tokens.specs.declared.{scan.Scanned.Scanned, token.Token.Token, token.TokenKind.TokenKind}
 pub use Rattle.cdl_tokens.specs.declared.token.TokenKind.TheVariants.{Bad, Text, Word}
 pub use Rattle.nc_base.specs.Bytes.{AreBytes}
 unfoldable pub use Rattle.nc_base.specs.Bytes.{concat_parts}
-pub use Rattle.nc_base.specs.Dump.{VariableValues, Ending, IsText, Options, values_in_dataset, shown_data, dump_text, has_dimension, has_name, has_values, is_chosen, is_selected, selection_of, shown, shown_section, unknown, with_variable, whole}
+pub use Rattle.nc_base.specs.Dump.{VariableValues, Ending, IsText, Options, values_in_dataset, shown_data, dump_text, has_dimension, has_name, has_values, is_chosen, is_selected, selection_of, shown, shown_data_text, unknown, with_variable, whole}
 unfoldable pub use Rattle.nc_base.specs.Dump.{closing_word, data_word}
 pub use Rattle.nc_base.specs.Escapes.{begins_with_digit_or_mark, escaped_in_name, escaped_in_string, is_name_mark, is_plain, octal_escape, reserved_words}
 unfoldable pub use Rattle.nc_base.specs.Escapes.{escaped_name, escaped_text, is_reserved}
 pub use Rattle.nc_base.specs.Fill.{fill_of_att, fill_or_default, is_fill_att}
 unfoldable pub use Rattle.nc_base.specs.Fill.{fill_value}
 unfoldable pub use Rattle.nc_base.specs.GeneratedFile.{file_of, var_spelling, with_begins}
-pub use Rattle.nc_base.specs.HeadText.{att_values, broken_text, dim_name, joined, without_trailing_nuls}
-unfoldable pub use Rattle.nc_base.specs.HeadText.{att_line, att_lines, char_values, currently_word, dim_extent, dim_line, dim_lines, dimensions_word, dims_text, gatts_text, global_word, head_text, netcdf_word, number_values, shape_text, string_break, unlimited_word, var_lines, variables_word, vars_text}
+pub use Rattle.nc_base.specs.HeadText.{att_text, broken_text, dim_name, joined, without_trailing_nuls}
+unfoldable pub use Rattle.nc_base.specs.HeadText.{att_line, att_lines, chars_text, currently_word, dim_len_text, dim_line, dim_lines, dimensions_word, dims_text, gatts_text, global_word, head_text, netcdf_word, numbers_text, shape_text, string_break, unlimited_word, var_lines, variables_word, vars_text}
 pub use Rattle.nc_base.specs.Headers.{AreArrays, AreDimids, IsArray, IsDimid, IsGood, IsSound, IsSoundAtt, IsSoundDim, IsSoundVar, bare, bare_var, has_record_dim, value_count}
 pub use Rattle.nc_base.specs.Names.{IsName, ends_with_space, has_name_bytes, is_beyond_ascii, is_name, may_begin_name, may_follow_in_name}
 pub use Rattle.nc_base.specs.Numbers.{IsInRange, bytes_of_number, number_of, numbers_from}
@@ -54,7 +54,7 @@ pub use Rattle.nc_base.specs.Sayable.{AreDistinct, AreSayableAtts, HasSomeNumber
 pub use Rattle.nc_base.specs.Sizes.{array_limit, dim_len, has_records, is_record_dim, is_record_var, padded_size, padded_total, product, record_limit, record_size, record_size_of, record_vars, slab_count, slab_lens, slab_limit, slab_size}
 pub use Rattle.nc_base.specs.Types.{all_types, code_of, number_suffix, size_of, type_word}
 pub use Rattle.nc_base.specs.ValueText.{Look, begins_row, char_lead, char_text, column, held, is_char, is_nul, line_break, number_lead, number_text, row_len, row_so_far}
-unfoldable pub use Rattle.nc_base.specs.ValueText.{char_piece, closing, look_of, number_piece, opening, piece, pieces, variable_prefix, variable_text}
+unfoldable pub use Rattle.nc_base.specs.ValueText.{char_piece, variable_closing, look_of, number_piece, variable_opening, piece, pieces, variable_prefix, variable_text}
 pub use Rattle.nc_base.specs.Versions.{count_limit, has_type, offset_limit}
 pub use Rattle.nc_base.specs.declared.{dataset.Dataset.Dataset, header.Att.Att, header.Dim.Dim, header.Header.Header, header.Var.Var, nc_type.NcType.NcType, version.Version.Version}
 pub use Rattle.nc_base.specs.declared.header.NumRecs.TheVariants.{Known, Streaming}

@@ -1,6 +1,6 @@
 -- What the shapes give: names, counts and types of what a statement says, against the bytes of its tokens.
 use Rattle.std.proofs.Common.{◌≡◌, ℕ, ◌+◌, ◌-◌, ◌*◌, ◌≤◌, ◌<◌, Bool, true, false, List, [], ◌∷◌, length, refl, arith, zero, suc, find, if◌then◌else◌, Option, None, Some, take, drop, ◌&&◌, ◌||◌, not, ◌==◌, slice_index, codes, ℤ, map, nat_lt}
-use Rattle.cdl_laws.proofs.Prelude.{length-take, length-drop, option_map, option_and_then, prefix_len, take_while, is_reserved, NcType, Version, all_types, has_type, to_ascii_lowercase, is_digit, is_octal, is_hex, is_escape, is_sign, number_in, up_to_255, character, escape, inner, number_escape, plain_escape, unescape_at, word_value, or_zero, Lexeme, is_word_kind, is_mark, is_word, name_of, Parts, parts, number, Numeral, numeral, suffix, has_suffix, in_base, unsigned, Value, Number, Characters, Underscore, Dimension, Variable, both, each, given, into_first, members_in, members, length_of, dimension, constant_of, constant, constants, name_alone, before_mark, variable, TokenKind, and_right, plain_small}
+use Rattle.cdl_laws.proofs.Prelude.{length-take, length-drop, option_map, option_and_then, prefix_len, take_while, is_reserved, NcType, Version, all_types, has_type, to_ascii_lowercase, is_digit, is_octal, is_hex, is_escape, is_sign, number_in, up_to_255, character, escaped_character, inner, number_escape, plain_escape, unescape_at, word_value, or_zero, Lexeme, is_word_kind, is_mark, is_word, name_of, Parts, parts, number, Numeral, numeral, type_of_suffix, has_suffix, in_base, with_sign, Value, Number, Characters, Underscore, Dimension, Variable, both, each, if_so, into_first, members_in, members, length_of, dimension, constant_of, constant, constants, name_alone, before_mark, variable, TokenKind, and_right, plain_small}
 use Rattle.cdl_statements.specs.Shapes.{dimensions}
 use Rattle.cdl_tokens.specs.declared.token.TokenKind.TheVariants as kinds
 use Rattle.cdl_tokens.specs.declared.scan.Character.{Character}
@@ -82,13 +82,13 @@ abbrev HasType : Version → Parts → Type 0
 HasType v p = has_type v p.ty ≡ true
 
 based : (v : Version) (minus : Bool) (base n : ℕ) (bs : List ℕ) → SomeIs (HasType v) (in_base v minus base n bs)
-unfolding suffix
+unfolding type_of_suffix
 based v minus base n bs =
     let with = λ (ty : NcType). let p : Parts = record { minus = minus; magnitude = number_in base 0 (take n bs); ty = ty } in p in
-    in_if (SomeIs (HasType v)) (n == 0) None (option_map with (suffix v (drop n bs))) tt
-    (some_map (HasType v) with (suffix v (drop n bs)) (suffix_has v (map to_ascii_lowercase (drop n bs)) all_types))
+    in_if (SomeIs (HasType v)) (n == 0) None (option_map with (type_of_suffix v (drop n bs))) tt
+    (some_map (HasType v) with (type_of_suffix v (drop n bs)) (suffix_has v (map to_ascii_lowercase (drop n bs)) all_types))
 
-unsigned_has : (v : Version) (minus : Bool) (bs : List ℕ) → SomeIs (HasType v) (unsigned v minus bs)
+unsigned_has : (v : Version) (minus : Bool) (bs : List ℕ) → SomeIs (HasType v) (with_sign v minus bs)
 unsigned_has v minus bs =
     in_if (SomeIs (HasType v)) (slice_index bs 0 == 0x30 && to_ascii_lowercase (slice_index bs 1) == 0x78) (in_base v minus 16 (prefix_len is_hex (drop 2 bs)) (drop 2 bs)) (if slice_index bs 0 == 0x30 then in_base v minus 8 (prefix_len is_octal bs) bs else in_base v minus 10 (prefix_len is_digit bs) bs)
     (based v minus 16 (prefix_len is_hex (drop 2 bs)) (drop 2 bs))
@@ -98,7 +98,7 @@ unsigned_has v minus bs =
 parts_have : (v : Version) (bs : List ℕ) → SomeIs (HasType v) (parts v bs)
 unfolding parts
 parts_have v bs =
-    in_if (SomeIs (HasType v)) (is_sign (slice_index bs 0)) (unsigned v (slice_index bs 0 == 0x2d) (drop 1 bs)) (unsigned v false bs)
+    in_if (SomeIs (HasType v)) (is_sign (slice_index bs 0)) (with_sign v (slice_index bs 0 == 0x2d) (drop 1 bs)) (with_sign v false bs)
     (unsigned_has v (slice_index bs 0 == 0x2d) (drop 1 bs)) (unsigned_has v false bs)
 
 numeral_has : (v : Version) (bs : List ℕ) → SomeIs (HasTypeOf v) (numeral v bs)
@@ -124,7 +124,7 @@ IsFine c = ByteOrNone c.value
 number_fine : (mark base : ℕ) (digits : List ℕ) → IsFine (number_escape mark base digits)
 number_fine mark base digits = in_if ByteOrNone (length digits == 0) None (up_to_255 (number_in base 0 digits)) tt (byte_is (number_in base 0 digits))
 
-escape_fine : (bs : List ℕ) → Each IsByte bs → IsFine (escape bs)
+escape_fine : (bs : List ℕ) → Each IsByte bs → IsFine (escaped_character bs)
 escape_fine bs h =
     let octal = number_escape 1 8 (take_while is_octal (take 3 bs)) in
     let hex = number_escape 2 16 (take_while is_hex (take 2 (drop 1 bs))) in
@@ -135,7 +135,7 @@ escape_fine bs h =
 character_fine : (bs : List ℕ) → Each IsByte bs → IsFine (character bs)
 unfolding character
 character_fine bs h =
-    in_if IsFine (slice_index bs 0 == 0x5c) (escape (drop 1 bs)) (record { value = Some (slice_index bs 0); len = 1 }) (escape_fine (drop 1 bs) (each_drop IsByte 1 bs h)) (prefix_byte bs h)
+    in_if IsFine (slice_index bs 0 == 0x5c) (escaped_character (drop 1 bs)) (record { value = Some (slice_index bs 0); len = 1 }) (escape_fine (drop 1 bs) (each_drop IsByte 1 bs h)) (prefix_byte bs h)
 
 zero_fine : (o : Option ℕ) → ByteOrNone o → or_zero o < 256
 zero_fine None h = omega arith
@@ -166,7 +166,7 @@ IsFineValue v (Number n) = HasTypeOf v n
 IsFineValue v (Characters bytes) = Each IsByte bytes
 IsFineValue v Underscore = Unit {0}
 
-blank_fine : (v : Version) (b : Bool) → SomeIs (IsFineValue v) (given b (Some Underscore))
+blank_fine : (v : Version) (b : Bool) → SomeIs (IsFineValue v) (if_so b (Some Underscore))
 blank_fine v b = some_given (IsFineValue v) b (Some Underscore) (λ e. tt)
 
 one_fine : (v : Version) (takes_fill : Bool) (l : Lexeme) (k : TokenKind) → HasBytes l → SomeIs (IsFineValue v) (constant_of v takes_fill l k)
@@ -179,7 +179,7 @@ one_fine v takes_fill l kinds.Mark h = blank_fine v (takes_fill && is_word (code
 one_fine v takes_fill l kinds.Bad h = blank_fine v (takes_fill && is_word (codes "_") l)
 one_fine v takes_fill l kinds.End h = blank_fine v (takes_fill && is_word (codes "_") l)
 
-blank_short : (n : ℕ) (b : Bool) → SomeIs (λ x. cost x ≤ suc n) (given b (Some Underscore))
+blank_short : (n : ℕ) (b : Bool) → SomeIs (λ x. cost x ≤ suc n) (if_so b (Some Underscore))
 blank_short n b = some_given (λ x. cost x ≤ suc n) b (Some Underscore) (λ e. omega arith)
 
 inner_short : (bs : List ℕ) → length (inner bs) ≤ length bs

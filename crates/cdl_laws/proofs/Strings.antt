@@ -1,6 +1,6 @@
 -- An escaped string between quotes is one token that stands for it.
 use Rattle.std.proofs.Common.{◌≡◌, ℕ, suc, ◌+◌, ◌*◌, ◌-◌, ◌/◌, ◌%◌, ◌<◌, true, false, List, [], ◌∷◌, ◌++◌, length, drop, take, sym, ◌∙◌, ap, refl, subst, arith, append_assoc, length-append, ◌==◌, nat_lt, map, Some, is_some}
-use Rattle.cdl_laws.proofs.Prelude.{is_ascii_control, flat_map, list_all, false≢true, eqb-true, take-append_seam, escaped_in_string, octal_escape, digit_value, is_octal, is_digit, number_in, until, scan, scan_text, character, up_to_255, plain_escape, unescape, unescape_at, Lexeme, until_at_start}
+use Rattle.cdl_laws.proofs.Prelude.{is_ascii_control, flat_map, list_all, false≢true, eqb-true, take-append_seam, escaped_in_string, octal_escape, digit_value, is_octal, is_digit, number_in, len_until, scan, scan_text, character, up_to_255, plain_escape, unescape, unescape_at, Lexeme, until_at_start}
 use Rattle.cdl_tokens.specs.declared.token.TokenKind.TheVariants as kinds
 use Rattle.cdl_laws.proofs.Texts.{Closed, prefix_again}
 
@@ -9,11 +9,11 @@ use Rattle.cdl_laws.proofs.Texts.{Closed, prefix_again}
 not_octal : (b c : ℕ) → is_octal c ≡ false → is_octal b ≡ true → (b == c) ≡ false
 not_octal b c o on = elim (b == c) as (λ w. (b == c) ≡ w → w ≡ false) [ true ↦ (λ e. absurd (false≢true (sym o ∙ subst (λ n. is_octal n ≡ true) (eqb-true b c e) on))) | false ↦ (λ e. refl) ] refl
 
-pub until_plain : (close b : ℕ) (rest : List ℕ) → (b == 0x5c) ≡ false → (b == close) ≡ false → until close (b ∷ rest) ≡ 1 + until close rest
+pub until_plain : (close b : ℕ) (rest : List ℕ) → (b == 0x5c) ≡ false → (b == close) ≡ false → len_until close (b ∷ rest) ≡ 1 + len_until close rest
 until_plain close b rest h k = until_at_start close b rest ∙ rw (h) (rw (k) refl)
 
-until_octal : (d e f : ℕ) (rest : List ℕ) → is_octal e ≡ true → is_octal f ≡ true → until 0x22 (0x5c ∷ d ∷ e ∷ f ∷ rest) ≡ 4 + until 0x22 rest
-unfolding until
+until_octal : (d e f : ℕ) (rest : List ℕ) → is_octal e ≡ true → is_octal f ≡ true → len_until 0x22 (0x5c ∷ d ∷ e ∷ f ∷ rest) ≡ 4 + len_until 0x22 rest
+unfolding len_until
 until_octal d e f rest h k =
     ap (λ n. 2 + n) (until_plain 0x22 e (f ∷ rest) (not_octal e 0x5c refl h) (not_octal e 0x22 refl h) ∙ ap (λ n. 1 + n) (until_plain 0x22 f rest (not_octal f 0x5c refl k) (not_octal f 0x22 refl k))) ∙ (omega arith)
 
@@ -77,8 +77,8 @@ octal_value b h =
     (let e : 8 * (8 * (8 * 0 + b / 64) + b / 8 % 8) + b % 8 ≡ b = omega arith in rw (e) (let f : nat_lt 255 b ≡ false = grind arith in rw (f) refl))))
 
 -- one byte
-until_one : (b : ℕ) (rest : List ℕ) → IsEscapedAs b → until 0x22 (escaped_in_string b ++ rest) ≡ length (escaped_in_string b) + until 0x22 rest
-unfolding until
+until_one : (b : ℕ) (rest : List ℕ) → IsEscapedAs b → len_until 0x22 (escaped_in_string b ++ rest) ≡ length (escaped_in_string b) + len_until 0x22 rest
+unfolding len_until
 until_one b rest (letter c o x is same) = rw (same) refl
 until_one b rest (octal small same) = rw (same) (until_octal (48 + b / 64) (48 + b / 8 % 8) (48 + b % 8) rest (middle_octal b) (low_octal b))
 until_one b rest (bare h k same) = rw (same) (until_plain 0x22 b rest h k)
@@ -96,12 +96,12 @@ unescape_one b rest (bare h k same) = rw (same) (rw (h) refl)
 
 -- ---- strings
 
-pub until_all : (bytes rest : List ℕ) → until 0x22 (flat_map escaped_in_string bytes ++ 0x22 ∷ rest) ≡ length (flat_map escaped_in_string bytes)
-unfolding until
+pub until_all : (bytes rest : List ℕ) → len_until 0x22 (flat_map escaped_in_string bytes ++ 0x22 ∷ rest) ≡ length (flat_map escaped_in_string bytes)
+unfolding len_until
 until_all [] [] = refl
 until_all [] (c ∷ rest) = refl
 until_all (b ∷ bytes) rest =
-    ap (until 0x22) (append_assoc (escaped_in_string b) (flat_map escaped_in_string bytes) (0x22 ∷ rest)) ∙
+    ap (len_until 0x22) (append_assoc (escaped_in_string b) (flat_map escaped_in_string bytes) (0x22 ∷ rest)) ∙
     until_one b (flat_map escaped_in_string bytes ++ 0x22 ∷ rest) (stands b) ∙
     ap (λ n. length (escaped_in_string b) + n) (until_all bytes rest) ∙ sym (length-append (escaped_in_string b) (flat_map escaped_in_string bytes))
 
@@ -127,9 +127,9 @@ string bytes = record { kind = kinds.Text; bytes = quoted bytes }
 pub text_len : (w rest : List ℕ) (n : ℕ) → n ≡ length w → list_all is_some (unescape w) ≡ true → scan_text (w ++ 0x22 ∷ rest) n ≡ record { kind = Some kinds.Text; len = length w + 2 }
 text_len w rest n e h = rw (e) (let f : nat_lt (length w) (length (w ++ 0x22 ∷ rest)) ≡ true = (let g = length-append w (0x22 ∷ rest) in grind (arith, g)) in rw (f) (rw (take-append_seam w (0x22 ∷ rest)) (rw (h) refl)))
 
-quoted_prefix : (w rest : List ℕ) → until 0x22 (w ++ 0x22 ∷ rest) ≡ length w → list_all is_some (unescape w) ≡ true → scan false (0x22 ∷ (w ++ 0x22 ∷ rest)) ≡ record { kind = Some kinds.Text; len = length w + 2 }
+quoted_prefix : (w rest : List ℕ) → len_until 0x22 (w ++ 0x22 ∷ rest) ≡ length w → list_all is_some (unescape w) ≡ true → scan false (0x22 ∷ (w ++ 0x22 ∷ rest)) ≡ record { kind = Some kinds.Text; len = length w + 2 }
 unfolding scan
-quoted_prefix w rest h k = text_len w rest (until 0x22 (w ++ 0x22 ∷ rest)) h k
+quoted_prefix w rest h k = text_len w rest (len_until 0x22 (w ++ 0x22 ∷ rest)) h k
 
 pub string_closed : (bytes : List ℕ) → Closed (quoted bytes) (string bytes ∷ [])
 string_closed bytes rest =

@@ -1,8 +1,8 @@
 -- The full dump of a dataset that a text can declare means that dataset, trimmed.
 use Rattle.std.proofs.Common.{◌≡◌, ℕ, ◌<◌, ◌≤◌, true, List, [], ◌∷◌, ◌++◌, map, sym, ◌∙◌, ap, refl, subst, arith, nat_le, All, Option, Ok}
-use Rattle.cdl_laws.proofs.Prelude.{list_all, map-append, AreBytes, Dataset, Att, Dim, Header, Known, Streaming, Var, Version, Options, Ending, whole, IsText, unknown, shown, dump_text, shown_section, values_in_dataset, selection_of, IsGood, IsSoundVar, bare, bare_var, IsName, slab_count, slab_size, slab_limit, record_limit, record_vars, record_size_of, Ended, meaning, is_small, is_small_enough, dataset_of, array_of, records_in, IsFull, TextReadsBack, trimmed, trimmed_att, trimmed_var, AreDistinct, IsSayable, IsSayableVar, Draft, Listing, and_both, some_count}
+use Rattle.cdl_laws.proofs.Prelude.{list_all, map-append, AreBytes, Dataset, Att, Dim, Header, Known, Streaming, Var, Version, Options, Ending, whole, IsText, unknown, shown, dump_text, shown_data_text, values_in_dataset, selection_of, IsGood, IsSoundVar, bare, bare_var, IsName, slab_count, slab_size, slab_limit, record_limit, record_vars, record_size_of, Ended, meaning, is_small, is_small_enough, dataset_of, array_of, records_in, IsFull, TextReadsBack, trimmed, trimmed_att, trimmed_var, AreDistinct, IsSayable, IsSayableVar, Draft, Listing, and_both, some_count}
 use Rattle.nc_base.specs.declared.header.NumRecs.{NumRecs}
-use Rattle.nc_base.specs.Dump.{Section}
+use Rattle.nc_base.specs.Dump.{DataText}
 use Rattle.cdl_laws.proofs.DataTexts.{given_draft, given_drafts}
 use Rattle.cdl_laws.proofs.Datasets.{keeps_fill, are_back, listings, stand_after, AreNewVars, all_given, arrays_back, vars_back, records_back}
 use Rattle.cdl_laws.proofs.Dumps.{text_back}
@@ -53,7 +53,7 @@ small_all v dims gatts drafts vars n r vs small limit =
     (ap (λ k. list_all (is_small dims k) drafts) r ∙ small)
     (ap (λ ws. nat_le (record_size_of dims (record_vars dims ws)) record_limit) vs ∙ grind (arith, limit))
 
-ready : (d : Dataset) (o : Options) → IsSayable d → IsFull o → (section : Section) → (g : IsGood d) → section ≡ shown_section d.header o (values_in_dataset d) g.records (selection_of d.header o) →
+ready : (d : Dataset) (o : Options) → IsSayable d → IsFull o → (section : DataText) → (g : IsGood d) → section ≡ shown_data_text d.header o (values_in_dataset d) g.records (selection_of d.header o) →
     meaning (dump_text d.header o g.records section) d.header.version ≡ Ok (trimmed d)
 ready d o s full section g is =
     let h = d.header in
@@ -91,7 +91,7 @@ back_of : (d : Dataset) (o : Options) (text : List ℕ) (e : Ending) → IsSayab
 back_of d o text e s full (unknown index known) h = cc
 back_of d o text e s full (shown n section knows numrecs is) h =
     let same : s.good.records ≡ n = ap number (sym (ap (λ (k : Header). k.numrecs) s.good.is_bare) ∙ numrecs) in
-    subst (λ k. (x : Section) → x ≡ shown_section d.header o (values_in_dataset d) k (selection_of d.header o) → meaning (dump_text d.header o k x) d.header.version ≡ Ok (trimmed d)) same (λ x y. ready d o s full x s.good y) section is
+    subst (λ k. (x : DataText) → x ≡ shown_data_text d.header o (values_in_dataset d) k (selection_of d.header o) → meaning (dump_text d.header o k x) d.header.version ≡ Ok (trimmed d)) same (λ x y. ready d o s full x s.good y) section is
 
 pub text_reads_back : TextReadsBack
 text_reads_back d o text s full is = back_of d o text whole s full is refl

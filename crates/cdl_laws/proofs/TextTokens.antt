@@ -1,6 +1,6 @@
 -- The strings of a text stand for bytes.
 use Rattle.std.proofs.Common.{◌≡◌, ℕ, zero, suc, ◌+◌, ◌-◌, ◌<◌, Bool, true, false, List, [], ◌∷◌, length, get_or, take, drop, sym, ◌∙◌, ap, refl, subst, arith, length-take, ◌&&◌, ◌==◌, nat_lt, not, if◌then◌else◌, map, Option, None, Some, is_none, is_some}
-use Rattle.cdl_laws.proofs.Prelude.{list_all, prefix_len, is_blank, goes_on_number, inner, stands, unescape, or_zero, scan, gap, token, scan_text, scan_opening, until, word_len, begins_opening, begins_a_word, begins_number, begins_comment, raw, tokens_at, tokens, with_token, token_at, Scanned, Token, TokenKind, StandsForBytes, StringsStandForBytes, inner_of}
+use Rattle.cdl_laws.proofs.Prelude.{list_all, prefix_len, is_blank, goes_on_number, inner, string_value, unescape, or_zero, scan, gap, token, scan_text, scan_opening, len_until, word_len, begins_opening, begins_a_word, begins_number, begins_comment, raw, tokens_at, tokens, with_token, token_at, Scanned, Token, TokenKind, StandsForBytes, StringsStandForBytes, inner_of}
 use Rattle.cdl_tokens.specs.Bytes.{is_mark_byte}
 use Rattle.cdl_tokens.specs.declared.token.TokenKind.TheVariants as kinds
 use Rattle.cdl_laws.proofs.Lines.{tail_at}
@@ -44,17 +44,17 @@ unfolding scan
 prefix_says fresh bs =
     let bytes = drop 1 bs in
     let marks = if is_mark_byte (get_or bs 0 0) then token kinds.Mark 1 else token kinds.Bad 1 in
-    let strings = if get_or bs 0 0 == 0x22 then scan_text bytes (until 0x22 bytes) else marks in
+    let strings = if get_or bs 0 0 == 0x22 then scan_text bytes (len_until 0x22 bytes) else marks in
     let comments = if begins_comment bs then gap (prefix_len (λ b. not (b == 0x0a)) bs) else strings in
     let takes_fill = if is_blank (get_or bs 0 0) then gap 1 else comments in
     let numbers = if begins_number bs then token kinds.Number (1 + prefix_len goes_on_number bytes) else takes_fill in
     let words = if begins_a_word bs then token kinds.Word (word_len bs) else numbers in
-    either bytes (fresh && begins_opening bs) (scan_opening (drop 6 bs) (until 0x7b (drop 6 bs))) words (opening_says bytes (drop 6 bs) (until 0x7b (drop 6 bs)))
+    either bytes (fresh && begins_opening bs) (scan_opening (drop 6 bs) (len_until 0x7b (drop 6 bs))) words (opening_says bytes (drop 6 bs) (len_until 0x7b (drop 6 bs)))
     (either bytes (begins_a_word bs) (token kinds.Word (word_len bs)) numbers (λ e. cc)
     (either bytes (begins_number bs) (token kinds.Number (1 + prefix_len goes_on_number bytes)) takes_fill (λ e. cc)
     (either bytes (is_blank (get_or bs 0 0)) (gap 1) comments (λ e. cc)
     (either bytes (begins_comment bs) (gap (prefix_len (λ b. not (b == 0x0a)) bs)) strings (λ e. cc)
-    (either bytes (get_or bs 0 0 == 0x22) (scan_text bytes (until 0x22 bytes)) marks (text_says bytes (until 0x22 bytes))
+    (either bytes (get_or bs 0 0 == 0x22) (scan_text bytes (len_until 0x22 bytes)) marks (text_says bytes (len_until 0x22 bytes))
     (either bytes (is_mark_byte (get_or bs 0 0)) (token kinds.Mark 1) (token kinds.Bad 1) (λ e. cc) (λ e. cc)))))))
 
 -- ---- what it stands for
@@ -70,15 +70,15 @@ all_some [] h = refl
 all_some (None ∷ os) h = cc
 all_some (Some b ∷ os) h = ap (λ xs. Some b ∷ xs) (all_some os h)
 
-string_stands : (b len : ℕ) (bytes : List ℕ) → IsString bytes len → unescape (inner (take len (b ∷ bytes))) ≡ map Some (stands (inner (take len (b ∷ bytes))))
+string_stands : (b len : ℕ) (bytes : List ℕ) → IsString bytes len → unescape (inner (take len (b ∷ bytes))) ≡ map Some (string_value (inner (take len (b ∷ bytes))))
 string_stands b len bytes s =
     let same : inner (take len (b ∷ bytes)) ≡ take s.body bytes = ap (λ n. inner (take n (b ∷ bytes))) s.past ∙ inner_of b s.body bytes s.inside in
-    subst (λ xs. unescape xs ≡ map Some (stands xs)) (sym same) (all_some (unescape (take s.body bytes)) s.sound)
+    subst (λ xs. unescape xs ≡ map Some (string_value xs)) (sym same) (all_some (unescape (take s.body bytes)) s.sound)
 
 -- ---- the tokens of a text
 
 -- a token of a kind and a length, before others
-with_one : (text : List ℕ) (at : ℕ) (k : Option TokenKind) (n : ℕ) (rest : List Token) → (k ≡ Some kinds.Text → unescape (inner (raw text (token_at text at kinds.Text n))) ≡ map Some (stands (inner (raw text (token_at text at kinds.Text n))))) →
+with_one : (text : List ℕ) (at : ℕ) (k : Option TokenKind) (n : ℕ) (rest : List Token) → (k ≡ Some kinds.Text → unescape (inner (raw text (token_at text at kinds.Text n))) ≡ map Some (string_value (inner (raw text (token_at text at kinds.Text n))))) →
     Each (StandsForBytes text) rest → Each (StandsForBytes text) (with_token text at k n rest)
 with_one text at None n rest h all = all
 with_one text at (Some kind) n rest h all = ((λ e. h (ap (λ (x : TokenKind). Some x) e)), all)
@@ -93,7 +93,7 @@ strings_stand text fresh at (suc more) (b ∷ bytes) e = strings_stand text fres
 strings_stand text fresh at zero (b ∷ bytes) e =
     let f = scan fresh (b ∷ bytes) in
     with_one text at f.kind f.len (tokens_at text (fresh && is_none f.kind) (at + 1) (f.len - 1) bytes)
-    (λ is. subst (λ xs. unescape (inner xs) ≡ map Some (stands (inner xs))) (sym (raw_is text at f.len (b ∷ bytes) e)) (string_stands b f.len bytes (prefix_says fresh (b ∷ bytes) is)))
+    (λ is. subst (λ xs. unescape (inner xs) ≡ map Some (string_value (inner xs))) (sym (raw_is text at f.len (b ∷ bytes) e)) (string_stands b f.len bytes (prefix_says fresh (b ∷ bytes) is)))
     (strings_stand text (fresh && is_none f.kind) (at + 1) (f.len - 1) bytes (tail_at text at b bytes e))
 
 pub strings_stand_for_bytes : StringsStandForBytes

@@ -1,6 +1,6 @@
 -- Texts that are put together are read apart again, token by token.
 use Rattle.std.proofs.Common.{◌≡◌, ℕ, zero, suc, ◌+◌, ◌-◌, Bool, true, false, List, [], ◌∷◌, ◌++◌, length, get_or, drop, sym, ◌∙◌, ap, refl, arith, append_assoc, ◌&&◌, ◌||◌, ◌==◌, not, Option, Some, is_none}
-use Rattle.cdl_laws.proofs.Prelude.{prefix_len, list_all, false≢true, drop-append_seam, take-append_seam, is_ascii_digit, is_in_range, escaped_name, is_reserved, IsName, has_name_bytes, may_begin_name, may_follow_in_name, ends_with_space, is_beyond_ascii, is_utf8, is_digit, is_escape, goes_on_word, goes_on_number, begins_word, word_len, scan, begins_a_word, token, Lexeme, name_of, lexemes_at, with_lexeme, TokenKind, and_left, and_right, is_off, word_at_start}
+use Rattle.cdl_laws.proofs.Prelude.{prefix_len, list_all, false≢true, drop-append_seam, take-append_seam, is_ascii_digit, is_in_range, escaped_name, is_reserved, IsName, has_name_bytes, may_begin_name, may_follow_in_name, ends_with_space, is_beyond_ascii, is_utf8, is_digit, is_escape, goes_on_word, goes_on_number, may_begin_word, word_len, scan, begins_a_word, token, Lexeme, name_of, lexemes_at, with_lexeme, TokenKind, and_left, and_right, is_off, word_at_start}
 use Rattle.cdl_tokens.specs.declared.token.TokenKind.TheVariants as kinds
 use Rattle.cdl_laws.proofs.NameTexts.{rest_of, marked_plain, no_escape, Begins, marked, bare, begins, name_len, name_begins, name_value, name_free}
 
@@ -146,7 +146,7 @@ pub all_on : (w rest : List ℕ) → list_all goes_on_number w ≡ true → pref
 all_on [] rest all h = h
 all_on (b ∷ w) rest all h = rw (and_left (goes_on_number b) (list_all goes_on_number w) all) (let ih = all_on w rest (and_right (goes_on_number b) (list_all goes_on_number w) all) h in omega (arith, ih))
 
-pub digit_no_word : (b : ℕ) → is_digit b ≡ true → begins_word b ≡ false
+pub digit_no_word : (b : ℕ) → is_digit b ≡ true → may_begin_word b ≡ false
 digit_no_word b h = grind (arith, h)
 
 pub digit_no_escape : (b c : ℕ) → is_digit b ≡ true → is_escape b c ≡ false

@@ -1,6 +1,6 @@
 -- Names, strings and numbers are read back, each as one token.
 use Rattle.std.proofs.Common.{◌≡◌, ℕ, suc, ◌+◌, ◌^◌, ◌<◌, Bool, true, false, List, [], ◌∷◌, ◌++◌, length, get_or, take, drop, sym, ◌∙◌, ap, refl, subst, arith, append_assoc, length-append, append-nil, ℤ, pos, negsuc, unsigned_abs, decimal, ◌||◌, ◌==◌, nat_eq, codes, is_some}
-use Rattle.cdl_laws.proofs.Prelude.{signed_decimal, prefix_len, list_all, starts_with, flat_map, false≢true, eqb-true, decimal_nonempty, take-append-drop, get_or-drop, list_all-append, bytes_eq-Decides, take-append_seam, NcType, escaped_name, escaped_text, escaped_in_string, is_reserved, IsName, may_begin_name, may_follow_in_name, IsInRange, number_suffix, within, is_digit, is_blank, goes_on_word, goes_on_number, inner, unescape, word_len, until, scan, token, begins_opening, begins_a_word, begins_number, Word, Text, stands_for, AreToken, BlanksAndMarksStop, StopsWord, NameReadsBack, NamesReadBack, quoted, StringsReadBack, StopsNumber, ConstantsReadBack, ValuesReadBack, and_left, and_right, and_both, word_at_start, and_false}
+use Rattle.cdl_laws.proofs.Prelude.{signed_decimal, prefix_len, list_all, starts_with, flat_map, false≢true, eqb-true, decimal_nonempty, take-append-drop, get_or-drop, list_all-append, bytes_eq-Decides, take-append_seam, NcType, escaped_name, escaped_text, escaped_in_string, is_reserved, IsName, may_begin_name, may_follow_in_name, IsInRange, number_suffix, within, is_digit, is_blank, goes_on_word, goes_on_number, inner, unescape, word_len, len_until, scan, token, begins_opening, begins_a_word, begins_number, Word, Text, stands_for, AreToken, BlanksAndMarksStop, StopsWord, NameReadsBack, NamesReadBack, quoted, StringsReadBack, StopsNumber, ConstantsReadBack, ValuesReadBack, and_left, and_right, and_both, word_at_start, and_false}
 use Rattle.cdl_tokens.specs.Bytes.{is_mark_byte}
 use Rattle.cdl_tokens.specs.declared.token.TokenKind.TheVariants.{Number}
 use Rattle.cdl_laws.proofs.Attributes.{all_small, small_is}
@@ -146,9 +146,9 @@ names_read_back (b ∷ bs) h = name_back b bs h
 
 -- ---- strings
 
-quote_prefix : (fresh : Bool) (w rest : List ℕ) → until 0x22 (w ++ 0x22 ∷ rest) ≡ length w → list_all is_some (unescape w) ≡ true → scan fresh (0x22 ∷ (w ++ 0x22 ∷ rest)) ≡ token Text (length w + 2)
+quote_prefix : (fresh : Bool) (w rest : List ℕ) → len_until 0x22 (w ++ 0x22 ∷ rest) ≡ length w → list_all is_some (unescape w) ≡ true → scan fresh (0x22 ∷ (w ++ 0x22 ∷ rest)) ≡ token Text (length w + 2)
 unfolding scan
-quote_prefix fresh w rest h k = rw (and_false fresh) (text_len w rest (until 0x22 (w ++ 0x22 ∷ rest)) h k)
+quote_prefix fresh w rest h k = rw (and_false fresh) (text_len w rest (len_until 0x22 (w ++ 0x22 ∷ rest)) h k)
 
 string_token : (bytes rest : List ℕ) → AreToken Text (quoted bytes) rest
 unfolding escaped_text

@@ -1,6 +1,6 @@
 -- What each statement of a text says, and how many bytes and tokens all of them have.
 use Rattle.std.proofs.Common.{◌≡◌, ℕ, ◌+◌, ◌-◌, ◌*◌, ◌≤◌, ◌<◌, Bool, true, false, List, [], ◌∷◌, length, map, ◌∙◌, ap, refl, arith, zero, suc, Option, None, Some, drop, ◌&&◌, nat_lt, is_none}
-use Rattle.cdl_laws.proofs.Prelude.{length-take, length-drop, option_map, option_and_then, Version, scan, Lexeme, lexeme, is_mark, is_word_kind, is_opening_kind, is_end_kind, name_of, first_role, role, pieces_after, with_first, step, pieces_by_steps, Value, Dimension, Variable, Statement, Opening, Mark, Declared, Typed, Attribute, Listed, Brace, End, each, either, given, members, variable, constants, assigned, global, typed, attribute, body, section_number, section_of, mark_after, section_mark, alone, shape, before_mark, tokens, tokens_at, with_token, statements, Section, Unopened, Globals, Dimensions, Variables, Values, Closed, Ended, CutState, Role, Token, TokenKind}
+use Rattle.cdl_laws.proofs.Prelude.{length-take, length-drop, option_map, option_and_then, Version, scan, Lexeme, lexeme, is_mark, is_word_kind, is_opening_kind, is_end_kind, name_of, first_role, role, pieces_after, with_first, step, pieces_by_steps, Value, Dimension, Variable, Statement, Opening, Mark, Declared, Typed, Attribute, Listed, Brace, End, each, either, if_so, members, variable, constants, assigned, global, typed, attribute, body, section_number, section_of, mark_after, section_mark, alone, shape, before_mark, tokens, tokens_at, with_token, statements, Section, Unopened, Globals, Dimensions, Variables, Values, Closed, Ended, CutState, Role, Token, TokenKind}
 use Rattle.cdl_statements.specs.Shapes as shapes
 use Rattle.cdl_statements.specs.Shapes.{dimensions}
 use Rattle.cdl_statements.specs.declared.piece.CutState.TheVariants as places

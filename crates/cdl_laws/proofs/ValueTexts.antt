@@ -1,6 +1,6 @@
 -- The listed numbers of a variable are read back, wherever the breaks are.
 use Rattle.std.proofs.Common.{◌≡◌, ℕ, ◌+◌, ◌^◌, ◌<◌, ◌≤◌, Bool, true, false, List, [], ◌∷◌, ◌++◌, length, map, sym, ◌∙◌, ap, refl, subst, arith, append_assoc, append-nil, length-append, ℤ, unsigned_abs, ◌&&◌, ◌||◌, ◌==◌, not, if◌then◌else◌, nat_lt, Some, Result, Ok, codes}
-use Rattle.cdl_laws.proofs.Prelude.{signed_decimal, flat_map, list_all, int_eq, mod-eq_of_lt, zero-mod, false≢true, Decides-int_eq, concat_parts, escaped_name, Int, Version, IsName, Look, is_char, number_text, number_lead, line_break, begins_row, column, number_piece, piece, pieces, opening, closing, variable_prefix, variable_text, CdlKind, Lexeme, is_mark, lexemes_at, scan, Value, Number, Underscore, members_in, members, each, both, constant, constants, Capacity, Numbers, add_number, has_number, in_turn, listing_of, and_left, and_right, and_both, is_off, word_at_start, lt-ltb}
+use Rattle.cdl_laws.proofs.Prelude.{signed_decimal, flat_map, list_all, int_eq, mod-eq_of_lt, zero-mod, false≢true, Decides-int_eq, concat_parts, escaped_name, Int, Version, IsName, Look, is_char, number_text, number_lead, line_break, begins_row, column, number_piece, piece, pieces, variable_opening, variable_closing, variable_prefix, variable_text, CdlKind, Lexeme, is_mark, lexemes_at, scan, Value, Number, Underscore, members_in, members, each, both, constant, constants, Capacity, Numbers, add_number, has_number, in_turn, listing_of, and_left, and_right, and_both, is_off, word_at_start, lt-ltb}
 use Rattle.cdl_meaning.specs.State.{◌>>=◌}
 use Rattle.cdl_laws.proofs.Lists.{Each}
 use Rattle.cdl_laws.proofs.Texts.{Closed, Reads, Stops, closed_both, then_reads, closed_by, reads_both, closed_nothing, mark, word, number, name_word, word_reads, stop_word}
@@ -204,14 +204,14 @@ pub semicolon_closed : Closed (codes " ;\n") (mark 59 ∷ [])
 unfolding lexemes_at scan
 semicolon_closed rest = refl
 
-pub opening_closed : (look : Look) → IsName look.name → Closed (opening look) (word (escaped_name look.name) ∷ mark 61 ∷ [])
-unfolding opening concat_parts
+pub opening_closed : (look : Look) → IsName look.name → Closed (variable_opening look) (word (escaped_name look.name) ∷ mark 61 ∷ [])
+unfolding variable_opening concat_parts
 opening_closed look h =
     closed_both (codes "\n ") (escaped_name look.name ++ (codes " =" ++ [])) [] (word (escaped_name look.name) ∷ mark 61 ∷ []) feed_closed
     (closed_by (escaped_name look.name) (codes " =" ++ []) (word (escaped_name look.name) ∷ []) (mark 61 ∷ []) (name_word look.name h).reads (λ rest. refl) equals_closed)
 
-number_closing : (look : Look) → is_char look.ty ≡ false → closing look ≡ codes " ;\n"
-unfolding closing
+number_closing : (look : Look) → is_char look.ty ≡ false → variable_closing look ≡ codes " ;\n"
+unfolding variable_closing
 number_closing look h = rw (h) refl
 
 -- the lexemes of a variable's numbers
@@ -222,9 +222,9 @@ pub numbers_closed : (look : Look) (x : ℤ) (xs : List ℤ) → IsName look.nam
     Closed (variable_text look (x ∷ xs)) (listed look x xs ++ mark 59 ∷ [])
 unfolding variable_text variable_prefix
 numbers_closed look x xs name h small fit =
-    closed_by (opening look ++ pieces look (opening look) [] (x ∷ xs)) (closing look) (listed look x xs) (mark 59 ∷ [])
-    (then_reads (opening look) (pieces look (opening look) [] (x ∷ xs)) (word (escaped_name look.name) ∷ mark 61 ∷ []) (value_lexeme look x ∷ commas (map (value_lexeme look) xs))
-    (opening_closed look name) (all_read look (opening look) x xs h small fit))
+    closed_by (variable_opening look ++ pieces look (variable_opening look) [] (x ∷ xs)) (variable_closing look) (listed look x xs) (mark 59 ∷ [])
+    (then_reads (variable_opening look) (pieces look (variable_opening look) [] (x ∷ xs)) (word (escaped_name look.name) ∷ mark 61 ∷ []) (value_lexeme look x ∷ commas (map (value_lexeme look) xs))
+    (opening_closed look name) (all_read look (variable_opening look) x xs h small fit))
     (rw (number_closing look h) (λ rest. refl))
     (rw (number_closing look h) semicolon_closed)
 

@@ -1,6 +1,6 @@
 -- The head of a dump, statement after statement.
 use Rattle.std.proofs.Common.{◌≡◌, ℕ, zero, suc, ◌^◌, ◌<◌, true, false, List, [], ◌∷◌, ◌++◌, length, map, sym, ◌∙◌, ap, refl, subst, arith, append_assoc, append-nil, ◌==◌, None, Some, Ok, codes}
-use Rattle.cdl_laws.proofs.Prelude.{list_any, bytes_eq, concat_parts, Att, Dim, Var, NcType, Version, escaped_name, AreDimids, joined, dim_line, att_line, att_lines, att_values, var_lines, shape_text, dim_name, IsName, type_word, count_limit, has_type, Section, Dimensions, Variables, trimmed_att, trimmed_var, Value, Declared, Typed, Attribute, State, Draft, act, add_dim, add_att, add_constant, first_type, add_var, with_att, in_turn, said_dim, IsBeforeData, not_none}
+use Rattle.cdl_laws.proofs.Prelude.{list_any, bytes_eq, concat_parts, Att, Dim, Var, NcType, Version, escaped_name, AreDimids, joined, dim_line, att_line, att_lines, att_text, var_lines, shape_text, dim_name, IsName, type_word, count_limit, has_type, Section, Dimensions, Variables, trimmed_att, trimmed_var, Value, Declared, Typed, Attribute, State, Draft, act, add_dim, add_att, add_constant, first_type, add_var, with_att, in_turn, said_dim, IsBeforeData, not_none}
 use Rattle.cdl_meaning.specs.State.{◌>>=◌}
 use Rattle.cdl_laws.proofs.Lists.{Each}
 use Rattle.cdl_laws.proofs.Texts.{word}
@@ -61,7 +61,7 @@ dims_taken v n done (d ∷ ds) gatts drafts h =
 pub record Speaks (v : Version) (att : Att) : Type 0 where
   pub name : IsName att.name
   pub said : List Value
-  pub list : IsListOf v (att_values att.ty att.vals) said
+  pub list : IsListOf v (att_text att.ty att.vals) said
   pub type : first_type said ≡ att.ty
   pub are : in_turn (add_constant att.ty) [] said ≡ Ok (trimmed_att att).vals
 

@@ -9,7 +9,7 @@ use Rattle.nc_base.specs.Types.{number_suffix}
 use Rattle.nc_base.specs.ValueText.{is_char}
 use Rattle.nc_base.specs.Versions.{has_type}
 use Rattle.cdl_tokens.specs.Bytes.{is_blank, is_mark_byte, goes_on_word, goes_on_number, is_escape}
-use Rattle.cdl_tokens.specs.Escapes.{inner, stands, unescape, word_value}
+use Rattle.cdl_tokens.specs.Escapes.{inner, string_value, unescape, word_value}
 use Rattle.cdl_tokens.specs.Scan.{scan, token}
 use Rattle.cdl_statements.specs.Lexemes.{name_of}
 use Rattle.cdl_tokens.specs.Numerals.{numeral}
@@ -52,7 +52,7 @@ pub record StringReadsBack (bytes : List ℕ) : Type 0 where
   pub token : (rest : List ℕ) → AreToken Text (quoted bytes) rest
   pub between : inner (quoted bytes) ≡ escaped_text bytes
   pub value : unescape (inner (quoted bytes)) ≡ map Some bytes
-  pub stand : stands (inner (quoted bytes)) ≡ bytes
+  pub stand : string_value (inner (quoted bytes)) ≡ bytes
 
 abbrev pub StringsReadBack : Type 0
 StringsReadBack = (bytes : List ℕ) → StringReadsBack bytes
@@ -88,7 +88,7 @@ ValuesReadBack = (version : Version) (ty : NcType) (number : ℤ)
 
 -- if the token is a string, each character between its quotes stands for a byte, and these are the bytes
 abbrev pub StandsForBytes : List ℕ → Token → Type 0
-StandsForBytes text t = t.kind ≡ Text → unescape (inner (raw text t)) ≡ map Some (stands (inner (raw text t)))
+StandsForBytes text t = t.kind ≡ Text → unescape (inner (raw text t)) ≡ map Some (string_value (inner (raw text t)))
 
 abbrev pub StringsStandForBytes : Type 0
 StringsStandForBytes = (text : List ℕ) → All (StandsForBytes text) (tokens text)

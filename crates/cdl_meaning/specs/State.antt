@@ -60,19 +60,19 @@ abbrev pub when : Bool → CdlKind → Result ⊤ CdlKind
 when true e = Err e
 when false e = Ok tt
 
-abbrev pub found : {A : Type 0} → Option A → CdlKind → Result A CdlKind
-found None e = Err e
-found (Some a) e = Ok a
+abbrev pub some_or : {A : Type 0} → Option A → CdlKind → Result A CdlKind
+some_or None e = Err e
+some_or (Some a) e = Ok a
 
 -- from one number up to and with another
-abbrev pub between : ℤ → ℤ → ℤ → Bool
-between low high n = int_le low n && int_le n high
+abbrev pub int_within : ℤ → ℤ → ℤ → Bool
+int_within low high n = int_le low n && int_le n high
 
 -- the type has the number (`IsInRange`, as a `Bool`)
 unfoldable pub has_number : NcType → ℤ → Bool
 has_number ty n =
-    if is_signed ty then between (neg_ℤ (pos (2 ^ hbits (width_of ty)))) (pos (2 ^ hbits (width_of ty) - 1)) n
-    else between (pos 0) (pos (2 ^ bits (width_of ty) - 1)) n
+    if is_signed ty then int_within (neg_ℤ (pos (2 ^ hbits (width_of ty)))) (pos (2 ^ hbits (width_of ty) - 1)) n
+    else int_within (pos 0) (pos (2 ^ bits (width_of ty) - 1)) n
 
 abbrev pub same_type : NcType → NcType → Bool
 same_type a b = code_of a == code_of b
@@ -86,7 +86,7 @@ dim_len_of v dims None = do
   Ok 0
 dim_len_of v dims (Some n) = do
   _ ← when (int_eq n (pos 0)) ZeroDimension
-  _ ← unless (between (pos 1) (pos (count_limit v - 1)) n) NumberRange
+  _ ← unless (int_within (pos 1) (pos (count_limit v - 1)) n) NumberRange
   Ok (unsigned_abs n)
 
 unfoldable pub add_dim : Version → List Dim → Dimension → Result (List Dim) CdlKind
@@ -104,13 +104,13 @@ is_word_of v word ty = has_type v ty && is_word (type_word ty) word
 unfoldable pub type_of : Version → Lexeme → Result NcType CdlKind
 type_of v word =
     if is_word (codes "float") word || is_word (codes "real") word || is_word (codes "double") word then Err FloatingType
-    else (if is_word (codes "long") word then Ok Int else found (find (is_word_of v word) all_types) UnknownType)
+    else (if is_word (codes "long") word then Ok Int else some_or (find (is_word_of v word) all_types) UnknownType)
 
 -- the ids, and after them the id of the named dimension. Only the first may be that of the record dimension.
 unfoldable pub add_dimid : List Dim → List ℕ → List ℕ → Result (List ℕ) CdlKind
 add_dimid dims ids name = do
   _ ← unless (is_name name) BadName
-  k ← found (position (λ (d : Dim). bytes_eq d.name name) dims) UnknownDimension
+  k ← some_or (position (λ (d : Dim). bytes_eq d.name name) dims) UnknownDimension
   _ ← when (nat_lt 0 (length ids) && is_record_dim dims k) BadShape
   Ok (ids ++ k ∷ [])
 

@@ -1,6 +1,6 @@
 -- A declaration, token by token.
 use Rattle.std.proofs.Common.{◌≡◌, ℕ, Bool, true, false, List, [], ◌∷◌, ◌++◌, length, drop, refl, sym, ap, ◌∙◌, subst, Option, None, Some, Result, Ok, Err, IfOk, ◌&&◌, ◌||◌, not, nat_lt, if◌then◌else◌}
-use Rattle.cdl_parse.proofs.Prelude.{false≢true, position, bytes_eq, is_name, is_record_dim, Dim, NcType, Version, Declaration, declaration_said, with_name, completes, is_whole, next, word_value, Lexeme, is_mark, is_mark_kind, Due, AfterVariable, VariableName, CdlKind, BadName, BadShape, DuplicateName, UnknownDimension, Draft, add_dimid, add_var, found, in_turn, type_of, unless, when, ContinuesRead, FailsRead, Leaves, ReadError, OutOfMemory, Fault, added, continued, declared, is_open_after, next_dimid, read_on, type_first, with_begun, ReadsDimension, draft, is_variable_name, with_new_draft, duplicate_name_or, PartialVariable}
+use Rattle.cdl_parse.proofs.Prelude.{false≢true, position, bytes_eq, is_name, is_record_dim, Dim, NcType, Version, Declaration, declaration_said, with_name, completes, is_whole, next, word_value, Lexeme, is_mark, is_mark_kind, Due, AfterVariable, VariableName, CdlKind, BadName, BadShape, DuplicateName, UnknownDimension, Draft, add_dimid, add_var, some_or, in_turn, type_of, unless, when, ContinuesRead, FailsRead, Leaves, ReadError, OutOfMemory, Fault, added, continued, declared, is_open_after, next_dimid, read_on, type_first, with_begun, ReadsDimension, draft, is_variable_name, with_new_draft, duplicate_name_or, PartialVariable}
 use Rattle.std.specs.Prelude.{⊤}
 use Rattle.cdl_statements.specs.code.DueTokens.{is_name as is_name_token}
 use Rattle.cdl_statements.proofs.VariableNames.{name_kind}
@@ -68,8 +68,8 @@ module _ (dims : List Dim) (ty : NcType) (drafts : List Draft) where
       last k false = refl
 
       by : (named : Bool) (at : Option ℕ) →
-          (unless named BadName >>= (λ u. found at UnknownDimension >>= (λ k. when (nat_lt 0 (length ids) && is_record_dim dims k) BadShape >>= (λ w. Ok (ids ++ k ∷ []))))) ≡
-          ((unless named BadName >>= (λ u. found at UnknownDimension >>= (λ k. when (nat_lt 0 (length ids) && is_record_dim dims k) BadShape >>= (λ w. Ok k)))) >>= (λ m. Ok (ids ++ m ∷ [])))
+          (unless named BadName >>= (λ u. some_or at UnknownDimension >>= (λ k. when (nat_lt 0 (length ids) && is_record_dim dims k) BadShape >>= (λ w. Ok (ids ++ k ∷ []))))) ≡
+          ((unless named BadName >>= (λ u. some_or at UnknownDimension >>= (λ k. when (nat_lt 0 (length ids) && is_record_dim dims k) BadShape >>= (λ w. Ok k)))) >>= (λ m. Ok (ids ++ m ∷ [])))
       by false at = refl
       by true None = refl
       by true (Some k) = last k (nat_lt 0 (length ids) && is_record_dim dims k)

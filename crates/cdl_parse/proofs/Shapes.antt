@@ -1,6 +1,6 @@
 -- The statements of the section of the variables keep the variables' shapes.
 use Rattle.std.proofs.Common.{◌≡◌, ℕ, suc, ◌<◌, Bool, true, false, List, [], ◌∷◌, ◌++◌, length, refl, sym, subst, append_assoc, append-nil, arith, Option, None, Some, Result, Ok, Err, IfOk, IfSome, ◌&&◌, nat_lt, if◌then◌else◌}
-use Rattle.cdl_parse.proofs.Prelude.{All-cons, All-nil, All-push, position, position_or_len, bytes_eq, AreDimids, IsDimid, is_name, is_record_dim, Att, Dim, NcType, Value, CdlKind, BadName, BadShape, DuplicateName, UnknownDimension, Draft, add_att, add_dimid, add_var, at_named, at_variable, found, in_turn, unless, when, with_att, AreShaped, draft, is_variable_name, none_before}
+use Rattle.cdl_parse.proofs.Prelude.{All-cons, All-nil, All-push, position, position_or_len, bytes_eq, AreDimids, IsDimid, is_name, is_record_dim, Att, Dim, NcType, Value, CdlKind, BadName, BadShape, DuplicateName, UnknownDimension, Draft, add_att, add_dimid, add_var, at_named, at_variable, some_or, in_turn, unless, when, with_att, AreShaped, draft, is_variable_name, none_before}
 use Rattle.std.specs.Prelude.{⊤}
 use Rattle.cdl_statements.specs.Shapes.{Variable}
 use Rattle.cdl_meaning.specs.State.{◌>>=◌}
@@ -19,7 +19,7 @@ ok_when : {B : Type 0} (Q : B → Type 0) (b : Bool) (e : CdlKind) (f : ⊤ → 
 ok_when Q true e f h = tt
 ok_when Q false e f h = h refl
 
-ok_found : {A B : Type 0} (P : A → Type 0) (Q : B → Type 0) (o : Option A) (e : CdlKind) (f : A → Result B CdlKind) → IfSome o P → ((a : A) → P a → IfOk (f a) Q) → IfOk (found o e >>= f) Q
+ok_found : {A B : Type 0} (P : A → Type 0) (Q : B → Type 0) (o : Option A) (e : CdlKind) (f : A → Result B CdlKind) → IfSome o P → ((a : A) → P a → IfOk (f a) Q) → IfOk (some_or o e >>= f) Q
 ok_found P Q None e f p g = tt
 ok_found P Q (Some a) e f p g = g a p
 
@@ -48,7 +48,7 @@ unfolding add_dimid
 id_step dims ids name are =
     let last : ℕ → Result (List ℕ) CdlKind = λ k. when (nat_lt 0 (length ids) && is_record_dim dims k) BadShape >>= (λ w. Ok (ids ++ k ∷ [])) in
     let p : Dim → Bool = λ d. bytes_eq d.name name in
-    ok_unless (AreDimids dims []) (is_name name) BadName (λ w. found (position p dims) UnknownDimension >>= last)
+    ok_unless (AreDimids dims []) (is_name name) BadName (λ w. some_or (position p dims) UnknownDimension >>= last)
     (ok_found (λ k. k < length dims) (AreDimids dims []) (position p dims) UnknownDimension last (position_under p dims) (λ k known.
     ok_when (AreDimids dims []) (nat_lt 0 (length ids) && is_record_dim dims k) BadShape (λ w. Ok (ids ++ k ∷ [])) (λ e.
     dimids_more dims [] ids k are (record { known = known; record_first = none_before ids (is_record_dim dims k) e }))))

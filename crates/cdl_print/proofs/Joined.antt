@@ -1,6 +1,6 @@
 -- Lists with a comma between each two: the numbers of an attribute, and the dimensions of a shape.
 use Rattle.std.proofs.Common.{◌≡◌, ℕ, ℤ, ◌-◌, ◌/◌, ◌<◌, ◌≤◌, ◌==◌, Bool, true, false, List, [], ◌∷◌, ◌++◌, length, take, drop, map, refl, sym, ap, ◌∙◌, arith, suc, if◌then◌else◌, codes, append_assoc, add-one, nat_lt}
-use Rattle.cdl_print.proofs.Prelude.{append-nil, length-drop, length-map, nat_tests, signed_decimal, NcType, Byte, Char, Short, Int, Ubyte, Ushort, Uint, Int64, Uint64, concat_parts, dim_name, joined, number_values, number_suffix, number_of, numbers, numbers_from, size_of, dim_text, div-eq-sub-div, div-eq_of_lt, some_size}
+use Rattle.cdl_print.proofs.Prelude.{append-nil, length-drop, length-map, nat_tests, signed_decimal, NcType, Byte, Char, Short, Int, Ubyte, Ushort, Uint, Int64, Uint64, concat_parts, dim_name, joined, numbers_text, number_suffix, number_of, numbers, numbers_from, size_of, dim_text, div-eq-sub-div, div-eq_of_lt, some_size}
 use Rattle.nc_base.specs.declared.header.Dim.{Dim}
 use Rattle.cdl_print.specs.code.Pieces.{number_text}
 
@@ -33,8 +33,8 @@ pub numbers-none : (ty : NcType) (bytes : List ℕ) → length bytes < size_of t
 unfolding numbers
 numbers-none ty bytes lt = rw (div-eq_of_lt lt) refl
 
-pub number_values-none : (ty : NcType) (bytes : List ℕ) → length bytes < size_of ty → number_values ty bytes ≡ []
-unfolding number_values
+pub number_values-none : (ty : NcType) (bytes : List ℕ) → length bytes < size_of ty → numbers_text ty bytes ≡ []
+unfolding numbers_text
 number_values-none ty bytes lt = rw (numbers-none ty bytes lt) refl
 
 -- whether there is none
@@ -54,8 +54,8 @@ regroup a b c d = simp (append_assoc, append-nil)
 texts : NcType → List ℤ → List (List ℕ)
 texts ty = map (λ (n : ℤ). signed_decimal n ++ number_suffix ty)
 
-number_values-cons : (ty : NcType) (bytes : List ℕ) (is_last : Bool) → size_of ty ≤ length bytes → nat_lt (length (drop (size_of ty) bytes)) (size_of ty) ≡ is_last → number_values ty bytes ≡ number_text ty (take (size_of ty) bytes) is_last ++ number_values ty (drop (size_of ty) bytes)
-unfolding number_values number_text concat_parts texts
+number_values-cons : (ty : NcType) (bytes : List ℕ) (is_last : Bool) → size_of ty ≤ length bytes → nat_lt (length (drop (size_of ty) bytes)) (size_of ty) ≡ is_last → numbers_text ty bytes ≡ number_text ty (take (size_of ty) bytes) is_last ++ numbers_text ty (drop (size_of ty) bytes)
+unfolding numbers_text number_text concat_parts texts
 number_values-cons ty bytes is_last le last =
     let n = number_of ty (take (size_of ty) bytes) in
     let others = numbers ty (drop (size_of ty) bytes) in
@@ -64,7 +64,7 @@ number_values-cons ty bytes is_last le last =
     ∙ joined-cons (signed_decimal n ++ number_suffix ty) (texts ty others) is_last (rw length-map none)
     ∙ regroup (signed_decimal n) (number_suffix ty) (following is_last) (joined (texts ty others))
 
-pub number_values-parts : (ty : NcType) (size : ℕ) (rest value others : List ℕ) (is_last : Bool) → size ≡ size_of ty → size ≤ length rest → value ≡ take size rest → others ≡ drop size rest → is_last ≡ nat_lt (length others) size → number_values ty rest ≡ number_text ty value is_last ++ number_values ty others
+pub number_values-parts : (ty : NcType) (size : ℕ) (rest value others : List ℕ) (is_last : Bool) → size ≡ size_of ty → size ≤ length rest → value ≡ take size rest → others ≡ drop size rest → is_last ≡ nat_lt (length others) size → numbers_text ty rest ≡ number_text ty value is_last ++ numbers_text ty others
 number_values-parts ty size rest value others is_last is le prefix back last =
     let long : size_of ty ≤ length rest = omega arith in
     let value_is : value ≡ take (size_of ty) rest = rw (← is) prefix in

@@ -16,13 +16,13 @@ pub use Rattle.nc_base.specs.Escapes.{begins_with_digit_or_mark, escaped_in_name
 pub use Rattle.nc_base.specs.code.Quoted.{is_literal, escaped_in, stands_for_itself}
 unfoldable pub use Rattle.nc_base.specs.Escapes.{escaped_name, escaped_text, is_reserved}
 pub use Rattle.nc_base.specs.HeadText.{broken_text, dim_name, joined}
-unfoldable pub use Rattle.nc_base.specs.HeadText.{att_line, att_lines, dim_line, dim_lines, number_values, string_break, var_lines}
+unfoldable pub use Rattle.nc_base.specs.HeadText.{att_line, att_lines, dim_line, dim_lines, numbers_text, string_break, var_lines}
 pub use Rattle.nc_base.specs.Numbers.{number_of, numbers_from}
 unfoldable pub use Rattle.nc_base.specs.Numbers.{numbers}
 pub use Rattle.nc_base.specs.Types.{number_suffix, size_of}
 pub use Rattle.nc_base.specs.ValueText.{Look, begins_row, char_lead, char_text, column, held, is_char, line_break, number_lead, number_text}
 pub use Rattle.nc_base.specs.code.LaterPieces.{later_pieces}
-unfoldable pub use Rattle.nc_base.specs.ValueText.{char_piece, look_of, number_piece, opening, piece, pieces, variable_prefix}
+unfoldable pub use Rattle.nc_base.specs.ValueText.{char_piece, look_of, number_piece, variable_opening, piece, pieces, variable_prefix}
 pub use Rattle.nc_base.specs.declared.nc_type.NcType.{NcType}
 pub use Rattle.nc_base.specs.declared.nc_type.NcType.TheVariants.{Byte, Char, Int, Int64, Short, Ubyte, Uint, Uint64, Ushort}
 pub use Rattle.std.proofs.Math.Nat.{div-eq-sub-div, div-eq_of_lt, div-mul-le_self, le_of_mul-le-mul_right, mul-div_cancel, mul-le-mul_right, zero-mod}

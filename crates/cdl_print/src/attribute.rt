@@ -2,7 +2,7 @@
 
 ghost use Rattle.std.specs.Prelude.{◌≡◌};
 ghost use Rattle.nc_base.specs.Escapes.{escaped_name};
-ghost use Rattle.nc_base.specs.HeadText.{att_line, att_lines, att_values, char_values, without_trailing_nuls};
+ghost use Rattle.nc_base.specs.HeadText.{att_line, att_lines, att_text, chars_text, without_trailing_nuls};
 ghost use Rattle.devices.specs.Sinks.{Wrote};
 ghost use Rattle.cdl_print.specs.code.Pieces.{att_prefix};
 
@@ -49,7 +49,7 @@ fn put_att_name<W: Sink>(sink: &mut W, owner: &[u8], name: &[u8]) -> Result<(), 
 
 /// Writes the values of an attribute: characters as strings, others as numbers joined by commas.
 fn put_values<W: Sink>(sink: &mut W, att: &Att) -> Result<(), WriteFailed>
-    ensures { Wrote W.view sink.old sink.new (att_values att.now.ty att.now.vals) result }
+    ensures { Wrote W.view sink.old sink.new (att_text att.now.ty att.now.vals) result }
 {
     match att.ty {
         NcType::Char => put_char_values(sink, att.vals.as_slice()),
@@ -59,9 +59,9 @@ fn put_values<W: Sink>(sink: &mut W, att: &Att) -> Result<(), WriteFailed>
 
 /// Writes the characters of an attribute as a string, without the NULs at their end. The string is closed and opened again after
 /// each line feed that isn't its last byte.
-#[tactic(auto, using(devices::proofs::Writes::writes), unfolding(nc_base::specs::HeadText::char_values))]
+#[tactic(auto, using(devices::proofs::Writes::writes), unfolding(nc_base::specs::HeadText::chars_text))]
 fn put_char_values<W: Sink>(sink: &mut W, vals: &[u8]) -> Result<(), WriteFailed>
-    ensures { Wrote W.view sink.old sink.new (char_values vals.now) result }
+    ensures { Wrote W.view sink.old sink.new (chars_text vals.now) result }
 {
     put(sink, b"\"")?;
     put_broken_text(sink, without_trailing_nuls(vals))?;

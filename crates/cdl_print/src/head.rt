@@ -2,7 +2,7 @@
 
 ghost use Rattle.std.specs.Prelude.{◌≡◌, [], ◌∷◌, codes, decimal};
 ghost use Rattle.nc_base.specs.Bytes.{concat_parts};
-ghost use Rattle.nc_base.specs.HeadText.{dim_extent, dim_line, dim_lines, dims_text, gatts_text, head_text};
+ghost use Rattle.nc_base.specs.HeadText.{dim_len_text, dim_line, dim_lines, dims_text, gatts_text, head_text};
 ghost use Rattle.devices.specs.Sinks.{Wrote};
 ghost use Rattle.cdl_print.specs.code.Pieces.{dims_part, gatts_part};
 
@@ -81,9 +81,9 @@ fn put_dim_line<W: Sink>(sink: &mut W, dim: &Dim, records: u64) -> Result<(), Wr
 
 /// Writes the length of a dimension and the end of its line. A `len` of 0 is that of the record dimension: for it, `UNLIMITED` and
 /// the number of records in a comment are written.
-#[tactic(auto, unfolding(nc_base::specs::HeadText::dim_extent))]
+#[tactic(auto, unfolding(nc_base::specs::HeadText::dim_len_text))]
 fn put_extent<W: Sink>(sink: &mut W, len: u64, records: u64) -> Result<(), WriteFailed>
-    ensures { Wrote W.view sink.old sink.new (dim_extent records len) result }
+    ensures { Wrote W.view sink.old sink.new (dim_len_text records len) result }
 {
     if len == 0 {
         put_records(sink, records)
@@ -93,9 +93,9 @@ fn put_extent<W: Sink>(sink: &mut W, len: u64, records: u64) -> Result<(), Write
 }
 
 /// Writes the length of the record dimension, which is `UNLIMITED`, and the number of records in a comment.
-#[tactic(auto, using(devices::proofs::Writes::writes), unfolding(nc_base::specs::HeadText::dim_extent))]
+#[tactic(auto, using(devices::proofs::Writes::writes), unfolding(nc_base::specs::HeadText::dim_len_text))]
 fn put_records<W: Sink>(sink: &mut W, records: u64) -> Result<(), WriteFailed>
-    ensures { Wrote W.view sink.old sink.new (dim_extent records 0) result }
+    ensures { Wrote W.view sink.old sink.new (dim_len_text records 0) result }
 {
     put(sink, Word::Unlimited.bytes())?;
     put_decimal(sink, records as u128)?;

@@ -4,7 +4,7 @@ ghost use Rattle.std.specs.Prelude.{◌≡◌, ◌+◌, ◌<◌, ◌≤◌, ◌&
 ghost use Rattle.std.specs.Ordering.{int_eq};
 ghost use Rattle.nc_base.specs.Headers.{IsSound};
 ghost use Rattle.nc_base.specs.Sizes.{is_record_var};
-ghost use Rattle.nc_base.specs.ValueText.{closing, is_char, is_trimmed, row_len};
+ghost use Rattle.nc_base.specs.ValueText.{variable_closing, is_char, is_trimmed, row_len};
 ghost use Rattle.cdl_print.specs.code.Leads.{IfVariable, IsLayoutOf, look_at, next_char_lead, next_gap, row_gap};
 
 use crate::gap::{Gap, gap_in_row};
@@ -94,9 +94,9 @@ impl Layout<'_> {
     }
 
     /// Returns what stands after the values.
-    #[tactic(auto, unfolding(nc_base::specs::ValueText::closing))]
+    #[tactic(auto, unfolding(nc_base::specs::ValueText::variable_closing))]
     pub fn closing(&self) -> &'static [u8]
-        ensures { result.now ≡ closing (look_at self.now) }
+        ensures { result.now ≡ variable_closing (look_at self.now) }
     {
         if self.is_char() { b"\" ;\n" } else { b" ;\n" }
     }

@@ -2,7 +2,7 @@
 
 ghost use Rattle.std.specs.Prelude.{◌≡◌, length};
 ghost use Rattle.std.specs.Fmt.{signed_decimal};
-ghost use Rattle.nc_base.specs.HeadText.{number_values};
+ghost use Rattle.nc_base.specs.HeadText.{numbers_text};
 ghost use Rattle.nc_base.specs.Numbers.{number_of};
 ghost use Rattle.nc_base.specs.Types.{size_of};
 ghost use Rattle.devices.specs.Sinks.{Wrote};
@@ -15,7 +15,7 @@ use nc_base::{NcType, number_of};
 /// Writes the numbers of an attribute, each with the suffix of its type, joined by commas. Bytes at the end that are no whole
 /// number are left out.
 pub fn put_numbers<W: Sink>(sink: &mut W, ty: NcType, vals: &[u8]) -> Result<(), WriteFailed>
-    ensures { Wrote W.view sink.old sink.new (number_values ty vals.now) result }
+    ensures { Wrote W.view sink.old sink.new (numbers_text ty vals.now) result }
 {
     let size = ty.size() as usize;
     let mut rest = vals;

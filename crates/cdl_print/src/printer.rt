@@ -2,7 +2,7 @@
 
 ghost use Rattle.std.specs.Prelude.{◌≡◌, ◌↔◌, ◌+◌, ◌<◌, ◌≤◌, [], true, false, length, IsErr, IsTrue, OnOk, OnErr};
 ghost use Rattle.nc_base.specs.Headers.{IsSound};
-ghost use Rattle.nc_base.specs.ValueText.{opening, closing};
+ghost use Rattle.nc_base.specs.ValueText.{variable_opening, variable_closing};
 ghost use Rattle.cdl_print.specs.code.Leads.{IfVariable};
 ghost use Rattle.cdl_print.specs.code.Printing.{next, AreLeft, IsAfterNext, WroteNext};
 ghost use Rattle.cdl_print.specs.code.Printer.{look_in, position_of, has_failed, HasPrinted, Takes, Prints, WrotePart};
@@ -55,9 +55,9 @@ impl<'a> ValuePrinter<'a> {
     /// # Errors
     ///
     /// The sink failed, and took some prefix of the text; or an earlier call failed, and nothing is written.
-    #[tactic(auto, unfolding(nc_base::specs::ValueText::opening))]
+    #[tactic(auto, unfolding(nc_base::specs::ValueText::variable_opening))]
     pub fn start<W: Sink>(&mut self, sink: &mut W) -> Result<(), WriteFailed>
-        ensures wrote { WrotePart self.old W.view sink.old sink.new opening result }
+        ensures wrote { WrotePart self.old W.view sink.old sink.new variable_opening result }
         ensures ok { OnOk result (self.new ≡ self.old) }
         ensures failed { OnErr result (has_failed self.new ≡ true) }
         ensures repeats { has_failed self.old ≡ true → IsErr result × (W.view sink.new ≡ W.view sink.old) }
@@ -118,7 +118,7 @@ impl<'a> ValuePrinter<'a> {
     ///
     /// The sink failed, and took some prefix of the text; or an earlier call failed, and nothing is written.
     pub fn finish<W: Sink>(&mut self, sink: &mut W) -> Result<(), WriteFailed>
-        ensures wrote { WrotePart self.old W.view sink.old sink.new closing result }
+        ensures wrote { WrotePart self.old W.view sink.old sink.new variable_closing result }
         ensures ok { OnOk result (self.new ≡ self.old) }
         ensures failed { OnErr result (has_failed self.new ≡ true) }
         ensures repeats { has_failed self.old ≡ true → IsErr result × (W.view sink.new ≡ W.view sink.old) }

@@ -1,6 +1,6 @@
 -- Declarations: the table of due tokens says whether one has its shape, and what it says stands in its tokens.
 use Rattle.std.proofs.Common.{◌≡◌, false, List, [], ◌∷◌, ◌++◌, refl, sym, ap, subst, ◌∙◌, Option, None, Some, if◌then◌else◌}
-use Rattle.cdl_statements.proofs.Prelude.{option_map, option_and_then, declaration_said, completes, Lexeme, is_mark, Variable, variable, each, given, before_mark, members}
+use Rattle.cdl_statements.proofs.Prelude.{option_map, option_and_then, declaration_said, completes, Lexeme, is_mark, Variable, variable, each, if_so, before_mark, members}
 use Rattle.cdl_statements.specs.declared.due.Due.TheVariants as dues
 use Rattle.cdl_statements.proofs.Options.{given_map, given_then}
 use Rattle.cdl_statements.proofs.VariableNames.{Claims, name_end, name_more, variable_end, variable_more}
@@ -22,7 +22,7 @@ last_of : (l : Lexeme) (ls : List Lexeme) → (xs : List Lexeme) × (s : Lexeme)
 last_of l [] = ([], l, refl)
 last_of l (m ∷ ls) = let r = last_of m ls in (l ∷ r.0, r.1, ap (λ ys. l ∷ ys) r.2)
 
-before_last : (xs : List Lexeme) (s : Lexeme) → before_mark 0x3b (xs ++ s ∷ []) ≡ given (is_mark 0x3b s) (Some xs)
+before_last : (xs : List Lexeme) (s : Lexeme) → before_mark 0x3b (xs ++ s ∷ []) ≡ if_so (is_mark 0x3b s) (Some xs)
 before_last [] s = refl
 before_last (x ∷ []) s = sym (given_map (λ zs. x ∷ zs) (is_mark 0x3b s) (Some []))
 before_last (x ∷ y ∷ ys) s = ap (option_map (λ zs. x ∷ zs)) (before_last (y ∷ ys) s) ∙ sym (given_map (λ zs. x ∷ zs) (is_mark 0x3b s) (Some (y ∷ ys)))

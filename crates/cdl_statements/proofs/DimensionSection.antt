@@ -1,6 +1,6 @@
 -- The table of due tokens says whether a piece has its shape, in the section of the dimensions.
 use Rattle.std.proofs.Common.{◌≡◌, Bool, true, false, List, [], ◌∷◌, refl, ap, ◌∙◌, Option, None, Some, if◌then◌else◌, is_some}
-use Rattle.cdl_statements.proofs.Prelude.{option_map, option_and_then, Version, dimensions_said, only, next, completes, is_name, opens_section_after, Lexeme, is_mark, name_of, Dimension, Statement, Declared, Brace, Attribute, first_bad, assigned, dimensions, given, before_mark, either, alone, section_mark, body, shape, global, Dimensions}
+use Rattle.cdl_statements.proofs.Prelude.{option_map, option_and_then, Version, dimensions_said, only, next, completes, is_name, opens_section_after, Lexeme, is_mark, name_of, Dimension, Statement, Declared, Brace, Attribute, first_bad, assigned, dimensions, if_so, before_mark, either, alone, section_mark, body, shape, global, Dimensions}
 use Rattle.cdl_statements.specs.declared.due.Due.TheVariants as dues
 use Rattle.cdl_statements.proofs.Dimensions.{listed_dims, dims_are}
 use Rattle.cdl_statements.proofs.Listing.{never_completes, only_completes, fine_on}
@@ -24,19 +24,19 @@ dims_no_name v l (e ∷ k ∷ c ∷ ys) h = rw (h) (rw (given_none {A = _} (is_m
 pub body_dims : (v : Version) (l : Lexeme) (ls : List Lexeme) → is_mark 0x3a l ≡ false → body_to v (l ∷ ls) ≡ dims_to v (l ∷ ls)
 body_dims v l [] off = by (is_mark 0x3b l)
   where
-    by : (s : Bool) → option_and_then (body v Dimensions) (given s (Some [])) ≡ option_map Declared (option_and_then (dimensions v) (given s (Some [])))
+    by : (s : Bool) → option_and_then (body v Dimensions) (if_so s (Some [])) ≡ option_map Declared (option_and_then (dimensions v) (if_so s (Some [])))
     by true = refl
     by false = refl
 body_dims v l (m ∷ ls) off = by (before_mark 0x3b (m ∷ ls))
   where
     by : (b : Option (List Lexeme)) → option_and_then (body v Dimensions) (option_map (λ xs. l ∷ xs) b) ≡ option_map Declared (option_and_then (dimensions v) (option_map (λ xs. l ∷ xs) b))
     by None = refl
-    by (Some ys) = ap (λ c. either (given c (assigned v false (Attribute None) ys)) (option_map Declared (dimensions v (l ∷ ys)))) off
+    by (Some ys) = ap (λ c. either (if_so c (assigned v false (Attribute None) ys)) (option_map Declared (dimensions v (l ∷ ys)))) off
 
 pub body_global : (v : Version) (l : Lexeme) (ls : List Lexeme) → name_of l ≡ None → body_to v (l ∷ ls) ≡ global_to v (l ∷ ls)
 body_global v l [] none = by (is_mark 0x3b l)
   where
-    by : (s : Bool) → option_and_then (body v Dimensions) (given s (Some [])) ≡ option_and_then (global v) (given s (Some []))
+    by : (s : Bool) → option_and_then (body v Dimensions) (if_so s (Some [])) ≡ option_and_then (global v) (if_so s (Some []))
     by true = refl
     by false = refl
 body_global v l (m ∷ ls) none = by (before_mark 0x3b (m ∷ ls))

@@ -1,6 +1,6 @@
 -- Lists of dimensions: the table of due tokens says whether one has its shape, and what it says stands in its tokens.
 use Rattle.std.proofs.Common.{◌≡◌, Bool, true, false, List, [], ◌∷◌, refl, sym, ap, ◌∙◌, Option, None, Some, if◌then◌else◌, ◌&&◌, ◌||◌, is_none}
-use Rattle.cdl_statements.proofs.Prelude.{option_map, option_and_then, Version, parts_or_zero, is_unlimited, length_said, dimensions_said, only, next, is_whole, completes, is_name, is_length, is_number, word_value, Lexeme, is_mark, Parts, Numeral, parts, number, numeral, Dimension, dimension, dimensions, length_of, numeral_of, token_fault, first_bad, both, given, before_mark, BadNumber, TokenKind}
+use Rattle.cdl_statements.proofs.Prelude.{option_map, option_and_then, Version, parts_or_zero, is_unlimited, length_said, dimensions_said, only, next, is_whole, completes, is_name, is_length, is_number, word_value, Lexeme, is_mark, Parts, Numeral, parts, number, numeral, Dimension, dimension, dimensions, length_of, numeral_of, token_fault, first_bad, both, if_so, before_mark, BadNumber, TokenKind}
 use Rattle.cdl_statements.specs.declared.due.Due.TheVariants as dues
 use Rattle.cdl_tokens.specs.declared.token.TokenKind.TheVariants as kinds
 use Rattle.cdl_statements.proofs.Listing.{fine, fine_on, combine, never_completes, nothing_more, no_members, apart}
@@ -31,7 +31,7 @@ length_is v l h = by (is_unlimited l)
 said : Version → Lexeme → Lexeme → Dimension
 said v n l = record { name = word_value n.bytes; len = length_said v l }
 
-three : {A B C : Type 0} (f : A → B → C) (a b e : Bool) (x : A) (y : B) → given e (both f (if a then Some x else None) (if b then Some y else None)) ≡ (if a && e && b then Some (f x y) else None)
+three : {A B C : Type 0} (f : A → B → C) (a b e : Bool) (x : A) (y : B) → if_so e (both f (if a then Some x else None) (if b then Some y else None)) ≡ (if a && e && b then Some (f x y) else None)
 three f true true true x y = refl
 three f true true false x y = refl
 three f true false true x y = refl
@@ -50,19 +50,19 @@ dimension_is v n e l h =
 abbrev pub listed_dims : Version → List Lexeme → Option (List Dimension)
 listed_dims v ls = option_and_then (dimensions v) (before_mark 0x3b ls)
 
-last : (v : Version) (n e l c : Lexeme) → listed_dims v (n ∷ e ∷ l ∷ c ∷ []) ≡ given (is_mark 0x3b c) (both (λ d ds. d ∷ ds) (dimension v n e l) (Some []))
+last : (v : Version) (n e l c : Lexeme) → listed_dims v (n ∷ e ∷ l ∷ c ∷ []) ≡ if_so (is_mark 0x3b c) (both (λ d ds. d ∷ ds) (dimension v n e l) (Some []))
 last v n e l c = by (is_mark 0x3b c)
   where
-    by : (s : Bool) → option_and_then (dimensions v) (option_map (λ xs. n ∷ xs) (option_map (λ xs. e ∷ xs) (option_map (λ xs. l ∷ xs) (given s (Some []))))) ≡ given s (both (λ d ds. d ∷ ds) (dimension v n e l) (Some []))
+    by : (s : Bool) → option_and_then (dimensions v) (option_map (λ xs. n ∷ xs) (option_map (λ xs. e ∷ xs) (option_map (λ xs. l ∷ xs) (if_so s (Some []))))) ≡ if_so s (both (λ d ds. d ∷ ds) (dimension v n e l) (Some []))
     by true = refl
     by false = refl
 
-more : (v : Version) (n e l c r : Lexeme) (rs : List Lexeme) → listed_dims v (n ∷ e ∷ l ∷ c ∷ r ∷ rs) ≡ given (is_mark 0x2c c) (both (λ d ds. d ∷ ds) (dimension v n e l) (listed_dims v (r ∷ rs)))
+more : (v : Version) (n e l c r : Lexeme) (rs : List Lexeme) → listed_dims v (n ∷ e ∷ l ∷ c ∷ r ∷ rs) ≡ if_so (is_mark 0x2c c) (both (λ d ds. d ∷ ds) (dimension v n e l) (listed_dims v (r ∷ rs)))
 more v n e l c r rs = by (before_mark 0x3b (r ∷ rs))
   where
     by : (b : Option (List Lexeme)) →
         option_and_then (dimensions v) (option_map (λ xs. n ∷ xs) (option_map (λ xs. e ∷ xs) (option_map (λ xs. l ∷ xs) (option_map (λ xs. c ∷ xs) b)))) ≡
-        given (is_mark 0x2c c) (both (λ d ds. d ∷ ds) (dimension v n e l) (option_and_then (dimensions v) b))
+        if_so (is_mark 0x2c c) (both (λ d ds. d ∷ ds) (dimension v n e l) (option_and_then (dimensions v) b))
     by None = no_members (λ d ds. d ∷ ds) (is_mark 0x2c c) (dimension v n e l)
     by (Some ys) = refl
 
@@ -121,21 +121,21 @@ none_short v ls off is = is ∙ rw (off) refl
 dims_one : (v : Version) (n : Lexeme) → listed_dims v (n ∷ []) ≡ None
 dims_one v n = by (is_mark 0x3b n)
   where
-    by : (s : Bool) → option_and_then (dimensions v) (given s (Some [])) ≡ None
+    by : (s : Bool) → option_and_then (dimensions v) (if_so s (Some [])) ≡ None
     by true = refl
     by false = refl
 
 dims_two : (v : Version) (n e : Lexeme) → listed_dims v (n ∷ e ∷ []) ≡ None
 dims_two v n e = by (is_mark 0x3b e)
   where
-    by : (s : Bool) → option_and_then (dimensions v) (option_map (λ xs. n ∷ xs) (given s (Some []))) ≡ None
+    by : (s : Bool) → option_and_then (dimensions v) (option_map (λ xs. n ∷ xs) (if_so s (Some []))) ≡ None
     by true = refl
     by false = refl
 
 dims_three : (v : Version) (n e l : Lexeme) → listed_dims v (n ∷ e ∷ l ∷ []) ≡ None
 dims_three v n e l = by (is_mark 0x3b l)
   where
-    by : (s : Bool) → option_and_then (dimensions v) (option_map (λ xs. n ∷ xs) (option_map (λ xs. e ∷ xs) (given s (Some [])))) ≡ None
+    by : (s : Bool) → option_and_then (dimensions v) (option_map (λ xs. n ∷ xs) (option_map (λ xs. e ∷ xs) (if_so s (Some [])))) ≡ None
     by true = refl
     by false = refl
 

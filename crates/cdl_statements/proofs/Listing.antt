@@ -1,6 +1,6 @@
 -- Lists of constants: the table of due tokens says whether one has its shape, and its values are those of its tokens.
 use Rattle.std.proofs.Common.{◌≡◌, ℕ, Bool, true, false, List, [], ◌∷◌, refl, sym, ap, ◌∙◌, arith, Option, None, Some, if◌then◌else◌, ◌&&◌, ◌==◌, is_none, slice_index}
-use Rattle.cdl_statements.proofs.Prelude.{option_map, option_and_then, Version, parts_or_zero, value_of, values, is_value_of, only, next, is_whole, completes, Lexeme, is_mark, is_mark_kind, Parts, parts, number, numeral, Value, Number, token_fault, either, first_bad, constant_of, constant, constants, both, given, before_mark, Due, CdlKind, BadNumber, TokenKind, and_false}
+use Rattle.cdl_statements.proofs.Prelude.{option_map, option_and_then, Version, parts_or_zero, value_of, values, is_value_of, only, next, is_whole, completes, Lexeme, is_mark, is_mark_kind, Parts, parts, number, numeral, Value, Number, token_fault, either, first_bad, constant_of, constant, constants, both, if_so, before_mark, Due, CdlKind, BadNumber, TokenKind, and_false}
 use Rattle.cdl_statements.specs.declared.due.Due.TheVariants as dues
 use Rattle.cdl_tokens.specs.declared.token.TokenKind.TheVariants as kinds
 
@@ -27,18 +27,18 @@ cons x xs = x ∷ xs
 
 pub combine : {A : Type 0} (i c f w : Bool) (x : Option A) (a : A) (r : Option (List A)) (vs all : List A) →
     x ≡ (if i then Some a else None) → r ≡ (if f then Some vs else None) → w ≡ (i && c && f) → (i ≡ true → c ≡ true → all ≡ a ∷ vs) →
-    given c (both (λ y ys. y ∷ ys) x r) ≡ (if w then Some all else None)
+    if_so c (both (λ y ys. y ∷ ys) x r) ≡ (if w then Some all else None)
 combine true true true w x a r vs all hx hr hw h = rw (hx) (rw (hr) (rw (hw) (rw (h refl refl) refl)))
 combine true true false w x a r vs all hx hr hw h = rw (hx) (rw (hr) (rw (hw) refl))
 combine true false f w x a r vs all hx hr hw h = rw (hw) refl
 combine false true f w x a r vs all hx hr hw h = rw (hx) (rw (hw) refl)
 combine false false f w x a r vs all hx hr hw h = rw (hw) refl
 
-pub given_is : {A : Type 0} (b : Bool) (a : A) → given b (Some a) ≡ (if b then Some a else None)
+pub given_is : {A : Type 0} (b : Bool) (a : A) → if_so b (Some a) ≡ (if b then Some a else None)
 given_is true a = refl
 given_is false a = refl
 
-pub no_members : {A B : Type 0} (f : A → List B → List B) (c : Bool) (x : Option A) → None ≡ given c (both f x None)
+pub no_members : {A B : Type 0} (f : A → List B → List B) (c : Bool) (x : Option A) → None ≡ if_so c (both f x None)
 no_members f true None = refl
 no_members f true (Some x) = refl
 no_members f false x = refl
@@ -114,17 +114,17 @@ past_mark v l ls h = rw (h) refl
 abbrev pub listed : Version → Bool → List Lexeme → Option (List Value)
 listed v takes_fill ls = option_and_then (constants v takes_fill) (before_mark 0x3b ls)
 
-listed_last : (v : Version) (takes_fill : Bool) (l m : Lexeme) → listed v takes_fill (l ∷ m ∷ []) ≡ given (is_mark 0x3b m) (both (λ x xs. x ∷ xs) (constant v takes_fill l) (Some []))
+listed_last : (v : Version) (takes_fill : Bool) (l m : Lexeme) → listed v takes_fill (l ∷ m ∷ []) ≡ if_so (is_mark 0x3b m) (both (λ x xs. x ∷ xs) (constant v takes_fill l) (Some []))
 listed_last v takes_fill l m = by (is_mark 0x3b m)
   where
-    by : (s : Bool) → option_and_then (constants v takes_fill) (option_map (λ xs. l ∷ xs) (given s (Some []))) ≡ given s (both (λ x xs. x ∷ xs) (constant v takes_fill l) (Some []))
+    by : (s : Bool) → option_and_then (constants v takes_fill) (option_map (λ xs. l ∷ xs) (if_so s (Some []))) ≡ if_so s (both (λ x xs. x ∷ xs) (constant v takes_fill l) (Some []))
     by true = refl
     by false = refl
 
-listed_more : (v : Version) (takes_fill : Bool) (l m r : Lexeme) (rs : List Lexeme) → listed v takes_fill (l ∷ m ∷ r ∷ rs) ≡ given (is_mark 0x2c m) (both (λ x xs. x ∷ xs) (constant v takes_fill l) (listed v takes_fill (r ∷ rs)))
+listed_more : (v : Version) (takes_fill : Bool) (l m r : Lexeme) (rs : List Lexeme) → listed v takes_fill (l ∷ m ∷ r ∷ rs) ≡ if_so (is_mark 0x2c m) (both (λ x xs. x ∷ xs) (constant v takes_fill l) (listed v takes_fill (r ∷ rs)))
 listed_more v takes_fill l m r rs = by (before_mark 0x3b (r ∷ rs))
   where
-    by : (b : Option (List Lexeme)) → option_and_then (constants v takes_fill) (option_map (λ xs. l ∷ xs) (option_map (λ xs. m ∷ xs) b)) ≡ given (is_mark 0x2c m) (both (λ x xs. x ∷ xs) (constant v takes_fill l) (option_and_then (constants v takes_fill) b))
+    by : (b : Option (List Lexeme)) → option_and_then (constants v takes_fill) (option_map (λ xs. l ∷ xs) (option_map (λ xs. m ∷ xs) b)) ≡ if_so (is_mark 0x2c m) (both (λ x xs. x ∷ xs) (constant v takes_fill l) (option_and_then (constants v takes_fill) b))
     by None = no_members (λ x xs. x ∷ xs) (is_mark 0x2c m) (constant v takes_fill l)
     by (Some ys) = refl
 
@@ -159,7 +159,7 @@ listed_lone : (v : Version) (takes_fill : Bool) (l : Lexeme) → listed v takes_
 unfolding completes next
 listed_lone v takes_fill l = by (is_mark 0x3b l) (is_value_of takes_fill l l.kind)
   where
-    by : (s i : Bool) → option_and_then (constants v takes_fill) (given s (Some [])) ≡ (if is_whole (only i (dues.Separator takes_fill)) then Some (values v (l ∷ [])) else None)
+    by : (s i : Bool) → option_and_then (constants v takes_fill) (if_so s (Some [])) ≡ (if is_whole (only i (dues.Separator takes_fill)) then Some (values v (l ∷ [])) else None)
     by true true = refl
     by true false = refl
     by false true = refl

@@ -1,12 +1,12 @@
 -- Options: joined, kept where something holds, and mapped.
 use Rattle.std.proofs.Common.{◌≡◌, Bool, true, false, refl, sym, ap, ◌∙◌, Option, None, Some, if◌then◌else◌, is_some}
-use Rattle.cdl_statements.proofs.Prelude.{option_map, option_and_then, both, either, given}
+use Rattle.cdl_statements.proofs.Prelude.{option_map, option_and_then, both, either, if_so}
 
 pub some_if : {A : Type 0} (b : Bool) (a : A) → is_some (if b then Some a else None) ≡ b
 some_if true a = refl
 some_if false a = refl
 
-pub given_none : {A : Type 0} (b : Bool) → given {A = A} b None ≡ None
+pub given_none : {A : Type 0} (b : Bool) → if_so {A = A} b None ≡ None
 given_none true = refl
 given_none false = refl
 
@@ -22,7 +22,7 @@ pub none_of : {A : Type 0} (o : Option A) → is_some o ≡ false → o ≡ None
 none_of None h = refl
 none_of (Some a) h = cc
 
-pub given_map : {A B : Type 0} (f : A → B) (b : Bool) (o : Option A) → given b (option_map f o) ≡ option_map f (given b o)
+pub given_map : {A B : Type 0} (f : A → B) (b : Bool) (o : Option A) → if_so b (option_map f o) ≡ option_map f (if_so b o)
 given_map f true o = refl
 given_map f false o = refl
 
@@ -41,6 +41,6 @@ pub same_if : {A : Type 0} (o : Option A) (w v : Bool) (a b : A) → o ≡ (if w
 same_if o true v a b ho hv hb = ho ∙ rw (hv) (ap Some (sym (hb refl)))
 same_if o false v a b ho hv hb = ho ∙ rw (hv) refl
 
-pub given_then : {A B : Type 0} (f : A → Option B) (b : Bool) (a : A) → option_and_then f (given b (Some a)) ≡ given b (f a)
+pub given_then : {A B : Type 0} (f : A → Option B) (b : Bool) (a : A) → option_and_then f (if_so b (Some a)) ≡ if_so b (f a)
 given_then f true a = refl
 given_then f false a = refl

@@ -1,6 +1,6 @@
 -- Declarations, token by token: the names of a variable's dimensions, in parentheses.
 use Rattle.std.proofs.Common.{◌≡◌, ℕ, Bool, true, false, List, [], ◌∷◌, ◌++◌, refl, sym, ap, ◌∙◌, Option, None, Some, if◌then◌else◌, ◌||◌, not}
-use Rattle.cdl_statements.proofs.Prelude.{option_map, option_and_then, Declaration, declaration_said, only, separator, next, is_whole, completes, is_name, word_value, Lexeme, is_mark, name_of, Variable, variable, each, both, given, before_mark, members, members_in, into_first, name_alone}
+use Rattle.cdl_statements.proofs.Prelude.{option_map, option_and_then, Declaration, declaration_said, only, separator, next, is_whole, completes, is_name, word_value, Lexeme, is_mark, name_of, Variable, variable, each, both, if_so, before_mark, members, members_in, into_first, name_alone}
 use Rattle.cdl_statements.specs.declared.due.Due.TheVariants as dues
 use Rattle.cdl_statements.proofs.Listing.{never_completes, kind_of_mark}
 use Rattle.cdl_statements.proofs.Options.{both_some, given_map, given_none, map_if, none_if, same_if}
@@ -24,7 +24,7 @@ not_alone d zs h = by (is_mark 0x2c d) refl
 pub not_referred : (d : Lexeme) (m : List Lexeme) → name_of d ≡ None → referred (d ∷ m) ≡ None
 not_referred d [] h = by (is_mark 0x29 d)
   where
-    by : (b : Bool) → option_and_then (λ inner. each name_alone (members inner)) (given b (Some [])) ≡ None
+    by : (b : Bool) → option_and_then (λ inner. each name_alone (members inner)) (if_so b (Some [])) ≡ None
     by true = refl
     by false = refl
 not_referred d (y ∷ ys) h = by (before_mark 0x29 (y ∷ ys)) (λ zs. not_alone d zs h)
@@ -44,7 +44,7 @@ not_reference d xs h = by (is_mark 0x2c d) refl
     by true on = ap inside (members_at true true (is_mark 0x28 d) (is_mark 0x29 d) d xs on refl refl) ∙ no_reference d (members_in (is_mark 0x28 d || not (is_mark 0x29 d)) xs) h
     by false off = ap inside (members_at true false (is_mark 0x28 d) (is_mark 0x29 d) d xs off refl refl) ∙ no_reference d (members_in (is_mark 0x28 d || not (is_mark 0x29 d)) xs) h
 
-pub reference_end : (s : Lexeme) → given (is_mark 0x3b s) (inside (members_in true [])) ≡ if_whole dues.VariableDimension (s ∷ []) (declaration_said true (s ∷ []))
+pub reference_end : (s : Lexeme) → if_so (is_mark 0x3b s) (inside (members_in true [])) ≡ if_whole dues.VariableDimension (s ∷ []) (declaration_said true (s ∷ []))
 unfolding completes next
 reference_end s = given_none (is_mark 0x3b s) ∙ by (is_name s)
   where
@@ -53,16 +53,16 @@ reference_end s = given_none (is_mark 0x3b s) ∙ by (is_name s)
     by false = refl
 
 pub reference_more : (s d : Lexeme) (xs : List Lexeme) → Claims s xs →
-    given (is_mark 0x3b s) (inside (members_in true (d ∷ xs))) ≡ if_whole dues.VariableDimension (d ∷ xs ++ s ∷ []) (declaration_said true (d ∷ xs ++ s ∷ []))
+    if_so (is_mark 0x3b s) (inside (members_in true (d ∷ xs))) ≡ if_whole dues.VariableDimension (d ∷ xs ++ s ∷ []) (declaration_said true (d ∷ xs ++ s ∷ []))
 unfolding completes next
 reference_more s d xs k = by (is_name d) refl
   where
     by : (w : Bool) → is_name d ≡ w →
-        given (is_mark 0x3b s) (inside (members_in true (d ∷ xs))) ≡ (if completes (only w dues.AfterVariableDimension) (xs ++ s ∷ []) then Some (declaration_said true (d ∷ xs ++ s ∷ [])) else None)
+        if_so (is_mark 0x3b s) (inside (members_in true (d ∷ xs))) ≡ (if completes (only w dues.AfterVariableDimension) (xs ++ s ∷ []) then Some (declaration_said true (d ∷ xs ++ s ∷ [])) else None)
     by true on =
-        ap (λ ms. given (is_mark 0x3b s) (inside ms)) (members_at true false false false d xs (name_mark 0x2c d on) (name_mark 0x28 d on) (name_mark 0x29 d on)) ∙
+        ap (λ ms. if_so (is_mark 0x3b s) (inside ms)) (members_at true false false false d xs (name_mark 0x2c d on) (name_mark 0x28 d on) (name_mark 0x29 d on)) ∙
         k.after_reference d on ∙ ap (λ r. if_whole dues.AfterVariableDimension (xs ++ s ∷ []) r) (sym (said_name true d (xs ++ s ∷ []) on))
-    by false off = none_if _ _ _ (ap (given (is_mark 0x3b s)) (not_reference d xs (nameless d off)) ∙ given_none (is_mark 0x3b s)) (never_completes (xs ++ s ∷ []))
+    by false off = none_if _ _ _ (ap (if_so (is_mark 0x3b s)) (not_reference d xs (nameless d off)) ∙ given_none (is_mark 0x3b s)) (never_completes (xs ++ s ∷ []))
 
 -- ---- after a dimension's name
 
@@ -120,10 +120,10 @@ next_refers d t (m ∷ ms) on comma = ap (λ o. both (λ ds vs. record { dimensi
     by (Some ds) None = refl
     by (Some ds) (Some vs) = refl
 
-pub referred_end : (s d : Lexeme) → is_name d ≡ true → given (is_mark 0x3b s) (inside (into_first d (members_in true []))) ≡ if_whole dues.AfterVariableDimension (s ∷ []) (refer d (declaration_said true (s ∷ [])))
+pub referred_end : (s d : Lexeme) → is_name d ≡ true → if_so (is_mark 0x3b s) (inside (into_first d (members_in true []))) ≡ if_whole dues.AfterVariableDimension (s ∷ []) (refer d (declaration_said true (s ∷ [])))
 unfolding completes next
 referred_end s d on =
-    ap (λ b. given (is_mark 0x3b s) (both (λ ds vs. record { dimensions = ds; variables = vs }) (option_and_then (λ inner. each name_alone (members inner)) (given b (Some []))) (Some []))) (name_mark 0x29 d on) ∙
+    ap (λ b. if_so (is_mark 0x3b s) (both (λ ds vs. record { dimensions = ds; variables = vs }) (option_and_then (λ inner. each name_alone (members inner)) (if_so b (Some []))) (Some []))) (name_mark 0x29 d on) ∙
     given_none (is_mark 0x3b s) ∙ by (is_mark 0x2c s) (is_mark 0x29 s)
   where
     by : (a c : Bool) → None ≡ (if is_whole (if a then dues.VariableDimension else only c dues.AfterShape) then Some (refer d (declaration_said true (s ∷ []))) else None)
@@ -132,42 +132,42 @@ referred_end s d on =
     by false false = refl
 
 pub referred_on : (s d t : Lexeme) (xs : List Lexeme) → is_name d ≡ true → Claims s xs →
-    given (is_mark 0x3b s) (inside (into_first d (members_in true (t ∷ xs)))) ≡ if_whole dues.AfterVariableDimension (t ∷ xs ++ s ∷ []) (refer d (declaration_said true (t ∷ xs ++ s ∷ [])))
+    if_so (is_mark 0x3b s) (inside (into_first d (members_in true (t ∷ xs)))) ≡ if_whole dues.AfterVariableDimension (t ∷ xs ++ s ∷ []) (refer d (declaration_said true (t ∷ xs ++ s ∷ [])))
 unfolding completes next
 referred_on s d t xs on k = by (is_mark 0x2c t) (is_mark 0x29 t) refl refl
   where
     by : (a c : Bool) → is_mark 0x2c t ≡ a → is_mark 0x29 t ≡ c →
-        given (is_mark 0x3b s) (inside (into_first d (members_in true (t ∷ xs)))) ≡
+        if_so (is_mark 0x3b s) (inside (into_first d (members_in true (t ∷ xs)))) ≡
         (if completes (if a then dues.VariableDimension else only c dues.AfterShape) (xs ++ s ∷ []) then Some (refer d (declaration_said true (t ∷ xs ++ s ∷ []))) else None)
     by true c ha hc =
         let opening = one_mark 0x2c 0x28 t refl ha in
         let closing = one_mark 0x2c 0x29 t refl ha in
-        ap (λ ms. given (is_mark 0x3b s) (inside (into_first d ms))) (members_at true true false false t xs ha opening closing) ∙
-        ap (given (is_mark 0x3b s)) (next_refers d t (members_in true xs) on ha) ∙ given_map (refer d) (is_mark 0x3b s) (inside (members_in true xs)) ∙
-        map_if (refer d) (given (is_mark 0x3b s) (inside (members_in true xs))) (completes dues.VariableDimension (xs ++ s ∷ [])) (declaration_said true (xs ++ s ∷ [])) k.at_reference ∙
+        ap (λ ms. if_so (is_mark 0x3b s) (inside (into_first d ms))) (members_at true true false false t xs ha opening closing) ∙
+        ap (if_so (is_mark 0x3b s)) (next_refers d t (members_in true xs) on ha) ∙ given_map (refer d) (is_mark 0x3b s) (inside (members_in true xs)) ∙
+        map_if (refer d) (if_so (is_mark 0x3b s) (inside (members_in true xs))) (completes dues.VariableDimension (xs ++ s ∷ [])) (declaration_said true (xs ++ s ∷ [])) k.at_reference ∙
         ap (λ r. if_whole dues.VariableDimension (xs ++ s ∷ []) (refer d r)) (sym (said_mark true false false t (xs ++ s ∷ []) (kind_of_mark 0x2c t ha) opening closing))
     by false true ha hc =
         let opening = one_mark 0x29 0x28 t refl hc in
-        ap (λ ms. given (is_mark 0x3b s) (inside (into_first d ms))) (members_at true false false true t xs ha opening hc) ∙ k.after_shape d t on hc ∙
+        ap (λ ms. if_so (is_mark 0x3b s) (inside (into_first d ms))) (members_at true false false true t xs ha opening hc) ∙ k.after_shape d t on hc ∙
         ap (λ r. if_whole dues.AfterShape (xs ++ s ∷ []) (refer d r)) (sym (said_mark true false true t (xs ++ s ∷ []) (kind_of_mark 0x29 t hc) opening hc))
     by false false ha hc =
         none_if _ _ _
-        (ap (λ ms. given (is_mark 0x3b s) (inside (into_first d ms))) (members_at true false (is_mark 0x28 t) false t xs ha refl hc) ∙
-        ap (given (is_mark 0x3b s)) (no_next d t (members_in (is_mark 0x28 t || true) xs) on ha hc) ∙ given_none (is_mark 0x3b s))
+        (ap (λ ms. if_so (is_mark 0x3b s) (inside (into_first d ms))) (members_at true false (is_mark 0x28 t) false t xs ha refl hc) ∙
+        ap (if_so (is_mark 0x3b s)) (no_next d t (members_in (is_mark 0x28 t || true) xs) on ha hc) ∙ given_none (is_mark 0x3b s))
         (never_completes (xs ++ s ∷ []))
 
 -- ---- after the closing parenthesis
 
 pub closed : (d e : Lexeme) → is_name d ≡ true → is_mark 0x29 e ≡ true → referred (d ∷ e ∷ []) ≡ Some (word_value d.bytes ∷ [])
 closed d e on closing =
-    ap (λ b. option_and_then (λ inner. each name_alone (members inner)) (option_map (λ zs. d ∷ zs) (given b (Some [])))) closing ∙
+    ap (λ b. option_and_then (λ inner. each name_alone (members inner)) (option_map (λ zs. d ∷ zs) (if_so b (Some [])))) closing ∙
     ap (each name_alone) (members_at false false false false d [] (name_mark 0x2c d on) (name_mark 0x28 d on) (name_mark 0x29 d on)) ∙ rw (named d on) refl
 
 pub shape_end : (s d e : Lexeme) → is_name d ≡ true → is_mark 0x29 e ≡ true →
-    given (is_mark 0x3b s) (inside (into_first d (into_first e (members [])))) ≡ if_whole dues.AfterShape (s ∷ []) (refer d (declaration_said false (s ∷ [])))
+    if_so (is_mark 0x3b s) (inside (into_first d (into_first e (members [])))) ≡ if_whole dues.AfterShape (s ∷ []) (refer d (declaration_said false (s ∷ [])))
 unfolding completes next
 shape_end s d e on closing =
-    ap (λ o. given (is_mark 0x3b s) (both (λ ds vs. record { dimensions = ds; variables = vs }) o (Some []))) (closed d e on closing) ∙
+    ap (λ o. if_so (is_mark 0x3b s) (both (λ ds vs. record { dimensions = ds; variables = vs }) o (Some []))) (closed d e on closing) ∙
     given_whole (is_whole (separator dues.VariableName s)) (is_mark 0x3b s) (record { dimensions = word_value d.bytes ∷ []; variables = [] }) (refer d (declaration_said false (s ∷ []))) (separator_whole dues.VariableName s refl) (λ h. ap (refer d) (ends_said s h))
 
 pub no_more_shape : (d e c : Lexeme) (ms : List (List Lexeme)) → is_name d ≡ true → is_mark 0x2c e ≡ false → inside (into_first d (into_first e (into_first c ms))) ≡ None
@@ -175,27 +175,27 @@ no_more_shape d e c [] on off = ap (λ o. both (λ ds vs. record { dimensions = 
 no_more_shape d e c (m ∷ ms) on off = ap (λ o. both (λ ds vs. record { dimensions = ds; variables = vs }) o (each variable ms)) (referred_long d e c m on off)
 
 pub shape_on : (s d e c : Lexeme) (xs : List Lexeme) → is_name d ≡ true → is_mark 0x29 e ≡ true → Claims s xs →
-    given (is_mark 0x3b s) (inside (into_first d (into_first e (members (c ∷ xs))))) ≡ if_whole dues.AfterShape (c ∷ xs ++ s ∷ []) (refer d (declaration_said false (c ∷ xs ++ s ∷ [])))
+    if_so (is_mark 0x3b s) (inside (into_first d (into_first e (members (c ∷ xs))))) ≡ if_whole dues.AfterShape (c ∷ xs ++ s ∷ []) (refer d (declaration_said false (c ∷ xs ++ s ∷ [])))
 unfolding completes next
 shape_on s d e c xs on closing k = by (is_mark 0x2c c) refl
   where
     by : (a : Bool) → is_mark 0x2c c ≡ a →
-        given (is_mark 0x3b s) (inside (into_first d (into_first e (members (c ∷ xs))))) ≡
+        if_so (is_mark 0x3b s) (inside (into_first d (into_first e (members (c ∷ xs))))) ≡
         (if completes (if a then dues.VariableName else only (is_mark 0x3b c) dues.Nothing) (xs ++ s ∷ []) then Some (refer d (declaration_said false (c ∷ xs ++ s ∷ []))) else None)
     by true ha =
         let opening = one_mark 0x2c 0x28 c refl ha in
         let rest = declaration_said false (xs ++ s ∷ []) in
         let alone : List Variable → Declaration = λ vs. record { dimensions = word_value d.bytes ∷ []; variables = vs } in
-        same_if (given (is_mark 0x3b s) (inside (into_first d (into_first e (members (c ∷ xs)))))) (completes dues.VariableName (xs ++ s ∷ [])) (completes dues.VariableName (xs ++ s ∷ [])) (alone rest.variables) (refer d (declaration_said false (c ∷ xs ++ s ∷ [])))
-        (ap (λ ms. given (is_mark 0x3b s) (inside (into_first d (into_first e ms)))) (members_at false true false (is_mark 0x29 c) c xs ha opening refl) ∙
-        ap (λ o. given (is_mark 0x3b s) (both (λ ds vs. record { dimensions = ds; variables = vs }) o (each variable (members xs)))) (closed d e on closing) ∙
-        ap (given (is_mark 0x3b s)) (both_some (λ (ds : List (List ℕ)) (vs : List Variable). record { dimensions = ds; variables = vs }) (word_value d.bytes ∷ []) (each variable (members xs))) ∙
+        same_if (if_so (is_mark 0x3b s) (inside (into_first d (into_first e (members (c ∷ xs)))))) (completes dues.VariableName (xs ++ s ∷ [])) (completes dues.VariableName (xs ++ s ∷ [])) (alone rest.variables) (refer d (declaration_said false (c ∷ xs ++ s ∷ [])))
+        (ap (λ ms. if_so (is_mark 0x3b s) (inside (into_first d (into_first e ms)))) (members_at false true false (is_mark 0x29 c) c xs ha opening refl) ∙
+        ap (λ o. if_so (is_mark 0x3b s) (both (λ ds vs. record { dimensions = ds; variables = vs }) o (each variable (members xs)))) (closed d e on closing) ∙
+        ap (if_so (is_mark 0x3b s)) (both_some (λ (ds : List (List ℕ)) (vs : List Variable). record { dimensions = ds; variables = vs }) (word_value d.bytes ∷ []) (each variable (members xs))) ∙
         given_map alone (is_mark 0x3b s) (each variable (members xs)) ∙
-        map_if alone (given (is_mark 0x3b s) (each variable (members xs))) (completes dues.VariableName (xs ++ s ∷ [])) rest.variables k.at_name)
+        map_if alone (if_so (is_mark 0x3b s) (each variable (members xs))) (completes dues.VariableName (xs ++ s ∷ [])) rest.variables k.at_name)
         refl
         (λ h. ap (refer d) (said_mark false false (is_mark 0x29 c) c (xs ++ s ∷ []) (kind_of_mark 0x2c c ha) opening refl) ∙ ap (λ ds. record { dimensions = word_value d.bytes ∷ ds; variables = rest.variables }) (no_dimensions (xs ++ s ∷ []) h))
     by false ha =
         none_if _ _ _
-        (ap (λ ms. given (is_mark 0x3b s) (inside (into_first d (into_first e ms)))) (members_at false false (is_mark 0x28 c) (is_mark 0x29 c) c xs ha refl refl) ∙
-        ap (given (is_mark 0x3b s)) (no_more_shape d e c (members_in (is_mark 0x28 c || false) xs) on (one_mark 0x29 0x2c e refl closing)) ∙ given_none (is_mark 0x3b s))
+        (ap (λ ms. if_so (is_mark 0x3b s) (inside (into_first d (into_first e ms)))) (members_at false false (is_mark 0x28 c) (is_mark 0x29 c) c xs ha refl refl) ∙
+        ap (if_so (is_mark 0x3b s)) (no_more_shape d e c (members_in (is_mark 0x28 c || false) xs) on (one_mark 0x29 0x2c e refl closing)) ∙ given_none (is_mark 0x3b s))
         (nothing_after (is_mark 0x3b c) xs s)

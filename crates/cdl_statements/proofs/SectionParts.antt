@@ -1,6 +1,6 @@
 -- What statements of several sections share: a lone mark, a section mark, an attribute of the dataset.
 use Rattle.std.proofs.Common.{◌≡◌, ℕ, Bool, true, false, List, [], ◌∷◌, drop, refl, sym, ap, ◌∙◌, subst, arith, Option, None, Some, if◌then◌else◌, ◌&&◌, ◌==◌, not, is_some, slice_index, codes, nat_lt}
-use Rattle.cdl_statements.proofs.Prelude.{option_map, option_and_then, is_reserved, Version, values, only, next, is_whole, completes, is_name, opens_section_after, is_after, word_value, Lexeme, is_mark, is_mark_kind, is_word_kind, name_of, Statement, Mark, Brace, Attribute, first_bad, assigned, given, before_mark, alone, section_mark, section_of, section_number, mark_after, global, Section, Dimensions, Variables, Values}
+use Rattle.cdl_statements.proofs.Prelude.{option_map, option_and_then, is_reserved, Version, values, only, next, is_whole, completes, is_name, opens_section_after, is_after, word_value, Lexeme, is_mark, is_mark_kind, is_word_kind, name_of, Statement, Mark, Brace, Attribute, first_bad, assigned, if_so, before_mark, alone, section_mark, section_of, section_number, mark_after, global, Section, Dimensions, Variables, Values}
 use Rattle.std.specs.Str.{bytes_eq}
 use Rattle.std.specs.Cmp.Lexicographic.{bytes_decides}
 use Rattle.cdl_statements.specs.declared.due.Due.TheVariants as dues
@@ -12,7 +12,7 @@ pub alone_completes : {A : Type 0} (test : Lexeme → Bool) (a : A) (l : Lexeme)
 unfolding completes
 alone_completes test a l [] = by (test l)
   where
-    by : (b : Bool) → is_some (given b (Some a)) ≡ is_whole (only b dues.Nothing)
+    by : (b : Bool) → is_some (if_so b (Some a)) ≡ is_whole (only b dues.Nothing)
     by true = refl
     by false = refl
 alone_completes test a l (m ∷ ls) = sym (by (test l))
@@ -30,13 +30,13 @@ mark_completes section l [] = by (opens_section_after section l)
     by false = refl
 mark_completes section l (c ∷ []) = by (section_of l)
   where
-    by_two : (s : Section) (c t : Bool) → is_some (given c (given t (Some (Mark s)))) ≡ is_whole (if t then only c dues.Nothing else dues.Never)
+    by_two : (s : Section) (c t : Bool) → is_some (if_so c (if_so t (Some (Mark s)))) ≡ is_whole (if t then only c dues.Nothing else dues.Never)
     by_two s true true = refl
     by_two s true false = refl
     by_two s false true = refl
     by_two s false false = refl
 
-    none : (c : Bool) → is_some (given {A = Statement} c None) ≡ false
+    none : (c : Bool) → is_some (if_so {A = Statement} c None) ≡ false
     none true = refl
     none false = refl
 
@@ -44,7 +44,7 @@ mark_completes section l (c ∷ []) = by (section_of l)
     pushed true = refl
     pushed false = refl
 
-    by : (o : Option Section) → is_some (given (is_mark 0x3a c) (option_and_then (mark_after section) o)) ≡ is_whole (next (only (is_after section o) dues.Colon) c)
+    by : (o : Option Section) → is_some (if_so (is_mark 0x3a c) (option_and_then (mark_after section) o)) ≡ is_whole (next (only (is_after section o) dues.Colon) c)
     by None = none (is_mark 0x3a c)
     by (Some s) = by_two s (is_mark 0x3a c) (nat_lt (section_number section) (section_number s)) ∙ ap is_whole (sym (pushed (nat_lt (section_number section) (section_number s))))
 mark_completes section l (c ∷ d ∷ ls) = sym (by (opens_section_after section l) (is_mark 0x3a c))
@@ -65,14 +65,14 @@ global_to v ls = option_and_then (global v) (before_mark 0x3b ls)
 pub global_lone : (v : Version) (l : Lexeme) → global_to v (l ∷ []) ≡ None
 global_lone v l = by (is_mark 0x3b l)
   where
-    by : (s : Bool) → option_and_then (global v) (given s (Some [])) ≡ None
+    by : (s : Bool) → option_and_then (global v) (if_so s (Some [])) ≡ None
     by true = refl
     by false = refl
 
-pub global_more : (v : Version) (l m : Lexeme) (ls : List Lexeme) → global_to v (l ∷ m ∷ ls) ≡ given (is_mark 0x3a l) (assigned_to v false (Attribute None) (m ∷ ls))
+pub global_more : (v : Version) (l m : Lexeme) (ls : List Lexeme) → global_to v (l ∷ m ∷ ls) ≡ if_so (is_mark 0x3a l) (assigned_to v false (Attribute None) (m ∷ ls))
 global_more v l m ls = by (before_mark 0x3b (m ∷ ls))
   where
-    by : (b : Option (List Lexeme)) → option_and_then (global v) (option_map (λ xs. l ∷ xs) b) ≡ given (is_mark 0x3a l) (option_and_then (assigned v false (Attribute None)) b)
+    by : (b : Option (List Lexeme)) → option_and_then (global v) (option_map (λ xs. l ∷ xs) b) ≡ if_so (is_mark 0x3a l) (option_and_then (assigned v false (Attribute None)) b)
     by None = sym (given_none (is_mark 0x3a l))
     by (Some ys) = refl
 
@@ -84,7 +84,7 @@ pub global_completes : (v : Version) (l : Lexeme) (ls : List Lexeme) → first_b
 unfolding completes next
 global_completes v l [] good on = ap is_some (global_lone v l)
 global_completes v l (m ∷ ls) good on =
-    ap is_some (global_more v l m ls ∙ ap (λ b. given b (assigned_to v false (Attribute None) (m ∷ ls))) on ∙ assigned_is v false (Attribute None) m ls (fine_on v m ls good)) ∙
+    ap is_some (global_more v l m ls ∙ ap (λ b. if_so b (assigned_to v false (Attribute None) (m ∷ ls))) on ∙ assigned_is v false (Attribute None) m ls (fine_on v m ls good)) ∙
     some_if (is_name m && completes (dues.Equals false) ls) (Attribute None (word_value m.bytes) (values v (drop 1 ls))) ∙ sym (only_completes (is_name m) (dues.Equals false) ls)
 
 -- no byte is two marks

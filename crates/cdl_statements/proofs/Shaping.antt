@@ -1,6 +1,6 @@
 -- Statements: the table of due tokens says whether one has its shape, and what it says stands in its tokens.
 use Rattle.std.proofs.Common.{◌≡◌, ℕ, Bool, true, false, List, [], ◌∷◌, drop, refl, sym, ap, ◌∙◌, Option, None, Some, if◌then◌else◌, ◌&&◌, codes}
-use Rattle.cdl_statements.proofs.Prelude.{option_map, option_and_then, Version, values, only, next, completes, is_name, word_value, Lexeme, is_mark, is_mark_kind, is_word, is_word_kind, name_of, Value, Statement, Listed, Brace, first_bad, assigned, constants, both, given, before_mark, either, alone, section_mark, section_of, mark_after, shape, Section, Dimensions, Variables, Values, TokenKind, and_false}
+use Rattle.cdl_statements.proofs.Prelude.{option_map, option_and_then, Version, values, only, next, completes, is_name, word_value, Lexeme, is_mark, is_mark_kind, is_word, is_word_kind, name_of, Value, Statement, Listed, Brace, first_bad, assigned, constants, both, if_so, before_mark, either, alone, section_mark, section_of, mark_after, shape, Section, Dimensions, Variables, Values, TokenKind, and_false}
 use Rattle.cdl_statements.specs.declared.due.Due.TheVariants as dues
 use Rattle.cdl_tokens.specs.declared.token.TokenKind.TheVariants as kinds
 use Rattle.cdl_statements.proofs.Options.{either_none, given_none}
@@ -11,7 +11,7 @@ unfolding name_of
 name_is n = refl
 
 pub pair : {A B C : Type 0} (f : A → B → C) (i c w : Bool) (x : Option A) (a : A) (r : Option B) (b : B) →
-    x ≡ (if i then Some a else None) → r ≡ (if w then Some b else None) → given c (both f x r) ≡ (if i && (c && w) then Some (f a b) else None)
+    x ≡ (if i then Some a else None) → r ≡ (if w then Some b else None) → if_so c (both f x r) ≡ (if i && (c && w) then Some (f a b) else None)
 pair f true true true x a r b hx hr = rw (hx) (rw (hr) refl)
 pair f true true false x a r b hx hr = rw (hx) (rw (hr) refl)
 pair f true false w x a r b hx hr = refl
@@ -25,27 +25,27 @@ assigned_to v takes_fill f ls = option_and_then (assigned v takes_fill f) (befor
 assigned_lone : {A : Type 0} (v : Version) (takes_fill : Bool) (f : List ℕ → List Value → A) (n : Lexeme) → assigned_to v takes_fill f (n ∷ []) ≡ None
 assigned_lone v takes_fill f n = by (is_mark 0x3b n)
   where
-    by : (s : Bool) → option_and_then (assigned v takes_fill f) (given s (Some [])) ≡ None
+    by : (s : Bool) → option_and_then (assigned v takes_fill f) (if_so s (Some [])) ≡ None
     by true = refl
     by false = refl
 
 assigned_two : {A : Type 0} (v : Version) (takes_fill : Bool) (f : List ℕ → List Value → A) (n e : Lexeme) → assigned_to v takes_fill f (n ∷ e ∷ []) ≡ None
 assigned_two v takes_fill f n e = by (is_mark 0x3b e)
   where
-    by : (s : Bool) → option_and_then (assigned v takes_fill f) (option_map (λ xs. n ∷ xs) (given s (Some []))) ≡ None
+    by : (s : Bool) → option_and_then (assigned v takes_fill f) (option_map (λ xs. n ∷ xs) (if_so s (Some []))) ≡ None
     by true = refl
     by false = refl
 
 assigned_more : {A : Type 0} (v : Version) (takes_fill : Bool) (f : List ℕ → List Value → A) (n e r : Lexeme) (rs : List Lexeme) →
-    assigned_to v takes_fill f (n ∷ e ∷ r ∷ rs) ≡ given (is_mark 0x3d e) (both f (name_of n) (listed v takes_fill (r ∷ rs)))
+    assigned_to v takes_fill f (n ∷ e ∷ r ∷ rs) ≡ if_so (is_mark 0x3d e) (both f (name_of n) (listed v takes_fill (r ∷ rs)))
 assigned_more v takes_fill f n e r rs = by (before_mark 0x3b (r ∷ rs))
   where
-    none : (c : Bool) (x : Option (List ℕ)) → None ≡ given c (both f x None)
+    none : (c : Bool) (x : Option (List ℕ)) → None ≡ if_so c (both f x None)
     none true None = refl
     none true (Some x) = refl
     none false x = refl
 
-    by : (b : Option (List Lexeme)) → option_and_then (assigned v takes_fill f) (option_map (λ xs. n ∷ xs) (option_map (λ xs. e ∷ xs) b)) ≡ given (is_mark 0x3d e) (both f (name_of n) (option_and_then (constants v takes_fill) b))
+    by : (b : Option (List Lexeme)) → option_and_then (assigned v takes_fill f) (option_map (λ xs. n ∷ xs) (option_map (λ xs. e ∷ xs) b)) ≡ if_so (is_mark 0x3d e) (both f (name_of n) (option_and_then (constants v takes_fill) b))
     by None = none (is_mark 0x3d e) (name_of n)
     by (Some ys) = refl
 

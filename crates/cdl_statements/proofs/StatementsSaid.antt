@@ -1,6 +1,6 @@
 -- What a whole statement says stands in its tokens, section by section.
 use Rattle.std.proofs.Common.{◌≡◌, Bool, true, false, List, [], ◌∷◌, drop, refl, sym, ap, ◌∙◌, Option, None, Some, if◌then◌else◌, ◌&&◌, is_some, nat_lt}
-use Rattle.cdl_statements.proofs.Prelude.{option_map, option_and_then, false≢true, Version, attribute_said, declaration_said, dimensions_said, mark_said, statement_said, values, variable_said, completes, opens_section_after, is_name, next, only, word_value, Lexeme, is_mark, is_word_kind, is_opening_kind, is_end_kind, Statement, Listed, Attribute, Brace, Declared, Mark, Typed, Opening, End, alone, body, either, first_bad, given, mark_after, section_mark, section_number, section_of, shape, Section, Unopened, Globals, Dimensions, Variables, Values, Ended}
+use Rattle.cdl_statements.proofs.Prelude.{option_map, option_and_then, false≢true, Version, attribute_said, declaration_said, dimensions_said, mark_said, statement_said, values, variable_said, completes, opens_section_after, is_name, next, only, word_value, Lexeme, is_mark, is_word_kind, is_opening_kind, is_end_kind, Statement, Listed, Attribute, Brace, Declared, Mark, Typed, Opening, End, alone, body, either, first_bad, if_so, mark_after, section_mark, section_number, section_of, shape, Section, Unopened, Globals, Dimensions, Variables, Values, Ended}
 use Rattle.cdl_statements.specs.Shapes as Shapes
 use Rattle.cdl_statements.specs.declared.due.Due.TheVariants as dues
 use Rattle.cdl_statements.specs.declared.section.Section.TheVariants.{Closed}
@@ -29,7 +29,7 @@ alone_is : {A : Type 0} (test : Lexeme → Bool) (a : A) (ls : List Lexeme) → 
 alone_is test a [] h = cc
 alone_is test a (l ∷ []) h = by (test l) h
   where
-    by : (b : Bool) → is_some (given b (Some a)) ≡ true → given b (Some a) ≡ Some a
+    by : (b : Bool) → is_some (if_so b (Some a)) ≡ true → if_so b (Some a) ≡ Some a
     by true h = refl
     by false h = cc
 alone_is test a (l ∷ m ∷ ls) h = cc
@@ -38,11 +38,11 @@ mark_is : (section : Section) (l : Lexeme) (ls : List Lexeme) → is_some (secti
 mark_is section l [] h = cc
 mark_is section l (c ∷ []) h = by (is_mark 0x3a c) (section_of l) h
   where
-    after : (s : Section) (t : Bool) → is_some (given t (Some (Mark s))) ≡ true → given t (Some (Mark s)) ≡ Some (Mark s)
+    after : (s : Section) (t : Bool) → is_some (if_so t (Some (Mark s))) ≡ true → if_so t (Some (Mark s)) ≡ Some (Mark s)
     after s true h = refl
     after s false h = cc
 
-    by : (b : Bool) (o : Option Section) → is_some (given b (option_and_then (mark_after section) o)) ≡ true → given b (option_and_then (mark_after section) o) ≡ Some (mark_said o)
+    by : (b : Bool) (o : Option Section) → is_some (if_so b (option_and_then (mark_after section) o)) ≡ true → if_so b (option_and_then (mark_after section) o) ≡ Some (mark_said o)
     by true None h = cc
     by true (Some s) h = after s (nat_lt (section_number section) (section_number s)) h
     by false o h = cc
@@ -52,7 +52,7 @@ global_is : (v : Version) (l : Lexeme) (ls : List Lexeme) → first_bad v ls ≡
 global_is v l [] good on h = none_is (global_to v (l ∷ [])) (attribute_said v None []) (global_lone v l) h
 global_is v l (m ∷ ls) good on h =
     only_some (global_to v (l ∷ m ∷ ls)) (is_name m && completes (dues.Equals false) ls) (attribute_said v None (m ∷ ls))
-    (global_more v l m ls ∙ ap (λ b. given b (assigned_to v false (Attribute None) (m ∷ ls))) on ∙ assigned_is v false (Attribute None) m ls (fine_on v m ls good)) h
+    (global_more v l m ls ∙ ap (λ b. if_so b (assigned_to v false (Attribute None) (m ∷ ls))) on ∙ assigned_is v false (Attribute None) m ls (fine_on v m ls good)) h
 
 -- ---- the section of the attributes of the dataset
 
@@ -130,7 +130,7 @@ mark_alone v l c colon h =
     by (is_name l) (opens_section_after Variables l) refl refl
   where
     first : variable.others v (l ∷ c ∷ []) ≡ section_mark Variables (l ∷ c ∷ [])
-    first = either_only (section_mark Variables (l ∷ c ∷ [])) (variable.body_to v (l ∷ c ∷ [])) (ap (λ b. option_and_then (body v Variables) (option_map (λ xs. l ∷ xs) (given b (Some [])))) (one_mark 0x3a 0x3b c refl colon))
+    first = either_only (section_mark Variables (l ∷ c ∷ [])) (variable.body_to v (l ∷ c ∷ [])) (ap (λ b. option_and_then (body v Variables) (option_map (λ xs. l ∷ xs) (if_so b (Some [])))) (one_mark 0x3a 0x3b c refl colon))
 
     by : (n g : Bool) → is_name l ≡ n → opens_section_after Variables l ≡ g → variable.others v (l ∷ c ∷ []) ≡ Some (if n then End else mark_said (section_of l))
     by false g named goes = first ∙ mark_is Variables l (c ∷ []) (sym (ap is_some first) ∙ h)
@@ -162,7 +162,7 @@ typed_is v l c ls word off h =
     (mapped_variables l (listed_variables (c ∷ ls)) (completes dues.VariableName (c ∷ ls)) vs (variables_are (c ∷ ls))) (sym (ap is_some first) ∙ h)
 
 word_is : (v : Version) (l : Lexeme) (ls : List Lexeme) → first_bad v ls ≡ None → is_word_kind l.kind ≡ true → is_some (variable.others v (l ∷ ls)) ≡ true → variable.others v (l ∷ ls) ≡ Some (variable_said v l ls)
-word_is v l [] good word h = none_is (variable.others v (l ∷ [])) End (ap (λ b. option_and_then (body v Variables) (given b (Some []))) (variable.word_kind 0x3b l word)) h
+word_is v l [] good word h = none_is (variable.others v (l ∷ [])) End (ap (λ b. option_and_then (body v Variables) (if_so b (Some []))) (variable.word_kind 0x3b l word)) h
 word_is v l (c ∷ ls) good word h = by (is_mark 0x3a c) refl
   where
     by : (b : Bool) → is_mark 0x3a c ≡ b →

@@ -1,6 +1,6 @@
 -- Declarations, token by token: a variable's name and what comes after it.
 use Rattle.std.proofs.Common.{◌≡◌, ℕ, Bool, true, false, List, [], ◌∷◌, ◌++◌, refl, sym, ap, ◌∙◌, arith, Option, None, Some, if◌then◌else◌, ◌&&◌, ◌||◌, ◌==◌, not, slice_index}
-use Rattle.cdl_statements.proofs.Prelude.{option_map, option_and_then, is_reserved, Declaration, with_name, declaration_said, only, separator, next, is_whole, completes, is_name, word_value, Lexeme, is_mark, is_mark_kind, is_word_kind, name_of, Variable, variable, each, both, given, before_mark, members, members_in, into_first, name_alone, Due, TokenKind}
+use Rattle.cdl_statements.proofs.Prelude.{option_map, option_and_then, is_reserved, Declaration, with_name, declaration_said, only, separator, next, is_whole, completes, is_name, word_value, Lexeme, is_mark, is_mark_kind, is_word_kind, name_of, Variable, variable, each, both, if_so, before_mark, members, members_in, into_first, name_alone, Due, TokenKind}
 use Rattle.cdl_statements.specs.declared.due.Due.TheVariants as dues
 use Rattle.cdl_tokens.specs.declared.token.TokenKind.TheVariants as kinds
 use Rattle.cdl_statements.proofs.Listing.{never_completes, nothing_more, kind_of_mark}
@@ -95,14 +95,14 @@ if_whole due ls a = if completes due ls then Some a else None
 
 -- before the last token, which ends the statement where it is a semicolon
 pub record Claims (s : Lexeme) (xs : List Lexeme) : Type 0 where
-  pub at_name : given (is_mark 0x3b s) (each variable (members xs)) ≡ if_whole dues.VariableName (xs ++ s ∷ []) (declaration_said false (xs ++ s ∷ [])).variables
+  pub at_name : if_so (is_mark 0x3b s) (each variable (members xs)) ≡ if_whole dues.VariableName (xs ++ s ∷ []) (declaration_said false (xs ++ s ∷ [])).variables
   pub after_name : (n : Lexeme) → is_name n ≡ true →
-      given (is_mark 0x3b s) (each variable (into_first n (members xs))) ≡ if_whole dues.AfterVariable (xs ++ s ∷ []) (begin n (declaration_said false (xs ++ s ∷ [])))
-  pub at_reference : given (is_mark 0x3b s) (inside (members_in true xs)) ≡ if_whole dues.VariableDimension (xs ++ s ∷ []) (declaration_said true (xs ++ s ∷ []))
+      if_so (is_mark 0x3b s) (each variable (into_first n (members xs))) ≡ if_whole dues.AfterVariable (xs ++ s ∷ []) (begin n (declaration_said false (xs ++ s ∷ [])))
+  pub at_reference : if_so (is_mark 0x3b s) (inside (members_in true xs)) ≡ if_whole dues.VariableDimension (xs ++ s ∷ []) (declaration_said true (xs ++ s ∷ []))
   pub after_reference : (d : Lexeme) → is_name d ≡ true →
-      given (is_mark 0x3b s) (inside (into_first d (members_in true xs))) ≡ if_whole dues.AfterVariableDimension (xs ++ s ∷ []) (refer d (declaration_said true (xs ++ s ∷ [])))
+      if_so (is_mark 0x3b s) (inside (into_first d (members_in true xs))) ≡ if_whole dues.AfterVariableDimension (xs ++ s ∷ []) (refer d (declaration_said true (xs ++ s ∷ [])))
   pub after_shape : (d e : Lexeme) → is_name d ≡ true → is_mark 0x29 e ≡ true →
-      given (is_mark 0x3b s) (inside (into_first d (into_first e (members xs)))) ≡ if_whole dues.AfterShape (xs ++ s ∷ []) (refer d (declaration_said false (xs ++ s ∷ [])))
+      if_so (is_mark 0x3b s) (inside (into_first d (into_first e (members xs)))) ≡ if_whole dues.AfterShape (xs ++ s ∷ []) (refer d (declaration_said false (xs ++ s ∷ [])))
 
 -- ---- a variable's name
 
@@ -111,7 +111,7 @@ no_variable n [] h = rw (h) refl
 no_variable n ([] ∷ ms) h = rw (h) refl
 no_variable n ((p ∷ ys) ∷ ms) h = rw (h) (by (is_mark 0x28 p))
   where
-    by : (g : Bool) → both (λ (y : Variable) ys. y ∷ ys) (given g None) (each variable ms) ≡ None
+    by : (g : Bool) → both (λ (y : Variable) ys. y ∷ ys) (if_so g None) (each variable ms) ≡ None
     by true = refl
     by false = refl
 
@@ -122,7 +122,7 @@ not_variable n xs h = by (is_mark 0x2c n) refl
     by true on = ap (each variable) (members_at false true (is_mark 0x28 n) (is_mark 0x29 n) n xs on refl refl)
     by false off = ap (each variable) (members_at false false (is_mark 0x28 n) (is_mark 0x29 n) n xs off refl refl) ∙ no_variable n (members_in (is_mark 0x28 n || false) xs) h
 
-pub name_end : (s : Lexeme) → given (is_mark 0x3b s) (each variable (members [])) ≡ if_whole dues.VariableName (s ∷ []) (declaration_said false (s ∷ [])).variables
+pub name_end : (s : Lexeme) → if_so (is_mark 0x3b s) (each variable (members [])) ≡ if_whole dues.VariableName (s ∷ []) (declaration_said false (s ∷ [])).variables
 unfolding completes next
 name_end s = given_none (is_mark 0x3b s) ∙ by (is_name s)
   where
@@ -131,16 +131,16 @@ name_end s = given_none (is_mark 0x3b s) ∙ by (is_name s)
     by false = refl
 
 pub name_more : (s n : Lexeme) (xs : List Lexeme) → Claims s xs →
-    given (is_mark 0x3b s) (each variable (members (n ∷ xs))) ≡ if_whole dues.VariableName (n ∷ xs ++ s ∷ []) (declaration_said false (n ∷ xs ++ s ∷ [])).variables
+    if_so (is_mark 0x3b s) (each variable (members (n ∷ xs))) ≡ if_whole dues.VariableName (n ∷ xs ++ s ∷ []) (declaration_said false (n ∷ xs ++ s ∷ [])).variables
 unfolding completes next
 name_more s n xs k = by (is_name n) refl
   where
     by : (w : Bool) → is_name n ≡ w →
-        given (is_mark 0x3b s) (each variable (members (n ∷ xs))) ≡ (if completes (only w dues.AfterVariable) (xs ++ s ∷ []) then Some (declaration_said false (n ∷ xs ++ s ∷ [])).variables else None)
+        if_so (is_mark 0x3b s) (each variable (members (n ∷ xs))) ≡ (if completes (only w dues.AfterVariable) (xs ++ s ∷ []) then Some (declaration_said false (n ∷ xs ++ s ∷ [])).variables else None)
     by true on =
-        ap (λ ms. given (is_mark 0x3b s) (each variable ms)) (members_at false false false false n xs (name_mark 0x2c n on) (name_mark 0x28 n on) (name_mark 0x29 n on)) ∙
+        ap (λ ms. if_so (is_mark 0x3b s) (each variable ms)) (members_at false false false false n xs (name_mark 0x2c n on) (name_mark 0x28 n on) (name_mark 0x29 n on)) ∙
         k.after_name n on ∙ ap (λ (r : Declaration). if_whole dues.AfterVariable (xs ++ s ∷ []) r.variables) (sym (said_name false n (xs ++ s ∷ []) on))
-    by false off = none_if _ _ _ (ap (given (is_mark 0x3b s)) (not_variable n xs (nameless n off)) ∙ given_none (is_mark 0x3b s)) (never_completes (xs ++ s ∷ []))
+    by false off = none_if _ _ _ (ap (if_so (is_mark 0x3b s)) (not_variable n xs (nameless n off)) ∙ given_none (is_mark 0x3b s)) (never_completes (xs ++ s ∷ []))
 
 -- ---- after a variable's name
 
@@ -182,7 +182,7 @@ variable_whole s = by (is_mark 0x28 s) (is_mark 0x3b s) (one_mark 0x3b 0x28 s re
     by true false h k = refl
     by false e h k = k
 
-pub given_whole : {A : Type 0} (w e : Bool) (a b : A) → w ≡ e → (e ≡ true → b ≡ a) → given e (Some a) ≡ (if w then Some b else None)
+pub given_whole : {A : Type 0} (w e : Bool) (a b : A) → w ≡ e → (e ≡ true → b ≡ a) → if_so e (Some a) ≡ (if w then Some b else None)
 given_whole w true a b hw hb = rw (hw) (ap Some (sym (hb refl)))
 given_whole w false a b hw hb = rw (hw) refl
 
@@ -191,35 +191,35 @@ unfolding declaration_said
 ends_said s h = said_mark false false false s [] (kind_of_mark 0x3b s h) (one_mark 0x3b 0x28 s refl h) (one_mark 0x3b 0x29 s refl h)
 
 pub variable_end : (s n : Lexeme) → is_name n ≡ true →
-    given (is_mark 0x3b s) (each variable (into_first n (members []))) ≡ if_whole dues.AfterVariable (s ∷ []) (begin n (declaration_said false (s ∷ [])))
+    if_so (is_mark 0x3b s) (each variable (into_first n (members []))) ≡ if_whole dues.AfterVariable (s ∷ []) (begin n (declaration_said false (s ∷ [])))
 unfolding completes
 variable_end s n on =
-    ap (given (is_mark 0x3b s)) (lone n [] on) ∙
+    ap (if_so (is_mark 0x3b s)) (lone n [] on) ∙
     given_whole (is_whole (next dues.AfterVariable s)) (is_mark 0x3b s) (record { name = word_value n.bytes; dimensions = [] } ∷ []) (begin n (declaration_said false (s ∷ []))) (variable_whole s) (λ h. ap (begin n) (ends_said s h))
 
 pub variable_more : (s n c : Lexeme) (xs : List Lexeme) → is_name n ≡ true → Claims s xs →
-    given (is_mark 0x3b s) (each variable (into_first n (members (c ∷ xs)))) ≡ if_whole dues.AfterVariable (c ∷ xs ++ s ∷ []) (begin n (declaration_said false (c ∷ xs ++ s ∷ [])))
+    if_so (is_mark 0x3b s) (each variable (into_first n (members (c ∷ xs)))) ≡ if_whole dues.AfterVariable (c ∷ xs ++ s ∷ []) (begin n (declaration_said false (c ∷ xs ++ s ∷ [])))
 unfolding completes next
 variable_more s n c xs on k = by (is_mark 0x28 c) (is_mark 0x2c c) refl refl
   where
     by : (b a : Bool) → is_mark 0x28 c ≡ b → is_mark 0x2c c ≡ a →
-        given (is_mark 0x3b s) (each variable (into_first n (members (c ∷ xs)))) ≡
+        if_so (is_mark 0x3b s) (each variable (into_first n (members (c ∷ xs)))) ≡
         (if completes (if b then dues.VariableDimension else (if a then dues.VariableName else only (is_mark 0x3b c) dues.Nothing)) (xs ++ s ∷ []) then Some (begin n (declaration_said false (c ∷ xs ++ s ∷ []))) else None)
     by true a hb ha =
-        ap (λ ms. given (is_mark 0x3b s) (each variable (into_first n ms))) (members_at false false true (is_mark 0x29 c) c xs (one_mark 0x28 0x2c c refl hb) hb refl) ∙
-        ap (given (is_mark 0x3b s)) (opens n c (members_in true xs) on hb) ∙ given_map (begin n) (is_mark 0x3b s) (inside (members_in true xs)) ∙
-        map_if (begin n) (given (is_mark 0x3b s) (inside (members_in true xs))) (completes dues.VariableDimension (xs ++ s ∷ [])) (declaration_said true (xs ++ s ∷ [])) k.at_reference ∙
+        ap (λ ms. if_so (is_mark 0x3b s) (each variable (into_first n ms))) (members_at false false true (is_mark 0x29 c) c xs (one_mark 0x28 0x2c c refl hb) hb refl) ∙
+        ap (if_so (is_mark 0x3b s)) (opens n c (members_in true xs) on hb) ∙ given_map (begin n) (is_mark 0x3b s) (inside (members_in true xs)) ∙
+        map_if (begin n) (if_so (is_mark 0x3b s) (inside (members_in true xs))) (completes dues.VariableDimension (xs ++ s ∷ [])) (declaration_said true (xs ++ s ∷ [])) k.at_reference ∙
         ap (λ r. if_whole dues.VariableDimension (xs ++ s ∷ []) (begin n r)) (sym (said_mark false true (is_mark 0x29 c) c (xs ++ s ∷ []) (kind_of_mark 0x28 c hb) hb refl))
     by false true hb ha =
         let v : Variable = record { name = word_value n.bytes; dimensions = [] } in
         let rest = declaration_said false (xs ++ s ∷ []) in
         let said : begin n (declaration_said false (c ∷ xs ++ s ∷ [])) ≡ begin n rest = ap (begin n) (said_mark false false (is_mark 0x29 c) c (xs ++ s ∷ []) (kind_of_mark 0x2c c ha) hb refl) in
-        same_if (given (is_mark 0x3b s) (each variable (into_first n (members (c ∷ xs))))) (completes dues.VariableName (xs ++ s ∷ [])) (completes dues.VariableName (xs ++ s ∷ [])) (v ∷ rest.variables) (begin n (declaration_said false (c ∷ xs ++ s ∷ [])))
-        (ap (λ ms. given (is_mark 0x3b s) (each variable (into_first n ms))) (members_at false true false (is_mark 0x29 c) c xs ha hb refl) ∙
-        ap (given (is_mark 0x3b s)) (lone n (members xs) on) ∙ given_map (λ vs. v ∷ vs) (is_mark 0x3b s) (each variable (members xs)) ∙
-        map_if (λ vs. v ∷ vs) (given (is_mark 0x3b s) (each variable (members xs))) (completes dues.VariableName (xs ++ s ∷ [])) rest.variables k.at_name)
+        same_if (if_so (is_mark 0x3b s) (each variable (into_first n (members (c ∷ xs))))) (completes dues.VariableName (xs ++ s ∷ [])) (completes dues.VariableName (xs ++ s ∷ [])) (v ∷ rest.variables) (begin n (declaration_said false (c ∷ xs ++ s ∷ [])))
+        (ap (λ ms. if_so (is_mark 0x3b s) (each variable (into_first n ms))) (members_at false true false (is_mark 0x29 c) c xs ha hb refl) ∙
+        ap (if_so (is_mark 0x3b s)) (lone n (members xs) on) ∙ given_map (λ vs. v ∷ vs) (is_mark 0x3b s) (each variable (members xs)) ∙
+        map_if (λ vs. v ∷ vs) (if_so (is_mark 0x3b s) (each variable (members xs))) (completes dues.VariableName (xs ++ s ∷ [])) rest.variables k.at_name)
         refl (λ h. said ∙ ap (λ ds. record { name = word_value n.bytes; dimensions = ds } ∷ rest.variables) (no_dimensions (xs ++ s ∷ []) h))
     by false false hb ha =
         none_if _ _ _
-        (ap (λ ms. given (is_mark 0x3b s) (each variable (into_first n ms))) (members_at false false false (is_mark 0x29 c) c xs ha hb refl) ∙ ap (given (is_mark 0x3b s)) (no_shape n c (members xs) hb) ∙ given_none (is_mark 0x3b s))
+        (ap (λ ms. if_so (is_mark 0x3b s) (each variable (into_first n ms))) (members_at false false false (is_mark 0x29 c) c xs ha hb refl) ∙ ap (if_so (is_mark 0x3b s)) (no_shape n c (members xs) hb) ∙ given_none (is_mark 0x3b s))
         (nothing_after (is_mark 0x3b c) xs s)

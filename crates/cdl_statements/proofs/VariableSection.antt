@@ -1,6 +1,6 @@
 -- The table of due tokens says whether a piece has its shape, in the section of the variables.
 use Rattle.std.proofs.Common.{◌≡◌, ℕ, Bool, true, false, List, [], ◌∷◌, drop, refl, sym, ap, ◌∙◌, Option, None, Some, if◌then◌else◌, ◌&&◌, ◌==◌, is_some, slice_index}
-use Rattle.cdl_statements.proofs.Prelude.{option_map, option_and_then, Version, declaration_said, values, only, next, is_whole, completes, is_name, opens_section_after, word_value, Lexeme, is_mark, is_mark_kind, is_word_kind, name_of, Statement, Attribute, Brace, Typed, Variable, first_bad, alone, assigned, attribute, before_mark, body, each, either, given, global, members, section_mark, shape, typed, variable, Variables, TokenKind}
+use Rattle.cdl_statements.proofs.Prelude.{option_map, option_and_then, Version, declaration_said, values, only, next, is_whole, completes, is_name, opens_section_after, word_value, Lexeme, is_mark, is_mark_kind, is_word_kind, name_of, Statement, Attribute, Brace, Typed, Variable, first_bad, alone, assigned, attribute, before_mark, body, each, either, if_so, global, members, section_mark, shape, typed, variable, Variables, TokenKind}
 use Rattle.cdl_statements.specs.declared.due.Due.TheVariants as dues
 use Rattle.cdl_tokens.specs.declared.token.TokenKind.TheVariants as kinds
 use Rattle.cdl_statements.proofs.Declarations.{listed_variables, variables_are}
@@ -39,7 +39,7 @@ no_typed l ys h = rw (h) refl
 body_global : (v : Version) (l : Lexeme) (ls : List Lexeme) → name_of l ≡ None → is_word_kind l.kind ≡ false → body_to v (l ∷ ls) ≡ global_to v (l ∷ ls)
 body_global v l [] none off = by (is_mark 0x3b l)
   where
-    by : (s : Bool) → option_and_then (body v Variables) (given s (Some [])) ≡ option_and_then (global v) (given s (Some []))
+    by : (s : Bool) → option_and_then (body v Variables) (if_so s (Some [])) ≡ option_and_then (global v) (if_so s (Some []))
     by true = refl
     by false = refl
 body_global v l (m ∷ ls) none off = by (before_mark 0x3b (m ∷ ls))
@@ -61,10 +61,10 @@ others_global v l ls off = either_none (section_mark Variables (l ∷ ls)) (body
 -- ---- a word and a colon
 
 body_word : (v : Version) (l : Lexeme) (ys : List Lexeme) → is_word_kind l.kind ≡ true → body v Variables (l ∷ ys) ≡ either (attribute v (l ∷ ys)) (typed (l ∷ ys))
-body_word v l ys word = ap (λ b. either (given b (assigned v false (Attribute None) ys)) (either (attribute v (l ∷ ys)) (typed (l ∷ ys)))) (word_kind 0x3a l word)
+body_word v l ys word = ap (λ b. either (if_so b (assigned v false (Attribute None) ys)) (either (attribute v (l ∷ ys)) (typed (l ∷ ys)))) (word_kind 0x3a l word)
 
 no_list : (l c : Lexeme) (ys : List Lexeme) → is_mark 0x3a c ≡ true → typed (l ∷ c ∷ ys) ≡ None
-no_list l c ys colon = ap (λ o. given (is_word_kind l.kind) (option_map (Typed l) o)) (not_variable c ys (nameless c (mark_name 0x3a c colon))) ∙ given_none (is_word_kind l.kind)
+no_list l c ys colon = ap (λ o. if_so (is_word_kind l.kind) (option_map (Typed l) o)) (not_variable c ys (nameless c (mark_name 0x3a c colon))) ∙ given_none (is_word_kind l.kind)
 
 pub attribute_named : (v : Version) (l c r : Lexeme) (rs : List Lexeme) → is_word_kind l.kind ≡ true → is_mark 0x3a c ≡ true → is_name l ≡ true →
     body_to v (l ∷ c ∷ r ∷ rs) ≡ assigned_to v false (Attribute (Some (word_value l.bytes))) (r ∷ rs)
@@ -74,7 +74,7 @@ attribute_named v l c r rs word colon on = by (before_mark 0x3b (r ∷ rs))
     by None = refl
     by (Some ys) =
         body_word v l (c ∷ ys) word ∙ either_only (attribute v (l ∷ c ∷ ys)) (typed (l ∷ c ∷ ys)) (no_list l c ys colon) ∙
-        ap (λ b. given b (option_and_then (λ (name : List ℕ). assigned v false (Attribute (Some name)) ys) (name_of l))) colon ∙
+        ap (λ b. if_so b (option_and_then (λ (name : List ℕ). assigned v false (Attribute (Some name)) ys) (name_of l))) colon ∙
         ap (option_and_then (λ (name : List ℕ). assigned v false (Attribute (Some name)) ys)) (named l on)
 
 pub attribute_nameless : (v : Version) (l c r : Lexeme) (rs : List Lexeme) → is_word_kind l.kind ≡ true → is_mark 0x3a c ≡ true → is_name l ≡ false → body_to v (l ∷ c ∷ r ∷ rs) ≡ None
@@ -92,7 +92,7 @@ mark_alone : (v : Version) (l c : Lexeme) → is_mark 0x3a c ≡ true →
     is_some (others v (l ∷ c ∷ [])) ≡ is_whole (if is_name l then dues.AttributeName else only (opens_section_after Variables l) dues.Nothing)
 unfolding completes next
 mark_alone v l c colon =
-    ap is_some (either_only (section_mark Variables (l ∷ c ∷ [])) (body_to v (l ∷ c ∷ [])) (ap (λ b. option_and_then (body v Variables) (option_map (λ xs. l ∷ xs) (given b (Some [])))) (one_mark 0x3a 0x3b c refl colon))) ∙
+    ap is_some (either_only (section_mark Variables (l ∷ c ∷ [])) (body_to v (l ∷ c ∷ [])) (ap (λ b. option_and_then (body v Variables) (option_map (λ xs. l ∷ xs) (if_so b (Some [])))) (one_mark 0x3a 0x3b c refl colon))) ∙
     mark_completes Variables l (c ∷ []) ∙ by (opens_section_after Variables l) (is_name l) (goes_nowhere l)
   where
     by : (g n : Bool) → (g ≡ true → n ≡ false) → is_whole (next (only g dues.Colon) c) ≡ is_whole (if n then dues.AttributeName else only g dues.Nothing)
@@ -121,7 +121,7 @@ colon_more v l c r rs good word colon = by (is_name l) refl
 pub body_typed : (v : Version) (l c : Lexeme) (ls : List Lexeme) → is_word_kind l.kind ≡ true → is_mark 0x3a c ≡ false → body_to v (l ∷ c ∷ ls) ≡ option_map (Typed l) (listed_variables (c ∷ ls))
 body_typed v l c [] word off = by (is_mark 0x3b c)
   where
-    by : (s : Bool) → option_and_then (body v Variables) (option_map (λ xs. l ∷ xs) (given s (Some []))) ≡ option_map (Typed l) (option_and_then (λ xs. each variable (members xs)) (given s (Some [])))
+    by : (s : Bool) → option_and_then (body v Variables) (option_map (λ xs. l ∷ xs) (if_so s (Some []))) ≡ option_map (Typed l) (option_and_then (λ xs. each variable (members xs)) (if_so s (Some [])))
     by true = body_word v l [] word ∙ given_none (is_word_kind l.kind)
     by false = refl
 body_typed v l c (r ∷ rs) word off = by (before_mark 0x3b (r ∷ rs))
@@ -131,8 +131,8 @@ body_typed v l c (r ∷ rs) word off = by (before_mark 0x3b (r ∷ rs))
     by None = refl
     by (Some ys) =
         body_word v l (c ∷ ys) word ∙
-        either_none (attribute v (l ∷ c ∷ ys)) (typed (l ∷ c ∷ ys)) (ap (λ b. given b (option_and_then (λ (name : List ℕ). assigned v false (Attribute (Some name)) ys) (name_of l))) off) ∙
-        ap (λ b. given b (option_map (Typed l) (each variable (members (c ∷ ys))))) word
+        either_none (attribute v (l ∷ c ∷ ys)) (typed (l ∷ c ∷ ys)) (ap (λ b. if_so b (option_and_then (λ (name : List ℕ). assigned v false (Attribute (Some name)) ys) (name_of l))) off) ∙
+        ap (λ b. if_so b (option_map (Typed l) (each variable (members (c ∷ ys))))) word
 
 mapped : (l : Lexeme) (b : Bool) (vs : List Variable) → is_some (option_map (Typed l) (if b then Some vs else None)) ≡ b
 mapped l true vs = refl
@@ -158,7 +158,7 @@ colon_complete v l c (r ∷ rs) good word colon = colon_more v l c r rs (fine_on
 
 word_complete : (v : Version) (l : Lexeme) (ls : List Lexeme) → first_bad v ls ≡ None → is_word_kind l.kind ≡ true → is_some (others v (l ∷ ls)) ≡ completes (dues.AfterWord (is_name l) (opens_section_after Variables l)) ls
 unfolding completes next
-word_complete v l [] good word = ap (λ b. is_some (option_and_then (body v Variables) (given b (Some [])))) (word_kind 0x3b l word)
+word_complete v l [] good word = ap (λ b. is_some (option_and_then (body v Variables) (if_so b (Some [])))) (word_kind 0x3b l word)
 word_complete v l (c ∷ ls) good word = by (is_mark 0x3a c) refl
   where
     by : (b : Bool) → is_mark 0x3a c ≡ b →

@@ -2,7 +2,7 @@
 use Rattle.std.specs.Prelude.{ℕ, ℤ, Bool, true, false, List, [], ◌∷◌, ◌&&◌, ◌||◌, not, if◌then◌else◌, codes, Option, None, Some, is_none, nat_lt}
 use Rattle.std.specs.Str.{byte}
 use Rattle.std.specs.Option.{option_map, option_and_then}
-use Rattle.cdl_tokens.specs.Escapes.{inner, stands}
+use Rattle.cdl_tokens.specs.Escapes.{inner, string_value}
 use Rattle.cdl_statements.specs.Lexemes.{Lexeme, is_mark, is_word, is_word_kind, is_opening_kind, is_end_kind, name_of}
 use Rattle.cdl_tokens.specs.Numerals.{Numeral, numeral}
 use Rattle.cdl_tokens.specs.declared.token.TokenKind.{TokenKind}
@@ -89,9 +89,9 @@ abbrev pub members : List Lexeme → List (List Lexeme)
 members ls = members_in false ls
 
 -- a, if the condition holds
-abbrev pub given : {A : Type 0} → Bool → Option A → Option A
-given true a = a
-given false a = None
+abbrev pub if_so : {A : Type 0} → Bool → Option A → Option A
+if_so true a = a
+if_so false a = None
 
 -- what a number token says; None for any other token
 abbrev pub numeral_of : Version → Lexeme → TokenKind → Option Numeral
@@ -104,19 +104,19 @@ length_of v l = if is_word (codes "unlimited") l || is_word (codes "UNLIMITED") 
 
 -- NAME = LENGTH, from the tokens n, e and l
 abbrev pub dimension : Version → Lexeme → Lexeme → Lexeme → Option Dimension
-dimension v n e l = given (is_mark (byte "=") e) (both (λ name len. record { name = name; len = len }) (name_of n) (length_of v l))
+dimension v n e l = if_so (is_mark (byte "=") e) (both (λ name len. record { name = name; len = len }) (name_of n) (length_of v l))
 
 -- NAME = LENGTH, ..
 abbrev pub dimensions : Version → List Lexeme → Option (List Dimension)
 dimensions v (n ∷ e ∷ l ∷ []) = both (λ d ds. d ∷ ds) (dimension v n e l) (Some [])
-dimensions v (n ∷ e ∷ l ∷ c ∷ ls) = given (is_mark (byte ",") c) (both (λ d ds. d ∷ ds) (dimension v n e l) (dimensions v ls))
+dimensions v (n ∷ e ∷ l ∷ c ∷ ls) = if_so (is_mark (byte ",") c) (both (λ d ds. d ∷ ds) (dimension v n e l) (dimensions v ls))
 dimensions v _ = None
 
 -- a VALUE if `_` is taken, otherwise a CONST
 abbrev pub constant_of : Version → Bool → Lexeme → TokenKind → Option Value
 constant_of v takes_fill l kinds.Number = option_map Number (numeral v l.bytes)
-constant_of v takes_fill l kinds.Text = Some (Characters (stands (inner l.bytes)))
-constant_of v takes_fill l _ = given (takes_fill && is_word (codes "_") l) (Some Underscore)
+constant_of v takes_fill l kinds.Text = Some (Characters (string_value (inner l.bytes)))
+constant_of v takes_fill l _ = if_so (takes_fill && is_word (codes "_") l) (Some Underscore)
 
 abbrev pub constant : Version → Bool → Lexeme → Option Value
 constant v takes_fill l = constant_of v takes_fill l l.kind
@@ -125,7 +125,7 @@ constant v takes_fill l = constant_of v takes_fill l l.kind
 abbrev pub constants : Version → Bool → List Lexeme → Option (List Value)
 constants v takes_fill [] = None
 constants v takes_fill (l ∷ []) = both (λ x xs. x ∷ xs) (constant v takes_fill l) (Some [])
-constants v takes_fill (l ∷ c ∷ ls) = given (is_mark (byte ",") c) (both (λ x xs. x ∷ xs) (constant v takes_fill l) (constants v takes_fill ls))
+constants v takes_fill (l ∷ c ∷ ls) = if_so (is_mark (byte ",") c) (both (λ x xs. x ∷ xs) (constant v takes_fill l) (constants v takes_fill ls))
 
 abbrev pub name_alone : List Lexeme → Option (List ℕ)
 name_alone (l ∷ []) = name_of l
@@ -134,7 +134,7 @@ name_alone _ = None
 -- all but the last, which has to be this mark
 abbrev pub before_mark : ℕ → List Lexeme → Option (List Lexeme)
 before_mark b [] = None
-before_mark b (l ∷ []) = given (is_mark b l) (Some [])
+before_mark b (l ∷ []) = if_so (is_mark b l) (Some [])
 before_mark b (l ∷ m ∷ ls) = option_map (λ xs. l ∷ xs) (before_mark b (m ∷ ls))
 
 -- NAME, or NAME (NAME, ..)
@@ -142,26 +142,26 @@ abbrev pub variable : List Lexeme → Option Variable
 variable [] = None
 variable (n ∷ []) = option_map (λ name. record { name = name; dimensions = [] }) (name_of n)
 variable (n ∷ p ∷ ls) =
-    given (is_mark (byte "(") p) (both (λ name ds. record { name = name; dimensions = ds }) (name_of n) (option_and_then (λ inner. each name_alone (members inner)) (before_mark (byte ")") ls)))
+    if_so (is_mark (byte "(") p) (both (λ name ds. record { name = name; dimensions = ds }) (name_of n) (option_and_then (λ inner. each name_alone (members inner)) (before_mark (byte ")") ls)))
 
 -- NAME = VALUE, .. if `_` is taken, otherwise NAME = CONST, ..; f is applied to the name and the list
 abbrev pub assigned : {A : Type 0} → Version → Bool → (List ℕ → List Value → A) → List Lexeme → Option A
-assigned v takes_fill f (n ∷ e ∷ ls) = given (is_mark (byte "=") e) (both f (name_of n) (constants v takes_fill ls))
+assigned v takes_fill f (n ∷ e ∷ ls) = if_so (is_mark (byte "=") e) (both f (name_of n) (constants v takes_fill ls))
 assigned v takes_fill f _ = None
 
 -- : NAME = CONST, ..
 abbrev pub global : Version → List Lexeme → Option Statement
-global v (c ∷ ls) = given (is_mark (byte ":") c) (assigned v false (Attribute None) ls)
+global v (c ∷ ls) = if_so (is_mark (byte ":") c) (assigned v false (Attribute None) ls)
 global v _ = None
 
 -- TYPE NAME, ..; each NAME may have (NAME, ..) after it
 abbrev pub typed : List Lexeme → Option Statement
-typed (ty ∷ ls) = given (is_word_kind ty.kind) (option_map (Typed ty) (each variable (members ls)))
+typed (ty ∷ ls) = if_so (is_word_kind ty.kind) (option_map (Typed ty) (each variable (members ls)))
 typed _ = None
 
 -- NAME : NAME = CONST, ..
 abbrev pub attribute : Version → List Lexeme → Option Statement
-attribute v (n ∷ c ∷ ls) = given (is_mark (byte ":") c) (option_and_then (λ name. assigned v false (Attribute (Some name)) ls) (name_of n))
+attribute v (n ∷ c ∷ ls) = if_so (is_mark (byte ":") c) (option_and_then (λ name. assigned v false (Attribute (Some name)) ls) (name_of n))
 attribute v _ = None
 
 -- a statement without its `;`, by the section
@@ -187,15 +187,15 @@ section_of l = if is_word (codes "dimensions") l then Some Dimensions else (if i
 
 -- the mark of section s, if s comes later than the section that the text is in
 abbrev pub mark_after : Section → Section → Option Statement
-mark_after before s = given (nat_lt (section_number before) (section_number s)) (Some (Mark s))
+mark_after before s = if_so (nat_lt (section_number before) (section_number s)) (Some (Mark s))
 
 abbrev pub section_mark : Section → List Lexeme → Option Statement
-section_mark before (l ∷ c ∷ []) = given (is_mark (byte ":") c) (option_and_then (mark_after before) (section_of l))
+section_mark before (l ∷ c ∷ []) = if_so (is_mark (byte ":") c) (option_and_then (mark_after before) (section_of l))
 section_mark before _ = None
 
 -- a, if the piece is one token that passes the test
 abbrev pub alone : {A : Type 0} → (Lexeme → Bool) → A → List Lexeme → Option A
-alone test a (l ∷ []) = given (test l) (Some a)
+alone test a (l ∷ []) = if_so (test l) (Some a)
 alone test a _ = None
 
 -- a whole piece

@@ -1,6 +1,6 @@
 -- Decimal numbers, digit by digit.
 use Rattle.std.proofs.Common.{◌≡◌, ℕ, true, false, ◌+◌, ◌*◌, ◌-◌, ◌<◌, List, [], ◌∷◌, get_or, length, take, drop, refl, sym, ap, ◌∙◌, arith, Bool, Some, ◌==◌, nat_lt, option_map, slice_index}
-use Rattle.cdl_tokens.proofs.Prelude.{common_steps, prefix_len, take_while, Version, digit_value, is_digit, number_in, ReadsDigits, held, in_decimal, suffix}
+use Rattle.cdl_tokens.proofs.Prelude.{common_steps, prefix_len, take_while, Version, digit_value, is_digit, number_in, ReadsDigits, held, in_decimal, type_of_suffix}
 use Rattle.nc_base.specs.declared.nc_type.NcType.{NcType}
 use Rattle.cdl_tokens.proofs.Steps.{take_one_more}
 
@@ -39,6 +39,6 @@ all_read bs n value read off = by (drop n bs) read.count read.said off
         (all, ap (λ k. number_in 10 0 (take k bs)) (sym all) ∙ sym is ∙ ap (λ k. number_in 10 value (take k (b ∷ rest))) none)
 
 -- what the digits and the suffix after them say
-pub said : (v : Version) (minus : Bool) (bs : List ℕ) (n value : ℕ) (ty : NcType) → prefix_len is_digit bs ≡ n → number_in 10 0 (take n bs) ≡ value → suffix v (drop n bs) ≡ Some ty → (n == 0) ≡ false → nat_lt 18446744073709551615 value ≡ false →
+pub said : (v : Version) (minus : Bool) (bs : List ℕ) (n value : ℕ) (ty : NcType) → prefix_len is_digit bs ≡ n → number_in 10 0 (take n bs) ≡ value → type_of_suffix v (drop n bs) ≡ Some ty → (n == 0) ≡ false → nat_lt 18446744073709551615 value ≡ false →
     Some (record { minus = minus; magnitude = Some value; ty = ty }) ≡ option_map held (in_decimal v minus bs)
 said v minus bs n value ty all is suffixed some small = rw (all) (rw (some) (rw (is) (rw (suffixed) (rw (small) refl))))

@@ -1,6 +1,6 @@
 -- What plain numbers say.
 use Rattle.std.proofs.Common.{◌≡◌, ℕ, zero, suc, ◌+◌, ◌<◌, ◌≤◌, Bool, true, false, List, [], ◌∷◌, length, take, drop, refl, sym, ap, ◌∙◌, arith, Some, ◌==◌, ◌&&◌, ◌||◌, nat_lt, option_map, slice_index, cond, if◌then◌else◌}
-use Rattle.cdl_tokens.proofs.Prelude.{prefix_len, get_or-drop, Int, Version, goes_on_number, is_digit, is_sign, number_in, held, parts, suffix, unsigned, AreDigits, Begins, begins_number}
+use Rattle.cdl_tokens.proofs.Prelude.{prefix_len, get_or-drop, Int, Version, goes_on_number, is_digit, is_sign, number_in, held, parts, type_of_suffix, with_sign, AreDigits, Begins, begins_number}
 use Rattle.cdl_tokens.specs.declared.numeral.Numeral.{Numeral}
 use Rattle.cdl_tokens.proofs.Decimals.{said}
 use Rattle.cdl_tokens.proofs.PlainTokens.{digit_number}
@@ -48,16 +48,16 @@ first_taken (suc n) [] h = refl
 first_taken (suc n) (b ∷ bs) h = refl
 
 -- a zero by itself
-zero_said : (v : Version) (minus : Bool) (bs : List ℕ) (value : ℕ) → 1 ≤ length bs → slice_index bs 0 ≡ 0x30 → number_in 10 0 (take 1 bs) ≡ value → Some (int minus value) ≡ option_map held (unsigned v minus (take 1 bs))
+zero_said : (v : Version) (minus : Bool) (bs : List ℕ) (value : ℕ) → 1 ≤ length bs → slice_index bs 0 ≡ 0x30 → number_in 10 0 (take 1 bs) ≡ value → Some (int minus value) ≡ option_map held (with_sign v minus (take 1 bs))
 zero_said v minus [] value within naught is = absurd (let e : 1 ≤ 0 = within in omega (arith, e))
 zero_said v minus (b ∷ bs) value within naught is =
     rw (← is) (rw (naught) (rw (no_suffix [] v refl) refl))
 
 -- the digits say their number
-pub digits_said : (v : Version) (minus : Bool) (bs : List ℕ) (n value : ℕ) → AreDigits bs n value → Some (int minus value) ≡ option_map held (unsigned v minus (take n bs))
+pub digits_said : (v : Version) (minus : Bool) (bs : List ℕ) (n value : ℕ) → AreDigits bs n value → Some (int minus value) ≡ option_map held (with_sign v minus (take n bs))
 digits_said v minus bs n value d = by (slice_index bs 0 == 0x30) refl
   where
-    by : (z : Bool) → (slice_index bs 0 == 0x30) ≡ z → Some (int minus value) ≡ option_map held (unsigned v minus (take n bs))
+    by : (z : Bool) → (slice_index bs 0 == 0x30) ≡ z → Some (int minus value) ≡ option_map held (with_sign v minus (take n bs))
     by true is =
         let naught : slice_index bs 0 ≡ 0x30 = grind (arith, is) in
         let one : n ≡ 1 = d.plain naught in
@@ -66,7 +66,7 @@ digits_said v minus bs n value d = by (slice_index bs 0 == 0x30) refl
         let some : (n == 0) ≡ false = grind (arith, d.some) in
         let small : nat_lt 18446744073709551615 value ≡ false = grind (arith, d.small) in
         let all : prefix_len is_digit (take n bs) ≡ n = taken_digits bs n (omega (arith, d.count)) in
-        said v minus (take n bs) n value Int all (ap (number_in 10 0) (taken_twice n bs) ∙ d.said) (ap (suffix v) (nothing_after n bs) ∙ no_suffix [] v refl) some small ∙
+        said v minus (take n bs) n value Int all (ap (number_in 10 0) (taken_twice n bs) ∙ d.said) (ap (type_of_suffix v) (nothing_after n bs) ∙ no_suffix [] v refl) some small ∙
         rw (first_taken n bs d.some) (rw (is) refl)
 
 -- after a sign
@@ -83,7 +83,7 @@ pub plain_said : (v : Version) (bs : List ℕ) (n value : ℕ) → is_sign (slic
 unfolding parts
 plain_said v bs n value sign d =
     digits_said v false bs n value d ∙
-    ap (λ s. option_map held (if s then unsigned v (slice_index (take n bs) 0 == 0x2d) (drop 1 (take n bs)) else unsigned v false (take n bs))) (sym (ap is_sign (first_taken n bs d.some) ∙ sign))
+    ap (λ s. option_map held (if s then with_sign v (slice_index (take n bs) 0 == 0x2d) (drop 1 (take n bs)) else with_sign v false (take n bs))) (sym (ap is_sign (first_taken n bs d.some) ∙ sign))
 
 -- the first digit
 pub first_digit : (bs : List ℕ) (n value : ℕ) → AreDigits bs n value → is_digit (slice_index bs 0) ≡ true

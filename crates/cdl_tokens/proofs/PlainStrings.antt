@@ -1,6 +1,6 @@
 -- What plain strings are.
 use Rattle.std.proofs.Common.{◌≡◌, ℕ, zero, suc, ◌+◌, ◌-◌, ◌<◌, Bool, true, false, cond, List, [], ◌∷◌, length, take, drop, refl, sym, ap, ◌∙◌, arith, count_by, ⊎_elim, ◌==◌, nat_lt, slice_index, is_some, if◌then◌else◌}
-use Rattle.cdl_tokens.proofs.Prelude.{list_all, prefix_len, cases_lt, get_or_past, length-take-le, inner, stands, unescape, BeginsString, scan, scan_text, token, until, is_none_of, is_unescaped, Text, Bad}
+use Rattle.cdl_tokens.proofs.Prelude.{list_all, prefix_len, cases_lt, get_or_past, length-take-le, inner, string_value, unescape, BeginsString, scan, scan_text, token, len_until, is_none_of, is_unescaped, Text, Bad}
 use Rattle.cdl_tokens.proofs.PlainTokens.{feeds_on, no_opening}
 use Rattle.cdl_tokens.proofs.Steps.{take_one_more}
 use Rattle.cdl_tokens.proofs.Strings.{plain_string, plain_unescaped, stands_for}
@@ -36,12 +36,12 @@ plain_flat (b ∷ bytes) quote = by (is_plain b) refl quote (plain_flat bytes)
         ap (count_by (λ b. b == 0x0a)) (take_one_more b 0 bytes) ∙ feeds_on b [] other
 
 -- the string ends at the quote
-plain_until : (bytes : List ℕ) → slice_index bytes (plain_len bytes) ≡ 0x22 → until 0x22 bytes ≡ plain_len bytes
+plain_until : (bytes : List ℕ) → slice_index bytes (plain_len bytes) ≡ 0x22 → len_until 0x22 bytes ≡ plain_len bytes
 plain_until [] quote = cc
 plain_until (b ∷ bytes) quote = by (is_plain b) refl quote (plain_until bytes)
   where
     by : (c : Bool) → is_plain b ≡ c → slice_index (b ∷ bytes) (cond c (1 + plain_len bytes) 0) ≡ 0x22 →
-        (slice_index bytes (plain_len bytes) ≡ 0x22 → until 0x22 bytes ≡ plain_len bytes) → until 0x22 (b ∷ bytes) ≡ cond c (1 + plain_len bytes) 0
+        (slice_index bytes (plain_len bytes) ≡ 0x22 → len_until 0x22 bytes ≡ plain_len bytes) → len_until 0x22 (b ∷ bytes) ≡ cond c (1 + plain_len bytes) 0
     by true is quote rest =
         let slash : (b == 0x5c) ≡ false = grind (arith, is) in
         let other : (b == 0x22) ≡ false = grind (arith, is) in
@@ -74,7 +74,7 @@ inner_of b n bytes within =
     ap inner cut ∙ ap (λ m. take m (take (1 + n) bytes)) long ∙ taken_within n bytes
 
 -- a quote begins a string
-scan_quote : (at_start : Bool) (bytes : List ℕ) → scan at_start (0x22 ∷ bytes) ≡ scan_text bytes (until 0x22 bytes)
+scan_quote : (at_start : Bool) (bytes : List ℕ) → scan at_start (0x22 ∷ bytes) ≡ scan_text bytes (len_until 0x22 bytes)
 unfolding scan
 scan_quote at_start bytes = rw (no_opening (0x22 ∷ bytes) refl) (rw (and_false at_start) refl)
 
@@ -94,7 +94,7 @@ plain_begins bytes quote =
       some = omega arith;
       within = omega (arith, within);
       flat = ap (λ m. count_by (λ b. b == 0x0a) (take m (0x22 ∷ bytes))) (let e : n + 2 ≡ suc (1 + n) = omega arith in e) ∙ feeds_on 0x22 (take (1 + n) bytes) refl ∙ plain_flat bytes quote;
-      plain = ap stands (inner_of 0x22 n bytes within) ∙ stands_for (take n bytes) (take n bytes) (plain_unescaped (take n bytes) all) ∙ sym (inner_of 0x22 n bytes within);
+      plain = ap string_value (inner_of 0x22 n bytes within) ∙ stands_for (take n bytes) (take n bytes) (plain_unescaped (take n bytes) all) ∙ sym (inner_of 0x22 n bytes within);
     }
 
 pub begins_string : (bs rest : List ℕ) (n : ℕ) → slice_index bs 0 ≡ 0x22 → drop 1 bs ≡ rest → n ≡ plain_len rest → slice_index rest n ≡ 0x22 → BeginsString bs (n + 2)

@@ -1,6 +1,6 @@
 -- Marks and numbers at the start of bytes: they are no other token, and have no line feed.
 use Rattle.std.proofs.Common.{◌≡◌, ℕ, zero, suc, ◌+◌, ◌<◌, ◌≤◌, Bool, true, false, cond, List, [], ◌∷◌, length, get_or, drop, take, sym, ◌∙◌, ap, refl, arith, subst, ◌==◌, ◌&&◌, ◌||◌, count_by, Some, length-drop}
-use Rattle.cdl_tokens.proofs.Prelude.{prefix_len, Number, Mark, begins_word, goes_on_number, is_mark_byte, is_blank, is_digit, is_sign, scan, token, gap, begins_number, begins_opening, get_or-drop, sum_by-append, false≢true, TokenKind, is_token, followed, tokens_at, line_at}
+use Rattle.cdl_tokens.proofs.Prelude.{prefix_len, Number, Mark, may_begin_word, goes_on_number, is_mark_byte, is_blank, is_digit, is_sign, scan, token, gap, begins_number, begins_opening, get_or-drop, sum_by-append, false≢true, TokenKind, is_token, followed, tokens_at, line_at}
 use Rattle.cdl_tokens.proofs.Scans.{step_gap, step_token, line_more}
 use Rattle.cdl_tokens.proofs.Words.{and_false}
 
@@ -27,7 +27,7 @@ each_mark P b colon semicolon equals comma left right brace h =
 
 -- the classes of bytes that no mark belongs to
 abbrev MarkClasses : ℕ → Type 0
-MarkClasses b = ((b == 0x6e) ≡ false) × (begins_word b ≡ false) × ((b == 0x5c) ≡ false) × (is_digit b ≡ false) × ((b == 0x2e) ≡ false) × (is_sign b ≡ false) × (is_blank b ≡ false) × ((b == 0x2f) ≡ false) × ((b == 0x22) ≡ false) × ((b == 0x0a) ≡ false)
+MarkClasses b = ((b == 0x6e) ≡ false) × (may_begin_word b ≡ false) × ((b == 0x5c) ≡ false) × (is_digit b ≡ false) × ((b == 0x2e) ≡ false) × (is_sign b ≡ false) × (is_blank b ≡ false) × ((b == 0x2f) ≡ false) × ((b == 0x22) ≡ false) × ((b == 0x0a) ≡ false)
 
 mark_classes : (b : ℕ) → is_mark_byte b ≡ true → MarkClasses b
 mark_classes b h = each_mark MarkClasses b
@@ -64,7 +64,7 @@ unfolding scan
 scan_number at_start bs h =
     let low = number_low bs h in
     let netcdf : (get_or bs 0 0 == 0x6e) ≡ false = grind (arith, low) in
-    let word : begins_word (get_or bs 0 0) ≡ false = grind (arith, low) in
+    let word : may_begin_word (get_or bs 0 0) ≡ false = grind (arith, low) in
     let escape : (get_or bs 0 0 == 0x5c) ≡ false = grind (arith, low) in
     rw (no_opening bs netcdf) (rw (and_false at_start) (rw (word) (rw (escape) (rw (h) refl))))
 
@@ -74,7 +74,7 @@ unfolding scan
 scan_blank at_start bs h =
     let low : get_or bs 0 0 ≤ 0x20 = grind (arith, h) in
     let netcdf : (get_or bs 0 0 == 0x6e) ≡ false = grind (arith, low) in
-    let word : begins_word (get_or bs 0 0) ≡ false = grind (arith, low) in
+    let word : may_begin_word (get_or bs 0 0) ≡ false = grind (arith, low) in
     let escape : (get_or bs 0 0 == 0x5c) ≡ false = grind (arith, low) in
     let digit : is_digit (get_or bs 0 0) ≡ false = grind (arith, low) in
     let point : (get_or bs 0 0 == 0x2e) ≡ false = grind (arith, low) in

@@ -1,11 +1,11 @@
 -- The names that proofs of this crate cite from elsewhere, passed on from one place.
-pub use Rattle.cdl_tokens.specs.Bytes.{begins_word, digit_value, goes_on_number, goes_on_word, is_blank, is_digit, is_escape, is_mark_byte, is_sign, number_in}
-pub use Rattle.cdl_tokens.specs.Escapes.{inner, stands, unescape}
+pub use Rattle.cdl_tokens.specs.Bytes.{may_begin_word, digit_value, goes_on_number, goes_on_word, is_blank, is_digit, is_escape, is_mark_byte, is_sign, number_in}
+pub use Rattle.cdl_tokens.specs.Escapes.{inner, string_value, unescape}
 unfoldable pub use Rattle.cdl_tokens.specs.Escapes.{character, unescape_at, word_value}
-pub use Rattle.cdl_tokens.specs.Numerals.{unsigned}
-unfoldable pub use Rattle.cdl_tokens.specs.Numerals.{parts, suffix}
+pub use Rattle.cdl_tokens.specs.Numerals.{with_sign}
+unfoldable pub use Rattle.cdl_tokens.specs.Numerals.{parts, type_of_suffix}
 pub use Rattle.cdl_tokens.specs.Scan.{begins_number, begins_opening, gap, scan_text, token}
-unfoldable pub use Rattle.cdl_tokens.specs.Scan.{scan, until, word_len}
+unfoldable pub use Rattle.cdl_tokens.specs.Scan.{scan, len_until, word_len}
 pub use Rattle.cdl_tokens.specs.Tokens.{line_at, raw, token_at, with_token}
 unfoldable pub use Rattle.cdl_tokens.specs.Tokens.{tokens_at}
 pub use Rattle.cdl_tokens.specs.code.Magnitudes.{ReadsDigits, held, in_decimal, word}

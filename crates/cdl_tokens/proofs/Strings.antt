@@ -1,6 +1,6 @@
 -- A string, one character on.
 use Rattle.std.proofs.Common.{◌≡◌, ℕ, zero, suc, ◌+◌, ◌-◌, ◌<◌, ◌≤◌, Bool, true, false, cond, List, [], ◌∷◌, ◌++◌, length, get_or, take, drop, sym, ◌∙◌, ap, refl, arith, ◌==◌, map, not, Option, Some, is_some, unwrap_or}
-use Rattle.cdl_tokens.proofs.Prelude.{list_all, prefix_len, append-nil, at_drop_more, at_drop_all, drop-drop, take_all, unescape, unescape_at, character, stands, is_unescaped}
+use Rattle.cdl_tokens.proofs.Prelude.{list_all, prefix_len, append-nil, at_drop_more, at_drop_all, drop-drop, take_all, unescape, unescape_at, character, string_value, is_unescaped}
 use Rattle.cdl_tokens.specs.declared.scan.Character.{Character}
 use Rattle.cdl_tokens.proofs.Steps.{drop_some, drop_one_more, take_one_more}
 use Rattle.cdl_tokens.specs.Escapes.{plain_escape}
@@ -80,10 +80,10 @@ stands_of : (bs : List ℕ) (os : List (Option ℕ)) → map or_zero (bytes bs +
 stands_of [] os = refl
 stands_of (b ∷ bs) os = ap (λ xs. b ∷ xs) (stands_of bs os)
 
-pub stands_for : (raw bs : List ℕ) → unescape raw ≡ bytes bs → stands raw ≡ bs
+pub stands_for : (raw bs : List ℕ) → unescape raw ≡ bytes bs → string_value raw ≡ bs
 stands_for raw bs is = ap (map or_zero) (is ∙ sym (append-nil (bytes bs))) ∙ stands_of bs [] ∙ append-nil bs
 
-pub stands_run : (bs : List ℕ) (n : ℕ) → n ≡ prefix_len is_unescaped bs → stands bs ≡ take n bs ++ stands (drop n bs)
+pub stands_run : (bs : List ℕ) (n : ℕ) → n ≡ prefix_len is_unescaped bs → string_value bs ≡ take n bs ++ string_value (drop n bs)
 stands_run bs n is = ap (map or_zero) (unescape_run bs n is) ∙ stands_of (take n bs) (unescape (drop n bs))
 
 pub plain_small : (b : ℕ) → b < 256 → plain_escape b < 256

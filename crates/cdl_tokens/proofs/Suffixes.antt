@@ -3,7 +3,7 @@ use Rattle.std.proofs.Common.{◌≡◌, ℕ, Bool, true, false, List, [], ◌�
 use Rattle.std.specs.Char.{to_ascii_lowercase}
 use Rattle.std.specs.Str.{bytes_eq}
 use Rattle.std.specs.Cmp.Lexicographic.{bytes_decides}
-use Rattle.cdl_tokens.proofs.Prelude.{suffix, Version, Int}
+use Rattle.cdl_tokens.proofs.Prelude.{type_of_suffix, Version, Int}
 use Rattle.nc_base.specs.declared.version.Version.TheVariants.{Cdf1, Cdf2, Cdf5}
 
 same_truth : {P : Type 0} (r w : Bool) → (IsTrue r ↔ P) → (w ≡ true → P) → (P → w ≡ true) → r ≡ w
@@ -18,12 +18,12 @@ same_suffix a b r h =
     same_truth r (bytes_eq (map to_ascii_lowercase a) (map to_ascii_lowercase b)) h d.0 d.1
 
 -- no suffix: int, which every version has
-none : (v : Version) → suffix v [] ≡ Some Int
-unfolding suffix
+none : (v : Version) → type_of_suffix v [] ≡ Some Int
+unfolding type_of_suffix
 none Cdf1 = refl
 none Cdf2 = refl
 none Cdf5 = refl
 
-pub no_suffix : (bs : List ℕ) (v : Version) → length bs ≡ 0 → suffix v bs ≡ Some Int
+pub no_suffix : (bs : List ℕ) (v : Version) → length bs ≡ 0 → type_of_suffix v bs ≡ Some Int
 no_suffix [] v h = none v
 no_suffix (b ∷ bs) v h = absurd (let e : suc (length bs) ≡ 0 = h in omega (arith, e))

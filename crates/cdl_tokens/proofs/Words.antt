@@ -1,6 +1,6 @@
 -- A word and a quoted text, one byte or escape on.
 use Rattle.std.proofs.Common.{◌≡◌, ℕ, ◌+◌, ◌<◌, ◌≤◌, Bool, true, false, cond, List, [], ◌∷◌, length, get_or, drop, sym, ◌∙◌, ap, refl, arith, length-drop, ◌&&◌, ◌||◌, ◌==◌, not, if◌then◌else◌, nat_lt, ⊎_elim, append_assoc, ◌++◌}
-use Rattle.cdl_tokens.proofs.Prelude.{prefix_len, is_ordinary, false≢true, cases_lt, at_drop_more, at_drop_all, drop-drop, get_or-drop, get_or_past, is_escape, goes_on_word, begins_word, word_len, until, word_value}
+use Rattle.cdl_tokens.proofs.Prelude.{prefix_len, is_ordinary, false≢true, cases_lt, at_drop_more, at_drop_all, drop-drop, get_or-drop, get_or_past, is_escape, goes_on_word, may_begin_word, word_len, len_until, word_value}
 use Rattle.cdl_tokens.proofs.Steps.{drop_one_more}
 
 pub and_false : (a : Bool) → (a && false) ≡ false
@@ -38,8 +38,8 @@ pub and_yes : (a b : Bool) → b ≡ true → (a && b) ≡ a
 and_yes a b e = rw (e) (elim a as (λ v. (v && true) ≡ v) [ true ↦ refl | false ↦ refl ])
 
 pub until_at_start : (close b : ℕ) (rest : List ℕ) →
-    until close (b ∷ rest) ≡ (if b == 0x5c && nat_lt 0 (length rest) then 2 + until close (drop 1 rest) else (if b == close then 0 else 1 + until close rest))
-unfolding until
+    len_until close (b ∷ rest) ≡ (if b == 0x5c && nat_lt 0 (length rest) then 2 + len_until close (drop 1 rest) else (if b == close then 0 else 1 + len_until close rest))
+unfolding len_until
 until_at_start close b [] = rw (and_false (b == 0x5c)) refl
 until_at_start close b (c ∷ rest) =
     let e : nat_lt 0 (length (c ∷ rest)) ≡ true = grind arith in
@@ -49,45 +49,45 @@ is_more : (text : List ℕ) (at : ℕ) → at < length text → nat_lt 0 (length
 is_more text at h = rw (length-drop (at + 1) text) (grind arith)
 
 pub until_at : (close : ℕ) (text : List ℕ) (at : ℕ) → at < length text →
-    until close (drop at text) ≡
-    (if get_or text at 0 == 0x5c && nat_lt (at + 1) (length text) then 2 + until close (drop (at + 2) text) else (if get_or text at 0 == close then 0 else 1 + until close (drop (at + 1) text)))
+    len_until close (drop at text) ≡
+    (if get_or text at 0 == 0x5c && nat_lt (at + 1) (length text) then 2 + len_until close (drop (at + 2) text) else (if get_or text at 0 == close then 0 else 1 + len_until close (drop (at + 1) text)))
 until_at close text at h =
-    at_drop_more (until close) text at 0 h ∙ until_at_start close (get_or text at 0) (drop (at + 1) text) ∙ rw (is_more text at h) (rw (two_on text at) refl)
+    at_drop_more (len_until close) text at 0 h ∙ until_at_start close (get_or text at 0) (drop (at + 1) text) ∙ rw (is_more text at h) (rw (two_on text at) refl)
 
-pub until_past : (close : ℕ) (text : List ℕ) (at : ℕ) → length text ≤ at → until close (drop at text) ≡ 0
-unfolding until
-until_past close text at h = at_drop_all (until close) text at h
+pub until_past : (close : ℕ) (text : List ℕ) (at : ℕ) → length text ≤ at → len_until close (drop at text) ≡ 0
+unfolding len_until
+until_past close text at h = at_drop_all (len_until close) text at h
 
 pub until_byte : (close : ℕ) (text : List ℕ) (at : ℕ) → at < length text → (e : Bool) → e ≡ (get_or text at 0 == 0x5c && nat_lt (at + 1) (length text)) → e ≡ false →
-    (get_or text at 0 == close) ≡ false → until close (drop at text) ≡ 1 + until close (drop (at + 1) text)
+    (get_or text at 0 == close) ≡ false → len_until close (drop at text) ≡ 1 + len_until close (drop (at + 1) text)
 until_byte close text at h e is off other = until_at close text at h ∙ rw (← is) (rw (off) (rw (other) refl))
 
 -- up to the first byte that escapes or closes
-until_ordinary : (close : ℕ) (bytes : List ℕ) → until close bytes ≡ prefix_len (is_ordinary close) bytes + until close (drop (prefix_len (is_ordinary close) bytes) bytes)
+until_ordinary : (close : ℕ) (bytes : List ℕ) → len_until close bytes ≡ prefix_len (is_ordinary close) bytes + len_until close (drop (prefix_len (is_ordinary close) bytes) bytes)
 until_ordinary close [] = omega arith
 until_ordinary close (b ∷ bytes) = by (b == 0x5c) (b == close) refl refl (until_ordinary close bytes)
   where
     n : ℕ
     n = prefix_len (is_ordinary close) bytes
 
-    by : (e f : Bool) → (b == 0x5c) ≡ e → (b == close) ≡ f → until close bytes ≡ n + until close (drop n bytes) →
-        until close (b ∷ bytes) ≡ cond (not e && not f) (1 + n) 0 + until close (drop (cond (not e && not f) (1 + n) 0) (b ∷ bytes))
+    by : (e f : Bool) → (b == 0x5c) ≡ e → (b == close) ≡ f → len_until close bytes ≡ n + len_until close (drop n bytes) →
+        len_until close (b ∷ bytes) ≡ cond (not e && not f) (1 + n) 0 + len_until close (drop (cond (not e && not f) (1 + n) 0) (b ∷ bytes))
     by true f is closes rest = omega arith
     by false true is closes rest = omega arith
     by false false is closes rest =
         until_at_start close b bytes ∙ rw (is) (rw (closes) (
         ap (λ m. 1 + m) rest ∙
-        (let e : 1 + (n + until close (drop n bytes)) ≡ 1 + n + until close (drop n bytes) = omega arith in e) ∙
-        ap (λ xs. 1 + n + until close xs) (sym (drop_one_more b n bytes))))
+        (let e : 1 + (n + len_until close (drop n bytes)) ≡ 1 + n + len_until close (drop n bytes) = omega arith in e) ∙
+        ap (λ xs. 1 + n + len_until close xs) (sym (drop_one_more b n bytes))))
 
-pub until_run : (close : ℕ) (text : List ℕ) (at n : ℕ) → n ≡ prefix_len (is_ordinary close) (drop at text) → until close (drop at text) ≡ n + until close (drop (at + n) text)
+pub until_run : (close : ℕ) (text : List ℕ) (at n : ℕ) → n ≡ prefix_len (is_ordinary close) (drop at text) → len_until close (drop at text) ≡ n + len_until close (drop (at + n) text)
 until_run close text at n is =
     until_ordinary close (drop at text) ∙
-    ap (λ m. m + until close (drop m (drop at text))) (sym is) ∙
-    ap (λ xs. n + until close xs) (drop-drop n at text)
+    ap (λ m. m + len_until close (drop m (drop at text))) (sym is) ∙
+    ap (λ xs. n + len_until close xs) (drop-drop n at text)
 
 -- a word has a byte
-pub word_some : (bytes : List ℕ) → 0 < length bytes → (begins_word (get_or bytes 0 0) || is_escape (get_or bytes 0 0) (get_or bytes 1 0)) ≡ true → 0 < word_len bytes
+pub word_some : (bytes : List ℕ) → 0 < length bytes → (may_begin_word (get_or bytes 0 0) || is_escape (get_or bytes 0 0) (get_or bytes 1 0)) ≡ true → 0 < word_len bytes
 word_some bytes h k = grind (arith, word_at bytes 0 h, k)
 
 -- what a word stands for, one byte or escape on

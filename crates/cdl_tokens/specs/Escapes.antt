@@ -32,14 +32,14 @@ plain_escape b =
     else b))))))
 
 -- the escape at the backslash just before these bytes; its length counts that backslash
-abbrev pub escape : List ℕ → Character
-escape bs =
+abbrev pub escaped_character : List ℕ → Character
+escaped_character bs =
     if is_octal (slice_index bs 0) then number_escape 1 8 (take_while is_octal (take 3 bs))
     else (if slice_index bs 0 == byte "x" then number_escape 2 16 (take_while is_hex (take 2 (drop 1 bs)))
     else record { value = Some (plain_escape (slice_index bs 0)); len = 2 })
 
 unfoldable pub character : List ℕ → Character
-character bs = if slice_index bs 0 == byte "\\" then escape (drop 1 bs) else record { value = Some (slice_index bs 0); len = 1 }
+character bs = if slice_index bs 0 == byte "\\" then escaped_character (drop 1 bs) else record { value = Some (slice_index bs 0); len = 1 }
 
 -- the byte of each character from here on, if it stands for one; of the character before, `more` bytes are still to come
 unfoldable pub unescape_at : ℕ → List ℕ → List (Option ℕ)
@@ -56,5 +56,5 @@ abbrev pub unescape : List ℕ → List (Option ℕ)
 unescape bs = unescape_at 0 bs
 
 -- the bytes that a string stands for; a character without one, which no good string has, counts as 0
-abbrev pub stands : List ℕ → List ℕ
-stands bs = map (λ b. unwrap_or b 0) (unescape bs)
+abbrev pub string_value : List ℕ → List ℕ
+string_value bs = map (λ b. unwrap_or b 0) (unescape bs)

@@ -22,8 +22,8 @@ has_suffix bs Int = bytes_eq bs [] || bytes_eq bs (codes "l")
 has_suffix bs ty = bytes_eq bs (map to_ascii_lowercase (number_suffix ty))
 
 -- the type of a suffix, each letter in either case, if the version has the type
-unfoldable pub suffix : Version → List ℕ → Option NcType
-suffix v bs = find (λ ty. has_suffix (map to_ascii_lowercase bs) ty && has_type v ty) all_types
+unfoldable pub type_of_suffix : Version → List ℕ → Option NcType
+type_of_suffix v bs = find (λ ty. has_suffix (map to_ascii_lowercase bs) ty && has_type v ty) all_types
 
 -- the sign of a number, the value of its digits (which has no limit), and the type that its suffix says
 pub record Parts : Type 0 where
@@ -34,17 +34,17 @@ pub record Parts : Type 0 where
 -- n digits of a base, one at least, and a suffix
 abbrev pub in_base : Version → Bool → ℕ → ℕ → List ℕ → Option Parts
 in_base v minus base n bs =
-    if n == 0 then None else option_map (λ ty. record { minus = minus; magnitude = number_in base 0 (take n bs); ty = ty }) (suffix v (drop n bs))
+    if n == 0 then None else option_map (λ ty. record { minus = minus; magnitude = number_in base 0 (take n bs); ty = ty }) (type_of_suffix v (drop n bs))
 
 -- hexadecimal digits after `0x` or `0X`; or octal digits, if `0` is the first of them or alone; or decimal digits
-abbrev pub unsigned : Version → Bool → List ℕ → Option Parts
-unsigned v minus bs =
+abbrev pub with_sign : Version → Bool → List ℕ → Option Parts
+with_sign v minus bs =
     if slice_index bs 0 == byte "0" && to_ascii_lowercase (slice_index bs 1) == byte "x" then in_base v minus 16 (prefix_len is_hex (drop 2 bs)) (drop 2 bs)
     else (if slice_index bs 0 == byte "0" then in_base v minus 8 (prefix_len is_octal bs) bs
     else in_base v minus 10 (prefix_len is_digit bs) bs)
 
 unfoldable pub parts : Version → List ℕ → Option Parts
-parts v bs = if is_sign (slice_index bs 0) then unsigned v (slice_index bs 0 == byte "-") (drop 1 bs) else unsigned v false bs
+parts v bs = if is_sign (slice_index bs 0) then with_sign v (slice_index bs 0 == byte "-") (drop 1 bs) else with_sign v false bs
 
 abbrev pub signed : Bool → ℕ → ℤ
 signed minus n = if minus then neg_ℤ (pos n) else pos n

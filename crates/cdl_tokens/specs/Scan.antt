@@ -2,7 +2,7 @@
 use Rattle.std.specs.Prelude.{ℕ, Bool, List, [], ◌∷◌, ◌+◌, ◌&&◌, ◌||◌, ◌==◌, nat_lt, nat_eq, not, if◌then◌else◌, slice_index, take, drop, length, codes, None, Some, is_some}
 use Rattle.std.specs.Str.{byte}
 use Rattle.std.specs.List.{list_all, prefix_len, starts_with}
-use Rattle.cdl_tokens.specs.Bytes.{is_blank, is_digit, begins_word, goes_on_word, goes_on_number, is_sign, is_mark_byte, is_escape}
+use Rattle.cdl_tokens.specs.Bytes.{is_blank, is_digit, may_begin_word, goes_on_word, goes_on_number, is_sign, is_mark_byte, is_escape}
 use Rattle.cdl_tokens.specs.Escapes.{unescape}
 use Rattle.cdl_tokens.specs.declared.{scan.Scanned.Scanned, token.TokenKind.TokenKind}
 use Rattle.cdl_tokens.specs.declared.token.TokenKind.TheVariants.{Opening, Word, Number, Text, Mark, Bad}
@@ -16,16 +16,16 @@ word_len (b ∷ c ∷ rest) =
     else (if goes_on_word b then 1 + word_len (c ∷ rest) else 0)
 
 -- how many bytes come before the first `close` that no backslash escapes; if there is none, how many there are
-unfoldable pub until : ℕ → List ℕ → ℕ
-until close [] = 0
-until close (b ∷ []) = if b == close then 0 else 1
-until close (b ∷ c ∷ rest) =
-    if b == byte "\\" then 2 + until close rest
-    else (if b == close then 0 else 1 + until close (c ∷ rest))
+unfoldable pub len_until : ℕ → List ℕ → ℕ
+len_until close [] = 0
+len_until close (b ∷ []) = if b == close then 0 else 1
+len_until close (b ∷ c ∷ rest) =
+    if b == byte "\\" then 2 + len_until close rest
+    else (if b == close then 0 else 1 + len_until close (c ∷ rest))
 
 -- a letter, `_`, a byte from 0x80 or an escape
 abbrev pub begins_a_word : List ℕ → Bool
-begins_a_word bs = begins_word (slice_index bs 0) || is_escape (slice_index bs 0) (slice_index bs 1)
+begins_a_word bs = may_begin_word (slice_index bs 0) || is_escape (slice_index bs 0) (slice_index bs 1)
 
 -- a digit, `.` and a digit, a sign and a digit, or a sign, `.` and a digit
 abbrev pub begins_number : List ℕ → Bool
@@ -59,11 +59,11 @@ scan_text bs n = if nat_lt n (length bs) then token (if list_all is_some (unesca
 -- the token or gap at the start of these bytes, one byte at least; at_start: no token comes before them
 unfoldable pub scan : Bool → List ℕ → Scanned
 scan at_start bs =
-    if at_start && begins_opening bs then scan_opening (drop 6 bs) (until (byte "{") (drop 6 bs))
+    if at_start && begins_opening bs then scan_opening (drop 6 bs) (len_until (byte "{") (drop 6 bs))
     else (if begins_a_word bs then token Word (word_len bs)
     else (if begins_number bs then token Number (1 + prefix_len goes_on_number (drop 1 bs))
     else (if is_blank (slice_index bs 0) then gap 1
     else (if begins_comment bs then gap (prefix_len (λ b. not (b == byte "\n")) bs)
-    else (if slice_index bs 0 == byte "\"" then scan_text (drop 1 bs) (until (byte "\"") (drop 1 bs))
+    else (if slice_index bs 0 == byte "\"" then scan_text (drop 1 bs) (len_until (byte "\"") (drop 1 bs))
     else (if is_mark_byte (slice_index bs 0) then token Mark 1
     else token Bad 1))))))

@@ -1,7 +1,7 @@
 //! The classes of bytes.
 
 ghost use Rattle.std.specs.Prelude.{◌≡◌, ◌≤◌, length, slice_index, take};
-ghost use Rattle.cdl_tokens.specs.Bytes.{begins_word, goes_on_number, goes_on_word, is_blank, is_digit, is_escape, is_hex, is_letter, is_mark_byte, is_octal, is_sign};
+ghost use Rattle.cdl_tokens.specs.Bytes.{may_begin_word, goes_on_number, goes_on_word, is_blank, is_digit, is_escape, is_hex, is_letter, is_mark_byte, is_octal, is_sign};
 
 /// Returns the byte at an offset, or 0 if there is none.
 pub fn byte_at(bytes: &[u8], at: usize) -> u8
@@ -74,7 +74,7 @@ pub fn is_mark(b: u8) -> bool
 
 /// Returns true if a word may begin with the byte, unescaped: a letter, `_` or a byte from 0x80.
 pub fn begins_word(b: u8) -> bool
-    ensures { result ≡ begins_word b }
+    ensures { result ≡ may_begin_word b }
 {
     is_letter(b) || b == b'_' || b >= 0x80
 }

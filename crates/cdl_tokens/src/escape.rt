@@ -3,7 +3,7 @@
 ghost use Rattle.std.specs.Prelude.{◌≡◌, ◌≤◌, ◌<◌, is_some, length};
 ghost use Rattle.std.specs.List.{list_all, prefix_len};
 ghost use Rattle.cdl_tokens.specs.Bytes.{number_in};
-ghost use Rattle.cdl_tokens.specs.Escapes.{up_to_255, character, escape, number_escape, plain_escape, unescape};
+ghost use Rattle.cdl_tokens.specs.Escapes.{up_to_255, character, escaped_character, number_escape, plain_escape, unescape};
 ghost use Rattle.cdl_tokens.specs.code.Scanners.{is_unescaped};
 
 use crate::bytes::{byte_at, first_bytes, is_octal};
@@ -66,7 +66,7 @@ fn plain_escape(b: u8) -> u8
 /// Returns the escape that a backslash and the first of these bytes make. After the backslash come up to three octal digits, or `x` and up
 /// to two hexadecimal digits, or one other byte. If `bytes` is empty, a 0 byte counts as the other byte.
 fn escape(bytes: &[u8]) -> Character
-    ensures escape { result ≡ escape bytes.now }
+    ensures escape { result ≡ escaped_character bytes.now }
     ensures some { 0 < result.len }
 {
     let b = byte_at(bytes, 0);

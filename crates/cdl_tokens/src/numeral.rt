@@ -5,7 +5,7 @@ ghost use Rattle.std.specs.List.{prefix_len};
 ghost use Rattle.std.specs.Prelude.{◌≡◌, ◌≤◌, ◌+◌, drop, length, map, option_map, slice_index};
 ghost use Rattle.cdl_tokens.specs.Bytes.{is_digit, number_in};
 ghost use Rattle.cdl_tokens.specs.code.Magnitudes.{ReadsDigits, held, in_decimal};
-ghost use Rattle.cdl_tokens.specs.Numerals.{has_suffix, in_base, parts, suffix, unsigned};
+ghost use Rattle.cdl_tokens.specs.Numerals.{has_suffix, in_base, parts, type_of_suffix, with_sign};
 
 use crate::bytes::{byte_at, is_digit, is_sign};
 use crate::digits::{digit_len, hex_len, number_in, octal_len};
@@ -45,7 +45,7 @@ pub fn number_of_token(version: Version, bytes: &[u8]) -> Option<Numeral>
 /// number, or if the version doesn't have their suffix.
 #[inline(always)]
 fn unsigned(version: Version, minus: bool, bytes: &[u8]) -> Option<Numeral>
-    ensures { result ≡ option_map held (unsigned version minus bytes.now) }
+    ensures { result ≡ option_map held (with_sign version minus bytes.now) }
 {
     if byte_at(bytes, 0) == b'0' {
         after_zero(version, minus, bytes)
@@ -103,7 +103,7 @@ pub fn first_digits(bytes: &[u8]) -> (usize, u64)
 #[inline(never)]
 fn after_zero(version: Version, minus: bool, bytes: &[u8]) -> Option<Numeral>
     requires { slice_index bytes.now 0 ≡ 0x30 }
-    ensures { result ≡ option_map held (unsigned version minus bytes.now) }
+    ensures { result ≡ option_map held (with_sign version minus bytes.now) }
 {
     if byte_at(bytes, 1).to_ascii_lowercase() == b'x' {
         let (_, rest) = bytes.split_at(2);
@@ -137,7 +137,7 @@ fn in_base(version: Version, minus: bool, base: u64, n: usize, bytes: &[u8]) -> 
 /// `None` if the version doesn't have the suffix.
 #[tactic(auto, using(crate::proofs::Suffixes::no_suffix))]
 fn suffix(version: Version, bytes: &[u8]) -> Option<NcType>
-    ensures { result ≡ suffix version bytes.now }
+    ensures { result ≡ type_of_suffix version bytes.now }
 {
     // Most numbers have none, and every version has int.
     if bytes.is_empty() {
@@ -147,10 +147,10 @@ fn suffix(version: Version, bytes: &[u8]) -> Option<NcType>
 }
 
 /// Returns the type that a suffix stands for, as [`suffix`] does, but searches all types for it.
-#[tactic(auto, unfolding(crate::specs::Numerals::suffix))]
+#[tactic(auto, unfolding(crate::specs::Numerals::type_of_suffix))]
 #[inline(never)]
 fn find_suffix(version: Version, bytes: &[u8]) -> Option<NcType>
-    ensures { result ≡ suffix version bytes.now }
+    ensures { result ≡ type_of_suffix version bytes.now }
 {
     NcType::ALL
         .iter()

@@ -3,7 +3,7 @@
 ghost use Rattle.std.specs.Prelude.{◌≡◌, ◌+◌, ◌≤◌, ◌<◌, ◌==◌, ◌^◌, ◌&&◌, IsTrue, drop, length, not, true, nat_lt, slice_index};
 ghost use Rattle.std.specs.List.{prefix_len};
 ghost use Rattle.cdl_tokens.specs.Bytes.{goes_on_number};
-ghost use Rattle.cdl_tokens.specs.Scan.{begins_a_word, begins_comment, begins_number, begins_opening, gap, scan, scan_opening, scan_text, token, until, word_len};
+ghost use Rattle.cdl_tokens.specs.Scan.{begins_a_word, begins_comment, begins_number, begins_opening, gap, scan, scan_opening, scan_text, token, len_until, word_len};
 ghost use Rattle.cdl_tokens.specs.code.Scanners.{is_ordinary, is_token};
 
 use crate::bytes::{
@@ -88,7 +88,7 @@ fn token(kind: TokenKind, len: usize) -> Scanned
 /// bytes. The length counts `netcdf`.
 fn scan_opening(bytes: &[u8]) -> Scanned
     requires { length bytes.now + 6 < 2 ^ 64 }
-    ensures scan { result ≡ scan_opening bytes.now (until 0x7b bytes.now) }
+    ensures scan { result ≡ scan_opening bytes.now (len_until 0x7b bytes.now) }
     ensures within { result.len ≤ length bytes.now + 6 }
 {
     let n = until(bytes, b'{');
@@ -104,7 +104,7 @@ fn scan_opening(bytes: &[u8]) -> Scanned
 /// stands for no byte (`\400`, for example, is above 255). The length counts both quotes.
 fn scan_text(bytes: &[u8]) -> Scanned
     requires { length bytes.now + 1 < 2 ^ 64 }
-    ensures scan { result ≡ scan_text bytes.now (until 0x22 bytes.now) }
+    ensures scan { result ≡ scan_text bytes.now (len_until 0x22 bytes.now) }
     ensures within { result.len ≤ length bytes.now + 1 }
 {
     let n = until(bytes, b'"');
@@ -220,7 +220,7 @@ fn ordinary_len(bytes: &[u8], close: u8) -> usize
 /// Returns how many bytes come before the first `close` that isn't escaped. If there is none, returns the number of all bytes.
 #[tactic(auto, using(crate::proofs::Words::until_at, crate::proofs::Words::until_past, crate::proofs::Words::until_run))]
 fn until(bytes: &[u8], close: u8) -> usize
-    ensures len { result ≡ until close bytes.now }
+    ensures len { result ≡ len_until close bytes.now }
     ensures within { result ≤ length bytes.now }
 {
     let mut at = 0;

@@ -1,7 +1,7 @@
 -- The bytes of an attribute's constants.
 use Rattle.std.proofs.Common.{◌≡◌, ℕ, zero, suc, ◌-◌, ◌<◌, Bool, true, false, List, [], ◌∷◌, ◌++◌, length, take, drop, refl, sym, ap, ◌∙◌, append_assoc, arith, pos, Option, None, Some, Result, Ok, Err, nat_lt, ◌==◌, slice_index, map, if◌then◌else◌}
 use Rattle.std.specs.Prelude.{⊤}
-use Rattle.cdl_values.proofs.Prelude.{bytes_of_number, NcType, Char, Version, value_of, values, Lexeme, TokenKind, take_while, is_octal, is_hex, number_in, up_to_255, character, escape, inner, number_escape, plain_escape, stands, unescape_at, or_zero, word, held, Parts, number, Value, Number, Characters, CdlKind, NumberRange, add_constant, has_number, in_turn, same_type, type_said, unless, Adds, ContinuesRead, Leaves, char_bytes, held_bytes, joined, number_bytes, text_bytes, ReadError, OutOfMemory, Fault, plain_small}
+use Rattle.cdl_values.proofs.Prelude.{bytes_of_number, NcType, Char, Version, value_of, values, Lexeme, TokenKind, take_while, is_octal, is_hex, number_in, up_to_255, character, escaped_character, inner, number_escape, plain_escape, string_value, unescape_at, or_zero, word, held, Parts, number, Value, Number, Characters, CdlKind, NumberRange, add_constant, has_number, in_turn, same_type, type_said, unless, Adds, ContinuesRead, Leaves, char_bytes, held_bytes, joined, number_bytes, text_bytes, ReadError, OutOfMemory, Fault, plain_small}
 use Rattle.cdl_tokens.specs.declared.token.TokenKind.TheVariants as kinds
 use Rattle.cdl_tokens.specs.declared.scan.Character.{Character}
 use Rattle.cdl_tokens.specs.declared.numeral.Numeral.{Numeral as Held}
@@ -111,7 +111,7 @@ number_small mark base digits = by (length digits == 0)
     by true = omega arith
     by false = small_byte (number_in base 0 digits)
 
-escape_small : (bs : List ℕ) → AreBytes bs → or_zero (escape bs).value < 256
+escape_small : (bs : List ℕ) → AreBytes bs → or_zero (escaped_character bs).value < 256
 escape_small bs h = by (is_octal (slice_index bs 0)) (slice_index bs 0 == 0x78)
   where
     octal : List ℕ
@@ -129,7 +129,7 @@ character_small : (bs : List ℕ) → AreBytes bs → or_zero (character bs).val
 unfolding character
 character_small bs h = by (slice_index bs 0 == 0x5c)
   where
-    by : (escaped : Bool) → or_zero (value_in (if escaped then escape (drop 1 bs) else record { value = Some (slice_index bs 0); len = 1 })) < 256
+    by : (escaped : Bool) → or_zero (value_in (if escaped then escaped_character (drop 1 bs) else record { value = Some (slice_index bs 0); len = 1 })) < 256
     by true = escape_small (drop 1 bs) (without_first bs h)
     by false = h 0
 
@@ -142,10 +142,10 @@ stand_at zero (b ∷ bs) h =
     let rest = map or_zero (unescape_at ((character (b ∷ bs)).len - 1) bs) in
     one_char v rest (character_small (b ∷ bs) h) ∙ ap (λ xs. v ∷ xs) (stand_at ((character (b ∷ bs)).len - 1) bs (after_first b bs h))
 
-pub stand : (bytes : List ℕ) → AreBytes bytes → char_bytes (stands (inner bytes)) ≡ stands (inner bytes)
+pub stand : (bytes : List ℕ) → AreBytes bytes → char_bytes (string_value (inner bytes)) ≡ string_value (inner bytes)
 stand bytes h = stand_at 0 (inner bytes) (first_ones (length bytes - 2) (drop 1 bytes) (without_first bytes h))
 
 pub characters_left : (ty : NcType) (before after bytes : List ℕ) (r : Result ⊤ ReadError) → same_type Char ty ≡ true → AreBytes bytes →
-    Adds before after r (text_bytes None (Characters (stands (inner bytes)))) → Leaves after r (add_constant ty before (Characters (stands (inner bytes))))
+    Adds before after r (text_bytes None (Characters (string_value (inner bytes)))) → Leaves after r (add_constant ty before (Characters (string_value (inner bytes))))
 characters_left ty before after bytes r same small h =
-    joined_left before after r (Ok (char_bytes (stands (inner bytes)))) (add_constant ty before (Characters (stands (inner bytes)))) (rw (same) (ap (λ bs. Ok (before ++ bs)) (sym (stand bytes small)))) h
+    joined_left before after r (Ok (char_bytes (string_value (inner bytes)))) (add_constant ty before (Characters (string_value (inner bytes)))) (rw (same) (ap (λ bs. Ok (before ++ bs)) (sym (stand bytes small)))) h

@@ -1,6 +1,6 @@
 -- A run of values, one value on.
 use Rattle.std.proofs.Common.{◌≡◌, ◌≤◌, ◌<◌, ℕ, ◌+◌, ◌-◌, Bool, true, false, List, ◌∷◌, length, drop, sym, ap, ◌∙◌, refl, subst, arith, Option, None, Some, Ok, ◌&&◌, ◌==◌, slice_index}
-use Rattle.cdl_values.proofs.Prelude.{Version, inner, stands, TokenKind, value_of, values, is_done, next_token, text_of, version_of, words, completes, is_value_of, next, only, separator, Lexeme, is_mark, is_mark_kind, lexeme, IsAtComma, Passes, PassesNumber, PassesString, Characters, first_bad, token_fault, lexeme_with, Cutter, Due, Separator, at_same_comma, same_after, same_words, good_on, bytes_of, capacity_after, held_bytes, is_full, joined, capacity_minus, packed, row_bytes, GoesOn, Place, TakesValues, Fill, Filling, Numbers, Rows, past_mark}
+use Rattle.cdl_values.proofs.Prelude.{Version, inner, string_value, TokenKind, value_of, values, is_done, next_token, text_of, version_of, words, completes, is_value_of, next, only, separator, Lexeme, is_mark, is_mark_kind, lexeme, IsAtComma, Passes, PassesNumber, PassesString, Characters, first_bad, token_fault, lexeme_with, Cutter, Due, Separator, at_same_comma, same_after, same_words, good_on, bytes_of, capacity_after, held_bytes, is_full, joined, capacity_minus, packed, row_bytes, GoesOn, Place, TakesValues, Fill, Filling, Numbers, Rows, past_mark}
 use Rattle.cdl_tokens.specs.code.Scanners as scanners
 use Rattle.cdl_tokens.specs.declared.numeral.Numeral.{Numeral as Held}
 use Rattle.cdl_tokens.specs.declared.token.TokenKind.TheVariants as kinds
@@ -108,13 +108,13 @@ number_on takes_fill fill start rest n at passes full adds left =
 
 -- a row more
 pub row_on : (takes_fill : Bool) (len fill : ℕ) (start rest : Place) (bytes : List ℕ) → IsAtComma start.cutter → PassesString start.cutter rest.cutter bytes → is_full start.left ≡ false →
-    joined (Ok start.bytes) (row_bytes len fill false (Characters (stands (inner bytes)))) ≡ Ok rest.bytes → rest.left ≡ capacity_minus 1 start.left → TakesValues takes_fill (Rows len fill) start rest
+    joined (Ok start.bytes) (row_bytes len fill false (Characters (string_value (inner bytes)))) ≡ Ok rest.bytes → rest.left ≡ capacity_minus 1 start.left → TakesValues takes_fill (Rows len fill) start rest
 unfolding value_of
 row_on takes_fill len fill start rest bytes at passes full adds left =
     let v = version_of start.cutter in
     let l = lexeme_with kinds.Text bytes in
     let sum : joined (Ok start.bytes) (bytes_of (Rows len fill) start.left (value_of v l kinds.Text)) ≡ Ok rest.bytes =
-    ap (λ b. joined (Ok start.bytes) (row_bytes len fill b (Characters (stands (inner bytes))))) full ∙ adds in
+    ap (λ b. joined (Ok start.bytes) (row_bytes len fill b (Characters (string_value (inner bytes))))) full ∙ adds in
     value_on takes_fill (Rows len fill) start rest l at passes.passes refl refl (packs_one v (Rows len fill) start rest l refl sum (λ _. sym left))
 
 -- what capacity is left

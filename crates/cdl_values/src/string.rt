@@ -2,7 +2,7 @@
 
 ghost use Rattle.std.specs.Prelude.{◌≡◌, ◌++◌, ◌≤◌, Err, IfOk, OnOk, length, take, false, true};
 ghost use Rattle.std.specs.List.{prefix_len};
-ghost use Rattle.cdl_tokens.specs.Escapes.{inner, stands};
+ghost use Rattle.cdl_tokens.specs.Escapes.{inner, string_value};
 ghost use Rattle.cdl_tokens.specs.code.Scanners.{is_unescaped};
 ghost use Rattle.cdl_statements.specs.declared.fault.CdlKind.TheVariants.{TooManyValues};
 ghost use Rattle.cdl_values.specs.code.Answers.{Adds};
@@ -71,7 +71,7 @@ pub fn put_plain_row(
     fill: u8,
     bytes: &[u8],
 ) -> Result<(), ReadError>
-    requires { stands (inner bytes.now) ≡ inner bytes.now }
+    requires { string_value (inner bytes.now) ≡ inner bytes.now }
     ensures { Adds array.old array.new result (row_bytes len fill false (text_said bytes.now)) }
 {
     let characters = inner(bytes);
@@ -87,7 +87,7 @@ pub fn put_plain_row(
 /// Appends to `array` the bytes that a string stands for. `raw` is what the string has between its quotes. An escape that stands for no
 /// byte gives a 0 byte. Errs only if an allocation failed.
 fn put_string(array: &mut ListedArray, raw: &[u8]) -> Result<(), AllocError>
-    ensures { OnOk result (array.new ≡ array.old ++ char_bytes (stands raw.now)) }
+    ensures { OnOk result (array.new ≡ array.old ++ char_bytes (string_value raw.now)) }
 {
     let mut at = put_unescaped(array, raw)?;
     while at < raw.len() {

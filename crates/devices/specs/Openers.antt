@@ -11,12 +11,12 @@ abbrev pub opens_after : OpenerView → ℕ
 opens_after old = min (old.opens + 1) (2 ^ 128 - 1)
 
 -- What opens paths, before a call and after it. If it opens transparent devices, contracts know which bytes each path names, if any.
-pub record Opening : Type 0 where
+pub record OpenerUse : Type 0 where
   pub is_transparent : Bool
   pub named : List ℕ → Option (List ℕ)
   pub before : OpenerView
   pub after : OpenerView
 
 -- the record of an opener, from what it was and what it is
-abbrev pub opening : {Opener : Type 0} → Bool → (Opener → List ℕ → Option (List ℕ)) → (Opener → OpenerView) → Opener → Opener → Opening
-opening is_transparent named view old new = record { is_transparent = is_transparent; named = named old; before = view old; after = view new }
+abbrev pub opener_use : {Opener : Type 0} → Bool → (Opener → List ℕ → Option (List ℕ)) → (Opener → OpenerView) → Opener → Opener → OpenerUse
+opener_use is_transparent named view old new = record { is_transparent = is_transparent; named = named old; before = view old; after = view new }

@@ -1,7 +1,7 @@
 -- The dump of a file that holds a dataset is the text of that dataset.
 use Rattle.std.proofs.Common.{◌≡◌, ℕ, ℤ, suc, ◌+◌, ◌≤◌, Bool, ◌&&◌, ◌||◌, cond, List, [], ◌∷◌, length, get_or, map, refl, sym, ◌∙◌, ap, subst, arith, Option, Some, None, inl, inr, ◌==◌, codes, All, IsTrue, if◌then◌else◌, slice_index_or}
 use Rattle.std.proofs.Math.Path.{fun_ext}
-use Rattle.nc_base.proofs.Prelude.{record_count, concat, list_all, position, position_or_len, bytes_eq, cases_lt, lt-ltb, ltb-false, length-map, All-head, All-tail, All-map, All-weaker, All-from_get_or, fails_before_first, Dim, Header, Known, Var, Dataset, size_of, numbers, bare_var, bare, escaped_name, fill_value, Look, look_of, concat_parts, SpellsHeader, bytes_at, value_offsets, stored_bytes, stored_values, ends_after, first_missing, HoldsDataset, Options, Ending, Section, VariableValues, has_variable, has_values, IsFirstUnknown, KnowsChosen, IsFirstUnknownOf, is_selected, selection_of, values_in_file, values_in_dataset, with_variable, variables_section, shown_section, data_word, closing_word, dump_text, IsDump, IsText, shown_data, stopped, unknown, shown}
+use Rattle.nc_base.proofs.Prelude.{record_count, concat, list_all, position, position_or_len, bytes_eq, cases_lt, lt-ltb, ltb-false, length-map, All-head, All-tail, All-map, All-weaker, All-from_get_or, fails_before_first, Dim, Header, Known, Var, Dataset, size_of, numbers, bare_var, bare, escaped_name, fill_value, Look, look_of, concat_parts, SpellsHeader, bytes_at, value_offsets, stored_bytes, stored_values, ends_after, first_missing, HoldsDataset, Options, Ending, DataText, VariableValues, has_variable, has_values, IsFirstUnknown, KnowsChosen, IsFirstUnknownOf, is_selected, selection_of, values_in_file, values_in_dataset, with_variable, data_text, shown_data_text, data_word, closing_word, dump_text, IsDump, IsText, shown_data, stopped, unknown, shown}
 use Rattle.nc_base.specs.HeadText.{vars_text, var_lines, head_text, netcdf_word, variables_word, dims_text, gatts_text}
 use Rattle.nc_base.specs.FirstFault.{StopsAt}
 use Rattle.nc_base.specs.declared.fault.FormatFault.{FormatFault}
@@ -70,13 +70,13 @@ unfolding look_of fill_value
 look-bare h var n width = refl
 
 -- a variable's values, if they are shown, and those after it
-abbrev row : Bool → ℕ → Look → VariableValues → Section → Section
+abbrev row : Bool → ℕ → Look → VariableValues → DataText → DataText
 row shows v look content others = if shows then with_variable look content.values content.missing v others else others
 
 values-held : (h : Header) (bytes : List ℕ) (n width : ℕ) (d : Dataset) (vars : List Var) (v : ℕ) (marks : List Bool)
     → ((k : ℕ) → slice_index_or d.arrays (v + k) [] ≡ slice_index_or (map (λ (var : Var). concat (stored_bytes h bytes var n)) vars) k [])
     → All (λ (var : Var). first_missing h bytes var n ≡ None) vars
-    → variables_section (shown_data (bare h n) (values_in_dataset d) n width) v (map bare_var vars) marks ≡ variables_section (shown_data h (values_in_file h bytes n) n width) v vars marks
+    → data_text (shown_data (bare h n) (values_in_dataset d) n width) v (map bare_var vars) marks ≡ data_text (shown_data h (values_in_file h bytes n) n width) v vars marks
 values-held h bytes n width d [] v marks arrays whole = refl
 values-held h bytes n width d (var ∷ vars) v [] arrays whole = refl
 values-held h bytes n width d (var ∷ vars) v (mark ∷ marks) arrays whole =
@@ -91,9 +91,9 @@ values-held h bytes n width d (var ∷ vars) v (mark ∷ marks) arrays whole =
     let rest = values-held h bytes n width d vars (v + 1) marks
     (λ k. ap (λ (i : ℕ). slice_index_or d.arrays i []) (let e : v + 1 + k ≡ v + suc k = omega arith in e) ∙ arrays (suc k)) (All-tail Whole var vars whole) in
     let shows : Bool = mark && has_values h.dims n var in
-    ap (λ (s : Section). row shows v (look_of (bare h n) (bare_var var) n width) (values_in_dataset d v (bare_var var)) s) rest
-    ∙ ap (λ (c : VariableValues). row shows v (look_of (bare h n) (bare_var var) n width) c (variables_section (shown_data h (values_in_file h bytes n) n width) (v + 1) vars marks)) content
-    ∙ ap (λ (l : Look). row shows v l (values_in_file h bytes n v var) (variables_section (shown_data h (values_in_file h bytes n) n width) (v + 1) vars marks)) (look-bare h var n width)
+    ap (λ (s : DataText). row shows v (look_of (bare h n) (bare_var var) n width) (values_in_dataset d v (bare_var var)) s) rest
+    ∙ ap (λ (c : VariableValues). row shows v (look_of (bare h n) (bare_var var) n width) c (data_text (shown_data h (values_in_file h bytes n) n width) (v + 1) vars marks)) content
+    ∙ ap (λ (l : Look). row shows v l (values_in_file h bytes n v var) (data_text (shown_data h (values_in_file h bytes n) n width) (v + 1) vars marks)) (look-bare h var n width)
 
 -- ---- the dump
 
@@ -106,13 +106,13 @@ held-is bytes d s = ap (λ (h : Header). let x : Dataset = record { header = h; 
     ∙ ap (λ (xs : List (List ℕ)). let x : Dataset = record { header = bare s.header s.records; arrays = xs } in x) s.arrays
 
 shown-held : (h : Header) (bytes : List ℕ) (n : ℕ) (o : Options) → All (λ (var : Var). first_missing h bytes var n ≡ None) h.vars
-    → shown_section (bare h n) o (values_in_dataset (held h bytes n)) n (selection_of (bare h n) o) ≡ shown_section h o (values_in_file h bytes n) n (selection_of h o)
+    → shown_data_text (bare h n) o (values_in_dataset (held h bytes n)) n (selection_of (bare h n) o) ≡ shown_data_text h o (values_in_file h bytes n) n (selection_of h o)
 shown-held h bytes n o whole =
-    ap (λ (marks : List Bool). shown_section (bare h n) o (values_in_dataset (held h bytes n)) n marks) (selection-bare h o n)
+    ap (λ (marks : List Bool). shown_data_text (bare h n) o (values_in_dataset (held h bytes n)) n marks) (selection-bare h o n)
     ∙ values-held h bytes n o.width (held h bytes n) h.vars 0 (if o.head_only then [] else selection_of h o)
     (λ k. ap (λ (i : ℕ). slice_index_or (held h bytes n).arrays i []) (let e : 0 + k ≡ k = omega arith in e)) whole
 
-text-held : (h : Header) (o : Options) (n : ℕ) (section : Section) → dump_text (bare h n) o n section ≡ dump_text h o n section
+text-held : (h : Header) (o : Options) (n : ℕ) (section : DataText) → dump_text (bare h n) o n section ≡ dump_text h o n section
 text-held h o n section =
     ap (λ (t : List ℕ). concat_parts (t ∷ data_word (bare h n) o ∷ section.text ∷ closing_word section.ending ∷ [])) (head-bare o.name h n)
     ∙ ap (λ (t : List ℕ). concat_parts (head_text o.name h n ∷ t ∷ section.text ∷ closing_word section.ending ∷ [])) (word-bare h o n)
@@ -141,8 +141,8 @@ dump-of-held : (h : Header) (bytes rest : List ℕ) (n : ℕ) (o : Options) (t :
 dump-of-held h bytes rest n o t ending spelled counted whole (unknown index u) = unknown h rest index spelled (unknown-held h n o.chosen index u)
 dump-of-held h bytes rest n o t ending spelled counted whole (shown m section knows known is) =
     let same : m ≡ n = same-known m n (sym known) in
-    let all : section ≡ shown_section h o (values_in_file h bytes n) n (selection_of h o) =
-    is ∙ ap (λ (k : ℕ). shown_section (bare h n) o (values_in_dataset (held h bytes n)) k (selection_of (bare h n) o)) same ∙ shown-held h bytes n o whole in
+    let all : section ≡ shown_data_text h o (values_in_file h bytes n) n (selection_of h o) =
+    is ∙ ap (λ (k : ℕ). shown_data_text (bare h n) o (values_in_dataset (held h bytes n)) k (selection_of (bare h n) o)) same ∙ shown-held h bytes n o whole in
     subst (λ (x : List ℕ). IsDump bytes o x section.ending) (sym (ap (λ (k : ℕ). dump_text (bare h n) o k section) same ∙ text-held h o n section))
     (shown h rest n section spelled (subst (λ (X : Type 0). X) (knows-bare h n o.chosen) knows) counted all)
 
@@ -180,9 +180,9 @@ text-of-dump h bytes rest n o t ending one fine spelled counted whole (shown k m
     let same : k ≡ h = one k h more rest s spelled in
     let knows_h : KnowsChosen h o.chosen = subst (λ (x : Header). KnowsChosen x o.chosen) same knows in
     let m_is : m ≡ n = count ∙ ap (λ (x : Header). record_count x (length bytes)) same ∙ sym counted in
-    let all : section ≡ shown_section (bare h n) o (values_in_dataset (held h bytes n)) n (selection_of (bare h n) o) =
-    is ∙ ap (λ (x : Header). shown_section x o (values_in_file x bytes m) m (selection_of x o)) same
-    ∙ ap (λ (i : ℕ). shown_section h o (values_in_file h bytes i) i (selection_of h o)) m_is ∙ sym (shown-held h bytes n o whole) in
+    let all : section ≡ shown_data_text (bare h n) o (values_in_dataset (held h bytes n)) n (selection_of (bare h n) o) =
+    is ∙ ap (λ (x : Header). shown_data_text x o (values_in_file x bytes m) m (selection_of x o)) same
+    ∙ ap (λ (i : ℕ). shown_data_text h o (values_in_file h bytes i) i (selection_of h o)) m_is ∙ sym (shown-held h bytes n o whole) in
     let words : dump_text k o m section ≡ dump_text (bare h n) o n section =
     ap (λ (x : Header). dump_text x o m section) same ∙ ap (λ (i : ℕ). dump_text h o i section) m_is ∙ sym (text-held h o n section) in
     subst (λ (x : List ℕ). IsText (held h bytes n) o x section.ending) (sym words)

@@ -1,7 +1,7 @@
 -- The names that proofs of this crate cite from elsewhere, passed on from one place.
 pub use Rattle.nc_base.specs.Bytes.{AreBytes, padding_len}
 unfoldable pub use Rattle.nc_base.specs.Bytes.{concat_parts}
-pub use Rattle.nc_base.specs.Dump.{VariableValues, Ending, IsDump, IsFirstUnknown, IsFirstUnknownOf, IsText, KnowsChosen, Options, Section, values_in_file, values_in_dataset, shown_data, dump_text, has_values, has_variable, is_selected, selection_of, shown, shown_section, stopped, unknown, with_variable, variables_section}
+pub use Rattle.nc_base.specs.Dump.{VariableValues, Ending, IsDump, IsFirstUnknown, IsFirstUnknownOf, IsText, KnowsChosen, Options, DataText, values_in_file, values_in_dataset, shown_data, dump_text, has_values, has_variable, is_selected, selection_of, shown, shown_data_text, stopped, unknown, with_variable, data_text}
 unfoldable pub use Rattle.nc_base.specs.Dump.{closing_word, data_word}
 unfoldable pub use Rattle.nc_base.specs.Escapes.{escaped_name, escaped_text, is_reserved}
 unfoldable pub use Rattle.nc_base.specs.Fill.{fill_value}
@@ -20,7 +20,7 @@ pub use Rattle.nc_base.specs.code.SizeParts.{slab_of, checked_record_size, exten
 pub use Rattle.nc_base.specs.Types.{code_of, size_of}
 pub use Rattle.nc_base.specs.ValueText.{Look, column, held, is_nul, number_text, row_so_far}
 pub use Rattle.nc_base.specs.code.LaterPieces.{later_pieces}
-unfoldable pub use Rattle.nc_base.specs.ValueText.{char_piece, closing, look_of, number_piece, opening, piece, pieces, variable_prefix, variable_text}
+unfoldable pub use Rattle.nc_base.specs.ValueText.{char_piece, variable_closing, look_of, number_piece, variable_opening, piece, pieces, variable_prefix, variable_text}
 pub use Rattle.nc_base.specs.Versions.{count_limit, count_width, has_type, offset_limit, offset_width, streaming_mark, version_byte}
 pub use Rattle.nc_base.specs.code.ListedRows.{AreRowEnds, StandAt}
 unfoldable pub use Rattle.nc_base.specs.code.ListedRows.{filled_rows, row_start}

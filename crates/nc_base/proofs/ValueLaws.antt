@@ -1,6 +1,6 @@
 -- The text of a variable's values, cut in pieces.
 use Rattle.std.proofs.Common.{◌≡◌, ℕ, zero, suc, ℤ, pos, negsuc, ◌+◌, ◌-◌, ◌*◌, ◌/◌, ◌%◌, ◌<◌, ◌≤◌, Bool, true, false, cond, eqb, not, nat_lt, List, [], ◌∷◌, ◌++◌, length, drop, reverse, sym, ◌∙◌, ap, refl, arith, append_assoc, length-append, length-drop, append-nil, ⊎_elim, codes, ◌==◌, ◌&&◌}
-use Rattle.nc_base.proofs.Prelude.{decimal, signed_decimal, digit_glyph, digits_onto, digits, suffix_len, prefix_len, mod-add-mod, mod_self, mod-lt, mod-zero, cases_lt, eq-eqb, eqb-true, eqb-false, cond-true, cond-false, reverse-append, length-reverse, drop-append-le, drop_all, prefix_len-append, prefix_len-le-length, mod-mul-add, Look, column, number_text, is_nul, row_so_far, held, piece, pieces, opening, variable_prefix, later_pieces, flat_map-append, escaped_text, escaped_in_string, look_of, NcType, Header, Var, numbers_from, size_of}
+use Rattle.nc_base.proofs.Prelude.{decimal, signed_decimal, digit_glyph, digits_onto, digits, suffix_len, prefix_len, mod-add-mod, mod_self, mod-lt, mod-zero, cases_lt, eq-eqb, eqb-true, eqb-false, cond-true, cond-false, reverse-append, length-reverse, drop-append-le, drop_all, prefix_len-append, prefix_len-le-length, mod-mul-add, Look, column, number_text, is_nul, row_so_far, held, piece, pieces, variable_opening, variable_prefix, later_pieces, flat_map-append, escaped_text, escaped_in_string, look_of, NcType, Header, Var, numbers_from, size_of}
 use Rattle.std.specs.Ordering.{int_eq}
 
 -- ---- cutting the values
@@ -16,7 +16,7 @@ pieces-append look before values (x ∷ xs) ys =
 pub prefix-append : (look : Look) (xs ys : List ℤ) → variable_prefix look (xs ++ ys) ≡ variable_prefix look xs ++ later_pieces look xs ys
 unfolding variable_prefix
 prefix-append look xs ys =
-    let start = opening look in
+    let start = variable_opening look in
     ap (λ (r : List ℕ). start ++ r) (pieces-append look start [] xs ys)
     ∙ sym (append_assoc start (pieces look start [] xs) (pieces look (start ++ pieces look start [] xs) xs ys))
 
@@ -35,9 +35,9 @@ pub later_none : (look : Look) (xs : List ℤ) → later_pieces look xs [] ≡ [
 unfolding pieces
 later_none look xs = refl
 
-pub prefix_nil : (look : Look) → variable_prefix look [] ≡ opening look
+pub prefix_nil : (look : Look) → variable_prefix look [] ≡ variable_opening look
 unfolding pieces variable_prefix
-prefix_nil look = append-nil (opening look)
+prefix_nil look = append-nil (variable_opening look)
 
 -- ---- columns
 

@@ -83,13 +83,13 @@ has_values dims n var = nat_lt 0 (value_count dims var n)
 -- ---- the data section (here v is a variable's place in the header, from 0, and n is the number of records)
 
 -- a text, and how it ends
-pub record Section : Type 0 where
+pub record DataText : Type 0 where
   pub text : List ℕ
   pub ending : Ending
 
 -- the empty text, with nothing missing
-abbrev pub no_section : Section
-no_section = record { text = []; ending = whole }
+abbrev pub no_data_text : DataText
+no_data_text = record { text = []; ending = whole }
 
 -- the values of a variable, and the number of the first one that is missing
 pub record VariableValues : Type 0 where
@@ -106,7 +106,7 @@ values_in_dataset d v var = record { values = numbers var.ty (slice_index_or d.a
 
 -- The text of the variable in place v, and the section after it; or, if value k is missing, its opening and the values before,
 -- and nothing after them.
-abbrev pub with_variable : Look → List ℤ → Option ℕ → ℕ → Section → Section
+abbrev pub with_variable : Look → List ℤ → Option ℕ → ℕ → DataText → DataText
 with_variable look values None v others = record { text = variable_text look values ++ others.text; ending = others.ending }
 with_variable look values (Some k) v others = record { text = variable_prefix look (take k values); ending = data_truncated v k }
 
@@ -121,16 +121,16 @@ abbrev pub shown_data : Header → (ℕ → Var → VariableValues) → ℕ → 
 shown_data h values_of n width = record { header = h; values_of = values_of; records = n; width = width }
 
 -- The values of the marked ones of these variables. The first variable is in place v. A variable that has no values has no text.
-abbrev pub variables_section : ShownData → ℕ → List Var → List Bool → Section
-variables_section d v (var ∷ vars) (mark ∷ marks) =
+abbrev pub data_text : ShownData → ℕ → List Var → List Bool → DataText
+data_text d v (var ∷ vars) (mark ∷ marks) =
     if mark && has_values d.header.dims d.records var
-    then with_variable (look_of d.header var d.records d.width) (d.values_of v var).values (d.values_of v var).missing v (variables_section d (v + 1) vars marks)
-    else variables_section d (v + 1) vars marks
-variables_section d v vars marks = no_section
+    then with_variable (look_of d.header var d.records d.width) (d.values_of v var).values (d.values_of v var).missing v (data_text d (v + 1) vars marks)
+    else data_text d (v + 1) vars marks
+data_text d v vars marks = no_data_text
 
 -- the same of all variables, or of none if the header alone is shown
-abbrev pub shown_section : Header → Options → (ℕ → Var → VariableValues) → ℕ → List Bool → Section
-shown_section h o values_of n marks = variables_section (shown_data h values_of n o.width) 0 h.vars (if o.head_only then [] else marks)
+abbrev pub shown_data_text : Header → Options → (ℕ → Var → VariableValues) → ℕ → List Bool → DataText
+shown_data_text h o values_of n marks = data_text (shown_data h values_of n o.width) 0 h.vars (if o.head_only then [] else marks)
 
 -- what comes before the values: nothing if there are no variables, or if the header alone is shown
 unfoldable pub data_word : Header → Options → List ℕ
@@ -144,7 +144,7 @@ closing_word other = []
 -- ---- the dump
 
 -- the head of a dump, its values, and the closing brace
-abbrev pub dump_text : Header → Options → ℕ → Section → List ℕ
+abbrev pub dump_text : Header → Options → ℕ → DataText → List ℕ
 dump_text h o n section = concat_parts (head_text o.name h n ∷ data_word h o ∷ section.text ∷ closing_word section.ending ∷ [])
 
 -- The dump of a file with these bytes. If the header is wrong, the text is empty, and the ending is the fault of the first wrong field. If
@@ -154,16 +154,16 @@ pub data IsDump (bytes : List ℕ) (o : Options) : List ℕ → Ending → Type 
   stopped : (fault : FormatFault) (end : ℕ) → StopsAt bytes fault end → IsDump bytes o [] (wrong_field fault)
   unknown : (h : Header) (rest : List ℕ) (index : ℕ)
       → SpellsHeader bytes h rest → IsFirstUnknownOf h o.chosen index → IsDump bytes o [] (no_such_variable index)
-  shown : (h : Header) (rest : List ℕ) (n : ℕ) (section : Section)
+  shown : (h : Header) (rest : List ℕ) (n : ℕ) (section : DataText)
       → SpellsHeader bytes h rest → KnowsChosen h o.chosen
-      → n ≡ record_count h (length bytes) → section ≡ shown_section h o (values_in_file h bytes n) n (selection_of h o)
+      → n ≡ record_count h (length bytes) → section ≡ shown_data_text h o (values_in_file h bytes n) n (selection_of h o)
       → IsDump bytes o (dump_text h o n section) section.ending
 
 -- The text of a dataset. If a chosen name is unknown, it is empty, and the ending is the place of the first such name. Otherwise it is the
 -- head and the values.
 pub data IsText (d : Dataset) (o : Options) : List ℕ → Ending → Type 0 where
   unknown : (index : ℕ) → IsFirstUnknownOf d.header o.chosen index → IsText d o [] (no_such_variable index)
-  shown : (n : ℕ) (section : Section)
+  shown : (n : ℕ) (section : DataText)
       → KnowsChosen d.header o.chosen → d.header.numrecs ≡ Known n
-      → section ≡ shown_section d.header o (values_in_dataset d) n (selection_of d.header o)
+      → section ≡ shown_data_text d.header o (values_in_dataset d) n (selection_of d.header o)
       → IsText d o (dump_text d.header o n section) section.ending

@@ -43,8 +43,8 @@ joined (x ∷ []) = x
 joined (x ∷ y ∷ xs) = x ++ (codes ", " ++ joined (y ∷ xs))
 
 -- the numbers of an attribute
-unfoldable pub number_values : NcType → List ℕ → List ℕ
-number_values ty vals = joined (map (λ (n : ℤ). signed_decimal n ++ number_suffix ty) (numbers ty vals))
+unfoldable pub numbers_text : NcType → List ℕ → List ℕ
+numbers_text ty vals = joined (map (λ (n : ℤ). signed_decimal n ++ number_suffix ty) (numbers ty vals))
 
 -- without the NULs at its end
 abbrev pub without_trailing_nuls : List ℕ → List ℕ
@@ -57,30 +57,30 @@ broken_text (b ∷ []) = escaped_in_string b
 broken_text (b ∷ c ∷ bytes) = escaped_in_string b ++ ((if b == byte "\n" then string_break else []) ++ broken_text (c ∷ bytes))
 
 -- the characters of an attribute
-unfoldable pub char_values : List ℕ → List ℕ
-char_values vals = concat_parts (codes "\"" ∷ broken_text (without_trailing_nuls vals) ∷ codes "\"" ∷ [])
+unfoldable pub chars_text : List ℕ → List ℕ
+chars_text vals = concat_parts (codes "\"" ∷ broken_text (without_trailing_nuls vals) ∷ codes "\"" ∷ [])
 
-abbrev pub att_values : NcType → List ℕ → List ℕ
-att_values Char vals = char_values vals
-att_values ty vals = number_values ty vals
+abbrev pub att_text : NcType → List ℕ → List ℕ
+att_text Char vals = chars_text vals
+att_text ty vals = numbers_text ty vals
 
 -- ---- lines
 
 -- an attribute of the variable with this name, which is escaped already; an empty name means the whole dataset
 unfoldable pub att_line : List ℕ → Att → List ℕ
-att_line escaped_owner att = concat_parts (codes "\t\t" ∷ escaped_owner ∷ codes ":" ∷ escaped_name att.name ∷ codes " = " ∷ att_values att.ty att.vals ∷ codes " ;\n" ∷ [])
+att_line escaped_owner att = concat_parts (codes "\t\t" ∷ escaped_owner ∷ codes ":" ∷ escaped_name att.name ∷ codes " = " ∷ att_text att.ty att.vals ∷ codes " ;\n" ∷ [])
 
 unfoldable pub att_lines : List ℕ → List Att → List ℕ
 att_lines escaped_owner atts = concat_parts (map (att_line escaped_owner) atts)
 
 -- the rest of a dimension's line: its length, or for the record dimension `UNLIMITED` with the number of records in a comment
-unfoldable pub dim_extent : ℕ → ℕ → List ℕ
-dim_extent records len =
+unfoldable pub dim_len_text : ℕ → ℕ → List ℕ
+dim_len_text records len =
     if len == 0 then concat_parts (unlimited_word ∷ decimal records ∷ currently_word ∷ [])
     else concat_parts (decimal len ∷ codes " ;\n" ∷ [])
 
 unfoldable pub dim_line : ℕ → Dim → List ℕ
-dim_line records dim = concat_parts (codes "\t" ∷ escaped_name dim.name ∷ codes " = " ∷ dim_extent records dim.len ∷ [])
+dim_line records dim = concat_parts (codes "\t" ∷ escaped_name dim.name ∷ codes " = " ∷ dim_len_text records dim.len ∷ [])
 
 unfoldable pub dim_lines : ℕ → List Dim → List ℕ
 dim_lines records dims = concat_parts (map (dim_line records) dims)

@@ -134,17 +134,17 @@ pieces look before values (value ∷ others) =
     ++ pieces look (before ++ piece look before values value) (values ++ value ∷ []) others
 
 -- what comes before a variable's values
-unfoldable pub opening : Look → List ℕ
-opening look = concat_parts (codes "\n " ∷ escaped_name look.name ∷ codes " =" ∷ [])
+unfoldable pub variable_opening : Look → List ℕ
+variable_opening look = concat_parts (codes "\n " ∷ escaped_name look.name ∷ codes " =" ∷ [])
 
 -- what comes after them
-unfoldable pub closing : Look → List ℕ
-closing look = if is_char look.ty then codes "\" ;\n" else codes " ;\n"
+unfoldable pub variable_closing : Look → List ℕ
+variable_closing look = if is_char look.ty then codes "\" ;\n" else codes " ;\n"
 
 -- the opening and a variable's first values
 unfoldable pub variable_prefix : Look → List ℤ → List ℕ
-variable_prefix look values = opening look ++ pieces look (opening look) [] values
+variable_prefix look values = variable_opening look ++ pieces look (variable_opening look) [] values
 
 -- a variable's values, from its opening to its closing
 unfoldable pub variable_text : Look → List ℤ → List ℕ
-variable_text look values = variable_prefix look values ++ closing look
+variable_text look values = variable_prefix look values ++ variable_closing look

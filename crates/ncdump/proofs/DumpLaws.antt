@@ -1,6 +1,6 @@
 -- A dump from reading the header, selecting variables and showing them.
 use Rattle.std.proofs.Common.{◌≡◌, ℕ, ◌+◌, inl, inr, Bool, true, List, [], ◌++◌, length, Result, Ok, Err, refl, sym, ap, subst, ◌∙◌, append_assoc, ◌&&◌}
-use Rattle.ncdump.proofs.Prelude.{OnTrue, appended_none, Header, SpellsHeader, record_count, Options, Section, closing_word, KnowsChosen, selection_of, dump_text, has_values, IsDump, stopped, unknown, shown, SourceView, SinkView, transparent_map, transparent_both, DumpFault, OutOfMemory, ReadFailed, WriteFailed, Format, NoSuchVariable, DataTruncated, Dumped, dumped, prefix_text, selected_values, values_from, unless_head_only, text_before, KeepsUpIn, Shows, Dumps, ReadsForward, IsAfterHeader, in_header, after_header, between}
+use Rattle.ncdump.proofs.Prelude.{OnTrue, appended_none, Header, SpellsHeader, record_count, Options, DataText, closing_word, KnowsChosen, selection_of, dump_text, has_values, IsDump, stopped, unknown, shown, SourceView, SinkView, transparent_map, transparent_both, DumpFault, OutOfMemory, ReadFailed, WriteFailed, Format, NoSuchVariable, DataTruncated, Dumped, dumped, prefix_text, selected_values, values_from, unless_head_only, text_before, KeepsUpIn, Shows, Dumps, ReadsForward, IsAfterHeader, in_header, after_header, between}
 use Rattle.nc_file.specs.code.Answers.{IsRead, Answers, HasAnswered, header_end, fault_end}
 use Rattle.nc_file.specs.declared.head_fault.HeadFault.{HeadFault}
 use Rattle.nc_file.specs.declared.head_fault.HeadFault.TheVariants as head
@@ -52,7 +52,7 @@ prefix-of-all d selection buffer_len a b Taken k =
     let more = more-and _ _ _ k.v (values_from d selection (k.v + 1)) in
     let prefix = prefix-in-text d k.v k.var k.keeps_up.k k.keeps_up.few in (
       prefix.0 ++ more.0,
-      k.is_before.text_is ∙ ap (λ (s : Section). k.prefix ++ s.text) here ∙ ap (λ (t : List ℕ). k.prefix ++ t) more.1
+      k.is_before.text_is ∙ ap (λ (s : DataText). k.prefix ++ s.text) here ∙ ap (λ (t : List ℕ). k.prefix ++ t) more.1
           ∙ ap (λ (t : List ℕ). k.prefix ++ (t ++ more.0)) prefix.1
           ∙ ap (λ (t : List ℕ). k.prefix ++ t) (append_assoc (prefix_text d k.var k.keeps_up.k) prefix.0 more.0)
           ∙ sym (append_assoc k.prefix (prefix_text d k.var k.keeps_up.k) (prefix.0 ++ more.0)),
@@ -60,7 +60,7 @@ prefix-of-all d selection buffer_len a b Taken k =
 
 module _ (o : Options) (bytes : List ℕ) (h : Header) (rest : List ℕ) (buffer_len : ℕ) (b c : SourceView) (old new : SinkView)
     (spelled : SpellsHeader bytes h rest) (knows : KnowsChosen h o.chosen) (same : b.bytes ≡ bytes) where
-  abbrev pub section : Section
+  abbrev pub section : DataText
   section = selected_values (dumped h b (record_count h (length bytes)) o.width) (unless_head_only o (selection_of h o))
 
   is-dump : IsDump bytes o (dump_text h o (record_count h (length bytes)) section) section.ending

@@ -1,6 +1,6 @@
 -- There is one dump of a file.
 use Rattle.std.proofs.Common.{◌≡◌, ℕ, ◌<◌, false, List, [], length, get_or, refl, sym, ap, ◌∙◌, subst, arith, inl, inr, Option, Some, None, Result, Ok, Err, ◌⊎◌, IsTrue, not, position}
-use Rattle.ncdump.proofs.Prelude.{list_all, false≢true, slice_get_within, get_or_from_slice_get, Header, Var, record_count, SpellsHeader, Options, Ending, whole, wrong_field, no_such_variable, data_truncated, has_variable, KnowsChosen, IsFirstUnknown, IsFirstUnknownOf, Section, values_in_file, shown_section, selection_of, dump_text, IsDump, stopped, unknown, shown, SinkView, Appended, DumpFault, OutOfMemory, ReadFailed, WriteFailed, Format, NoSuchVariable, DataTruncated}
+use Rattle.ncdump.proofs.Prelude.{list_all, false≢true, slice_get_within, get_or_from_slice_get, Header, Var, record_count, SpellsHeader, Options, Ending, whole, wrong_field, no_such_variable, data_truncated, has_variable, KnowsChosen, IsFirstUnknown, IsFirstUnknownOf, DataText, values_in_file, shown_data_text, selection_of, dump_text, IsDump, stopped, unknown, shown, SinkView, Appended, DumpFault, OutOfMemory, ReadFailed, WriteFailed, Format, NoSuchVariable, DataTruncated}
 use Rattle.std.proofs.lemmas.List.Folds.{list_all_at}
 use Rattle.nc_file.specs.OneOutcome.{BeginsWithHeader, HasFirstFault, HasOneOutcome}
 use Rattle.nc_file.proofs.Outcomes.{one-outcome}
@@ -50,7 +50,7 @@ after-header : (bytes : List ℕ) (o : Options) (h : Header) (rest : List ℕ) �
     → KnowsChosen h o.chosen ⊎ ((index : ℕ) × IsFirstUnknownOf h o.chosen index) → Some-dump bytes o
 after-header bytes o h rest spelled (inl knows) =
     let n = record_count h (length bytes) in
-    let section = shown_section h o (values_in_file h bytes n) n (selection_of h o) in
+    let section = shown_data_text h o (values_in_file h bytes n) n (selection_of h o) in
     (dump_text h o n section, section.ending, shown h rest n section spelled knows refl refl)
 after-header bytes o h rest spelled (inr (index, u)) = ([], no_such_variable index, unknown h rest index spelled u)
 
@@ -79,10 +79,10 @@ same-dump bytes o t u e f one (shown h rest n section s knows counted is) (shown
     let same : h ≡ k = (one.one_header h k rest more s r).0 in
     let count : n ≡ m = counted ∙ ap (λ (x : Header). record_count x (length bytes)) same ∙ sym number in
     let values : section ≡ other =
-    is ∙ ap (λ (x : Header). shown_section x o (values_in_file x bytes n) n (selection_of x o)) same
-    ∙ ap (λ (i : ℕ). shown_section k o (values_in_file k bytes i) i (selection_of k o)) count ∙ sym are in (
-      ap (λ (x : Header). dump_text x o n section) same ∙ ap (λ (i : ℕ). dump_text k o i section) count ∙ ap (λ (x : Section). dump_text k o m x) values,
-      ap (λ (x : Section). x.ending) values,
+    is ∙ ap (λ (x : Header). shown_data_text x o (values_in_file x bytes n) n (selection_of x o)) same
+    ∙ ap (λ (i : ℕ). shown_data_text k o (values_in_file k bytes i) i (selection_of k o)) count ∙ sym are in (
+      ap (λ (x : Header). dump_text x o n section) same ∙ ap (λ (i : ℕ). dump_text k o i section) count ∙ ap (λ (x : DataText). dump_text k o m x) values,
+      ap (λ (x : DataText). x.ending) values,
     )
 
 pub one-dump : BytesHaveOneDump

@@ -1,6 +1,6 @@
 -- Showing one variable: a walk and a printer that go on together.
 use Rattle.std.proofs.Common.{◌≡◌, ℕ, ◌+◌, ◌*◌, ◌≤◌, inl, inr, Bool, List, [], ◌++◌, length, take, refl, sym, ap, ◌∙◌, append_assoc, subst, arith, Option, Some, None, Ok, Err, ℤ, slice_get, unwrap_or, IfSome}
-use Rattle.ncdump.proofs.Prelude.{OnTrue, take-add, append-nil, take_all, length-append, Header, Var, size_of, numbers, value_count, stored_values, first_missing, Look, look_of, opening, closing, variable_prefix, variable_text, later_pieces, no_section, whole, data_truncated, with_variable, prefix-append, prefix_nil, SourceView, having_read, SinkView, Appended, FailedPartway, appended_then, appended_partway, Pass, Walked, HasRead, IsChunk, GivesChunk, GivesEnd, GivesCut, GivesFailure, transparent_any, transparent_map, transparent_both, look_in, HasPrinted, Printed, Stopped, Takes, Dumped, dumped, whole_values, whole_bytes, Holds, IsShown, IsUnread, IsUnwritten, look-type}
+use Rattle.ncdump.proofs.Prelude.{OnTrue, take-add, append-nil, take_all, length-append, Header, Var, size_of, numbers, value_count, stored_values, first_missing, Look, look_of, variable_opening, variable_closing, variable_prefix, variable_text, later_pieces, no_data_text, whole, data_truncated, with_variable, prefix-append, prefix_nil, SourceView, having_read, SinkView, Appended, FailedPartway, appended_then, appended_partway, Pass, Walked, HasRead, IsChunk, GivesChunk, GivesEnd, GivesCut, GivesFailure, transparent_any, transparent_map, transparent_both, look_in, HasPrinted, Printed, Stopped, Takes, Dumped, dumped, whole_values, whole_bytes, Holds, IsShown, IsUnread, IsUnwritten, look-type}
 use Rattle.std.proofs.Math.Nat.{mul-le-mul_right}
 use Rattle.nc_walk.specs.code.Walks.{WalkView, Starts, Steps, Advanced, count}
 use Rattle.nc_walk.specs.declared.fault.WalkFault.TheVariants as walk
@@ -36,7 +36,7 @@ total-of h var n width = refl
 
 -- where both begin
 pub showing-begins : (is_transparent : Bool) (h : Header) (v n width buffer_len : ℕ) (w : WalkView) (p : ValuePrinter) (a : SourceView) (old new : SinkView) (s : Starts h v n buffer_len w)
-    → HasPrinted (look_of h s.var n width) [] p → Appended old new (opening (look_of h s.var n width)) → Showing is_transparent h v n width buffer_len w p a a old new
+    → HasPrinted (look_of h s.var n width) [] p → Appended old new (variable_opening (look_of h s.var n width)) → Showing is_transparent h v n width buffer_len w p a a old new
 showing-begins is_transparent h v n width buffer_len w p a old new s has_printed appended = record {
   var = s.var;
   at = s.at;
@@ -149,37 +149,37 @@ module _ (is_transparent : Bool) (h : Header) (v n width buffer_len : ℕ) (w : 
     all-stored : OnTrue is_transparent (s.xs ≡ stored)
     all-stored = transparent_map is_transparent (λ e. e ∙ take_all (length s.xs) stored (omega (arith, ended.all, count-stored d s.var))) s.values
 
-    closing-of : closing (look_in p) ≡ closing look
-    closing-of = ap closing s.has_printed.same_look
+    closing-of : variable_closing (look_in p) ≡ variable_closing look
+    closing-of = ap variable_closing s.has_printed.same_look
 
-    pub shown-whole : (newer : SinkView) → Appended new newer (closing (look_in p)) → OnTrue is_transparent (IsShown d v s.var whole (call buffer_len a c old newer))
+    pub shown-whole : (newer : SinkView) → Appended new newer (variable_closing (look_in p)) → OnTrue is_transparent (IsShown d v s.var whole (call buffer_len a c old newer))
     unfolding variable_text
     shown-whole newer appended = transparent_both is_transparent (λ e (ng : (first_missing h a.bytes s.var n ≡ None) × HasRead (walk_to c) (length s.xs)).
         let none : first_missing h a.bytes s.var n ≡ None = ng.0 in
-        let text : variable_prefix look s.xs ++ closing (look_in p) ≡ (with_variable look stored None v no_section).text =
-        ap (λ (zs : List ℤ). variable_prefix look zs ++ closing (look_in p)) e ∙ ap (λ (t : List ℕ). variable_prefix look stored ++ t) closing-of ∙ sym (append-nil (variable_text look stored)) in
+        let text : variable_prefix look s.xs ++ variable_closing (look_in p) ≡ (with_variable look stored None v no_data_text).text =
+        ap (λ (zs : List ℤ). variable_prefix look zs ++ variable_closing (look_in p)) e ∙ ap (λ (t : List ℕ). variable_prefix look stored ++ t) closing-of ∙ sym (append-nil (variable_text look stored)) in
         record {
-          ends = ap (λ (m : Option ℕ). (with_variable look stored m v no_section).ending) none;
-          appended = subst (Appended old newer) (text ∙ ap (λ (m : Option ℕ). (with_variable look stored m v no_section).text) (sym none))
-              (appended_then old new newer (variable_prefix look s.xs) (closing (look_in p)) s.appended appended);
+          ends = ap (λ (m : Option ℕ). (with_variable look stored m v no_data_text).ending) none;
+          appended = subst (Appended old newer) (text ∙ ap (λ (m : Option ℕ). (with_variable look stored m v no_data_text).text) (sym none))
+              (appended_then old new newer (variable_prefix look s.xs) (variable_closing (look_in p)) s.appended appended);
           handed = ng.1.handed ∙ ap (λ (i : ℕ). having_read a (i * size_of s.var.ty)) (ended.all ∙ sym (ap (λ (m : Option ℕ). unwrap_or m (value_count h.dims s.var n)) none));
         }) all-stored (transparent_both is_transparent (λ none read. (none, read)) ended.none_missing ended.read)
 
-    pub unwritten-closing : (newer : SinkView) → FailedPartway new newer (closing (look_in p)) → OnTrue is_transparent (IsUnwritten d v s.var (call buffer_len a c old newer))
+    pub unwritten-closing : (newer : SinkView) → FailedPartway new newer (variable_closing (look_in p)) → OnTrue is_transparent (IsUnwritten d v s.var (call buffer_len a c old newer))
     unfolding variable_text
     unwritten-closing newer partway = transparent_both is_transparent (λ e (ng : (first_missing h a.bytes s.var n ≡ None) × HasRead (walk_to c) (length s.xs)).
         let none : first_missing h a.bytes s.var n ≡ None = ng.0 in
         let count-is : whole_values d s.var ≡ length s.xs = ap (λ (m : Option ℕ). unwrap_or m (value_count h.dims s.var n)) none ∙ sym ended.all in
-        let text : variable_prefix look s.xs ++ (closing (look_in p) ++ []) ≡ (with_variable look stored None v no_section).text =
-        sym (append_assoc (variable_prefix look s.xs) (closing (look_in p)) [])
-        ∙ ap (λ (zs : List ℤ). (variable_prefix look zs ++ closing (look_in p)) ++ []) e ∙ ap (λ (t : List ℕ). (variable_prefix look stored ++ t) ++ []) closing-of in
+        let text : variable_prefix look s.xs ++ (variable_closing (look_in p) ++ []) ≡ (with_variable look stored None v no_data_text).text =
+        sym (append_assoc (variable_prefix look s.xs) (variable_closing (look_in p)) [])
+        ∙ ap (λ (zs : List ℤ). (variable_prefix look zs ++ variable_closing (look_in p)) ++ []) e ∙ ap (λ (t : List ℕ). (variable_prefix look stored ++ t) ++ []) closing-of in
         let handed : c.handed ≡ a.handed + length s.xs * size_of s.var.ty = ap (λ (x : SourceView). x.handed) ng.1.handed in
         let whole-is : whole_bytes d s.var ≡ length s.xs * size_of s.var.ty = ap (λ (i : ℕ). i * size_of s.var.ty) count-is in
         record {
           bytes = ap (λ (x : SourceView). x.bytes) ng.1.handed;
           most = omega (arith, handed, whole-is);
-          partway = subst (FailedPartway old newer) (text ∙ ap (λ (m : Option ℕ). (with_variable look stored m v no_section).text) (sym none))
-              (appended_partway old new newer (variable_prefix look s.xs) (closing (look_in p)) [] s.appended partway);
+          partway = subst (FailedPartway old newer) (text ∙ ap (λ (m : Option ℕ). (with_variable look stored m v no_data_text).text) (sym none))
+              (appended_partway old new newer (variable_prefix look s.xs) (variable_closing (look_in p)) [] s.appended partway);
           keeps_up = inr (record {
             k = length s.xs;
             few = omega (arith, count-is);
@@ -197,8 +197,8 @@ module _ (is_transparent : Bool) (h : Header) (v n width buffer_len : ℕ) (w : 
       let missing : first_missing h a.bytes s.var n ≡ Some k = mr.0 ∙ ap Some (sym cut.value_is) in
       let value : variable_prefix look s.xs ≡ variable_prefix look (take k stored) = ap (variable_prefix look) (e ∙ ap (λ (i : ℕ). take i stored) (sym cut.value_is)) in
       record {
-        ends = ap (λ (m : Option ℕ). (with_variable look stored m v no_section).ending) missing;
-        appended = subst (Appended old new) (value ∙ ap (λ (m : Option ℕ). (with_variable look stored m v no_section).text) (sym missing)) s.appended;
+        ends = ap (λ (m : Option ℕ). (with_variable look stored m v no_data_text).ending) missing;
+        appended = subst (Appended old new) (value ∙ ap (λ (m : Option ℕ). (with_variable look stored m v no_data_text).text) (sym missing)) s.appended;
         handed = mr.1.handed ∙ ap (λ (i : ℕ). having_read a (i * size_of s.var.ty)) (sym (ap (λ (m : Option ℕ). unwrap_or m (value_count h.dims s.var n)) mr.0));
       }) s.values (transparent_both is_transparent (λ missing read. (missing, read)) cut.missing cut.read)
 
@@ -221,7 +221,7 @@ module _ (is_transparent : Bool) (h : Header) (v n width buffer_len : ℕ) (w : 
 
 -- the opening wasn't written
 pub unwritten-opening : (is_transparent : Bool) (h : Header) (v n width buffer_len : ℕ) (w : WalkView) (p : ValuePrinter) (a : SourceView) (old new : SinkView) (s : Starts h v n buffer_len w)
-    → HasPrinted (look_of h s.var n width) [] p → FailedPartway old new (opening (look_of h s.var n width)) → OnTrue is_transparent (IsUnwritten (dumped h a n width) v s.var (call buffer_len a a old new))
+    → HasPrinted (look_of h s.var n width) [] p → FailedPartway old new (variable_opening (look_of h s.var n width)) → OnTrue is_transparent (IsUnwritten (dumped h a n width) v s.var (call buffer_len a a old new))
 unwritten-opening is_transparent h v n width buffer_len w p a old new s has_printed partway =
     let d = dumped h a n width in
     let text = prefix-in-text d v s.var 0 (omega arith) in
@@ -229,6 +229,6 @@ unwritten-opening is_transparent h v n width buffer_len w p a old new s has_prin
       bytes = refl;
       most = omega arith;
       partway = subst (FailedPartway old new) (sym (text.1 ∙ ap (λ (t : List ℕ). t ++ text.0) (prefix_nil (look_of h s.var n width))))
-          (partway-longer old new (opening (look_of h s.var n width)) text.0 partway);
+          (partway-longer old new (variable_opening (look_of h s.var n width)) text.0 partway);
       keeps_up = inl refl;
     })

@@ -1,6 +1,6 @@
 -- Fronts of a variable's text.
 use Rattle.std.proofs.Common.{◌≡◌, ℕ, ◌+◌, ◌-◌, ◌≤◌, List, [], ◌++◌, length, take, drop, sym, ap, ◌∙◌, append_assoc, arith, Option, Some, None, ℤ, unwrap_or}
-use Rattle.ncdump.proofs.Prelude.{take-add, take_all, length-map, Var, value_count, number_of, size_of, bytes_at, stored_values, stored_bytes, value_offsets, first_missing, Look, look_of, variable_prefix, variable_text, later_pieces, closing, no_section, with_variable, prefix-append, Dumped, prefix_text, values_alone, whole_values}
+use Rattle.ncdump.proofs.Prelude.{take-add, take_all, length-map, Var, value_count, number_of, size_of, bytes_at, stored_values, stored_bytes, value_offsets, first_missing, Look, look_of, variable_prefix, variable_text, later_pieces, variable_closing, no_data_text, with_variable, prefix-append, Dumped, prefix_text, values_alone, whole_values}
 use Rattle.nc_walk.proofs.Orders.{count_of_offsets}
 
 -- as many values are stored as the variable has
@@ -16,16 +16,16 @@ prefix-more look xs k i =
 
 -- the prefix of a variable's first values is a prefix of its text
 prefix-of-section : (look : Look) (xs : List ℤ) (missing : Option ℕ) (v k total : ℕ) → length xs ≡ total → k ≤ unwrap_or missing total
-    → (rest : List ℕ) × ((with_variable look xs missing v no_section).text ≡ variable_prefix look (take k xs) ++ rest)
+    → (rest : List ℕ) × ((with_variable look xs missing v no_data_text).text ≡ variable_prefix look (take k xs) ++ rest)
 unfolding variable_text
 prefix-of-section look xs None v k total all few =
     let more = prefix-more look xs k (total - k) in
     let whole : take (k + (total - k)) xs ≡ xs = take_all (k + (total - k)) xs (omega (arith, few, all)) in
     let prefix : variable_prefix look xs ≡ variable_prefix look (take k xs) ++ more.0 = ap (variable_prefix look) (sym whole) ∙ more.1 in (
-      more.0 ++ (closing look ++ []),
-      ap (λ (t : List ℕ). (t ++ closing look) ++ []) prefix
-          ∙ append_assoc (variable_prefix look (take k xs) ++ more.0) (closing look) []
-          ∙ append_assoc (variable_prefix look (take k xs)) more.0 (closing look ++ []),
+      more.0 ++ (variable_closing look ++ []),
+      ap (λ (t : List ℕ). (t ++ variable_closing look) ++ []) prefix
+          ∙ append_assoc (variable_prefix look (take k xs) ++ more.0) (variable_closing look) []
+          ∙ append_assoc (variable_prefix look (take k xs)) more.0 (variable_closing look ++ []),
     )
 prefix-of-section look xs (Some m) v k total all few =
     let more = prefix-more look xs k (m - k) in

@@ -8,7 +8,7 @@ pub use Rattle.devices.specs.Sinks.{Appended, FailedPartway, IsPrefixIf, SinkVie
 unfoldable pub use Rattle.devices.specs.Sinks.{IsCut, append, taken_len, is_transparent}
 pub use Rattle.devices.specs.Sources.{SourceView, having_read}
 pub use Rattle.nc_base.proofs.ValueLaws.{prefix-append, prefix_nil, look-type}
-pub use Rattle.nc_base.specs.Dump.{Ending, IsDump, IsFirstUnknown, IsFirstUnknownOf, KnowsChosen, Options, Section, values_in_file, shown_data, data_truncated, dump_text, has_values, has_variable, no_section, no_such_variable, selection_of, shown, shown_section, stopped, unknown, with_variable, variables_section, whole, wrong_field}
+pub use Rattle.nc_base.specs.Dump.{Ending, IsDump, IsFirstUnknown, IsFirstUnknownOf, KnowsChosen, Options, DataText, values_in_file, shown_data, data_truncated, dump_text, has_values, has_variable, no_data_text, no_such_variable, selection_of, shown, shown_data_text, stopped, unknown, with_variable, data_text, whole, wrong_field}
 unfoldable pub use Rattle.nc_base.specs.Dump.{closing_word, data_word}
 pub use Rattle.nc_base.specs.Grammar.{SpellsHeader}
 unfoldable pub use Rattle.nc_base.specs.HeadText.{head_text}
@@ -21,7 +21,7 @@ pub use Rattle.nc_base.specs.Sizes.{is_record_var, record_count}
 pub use Rattle.nc_base.specs.Types.{size_of}
 pub use Rattle.nc_base.specs.ValueText.{Look}
 pub use Rattle.nc_base.specs.code.LaterPieces.{later_pieces}
-unfoldable pub use Rattle.nc_base.specs.ValueText.{closing, look_of, opening, variable_prefix, variable_text}
+unfoldable pub use Rattle.nc_base.specs.ValueText.{variable_closing, look_of, variable_opening, variable_prefix, variable_text}
 pub use Rattle.nc_base.specs.declared.{header.Header.Header, header.Var.Var}
 pub use Rattle.nc_walk.proofs.FullReadSteps.{after_after, transparent_any, transparent_both, transparent_map}
 pub use Rattle.devices.specs.Uses.{between}

@@ -1,6 +1,6 @@
 -- Showing one selected variable after the other.
 use Rattle.std.proofs.Common.{◌≡◌, ℕ, suc, ◌+◌, ◌<◌, ◌≤◌, ◌⊎◌, inl, inr, Bool, true, false, List, [], ◌∷◌, ◌++◌, length, drop, get_or, refl, sym, ap, ◌∙◌, append_assoc, subst, arith, Option, Some, None, Result, Ok, Err, ℤ, slice_get, ◌&&◌, if◌then◌else◌, IfSome}
-use Rattle.ncdump.proofs.Prelude.{OnTrue, drop-cons, append-nil, drop_all, get_or_from_slice_get, slice_get_within, slice_get-get_or, Var, Look, look_of, Section, no_section, whole, data_truncated, values_in_file, has_values, with_variable, variables_section, shown_data, SourceView, having_read, SinkView, Appended, FailedPartway, appended_then, appended_partway, after_after, transparent_both, DumpFault, OutOfMemory, ReadFailed, WriteFailed, Format, NoSuchVariable, DataTruncated, Dumped, dumped, prefix_text, ShowsOne, ShowsAt, ShowsSelected, values_and, values_alone, values_from, whole_values, whole_bytes, bytes_of, Holds, KeepsUp, KeepsUpIn, IsBefore, IsShown, IsUnread, IsUnwritten, IsUpToDate, AreShown, AreUnread, AreUnwritten, between}
+use Rattle.ncdump.proofs.Prelude.{OnTrue, drop-cons, append-nil, drop_all, get_or_from_slice_get, slice_get_within, slice_get-get_or, Var, Look, look_of, DataText, no_data_text, whole, data_truncated, values_in_file, has_values, with_variable, data_text, shown_data, SourceView, having_read, SinkView, Appended, FailedPartway, appended_then, appended_partway, after_after, transparent_both, DumpFault, OutOfMemory, ReadFailed, WriteFailed, Format, NoSuchVariable, DataTruncated, Dumped, dumped, prefix_text, ShowsOne, ShowsAt, ShowsSelected, values_and, values_alone, values_from, whole_values, whole_bytes, bytes_of, Holds, KeepsUp, KeepsUpIn, IsBefore, IsShown, IsUnread, IsUnwritten, IsUpToDate, AreShown, AreUnread, AreUnwritten, between}
 use Rattle.ncdump.proofs.OneVariable.{some-at}
 use Rattle.nc_base.specs.declared.nc_type.NcType.TheVariants.{Byte}
 use Rattle.ncdump.proofs.Calls.{call}
@@ -20,8 +20,8 @@ pub values-at : (d : Dumped) (selection : List Bool) (v : ℕ) (var : Var) (is_s
     → shown ≡ (is_selected && has_values d.header.dims d.records var)
     → values_from d selection v ≡ (if shown then values_and d v var (values_from d selection (v + 1)) else values_from d selection (v + 1))
 values-at d selection v var is_selected shown at selected is =
-    ap (λ (vars : List Var). variables_section (shown_data d.header (values_in_file d.header d.bytes d.records) d.records d.width) v vars (drop v selection)) (from-place d.header.vars v var at)
-    ∙ ap (λ (ms : List Bool). variables_section (shown_data d.header (values_in_file d.header d.bytes d.records) d.records d.width) v (var ∷ drop (v + 1) d.header.vars) ms) (from-place selection v is_selected selected)
+    ap (λ (vars : List Var). data_text (shown_data d.header (values_in_file d.header d.bytes d.records) d.records d.width) v vars (drop v selection)) (from-place d.header.vars v var at)
+    ∙ ap (λ (ms : List Bool). data_text (shown_data d.header (values_in_file d.header d.bytes d.records) d.records d.width) v (var ∷ drop (v + 1) d.header.vars) ms) (from-place selection v is_selected selected)
     ∙ ap (λ (b : Bool). if b then values_and d v var (values_from d selection (v + 1)) else values_from d selection (v + 1)) (sym is)
 
 bytes-at : (d : Dumped) (selection : List Bool) (v : ℕ) (var : Var) (is_selected shown : Bool) → slice_get d.header.vars v ≡ Some var → slice_get selection v ≡ Some is_selected
@@ -32,7 +32,7 @@ bytes-at d selection v var is_selected shown at selected is =
     ∙ ap (λ (ms : List Bool). bytes_of d (var ∷ drop (v + 1) d.header.vars) ms) (from-place selection v is_selected selected)
     ∙ ap (λ (b : Bool). (if b then whole_bytes d var else 0) + bytes_of d (drop (v + 1) d.header.vars) (drop (v + 1) selection)) (sym is)
 
-no-selection : (d : Dumped) (v : ℕ) (vars : List Var) → variables_section (shown_data d.header (values_in_file d.header d.bytes d.records) d.records d.width) v vars [] ≡ no_section
+no-selection : (d : Dumped) (v : ℕ) (vars : List Var) → data_text (shown_data d.header (values_in_file d.header d.bytes d.records) d.records d.width) v vars [] ≡ no_data_text
 no-selection d v [] = refl
 no-selection d v (var ∷ vars) = refl
 
@@ -42,20 +42,20 @@ no-bytes d (var ∷ vars) = refl
 
 -- ---- a variable's values before a section
 
-whole-and : (look : Look) (values : List ℤ) (missing : Option ℕ) (v : ℕ) (others : Section) → (with_variable look values missing v no_section).ending ≡ whole
-    → ((with_variable look values missing v others).text ≡ (with_variable look values missing v no_section).text ++ others.text)
+whole-and : (look : Look) (values : List ℤ) (missing : Option ℕ) (v : ℕ) (others : DataText) → (with_variable look values missing v no_data_text).ending ≡ whole
+    → ((with_variable look values missing v others).text ≡ (with_variable look values missing v no_data_text).text ++ others.text)
     × ((with_variable look values missing v others).ending ≡ others.ending)
 whole-and look values None v others ends = (ap (λ (t : List ℕ). t ++ others.text) (sym (append-nil _)), refl)
 whole-and look values (Some k) v others ends = absurd cc
 
-cut-and : (look : Look) (values : List ℤ) (missing : Option ℕ) (v w k : ℕ) (others : Section) → (with_variable look values missing v no_section).ending ≡ data_truncated w k
-    → ((with_variable look values missing v others).text ≡ (with_variable look values missing v no_section).text)
+cut-and : (look : Look) (values : List ℤ) (missing : Option ℕ) (v w k : ℕ) (others : DataText) → (with_variable look values missing v no_data_text).ending ≡ data_truncated w k
+    → ((with_variable look values missing v others).text ≡ (with_variable look values missing v no_data_text).text)
     × ((with_variable look values missing v others).ending ≡ data_truncated w k)
 cut-and look values None v w k others ends = absurd cc
 cut-and look values (Some m) v w k others ends = (refl, ends)
 
-pub more-and : (look : Look) (values : List ℤ) (missing : Option ℕ) (v : ℕ) (others : Section)
-    → (more : List ℕ) × ((with_variable look values missing v others).text ≡ (with_variable look values missing v no_section).text ++ more)
+pub more-and : (look : Look) (values : List ℤ) (missing : Option ℕ) (v : ℕ) (others : DataText)
+    → (more : List ℕ) × ((with_variable look values missing v others).text ≡ (with_variable look values missing v no_data_text).text ++ more)
 more-and look values None v others = (others.text, ap (λ (t : List ℕ). t ++ others.text) (sym (append-nil _)))
 more-and look values (Some k) v others = ([], sym (append-nil _))
 
@@ -88,8 +88,8 @@ module _ (d : Dumped) (selection : List Bool) (buffer_len v : ℕ) (a b : Source
     prefix = m.prefix;
     spent = m.spent;
     is_before = record {
-      text_is = m.is_before.text_is ∙ ap (λ (s : Section). m.prefix ++ s.text) (values-at d selection v var is_selected false at selected is);
-      ending_is = m.is_before.ending_is ∙ ap (λ (s : Section). s.ending) (values-at d selection v var is_selected false at selected is);
+      text_is = m.is_before.text_is ∙ ap (λ (s : DataText). m.prefix ++ s.text) (values-at d selection v var is_selected false at selected is);
+      ending_is = m.is_before.ending_is ∙ ap (λ (s : DataText). s.ending) (values-at d selection v var is_selected false at selected is);
       spent_is = omega (arith, m.is_before.spent_is, bytes-at d selection v var is_selected false at selected is);
     };
     appended = m.appended;
@@ -141,8 +141,8 @@ module _ (d : Dumped) (selection : List Bool) (buffer_len v : ℕ) (a b : Source
           prefix = m.prefix ++ alone.text;
           spent = m.spent + whole_bytes d var;
           is_before = record {
-            text_is = m.is_before.text_is ∙ ap (λ (x : Section). m.prefix ++ x.text) values-here ∙ ap (λ (t : List ℕ). m.prefix ++ t) split.0 ∙ sym (append_assoc m.prefix alone.text _);
-            ending_is = m.is_before.ending_is ∙ ap (λ (x : Section). x.ending) values-here ∙ split.1;
+            text_is = m.is_before.text_is ∙ ap (λ (x : DataText). m.prefix ++ x.text) values-here ∙ ap (λ (t : List ℕ). m.prefix ++ t) split.0 ∙ sym (append_assoc m.prefix alone.text _);
+            ending_is = m.is_before.ending_is ∙ ap (λ (x : DataText). x.ending) values-here ∙ split.1;
             spent_is = omega (arith, m.is_before.spent_is, bytes-here);
           };
           appended = appended_then old new newer m.prefix alone.text m.appended s.appended;
@@ -159,13 +159,13 @@ module _ (d : Dumped) (selection : List Bool) (buffer_len v : ℕ) (a b : Source
 
     -- a value is missing
     pub selected-cut : (w k : ℕ) → IsShown d v var (data_truncated w k) (call buffer_len (having_read a m.spent) c new newer)
-        → AreShown d selection (data_truncated w k) (between a c) (λ (section : Section). Appended old newer section.text)
+        → AreShown d selection (data_truncated w k) (between a c) (λ (section : DataText). Appended old newer section.text)
     selected-cut w k s =
         let split = cut-and _ _ _ v w k (values_from d selection (v + 1)) s.ends in
         let handed : c ≡ having_read a (m.spent + whole_bytes d var) = s.handed ∙ after_after a m.spent (whole_bytes d var) in
         record {
-          ends = m.is_before.ending_is ∙ ap (λ (x : Section). x.ending) values-here ∙ split.1;
-          taken = subst (Appended old newer) (sym (m.is_before.text_is ∙ ap (λ (x : Section). m.prefix ++ x.text) values-here ∙ ap (λ (t : List ℕ). m.prefix ++ t) split.0))
+          ends = m.is_before.ending_is ∙ ap (λ (x : DataText). x.ending) values-here ∙ split.1;
+          taken = subst (Appended old newer) (sym (m.is_before.text_is ∙ ap (λ (x : DataText). m.prefix ++ x.text) values-here ∙ ap (λ (t : List ℕ). m.prefix ++ t) split.0))
               (appended_then old new newer m.prefix (values_alone d v var).text m.appended s.appended);
           bytes = ap (λ (x : SourceView). x.bytes) handed;
           most = omega (arith, ap (λ (x : SourceView). x.handed) handed, m.is_before.spent_is, bytes-here);
@@ -186,10 +186,10 @@ module _ (d : Dumped) (selection : List Bool) (buffer_len v : ℕ) (a b : Source
 
     -- a write failed
     pub selected-unwritten : IsUnwritten d v var (call buffer_len (having_read a m.spent) c new newer)
-        → AreUnwritten d selection buffer_len (between a c) (λ (section : Section). FailedPartway old newer section.text) (Holds old newer)
+        → AreUnwritten d selection buffer_len (between a c) (λ (section : DataText). FailedPartway old newer section.text) (Holds old newer)
     selected-unwritten s =
         let more = more-and _ _ _ v (values_from d selection (v + 1)) in
-        let text = m.is_before.text_is ∙ ap (λ (x : Section). m.prefix ++ x.text) values-here ∙ ap (λ (t : List ℕ). m.prefix ++ t) more.1 in
+        let text = m.is_before.text_is ∙ ap (λ (x : DataText). m.prefix ++ x.text) values-here ∙ ap (λ (t : List ℕ). m.prefix ++ t) more.1 in
         record {
           bytes = s.bytes;
           most = omega (arith, s.most, m.is_before.spent_is, bytes-here);
@@ -228,15 +228,15 @@ module _ (d : Dumped) (selection : List Bool) (buffer_len v : ℕ) (a b : Source
 
 -- all selected variables are shown
 pub selected-all : (d : Dumped) (selection : List Bool) (buffer_len v : ℕ) (a b : SourceView) (old new : SinkView) → length selection ≤ v → Selected d selection buffer_len v a b old new
-    → AreShown d selection whole (between a b) (λ (section : Section). Appended old new section.text) × IsUpToDate d selection buffer_len (between a b) (Holds old new)
+    → AreShown d selection whole (between a b) (λ (section : DataText). Appended old new section.text) × IsUpToDate d selection buffer_len (between a b) (Holds old new)
 selected-all d selection buffer_len v a b old new all m =
     let none : drop v selection ≡ [] = drop_all v selection all in
-    let nothing : values_from d selection v ≡ no_section =
-    ap (λ (ms : List Bool). variables_section (shown_data d.header (values_in_file d.header d.bytes d.records) d.records d.width) v (drop v d.header.vars) ms) none ∙ no-selection d v (drop v d.header.vars) in
+    let nothing : values_from d selection v ≡ no_data_text =
+    ap (λ (ms : List Bool). data_text (shown_data d.header (values_in_file d.header d.bytes d.records) d.records d.width) v (drop v d.header.vars) ms) none ∙ no-selection d v (drop v d.header.vars) in
     let no-more : bytes_of d (drop v d.header.vars) (drop v selection) ≡ 0 = ap (bytes_of d (drop v d.header.vars)) none ∙ no-bytes d (drop v d.header.vars) in (
       record {
-        ends = m.is_before.ending_is ∙ ap (λ (x : Section). x.ending) nothing;
-        taken = subst (Appended old new) (sym (m.is_before.text_is ∙ ap (λ (x : Section). m.prefix ++ x.text) nothing ∙ append-nil m.prefix)) m.appended;
+        ends = m.is_before.ending_is ∙ ap (λ (x : DataText). x.ending) nothing;
+        taken = subst (Appended old new) (sym (m.is_before.text_is ∙ ap (λ (x : DataText). m.prefix ++ x.text) nothing ∙ append-nil m.prefix)) m.appended;
         bytes = ap (λ (x : SourceView). x.bytes) m.handed;
         most = omega (arith, ap (λ (x : SourceView). x.handed) m.handed, m.is_before.spent_is, no-more);
       },

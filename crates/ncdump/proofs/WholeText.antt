@@ -1,6 +1,6 @@
 -- The text of a dump from its parts.
 use Rattle.std.proofs.Common.{◌≡◌, ℕ, inl, inr, Bool, List, [], ◌++◌, refl, sym, ap, ◌∙◌, append_assoc, subst, arith, Ok, Err}
-use Rattle.ncdump.proofs.Prelude.{append-nil, Header, head_text, Options, Section, Ending, whole, data_truncated, data_word, closing_word, dump_text, SourceView, SinkView, Appended, FailedPartway, appended_then, appended_partway, DumpFault, OutOfMemory, ReadFailed, WriteFailed, Format, NoSuchVariable, DataTruncated, Dumped, dumped, prefix_text, selected_values, text_before, unless_head_only, KeepsUpIn, IsUpToDate, Holds, ShowsSelected, Shows, between}
+use Rattle.ncdump.proofs.Prelude.{append-nil, Header, head_text, Options, DataText, Ending, whole, data_truncated, data_word, closing_word, dump_text, SourceView, SinkView, Appended, FailedPartway, appended_then, appended_partway, DumpFault, OutOfMemory, ReadFailed, WriteFailed, Format, NoSuchVariable, DataTruncated, Dumped, dumped, prefix_text, selected_values, text_before, unless_head_only, KeepsUpIn, IsUpToDate, Holds, ShowsSelected, Shows, between}
 use Rattle.nc_base.specs.Bytes.{concat_parts}
 use Rattle.cdl_print.specs.code.Words.{word_text}
 use Rattle.cdl_print.specs.declared.word.Word.TheVariants.{End}
@@ -8,7 +8,7 @@ use Rattle.ncdump.proofs.Calls.{call}
 use Rattle.ncdump.proofs.Held.{holds-after, holds-partway, partway-longer}
 
 -- the parts of a dump's text
-pub parts : (h : Header) (o : Options) (n : ℕ) (section : Section) → dump_text h o n section ≡ text_before o h n ++ (section.text ++ closing_word section.ending)
+pub parts : (h : Header) (o : Options) (n : ℕ) (section : DataText) → dump_text h o n section ≡ text_before o h n ++ (section.text ++ closing_word section.ending)
 unfolding concat_parts
 parts h o n section =
     ap (λ (t : List ℕ). head_text o.name h n ++ (data_word h o ++ (section.text ++ t))) (append-nil (closing_word section.ending))
@@ -37,7 +37,7 @@ module _ (o : Options) (h : Header) (n : ℕ) (shown : List Bool) (buffer_len : 
   abbrev pub selection : List Bool
   selection = unless_head_only o shown
 
-  abbrev pub section : Section
+  abbrev pub section : DataText
   section = selected_values d selection
 
   -- the head isn't written

@@ -4,7 +4,7 @@ use Rattle.std.specs.Bool.{OnTrue}
 use Rattle.std.specs.Borrow.{Bor}
 use Rattle.nc_base.specs.Dump.{Options}
 use Rattle.devices.specs.Failures.{HasFailed}
-use Rattle.devices.specs.Openers.{OpenerView, Opening, opens_after}
+use Rattle.devices.specs.Openers.{OpenerView, OpenerUse, opens_after}
 use Rattle.devices.specs.Sinks.{SinkView, Appended, FailedPartway}
 use Rattle.devices.specs.Uses.{Use, between}
 use Rattle.ncdump.specs.CommandLine.{Asked, asked_by}
@@ -44,7 +44,7 @@ pub record OpensFile {A : Type 0} (old new : OpenerView) (answer : Result A File
   pub reads : ReadFailsOnly old new answer
 
 -- the file at the path was opened, and its dump written, or the answer is why not
-pub record DumpsPath {A : Type 0} (path : List ℕ) (o : Options) (files : Opening) (out : Use SinkView) (answer : Result A FileFault) : Type 0 where
+pub record DumpsPath {A : Type 0} (path : List ℕ) (o : Options) (files : OpenerUse) (out : Use SinkView) (answer : Result A FileFault) : Type 0 where
   pub opens : OpensFile files.before files.after answer
   pub writes : WriteFailsOnly out.before out.after answer
   pub dump : OnTrue files.is_transparent (DumpsFile (files.named path) o out.before out.after answer)
@@ -54,10 +54,10 @@ pub record DumpsPath {A : Type 0} (path : List ℕ) (o : Options) (files : Openi
 -- what the words ask for, the files, and standard output
 pub record Run : Type 0 where
   pub asked : Option Asked
-  pub files : Opening
+  pub files : OpenerUse
   pub out : Use SinkView
 
-abbrev pub run_of : List (Bor (List ℕ)) → Opening → Use SinkView → Run
+abbrev pub run_of : List (Bor (List ℕ)) → OpenerUse → Use SinkView → Run
 run_of words files out = record { asked = asked_by (texts_of words); files = files; out = out }
 
 -- no file was opened, and nothing was written

@@ -2,7 +2,7 @@
 
 ghost use Rattle.std.specs.Prelude.{◌≡◌, IfOk, string_bytes, true};
 ghost use Rattle.std.specs.Bool.{OnTrue};
-ghost use Rattle.devices.specs.Openers.{opening};
+ghost use Rattle.devices.specs.Openers.{opener_use};
 ghost use Rattle.devices.specs.Uses.{use_of};
 ghost use Rattle.ncdump.specs.Dumps.{options_of, Dumps};
 ghost use Rattle.ncdump.specs.Dumps as dumps;
@@ -33,7 +33,7 @@ pub fn run_with<P: Opener, O: Flush, E: Sink>(
 ) -> u8
     ensures ends { Ends
         (run_of words.now
-        (opening P.Source.is_transparent P.named P.view opener.old opener.new)
+        (opener_use P.Source.is_transparent P.named P.view opener.old opener.new)
         (use_of O.Sink.view out.old out.new))
         (use_of E.view err.old err.new) result }
     ensures flushed { result ≡ 0 → O.is_flushed out.new ≡ true }
@@ -57,7 +57,7 @@ fn dump_and_flush<P: Opener, O: Flush>(
 ) -> Result<(), Failure>
     ensures runs { Runs
         (run_of words.now
-        (opening P.Source.is_transparent P.named P.view opener.old opener.new)
+        (opener_use P.Source.is_transparent P.named P.view opener.old opener.new)
         (use_of O.Sink.view out.old out.new)) result }
     ensures flushed { IfOk result (λ _. O.is_flushed out.new ≡ true) }
 {
@@ -79,7 +79,7 @@ fn dump_asked<P: Opener, O: Sink>(
 ) -> Result<(), Failure>
     ensures { DumpsAsked
         (run_of words.now
-        (opening P.Source.is_transparent P.named P.view opener.old opener.new)
+        (opener_use P.Source.is_transparent P.named P.view opener.old opener.new)
         (use_of O.view out.old out.new))
         (O.view out.new) result }
 {

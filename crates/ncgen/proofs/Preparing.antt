@@ -7,7 +7,7 @@ use Rattle.nc_file.specs.declared.write.begins.OffsetTooLarge.{OffsetTooLarge as
 use Rattle.nc_base.proofs.ListedArrays.{are-listed}
 use Rattle.cdl_parse.specs.code.DeclaredDatasets.{dataset_of_declared}
 use Rattle.cdl_parse.specs.declared.declared_values.Declared.{Declared}
-use Rattle.cdl_parse.specs.code.Parsing.{MeansOrOutOfMemory, as_dataset, refused}
+use Rattle.cdl_parse.specs.code.Parsing.{MeansOrOutOfMemory, as_dataset, out_of_memory}
 use Rattle.ncgen.specs.declared.prepared.Prepared.{Prepared}
 use Rattle.ncgen.proofs.Placing.{data-after, listed-after}
 
@@ -16,7 +16,7 @@ use Rattle.ncgen.proofs.Placing.{data-after, listed-after}
 pub text-fault : (text : List ℕ) (v : Version) (fault : CdlFault) → MeansOrOutOfMemory (as_dataset (Err fault)) (meaning text v) → Refuses (generated text v) (Cdl fault)
 unfolding generated
 text-fault text v fault (inl stated) = inl (ap file_or_fault (sym stated))
-text-fault text v fault (inr memory) = inr (ap (λ (r : Result Dataset CdlFault). Cdl (fault-or refused r)) memory)
+text-fault text v fault (inr memory) = inr (ap (λ (r : Result Dataset CdlFault). Cdl (fault-or out_of_memory r)) memory)
   where
     fault-or : CdlFault → Result Dataset CdlFault → CdlFault
     fault-or other (Ok d) = other
@@ -26,7 +26,7 @@ text-fault text v fault (inr memory) = inr (ap (λ (r : Result Dataset CdlFault)
 
 means : (text : List ℕ) (v : Version) (d : Declared) → MeansOrOutOfMemory (as_dataset (Ok d)) (meaning text v) → meaning text v ≡ Ok (dataset_of_declared d)
 means text v d (inl stated) = sym stated
-means text v d (inr memory) = absurd (ok-is-no-err (dataset_of_declared d) refused memory)
+means text v d (inr memory) = absurd (ok-is-no-err (dataset_of_declared d) out_of_memory memory)
   where
     is-ok : Result Dataset CdlFault → Type 0
     is-ok (Ok d) = Unit {0}

@@ -41,13 +41,13 @@ abbrev pub line_number : ℕ → List ℕ
 line_number line = concat_parts (codes "line " ∷ decimal line ∷ codes ": " ∷ [])
 
 -- the line of a fault of this kind; out of memory has none
-unfoldable pub place_text : CdlKind → ℕ → List ℕ
-place_text cdl.OutOfMemory line = []
-place_text kind line = line_number line
+unfoldable pub line_prefix : CdlKind → ℕ → List ℕ
+line_prefix cdl.OutOfMemory line = []
+line_prefix kind line = line_number line
 
 -- what a fault of a text says
 unfoldable pub cdl_fault_text : CdlFault → List ℕ
-cdl_fault_text fault = concat_parts (place_text fault.kind fault.line ∷ kind_words fault.kind ∷ [])
+cdl_fault_text fault = concat_parts (line_prefix fault.kind fault.line ∷ kind_words fault.kind ∷ [])
 
 -- what a fault says
 unfoldable pub fault_text : GenFault → List ℕ

@@ -5,7 +5,7 @@ use Rattle.nc_base.specs.GeneratedFile.{file_of, fits}
 use Rattle.devices.specs.Sinks.{SinkView, Appended, FailedPartway}
 use Rattle.cdl_statements.specs.declared.fault.CdlFault.{CdlFault}
 use Rattle.cdl_meaning.specs.Meaning.{meaning}
-use Rattle.cdl_parse.specs.code.Parsing.{refused}
+use Rattle.cdl_parse.specs.code.Parsing.{out_of_memory}
 use Rattle.ncgen.specs.declared.fault.GenFault.{GenFault}
 use Rattle.ncgen.specs.declared.fault.GenFault.TheVariants.{Cdl, OffsetTooLarge, WriteFailed}
 
@@ -18,9 +18,9 @@ file_or_fault (Err fault) = Err (Cdl fault)
 unfoldable pub generated : List ℕ → Version → Result (List ℕ) GenFault
 generated text v = file_or_fault (meaning text v)
 
--- The fault is the stated one, or out of memory (`Cdl refused`), which says nothing of the text.
+-- The fault is the stated one, or out of memory (`Cdl out_of_memory`), which says nothing of the text.
 abbrev pub Refuses : Result (List ℕ) GenFault → GenFault → Type 0
-Refuses stated fault = (stated ≡ Err fault) ⊎ (fault ≡ Cdl refused)
+Refuses stated fault = (stated ≡ Err fault) ⊎ (fault ≡ Cdl out_of_memory)
 
 -- the stated file was written
 pub record IsWritten (stated : Result (List ℕ) GenFault) (old new : SinkView) : Type 0 where

@@ -4,7 +4,7 @@ use Rattle.std.specs.Bool.{OnTrue}
 use Rattle.std.specs.Global.{Vec}
 use Rattle.nc_base.specs.declared.version.Version.{Version}
 use Rattle.devices.specs.Failures.{HasFailed}
-use Rattle.devices.specs.Openers.{OpenerView, Opening, opens_after}
+use Rattle.devices.specs.Openers.{OpenerView, OpenerUse, opens_after}
 use Rattle.devices.specs.Readers.{ReaderView}
 use Rattle.devices.specs.Uses.{Use}
 use Rattle.cdl_meaning.specs.Meaning.{text_limit}
@@ -16,10 +16,10 @@ use Rattle.ncgen.specs.declared.failure.InputFault.TheVariants.{CannotOpen, Text
 
 -- what opens texts, and standard input
 pub record Inputs : Type 0 where
-  pub texts : Opening
+  pub texts : OpenerUse
   pub input : Use ReaderView
 
-abbrev pub inputs : Opening → Use ReaderView → Inputs
+abbrev pub inputs : OpenerUse → Use ReaderView → Inputs
 inputs texts input = record { texts = texts; input = input }
 
 -- ---- reading the text
@@ -43,7 +43,7 @@ ReadsAt is_transparent named (Err (Text fault)) = OnTrue is_transparent (IsSome 
 ReadsAt is_transparent named (Err (Generate fault)) = ⊥
 
 -- the text at the path was read, or the answer is why not
-pub record ReadsPath (texts : Opening) (path : List ℕ) (answer : Result (Vec ℕ) InputFault) : Type 0 where
+pub record ReadsPath (texts : OpenerUse) (path : List ℕ) (answer : Result (Vec ℕ) InputFault) : Type 0 where
   pub text : ReadsAt texts.is_transparent (texts.named path) answer
   pub opens : OpensPath texts.before texts.after answer
 

@@ -1,7 +1,7 @@
 //! Why no file was generated, or no text read.
 
 ghost use Rattle.std.specs.Prelude.{◌≡◌};
-ghost use Rattle.cdl_parse.specs.code.Parsing.{refused};
+ghost use Rattle.cdl_parse.specs.code.Parsing.{out_of_memory};
 ghost use Rattle.ncgen.specs.declared.fault.GenFault.TheVariants as gen;
 ghost use Rattle.ncgen.specs.declared.fault.TextFault.TheVariants as text;
 
@@ -41,7 +41,7 @@ impl From<CdlFault> for GenFault {
 }
 
 impl From<AllocError> for GenFault {
-    ghost from_gives = { λ _ e. e ≡ gen.Cdl refused };
+    ghost from_gives = { λ _ e. e ≡ gen.Cdl out_of_memory };
 
     fn from(_e: AllocError) -> GenFault {
         GenFault::Cdl(CdlFault {

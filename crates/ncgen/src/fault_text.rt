@@ -2,7 +2,7 @@
 
 ghost use Rattle.std.specs.Prelude.{◌≡◌};
 ghost use Rattle.devices.specs.Sinks.{Wrote};
-ghost use Rattle.ncgen.specs.Faults.{cdl_fault_text, fault_text, input_line, input_words, kind_words, line_number, line_of, line_of_failure, line_of_text, opt_fault_line, output_words, place_text, program_words, text_name, usage_line};
+ghost use Rattle.ncgen.specs.Faults.{cdl_fault_text, fault_text, input_line, input_words, kind_words, line_number, line_of, line_of_failure, line_of_text, opt_fault_line, output_words, line_prefix, program_words, text_name, usage_line};
 
 use crate::failure::{Failure, InputFault, OutputFault};
 use crate::fault::{GenFault, TextFault};
@@ -127,9 +127,9 @@ fn put_cdl_fault<W: Sink>(sink: &mut W, fault: CdlFault) -> Result<(), WriteFail
 }
 
 /// Writes `line N: ` for a fault in this line, or nothing if the kind is `OutOfMemory`.
-#[tactic(auto, using(devices::proofs::Writes::writes), unfolding(crate::specs::Faults::place_text))]
+#[tactic(auto, using(devices::proofs::Writes::writes), unfolding(crate::specs::Faults::line_prefix))]
 fn put_place<W: Sink>(sink: &mut W, kind: CdlKind, line: u64) -> Result<(), WriteFailed>
-    ensures { Wrote W.view sink.old sink.new (place_text kind line) result }
+    ensures { Wrote W.view sink.old sink.new (line_prefix kind line) result }
 {
     match kind {
         CdlKind::OutOfMemory => Ok(()),

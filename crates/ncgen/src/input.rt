@@ -1,7 +1,7 @@
 //! The text that is asked for.
 
 ghost use Rattle.std.specs.Prelude.{option_map, string_bytes};
-ghost use Rattle.devices.specs.Openers.{opening};
+ghost use Rattle.devices.specs.Openers.{opener_use};
 ghost use Rattle.devices.specs.Readers.{view_of};
 ghost use Rattle.devices.specs.Uses.{use_of};
 ghost use Rattle.ncgen.specs.Inputs.{inputs, OpensPath, ReadsAt, ReadsInput};
@@ -25,7 +25,7 @@ pub fn read_input<T: TextOpener, R: Read>(
 ) -> Result<Vec<u8>, InputFault>
     ensures { ReadsInput
         (inputs
-        (opening T.is_transparent T.named T.view texts.old texts.new)
+        (opener_use T.is_transparent T.named T.view texts.old texts.new)
         (use_of (view_of R.remaining) input.old input.new))
         (option_map string_bytes file.now)
         result }

@@ -3,7 +3,7 @@
 ghost use Rattle.std.specs.Prelude.{option_map, string_bytes};
 ghost use Rattle.cli_base.specs.Arguments.{texts_of};
 ghost use Rattle.ncgen.specs.CommandLine.{asked_by};
-ghost use Rattle.devices.specs.Openers.{opening};
+ghost use Rattle.devices.specs.Openers.{opener_use};
 ghost use Rattle.devices.specs.Readers.{view_of};
 ghost use Rattle.devices.specs.Uses.{use_of};
 ghost use Rattle.ncgen.specs.Inputs.{inputs};
@@ -43,7 +43,7 @@ pub fn run_with<T: TextOpener, C: Creator, R: Read, E: Sink>(
         (record {
           asked = asked_by (texts_of words.now);
           inputs = inputs
-              (opening T.is_transparent T.named T.view texts.old texts.new)
+              (opener_use T.is_transparent T.named T.view texts.old texts.new)
               (use_of (view_of R.remaining) input.old input.new);
           outputs = outputs C.is_transparent C.view creator.old creator.new;
           err = use_of E.view err.old err.new;
@@ -70,7 +70,7 @@ fn generate_asked<T: TextOpener, C: Creator, R: Read>(
 ) -> Result<(), Failure>
     ensures { GeneratesAsked
         (inputs
-        (opening T.is_transparent T.named T.view texts.old texts.new)
+        (opener_use T.is_transparent T.named T.view texts.old texts.new)
         (use_of (view_of R.remaining) input.old input.new))
         (outputs C.is_transparent C.view creator.old creator.new)
         (asked_by (texts_of words.now))
@@ -93,7 +93,7 @@ fn prepare_input<T: TextOpener, R: Read>(
 ) -> Result<Prepared, InputFault>
     ensures { PreparesInput
         (inputs
-        (opening T.is_transparent T.named T.view texts.old texts.new)
+        (opener_use T.is_transparent T.named T.view texts.old texts.new)
         (use_of (view_of R.remaining) input.old input.new))
         (option_map string_bytes options.now.file)
         options.now.kind

@@ -1,6 +1,6 @@
 -- Which bytes belong to each class, and what each escape of a string stands for, over all bytes, by computation.
 use Rattle.std.proofs.Common.{◌≡◌, ℕ, List, [], ◌∷◌, ◌++◌, refl, codes, filter, map, not, ◌==◌, if◌then◌else◌, None, Some, Option, is_some}
-use Rattle.cdl_laws.proofs.Prelude.{to_ascii_lowercase, list_all, range_with_len, digit_value, is_blank, is_digit, is_octal, is_hex, begins_word, goes_on_word, goes_on_number, is_sign, is_escape, plain_escape, unescape, unescape_at, stands, character}
+use Rattle.cdl_laws.proofs.Prelude.{to_ascii_lowercase, list_all, range_with_len, digit_value, is_blank, is_digit, is_octal, is_hex, may_begin_word, goes_on_word, goes_on_number, is_sign, is_escape, plain_escape, unescape, unescape_at, string_value, character}
 use Rattle.cdl_tokens.specs.Bytes.{is_mark_byte}
 
 abbrev all_bytes : List ℕ
@@ -24,7 +24,7 @@ octal_digits = refl
 hexadecimal_digits : filter is_hex all_bytes ≡ codes "0123456789ABCDEFabcdef"
 hexadecimal_digits = refl
 
-first_of_words : filter begins_word all_bytes ≡ codes "ABCDEFGHIJKLMNOPQRSTUVWXYZ_abcdefghijklmnopqrstuvwxyz" ++ from 128 128
+first_of_words : filter may_begin_word all_bytes ≡ codes "ABCDEFGHIJKLMNOPQRSTUVWXYZ_abcdefghijklmnopqrstuvwxyz" ++ from 128 128
 first_of_words = refl
 
 later_in_words : filter goes_on_word all_bytes ≡ codes "+-.0123456789@ABCDEFGHIJKLMNOPQRSTUVWXYZ_abcdefghijklmnopqrstuvwxyz" ++ from 128 128
@@ -70,7 +70,7 @@ itself = refl
 
 -- the bytes that texts between quotes stand for
 abbrev bytes_of : List (List ℕ) → List (Option (List ℕ))
-bytes_of texts = map (λ text. if list_all is_some (unescape text) then Some (stands text) else None) texts
+bytes_of texts = map (λ text. if list_all is_some (unescape text) then Some (string_value text) else None) texts
 
 -- one to three octal digits, of a number that is a byte
 octal_escapes : bytes_of (codes "\\7" ∷ codes "\\78" ∷ codes "\\12" ∷ codes "\\129" ∷ codes "\\101" ∷ codes "\\1012" ∷ codes "\\0000" ∷ codes "\\377" ∷ codes "\\400" ∷ codes "\\777" ∷ codes "\\8" ∷ [])
@@ -91,7 +91,7 @@ unfolding unescape_at character
 other_escapes = refl
 
 -- where characters are taken for bytes without asking, one that stands for none counts as a NUL
-stand : map stands (codes "a\\n\\101\\x41\\\\\\q" ∷ codes "\\400b" ∷ codes "\\xg" ∷ [])
+stand : map string_value (codes "a\\n\\101\\x41\\\\\\q" ∷ codes "\\400b" ∷ codes "\\xg" ∷ [])
     ≡ (97 ∷ 10 ∷ 65 ∷ 65 ∷ 92 ∷ 113 ∷ []) ∷ (0 ∷ 98 ∷ []) ∷ (0 ∷ 103 ∷ []) ∷ []
 unfolding unescape_at character
 stand = refl

@@ -1,6 +1,6 @@
 -- The tokens of a few texts, their pieces, and what words and numbers say, by computation.
 use Rattle.std.proofs.Common.{◌≡◌, ℕ, List, [], ◌∷◌, refl, Bool, true, false, ℤ, pos, neg_ℤ, codes, length, map, Option, None, Some}
-use Rattle.cdl_laws.proofs.Prelude.{NcType, Byte, Short, Int, Ubyte, Ushort, Uint, Int64, Uint64, Cdf5, is_reserved, Scanned, Token, TokenKind, Word, Text, Bad, unescape_at, character, word_value, word_len, until, scan, tokens, tokens_at, pieces_at, is_section, is_word, is_mark, name_of, statements, Numeral, suffix, numeral, parts}
+use Rattle.cdl_laws.proofs.Prelude.{NcType, Byte, Short, Int, Ubyte, Ushort, Uint, Int64, Uint64, Cdf5, is_reserved, Scanned, Token, TokenKind, Word, Text, Bad, unescape_at, character, word_value, word_len, len_until, scan, tokens, tokens_at, pieces_at, is_section, is_word, is_mark, name_of, statements, Numeral, type_of_suffix, numeral, parts}
 use Rattle.cdl_tokens.specs.declared.token.TokenKind.TheVariants.{Opening, Number, Mark, End}
 
 -- ---- what stands at the start of bytes
@@ -16,7 +16,7 @@ scans fresh texts = map (scan fresh) texts
 
 openings : scans true (codes "netcdf{" ∷ codes "netcdf {}" ∷ codes "netcdf\n a\\{b { x" ∷ codes "netcdf" ∷ codes "netcdfx {" ∷ codes "netcdf x" ∷ codes "netcdf \\" ∷ codes "Netcdf {" ∷ [])
     ≡ a Opening 7 ∷ a Opening 8 ∷ a Opening 14 ∷ a Word 6 ∷ a Word 7 ∷ a Bad 8 ∷ a Bad 8 ∷ a Word 6 ∷ []
-unfolding scan word_len until
+unfolding scan word_len len_until
 openings = refl
 
 no_opening : scans false (codes "netcdf{" ∷ codes "netcdf {" ∷ []) ≡ a Word 6 ∷ a Word 6 ∷ []
@@ -47,13 +47,13 @@ gaps = refl
 
 strings : scans false (codes "\"\"" ∷ codes "\"a\"b\"" ∷ codes "\"a\\\"b\" c" ∷ codes "\"\\\\\"x" ∷ codes "\"a\nb\"" ∷ codes "\"" ∷ codes "\"a" ∷ codes "\"a\\" ∷ codes "\"a\\\"" ∷ codes "\"\\400\"x" ∷ codes "\"\\x\"" ∷ [])
     ≡ a Text 2 ∷ a Text 3 ∷ a Text 6 ∷ a Text 4 ∷ a Text 5 ∷ a Bad 1 ∷ a Bad 2 ∷ a Bad 3 ∷ a Bad 4 ∷ a Bad 6 ∷ a Bad 4 ∷ []
-unfolding scan until unescape_at character
+unfolding scan len_until unescape_at character
 strings = refl
 
 -- how many bytes stand before a quote that no backslash escapes
-before_quotes : map (until 34) (codes "" ∷ codes "a" ∷ codes "\"" ∷ codes "ab\"c\"" ∷ codes "a\\\"b\"" ∷ codes "a\\" ∷ codes "\\a" ∷ codes "\\\"" ∷ codes "\\" ∷ [])
+before_quotes : map (len_until 34) (codes "" ∷ codes "a" ∷ codes "\"" ∷ codes "ab\"c\"" ∷ codes "a\\\"b\"" ∷ codes "a\\" ∷ codes "\\a" ∷ codes "\\\"" ∷ codes "\\" ∷ [])
     ≡ 0 ∷ 1 ∷ 0 ∷ 2 ∷ 4 ∷ 2 ∷ 2 ∷ 2 ∷ 1 ∷ []
-unfolding until
+unfolding len_until
 before_quotes = refl
 
 others : scans false (codes "{" ∷ codes "'a'" ∷ codes "[" ∷ codes "#" ∷ (0 ∷ []) ∷ (127 ∷ []) ∷ []) ≡ a Bad 1 ∷ a Bad 1 ∷ a Bad 1 ∷ a Bad 1 ∷ a Bad 1 ∷ a Bad 1 ∷ []
@@ -66,12 +66,12 @@ abbrev on : ℕ → ℕ → ℕ → TokenKind → Token
 on line first past kind = record { kind = kind; line = line; first = first; past = past }
 
 lines : tokens (codes "netcdf a {\n x\n;} \n") ≡ on 1 0 10 Opening ∷ on 2 12 13 Word ∷ on 3 14 15 Mark ∷ on 3 15 16 Mark ∷ on 4 18 18 End ∷ []
-unfolding tokens_at scan word_len until
+unfolding tokens_at scan word_len len_until
 lines = refl
 
 -- gaps before an opening
 comment_first : tokens (codes " //\nnetcdf{") ≡ on 2 4 11 Opening ∷ on 2 11 11 End ∷ []
-unfolding tokens_at scan until
+unfolding tokens_at scan len_until
 comment_first = refl
 
 -- a token before it
@@ -91,19 +91,19 @@ cuts texts = map (λ text. map length (statements text)) texts
 
 openings_and_ends : cuts (codes "" ∷ codes "netcdf t" ∷ codes "netcdf t {" ∷ codes "netcdf t { x" ∷ codes "netcdf t { x }" ∷ codes "netcdf t { ; ; }" ∷ codes "netcdf t { ; x ; }" ∷ codes "netcdf t { } a ; } b" ∷ codes "netcdf t { } }" ∷ codes "x ; netcdf t {" ∷ [])
     ≡ (1 ∷ []) ∷ (1 ∷ 1 ∷ []) ∷ (1 ∷ 1 ∷ []) ∷ (1 ∷ 1 ∷ 1 ∷ []) ∷ (1 ∷ 2 ∷ 1 ∷ []) ∷ (1 ∷ 1 ∷ 1 ∷ 1 ∷ 1 ∷ []) ∷ (1 ∷ 1 ∷ 2 ∷ 1 ∷ 1 ∷ []) ∷ (1 ∷ 1 ∷ 4 ∷ 1 ∷ []) ∷ (1 ∷ 1 ∷ 1 ∷ 1 ∷ []) ∷ (2 ∷ 3 ∷ 1 ∷ []) ∷ []
-unfolding tokens_at scan word_len until pieces_at is_section
+unfolding tokens_at scan word_len len_until pieces_at is_section
 openings_and_ends = refl
 
 -- a section mark is a piece of its own where a statement may begin
 section_marks : cuts (codes "netcdf t {dimensions: x = 3 ; variables:data:}" ∷ codes "netcdf t {dimensions x ; data }" ∷ codes "netcdf t { data" ∷ codes "netcdf t { data:" ∷ codes "netcdf t { \\data : x ;" ∷ codes "netcdf t { x data : ;" ∷ codes "netcdf t { dimension : ;" ∷ codes "netcdf t { : data = 1 ; a : b" ∷ codes "netcdf t { data ; x" ∷ codes "netcdf t { data data : x ;" ∷ codes "netcdf t { data } x ;" ∷ [])
     ≡ (1 ∷ 2 ∷ 4 ∷ 2 ∷ 2 ∷ 1 ∷ 1 ∷ []) ∷ (1 ∷ 3 ∷ 2 ∷ 1 ∷ []) ∷ (1 ∷ 1 ∷ 1 ∷ []) ∷ (1 ∷ 2 ∷ 1 ∷ []) ∷ (1 ∷ 4 ∷ 1 ∷ []) ∷ (1 ∷ 4 ∷ 1 ∷ []) ∷ (1 ∷ 3 ∷ 1 ∷ []) ∷ (1 ∷ 5 ∷ 3 ∷ 1 ∷ []) ∷ (1 ∷ 2 ∷ 1 ∷ 1 ∷ []) ∷ (1 ∷ 5 ∷ 1 ∷ []) ∷ (1 ∷ 4 ∷ 1 ∷ []) ∷ []
-unfolding tokens_at scan word_len until pieces_at is_section
+unfolding tokens_at scan word_len len_until pieces_at is_section
 section_marks = refl
 
 -- numbers, strings, bad tokens and other marks are in no way special
 other_tokens : cuts (codes "netcdf t { = x ; y ;" ∷ codes "netcdf t { ( x ; y ;" ∷ codes "netcdf t { = : x ;" ∷ codes "netcdf t { data 5 : x ;" ∷ codes "netcdf t { 5 : x ;" ∷ codes "netcdf t { \"data\" : x ;" ∷ codes "netcdf t { @ : x ;" ∷ codes "netcdf t { data @ : x ;" ∷ [])
     ≡ (1 ∷ 3 ∷ 2 ∷ 1 ∷ []) ∷ (1 ∷ 3 ∷ 2 ∷ 1 ∷ []) ∷ (1 ∷ 4 ∷ 1 ∷ []) ∷ (1 ∷ 5 ∷ 1 ∷ []) ∷ (1 ∷ 4 ∷ 1 ∷ []) ∷ (1 ∷ 4 ∷ 1 ∷ []) ∷ (1 ∷ 4 ∷ 1 ∷ []) ∷ (1 ∷ 5 ∷ 1 ∷ []) ∷ []
-unfolding tokens_at scan word_len until unescape_at character pieces_at is_section
+unfolding tokens_at scan word_len len_until unescape_at character pieces_at is_section
 other_tokens = refl
 
 -- ---- words and marks
@@ -132,27 +132,27 @@ numerals texts = map (numeral Cdf5) texts
 
 decimal : numerals (codes "0" ∷ codes "1234567890" ∷ codes "-7" ∷ codes "+7" ∷ codes "-0" ∷ codes "98765432101234567890" ∷ codes "1a" ∷ [])
     ≡ is (pos 0) Int ∷ is (pos 1234567890) Int ∷ is (neg_ℤ (pos 7)) Int ∷ is (pos 7) Int ∷ is (pos 0) Int ∷ is (pos 98765432101234567890) Int ∷ None ∷ []
-unfolding suffix numeral parts
+unfolding type_of_suffix numeral parts
 decimal = refl
 
 octal : numerals (codes "00" ∷ codes "017" ∷ codes "-0123" ∷ codes "08" ∷ codes "018" ∷ [])
     ≡ is (pos 0) Int ∷ is (pos 15) Int ∷ is (neg_ℤ (pos 83)) Int ∷ None ∷ None ∷ []
-unfolding suffix numeral parts
+unfolding type_of_suffix numeral parts
 octal = refl
 
 hexadecimal : numerals (codes "0x1f" ∷ codes "0XAbC" ∷ codes "-0x10" ∷ codes "0x1b" ∷ codes "0x1bb" ∷ codes "0x1bs" ∷ codes "0x" ∷ codes "0xg" ∷ codes "1x1" ∷ codes "00x1" ∷ [])
     ≡ is (pos 31) Int ∷ is (pos 2748) Int ∷ is (neg_ℤ (pos 16)) Int ∷ is (pos 27) Int ∷ is (pos 443) Int ∷ is (pos 27) Short ∷ None ∷ None ∷ None ∷ None ∷ []
-unfolding suffix numeral parts
+unfolding type_of_suffix numeral parts
 hexadecimal = refl
 
 -- in lower case and in upper case
 suffixes : numerals (codes "12b" ∷ codes "12B" ∷ codes "12s" ∷ codes "12S" ∷ codes "12l" ∷ codes "12L" ∷ codes "12ub" ∷ codes "12uS" ∷ codes "12U" ∷ codes "12Ll" ∷ codes "12uLl" ∷ codes "017b" ∷ codes "0S" ∷ [])
     ≡ is (pos 12) Byte ∷ is (pos 12) Byte ∷ is (pos 12) Short ∷ is (pos 12) Short ∷ is (pos 12) Int ∷ is (pos 12) Int
     ∷ is (pos 12) Ubyte ∷ is (pos 12) Ushort ∷ is (pos 12) Uint ∷ is (pos 12) Int64 ∷ is (pos 12) Uint64 ∷ is (pos 15) Byte ∷ is (pos 0) Short ∷ []
-unfolding suffix numeral parts
+unfolding type_of_suffix numeral parts
 suffixes = refl
 
 no_suffixes : numerals (codes "12c" ∷ codes "12bs" ∷ codes "12ul" ∷ codes "12lu" ∷ codes "12us1" ∷ codes "12_" ∷ codes "12." ∷ [])
     ≡ None ∷ None ∷ None ∷ None ∷ None ∷ None ∷ None ∷ []
-unfolding suffix numeral parts
+unfolding type_of_suffix numeral parts
 no_suffixes = refl

@@ -13,12 +13,12 @@ use Rattle.cdl_parse.specs.declared.{declared_values.Declared.Declared, text.Con
 use Rattle.cdl_parse.specs.declared.parse_error.ParseError.TheVariants as stops
 
 -- an allocation failed
-abbrev pub refused : CdlFault
-refused = record { line = 0; kind = OutOfMemory }
+abbrev pub out_of_memory : CdlFault
+out_of_memory = record { line = 0; kind = OutOfMemory }
 
 -- what the text means; or an allocation failed, which says nothing of the text
 abbrev pub MeansOrOutOfMemory : {A : Type 0} → Result A CdlFault → Result A CdlFault → Type 0
-MeansOrOutOfMemory result meaning = (result ≡ meaning) ⊎ (result ≡ Err refused)
+MeansOrOutOfMemory result meaning = (result ≡ meaning) ⊎ (result ≡ Err out_of_memory)
 
 -- what is declared, as a dataset
 abbrev pub as_dataset : Result Declared CdlFault → Result Dataset CdlFault
@@ -26,7 +26,7 @@ as_dataset (Ok d) = Ok (dataset_of_declared d)
 as_dataset (Err fault) = Err fault
 
 abbrev pub fault_of : ParseError → CdlFault
-fault_of stops.OutOfMemory = refused
+fault_of stops.OutOfMemory = out_of_memory
 fault_of (stops.Fault fault) = fault
 
 -- these bytes are listed of the variables, and the text is read on after that; or there is the fault

@@ -2,7 +2,7 @@
 use Rattle.std.specs.Prelude.{ℕ, ℤ, Bool, true, false, List, [], ◌∷◌, ◌&&◌, ◌||◌, not, codes, drop, if◌then◌else◌, Option, None, Some}
 use Rattle.nc_base.specs.declared.{nc_type.NcType.TheVariants.Int, version.Version.Version}
 use Rattle.cdl_statements.specs.code.DueTokens.{is_name, opens_section_after}
-use Rattle.cdl_tokens.specs.Escapes.{inner, stands, word_value}
+use Rattle.cdl_tokens.specs.Escapes.{inner, string_value, word_value}
 use Rattle.cdl_statements.specs.Lexemes.{Lexeme, is_mark, is_mark_kind, is_word}
 use Rattle.cdl_tokens.specs.Numerals.{Parts, parts, number}
 use Rattle.cdl_statements.specs.Shapes.{Value, Number, Characters, Underscore, Dimension, Variable, Statement, Opening, Mark, Declared, Typed, Attribute, Listed, Brace, End, section_of}
@@ -18,7 +18,7 @@ parts_or_zero (Some n) = n
 
 unfoldable pub value_of : Version → Lexeme → TokenKind → Value
 value_of v l kinds.Number = Number (number (parts_or_zero (parts v l.bytes)))
-value_of v l kinds.Text = Characters (stands (inner l.bytes))
+value_of v l kinds.Text = Characters (string_value (inner l.bytes))
 value_of v l _ = Underscore
 
 -- the values among these tokens: all but the marks are values

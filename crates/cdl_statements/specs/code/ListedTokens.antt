@@ -1,7 +1,7 @@
 -- For contracts. Tokens inside a list; a cutter passes two of them at once.
 use Rattle.std.specs.Prelude.{◌≡◌, ℕ, ◌<◌, List, ◌∷◌, true, false, Some, option_map}
 use Rattle.nc_base.specs.declared.version.Version.{Version}
-use Rattle.cdl_tokens.specs.Escapes.{inner, stands}
+use Rattle.cdl_tokens.specs.Escapes.{inner, string_value}
 use Rattle.cdl_tokens.specs.code.Magnitudes.{held}
 use Rattle.cdl_tokens.specs.Numerals.{parts}
 use Rattle.cdl_tokens.specs.code.Scanners.{comma_before}
@@ -38,5 +38,5 @@ pub record PassesNumber (start rest : Cutter) (n : Numeral) : Type 0 where
 
 -- this one is a string with these bytes, which stand for themselves between the quotes
 pub record PassesString (start rest : Cutter) (bytes : List ℕ) : Type 0 where
-  pub plain : stands (inner bytes) ≡ inner bytes
+  pub plain : string_value (inner bytes) ≡ inner bytes
   pub passes : Passes start rest (lexeme_with kinds.Text bytes)

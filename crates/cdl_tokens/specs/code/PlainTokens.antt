@@ -4,7 +4,7 @@ use Rattle.std.specs.Prelude.{◌≡◌, ◌==◌, count_by, ℕ, ◌+◌, ◌<�
 use Rattle.std.specs.List.{prefix_len}
 use Rattle.nc_base.specs.declared.version.Version.{Version}
 use Rattle.cdl_tokens.specs.Bytes.{goes_on_number, is_digit, number_in}
-use Rattle.cdl_tokens.specs.Escapes.{inner, stands}
+use Rattle.cdl_tokens.specs.Escapes.{inner, string_value}
 use Rattle.cdl_tokens.specs.code.Magnitudes.{held}
 use Rattle.cdl_tokens.specs.Numerals.{parts}
 use Rattle.cdl_tokens.specs.Scan.{begins_number, scan, token}
@@ -36,7 +36,7 @@ pub record BeginsString (bs : List ℕ) (len : ℕ) : Type 0 where
   pub some : 2 ≤ len
   pub within : len ≤ length bs
   pub flat : count_by (λ b. b == 0x0a) (take len bs) ≡ 0
-  pub plain : stands (inner (take len bs)) ≡ inner (take len bs)
+  pub plain : string_value (inner (take len bs)) ≡ inner (take len bs)
 
 pub record IsComma (text : List ℕ) (t : Token) : Type 0 where
   pub mark : t.kind ≡ Mark
@@ -51,4 +51,4 @@ pub record IsListed (text : List ℕ) (l : ListedNumber) : Type 0 where
 -- a string, whose bytes between the quotes stand for themselves
 pub record IsPlainString (text : List ℕ) (t : Token) : Type 0 where
   pub string : t.kind ≡ Text
-  pub plain : stands (inner (raw text t)) ≡ inner (raw text t)
+  pub plain : string_value (inner (raw text t)) ≡ inner (raw text t)

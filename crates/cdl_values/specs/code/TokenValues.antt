@@ -1,7 +1,7 @@
 -- For contracts. The values of tokens, packed one after the other.
 use Rattle.std.specs.Prelude.{ℕ, ◌≡◌, Bool, List, [], ◌∷◌, Option, Result, Ok, ⊤, OnOk, IfOk}
 use Rattle.nc_base.specs.declared.{nc_type.NcType.NcType, version.Version.Version}
-use Rattle.cdl_tokens.specs.Escapes.{inner, stands}
+use Rattle.cdl_tokens.specs.Escapes.{inner, string_value}
 use Rattle.cdl_tokens.specs.code.Magnitudes.{held}
 use Rattle.cdl_tokens.specs.Numerals.{Parts, number}
 use Rattle.cdl_tokens.specs.declared.numeral.Numeral.{Numeral}
@@ -25,7 +25,7 @@ value_said version token = value_of version (lexeme_of token) token.kind
 
 -- the characters between the quotes of a string
 abbrev pub text_said : List ℕ → Value
-text_said bytes = Characters (stands (inner bytes))
+text_said bytes = Characters (string_value (inner bytes))
 
 -- the bytes of a token's value
 abbrev pub token_bytes : Filling → Option ℕ → Version → Lexeme → Result (List ℕ) CdlKind

@@ -7,7 +7,7 @@ use Rattle.nc_base.specs.Types.{size_of}
 use Rattle.nc_base.specs.HeadText.{head_text}
 use Rattle.nc_base.specs.Places.{stored_values, first_missing}
 use Rattle.nc_base.specs.ValueText.{look_of, variable_prefix}
-use Rattle.nc_base.specs.Dump.{Options, Ending, whole, data_truncated, Section, no_section, values_in_file, has_values, with_variable, variables_section, data_word, dump_text, shown_data}
+use Rattle.nc_base.specs.Dump.{Options, Ending, whole, data_truncated, DataText, no_data_text, values_in_file, has_values, with_variable, data_text, data_word, dump_text, shown_data}
 use Rattle.devices.specs.Failures.{HasFailed}
 use Rattle.devices.specs.Sources.{SourceView, having_read}
 use Rattle.devices.specs.Sinks.{SinkView, append, is_transparent, Appended, FailedPartway, IsCut}
@@ -60,13 +60,13 @@ abbrev pub prefix_text : Dumped → Var → ℕ → List ℕ
 prefix_text d var k = variable_prefix (look_of d.header var d.records d.width) (take k (stored_values d.header d.bytes var d.records))
 
 -- the values of the variable at index v, with a section after them
-abbrev pub values_and : Dumped → ℕ → Var → Section → Section
+abbrev pub values_and : Dumped → ℕ → Var → DataText → DataText
 values_and d v var others =
     with_variable (look_of d.header var d.records d.width) (stored_values d.header d.bytes var d.records) (first_missing d.header d.bytes var d.records) v others
 
 -- with nothing after them
-abbrev pub values_alone : Dumped → ℕ → Var → Section
-values_alone d v var = values_and d v var no_section
+abbrev pub values_alone : Dumped → ℕ → Var → DataText
+values_alone d v var = values_and d v var no_data_text
 
 -- the number of the values before the first missing one
 abbrev pub whole_values : Dumped → Var → ℕ
@@ -118,13 +118,13 @@ ShowsAt d v call result = IfSome (slice_get d.header.vars v) (ShowsOne d v call 
 -- ---- the selected variables
 
 -- the values of the selected variables from index v on
-abbrev pub values_from : Dumped → List Bool → ℕ → Section
+abbrev pub values_from : Dumped → List Bool → ℕ → DataText
 values_from d selection v =
-    variables_section (shown_data d.header (values_in_file d.header d.bytes d.records) d.records d.width) v (drop v d.header.vars) (drop v selection)
+    data_text (shown_data d.header (values_in_file d.header d.bytes d.records) d.records d.width) v (drop v d.header.vars) (drop v selection)
 
 -- of all of them
-abbrev pub selected_values : Dumped → List Bool → Section
-selected_values d selection = variables_section (shown_data d.header (values_in_file d.header d.bytes d.records) d.records d.width) 0 d.header.vars selection
+abbrev pub selected_values : Dumped → List Bool → DataText
+selected_values d selection = data_text (shown_data d.header (values_in_file d.header d.bytes d.records) d.records d.width) 0 d.header.vars selection
 
 -- the bytes of the values before the first missing one, of each of these variables that is selected and has values
 abbrev pub bytes_of : Dumped → List Var → List Bool → ℕ
@@ -151,7 +151,7 @@ pub record KeepsUpIn (d : Dumped) (selection : List Bool) (buffer_len : ℕ) (so
   pub keeps_up : KeepsUp d var buffer_len (between (having_read source.before spent) source.after) (λ (values : List ℕ). Taken (prefix ++ values))
 
 -- all selected variables are shown, or all values before the first missing one
-pub record AreShown (d : Dumped) (selection : List Bool) (ending : Ending) (source : Use SourceView) (Taken : Section → Type 0) : Type 0 where
+pub record AreShown (d : Dumped) (selection : List Bool) (ending : Ending) (source : Use SourceView) (Taken : DataText → Type 0) : Type 0 where
   pub ends : (selected_values d selection).ending ≡ ending
   pub taken : Taken (selected_values d selection)
   pub bytes : source.after.bytes ≡ source.before.bytes
@@ -168,7 +168,7 @@ abbrev pub IsUpToDate : Dumped → List Bool → ℕ → Use SourceView → (Lis
 IsUpToDate d selection buffer_len source Taken = (source.after ≡ source.before) ⊎ KeepsUpIn d selection buffer_len source Taken
 
 -- a write failed, before a value was read or after some values
-pub record AreUnwritten (d : Dumped) (selection : List Bool) (buffer_len : ℕ) (source : Use SourceView) (Cut : Section → Type 0) (Taken : List ℕ → Type 0) : Type 0 where
+pub record AreUnwritten (d : Dumped) (selection : List Bool) (buffer_len : ℕ) (source : Use SourceView) (Cut : DataText → Type 0) (Taken : List ℕ → Type 0) : Type 0 where
   pub bytes : source.after.bytes ≡ source.before.bytes
   pub most : source.after.handed ≤ source.before.handed + bytes_of d d.header.vars selection
   pub partway : Cut (selected_values d selection)
@@ -177,13 +177,13 @@ pub record AreUnwritten (d : Dumped) (selection : List Bool) (buffer_len : ℕ) 
 -- what showing the selected variables has done
 abbrev pub ShowsSelected : {A : Type 0} → Dumped → List Bool → Call → Result A DumpFault → Type 0
 ShowsSelected d selection call (Ok done) =
-    AreShown d selection whole call.source (λ (section : Section). Appended call.sink.before call.sink.after section.text)
+    AreShown d selection whole call.source (λ (section : DataText). Appended call.sink.before call.sink.after section.text)
     × IsUpToDate d selection call.buffer_len call.source (Holds call.sink.before call.sink.after)
 ShowsSelected d selection call (Err (DataTruncated v k)) =
-    AreShown d selection (data_truncated v k) call.source (λ (section : Section). Appended call.sink.before call.sink.after section.text)
+    AreShown d selection (data_truncated v k) call.source (λ (section : DataText). Appended call.sink.before call.sink.after section.text)
 ShowsSelected d selection call (Err ReadFailed) = AreUnread d selection call.buffer_len call.source (Appended call.sink.before call.sink.after)
 ShowsSelected d selection call (Err WriteFailed) =
-    AreUnwritten d selection call.buffer_len call.source (λ (section : Section). FailedPartway call.sink.before call.sink.after section.text) (Holds call.sink.before call.sink.after)
+    AreUnwritten d selection call.buffer_len call.source (λ (section : DataText). FailedPartway call.sink.before call.sink.after section.text) (Holds call.sink.before call.sink.after)
 ShowsSelected d selection call (Err _) = ⊥
 
 -- ---- the whole text
@@ -200,14 +200,14 @@ unless_head_only o selection = if o.head_only then [] else selection
 -- brace; or what of that was written before the first missing value, or before a device failed.
 abbrev pub Shows : {A : Type 0} → Options → Header → ℕ → List Bool → Call → Result A DumpFault → Type 0
 Shows o h n shown call (Ok done) =
-    AreShown (dumped h call.source.before n o.width) (unless_head_only o shown) whole call.source (λ (section : Section). Appended call.sink.before call.sink.after (dump_text h o n section))
+    AreShown (dumped h call.source.before n o.width) (unless_head_only o shown) whole call.source (λ (section : DataText). Appended call.sink.before call.sink.after (dump_text h o n section))
 Shows o h n shown call (Err (DataTruncated v k)) =
-    AreShown (dumped h call.source.before n o.width) (unless_head_only o shown) (data_truncated v k) call.source (λ (section : Section). Appended call.sink.before call.sink.after (dump_text h o n section))
+    AreShown (dumped h call.source.before n o.width) (unless_head_only o shown) (data_truncated v k) call.source (λ (section : DataText). Appended call.sink.before call.sink.after (dump_text h o n section))
 Shows o h n shown call (Err ReadFailed) =
     AreUnread (dumped h call.source.before n o.width) (unless_head_only o shown) call.buffer_len call.source (λ (values : List ℕ). Appended call.sink.before call.sink.after (text_before o h n ++ values))
 Shows o h n shown call (Err WriteFailed) =
     AreUnwritten (dumped h call.source.before n o.width) (unless_head_only o shown) call.buffer_len call.source
-    (λ (section : Section). FailedPartway call.sink.before call.sink.after (dump_text h o n section))
+    (λ (section : DataText). FailedPartway call.sink.before call.sink.after (dump_text h o n section))
     (λ (values : List ℕ). Holds call.sink.before call.sink.after (text_before o h n ++ values))
 Shows o h n shown call (Err _) = ⊥
 

@@ -1,10 +1,10 @@
 use Rattle.std.proofs.Common.{length}
-use Rattle.nc_base.specs.HeadText.{number_values}
+use Rattle.nc_base.specs.HeadText.{numbers_text}
 use Rattle.cdl_print.proofs.Begun.{IsBegun}
 use Rattle.cdl_print.proofs.number.put_numbers.Given as goal
 
 abbrev pub invariant-loop-rest : goal.invariant-loop-rest
-invariant-loop-rest g l = IsBegun (g.W.Sink.view l.fn.sink) (g.W.Sink.view l.sink) (number_values l.ty l.rest) (number_values l.ty l.vals)
+invariant-loop-rest g l = IsBegun (g.W.Sink.view l.fn.sink) (g.W.Sink.view l.sink) (numbers_text l.ty l.rest) (numbers_text l.ty l.vals)
 
 abbrev pub decreases-loop-rest : goal.decreases-loop-rest
 decreases-loop-rest g l = length l.rest

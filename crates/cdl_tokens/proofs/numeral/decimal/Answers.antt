@@ -1,5 +1,5 @@
 use Rattle.std.proofs.Common.{rules, ◌≡◌, false, drop, sym, ap, ◌∙◌, ◌==◌, nat_lt, slice_index}
-use Rattle.cdl_tokens.proofs.Prelude.{is_digit, suffix}
+use Rattle.cdl_tokens.proofs.Prelude.{is_digit, type_of_suffix}
 use Rattle.cdl_tokens.proofs.Decimals.{all_read, said}
 use Rattle.cdl_tokens.proofs.numeral.decimal.Goals as goal
 
@@ -13,4 +13,4 @@ returns c =
     let all = all_read bs n value c.first_digits-n.ensures off in
     let some : (n == 0) ≡ false = search rules in
     let small : nat_lt 18446744073709551615 value ≡ false = search rules in
-    said c.args.version c.args.minus bs n value c.in_ok-suffix.field-0 all.0 all.1 (ap (suffix c.args.version) (sym back) ∙ sym c.in_ok-suffix.ensures) some small
+    said c.args.version c.args.minus bs n value c.in_ok-suffix.field-0 all.0 all.1 (ap (type_of_suffix c.args.version) (sym back) ∙ sym c.in_ok-suffix.ensures) some small

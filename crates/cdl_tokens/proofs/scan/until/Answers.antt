@@ -1,7 +1,7 @@
 use Rattle.std.proofs.Common.{arith, ◌≡◌, ◌+◌, ap, ◌∙◌, drop}
-use Rattle.cdl_tokens.proofs.Prelude.{ne_eqb, prefix_len, until, is_ordinary}
+use Rattle.cdl_tokens.proofs.Prelude.{ne_eqb, prefix_len, len_until, is_ordinary}
 use Rattle.cdl_tokens.proofs.Words.{until_byte, until_run}
-use Rattle.cdl_tokens.proofs.scan.until.Goals as goal
+use Rattle.cdl_tokens.proofs.scan.len_until.Goals as goal
 
 pub loop-at-preserved : goal.loop-at-preserved
 loop-at-preserved c =
@@ -14,5 +14,5 @@ loop-at-preserved c =
     let past : at + 1 + n ≡ at + (1 + n) = omega arith in
     record {
       within = omega (arith, c.ordinary_len.ensures.within, c.split_at.ensures.back_len);
-      rest = omega (arith, c.loop-at.invariant.rest, step, run, ap (λ m. until close (drop m bytes)) past);
+      rest = omega (arith, c.loop-at.invariant.rest, step, run, ap (λ m. len_until close (drop m bytes)) past);
     }

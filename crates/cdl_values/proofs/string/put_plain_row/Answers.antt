@@ -1,11 +1,11 @@
 use Rattle.std.proofs.Common.{rules, arith, ◌≡◌, ◌<◌, ◌+◌, ◌++◌, ◌-◌, drop, length, sym, ap, ◌∙◌, refl, Ok, true, false, append_assoc, nat_lt, replicate, slice_index}
-use Rattle.cdl_values.proofs.Prelude.{get_or-drop, inner, stands, char_bytes}
+use Rattle.cdl_values.proofs.Prelude.{get_or-drop, inner, string_value, char_bytes}
 use Rattle.cdl_values.proofs.ConstantBytes.{first_stay}
 use Rattle.cdl_values.proofs.string.put_plain_row.Goals as goal
 
 pub returns-then-len-n : goal.returns-then-len-n
 returns-then-len-n c =
-    let s = stands (inner c.args.bytes.now) in
+    let s = string_value (inner c.args.bytes.now) in
     let long : length s ≡ length c.inner-characters.result.now = ap length (c.requires ∙ sym c.inner-characters.ensures) in
     let on : nat_lt c.args.len (length s) ≡ true = grind (arith, long, c.if-len-n.true) in
     rw (on) refl
@@ -14,7 +14,7 @@ pub returns : goal.returns
 returns c =
     let old = c.args.array.now in
     let raw = c.inner-characters.result.now in
-    let s = stands (inner c.args.bytes.now) in
+    let s = string_value (inner c.args.bytes.now) in
     let same : s ≡ raw = c.requires ∙ sym c.inner-characters.ensures in
     let long : length s ≡ length raw = ap length same in
     let off : nat_lt c.args.len (length s) ≡ false = grind (arith, long, c.if-len-n.false) in

@@ -1,11 +1,11 @@
 use Rattle.std.proofs.Common.{rules, arith, ◌≡◌, ◌+◌, ◌-◌, ◌++◌, length, sym, ap, ◌∙◌, refl, length-append, Ok, true, false, append_assoc, List, ℕ, nat_lt, replicate}
-use Rattle.cdl_values.proofs.Prelude.{inner, stands, char_bytes}
+use Rattle.cdl_values.proofs.Prelude.{inner, string_value, char_bytes}
 use Rattle.cdl_values.proofs.PackedTokens.{chars_len}
 use Rattle.cdl_values.proofs.string.put_row.Goals as goal
 
 pub returns-then-len-n-clause-adds : goal.returns-then-len-n-clause-adds
 returns-then-len-n-clause-adds c =
-    let s = stands (inner c.args.bytes.now) in
+    let s = string_value (inner c.args.bytes.now) in
     let old = c.args.array.now in
     let put : c.put_string.new.array ≡ old ++ char_bytes s = search rules in
     let long : length c.put_string.new.array ≡ length old + length s = ap (λ (xs : List ℕ). length xs) put ∙ length-append old (char_bytes s) ∙ ap (λ n. length old + n) (chars_len s) in
@@ -15,7 +15,7 @@ returns-then-len-n-clause-adds c =
 
 pub returns-clause-adds : goal.returns-clause-adds
 returns-clause-adds c =
-    let s = stands (inner c.args.bytes.now) in
+    let s = string_value (inner c.args.bytes.now) in
     let old = c.args.array.now in
     let put : c.put_string.new.array ≡ old ++ char_bytes s = search rules in
     let long : length c.put_string.new.array ≡ length old + length s = ap (λ (xs : List ℕ). length xs) put ∙ length-append old (char_bytes s) ∙ ap (λ n. length old + n) (chars_len s) in

@@ -1,5 +1,5 @@
 use Rattle.std.proofs.Common.{rules, ◌≡◌, ◌+◌, false, ◌∙◌, subst, Ok, Option, ℕ}
-use Rattle.cdl_values.proofs.Prelude.{inner, stands, Characters, is_full, joined, capacity_minus, row_bytes, TakesValues, place, Rows}
+use Rattle.cdl_values.proofs.Prelude.{inner, string_value, Characters, is_full, joined, capacity_minus, row_bytes, TakesValues, place, Rows}
 use Rattle.cdl_values.proofs.ValueRuns.{counted, ended, none_counted, reached, row_on, stays, takes_further}
 use Rattle.cdl_values.proofs.value_run.take_rows.Goals as goal
 
@@ -22,7 +22,7 @@ rows-preserved c =
     let new = c.put_plain_row.new.array in
     let left = a.start.capacity in
     let room : is_full (capacity_minus l.count left) ≡ false = c.room_of-room.ensures l.count c.rows-test.true in
-    let adds : joined (Ok l.array) (row_bytes a.len a.fill false (Characters (stands (inner n)))) ≡ Ok new = search rules in
+    let adds : joined (Ok l.array) (row_bytes a.len a.fill false (Characters (string_value (inner n)))) ≡ Ok new = search rules in
     let start = place a.start a.array.now in
     let here = reached l.cutter l.array (capacity_minus l.count left) in
     let there = reached c.string_and_comma.new.self new (capacity_minus (l.count + 1) left) in

@@ -1,5 +1,5 @@
 use Rattle.std.proofs.Common.{[], sym, ap, ◌∙◌, subst, Ok, slice_get}
-use Rattle.ncdump.proofs.Prelude.{err_from_is_err_and, look_of, opening, Look, Appended, FailedPartway, transparent_map, HasPrinted}
+use Rattle.ncdump.proofs.Prelude.{err_from_is_err_and, look_of, variable_opening, Look, Appended, FailedPartway, transparent_map, HasPrinted}
 use Rattle.ncdump.proofs.OneVariable.{some-at, at-some, showing-begins, takes-chunk, showing-on, unwritten-chunk, shown-whole, unwritten-closing, shown-prefix, unread, unwritten-opening}
 use Rattle.ncdump.proofs.showing.show_variable.Goals as goal
 
@@ -10,7 +10,7 @@ loop-chunk-init g c =
     let new = some-at (λ var. HasPrinted (look_of h var c.args.layout.records c.args.width) [] c.new-printer.result) (slice_get h.vars c.args.v) s.var s.at c.new-printer.ensures in
     let has_printed = subst (HasPrinted (look_of h s.var c.args.layout.records c.args.width) []) (sym c.in_ok-start.ensures.ok) new in
     showing-begins g.S.Source.is_transparent h c.args.v c.args.layout.records c.args.width _ _ _ _ _ _ s has_printed
-    (subst (λ (l : Look). Appended (g.W.Sink.view c.args.sink.now) (g.W.Sink.view c.start.new.sink) (opening l)) new.same_look (c.in_ok-start.ensures.wrote new.unfailed))
+    (subst (λ (l : Look). Appended (g.W.Sink.view c.args.sink.now) (g.W.Sink.view c.start.new.sink) (variable_opening l)) new.same_look (c.in_ok-start.ensures.wrote new.unfailed))
 
 pub values-requires : goal.values-requires
 values-requires g c =
@@ -28,7 +28,7 @@ returns-in_err-start-clause-shows g c =
     let s = c.with_layout-walk.ensures in
     let h = c.args.header.now in
     let new = some-at (λ var. HasPrinted (look_of h var c.args.layout.records c.args.width) [] c.new-printer.result) (slice_get h.vars c.args.v) s.var s.at c.new-printer.ensures in
-    let partway = subst (λ (l : Look). FailedPartway (g.W.Sink.view c.args.sink.now) (g.W.Sink.view c.start.new.sink) (opening l)) new.same_look (c.in_err-start.ensures.wrote new.unfailed) in
+    let partway = subst (λ (l : Look). FailedPartway (g.W.Sink.view c.args.sink.now) (g.W.Sink.view c.start.new.sink) (variable_opening l)) new.same_look (c.in_err-start.ensures.wrote new.unfailed) in
     rw (p.1, p.2) (transparent_map g.S.Source.is_transparent (λ shown. at-some _ (slice_get h.vars c.args.v) s.var s.at shown)
     (unwritten-opening g.S.Source.is_transparent h c.args.v c.args.layout.records c.args.width _ _ _ (g.S.Source.view c.args.source.now) _ _ s new partway))
 

@@ -1,5 +1,5 @@
 use Rattle.std.proofs.Common.{◌≡◌, ℕ, List, sym, ap, ◌∙◌, count_by, take, subst, ◌==◌}
-use Rattle.cdl_tokens.proofs.Prelude.{inner, stands, IsComma, scan, raw}
+use Rattle.cdl_tokens.proofs.Prelude.{inner, string_value, IsComma, scan, raw}
 use Rattle.cdl_tokens.proofs.scanner.Scanner.string_and_comma.Goals as goal
 
 pub take-token-requires-clause-here : goal.take-token-requires-clause-here
@@ -18,7 +18,7 @@ returns-clause-plain c =
     ap (λ (text : List ℕ). raw text token) (sym c.skip_blanks.ensures.text) ∙ c.take-token.ensures.bytes ∙ ap (take c.in_ok-len.len) (sym c.split_at.ensures.back) in
     record {
       string = c.take-token.ensures.kind;
-      plain = ap (λ bs. stands (inner bs)) first ∙ c.in_ok-len.ensures.plain ∙ sym (ap inner first);
+      plain = ap (λ bs. string_value (inner bs)) first ∙ c.in_ok-len.ensures.plain ∙ sym (ap inner first);
     }
 
 pub returns-clause-comma : goal.returns-clause-comma
