@@ -18,51 +18,29 @@ fault_of_head head.OutOfMemory = OutOfMemory
 fault_of_head head.ReadFailed = ReadFailed
 fault_of_head (head.Format fault) = Format fault
 
--- what a wrong field's fault says, but for the number after it
-unfoldable pub format_words : FormatFault → List ℕ
-format_words NotNetcdf = codes "not a netCDF classic file"
-format_words (UnknownVersion n) = codes "unknown version "
-format_words HeaderTruncated = codes "header truncated"
-format_words BadTag = codes "bad tag"
-format_words BadCount = codes "bad count"
-format_words BadName = codes "bad name"
-format_words FloatingType = codes "floating type"
-format_words BadType = codes "bad type"
-format_words BadShape = codes "bad shape"
-format_words TwoRecordDims = codes "two record dimensions"
-format_words BadOffset = codes "bad offset"
-format_words TooLarge = codes "too large"
-
--- what a fault says, up to its first number
-unfoldable pub fault_words : DumpFault → List ℕ
-fault_words OutOfMemory = codes "out of memory"
-fault_words ReadFailed = codes "read failed"
-fault_words WriteFailed = codes "write failed"
-fault_words (Format fault) = format_words fault
-fault_words (NoSuchVariable index) = codes "no such variable: item "
-fault_words (DataTruncated var value) = codes "variable "
-
-unfoldable pub truncated_words : List ℕ
-truncated_words = codes ": data truncated at value "
-
--- the index of a name among the chosen ones
-abbrev pub index_text : ℕ → List ℕ
-index_text index = concat_parts (decimal index ∷ codes " of -v" ∷ [])
-
--- a variable, and the number of its first missing value
-abbrev pub place_text : ℕ → ℕ → List ℕ
-place_text var value = concat_parts (decimal var ∷ truncated_words ∷ decimal value ∷ [])
-
--- the numbers of a fault, with the words between them
-unfoldable pub fault_numbers : DumpFault → List ℕ
-fault_numbers (Format (UnknownVersion n)) = decimal n
-fault_numbers (NoSuchVariable index) = index_text index
-fault_numbers (DataTruncated var value) = place_text var value
-fault_numbers other = []
+-- what the fault of a wrong field says
+unfoldable pub format_text : FormatFault → List ℕ
+format_text NotNetcdf = codes "not a netCDF classic file"
+format_text (UnknownVersion n) = concat_parts (codes "unknown version " ∷ decimal n ∷ [])
+format_text HeaderTruncated = codes "header truncated"
+format_text BadTag = codes "bad tag"
+format_text BadCount = codes "bad count"
+format_text BadName = codes "bad name"
+format_text FloatingType = codes "floating type"
+format_text BadType = codes "bad type"
+format_text BadShape = codes "bad shape"
+format_text TwoRecordDims = codes "two record dimensions"
+format_text BadOffset = codes "bad offset"
+format_text TooLarge = codes "too large"
 
 -- what a fault says
 unfoldable pub fault_text : DumpFault → List ℕ
-fault_text fault = concat_parts (fault_words fault ∷ fault_numbers fault ∷ [])
+fault_text OutOfMemory = codes "out of memory"
+fault_text ReadFailed = codes "read failed"
+fault_text WriteFailed = codes "write failed"
+fault_text (Format fault) = format_text fault
+fault_text (NoSuchVariable index) = concat_parts (codes "no such variable: item " ∷ decimal index ∷ codes " of -v" ∷ [])
+fault_text (DataTruncated var value) = concat_parts (codes "variable " ∷ decimal var ∷ codes ": data truncated at value " ∷ decimal value ∷ [])
 
 unfoldable pub program_words : List ℕ
 program_words = codes "ncdump: "

@@ -2,7 +2,7 @@
 
 ghost use Rattle.std.specs.Prelude.{◌≡◌};
 ghost use Rattle.devices.specs.Sinks.{Wrote};
-ghost use Rattle.ncdump.specs.Faults.{cannot_open_line, cannot_open_words, fault_numbers, fault_text, fault_words, file_line, flush_fault_line, format_words, index_text, line_of, line_of_failure, opt_fault_line, place_text, program_words, truncated_words, usage_line};
+ghost use Rattle.ncdump.specs.Faults.{cannot_open_line, cannot_open_words, fault_text, file_line, flush_fault_line, format_text, line_of, line_of_failure, opt_fault_line, program_words, usage_line};
 
 use crate::fault::{DumpFault, Failure, FileFault};
 use cli_base::OptFault;
@@ -101,80 +101,51 @@ pub fn fault_line<W: Sink>(sink: &mut W, file: &[u8], fault: &DumpFault) -> Resu
     put(sink, b"\n")
 }
 
-/// Writes the message of a fault, with its numbers.
+/// Writes the message of a fault.
 #[tactic(auto, using(devices::proofs::Writes::writes), unfolding(crate::specs::Faults::fault_text))]
 fn put_fault<W: Sink>(sink: &mut W, fault: &DumpFault) -> Result<(), WriteFailed>
     ensures { Wrote W.view sink.old sink.new (fault_text fault.now) result }
 {
-    put(sink, fault_words(fault))?;
-    put_numbers(sink, fault)
-}
-
-/// Writes the message of a fault from its first number on, or nothing if the fault has no number.
-#[tactic(auto, using(devices::proofs::Writes::writes), unfolding(crate::specs::Faults::fault_numbers))]
-fn put_numbers<W: Sink>(sink: &mut W, fault: &DumpFault) -> Result<(), WriteFailed>
-    ensures { Wrote W.view sink.old sink.new (fault_numbers fault.now) result }
-{
     match fault {
-        DumpFault::Format(FormatFault::UnknownVersion(n)) => put_decimal(sink, *n as u128),
-        DumpFault::NoSuchVariable(index) => put_index(sink, *index),
-        DumpFault::DataTruncated { var, value } => put_place(sink, *var, *value),
-        _ => Ok(()),
+        DumpFault::OutOfMemory => put(sink, b"out of memory"),
+        DumpFault::ReadFailed => put(sink, b"read failed"),
+        DumpFault::WriteFailed => put(sink, b"write failed"),
+        DumpFault::Format(fault) => put_format_fault(sink, *fault),
+        DumpFault::NoSuchVariable(index) => {
+            put(sink, b"no such variable: item ")?;
+            put_decimal(sink, *index as u128)?;
+            put(sink, b" of -v")
+        }
+        DumpFault::DataTruncated { var, value } => {
+            put(sink, b"variable ")?;
+            put_decimal(sink, *var as u128)?;
+            put(sink, b": data truncated at value ")?;
+            put_decimal(sink, *value)
+        }
     }
 }
 
-/// Writes `N of -v` for the index N of a chosen name, counted from 0.
-#[tactic(auto, using(devices::proofs::Writes::writes))]
-fn put_index<W: Sink>(sink: &mut W, index: usize) -> Result<(), WriteFailed>
-    ensures { Wrote W.view sink.old sink.new (index_text index) result }
-{
-    put_decimal(sink, index as u128)?;
-    put(sink, b" of -v")
-}
-
-/// Writes `V: data truncated at value K` for the variable with the index V, whose first missing value has the number K.
-#[tactic(auto, using(devices::proofs::Writes::writes))]
-fn put_place<W: Sink>(sink: &mut W, var: usize, value: u128) -> Result<(), WriteFailed>
-    ensures { Wrote W.view sink.old sink.new (place_text var value) result }
-{
-    put_decimal(sink, var as u128)?;
-    put(sink, truncated_words())?;
-    put_decimal(sink, value)
-}
-
-/// Returns the message of a fault up to its first number, or all of the message if it has no number.
-#[tactic(auto, unfolding(crate::specs::Faults::fault_words))]
-fn fault_words(fault: &DumpFault) -> &'static [u8]
-    ensures { result.now ≡ fault_words fault.now }
+/// Writes the message for a wrong field of a header.
+#[tactic(auto, using(devices::proofs::Writes::writes), unfolding(crate::specs::Faults::format_text))]
+fn put_format_fault<W: Sink>(sink: &mut W, fault: FormatFault) -> Result<(), WriteFailed>
+    ensures { Wrote W.view sink.old sink.new (format_text fault) result }
 {
     match fault {
-        DumpFault::OutOfMemory => b"out of memory",
-        DumpFault::ReadFailed => b"read failed",
-        DumpFault::WriteFailed => b"write failed",
-        DumpFault::Format(fault) => format_words(*fault),
-        DumpFault::NoSuchVariable(_) => b"no such variable: item ",
-        DumpFault::DataTruncated { .. } => b"variable ",
-    }
-}
-
-/// Returns the message for a wrong field of a header, without the number that follows `unknown version `.
-#[tactic(auto, unfolding(crate::specs::Faults::format_words))]
-fn format_words(fault: FormatFault) -> &'static [u8]
-    ensures { result.now ≡ format_words fault }
-{
-    match fault {
-        FormatFault::NotNetcdf => b"not a netCDF classic file",
-        FormatFault::UnknownVersion(_) => b"unknown version ",
-        FormatFault::HeaderTruncated => b"header truncated",
-        FormatFault::BadTag => b"bad tag",
-        FormatFault::BadCount => b"bad count",
-        FormatFault::BadName => b"bad name",
-        FormatFault::FloatingType => b"floating type",
-        FormatFault::BadType => b"bad type",
-        FormatFault::BadShape => b"bad shape",
-        FormatFault::TwoRecordDims => b"two record dimensions",
-        FormatFault::BadOffset => b"bad offset",
-        FormatFault::TooLarge => b"too large",
+        FormatFault::NotNetcdf => put(sink, b"not a netCDF classic file"),
+        FormatFault::UnknownVersion(n) => {
+            put(sink, b"unknown version ")?;
+            put_decimal(sink, n as u128)
+        }
+        FormatFault::HeaderTruncated => put(sink, b"header truncated"),
+        FormatFault::BadTag => put(sink, b"bad tag"),
+        FormatFault::BadCount => put(sink, b"bad count"),
+        FormatFault::BadName => put(sink, b"bad name"),
+        FormatFault::FloatingType => put(sink, b"floating type"),
+        FormatFault::BadType => put(sink, b"bad type"),
+        FormatFault::BadShape => put(sink, b"bad shape"),
+        FormatFault::TwoRecordDims => put(sink, b"two record dimensions"),
+        FormatFault::BadOffset => put(sink, b"bad offset"),
+        FormatFault::TooLarge => put(sink, b"too large"),
     }
 }
 
@@ -184,12 +155,4 @@ fn program_words() -> &'static [u8]
     ensures { result.now ≡ program_words }
 {
     b"ncdump: "
-}
-
-/// Returns the words between the index of a variable and the number of its first missing value.
-#[tactic(auto, unfolding(crate::specs::Faults::truncated_words))]
-fn truncated_words() -> &'static [u8]
-    ensures { result.now ≡ truncated_words }
-{
-    b": data truncated at value "
 }

@@ -1,7 +1,7 @@
 use Rattle.std.proofs.Common.{arith, ◌≡◌, ◌+◌, ap, ◌∙◌, drop}
 use Rattle.cdl_tokens.proofs.Prelude.{ne_eqb, prefix_len, len_until, is_ordinary}
 use Rattle.cdl_tokens.proofs.Words.{until_byte, until_run}
-use Rattle.cdl_tokens.proofs.scan.len_until.Goals as goal
+use Rattle.cdl_tokens.proofs.scan.until.Goals as goal
 
 pub loop-at-preserved : goal.loop-at-preserved
 loop-at-preserved c =

@@ -1,6 +1,6 @@
 use Rattle.std.proofs.Common.{length, ◌-◌, ◌≡◌, ◌+◌, ◌≤◌, drop}
 use Rattle.cdl_tokens.specs.Scan.{len_until}
-use Rattle.cdl_tokens.proofs.scan.len_until.Given as goal
+use Rattle.cdl_tokens.proofs.scan.until.Given as goal
 
 abbrev pub invariant-loop-at : goal.invariant-loop-at
 invariant-loop-at l = record {
