@@ -96,7 +96,7 @@ pub fn put_text(text: &mut [u8], at: usize, len: usize, is_fill: bool, number: i
     }
 }
 
-/// Writes a number in decimal at the offset `at` of `text`, without a sign. The number has `len` digits.
+/// Writes a number in decimal at the offset `at` of `text`, without a sign. The number has `len` digits. The bytes after it may change.
 #[inline(always)]
 pub fn put_digits(text: &mut [u8], at: usize, len: usize, n: u64)
     requires len { len ≡ length (decimal n) }

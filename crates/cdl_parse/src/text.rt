@@ -73,8 +73,8 @@ impl ParseError {
     }
 }
 
-/// Reads a text, and returns what it declares. Errs with the fault of the first bad statement, with `TooLarge` on the line of the
-/// closing brace, or if an allocation failed.
+/// Reads a text, and returns what it declares, as [`declared`] does. Errs with the fault of the first bad statement; with `TooLarge`, on the
+/// line of the closing brace, if a slab, an array or the record is above its limit; or if an allocation failed.
 fn read_text(alloc: Global, text: &[u8], version: Version) -> Result<Declared, ParseError>
     ensures reads { ReadsOn (λ d. Ok (dataset_of_declared d)) result (meaning text.now version) }
     ensures one_each { IfOk result (λ d. length d.listed ≡ length d.header.vars) }
@@ -147,8 +147,8 @@ struct Values<'a> {
     rest: Cutter<'a>,
 }
 
-/// Reads the data section if `section` is that section, and returns what it lists and what comes after it. Otherwise returns arrays
-/// without values, and reads nothing. `section` is the section of the next statement, and `names` are the names of the variables.
+/// Reads the data section if `section` is that section, and returns what it lists and what comes after it. Otherwise returns an array
+/// without values for each variable, and reads nothing. `section` is the section of the next statement, and `names` are the names of the variables.
 /// Errs with the fault of the first bad statement of the data section, or if an allocation failed.
 fn read_values<'a>(
     alloc: Global,

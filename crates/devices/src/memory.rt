@@ -120,6 +120,7 @@ impl Sink for MemSink {
 
     ghost view = { sink_view_of };
 
+    /// Takes all of the bytes. Errs if an allocation fails.
     #[tactic(auto, using(crate::proofs::Writes::devices), unfolding(crate::specs::Sinks::append, crate::specs::Sinks::taken_len, crate::specs::Sinks::IsCut, crate::specs::Sinks::is_transparent, crate::specs::Failures::HasFailed))]
     fn write_some(&mut self, bytes: &[u8]) -> Result<usize, SinkFailed> {
         if bytes.is_empty() {

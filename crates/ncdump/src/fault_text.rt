@@ -77,7 +77,7 @@ fn put_cannot_open<W: Sink>(sink: &mut W, path: &[u8]) -> Result<(), WriteFailed
     put(sink, cannot_open_words())
 }
 
-/// Returns what the line for a path that can't be opened has after the path, with the line feed.
+/// Returns the end of the line for a path that can't be opened, from after the path on.
 #[tactic(auto, unfolding(crate::specs::Faults::cannot_open_words))]
 fn cannot_open_words() -> &'static [u8]
     ensures { result.now ≡ cannot_open_words }

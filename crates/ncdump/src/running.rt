@@ -113,9 +113,8 @@ fn dump_path<P: Opener, O: Sink>(
 /// The length of the buffer that a file is read through, in bytes.
 const BUFFER_LEN: usize = 4096;
 
-/// Writes the dump that the options ask for of the file that the source has, through a buffer of 4096 bytes. Errs with the fault of
-/// [`dump`], as `FileFault::Dump`, and never with `CannotOpen`. `OfDump` says that a clause
-/// holds of the result of `dump`.
+/// Dumps the source's file to the sink, as the options ask, through a buffer of 4096 bytes. Errs with the fault of [`dump`], as
+/// `FileFault::Dump`, and never with `CannotOpen`.
 fn dump_buffered<S: Source, W: Sink>(
     alloc: Global,
     source: &mut S,

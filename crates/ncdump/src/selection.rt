@@ -30,8 +30,8 @@ pub fn select(alloc: Global, header: &Header, options: &DumpOptions) -> Result<V
     Ok(are_in_both(alloc, header.vars.as_slice(), &chosen, &dims)?)
 }
 
-/// Returns the chosen names as a set, or `None` if no names are chosen. Errs with `NoSuchVariable` if one of them is no variable's
-/// name, and with `OutOfMemory` if an allocation failed.
+/// Returns the chosen names as a set, or `None` if no names are chosen. Errs with `NoSuchVariable` and the index of the
+/// first one that no variable has, and with `OutOfMemory` if an allocation failed.
 fn chosen_names<'a>(
     alloc: Global,
     header: &Header,
@@ -91,8 +91,6 @@ fn first_unknown(known: &NameSet<'_>, names: &[Sequence<u8>]) -> Option<usize>
 
 /// Returns a `bool` for each variable: true if both sets have its name. `None` counts as a set that has every name. Errs only if an
 /// allocation failed.
-///
-/// The capacity is reserved first: `collect` would try a failed allocation again with less.
 fn are_in_both(
     alloc: Global,
     vars: &[Var],
@@ -101,6 +99,7 @@ fn are_in_both(
 ) -> Result<Vec<bool>, AllocError>
     ensures { IfOk result (λ s. s.items ≡ map (is_in_both chosen.now dims.now) vars.now) }
 {
+    // The capacity is reserved first: `collect` would try a failed allocation again with less.
     let mut selection = Vec::with_capacity(alloc, vars.len())?;
     selection.extend(
         vars.iter()
