@@ -29,7 +29,8 @@ pub trait Opener {
         ensures once { OpensOnce (view self.old) (view self.new) }
         ensures failures { IfOk result (λ source. (Self.Source.view source).failures ≡ 0) }
         ensures handed { IfOk result (λ source. (Self.Source.view source).handed ≡ 0) }
-        ensures path { OpensSource Self.Source.is_transparent Self.Source.view (named self.old path.now) result };
+        ensures path { OpensSource Self.Source.is_transparent Self.Source.view
+            (named self.old path.now) result };
 
     /// Takes back a source that it opened, adds the source's failures to its own, and drops the source.
     fn close(&mut self, source: Self::Source)

@@ -59,7 +59,10 @@ fn first_fault_of_an_attribute_wins(rt: HostRuntime) -> Result<(), Fail> {
     ];
     for (text, kind) in ROWS {
         let fault = fault_of(rt.alloc(), Version::Cdf1, &[b":t = 1 ;\n:", text, b"}"])?;
-        assert!(rt; fault == Some(CdlFault { line: 2, kind }), "{fault:?}: {text:?}");
+        assert!(rt;
+            fault == Some(CdlFault { line: 2, kind }),
+            "{fault:?}: {text:?}"
+        );
     }
     Ok(())
 }
@@ -67,7 +70,11 @@ fn first_fault_of_an_attribute_wins(rt: HostRuntime) -> Result<(), Fail> {
 #[test]
 fn attributes_stand_in_the_order_of_the_text(rt: HostRuntime) -> Result<(), Fail> {
     const NAMES: [&[u8]; 3] = [b"z", b"a", b"m"];
-    match header_of(rt.alloc(), Version::Cdf1, &[b":z = 1 ; :a = \"x\" ; :m = 2b ; }"])? {
+    match header_of(
+        rt.alloc(),
+        Version::Cdf1,
+        &[b":z = 1 ; :a = \"x\" ; :m = 2b ; }"],
+    )? {
         Ok(header) => {
             assert_eq!(rt; header.gatts.len(), 3);
             for (att, name) in header.gatts.as_slice().iter().zip(NAMES) {

@@ -11,8 +11,16 @@ const BEFORE: &[u8] = b"dimensions: x = 3, n = 4 ; variables: short v(x) ; char 
 #[test]
 fn values_go_to_their_variables(rt: HostRuntime) -> Result<(), Fail> {
     const ROWS: [(&[u8], &[u8], &[u8]); 5] = [
-        (b"c = \"ab\" ; v = 1, 2 ; }", b"\x00\x01\x00\x02\x80\x01", b"ab\0\0"),
-        (b"v = 1, 2 ;\nc = \"ab\" ;\n}", b"\x00\x01\x00\x02\x80\x01", b"ab\0\0"),
+        (
+            b"c = \"ab\" ; v = 1, 2 ; }",
+            b"\x00\x01\x00\x02\x80\x01",
+            b"ab\0\0",
+        ),
+        (
+            b"v = 1, 2 ;\nc = \"ab\" ;\n}",
+            b"\x00\x01\x00\x02\x80\x01",
+            b"ab\0\0",
+        ),
         (b"c = \"ab\" ; }", b"\x80\x01\x80\x01\x80\x01", b"ab\0\0"),
         (b"\\v = _ ; }", b"\x80\x01\x80\x01\x80\x01", b"\0\0\0\0"),
         (b"}", b"\x80\x01\x80\x01\x80\x01", b"\0\0\0\0"),
@@ -55,7 +63,10 @@ fn first_bad_statement_has_its_line(rt: HostRuntime) -> Result<(), Fail> {
     ];
     for (statements, line, kind) in ROWS {
         let fault = fault_of(rt.alloc(), Version::Cdf1, &[BEFORE, statements])?;
-        assert!(rt; fault == Some(CdlFault { line, kind }), "{fault:?}: {statements:?}");
+        assert!(rt;
+            fault == Some(CdlFault { line, kind }),
+            "{fault:?}: {statements:?}"
+        );
     }
     Ok(())
 }
@@ -69,7 +80,11 @@ fn variables_are_found_by_name(rt: HostRuntime) -> Result<(), Fail> {
         (b"w\\/x = 1 ;", Some(CdlKind::BadName)),
     ];
     for (statement, want) in ROWS {
-        let parts = [b"variables: int v, w\\ x ; data: ".as_slice(), statement, b"}"];
+        let parts = [
+            b"variables: int v, w\\ x ; data: ".as_slice(),
+            statement,
+            b"}",
+        ];
         let kind = kind_of(rt.alloc(), Version::Cdf1, &parts)?;
         assert!(rt; kind == want, "{kind:?}: {statement:?}");
     }

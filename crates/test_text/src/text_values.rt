@@ -104,16 +104,36 @@ fn values_are_packed_up_to_their_first_fault(rt: HostRuntime) {
 #[test]
 fn dimensions_have_lengths(rt: HostRuntime) -> Result<(), Fail> {
     const ROWS: [(Version, &[u8], Result<u64, CdlKind>); 8] = [
-        (Version::Cdf1, b"t = UNLIMITED, x = 0 ;", Err(CdlKind::ZeroDimension)),
-        (Version::Cdf1, b"t = UNLIMITED, x = 2147483647 ;", Ok(2147483647)),
-        (Version::Cdf1, b"t = UNLIMITED, x = 2147483648 ;", Err(CdlKind::NumberRange)),
-        (Version::Cdf5, b"t = UNLIMITED, x = 2147483648 ;", Ok(2147483648)),
+        (
+            Version::Cdf1,
+            b"t = UNLIMITED, x = 0 ;",
+            Err(CdlKind::ZeroDimension),
+        ),
+        (
+            Version::Cdf1,
+            b"t = UNLIMITED, x = 2147483647 ;",
+            Ok(2147483647),
+        ),
+        (
+            Version::Cdf1,
+            b"t = UNLIMITED, x = 2147483648 ;",
+            Err(CdlKind::NumberRange),
+        ),
+        (
+            Version::Cdf5,
+            b"t = UNLIMITED, x = 2147483648 ;",
+            Ok(2147483648),
+        ),
         (
             Version::Cdf5,
             b"t = UNLIMITED, x = 100000000000000000000000000000000000000000 ;",
             Err(CdlKind::NumberRange),
         ),
-        (Version::Cdf5, b"t = UNLIMITED, x = UNLIMITED ;", Err(CdlKind::TwoRecordDims)),
+        (
+            Version::Cdf5,
+            b"t = UNLIMITED, x = UNLIMITED ;",
+            Err(CdlKind::TwoRecordDims),
+        ),
         (Version::Cdf1, b"x = UNLIMITED ;", Ok(0)),
         (Version::Cdf1, b"t = UNLIMITED, x = 1 ;", Ok(1)),
     ];
