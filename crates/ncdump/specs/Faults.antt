@@ -18,10 +18,19 @@ fault_of_head head.OutOfMemory = OutOfMemory
 fault_of_head head.ReadFailed = ReadFailed
 fault_of_head (head.Format fault) = Format fault
 
+unfoldable pub version_words : List ℕ
+version_words = codes "unknown version "
+
+unfoldable pub item_words : List ℕ
+item_words = codes "no such variable: item "
+
+unfoldable pub truncated_words : List ℕ
+truncated_words = codes ": data truncated at value "
+
 -- what the fault of a wrong field says
 unfoldable pub format_text : FormatFault → List ℕ
 format_text NotNetcdf = codes "not a netCDF classic file"
-format_text (UnknownVersion n) = concat_parts (codes "unknown version " ∷ decimal n ∷ [])
+format_text (UnknownVersion n) = concat_parts (version_words ∷ decimal n ∷ [])
 format_text HeaderTruncated = codes "header truncated"
 format_text BadTag = codes "bad tag"
 format_text BadCount = codes "bad count"
@@ -39,8 +48,8 @@ fault_text OutOfMemory = codes "out of memory"
 fault_text ReadFailed = codes "read failed"
 fault_text WriteFailed = codes "write failed"
 fault_text (Format fault) = format_text fault
-fault_text (NoSuchVariable index) = concat_parts (codes "no such variable: item " ∷ decimal index ∷ codes " of -v" ∷ [])
-fault_text (DataTruncated var value) = concat_parts (codes "variable " ∷ decimal var ∷ codes ": data truncated at value " ∷ decimal value ∷ [])
+fault_text (NoSuchVariable index) = concat_parts (item_words ∷ decimal index ∷ codes " of -v" ∷ [])
+fault_text (DataTruncated var value) = concat_parts (codes "variable " ∷ decimal var ∷ truncated_words ∷ decimal value ∷ [])
 
 unfoldable pub program_words : List ℕ
 program_words = codes "ncdump: "

@@ -2,7 +2,9 @@
 
 ghost use Rattle.std.specs.Prelude.{◌≡◌};
 ghost use Rattle.devices.specs.Sinks.{Wrote};
-ghost use Rattle.ncdump.specs.Faults.{cannot_open_line, cannot_open_words, fault_text, file_line, flush_fault_line, format_text, line_of, line_of_failure, opt_fault_line, program_words, usage_line};
+ghost use Rattle.ncdump.specs.Faults.{cannot_open_line, cannot_open_words, fault_text, file_line, flush_fault_line, format_text, item_words, line_of, line_of_failure, opt_fault_line, program_words, truncated_words, usage_line, version_words};
+ghost use Rattle.nc_base.specs.declared.fault.FormatFault.TheVariants.{UnknownVersion};
+ghost use Rattle.ncdump.specs.declared.fault.DumpFault.TheVariants.{DataTruncated, NoSuchVariable};
 
 use crate::fault::{DumpFault, Failure, FileFault};
 use cli_base::OptFault;
@@ -102,7 +104,7 @@ pub fn fault_line<W: Sink>(sink: &mut W, file: &[u8], fault: &DumpFault) -> Resu
 }
 
 /// Writes the message of a fault.
-#[tactic(auto, using(devices::proofs::Writes::writes), unfolding(crate::specs::Faults::fault_text))]
+#[tactic(auto, unfolding(crate::specs::Faults::fault_text))]
 fn put_fault<W: Sink>(sink: &mut W, fault: &DumpFault) -> Result<(), WriteFailed>
     ensures { Wrote W.view sink.old sink.new (fault_text fault.now) result }
 {
@@ -111,31 +113,40 @@ fn put_fault<W: Sink>(sink: &mut W, fault: &DumpFault) -> Result<(), WriteFailed
         DumpFault::ReadFailed => put(sink, b"read failed"),
         DumpFault::WriteFailed => put(sink, b"write failed"),
         DumpFault::Format(fault) => put_format_fault(sink, *fault),
-        DumpFault::NoSuchVariable(index) => {
-            put(sink, b"no such variable: item ")?;
-            put_decimal(sink, *index as u128)?;
-            put(sink, b" of -v")
-        }
-        DumpFault::DataTruncated { var, value } => {
-            put(sink, b"variable ")?;
-            put_decimal(sink, *var as u128)?;
-            put(sink, b": data truncated at value ")?;
-            put_decimal(sink, *value)
-        }
+        DumpFault::NoSuchVariable(index) => put_unknown_name(sink, *index),
+        DumpFault::DataTruncated { var, value } => put_missing_value(sink, *var, *value),
     }
 }
 
+/// Writes the message for the chosen name with this index, from 0 on, which no variable has.
+#[tactic(auto, using(devices::proofs::Writes::writes), unfolding(crate::specs::Faults::fault_text))]
+fn put_unknown_name<W: Sink>(sink: &mut W, index: usize) -> Result<(), WriteFailed>
+    ensures { Wrote W.view sink.old sink.new (fault_text (NoSuchVariable index)) result }
+{
+    put(sink, item_words())?;
+    put_decimal(sink, index as u128)?;
+    put(sink, b" of -v")
+}
+
+/// Writes the message for the variable with the index `var`, whose first missing value has the number `value`, both from 0 on.
+#[tactic(auto, using(devices::proofs::Writes::writes), unfolding(crate::specs::Faults::fault_text))]
+fn put_missing_value<W: Sink>(sink: &mut W, var: usize, value: u128) -> Result<(), WriteFailed>
+    ensures { Wrote W.view sink.old sink.new (fault_text (DataTruncated var value)) result }
+{
+    put(sink, b"variable ")?;
+    put_decimal(sink, var as u128)?;
+    put(sink, truncated_words())?;
+    put_decimal(sink, value)
+}
+
 /// Writes the message for a wrong field of a header.
-#[tactic(auto, using(devices::proofs::Writes::writes), unfolding(crate::specs::Faults::format_text))]
+#[tactic(auto, unfolding(crate::specs::Faults::format_text))]
 fn put_format_fault<W: Sink>(sink: &mut W, fault: FormatFault) -> Result<(), WriteFailed>
     ensures { Wrote W.view sink.old sink.new (format_text fault) result }
 {
     match fault {
         FormatFault::NotNetcdf => put(sink, b"not a netCDF classic file"),
-        FormatFault::UnknownVersion(n) => {
-            put(sink, b"unknown version ")?;
-            put_decimal(sink, n as u128)
-        }
+        FormatFault::UnknownVersion(n) => put_unknown_version(sink, n),
         FormatFault::HeaderTruncated => put(sink, b"header truncated"),
         FormatFault::BadTag => put(sink, b"bad tag"),
         FormatFault::BadCount => put(sink, b"bad count"),
@@ -147,6 +158,39 @@ fn put_format_fault<W: Sink>(sink: &mut W, fault: FormatFault) -> Result<(), Wri
         FormatFault::BadOffset => put(sink, b"bad offset"),
         FormatFault::TooLarge => put(sink, b"too large"),
     }
+}
+
+/// Writes the message for a version byte that names no version.
+#[tactic(auto, using(devices::proofs::Writes::writes), unfolding(crate::specs::Faults::format_text))]
+fn put_unknown_version<W: Sink>(sink: &mut W, n: u8) -> Result<(), WriteFailed>
+    ensures { Wrote W.view sink.old sink.new (format_text (UnknownVersion n)) result }
+{
+    put(sink, version_words())?;
+    put_decimal(sink, n as u128)
+}
+
+/// Returns the words before a version byte.
+#[tactic(auto, unfolding(crate::specs::Faults::version_words))]
+fn version_words() -> &'static [u8]
+    ensures { result.now ≡ version_words }
+{
+    b"unknown version "
+}
+
+/// Returns the words before the index of a chosen name.
+#[tactic(auto, unfolding(crate::specs::Faults::item_words))]
+fn item_words() -> &'static [u8]
+    ensures { result.now ≡ item_words }
+{
+    b"no such variable: item "
+}
+
+/// Returns the words between the index of a variable and the number of its first missing value.
+#[tactic(auto, unfolding(crate::specs::Faults::truncated_words))]
+fn truncated_words() -> &'static [u8]
+    ensures { result.now ≡ truncated_words }
+{
+    b": data truncated at value "
 }
 
 /// Returns what each line begins with, except for the usage line.
